@@ -1,0 +1,7 @@
+-- Laws that everything above cites.
+pub mod Tests
+pub mod Slots
+pub mod Ones
+pub mod Searches
+pub mod Tabs
+pub mod Counts

@@ -1,0 +1,6 @@
+-- What the crate's contracts and those above it speak of.
+pub mod Slot
+pub mod Bit
+pub mod Search
+pub mod Tab
+pub mod Count

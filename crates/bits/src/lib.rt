@@ -1,0 +1,46 @@
+// Bits of 32-bit numbers: the first bits of an address, and ones counted below a bit.
+ghost use mathlib.Core.Path.{_≡_};
+ghost use Prim.Native.Nat.{_%_, _^_, _≤_, _<_};
+ghost use lib.Count.{ones};
+ghost use lib.Dec.{eqb};
+ghost use Rattle.bits.specs.Slot.{slot, cut};
+ghost use Rattle.bits.specs.Bit.{bitAt};
+
+// The first p bits of an address, as a number. Level 0 is set apart: no number is shifted by its whole width.
+pub fn slot(p: u32, addr: u32) -> u32
+    requires { ⌜ p ≤ 32 ⌝ }
+    ensures { λ r. ⌜ r ≡ slot p addr ⌝ }
+{
+    if p == 0 {
+        return 0;
+    }
+    addr >> (32 - p)
+}
+
+// An address with every bit after the first len zero.
+pub fn cut(len: u32, addr: u32) -> u32
+    requires { ⌜ len ≤ 32 ⌝ }
+    ensures { λ r. ⌜ r ≡ cut len addr ⌝ }
+{
+    if len == 0 {
+        return 0;
+    }
+    let s = 32 - len;
+    (addr >> s) << s
+}
+
+// How many bits of a word below a bit are set.
+pub fn ones_below(word: u32, bit: u32) -> u32
+    requires { ⌜ bit < 32 ⌝ }
+    ensures { λ r. ⌜ (r ≡ ones (word % 2 ^ bit)) × (r ≤ bit) ⌝ }
+{
+    u32::count_ones(word & ((1 << bit) - 1))
+}
+
+// Whether a bit of a word is set.
+pub fn is_set(word: u32, k: u32) -> bool
+    requires { ⌜ k < 32 ⌝ }
+    ensures { λ r. ⌜ r ≡ eqb (bitAt word k) 1 ⌝ }
+{
+    (word >> k) & 1 == 1
+}

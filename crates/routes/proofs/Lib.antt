@@ -1,0 +1,8 @@
+-- The laws of routes, and what joins the code to them.
+pub mod Goods
+pub mod Levels
+pub mod Longest
+pub mod Paint
+pub mod Need
+pub mod Frame
+pub mod Standing

@@ -1,0 +1,6 @@
+-- What routes mean, the records that hold them, and what a call says of them.
+pub mod Route
+pub mod Standing
+pub mod Record
+pub mod Said
+pub mod Input

@@ -1,0 +1,11 @@
+-- What a call says, in document 01's terms. Every answer of a call is told by one of these. Assumes nothing.
+use mathlib.Core.List.{List}
+use Prim.Native.Nat.{ℕ}
+
+pub data Said : Type 0 where
+  -- accepted, with its values
+  accepted : List ℕ → Said
+  -- refused, with its number
+  refused : ℕ → Said
+  -- refused, with its number and the index of a record
+  refusedAt : ℕ → ℕ → Said

@@ -1,0 +1,9 @@
+// Routes, the records that hold them, and the check of a record input.
+
+// A route: the prefix of `len` bits of `addr`, and the hop that it leads to. `spare` is the record's spare byte.
+pub struct Route {
+    pub addr: u32,
+    pub len: u8,
+    pub spare: u8,
+    pub hop: u16,
+}
