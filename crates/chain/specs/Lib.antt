@@ -1,0 +1,2 @@
+-- Records as words, places among them, and the last word that covers a cell.
+pub mod Words

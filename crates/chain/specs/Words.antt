@@ -1,0 +1,34 @@
+-- A record as one word of 64 bits: its eight bytes, the first the highest. Words are in the order of their routes.
+-- Assumes nothing.
+use mathlib.Core.List.{List, map}
+use Prim.Native.Nat.{ℕ, suc, _+_, _*_, _/_, _%_, _<_}
+use lib.ListN.{length, getD}
+use Rattle.bits.specs.Tab.{tabulate}
+use Rattle.routes.specs.Route.{Fine}
+use Rattle.routes.specs.Record.{word32, word16}
+use Rattle.routes.specs.declared.Route.{Route}
+
+-- record k of s as a word
+unfoldable pub wordAt : List ℕ → ℕ → ℕ
+wordAt s k = ((word32 s (k * 8) * 256 + getD s (k * 8 + 4) 0) * 256 + getD s (k * 8 + 5) 0) * 65536 + word16 s (k * 8 + 6)
+
+-- the first n records as words
+unfoldable pub wordsOf : List ℕ → ℕ → List ℕ
+wordsOf s n = tabulate n (wordAt s)
+
+-- the route of a word
+abbrev pub routeOf : ℕ → Route
+routeOf w = record { addr = w / 4294967296; len = w / 16777216 % 256; spare = w / 65536 % 256; hop = w % 65536 }
+
+-- the key of a word's route
+abbrev pub keyIn : ℕ → ℕ
+keyIn w = w / 16777216
+
+-- the routes of these words
+abbrev pub routesIn : List ℕ → List Route
+routesIn ws = map routeOf ws
+
+-- each word is of a fine route, and the keys rise
+pub record Words (ws : List ℕ) : Type 0 where
+  pub fine : (k : ℕ) → k < length ws → Fine (routeOf (getD ws k 0))
+  pub rises : (k : ℕ) → suc k < length ws → keyIn (getD ws k 0) < keyIn (getD ws (suc k) 0)

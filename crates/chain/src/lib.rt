@@ -1,0 +1,1 @@
+// Records as words of 64 bits, and the chain of covering routes that answers for a cell.
