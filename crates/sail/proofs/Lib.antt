@@ -1,0 +1,3 @@
+-- Laws of geometry, sizes and the walk, and what they say of sound tables.
+pub mod Geos
+pub mod Fitting
