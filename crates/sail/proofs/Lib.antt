@@ -1,3 +1,4 @@
 -- Laws of geometry, sizes and the walk, and what they say of sound tables.
 pub mod Geos
 pub mod Fitting
+pub mod Steps

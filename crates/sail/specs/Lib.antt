@@ -2,3 +2,6 @@
 pub mod Geometry
 pub mod Lent
 pub mod Sizes
+pub mod Level
+pub mod Walk
+pub mod Sound
