@@ -2,3 +2,5 @@
 pub mod Geos
 pub mod Fitting
 pub mod Steps
+pub mod Places
+pub mod Walks

@@ -63,7 +63,7 @@ first-in g l a s h = omega (arith, slot-lt (g .p1) a (omega arith) h)
 
 -- one step
 module _ (n : ℕ) (opens : ℕ → Bool) (v : ℕ) (on : Said) where
-  step-leaf : 32768 ≤ v → leafSaid n v ≡ stepSaid n opens v on
+  pub step-leaf : 32768 ≤ v → leafSaid n v ≡ stepSaid n opens v on
   unfolding stepSaid
   step-leaf h = rw (le-leb 32768 v h)
 
@@ -71,7 +71,7 @@ module _ (n : ℕ) (opens : ℕ → Bool) (v : ℕ) (on : Said) where
   unfolding stepSaid
   step-off h e = rw (lt-leb 32768 v h, e)
 
-  step-on : v < 32768 → opens v ≡ true → on ≡ stepSaid n opens v on
+  pub step-on : v < 32768 → opens v ≡ true → on ≡ stepSaid n opens v on
   unfolding stepSaid
   step-on h e = rw (lt-leb 32768 v h, e)
 

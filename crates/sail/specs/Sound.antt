@@ -1,14 +1,18 @@
 -- When a table is sound. Assumes nothing.
 use mathlib.Core.List.{List}
-use Prim.Native.Nat.{ℕ}
+use Prim.Native.Nat.{ℕ, _+_}
 use lib.Dec.{ltb}
 use lib.ListN.{length}
+use Rattle.bits.specs.Slot.{slot}
+use Rattle.bits.specs.Count.{bit, count}
+use Rattle.routes.specs.Route.{long}
 use Rattle.routes.specs.Record.{routesOf, Listed}
 use Rattle.routes.specs.declared.Route.{Route}
 use Rattle.sail.specs.Geometry.{bits2, bits3}
 use Rattle.sail.specs.Lent.{Lent}
 use Rattle.sail.specs.Sizes.{Sized}
-use Rattle.sail.specs.Level.{Serves, Clear, entry, whole}
+use Rattle.sail.specs.Level.{Serves, Clear, entry, whole, inUse}
+use Rattle.sail.specs.declared.geometry.Geometry.{Geometry}
 use Rattle.sail.specs.declared.table.Table.{Table}
 
 -- the standing routes: the first `count` records of the list
@@ -30,3 +34,12 @@ pub record Sound (t : Table) (l : Lent) : Type 0 where
   -- "A free chunk has owner 0 and all cells 0"
   pub clear2 : Clear (length (l .own2)) (bits2 (t .geometry)) (ltb 0) (entry (l .own2)) (entry (l .second))
   pub clear3 : Clear (length (l .own3)) (bits3 (t .geometry)) (ltb 0) (entry (l .own3)) (entry (l .third))
+
+-- "1 plus one if some standing route longer than p1 shares the address's first p1 bits, plus one if some route longer than p2 shares its
+-- first p2 bits"
+abbrev pub cellsRead : Geometry → List Route → ℕ → ℕ
+cellsRead g rs a = 1 + bit (long rs (g .p1) (slot (g .p1) a)) + bit (long rs (g .p2) (slot (g .p2) a))
+
+-- how many of a pool's chunks are in use
+abbrev pub used : List ℕ → ℕ
+used own = count (inUse (entry own)) (length own)

@@ -46,9 +46,13 @@ module _ (p1 d1 d2 : ℕ) (t : View) (a : ℕ) where
   abbrev pub cell3 : ℕ
   cell3 = t .third place3
 
--- "A cell with its top bit set is a leaf: the low 15 bits are the hop, 0 for no route". Read as the n-th cell, it says n and the hop, or n alone
-unfoldable pub leafSaid : ℕ → ℕ → Said
-leafSaid n v = cond (eqb v 32768) (accepted (n ∷ [])) (accepted (n ∷ (v - 32768) ∷ []))
+-- after n cells were read: n and the hop; n alone where the hop is 0, which is no route
+unfoldable pub hopSaid : ℕ → ℕ → Said
+hopSaid n h = cond (eqb h 0) (accepted (n ∷ [])) (accepted (n ∷ h ∷ []))
+
+-- "A cell with its top bit set is a leaf: the low 15 bits are the hop, 0 for no route"
+abbrev pub leafSaid : ℕ → ℕ → Said
+leafSaid n v = hopSaid n (v - 32768)
 
 -- The n-th cell read holds v. A leaf ends the walk, a chunk number that opens leads on, and any other is refused
 unfoldable pub stepSaid : ℕ → (ℕ → Bool) → ℕ → Said → Said
