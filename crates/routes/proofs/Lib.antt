@@ -6,3 +6,8 @@ pub mod Paint
 pub mod Need
 pub mod Frame
 pub mod Standing
+pub mod Faults
+pub mod Meaning
+pub mod Inputs
+pub mod Puts
+pub mod Rows
