@@ -3,3 +3,9 @@ pub mod Chunks
 pub mod Pools
 pub mod Rendered
 pub mod Tells
+pub mod Places
+pub mod Owners
+pub mod Stores
+pub mod Needs
+pub mod Grown
+pub mod Shrunk
