@@ -4,3 +4,4 @@ pub mod Fitting
 pub mod Steps
 pub mod Places
 pub mod Walks
+pub mod Sounds

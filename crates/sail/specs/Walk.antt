@@ -84,7 +84,7 @@ lookupSaid t l a =
     (refused (sizesFault (t .geometry) l))
 
 -- what the code's answer says
-abbrev pub saysFound : Found → Said
+unfoldable pub saysFound : Found → Said
 saysFound (Hop h n) = accepted (n ∷ h ∷ [])
 saysFound (NoRoute n) = accepted (n ∷ [])
 saysFound (Refused k) = refused k
