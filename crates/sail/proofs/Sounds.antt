@@ -5,27 +5,28 @@ use mathlib.Core.List.{List, List·Memᴰ}
 use Prim.Native.Nat.{ℕ, _+_, _-_, _*_, _/_, _^_, _≤_, _<_}
 use native.Mathlib.Omega.{arith}
 use lib.Dec.{eqb}
-use lib.ListN.{length, getD}
+use lib.ListN.{length}
+use lib.Pow.{shl-lt, shl-shr}
 use borrow.Author.Tests.{le-leb, eq-eqb}
 use Rattle.bits.specs.Slot.{slot}
 use Rattle.bits.specs.Count.{bit}
 use Rattle.bits.specs.Tab.{Tells}
 use Rattle.bits.proofs.Tests.{both}
 use Rattle.routes.specs.Route.{covers, long, best, need, Longest, Best, Good}
-use Rattle.routes.specs.Said.{Said}
+use Rattle.routes.specs.Record.{routesOf}
 use Rattle.routes.specs.declared.Route.{Route}
 use Rattle.routes.proofs.Goods.{good-fine}
 use Rattle.routes.proofs.Longest.{best-is}
 use Rattle.routes.proofs.Rows.{records-good}
 use Rattle.sail.specs.Geometry.{bits2, bits3}
 use Rattle.sail.specs.Lent.{Lent}
-use Rattle.sail.specs.Level.{whole}
+use Rattle.sail.specs.Level.{whole, entry, liveIn}
 use Rattle.sail.specs.Sizes.{sizesFault}
-use Rattle.sail.specs.Walk.{oneOf, hopSaid, walkSaid, foundSaid, lookupSaid, cell1, cell2, cell3}
+use Rattle.sail.specs.Walk.{oneOf, hopSaid, foundSaid, lookupSaid, lastCell, ReadsSecond, ReadsThird}
 use Rattle.sail.specs.Sound.{standing, Sound, cellsRead, used}
 use Rattle.sail.specs.declared.table.Table.{Table}
-use Rattle.sail.proofs.Fitting.{sized-none}
-use Rattle.sail.proofs.Walks.{walk-best, used2-need, used3-need}
+use Rattle.sail.proofs.Fitting.{none-is}
+use Rattle.sail.proofs.Walks.{walk-best, last-best, second-read, third-read, used2-need, used3-need}
 
 -- of a good list: there is no best hop exactly where no route covers
 pub no-route : (rs : List Route) (p i : ℕ) → Good rs → (best rs p i ≡ 0 → (r : Route) → List·Memᴰ r rs → covers p i r ≡ false) × (((r : Route) → List·Memᴰ r rs → covers p i r ≡ false) → best rs p i ≡ 0)
@@ -58,7 +59,7 @@ module _ (t : Table) (l : Lent) (s : Sound t l) where
   pub sail-serves : (a : ℕ) → a < 2 ^ 32 → lookupSaid t l a ≡ hopSaid (cellsRead (t .geometry) (standing t l) a) (best (standing t l) 32 a)
   unfolding lookupSaid foundSaid
   sail-serves a h =
-      rw (eq-eqb (sizesFault (t .geometry) l) 0 (sized-none (t .geometry) l (s .sized)))
+      rw (eq-eqb (sizesFault (t .geometry) l) 0 (none-is (t .geometry) l (s .sized)))
       (walk-best (standing t l) (t .geometry .p1) (bits2 (t .geometry)) (bits3 (t .geometry)) (whole l) wide standing-good (s .serves) a h
       (omega (arith, s .sized .few2)) (omega (arith, s .sized .few3)) (oneOf (length (l .own2))) (oneOf (length (l .own3)))
       (λ v i j o. both (le-leb 1 v i) (le-leb v _ j)) (λ v i j o. both (le-leb 1 v i) (le-leb v _ j))
@@ -77,3 +78,33 @@ module _ (t : Table) (l : Lent) (s : Sound t l) where
     used2-need (standing t l) (t .geometry .p1) (bits2 (t .geometry)) (bits3 (t .geometry)) (whole l) wide standing-good (s .serves),
     used3-need (standing t l) (t .geometry .p1) (bits2 (t .geometry)) (bits3 (t .geometry)) (whole l) wide standing-good (s .serves) ∙ ap (need (standing t l)) sum,
   )
+
+  -- the leaf at which the walk for an address ends holds the hop of the longest standing route that covers the address
+  pub leaf-is : (a : ℕ) → a < 2 ^ 32 → lastCell (t .geometry .p1) (bits2 (t .geometry)) (bits3 (t .geometry)) (whole l) a ≡ 32768 + best (standing t l) 32 a
+  leaf-is a h =
+      last-best (standing t l) (t .geometry .p1) (bits2 (t .geometry)) (bits3 (t .geometry)) (whole l) wide standing-good (s .serves) a h
+      (omega (arith, s .sized .few2)) (omega (arith, s .sized .few3))
+
+  -- and each first cell, and each cell of a chunk in use, is one that the walk for some address reads
+  pub first-served : (q : ℕ) → q < 2 ^ (t .geometry .p1) → (a : ℕ) × (a < 2 ^ 32) × (slot (t .geometry .p1) a ≡ q)
+  first-served q h =
+      let v = s .sized .valid in
+      let e : t .geometry .p1 + (32 - t .geometry .p1) ≡ 32 = omega arith in
+      (q * 2 ^ (32 - t .geometry .p1), rw e at (shl-lt (t .geometry .p1) (32 - t .geometry .p1) h), shl-shr q (32 - t .geometry .p1))
+
+  pub second-served : (q : ℕ) → q < length (l .second) → liveIn (entry (l .own2)) (bits2 (t .geometry)) q ≡ true
+      → (a : ℕ) × (a < 2 ^ 32) × ReadsSecond (t .geometry .p1) (bits2 (t .geometry)) (bits3 (t .geometry)) (whole l) a q
+  second-served q h e =
+      second-read (standing t l) (t .geometry .p1) (bits2 (t .geometry)) (bits3 (t .geometry)) (whole l) wide standing-good (s .serves)
+      (omega (arith, s .sized .few2)) q (rw (s .sized .cells2) at h) e
+
+  pub third-served : (q : ℕ) → q < length (l .third) → liveIn (entry (l .own3)) (bits3 (t .geometry)) q ≡ true
+      → (a : ℕ) × (a < 2 ^ 32) × ReadsThird (t .geometry .p1) (bits2 (t .geometry)) (bits3 (t .geometry)) (whole l) a q
+  third-served q h e =
+      third-read (standing t l) (t .geometry .p1) (bits2 (t .geometry)) (bits3 (t .geometry)) (whole l) wide standing-good (s .serves)
+      (omega (arith, s .sized .few2)) (omega (arith, s .sized .few3)) q (rw (s .sized .cells3) at h) e
+
+-- So two sound tables of one list have the same leaves, whatever numbers their chunks have.
+pub leaf-determined : (t : Table) (l l′ : Lent) → Sound t l → Sound t l′ → l .list ≡ l′ .list → (a : ℕ) → a < 2 ^ 32
+    → lastCell (t .geometry .p1) (bits2 (t .geometry)) (bits3 (t .geometry)) (whole l) a ≡ lastCell (t .geometry .p1) (bits2 (t .geometry)) (bits3 (t .geometry)) (whole l′) a
+leaf-determined t l l′ s s′ e a h = leaf-is t l s a h ∙ ap (λ (xs : List ℕ). 32768 + best (routesOf xs (t .count)) 32 a) e ∙ sym (leaf-is t l′ s′ a h)
