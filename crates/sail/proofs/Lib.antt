@@ -2,5 +2,9 @@
 pub mod Geos
 pub mod Fitting
 pub mod Steps
+pub mod Answers
 pub mod Places
 pub mod Walks
+pub mod Sounds
+pub mod Fresh
+pub mod Examples

@@ -2,7 +2,7 @@
 use mathlib.Core.List.{List}
 use Prim.Native.Nat.{ℕ, _+_}
 use lib.Dec.{ltb}
-use lib.ListN.{length}
+use lib.ListN.{length, replicate}
 use Rattle.bits.specs.Slot.{slot}
 use Rattle.bits.specs.Count.{bit, count}
 use Rattle.routes.specs.Route.{long}
@@ -43,3 +43,17 @@ cellsRead g rs a = 1 + bit (long rs (g .p1) (slot (g .p1) a)) + bit (long rs (g 
 -- how many of a pool's chunks are in use
 abbrev pub used : List ℕ → ℕ
 used own = count (inUse (entry own)) (length own)
+
+-- "A fresh table has no routes: leaves of hop 0 (8000 hex), pools and owners zero". Its arrays have the sizes of those that are lent
+abbrev pub freshTable : Geometry → Table
+freshTable g = record { geometry = g; count = 0 }
+
+unfoldable pub freshLent : Lent → Lent
+freshLent l = record {
+  list = replicate (length (l .list)) 0;
+  first = replicate (length (l .first)) 32768;
+  second = replicate (length (l .second)) 0;
+  third = replicate (length (l .third)) 0;
+  own2 = replicate (length (l .own2)) 0;
+  own3 = replicate (length (l .own3)) 0;
+}

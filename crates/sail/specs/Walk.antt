@@ -2,7 +2,7 @@
 use mathlib.Core.Bool.{Bool, false, _&&_, cond}
 use mathlib.Core.List.{List, [], _∷_}
 use mathlib.Core.Path.{_≡_}
-use Prim.Native.Nat.{ℕ, _+_, _-_, _*_, _%_, _^_, _≤_}
+use Prim.Native.Nat.{ℕ, _+_, _-_, _*_, _%_, _^_, _≤_, _<_}
 use lib.Dec.{eqb, leb}
 use lib.ListN.{length}
 use Rattle.bits.specs.Slot.{slot}
@@ -46,6 +46,23 @@ module _ (p1 d1 d2 : ℕ) (t : View) (a : ℕ) where
   abbrev pub cell3 : ℕ
   cell3 = t .third place3
 
+-- "A cell serves an address when that address's lookup reads it": the second cell where the first is no leaf, the third where neither is.
+-- (The first cell that a reads is that of its first p1 bits.)
+pub record ReadsSecond (p1 d1 d2 : ℕ) (t : View) (a q : ℕ) : Type 0 where
+  pub goes : cell1 p1 d1 d2 t a < 32768
+  pub there : place2 p1 d1 d2 t a ≡ q
+
+pub record ReadsThird (p1 d1 d2 : ℕ) (t : View) (a q : ℕ) : Type 0 where
+  pub goes : cell1 p1 d1 d2 t a < 32768
+  pub on : cell2 p1 d1 d2 t a < 32768
+  pub there : place3 p1 d1 d2 t a ≡ q
+
+-- the cell at which the walk ends
+unfoldable pub lastCell : ℕ → ℕ → ℕ → View → ℕ → ℕ
+lastCell p1 d1 d2 t a =
+    cond (leb 32768 (cell1 p1 d1 d2 t a)) (cell1 p1 d1 d2 t a)
+    (cond (leb 32768 (cell2 p1 d1 d2 t a)) (cell2 p1 d1 d2 t a) (cell3 p1 d1 d2 t a))
+
 -- after n cells were read: n and the hop; n alone where the hop is 0, which is no route
 unfoldable pub hopSaid : ℕ → ℕ → Said
 hopSaid n h = cond (eqb h 0) (accepted (n ∷ [])) (accepted (n ∷ h ∷ []))
@@ -84,7 +101,7 @@ lookupSaid t l a =
     (refused (sizesFault (t .geometry) l))
 
 -- what the code's answer says
-abbrev pub saysFound : Found → Said
+unfoldable pub saysFound : Found → Said
 saysFound (Hop h n) = accepted (n ∷ h ∷ [])
 saysFound (NoRoute n) = accepted (n ∷ [])
 saysFound (Refused k) = refused k

@@ -1,11 +1,13 @@
 -- `sail::lookup::find` meets its contract. Assumes nothing.
 use borrow.Author.Needs.{needs}
 use native.Mathlib.Omega.{arith}
+use Rattle.sail.specs.Walk.{saysFound}
 use Rattle.sail.proofs.Steps.{first-in, chunk-named, leaf1, off1, leaf2, off2, leaf3, off3}
 use Rattle.sail.proofs.lookup.find.Statement.{statement}
 use Rattle.sail.proofs.lookup.find.Tie as tie
 
 pub find-spec : {M : Type 1} → statement M
+unfolding saysFound
 find-spec =
     tie.close
     (tie.spec

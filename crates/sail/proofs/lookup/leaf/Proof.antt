@@ -3,12 +3,12 @@ use borrow.Author.Needs.{needs}
 use native.Mathlib.Omega.{arith}
 use Prim.Native.Nat.{_-_}
 use borrow.Author.Tests.{eq-eqb, ne-eqb}
-use Rattle.sail.specs.Walk.{hopSaid}
+use Rattle.sail.specs.Walk.{hopSaid, saysFound}
 use Rattle.sail.proofs.lookup.leaf.Statement.{statement}
 use Rattle.sail.proofs.lookup.leaf.Tie as tie
 
 pub leaf-spec : {M : Type 1} → statement M
-unfolding hopSaid
+unfolding hopSaid saysFound
 leaf-spec =
     tie.close
     (tie.spec

@@ -1,10 +1,12 @@
 -- `sail::lookup::lookup` meets its contract. Assumes nothing.
 use borrow.Author.Needs.{needs}
+use Rattle.sail.specs.Walk.{saysFound}
 use Rattle.sail.proofs.Steps.{look-on, look-not}
 use Rattle.sail.proofs.lookup.lookup.Statement.{statement}
 use Rattle.sail.proofs.lookup.lookup.Tie as tie
 
 pub lookup-spec : {M : Type 1} → statement M
+unfolding saysFound
 lookup-spec =
     tie.close
     (tie.spec
