@@ -9,3 +9,5 @@ pub mod Stores
 pub mod Needs
 pub mod Grown
 pub mod Shrunk
+pub mod Judged
+pub mod Only

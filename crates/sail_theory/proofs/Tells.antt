@@ -20,8 +20,9 @@ use Rattle.sail.specs.Lent.{Lent}
 use Rattle.sail.specs.Level.{always, itself, liveIn, entry}
 use Rattle.sail.specs.Sizes.{sizesFault, Sized}
 use Rattle.sail.specs.Sound.{Sound, standing}
+use Rattle.sail.specs.declared.geometry.Geometry.{Geometry}
 use Rattle.sail.specs.declared.table.Table.{Table}
-use Rattle.sail.proofs.Fitting.{sized-none, none-sized}
+use Rattle.sail.proofs.Fitting.{Fault, none, limits, size, none-is, fault-is}
 use Rattle.sail_theory.specs.Render.{chunkFor, mid, at2, rendered, asAsked, Fits, Rendered}
 use Rattle.sail_theory.specs.Test.{listed?, fits?, sound?}
 use Rattle.sail_theory.proofs.Rendered.{sound-rendered, rendered-sound}
@@ -129,6 +130,15 @@ module _ (deep : ℕ → Bool) (n : ℕ) (live : ℕ → Bool) (at : ℕ → ℕ
           has′ q l (inl e) (inr d) = rw (e, d)
           has′ q l (inl e) (inl d) = rw (e, d) (lt-ltb _ _ (f .has q l e d))
 
+-- no fault, right sizes
+pub sized-of : (g : Geometry) (l : Lent) → sizesFault g l ≡ 0 → Sized g l
+sized-of g l e = go (fault-is g l) e
+  where
+    go : {n : ℕ} → Fault g l n → n ≡ 0 → Sized g l
+    go (none s) z = s
+    go (limits h) z = absurd (omega arith)
+    go (size v h) z = absurd (omega arith)
+
 module _ (t : Table) (l : Lent) where
   true-rendered : sound? t l ≡ true → Rendered t l
   unfolding sound?
@@ -140,7 +150,7 @@ module _ (t : Table) (l : Lent) where
       let x = and-split (same (l .first) (asAsked t l .first)) _ (d .1) in
       let y = and-split (same (l .second) (asAsked t l .second)) _ (x .1) in
       record {
-        sized = none-sized (t .geometry) l (eqb-true _ _ (a .0));
+        sized = sized-of (t .geometry) l (eqb-true _ _ (a .0));
         listed = listed-tells (l .list) (t .count) .0 (b .0);
         fits2 = fits-tells _ _ _ _ _ _ .0 (c .0);
         fits3 = fits-tells _ _ _ _ _ _ .0 (d .0);
@@ -152,7 +162,7 @@ module _ (t : Table) (l : Lent) where
   rendered-true : Rendered t l → sound? t l ≡ true
   unfolding sound?
   rendered-true w =
-      both (eq-eqb _ _ (sized-none (t .geometry) l (w .sized)))
+      both (eq-eqb _ _ (none-is (t .geometry) l (w .sized)))
       (both (listed-tells (l .list) (t .count) .1 (w .listed))
       (both (fits-tells _ _ _ _ _ _ .1 (w .fits2))
       (both (fits-tells _ _ _ _ _ _ .1 (w .fits3))

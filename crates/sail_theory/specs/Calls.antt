@@ -17,7 +17,7 @@ use Rattle.sail.specs.Geometry.{bits2}
 use Rattle.sail.specs.Lent.{Lent}
 use Rattle.sail.specs.Level.{itself}
 use Rattle.sail.specs.Sizes.{sizesFault}
-use Rattle.sail.specs.Sound.{standing}
+use Rattle.sail.specs.Sound.{standing, freshTable, freshLent}
 use Rattle.sail.specs.declared.geometry.Geometry.{Geometry}
 use Rattle.sail.specs.declared.table.Table.{Table}
 use Rattle.sail_theory.specs.Render.{find, mid, at2, rendered, roomOf}
@@ -170,9 +170,9 @@ outcome (refusedAt n k) t l t′ l′ = record { said = refusedAt n k; table = t
 abbrev pub leaving : Said → Table → Lent → List Route → Owners → Out
 leaving s t l rs o = outcome s t l (record { geometry = t .geometry; count = length rs }) (rendered (t .geometry) (roomOf l) rs (o .own2) (o .own3))
 
--- no routes
+-- a fresh table
 unfoldable pub made : Table → Lent → Out
-made t l = leaving (makeSaid t l) t l [] (noOwners l)
+made t l = outcome (makeSaid t l) t l (freshTable (t .geometry)) (freshLent l)
 
 -- "Announce adds, or replaces the hop of a standing prefix, and says which"
 unfoldable pub announced : Table → Lent → ℕ → ℕ → ℕ → Out
