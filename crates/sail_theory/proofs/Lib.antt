@@ -11,3 +11,4 @@ pub mod Grown
 pub mod Shrunk
 pub mod Judged
 pub mod Only
+pub mod Changes

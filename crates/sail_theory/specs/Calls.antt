@@ -166,9 +166,16 @@ outcome (accepted vs) t l t′ l′ = record { said = accepted vs; table = t′;
 outcome (refused n) t l t′ l′ = record { said = refused n; table = t; lent = l }
 outcome (refusedAt n k) t l t′ l′ = record { said = refusedAt n k; table = t; lent = l }
 
--- where it is accepted, these routes stand, with these owners: all else that is lent follows from them
+-- the state and all that is lent where these routes stand with these owners
+abbrev pub stateOf : Table → List Route → Table
+stateOf t rs = record { geometry = t .geometry; count = length rs }
+
+abbrev pub lentOf : Table → Lent → List Route → Owners → Lent
+lentOf t l rs o = rendered (t .geometry) (roomOf l) rs (o .own2) (o .own3)
+
+-- where it is accepted, these routes stand with these owners: all else that is lent follows from them
 abbrev pub leaving : Said → Table → Lent → List Route → Owners → Out
-leaving s t l rs o = outcome s t l (record { geometry = t .geometry; count = length rs }) (rendered (t .geometry) (roomOf l) rs (o .own2) (o .own3))
+leaving s t l rs o = outcome s t l (stateOf t rs) (lentOf t l rs o)
 
 -- a fresh table
 unfoldable pub made : Table → Lent → Out
