@@ -12,3 +12,4 @@ pub mod Shrunk
 pub mod Judged
 pub mod Only
 pub mod Changes
+pub mod Accepted
