@@ -13,3 +13,4 @@ pub mod Judged
 pub mod Only
 pub mod Changes
 pub mod Accepted
+pub mod Fresh
