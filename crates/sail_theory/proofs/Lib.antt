@@ -14,3 +14,5 @@ pub mod Only
 pub mod Changes
 pub mod Accepted
 pub mod Fresh
+pub mod Cells
+pub mod Opens
