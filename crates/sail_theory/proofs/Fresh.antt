@@ -100,9 +100,12 @@ pub make-said : (t : Table) (l : Lent) → made t l .said ≡ makeSaid t l
 unfolding made
 make-said t l = outcome-said (makeSaid t l) t l _ _
 
-pub make-refused : (t : Table) (l : Lent) → took (made t l .said) ≡ false → made t l ≡ record { said = makeSaid t l; table = t; lent = l }
+pub make-off : (t : Table) (l : Lent) (s : Said) → makeSaid t l ≡ s → took s ≡ false → made t l ≡ record { said = s; table = t; lent = l }
 unfolding made
-make-refused t l e = outcome-not _ t l _ _ (sym (ap took (make-said t l)) ∙ e)
+make-off t l s q e = rw q (outcome-not s t l _ _ e)
+
+pub make-refused : (t : Table) (l : Lent) → took (made t l .said) ≡ false → made t l ≡ record { said = makeSaid t l; table = t; lent = l }
+make-refused t l e = make-off t l (makeSaid t l) refl (sym (ap took (make-said t l)) ∙ e)
 
 -- accepted exactly where the sizes are right
 pub took-sized : (t : Table) (l : Lent) → took (made t l .said) ≡ true → Sized (t .geometry) l

@@ -16,3 +16,5 @@ pub mod Accepted
 pub mod Fresh
 pub mod Cells
 pub mod Opens
+pub mod Ends
+pub mod Loads
