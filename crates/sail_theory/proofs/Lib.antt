@@ -18,3 +18,4 @@ pub mod Cells
 pub mod Opens
 pub mod Ends
 pub mod Loads
+pub mod Ascends

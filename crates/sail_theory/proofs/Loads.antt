@@ -147,7 +147,7 @@ settles s t l (r ∷ ys) xs o f = go (settles (accepted (0 ∷ [])) t l ys (xs +
         }
 
 -- nothing is loaded yet
-fronts-none : (t : Table) (l : Lent) (rs : List Route) → Loadable t l rs → Fronts t l [] rs (noOwners l)
+pub fronts-none : (t : Table) (l : Lent) (rs : List Route) → Loadable t l rs → Fronts t l [] rs (noOwners l)
 fronts-none t l rs w = record {
   sized = w .sized;
   good = w .good;
