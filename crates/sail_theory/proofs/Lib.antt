@@ -19,3 +19,4 @@ pub mod Opens
 pub mod Ends
 pub mod Loads
 pub mod Ascends
+pub mod Runs
