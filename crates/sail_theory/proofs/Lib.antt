@@ -20,3 +20,5 @@ pub mod Ends
 pub mod Loads
 pub mod Ascends
 pub mod Runs
+pub mod Anew
+pub mod Wanting

@@ -30,7 +30,7 @@ use Rattle.sail.proofs.Sounds.{standing-good, sail-serves, chunks-need}
 use Rattle.sail_theory.specs.Render.{roomOf}
 use Rattle.sail_theory.specs.Calls.{route, termsOf, chunksFault, inputRoutes, announceSaid, Out, took, made, announced, withdrawn, loaded}
 use Rattle.sail_theory.specs.Facts.{SameSize, Holds, Loadable}
-use Rattle.sail_theory.specs.Runs.{Call, announce, withdraw, load, done, after, says, worked}
+use Rattle.sail_theory.specs.Runs.{Call, announce, withdraw, load, done, after, says, worked, would}
 use Rattle.sail_theory.proofs.Chunks.{used-le}
 use Rattle.sail_theory.proofs.Judged.{Readable}
 use Rattle.sail_theory.proofs.Accepted.{announce-refused, announce-holds, withdraw-refused, withdraw-holds}
@@ -55,6 +55,7 @@ pub record Leaves (t : Table) (l : Lent) (c : Call) (o : Out) : Type 0 where
   pub sound : Sound (o .table) (o .lent)
   pub geometry : o .table .geometry ≡ t .geometry
   pub size : SameSize l (o .lent)
+  pub list-so : standing (o .table) (o .lent) ≡ cond (took (o .said)) (would c (standing t l)) (standing t l)
   pub says-so : (k : ℕ) → routeAt k (standing (o .table) (o .lent)) ≡ cond (took (o .said)) (says c k (routeAt k (standing t l))) (routeAt k (standing t l))
 
 module _ (t : Table) (l : Lent) (s : Sound t l) (c : Call) (o : Out) where
@@ -63,18 +64,19 @@ module _ (t : Table) (l : Lent) (s : Sound t l) (c : Call) (o : Out) where
     sound = rw (p, q) s;
     geometry = ap (λ (x : Table). x .geometry) p;
     size = rw q (size-refl l);
+    list-so = rw (e, p, q);
     says-so = λ k. rw (e, p, q);
   }
 
-  holds-leaves : took (o .said) ≡ true → (rs : List Route) → Holds t l rs (o .table) (o .lent) → ((k : ℕ) → routeAt k rs ≡ says c k (routeAt k (standing t l))) → Leaves t l c o
-  holds-leaves e rs h so = record { sound = h .sound; geometry = h .geometry; size = h .size; says-so = λ k. rw (e, h .routes) (so k) }
+  holds-leaves : took (o .said) ≡ true → Holds t l (would c (standing t l)) (o .table) (o .lent) → ((k : ℕ) → routeAt k (would c (standing t l)) ≡ says c k (routeAt k (standing t l))) → Leaves t l c o
+  holds-leaves e h so = record { sound = h .sound; geometry = h .geometry; size = h .size; list-so = rw (e, h .routes); says-so = λ k. rw (e, h .routes) (so k) }
 
 module _ (t : Table) (l : Lent) (s : Sound t l) where
   announce-leaves : (a len hop : ℕ) → Leaves t l (announce a len hop) (announced t l a len hop)
   announce-leaves a len hop = go (decided (took (announced t l a len hop .said)))
     where
       go : (took (announced t l a len hop .said) ≡ true) ⊎ (took (announced t l a len hop .said) ≡ false) → Leaves t l (announce a len hop) (announced t l a len hop)
-      go (inl e) = holds-leaves t l s (announce a len hop) _ e _ (announce-holds t l a len hop e) (λ k. insert-stands k (route a len hop) (standing t l))
+      go (inl e) = holds-leaves t l s (announce a len hop) _ e (announce-holds t l a len hop e) (λ k. insert-stands k (route a len hop) (standing t l))
       go (inr e) =
           let q = announce-refused t l a len hop e in
           refused-leaves t l s (announce a len hop) _ e (ap (λ (x : Out). x .table) q) (ap (λ (x : Out). x .lent) q)
@@ -83,7 +85,7 @@ module _ (t : Table) (l : Lent) (s : Sound t l) where
   withdraw-leaves a len = go (decided (took (withdrawn t l a len .said)))
     where
       go : (took (withdrawn t l a len .said) ≡ true) ⊎ (took (withdrawn t l a len .said) ≡ false) → Leaves t l (withdraw a len) (withdrawn t l a len)
-      go (inl e) = holds-leaves t l s (withdraw a len) _ e _ (withdraw-holds t l a len e) (λ k. remove-stands (keyOf a len) k (standing t l))
+      go (inl e) = holds-leaves t l s (withdraw a len) _ e (withdraw-holds t l a len e) (λ k. remove-stands (keyOf a len) k (standing t l))
       go (inr e) =
           let q = withdraw-refused t l a len e in
           refused-leaves t l s (withdraw a len) _ e (ap (λ (x : Out). x .table) q) (ap (λ (x : Out). x .lent) q)
@@ -92,7 +94,7 @@ module _ (t : Table) (l : Lent) (s : Sound t l) where
   load-leaves input = go (decided (took (loaded t l input .said)))
     where
       go : (took (loaded t l input .said) ≡ true) ⊎ (took (loaded t l input .said) ≡ false) → Leaves t l (load input) (loaded t l input)
-      go (inl e) = holds-leaves t l s (load input) _ e _ (load-holds t l input e) (λ k. refl)
+      go (inl e) = holds-leaves t l s (load input) _ e (load-holds t l input e) (λ k. refl)
       go (inr e) =
           let q = load-refused t l input e in
           refused-leaves t l s (load input) _ e (ap (λ (x : Out). x .table) q) (ap (λ (x : Out). x .lent) q)
@@ -136,6 +138,12 @@ module _ (t : Table) (l : Lent) (z : Sized (t .geometry) l) where
   -- the list holds exactly the routes of the accepted calls; being in order, it is the only such list
   pub run-standing : (cs : List Call) (k : ℕ) → routeAt k (standing (after t l cs .table) (after t l cs .lent)) ≡ worked t l cs k
   run-standing cs = run-is cs .stands-so
+
+  -- from call to call: what is accepted changes the list as it says, and what is refused does not
+  pub run-list : (c : Call) (cs : List Call) → standing (after t l (c ∷ cs) .table) (after t l (c ∷ cs) .lent)
+      ≡ cond (took (after t l (c ∷ cs) .said)) (would c (standing (after t l cs .table) (after t l cs .lent))) (standing (after t l cs .table) (after t l cs .lent))
+  unfolding after
+  run-list c cs = leaves (after t l cs .table) (after t l cs .lent) (run-sound cs) c .list-so
 
   pub run-only : (cs : List Call) (rs : List Route) → Good rs → ((k : ℕ) → routeAt k rs ≡ worked t l cs k) → standing (after t l cs .table) (after t l cs .lent) ≡ rs
   run-only cs rs h e = same-standing _ rs (standing-good _ _ (run-sound cs)) h (λ k. run-standing cs k ∙ sym (e k))
