@@ -22,3 +22,4 @@ pub mod Ascends
 pub mod Runs
 pub mod Anew
 pub mod Wanting
+pub mod Frames
