@@ -30,9 +30,9 @@ use Rattle.sail_theory.specs.Facts.{Loadable}
 use Rattle.sail_theory.proofs.Chunks.{chunk-at, chunk-before, chunk-has, free-zero}
 use Rattle.sail_theory.proofs.Ends.{good-front, good-next, good-below, insert-end, any-some}
 use Rattle.sail_theory.proofs.Places.{part-up}
-use Rattle.sail_theory.proofs.Stores.{grant-had, grant-new, had?, grant-stays}
+use Rattle.sail_theory.proofs.Stores.{grant-had, grant-new, had?}
 use Rattle.sail_theory.proofs.Needs.{long-own}
-use Rattle.sail_theory.proofs.Grown.{chunk2-owner}
+use Rattle.sail_theory.proofs.Grown.{chunk2-owner, open2-stays, open3-stays}
 use Rattle.sail_theory.proofs.Fresh.{zeros}
 use Rattle.sail_theory.proofs.Loads.{Fronts, fronts-next, fronts-none}
 
@@ -188,25 +188,9 @@ module _ (t : Table) (l : Lent) (xs : List Route) (r : Route) (ys : List Route) 
       go (inl k) = (omega (arith, good-below xs r ys (f .good) s k), good-fine xs (good-front xs (r ∷ ys) (f .good)) s k .prefix .len-ok)
       go (inr k) = let q = List·Memᴰ·eq-of-singleton k in (rw q (le-refl (key r)), rw q (fine .prefix .len-ok))
 
-  stays2 : (c x : ℕ) → getD (o .own2) c 0 ≡ suc x → getD o2 c 0 ≡ suc x
-  unfolding openAt2
-  stays2 c x e = go (ltb (g .p1) (r .len))
-    where
-      go : (b : Bool) → getD (cond b (grant (o .own2) (find (o .own2) 0) (slot (g .p1) (r .addr))) (o .own2)) c 0 ≡ suc x
-      go true = grant-stays (o .own2) (slot (g .p1) (r .addr)) c x e
-      go false = e
-
-  stays3 : (c x : ℕ) → getD (o .own3) c 0 ≡ suc x → getD o3 c 0 ≡ suc x
-  unfolding openAt3
-  stays3 c x e = go (ltb (mid g) (r .len))
-    where
-      go : (b : Bool) → getD (cond b (grant (o .own3) (find (o .own3) 0) (placeIn g o2 (r .addr))) (o .own3)) c 0 ≡ suc x
-      go true = grant-stays (o .own3) (placeIn g o2 (r .addr)) c x e
-      go false = e
-
   pub top2 : (c x : ℕ) → getD (o .own2) c 0 ≡ suc x → x ≤ slot (g .p1) (r .addr)
   top2 c x e =
-      let e′ = stays2 c x e in
+      let e′ = open2-stays g (o .own2) r c x e in
       long-top r xs′ (g .p1) x (fine .prefix .len-ok) upto (then .fits2 .lies c x (inside o2 c x e′) e′ .2)
 
   rise2 : Rising (o .own2) → Rising o2
@@ -220,7 +204,7 @@ module _ (t : Table) (l : Lent) (xs : List Route) (r : Route) (ys : List Route) 
   pub top3 : Rising (o .own2) → ltb (mid g) (r .len) ≡ true → (c x : ℕ) → getD (o .own3) c 0 ≡ suc x → x ≤ placeIn g o2 (r .addr)
   top3 up h c x e =
       let v = f .sized .valid in
-      let e′ = stays3 c x e in
+      let e′ = open3-stays g o2 (o .own3) r c x e in
       let k = then .fits3 .lies c x (inside o3 c x e′) e′ in
       let deeper : ltb (g .p1) (r .len) ≡ true = lt-ltb (g .p1) (r .len) (omega (arith, ltb-true (mid g) (r .len) h)) in
       let own-long : long xs′ (g .p1) (slot (g .p1) (r .addr)) ≡ true

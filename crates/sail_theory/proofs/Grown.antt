@@ -23,11 +23,11 @@ use Rattle.sail.specs.Geometry.{bits2, bits3, Valid}
 use Rattle.sail.specs.Level.{always, itself, liveIn, entry}
 use Rattle.sail.specs.declared.geometry.Geometry.{Geometry}
 use Rattle.sail_theory.specs.Render.{find, mid, at2, Fits2, Fits3}
-use Rattle.sail_theory.specs.Calls.{grant, placeIn, openAt2, openAt3}
+use Rattle.sail_theory.specs.Calls.{grant, placeIn, openAt2, openAt3, open2, open3}
 use Rattle.sail_theory.proofs.Chunks.{chunk-at}
 use Rattle.sail_theory.proofs.Places.{live-owner, part-up, place-live, place-at, apart-itself, apart-below, Apart}
 use Rattle.sail_theory.proofs.Owners.{fits-ext, fits-shift}
-use Rattle.sail_theory.proofs.Stores.{grant-had, grant-new, length-grant, had?, grant-fits}
+use Rattle.sail_theory.proofs.Stores.{grant-had, grant-new, grant-stays, length-grant, had?, grant-fits}
 use Rattle.sail_theory.proofs.Needs.{long-own, long-other, long-short}
 
 pub length-open2 : (g : Geometry) (own2 : List ℕ) (c : ℕ) (r : Route) → length (openAt2 g own2 c r) ≡ length own2
@@ -45,6 +45,23 @@ length-open3 g own2 own3 c r = go (ltb (mid g) (r .len))
     go : (b : Bool) → length (cond b (grant own3 c (placeIn g own2 (r .addr))) own3) ≡ length own3
     go true = length-grant own3 c _
     go false = refl
+
+-- owners stay when the lowest free chunk is opened
+pub open2-stays : (g : Geometry) (own2 : List ℕ) (r : Route) (c x : ℕ) → getD own2 c 0 ≡ suc x → getD (open2 g own2 r) c 0 ≡ suc x
+unfolding openAt2
+open2-stays g own2 r c x e = go (ltb (g .p1) (r .len))
+  where
+    go : (b : Bool) → getD (cond b (grant own2 (find own2 0) (slot (g .p1) (r .addr))) own2) c 0 ≡ suc x
+    go true = grant-stays own2 (slot (g .p1) (r .addr)) c x e
+    go false = e
+
+pub open3-stays : (g : Geometry) (own2 own3 : List ℕ) (r : Route) (c x : ℕ) → getD own3 c 0 ≡ suc x → getD (open3 g own2 own3 r) c 0 ≡ suc x
+unfolding openAt3
+open3-stays g own2 own3 r c x e = go (ltb (mid g) (r .len))
+  where
+    go : (b : Bool) → getD (cond b (grant own3 (find own3 0) (placeIn g own2 (r .addr))) own3) c 0 ≡ suc x
+    go true = grant-stays own3 (placeIn g own2 (r .addr)) c x e
+    go false = e
 
 -- The second pool's places of an address whose first cell has a chunk.
 module _ (g : Geometry) (valid : Valid g) (rs : List Route) (own2 : List ℕ) (f2 : Fits2 g rs own2) (a : ℕ) (small : a < 2 ^ 32) (deep : long rs (g .p1) (slot (g .p1) a) ≡ true) where

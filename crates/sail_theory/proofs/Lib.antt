@@ -23,3 +23,4 @@ pub mod Runs
 pub mod Anew
 pub mod Wanting
 pub mod Frames
+pub mod Altered
