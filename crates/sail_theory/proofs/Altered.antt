@@ -20,17 +20,18 @@ use Rattle.sail.specs.Geometry.{bits2, bits3, Valid}
 use Rattle.sail.specs.Lent.{Lent}
 use Rattle.sail.specs.Level.{Level, always, itself, inUse, liveIn, partOf, entry, whole}
 use Rattle.sail.specs.Sound.{Sound, standing}
-use Rattle.sail.specs.Walk.{place, ReadsSecond, ReadsThird}
+use Rattle.sail.specs.Walk.{place, place2, cell2, ReadsSecond, ReadsThird}
 use Rattle.sail.specs.declared.geometry.Geometry.{Geometry}
 use Rattle.sail.specs.declared.table.Table.{Table}
 use Rattle.sail.proofs.Sounds.{standing-good}
-use Rattle.sail_theory.specs.Render.{find, mid, at2, at3, rendered, Rendered, asAsked}
+use Rattle.sail_theory.specs.Render.{find, at2, at3, rendered, Rendered, asAsked}
 use Rattle.sail_theory.specs.Calls.{grant, placeIn, openAt2, openAt3, open2, open3, opened, keep2, keep3, kept, ownersOf, route, Out, took, stateOf, lentOf, announced, withdrawn}
 use Rattle.sail_theory.specs.Facts.{Welcome, Farewell}
 use Rattle.sail_theory.specs.Alters.{Alters, NoneUnder, Frame}
+use Rattle.sail_theory.proofs.Mids.{sum2, slot-mid, slot-low}
 use Rattle.sail_theory.proofs.Chunks.{chunk-before}
 use Rattle.sail_theory.proofs.Places.{chunk-lt, live-owner, part-up, part-low, Apart, apart-itself}
-use Rattle.sail_theory.proofs.Rendered.{sound-rendered}
+use Rattle.sail_theory.proofs.Rendered.{sound-rendered, level-two}
 use Rattle.sail_theory.proofs.Stores.{length-keep, kept-was, kept-stays, grant-lowest}
 use Rattle.sail_theory.proofs.Grown.{length-open2, length-open3, open2-stays, open3-stays, apart2}
 use Rattle.sail_theory.proofs.Shrunk.{kept-over}
@@ -62,36 +63,39 @@ module _ (t : Table) (l : Lent) (s : Sound t l) (x : ℕ) (small : x < 2 ^ 32) w
   valid : Valid g
   valid = s .sized .valid
 
-  up1 : slot (g .p1) x ≡ slot (mid g) x / 2 ^ bits2 g
-  up1 = let v = valid in sym (slot-up (g .p1) (bits2 g) x (omega arith))
+  up1 : slot (g .p1) x ≡ slot (g .p2) x / 2 ^ bits2 g
+  up1 = slot-mid g valid x
 
-  up2 : slot (mid g) x ≡ x / 2 ^ bits3 g
-  up2 = let v = valid in ap (λ (n : ℕ). x / 2 ^ n) (omega arith)
+  up2 : slot (g .p2) x ≡ x / 2 ^ bits3 g
+  up2 = slot-low g valid x
 
-  named2 : (q : ℕ) → q < length (l .own2) * 2 ^ bits2 g → liveIn (entry (l .own2)) (bits2 g) q ≡ true → at2 g (l .own2) q ≡ slot (mid g) x
-      → (getD (l .first) (slot (g .p1) x) 0 ≡ suc (q / 2 ^ bits2 g)) × (getD (l .first) (slot (g .p1) x) 0 ≤ length (l .own2)) × (place (bits2 g) (getD (l .first) (slot (g .p1) x) 0) (slot (mid g) x) ≡ q)
+  place2-is : place2 (g .p1) (bits2 g) (bits3 g) (whole l) x ≡ place (bits2 g) (getD (l .first) (slot (g .p1) x) 0) (slot (g .p2) x)
+  place2-is = ap (λ (n : ℕ). place (bits2 g) (getD (l .first) (slot (g .p1) x) 0) (slot n x)) (sum2 g valid)
+
+  named2 : (q : ℕ) → q < length (l .own2) * 2 ^ bits2 g → liveIn (entry (l .own2)) (bits2 g) q ≡ true → at2 g (l .own2) q ≡ slot (g .p2) x
+      → (getD (l .first) (slot (g .p1) x) 0 ≡ suc (q / 2 ^ bits2 g)) × (getD (l .first) (slot (g .p1) x) 0 ≤ length (l .own2)) × (place (bits2 g) (getD (l .first) (slot (g .p1) x) 0) (slot (g .p2) x) ≡ q)
   named2 q h e p =
       let v = valid in
       stands-named (long rs (g .p1)) (best rs (g .p1)) (2 ^ g .p1) always itself (entry (l .first)) (length (l .own2)) (entry (l .own2)) (s .serves .level1) (apart-itself (2 ^ g .p1) always)
-      (bits2 g) (slot (g .p1) x) (slot (mid g) x) (slot-lt (g .p1) x (omega arith) small) refl up1 q h e p
+      (bits2 g) (slot (g .p1) x) (slot (g .p2) x) (slot-lt (g .p1) x (omega arith) small) refl up1 q h e p
 
-  pub reads-second : (q : ℕ) → q < length (l .own2) * 2 ^ bits2 g → liveIn (entry (l .own2)) (bits2 g) q ≡ true → at2 g (l .own2) q ≡ slot (mid g) x → ReadsSecond (g .p1) (bits2 g) (bits3 g) (whole l) x q
-  reads-second q h e p = let k = named2 q h e p in record { goes = omega (arith, k .1, s .sized .few2); there = k .2 }
+  pub reads-second : (q : ℕ) → q < length (l .own2) * 2 ^ bits2 g → liveIn (entry (l .own2)) (bits2 g) q ≡ true → at2 g (l .own2) q ≡ slot (g .p2) x → ReadsSecond (g .p1) (bits2 g) (bits3 g) (whole l) x q
+  reads-second q h e p = let k = named2 q h e p in record { goes = omega (arith, k .1, s .sized .few2); there = place2-is ∙ k .2 }
 
   pub reads-third : (q : ℕ) → q < length (l .own3) * 2 ^ bits3 g → liveIn (entry (l .own3)) (bits3 g) q ≡ true → at3 g (l .own2) (l .own3) q ≡ x → ReadsThird (g .p1) (bits2 g) (bits3 g) (whole l) x q
   reads-third q h e p =
       let w = sound-rendered t l s in
       let c = chunk-lt (bits3 g) (length (l .own3)) q h in
       let z : ℕ = getD (l .own3) (q / 2 ^ bits3 g) 0 - 1 in
-      let k = s .serves .level2 .owned (q / 2 ^ bits3 g) z c (live-owner (entry (l .own3)) (bits3 g) q e) in
-      let stands : at2 g (l .own2) z ≡ slot (mid g) x = sym (part-up (entry (l .own3)) (bits3 g) (at2 g (l .own2)) q) ∙ ap (λ (j : ℕ). j / 2 ^ bits3 g) p ∙ sym up2 in
+      let k = level-two t l s .owned (q / 2 ^ bits3 g) z c (live-owner (entry (l .own3)) (bits3 g) q e) in
+      let stands : at2 g (l .own2) z ≡ slot (g .p2) x = sym (part-up (entry (l .own3)) (bits3 g) (at2 g (l .own2)) q) ∙ ap (λ (j : ℕ). j / 2 ^ bits3 g) p ∙ sym up2 in
       let two = named2 z (k .0) (k .1) stands in
-      let three = stands-named (long rs (mid g)) (best rs (mid g)) (length (l .own2) * 2 ^ bits2 g) (liveIn (entry (l .own2)) (bits2 g)) (at2 g (l .own2)) (entry (l .second)) (length (l .own3)) (entry (l .own3)) (s .serves .level2)
+      let three = stands-named (long rs (g .p2)) (best rs (g .p2)) (length (l .own2) * 2 ^ bits2 g) (liveIn (entry (l .own2)) (bits2 g)) (at2 g (l .own2)) (entry (l .second)) (length (l .own3)) (entry (l .own3)) (level-two t l s)
       (apart2 g rs (l .own2) (w .fits2)) (bits3 g) z x (k .0) (k .1) (stands ∙ up2) q h e p in
-      let here : getD (l .second) (place (bits2 g) (getD (l .first) (slot (g .p1) x) 0) (slot (mid g) x)) 0 ≡ getD (l .second) z 0 = ap (entry (l .second)) (two .2) in
+      let here : cell2 (g .p1) (bits2 g) (bits3 g) (whole l) x ≡ getD (l .second) z 0 = ap (entry (l .second)) (place2-is ∙ two .2) in
       record {
         goes = omega (arith, two .1, s .sized .few2);
-        on = rw here (omega (arith, three .1, s .sized .few3));
+        on = subst (λ (j : ℕ). j < 32768) (sym here) (omega (arith, three .1, s .sized .few3));
         there = ap (λ (j : ℕ). place (bits3 g) j x) here ∙ three .2;
       }
 
@@ -167,19 +171,19 @@ module _ (t : Table) (l : Lent) (a len : ℕ) (w : Farewell t l a len) where
       → getD (keep2 (t .geometry) left (l .own2)) (q / 2 ^ bits2 (t .geometry)) 0 ≡ getD (l .own2) (q / 2 ^ bits2 (t .geometry)) 0
   kept-above c q e z h =
       kept-over (t .geometry) (w .sound .sized .valid) (standing t l) left (λ p i. remove-any _ (keyOf a len) (standing t l)) (l .own2) (l .own3) (was .fits2) (was .fits3)
-      q (was .fits3 .lies c q h e .1) (kept-was (long left (mid (t .geometry))) (at2 (t .geometry) (l .own2)) (l .own3) c q z .1)
+      q (was .fits3 .lies c q h e .1) (kept-was (long left (t .geometry .p2)) (at2 (t .geometry) (l .own2)) (l .own3) c q z .1)
 
   pub withdraw-frame : Frame (t .geometry) a len l gone
   withdraw-frame = frame-from t l was a len gone
       (frame (t .geometry) (w .sound .sized .valid) a len _ (w .prefix .addr-ok) (standing t l) left (remove-but a len (standing t l) (w .prefix .len-ok) (standing-good t l (w .sound)))
       (l .own2) (keep2 (t .geometry) left (l .own2)) (l .own3) (keep3 (t .geometry) left (l .own2) (l .own3)) (was .fits2) (was .fits3) (farewell-fits2 t l a len w) (farewell-fits3 t l a len w)
-      (length-keep _ _ (l .own2)) (length-keep _ _ (l .own3)) (kept-stays (long left (t .geometry .p1)) itself (l .own2)) (kept-stays (long left (mid (t .geometry))) (at2 (t .geometry) (l .own2)) (l .own3)) kept-above)
+      (length-keep _ _ (l .own2)) (length-keep _ _ (l .own3)) (kept-stays (long left (t .geometry .p1)) itself (l .own2)) (kept-stays (long left (t .geometry .p2)) (at2 (t .geometry) (l .own2)) (l .own3)) kept-above)
 
   farewell-alters : Alters (t .geometry) a len l gone
   unfolding rendered
   farewell-alters = frame-alters t l (w .sound) a len gone withdraw-frame
       (λ c e. sym (same-owner _ _ (λ x z. kept-was (long left (t .geometry .p1)) itself (l .own2) c x z .0) (sym e)))
-      (λ c e. sym (same-owner _ _ (λ x z. kept-was (long left (mid (t .geometry))) (at2 (t .geometry) (l .own2)) (l .own3) c x z .0) (sym e)))
+      (λ c e. sym (same-owner _ _ (λ x z. kept-was (long left (t .geometry .p2)) (at2 (t .geometry) (l .own2)) (l .own3) c x z .0) (sym e)))
 
 pub withdraw-alters : (t : Table) (l : Lent) (a len : ℕ) → took (withdrawn t l a len .said) ≡ true → Alters (t .geometry) a len l (withdrawn t l a len .lent)
 withdraw-alters t l a len e =
@@ -203,4 +207,4 @@ module _ (t : Table) (l : Lent) (a len hop : ℕ) (e : took (announced t l a len
   pub opened-lowest3 : (c x : ℕ) → getD (l .own3) c 0 ≡ 0 → getD (announced t l a len hop .lent .own3) c 0 ≡ suc x → (j : ℕ) → j < c → getD (l .own3) j 0 ≢ 0
   unfolding rendered openAt3
   opened-lowest3 c x was now j h =
-      lowest (ltb (mid (t .geometry)) len) (l .own3) (placeIn (t .geometry) (open2 (t .geometry) (l .own2) (route a len hop)) a) c x was (sym (ap {B = ℕ} (λ (u : Lent). getD (u .own3) c 0) after-is) ∙ now) j h
+      lowest (ltb (t .geometry .p2) len) (l .own3) (placeIn (t .geometry) (open2 (t .geometry) (l .own2) (route a len hop)) a) c x was (sym (ap {B = ℕ} (λ (u : Lent). getD (u .own3) c 0) after-is) ∙ now) j h

@@ -22,8 +22,9 @@ use Rattle.sail.specs.Geometry.{bits2, bits3, Valid}
 use Rattle.sail.specs.Lent.{Lent}
 use Rattle.sail.specs.Level.{always, itself, nobody, liveIn, entry}
 use Rattle.sail.specs.declared.geometry.Geometry.{Geometry}
-use Rattle.sail_theory.specs.Render.{chunkFor, find, shown, block, pool, never, mid, at2, at3, rendered, Fits, Fits2, Fits3}
+use Rattle.sail_theory.specs.Render.{chunkFor, find, shown, block, pool, never, at2, at3, rendered, Fits, Fits2, Fits3}
 use Rattle.sail_theory.specs.Alters.{NoneUnder, Frame}
+use Rattle.sail_theory.proofs.Mids.{pow-mid, pow-all}
 use Rattle.sail_theory.proofs.Chunks.{chunk-at}
 use Rattle.sail_theory.proofs.Places.{chunk-lt, live-owner}
 use Rattle.sail_theory.proofs.Cells.{shape-lengths}
@@ -82,7 +83,7 @@ chunk-stays deep deep′ n n′ live live′ at at′ m m′ own own′ f f′ e
 module _ (g : Geometry) (valid : Valid g) (a len room : ℕ) (small : a < 2 ^ 32) (rs rs′ : List Route) (b : SameBut a len rs rs′) (own2 own2′ own3 own3′ : List ℕ)
     (f2 : Fits2 g rs own2) (f3 : Fits3 g rs own2 own3) (f2′ : Fits2 g rs′ own2′) (f3′ : Fits3 g rs′ own2′ own3′) (len2 : length own2′ ≡ length own2) (len3 : length own3′ ≡ length own3)
     (stay2 : (c q : ℕ) → getD own2 c 0 ≡ suc q → long rs′ (g .p1) q ≡ true → getD own2′ c 0 ≡ suc q)
-    (stay3 : (c q : ℕ) → getD own3 c 0 ≡ suc q → long rs′ (mid g) (at2 g own2 q) ≡ true → getD own3′ c 0 ≡ suc q)
+    (stay3 : (c q : ℕ) → getD own3 c 0 ≡ suc q → long rs′ (g .p2) (at2 g own2 q) ≡ true → getD own3′ c 0 ≡ suc q)
     (both3 : (c q : ℕ) → getD own3 c 0 ≡ suc q → getD own3′ c 0 ≡ suc q → c < length own3 → getD own2′ (q / 2 ^ bits2 g) 0 ≡ getD own2 (q / 2 ^ bits2 g) 0) where
   same-long : (p i : ℕ) → p ≤ 32 → i < 2 ^ p → NoneUnder a len p i → long rs′ p i ≡ long rs p i
   same-long p i h k n = sym (frame-long a len rs rs′ b p i (λ _ e. above a len p i h k n small e))
@@ -91,17 +92,17 @@ module _ (g : Geometry) (valid : Valid g) (a len room : ℕ) (small : a < 2 ^ 32
   same-best p i h k n = sym (frame-best a len rs rs′ b p i (below a len p i h k n))
 
   -- the cell of a live place is a cell of its level
-  at2-lt : (q : ℕ) → q < length own2 * 2 ^ bits2 g → liveIn (entry own2) (bits2 g) q ≡ true → at2 g own2 q < 2 ^ mid g
+  at2-lt : (q : ℕ) → q < length own2 * 2 ^ bits2 g → liveIn (entry own2) (bits2 g) q ≡ true → at2 g own2 q < 2 ^ g .p2
   at2-lt q h e =
       let c = chunk-lt (bits2 g) (length own2) q h in
       let o = live-owner (entry own2) (bits2 g) q e in
-      rw (pow-add 2 (g .p1) (bits2 g)) (digits-lt (f2 .lies (q / 2 ^ bits2 g) _ c o .0) (mod-lt q (pow-pos (bits2 g))))
+      rw (← pow-mid g valid) (digits-lt (f2 .lies (q / 2 ^ bits2 g) _ c o .0) (mod-lt q (pow-pos (bits2 g))))
 
   at3-lt : (q : ℕ) → q < length own3 * 2 ^ bits3 g → liveIn (entry own3) (bits3 g) q ≡ true → at3 g own2 own3 q < 2 ^ 32
   at3-lt q h e =
       let k = f3 .lies (q / 2 ^ bits3 g) _ (chunk-lt (bits3 g) (length own3) q h) (live-owner (entry own3) (bits3 g) q e) in
-      let z : at3 g own2 own3 q < 2 ^ mid g * 2 ^ bits3 g = digits-lt (at2-lt _ (k .0) (k .1)) (mod-lt q (pow-pos (bits3 g))) in
-      subst (λ (j : ℕ). at3 g own2 own3 q < j) (sym (pow-add 2 (mid g) (bits3 g)) ∙ ap (λ (j : ℕ). 2 ^ j) (let y : mid g + bits3 g ≡ 32 = omega arith in y)) z
+      let z : at3 g own2 own3 q < 2 ^ g .p2 * 2 ^ bits3 g = digits-lt (at2-lt _ (k .0) (k .1)) (mod-lt q (pow-pos (bits3 g))) in
+      subst (λ (j : ℕ). at3 g own2 own3 q < j) (pow-all g valid) z
 
   abbrev was : Lent
   was = rendered g room rs own2 own3
@@ -117,18 +118,18 @@ module _ (g : Geometry) (valid : Valid g) (a len room : ℕ) (small : a < 2 ^ 32
       (λ _. refl) (λ _. d) (λ _. same-best (g .p1) q (omega arith) h n)
       (λ e y. chunk-stays (long rs (g .p1)) (long rs′ (g .p1)) (2 ^ g .p1) (2 ^ g .p1) always always itself itself (length own2) (length own2′) (entry own2) (entry own2′) f2 f2′ len2 q h refl y (λ c z. stay2 c q z (d ∙ y)))
 
-  frame2 : (q : ℕ) → q < length own2 * 2 ^ bits2 g → getD own2′ (q / 2 ^ bits2 g) 0 ≡ getD own2 (q / 2 ^ bits2 g) 0 → (liveIn (entry own2) (bits2 g) q ≡ true → NoneUnder a len (mid g) (at2 g own2 q))
+  frame2 : (q : ℕ) → q < length own2 * 2 ^ bits2 g → getD own2′ (q / 2 ^ bits2 g) 0 ≡ getD own2 (q / 2 ^ bits2 g) 0 → (liveIn (entry own2) (bits2 g) q ≡ true → NoneUnder a len (g .p2) (at2 g own2 q))
       → getD (is .second) q 0 ≡ getD (was .second) q 0
   unfolding rendered
   frame2 q h o n =
-      pool-same (long rs (mid g)) (long rs′ (mid g)) (best rs (mid g)) (best rs′ (mid g)) (length own2 * 2 ^ bits2 g) (length own2′ * 2 ^ bits2 g) (liveIn (entry own2) (bits2 g)) (liveIn (entry own2′) (bits2 g))
+      pool-same (long rs (g .p2)) (long rs′ (g .p2)) (best rs (g .p2)) (best rs′ (g .p2)) (length own2 * 2 ^ bits2 g) (length own2′ * 2 ^ bits2 g) (liveIn (entry own2) (bits2 g)) (liveIn (entry own2′) (bits2 g))
       (at2 g own2) (at2 g own2′) (length own3) (length own3′) (entry own3) (entry own3′) q h (rw len2 h)
-      (ap (ltb 0) o) (λ _. ap (λ (x : ℕ). (x - 1) * 2 ^ bits2 g + q % 2 ^ bits2 g) o) d (λ e. same-best (mid g) (at2 g own2 q) (omega arith) (at2-lt q h e) (n e))
-      (λ e y. chunk-stays (long rs (mid g)) (long rs′ (mid g)) (length own2 * 2 ^ bits2 g) (length own2′ * 2 ^ bits2 g) (liveIn (entry own2) (bits2 g)) (liveIn (entry own2′) (bits2 g)) (at2 g own2) (at2 g own2′)
+      (ap (ltb 0) o) (λ _. ap (λ (x : ℕ). (x - 1) * 2 ^ bits2 g + q % 2 ^ bits2 g) o) d (λ e. same-best (g .p2) (at2 g own2 q) (omega arith) (at2-lt q h e) (n e))
+      (λ e y. chunk-stays (long rs (g .p2)) (long rs′ (g .p2)) (length own2 * 2 ^ bits2 g) (length own2′ * 2 ^ bits2 g) (liveIn (entry own2) (bits2 g)) (liveIn (entry own2′) (bits2 g)) (at2 g own2) (at2 g own2′)
       (length own3) (length own3′) (entry own3) (entry own3′) f3 f3′ len3 q h e y (λ c z. stay3 c q z (d e ∙ y)))
     where
-      d : liveIn (entry own2) (bits2 g) q ≡ true → long rs′ (mid g) (at2 g own2 q) ≡ long rs (mid g) (at2 g own2 q)
-      d e = same-long (mid g) (at2 g own2 q) (omega arith) (at2-lt q h e) (n e)
+      d : liveIn (entry own2) (bits2 g) q ≡ true → long rs′ (g .p2) (at2 g own2 q) ≡ long rs (g .p2) (at2 g own2 q)
+      d e = same-long (g .p2) (at2 g own2 q) (omega arith) (at2-lt q h e) (n e)
 
   frame3 : (q : ℕ) → q < length own3 * 2 ^ bits3 g → getD own3′ (q / 2 ^ bits3 g) 0 ≡ getD own3 (q / 2 ^ bits3 g) 0 → (liveIn (entry own3) (bits3 g) q ≡ true → NoneUnder a len 32 (at3 g own2 own3 q))
       → getD (is .third) q 0 ≡ getD (was .third) q 0

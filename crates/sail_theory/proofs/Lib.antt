@@ -1,6 +1,7 @@
 -- Theorems on tables and on the calls that change them.
 pub mod Chunks
 pub mod Pools
+pub mod Mids
 pub mod Rendered
 pub mod Tells
 pub mod Places
