@@ -13,6 +13,7 @@ pub mod Shrunk
 pub mod Judged
 pub mod Only
 pub mod Changes
+pub mod Wants
 pub mod Accepted
 pub mod Fresh
 pub mod Cells
