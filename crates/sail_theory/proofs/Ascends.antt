@@ -37,10 +37,10 @@ use Rattle.sail_theory.proofs.Fresh.{zeros}
 use Rattle.sail_theory.proofs.Loads.{Fronts, fronts-next, fronts-none}
 
 -- a chunk before one in use is in use, and its owner is smaller
-pub Rising : List ℕ → Type 0
+abbrev pub Rising : List ℕ → Type 0
 Rising own = (c c′ : ℕ) → c < c′ → 1 ≤ getD own c′ 0 → (1 ≤ getD own c 0) × (getD own c 0 < getD own c′ 0)
 
-inside : (own : List ℕ) (c x : ℕ) → getD own c 0 ≡ suc x → c < length own
+pub inside : (own : List ℕ) (c x : ℕ) → getD own c 0 ≡ suc x → c < length own
 inside own c x e = go (below? c (length own))
   where
     go : (c < length own) ⊎ (length own ≤ c) → c < length own
@@ -50,7 +50,6 @@ inside own c x e = go (below? c (length own))
 -- no place with a chunk lies after q
 module _ (own : List ℕ) (q : ℕ) (up : Rising own) (top : (c x : ℕ) → getD own c 0 ≡ suc x → x ≤ q) where
   set-rising : length own ≤ find own (suc q) → find own 0 < length own → Rising (set own (find own 0) (suc q))
-  unfolding Rising
   set-rising none free c c′ l e = go (equal? c′ (find own 0)) (equal? c (find own 0))
     where
       z : getD (set own (find own 0) (suc q)) (find own 0) 0 ≡ suc q
@@ -87,7 +86,6 @@ module _ (own : List ℕ) (q : ℕ) (up : Rising own) (top : (c x : ℕ) → get
 
   -- the chunk that hangs from q, if it is the last in use
   pub last-had : (k : ℕ) → getD own k 0 ≡ suc q → find own (suc q) ≡ k
-  unfolding Rising
   last-had k e = go (eq-or-lt-of-le (chunk-has (entry own) (length own) (suc q) k e))
     where
       go : (find own (suc q) ≡ k) ⊎ (find own (suc q) < k) → find own (suc q) ≡ k
@@ -99,7 +97,6 @@ module _ (own : List ℕ) (q : ℕ) (up : Rising own) (top : (c x : ℕ) → get
 
   -- and if the last in use hangs elsewhere, none hangs from q
   pub last-new : ((k : ℕ) → find own 0 ≡ suc k → getD own k 0 ≢ suc q) → length own ≤ find own (suc q)
-  unfolding Rising
   last-new n = go (had? own q)
     where
       c : ℕ
@@ -144,7 +141,6 @@ module _ (own : List ℕ) (d : ℕ) (up : Rising own) (x c q i : ℕ) (live : li
   y-le = omega (arith, part-up (entry own) d itself x, shr-mono d le, u)
 
   chunk-le : x / 2 ^ d ≤ c
-  unfolding Rising
   chunk-le = go (below? c (x / 2 ^ d))
     where
       go : (c < x / 2 ^ d) ⊎ (x / 2 ^ d ≤ c) → x / 2 ^ d ≤ c
@@ -224,8 +220,7 @@ module _ (t : Table) (l : Lent) (xs : List Route) (r : Route) (ys : List Route) 
   pub rises : Rising (o .own2) × Rising (o .own3) → Rising o2 × Rising o3
   rises u = (rise2 (u .0), rise3 (u .0) (u .1))
 
-zero-rising : (n : ℕ) → Rising (replicate n 0)
-unfolding Rising
+pub zero-rising : (n : ℕ) → Rising (replicate n 0)
 zero-rising n c c′ l e = absurd (omega (arith, zeros n c′))
 
 pub settled-rises : (t : Table) (l : Lent) (ys xs : List Route) (o : Owners) → Fronts t l xs ys o → Rising (o .own2) × Rising (o .own3) → Rising (settled (t .geometry) o ys .own2) × Rising (settled (t .geometry) o ys .own3)

@@ -26,3 +26,4 @@ pub mod Anew
 pub mod Wanting
 pub mod Frames
 pub mod Altered
+pub mod Passing

@@ -4,7 +4,9 @@ use mathlib.Core.Bool.{Bool, true, false, false≢true}
 use mathlib.Core.List.{List, [], _∷_, _++_, append-assoc, append-nil, List·Memᴰ}
 use Prim.Native.Nat.{ℕ, _+_, _*_, _/_, _≤_, _<_}
 use native.Mathlib.Omega.{arith}
-use lib.ListN.{length, length-append, length-replicate}
+use lib.Dec.{ltb}
+use lib.ListN.{getD, length, length-append, length-replicate}
+use Rattle.bits.specs.Slot.{slot}
 use Rattle.bits.specs.Count.{bit}
 use Rattle.routes.specs.Route.{key, keyOf, within, long, need, Fine, Good}
 use Rattle.routes.specs.Said.{Said, accepted}
@@ -17,7 +19,7 @@ use Rattle.sail.specs.Sizes.{Sized}
 use Rattle.sail.specs.Sound.{Sound, standing}
 use Rattle.sail.specs.declared.geometry.Geometry.{Geometry}
 use Rattle.sail.specs.declared.table.Table.{Table}
-use Rattle.sail_theory.specs.Render.{rendered, Fits2, Fits3, roomOf}
+use Rattle.sail_theory.specs.Render.{find, rendered, Fits2, Fits3, roomOf}
 use Rattle.sail_theory.specs.Calls.{Owners, open2, opened, settled, ownersOf, noOwners, route, inputRoutes, loadSaid, Out, took, stateOf, lentOf, made, announced, loaded}
 use Rattle.sail_theory.specs.Facts.{SameSize, Holds, Welcome, Loadable}
 use Rattle.sail_theory.specs.Runs.{announceAll, AllAdded}
@@ -26,7 +28,7 @@ use Rattle.sail_theory.proofs.Needs.{need-mono}
 use Rattle.sail_theory.proofs.Grown.{length-open2, length-open3}
 use Rattle.sail_theory.proofs.Judged.{Readable, Load, load-judged}
 use Rattle.sail_theory.proofs.Only.{load-only}
-use Rattle.sail_theory.proofs.Changes.{render-holds, welcome-fits2, welcome-fits3}
+use Rattle.sail_theory.proofs.Changes.{render-holds, space2, space3, welcome-fits2, welcome-fits3}
 use Rattle.sail_theory.proofs.Accepted.{announce-is, outcome-said, outcome-not}
 use Rattle.sail_theory.proofs.Fresh.{none-fits2, none-fits3, fresh-rendered, make-is}
 
@@ -95,6 +97,15 @@ module _ (t : Table) (l : Lent) (xs : List Route) (r : Route) (ys : List Route) 
         enough2 = rw (now .routes) (omega (arith, part (g .p1) (omega arith), f .enough2, now .size .chunks2));
         enough3 = rw (now .routes) (omega (arith, part (g .p2) (omega arith), f .enough3, now .size .chunks3));
       }
+
+  -- where a chunk has to be opened, one is free
+  pub fronts-space2 : ltb (g .p1) (r .len) ≡ true → long xs (g .p1) (slot (g .p1) (r .addr)) ≡ false → (find (o .own2) 0 < length (o .own2)) × (getD (o .own2) (find (o .own2) 0) 0 ≡ 0)
+  unfolding rendered
+  fronts-space2 e h = space2 u v r welcome e (rw (now .routes) h)
+
+  pub fronts-space3 : ltb (g .p2) (r .len) ≡ true → long xs (g .p2) (slot (g .p2) (r .addr)) ≡ false → (find (o .own3) 0 < length (o .own3)) × (getD (o .own3) (find (o .own3) 0) 0 ≡ 0)
+  unfolding rendered
+  fronts-space3 e h = space3 u v r welcome e (rw (now .routes) h)
 
   -- it is added, and its chunks opened
   next : announced u v (r .addr) (r .len) (r .hop) ≡ record { said = accepted (0 ∷ []); table = stateOf t xs′; lent = lentOf t l xs′ (opened g o r) }
