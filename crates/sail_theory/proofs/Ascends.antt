@@ -122,7 +122,7 @@ module _ (own : List ℕ) (q : ℕ) (up : Rising own) (top : (c x : ℕ) → get
               low (inr z) = omega (arith, l, free-zero own, up (find own 0) c (let w = l in omega arith) (omega (arith, is)) .0)
 
 -- a long cell of routes up to r is no later than r's
-long-top : (r : Route) (rs : List Route) (p i : ℕ) → r .len ≤ 32 → ((s : Route) → List·Memᴰ s rs → (key s ≤ key r) × (s .len ≤ 32)) → long rs p i ≡ true → i ≤ slot p (r .addr)
+pub long-top : (r : Route) (rs : List Route) (p i : ℕ) → r .len ≤ 32 → ((s : Route) → List·Memᴰ s rs → (key s ≤ key r) × (s .len ≤ 32)) → long rs p i ≡ true → i ≤ slot p (r .addr)
 long-top r rs p i w h e = any-some (within p i) rs (i ≤ slot p (r .addr)) e (λ s m t.
     let c = eqb-true (slot p (s .addr)) i (and-split (ltb p (s .len)) (eqb (slot p (s .addr)) i) t .1) in
     let k = h s m in

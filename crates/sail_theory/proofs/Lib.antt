@@ -27,3 +27,4 @@ pub mod Wanting
 pub mod Frames
 pub mod Altered
 pub mod Passing
+pub mod Counting
