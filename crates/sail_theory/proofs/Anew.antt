@@ -25,21 +25,9 @@ use Rattle.sail_theory.specs.Facts.{SameSize, Holds, Loadable}
 use Rattle.sail_theory.specs.Runs.{Call, after, Carries}
 use Rattle.sail_theory.proofs.Chunks.{used-le}
 use Rattle.sail_theory.proofs.Judged.{Readable}
+use Rattle.sail_theory.proofs.Sizes.{size-sym, size-trans, sized-same}
 use Rattle.sail_theory.proofs.Loads.{load-is, loadable-holds}
 use Rattle.sail_theory.proofs.Runs.{run-is}
-
--- sizes are a matter of lengths
-pub sized-same : (g : Geometry) (l u : Lent) → Sized g l → SameSize l u → Sized g u
-sized-same g l u z s = record {
-  valid = z .valid;
-  whole = rw (s .list) (z .whole);
-  room = rw (s .list) (z .room);
-  cells1 = s .first ∙ z .cells1;
-  few2 = rw (s .chunks2) (z .few2);
-  cells2 = s .second ∙ z .cells2 ∙ ap (λ (n : ℕ). n * 2 ^ bits2 g) (sym (s .chunks2));
-  few3 = rw (s .chunks3) (z .few3);
-  cells3 = s .third ∙ z .cells3 ∙ ap (λ (n : ℕ). n * 2 ^ bits3 g) (sym (s .chunks3));
-}
 
 -- two sound tables of one geometry and one list of routes look the same from outside
 pub same-lookups : (t : Table) (l : Lent) (u : Table) (v : Lent) → Sound t l → Sound u v → u .geometry ≡ t .geometry → standing u v ≡ standing t l → (a : ℕ) → a < 2 ^ 32 → lookupSaid u v a ≡ lookupSaid t l a
@@ -116,14 +104,7 @@ pub run-as-fresh : (t : Table) (l : Lent) → Sized (t .geometry) l → (cs : Li
 run-as-fresh t l z cs u v geo size input c =
     let w = run-is t l z cs in
     let geo′ : u .geometry ≡ after t l cs .table .geometry = geo ∙ sym (w .geometry) in
-    let size′ : SameSize (after t l cs .lent) v = record {
-      list = size .list ∙ sym (w .size .list);
-      first = size .first ∙ sym (w .size .first);
-      second = size .second ∙ sym (w .size .second);
-      third = size .third ∙ sym (w .size .third);
-      chunks2 = size .chunks2 ∙ sym (w .size .chunks2);
-      chunks3 = size .chunks3 ∙ sym (w .size .chunks3);
-    } in
+    let size′ : SameSize (after t l cs .lent) v = size-trans (after t l cs .lent) l v (size-sym l (after t l cs .lent) (w .size)) size in
     let k = fresh-used _ _ (w .sound) u v geo′ size′ input c in
     record {
       accepted-too = fresh-accepted _ _ (w .sound) u v geo′ size′ input c;

@@ -19,6 +19,7 @@ pub mod Fresh
 pub mod Cells
 pub mod Opens
 pub mod Ends
+pub mod Sizes
 pub mod Loads
 pub mod Ascends
 pub mod Runs

@@ -35,20 +35,8 @@ use Rattle.sail_theory.proofs.Chunks.{used-le}
 use Rattle.sail_theory.proofs.Judged.{Readable}
 use Rattle.sail_theory.proofs.Accepted.{announce-refused, announce-holds, withdraw-refused, withdraw-holds}
 use Rattle.sail_theory.proofs.Fresh.{make-holds}
+use Rattle.sail_theory.proofs.Sizes.{size-refl, size-trans}
 use Rattle.sail_theory.proofs.Loads.{load-refused, load-holds, load-is, loadable-holds}
-
-pub size-refl : (l : Lent) → SameSize l l
-size-refl l = record { list = refl; first = refl; second = refl; third = refl; chunks2 = refl; chunks3 = refl }
-
-pub size-trans : (l u v : Lent) → SameSize l u → SameSize u v → SameSize l v
-size-trans l u v a b = record {
-  list = b .list ∙ a .list;
-  first = b .first ∙ a .first;
-  second = b .second ∙ a .second;
-  third = b .third ∙ a .third;
-  chunks2 = b .chunks2 ∙ a .chunks2;
-  chunks3 = b .chunks3 ∙ a .chunks3;
-}
 
 -- what a call leaves of a sound table: one that is sound, of the same geometry and size, with what it says for each prefix, if it is accepted
 pub record Leaves (t : Table) (l : Lent) (c : Call) (o : Out) : Type 0 where

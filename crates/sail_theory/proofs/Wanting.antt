@@ -33,6 +33,7 @@ use Rattle.sail_theory.proofs.Needs.{need-mono}
 use Rattle.sail_theory.proofs.Judged.{Proper, Roomy, Announce, Readable}
 use Rattle.sail_theory.proofs.Only.{roomy-said, read-said}
 use Rattle.sail_theory.proofs.Accepted.{replaced-welcome, announce-said, welcome-said, withdraw-said, farewell-said}
+use Rattle.sail_theory.proofs.Sizes.{terms-same}
 use Rattle.sail_theory.proofs.Loads.{load-said}
 use Rattle.sail_theory.proofs.Runs.{run-is}
 
@@ -99,5 +100,4 @@ unfolding after
 want-of-chunks t l z cs c f =
     let w = run-is t l z cs in
     let room : roomOf (after t l cs .lent) ≡ roomOf l = ap (λ (n : ℕ). n / 8) (w .size .list) in
-    let terms : termsOf (after t l cs .table) (after t l cs .lent) ≡ termsOf t l = rw (w .geometry, w .size .list, w .size .chunks2, w .size .chunks3) in
-    rw terms at (change-wants (after t l cs .table) (after t l cs .lent) (w .sound) c (rw room f))
+    rw (terms-same t l (after t l cs .table) (after t l cs .lent) (w .geometry) (w .size)) at (change-wants (after t l cs .table) (after t l cs .lent) (w .sound) c (rw room f))
