@@ -29,3 +29,6 @@ pub mod Frames
 pub mod Altered
 pub mod Passing
 pub mod Counting
+pub mod Example
+pub mod OneChunk
+pub mod Wrong

@@ -115,7 +115,7 @@ unfoldable pub withdrawFault : Bool → List Route → ℕ → ℕ → ℕ
 withdrawFault ok rs a len =
     cond (not (properPrefix a len)) 3
     (cond (not ok) 5
-    (cond (stands (keyOf a len) rs) 0 9))
+    (cond (not (stands (keyOf a len) rs)) 9 0))
 
 -- 6, 7, 8, after the input itself is good
 unfoldable pub loadFault : Terms → List Route → ℕ
