@@ -22,12 +22,12 @@ use Rattle.sail.specs.Sound.{Sound, standing, used}
 use Rattle.sail.specs.declared.table.Table.{Table}
 use Rattle.sail.proofs.Sounds.{standing-good, chunks-need}
 use Rattle.sail_theory.specs.Render.{roomOf}
-use Rattle.sail_theory.specs.Calls.{opened, kept, ownersOf, route, announceSaid, withdrawSaid, Out, took, outcome, stateOf, lentOf, announced, withdrawn}
+use Rattle.sail_theory.specs.Calls.{opened, kept, ownersOf, route, announceSaid, withdrawSaid, Out, took, outcome, stateOf, lentOf, announced, withdrawn, reported}
 use Rattle.sail_theory.specs.Facts.{Holds, Welcome, Farewell}
 use Rattle.sail_theory.proofs.Chunks.{used-le}
 use Rattle.sail_theory.proofs.Needs.{need-same, stands-long}
-use Rattle.sail_theory.proofs.Judged.{Proper, Roomy, Announce, announce-judged, Withdraw, withdraw-judged}
-use Rattle.sail_theory.proofs.Only.{announce-only, withdraw-only}
+use Rattle.sail_theory.proofs.Judged.{Proper, Roomy, Announce, announce-judged, Withdraw, withdraw-judged, Report}
+use Rattle.sail_theory.proofs.Only.{announce-only, withdraw-only, report-only}
 use Rattle.sail_theory.proofs.Changes.{welcome-holds, farewell-holds}
 
 -- outcomes
@@ -175,3 +175,7 @@ module _ (t : Table) (l : Lent) (a len : ℕ) where
   withdraw-holds e =
       let w = took-farewell (sym (ap took withdraw-said) ∙ e) in
       subst (λ (o : Out). Holds t l left (o .table) (o .lent)) (sym (withdraw-is w)) (farewell-holds t l a len w)
+
+-- the report of a sound table: its count, and how many chunks of each pool are in use
+pub report-is : (t : Table) (l : Lent) → Sound t l → reported t l ≡ accepted (t .count ∷ used (l .own2) ∷ used (l .own3) ∷ [])
+report-is t l s = let n = chunks-need t l s in report-only t l _ (Report.counts s) ∙ rw (n .0, n .1)

@@ -26,6 +26,7 @@ pub mod Runs
 pub mod Anew
 pub mod Wanting
 pub mod Frames
+pub mod Read
 pub mod Altered
 pub mod Passing
 pub mod Counting

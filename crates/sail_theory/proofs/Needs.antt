@@ -48,7 +48,7 @@ module _ (r : Route) (rs : List Route) (fine : Fine r) (good : Good rs) where
   pub long-short : (p i : ℕ) → ltb p (r .len) ≡ false → long (insert r rs) p i ≡ long rs p i
   long-short p i h = insert-long r rs fine good p i ∙ rw (within-not r p i h)
 
-  long-grows : (p i : ℕ) → long rs p i ≡ true → long (insert r rs) p i ≡ true
+  pub long-grows : (p i : ℕ) → long rs p i ≡ true → long (insert r rs) p i ≡ true
   long-grows p i e = insert-long r rs fine good p i ∙ rw e (or-true (within p i r))
 
   -- so one chunk more is needed exactly where the route's cell was not long
