@@ -1,6 +1,6 @@
 -- How the live places of a pool match cells of a level of the routes. Said of any level, and so proved once for all.
 -- Assumes nothing.
-use mathlib.Core.Path.{_≡_, refl, sym, _∙_, ap, ap₂}
+use mathlib.Core.Path.{_≡_, _∙_, ap, ap₂}
 use mathlib.Core.Bool.{Bool, true, false}
 use Prim.Native.Nat.{ℕ, suc, _+_, _-_, _*_, _/_, _%_, _^_, _≤_, _<_}
 use native.Mathlib.Nat.{div-lt-iff-lt-mul, mod-lt, div-add-mod'}
@@ -59,7 +59,7 @@ module _ (deep : ℕ → Bool) (hop : ℕ → ℕ) (n w : ℕ) (live reach : ℕ
   pub read-leaf : (i : ℕ) → i < w → reach i ≡ true → deep i ≡ false → cells (find i) ≡ 32768 + hop i
   read-leaf i l e f =
       let j = m .back i l e in
-      rw (j .2) at (v .leaf (find i) (j .0) (j .1) (rw (j .2) f))
+      v .leaf (find i) (j .0) (j .1) (rw (j .2) f) ∙ ap (λ (x : ℕ). 32768 + hop x) (j .2)
 
   pub read-node : (i : ℕ) → i < w → deep i ≡ true → (1 ≤ cells (find i)) × (cells (find i) ≤ k) × (0 < own (cells (find i) - 1))
   read-node i l e =

@@ -1,18 +1,16 @@
 -- What soundness gives: the answers of lookup, the chunks in use, and the leaves. Assumes nothing.
-use mathlib.Core.Path.{_≡_, refl, sym, _∙_, ap, ap₂}
+use mathlib.Core.Path.{_≡_, sym, _∙_, ap}
 use mathlib.Core.Bool.{Bool, true, false, true≢false}
 use mathlib.Core.List.{List, List·Memᴰ}
-use Prim.Native.Nat.{ℕ, _+_, _-_, _*_, _/_, _^_, _≤_, _<_}
+use Prim.Native.Nat.{ℕ, _+_, _-_, _*_, _^_, _≤_, _<_}
 use native.Mathlib.Omega.{arith}
-use lib.Dec.{eqb}
 use lib.ListN.{length}
 use lib.Pow.{shl-lt, shl-shr}
 use borrow.Author.Tests.{le-leb, eq-eqb}
 use Rattle.bits.specs.Slot.{slot}
 use Rattle.bits.specs.Count.{bit}
-use Rattle.bits.specs.Tab.{Tells}
 use Rattle.bits.proofs.Tests.{both}
-use Rattle.routes.specs.Route.{covers, long, best, need, Longest, Best, Good}
+use Rattle.routes.specs.Route.{covers, long, best, need, Best, Good}
 use Rattle.routes.specs.Record.{routesOf}
 use Rattle.routes.specs.declared.Route.{Route}
 use Rattle.routes.proofs.Goods.{good-fine}

@@ -1,6 +1,6 @@
 -- What lookup says, of any state, arrays and address, damaged tables too. Assumes nothing.
 use mathlib.Core.Bool.{Bool, false, _&&_, cond}
-use mathlib.Core.List.{List, [], _∷_}
+use mathlib.Core.List.{[], _∷_}
 use mathlib.Core.Path.{_≡_}
 use Prim.Native.Nat.{ℕ, _+_, _-_, _*_, _%_, _^_, _≤_, _<_}
 use lib.Dec.{eqb, leb}
@@ -20,6 +20,13 @@ use Rattle.sail.specs.declared.lookup.Found.the-variants.{Hop, NoRoute, 
 -- serves cell i of its level
 abbrev pub place : ℕ → ℕ → ℕ → ℕ
 place d c i = (c - 1) * 2 ^ d + i % 2 ^ d
+
+-- a chunk's number, the bits of a place in it, and such a place
+pub record Inside (c k x : ℕ) : Type 0 where
+  pub one : 1 ≤ c
+  pub last : c ≤ 4096
+  pub size : k ≤ 10
+  pub inside : x < 2 ^ k
 
 -- a pool of m cells is n chunks of 2 ^ k cells, of which c is one
 pub record Chunk (m n c k : ℕ) : Type 0 where
