@@ -4,7 +4,8 @@ ghost use Prim.Native.Nat.{_+_, _-_, _*_, _^_, _≤_};
 ghost use lib.ListN.{length, getD};
 ghost use Rattle.sail.specs.Lent.{lent};
 ghost use Rattle.sail.specs.Sizes.{Sized};
-ghost use Rattle.sail.specs.Walk.{Inside, Chunk, place, oneOf, leafSaid, foundSaid, lookupSaid, saysFound};
+ghost use Rattle.sail.specs.Pool.{Inside, Chunk};
+ghost use Rattle.sail.specs.Walk.{place, oneOf, leafSaid, foundSaid, lookupSaid, saysFound};
 use crate::geometry::Geometry;
 use crate::table::Table;
 
