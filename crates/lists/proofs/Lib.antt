@@ -1,0 +1,4 @@
+-- Laws of lists of records.
+pub mod EditMoves
+pub mod EditRoutes
+pub mod EditBytes

@@ -1,0 +1,2 @@
+-- What is said of lists of records.
+pub mod Edit

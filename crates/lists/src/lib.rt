@@ -1,0 +1,2 @@
+// Lists of records, and what is done with them.
+pub mod edit;
