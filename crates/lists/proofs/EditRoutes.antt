@@ -7,7 +7,7 @@ use Prim.Native.Nat.{ℕ, zero, suc, _+_, _-_, _≤_, _<_, suc-le-suc, zero-le}
 use native.Mathlib.Nat.{not-suc-le-zero, le-of-suc-le-suc}
 use native.Mathlib.Omega.{arith}
 use lib.ListN.{length, getD, set, take, drop, length-append, length-drop, drop-of-length-le, List·getD-append}
-use lib.Seq.{drop-cons, split-at, set-split, length-take-le, getD-take, getD-drop, getD-append-add}
+use lib.Seq.{drop-cons, split-at, set-split, length-take-le, getD-take, getD-drop, getD-append-add, getD-at}
 use borrow.Author.Tests.{eq-eqb, ne-eqb}
 use Rattle.bits.proofs.Tests.{below?}
 use Rattle.routes.specs.Route.{key, Good}
@@ -24,22 +24,48 @@ past r [] (suc k) l h = absurd (not-suc-le-zero l)
 past r (x ∷ xs) (suc k) l h =
     insert-after r x xs (h 0 (suc-le-suc zero-le)) ∙ ap (λ (t : List Route). x ∷ t) (past r xs k (le-of-suc-le-suc l) (λ i u. h (suc i) (suc-le-suc u)))
 
-module _ (r : Route) (rs : List Route) (k : ℕ) (before : (i : ℕ) → i < k → key (getD rs i noRoute) < key r) where
-  -- between two routes
-  pub insert-between : k ≤ length rs → (k < length rs → key r < key (getD rs k noRoute)) → insert r rs ≡ take k rs ++ r ∷ drop k rs
-  unfolding insert
-  insert-between l after = past r rs k l before ∙ ap (λ (t : List Route). take k rs ++ t) (go (below? k (length rs)))
-    where
-      go : (k < length rs) ⊎ (length rs ≤ k) → insert r (drop k rs) ≡ r ∷ drop k rs
-      go (inl u) = rw (drop-cons rs k noRoute u) (insert-before r _ _ (after u))
-      go (inr u) = rw (drop-of-length-le rs u)
+-- a list that was cut at k and joined with another rest
+module _ (rs ys : List Route) (k : ℕ) (l : k ≤ length rs) where
+  joined-before : (q : ℕ) → q < k → getD (take k rs ++ ys) q noRoute ≡ getD rs q noRoute
+  joined-before q u = List·getD-append (take k rs) ys noRoute q (rw (length-take-le k rs l) u) ∙ getD-take k rs q noRoute u
 
+  joined-from : (q : ℕ) → k ≤ q → getD (take k rs ++ ys) q noRoute ≡ getD ys (q - k) noRoute
+  joined-from q u =
+      let e : length (take k rs) + (q - k) ≡ q = rw (length-take-le k rs l) (omega arith) in
+      ap (λ (j : ℕ). getD (take k rs ++ ys) j noRoute) (sym e) ∙ getD-append-add (take k rs) ys (q - k) noRoute
+
+module _ (r : Route) (rs : List Route) (k : ℕ) (before : (i : ℕ) → i < k → key (getD rs i noRoute) < key r) where
   -- over the route of its prefix
   pub insert-over : k < length rs → key (getD rs k noRoute) ≡ key r → insert r rs ≡ set rs k r
   insert-over l same =
       past r rs k (omega arith) before
       ∙ ap (λ (t : List Route). take k rs ++ t) (ap (insert r) (drop-cons rs k noRoute l) ∙ insert-same r _ _ same)
       ∙ sym (set-split rs k r l)
+
+  -- between two routes
+  module _ (l : k ≤ length rs) (after : k < length rs → key r < key (getD rs k noRoute)) where
+    between : insert r rs ≡ take k rs ++ r ∷ drop k rs
+    unfolding insert
+    between = past r rs k l before ∙ ap (λ (t : List Route). take k rs ++ t) (go (below? k (length rs)))
+      where
+        go : (k < length rs) ⊎ (length rs ≤ k) → insert r (drop k rs) ≡ r ∷ drop k rs
+        go (inl u) = rw (drop-cons rs k noRoute u) (insert-before r _ _ (after u))
+        go (inr u) = rw (drop-of-length-le rs u)
+
+    pub between-length : length (insert r rs) ≡ length rs + 1
+    between-length = rw (between, length-append, length-take-le k rs l) (let d = length-drop k rs in omega arith)
+
+    pub between-before : (q : ℕ) → q < k → getD (insert r rs) q noRoute ≡ getD rs q noRoute
+    between-before q u = rw between (joined-before rs _ k l q u)
+
+    pub between-here : getD (insert r rs) k noRoute ≡ r
+    between-here = rw between (getD-at (take k rs) r (drop k rs) noRoute k (length-take-le k rs l))
+
+    pub between-after : (q : ℕ) → k < q → getD (insert r rs) q noRoute ≡ getD rs (q - 1) noRoute
+    between-after q u =
+        let e : q - k ≡ suc (q - 1 - k) = omega arith in
+        let f : k + (q - 1 - k) ≡ q - 1 = omega arith in
+        rw (between, joined-from rs (r ∷ drop k rs) k l q (omega arith), e, getD-drop, f)
 
 remove-append : (p : ℕ) (xs ys : List Route) → remove p (xs ++ ys) ≡ remove p xs ++ remove p ys
 unfolding remove
@@ -50,6 +76,10 @@ remove-append p (x ∷ xs) ys = go (isAt p x) (remove-append p xs ys)
     go true e = e
     go false e = rw e
 
+remove-head : (p : ℕ) (x : Route) (xs : List Route) → key x ≡ p → remove p (x ∷ xs) ≡ remove p xs
+unfolding remove
+remove-head p x xs e = rw (eq-eqb (key x) p e)
+
 -- where no route has the prefix, nothing is taken out
 pub remove-none : (p : ℕ) (rs : List Route) → ((i : ℕ) → i < length rs → key (getD rs i noRoute) ≢ p) → remove p rs ≡ rs
 unfolding remove
@@ -57,11 +87,11 @@ remove-none p [] h = refl
 remove-none p (x ∷ xs) h = rw (ne-eqb (key x) p (h 0 (suc-le-suc zero-le)), remove-none p xs (λ i u. h (suc i) (suc-le-suc u)))
 
 -- the route of a place is taken out, and no other
-pub remove-place : (rs : List Route) (k : ℕ) → Good rs → k < length rs → remove (key (getD rs k noRoute)) rs ≡ take k rs ++ drop (suc k) rs
-remove-place rs k good l =
+without : (rs : List Route) (k : ℕ) → Good rs → k < length rs → remove (key (getD rs k noRoute)) rs ≡ take k rs ++ drop (suc k) rs
+without rs k good l =
     ap (remove p) (split-at rs k noRoute l)
     ∙ remove-append p (take k rs) (getD rs k noRoute ∷ drop (suc k) rs)
-    ∙ ap₂ (λ (x y : List Route). x ++ y) (remove-none p (take k rs) (λ i u. first i (rw (length-take-le k rs (omega arith)) at u))) (here (remove-none p (drop (suc k) rs) rest))
+    ∙ ap₂ (λ (x y : List Route). x ++ y) (remove-none p (take k rs) (λ i u. first i (rw (length-take-le k rs (omega arith)) at u))) (remove-head p _ _ refl ∙ remove-none p (drop (suc k) rs) rest)
   where
     p : ℕ
     p = key (getD rs k noRoute)
@@ -74,18 +104,14 @@ remove-place rs k good l =
         let w : i < length rs - suc k = rw length-drop at u in
         rw getD-drop (λ q. omega (arith, good-rises rs good k (suc k + i) (omega arith) (omega arith)))
 
-    here : remove p (drop (suc k) rs) ≡ drop (suc k) rs → remove p (getD rs k noRoute ∷ drop (suc k) rs) ≡ drop (suc k) rs
-    here e = ?
+module _ (rs : List Route) (k : ℕ) (good : Good rs) (l : k < length rs) where
+  pub without-length : length (remove (key (getD rs k noRoute)) rs) ≡ length rs - 1
+  without-length = rw (without rs k good l, length-append, length-take-le k rs (omega arith), length-drop) (omega arith)
 
--- the routes of a list that was cut at k and joined again with another rest
-module _ (rs ys : List Route) (k : ℕ) (l : k ≤ length rs) where
-  pub joined-before : (i : ℕ) → i < k → getD (take k rs ++ ys) i noRoute ≡ getD rs i noRoute
-  joined-before i u = List·getD-append (take k rs) ys noRoute i (rw (length-take-le k rs l) u) ∙ getD-take k rs i noRoute u
+  pub without-before : (q : ℕ) → q < k → getD (remove (key (getD rs k noRoute)) rs) q noRoute ≡ getD rs q noRoute
+  without-before q u = rw (without rs k good l) (joined-before rs _ k (omega arith) q u)
 
-  pub joined-from : (i : ℕ) → k ≤ i → getD (take k rs ++ ys) i noRoute ≡ getD ys (i - k) noRoute
-  joined-from i u =
-      let e : length (take k rs) + (i - k) ≡ i = rw (length-take-le k rs l) (omega arith) in
-      ap (λ (j : ℕ). getD (take k rs ++ ys) j noRoute) (sym e) ∙ getD-append-add (take k rs) ys (i - k) noRoute
-
-  pub length-joined : length (take k rs ++ ys) ≡ k + length ys
-  length-joined = rw (length-append, length-take-le k rs l)
+  pub without-from : (q : ℕ) → k ≤ q → getD (remove (key (getD rs k noRoute)) rs) q noRoute ≡ getD rs (q + 1) noRoute
+  without-from q u =
+      let f : suc k + (q - k) ≡ q + 1 = omega arith in
+      rw (without rs k good l, joined-from rs (drop (suc k) rs) k (omega arith) q u, getD-drop, f)
