@@ -1,0 +1,2 @@
+-- The laws of places, runs, tallies and changes.
+pub mod Places

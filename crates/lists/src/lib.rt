@@ -1,0 +1,2 @@
+// Lists of records: places, runs, tallies, and changes of one record.
+pub mod place;
