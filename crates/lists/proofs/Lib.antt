@@ -1,4 +1,5 @@
--- Laws of lists of records.
+-- The laws of places, runs, tallies and changes.
+pub mod Places
 pub mod EditMoves
 pub mod EditRoutes
 pub mod EditBytes

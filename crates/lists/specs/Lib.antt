@@ -1,2 +1,3 @@
--- What is said of lists of records.
+-- What the crate's contracts speak of.
+pub mod Place
 pub mod Edit

@@ -1,2 +1,3 @@
-// Lists of records, and what is done with them.
+// Lists of records: places, runs, tallies, and changes of one record.
 pub mod edit;
+pub mod place;
