@@ -19,7 +19,7 @@ use Rattle.routes.specs.declared.Route.{Route}
 use Rattle.routes.proofs.Longest.{cover-parts}
 use Rattle.routes.proofs.Paint.{best-last}
 use Rattle.chain.specs.Words.{routeOf, keyIn, routesIn, Words}
-use Rattle.chain.specs.Place.{Placed, Between, underKey}
+use Rattle.chain.specs.Place.{Placed, Between, underKey, RunFrom}
 use Rattle.chain.specs.Cover.{addrIn, LastCover, Parents, Climb, Heads, Ready}
 use Rattle.chain.proofs.Decodes.{words-good}
 use Rattle.chain.proofs.Places.{keys, place-rises}
@@ -38,6 +38,20 @@ slot-above l p a h u =
     let e : l + (p - l) ≡ p = omega arith in
     ap (λ (n : ℕ). slot n a / 2 ^ (p - l)) (sym e) ∙ slot-up l (p - l) a (omega arith)
 
+-- only words before m are left, of those before j, that may cover the cell
+pub record Left (ws : List ℕ) (j p i m : ℕ) : Type 0 where
+  pub to : m ≤ j
+  pub none : (k : ℕ) → m ≤ k → k < j → covers p i (routeOf (getD ws k 0)) ≡ false
+
+pub all-left : (ws : List ℕ) (j p i : ℕ) → Left ws j p i j
+all-left ws j p i = record { to = omega arith; none = λ k a b. absurd (omega arith) }
+
+pub found : {ws : List ℕ} {j p i m : ℕ} → Left ws j p i m → (b : Bool) → b ≡ covers p i (routeOf (getD ws (m - 1) 0)) → b ≡ true → LastCover ws j p i m
+found left b e t = record { to = left .to; one = λ z. sym e ∙ t; none = left .none }
+
+pub none-left : {ws : List ℕ} {j p i m : ℕ} → Left ws j p i m → m ≤ 0 → LastCover ws j p i 0
+none-left left z = record { to = omega arith; one = λ h. absurd (omega arith); none = λ k a b. left .none k (omega arith) b }
+
 module _ {ws par : List ℕ} {j p i : ℕ} (c : Climb ws par j p i) where
   -- a word that covers the cell covers the address of each word between
   covers-on : (r m : ℕ) → r < m → m < j → covers p i (routeOf (getD ws r 0)) ≡ true → covers 32 (addrIn ws m) (routeOf (getD ws r 0)) ≡ true
@@ -52,18 +66,20 @@ module _ {ws par : List ℕ} {j p i : ℕ} (c : Climb ws par j p i) where
       both (le-leb len 32 (omega (arith, t .0))) (eq-eqb _ _ f)
 
   -- from a word that does not cover the cell on to its parent
-  pub none-more : (m x : ℕ) → 0 < m → m ≤ j → covers p i (routeOf (getD ws (m - 1) 0)) ≡ false → x ≡ getD par (m - 1) 0
-      → ((k : ℕ) → m ≤ k → k < j → covers p i (routeOf (getD ws k 0)) ≡ false)
-      → (k : ℕ) → x ≤ k → k < j → covers p i (routeOf (getD ws k 0)) ≡ false
-  none-more m x z l e q miss k a b = go (decLt k (m - 1)) (decLt k m)
-    where
-      go : Dec (k < m - 1) → Dec (k < m) → covers p i (routeOf (getD ws k 0)) ≡ false
-      go (yes d) f = untrue _ (λ t. false≢true (sym (c .parents .each (m - 1) (omega arith) .none k (omega arith) d) ∙ covers-on k (m - 1) d (omega arith) t))
-      go (no d) (yes f) = let g : k ≡ m - 1 = omega arith in rw g e
-      go (no d) (no f) = miss k (omega arith) b
+  module _ (m x : ℕ) (b : Bool) (left : Left ws j p i m) (z : 0 < m) (test : b ≡ covers p i (routeOf (getD ws (m - 1) 0))) (fails : b ≡ false) (q : x ≡ getD par (m - 1) 0) where
+    parent : LastCover ws (m - 1) 32 (addrIn ws (m - 1)) (getD par (m - 1) 0)
+    parent = c .parents .each (m - 1) (omega (arith, left .to))
 
-  pub parent-before : (m x : ℕ) → 0 < m → m ≤ j → x ≡ getD par (m - 1) 0 → x < m
-  parent-before m x z l q = omega (arith, c .parents .each (m - 1) (omega arith) .to)
+    pub climb-less : x < m
+    climb-less = omega (arith, parent .to)
+
+    pub climb-on : Left ws j p i x
+    climb-on = record { to = omega (arith, climb-less, left .to); none = λ k l u. go k l u (decLt k (m - 1)) (decLt k m) }
+      where
+        go : (k : ℕ) → x ≤ k → k < j → Dec (k < m - 1) → Dec (k < m) → covers p i (routeOf (getD ws k 0)) ≡ false
+        go k l u (yes d) f = untrue _ (λ t. false≢true (sym (parent .none k (omega arith) d) ∙ covers-on k (m - 1) d (omega (arith, left .to)) t))
+        go k l u (no d) (yes f) = let g : k ≡ m - 1 = omega arith in rw g (sym test ∙ fails)
+        go k l u (no d) (no f) = left .none k (omega arith) u
 
 -- the parents of the words before k, in a part of the list and in the list with one entry more
 module _ (ws par : List ℕ) where
@@ -146,11 +162,14 @@ cover-start p i r f hp e =
     ∙ ap (λ (x : ℕ). i / 2 ^ d * x) (ap (λ (x : ℕ). 2 ^ x) k ∙ pow-add 2 d (32 - p)) ∙ sym (mul-assoc _ _ _) in
     omega (arith, mul-le-mul-right (2 ^ (32 - p)) (div-mul-le-self i (2 ^ d)))
 
-module _ {ws par : List ℕ} (lo p i : ℕ) (ready : Ready ws par) (hp : p ≤ 32) (pl : Placed ws (underKey p i) lo) where
+module _ {ws par : List ℕ} {lo p i : ℕ} (ready : Ready ws par) (start : RunFrom ws p i lo) where
+  pl : Placed ws (underKey p i) lo
+  pl = start .place
+
   pub climb-placed : Climb ws par lo p i
   climb-placed = record {
     words = ready .words;
-    level = hp;
+    level = start .level;
     to = pl .to;
     room = omega (arith, pl .to, ready .few, ready .room);
     parents = record { each = λ k l. ready .parents .each k (omega (arith, pl .to)) };
@@ -162,7 +181,7 @@ module _ {ws par : List ℕ} (lo p i : ℕ) (ready : Ready ws par) (hp : p ≤ 3
 
   none-past : (k : ℕ) → lo ≤ k → k < length ws → covers p i (routeOf (getD ws k 0)) ≡ false
   none-past k a b = untrue _ (λ t.
-      omega (arith, cover-start p i (routeOf (getD ws k 0)) (ready .words .fine k b) hp t, cover-parts p i (routeOf (getD ws k 0)) t .0, pl .above k a b))
+      omega (arith, cover-start p i (routeOf (getD ws k 0)) (ready .words .fine k b) (start .level) t, cover-parts p i (routeOf (getD ws k 0)) t .0, pl .above k a b))
 
   module _ {m : ℕ} (last : LastCover ws lo p i m) where
     none-after : (k : ℕ) → m ≤ k → k < length ws → covers p i (routeOf (getD ws k 0)) ≡ false
@@ -175,8 +194,14 @@ module _ {ws par : List ℕ} (lo p i : ℕ) (ready : Ready ws par) (hp : p ≤ 3
     pub none-best : m ≡ 0 → 0 ≡ best (routesIn ws) p i
     none-best e = sym (last-none (covers p i) ws 0 (λ k l. none-after k (omega arith) l)) ∙ best-last (routesIn ws) p i (words-good ws (ready .words))
 
-    pub one-best : 0 < m → (getD ws (m - 1) 0 % 65536 ≡ best (routesIn ws) p i) × (getD ws (m - 1) 0 % 65536 < 32768)
-    one-best z =
-        let l : m - 1 < length ws = omega (arith, last .to, pl .to) in
-        ( sym (last-one (covers p i) ws 0 (m - 1) l (last .one z) (λ k a u. none-after k (omega arith) u)) ∙ best-last (routesIn ws) p i (words-good ws (ready .words))
-        , omega (arith, ready .words .fine (m - 1) l .hop-ok) )
+    module _ (some : m ≡ 0 → ⊥) where
+      in-list : m - 1 < length ws
+      in-list = omega (arith, last .to, pl .to)
+
+      pub one-best : getD ws (m - 1) 0 % 65536 ≡ best (routesIn ws) p i
+      one-best =
+          sym (last-one (covers p i) ws 0 (m - 1) in-list (last .one (omega arith)) (λ k a u. none-after k (omega arith) u))
+          ∙ best-last (routesIn ws) p i (words-good ws (ready .words))
+
+      pub one-small : getD ws (m - 1) 0 % 65536 < 32768
+      one-small = omega (arith, ready .words .fine (m - 1) in-list .hop-ok)

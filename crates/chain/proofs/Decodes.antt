@@ -106,8 +106,8 @@ words-good (w ∷ ws) good =
     , words-good ws (tail-words w ws good) )
 
 -- a part of good words
-pub part-words : (ws : List ℕ) (a e : ℕ) → e ≤ length ws → Words ws → Words (take (e - a) (drop a ws))
-part-words ws a e le good = record {
+pub words-part : (ws : List ℕ) (a e : ℕ) → e ≤ length ws → Words ws → Words (take (e - a) (drop a ws))
+words-part ws a e le good = record {
   fine = λ k l. rw (at k (rw (mid-len a e ws le) at l)) (good .fine (a + k) (room k (rw (mid-len a e ws le) at l)));
   rises = λ k l.
       let m : suc k < e - a = rw (mid-len a e ws le) at l in

@@ -42,6 +42,10 @@ module _ {ws : List ℕ} {key lo hi : ℕ} (b : Between ws key lo hi) where
 pub all-between : (ws : List ℕ) (key : ℕ) → Words ws → Between ws key 0 (length ws)
 all-between ws key good = record { words = good; from = omega arith; to = omega arith; below = below-none _; above = λ j l u. absurd (omega arith) }
 
+-- the place of a smaller key is where to go on from
+pub on-from : (ws : List ℕ) (a b r : ℕ) → a ≤ b → Words ws → Placed ws a r → Between ws b r (length ws)
+on-from ws a b r l good p = record { words = good; from = p .to; to = omega arith; below = λ j u. omega (arith, p .below j u); above = λ j h u. absurd (omega arith) }
+
 -- a greater key has a later place
 pub place-rises : (ws : List ℕ) (a b r s : ℕ) → a ≤ b → Placed ws a r → Placed ws b s → r ≤ s
 place-rises ws a b r s l p q = go (decLt s r)

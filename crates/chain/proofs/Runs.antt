@@ -14,7 +14,7 @@ use Rattle.bits.proofs.Tests.{both, and-split, untrue}
 use Rattle.bits.proofs.Slots.{cut-is, cut-le, cut-more}
 use Rattle.routes.specs.Route.{within}
 use Rattle.chain.specs.Words.{routeOf, keyIn, Words}
-use Rattle.chain.specs.Place.{Placed, underKey, Run}
+use Rattle.chain.specs.Place.{Placed, underKey, RunFrom, Run}
 use Rattle.chain.specs.Cover.{addrIn}
 use Rattle.chain.proofs.Places.{keys}
 
@@ -29,7 +29,10 @@ inside-more ws p i lo k h e j l u = go (decLt j k)
     go (yes d) = h j l d
     go (no d) = let q : j ≡ k = omega arith in rw q e
 
-module _ (ws : List ℕ) (good : Words ws) (p i lo : ℕ) (hp : p ≤ 32) (pl : Placed ws (underKey p i) lo) where
+module _ {ws : List ℕ} {p i lo : ℕ} (good : Words ws) (start : RunFrom ws p i lo) where
+  pl : Placed ws (underKey p i) lo
+  pl = start .place
+
   -- the addresses from the place on are not before the cell
   from-cell : (j : ℕ) → lo ≤ j → j < length ws → i ≤ slot p (addrIn ws j)
   from-cell j a b =
@@ -54,7 +57,7 @@ module _ (ws : List ℕ) (good : Words ws) (p i lo : ℕ) (hp : p ≤ 32) (pl : 
       go : Dec (p < getD ws j 0 / 16777216 % 256) → p < getD ws j 0 / 16777216 % 256
       go (yes d) = d
       go (no d) =
-          let c = cut-more _ p (addrIn ws j) (omega arith) hp (good .fine j b .prefix .clear) in
+          let c = cut-more _ p (addrIn ws j) (omega arith) (start .level) (good .fine j b .prefix .clear) in
           let f : addrIn ws j ≡ i * 2 ^ (32 - p) = sym c ∙ cut-is p (addrIn ws j) ∙ ap (λ (x : ℕ). x * 2 ^ (32 - p)) e in
           absurd (omega (arith, pl .above j a b))
 

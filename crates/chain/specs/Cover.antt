@@ -36,6 +36,12 @@ pub record Climb (ws par : List ℕ) (j p i : ℕ) : Type 0 where
 pub record Heads (ws par : List ℕ) (n : ℕ) : Type 0 where
   pub each : (b : ℕ) → b < n → Placed ws (b * 4294967296) (getD par (4096 + b) 0)
 
+-- at most 4,096 words, and as many entries as their parents and heads take
+pub record Room (ws par : List ℕ) : Type 0 where
+  pub words : Words ws
+  pub few : length ws ≤ 4096
+  pub room : length par ≡ 4353
+
 -- at most 4,096 words, with the parent of each and the heads of the 256 first bytes, and the end
 pub record Ready (ws par : List ℕ) : Type 0 where
   pub words : Words ws

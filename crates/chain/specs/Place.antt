@@ -25,6 +25,16 @@ pub record Between (ws : List ℕ) (key lo hi : ℕ) : Type 0 where
 abbrev pub underKey : ℕ → ℕ → ℕ
 underKey p i = keyOf (i * 2 ^ (32 - p)) (p + 1)
 
+-- i is a cell of level p
+pub record InLevel (p i : ℕ) : Type 0 where
+  pub level : p ≤ 32
+  pub inside : i < 2 ^ p
+
+-- lo is where the run of words under cell i of level p begins, or would
+pub record RunFrom (ws : List ℕ) (p i lo : ℕ) : Type 0 where
+  pub level : p ≤ 32
+  pub place : Placed ws (underKey p i) lo
+
 -- the words from lo up to r, and no others, are longer than p and have the bits of cell i of level p
 pub record Run (ws : List ℕ) (p i lo r : ℕ) : Type 0 where
   pub from : lo ≤ r

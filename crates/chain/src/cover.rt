@@ -1,18 +1,18 @@
 // The chain of covering words, and the hop of the longest route that covers a cell.
 ghost use mathlib.Core.Path.{_≡_};
-ghost use Prim.Native.Nat.{_*_, _/_, _%_, _^_, _<_, _≤_};
+ghost use Prim.Native.Nat.{_/_, _%_, _<_, _≤_};
 ghost use lib.ListN.{length};
 ghost use Rattle.bits.specs.Slot.{slot};
 ghost use Rattle.routes.specs.Route.{covers, best};
-ghost use Rattle.chain.specs.Words.{Words, routeOf, routesIn};
-ghost use Rattle.chain.specs.Place.{Placed, underKey};
-ghost use Rattle.chain.specs.Cover.{LastCover, Parents, Climb, Heads, Ready};
-use super::place::place;
+ghost use Rattle.chain.specs.Words.{routeOf, routesIn};
+ghost use Rattle.chain.specs.Place.{Placed, InLevel, RunFrom};
+ghost use Rattle.chain.specs.Cover.{LastCover, Parents, Climb, Room, Ready};
 use super::place::place_between;
+use super::place::place_on;
 use super::place::under_key;
 
 // Whether the route of a word covers cell i of level p.
-pub fn covering(w: u64, p: u32, i: u64) -> bool
+fn covering(w: u64, p: u32, i: u64) -> bool
     requires { ⌜ (p ≤ 32) × (w / 16777216 % 256 ≤ 32) ⌝ }
     ensures { λ r. ⌜ r ≡ covers p i (routeOf w) ⌝ }
 {
@@ -47,9 +47,8 @@ pub fn last_cover(ws: &[u64], par: &[u16], j: usize, p: u32, i: u64) -> usize
 }
 
 // The parent of each word.
-pub fn parents(ws: &[u64], par: &mut [u16])
-    requires { ⌜ Words (now ws) ⌝ }
-    requires { ⌜ (length (now ws) ≤ 4096) × (length (now ws) ≤ length (now par)) ⌝ }
+fn parents(ws: &[u64], par: &mut [u16])
+    requires { ⌜ Room (now ws) (now par) ⌝ }
     ensures { λ _. ⌜ Parents (now (ws .entry)) (now (par .exit)) (length (now (ws .entry))) ⌝ }
 {
     let mut k = 0;
@@ -60,16 +59,16 @@ pub fn parents(ws: &[u64], par: &mut [u16])
     }
 }
 
-// The heads, after the parents.
-pub fn heads(ws: &[u64], par: &mut [u16])
-    requires { ⌜ Words (now ws) ⌝ }
-    requires { ⌜ (length (now ws) ≤ 4096) × (length (now par) ≡ 4353) ⌝ }
+// The heads, after the parents. Each is looked for from the one before on.
+fn heads(ws: &[u64], par: &mut [u16])
+    requires { ⌜ Room (now ws) (now par) ⌝ }
     requires { ⌜ Parents (now ws) (now par) (length (now ws)) ⌝ }
     ensures { λ _. ⌜ Ready (now (ws .entry)) (now (par .exit)) ⌝ }
 {
+    let mut m = 0;
     let mut b: usize = 0;
     while b < 257 {
-        let m = place(ws, (b as u64) * 4294967296);
+        m = place_on(ws, m, (b as u64) * 4294967296);
         par[4096 + b] = m as u16;
         b += 1;
     }
@@ -77,8 +76,7 @@ pub fn heads(ws: &[u64], par: &mut [u16])
 
 // The parents and the heads.
 pub fn ready(ws: &[u64], par: &mut [u16])
-    requires { ⌜ Words (now ws) ⌝ }
-    requires { ⌜ (length (now ws) ≤ 4096) × (length (now par) ≡ 4353) ⌝ }
+    requires { ⌜ Room (now ws) (now par) ⌝ }
     ensures { λ _. ⌜ Ready (now (ws .entry)) (now (par .exit)) ⌝ }
 {
     parents(ws, par);
@@ -95,11 +93,19 @@ pub fn place_from(ws: &[u64], par: &[u16], key: u64) -> usize
     place_between(ws, wide(par[b]), wide(par[b + 1]), key)
 }
 
+// Where the run under cell i of level p begins.
+pub fn run_start(ws: &[u64], par: &[u16], p: u32, i: u64) -> usize
+    requires { ⌜ Ready (now ws) (now par) ⌝ }
+    requires { ⌜ InLevel p i ⌝ }
+    ensures { λ r. ⌜ RunFrom (now (ws .entry)) p i r ⌝ }
+{
+    place_from(ws, par, under_key(p, i))
+}
+
 // The hop of the longest route of at most p bits that covers cell i; the run under the cell begins at lo.
 pub fn inherited(ws: &[u64], par: &[u16], lo: usize, p: u32, i: u64) -> u16
     requires { ⌜ Ready (now ws) (now par) ⌝ }
-    requires { ⌜ p ≤ 32 ⌝ }
-    requires { ⌜ Placed (now ws) (underKey p i) lo ⌝ }
+    requires { ⌜ RunFrom (now ws) p i lo ⌝ }
     ensures { λ r. ⌜ (r ≡ best (routesIn (now (ws .entry))) p i) × (r < 32768) ⌝ }
 {
     let m = last_cover(ws, par, lo, p, i);
@@ -112,11 +118,10 @@ pub fn inherited(ws: &[u64], par: &[u16], lo: usize, p: u32, i: u64) -> u16
 // The same, where nothing is known of the run.
 pub fn longest_at(ws: &[u64], par: &[u16], p: u32, i: u64) -> u16
     requires { ⌜ Ready (now ws) (now par) ⌝ }
-    requires { ⌜ (p ≤ 32) × (i < 2 ^ p) ⌝ }
+    requires { ⌜ InLevel p i ⌝ }
     ensures { λ r. ⌜ (r ≡ best (routesIn (now (ws .entry))) p i) × (r < 32768) ⌝ }
 {
-    let lo = place_from(ws, par, under_key(p, i));
-    inherited(ws, par, lo, p, i)
+    inherited(ws, par, run_start(ws, par, p, i), p, i)
 }
 
 // The hop of the longest route of at most p bits that covers an address.

@@ -1,8 +1,9 @@
 // Places among words, by their keys, and the run of words under a cell.
 ghost use mathlib.Core.Path.{_≡_};
 ghost use Prim.Native.Nat.{_+_, _*_, _^_, _<_, _≤_};
+ghost use lib.ListN.{length};
 ghost use Rattle.chain.specs.Words.{Words};
-ghost use Rattle.chain.specs.Place.{Placed, Between, underKey, Run};
+ghost use Rattle.chain.specs.Place.{Placed, Between, underKey, InLevel, RunFrom, Run};
 
 // How many words have a smaller key, by halving, where that is known to be no less than from and no more than to.
 pub fn place_between(ws: &[u64], from: usize, to: usize, key: u64) -> usize
@@ -30,11 +31,25 @@ pub fn place(ws: &[u64], key: u64) -> usize
     place_between(ws, 0, ws.len(), key)
 }
 
+// As place, by going on from a place that is no later.
+pub fn place_on(ws: &[u64], from: usize, key: u64) -> usize
+    requires { ⌜ Between (now ws) key from (length (now ws)) ⌝ }
+    ensures { λ r. ⌜ Placed (now (ws .entry)) key r ⌝ }
+{
+    let mut k = from;
+    while k < ws.len() {
+        if key <= ws[k] / 16777216 {
+            return k;
+        }
+        k += 1;
+    }
+    k
+}
+
 // The end of the run under cell i of level p, which begins at lo.
 pub fn run_end(ws: &[u64], lo: usize, p: u32, i: u64) -> usize
     requires { ⌜ Words (now ws) ⌝ }
-    requires { ⌜ p ≤ 32 ⌝ }
-    requires { ⌜ Placed (now ws) (underKey p i) lo ⌝ }
+    requires { ⌜ RunFrom (now ws) p i lo ⌝ }
     ensures { λ r. ⌜ Run (now (ws .entry)) p i lo r ⌝ }
 {
     let mut k = lo;
@@ -63,7 +78,7 @@ fn wide(x: u32) -> u64
 
 // The least key of a route under cell i of level p.
 pub fn under_key(p: u32, i: u64) -> u64
-    requires { ⌜ (p ≤ 32) × (i < 2 ^ p) ⌝ }
+    requires { ⌜ InLevel p i ⌝ }
     ensures { λ r. ⌜ (r ≡ underKey p i) × (r < 1099511627776) ⌝ }
 {
     shifted(i, p, 32 - p) * 256 + (wide(p) + 1)
