@@ -1,24 +1,24 @@
 -- The chain of covering words, and that its end is the longest route that covers the cell. Assumes nothing.
 use mathlib.Core.Path.{_≡_, refl, sym, ap, _∙_}
-use mathlib.Core.Bool.{Bool, true, false, cond, false≢true}
-use mathlib.Core.List.{List, [], _∷_, map}
+use mathlib.Core.Bool.{Bool, true, false, false≢true}
+use mathlib.Core.List.{List, [], _∷_}
 use Prim.Native.Nat.{ℕ, zero, suc, _+_, _-_, _*_, _/_, _%_, _^_, _<_, _≤_, suc-le-suc, zero-le}
 use native.Mathlib.Nat.{not-suc-le-zero, le-of-suc-le-suc, mul-le-mul-right, mul-assoc, div-mul-le-self}
 use native.Mathlib.Decide.{decLt}
 use native.Mathlib.Omega.{arith}
-use lib.Dec.{leb, eqb}
+use lib.Dec.{eqb}
 use lib.ListN.{length, getD, take, set}
 use lib.Seq.{getD-take, getD-set-same, getD-set-other, length-take-le}
-use lib.Pow.{shr-mono, shr-le, shl-shr, shr-lt, pow-add}
+use lib.Pow.{shr-mono, shr-le, shl-shr, pow-add}
 use borrow.Author.Tests.{lt-leb, le-leb, eq-eqb}
-use Rattle.bits.specs.Slot.{slot, cut}
+use Rattle.bits.specs.Slot.{slot}
 use Rattle.bits.proofs.Tests.{both, untrue}
 use Rattle.bits.proofs.Slots.{slot-up, cut-is}
 use Rattle.routes.specs.Route.{covers, best, lastHop, Fine}
 use Rattle.routes.specs.declared.Route.{Route}
 use Rattle.routes.proofs.Longest.{cover-parts}
 use Rattle.routes.proofs.Paint.{best-last}
-use Rattle.chain.specs.Words.{routeOf, keyIn, routesIn, Words}
+use Rattle.chain.specs.Words.{routeOf, routesIn, Words}
 use Rattle.chain.specs.Place.{Placed, Between, underKey, RunFrom}
 use Rattle.chain.specs.Cover.{addrIn, LastCover, Parents, Climb, Heads, Ready}
 use Rattle.chain.proofs.Decodes.{words-good}

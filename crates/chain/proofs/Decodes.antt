@@ -1,15 +1,14 @@
 -- Words are their records, and the words of a good list are good. Assumes nothing.
-use mathlib.Core.Path.{_≡_, refl, sym, ap, _∙_}
+use mathlib.Core.Path.{_≡_, ap, _∙_}
 use mathlib.Core.Logic.{_⊎_, inl, inr}
-use mathlib.Core.List.{List, [], _∷_, map, List·Memᴰ, List·Memᴰ·cases-cons, List·Memᴰ·not-nil}
-use Prim.Native.Nat.{ℕ, zero, suc, _+_, _-_, _*_, _/_, _%_, _^_, _<_, _≤_, suc-le-suc, zero-le}
-use native.Mathlib.Nat.{not-suc-le-zero, add-suc}
+use mathlib.Core.List.{List, [], _∷_, List·Memᴰ, List·Memᴰ·cases-cons, List·Memᴰ·not-nil}
+use Prim.Native.Nat.{ℕ, suc, _+_, _-_, _/_, _%_, _<_, _≤_, suc-le-suc}
+use native.Mathlib.Nat.{add-suc}
 use native.Mathlib.Decide.{decLt}
 use native.Mathlib.Omega.{arith}
 use lib.ListN.{length, getD, set, take, drop, length-map, List·getD-map}
 use lib.Seq.{getD-set-same, getD-set-other, getD-take, getD-drop}
 use borrow.Rule.Slice.PartMut.{mid-len}
-use Rattle.bits.specs.Tab.{tabulate}
 use Rattle.bits.proofs.Tabs.{length-tabulate, getD-tabulate, is-tabulate}
 use Rattle.routes.specs.Route.{key, Fine, Good}
 use Rattle.routes.specs.Record.{recordAt, routesOf, noRoute, Ranged, Records}
@@ -100,10 +99,11 @@ past-first (w ∷ ws) good b h s m = go (List·Memᴰ·cases-cons m) (past-first
 pub words-good : (ws : List ℕ) → Words ws → Good (routesIn ws)
 unfolding Good
 words-good [] good = tt
-words-good (w ∷ ws) good =
-    ( good .fine 0 (omega arith)
-    , past-first ws (tail-words w ws good) (key (routeOf w)) (λ l. omega (arith, good .rises 0 (suc-le-suc l)))
-    , words-good ws (tail-words w ws good) )
+words-good (w ∷ ws) good = (
+  good .fine 0 (omega arith),
+  past-first ws (tail-words w ws good) (key (routeOf w)) (λ l. omega (arith, good .rises 0 (suc-le-suc l))),
+  words-good ws (tail-words w ws good),
+)
 
 -- a part of good words
 pub words-part : (ws : List ℕ) (a e : ℕ) → e ≤ length ws → Words ws → Words (take (e - a) (drop a ws))

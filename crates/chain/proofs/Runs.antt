@@ -1,11 +1,10 @@
 -- The run of words under a cell. Assumes nothing.
-use mathlib.Core.Path.{_≡_, refl, sym, ap, _∙_}
-use mathlib.Core.Bool.{Bool, true, false}
+use mathlib.Core.Path.{_≡_, sym, ap, _∙_}
+use mathlib.Core.Bool.{true, false}
 use mathlib.Core.List.{List}
 use Prim.Native.Nat.{ℕ, _+_, _-_, _*_, _/_, _%_, _^_, _<_, _≤_}
 use native.Mathlib.Decide.{decLt}
 use native.Mathlib.Omega.{arith}
-use lib.Dec.{ltb, eqb}
 use lib.ListN.{length, getD}
 use lib.Pow.{shr-mono, shl-shr}
 use borrow.Author.Tests.{lt-ltb, eq-eqb, ltb-true, eqb-true}
@@ -13,7 +12,7 @@ use Rattle.bits.specs.Slot.{slot, cut}
 use Rattle.bits.proofs.Tests.{both, and-split, untrue}
 use Rattle.bits.proofs.Slots.{cut-is, cut-le, cut-more}
 use Rattle.routes.specs.Route.{within}
-use Rattle.chain.specs.Words.{routeOf, keyIn, Words}
+use Rattle.chain.specs.Words.{routeOf, Words}
 use Rattle.chain.specs.Place.{Placed, underKey, RunFrom, Run}
 use Rattle.chain.specs.Cover.{addrIn}
 use Rattle.chain.proofs.Places.{keys}

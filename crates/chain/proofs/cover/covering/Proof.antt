@@ -1,3 +1,4 @@
+-- `chain::cover::covering` meets its contract. Assumes nothing.
 use Rattle.chain.proofs.Chains.{too-long, tested}
 use borrow.Author.Needs.{needs}
 use Rattle.chain.proofs.cover.covering.Statement.{statement}

@@ -1,5 +1,6 @@
+-- `chain::cover::heads` meets its contract. The invariant: the heads below b stand, and every word before m has a smaller first byte. Assumes nothing.
 use mathlib.Core.Path.{_≡_, refl, _∙_}
-use Prim.Native.Nat.{ℕ, _-_, _*_, _≤_}
+use Prim.Native.Nat.{_-_, _*_, _≤_}
 use lib.ListN.{length, length-set}
 use native.Mathlib.Omega.{arith}
 use borrow.Author.Needs.{needs}
@@ -34,6 +35,6 @@ heads-spec =
     (λ c. let l = c .before .before .loop .inv in (omega arith, simp length-set (l .1), parents-keep _ _ _ _ _ (omega arith) (l .2), heads-more _ _ _ _ (omega arith) (c .place-on .ensures) (l .3), on-from _ _ _ _ (omega arith) (c .before .before .before .before .before .pre .0 .words) (c .place-on .ensures)))
     (λ c. c .before .loop .inv .1)
     (λ c. let l = c .before .loop in
-          let q = c .before .before .before .before .pre .0 in
-          let e : l .b ≡ 257 = omega arith in
-          record { words = q .words; few = q .few; room = l .inv .1 ∙ q .room; parents = l .inv .2; heads = rw e at (l .inv .3) }))
+    let q = c .before .before .before .before .pre .0 in
+    let e : l .b ≡ 257 = omega arith in
+    record { words = q .words; few = q .few; room = l .inv .1 ∙ q .room; parents = l .inv .2; heads = rw e at (l .inv .3) }))

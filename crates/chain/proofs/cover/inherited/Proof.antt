@@ -1,3 +1,4 @@
+-- `chain::cover::inherited` meets its contract. Assumes nothing.
 use native.Mathlib.Omega.{arith}
 use Rattle.chain.proofs.Chains.{climb-placed, none-best, one-best, one-small}
 use borrow.Author.Needs.{needs}

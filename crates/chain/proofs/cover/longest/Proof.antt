@@ -1,3 +1,4 @@
+-- `chain::cover::longest` meets its contract. Assumes nothing.
 use Rattle.bits.proofs.Slots.{slot-lt}
 use borrow.Author.Needs.{needs}
 use Rattle.chain.proofs.cover.longest.Statement.{statement}

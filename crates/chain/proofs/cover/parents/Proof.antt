@@ -1,5 +1,6 @@
+-- `chain::cover::parents` meets its contract. The invariant: the first k parents stand. Assumes nothing.
 use mathlib.Core.Path.{_≡_, refl, sym}
-use Prim.Native.Nat.{ℕ, _-_, _≤_}
+use Prim.Native.Nat.{_-_, _≤_}
 use lib.ListN.{length, length-set}
 use lib.Seq.{length-take-le}
 use native.Mathlib.Omega.{arith}
@@ -36,5 +37,5 @@ parents-spec =
     (λ c. (omega arith, simp length-set (c .before .before .before .before .loop .inv .1), parents-more _ _ _ _ (omega arith) (c .before .before .before .before .loop .inv .2) (c .last-cover .ensures)))
     (λ c. c .before .loop .inv .1)
     (λ c. let l = c .before .loop in
-          let e : l .k ≡ length (now (c .before .before .before .before .args .ws)) = omega arith in
-          rw e at (l .inv .2)))
+    let e : l .k ≡ length (now (c .before .before .before .before .args .ws)) = omega arith in
+    rw e at (l .inv .2)))

@@ -1,3 +1,4 @@
+-- `chain::cover::place_from` meets its contract. Assumes nothing.
 use Rattle.chain.proofs.Chains.{head-between}
 use borrow.Author.Needs.{needs}
 use Rattle.chain.proofs.cover.place_from.Statement.{statement}

@@ -1,3 +1,4 @@
+-- `chain::cover::ready` meets its contract. Assumes nothing.
 use mathlib.Core.Path.{_∙_}
 use borrow.Author.Needs.{needs}
 use Rattle.chain.proofs.cover.ready.Statement.{statement}
@@ -9,7 +10,7 @@ ready-spec =
     (tie.spec
     (λ c κs. search needs)
     (λ c κs. let q = c .before .before .before .before .before .before .before .pre in
-          let e = c .before .before .before .parents in
-          (record { words = q .words; few = q .few; room = e .kept .1 .0 ∙ q .room }, e .ensures))
+    let e = c .before .before .before .parents in
+    (record { words = q .words; few = q .few; room = e .kept .1 .0 ∙ q .room }, e .ensures))
     (λ c. search needs)
     (λ c. search needs))

@@ -1,3 +1,4 @@
+-- `chain::cover::run_start` meets its contract. Assumes nothing.
 use borrow.Author.Needs.{needs}
 use Rattle.chain.proofs.cover.run_start.Statement.{statement}
 use Rattle.chain.proofs.cover.run_start.Tie as tie

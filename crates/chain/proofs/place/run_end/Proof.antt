@@ -1,3 +1,4 @@
+-- `chain::place::run_end` meets its contract. The invariant: the words from lo up to k have the bits of the cell. Assumes nothing.
 use denote.Ref.{now}
 use Prim.Native.Nat.{_-_, _≤_}
 use lib.ListN.{length}
@@ -26,13 +27,13 @@ run-end-spec =
     (λ c. search needs)
     (λ c. search needs)
     (λ c. let q = c .before .before .before .before .pre in
-          let l = c .before .before .before .loop .inv in
-          run-is (q .0) (q .1) _ (l .0) (l .1) (l .2) (λ h e. c .if1 .taken e))
+    let l = c .before .before .before .loop .inv in
+    run-is (q .0) (q .1) _ (l .0) (l .1) (l .2) (λ h e. c .if1 .taken e))
     (λ c. search needs)
     (λ c. search needs)
     (λ c. let l = c .before .before .before .loop .inv in
-          let a = c .before .before .before .before .args in
-          (omega arith, omega arith, inside-more (now (a .ws)) (a .p) _ _ _ (l .2) (c .if1 .left)))
+    let a = c .before .before .before .before .args in
+    (omega arith, omega arith, inside-more (now (a .ws)) (a .p) _ _ _ (l .2) (c .if1 .left)))
     (λ c. let q = c .before .before .pre in
-          let l = c .before .loop .inv in
-          run-is (q .0) (q .1) _ (l .0) (l .1) (l .2) (λ h e. omega arith)))
+    let l = c .before .loop .inv in
+    run-is (q .0) (q .1) _ (l .0) (l .1) (l .2) (λ h e. omega arith)))

@@ -1,3 +1,4 @@
+-- `chain::place::shifted` meets its contract. Assumes nothing.
 use Rattle.chain.proofs.Places.{shifted-is}
 use borrow.Author.Needs.{needs}
 use Rattle.chain.proofs.place.shifted.Statement.{statement}
