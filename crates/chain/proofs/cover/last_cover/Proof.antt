@@ -24,7 +24,7 @@ last-cover-spec =
     (λ c. search needs)
     (λ c. search needs)
     (λ c κs. let q = c .before .before .before .before .before .pre in
-    (q .level, q .words .fine (c .before .before .loop .m - 1) (omega arith) .prefix .len-ok))
+    (search needs, q .words .fine (c .before .before .loop .m - 1) (omega arith) .prefix .len-ok))
     (λ c. search found)
     (λ c. search needs)
     (λ c. search needs)
