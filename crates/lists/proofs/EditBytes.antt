@@ -11,11 +11,12 @@ use Rattle.routes.specs.Route.{key, Good}
 use Rattle.routes.specs.Standing.{insert, remove}
 use Rattle.routes.specs.Record.{recordAt, bytesOf, putAt, routesOf, noRoute, written, Listed}
 use Rattle.routes.specs.declared.Route.{Route}
+use Rattle.routes.proofs.Standing.{insert-length, remove-length}
 use Rattle.routes.proofs.Puts.{put-byte}
 use Rattle.routes.proofs.Rows.{length-routes, nth-route, records-good, length-written, byte-written, zero-written, listed-written}
 use Rattle.lists.specs.Edit.{drawn, movedUp, movedDown, inserted, removed, InsertAt, ReplaceAt, RemoveAt}
 use Rattle.lists.proofs.EditMoves.{length-drawn, drawn-in, drawn-before, drawn-after}
-use Rattle.lists.proofs.EditRoutes.{insert-over, between-length, between-before, between-here, between-after, without-length, without-before, without-from}
+use Rattle.lists.proofs.EditRoutes.{insert-over, between-before, between-here, between-after, without-before, without-from}
 
 -- the other bytes stay where a record is put
 module _ (s : List ℕ) (k : ℕ) (r : Route) (room : (k + 1) * 8 ≤ length s) where
@@ -90,7 +91,7 @@ module _ (s : List ℕ) (n : ℕ) where
 
 pub inserted-at : (s : List ℕ) (n k : ℕ) (r : Route) → ((j : ℕ) → getD s j 0 < 256) → InsertAt s n k r → putAt (movedUp s (k * 8) (n * 8)) k r ≡ inserted s n r
 inserted-at s n k r bytes ok =
-    is-written (insert r rs) (length s / 8) (rw (between-length r rs k before place after, length-routes) (omega (arith, ok .room))) (putAt moved k r)
+    is-written (insert r rs) (length s / 8) (omega (arith, insert-length r rs, length-routes s n, ok .room)) (putAt moved k r)
     (length-put moved k r room ∙ length-drawn s _ _ _ ∙ omega (arith, ok .listed .whole))
     (λ q m h l. at q m h l (below? q k) (equal? q k) (below? (q - 1) n))
   where
@@ -154,7 +155,7 @@ replaced-at s n k r bytes ok =
 
 pub removed-at : (s : List ℕ) (n k : ℕ) → ((j : ℕ) → getD s j 0 < 256) → RemoveAt s n k → putAt (movedDown s (k * 8) ((n - 1) * 8)) (n - 1) noRoute ≡ removed s n (key (recordAt s k))
 removed-at s n k bytes ok =
-    is-written (remove (key (getD rs k noRoute)) rs) (length s / 8) (rw (without-length rs k good place, length-routes) (omega (arith, ok .listed .records .room)))
+    is-written (remove (key (getD rs k noRoute)) rs) (length s / 8) (omega (arith, remove-length (key (getD rs k noRoute)) rs, length-routes s n, ok .listed .records .room))
     (putAt moved (n - 1) noRoute)
     (length-put moved (n - 1) noRoute room ∙ length-drawn s _ _ _ ∙ omega (arith, ok .listed .whole))
     (λ q m h l. at q m h l (below? q k) (below? q (n - 1)) (equal? q (n - 1)))

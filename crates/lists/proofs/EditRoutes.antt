@@ -1,21 +1,22 @@
 -- A route put into a good list at its place, and one taken out of it, by places. Assumes nothing.
 use mathlib.Core.Path.{_≡_, refl, sym, ap, ap₂, _∙_}
 use mathlib.Core.Logic.{_⊎_, inl, inr, _≢_}
-use mathlib.Core.Bool.{Bool, true, false, cond}
+use mathlib.Core.Bool.{Bool, true, false, cond, or-true, false≢true}
 use mathlib.Core.List.{List, [], _∷_, _++_}
 use Prim.Native.Nat.{ℕ, zero, suc, _+_, _-_, _≤_, _<_, suc-le-suc, zero-le}
 use native.Mathlib.Nat.{not-suc-le-zero, le-of-suc-le-suc}
 use native.Mathlib.Omega.{arith}
 use lib.ListN.{length, getD, set, take, drop, length-append, length-drop, drop-of-length-le, List·getD-append}
 use lib.Seq.{drop-cons, split-at, set-split, length-take-le, getD-take, getD-drop, getD-append-add, getD-at}
-use borrow.Author.Tests.{eq-eqb, ne-eqb}
-use Rattle.bits.proofs.Tests.{below?}
-use Rattle.routes.specs.Route.{key, Good}
-use Rattle.routes.specs.Standing.{isAt, insert, remove}
+use lib.Dec.{ltb}
+use borrow.Author.Tests.{eqb-true, eq-eqb, ne-eqb}
+use Rattle.bits.proofs.Tests.{decided, or-none, below?}
+use Rattle.routes.specs.Route.{key, any, Good}
+use Rattle.routes.specs.Standing.{isAt, stands, insert, remove}
 use Rattle.routes.specs.Record.{noRoute}
 use Rattle.routes.specs.declared.Route.{Route}
 use Rattle.routes.proofs.Standing.{insert-before, insert-same, insert-after}
-use Rattle.routes.proofs.Rows.{good-rises}
+use Rattle.routes.proofs.Rows.{nth-listed, good-rises}
 
 -- routes of smaller keys stay before the new one
 past : (r : Route) (rs : List Route) (k : ℕ) → k ≤ length rs → ((i : ℕ) → i < k → key (getD rs i noRoute) < key r) → insert r rs ≡ take k rs ++ insert r (drop k rs)
@@ -52,9 +53,6 @@ module _ (r : Route) (rs : List Route) (k : ℕ) (before : (i : ℕ) → i < k �
         go (inl u) = rw (drop-cons rs k noRoute u) (insert-before r _ _ (after u))
         go (inr u) = rw (drop-of-length-le rs u)
 
-    pub between-length : length (insert r rs) ≡ length rs + 1
-    between-length = rw (between, length-append, length-take-le k rs l) (let d = length-drop k rs in omega arith)
-
     pub between-before : (q : ℕ) → q < k → getD (insert r rs) q noRoute ≡ getD rs q noRoute
     between-before q u = rw between (joined-before rs _ k l q u)
 
@@ -67,6 +65,33 @@ module _ (r : Route) (rs : List Route) (k : ℕ) (before : (i : ℕ) → i < k �
         let f : k + (q - 1 - k) ≡ q - 1 = omega arith in
         rw (between, joined-from rs (r ∷ drop k rs) k l q (omega arith), e, getD-drop, f)
 
+-- whether a prefix stands, by places
+pub stands-some : (p : ℕ) (rs : List Route) (i : ℕ) → i < length rs → key (getD rs i noRoute) ≡ p → stands p rs ≡ true
+unfolding any
+stands-some p [] i l e = absurd (not-suc-le-zero l)
+stands-some p (x ∷ xs) zero l e = rw (eq-eqb (key x) p e)
+stands-some p (x ∷ xs) (suc i) l e = rw (stands-some p xs i (le-of-suc-le-suc l) e) (or-true (isAt p x))
+
+pub stands-none : (p : ℕ) (rs : List Route) → ((i : ℕ) → i < length rs → key (getD rs i noRoute) ≢ p) → stands p rs ≡ false
+unfolding any
+stands-none p [] h = refl
+stands-none p (x ∷ xs) h = rw (ne-eqb (key x) p (h 0 (suc-le-suc zero-le))) (stands-none p xs (λ i u. h (suc i) (suc-le-suc u)))
+
+-- a prefix that does not stand: with its route the list is longer by one, and there is nothing to take out
+pub insert-adds : (r : Route) (rs : List Route) → stands (key r) rs ≡ false → length (insert r rs) ≡ suc (length rs)
+unfolding insert any
+insert-adds r [] e = refl
+insert-adds r (x ∷ xs) e = let n = or-none (isAt (key r) x) (any (isAt (key r)) xs) e in rw (n .0) (go (ltb (key r) (key x)) (insert-adds r xs (n .1)))
+  where
+    go : (b : Bool) → length (insert r xs) ≡ suc (length xs) → length (cond b (r ∷ x ∷ xs) (x ∷ insert r xs)) ≡ suc (suc (length xs))
+    go true ih = refl
+    go false ih = ap suc ih
+
+pub remove-absent : (p : ℕ) (rs : List Route) → stands p rs ≡ false → remove p rs ≡ rs
+unfolding remove any
+remove-absent p [] e = refl
+remove-absent p (x ∷ xs) e = let n = or-none (isAt p x) (any (isAt p) xs) e in rw (n .0, remove-absent p xs (n .1))
+
 remove-append : (p : ℕ) (xs ys : List Route) → remove p (xs ++ ys) ≡ remove p xs ++ remove p ys
 unfolding remove
 remove-append p [] ys = refl
@@ -76,25 +101,34 @@ remove-append p (x ∷ xs) ys = go (isAt p x) (remove-append p xs ys)
     go true e = e
     go false e = rw e
 
+-- with a route taken out, a good list is shorter by one
+pub remove-takes : (p : ℕ) (rs : List Route) → Good rs → stands p rs ≡ true → suc (length (remove p rs)) ≡ length rs
+unfolding remove any Good
+remove-takes p [] g e = absurd (false≢true e)
+remove-takes p (x ∷ xs) g e = go (decided (isAt p x)) (remove-takes p xs (g .2))
+  where
+    go : (isAt p x ≡ true) ⊎ (isAt p x ≡ false) → (stands p xs ≡ true → suc (length (remove p xs)) ≡ length xs) → suc (length (cond (isAt p x) (remove p xs) (x ∷ remove p xs))) ≡ suc (length xs)
+    go (inl q) ih =
+        let z = eqb-true (key x) p q in
+        rw (q, remove-absent p xs (stands-none p xs (λ i u y. omega (arith, g .1 (getD xs i noRoute) (nth-listed xs i u)))))
+    go (inr q) ih = rw q (ap suc (ih (rw q at e)))
+
 remove-head : (p : ℕ) (x : Route) (xs : List Route) → key x ≡ p → remove p (x ∷ xs) ≡ remove p xs
 unfolding remove
 remove-head p x xs e = rw (eq-eqb (key x) p e)
-
--- where no route has the prefix, nothing is taken out
-pub remove-none : (p : ℕ) (rs : List Route) → ((i : ℕ) → i < length rs → key (getD rs i noRoute) ≢ p) → remove p rs ≡ rs
-unfolding remove
-remove-none p [] h = refl
-remove-none p (x ∷ xs) h = rw (ne-eqb (key x) p (h 0 (suc-le-suc zero-le)), remove-none p xs (λ i u. h (suc i) (suc-le-suc u)))
 
 -- the route of a place is taken out, and no other
 without : (rs : List Route) (k : ℕ) → Good rs → k < length rs → remove (key (getD rs k noRoute)) rs ≡ take k rs ++ drop (suc k) rs
 without rs k good l =
     ap (remove p) (split-at rs k noRoute l)
     ∙ remove-append p (take k rs) (getD rs k noRoute ∷ drop (suc k) rs)
-    ∙ ap₂ (λ (x y : List Route). x ++ y) (remove-none p (take k rs) (λ i u. first i (rw (length-take-le k rs (omega arith)) at u))) (remove-head p _ _ refl ∙ remove-none p (drop (suc k) rs) rest)
+    ∙ ap₂ (λ (x y : List Route). x ++ y) (absent (take k rs) (λ i u. first i (rw (length-take-le k rs (omega arith)) at u))) (remove-head p _ _ refl ∙ absent (drop (suc k) rs) rest)
   where
     p : ℕ
     p = key (getD rs k noRoute)
+
+    absent : (xs : List Route) → ((i : ℕ) → i < length xs → key (getD xs i noRoute) ≢ p) → remove p xs ≡ xs
+    absent xs h = remove-absent p xs (stands-none p xs h)
 
     first : (i : ℕ) → i < k → key (getD (take k rs) i noRoute) ≢ p
     first i u = rw (getD-take k rs i noRoute u) (λ q. omega (arith, good-rises rs good i k u l))
@@ -105,9 +139,6 @@ without rs k good l =
         rw getD-drop (λ q. omega (arith, good-rises rs good k (suc k + i) (omega arith) (omega arith)))
 
 module _ (rs : List Route) (k : ℕ) (good : Good rs) (l : k < length rs) where
-  pub without-length : length (remove (key (getD rs k noRoute)) rs) ≡ length rs - 1
-  without-length = rw (without rs k good l, length-append, length-take-le k rs (omega arith), length-drop) (omega arith)
-
   pub without-before : (q : ℕ) → q < k → getD (remove (key (getD rs k noRoute)) rs) q noRoute ≡ getD rs q noRoute
   without-before q u = rw (without rs k good l) (joined-before rs _ k (omega arith) q u)
 

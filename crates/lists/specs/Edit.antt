@@ -1,16 +1,19 @@
 -- A list of records that is changed in place: how its bytes move, what a change asks, and what the list then holds.
 -- Assumes nothing.
 use Prim.Native.Nat.{ℕ, _+_, _-_, _*_, _/_, _≤_, _<_}
-use mathlib.Core.Bool.{cond, _&&_}
+use mathlib.Core.Bool.{Bool, true, false, cond, _&&_}
 use mathlib.Core.List.{List}
 use mathlib.Core.Path.{_≡_}
 use lib.Dec.{leb, ltb}
 use lib.ListN.{length, getD}
 use Rattle.bits.specs.Tab.{tabulate}
 use Rattle.routes.specs.Route.{key, Fine}
-use Rattle.routes.specs.Standing.{insert, remove}
-use Rattle.routes.specs.Record.{recordAt, routesOf, written, Listed}
+use Rattle.routes.specs.Standing.{stands, insert, remove}
+use Rattle.routes.specs.Record.{recordAt, routesOf, written, Records, Listed}
 use Rattle.routes.specs.declared.Route.{Route}
+use Rattle.lists.specs.Place.{placeOf}
+use Rattle.lists.specs.declared.edit.Put.{Put}
+use Rattle.lists.specs.declared.edit.Put.the-variants as put
 
 -- s, where each byte from a on and before e is drawn from another place of s
 unfoldable pub drawn : List ℕ → ℕ → ℕ → (ℕ → ℕ) → List ℕ
@@ -51,3 +54,33 @@ pub record ReplaceAt (s : List ℕ) (n k : ℕ) (r : Route) : Type 0 where
 pub record RemoveAt (s : List ℕ) (n k : ℕ) : Type 0 where
   pub listed : Listed s n
   pub place : k < n
+
+-- k is the place of the key p among n records
+pub record Placed (s : List ℕ) (n k p : ℕ) : Type 0 where
+  pub records : Records s n
+  pub place : k ≡ placeOf s n p
+
+-- r can be put into the list: there is room for one record more, unless r's prefix stands
+pub record Insertable (s : List ℕ) (n : ℕ) (r : Route) : Type 0 where
+  pub listed : Listed s n
+  pub fine : Fine r
+  pub room : stands (key r) (routesOf s n) ≡ false → (n + 1) * 8 ≤ length s
+
+-- what a change tells, whether a route of the prefix stood before it, and the list that it leaves
+pub record Edited : Type 0 where
+  pub stood : Bool
+  pub list : List ℕ
+
+abbrev pub edited : Bool → List ℕ → Edited
+edited b s = record { stood = b; list = s }
+
+abbrev pub inserting : List ℕ → ℕ → Route → Edited
+inserting s n r = edited (stands (key r) (routesOf s n)) (inserted s n r)
+
+abbrev pub removing : List ℕ → ℕ → ℕ → Edited
+removing s n p = edited (stands p (routesOf s n)) (removed s n p)
+
+-- whether a route of the prefix stood before
+unfoldable pub saysPut : Put → Bool
+saysPut put.Added = false
+saysPut put.Replaced = true
