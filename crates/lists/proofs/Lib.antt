@@ -3,3 +3,5 @@ pub mod Places
 pub mod EditMoves
 pub mod EditRoutes
 pub mod EditBytes
+pub mod EditPlaces
+pub mod EditHolds

@@ -110,9 +110,9 @@ pub fn remove(list: &mut [u8], n: usize, addr: u32, len: u8) -> bool
 {
     let p = record::key_of(addr, len);
     let k = place::place(list, n, p);
-    if !stands_at(list, n, k, p) {
-        return false;
+    if stands_at(list, n, k, p) {
+        remove_at(list, n, k);
+        return true;
     }
-    remove_at(list, n, k);
-    true
+    false
 }

@@ -1,54 +1,18 @@
+-- `lists::edit::remove` meets its contract. Assumes nothing.
 use borrow.Author.Needs.{needs}
+use Rattle.lists.proofs.EditPlaces.{remove-fits, removed-told, nothing-told}
 use Rattle.lists.proofs.edit.remove.Statement.{statement}
 use Rattle.lists.proofs.edit.remove.Tie as tie
-use Rattle.lists.proofs.edit.remove.Reads as reads
-use Rattle.lists.proofs.edit.remove.Lts as lts
-use Rattle.lists.proofs.edit.remove_at.Reads as remove-at-reads
-use Rattle.lists.proofs.edit.stands_at.Reads as stands-at-reads
-use Rattle.lists.proofs.place.place.Reads as place-reads
-use Rattle.routes.proofs.record.key_of.Reads as key-of-reads
-
--- src/edit.rt:111:9
-key-of-requires : tie.Need-key-of-requires
-key-of-requires c κs = search needs
-
--- src/edit.rt:112:9
-place-requires : tie.Need-place-requires
-place-requires c κs = search needs
-
--- src/edit.rt:113:9
-stands-at-requires : tie.Need-stands-at-requires
-stands-at-requires c κs = search needs
-
--- src/edit.rt:114:9
-same-length : tie.Need-same-length
-same-length c = search needs
-
--- src/edit.rt:114:9
-returns : tie.Need-returns
-returns c = ?
-
--- src/edit.rt:116:5
-remove-at-requires : tie.Need-remove-at-requires
-remove-at-requires c κs = ?
-
--- src/edit.rt:107:1
-same-length-2 : tie.Need-same-length-2
-same-length-2 c = search needs
-
--- src/edit.rt:107:1
-returns-2 : tie.Need-returns-2
-returns-2 c = ?
 
 pub remove-spec : {M : Type 1} → statement M
 remove-spec =
     tie.close
     (tie.spec
-    key-of-requires
-    place-requires
-    stands-at-requires
-    same-length
-    returns
-    remove-at-requires
-    same-length-2
-    returns-2)
+    (λ c κs. search needs)
+    (λ c κs. search needs)
+    (λ c κs. search needs)
+    (λ c κs. let d = c .before .before in remove-fits _ _ _ _ _ (d .before .before .before .before .before .before .pre) (d .before .before .place .ensures .0) (d .stands-at .ensures) (c .before .if1 .taken))
+    (λ c. search needs)
+    (λ c. let d = c .before .before .before .before .before in removed-told _ _ _ _ _ (d .before .before .before .before .before .before .pre) (d .before .before .place .ensures .0) (d .stands-at .ensures) _ _ (d .before .before .before .before .key-of .ensures .0) (c .before .before .before .before .if1 .taken) (c .before .before .remove-at .ensures))
+    (λ c. search needs)
+    (λ c. let d = c .before in nothing-told _ _ _ _ _ (d .before .before .before .before .before .before .pre) (d .before .before .place .ensures .0) (d .stands-at .ensures) _ (λ i. d .before .before .before .before .before .slice-known .given i .fits) (d .before .before .before .before .key-of .ensures .0) (c .if1 .left)))
