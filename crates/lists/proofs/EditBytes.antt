@@ -1,7 +1,7 @@
 -- The bytes of a list after a record was put into it, or taken out of it. Assumes nothing.
 use mathlib.Core.Path.{_≡_, refl, sym, ap, _∙_}
 use mathlib.Core.Logic.{_⊎_, inl, inr, _≢_}
-use mathlib.Core.List.{List, [], _∷_, _++_}
+use mathlib.Core.List.{List, _++_}
 use Prim.Native.Nat.{ℕ, zero, suc, _+_, _-_, _*_, _/_, _%_, _≤_, _<_}
 use native.Mathlib.Omega.{arith}
 use lib.ListN.{length, getD, set, take, drop, length-append, length-drop, length-set, List·getD-append, List·getD-eq-default}
@@ -14,7 +14,7 @@ use Rattle.routes.specs.declared.Route.{Route}
 use Rattle.routes.proofs.Standing.{insert-length, remove-length}
 use Rattle.routes.proofs.Puts.{put-byte}
 use Rattle.routes.proofs.Rows.{length-routes, nth-route, records-good, length-written, byte-written, zero-written, listed-written}
-use Rattle.lists.specs.Edit.{drawn, movedUp, movedDown, inserted, removed, InsertAt, ReplaceAt, RemoveAt}
+use Rattle.lists.specs.Edit.{movedUp, movedDown, inserted, removed, InsertAt, ReplaceAt, RemoveAt}
 use Rattle.lists.proofs.EditMoves.{length-drawn, drawn-in, drawn-before, drawn-after}
 use Rattle.lists.proofs.EditRoutes.{insert-over, between-before, between-here, between-after, without-before, without-from}
 

@@ -1,5 +1,5 @@
 -- Bytes that are drawn from other places of a list, one store at a time. Assumes nothing.
-use mathlib.Core.Path.{_≡_, refl, sym, ap, _∙_}
+use mathlib.Core.Path.{_≡_, sym, ap, _∙_}
 use mathlib.Core.Logic.{_⊎_, inl, inr, _≢_}
 use mathlib.Core.Bool.{and-false}
 use mathlib.Core.List.{List}

@@ -11,11 +11,11 @@ use borrow.Author.Tests.{eqb-true, eq-eqb, ne-eqb}
 use Rattle.bits.proofs.Tests.{below?, equal?}
 use Rattle.routes.specs.Route.{key}
 use Rattle.routes.specs.Standing.{stands}
-use Rattle.routes.specs.Record.{recordAt, routesOf, noRoute, written, Listed}
+use Rattle.routes.specs.Record.{recordAt, routesOf, written, Listed}
 use Rattle.routes.specs.declared.Route.{Route}
 use Rattle.routes.proofs.Rows.{length-routes, nth-route, listed-written}
 use Rattle.lists.specs.Place.{placeOf}
-use Rattle.lists.specs.Edit.{InsertAt, ReplaceAt, RemoveAt, Placed, Insertable, Edited, edited, inserted, removed, inserting, removing}
+use Rattle.lists.specs.Edit.{InsertAt, ReplaceAt, RemoveAt, Placed, Insertable, edited, inserted, removed, inserting, removing}
 use Rattle.lists.proofs.Places.{place-le, place-before, place-after}
 use Rattle.lists.proofs.EditRoutes.{stands-some, stands-none, remove-absent}
 
@@ -67,7 +67,7 @@ module _ (s : List ℕ) (n k p : ℕ) (r : Route) (b : Bool) where
   pub replace-fits : Insertable s n r → k ≡ placeOf s n p → p ≡ key r → b ≡ stands p (routesOf s n) → b ≡ true → ReplaceAt s n k r
   replace-fits ok e q h t =
       let f = found s n k p (record { records = ok .listed .records; place = e }) (sym h ∙ t) in
-      record { listed = ok .listed; fine = ok .fine; place = f .0; same = f .1 ∙ q }
+      record { listed = ok .listed; place = f .0; same = f .1 ∙ q }
 
   pub insert-fits : Insertable s n r → k ≡ placeOf s n p → p ≡ key r → b ≡ stands p (routesOf s n) → b ≡ false → InsertAt s n k r
   insert-fits ok e q h t =
@@ -75,7 +75,6 @@ module _ (s : List ℕ) (n k p : ℕ) (r : Route) (b : Bool) where
       record {
         listed = ok .listed;
         room = ok .room (rw (← q) (sym h ∙ t));
-        fine = ok .fine;
         place = rw e (place-le s n p);
         before = λ i u. rw (← q) (before s n k p at i u);
         after = λ u. rw (← q) (after s n k p at (sym h ∙ t) u);

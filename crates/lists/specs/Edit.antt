@@ -38,7 +38,6 @@ removed s n p = written (remove p (routesOf s n)) (length s / 8)
 pub record InsertAt (s : List ℕ) (n k : ℕ) (r : Route) : Type 0 where
   pub listed : Listed s n
   pub room : (n + 1) * 8 ≤ length s
-  pub fine : Fine r
   pub place : k ≤ n
   pub before : (i : ℕ) → i < k → key (recordAt s i) < key r
   pub after : k < n → key r < key (recordAt s k)
@@ -46,7 +45,6 @@ pub record InsertAt (s : List ℕ) (n k : ℕ) (r : Route) : Type 0 where
 -- record k has r's prefix
 pub record ReplaceAt (s : List ℕ) (n k : ℕ) (r : Route) : Type 0 where
   pub listed : Listed s n
-  pub fine : Fine r
   pub place : k < n
   pub same : key (recordAt s k) ≡ key r
 
@@ -84,3 +82,15 @@ removing s n p = edited (stands p (routesOf s n)) (removed s n p)
 unfoldable pub saysPut : Put → Bool
 saysPut put.Added = false
 saysPut put.Replaced = true
+
+-- how many routes stand with a route put in, and with one taken out, where n stood: by whether one of the prefix was among them
+abbrev pub countWith : Bool → ℕ → ℕ
+countWith b n = cond b n (n + 1)
+
+abbrev pub countWithout : Bool → ℕ → ℕ
+countWithout b n = cond b (n - 1) n
+
+-- the list holds n routes, and they are rs
+pub record Holds (s : List ℕ) (n : ℕ) (rs : List Route) : Type 0 where
+  pub listed : Listed s n
+  pub routes : routesOf s n ≡ rs

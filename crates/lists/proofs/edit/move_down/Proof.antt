@@ -1,9 +1,8 @@
 -- `lists::edit::move_down` meets its contract. The invariant: the bytes before `at` are moved. Assumes nothing.
 use mathlib.Core.Path.{_≡_, refl}
-use Prim.Native.Nat.{_+_, _-_, _≤_}
+use Prim.Native.Nat.{_-_, _≤_}
 use native.Mathlib.Omega.{arith}
 use lib.ListN.{length, length-set}
-use borrow.Author.Needs.{needs}
 use Rattle.lists.specs.Edit.{movedDown}
 use Rattle.lists.proofs.EditMoves.{drawn-none, down-step}
 use Rattle.lists.proofs.edit.move_down.Statement.{statement}

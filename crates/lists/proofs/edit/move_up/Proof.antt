@@ -1,9 +1,8 @@
 -- `lists::edit::move_up` meets its contract. The invariant: the bytes from `at` on are moved. Assumes nothing.
 use mathlib.Core.Path.{_≡_, refl}
-use Prim.Native.Nat.{_+_, _-_, _≤_}
+use Prim.Native.Nat.{_≤_}
 use native.Mathlib.Omega.{arith}
 use lib.ListN.{length, length-set}
-use borrow.Author.Needs.{needs}
 use Rattle.lists.specs.Edit.{movedUp}
 use Rattle.lists.proofs.EditMoves.{drawn-none, up-step}
 use Rattle.lists.proofs.edit.move_up.Statement.{statement}
