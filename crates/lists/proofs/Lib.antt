@@ -1,2 +1,3 @@
 -- The laws of places, runs, tallies and changes.
 pub mod Places
+pub mod Runs

@@ -1,2 +1,3 @@
 // Lists of records: places, runs, tallies, and changes of one record.
 pub mod place;
+pub mod run;
