@@ -3,7 +3,7 @@
 use mathlib.Core.Path.{_≡_, refl, sym, ap, _∙_, subst}
 use mathlib.Core.Logic.{_↔_}
 use mathlib.Core.List.{List, [], _∷_}
-use mathlib.Core.Bool.{Bool, true, false, not, cond}
+use mathlib.Core.Bool.{Bool, true, false, not, cond, true≢false}
 use Prim.Native.Nat.{ℕ, _+_, _-_, _*_, _/_, _%_, _^_, _≤_, _<_}
 use native.Mathlib.Omega.{arith}
 use lib.Pow.{pow-pos, pow-mono}
@@ -14,13 +14,14 @@ use lib.Seq.{getD-take, getD-drop, length-take-le}
 use denote.Ref.{RefT, ptr, now}
 use Rattle.bits.specs.Slot.{slot, cut}
 use Rattle.bits.proofs.Slots.{shl-one, cut-le, cut-gt, cut-more, cut-in, cut-slot, slot-of}
+use Rattle.bits.proofs.Tests.{untrue}
 use Rattle.routes.specs.Route.{key, keyOf, Prefix}
 use Rattle.routes.specs.Record.{recordAt, Records}
 use Rattle.routes.specs.Said.{Said, accepted, refused, refusedAt, andThen}
 use Rattle.routes.specs.Input.{properPrefix, inputSaid}
 use Rattle.routes.proofs.Meaning.{prefix-true, true-prefix, input-good, good-input, Checked, ragged, stopped, many, good, input-checked}
 use Rattle.lists.specs.Place.{placeOf}
-use Rattle.lists.specs.Run.{part, runStart, runEnd, runCount, runSaid, saysRunCheck, accepts, runOf, runAt, IsRun}
+use Rattle.lists.specs.Run.{part, pastKey, runStart, runEnd, runCount, runSaid, saysRunCheck, accepts, runOf, runAt, IsRun}
 use Rattle.lists.specs.declared.run.RunCheck.{RunCheck}
 use Rattle.lists.specs.declared.run.RunCheck.the-variants as check
 use Rattle.lists.proofs.Places.{place-le, place-before, place-after, place-mono}
@@ -60,7 +61,7 @@ module _ (s : List ℕ) (i n : ℕ) where
 
 -- which keys lie inside a prefix
 module _ (p n : ℕ) (outer : Prefix p n) (a l : ℕ) (inner : Prefix a l) where
-  inside : keyOf p n ≤ keyOf a l → keyOf a l < keyOf (p + 2 ^ (32 - n)) 0 → (n ≤ l) × (slot n a ≡ slot n p)
+  inside : keyOf p n ≤ keyOf a l → keyOf a l < pastKey p n → (n ≤ l) × (slot n a ≡ slot n p)
   inside low high =
       let u = outer .len-ok in
       let v = inner .len-ok in
@@ -68,7 +69,7 @@ module _ (p n : ℕ) (outer : Prefix p n) (a l : ℕ) (inner : Prefix a l) where
       let no : ¬ (l < n) = λ (h : l < n). omega (arith, cut-more l n a (omega arith) u (inner .clear)) in
       (omega arith, slot-of n a p c)
 
-  contained : n ≤ l → slot n a ≡ slot n p → (keyOf p n ≤ keyOf a l) × (keyOf a l < keyOf (p + 2 ^ (32 - n)) 0)
+  contained : n ≤ l → slot n a ≡ slot n p → (keyOf p n ≤ keyOf a l) × (keyOf a l < pastKey p n)
   contained h e =
       let v = inner .len-ok in
       let c = cut-slot n a p (outer .clear) e in
@@ -76,7 +77,6 @@ module _ (p n : ℕ) (outer : Prefix p n) (a l : ℕ) (inner : Prefix a l) where
 
 -- what an accepted run tells
 pub record Ran (s : List ℕ) (a l start count : ℕ) : Type 0 where
-  pub whole : length s ≡ length s / 8 * 8
   pub records : Records s (length s / 8)
   pub prefix : Prefix a l
   pub starts : start ≡ runStart s a l
@@ -90,23 +90,28 @@ and-passed (accepted us) y vs e = passed us refl e
 and-passed (refused n) y vs e = absurd (let z : _≡_ {A = ℕ} 0 1 = cc in omega arith)
 and-passed (refusedAt n k) y vs e = absurd (let z : _≡_ {A = ℕ} 0 1 = cc in omega arith)
 
+and-refused : (x y : Said) → accepts x ≡ false → andThen x y ≡ x
+and-refused (accepted vs) y e = absurd (true≢false e)
+and-refused (refused n) y e = refl
+and-refused (refusedAt n k) y e = refl
+
 cond-passed : (b : Bool) (us vs : List ℕ) (n : ℕ) → cond b (accepted us) (refused n) ≡ accepted vs → (b ≡ true) × (us ≡ vs)
 cond-passed true us vs n e = (refl, (cc))
 cond-passed false us vs n e = absurd (let z : _≡_ {A = ℕ} 0 1 = cc in omega arith)
 
-good-records : (s vs : List ℕ) → inputSaid s ≡ accepted vs → (length s ≡ length s / 8 * 8) × Records s (length s / 8)
+good-records : (s vs : List ℕ) → inputSaid s ≡ accepted vs → Records s (length s / 8)
 good-records s vs e = go (subst (Checked s) e (input-checked s)) refl
   where
-    go : {x : Said} → Checked s x → x ≡ accepted vs → (length s ≡ length s / 8 * 8) × Records s (length s / 8)
+    go : {x : Said} → Checked s x → x ≡ accepted vs → Records s (length s / 8)
     go (ragged w) q = absurd (let z : _≡_ {A = ℕ} 0 1 = cc in omega arith)
     go (stopped k f w l b x p) q = absurd (let z : _≡_ {A = ℕ} 0 1 = cc in omega arith)
     go (many w b m) q = absurd (let z : _≡_ {A = ℕ} 0 1 = cc in omega arith)
-    go (good m w r) q = let z : length s / 8 ≡ m = omega arith in (omega arith, rw z r)
+    go (good m w r) q = let z : length s / 8 ≡ m = omega arith in rw z r
 
 module _ (s : List ℕ) (a l : ℕ) where
   -- a prefix's own key is not after its end
-  pub run-order : (n : ℕ) → l ≤ 32 → placeOf s n (keyOf a l) ≤ placeOf s n (keyOf (a + 2 ^ (32 - l)) 0)
-  run-order n h = place-mono s n (keyOf a l) (keyOf (a + 2 ^ (32 - l)) 0) (omega (arith, pow-pos (32 - l)))
+  pub run-order : (n : ℕ) → l ≤ 32 → placeOf s n (keyOf a l) ≤ placeOf s n (pastKey a l)
+  run-order n h = place-mono s n (keyOf a l) (pastKey a l) (omega (arith, pow-pos (32 - l)))
 
   pub run-accepted : (start count : ℕ) → runSaid s a l ≡ accepted (start ∷ count ∷ []) → Ran s a l start count
   unfolding runSaid
@@ -114,15 +119,27 @@ module _ (s : List ℕ) (a l : ℕ) where
     where
       go : Passed (inputSaid s) (cond (properPrefix a l) (accepted (runStart s a l ∷ runCount s a l ∷ [])) (refused 3)) (start ∷ count ∷ []) → Ran s a l start count
       go (passed us e q) =
-          let g = good-records s us e in
           let c = cond-passed (properPrefix a l) _ _ 3 q in
           let d = c .1 in
-          record { whole = g .0; records = g .1; prefix = prefix-true a l (c .0); starts = (cc); counts = (cc) }
+          record { records = good-records s us e; prefix = prefix-true a l (c .0); starts = (cc); counts = (cc) }
 
-  -- a good input and a prefix are accepted
-  pub accepted-run : (n : ℕ) → inputSaid s ≡ accepted (n ∷ []) → Prefix a l → runSaid s a l ≡ accepted (runStart s a l ∷ runCount s a l ∷ [])
+  -- the three ways, in order: the input is refused, the prefix is none (3), or there is a run
+  pub run-input-first : accepts (inputSaid s) ≡ false → runSaid s a l ≡ inputSaid s
   unfolding runSaid
-  accepted-run n e p = rw (e, true-prefix a l p)
+  run-input-first e = and-refused (inputSaid s) _ e
+
+  pub run-prefix-next : (n : ℕ) → inputSaid s ≡ accepted (n ∷ []) → (Prefix a l → ⊥) → runSaid s a l ≡ refused 3
+  unfolding runSaid
+  run-prefix-next n e h = rw (e, untrue (properPrefix a l) (λ t. h (prefix-true a l t)))
+
+  pub run-found : (n : ℕ) → inputSaid s ≡ accepted (n ∷ []) → Prefix a l → runSaid s a l ≡ accepted (runStart s a l ∷ runCount s a l ∷ [])
+  unfolding runSaid
+  run-found n e p = rw (e, true-prefix a l p)
+
+  -- a refused run is empty, and stands at the list's start
+  pub run-refused : accepts (runSaid s a l) ≡ false → (runOf s a l ≡ []) × (runAt s a l ≡ 0)
+  unfolding runOf runAt
+  run-refused e = rw e (refl, refl)
 
   module _ (start count : ℕ) (e : runSaid s a l ≡ accepted (start ∷ count ∷ [])) where
     ran : Ran s a l start count
@@ -132,7 +149,7 @@ module _ (s : List ℕ) (a l : ℕ) where
     ends = omega (arith, ran .starts, ran .counts, run-order (length s / 8) (ran .prefix .len-ok))
 
     pub run-room : start + count ≤ length s / 8
-    run-room = omega (arith, ends, place-le s (length s / 8) (keyOf (a + 2 ^ (32 - l)) 0))
+    run-room = omega (arith, ends, place-le s (length s / 8) (pastKey a l))
 
     -- every record before the run is smaller than the prefix, and every one from its start on is not
     pub run-before : (k : ℕ) → k < start → key (recordAt s k) < keyOf a l
@@ -145,7 +162,7 @@ module _ (s : List ℕ) (a l : ℕ) where
     pub run-exact : (k : ℕ) → k < length s / 8 → ((start ≤ k) × (k < start + count)) ↔ ((l ≤ recordAt s k .len) × (slot l (recordAt s k .addr) ≡ slot l a))
     run-exact k u =
         let f = ran .records .each k u .prefix in
-        let past = keyOf (a + 2 ^ (32 - l)) 0 in (
+        let past = pastKey a l in (
           (λ h. inside a l (ran .prefix) (recordAt s k .addr) (recordAt s k .len) f (run-after k (h .0) u) (place-before s (length s / 8) past k (rw ends at (h .1)))),
           (λ h.
               let w = contained a l (ran .prefix) (recordAt s k .addr) (recordAt s k .len) f (h .0) (h .1) in
@@ -182,7 +199,7 @@ module _ (s : List ℕ) (a l : ℕ) where
     unfolding saysRunCheck runSaid
     says-no-prefix h = rw (e, ← t, not-true b h)
 
-    pub says-run : (x y j k : ℕ) → not b ≡ false → x ≡ placeOf s n j → j ≡ keyOf a l → y ≡ placeOf s n k → k ≡ keyOf (a + 2 ^ (32 - l)) 0 → saysRunCheck (check.Run x (y - x)) ≡ runSaid s a l
+    pub says-run : (x y j k : ℕ) → not b ≡ false → x ≡ placeOf s n j → j ≡ keyOf a l → y ≡ placeOf s n k → k ≡ pastKey a l → saysRunCheck (check.Run x (y - x)) ≡ runSaid s a l
     unfolding saysRunCheck runSaid
     says-run x y j k h p q p′ q′ =
         let w = input-good s n e .0 in
@@ -199,21 +216,21 @@ module _ (s : List ℕ) (a l : ℕ) where
 
 -- what `run` hands back
 module _ (list r : RefT (List ℕ)) (a l : ℕ) where
-  pub is-run : (start count : ℕ) → runSaid (now list) a l ≡ accepted (start ∷ count ∷ []) → ptr r ≡ (ptr list .0, start * 8 + ptr list .1) → now r ≡ take (start * 8 + count * 8 - start * 8) (drop (start * 8) (now list)) → IsRun list r a l
+  pub is-run : (start count : ℕ) → runSaid (now list) a l ≡ accepted (start ∷ count ∷ []) → (x y : ℕ) → ptr r ≡ (ptr list .0, x + ptr list .1) → now r ≡ take (y - x) (drop x (now list)) → x ≡ start * 8 → y ≡ start * 8 + count * 8 → IsRun list r a l
   unfolding runAt
-  is-run start count e p q =
-      let n : start * 8 + count * 8 - start * 8 ≡ count * 8 = omega arith in
-      let o : start * 8 + ptr list .1 ≡ ptr list .1 + start * 8 = omega arith in
+  is-run start count e x y p q u v =
+      let n : y - x ≡ count * 8 = omega arith in
+      let o : x + ptr list .1 ≡ ptr list .1 + start * 8 = omega arith in
       record {
-        holds = rw (run-is (now list) a l start count e, ← n) q;
+        holds = rw (run-is (now list) a l start count e, ← n, ← u) q;
         stands = rw (e, ← run-accepted (now list) a l start count e .starts, ← o) p;
       }
 
   pub no-run : accepts (runSaid (now list) a l) ≡ false → ptr r ≡ (ptr list .0, 0 + ptr list .1) → now r ≡ [] → IsRun list r a l
-  unfolding runAt runOf
   no-run e p q =
+      let z = run-refused (now list) a l e in
       let o : ptr list .1 + 0 * 8 ≡ 0 + ptr list .1 = omega arith in
-      record { holds = rw e q; stands = rw (e, o) p }
+      record { holds = q ∙ sym (z .0); stands = rw (z .1, o) p }
 
 -- an answer is read back from what it says
 readRun : Said → RunCheck

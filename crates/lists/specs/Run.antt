@@ -16,12 +16,16 @@ use Rattle.lists.specs.declared.run.RunCheck.the-variants as check
 abbrev pub part : List ℕ → ℕ → ℕ → List ℕ
 part s j n = take (n * 8) (drop (j * 8) s)
 
+-- the key of the first address after a prefix: every record inside the prefix is before it, and every later one is not
+abbrev pub pastKey : ℕ → ℕ → ℕ
+pastKey a l = keyOf (a + 2 ^ (32 - l)) 0
+
 -- the first record that isn't smaller than the prefix, and the first that is after everything inside it
 abbrev pub runStart : List ℕ → ℕ → ℕ → ℕ
 runStart s a l = placeOf s (length s / 8) (keyOf a l)
 
 abbrev pub runEnd : List ℕ → ℕ → ℕ → ℕ
-runEnd s a l = placeOf s (length s / 8) (keyOf (a + 2 ^ (32 - l)) 0)
+runEnd s a l = placeOf s (length s / 8) (pastKey a l)
 
 abbrev pub runCount : List ℕ → ℕ → ℕ → ℕ
 runCount s a l = runEnd s a l - runStart s a l

@@ -4,14 +4,13 @@ use routes::input;
 use routes::input::Input;
 use routes::record;
 ghost use mathlib.Core.Path.{_≡_};
-ghost use Prim.Native.Nat.{_+_, _-_, _^_, _≤_};
-ghost use Rattle.routes.specs.Route.{keyOf};
-ghost use Rattle.lists.specs.Run.{runSaid, saysRunCheck, IsRun};
+ghost use Prim.Native.Nat.{_≤_};
+ghost use Rattle.lists.specs.Run.{pastKey, runSaid, saysRunCheck, IsRun};
 
 // The key of the first address after a prefix. Every record inside the prefix is before it, and every later one is not.
 fn past_key(addr: u32, len: u8) -> u64
     requires { ⌜ len ≤ 32 ⌝ }
-    ensures { λ r. ⌜ r ≡ keyOf (addr + 2 ^ (32 - len)) 0 ⌝ }
+    ensures { λ r. ⌜ r ≡ pastKey addr len ⌝ }
 {
     record::key_of(addr, 0) + (1u64 << (32 - record::wide(len))) * 256
 }

@@ -41,4 +41,4 @@ run-spec =
     (λ c. search needs)
     (λ c. search needs)
     (λ c. omega (arith, run-room _ _ _ _ _ (told c)))
-    (λ c. is-run _ _ _ _ _ _ (told (c .before)) refl refl))
+    (λ c. is-run _ _ _ _ _ _ (told (c .before)) _ _ refl refl (omega arith) (omega arith)))
