@@ -1,0 +1,4 @@
+// Lists of records: places, runs, tallies, and changes of one record.
+pub mod place;
+pub mod run;
+pub mod tally;
