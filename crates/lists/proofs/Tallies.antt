@@ -15,14 +15,13 @@ use Rattle.bits.specs.Count.{bit, count}
 use Rattle.bits.proofs.Tests.{decided, below?}
 use Rattle.bits.proofs.Tabs.{getD-tabulate, tabulate-ext, set-tabulate}
 use Rattle.routes.specs.Record.{recordAt, Records}
-use Rattle.routes.specs.Said.{accepted}
+use Rattle.routes.specs.Said.{accepted, accepts}
 use Rattle.routes.specs.Input.{inputSaid}
 use Rattle.routes.specs.Answers.{saysInput}
 use Rattle.routes.specs.declared.input.Input.{Input}
 use Rattle.routes.specs.declared.input.Input.the-variants as input
 use Rattle.routes.proofs.Meaning.{input-good}
 use Rattle.routes.proofs.Inputs.{told-good, input-injective}
-use Rattle.lists.specs.Run.{accepts}
 use Rattle.lists.specs.Tally.{hasLength, lengthsOf, tallyOf, IsTally, sumBelow}
 use Rattle.lists.specs.declared.tally.Tallied.{Tallied}
 

@@ -1,12 +1,12 @@
 -- The run under a prefix, and what the check beside it says. Assumes nothing.
 use Prim.Native.Nat.{ℕ, _+_, _-_, _*_, _/_, _^_}
 use mathlib.Core.Path.{_≡_}
-use mathlib.Core.Bool.{Bool, true, false, cond}
+use mathlib.Core.Bool.{cond}
 use mathlib.Core.List.{List, [], _∷_}
 use lib.ListN.{length, take, drop}
 use denote.Ref.{RefT, ptr, now}
 use Rattle.routes.specs.Route.{keyOf}
-use Rattle.routes.specs.Said.{Said, accepted, refused, refusedAt, andThen}
+use Rattle.routes.specs.Said.{Said, accepted, refused, refusedAt, andThen, accepts}
 use Rattle.routes.specs.Input.{properPrefix, inputSaid}
 use Rattle.lists.specs.Place.{placeOf}
 use Rattle.lists.specs.declared.run.RunCheck.{RunCheck}
@@ -40,11 +40,6 @@ saysRunCheck (check.Run start count) = accepted (start ∷ count ∷ [])
 saysRunCheck (check.Refused f k) = refusedAt f k
 saysRunCheck check.TooMany = refused 6
 saysRunCheck check.NoPrefix = refused 3
-
-abbrev pub accepts : Said → Bool
-accepts (accepted vs) = true
-accepts (refused n) = false
-accepts (refusedAt n k) = false
 
 -- the records of the run; none where it is refused
 unfoldable pub runOf : List ℕ → ℕ → ℕ → List ℕ

@@ -10,7 +10,7 @@ use Rattle.bits.specs.Count.{count}
 use Rattle.routes.specs.Record.{recordAt}
 use Rattle.routes.specs.Input.{inputSaid}
 use Rattle.routes.specs.Answers.{saysInput}
-use Rattle.lists.specs.Run.{accepts}
+use Rattle.routes.specs.Said.{accepts}
 use Rattle.lists.specs.declared.tally.Tallied.{Tallied}
 
 -- record k has the length l

@@ -4,8 +4,8 @@ use mathlib.Core.Logic.{⊎-elim}
 use mathlib.Core.List.{[], _∷_}
 use mathlib.Core.Bool.{false}
 use native.Mathlib.Omega.{arith}
-use Rattle.routes.specs.Said.{accepted}
-use Rattle.lists.specs.Run.{accepts, runSaid, saysRunCheck}
+use Rattle.routes.specs.Said.{accepted, accepts}
+use Rattle.lists.specs.Run.{runSaid, saysRunCheck}
 use Rattle.lists.specs.declared.run.RunCheck.{RunCheck}
 use Rattle.lists.specs.declared.run.RunCheck.the-variants.{Run, Refused, TooMany, NoPrefix}
 use Rattle.lists.proofs.Runs.{run-room, is-run, no-run}

@@ -4,7 +4,7 @@ use Rattle.routes.specs.Answers.{saysInput}
 use Rattle.routes.specs.declared.input.Input.{Input}
 use Rattle.routes.proofs.Meaning.{input-good}
 use Rattle.routes.proofs.Inputs.{told-good}
-use Rattle.lists.specs.Run.{accepts}
+use Rattle.routes.specs.Said.{accepts}
 use Rattle.lists.proofs.Tallies.{is-tally, no-tally}
 use borrow.Author.Needs.{needs}
 use Rattle.lists.proofs.tally.tally.Statement.{statement}
