@@ -16,7 +16,7 @@ use Rattle.routes.proofs.Rows.{length-routes, records-good, routes-written, wri
 use Rattle.lists.specs.Edit.{Insertable, inserted, removed, saysPut, countWith, countWithout, Holds}
 use Rattle.lists.specs.declared.edit.Put.{Put}
 use Rattle.lists.specs.declared.edit.Put.the-variants as put
-use Rattle.lists.proofs.EditRoutes.{insert-adds, remove-takes, remove-absent}
+use Rattle.routes.proofs.Changed.{insert-adds, remove-takes, remove-absent}
 
 pub insert-count : (r : Route) (rs : List Route) → Good rs → length (insert r rs) ≡ countWith (stands (key r) rs) (length rs)
 insert-count r rs good = go (decided (stands (key r) rs))

@@ -17,7 +17,8 @@ use Rattle.routes.proofs.Rows.{length-routes, nth-route, listed-written}
 use Rattle.lists.specs.Place.{placeOf}
 use Rattle.lists.specs.Edit.{InsertAt, ReplaceAt, RemoveAt, Placed, Insertable, edited, inserted, removed, inserting, removing}
 use Rattle.lists.proofs.Places.{place-le, place-before, place-after}
-use Rattle.lists.proofs.EditRoutes.{stands-some, stands-none, remove-absent}
+use Rattle.routes.proofs.Changed.{remove-absent}
+use Rattle.lists.proofs.EditRoutes.{stands-some, stands-none}
 
 module _ (s : List ℕ) (n k p : ℕ) (at : Placed s n k p) where
   before : (j : ℕ) → j < k → key (recordAt s j) < p

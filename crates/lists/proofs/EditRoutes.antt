@@ -15,6 +15,7 @@ use Rattle.routes.specs.Route.{key, any, Good}
 use Rattle.routes.specs.Standing.{isAt, stands, insert, remove}
 use Rattle.routes.specs.Record.{noRoute}
 use Rattle.routes.specs.declared.Route.{Route}
+use Rattle.routes.proofs.Changed.{remove-absent}
 use Rattle.routes.proofs.Standing.{insert-before, insert-same, insert-after}
 use Rattle.routes.proofs.Rows.{nth-listed, good-rises}
 
@@ -77,21 +78,6 @@ unfolding any
 stands-none p [] h = refl
 stands-none p (x ∷ xs) h = rw (ne-eqb (key x) p (h 0 (suc-le-suc zero-le))) (stands-none p xs (λ i u. h (suc i) (suc-le-suc u)))
 
--- a prefix that does not stand: with its route the list is longer by one, and there is nothing to take out
-pub insert-adds : (r : Route) (rs : List Route) → stands (key r) rs ≡ false → length (insert r rs) ≡ suc (length rs)
-unfolding insert any
-insert-adds r [] e = refl
-insert-adds r (x ∷ xs) e = let n = or-none (isAt (key r) x) (any (isAt (key r)) xs) e in rw (n .0) (go (ltb (key r) (key x)) (insert-adds r xs (n .1)))
-  where
-    go : (b : Bool) → length (insert r xs) ≡ suc (length xs) → length (cond b (r ∷ x ∷ xs) (x ∷ insert r xs)) ≡ suc (suc (length xs))
-    go true ih = refl
-    go false ih = ap suc ih
-
-pub remove-absent : (p : ℕ) (rs : List Route) → stands p rs ≡ false → remove p rs ≡ rs
-unfolding remove any
-remove-absent p [] e = refl
-remove-absent p (x ∷ xs) e = let n = or-none (isAt p x) (any (isAt p) xs) e in rw (n .0, remove-absent p xs (n .1))
-
 remove-append : (p : ℕ) (xs ys : List Route) → remove p (xs ++ ys) ≡ remove p xs ++ remove p ys
 unfolding remove
 remove-append p [] ys = refl
@@ -100,18 +86,6 @@ remove-append p (x ∷ xs) ys = go (isAt p x) (remove-append p xs ys)
     go : (b : Bool) → remove p (xs ++ ys) ≡ remove p xs ++ remove p ys → cond b (remove p (xs ++ ys)) (x ∷ remove p (xs ++ ys)) ≡ cond b (remove p xs) (x ∷ remove p xs) ++ remove p ys
     go true e = e
     go false e = rw e
-
--- with a route taken out, a good list is shorter by one
-pub remove-takes : (p : ℕ) (rs : List Route) → Good rs → stands p rs ≡ true → suc (length (remove p rs)) ≡ length rs
-unfolding remove any Good
-remove-takes p [] g e = absurd (false≢true e)
-remove-takes p (x ∷ xs) g e = go (decided (isAt p x)) (remove-takes p xs (g .2))
-  where
-    go : (isAt p x ≡ true) ⊎ (isAt p x ≡ false) → (stands p xs ≡ true → suc (length (remove p xs)) ≡ length xs) → suc (length (cond (isAt p x) (remove p xs) (x ∷ remove p xs))) ≡ suc (length xs)
-    go (inl q) ih =
-        let z = eqb-true (key x) p q in
-        rw (q, remove-absent p xs (stands-none p xs (λ i u y. omega (arith, g .1 (getD xs i noRoute) (nth-listed xs i u)))))
-    go (inr q) ih = rw q (ap suc (ih (rw q at e)))
 
 remove-head : (p : ℕ) (x : Route) (xs : List Route) → key x ≡ p → remove p (x ∷ xs) ≡ remove p xs
 unfolding remove
