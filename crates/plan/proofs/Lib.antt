@@ -1,0 +1,3 @@
+-- Painting in list order is right; and what joins the code to that.
+pub mod Plans
+pub mod Runs

@@ -1,0 +1,32 @@
+-- A part of lent cells beside its plan: what the soundness test asks of it. Assumes nothing.
+use mathlib.Core.Path.{_≡_}
+use mathlib.Core.Bool.{Bool, true, cond}
+use mathlib.Core.List.{List}
+use Prim.Native.Nat.{ℕ, _+_, _-_, _^_, _≤_, _<_}
+use lib.ListN.{length, getD}
+use Rattle.bits.specs.Tab.{tabulate}
+use Rattle.routes.specs.Route.{Fine}
+use Rattle.chain.specs.Words.{routeOf, Words}
+
+-- v is the number, from 1, of a chunk whose owner number is o
+pub record Names (v : ℕ) (own : List ℕ) (o : ℕ) : Type 0 where
+  pub one : 1 ≤ v
+  pub few : v ≤ length own
+  pub back : getD own (v - 1) 0 ≡ o
+
+-- each cell that passes the test names a chunk that names it back: cell j has the owner number o + j
+pub record Named (f : ℕ → Bool) (part own : List ℕ) (o n : ℕ) : Type 0 where
+  pub each : (j : ℕ) → j < n → f j ≡ true → Names (getD part j 0) own (o + j)
+
+-- the plan, with what the part holds wherever the test passes
+unfoldable pub settled : (ℕ → Bool) → List ℕ → List ℕ → List ℕ
+settled f part want = tabulate (length want) (λ j. cond (f j) (getD part j 0) (getD want j 0))
+
+-- a part beside its plan: where the plan is 0 the cell names a chunk that names it back, and elsewhere it is as planned
+pub record Matches (part : List ℕ) (o : ℕ) (want own : List ℕ) : Type 0 where
+  pub leaf : (j : ℕ) → j < length want → (getD want j 0 ≡ 0 → ⊥) → getD part j 0 ≡ getD want j 0
+  pub node : (j : ℕ) → j < length want → getD want j 0 ≡ 0 → Names (getD part j 0) own (o + j)
+
+-- every cell is 0
+pub record Zero (part : List ℕ) : Type 0 where
+  pub each : (j : ℕ) → j < length part → getD part j 0 ≡ 0

@@ -1,0 +1,1 @@
+// Blocks of cells, painted route by route, and compared with what is lent.
