@@ -1,3 +1,4 @@
 -- Painting in list order is right; and what joins the code to that.
 pub mod Plans
 pub mod Runs
+pub mod Wordlists
