@@ -2,3 +2,5 @@
 pub mod Plans
 pub mod Runs
 pub mod Wordlists
+pub mod Fills
+pub mod Ranges

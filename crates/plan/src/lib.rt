@@ -1,1 +1,2 @@
-// Blocks of cells, painted route by route, and compared with what is lent.
+// Blocks of cells: planned by painting routes in list order, and a lent part of cells judged beside its plan.
+pub mod paint;
