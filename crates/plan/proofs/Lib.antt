@@ -4,3 +4,5 @@ pub mod Runs
 pub mod Wordlists
 pub mod Fills
 pub mod Ranges
+pub mod Tells
+pub mod Settles

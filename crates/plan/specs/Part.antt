@@ -2,11 +2,10 @@
 use mathlib.Core.Path.{_≡_}
 use mathlib.Core.Bool.{Bool, true, cond}
 use mathlib.Core.List.{List}
-use Prim.Native.Nat.{ℕ, _+_, _-_, _^_, _≤_, _<_}
+use Prim.Native.Nat.{ℕ, _+_, _-_, _≤_, _<_}
 use lib.ListN.{length, getD}
-use Rattle.bits.specs.Tab.{tabulate}
-use Rattle.routes.specs.Route.{Fine}
-use Rattle.chain.specs.Words.{routeOf, Words}
+use Rattle.bits.specs.Tab.{Tells, tabulate}
+use Rattle.plan.specs.Paint.{Plans}
 
 -- v is the number, from 1, of a chunk whose owner number is o
 pub record Names (v : ℕ) (own : List ℕ) (o : ℕ) : Type 0 where
@@ -22,6 +21,11 @@ pub record Named (f : ℕ → Bool) (part own : List ℕ) (o n : ℕ) : Type 0 w
 unfoldable pub settled : (ℕ → Bool) → List ℕ → List ℕ → List ℕ
 settled f part want = tabulate (length want) (λ j. cond (f j) (getD part j 0) (getD want j 0))
 
+-- one settling of a plan, and its answer: each cell that passes the test has become what the part holds, and names back
+pub record Settled (f : ℕ → Bool) (part own : List ℕ) (o : ℕ) (before after : List ℕ) (answer : Bool) : Type 0 where
+  pub becomes : after ≡ settled f part before
+  pub told : Tells answer (Named f part own o (length before))
+
 -- a part beside its plan: where the plan is 0 the cell names a chunk that names it back, and elsewhere it is as planned
 pub record Matches (part : List ℕ) (o : ℕ) (want own : List ℕ) : Type 0 where
   pub leaf : (j : ℕ) → j < length want → (getD want j 0 ≡ 0 → ⊥) → getD part j 0 ≡ getD want j 0
@@ -30,3 +34,14 @@ pub record Matches (part : List ℕ) (o : ℕ) (want own : List ℕ) : Type 0 wh
 -- every cell is 0
 pub record Zero (part : List ℕ) : Type 0 where
   pub each : (j : ℕ) → j < length part → getD part j 0 ≡ 0
+
+-- a part and the room for its plan, at a level, with owner numbers of 32 bits from o on
+pub record Beside (p o : ℕ) (part want : List ℕ) : Type 0 where
+  pub deep : p ≤ 32
+  pub same : length part ≡ length want
+  pub few : o + length want ≤ 4294967296
+
+-- the same with words of fine routes in order, and a hop of 15 bits
+pub record Judges (run : List ℕ) (h p o : ℕ) (part want : List ℕ) : Type 0 where
+  pub plans : Plans run h p
+  pub beside : Beside p o part want
