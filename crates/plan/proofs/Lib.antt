@@ -6,3 +6,4 @@ pub mod Fills
 pub mod Ranges
 pub mod Tells
 pub mod Settles
+pub mod Rights

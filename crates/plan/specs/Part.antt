@@ -1,10 +1,12 @@
 -- A part of lent cells beside its plan: what the soundness test asks of it. Assumes nothing.
 use mathlib.Core.Path.{_≡_}
-use mathlib.Core.Bool.{Bool, true, cond}
+use mathlib.Core.Bool.{Bool, true, false, cond}
 use mathlib.Core.List.{List}
 use Prim.Native.Nat.{ℕ, _+_, _-_, _≤_, _<_}
 use lib.ListN.{length, getD}
 use Rattle.bits.specs.Tab.{Tells, tabulate}
+use Rattle.routes.specs.Route.{long, best}
+use Rattle.routes.specs.declared.Route.{Route}
 use Rattle.plan.specs.Paint.{Plans}
 
 -- v is the number, from 1, of a chunk whose owner number is o
@@ -30,6 +32,12 @@ pub record Settled (f : ℕ → Bool) (part own : List ℕ) (o : ℕ) (before af
 pub record Matches (part : List ℕ) (o : ℕ) (want own : List ℕ) : Type 0 where
   pub leaf : (j : ℕ) → j < length want → (getD want j 0 ≡ 0 → ⊥) → getD part j 0 ≡ getD want j 0
   pub node : (j : ℕ) → j < length want → getD want j 0 ≡ 0 → Names (getD part j 0) own (o + j)
+
+-- a part as the routes ask: its n cells stand for the cells of level p from base on. One that is not long is a leaf with the hop of the
+-- longest route that covers it; one that is long names a chunk that names it back
+pub record Right (rs : List Route) (p base : ℕ) (part own : List ℕ) (o n : ℕ) : Type 0 where
+  pub leaf : (j : ℕ) → j < n → long rs p (base + j) ≡ false → getD part j 0 ≡ 32768 + best rs p (base + j)
+  pub node : (j : ℕ) → j < n → long rs p (base + j) ≡ true → Names (getD part j 0) own (o + j)
 
 -- every cell is 0
 pub record Zero (part : List ℕ) : Type 0 where
