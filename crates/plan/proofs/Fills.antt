@@ -8,7 +8,7 @@ use native.Mathlib.Omega.{arith}
 use lib.Dec.{leb, ltb, eqb}
 use lib.ListN.{length, getD, set}
 use borrow.Author.Tests.{lt-ltb, le-ltb, le-leb, lt-leb, eq-eqb, ne-eqb}
-use Rattle.bits.proofs.Tabs.{length-tabulate, tabulate-ext, is-tabulate, set-tabulate}
+use Rattle.bits.proofs.Tabs.{tabulate-ext, is-tabulate, set-tabulate}
 use Rattle.plan.specs.Paint.{between, filled}
 
 -- the test of a range
@@ -55,10 +55,6 @@ more from i j v x h = go (place from i j) (decLe j i)
     go (inside a b) d = rw (ne-eqb j i (omega arith), between-in from i j a b, between-in from (i + 1) j a (omega arith))
     go (above a b) (yes d) = rw (eq-eqb j i (omega arith), between-in from (i + 1) j a (omega arith))
     go (above a b) (no d) = rw (ne-eqb j i (omega arith), between-above from i j b, between-above from (i + 1) j (omega arith))
-
-pub length-filled : (l : List ℕ) (from to v : ℕ) → length (filled l from to v) ≡ length l
-unfolding filled
-length-filled l from to v = length-tabulate (length l) _
 
 pub filled-none : (l : List ℕ) (from v : ℕ) → l ≡ filled l from from v
 unfolding filled

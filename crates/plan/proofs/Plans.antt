@@ -2,7 +2,7 @@
 use mathlib.Core.Path.{_≡_, refl, sym, ap, _∙_}
 use mathlib.Core.Bool.{Bool, true, false, cond, _||_, or-true, or-false, true≢false}
 use mathlib.Core.List.{List, [], _∷_, _++_, List·Memᴰ, List·Memᴰ·head, List·Memᴰ·tail}
-use Prim.Native.Nat.{ℕ, _+_, _-_, _*_, _/_, _^_, _≤_, _<_}
+use Prim.Native.Nat.{ℕ, _+_, _-_, _/_, _^_, _<_}
 use native.Mathlib.Omega.{arith}
 use lib.Dec.{eqb, ltb}
 use borrow.Author.Tests.{ltb-true, eqb-true}
@@ -10,7 +10,7 @@ use Rattle.bits.specs.Slot.{slot}
 use Rattle.bits.proofs.Slots.{slot-up, cut-le, cut-slot}
 use Rattle.bits.proofs.Tabs.{tabulate-ext}
 use Rattle.bits.proofs.Tests.{and-split, untrue}
-use Rattle.routes.specs.Route.{covers, within, any, long, best, lastHop, key, Fine, Good}
+use Rattle.routes.specs.Route.{covers, within, any, long, lastHop, key, Fine, Good}
 use Rattle.routes.specs.declared.Route.{Route}
 use Rattle.routes.proofs.Goods.{good-fine}
 use Rattle.routes.proofs.Longest.{cover-parts}

@@ -3,14 +3,14 @@ use mathlib.Core.Path.{_≡_, refl, sym, ap, subst, _∙_}
 use mathlib.Core.Logic.{_⊎_, inl, inr}
 use mathlib.Core.Bool.{Bool, true, false, cond, not, _||_, or-true, false≢true}
 use mathlib.Core.List.{List, map-append}
-use Prim.Native.Nat.{ℕ, suc, _+_, _-_, _/_, _%_, _^_, _<_, _≤_}
+use Prim.Native.Nat.{ℕ, _+_, _-_, _/_, _%_, _^_, _<_, _≤_}
 use native.Mathlib.Numerals.{add-one}
 use native.Mathlib.Omega.{arith}
-use lib.Dec.{eqb, ltb}
+use lib.Dec.{eqb}
 use lib.ListN.{length, getD, set, take}
 use lib.Seq.{take-suc, take-all, ext-getD}
 use borrow.Author.Tests.{not-true, not-false, eq-eqb, ne-eqb, eqb-true, lt-ltb, le-ltb}
-use Rattle.bits.specs.Tab.{Tells, tabulate}
+use Rattle.bits.specs.Tab.{Tells}
 use Rattle.bits.proofs.Tabs.{length-tabulate, getD-tabulate, tabulate-ext, is-tabulate, set-tabulate}
 use Rattle.bits.proofs.Tests.{decided, or-split}
 use Rattle.routes.specs.Route.{within, any, long, covers, lastHop}

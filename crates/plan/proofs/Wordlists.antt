@@ -1,10 +1,10 @@
 -- Words of fine routes in order: a part of them is one too, their routes are a good list, and those under a cell are one run.
 -- Assumes nothing.
-use mathlib.Core.Path.{_≡_, refl, sym, ap, _∙_}
+use mathlib.Core.Path.{_≡_, refl, ap, _∙_}
 use mathlib.Core.Logic.{_⊎_, inl, inr}
 use mathlib.Core.Bool.{true, false}
 use mathlib.Core.List.{List, [], _∷_, List·Memᴰ, List·Memᴰ·cases-cons, List·Memᴰ·not-nil}
-use Prim.Native.Nat.{ℕ, zero, suc, _+_, _-_, _*_, _/_, _%_, _^_, _≤_, _<_, suc-le-suc, zero-le}
+use Prim.Native.Nat.{ℕ, zero, suc, _+_, _-_, _*_, _/_, _^_, _≤_, _<_, suc-le-suc, zero-le}
 use native.Mathlib.Nat.{not-suc-le-zero, add-suc, div-mul-le-self}
 use native.Mathlib.Decide.{decLt}
 use native.Mathlib.Omega.{arith}
@@ -17,7 +17,7 @@ use Rattle.bits.specs.Slot.{slot}
 use Rattle.bits.proofs.Slots.{cut-more, cut-is}
 use Rattle.bits.proofs.Tabs.{tabulate-ext}
 use Rattle.bits.proofs.Tests.{both, untrue}
-use Rattle.routes.specs.Route.{within, best, key, Fine, Good}
+use Rattle.routes.specs.Route.{within, best, key, Good}
 use Rattle.routes.specs.declared.Route.{Route}
 use Rattle.chain.specs.Words.{routeOf, keyIn, routesIn, Words}
 use Rattle.plan.specs.Plan.{plan, planned, planFrom, plannedFrom}

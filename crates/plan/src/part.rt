@@ -2,7 +2,6 @@
 // route: their plan becomes what they hold, and each must name a chunk that names it back. One plain comparison of the
 // whole part then does the rest. Loops over cells have no early end, so that they can be done many cells at a time.
 ghost use mathlib.Core.Path.{_≡_};
-ghost use mathlib.Core.List.{List};
 ghost use Prim.Native.Nat.{_+_, _<_};
 ghost use lib.ListN.{length};
 ghost use Rattle.bits.specs.Tab.{Tells};
