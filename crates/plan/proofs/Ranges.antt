@@ -104,6 +104,13 @@ span-more p l h =
     let e = shl-one 64 (p - l) (omega arith) in
     (e, omega (arith, e, pow-mono k))
 
+-- its choice of what a route leaves
+pub ink-long : (p l v : ℕ) → p < l → 0 ≡ cond (ltb p l) 0 v
+ink-long p l v h = rw (lt-ltb p l h)
+
+pub ink-leaf : (p l v : ℕ) → l ≤ p → v ≡ cond (ltb p l) 0 v
+ink-leaf p l v h = rw (le-ltb p l h)
+
 -- no route: every cell is inherited
 pub words-none : (h : ℕ) (l ws : List ℕ) (p base : ℕ) → filled l 0 (length l) (32768 + h) ≡ plannedFrom h (routesIn (take 0 ws)) p base (length l)
 unfolding filled plannedFrom planFrom any lastHop
