@@ -18,11 +18,11 @@ use Rattle.bits.proofs.Tabs.{length-tabulate, getD-tabulate, tabulate-ext}
 use Rattle.routes.specs.Route.{covers, within, any, lastHop, Fine, Good}
 use Rattle.routes.specs.declared.Route.{Route}
 use Rattle.chain.specs.Words.{routeOf, routesIn, Words}
+use Rattle.chain.proofs.Decodes.{words-part, words-good}
 use Rattle.plan.specs.Plan.{planFrom, plannedFrom}
 use Rattle.plan.specs.Paint.{between, filled, paintCell, painted, Paints}
 use Rattle.plan.proofs.Fills.{Place, below, inside, above, place, between-in, between-below, between-above}
 use Rattle.plan.proofs.Plans.{plan-snoc}
-use Rattle.plan.proofs.Wordlists.{words-part, words-good}
 
 -- c / 2 ^ k is q where c is one of the 2 ^ k numbers from q * 2 ^ k on
 eqb-div : (q k c : ℕ) → eqb q (c / 2 ^ k) ≡ between (q * 2 ^ k) (q * 2 ^ k + 2 ^ k) c

@@ -2,23 +2,27 @@
 use mathlib.Core.Path.{_≡_, refl, sym, ap, _∙_}
 use mathlib.Core.Bool.{Bool, true, false, cond, true≢false}
 use mathlib.Core.List.{List, [], _∷_, List·Memᴰ, List·Memᴰ·head, List·Memᴰ·tail}
-use Prim.Native.Nat.{ℕ, zero, suc, _+_, _-_, _/_, _^_, _≤_, _<_}
+use Prim.Native.Nat.{ℕ, zero, suc, _+_, _-_, _*_, _/_, _^_, _≤_, _<_}
 use native.Mathlib.Nat.{not-suc-le-zero}
 use native.Mathlib.Decide.{decLe}
 use native.Mathlib.Omega.{arith}
 use lib.Dec.{eqb}
-use lib.ListN.{length, getD, take, drop}
+use lib.ListN.{length, getD, take, drop, length-map, List·getD-map}
 use lib.Seq.{take-nil, drop-nil}
-use lib.Pow.{shr-shr}
+use lib.Pow.{shr-shr, high}
 use borrow.Author.Tests.{le-leb, lt-leb, lt-ltb, eq-eqb}
 use Rattle.bits.specs.Slot.{slot}
 use Rattle.bits.proofs.Slots.{slot-up}
+use Rattle.bits.proofs.Tabs.{tabulate-ext}
 use Rattle.bits.proofs.Tests.{both, untrue}
 use Rattle.routes.specs.Route.{covers, within, any, long, best, lastHop, key, Fine, Good}
 use Rattle.routes.specs.Record.{noRoute}
 use Rattle.routes.specs.declared.Route.{Route}
 use Rattle.routes.proofs.Paint.{slot-cover, best-last}
-use Rattle.plan.specs.Plan.{plan, planFrom}
+use Rattle.chain.specs.Words.{routeOf, routesIn, Words}
+use Rattle.chain.specs.Place.{Run}
+use Rattle.chain.proofs.Decodes.{words-good}
+use Rattle.plan.specs.Plan.{plan, planned, planFrom, plannedFrom}
 use Rattle.plan.specs.Run.{under}
 use Rattle.plan.proofs.Plans.{within-parts, none-after}
 
@@ -92,7 +96,7 @@ unfolding planFrom plan
 plan-under rs l p i c g h hp e = rw (← e, ← best-last rs l (c / 2 ^ (p - l)) g, ← last-under l p c h hp rs 0 g, best-last rs p c g, ← long-under l p c h hp rs)
 
 -- the routes under a cell, where they are exactly those from lo on, n of them
-pub under-run : (l i : ℕ) (rs : List Route) (lo n : ℕ)
+under-run : (l i : ℕ) (rs : List Route) (lo n : ℕ)
     → ((j : ℕ) → j < lo → j < length rs → within l i (getD rs j noRoute) ≡ false)
     → ((j : ℕ) → lo ≤ j → j < lo + n → j < length rs → within l i (getD rs j noRoute) ≡ true)
     → ((j : ℕ) → lo + n ≤ j → j < length rs → within l i (getD rs j noRoute) ≡ false)
@@ -108,3 +112,36 @@ under-run l i (r ∷ rs) zero (suc n) f g h =
 under-run l i (r ∷ rs) zero zero f g h =
     let e : within l i r ≡ false = h zero (omega arith) (omega arith) in
     rw e (under-run l i rs zero zero (λ j a b. absurd (not-suc-le-zero a)) (λ j a b c. absurd (omega arith)) (λ j a b. h (suc j) (omega arith) (omega arith)))
+
+map-drop : (n : ℕ) (ws : List ℕ) → drop n (routesIn ws) ≡ routesIn (drop n ws)
+map-drop zero ws = refl
+map-drop (suc n) [] = refl
+map-drop (suc n) (x ∷ ws) = map-drop n ws
+
+map-take : (n : ℕ) (ws : List ℕ) → take n (routesIn ws) ≡ routesIn (take n ws)
+map-take zero ws = refl
+map-take (suc n) [] = refl
+map-take (suc n) (x ∷ ws) = ap {B = List Route} (λ t. routeOf x ∷ t) (map-take n ws)
+
+module _ (ws : List ℕ) (good : Words ws) (l i lo hi : ℕ) (run : Run ws l i lo hi) where
+  -- the routes under the cell are those of the run of words
+  pub words-under : under l i (routesIn ws) ≡ routesIn (take (hi - lo) (drop lo ws))
+  words-under =
+      let q = run .from in
+      under-run l i (routesIn ws) lo (hi - lo)
+      (λ j a b. rw (List·getD-map routeOf ws j 0) (run .before j a))
+      (λ j a b c. rw (List·getD-map routeOf ws j 0) (run .inside j a (omega arith)))
+      (λ j a b. rw (List·getD-map routeOf ws j 0) (run .past j (omega arith) (rw length-map at b)))
+      ∙ rw (map-drop, map-take)
+
+  module _ (h p : ℕ) (lp : l ≤ p) (hp : p ≤ 32) (inherited : h ≡ best (routesIn ws) l i) where
+    -- a cell of level p in cell i, from the run and the hop of cell i
+    pub plan-run : (c : ℕ) → c / 2 ^ (p - l) ≡ i → planFrom h (routesIn (take (hi - lo) (drop lo ws))) p c ≡ plan (routesIn ws) p c
+    plan-run c e = rw (← words-under, inherited) (plan-under (routesIn ws) l p i c (words-good ws good) lp hp e)
+
+    -- and a block of them
+    pub planned-run : (base n : ℕ) → i * 2 ^ (p - l) ≤ base → base + n ≤ i * 2 ^ (p - l) + 2 ^ (p - l)
+        → plannedFrom h (routesIn (take (hi - lo) (drop lo ws))) p base n ≡ planned (routesIn ws) p base n
+    unfolding plannedFrom planned
+    planned-run base n a b = tabulate-ext n _ _ (λ k v. plan-run (base + k)
+        (ap (λ (x : ℕ). x / 2 ^ (p - l)) (omega arith) ∙ high i (p - l) {lo = base + k - i * 2 ^ (p - l)} (omega arith)))
