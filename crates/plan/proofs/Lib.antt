@@ -6,3 +6,4 @@ pub mod Ranges
 pub mod Tells
 pub mod Settles
 pub mod Rights
+pub mod Unders

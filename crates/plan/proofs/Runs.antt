@@ -23,7 +23,7 @@ use Rattle.chain.specs.Words.{routeOf, routesIn, Words}
 use Rattle.chain.specs.Place.{Run}
 use Rattle.chain.proofs.Decodes.{words-good}
 use Rattle.plan.specs.Plan.{plan, planned, planFrom, plannedFrom}
-use Rattle.plan.specs.Run.{under}
+use Rattle.plan.specs.Under.{under}
 use Rattle.plan.proofs.Plans.{within-parts, none-after}
 
 -- after a route within a cell, the hop stays

@@ -9,7 +9,7 @@ ghost use Rattle.routes.specs.Route.{within, long};
 ghost use Rattle.chain.specs.Words.{routeOf, routesIn};
 ghost use Rattle.plan.specs.Plan.{plannedFrom};
 ghost use Rattle.plan.specs.Part.{Names, Settled, Matches, Zero, Beside, Judges};
-use crate::paint::plan_words;
+use super::paint::plan_words;
 
 fn wide(x: u16) -> usize
     ensures { λ r. ⌜ (r ≡ x) × (r < 65536) ⌝ }
