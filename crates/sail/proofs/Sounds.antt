@@ -1,7 +1,7 @@
 -- What soundness gives: the answers of lookup, the chunks in use, and the leaves. Assumes nothing.
 use mathlib.Core.Path.{_≡_, refl, sym, _∙_, ap}
 use mathlib.Core.Logic.{_⊎_, inl, inr}
-use mathlib.Core.Bool.{Bool, true, false, cond, true≢false}
+use mathlib.Core.Bool.{Bool, true, false, cond}
 use mathlib.Core.List.{List, [], _∷_, List·Memᴰ}
 use Prim.Native.Nat.{ℕ, _+_, _-_, _*_, _^_, _≤_, _<_}
 use native.Mathlib.Omega.{arith}
@@ -12,12 +12,11 @@ use borrow.Author.Tests.{le-leb, eq-eqb, eqb-true}
 use Rattle.bits.specs.Slot.{slot}
 use Rattle.bits.specs.Count.{bit}
 use Rattle.bits.proofs.Tests.{both, decided}
-use Rattle.routes.specs.Route.{covers, long, best, need, Best, Good}
+use Rattle.routes.specs.Route.{covers, long, best, need, Good}
 use Rattle.routes.specs.Record.{routesOf}
 use Rattle.routes.specs.Said.{accepted}
 use Rattle.routes.specs.declared.Route.{Route}
-use Rattle.routes.proofs.Goods.{good-fine}
-use Rattle.routes.proofs.Longest.{best-is}
+use Rattle.routes.proofs.Only.{none-covers, covers-none}
 use Rattle.routes.proofs.Rows.{records-good}
 use Rattle.sail.specs.Geometry.{bits2, bits3}
 use Rattle.sail.specs.Lent.{Lent}
@@ -29,18 +28,6 @@ use Rattle.sail.specs.declared.geometry.Geometry.{Geometry}
 use Rattle.sail.specs.declared.table.Table.{Table}
 use Rattle.sail.proofs.Fitting.{none-is}
 use Rattle.sail.proofs.Walks.{walk-best, last-best, second-read, third-read, used2-need, used3-need}
-
--- of a good list: there is no best hop exactly where no route covers
-pub no-route : (rs : List Route) (p i : ℕ) → Good rs → (best rs p i ≡ 0 → (r : Route) → List·Memᴰ r rs → covers p i r ≡ false) × (((r : Route) → List·Memᴰ r rs → covers p i r ≡ false) → best rs p i ≡ 0)
-no-route rs p i g = ((λ e. none e (best-is rs p i)), (λ h. zero h (best-is rs p i)))
-  where
-    none : {h : ℕ} → h ≡ 0 → Best rs p i h → (r : Route) → List·Memᴰ r rs → covers p i r ≡ false
-    none e (Best.none z n) = n
-    none e (Best.one w) = absurd (omega (arith, e, w .its-hop, good-fine rs g (w .route) (w .listed) .hop-one))
-
-    zero : {h : ℕ} → ((r : Route) → List·Memᴰ r rs → covers p i r ≡ false) → Best rs p i h → h ≡ 0
-    zero h (Best.none z n) = z
-    zero h (Best.one w) = absurd (true≢false (sym (w .covering) ∙ h (w .route) (w .listed)))
 
 -- an answer of no hop
 hop-none : (n h : ℕ) → hopSaid n h ≡ accepted (n ∷ []) → h ≡ 0
@@ -96,8 +83,8 @@ module _ (t : Table) (l : Lent) (s : Sound t l) where
       → (lookupSaid t l a ≡ accepted (cellsRead g rs a ∷ []) → (r : Route) → List·Memᴰ r rs → covers 32 a r ≡ false)
       × (((r : Route) → List·Memᴰ r rs → covers 32 a r ≡ false) → lookupSaid t l a ≡ accepted (cellsRead g rs a ∷ []))
   sail-no-route a h = (
-    (λ e. no-route rs 32 a standing-good .0 (hop-none (cellsRead g rs a) (best rs 32 a) (sym (sail-serves a h) ∙ e))),
-    (λ n. sail-serves a h ∙ ap (hopSaid (cellsRead g rs a)) (no-route rs 32 a standing-good .1 n) ∙ none-hop (cellsRead g rs a)),
+    (λ e. none-covers rs standing-good 32 a (hop-none (cellsRead g rs a) (best rs 32 a) (sym (sail-serves a h) ∙ e))),
+    (λ n. sail-serves a h ∙ ap (hopSaid (cellsRead g rs a)) (covers-none rs standing-good 32 a n) ∙ none-hop (cellsRead g rs a)),
   )
 
   -- the count is 1, 2 or 3
