@@ -1,0 +1,3 @@
+-- Laws of the text.
+pub mod Digits
+pub mod Writes
