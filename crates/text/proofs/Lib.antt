@@ -1,3 +1,4 @@
 -- Laws of the text.
 pub mod Digits
 pub mod Writes
+pub mod Numbers

@@ -6,8 +6,8 @@ use Prim.Native.Nat.{ℕ, suc, _+_, _≤_, _<_}
 use native.Mathlib.Nat.{add-assoc, le-of-lt}
 use native.Mathlib.Numerals.{add-one}
 use native.Mathlib.Omega.{arith}
-use lib.ListN.{length, take, drop, set, length-set, length-append, length-drop, length-take, take-append-drop, drop-of-length-le}
-use lib.Seq.{length-take-le, take-all, take-at, drop-at, drop-drop, drop-append-le, sets-eq}
+use lib.ListN.{length, getD, take, drop, set, length-set, length-append, length-drop, length-take, take-append-drop, drop-of-length-le}
+use lib.Seq.{length-take-le, take-all, take-suc, take-at, drop-at, drop-drop, drop-append-le, sets-eq}
 use Rattle.bits.proofs.Tests.{below?}
 use Rattle.text.specs.Wrote.{spelled, Room, Wrote}
 
@@ -60,6 +60,23 @@ module _ {o : List ℕ} {at : ℕ} where
 
   pub wrote-more : {s t : List ℕ} {m n : ℕ} {o₁ o₂ : List ℕ} → Wrote o at s m o₁ → Wrote o₁ m t n o₂ → Wrote o at (s ++ t) n o₂
   wrote-more {s} {t} u v = record { ends = rw length-append (omega (arith, u .ends, v .ends)); inside = v .inside; holds = cc (spelled-more o at s t) }
+
+  -- room for two texts is room for each
+  pub room-first : (s t : List ℕ) → Room o at (s ++ t) → Room o at s
+  room-first s t r = record { room = omega (arith, simp length-append at (r .room)) }
+
+  pub room-then : (s t : List ℕ) {m : ℕ} {o₁ : List ℕ} → Room o at (s ++ t) → Wrote o at s m o₁ → Room o₁ m t
+  room-then s t r w =
+      let l = rw length-append at (r .room) in
+      let k = ap length (w .holds) ∙ length-spelled o at s (omega arith) in
+      record { room = omega (arith, w .ends) }
+
+  -- words that are written byte by byte
+  pub wrote-next : (w : List ℕ) (i : ℕ) {m n : ℕ} {o₁ o₂ : List ℕ} → i < length w → Wrote o at (take i w) m o₁ → Wrote o₁ m (getD w i 0 ∷ []) n o₂ → Wrote o at (take (i + 1) w) n o₂
+  wrote-next w i h u v = rw (add-one i, take-suc w i 0 h) (wrote-more u v)
+
+  pub wrote-all : (w : List ℕ) (i : ℕ) {m : ℕ} {o₁ : List ℕ} → length w ≤ i → Wrote o at (take i w) m o₁ → Wrote o at w m o₁
+  wrote-all w i h u = rw (take-all i w h) at u
 
 -- what is written from the start of a buffer is what stands before the place that is answered
 pub wrote-front : {o t o₁ : List ℕ} {n : ℕ} → Wrote o 0 t n o₁ → take n o₁ ≡ t

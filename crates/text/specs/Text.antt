@@ -13,17 +13,17 @@ unfoldable pub ascii : String → List ℕ
 ascii none = []
 ascii (more c s) = code c ∷ ascii s
 
+-- words, and then a number
+unfoldable pub labelled : String → ℕ → List ℕ
+labelled words n = ascii words ++ digitsOf n
+
 -- an address: its four bytes, with points between them
 unfoldable pub dotted : ℕ → List ℕ
-dotted a =
-    digitsOf (a / 16777216)
-    ++ ascii "." ++ digitsOf (a / 65536 % 256)
-    ++ ascii "." ++ digitsOf (a / 256 % 256)
-    ++ ascii "." ++ digitsOf (a % 256)
+dotted a = digitsOf (a / 16777216) ++ labelled "." (a / 65536 % 256) ++ labelled "." (a / 256 % 256) ++ labelled "." (a % 256)
 
 -- a route's line: prefix and hop
 unfoldable pub routeLine : Route → List ℕ
-routeLine r = dotted (r .addr) ++ ascii "/" ++ digitsOf (r .len) ++ ascii " " ++ digitsOf (r .hop) ++ ascii "\n"
+routeLine r = dotted (r .addr) ++ labelled "/" (r .len) ++ labelled " " (r .hop) ++ ascii "\n"
 
 -- a line for each route, in the order of the list
 unfoldable pub routeLines : List Route → List ℕ
@@ -32,14 +32,13 @@ routeLines (r ∷ rs) = routeLine r ++ routeLines rs
 
 -- the first line: the route count and both needs
 unfoldable pub headLine : ℕ → ℕ → ℕ → List ℕ
-headLine n second third =
-    ascii "routes " ++ digitsOf n ++ ascii " second " ++ digitsOf second ++ ascii " third " ++ digitsOf third ++ ascii "\n"
+headLine n second third = labelled "routes " n ++ labelled " second " second ++ labelled " third " third ++ ascii "\n"
 
 unfoldable pub tableText : List Route → ℕ → ℕ → List ℕ
 tableText rs second third = headLine (length rs) second third ++ routeLines rs
 
--- a refusal's one line: its number, and the index of the record where it carries one. What is accepted has no such line
+-- a refusal's one line: its number, and the index of a record where it carries one. What is accepted has no such line
 unfoldable pub saidText : Said → List ℕ
 saidText (accepted vs) = []
-saidText (refused n) = ascii "refused " ++ digitsOf n ++ ascii "\n"
-saidText (refusedAt n k) = ascii "refused " ++ digitsOf n ++ ascii " at " ++ digitsOf k ++ ascii "\n"
+saidText (refused n) = labelled "refused " n ++ ascii "\n"
+saidText (refusedAt n k) = labelled "refused " n ++ labelled " at " k ++ ascii "\n"

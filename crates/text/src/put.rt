@@ -1,6 +1,6 @@
 // Bytes, words and numbers.
 ghost use mathlib.Core.Path.{_≡_};
-ghost use mathlib.Core.List.{_∷_, []};
+ghost use mathlib.Core.List.{_∷_, [], _++_};
 ghost use Prim.Native.Nat.{_+_, _<_};
 ghost use Rattle.text.specs.Digits.{digitsOf};
 ghost use Rattle.text.specs.Wrote.{Room, Wrote};
@@ -46,4 +46,13 @@ pub fn put_number(out: &mut [u8], at: usize, n: u64) -> usize
     }
     let next = put_number(out, at, n / 10);
     put_byte(out, next, digit(n % 10))
+}
+
+// Words, and then a number.
+pub fn put_labelled(out: &mut [u8], at: usize, words: &[u8], n: u64) -> usize
+    requires { ⌜ Room (now out) at (now words ++ digitsOf n) ⌝ }
+    ensures { λ r. ⌜ Wrote (now (out .entry)) at (now (words .entry) ++ digitsOf n) r (now (out .exit)) ⌝ }
+{
+    let next = put_text(out, at, words);
+    put_number(out, next, n)
 }

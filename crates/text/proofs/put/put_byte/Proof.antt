@@ -1,3 +1,4 @@
+use Rattle.text.proofs.Writes.{wrote-one}
 use borrow.Author.Needs.{needs}
 use Rattle.text.proofs.put.put_byte.Statement.{statement}
 use Rattle.text.proofs.put.put_byte.Tie as tie
@@ -18,7 +19,7 @@ same-length c = search needs
 
 -- src/put.rt:9:1
 returns : tie.Need-returns
-returns c = ?
+returns c = search wrote-one
 
 pub put-byte-spec : {M : Type 1} → statement M
 put-byte-spec = tie.close (tie.spec slice-write-out add-result same-length returns)

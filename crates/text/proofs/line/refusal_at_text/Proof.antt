@@ -1,0 +1,47 @@
+use borrow.Author.Needs.{needs}
+use Rattle.text.proofs.line.refusal_at_text.Statement.{statement}
+use Rattle.text.proofs.line.refusal_at_text.Tie as tie
+use Rattle.text.proofs.line.refusal_at_text.Reads as reads
+use Rattle.text.proofs.line.refusal_at_text.Lts as lts
+use Rattle.text.proofs.put.put_byte.Reads as put-byte-reads
+use Rattle.text.proofs.put.put_labelled.Reads as put-labelled-reads
+
+-- src/line.rt:74:39
+slice-aggregate-put-labelled : tie.Need-slice-aggregate-put-labelled
+slice-aggregate-put-labelled c = search needs
+
+-- src/line.rt:74:9
+put-labelled-requires : tie.Need-put-labelled-requires
+put-labelled-requires c κs = ?
+
+-- src/line.rt:75:39
+slice-aggregate-put-labelled-2 : tie.Need-slice-aggregate-put-labelled-2
+slice-aggregate-put-labelled-2 c = search needs
+
+-- src/line.rt:75:9
+put-labelled-requires-2 : tie.Need-put-labelled-requires-2
+put-labelled-requires-2 c κs = ?
+
+-- src/line.rt:76:5
+put-byte-requires : tie.Need-put-byte-requires
+put-byte-requires c κs = ?
+
+-- src/line.rt:70:1
+same-length : tie.Need-same-length
+same-length c = search needs
+
+-- src/line.rt:70:1
+returns : tie.Need-returns
+returns c = ?
+
+pub refusal-at-text-spec : {M : Type 1} → statement M
+refusal-at-text-spec =
+    tie.close
+    (tie.spec
+    slice-aggregate-put-labelled
+    put-labelled-requires
+    slice-aggregate-put-labelled-2
+    put-labelled-requires-2
+    put-byte-requires
+    same-length
+    returns)

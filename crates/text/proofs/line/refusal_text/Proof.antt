@@ -1,0 +1,37 @@
+use borrow.Author.Needs.{needs}
+use Rattle.text.proofs.line.refusal_text.Statement.{statement}
+use Rattle.text.proofs.line.refusal_text.Tie as tie
+use Rattle.text.proofs.line.refusal_text.Reads as reads
+use Rattle.text.proofs.line.refusal_text.Lts as lts
+use Rattle.text.proofs.put.put_byte.Reads as put-byte-reads
+use Rattle.text.proofs.put.put_labelled.Reads as put-labelled-reads
+
+-- src/line.rt:65:39
+slice-aggregate-put-labelled : tie.Need-slice-aggregate-put-labelled
+slice-aggregate-put-labelled c = search needs
+
+-- src/line.rt:65:9
+put-labelled-requires : tie.Need-put-labelled-requires
+put-labelled-requires c κs = ?
+
+-- src/line.rt:66:5
+put-byte-requires : tie.Need-put-byte-requires
+put-byte-requires c κs = ?
+
+-- src/line.rt:61:1
+same-length : tie.Need-same-length
+same-length c = search needs
+
+-- src/line.rt:61:1
+returns : tie.Need-returns
+returns c = ?
+
+pub refusal-text-spec : {M : Type 1} → statement M
+refusal-text-spec =
+    tie.close
+    (tie.spec
+    slice-aggregate-put-labelled
+    put-labelled-requires
+    put-byte-requires
+    same-length
+    returns)
