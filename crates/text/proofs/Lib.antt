@@ -2,3 +2,4 @@
 pub mod Digits
 pub mod Writes
 pub mod Numbers
+pub mod Lines

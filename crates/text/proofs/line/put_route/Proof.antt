@@ -1,3 +1,7 @@
+use Rattle.text.specs.Text.{routeLine, labelled, ascii}
+use native.Mathlib.Omega.{arith}
+use Rattle.text.proofs.Writes.{wrote-more}
+use Rattle.text.proofs.Lines.{length-line}
 use borrow.Author.Needs.{needs}
 use Rattle.text.proofs.line.put_route.Statement.{statement}
 use Rattle.text.proofs.line.put_route.Tie as tie
@@ -9,7 +13,7 @@ use Rattle.text.proofs.put.put_labelled.Reads as put-labelled-reads
 
 -- src/line.rt:29:9
 put-address-requires : tie.Need-put-address-requires
-put-address-requires c κs = ?
+put-address-requires c κs = record { room = omega (arith, length-line (c .before .before .args .r)) }
 
 -- src/line.rt:30:39
 slice-aggregate-put-labelled : tie.Need-slice-aggregate-put-labelled
@@ -21,7 +25,7 @@ cast-put-labelled c = search needs
 
 -- src/line.rt:30:9
 put-labelled-requires : tie.Need-put-labelled-requires
-put-labelled-requires c κs = ?
+put-labelled-requires c κs = record { room = omega (arith, length-line (c .before .before .before .before .before .before .before .before .args .r)) }
 
 -- src/line.rt:31:39
 slice-aggregate-put-labelled-2 : tie.Need-slice-aggregate-put-labelled-2
@@ -33,11 +37,11 @@ cast-put-labelled-2 c = search needs
 
 -- src/line.rt:31:9
 put-labelled-requires-2 : tie.Need-put-labelled-requires-2
-put-labelled-requires-2 c κs = ?
+put-labelled-requires-2 c κs = record { room = omega (arith, length-line (c .before .before .before .before .before .before .before .before .before .before .before .before .before .before .args .r)) }
 
 -- src/line.rt:32:5
 put-byte-requires : tie.Need-put-byte-requires
-put-byte-requires c κs = ?
+put-byte-requires c κs = record { room = omega (arith, length-line (c .before .before .before .before .before .before .before .before .before .before .before .before .before .before .before .before .before .before .args .r), c .before .before .before .before .before .before .before .before .before .before .before .before .before .before .before .before .before .before .pre .room) }
 
 -- src/line.rt:25:1
 same-length : tie.Need-same-length
@@ -45,7 +49,8 @@ same-length c = search needs
 
 -- src/line.rt:25:1
 returns : tie.Need-returns
-returns c = ?
+unfolding routeLine labelled ascii
+returns c = wrote-more (wrote-more (wrote-more (c .before .before .before .before .before .before .before .before .before .before .before .before .before .before .before .before .before .before .put-address .ensures) (c .before .before .before .before .before .before .before .before .before .before .before .before .put-labelled .ensures)) (c .before .before .before .before .before .before .put-labelled2 .ensures)) (c .before .before .put-byte .ensures)
 
 pub put-route-spec : {M : Type 1} → statement M
 put-route-spec =

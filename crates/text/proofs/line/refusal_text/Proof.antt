@@ -1,3 +1,7 @@
+use Rattle.text.specs.Text.{saidText, labelled, ascii}
+use native.Mathlib.Omega.{arith}
+use Rattle.text.proofs.Writes.{wrote-more}
+use Rattle.text.proofs.Digits.{digits-few}
 use borrow.Author.Needs.{needs}
 use Rattle.text.proofs.line.refusal_text.Statement.{statement}
 use Rattle.text.proofs.line.refusal_text.Tie as tie
@@ -12,11 +16,11 @@ slice-aggregate-put-labelled c = search needs
 
 -- src/line.rt:65:9
 put-labelled-requires : tie.Need-put-labelled-requires
-put-labelled-requires c κs = ?
+put-labelled-requires c κs = record { room = omega (arith, digits-few 2 (c .before .before .before .args .number) (omega arith)) }
 
 -- src/line.rt:66:5
 put-byte-requires : tie.Need-put-byte-requires
-put-byte-requires c κs = ?
+put-byte-requires c κs = record { room = omega (arith, digits-few 2 (c .before .before .before .before .before .before .before .args .number) (omega arith)) }
 
 -- src/line.rt:61:1
 same-length : tie.Need-same-length
@@ -24,7 +28,8 @@ same-length c = search needs
 
 -- src/line.rt:61:1
 returns : tie.Need-returns
-returns c = ?
+unfolding saidText labelled ascii
+returns c = wrote-more (c .before .before .before .before .before .before .put-labelled .ensures) (c .before .before .put-byte .ensures)
 
 pub refusal-text-spec : {M : Type 1} → statement M
 refusal-text-spec =
