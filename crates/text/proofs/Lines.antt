@@ -5,6 +5,7 @@ use Prim.Native.Nat.{ℕ, suc, _+_, _*_, _/_, _%_, _^_, _≤_, _<_}
 use native.Mathlib.Numerals.{add-one}
 use native.Mathlib.Omega.{arith}
 use lib.ListN.{length, length-append}
+use Rattle.bits.specs.Tab.{tabulate}
 use Rattle.bits.proofs.Tabs.{tabulate-snoc}
 use Rattle.routes.specs.declared.Route.{Route}
 use Rattle.routes.specs.Record.{recordAt, routesOf, Ranged}
@@ -13,7 +14,7 @@ use Rattle.text.specs.Digits.{digitsOf}
 use Rattle.text.specs.Text.{ascii, labelled, dotted, routeLine, routeLines, headLine, tableText}
 use Rattle.text.specs.Wrote.{Wrote}
 use Rattle.text.proofs.Digits.{digits-few}
-use Rattle.text.proofs.Writes.{wrote-more}
+use Rattle.text.proofs.Writes.{wrote-none, wrote-more}
 
 -- lengths
 pub length-dotted : (a : ℕ) → length (dotted a) ≡ length (digitsOf (a / 16777216)) + (1 + length (digitsOf (a / 65536 % 256))) + (1 + length (digitsOf (a / 256 % 256))) + (1 + length (digitsOf (a % 256)))
@@ -47,15 +48,21 @@ head-few n s t hn hs ht = rw length-head (omega (arith, digits-few 19 n (omega a
 lines-snoc : (rs : List Route) (r : Route) → routeLines (rs ++ (r ∷ [])) ≡ routeLines rs ++ routeLine r
 unfolding routeLines
 lines-snoc [] r = append-nil (routeLine r)
-lines-snoc (x ∷ rs) r = rw lines-snoc (sym (append-assoc (routeLine x) (routeLines rs) (routeLine r)))
+lines-snoc (x ∷ rs) r = rw (lines-snoc rs r) (sym (append-assoc (routeLine x) (routeLines rs) (routeLine r)))
 
 pub lines-more : (s : List ℕ) (k : ℕ) → routeLines (routesOf s (k + 1)) ≡ routeLines (routesOf s k) ++ routeLine (recordAt s k)
 unfolding routesOf
 lines-more s k = rw (add-one k, tabulate-snoc k (recordAt s)) (lines-snoc (routesOf s k) (recordAt s k))
 
-pub lines-wrote : {o o₁ o₂ s : List ℕ} {at m n k : ℕ} {r : Route} → r ≡ recordAt s k → Wrote o at (routeLines (routesOf s k)) m o₁ → Wrote o₁ m (routeLine r) n o₂ → Wrote o at (routeLines (routesOf s (k + 1))) n o₂
-lines-wrote {s = s} {k = k} e u v = rw (lines-more s k, ← e) (wrote-more u v)
+pub lines-none : (s : List ℕ) {o : List ℕ} {at : ℕ} → at ≤ length o → Wrote o at (routeLines (routesOf s 0)) at o
+unfolding routesOf tabulate routeLines
+lines-none s h = wrote-none h
 
-pub table-wrote : {o o₁ o₂ s : List ℕ} {m q n x y : ℕ} → Wrote o 0 (headLine n x y) m o₁ → Wrote o₁ m (routeLines (routesOf s n)) q o₂ → Wrote o 0 (tableText (routesOf s n) x y) q o₂
+pub lines-wrote : (s : List ℕ) (k : ℕ) (r : Route) {o o₁ o₂ : List ℕ} {at m n : ℕ} → r ≡ recordAt s k → Wrote o at (routeLines (routesOf s k)) m o₁ → Wrote o₁ m (routeLine r) n o₂ → Wrote o at (routeLines (routesOf s (k + 1))) n o₂
+lines-wrote s k r e u v = rw (lines-more s k, ← e) (wrote-more u v)
+
+pub table-wrote : (s : List ℕ) (n k x y : ℕ) {o o₁ o₂ : List ℕ} {m q : ℕ} → k ≤ n → n ≤ k → Wrote o 0 (headLine n x y) m o₁ → Wrote o₁ m (routeLines (routesOf s k)) q o₂ → Wrote o 0 (tableText (routesOf s n) x y) q o₂
 unfolding tableText
-table-wrote {s = s} {n = n} u v = rw (length-routes s n) (wrote-more u v)
+table-wrote s n k x y l g u v =
+    let e : k ≡ n = omega arith in
+    rw (length-routes s n) (wrote-more u (rw e at v))
