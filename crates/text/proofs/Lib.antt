@@ -3,3 +3,4 @@ pub mod Digits
 pub mod Writes
 pub mod Numbers
 pub mod Lines
+mod Examples

@@ -1,3 +1,4 @@
+-- `text::line::refusal_text` meets its contract. Assumes nothing.
 use Rattle.text.specs.Text.{saidText, labelled, ascii}
 use native.Mathlib.Omega.{arith}
 use Rattle.text.proofs.Writes.{wrote-more}
@@ -5,38 +6,14 @@ use Rattle.text.proofs.Digits.{digits-few}
 use borrow.Author.Needs.{needs}
 use Rattle.text.proofs.line.refusal_text.Statement.{statement}
 use Rattle.text.proofs.line.refusal_text.Tie as tie
-use Rattle.text.proofs.line.refusal_text.Reads as reads
-use Rattle.text.proofs.line.refusal_text.Lts as lts
-use Rattle.text.proofs.put.put_byte.Reads as put-byte-reads
-use Rattle.text.proofs.put.put_labelled.Reads as put-labelled-reads
-
--- src/line.rt:65:39
-slice-aggregate-put-labelled : tie.Need-slice-aggregate-put-labelled
-slice-aggregate-put-labelled c = search needs
-
--- src/line.rt:65:9
-put-labelled-requires : tie.Need-put-labelled-requires
-put-labelled-requires c κs = record { room = omega (arith, digits-few 2 (c .before .before .before .args .number) (omega arith)) }
-
--- src/line.rt:66:5
-put-byte-requires : tie.Need-put-byte-requires
-put-byte-requires c κs = record { room = omega (arith, digits-few 2 (c .before .before .before .before .before .before .before .args .number) (omega arith)) }
-
--- src/line.rt:61:1
-same-length : tie.Need-same-length
-same-length c = search needs
-
--- src/line.rt:61:1
-returns : tie.Need-returns
-unfolding saidText labelled ascii
-returns c = wrote-more (c .before .before .before .before .before .before .put-labelled .ensures) (c .before .before .put-byte .ensures)
 
 pub refusal-text-spec : {M : Type 1} → statement M
+unfolding saidText labelled ascii
 refusal-text-spec =
     tie.close
     (tie.spec
-    slice-aggregate-put-labelled
-    put-labelled-requires
-    put-byte-requires
-    same-length
-    returns)
+    (λ c. search needs)
+    (λ c κs. record { room = omega (arith, digits-few 2 (c .before .before .before .args .number) (omega arith)) })
+    (λ c κs. record { room = omega (arith, digits-few 2 (c .before .before .before .before .before .before .before .args .number) (omega arith)) })
+    (λ c. search needs)
+    (λ c. wrote-more (c .before .before .before .before .before .before .put-labelled .ensures) (c .before .before .put-byte .ensures)))

@@ -1,9 +1,11 @@
+-- `text::put::put_number` meets its contract: a number below 10 is one digit, any other the digits of its tenth part and one more.
+-- The measure is the number. Assumes nothing.
+use Prim.Native.Nat.{ℕ, _<_}
 use native.Mathlib.Omega.{arith}
 use borrow.Author.Needs.{needs}
-use Rattle.text.proofs.Numbers.{one-room, one-wrote, front-room, last-room, last-wrote}
-use Prim.Native.Nat.{ℕ, _<_}
 use borrow.Fn.Kinds.{In}
 use borrow.Fn.PlainCycle.{Measures, is, falls, and}
+use Rattle.text.proofs.Numbers.{one-room, one-wrote, front-room, last-room, last-wrote}
 use Rattle.text.proofs.put.put_number.Reads as put-number
 use Rattle.text.proofs.put.put_number.Kinds as put-number-kinds
 use Rattle.text.proofs.put.+put_number.Lts-put_number as put-number-lts
@@ -15,112 +17,12 @@ use Rattle.text.proofs.put.+put_number.Tie.{close}
 abbrev μ-put-number : Measures 1 put-number-kinds.ps ℕ
 μ-put-number κs a = a .1 .1 .0
 
+-- what `put_number` is given at the measure t, and what a call of it asks below t
 abbrev put-number-at : ℕ → In 1 put-number-kinds.ps
-put-number-at t =
-    and 1 put-number-kinds.ps (is 1 put-number-kinds.ps μ-put-number t) put-number.Pre
+put-number-at t = and 1 put-number-kinds.ps (is 1 put-number-kinds.ps μ-put-number t) put-number.Pre
 
 abbrev put-number-below : ℕ → In 1 put-number-kinds.ps
-put-number-below t =
-    and 1 put-number-kinds.ps (falls 1 put-number-kinds.ps _<_ μ-put-number t) put-number.Pre
-
--- src/put.rt:45:34
-put-number-digit-requires : (t : ℕ) → put-number-lts.Need-digit-requires (
-  digit-reads.Asked,
-  digit-reads.Learnt,
-  put-byte-reads.Asked,
-  put-byte-reads.Learnt,
-  put-number-below t,
-  put-number.Post,
-) (put-number-at t) put-number.Post
-put-number-digit-requires t c κs = search needs
-
--- src/put.rt:45:9
-put-number-put-byte-requires : (t : ℕ) → put-number-lts.Need-put-byte-requires (
-  digit-reads.Asked,
-  digit-reads.Learnt,
-  put-byte-reads.Asked,
-  put-byte-reads.Learnt,
-  put-number-below t,
-  put-number.Post,
-) (put-number-at t) put-number.Post
-put-number-put-byte-requires t c κs = search one-room
-
--- src/put.rt:45:9
-put-number-same-length : (t : ℕ) → put-number-lts.Need-same-length (
-  digit-reads.Asked,
-  digit-reads.Learnt,
-  put-byte-reads.Asked,
-  put-byte-reads.Learnt,
-  put-number-below t,
-  put-number.Post,
-) (put-number-at t) put-number.Post
-put-number-same-length t c = search needs
-
--- src/put.rt:45:9
-put-number-returns : (t : ℕ) → put-number-lts.Need-returns (
-  digit-reads.Asked,
-  digit-reads.Learnt,
-  put-byte-reads.Asked,
-  put-byte-reads.Learnt,
-  put-number-below t,
-  put-number.Post,
-) (put-number-at t) put-number.Post
-put-number-returns t c = search one-wrote
-
--- src/put.rt:47:9
-put-number-put-number-requires : (t : ℕ) → put-number-lts.Need-put-number-requires (
-  digit-reads.Asked,
-  digit-reads.Learnt,
-  put-byte-reads.Asked,
-  put-byte-reads.Learnt,
-  put-number-below t,
-  put-number.Post,
-) (put-number-at t) put-number.Post
-put-number-put-number-requires t c κs = (omega arith, search front-room)
-
--- src/put.rt:48:25
-put-number-digit-requires-2 : (t : ℕ) → put-number-lts.Need-digit-requires-2 (
-  digit-reads.Asked,
-  digit-reads.Learnt,
-  put-byte-reads.Asked,
-  put-byte-reads.Learnt,
-  put-number-below t,
-  put-number.Post,
-) (put-number-at t) put-number.Post
-put-number-digit-requires-2 t c κs = search needs
-
--- src/put.rt:48:5
-put-number-put-byte-requires-2 : (t : ℕ) → put-number-lts.Need-put-byte-requires-2 (
-  digit-reads.Asked,
-  digit-reads.Learnt,
-  put-byte-reads.Asked,
-  put-byte-reads.Learnt,
-  put-number-below t,
-  put-number.Post,
-) (put-number-at t) put-number.Post
-put-number-put-byte-requires-2 t c κs = search last-room
-
--- src/put.rt:40:1
-put-number-same-length-2 : (t : ℕ) → put-number-lts.Need-same-length-2 (
-  digit-reads.Asked,
-  digit-reads.Learnt,
-  put-byte-reads.Asked,
-  put-byte-reads.Learnt,
-  put-number-below t,
-  put-number.Post,
-) (put-number-at t) put-number.Post
-put-number-same-length-2 t c = search needs
-
--- src/put.rt:40:1
-put-number-returns-2 : (t : ℕ) → put-number-lts.Need-returns-2 (
-  digit-reads.Asked,
-  digit-reads.Learnt,
-  put-byte-reads.Asked,
-  put-byte-reads.Learnt,
-  put-number-below t,
-  put-number.Post,
-) (put-number-at t) put-number.Post
-put-number-returns-2 t c = search last-wrote
+put-number-below t = and 1 put-number-kinds.ps (falls 1 put-number-kinds.ps _<_ μ-put-number t) put-number.Pre
 
 pub +put-number-spec : {M : Type 1} → statement M
 +put-number-spec = close μ-put-number λ t. put-number-lts.spec (
@@ -133,12 +35,12 @@ pub +put-number-spec : {M : Type 1} → statement M
 )
     (put-number-at t)
     put-number.Post
-    (put-number-digit-requires t)
-    (put-number-put-byte-requires t)
-    (put-number-same-length t)
-    (put-number-returns t)
-    (put-number-put-number-requires t)
-    (put-number-digit-requires-2 t)
-    (put-number-put-byte-requires-2 t)
-    (put-number-same-length-2 t)
-    (put-number-returns-2 t)
+    (λ c κs. search needs)
+    (λ c κs. search one-room)
+    (λ c. search needs)
+    (λ c. search one-wrote)
+    (λ c κs. (omega arith, search front-room))
+    (λ c κs. search needs)
+    (λ c κs. search last-room)
+    (λ c. search needs)
+    (λ c. search last-wrote)
