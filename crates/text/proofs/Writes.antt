@@ -2,12 +2,12 @@
 use mathlib.Core.Path.{_≡_, refl, sym, ap, _∙_}
 use mathlib.Core.Logic.{_⊎_, inl, inr}
 use mathlib.Core.List.{List, [], _∷_, _++_, append-assoc, append-nil}
-use Prim.Native.Nat.{ℕ, suc, _+_, _≤_, _<_}
-use native.Mathlib.Nat.{add-assoc, le-of-lt}
+use Prim.Native.Nat.{ℕ, _+_, _≤_, _<_}
+use native.Mathlib.Nat.{add-assoc}
 use native.Mathlib.Numerals.{add-one}
 use native.Mathlib.Omega.{arith}
-use lib.ListN.{length, getD, take, drop, set, length-set, length-append, length-drop, length-take, take-append-drop, drop-of-length-le}
-use lib.Seq.{length-take-le, take-all, take-suc, take-at, drop-at, drop-drop, drop-append-le, sets-eq}
+use lib.ListN.{length, getD, take, drop, set, length-set, length-append, length-drop, length-take, drop-of-length-le}
+use lib.Seq.{take-all, take-suc, take-at, drop-at, drop-drop, sets-eq}
 use Rattle.bits.proofs.Tests.{below?}
 use Rattle.text.specs.Wrote.{spelled, Room, Wrote}
 

@@ -1,7 +1,6 @@
 // Lines: a route's, a table's, and a refusal's.
 use crate::put;
 use routes::Route;
-ghost use mathlib.Core.Path.{_≡_};
 ghost use Prim.Native.Nat.{_≤_};
 ghost use lib.ListN.{length};
 ghost use Rattle.routes.specs.Record.{routesOf};

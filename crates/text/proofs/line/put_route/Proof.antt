@@ -19,6 +19,6 @@ put-route-spec =
     (λ c. search needs)
     (λ c. search needs)
     (λ c κs. record { room = omega (arith, length-line (c .before .before .before .before .before .before .before .before .before .before .before .before .before .before .args .r)) })
-    (λ c κs. record { room = omega (arith, length-line (c .before .before .before .before .before .before .before .before .before .before .before .before .before .before .before .before .before .before .args .r), c .before .before .before .before .before .before .before .before .before .before .before .before .before .before .before .before .before .before .pre .room) })
+    (λ c κs. let s = c .before .before .before .before .before .before .before .before .before .before .before .before .before .before .before .before .before .before in record { room = omega (arith, length-line (s .args .r), s .pre .room) })
     (λ c. search needs)
     (λ c. wrote-more (wrote-more (wrote-more (c .before .before .before .before .before .before .before .before .before .before .before .before .before .before .before .before .before .before .put-address .ensures) (c .before .before .before .before .before .before .before .before .before .before .before .before .put-labelled .ensures)) (c .before .before .before .before .before .before .put-labelled2 .ensures)) (c .before .before .put-byte .ensures)))
