@@ -38,7 +38,7 @@ unfolding digitsOf digitsIn
 digits-more zero h = absurd (not-suc-le-zero h)
 digits-more (suc m) h = rw (le-ltb (suc m) 10 h, in-enough m (suc m / 10) (suc m / 10) (omega arith) (le-refl (suc m / 10)))
 
-pub digits-ind : (P : ℕ → Type 0) → ((n : ℕ) → n < 10 → P n) → ((n : ℕ) → 10 ≤ n → P (n / 10) → P n) → (n : ℕ) → P n
+digits-ind : (P : ℕ → Type 0) → ((n : ℕ) → n < 10 → P n) → ((n : ℕ) → 10 ≤ n → P (n / 10) → P n) → (n : ℕ) → P n
 digits-ind P one more n = by-steps n n (le-refl n)
   where
     by-steps : (s k : ℕ) → k ≤ s → P k

@@ -18,11 +18,11 @@ bytesA =
     ++ (10 ∷ 1 ∷ 2 ∷ 0 ∷ 24 ∷ 0 ∷ 0 ∷ 44 ∷ [])
     ++ (10 ∷ 1 ∷ 2 ∷ 128 ∷ 25 ∷ 0 ∷ 0 ∷ 57 ∷ [])
 
-listA : List Route
+pub listA : List Route
 listA = routesOf bytesA 5
 
 -- all of what is printed in the small geometry, with its needs
-list-A : tableText listA (need listA 12) (need listA 22) ≡
+pub list-A : tableText listA (need listA 12) (need listA 22) ≡
     ascii "routes 5 second 1 third 1\n"
     ++ ascii "0.0.0.0/0 6\n"
     ++ ascii "10.0.0.0/8 20\n"
@@ -32,6 +32,6 @@ list-A : tableText listA (need listA 12) (need listA 22) ≡
 unfolding bytesA listA routesOf recordAt tabulate need any digitsIn digitsOf ascii labelled dotted routeLine routeLines headLine tableText
 list-A = refl
 
-refusals : (saidText (refusedAt 10 3) ≡ ascii "refused 10 at 3\n") × (saidText (refused 7) ≡ ascii "refused 7\n")
+pub refusals : (saidText (refusedAt 10 3) ≡ ascii "refused 10 at 3\n") × (saidText (refused 7) ≡ ascii "refused 7\n")
 unfolding digitsIn digitsOf ascii labelled saidText
 refusals = (refl, refl)

@@ -1,6 +1,6 @@
--- Laws of the text.
+-- Laws of digits, of texts in a buffer and of lines, and document 01's example.
 pub mod Digits
 pub mod Writes
 pub mod Numbers
 pub mod Lines
-mod Examples
+pub mod Examples

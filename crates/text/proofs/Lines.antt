@@ -50,7 +50,7 @@ unfolding routeLines
 lines-snoc [] r = append-nil (routeLine r)
 lines-snoc (x ∷ rs) r = rw (lines-snoc rs r) (sym (append-assoc (routeLine x) (routeLines rs) (routeLine r)))
 
-pub lines-more : (s : List ℕ) (k : ℕ) → routeLines (routesOf s (k + 1)) ≡ routeLines (routesOf s k) ++ routeLine (recordAt s k)
+lines-more : (s : List ℕ) (k : ℕ) → routeLines (routesOf s (k + 1)) ≡ routeLines (routesOf s k) ++ routeLine (recordAt s k)
 unfolding routesOf
 lines-more s k = rw (add-one k, tabulate-snoc k (recordAt s)) (lines-snoc (routesOf s k) (recordAt s k))
 

@@ -7,17 +7,17 @@ use native.Mathlib.Nat.{add-assoc}
 use native.Mathlib.Numerals.{add-one}
 use native.Mathlib.Omega.{arith}
 use lib.ListN.{length, getD, take, drop, set, length-set, length-append, length-drop, length-take, drop-of-length-le}
-use lib.Seq.{take-all, take-suc, take-at, drop-at, drop-drop, sets-eq}
+use lib.Seq.{length-take-le, take-all, take-suc, take-at, drop-at, drop-drop, sets-eq}
 use Rattle.bits.proofs.Tests.{below?}
 use Rattle.text.specs.Wrote.{spelled, Room, Wrote}
 
 -- a text with room for it leaves the buffer's length as it was
-pub length-spelled : (o : List ℕ) (at : ℕ) (t : List ℕ) → at + length t ≤ length o → length (spelled o at t) ≡ length o
+length-spelled : (o : List ℕ) (at : ℕ) (t : List ℕ) → at + length t ≤ length o → length (spelled o at t) ≡ length o
 unfolding spelled
 length-spelled o at t h = simp (length-append, length-take, length-drop) (omega arith)
 
 module _ (o : List ℕ) (at : ℕ) (s t : List ℕ) where
-  -- the place is in the buffer, or the front is all of it
+  -- before and after the text, wherever the place is
   take-front : take (at + length s) (spelled o at s) ≡ take at o ++ s
   unfolding spelled
   take-front = go (below? (length o) at)
@@ -39,7 +39,7 @@ module _ (o : List ℕ) (at : ℕ) (s t : List ℕ) where
       go (inr h) =
           sym (drop-drop (length t) (at + length s) (take at o ++ s ++ drop (at + length s) o))
           ∙ rw (drop-at (take at o ++ s) (drop (at + length s) o) (at + length s) (simp (length-append, length-take) (omega arith)))
-            (drop-drop (length t) (at + length s) o)
+          (drop-drop (length t) (at + length s) o)
 
   -- a text after a text is one text
   pub spelled-more : spelled (spelled o at s) (at + length s) t ≡ spelled o at (s ++ t)
@@ -81,3 +81,7 @@ module _ {o : List ℕ} {at : ℕ} where
 -- what is written from the start of a buffer is what stands before the place that is answered
 pub wrote-front : {o t o₁ : List ℕ} {n : ℕ} → Wrote o 0 t n o₁ → take n o₁ ≡ t
 wrote-front {o} {t} w = rw (w .ends, w .holds) (take-front o 0 t [])
+
+-- and as many bytes as the place says: what a caller owes who lends `&out[..n]`
+pub wrote-count : {o t o₁ : List ℕ} {at n : ℕ} → Wrote o at t n o₁ → n ≡ length (take n o₁)
+wrote-count {o₁ = o₁} {n = n} w = sym (length-take-le n o₁ (w .inside))
