@@ -1,0 +1,2 @@
+-- Laws of images and of the walk.
+pub mod Walks

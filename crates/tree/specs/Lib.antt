@@ -1,0 +1,3 @@
+-- What an image is, and what a lookup in it says.
+pub mod Node
+pub mod Walk
