@@ -7,3 +7,6 @@ pub mod Nodes
 pub mod Longest
 pub mod Holds
 pub mod Serves
+pub mod Lies
+pub mod Levels
+pub mod Needs

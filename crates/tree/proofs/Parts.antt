@@ -5,7 +5,7 @@ use mathlib.Core.Path.{_≡_, refl, sym, _∙_, ap, ap₂}
 use mathlib.Core.Logic.{_⊎_, inl, inr}
 use mathlib.Core.Bool.{Bool, true, false, cond}
 use mathlib.Core.List.{List, [], _∷_, _++_, append-assoc, append-nil}
-use Prim.Native.Nat.{ℕ, zero, suc, _+_, _≤_, _<_}
+use Prim.Native.Nat.{ℕ, zero, suc, _+_, _-_, _≤_, _<_}
 use native.Mathlib.Nat.{eq-or-lt-of-le, le-of-suc-le-suc, not-suc-le-zero, zero-add, add-assoc, le-refl, le-step}
 use native.Mathlib.Numerals.{add-one}
 use native.Mathlib.Omega.{arith}
@@ -106,3 +106,19 @@ module _ {A : Type 0} {B : Type 0} (F : A → List B) where
   before-mono (x ∷ xs) zero j h = omega arith
   before-mono (x ∷ xs) (suc i) zero h = absurd (not-suc-le-zero h)
   before-mono (x ∷ xs) (suc i) (suc j) h = omega (arith, before-mono xs i j (le-of-suc-le-suc h))
+
+-- a place in what is gathered is one of some element
+pub gather-split : {A : Type 0} {B : Type 0} (F : A → List B) (xs : List A) (a : A) (j : ℕ) → j < length (gather F xs)
+    → (i : ℕ) × (r : ℕ) × (i < length xs) × (r < length (F (getD xs i a))) × (before F xs i + r ≡ j)
+unfolding gather before
+gather-split F [] a j h = absurd (not-suc-le-zero h)
+gather-split F (x ∷ xs) a j h = go (decided (ltb j (length (F x)))) (gather-split F xs a (j - length (F x)))
+  where
+    go : (ltb j (length (F x)) ≡ true) ⊎ (ltb j (length (F x)) ≡ false)
+        → (j - length (F x) < length (gather F xs) → (i : ℕ) × (r : ℕ) × (i < length xs) × (r < length (F (getD xs i a))) × (before F xs i + r ≡ j - length (F x)))
+        → (i : ℕ) × (r : ℕ) × (i < suc (length xs)) × (r < length (F (getD (x ∷ xs) i a))) × (before F (x ∷ xs) i + r ≡ j)
+    go (inl t) ih = (0, j, omega arith, ltb-true j (length (F x)) t, omega arith)
+    go (inr t) ih =
+        let l = ltb-false j (length (F x)) t in
+        let g = ih (omega (arith, length-append (F x) (gather F xs))) in
+        (suc (g .0), g .1, omega (arith, g .2), g .3, omega (arith, g .4))
