@@ -6,7 +6,8 @@ pub mod Parts
 pub mod Nodes
 pub mod Longest
 pub mod Holds
-pub mod Serves
 pub mod Lies
 pub mod Levels
 pub mod Needs
+pub mod Serves
+pub mod ListA

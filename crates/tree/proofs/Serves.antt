@@ -19,10 +19,11 @@ use Rattle.routes.specs.Route.{here, any, first, orElse, best, Good}
 use Rattle.routes.specs.declared.Route.{Route}
 use Rattle.routes.proofs.Levels.{any-mono}
 use Rattle.tree.specs.Walk.{told, treeSaid}
-use Rattle.tree.specs.Image.{Node, node, hops, imageBy, imageOf, through, nodeStands, hopFor, nodeNeed, onPath}
+use Rattle.tree.specs.Image.{Node, node, imageBy, imageOf, through, nodeStands, hopFor, nodeNeed, onPath}
 use Rattle.tree.proofs.Counts.{count-all, count-cut}
 use Rattle.tree.proofs.Nodes.{up-next}
 use Rattle.tree.proofs.Holds.{Agree, image-holds}
+use Rattle.tree.proofs.Needs.{hops-need}
 use Rattle.tree.proofs.Longest.{orHop, longest, readsFrom, walk-longest}
 
 -- what the routes say of nodes and hops
@@ -142,12 +143,13 @@ path-count rs a = reads-count (λ m. nodeStands rs (m + 1) (slot (4 * (m + 1)) a
             both (le-leb (4 * (i + 1)) (r .len) (omega (arith, leb-true (4 * (i + 1 + 1)) (r .len) (s .0))))
             (eq-eqb (slot (4 * (i + 1)) (r .addr)) (slot (4 * (i + 1)) a) (sym (up (r .addr)) ∙ ap (λ (x : ℕ). x / 2 ^ 4) (eqb-true (slot (4 * (i + 1 + 1)) (r .addr)) (slot (4 * (i + 1 + 1)) a) (s .1)) ∙ up a))
 
--- the theorem: every address, on the image of a good list
-pub image-serves : (rs : List Route) (w h a : ℕ) → Good rs → a < 2 ^ 32 → 3 * nodeNeed rs ≤ w → length (hops (nodeStands rs) (hopFor rs)) ≤ h
+-- every address, on the image of a good list in arrays with room for it: the hop of the longest route that covers the address, or no
+-- route where that is 0, and the count of the nodes that stand on its path
+pub image-serves : (rs : List Route) (w h a : ℕ) → Good rs → a < 2 ^ 32 → 3 * nodeNeed rs ≤ w → length rs ≤ h
     → treeSaid (imageOf rs w h .words) (imageOf rs w h .hops) a ≡ told (best rs 32 a) (onPath rs a)
 unfolding imageBy
 image-serves rs w h a g l room space =
     let up = up-next (nodeStands rs) 8 in
     walk-longest (nodeStands rs) (hopFor rs) _ _ a l
-    (image-holds (nodeStands rs) (hopFor rs) (agree rs g) w h room space 8 0 0 0 (omega (arith, ap length up)) (ap (λ (x : List Node). getD x 0 (node 0 0)) up))
+    (image-holds (nodeStands rs) (hopFor rs) (agree rs g) w h room (omega (arith, hops-need rs g)) 8 0 0 0 (omega (arith, ap length up)) (ap (λ (x : List Node). getD x 0 (node 0 0)) up))
     ∙ ap₂ told (sym (best-longest rs 32 a g (omega arith)) ∙ ap (best rs 32) (div-one a)) (path-count rs a)
