@@ -30,7 +30,7 @@ slot-cover p i l s w c h =
     ∙ ap (λ (n : ℕ). i / 2 ^ n) (omega (arith, k .0))
 
 -- of two routes that cover one cell, the longer starts no earlier
-nested : (p i : ℕ) (r s : Route) → Fine r → Fine s → covers p i r ≡ true → covers p i s ≡ true → r .len ≤ s .len → r .addr ≤ s .addr
+pub nested : (p i : ℕ) (r s : Route) → Fine r → Fine s → covers p i r ≡ true → covers p i s ≡ true → r .len ≤ s .len → r .addr ≤ s .addr
 nested p i r s fr fs cr cs h =
     let e : slot (r .len) (r .addr) ≡ slot (r .len) (s .addr) = cover-parts p i r cr .1 ∙ sym (slot-cover p i (r .len) s (fs .prefix .len-ok) cs h) in
     let d : cut (r .len) (r .addr) ≡ cut (r .len) (s .addr) = cut-is (r .len) (r .addr) ∙ ap (λ (n : ℕ). n * 2 ^ (32 - r .len)) e ∙ sym (cut-is (r .len) (s .addr)) in

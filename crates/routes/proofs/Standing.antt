@@ -10,7 +10,7 @@ use native.Mathlib.Nat.{le-refl, le-step}
 use lib.Dec.{eqb, ltb, leb}
 use lib.ListN.{length}
 use borrow.Author.Tests.{ltb-true, ltb-false, leb-true, eqb-true, eqb-false, lt-ltb, le-ltb, le-leb, eq-eqb, ne-eqb}
-use Rattle.routes.specs.Route.{key, any, first, long, within, here}
+use Rattle.routes.specs.Route.{key, keyOf, any, first, long, within, here}
 use Rattle.routes.specs.declared.Route.{Route}
 use Rattle.bits.proofs.Tests.{decided, both, and-split, or-split, or-none, fails, untrue}
 use Rattle.routes.proofs.Frame.{SameBut}
@@ -276,31 +276,31 @@ remove-stands k j (s ∷ ss) = go (decided (eqb (key s) k)) (decided (eqb k j)) 
     go (inr a) (inr b) ih = rw (a, ih, b)
 
 module _ (a l : ℕ) (small : l ≤ 32) (f : Route → Bool) (w : (s : Route) → s .addr ≡ a → s .len ≡ l → f s ≡ false) where
-  remove-any-but : (rs : List Route) → Good rs → any f rs ≡ any f (remove (a * 256 + l) rs)
+  remove-any-but : (rs : List Route) → Good rs → any f rs ≡ any f (remove (keyOf a l) rs)
   unfolding remove any Good
   remove-any-but [] g = refl
-  remove-any-but (s ∷ ss) g = go (decided (eqb (key s) (a * 256 + l))) (remove-any-but ss (g .2))
+  remove-any-but (s ∷ ss) g = go (decided (eqb (key s) (keyOf a l))) (remove-any-but ss (g .2))
     where
-      go : (eqb (key s) (a * 256 + l) ≡ true) ⊎ (eqb (key s) (a * 256 + l) ≡ false) → any f ss ≡ any f (remove (a * 256 + l) ss)
-          → (f s || any f ss) ≡ any f (cond (eqb (key s) (a * 256 + l)) (remove (a * 256 + l) ss) (s ∷ remove (a * 256 + l) ss))
+      go : (eqb (key s) (keyOf a l) ≡ true) ⊎ (eqb (key s) (keyOf a l) ≡ false) → any f ss ≡ any f (remove (keyOf a l) ss)
+          → (f s || any f ss) ≡ any f (cond (eqb (key s) (keyOf a l)) (remove (keyOf a l) ss) (s ∷ remove (keyOf a l) ss))
       go (inl e) ih =
-          let p = key-parts (s .addr) (s .len) a l (g .0 .prefix .len-ok) small (eqb-true (key s) (a * 256 + l) e) in
+          let p = key-parts (s .addr) (s .len) a l (g .0 .prefix .len-ok) small (eqb-true (key s) (keyOf a l) e) in
           rw (e, w s (p .0) (p .1)) ih
       go (inr e) ih = rw (e, ih)
 
-  remove-first-but : (rs : List Route) → Good rs → first f rs ≡ first f (remove (a * 256 + l) rs)
+  remove-first-but : (rs : List Route) → Good rs → first f rs ≡ first f (remove (keyOf a l) rs)
   unfolding remove first Good
   remove-first-but [] g = refl
-  remove-first-but (s ∷ ss) g = go (decided (eqb (key s) (a * 256 + l))) (remove-first-but ss (g .2))
+  remove-first-but (s ∷ ss) g = go (decided (eqb (key s) (keyOf a l))) (remove-first-but ss (g .2))
     where
-      go : (eqb (key s) (a * 256 + l) ≡ true) ⊎ (eqb (key s) (a * 256 + l) ≡ false) → first f ss ≡ first f (remove (a * 256 + l) ss)
-          → cond (f s) (suc (s .hop)) (first f ss) ≡ first f (cond (eqb (key s) (a * 256 + l)) (remove (a * 256 + l) ss) (s ∷ remove (a * 256 + l) ss))
+      go : (eqb (key s) (keyOf a l) ≡ true) ⊎ (eqb (key s) (keyOf a l) ≡ false) → first f ss ≡ first f (remove (keyOf a l) ss)
+          → cond (f s) (suc (s .hop)) (first f ss) ≡ first f (cond (eqb (key s) (keyOf a l)) (remove (keyOf a l) ss) (s ∷ remove (keyOf a l) ss))
       go (inl e) ih =
-          let p = key-parts (s .addr) (s .len) a l (g .0 .prefix .len-ok) small (eqb-true (key s) (a * 256 + l) e) in
+          let p = key-parts (s .addr) (s .len) a l (g .0 .prefix .len-ok) small (eqb-true (key s) (keyOf a l) e) in
           rw (e, w s (p .0) (p .1)) ih
       go (inr e) ih = rw (e, ih)
 
-pub remove-but : (a l : ℕ) (rs : List Route) → l ≤ 32 → Good rs → SameBut a l rs (remove (a * 256 + l) rs)
+pub remove-but : (a l : ℕ) (rs : List Route) → l ≤ 32 → Good rs → SameBut a l rs (remove (keyOf a l) rs)
 remove-but a l rs h g = record {
   same-any = λ f w. remove-any-but a l h f w rs g;
   same-first = λ f w. remove-first-but a l h f w rs g;

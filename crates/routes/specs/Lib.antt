@@ -4,3 +4,4 @@ pub mod Standing
 pub mod Record
 pub mod Said
 pub mod Input
+pub mod Answers

@@ -9,3 +9,9 @@ pub data Said : Type 0 where
   refused : ℕ → Said
   -- refused, with its number and the index of a record
   refusedAt : ℕ → ℕ → Said
+
+-- what a later step says, where the one before it refused nothing
+abbrev pub andThen : Said → Said → Said
+andThen (accepted vs) next = next
+andThen (refused n) next = refused n
+andThen (refusedAt n k) next = refusedAt n k

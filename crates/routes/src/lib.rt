@@ -1,4 +1,6 @@
 // Routes, the records that hold them, and the check of a record input.
+pub mod input;
+pub mod record;
 
 // A route: the prefix of `len` bits of `addr`, and the hop that it leads to. `spare` is the record's spare byte.
 pub struct Route {

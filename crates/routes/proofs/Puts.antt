@@ -1,0 +1,43 @@
+-- Eight stores are a record that was put, and a record that was put is read back. Assumes nothing.
+use mathlib.Core.Path.{_≡_, refl, sym, ap, _∙_}
+use mathlib.Core.List.{List, [], _∷_, _++_}
+use Prim.Native.Nat.{ℕ, suc, _+_, _*_, _/_, _%_, _^_, _≤_, _<_}
+use native.Mathlib.Numerals.{add-one, add-two, add-three, add-four, add-five, add-six, add-seven}
+use native.Mathlib.Nat.{add-zero, add-assoc}
+use native.Mathlib.Omega.{arith}
+use lib.Dec.{lit<}
+use lib.ListN.{length, getD, set, take, drop, length-append, List·getD-append}
+use lib.Seq.{sets, sets-eq, length-take-le, getD-append-add}
+use Rattle.routes.specs.Record.{word32, word16, recordAt, bytesOf, putAt, Ranged}
+use Rattle.routes.specs.declared.Route.{Route}
+
+pub eight : (s : List ℕ) (i a b c d e f g h : ℕ) → i + 8 ≤ length s
+    → set (set (set (set (set (set (set (set s i a) (i + 1) b) (i + 2) c) (i + 3) d) (i + 4) e) (i + 5) f) (i + 6) g) (i + 7) h
+    ≡ take i s ++ (a ∷ b ∷ c ∷ d ∷ e ∷ f ∷ g ∷ h ∷ []) ++ drop (i + 8) s
+eight s i a b c d e f g h l =
+    rw (add-one i, add-two i, add-three i, add-four i, add-five i, add-six i, add-seven i)
+    (sets-eq (a ∷ b ∷ c ∷ d ∷ e ∷ f ∷ g ∷ h ∷ []) s i l)
+
+-- eight bytes at a record's place are the bytes of r: then r is read there
+pub bytes-read : (s : List ℕ) (k : ℕ) (r : Route) → Ranged r → ((j : ℕ) → j < 8 → getD s (k * 8 + j) 0 ≡ getD (bytesOf r) j 0) → recordAt s k ≡ r
+unfolding recordAt bytesOf
+bytes-read s k r ok at =
+    let b₀ : getD s (k * 8) 0 ≡ r .addr / 16777216 = rw (add-zero (k * 8)) at (at 0 (lit< tt)) in
+    let ha = ok .addr-fits in
+    let hh = ok .hop-fits in
+    let e₁ : word32 s (k * 8) ≡ r .addr = omega (arith, at 1 (lit< tt), at 2 (lit< tt), at 3 (lit< tt)) in
+    let e₂ : word16 s (k * 8 + 6) ≡ r .hop = rw (add-assoc (k * 8) 6 1) (omega (arith, at 6 (lit< tt), at 7 (lit< tt))) in
+    λ i. record { addr = e₁ i; len = at 4 (lit< tt) i; spare = at 5 (lit< tt) i; hop = e₂ i }
+
+part-at : (p v w : List ℕ) (n j : ℕ) → length p ≡ n → j < length v → getD (p ++ v ++ w) (n + j) 0 ≡ getD v j 0
+part-at p v w n j e l =
+    rw (← e) (List·getD-append (p ++ v) w 0 (length p + j) (rw length-append (omega arith)) ∙ getD-append-add p v j 0)
+
+-- a record that was put is read back
+module _ (s : List ℕ) (k : ℕ) (r : Route) (room : (k + 1) * 8 ≤ length s) where
+  pub put-byte : (j : ℕ) → j < 8 → getD (putAt s k r) (k * 8 + j) 0 ≡ getD (bytesOf r) j 0
+  unfolding putAt bytesOf
+  put-byte j l = part-at (take (k * 8) s) (bytesOf r) (drop (k * 8 + 8) s) (k * 8) j (length-take-le (k * 8) s (omega arith)) l
+
+  pub put-read : Ranged r → recordAt (putAt s k r) k ≡ r
+  put-read ok = bytes-read (putAt s k r) k r ok put-byte

@@ -1,0 +1,14 @@
+-- `routes::input::prefix_ok` meets its contract. Assumes nothing.
+use Rattle.routes.proofs.Faults.{too-long, tested}
+use borrow.Author.Needs.{needs}
+use Rattle.routes.proofs.input.prefix_ok.Statement.{statement}
+use Rattle.routes.proofs.input.prefix_ok.Tie as tie
+
+pub prefix-ok-spec : {M : Type 1} → statement M
+prefix-ok-spec =
+    tie.close
+    (tie.spec
+    (λ c κs. search needs)
+    (λ c. search too-long)
+    (λ c κs. search needs)
+    (λ c. tested _ _ _ (c .before .before .wide .ensures .0) (c .before .if1 .left) (c .before .before .before .fits .addr .fits) _ (c .cut .ensures)))

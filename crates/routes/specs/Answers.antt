@@ -1,0 +1,35 @@
+-- What each case of an answer says. Assumes nothing.
+use Prim.Native.Nat.{ℕ, _/_}
+use mathlib.Core.Bool.{cond}
+use mathlib.Core.List.{List, [], _∷_}
+use lib.Dec.{ltb}
+use lib.ListN.{length}
+use Rattle.routes.specs.Record.{recordAt}
+use Rattle.routes.specs.Input.{inputSaid}
+use Rattle.routes.specs.Said.{Said, accepted, refused, refusedAt, andThen}
+use Rattle.routes.specs.declared.Route.{Route}
+use Rattle.routes.specs.declared.input.Input.{Input}
+use Rattle.routes.specs.declared.input.Input.the-variants as input
+use Rattle.routes.specs.declared.input.Got.{Got}
+use Rattle.routes.specs.declared.input.Got.the-variants as got
+
+-- a good input tells its number of records
+unfoldable pub saysInput : Input → Said
+saysInput (input.Good n) = accepted (n ∷ [])
+saysInput (input.Refused f k) = refusedAt f k
+saysInput input.TooMany = refused 6
+
+-- a route's values: address, length, spare byte, hop
+abbrev pub valuesOf : Route → List ℕ
+valuesOf r = r .addr ∷ r .len ∷ r .spare ∷ r .hop ∷ []
+
+-- no values where there is no such record
+unfoldable pub saysGot : Got → Said
+saysGot (got.One r) = accepted (valuesOf r)
+saysGot got.Nothing = accepted []
+saysGot (got.Refused f k) = refusedAt f k
+saysGot got.TooMany = refused 6
+
+-- the input's refusals first; then the record of that index, if there is one
+unfoldable pub routeSaid : List ℕ → ℕ → Said
+routeSaid s k = andThen (inputSaid s) (accepted (cond (ltb k (length s / 8)) (valuesOf (recordAt s k)) []))

@@ -1,0 +1,105 @@
+// The record of a route, and what the check of an input says.
+use crate::print;
+use crate::samples;
+use routes::Route;
+use routes::input;
+use routes::input::Got;
+use routes::input::Input;
+ghost use Prim.Native.Nat.{_≤_};
+ghost use lib.ListN.{length};
+
+fn said(answer: Input) {
+    match answer {
+        Input::Good(n) => {
+            print::text(b"good");
+            print::value(n as u64);
+        }
+        Input::Refused(f, k) => {
+            print::text(b"refused");
+            print::value(f as u64);
+            print::text(b" at");
+            print::value(k as u64);
+        }
+        Input::TooMany => {
+            print::text(b"refused 6");
+        }
+    }
+    print::end();
+}
+
+fn route(r: Route) {
+    print::text(b"route");
+    print::value(r.addr as u64);
+    print::value(r.len as u64);
+    print::value(r.hop as u64);
+}
+
+fn got(answer: Got) {
+    match answer {
+        Got::One(r) => {
+            route(r);
+        }
+        Got::Nothing => {
+            print::text(b"nothing");
+        }
+        Got::Refused(f, k) => {
+            print::text(b"refused");
+            print::value(f as u64);
+            print::text(b" at");
+            print::value(k as u64);
+        }
+        Got::TooMany => {
+            print::text(b"refused 6");
+        }
+    }
+    print::end();
+}
+
+// The document's own record, list A whole, and one refusal of each kind.
+pub fn run() {
+    print::text(b"record");
+    print::bytes(&samples::one(samples::route(0x0A01_0280, 25, 0, 57)));
+    print::end();
+    let a = samples::list_a();
+    said(input::check_input(&a));
+    said(input::check_input(b""));
+    said(input::check_input(b"nine byte"));
+    got(input::route_at(&a, 4));
+    got(input::route_at(&a, 5));
+    got(input::route_at(b"nine byte", 0));
+}
+
+pub fn refusals() {
+    let good = samples::route(0x0A00_0000, 8, 0, 20);
+    said(input::check_input(&samples::two(good, samples::route(0x0B00_0000, 33, 0, 0))));
+    said(input::check_input(&samples::two(good, samples::route(0x0B00_0001, 24, 1, 0))));
+    said(input::check_input(&samples::two(good, samples::route(0x0B00_0000, 24, 1, 0))));
+    said(input::check_input(&samples::two(good, samples::route(0x0B00_0000, 24, 1, 32767))));
+    said(input::check_input(&samples::two(good, samples::route(0x0B00_0000, 24, 0, 32767))));
+    said(input::check_input(&samples::two(good, samples::route(0x0B00_0000, 24, 0, 32768))));
+    said(input::check_input(&samples::two(good, samples::route(0x0A00_0000, 8, 0, 21))));
+    said(input::check_input(&samples::two(good, samples::route(0x0A00_0000, 7, 0, 21))));
+    said(input::check_input(&samples::two(good, samples::route(0x0A00_0000, 9, 0, 21))));
+}
+
+// So many routes of 24 bits, one after the other.
+fn many(list: &mut [u8])
+    requires { ⌜ length (now list) ≤ 65536 ⌝ }
+{
+    let n = list.len() / 8;
+    let mut k = 0;
+    while k < n {
+        routes::record::write_record(list, k, samples::route((k as u32) * 256, 24, 0, 1));
+        k += 1;
+    }
+}
+
+// 4,096 records are taken, and one more is not.
+pub fn most() {
+    let mut list = [0u8; 32768];
+    many(&mut list);
+    said(input::check_input(&list));
+    let mut more = [0u8; 32776];
+    many(&mut more);
+    said(input::check_input(&more));
+}

@@ -1,0 +1,10 @@
+// Runs worked cases and prints what they give. The file stdout has what document 01 says of them.
+mod inputs;
+mod print;
+mod samples;
+
+fn main() {
+    inputs::run();
+    inputs::refusals();
+    inputs::most();
+}

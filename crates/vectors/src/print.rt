@@ -1,0 +1,33 @@
+// Words and numbers on standard output.
+
+pub fn text(words: &[u8]) {
+    io::write_all(libc::STDOUT_FILENO, words);
+}
+
+pub fn number(n: u64) {
+    io::print_decimal(libc::STDOUT_FILENO, n);
+}
+
+// A space, and a number.
+pub fn value(n: u64) {
+    text(b" ");
+    number(n);
+}
+
+pub fn end() {
+    text(b"\n");
+}
+
+// A space, and a byte in hexadecimal.
+fn byte(b: u8) {
+    text(b" ");
+    io::print_hex(libc::STDOUT_FILENO, b as u64, 2);
+}
+
+pub fn bytes(list: &[u8]) {
+    let mut i = 0;
+    while i < list.len() {
+        byte(list[i]);
+        i += 1;
+    }
+}

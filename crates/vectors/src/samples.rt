@@ -1,0 +1,73 @@
+// Inputs that the document names, or that follow from its words.
+use routes::Route;
+use routes::record;
+
+// Document 01's list A.
+pub fn list_a() -> [u8; 40] {
+    [
+        0,
+        0,
+        0,
+        0,
+        0,
+        0,
+        0,
+        6,
+        10,
+        0,
+        0,
+        0,
+        8,
+        0,
+        0,
+        20,
+        10,
+        1,
+        0,
+        0,
+        16,
+        0,
+        0,
+        31,
+        10,
+        1,
+        2,
+        0,
+        24,
+        0,
+        0,
+        44,
+        10,
+        1,
+        2,
+        128,
+        25,
+        0,
+        0,
+        57,
+    ]
+}
+
+pub fn route(addr: u32, len: u8, spare: u8, hop: u16) -> Route {
+    Route {
+        addr,
+        len,
+        spare,
+        hop,
+    }
+}
+
+// One record's bytes.
+pub fn one(r: Route) -> [u8; 8] {
+    let mut out = [0u8; 8];
+    record::write_record(&mut out, 0, r);
+    out
+}
+
+// Two records' bytes.
+pub fn two(a: Route, b: Route) -> [u8; 16] {
+    let mut out = [0u8; 16];
+    record::write_record(&mut out, 0, a);
+    record::write_record(&mut out, 1, b);
+    out
+}
