@@ -7,14 +7,12 @@ use mathlib.Core.List.{List, [], _∷_, _++_, List·Memᴰ, List·Memᴰ·head, 
 use Prim.Native.Nat.{ℕ, zero, suc, _+_, _-_, _*_, _/_, _%_, _^_, _≤_, _<_}
 use native.Mathlib.Nat.{le-refl, le-step, zero-add, suc-mul}
 use native.Mathlib.Omega.{arith}
-use lib.Dec.{ltb, leb, eqb}
+use lib.Dec.{ltb, leb}
 use lib.ListN.{length, getD, length-append}
-use borrow.Author.Tests.{lt-ltb, leb-true, leb-false, eqb-true}
-use Rattle.bits.specs.Slot.{slot, cut}
+use borrow.Author.Tests.{lt-ltb, leb-true, leb-false}
 use Rattle.bits.specs.Count.{bit, count}
-use Rattle.bits.proofs.Slots.{cut-slot}
-use Rattle.bits.proofs.Tests.{decided, and-split, untrue}
-use Rattle.routes.specs.Route.{here, any, first, orElse, key, Fine, Good}
+use Rattle.bits.proofs.Tests.{decided, untrue}
+use Rattle.routes.specs.Route.{here, any, first, orElse, Good}
 use Rattle.routes.specs.declared.Route.{Route}
 use Rattle.routes.proofs.Goods.{good-fine}
 use Rattle.tree.specs.Parts.{picked, gather}
@@ -22,7 +20,7 @@ use Rattle.tree.specs.Image.{Node, node, innerLen, bitHop, inner, child,
 use Rattle.tree.proofs.Counts.{count-none, count-one}
 use Rattle.tree.proofs.Parts.{picked-length, gather-append}
 use Rattle.tree.proofs.Levels.{LevelOf, level-is}
-use Rattle.tree.proofs.Lies.{any-mem, pass-parts, pass-make, up-pass, kidOf, kid-at, kid-is, atBit, bitOf, bit-at, bit-pass, bit-is}
+use Rattle.tree.proofs.Lies.{any-mem, one-prefix, pass-parts, pass-make, up-pass, kidOf, kid-at, kid-is, atBit, bitOf, bit-at, bit-pass, bit-is}
 
 -- g 0 + .. + g (n - 1), and F of each element of a list added up
 unfoldable sums : (ℕ → ℕ) → ℕ → ℕ
@@ -132,16 +130,6 @@ node-split m p (r ∷ rs) g =
     )
 
 -- a prefix has one route or none
-one-prefix : (l q : ℕ) (r s : Route) → Fine r → Fine s → here l q r ≡ true → here l q s ≡ true → key r ≡ key s
-one-prefix l q r s fr fs a b =
-    let x = and-split (eqb (r .len) l) (eqb (slot l (r .addr)) q) a in
-    let y = and-split (eqb (s .len) l) (eqb (slot l (s .addr)) q) b in
-    let lr : r .len ≡ l = eqb-true _ _ (x .0) in
-    let ls : s .len ≡ l = eqb-true _ _ (y .0) in
-    let cr : cut l (r .addr) ≡ r .addr = rw lr at (fr .prefix .clear) in
-    let cs : cut l (s .addr) ≡ s .addr = rw ls at (fs .prefix .clear) in
-    omega (arith, cr, cut-slot l (r .addr) (s .addr) cs (eqb-true (slot l (r .addr)) q (x .1) ∙ sym (eqb-true (slot l (s .addr)) q (y .1))))
-
 own-tally : (l q : ℕ) (rs : List Route) → Good rs → tally (here l q) rs ≡ bit (ltb 0 (hopFor rs l q))
 unfolding total first Good
 own-tally l q [] g = refl

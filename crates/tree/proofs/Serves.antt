@@ -23,6 +23,7 @@ use Rattle.tree.specs.Image.{Node, node, imageBy, imageOf, through, node
 use Rattle.tree.proofs.Counts.{count-all, count-cut}
 use Rattle.tree.proofs.Nodes.{up-next}
 use Rattle.tree.proofs.Holds.{Agree, image-holds}
+use Rattle.tree.proofs.Lies.{found-any}
 use Rattle.tree.proofs.Needs.{hops-need}
 use Rattle.tree.proofs.Longest.{orHop, longest, readsFrom, walk-longest}
 
@@ -40,16 +41,6 @@ hop-small f (r ∷ rs) g = go (f r) (hop-small f rs (g .2))
     go : (b : Bool) → orElse (first f rs) 0 ≤ 32767 → orElse (cond b (suc (r .hop)) (first f rs)) 0 ≤ 32767
     go true h = g .0 .hop-ok
     go false h = h
-
--- a hop is found only where a route has the prefix
-found-any : (f : Route → Bool) (rs : List Route) → 0 < orElse (first f rs) 0 → any f rs ≡ true
-unfolding first any
-found-any f [] h = absurd (omega arith)
-found-any f (r ∷ rs) h = go (decided (f r)) (found-any f rs)
-  where
-    go : (f r ≡ true) ⊎ (f r ≡ false) → (0 < orElse (first f rs) 0 → any f rs ≡ true) → (f r || any f rs) ≡ true
-    go (inl e) ih = rw e
-    go (inr e) ih = rw e (ih (rw e at h))
 
 here-passes : (m l q : ℕ) (r : Route) → 4 * m ≤ l → l ≤ 32 → here l q r ≡ true → through m (q / 2 ^ (l - 4 * m)) r ≡ true
 here-passes m l q r lo hi e =

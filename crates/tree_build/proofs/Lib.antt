@@ -1,0 +1,4 @@
+-- What joins the code to the image.
+pub mod Marks
+pub mod Scans
+pub mod Stores

@@ -1,0 +1,112 @@
+use Rattle.tree_build.proofs.fill.put_hops.Statement.{statement}
+use Rattle.tree_build.proofs.fill.put_hops.Tie as tie
+use Rattle.tree_build.proofs.fill.put_hops.Reads as reads
+use Rattle.tree_build.proofs.fill.put_hops.Lts as lts
+use Rattle.bits.proofs.ones_below.Reads as ones-below-reads
+use Rattle.routes.proofs.record.read_record.Reads as read-record-reads
+use Rattle.routes.proofs.record.wide.Reads as wide-reads
+use Rattle.tree_build.proofs.fill.long.Reads as long-reads
+use Rattle.tree_build.proofs.run.place.Reads as place-reads
+
+abbrev Inv-loop : tie.InvT-loop
+Inv-loop list hops₀ m a e word base k₀ hops k = ?
+
+abbrev μ-loop : tie.MeasureT-loop
+μ-loop list hops₀ m a e word base k₀ hops k = ?
+
+-- src/fill.rt:41:5
+loop-holds : tie.Need-loop-holds Inv-loop μ-loop
+loop-holds c = ?
+
+-- src/fill.rt:42:13
+read-record-requires : tie.Need-read-record-requires Inv-loop μ-loop
+read-record-requires c κs = ?
+
+-- src/fill.rt:43:9
+add-k : tie.Need-add-k Inv-loop μ-loop
+add-k c = ?
+
+-- src/fill.rt:44:13
+wide-requires : tie.Need-wide-requires Inv-loop μ-loop
+wide-requires c κs = ?
+
+-- src/fill.rt:45:23
+add-if1 : tie.Need-add-if1 Inv-loop μ-loop
+add-if1 c = ?
+
+-- src/fill.rt:45:18
+mul-if1 : tie.Need-mul-if1 Inv-loop μ-loop
+mul-if1 c = ?
+
+-- src/fill.rt:46:48
+place-requires : tie.Need-place-requires Inv-loop μ-loop
+place-requires c κs = ?
+
+-- src/fill.rt:46:17
+ones-below-requires : tie.Need-ones-below-requires Inv-loop μ-loop
+ones-below-requires c κs = ?
+
+-- src/fill.rt:47:25
+long-requires : tie.Need-long-requires Inv-loop μ-loop
+long-requires c κs = ?
+
+-- src/fill.rt:47:18
+add-hops : tie.Need-add-hops Inv-loop μ-loop
+add-hops c = ?
+
+-- src/fill.rt:47:13
+mul-hops : tie.Need-mul-hops Inv-loop μ-loop
+mul-hops c = ?
+
+-- src/fill.rt:47:13
+slice-write-hops : tie.Need-slice-write-hops Inv-loop μ-loop
+slice-write-hops c = ?
+
+-- src/fill.rt:41:5
+loop-less : tie.Need-loop-less Inv-loop μ-loop
+loop-less c = ?
+
+-- src/fill.rt:41:5
+loop-again : tie.Need-loop-again Inv-loop μ-loop
+loop-again c = ?
+
+-- src/fill.rt:41:5
+loop-less-2 : tie.Need-loop-less-2 Inv-loop μ-loop
+loop-less-2 c = ?
+
+-- src/fill.rt:41:5
+loop-again-2 : tie.Need-loop-again-2 Inv-loop μ-loop
+loop-again-2 c = ?
+
+-- src/fill.rt:36:1
+same-length : tie.Need-same-length Inv-loop μ-loop
+same-length c = ?
+
+-- src/fill.rt:36:1
+returns : tie.Need-returns Inv-loop μ-loop
+returns c = ?
+
+pub put-hops-spec : {M : Type 1} → statement M
+put-hops-spec =
+    tie.close
+    (tie.spec
+    Inv-loop
+    μ-loop
+    loop-holds
+    read-record-requires
+    add-k
+    wide-requires
+    add-if1
+    mul-if1
+    place-requires
+    ones-below-requires
+    long-requires
+    add-hops
+    mul-hops
+    slice-write-hops
+    loop-less
+    loop-again
+    loop-less-2
+    loop-again-2
+    same-length
+    returns)
