@@ -171,13 +171,13 @@ module _ (st : ℕ → ℕ → Bool) (hop : ℕ → ℕ → ℕ) where
       let e : (16 + c) - 16 ≡ c = omega arith in
       word-bit n (16 + c) (omega arith) ∙ rw (le-ltb (16 + c) 15 (omega arith), le-ltb (16 + c) 16 (omega arith), e)
 
-  set-child : (n : Node) (i : ℕ) → setBit st hop n (16 + i) ≡ child st n i
+  pub set-child : (n : Node) (i : ℕ) → setBit st hop n (16 + i) ≡ child st n i
   unfolding setBit
   set-child n i =
       let e : (16 + i) - 16 ≡ i = omega arith in
       rw (le-ltb (16 + i) 15 (omega arith), le-ltb (16 + i) 16 (omega arith), e)
 
-  set-inner : (n : Node) (i : ℕ) → i < 15 → setBit st hop n i ≡ inner hop n i
+  pub set-inner : (n : Node) (i : ℕ) → i < 15 → setBit st hop n i ≡ inner hop n i
   unfolding setBit
   set-inner n i l = rw (lt-ltb i 15 l)
 

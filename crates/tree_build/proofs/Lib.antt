@@ -2,3 +2,6 @@
 pub mod Marks
 pub mod Scans
 pub mod Stores
+pub mod Runs
+pub mod Words
+pub mod Hops

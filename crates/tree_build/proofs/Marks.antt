@@ -7,7 +7,7 @@ use native.Mathlib.Nat.{mod-lt, mod-eq-of-lt, div-eq-of-lt, le-refl, le-step, ad
 use native.Mathlib.Numerals.{add-one}
 use native.Mathlib.Omega.{arith}
 use lib.Dec.{eqb, ltb}
-use lib.Bits.{bitAnd, bitOr, or-shr, or-mod, or-zero-r, and-mask}
+use lib.Bits.{bitAnd, bitOr, or-lt, or-shr, or-mod, or-zero-r, and-mask}
 use lib.Pow.{pow-pos, pow-add, pow-lt, pow-mono, shl-shr, mod-pow-add}
 use borrow.Author.Tests.{ltb-true, ltb-false, eqb-true, eq-eqb, ne-eqb, lt-ltb, le-ltb}
 use Rattle.bits.specs.Bit.{bitAt}
@@ -43,8 +43,9 @@ or-bit (suc zero) true h = refl
 or-bit (suc (suc x)) true h = absurd (omega arith)
 or-bit x false h = or-zero-r x
 
-pub with-bit : (w b : ℕ) → b < 32 → WithBit w b (bitOr w ((1 * 2 ^ b) % 2 ^ 32))
-with-bit w b l = record {
+pub with-bit : (w b : ℕ) → w < 2 ^ 32 → b < 32 → WithBit w b (bitOr w ((1 * 2 ^ b) % 2 ^ 32))
+with-bit w b h l = record {
+  fits = or-lt 32 w _ h (mod-lt (1 * 2 ^ b) (pow-pos 32));
   bits = λ k. ap (λ (x : ℕ). bitAt (bitOr w x) k) (shl-one 32 b l) ∙ bit-or w (2 ^ b) k ∙ ap (bitOr (bitAt w k)) (bit-pow b k) ∙ or-bit (bitAt w k) (eqb k b) (omega arith);
 }
 

@@ -59,6 +59,7 @@ placeAt s m k = placeOf m (recordAt s k .addr) (recordAt s k .len)
 
 -- r is w with the bit b set
 pub record WithBit (w b r : ℕ) : Type 0 where
+  pub fits : r < 2 ^ 32
   pub bits : (k : ℕ) → bitAt r k ≡ cond (eqb k b) 1 (bitAt w k)
 
 -- the bits of the node of depth m whose run begins at a

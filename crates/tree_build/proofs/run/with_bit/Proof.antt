@@ -11,7 +11,7 @@ shl-result c = search needs
 
 -- src/run.rt:52:1
 returns : tie.Need-returns
-returns c = with-bit _ _ (c .pre)
+returns c = with-bit _ _ (c .fits .word .fits) (c .pre)
 
 pub with-bit-spec : {M : Type 1} → statement M
 with-bit-spec = tie.close (tie.spec shl-result returns)
