@@ -5,3 +5,4 @@ pub mod Stores
 pub mod Runs
 pub mod Words
 pub mod Hops
+pub mod Kids
