@@ -6,3 +6,4 @@ pub mod Runs
 pub mod Words
 pub mod Hops
 pub mod Kids
+pub mod Steps

@@ -3,7 +3,7 @@
 use mathlib.Core.Bool.{true}
 use mathlib.Core.List.{List}
 use mathlib.Core.Path.{_≡_}
-use Prim.Native.Nat.{ℕ, _+_, _*_, _/_, _^_, _≤_, _<_}
+use Prim.Native.Nat.{ℕ, _+_, _*_, _/_, _%_, _^_, _≤_, _<_}
 use lib.ListN.{length, getD, set}
 use Rattle.bits.specs.Count.{count}
 use Rattle.routes.specs.Record.{recordAt, Records}
@@ -72,9 +72,10 @@ pub record Done (s ws hs : List ℕ) (x : ℕ) : Type 0 where
   pub hop : getD ws (3 * x + 2) 0 ≡ hopsBefore s x
   pub put : (b : ℕ) → b < 15 → inner (hopIn s) (nodeIn s x) b ≡ true → getD hs (hopsBefore s x + count (inner (hopIn s) (nodeIn s x)) b) 0 ≡ bitHop (hopIn s) (nodeIn s x) b
 
--- good records, and room for their image in w words and h hops
+-- good records, no byte after them, and room for their image in w words and h hops
 pub record Room (s : List ℕ) (w h : ℕ) : Type 0 where
   pub records : Records s (length s / 8)
+  pub whole : length s % 8 ≡ 0
   pub words-room : 3 * length (nodesIn s) ≤ w
   pub hops-room : length (hops (standsIn s) (hopIn s)) ≤ h
   pub words-fit : length (nodesIn s) < 2 ^ 32
@@ -91,10 +92,13 @@ pub record State (s ws hs : List ℕ) (i t h : ℕ) : Type 0 where
   pub rest : (j : ℕ) → 3 * t ≤ j → getD ws j 0 ≡ 0
   pub blank : (j : ℕ) → h ≤ j → getD hs j 0 ≡ 0
 
--- the state, and a node that waits
+-- the state, with a node that waits
 pub record Next (s ws hs : List ℕ) (i t h : ℕ) : Type 0 where
   pub now : State s ws hs i t h
   pub waits : i < t
+  pub whole : 3 * i + 3 ≤ length ws
+  pub tail-fits : t < 2 ^ 32
+  pub hop-fits : h < 2 ^ 32
 
 -- the arrays hold the image of the routes, in their sizes
 pub record Filled (s ws₀ hs₀ ws hs : List ℕ) : Type 0 where

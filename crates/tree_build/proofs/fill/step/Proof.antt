@@ -1,3 +1,6 @@
+use mathlib.Core.Path.{refl, _∙_}
+use native.Mathlib.Omega.{arith}
+use Rattle.tree_build.proofs.Steps.{node-run, hops-ready, kids-ready, node-room, state-next}
 use borrow.Author.Needs.{needs}
 use Rattle.tree_build.proofs.fill.step.Statement.{statement}
 use Rattle.tree_build.proofs.fill.step.Tie as tie
@@ -13,31 +16,31 @@ use Rattle.tree_build.proofs.run.node_word.Reads as node-word-reads
 
 -- src/fill.rt:83:19
 mul-m : tie.Need-mul-m
-mul-m c = ?
+mul-m c = search needs
 
 -- src/fill.rt:83:13
 mul-m-2 : tie.Need-mul-m-2
-mul-m-2 c = ?
+mul-m-2 c = search needs
 
 -- src/fill.rt:83:13
 slice-read-m : tie.Need-slice-read-m
-slice-read-m c = ?
+slice-read-m c = search needs
 
 -- src/fill.rt:84:24
 mul-long : tie.Need-mul-long
-mul-long c = ?
+mul-long c = search needs
 
 -- src/fill.rt:84:24
 add-long : tie.Need-add-long
-add-long c = ?
+add-long c = search needs
 
 -- src/fill.rt:84:18
 mul-long-2 : tie.Need-mul-long-2
-mul-long-2 c = ?
+mul-long-2 c = search needs
 
 -- src/fill.rt:84:18
 slice-read-long : tie.Need-slice-read-long
-slice-read-long c = ?
+slice-read-long c = search needs
 
 -- src/fill.rt:84:9
 long-requires : tie.Need-long-requires
@@ -45,19 +48,19 @@ long-requires c κs = search needs
 
 -- src/fill.rt:85:24
 mul-long-3 : tie.Need-mul-long-3
-mul-long-3 c = ?
+mul-long-3 c = search needs
 
 -- src/fill.rt:85:24
 add-long-2 : tie.Need-add-long-2
-add-long-2 c = ?
+add-long-2 c = search needs
 
 -- src/fill.rt:85:18
 mul-long-4 : tie.Need-mul-long-4
-mul-long-4 c = ?
+mul-long-4 c = search needs
 
 -- src/fill.rt:85:18
 slice-read-long-2 : tie.Need-slice-read-long-2
-slice-read-long-2 c = ?
+slice-read-long-2 c = search needs
 
 -- src/fill.rt:85:9
 long-requires-2 : tie.Need-long-requires-2
@@ -65,27 +68,27 @@ long-requires-2 c κs = search needs
 
 -- src/fill.rt:86:9
 node-word-requires : tie.Need-node-word-requires
-node-word-requires c κs = ?
+node-word-requires c κs = node-run _ _ _ _ _ _ (c .before .before .before .before .before .before .before .before .pre) _ _ _ refl (c .before .before .long .ensures .0) (c .long2 .ensures .0)
 
 -- src/fill.rt:87:5
 put-hops-requires : tie.Need-put-hops-requires
-put-hops-requires c κs = ?
+put-hops-requires c κs = hops-ready _ _ _ _ _ _ (c .before .before .before .before .before .before .before .before .before .before .pre) _ _ _ refl (c .before .before .before .before .long .ensures .0) (c .before .before .long2 .ensures .0) _ (c .before .node-word .ensures)
 
 -- src/fill.rt:88:5
 put-kids-requires : tie.Need-put-kids-requires
-put-kids-requires c κs = ?
+put-kids-requires c κs = kids-ready _ _ _ _ _ _ (c .before .before .before .before .before .before .before .before .before .before .before .before .before .before .pre) _ _ _ refl (c .before .before .before .before .before .before .before .before .long .ensures .0) (c .before .before .before .before .before .before .long2 .ensures .0) _ (c .before .before .before .before .before .node-word .ensures)
 
 -- src/fill.rt:89:30
 narrow-requires : tie.Need-narrow-requires
-narrow-requires c κs = ?
+narrow-requires c κs = search needs
 
 -- src/fill.rt:89:41
 narrow-requires-2 : tie.Need-narrow-requires-2
-narrow-requires-2 c κs = ?
+narrow-requires-2 c κs = search needs
 
 -- src/fill.rt:89:5
 put-node-requires : tie.Need-put-node-requires
-put-node-requires c κs = ?
+put-node-requires c κs = node-room _ _ _ _ _ _ (c .before .before .before .before .before .before .before .before .before .before .before .before .before .before .before .before .before .before .before .before .pre) _ _ _ refl (c .before .before .before .before .before .before .before .before .before .before .before .before .before .before .long .ensures .0) (c .before .before .before .before .before .before .before .before .before .before .before .before .long2 .ensures .0) _ (c .before .before .before .before .before .before .before .before .before .before .before .node-word .ensures) _ (c .before .before .before .before .before .before .before .before .before .put-hops .ensures) _ (c .before .before .before .before .before .put-kids .ensures)
 
 -- src/fill.rt:91:25
 ones-below-requires : tie.Need-ones-below-requires
@@ -121,7 +124,7 @@ same-length-2 c = search needs
 
 -- src/fill.rt:79:1
 returns : tie.Need-returns
-returns c = ?
+returns c = state-next _ _ _ _ _ _ (c .before .before .before .before .before .before .before .before .before .before .before .before .before .before .before .before .before .before .before .before .before .before .before .before .before .before .before .pre) _ _ _ refl (c .before .before .before .before .before .before .before .before .before .before .before .before .before .before .before .before .before .before .before .before .before .long .ensures .0) (c .before .before .before .before .before .before .before .before .before .before .before .before .before .before .before .before .before .before .before .long2 .ensures .0) _ (c .before .before .before .before .before .before .before .before .before .before .before .before .before .before .before .before .before .before .node-word .ensures) _ (c .before .before .before .before .before .before .before .before .before .before .before .before .before .before .before .before .put-hops .ensures) _ (c .before .before .before .before .before .before .before .before .before .before .before .before .put-kids .ensures) _ _ (c .before .before .before .before .before .before .before .before .narrow .ensures) (c .before .before .before .before .before .before .before .narrow2 .ensures) _ (c .before .before .before .before .before .before .put-node .ensures) _ _ (c .before .before .long3 .ensures .0 ∙ c .before .before .before .ones-below .ensures .0) (c .long4 .ensures .0 ∙ c .before .ones-below2 .ensures .0)
 
 pub step-spec : {M : Type 1} → statement M
 step-spec =
