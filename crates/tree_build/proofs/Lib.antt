@@ -7,3 +7,4 @@ pub mod Words
 pub mod Hops
 pub mod Kids
 pub mod Steps
+pub mod Ends

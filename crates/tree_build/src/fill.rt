@@ -113,14 +113,22 @@ fn clear_hops(hops: &mut [u16])
     }
 }
 
-// The whole image: zeros, the root, and then node by node.
-pub fn fill(list: &[u8], words: &mut [u32], hops: &mut [u16])
+// Zeros, and the root, which waits with the whole list.
+fn start(list: &[u8], words: &mut [u32], hops: &mut [u16])
     requires { ⌜ Room (now list) (length (now words)) (length (now hops)) ⌝ }
-    ensures { λ _. ⌜ Filled (now (list .entry)) (now (words .entry)) (now (hops .entry)) (now (words .exit)) (now (hops .exit)) ⌝ }
+    ensures { λ _. ⌜ State (now (list .entry)) (now (words .exit)) (now (hops .exit)) 0 1 0 ⌝ }
 {
     clear_words(words);
     clear_hops(hops);
     put_node(words, 0, 0, 0, narrow(list.len() / 8));
+}
+
+// The whole image, node by node.
+pub fn fill(list: &[u8], words: &mut [u32], hops: &mut [u16])
+    requires { ⌜ Room (now list) (length (now words)) (length (now hops)) ⌝ }
+    ensures { λ _. ⌜ Filled (now (list .entry)) (now (words .entry)) (now (hops .entry)) (now (words .exit)) (now (hops .exit)) ⌝ }
+{
+    start(list, words, hops);
     let mut i: usize = 0;
     let mut t: usize = 1;
     let mut h: usize = 0;
