@@ -8,3 +8,5 @@ pub mod Hops
 pub mod Kids
 pub mod Steps
 pub mod Ends
+pub mod Levels
+pub mod Answers

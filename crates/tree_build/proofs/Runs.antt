@@ -59,7 +59,7 @@ module _ (s : List ℕ) (good : Records s (length s / 8)) where
   addr-rises i k l u = omega (arith, good .rises i k l u, short i (omega arith), short k u)
 
   -- between two records of a node lie only records of the node
-  convex : (m p i j k : ℕ) → i < j → j < k → k < length s / 8 → throughAt s m p i ≡ true → throughAt s m p k ≡ true → throughAt s m p j ≡ true
+  pub convex : (m p i j k : ℕ) → i < j → j < k → k < length s / 8 → throughAt s m p i ≡ true → throughAt s m p k ≡ true → throughAt s m p j ≡ true
   convex m p i j k a b l ei ek = go (below? (recordAt s j .len) (4 * m))
     where
       pi : (4 * m ≤ recordAt s i .len) × (slot (4 * m) (recordAt s i .addr) ≡ p)

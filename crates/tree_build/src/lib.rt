@@ -5,10 +5,7 @@ pub mod run;
 use routes::input;
 use routes::input::Input;
 ghost use mathlib.Core.Path.{_≡_};
-ghost use Prim.Native.Nat.{_/_};
-ghost use lib.ListN.{length};
-ghost use Rattle.routes.specs.Record.{Records};
-ghost use Rattle.tree_build.specs.Built.{saysBuilt, out, routesIn, madeOf, built};
+ghost use Rattle.tree_build.specs.Built.{saysBuilt, out, GoodInput, routesIn, madeOf, built};
 
 // What a build answers: the nodes and the hops used; a refusal with the index of a record; or a refusal by its number alone.
 pub enum Built {
@@ -18,11 +15,10 @@ pub enum Built {
 }
 
 // Good records into the two arrays: 11 where too few whole nodes are lent, 12 where too few hops are.
-fn make(list: &[u8], words: &mut [u32], hops: &mut [u16]) -> Built
-    requires { ⌜ Records (now list) (length (now list) / 8) ⌝ }
+fn make(list: &[u8], n: usize, words: &mut [u32], hops: &mut [u16]) -> Built
+    requires { ⌜ GoodInput (now list) n ⌝ }
     ensures { λ r. ⌜ out (saysBuilt r) (now (words .exit)) (now (hops .exit)) ≡ madeOf (routesIn (now (list .entry))) (now (words .entry)) (now (hops .entry)) ⌝ }
 {
-    let n = list.len() / 8;
     let nodes = count::count_nodes(list, n);
     if words.len() / 3 < nodes {
         return Built::Refused(11);
@@ -39,7 +35,7 @@ pub fn build(input: &[u8], words: &mut [u32], hops: &mut [u16]) -> Built
     ensures { λ r. ⌜ out (saysBuilt r) (now (words .exit)) (now (hops .exit)) ≡ built (now (input .entry)) (now (words .entry)) (now (hops .entry)) ⌝ }
 {
     match input::check_input(input) {
-        Input::Good(_) => make(input, words, hops),
+        Input::Good(n) => make(input, n, words, hops),
         Input::Refused(f, k) => Built::RefusedAt(f, k),
         Input::TooMany => Built::Refused(6),
     }
