@@ -4,7 +4,7 @@ use mathlib.Core.Path.{_≡_, refl, sym, _∙_, ap, ap₂}
 use mathlib.Core.Logic.{_⊎_, inl, inr}
 use mathlib.Core.Bool.{Bool, true, false, cond, true≢false}
 use mathlib.Core.List.{List, [], _∷_, _++_, List·Memᴰ, List·Memᴰ·head, List·Memᴰ·tail}
-use Prim.Native.Nat.{ℕ, zero, suc, _+_, _-_, _*_, _/_, _%_, _^_, _≤_, _<_}
+use Prim.Native.Nat.{ℕ, zero, suc, _+_, _-_, _*_, _^_, _≤_, _<_}
 use native.Mathlib.Nat.{le-refl, le-step, zero-add, suc-mul}
 use native.Mathlib.Omega.{arith}
 use lib.Dec.{ltb, leb}
@@ -19,7 +19,7 @@ use Rattle.tree.specs.Parts.{picked, gather}
 use Rattle.tree.specs.Image.{Node, node, innerLen, bitHop, inner, child, kids, hopsOf, level, upTo, nodes, hops, through, nodeStands, hopFor, nodeNeed}
 use Rattle.tree.proofs.Counts.{count-none, count-one}
 use Rattle.tree.proofs.Parts.{picked-length, gather-append}
-use Rattle.tree.proofs.Levels.{LevelOf, level-is}
+use Rattle.tree.proofs.Levels.{level-is}
 use Rattle.tree.proofs.Lies.{any-mem, one-prefix, pass-parts, pass-make, up-pass, kidOf, kid-at, kid-is, atBit, bitOf, bit-at, bit-pass, bit-is}
 
 -- g 0 + .. + g (n - 1), and F of each element of a list added up

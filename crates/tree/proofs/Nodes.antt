@@ -1,6 +1,6 @@
 -- The nodes of an image in their order, its words and its hops by their places.
 -- Assumes nothing.
-use mathlib.Core.Path.{_≡_, refl, sym, _∙_, ap, ap₂, subst}
+use mathlib.Core.Path.{_≡_, refl, sym, _∙_, ap, subst}
 use mathlib.Core.Logic.{_⊎_, inl, inr}
 use mathlib.Core.Bool.{Bool, true, false, cond}
 use mathlib.Core.List.{List, [], _∷_, _++_, append-nil}
@@ -15,9 +15,9 @@ use borrow.Author.Tests.{lt-ltb, le-ltb, ltb-true, ltb-false}
 use Rattle.bits.proofs.Tests.{decided}
 use Rattle.bits.specs.Bit.{bitAt}
 use Rattle.bits.specs.Count.{bit}
-use Rattle.tree.specs.Parts.{packed, picked, gather, before}
+use Rattle.tree.specs.Parts.{picked, gather, before}
 use Rattle.tree.specs.Image.{Node, node, child, inner, setBit, word, kids, hopsOf, level, upTo, nodes, wordsFrom}
-use Rattle.tree.proofs.Packed.{packed-bit, packed-cat, packed-ext}
+use Rattle.tree.proofs.Packed.{packed-bit}
 use Rattle.tree.proofs.Parts.{picked-none, gather-append, before-take, before-mono}
 
 -- each node has the depth m
@@ -180,17 +180,3 @@ module _ (st : ℕ → ℕ → Bool) (hop : ℕ → ℕ → ℕ) where
   pub set-inner : (n : Node) (i : ℕ) → i < 15 → setBit st hop n i ≡ inner hop n i
   unfolding setBit
   set-inner n i l = rw (lt-ltb i 15 l)
-
-  set-clear : (n : Node) → packed (λ i. setBit st hop n (15 + i)) 1 ≡ 0
-  unfolding packed setBit
-  set-clear n = refl
-
-  -- a word is its two bitmaps
-  pub word-split : (n : Node) → word st hop n ≡ packed (inner hop n) 15 + packed (child st n) 16 * 65536
-  unfolding word
-  word-split n =
-      packed-cat (setBit st hop n) 16 16
-      ∙ ap₂ (λ (x y : ℕ). x * 65536 + y)
-      (packed-ext (λ i. setBit st hop n (16 + i)) (child st n) 16 (λ i l. set-child n i))
-      (packed-cat (setBit st hop n) 15 1 ∙ ap₂ (λ (x y : ℕ). x * 32768 + y) (set-clear n) (packed-ext (setBit st hop n) (inner hop n) 15 (λ i l. set-inner n i l)))
-      ∙ omega arith

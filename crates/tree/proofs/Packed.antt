@@ -4,7 +4,7 @@ use mathlib.Core.Path.{_≡_, refl, sym, _∙_, ap, ap₂}
 use mathlib.Core.Logic.{_⊎_, inl, inr}
 use mathlib.Core.Bool.{Bool, true, false}
 use Prim.Native.Nat.{ℕ, zero, suc, _+_, _-_, _*_, _/_, _%_, _^_, _<_}
-use native.Mathlib.Nat.{eq-or-lt-of-le, le-of-suc-le-suc, not-suc-le-zero, pow-suc, mod-eq-of-lt, mod-lt, mul-assoc, mul-comm, add-assoc, add-zero, add-suc, add-mul, le-refl, le-step}
+use native.Mathlib.Nat.{eq-or-lt-of-le, le-of-suc-le-suc, not-suc-le-zero, pow-suc, mod-eq-of-lt, mod-lt, mul-assoc, add-assoc, add-mul, le-refl, le-step}
 use native.Mathlib.Omega.{arith}
 use lib.Pow.{pow-pos, pow-add, high, low, shr-shr, split}
 use lib.Count.{ones}
@@ -69,19 +69,3 @@ rank-count w f k h = ones-rank w k ∙ go k h
 -- the same for the upper half
 pub upper-count : (w : ℕ) (f : ℕ → Bool) (k : ℕ) → ((i : ℕ) → i < k → bitAt w (16 + i) ≡ bit (f i)) → ones (w / 2 ^ 16 % 2 ^ k) ≡ count f k
 upper-count w f k h = rank-count (w / 2 ^ 16) f k (λ i l. ap (λ (x : ℕ). x % 2) (shr-shr w 16 i) ∙ h i l)
-
-pub packed-ext : (f g : ℕ → Bool) (n : ℕ) → ((i : ℕ) → i < n → f i ≡ g i) → packed f n ≡ packed g n
-unfolding packed
-packed-ext f g zero h = refl
-packed-ext f g (suc n) h = rw (h n (le-refl (suc n)), packed-ext f g n (λ i l. h i (le-step l)))
-
--- the upper part apart from the lower
-pub packed-cat : (f : ℕ → Bool) (n k : ℕ) → packed f (n + k) ≡ packed (λ i. f (n + i)) k * 2 ^ n + packed f n
-unfolding packed
-packed-cat f n zero = rw add-zero (omega arith)
-packed-cat f n (suc k) =
-    rw add-suc
-    (ap₂ (λ (x y : ℕ). bit (f (n + k)) * x + y) (pow-add 2 n k ∙ mul-comm (2 ^ n) (2 ^ k)) (packed-cat f n k)
-    ∙ ap (λ (x : ℕ). x + (packed (λ i. f (n + i)) k * 2 ^ n + packed f n)) (sym (mul-assoc (bit (f (n + k))) (2 ^ k) (2 ^ n)))
-    ∙ sym (add-assoc (bit (f (n + k)) * 2 ^ k * 2 ^ n) (packed (λ i. f (n + i)) k * 2 ^ n) (packed f n))
-    ∙ ap (λ (x : ℕ). x + packed f n) (sym (add-mul (bit (f (n + k)) * 2 ^ k) (packed (λ i. f (n + i)) k) (2 ^ n))))

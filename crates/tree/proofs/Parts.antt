@@ -1,17 +1,17 @@
 -- Laws of lists by their parts. The rank lemma: what is picked at a number stands after as many as were picked below it, and
 -- what an element gives stands after all that comes from the elements before it.
 -- Assumes nothing.
-use mathlib.Core.Path.{_≡_, refl, sym, _∙_, ap, ap₂}
+use mathlib.Core.Path.{_≡_, refl, sym, _∙_, ap}
 use mathlib.Core.Logic.{_⊎_, inl, inr}
 use mathlib.Core.Bool.{Bool, true, false, cond}
-use mathlib.Core.List.{List, [], _∷_, _++_, append-assoc, append-nil}
+use mathlib.Core.List.{List, [], _∷_, _++_, append-assoc}
 use Prim.Native.Nat.{ℕ, zero, suc, _+_, _-_, _≤_, _<_}
 use native.Mathlib.Nat.{eq-or-lt-of-le, le-of-suc-le-suc, not-suc-le-zero, zero-add, add-assoc, le-refl, le-step}
 use native.Mathlib.Numerals.{add-one}
 use native.Mathlib.Omega.{arith}
 use lib.Dec.{ltb}
 use lib.ListN.{length, getD, take, length-append, List·getD-append}
-use lib.Seq.{getD-append-add, getD-at, take-suc}
+use lib.Seq.{getD-append-add, getD-at}
 use borrow.Author.Tests.{ltb-true, ltb-false}
 use Rattle.bits.proofs.Tests.{decided}
 use Rattle.bits.specs.Count.{bit, count}
@@ -94,11 +94,6 @@ module _ {A : Type 0} {B : Type 0} (F : A → List B) where
   before-take [] (suc i) = refl
   before-take (x ∷ xs) zero = refl
   before-take (x ∷ xs) (suc i) = length-append (F x) (gather F (take i xs)) ∙ ap (λ (k : ℕ). length (F x) + k) (before-take xs i)
-
-  pub gather-next : (xs : List A) (i : ℕ) (a : A) → i < length xs → gather F (take (i + 1) xs) ≡ gather F (take i xs) ++ F (getD xs i a)
-  unfolding gather
-  gather-next xs i a h =
-      rw add-one (ap (gather F) (take-suc xs i a h) ∙ gather-append (take i xs) (getD xs i a ∷ []) ∙ ap (λ (l : List B). gather F (take i xs) ++ l) (append-nil (F (getD xs i a))))
 
   pub before-mono : (xs : List A) (i j : ℕ) → i ≤ j → before F xs i ≤ before F xs j
   unfolding before

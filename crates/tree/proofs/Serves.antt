@@ -2,7 +2,7 @@
 -- that stand on its path. Assumes nothing.
 use mathlib.Core.Path.{_≡_, refl, sym, _∙_, ap, ap₂}
 use mathlib.Core.Logic.{_⊎_, inl, inr}
-use mathlib.Core.Bool.{Bool, true, false, _||_, cond}
+use mathlib.Core.Bool.{Bool, true, false, cond}
 use mathlib.Core.List.{List, [], _∷_}
 use Prim.Native.Nat.{ℕ, zero, suc, _+_, _-_, _*_, _/_, _^_, _≤_, _<_}
 use native.Mathlib.Nat.{eq-or-lt-of-le, not-suc-le-zero, add-zero, div-one}
@@ -19,10 +19,10 @@ use Rattle.routes.specs.Route.{here, any, first, orElse, best, Good}
 use Rattle.routes.specs.declared.Route.{Route}
 use Rattle.routes.proofs.Levels.{any-mono}
 use Rattle.tree.specs.Walk.{told, treeSaid}
-use Rattle.tree.specs.Image.{Node, node, imageBy, imageOf, through, nodeStands, hopFor, nodeNeed, onPath}
+use Rattle.tree.specs.Image.{Node, node, nodes, words, hops, imageBy, imageOf, through, nodeStands, hopFor, nodeNeed, onPath}
 use Rattle.tree.proofs.Counts.{count-all, count-cut}
-use Rattle.tree.proofs.Nodes.{up-next}
-use Rattle.tree.proofs.Holds.{Agree, image-holds}
+use Rattle.tree.proofs.Nodes.{up-next, words-length}
+use Rattle.tree.proofs.Holds.{pad-past, Agree, image-holds}
 use Rattle.tree.proofs.Lies.{found-any}
 use Rattle.tree.proofs.Needs.{hops-need}
 use Rattle.tree.proofs.Longest.{orHop, longest, readsFrom, walk-longest}
@@ -144,3 +144,12 @@ image-serves rs w h a g l room space =
     walk-longest (nodeStands rs) (hopFor rs) _ _ a l
     (image-holds (nodeStands rs) (hopFor rs) (agree rs g) w h room (omega (arith, hops-need rs g)) 8 0 0 0 (omega (arith, ap length up)) (ap (λ (x : List Node). getD x 0 (node 0 0)) up))
     ∙ ap₂ told (sym (best-longest rs 32 a g (omega arith)) ∙ ap (best rs 32) (div-one a)) (path-count rs a)
+
+-- every word after the last node, and every hop after the last used, is zero
+pub words-after : (rs : List Route) (w h j : ℕ) → 3 * nodeNeed rs ≤ j → getD (imageOf rs w h .words) j 0 ≡ 0
+unfolding imageBy words
+words-after rs w h j l = pad-past w (words (nodeStands rs) (hopFor rs)) j (omega (arith, words-length (nodeStands rs) (hopFor rs) (nodes (nodeStands rs)) 1 0))
+
+pub hops-after : (rs : List Route) (w h j : ℕ) → Good rs → length rs ≤ j → getD (imageOf rs w h .hops) j 0 ≡ 0
+unfolding imageBy
+hops-after rs w h j g l = pad-past h (hops (nodeStands rs) (hopFor rs)) j (omega (arith, hops-need rs g))

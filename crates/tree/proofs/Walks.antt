@@ -1,18 +1,16 @@
 -- What the tests of the code say of the walk. Assumes nothing.
 use mathlib.Core.Path.{_≡_, refl, sym, ap, _∙_}
-use mathlib.Core.Bool.{Bool, true, false, cond, not, _&&_}
-use mathlib.Core.List.{List, [], _∷_}
-use Prim.Native.Nat.{ℕ, zero, suc, _+_, _-_, _*_, _/_, _%_, _^_, _<_, _≤_}
+use mathlib.Core.Bool.{Bool, true, false, cond}
+use mathlib.Core.List.{List}
+use Prim.Native.Nat.{ℕ, zero, suc, _+_, _-_, _/_, _%_, _^_, _<_, _≤_}
 use native.Mathlib.Omega.{arith}
-use lib.Dec.{eqb, ltb, leb}
 use lib.ListN.{length, getD}
 use lib.Count.{ones}
 use borrow.Author.Tests.{lt-ltb, le-ltb, le-leb, lt-leb, eq-eqb, ne-eqb}
-use Rattle.routes.specs.Said.{Said, accepted, refused}
+use Rattle.routes.specs.Said.{Said, refused}
 use Rattle.routes.specs.Input.{hopFine}
-use Rattle.bits.proofs.Tests.{both}
 use Rattle.tree.specs.Node.{bitsOf, childOf, baseOf, isSet, sound, nibbleOf, tryBit, deepestOf, betterOf, childAt}
-use Rattle.tree.specs.Walk.{saysTreeFound, told, fetchedFrom, lastMatch, innerMatch, walkFrom, treeSaid}
+use Rattle.tree.specs.Walk.{saysTreeFound, told, fetchedFrom, innerMatch, walkFrom}
 use Rattle.tree.specs.declared.Place.{Place}
 use Rattle.tree.specs.declared.Place.the-variants.{Nowhere, At}
 use Rattle.tree.specs.declared.TreeFound.{TreeFound}

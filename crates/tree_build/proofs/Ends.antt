@@ -1,26 +1,23 @@
 -- The start of the queue, and its end: when no node waits, the arrays hold the image. Assumes nothing.
 use mathlib.Core.Path.{_≡_, refl, sym, _∙_, ap, subst}
 use mathlib.Core.Logic.{_⊎_, inl, inr}
-use mathlib.Core.Bool.{Bool, true, false}
-use mathlib.Core.List.{List, [], _∷_, _++_}
-use Prim.Native.Nat.{ℕ, zero, suc, _+_, _-_, _*_, _/_, _%_, _^_, _≤_, _<_}
+use mathlib.Core.List.{List}
+use Prim.Native.Nat.{ℕ, zero, suc, _+_, _*_, _/_, _%_, _≤_, _<_}
 use native.Mathlib.Omega.{arith}
-use lib.ListN.{length, getD, replicate, take, length-replicate, List·getD-eq-default}
-use lib.Seq.{ext-getD, getD-append-add, take-length}
-use Rattle.bits.specs.Slot.{slot}
+use lib.ListN.{length, getD, replicate, length-replicate, List·getD-eq-default}
+use lib.Seq.{ext-getD, take-length}
 use Rattle.bits.specs.Count.{count}
 use Rattle.bits.proofs.Tests.{below?}
 use Rattle.routes.specs.Record.{recordAt, Records}
-use Rattle.tree.specs.Parts.{gather, before, padded}
-use Rattle.tree.specs.Image.{Node, node, bitHop, inner, kids, hopsOf, words, hops, imageBy}
+use Rattle.tree.specs.Parts.{gather, padded}
+use Rattle.tree.specs.Image.{Node, node, inner, kids, hopsOf, words, hops, imageBy}
 use Rattle.tree.proofs.Counts.{count-hit}
 use Rattle.tree.proofs.Parts.{picked-length, gather-split, before-zero, before-take}
 use Rattle.tree.proofs.Nodes.{up-next, words-length, words-at, ahead}
-use Rattle.tree.proofs.Holds.{pad-length, pad-at, hop-place}
-use Rattle.tree_build.specs.Built.{routesIn}
-use Rattle.tree_build.specs.Run.{standsIn, hopIn, pathAt, nodeAt}
-use Rattle.tree_build.specs.Queue.{put3, Waits, nodesIn, nodeIn, hopsBefore, Done, Room, State, Filled}
-use Rattle.tree_build.proofs.Stores.{zeros, put3-length, put3-other, put3-at}
+use Rattle.tree.proofs.Holds.{pad-length, pad-at, zeros, pad-past, hop-place}
+use Rattle.tree_build.specs.Run.{standsIn, hopIn, pathAt}
+use Rattle.tree_build.specs.Queue.{put3, Waits, nodesIn, nodeIn, hopsBefore, Room, State, Filled}
+use Rattle.tree_build.proofs.Stores.{put3-length, put3-other, put3-at}
 use Rattle.tree_build.proofs.Runs.{root-run}
 use Rattle.tree_build.proofs.Steps.{tail-le}
 
@@ -73,9 +70,7 @@ pad-ext ys xs l f g =
   where
     go : (j : ℕ) → (j < length xs) ⊎ (length xs ≤ j) → getD ys j 0 ≡ getD (padded (length ys) xs) j 0
     go j (inl u) = f j u ∙ sym (pad-at (length ys) xs j u)
-    go j (inr u) =
-        let e : j ≡ length xs + (j - length xs) = omega arith in
-        g j u ∙ sym (ap (λ (k : ℕ). getD (padded (length ys) xs) k 0) e ∙ getD-append-add xs (replicate (length ys - length xs) 0) (j - length xs) 0 ∙ zeros (length ys - length xs) (j - length xs))
+    go j (inr u) = g j u ∙ sym (pad-past (length ys) xs j u)
 
 module _ (s ws hs : List ℕ) (i t h : ℕ) (now : State s ws hs i t h) (l : t ≤ i) where
   good : Records s (length s / 8)

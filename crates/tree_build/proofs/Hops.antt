@@ -1,9 +1,9 @@
 -- The hops of a node, put one by one at their places. Assumes nothing.
 use mathlib.Core.Path.{_≡_, refl, sym, _∙_, ap, subst}
 use mathlib.Core.Logic.{_⊎_, inl, inr, ⊎-elim}
-use mathlib.Core.Bool.{Bool, true, false}
+use mathlib.Core.Bool.{Bool, true}
 use mathlib.Core.List.{List}
-use Prim.Native.Nat.{ℕ, _+_, _-_, _*_, _/_, _%_, _^_, _≤_, _<_}
+use Prim.Native.Nat.{ℕ, _+_, _*_, _/_, _%_, _^_, _≤_, _<_}
 use native.Mathlib.Nat.{eq-or-lt-of-le}
 use native.Mathlib.Omega.{arith}
 use lib.Count.{ones}
@@ -13,12 +13,12 @@ use Rattle.bits.specs.Count.{count}
 use Rattle.bits.proofs.Tests.{below?}
 use Rattle.routes.specs.Record.{recordAt}
 use Rattle.routes.specs.declared.Route.{Route}
-use Rattle.tree.specs.Image.{bitHop, inner, child, word}
+use Rattle.tree.specs.Image.{bitHop, word}
 use Rattle.tree.proofs.Counts.{count-less}
 use Rattle.tree.proofs.Packed.{rank-count, upper-count}
 use Rattle.tree.proofs.Nodes.{inner-bit, child-bit}
 use Rattle.tree.proofs.Lies.{one-prefix, atBit, bitOf, bit-at}
-use Rattle.tree_build.specs.Run.{standsIn, hopIn, pathAt, nodeAt, NodeRun, placeAt, innerIn, childIn, wordIn}
+use Rattle.tree_build.specs.Run.{standsIn, hopIn, pathAt, nodeAt, placeAt, innerIn, childIn, wordIn}
 use Rattle.tree_build.specs.Queue.{HopsReady, HopsPut}
 use Rattle.tree_build.proofs.Runs.{short}
 use Rattle.tree_build.proofs.Words.{own-bit, bit-own}

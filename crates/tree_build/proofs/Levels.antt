@@ -1,8 +1,8 @@
 -- The nodes are counted right: each node below the root is fresh at one record, the first of its run. Assumes nothing.
 use mathlib.Core.Path.{_≡_, refl, sym, _∙_, ap, ap₂, subst}
 use mathlib.Core.Logic.{_⊎_, inl, inr}
-use mathlib.Core.Bool.{Bool, true, false, not, cond, _&&_, true≢false, false≢true}
-use mathlib.Core.List.{List, [], _∷_}
+use mathlib.Core.Bool.{Bool, true, false, not, cond, true≢false}
+use mathlib.Core.List.{List}
 use Prim.Native.Nat.{ℕ, zero, suc, _+_, _-_, _*_, _/_, _≤_, _<_}
 use native.Mathlib.Nat.{eq-or-lt-of-le}
 use native.Mathlib.Omega.{arith}
@@ -11,11 +11,11 @@ use lib.ListN.{length, getD, length-append}
 use borrow.Author.Tests.{le-leb, leb-true, eq-eqb, ne-eqb, eqb-true, not-true}
 use Rattle.bits.specs.Count.{count}
 use Rattle.bits.specs.Search.{firstOf}
-use Rattle.bits.proofs.Counts.{Matched, count-matched}
+use Rattle.bits.proofs.Counts.{count-matched}
 use Rattle.bits.proofs.Searches.{firstOf-is, firstOf-at, firstOf-before}
 use Rattle.bits.proofs.Tests.{both, and-split, below?, equal?, untrue}
 use Rattle.routes.specs.Record.{recordAt, Records}
-use Rattle.tree.specs.Image.{Node, node, level, upTo, nodeNeed}
+use Rattle.tree.specs.Image.{Node, node, level, upTo}
 use Rattle.tree.proofs.Counts.{count-all}
 use Rattle.tree.proofs.Levels.{LevelOf, level-is}
 use Rattle.tree.proofs.Lies.{pass-parts, pass-make}

@@ -10,3 +10,4 @@ pub mod Steps
 pub mod Ends
 pub mod Levels
 pub mod Answers
+pub mod Serves

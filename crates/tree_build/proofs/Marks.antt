@@ -6,15 +6,15 @@ use Prim.Native.Nat.{ℕ, zero, suc, _+_, _-_, _*_, _/_, _%_, _^_, _≤_, _<_}
 use native.Mathlib.Nat.{mod-lt, mod-eq-of-lt, div-eq-of-lt, le-refl, le-step, add-comm}
 use native.Mathlib.Numerals.{add-one}
 use native.Mathlib.Omega.{arith}
-use lib.Dec.{eqb, ltb}
+use lib.Dec.{eqb}
 use lib.Bits.{bitAnd, bitOr, or-lt, or-shr, or-mod, or-zero-r, and-mask}
 use lib.Pow.{pow-pos, pow-add, pow-lt, pow-mono, shl-shr, mod-pow-add}
-use borrow.Author.Tests.{ltb-true, ltb-false, eqb-true, eq-eqb, ne-eqb, lt-ltb, le-ltb}
+use borrow.Author.Tests.{eq-eqb, ne-eqb, lt-ltb, le-ltb}
 use Rattle.bits.specs.Bit.{bitAt}
 use Rattle.bits.specs.Count.{bit}
 use Rattle.bits.specs.Slot.{slot}
 use Rattle.bits.proofs.Slots.{shl-one}
-use Rattle.bits.proofs.Tests.{decided, equal?, below?}
+use Rattle.bits.proofs.Tests.{equal?, below?}
 use Rattle.tree.specs.Parts.{packed}
 use Rattle.tree_build.specs.Run.{placeOf, WithBit}
 

@@ -1,22 +1,22 @@
 -- Runs of good records: what stands, the hop of a prefix, and the run of a child. Assumes nothing.
 use mathlib.Core.Path.{_≡_, refl, sym, _∙_, ap, subst}
 use mathlib.Core.Logic.{_⊎_, inl, inr}
-use mathlib.Core.Bool.{Bool, true, false, true≢false}
+use mathlib.Core.Bool.{true, false, true≢false}
 use mathlib.Core.List.{List, List·Memᴰ}
-use Prim.Native.Nat.{ℕ, _+_, _-_, _*_, _/_, _%_, _^_, _≤_, _<_}
+use Prim.Native.Nat.{ℕ, _+_, _-_, _*_, _/_, _^_, _≤_, _<_}
 use native.Mathlib.Nat.{eq-or-lt-of-le, le-antisymm, le-refl}
 use native.Mathlib.Omega.{arith}
 use lib.Pow.{shr-mono}
-use lib.ListN.{length, getD}
+use lib.ListN.{length}
 use Rattle.bits.specs.Slot.{slot, cut}
 use Rattle.bits.proofs.Slots.{cut-is, cut-le, cut-more}
 use Rattle.bits.proofs.Tests.{below?}
-use Rattle.routes.specs.Route.{here, Fine, Good}
-use Rattle.routes.specs.Record.{recordAt, Records, noRoute}
+use Rattle.routes.specs.Route.{here, Good}
+use Rattle.routes.specs.Record.{recordAt, Records}
 use Rattle.routes.specs.declared.Route.{Route}
 use Rattle.routes.proofs.Rows.{nth-listed, listed-nth, length-routes, nth-route, records-good}
 use Rattle.tree.specs.Image.{through}
-use Rattle.tree.proofs.Lies.{any-is, any-mem, found-any, hop-of, pass-parts, pass-make, up-pass, kidOf, kid-at, kid-is}
+use Rattle.tree.proofs.Lies.{any-is, any-mem, found-any, hop-of, pass-parts, pass-make, up-pass, kidOf, kid-at}
 use Rattle.tree_build.specs.Built.{routesIn}
 use Rattle.tree_build.specs.Run.{standsIn, hopIn, pathAt, throughAt, Run, RunEnd}
 

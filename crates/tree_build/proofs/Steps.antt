@@ -1,9 +1,9 @@
 -- One step of the queue: the node at its head is made, its hops are put, and its children wait at its end. Assumes nothing.
 use mathlib.Core.Path.{_≡_, refl, sym, _∙_, ap, ap₂, subst}
 use mathlib.Core.Logic.{_⊎_, inl, inr}
-use mathlib.Core.Bool.{Bool, true, false}
-use mathlib.Core.List.{List, [], _∷_}
-use Prim.Native.Nat.{ℕ, zero, suc, _+_, _-_, _*_, _/_, _%_, _^_, _≤_, _<_}
+use mathlib.Core.Bool.{true, false}
+use mathlib.Core.List.{List}
+use Prim.Native.Nat.{ℕ, _+_, _-_, _*_, _/_, _%_, _^_, _≤_, _<_}
 use native.Mathlib.Nat.{eq-or-lt-of-le, le-refl}
 use native.Mathlib.Omega.{arith}
 use lib.Count.{ones}
@@ -17,11 +17,11 @@ use Rattle.tree.specs.Image as image
 use Rattle.tree.proofs.Counts.{count-less, count-hit}
 use Rattle.tree.proofs.Parts.{picked-length, before-next, before-le, before-mono}
 use Rattle.tree.proofs.Nodes.{nodes-fix, depth-lt}
-use Rattle.tree.proofs.Holds.{Agree, child-place}
+use Rattle.tree.proofs.Holds.{child-place}
 use Rattle.tree.proofs.Serves.{agree}
 use Rattle.tree_build.specs.Built.{routesIn}
 use Rattle.tree_build.specs.Run.{standsIn, hopIn, pathAt, nodeAt, Run, NodeRun, innerIn, childIn, wordIn}
-use Rattle.tree_build.specs.Queue.{put3, Waits, HopsReady, HopsPut, KidsReady, KidsPut, nodesIn, nodeIn, kidsBefore, hopsBefore, Done, Room, State, Next}
+use Rattle.tree_build.specs.Queue.{put3, Waits, HopsReady, HopsPut, KidsReady, KidsPut, nodesIn, nodeIn, kidsBefore, hopsBefore, Done, State, Next}
 use Rattle.tree_build.proofs.Stores.{put3-length, put3-other, put3-at}
 use Rattle.tree_build.proofs.Runs.{good-list}
 use Rattle.tree_build.proofs.Hops.{inner-ones, child-ones}

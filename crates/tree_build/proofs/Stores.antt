@@ -1,18 +1,14 @@
 -- Stores to the words: zeros, and the three words of a node. Assumes nothing.
-use mathlib.Core.Path.{_≡_, refl, sym, _∙_, ap}
+use mathlib.Core.Path.{_≡_, sym, _∙_}
 use mathlib.Core.Logic.{_⊎_, inl, inr}
 use mathlib.Core.List.{List}
-use Prim.Native.Nat.{ℕ, zero, suc, _+_, _*_, _≤_, _<_}
+use Prim.Native.Nat.{ℕ, _+_, _*_, _≤_, _<_}
 use native.Mathlib.Nat.{eq-or-lt-of-le}
 use native.Mathlib.Omega.{arith}
-use lib.ListN.{length, getD, set, replicate, length-set, length-replicate, getD-replicate}
+use lib.ListN.{length, getD, set, replicate, length-set, length-replicate}
 use lib.Seq.{ext-getD, getD-set-same, getD-set-other}
+use Rattle.tree.proofs.Holds.{zeros}
 use Rattle.tree_build.specs.Queue.{put3}
-
-pub zeros : (k j : ℕ) → _≡_ {A = ℕ} (getD (replicate k 0) j 0) 0
-zeros zero j = refl
-zeros (suc k) zero = refl
-zeros (suc k) (suc j) = zeros k j
 
 -- zeros up to k
 abbrev pub ZerosTo : List ℕ → ℕ → Type 0

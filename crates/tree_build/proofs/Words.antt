@@ -1,24 +1,24 @@
 -- The word of a node has exactly the bits at which the records of its run lie. Assumes nothing.
-use mathlib.Core.Path.{_≡_, refl, sym, _∙_, ap, subst}
+use mathlib.Core.Path.{_≡_, sym, _∙_, ap, subst}
 use mathlib.Core.Logic.{_⊎_, inl, inr}
 use mathlib.Core.Bool.{Bool, true, false, cond, true≢false, false≢true}
 use mathlib.Core.List.{List}
-use Prim.Native.Nat.{ℕ, suc, _+_, _-_, _*_, _/_, _%_, _^_, _≤_, _<_}
+use Prim.Native.Nat.{ℕ, _+_, _-_, _*_, _/_, _%_, _^_, _≤_, _<_}
 use native.Mathlib.Nat.{eq-or-lt-of-le, div-eq-of-lt}
 use native.Mathlib.Omega.{arith}
-use lib.Dec.{eqb, ltb}
+use lib.Dec.{eqb}
 use lib.Pow.{pow-pos}
 use lib.ListN.{length}
 use borrow.Author.Tests.{lt-ltb, le-ltb, ltb-true, eq-eqb, eqb-true}
 use Rattle.bits.specs.Bit.{bitAt}
 use Rattle.bits.specs.Count.{bit}
-use Rattle.bits.proofs.Tests.{decided, below?, untrue}
+use Rattle.bits.proofs.Tests.{decided, below?}
 use Rattle.routes.specs.Record.{recordAt}
 use Rattle.routes.specs.declared.Route.{Route}
-use Rattle.tree.specs.Image.{node, innerLen, bitHop, inner, child, setBit, word, through}
+use Rattle.tree.specs.Image.{node, bitHop, child, setBit, word}
 use Rattle.tree.proofs.Nodes.{set-inner, set-child}
-use Rattle.tree.proofs.Lies.{pass-parts, up-pass, kidOf, kid-at, kid-is, atBit, bitOf, bit-at, bit-pass, bit-is}
-use Rattle.tree_build.specs.Run.{standsIn, hopIn, pathAt, nodeAt, throughAt, Run, NodeRun, placeOf, placeAt, WithBit, innerIn, childIn, wordIn}
+use Rattle.tree.proofs.Lies.{pass-parts, up-pass, kidOf, kid-at, kid-is, bitOf, bit-at, bit-pass, bit-is}
+use Rattle.tree_build.specs.Run.{standsIn, hopIn, pathAt, nodeAt, NodeRun, placeOf, placeAt, WithBit, innerIn, childIn, wordIn}
 use Rattle.tree_build.proofs.Marks.{word-bits}
 use Rattle.tree_build.proofs.Runs.{stands-at, stands-by, hop-at, hop-by, short}
 

@@ -2,6 +2,7 @@
 pub mod count;
 pub mod fill;
 pub mod run;
+
 use routes::input;
 use routes::input::Input;
 ghost use mathlib.Core.Path.{_≡_};

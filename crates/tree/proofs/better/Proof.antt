@@ -1,3 +1,4 @@
+-- `tree::better` meets its contract. Assumes nothing.
 use mathlib.Core.Path.{_∙_}
 use Rattle.tree.proofs.Walks.{better-none, better-at}
 use borrow.Author.Needs.{needs}

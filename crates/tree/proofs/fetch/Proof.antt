@@ -1,3 +1,4 @@
+-- `tree::fetch` meets its contract. Assumes nothing.
 use Rattle.tree.proofs.Walks.{fetch-none, fetch-past, fetch-zero, fetch-big, fetch-hop}
 use borrow.Author.Needs.{needs}
 use Rattle.tree.proofs.fetch.Statement.{statement}

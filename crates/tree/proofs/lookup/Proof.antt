@@ -1,8 +1,8 @@
+-- `tree::lookup` meets its contract. Assumes nothing.
 use borrow.Author.Tests.{not-true, not-false}
 use mathlib.Core.Path.{_≡_, refl, _∙_}
-use Prim.Native.Nat.{ℕ, _/_, _≤_}
+use Prim.Native.Nat.{_≤_}
 use native.Mathlib.Omega.{arith}
-use lib.ListN.{length}
 use borrow.Author.Needs.{needs}
 use Rattle.tree.specs.Walk.{walkFrom, treeSaid}
 use Rattle.tree.proofs.Walks.{walk-past, walk-broken, walk-last, walk-stop, walk-down}
@@ -52,7 +52,7 @@ lookup-spec =
     (λ c κs. search needs)
     (λ c. search needs)
     (λ c. (
-              omega arith,
-          walk-down _ _ _ _ _ _ (c .before .before .before .before .before .before .before .before .before .before .before .before .loop-test .taken) _ (c .before .before .before .before .before .before .before .before .before .is-set .ensures) (c .before .before .before .before .before .before .before .before .if1 .left) (c .before .before .before .before .before .before .before .if2 .left) _ (c .before .before .before .before .before .before .nibble .ensures .0) _ (c .before .before .before .before .before .deepest .ensures .0) _ (c .before .before .before .before .better2 .ensures) _ (c .before .before .before .is-set2 .ensures) _ (not-false _ (c .before .before .if3 .left)) (c .child .ensures) ∙ c .before .before .before .before .before .before .before .before .before .before .before .before .before .loop .inv .1,
-        ))
+      omega arith,
+      walk-down _ _ _ _ _ _ (c .before .before .before .before .before .before .before .before .before .before .before .before .loop-test .taken) _ (c .before .before .before .before .before .before .before .before .before .is-set .ensures) (c .before .before .before .before .before .before .before .before .if1 .left) (c .before .before .before .before .before .before .before .if2 .left) _ (c .before .before .before .before .before .before .nibble .ensures .0) _ (c .before .before .before .before .before .deepest .ensures .0) _ (c .before .before .before .before .better2 .ensures) _ (c .before .before .before .is-set2 .ensures) _ (not-false _ (c .before .before .if3 .left)) (c .child .ensures) ∙ c .before .before .before .before .before .before .before .before .before .before .before .before .before .loop .inv .1,
+    ))
     (λ c. walk-past _ _ _ _ _ _ (c .loop-test .left) ∙ c .before .loop .inv .1))

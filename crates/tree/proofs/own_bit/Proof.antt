@@ -1,3 +1,4 @@
+-- `tree::own_bit` meets its contract. Assumes nothing.
 use mathlib.Core.Path.{refl}
 use native.Mathlib.Omega.{arith}
 use Rattle.tree.proofs.Walks.{try-hit, try-miss}
