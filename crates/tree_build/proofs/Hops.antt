@@ -18,10 +18,10 @@ use Rattle.tree.proofs.Counts.{count-less}
 use Rattle.tree.proofs.Packed.{rank-count, upper-count}
 use Rattle.tree.proofs.Nodes.{inner-bit, child-bit}
 use Rattle.tree.proofs.Lies.{one-prefix, atBit, bitOf, bit-at}
-use Rattle.tree_build.specs.Run.{standsIn, hopIn, pathAt, nodeAt, placeAt, innerIn, childIn, wordIn}
+use Rattle.tree_build.specs.Run.{standsIn, hopIn, pathAt, nodeAt, placeOf, innerIn, childIn, wordIn}
 use Rattle.tree_build.specs.Queue.{HopsReady, HopsPut}
 use Rattle.tree_build.proofs.Runs.{short}
-use Rattle.tree_build.proofs.Words.{own-bit, bit-own}
+use Rattle.tree_build.proofs.Words.{its-place, own-bit, bit-own}
 
 -- the ones of a node's word below a bit
 pub inner-ones : (s : List ℕ) (m a b : ℕ) → b ≤ 15 → ones (wordIn s m a % 2 ^ b) ≡ count (innerIn s m a) b
@@ -59,15 +59,15 @@ hops-skip s m a base k old new r w h is ew l = record {
 }
 
 module _ (s : List ℕ) (m a e base k word : ℕ) (old new : List ℕ) (ready : HopsReady s m a e word base old) (h : HopsTo s m a base k old new) (l : a ≤ k) (u : k < e)
-    (r : Route) (is : r ≡ recordAt s k) (w : ℕ) (ew : w ≡ r .len) (ends : w < 4 * (m + 1)) (b j : ℕ) (eb : b ≡ placeAt s m k) (ej : j ≡ ones (word % 2 ^ b)) where
+    (r : Route) (is : r ≡ recordAt s k) (w : ℕ) (ew : w ≡ r .len) (ends : w < 4 * (m + 1)) (b : ℕ) (eb : b ≡ placeOf m (r .addr) w) (o : ℕ) (eo : o ≡ ones (word % 2 ^ b)) (j : ℕ) (ej : j ≡ o) where
   ends-here : recordAt s k .len < 4 * (m + 1)
   ends-here = omega (arith, ap (λ (y : Route). y .len) is)
 
   place-is : base + j ≡ base + count (innerIn s m a) (bitOf m (recordAt s k))
   place-is =
-      let o = own-bit s m a e (ready .node) k l u ends-here in
+      let z = own-bit s m a e (ready .node) k l u ends-here in
       ap (λ (x : ℕ). base + x)
-      (ej ∙ ap (λ (x : ℕ). ones (x % 2 ^ b)) (ready .word) ∙ ap (λ (x : ℕ). ones (wordIn s m a % 2 ^ x)) (eb ∙ o .1) ∙ inner-ones s m a (bitOf m (recordAt s k)) (omega (arith, o .0)))
+      (ej ∙ eo ∙ ap (λ (x : ℕ). ones (x % 2 ^ b)) (ready .word) ∙ ap (λ (x : ℕ). ones (wordIn s m a % 2 ^ x)) (its-place s m k r is w ew b eb ∙ z .1) ∙ inner-ones s m a (bitOf m (recordAt s k)) (omega (arith, z .0)))
 
   less : count (innerIn s m a) (bitOf m (recordAt s k)) < count (innerIn s m a) 15
   less = let o = own-bit s m a e (ready .node) k l u ends-here in count-less (innerIn s m a) 15 (bitOf m (recordAt s k)) (o .0) (o .3)

@@ -70,11 +70,15 @@ kids-skip s m a e t k old new r w h is ew ends = record {
     own x z = omega (arith, ap (λ (y : ℕ). recordAt s y .len) z, ap (λ (y : Route). y .len) is)
 
 -- a node with a child is not of the last depth
-pub kid-deep : (s : List ℕ) (m a e k : ℕ) (r : Route) (w : ℕ) → NodeRun s m a e → k < e → r ≡ recordAt s k → w ≡ r .len → 4 * (m + 1) ≤ w → m + 1 ≤ 8
-kid-deep s m a e k r w its u is ew long = omega (arith, ap (λ (y : Route). y .len) is, short s (its .records) k (omega (arith, its .run .last)))
+module _ (s : List ℕ) (m a e k : ℕ) (r : Route) (w : ℕ) (its : NodeRun s m a e) (u : k < e) (is : r ≡ recordAt s k) (ew : w ≡ r .len) (long : 4 * (m + 1) ≤ w) where
+  pub kid-slot : 4 * (m + 1) ≤ 32
+  kid-slot = omega (arith, ap (λ (y : Route). y .len) is, short s (its .records) k (omega (arith, its .run .last)))
+
+  pub kid-deep : m + 1 ≤ 8
+  kid-deep = omega (arith, kid-slot)
 
 module _ (s : List ℕ) (m a e t k word : ℕ) (old new : List ℕ) (ready : KidsReady s m a e word t old) (h : KidsTo s m a e t k old new) (l : a ≤ k) (u : k < e)
-    (r : Route) (is : r ≡ recordAt s k) (w : ℕ) (ew : w ≡ r .len) (long : 4 * (m + 1) ≤ w) (q : ℕ) (eq : q ≡ slot (4 * (m + 1)) (r .addr)) (j : ℕ) (ej : j ≡ ones (word / 2 ^ 16 % 2 ^ (q % 16))) where
+    (r : Route) (is : r ≡ recordAt s k) (w : ℕ) (ew : w ≡ r .len) (long : 4 * (m + 1) ≤ w) (j o q : ℕ) (ej : j ≡ o) (eo : o ≡ ones (word / 2 ^ 16 % 2 ^ (q % 16))) (eq : q ≡ slot (4 * (m + 1)) (r .addr)) where
   goes-on : 4 * (m + 1) ≤ recordAt s k .len
   goes-on = omega (arith, ap (λ (y : Route). y .len) is)
 
@@ -84,7 +88,7 @@ module _ (s : List ℕ) (m a e t k word : ℕ) (old new : List ℕ) (ready : Kid
   place-is : t + j ≡ t + count (childIn s m a) (kidOf m (recordAt s k))
   place-is =
       ap (λ (x : ℕ). t + x)
-      (ej ∙ ap (λ (x : ℕ). ones (x / 2 ^ 16 % 2 ^ (q % 16))) (ready .word) ∙ ap (λ (x : ℕ). ones (wordIn s m a / 2 ^ 16 % 2 ^ (x % 16))) (eq ∙ ap (λ (y : Route). slot (4 * (m + 1)) (y .addr)) is)
+      (ej ∙ eo ∙ ap (λ (x : ℕ). ones (x / 2 ^ 16 % 2 ^ (q % 16))) (ready .word) ∙ ap (λ (x : ℕ). ones (wordIn s m a / 2 ^ 16 % 2 ^ (x % 16))) (eq ∙ ap (λ (y : Route). slot (4 * (m + 1)) (y .addr)) is)
       ∙ child-ones s m a (kidOf m (recordAt s k)) (omega arith))
 
   less : count (childIn s m a) (kidOf m (recordAt s k)) < count (childIn s m a) 16
@@ -147,6 +151,13 @@ module _ (s : List ℕ) (m a e t k word : ℕ) (old new : List ℕ) (ready : Kid
         clean x y v g i n b o (inr d) =
             let c = run .only y (omega (arith, ready .node .run .last)) (pass-make (m + 1) (pathAt s (m + 1) k) (recordAt s y) b (sym (pass-parts (m + 1) (pathAt s (m + 1) y) (recordAt s x) o .1) ∙ same-path x d g)) in
             omega (arith, c .1)
+
+-- the same, from what the code has done
+pub kids-put : (s : List ℕ) (m a e t k word : ℕ) (old new new′ : List ℕ) (j from upto : ℕ) → new′ ≡ put3 new (t + j) (m + 1) from upto → KidsReady s m a e word t old → KidsTo s m a e t k old new → a ≤ k → k < e
+    → (r : Route) → r ≡ recordAt s k → (w : ℕ) → w ≡ r .len → 4 * (m + 1) ≤ w → (o : ℕ) → j ≡ o → (q : ℕ) → o ≡ ones (word / 2 ^ 16 % 2 ^ (q % 16)) → q ≡ slot (4 * (m + 1)) (r .addr)
+    → (z : ℕ) → RunEnd s (m + 1) k e z → from ≡ k → upto ≡ z → KidsTo s m a e t z old new′
+kids-put s m a e t k word old new new′ j from upto en ready h l u r is w ew long o ej q eo eq z end ef eu =
+    kids-more s m a e t k word old new ready h l u r is w ew long j o q ej eo eq z end from upto ef eu new′ en
 
 pub kids-done : (s : List ℕ) (m a e t k word : ℕ) (old new : List ℕ) → KidsReady s m a e word t old → k ≤ e → e ≤ k → KidsTo s m a e t k old new → KidsPut s m a t old new
 kids-done s m a e t k word old new ready l u h = record {

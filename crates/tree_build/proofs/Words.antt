@@ -102,11 +102,15 @@ module _ (s : List ℕ) (m a e : ℕ) (its : NodeRun s m a e) where
           (f .0, f .1, f .2, own-kid (f .0) (f .1) (f .2) (f .3) .0 ∙ omega (arith, f .4))
 
 -- a record of the run, as the code has read it
-module _ (s : List ℕ) (m a e k : ℕ) (r : Route) (is : r ≡ recordAt s k) (w : ℕ) (ew : w ≡ r .len) where
-  pub its-len : NodeRun s m a e → a ≤ k → k < e → (4 * m ≤ w) × (w ≤ 32)
-  its-len its l u =
-      let n : w ≡ recordAt s k .len = ew ∙ ap (λ (x : Route). x .len) is in
-      (omega (arith, pass-parts m (pathAt s m a) (recordAt s k) (its .run .inside k l u) .0), omega (arith, short s (its .records) k (omega (arith, its .run .last))))
+module _ (s : List ℕ) (m k : ℕ) (r : Route) (is : r ≡ recordAt s k) (w : ℕ) (ew : w ≡ r .len) where
+  the-len : w ≡ recordAt s k .len
+  the-len = ew ∙ ap (λ (x : Route). x .len) is
+
+  pub its-low : (a e : ℕ) → NodeRun s m a e → a ≤ k → k < e → 4 * m ≤ w
+  its-low a e its l u = omega (arith, the-len, pass-parts m (pathAt s m a) (recordAt s k) (its .run .inside k l u) .0)
+
+  pub its-high : (a e : ℕ) → NodeRun s m a e → k < e → w ≤ 32
+  its-high a e its u = omega (arith, the-len, short s (its .records) k (omega (arith, its .run .last)))
 
   pub its-place : (b : ℕ) → b ≡ placeOf m (r .addr) w → b ≡ placeAt s m k
   its-place b e = e ∙ rw (ew, is)
@@ -124,19 +128,22 @@ marks-none s m a = record {
   only = λ b o. let z : 0 / 2 ^ b ≡ 0 = div-eq-of-lt (pow-pos b) in absurd (omega arith);
 }
 
-pub marks-more : (s : List ℕ) (m a k w b r : ℕ) → MarksTo s m a k w → a ≤ k → b ≡ placeAt s m k → WithBit w b r → MarksTo s m a (k + 1) r
-marks-more s m a k w b r h l e n = record {
+pub marks-more : (s : List ℕ) (m a k word b v : ℕ) (r : Route) (w : ℕ) → MarksTo s m a k word → a ≤ k → r ≡ recordAt s k → w ≡ r .len → b ≡ placeOf m (r .addr) w → WithBit word b v → MarksTo s m a (k + 1) v
+marks-more s m a k word b v r w h l is ew eb n = record {
   fits = n .fits;
   put = λ x u v. n .bits (placeAt s m x) ∙ put x u (eq-or-lt-of-le {n = x} {m = k} (omega arith)) (decided (eqb (placeAt s m x) b));
   only = λ c o. only c (sym (n .bits c) ∙ o) (decided (eqb c b));
 }
   where
-    put : (x : ℕ) → a ≤ x → (x ≡ k) ⊎ (x < k) → (eqb (placeAt s m x) b ≡ true) ⊎ (eqb (placeAt s m x) b ≡ false) → cond (eqb (placeAt s m x) b) 1 (bitAt w (placeAt s m x)) ≡ 1
+    e : b ≡ placeAt s m k
+    e = its-place s m k r is w ew b eb
+
+    put : (x : ℕ) → a ≤ x → (x ≡ k) ⊎ (x < k) → (eqb (placeAt s m x) b ≡ true) ⊎ (eqb (placeAt s m x) b ≡ false) → cond (eqb (placeAt s m x) b) 1 (bitAt word (placeAt s m x)) ≡ 1
     put x u v (inl t) = rw t
     put x u (inr v) (inr t) = rw t (h .put x u v)
     put x u (inl q) (inr t) = absurd (true≢false (sym (eq-eqb (placeAt s m x) b (ap (placeAt s m) q ∙ sym e)) ∙ t))
 
-    only : (c : ℕ) → cond (eqb c b) 1 (bitAt w c) ≡ 1 → (eqb c b ≡ true) ⊎ (eqb c b ≡ false) → (x : ℕ) × (a ≤ x) × (x < k + 1) × (placeAt s m x ≡ c)
+    only : (c : ℕ) → cond (eqb c b) 1 (bitAt word c) ≡ 1 → (eqb c b ≡ true) ⊎ (eqb c b ≡ false) → (x : ℕ) × (a ≤ x) × (x < k + 1) × (placeAt s m x ≡ c)
     only c o (inl t) = (k, l, omega arith, sym e ∙ sym (eqb-true c b t))
     only c o (inr t) = let f = h .only c (rw t at o) in (f .0, f .1, omega (arith, f .2), f .3)
 

@@ -2,7 +2,7 @@
 use Prim.Native.Nat.{_-_, _≤_}
 use native.Mathlib.Omega.{arith}
 use borrow.Author.Needs.{needs}
-use Rattle.tree_build.proofs.Words.{its-len, its-place, MarksTo, marks-none, marks-more, marks-word}
+use Rattle.tree_build.proofs.Words.{its-low, its-high, MarksTo, marks-none, marks-more, marks-word}
 use Rattle.tree_build.proofs.run.node_word.Statement.{statement}
 use Rattle.tree_build.proofs.run.node_word.Tie as tie
 
@@ -19,15 +19,15 @@ node-word-spec =
     Inv-loop
     μ-loop
     (λ c. (omega arith, c .before .pre .run .first, marks-none _ _ _))
-    (λ c κs. omega (arith, c .before .before .before .pre .run .last))
+    (λ c κs. omega arith)
     (λ c κs. search needs)
-    (λ c κs. its-len _ _ _ _ _ _ (c .before .read-record .ensures) _ (c .wide .ensures .0) (c .before .before .before .before .before .pre) (c .before .before .before .loop .inv .0) (c .before .before .loop-test .taken))
+    (λ c κs. search (its-low, its-high))
     (λ c κs. search needs)
     (λ c. search needs)
     (λ c. search needs)
     (λ c. (
       omega arith,
       omega arith,
-      marks-more _ _ _ _ _ _ _ (c .before .before .before .before .before .loop .inv .2) (c .before .before .before .before .before .loop .inv .0) (its-place _ _ (c .before .before .before .before .before .before .before .args .a) (c .before .before .before .before .before .before .before .args .e) _ _ (c .before .before .before .read-record .ensures) _ (c .before .before .wide .ensures .0) _ (c .before .place .ensures .0)) (c .with-bit .ensures),
+      search marks-more,
     ))
-    (λ c. marks-word _ _ _ _ _ _ (c .before .before .before .pre) (c .before .loop .inv .1) (c .loop-test .left) (c .before .loop .inv .2)))
+    (λ c. search marks-word))
