@@ -1,1 +1,4 @@
 // Records as words of 64 bits, and the chain of covering routes that answers for a cell.
+pub mod cover;
+pub mod place;
+pub mod words;

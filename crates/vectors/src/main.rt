@@ -1,10 +1,13 @@
 // Runs worked cases and prints what they give. The file stdout has what document 01 says of them.
 mod inputs;
 mod print;
+mod runs;
 mod samples;
 
 fn main() {
     inputs::run();
     inputs::refusals();
     inputs::most();
+    runs::run();
+    runs::tallies();
 }

@@ -1,0 +1,5 @@
+-- The laws that join the code to what routes mean.
+pub mod Decodes
+pub mod Places
+pub mod Runs
+pub mod Chains

@@ -1,0 +1,18 @@
+-- `chain::cover::inherited` meets its contract. Assumes nothing.
+use native.Mathlib.Omega.{arith}
+use Rattle.chain.proofs.Chains.{climb-placed, none-best, one-best, one-small}
+use borrow.Author.Needs.{needs}
+use Rattle.chain.proofs.cover.inherited.Statement.{statement}
+use Rattle.chain.proofs.cover.inherited.Tie as tie
+
+pub inherited-spec : {M : Type 1} → statement M
+inherited-spec =
+    tie.close
+    (tie.spec
+    (λ c κs. search climb-placed)
+    (λ c. (search none-best, search needs))
+    (λ c. search needs)
+    (λ c. search needs)
+    (λ c. omega (arith, c .before .before .before .before .before .pre .1 .place .to, c .before .before .last-cover .ensures .to))
+    (λ c. search needs)
+    (λ c. (search one-best, search one-small)))

@@ -1,0 +1,20 @@
+-- `chain::cover::place_from` meets its contract. Assumes nothing.
+use Rattle.chain.proofs.Chains.{head-between}
+use borrow.Author.Needs.{needs}
+use Rattle.chain.proofs.cover.place_from.Statement.{statement}
+use Rattle.chain.proofs.cover.place_from.Tie as tie
+
+pub place-from-spec : {M : Type 1} → statement M
+place-from-spec =
+    tie.close
+    (tie.spec
+    (λ c. search needs)
+    (λ c. search needs)
+    (λ c. search needs)
+    (λ c κs. search needs)
+    (λ c. search needs)
+    (λ c. search needs)
+    (λ c. search needs)
+    (λ c κs. search needs)
+    (λ c κs. search head-between)
+    (λ c. search needs))

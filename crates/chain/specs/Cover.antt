@@ -1,0 +1,51 @@
+-- The last word that covers a cell, and the chain that leads to it. Assumes nothing.
+use mathlib.Core.Path.{_≡_}
+use mathlib.Core.Bool.{true, false}
+use mathlib.Core.List.{List}
+use Prim.Native.Nat.{ℕ, _+_, _-_, _*_, _/_, _<_, _≤_}
+use lib.ListN.{length, getD}
+use Rattle.bits.specs.Slot.{slot}
+use Rattle.routes.specs.Route.{covers}
+use Rattle.chain.specs.Words.{routeOf, Words}
+use Rattle.chain.specs.Place.{Placed}
+
+-- the address of word k
+abbrev pub addrIn : List ℕ → ℕ → ℕ
+addrIn ws k = getD ws k 0 / 4294967296
+
+-- r is 1 + the last of the words before j that covers cell i of level p; 0 where none does
+pub record LastCover (ws : List ℕ) (j p i r : ℕ) : Type 0 where
+  pub to : r ≤ j
+  pub one : 0 < r → covers p i (routeOf (getD ws (r - 1) 0)) ≡ true
+  pub none : (k : ℕ) → r ≤ k → k < j → covers p i (routeOf (getD ws k 0)) ≡ false
+
+-- for each of the first n words, 1 + the last word before it that covers its address, or 0
+pub record Parents (ws par : List ℕ) (n : ℕ) : Type 0 where
+  pub each : (k : ℕ) → k < n → LastCover ws k 32 (addrIn ws k) (getD par k 0)
+
+-- what it takes to go up the chain from word j: no word before j lies past cell i of level p
+pub record Climb (ws par : List ℕ) (j p i : ℕ) : Type 0 where
+  pub words : Words ws
+  pub level : p ≤ 32
+  pub to : j ≤ length ws
+  pub room : j ≤ length par
+  pub parents : Parents ws par j
+  pub upto : (k : ℕ) → k < j → slot p (addrIn ws k) ≤ i
+
+-- after 4,096 entries of par: for each first byte below n, how many words have a smaller one
+pub record Heads (ws par : List ℕ) (n : ℕ) : Type 0 where
+  pub each : (b : ℕ) → b < n → Placed ws (b * 4294967296) (getD par (4096 + b) 0)
+
+-- at most 4,096 words, and as many entries as their parents and heads take
+pub record Room (ws par : List ℕ) : Type 0 where
+  pub words : Words ws
+  pub few : length ws ≤ 4096
+  pub room : length par ≡ 4353
+
+-- at most 4,096 words, with the parent of each and the heads of the 256 first bytes, and the end
+pub record Ready (ws par : List ℕ) : Type 0 where
+  pub words : Words ws
+  pub few : length ws ≤ 4096
+  pub room : length par ≡ 4353
+  pub parents : Parents ws par (length ws)
+  pub heads : Heads ws par 257

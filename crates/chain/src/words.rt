@@ -1,0 +1,44 @@
+// Records of eight bytes, read into words of 64 bits.
+ghost use mathlib.Core.Path.{_≡_};
+ghost use Prim.Native.Nat.{_+_, _*_, _<_, _≤_};
+ghost use lib.ListN.{length};
+ghost use Rattle.routes.specs.Record.{word32};
+ghost use Rattle.chain.specs.Words.{wordAt, wordsOf};
+
+fn wide(b: u8) -> u64
+    ensures { λ r. ⌜ (r ≡ b) × (r < 256) ⌝ }
+{
+    b as u64
+}
+
+// Four bytes as a number, the first the highest.
+fn four(list: &[u8], at: usize) -> u64
+    requires { ⌜ at + 4 ≤ length (now list) ⌝ }
+    ensures { λ r. ⌜ (r ≡ word32 (now (list .entry)) at) × (r < 4294967296) ⌝ }
+{
+    ((wide(list[at]) * 256 + wide(list[at + 1])) * 256 + wide(list[at + 2])) * 256
+        + wide(list[at + 3])
+}
+
+// Record k as a word.
+fn read_word(list: &[u8], k: usize) -> u64
+    requires { ⌜ k * 8 + 8 ≤ length (now list) ⌝ }
+    ensures { λ r. ⌜ r ≡ wordAt (now (list .entry)) k ⌝ }
+{
+    let at = k * 8;
+    ((four(list, at) * 256 + wide(list[at + 4])) * 256 + wide(list[at + 5])) * 65536
+        + (wide(list[at + 6]) * 256 + wide(list[at + 6 + 1]))
+}
+
+// As many records as out has room for, as words.
+pub fn decode(list: &[u8], out: &mut [u64])
+    requires { ⌜ length (now out) * 8 ≤ length (now list) ⌝ }
+    ensures { λ _. ⌜ now (out .exit) ≡ wordsOf (now (list .entry)) (length (now (out .entry))) ⌝ }
+{
+    let n = out.len();
+    let mut k = 0;
+    while k < n {
+        out[k] = read_word(list, k);
+        k += 1;
+    }
+}
