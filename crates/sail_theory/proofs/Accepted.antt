@@ -2,14 +2,14 @@
 -- then stand. Assumes nothing.
 use mathlib.Core.Path.{_≡_, refl, sym, _∙_, ap, subst}
 use mathlib.Core.Logic.{_⊎_, inl, inr}
-use mathlib.Core.Bool.{Bool, true, false, true≢false, false≢true}
+use mathlib.Core.Bool.{true, false, true≢false, false≢true}
 use mathlib.Core.List.{List, [], _∷_}
-use Prim.Native.Nat.{ℕ, _+_, _*_, _/_, _≤_, _<_}
+use Prim.Native.Nat.{ℕ, _≤_}
 use native.Mathlib.Omega.{arith}
 use lib.ListN.{length}
 use Rattle.bits.specs.Count.{bit}
 use Rattle.bits.proofs.Tests.{decided}
-use Rattle.routes.specs.Route.{key, keyOf, need, Fine, Good}
+use Rattle.routes.specs.Route.{keyOf}
 use Rattle.routes.specs.Said.{Said, accepted, refused, refusedAt}
 use Rattle.routes.specs.Standing.{stands, insert, remove}
 use Rattle.routes.specs.declared.Route.{Route}
@@ -26,7 +26,7 @@ use Rattle.sail_theory.specs.Calls.{opened, kept, ownersOf, route, annou
 use Rattle.sail_theory.specs.Facts.{Holds, Welcome, Farewell}
 use Rattle.sail_theory.proofs.Chunks.{used-le}
 use Rattle.sail_theory.proofs.Needs.{need-same, stands-long}
-use Rattle.sail_theory.proofs.Judged.{Proper, Roomy, Announce, announce-judged, Withdraw, withdraw-judged, Report}
+use Rattle.sail_theory.proofs.Judged.{Proper, Announce, announce-judged, Withdraw, withdraw-judged, Report}
 use Rattle.sail_theory.proofs.Only.{announce-only, withdraw-only, report-only}
 use Rattle.sail_theory.proofs.Changes.{welcome-holds, farewell-holds}
 

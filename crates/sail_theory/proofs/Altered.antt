@@ -1,40 +1,37 @@
 -- An accepted announcement or withdrawal alters no cell but those that serve an address under its prefix and those in chunks that it opens
 -- or closes; and a chunk that it opens is the lowest that was free. Assumes nothing.
-use mathlib.Core.Path.{_≡_, refl, sym, _∙_, ap, ap₂, subst}
-use mathlib.Core.Logic.{_⊎_, inl, inr, _≢_}
+use mathlib.Core.Path.{_≡_, refl, sym, _∙_, ap, subst}
+use mathlib.Core.Logic.{_≢_}
 use mathlib.Core.Bool.{Bool, true, false, cond}
 use mathlib.Core.List.{List}
-use Prim.Native.Nat.{ℕ, zero, suc, _+_, _-_, _*_, _/_, _%_, _^_, _≤_, _<_}
+use Prim.Native.Nat.{ℕ, zero, suc, _*_, _/_, _^_, _<_}
 use native.Mathlib.Omega.{arith}
-use native.Mathlib.Nat.{div-add-mod', div-one}
+use native.Mathlib.Nat.{div-one}
 use lib.Dec.{ltb}
 use lib.ListN.{getD, length}
-use borrow.Author.Tests.{ltb-true, ltb-false, lt-ltb, le-ltb}
+use borrow.Author.Tests.{ltb-false}
 use Rattle.bits.specs.Slot.{slot}
-use Rattle.bits.proofs.Slots.{slot-lt, slot-up}
-use Rattle.routes.specs.Route.{keyOf, long, best}
+use Rattle.routes.specs.Route.{keyOf, long}
 use Rattle.routes.specs.Standing.{insert, remove}
 use Rattle.routes.specs.declared.Route.{Route}
 use Rattle.routes.proofs.Standing.{insert-but, remove-but, remove-any}
-use Rattle.sail.specs.Geometry.{bits2, bits3, Valid}
+use Rattle.sail.specs.Geometry.{bits2}
 use Rattle.sail.specs.Lent.{Lent}
-use Rattle.sail.specs.Level.{Level, always, itself, inUse, liveIn, partOf, entry, whole}
+use Rattle.sail.specs.Level.{itself, inUse, liveIn, entry}
 use Rattle.sail.specs.Sound.{Sound, standing}
-use Rattle.sail.specs.Walk.{place, place2, cell2, ReadsSecond, ReadsThird}
 use Rattle.sail.specs.declared.geometry.Geometry.{Geometry}
 use Rattle.sail.specs.declared.table.Table.{Table}
 use Rattle.sail.proofs.Sounds.{standing-good}
-use Rattle.sail_theory.specs.Render.{find, at2, at3, rendered, Rendered, asAsked}
-use Rattle.sail_theory.specs.Calls.{grant, placeIn, openAt2, openAt3, open2, open3, opened, keep2, keep3, kept, ownersOf, route, Out, took, stateOf, lentOf, announced, withdrawn}
+use Rattle.sail_theory.specs.Render.{find, at2, rendered, Rendered, asAsked}
+use Rattle.sail_theory.specs.Calls.{grant, placeIn, openAt2, openAt3, open2, open3, opened, keep2, keep3, kept, ownersOf, route, Out, took, lentOf, announced, withdrawn}
 use Rattle.sail_theory.specs.Facts.{Welcome, Farewell}
 use Rattle.sail_theory.specs.Alters.{Alters, NoneUnder, Frame}
-use Rattle.sail_theory.proofs.Mids.{sum2, slot-mid, slot-low}
 use Rattle.sail_theory.proofs.Chunks.{chunk-before}
-use Rattle.sail_theory.proofs.Places.{chunk-lt, live-owner, part-up, part-low, Apart, apart-itself}
-use Rattle.sail_theory.proofs.Rendered.{sound-rendered, level-two}
+use Rattle.sail_theory.proofs.Places.{live-owner}
+use Rattle.sail_theory.proofs.Rendered.{sound-rendered}
 use Rattle.sail_theory.proofs.Stores.{length-keep, kept-was, kept-stays, grant-lowest}
 use Rattle.sail_theory.proofs.Needs.{long-grows}
-use Rattle.sail_theory.proofs.Grown.{length-open2, length-open3, open2-stays, open3-stays, apart2}
+use Rattle.sail_theory.proofs.Grown.{length-open2, length-open3, open2-stays, open3-stays}
 use Rattle.sail_theory.proofs.Shrunk.{kept-over}
 use Rattle.sail_theory.proofs.Changes.{welcome-fits2, welcome-fits3, farewell-fits2, farewell-fits3}
 use Rattle.sail_theory.proofs.Accepted.{announce-said, took-welcome, announce-is, withdraw-said, took-farewell, withdraw-is}

@@ -1,16 +1,15 @@
 -- After any run the table is as good as one that is freshly loaded with its routes: that load is accepted, every address gets the same hop
 -- and count of cells, and as many chunks are in use. Assumes nothing.
-use mathlib.Core.Path.{_≡_, refl, sym, _∙_, ap, ap₂, subst}
+use mathlib.Core.Path.{_≡_, sym, _∙_, ap₂, subst}
 use mathlib.Core.List.{List}
 use mathlib.Core.Bool.{true}
-use Prim.Native.Nat.{ℕ, _+_, _*_, _/_, _%_, _^_, _≤_, _<_}
+use Prim.Native.Nat.{ℕ, _/_, _^_, _≤_, _<_}
 use native.Mathlib.Omega.{arith}
 use lib.ListN.{length}
 use Rattle.routes.specs.Route.{need, best, Good}
-use Rattle.routes.specs.Record.{routesOf, written, Records}
+use Rattle.routes.specs.Record.{written}
 use Rattle.routes.specs.declared.Route.{Route}
 use Rattle.routes.proofs.Rows.{length-routes, length-written, routes-written, written-listed}
-use Rattle.sail.specs.Geometry.{bits2, bits3}
 use Rattle.sail.specs.Lent.{Lent}
 use Rattle.sail.specs.Level.{entry}
 use Rattle.sail.specs.Sizes.{Sized}
@@ -19,7 +18,6 @@ use Rattle.sail.specs.Walk.{hopSaid, lookupSaid}
 use Rattle.sail.specs.declared.geometry.Geometry.{Geometry}
 use Rattle.sail.specs.declared.table.Table.{Table}
 use Rattle.sail.proofs.Sounds.{standing-good, sail-serves, chunks-need}
-use Rattle.sail_theory.specs.Render.{roomOf}
 use Rattle.sail_theory.specs.Calls.{inputRoutes, Out, took, loaded}
 use Rattle.sail_theory.specs.Facts.{SameSize, Holds, Loadable}
 use Rattle.sail_theory.specs.Runs.{Call, after, Carries}
@@ -37,8 +35,7 @@ same-lookups t l u v s k g e a h =
 pub same-used : (t : Table) (l : Lent) (u : Table) (v : Lent) → Sound t l → Sound u v → u .geometry ≡ t .geometry → standing u v ≡ standing t l → (used (v .own2) ≡ used (l .own2)) × (used (v .own3) ≡ used (l .own3))
 same-used t l u v s k g e =
     let m = chunks-need u v k in
-    let n = chunks-need t l s in
-    (
+    let n = chunks-need t l s in (
       m .0 ∙ ap₂ (λ (x : Geometry) (rs : List Route). need rs (x .p1)) g e ∙ sym (n .0),
       m .1 ∙ ap₂ (λ (x : Geometry) (rs : List Route). need rs (x .p2)) g e ∙ sym (n .1),
     )

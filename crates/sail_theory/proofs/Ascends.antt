@@ -1,10 +1,10 @@
 -- After a load the chunk numbers ascend: chunks in use come first, and their owners rise. So a load in one pass looks at the last chunk in
 -- use alone. Assumes nothing.
-use mathlib.Core.Path.{_≡_, refl, sym, _∙_, ap, subst}
+use mathlib.Core.Path.{_≡_, ap, subst}
 use mathlib.Core.Logic.{_⊎_, inl, inr, _≢_}
-use mathlib.Core.Bool.{Bool, true, false, cond}
+use mathlib.Core.Bool.{true, false, cond}
 use mathlib.Core.List.{List, [], _∷_, _++_, List·Memᴰ, List·Memᴰ·append-cases, List·Memᴰ·eq-of-singleton}
-use Prim.Native.Nat.{ℕ, zero, suc, _+_, _-_, _*_, _/_, _%_, _^_, _≤_, _<_}
+use Prim.Native.Nat.{ℕ, suc, _+_, _-_, _*_, _/_, _%_, _^_, _≤_, _<_}
 use native.Mathlib.Omega.{arith}
 use native.Mathlib.Nat.{mod-lt, div-add-mod', le-refl, eq-or-lt-of-le}
 use lib.Arith.{digits-lt}
@@ -15,17 +15,16 @@ use lib.Seq.{getD-set-other, getD-set-same, set-out}
 use borrow.Author.Tests.{ltb-true, eqb-true, lt-ltb}
 use Rattle.bits.specs.Slot.{slot}
 use Rattle.bits.proofs.Tests.{decided, and-split, equal?, below?}
-use Rattle.routes.specs.Route.{key, within, long, Fine, Good}
+use Rattle.routes.specs.Route.{key, within, long, Fine}
 use Rattle.routes.specs.declared.Route.{Route}
 use Rattle.routes.proofs.Goods.{good-fine}
-use Rattle.sail.specs.Geometry.{bits2, Valid}
+use Rattle.sail.specs.Geometry.{bits2}
 use Rattle.sail.specs.Lent.{Lent}
 use Rattle.sail.specs.Level.{itself, liveIn, partOf, entry}
 use Rattle.sail.specs.declared.geometry.Geometry.{Geometry}
 use Rattle.sail.specs.declared.table.Table.{Table}
 use Rattle.sail_theory.specs.Render.{find, at2}
-use Rattle.sail_theory.specs.Calls.{Owners, grant, placeIn, openAt2, openAt3, open2, open3, opened, settled, noOwners}
-use Rattle.sail_theory.specs.Facts.{Loadable}
+use Rattle.sail_theory.specs.Calls.{Owners, grant, placeIn, openAt2, openAt3, open2, open3, opened}
 use Rattle.sail_theory.proofs.Chunks.{chunk-at, chunk-before, chunk-has, free-zero}
 use Rattle.sail_theory.proofs.Ends.{good-front, good-next, good-below, insert-end, any-some}
 use Rattle.sail_theory.proofs.Mids.{slot-mid}
@@ -34,7 +33,7 @@ use Rattle.sail_theory.proofs.Stores.{grant-had, grant-new, had?}
 use Rattle.sail_theory.proofs.Needs.{long-own}
 use Rattle.sail_theory.proofs.Grown.{chunk2-owner, open2-stays, open3-stays}
 use Rattle.sail_theory.proofs.Fresh.{zeros}
-use Rattle.sail_theory.proofs.Loads.{Fronts, fronts-next, fronts-none}
+use Rattle.sail_theory.proofs.Loads.{Fronts, fronts-next}
 
 -- a chunk before one in use is in use, and its owner is smaller
 abbrev pub Rising : List ℕ → Type 0
@@ -222,12 +221,3 @@ module _ (t : Table) (l : Lent) (xs : List Route) (r : Route) (ys : List Route) 
 
 pub zero-rising : (n : ℕ) → Rising (replicate n 0)
 zero-rising n c c′ l e = absurd (omega (arith, zeros n c′))
-
-pub settled-rises : (t : Table) (l : Lent) (ys xs : List Route) (o : Owners) → Fronts t l xs ys o → Rising (o .own2) × Rising (o .own3) → Rising (settled (t .geometry) o ys .own2) × Rising (settled (t .geometry) o ys .own3)
-unfolding settled
-settled-rises t l [] xs o f u = u
-settled-rises t l (r ∷ ys) xs o f u = settled-rises t l ys (xs ++ (r ∷ [])) (opened (t .geometry) o r) (fronts-next t l xs r ys o f) (rises t l xs r ys o f u)
-
--- the chunk numbers of a load ascend
-pub load-ascends : (t : Table) (l : Lent) (rs : List Route) → Loadable t l rs → Rising (settled (t .geometry) (noOwners l) rs .own2) × Rising (settled (t .geometry) (noOwners l) rs .own3)
-load-ascends t l rs w = settled-rises t l rs [] (noOwners l) (fronts-none t l rs w) (zero-rising (length (l .own2)), zero-rising (length (l .own3)))

@@ -1,20 +1,19 @@
 -- The needs of a good list, counted in one pass: a route longer than p needs a chunk more exactly where its cell is not that of the last
 -- route before it that is longer than p. Assumes nothing.
-use mathlib.Core.Path.{_≡_, refl, sym, _∙_, ap, subst}
+use mathlib.Core.Path.{_≡_, refl, sym, _∙_}
 use mathlib.Core.Logic.{_⊎_, inl, inr, _≢_}
-use mathlib.Core.Bool.{Bool, true, false, cond, true≢false, false≢true, or-true}
+use mathlib.Core.Bool.{true, false, cond, true≢false, false≢true, or-true}
 use mathlib.Core.List.{List, [], _∷_, _++_, List·Memᴰ, List·Memᴰ·head, List·Memᴰ·tail}
-use Prim.Native.Nat.{ℕ, zero, suc, _+_, _*_, _-_, _^_, _≤_, _<_}
+use Prim.Native.Nat.{ℕ, zero, suc, _-_, _≤_, _<_}
 use native.Mathlib.Omega.{arith}
 use native.Mathlib.Nat.{le-refl, le-trans}
 use lib.Dec.{eqb, ltb}
 use lib.Pow.{shr-mono}
 use borrow.Author.Tests.{le-ltb, lt-ltb, eqb-true, eq-eqb}
 use Rattle.bits.specs.Slot.{slot}
-use Rattle.bits.specs.Tab.{tabulate}
 use Rattle.bits.proofs.Tests.{decided, and-split, or-split, untrue}
 use Rattle.bits.proofs.Tabs.{tabulate-snoc}
-use Rattle.routes.specs.Route.{key, any, within, long, need, Fine, Good}
+use Rattle.routes.specs.Route.{key, any, within, long, need, Good}
 use Rattle.routes.specs.Record.{recordAt, routesOf}
 use Rattle.routes.specs.Standing.{insert}
 use Rattle.routes.specs.declared.Route.{Route}
@@ -81,8 +80,8 @@ last-top p d (x ∷ xs) i g e = go (or-split (within p i x) (long xs p i) e) (la
         let s = and-split (ltb p (x .len)) (eqb (slot p (x .addr)) i) w in
         let c = eqb-true (slot p (x .addr)) i (s .1) in
         rw (s .0) (le-trans (rw c (le-refl (suc i))) (last-le p (suc (slot p (x .addr))) xs (λ y m.
-            let z = key-slot p x y (g .1 y m) (g .0 .prefix .len-ok) (good-fine xs (g .2) y m .prefix .len-ok) in
-            omega arith) (g .2)))
+        let z = key-slot p x y (g .1 y m) (g .0 .prefix .len-ok) (good-fine xs (g .2) y m .prefix .len-ok) in
+        omega arith) (g .2)))
 
 -- The next route r of a good list.
 module _ (xs : List Route) (r : Route) (ys : List Route) (good : Good (xs ++ r ∷ ys)) (p : ℕ) (h : p ≤ 32) where

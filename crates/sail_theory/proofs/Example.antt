@@ -1,42 +1,29 @@
 -- Tables that meet the hypotheses of the theorems: arrays of the right sizes, and document 01's list A loaded into them. Soundness is by the
 -- theorems; the rest is computed. Assumes nothing.
-use mathlib.Core.Path.{_≡_, refl, sym, _∙_, ap, ap₂}
-use mathlib.Core.Bool.{Bool, true, false, not, cond}
-use mathlib.Core.List.{List, [], _∷_, map}
-use Prim.Native.Nat.{ℕ, suc, _+_, _*_, _/_, _%_, _^_, _≤_, _<_}
+use mathlib.Core.Path.{_≡_, refl, ap}
+use mathlib.Core.List.{List, [], _∷_}
+use Prim.Native.Nat.{ℕ, _+_, _*_, _/_}
 use native.Mathlib.Omega.{arith}
-use lib.Dec.{ltb, leb, eqb}
-use lib.ListN.{getD, length, replicate, length-replicate, set}
-use Rattle.bits.specs.Slot.{slot, cut}
+use lib.ListN.{getD, length, replicate, length-replicate}
+use Rattle.bits.specs.Slot.{cut}
 use Rattle.bits.specs.Search.{firstFrom, firstOf}
 use Rattle.bits.specs.Tab.{tabulate}
-use Rattle.bits.specs.Count.{bit}
-use Rattle.routes.specs.Route.{key, keyOf, any, first, long, best, need, Prefix, Fine, Good}
-use Rattle.routes.specs.Record.{recordAt, routesOf, Records}
+use Rattle.routes.specs.Route.{any, first, best, need}
+use Rattle.routes.specs.Record.{recordAt, routesOf}
 use Rattle.routes.specs.Input.{properPrefix, hopFine, routeFault, inOrder, faultAt, inputSaid}
-use Rattle.routes.specs.Said.{Said, accepted, refused}
-use Rattle.routes.specs.Standing.{stands, insert, remove}
+use Rattle.routes.specs.Said.{accepted}
 use Rattle.routes.specs.declared.Route.{Route}
-use Rattle.routes.proofs.Meaning.{prefix-true, input-good}
+use Rattle.routes.proofs.Meaning.{input-good}
 use Rattle.routes.proofs.Rows.{records-good}
-use Rattle.sail.specs.Geometry.{standardGeo, bits2, Valid}
+use Rattle.sail.specs.Geometry.{standardGeo}
 use Rattle.sail.specs.Lent.{Lent}
-use Rattle.sail.specs.Level.{liveIn, entry}
 use Rattle.sail.specs.Sizes.{Sized}
-use Rattle.sail.specs.Sound.{Sound, standing, freshLent}
-use Rattle.sail.specs.declared.geometry.Geometry.{Geometry}
 use Rattle.sail.specs.declared.table.Table.{Table}
-use Rattle.sail_theory.specs.Render.{chunkFor, find, at2, rendered, roomOf}
-use Rattle.sail_theory.specs.Calls.{Owners, grant, openAt2, openAt3, keep, opened, settled, kept, ownersOf, noOwners, route, Terms, termsOf, chunksFault, inputRoutes, orSay, Out, took, stateOf, lentOf, made, announced, withdrawn, loaded}
-use Rattle.sail_theory.specs.Facts.{Holds, Farewell, Loadable}
-use Rattle.sail_theory.specs.Runs.{Call, announce, withdraw, load, done, after}
+use Rattle.sail_theory.specs.Render.{chunkFor, roomOf}
+use Rattle.sail_theory.specs.Calls.{grant, openAt2, openAt3, settled, noOwners, route, inputRoutes, Out, stateOf, lentOf, loaded}
+use Rattle.sail_theory.specs.Facts.{Holds, Loadable}
 use Rattle.sail_theory.proofs.Judged.{Readable}
 use Rattle.sail_theory.proofs.Cells.{first-node, second-leaf, second-node}
-use Rattle.sail_theory.proofs.Only.{roomy-said}
-use Rattle.sail_theory.proofs.Accepted.{announce-said, took-welcome, announce-is, announce-refused, announce-holds, withdraw-said, withdraw-is, farewell-said, withdraw-holds}
-use Rattle.sail_theory.proofs.Fresh.{make-is, make-holds}
-use Rattle.sail_theory.proofs.Sizes.{terms-same}
-use Rattle.sail_theory.proofs.Runs.{run-is, run-sound}
 use Rattle.sail_theory.proofs.Loads.{load-is, loadable-holds}
 
 abbrev pub ip : ℕ → ℕ → ℕ → ℕ → ℕ

@@ -22,7 +22,7 @@ use Rattle.sail.specs.Geometry.{bits2, bits3, Valid}
 use Rattle.sail.specs.Lent.{Lent}
 use Rattle.sail.specs.Level.{always, itself, nobody, liveIn, entry}
 use Rattle.sail.specs.declared.geometry.Geometry.{Geometry}
-use Rattle.sail_theory.specs.Render.{chunkFor, find, shown, block, pool, never, at2, at3, rendered, Fits, Fits2, Fits3}
+use Rattle.sail_theory.specs.Render.{chunkFor, shown, block, pool, never, at2, at3, rendered, Fits, Fits2, Fits3}
 use Rattle.sail_theory.specs.Alters.{NoneUnder, Frame}
 use Rattle.sail_theory.proofs.Mids.{pow-mid, pow-all}
 use Rattle.sail_theory.proofs.Chunks.{chunk-at}

@@ -2,23 +2,23 @@
 use mathlib.Core.Path.{_≡_, refl, sym, _∙_, ap, subst}
 use mathlib.Core.Bool.{Bool, true, false, false≢true}
 use mathlib.Core.List.{List, []}
-use Prim.Native.Nat.{ℕ, zero, suc, _+_, _-_, _*_, _/_, _%_, _^_, _≤_, _<_}
+use Prim.Native.Nat.{ℕ, zero, suc, _*_, _/_, _^_, _<_}
 use native.Mathlib.Omega.{arith}
 use lib.ListN.{getD, length, replicate, getD-replicate, length-replicate}
 use lib.Seq.{ext-getD}
 use Rattle.routes.specs.Route.{any, first, long, best, Good}
-use Rattle.routes.specs.Record.{routesOf, written}
-use Rattle.routes.specs.Said.{Said, accepted, refused}
+use Rattle.routes.specs.Record.{written}
+use Rattle.routes.specs.Said.{Said, accepted}
 use Rattle.routes.proofs.Rows.{length-written, zero-written}
-use Rattle.sail.specs.Geometry.{bits2, bits3, Valid}
+use Rattle.sail.specs.Geometry.{bits2, bits3}
 use Rattle.sail.specs.Lent.{Lent}
 use Rattle.sail.specs.Level.{always, itself, nobody, liveIn, entry}
 use Rattle.sail.specs.Sizes.{Sized}
-use Rattle.sail.specs.Sound.{Sound, standing, freshTable, freshLent}
+use Rattle.sail.specs.Sound.{freshTable, freshLent}
 use Rattle.sail.specs.declared.geometry.Geometry.{Geometry}
 use Rattle.sail.specs.declared.table.Table.{Table}
 use Rattle.sail_theory.specs.Render.{never, at2, at3, rendered, Fits, Fits2, Fits3, roomOf}
-use Rattle.sail_theory.specs.Calls.{noOwners, makeSaid, Out, took, stateOf, lentOf, made}
+use Rattle.sail_theory.specs.Calls.{noOwners, makeSaid, Out, took, lentOf, made}
 use Rattle.sail_theory.specs.Facts.{Holds}
 use Rattle.sail_theory.proofs.Pools.{length-pool, pool-free, pool-leaf}
 use Rattle.sail_theory.proofs.Judged.{Make, make-judged}

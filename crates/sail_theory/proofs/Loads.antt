@@ -1,27 +1,23 @@
 -- Load equals make and then announcing each record in order, wherever it is accepted, and each of these adds its route. Assumes nothing.
 use mathlib.Core.Path.{_≡_, refl, sym, _∙_, ap, subst}
-use mathlib.Core.Bool.{Bool, true, false, false≢true}
+use mathlib.Core.Bool.{true, false, false≢true}
 use mathlib.Core.List.{List, [], _∷_, _++_, append-assoc, append-nil, List·Memᴰ}
-use Prim.Native.Nat.{ℕ, _+_, _*_, _/_, _≤_, _<_}
+use Prim.Native.Nat.{ℕ, _/_, _≤_, _<_}
 use native.Mathlib.Omega.{arith}
 use lib.Dec.{ltb}
 use lib.ListN.{getD, length, length-append, length-replicate}
 use Rattle.bits.specs.Slot.{slot}
-use Rattle.bits.specs.Count.{bit}
-use Rattle.routes.specs.Route.{key, keyOf, within, long, need, Fine, Good}
+use Rattle.routes.specs.Route.{key, within, long, need, Fine, Good}
 use Rattle.routes.specs.Said.{Said, accepted}
-use Rattle.routes.specs.Standing.{stands, insert}
+use Rattle.routes.specs.Standing.{insert}
 use Rattle.routes.specs.declared.Route.{Route}
-use Rattle.routes.proofs.Rows.{length-written}
-use Rattle.sail.specs.Geometry.{Valid}
 use Rattle.sail.specs.Lent.{Lent}
 use Rattle.sail.specs.Sizes.{Sized}
-use Rattle.sail.specs.Sound.{Sound, standing}
 use Rattle.sail.specs.declared.geometry.Geometry.{Geometry}
 use Rattle.sail.specs.declared.table.Table.{Table}
 use Rattle.sail_theory.specs.Render.{find, rendered, Fits2, Fits3, roomOf}
 use Rattle.sail_theory.specs.Calls.{Owners, open2, opened, settled, ownersOf, noOwners, route, inputRoutes, loadSaid, Out, took, stateOf, lentOf, made, announced, loaded}
-use Rattle.sail_theory.specs.Facts.{SameSize, Holds, Welcome, Loadable}
+use Rattle.sail_theory.specs.Facts.{Holds, Welcome, Loadable}
 use Rattle.sail_theory.specs.Runs.{announceAll, AllAdded}
 use Rattle.sail_theory.proofs.Ends.{good-front, good-next, good-below, insert-end, none-stands, any-front}
 use Rattle.sail_theory.proofs.Needs.{need-mono}

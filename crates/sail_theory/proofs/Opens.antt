@@ -1,34 +1,31 @@
 -- The owners after a change, as a program finds them: at most one store in each pool. Assumes nothing.
 use mathlib.Core.Path.{_≡_, refl, sym, _∙_, ap}
 use mathlib.Core.Logic.{_⊎_, inl, inr, _≢_}
-use mathlib.Core.Bool.{Bool, true, false, cond, true≢false}
+use mathlib.Core.Bool.{true, false, cond}
 use mathlib.Core.List.{List}
-use Prim.Native.Nat.{ℕ, suc, _+_, _-_, _*_, _/_, _%_, _^_, _≤_, _<_}
+use Prim.Native.Nat.{ℕ, suc, _*_, _^_, _≤_, _<_}
 use native.Mathlib.Omega.{arith}
 use lib.Dec.{ltb}
-use lib.ListN.{getD, length, set, length-set}
+use lib.ListN.{length, set, length-set}
 use lib.Seq.{getD-set-same, getD-set-other}
-use borrow.Author.Tests.{ltb-true, ltb-false}
 use Rattle.bits.specs.Slot.{slot}
-use Rattle.bits.proofs.Slots.{slot-lt, slot-up}
-use Rattle.bits.proofs.Tests.{decided, equal?, untrue, fails}
-use Rattle.routes.specs.Route.{keyOf, within, long, Fine, Good}
-use Rattle.routes.specs.Standing.{insert, remove}
+use Rattle.bits.proofs.Slots.{slot-lt}
+use Rattle.bits.proofs.Tests.{decided}
+use Rattle.routes.specs.Route.{keyOf, long, Good}
+use Rattle.routes.specs.Standing.{remove}
 use Rattle.routes.specs.declared.Route.{Route}
-use Rattle.routes.proofs.Levels.{long-up}
 use Rattle.routes.proofs.Changed.{remove-long}
-use Rattle.routes.proofs.Standing.{remove-any}
 use Rattle.sail.specs.Geometry.{bits2, Valid}
 use Rattle.sail.specs.Lent.{Lent}
 use Rattle.sail.specs.Level.{always, itself, liveIn, entry}
-use Rattle.sail.specs.Sound.{Sound, standing}
+use Rattle.sail.specs.Sound.{standing}
 use Rattle.sail.specs.declared.geometry.Geometry.{Geometry}
 use Rattle.sail.specs.declared.table.Table.{Table}
 use Rattle.sail.proofs.Sounds.{standing-good}
-use Rattle.sail_theory.specs.Render.{chunkFor, find, at2, Fits2, Fits3, Rendered}
+use Rattle.sail_theory.specs.Render.{find, at2, Rendered}
 use Rattle.sail_theory.specs.Calls.{grant, placeIn, openAt2, openAt3, open2, open3, keep2, keep3}
 use Rattle.sail_theory.specs.Facts.{Welcome, Farewell}
-use Rattle.sail_theory.proofs.Chunks.{chunk-at, chunk-is, chunk-before}
+use Rattle.sail_theory.proofs.Chunks.{chunk-is, chunk-before}
 use Rattle.sail_theory.proofs.Mids.{slot-mid, long-mid}
 use Rattle.sail_theory.proofs.Rendered.{sound-rendered}
 use Rattle.sail_theory.proofs.Places.{apart-itself}
@@ -121,8 +118,7 @@ module _ (t : Table) (l : Lent) (a len : ℕ) (w : Farewell t l a len) where
           → (placeIn (t .geometry) (l .own2) a < length (l .own2) * 2 ^ bits2 (t .geometry)) × (liveIn (entry (l .own2)) (bits2 (t .geometry)) (placeIn (t .geometry) (l .own2) a) ≡ true) × (at2 (t .geometry) (l .own2) (placeIn (t .geometry) (l .own2) a) ≡ i2)
       here e =
           let v = w .sound .sized .valid in
-          let up : long (standing t l) (t .geometry .p1) q1 ≡ true = rw (slot-mid (t .geometry) v a) (long-mid (t .geometry) v (standing t l) i2 e) in
-          (
+          let up : long (standing t l) (t .geometry .p1) q1 ≡ true = rw (slot-mid (t .geometry) v a) (long-mid (t .geometry) v (standing t l) i2 e) in (
             place-in (t .geometry) v (standing t l) (l .own2) (was .fits2) a (w .prefix .addr-ok) up,
             place-live2 (t .geometry) v (standing t l) (l .own2) (was .fits2) a (w .prefix .addr-ok) up,
             place-at2 (t .geometry) v (standing t l) (l .own2) (was .fits2) a (w .prefix .addr-ok) up,

@@ -2,9 +2,9 @@
 -- the last chunk that was opened hangs elsewhere; then it takes the next number. Assumes nothing.
 use mathlib.Core.Path.{_≡_, refl, sym, _∙_, ap}
 use mathlib.Core.Logic.{_⊎_, inl, inr, _≢_}
-use mathlib.Core.Bool.{Bool, true, false, cond}
+use mathlib.Core.Bool.{true, false}
 use mathlib.Core.List.{List, [], _∷_, _++_, append-assoc, append-nil}
-use Prim.Native.Nat.{ℕ, suc, _+_, _-_, _*_, _^_, _≤_, _<_}
+use Prim.Native.Nat.{ℕ, suc, _*_, _^_, _≤_, _<_}
 use native.Mathlib.Omega.{arith}
 use native.Mathlib.Nat.{le-refl}
 use lib.Dec.{ltb}
@@ -22,9 +22,9 @@ use Rattle.sail.specs.Level.{liveIn, entry}
 use Rattle.sail.specs.declared.geometry.Geometry.{Geometry}
 use Rattle.sail.specs.declared.table.Table.{Table}
 use Rattle.sail_theory.specs.Render.{find, at2, Fits3}
-use Rattle.sail_theory.specs.Calls.{Owners, grant, placeIn, openAt2, openAt3, open2, open3, opened, settled, noOwners}
+use Rattle.sail_theory.specs.Calls.{Owners, placeIn, openAt2, openAt3, open2, open3, opened, settled, noOwners}
 use Rattle.sail_theory.specs.Facts.{Loadable}
-use Rattle.sail_theory.proofs.Chunks.{chunk-at, chunk-le, chunk-before, chunk-is, chunk-none, chunk-has}
+use Rattle.sail_theory.proofs.Chunks.{chunk-at, chunk-before, chunk-is, chunk-none}
 use Rattle.sail_theory.proofs.Owners.{chunk-found}
 use Rattle.sail_theory.proofs.Ends.{good-front, good-next}
 use Rattle.sail_theory.proofs.Grown.{shifted, q2-lt, q2-live, q2-at}

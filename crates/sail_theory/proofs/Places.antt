@@ -1,15 +1,14 @@
 -- The places of a pool, and the cells that they stand for. Said of any level. Assumes nothing.
-use mathlib.Core.Path.{_≡_, refl, sym, _∙_, ap, ap₂}
+use mathlib.Core.Path.{_≡_, sym, _∙_, ap, ap₂}
 use mathlib.Core.Bool.{Bool, true, false}
-use Prim.Native.Nat.{ℕ, suc, _+_, _-_, _*_, _/_, _%_, _^_, _≤_, _<_}
+use Prim.Native.Nat.{ℕ, suc, _+_, _-_, _*_, _/_, _%_, _^_, _<_}
 use native.Mathlib.Omega.{arith}
 use native.Mathlib.Nat.{mod-lt, div-add-mod', div-lt-iff-lt-mul}
-use lib.Arith.{digits-lt, digits-div, digits-mod}
+use lib.Arith.{digits-div, digits-mod}
 use lib.Pow.{pow-pos}
 use borrow.Author.Tests.{ltb-true, lt-ltb, le-ltb}
 use Rattle.sail.specs.Level.{liveIn, partOf}
 use Rattle.sail_theory.specs.Render.{chunkFor, Fits}
-use Rattle.sail_theory.proofs.Chunks.{chunk-at}
 
 -- the chunk of a place
 pub chunk-lt : (d m q : ℕ) → q < m * 2 ^ d → q / 2 ^ d < m

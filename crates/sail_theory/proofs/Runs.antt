@@ -1,42 +1,27 @@
 -- Demand 3. Any run of calls from a fresh table, refused ones among them: the table is sound, its list holds exactly the routes worked out
 -- from the accepted calls, and it is as good as a fresh load of them. Assumes nothing.
-use mathlib.Core.Path.{_≡_, refl, sym, _∙_, ap, ap₂, subst}
+use mathlib.Core.Path.{_≡_, refl, sym, _∙_, ap}
 use mathlib.Core.Logic.{_⊎_, inl, inr}
-use mathlib.Core.Bool.{Bool, true, false, cond}
+use mathlib.Core.Bool.{true, false, cond}
 use mathlib.Core.List.{List, [], _∷_}
-use Prim.Native.Nat.{ℕ, _+_, _*_, _/_, _%_, _^_, _≤_, _<_}
-use native.Mathlib.Omega.{arith}
-use lib.Dec.{ltb, leb, eqb}
-use lib.ListN.{length}
-use borrow.Author.Tests.{lt-leb}
-use Rattle.bits.specs.Tab.{tabulate}
+use Prim.Native.Nat.{ℕ}
 use Rattle.bits.proofs.Tests.{decided}
-use Rattle.routes.specs.Route.{keyOf, need, best, Fine, Good}
-use Rattle.routes.specs.Record.{routesOf, written, Records}
-use Rattle.routes.specs.Input.{properPrefix, hopFine}
-use Rattle.routes.specs.Said.{Said, accepted, refused}
-use Rattle.routes.specs.Standing.{stands, Held, absent, stood, routeAt, insert}
+use Rattle.routes.specs.Route.{keyOf, Good}
+use Rattle.routes.specs.Standing.{absent, routeAt}
 use Rattle.routes.specs.declared.Route.{Route}
 use Rattle.routes.proofs.Standing.{insert-stands, remove-stands, same-standing}
-use Rattle.routes.proofs.Rows.{length-routes, length-written, routes-written, written-listed}
 use Rattle.sail.specs.Lent.{Lent}
-use Rattle.sail.specs.Level.{entry}
 use Rattle.sail.specs.Sizes.{Sized}
-use Rattle.sail.specs.Sound.{Sound, standing, used, cellsRead}
-use Rattle.sail.specs.Walk.{hopSaid, lookupSaid}
-use Rattle.sail.specs.declared.geometry.Geometry.{Geometry}
+use Rattle.sail.specs.Sound.{Sound, standing}
 use Rattle.sail.specs.declared.table.Table.{Table}
-use Rattle.sail.proofs.Sounds.{standing-good, sail-serves, chunks-need}
-use Rattle.sail_theory.specs.Render.{roomOf}
-use Rattle.sail_theory.specs.Calls.{route, termsOf, chunksFault, inputRoutes, announceSaid, Out, took, made, announced, withdrawn, loaded}
-use Rattle.sail_theory.specs.Facts.{SameSize, Holds, Loadable}
+use Rattle.sail.proofs.Sounds.{standing-good}
+use Rattle.sail_theory.specs.Calls.{route, Out, took, made, announced, withdrawn, loaded}
+use Rattle.sail_theory.specs.Facts.{SameSize, Holds}
 use Rattle.sail_theory.specs.Runs.{Call, announce, withdraw, load, done, after, says, worked, would}
-use Rattle.sail_theory.proofs.Chunks.{used-le}
-use Rattle.sail_theory.proofs.Judged.{Readable}
 use Rattle.sail_theory.proofs.Accepted.{announce-refused, announce-holds, withdraw-refused, withdraw-holds}
 use Rattle.sail_theory.proofs.Fresh.{make-holds}
 use Rattle.sail_theory.proofs.Sizes.{size-refl, size-trans}
-use Rattle.sail_theory.proofs.Loads.{load-refused, load-holds, load-is, loadable-holds}
+use Rattle.sail_theory.proofs.Loads.{load-refused, load-holds}
 
 -- what a call leaves of a sound table: one that is sound, of the same geometry and size, with what it says for each prefix, if it is accepted
 pub record Leaves (t : Table) (l : Lent) (c : Call) (o : Out) : Type 0 where

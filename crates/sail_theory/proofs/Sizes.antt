@@ -3,10 +3,9 @@
 use mathlib.Core.Path.{_≡_, refl, sym, _∙_, ap, ap₂}
 use mathlib.Core.Bool.{true}
 use mathlib.Core.List.{List, []}
-use Prim.Native.Nat.{ℕ, _*_, _/_, _%_, _^_, _≤_}
-use lib.ListN.{length, replicate}
+use Prim.Native.Nat.{ℕ, _*_, _^_}
 use Rattle.routes.specs.Input.{inputSaid}
-use Rattle.routes.specs.Said.{Said, accepted, andThen}
+use Rattle.routes.specs.Said.{accepted, andThen}
 use Rattle.routes.specs.declared.Route.{Route}
 use Rattle.sail.specs.Geometry.{bits2, bits3}
 use Rattle.sail.specs.Lent.{Lent}
@@ -14,8 +13,7 @@ use Rattle.sail.specs.Sizes.{lengthsFit, sizesFault, Sized}
 use Rattle.sail.specs.Sound.{freshTable, freshLent}
 use Rattle.sail.specs.declared.geometry.Geometry.{Geometry}
 use Rattle.sail.specs.declared.table.Table.{Table}
-use Rattle.sail_theory.specs.Render.{roomOf}
-use Rattle.sail_theory.specs.Calls.{Owners, settled, noOwners, Terms, termsOf, loadFault, orSay, makeSaid, loadSaid, inputRoutes, Out, took, stateOf, lentOf, made, loaded}
+use Rattle.sail_theory.specs.Calls.{settled, noOwners, Terms, termsOf, loadFault, orSay, makeSaid, loadSaid, inputRoutes, Out, took, stateOf, lentOf, loaded}
 use Rattle.sail_theory.specs.Facts.{SameSize}
 use Rattle.sail_theory.proofs.Accepted.{outcome-took}
 

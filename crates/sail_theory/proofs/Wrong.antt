@@ -1,9 +1,9 @@
 -- Wrong versions of the calls, and the fact that refuses each. Assumes nothing.
-use mathlib.Core.Path.{_≡_, refl, sym, _∙_, ap}
+use mathlib.Core.Path.{_≡_, refl, sym, _∙_}
 use mathlib.Core.Logic.{_≢_}
-use mathlib.Core.Bool.{true, false, cond}
+use mathlib.Core.Bool.{false}
 use mathlib.Core.List.{List, [], _∷_}
-use Prim.Native.Nat.{ℕ, suc, _+_, _^_, _<_}
+use Prim.Native.Nat.{ℕ, suc, _^_, _<_}
 use native.Mathlib.Omega.{arith}
 use lib.ListN.{getD, set}
 use borrow.Author.Tests.{eq-eqb}
@@ -14,8 +14,8 @@ use Rattle.sail.specs.Lent.{Lent}
 use Rattle.sail.specs.Sound.{Sound, standing, used}
 use Rattle.sail.specs.declared.table.Table.{Table}
 use Rattle.sail.proofs.Sounds.{chunks-need}
-use Rattle.sail_theory.specs.Calls.{route, Out}
-use Rattle.sail_theory.specs.Runs.{Call, announce}
+use Rattle.sail_theory.specs.Calls.{route}
+use Rattle.sail_theory.specs.Runs.{announce}
 use Rattle.sail_theory.proofs.Runs.{Leaves}
 
 -- an announcement that changes nothing is sound, and within its frame: what it leaves standing refuses it

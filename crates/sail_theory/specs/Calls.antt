@@ -7,7 +7,7 @@ use lib.Dec.{ltb, leb}
 use lib.ListN.{length, set, replicate}
 use Rattle.bits.specs.Slot.{slot}
 use Rattle.bits.specs.Count.{bit}
-use Rattle.routes.specs.Route.{key, keyOf, long, need}
+use Rattle.routes.specs.Route.{keyOf, long, need}
 use Rattle.routes.specs.Record.{routesOf}
 use Rattle.routes.specs.Input.{properPrefix, hopFine, inputSaid}
 use Rattle.routes.specs.Said.{Said, accepted, refused, refusedAt, andThen}

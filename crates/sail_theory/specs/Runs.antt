@@ -8,7 +8,7 @@ use lib.ListN.{length}
 use Rattle.routes.specs.Route.{keyOf, Prefix, Fine}
 use Rattle.routes.specs.Record.{routesOf, Records}
 use Rattle.routes.specs.Input.{inputSaid}
-use Rattle.routes.specs.Said.{Said, accepted}
+use Rattle.routes.specs.Said.{accepted}
 use Rattle.routes.specs.Standing.{stands, Held, absent, stood, routeAt, insert, remove}
 use Rattle.routes.specs.declared.Route.{Route}
 use Rattle.sail.specs.Lent.{Lent}
