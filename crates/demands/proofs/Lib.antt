@@ -1,0 +1,6 @@
+-- The demands, a file for each, and what they are put together from.
+pub mod Inputs
+pub mod Lookups
+pub mod Builds
+pub mod Walks
+pub mod Demand1

@@ -1,0 +1,1 @@
+-- Nothing: the definitions that the demands speak of are those of the crates below.
