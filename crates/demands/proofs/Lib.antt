@@ -4,3 +4,5 @@ pub mod Lookups
 pub mod Builds
 pub mod Walks
 pub mod Demand1
+pub mod Demand2
+pub mod Replies
