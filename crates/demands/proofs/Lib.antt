@@ -6,3 +6,6 @@ pub mod Walks
 pub mod Demand1
 pub mod Demand2
 pub mod Replies
+pub mod Wants
+pub mod Demand3
+pub mod OneAnswer

@@ -1,1 +1,2 @@
--- Nothing: the definitions that the demands speak of are those of the crates below.
+-- The statements of the calls, as predicates on what they answer and leave.
+pub mod Meets
