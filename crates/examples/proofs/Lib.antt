@@ -1,0 +1,3 @@
+-- The examples hold.
+pub mod Paper
+pub mod Starred
