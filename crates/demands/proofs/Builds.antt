@@ -1,16 +1,16 @@
 -- Build of an image: what it can say, in document 01's order, with all that then holds. Assumes nothing.
-use mathlib.Core.Path.{_≡_, refl, sym, _∙_, ap}
+use mathlib.Core.Path.{_≡_, _∙_}
 use mathlib.Core.Logic.{_⊎_, inl, inr}
-use mathlib.Core.Bool.{Bool, true, false, cond, true≢false}
+use mathlib.Core.Bool.{false, true≢false}
 use mathlib.Core.List.{List, [], _∷_}
-use Prim.Native.Nat.{ℕ, zero, suc, _/_, _≤_, _<_}
+use Prim.Native.Nat.{ℕ, _/_, _≤_, _<_}
 use lib.ListN.{length}
 use borrow.Author.Tests.{lt-ltb, le-ltb}
 use Rattle.bits.proofs.Tests.{below?}
 use Rattle.routes.specs.Input.{inputSaid}
 use Rattle.routes.specs.Said.{Said, accepted, refused, refusedAt, accepts}
 use Rattle.tree.specs.Image.{nodeNeed}
-use Rattle.tree_build.specs.Built.{Out, out, routesIn, madeOf, afterInput, built}
+use Rattle.tree_build.specs.Built.{routesIn, madeOf, built}
 use Rattle.demands.proofs.Inputs.{check-only, BadInput, GoodInput, by-input}
 
 -- build: the input's with its index, 6, 11, 12

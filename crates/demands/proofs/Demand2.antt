@@ -3,17 +3,16 @@
 --
 -- An address is a number below 2 ^ 32. A route covers it when the first bits, as many as the route's length, agree (`covers-address` in crate
 -- routes, proofs/Only.antt). Assumes nothing.
-use mathlib.Core.Path.{_≡_, refl, sym, _∙_, ap, ap₂, subst}
-use mathlib.Core.Logic.{_⊎_, inl, inr, _↔_}
+use mathlib.Core.Path.{_≡_, refl, sym, _∙_, ap, subst}
+use mathlib.Core.Logic.{_↔_}
 use mathlib.Core.Bool.{Bool, true, false, cond}
 use mathlib.Core.List.{List, [], _∷_, List·Memᴰ}
-use Prim.Native.Nat.{ℕ, _+_, _*_, _/_, _^_, _≤_, _<_}
+use Prim.Native.Nat.{ℕ, _*_, _^_, _≤_, _<_}
 use native.Mathlib.Nat.{zero-add}
 use native.Mathlib.Omega.{arith}
 use lib.ListN.{length, getD, take}
 use lib.Dec.{eqb}
 use borrow.Author.Tests.{ne-eqb}
-use Rattle.bits.specs.Tab.{tabulate}
 use Rattle.bits.proofs.Tabs.{tabulate-ext}
 use Rattle.routes.specs.Route.{covers, Longest, Best, best, Good}
 use Rattle.routes.specs.Record.{recordAt, routesOf, noRoute}
@@ -35,7 +34,7 @@ use Rattle.sail.proofs.Sounds as sounds
 use Rattle.tree.specs.Image.{onPath}
 use Rattle.tree.specs.Walk.{told, treeSaid}
 use Rattle.tree_build.specs.Built.{routesIn, built}
-use Rattle.tree_build.proofs.Serves.{Accepted, built-accepts, built-serves}
+use Rattle.tree_build.proofs.Serves.{built-accepts, built-serves}
 use Rattle.demands.proofs.Inputs.{GoodInput, RouteRead, route-only}
 
 -- What is said of the address a, after n reads, where the routes rs stand: the hop of a route that covers a, than which no route that covers a

@@ -1,10 +1,10 @@
 -- Lookup in a table, sound or not: what it can say, in document 01's order, with all that then holds. Assumes nothing.
-use mathlib.Core.Path.{_≡_, refl, sym, _∙_}
+use mathlib.Core.Path.{_≡_, refl, _∙_}
 use mathlib.Core.Logic.{_⊎_, inl, inr}
-use Prim.Native.Nat.{ℕ, _+_, _≤_, _<_}
+use Prim.Native.Nat.{ℕ, _≤_, _<_}
 use native.Mathlib.Omega.{arith}
 use lib.ListN.{length}
-use borrow.Author.Tests.{le-leb, lt-leb, eq-eqb, ne-eqb}
+use borrow.Author.Tests.{le-leb, lt-leb, eq-eqb}
 use Rattle.bits.proofs.Tests.{below?}
 use Rattle.routes.specs.Said.{Said, refused}
 use Rattle.sail.specs.Geometry.{bits2, bits3}

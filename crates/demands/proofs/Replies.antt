@@ -1,9 +1,8 @@
 -- Runs by the routes alone. What a call of a run says, and which routes then stand, follows from the calls, the geometry, the room of the
 -- list and the chunks lent: no cell and no owner is asked. Assumes nothing.
-use mathlib.Core.Path.{_≡_, refl, sym, _∙_, ap}
+use mathlib.Core.Path.{_≡_, _∙_, ap}
 use mathlib.Core.Bool.{true, cond}
 use mathlib.Core.List.{List, [], _∷_}
-use Prim.Native.Nat.{ℕ}
 use Rattle.bits.specs.Count.{bit}
 use Rattle.routes.specs.Route.{keyOf}
 use Rattle.routes.specs.Input.{inputSaid}

@@ -1,15 +1,14 @@
 -- Refusals for want of chunks, 7 and 8: exactly when the routes that would stand need more, and of well-formed changes alone. Assumes nothing.
-use mathlib.Core.Path.{_≡_, refl, sym, _∙_, ap}
-use mathlib.Core.Logic.{_⊎_, inl, inr, _↔_}
-use mathlib.Core.Bool.{true, false, false≢true}
-use mathlib.Core.List.{List, [], _∷_}
-use Prim.Native.Nat.{ℕ, _+_, _*_, _/_, _≤_, _<_}
+use mathlib.Core.Path.{_≡_, refl}
+use mathlib.Core.Logic.{_↔_}
+use mathlib.Core.Bool.{true, false≢true}
+use mathlib.Core.List.{List}
+use Prim.Native.Nat.{ℕ, _/_, _≤_, _<_}
 use native.Mathlib.Omega.{arith}
 use lib.ListN.{length}
-use Rattle.routes.specs.Route.{need, Fine}
+use Rattle.routes.specs.Route.{need}
 use Rattle.routes.specs.Input.{inputSaid}
 use Rattle.routes.specs.Said.{Said, accepted, refused, refusedAt}
-use Rattle.routes.specs.Standing.{insert}
 use Rattle.routes.specs.declared.Route.{Route}
 use Rattle.routes.proofs.Changed.{insert-adds}
 use Rattle.routes.proofs.Meaning.{Checked, input-checked, good-input}
@@ -17,9 +16,9 @@ use Rattle.sail.specs.Lent.{Lent}
 use Rattle.sail.specs.Sound.{standing}
 use Rattle.sail.specs.declared.table.Table.{Table}
 use Rattle.sail_theory.specs.Render.{roomOf}
-use Rattle.sail_theory.specs.Calls.{route, Terms, took, announced, withdrawn, loaded}
+use Rattle.sail_theory.specs.Calls.{route, Terms, took}
 use Rattle.sail_theory.specs.Runs.{Call, announce, withdraw, load, done, Formed}
-use Rattle.sail_theory.proofs.Judged.{Sizing, Roomy, Announce, announce-judged, Withdraw, withdraw-judged, Readable, Load, load-judged}
+use Rattle.sail_theory.proofs.Judged.{Sizing, Announce, announce-judged, Withdraw, withdraw-judged, Readable, Load, load-judged}
 use Rattle.sail_theory.proofs.Accepted.{announce-said, withdraw-said}
 use Rattle.sail_theory.proofs.Loads.{load-said}
 use Rattle.sail_theory.proofs.Wanting.{Wanting}

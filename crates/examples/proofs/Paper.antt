@@ -7,7 +7,7 @@ use Prim.Native.Nat.{ℕ, _*_, _^_, _<_}
 use lib.ListN.{getD, length}
 use Rattle.routes.specs.Route.{keyOf, long, best, need}
 use Rattle.routes.specs.Said.{Said, accepted, refused, refusedAt}
-use Rattle.routes.specs.Standing.{insert, remove}
+use Rattle.routes.specs.Standing.{remove}
 use Rattle.routes.specs.declared.Route.{Route}
 use Rattle.routes.proofs.Rows.{length-routes}
 use Rattle.sail.specs.Geometry.{bits2}
@@ -24,11 +24,10 @@ use Rattle.sail_theory.specs.Calls.{Owners, opened, settled, kept, ownersOf, no
 use Rattle.sail_theory.specs.Runs.{Call, announce, withdraw, load, done, after, would}
 use Rattle.sail_theory.proofs.Judged.{Report}
 use Rattle.sail_theory.proofs.Only.{report-only}
-use Rattle.sail_theory.proofs.Accepted.{outcome-said}
 use Rattle.sail_theory.proofs.Fresh.{make-is}
 use Rattle.sail_theory.proofs.Pools.{level-shown}
 use Rattle.sail_theory.proofs.Rendered.{level-two}
-use Rattle.sail_theory.proofs.Runs.{run-is, run-sound}
+use Rattle.sail_theory.proofs.Runs.{run-is}
 use Rattle.demands.proofs.Replies.{reply, stood, run-says, run-stood}
 
 pub record Paper : Type 0 where

@@ -1,14 +1,13 @@
 -- The starred examples hold: the definitions give what document 01 says. What is asked of a run is worked out on paper, and the rest is
 -- computed. Assumes nothing.
-use mathlib.Core.Path.{_≡_, refl, sym, _∙_, ap, ap₂}
+use mathlib.Core.Path.{_≡_, refl, _∙_, ap, ap₂}
 use mathlib.Core.Bool.{Bool, true, false, cond, _&&_}
 use mathlib.Core.List.{List, [], _∷_, map}
-use Prim.Native.Nat.{ℕ, _+_, _*_, _^_, _<_}
+use Prim.Native.Nat.{ℕ, _^_}
 use native.Mathlib.Nat.{zero-mul}
 use native.Mathlib.Omega.{arith}
-use lib.Count.{ones}
-use lib.Dec.{ltb, eqb}
-use lib.ListN.{getD, length, drop, replicate, length-replicate, set}
+use lib.Dec.{ltb}
+use lib.ListN.{getD, length, drop, replicate, length-replicate}
 use borrow.Author.Tests.{ltb-true, eq-eqb}
 use Rattle.bits.specs.Slot.{cut}
 use Rattle.bits.specs.Search.{firstFrom, firstOf}
@@ -26,7 +25,6 @@ use Rattle.sail.specs.Geometry.{standardGeo, bits2, bits3, validGeo}
 use Rattle.sail.specs.Level.{liveIn, entry}
 use Rattle.sail.specs.Lent.{Lent}
 use Rattle.sail.specs.Sizes.{lengthsFit, sizesFault, Sized}
-use Rattle.sail.specs.Sound.{standing}
 use Rattle.sail.specs.Walk.{hopSaid}
 use Rattle.sail.specs.declared.geometry.Geometry.{Geometry}
 use Rattle.sail.specs.declared.table.Table.{Table}

@@ -3,16 +3,16 @@
 use mathlib.Core.Path.{_≡_, refl, sym, _∙_, ap}
 use mathlib.Core.Bool.{true, false, cond}
 use mathlib.Core.List.{List, [], _∷_, map}
-use Prim.Native.Nat.{ℕ, _^_, _≤_, _<_}
+use Prim.Native.Nat.{ℕ, _^_, _<_}
 use native.Mathlib.Omega.{arith}
 use lib.ListN.{getD, length, replicate, List·getD-map}
 use Rattle.bits.specs.Slot.{cut}
 use Rattle.bits.specs.Search.{firstFrom, firstOf}
 use Rattle.bits.specs.Tab.{tabulate}
-use Rattle.routes.specs.Route.{any, Prefix}
+use Rattle.routes.specs.Route.{any}
 use Rattle.routes.specs.Record.{recordAt, routesOf, written}
 use Rattle.routes.specs.Input.{properPrefix, hopFine, routeFault, inOrder, faultAt, inputSaid}
-use Rattle.routes.specs.Said.{Said, accepted, refused, refusedAt}
+use Rattle.routes.specs.Said.{Said, accepted, refused}
 use Rattle.routes.specs.declared.Route.{Route}
 use Rattle.routes.proofs.Meaning.{prefix-true}
 use Rattle.sail.specs.Geometry.{standardGeo, validGeo}
@@ -23,8 +23,8 @@ use Rattle.sail.specs.Walk.{lookupSaid, saysFound}
 use Rattle.sail.specs.declared.table.Table.{Table}
 use Rattle.sail.specs.declared.lookup.Found.the-variants as found
 use Rattle.sail.proofs.Fresh.{fresh-sound}
-use Rattle.sail_theory.specs.Calls.{termsOf, withdrawFault, Out, took, made, announced, withdrawn, loaded}
-use Rattle.sail_theory.specs.Runs.{Call, announce, withdraw, load, done, after, would, Formed, Carries}
+use Rattle.sail_theory.specs.Calls.{termsOf, withdrawFault, took, made, announced, withdrawn, loaded}
+use Rattle.sail_theory.specs.Runs.{Call, announce, withdraw, load, done, after, would, Formed}
 use Rattle.sail_theory.specs.Render.{roomOf}
 use Rattle.sail_theory.proofs.Accepted.{announce-said, announce-off}
 use Rattle.sail_theory.proofs.Anew as anew
@@ -33,12 +33,12 @@ use Rattle.sail_theory.proofs.Sizes.{size-refl}
 use Rattle.tree.specs.Node.{sound}
 use Rattle.tree.specs.Walk.{walkFrom, treeSaid}
 use Rattle.tree_build.specs.Built.{routesIn, built}
-use Rattle.demands.specs.Meets.{End, MeetsAnnounce, MeetsLookup}
+use Rattle.demands.specs.Meets.{MeetsAnnounce, MeetsLookup}
 use Rattle.demands.proofs.Replies.{reply, stood, run-says, run-stood}
 use Rattle.demands.proofs.Wants.{ByNeed, ForChunks}
 use Rattle.demands.proofs.Demand2 as demand2
 use Rattle.demands.proofs.Demand3 as demand3
-use Rattle.examples.specs.Starred.{ip, geo, table, arrays, bare, listA, image, loadedA, entered, other, last, make, build, answer, Line, _gives_, starred, Holds}
+use Rattle.examples.specs.Starred.{ip, geo, table, arrays, bare, listA, image, loadedA, entered, other, last, answer, Line, _gives_, starred, Holds}
 use Rattle.examples.proofs.Starred.{sized, starred-hold}
 
 -- a line of the examples
