@@ -1,0 +1,187 @@
+-- Announce and withdraw: what is left where they are accepted is sound, and its list holds the routes that then stand; and a chunk more is
+-- needed exactly where one has to be opened. Assumes nothing.
+use mathlib.Core.Path.{_≡_, refl, sym, _∙_, ap, subst}
+use mathlib.Core.Logic.{_⊎_, inl, inr}
+use mathlib.Core.Bool.{Bool, true, false, true≢false}
+use mathlib.Core.List.{List}
+use Prim.Native.Nat.{ℕ, suc, _+_, _-_, _*_, _/_, _%_, _^_, _≤_, _<_}
+use native.Mathlib.Omega.{arith}
+use lib.Dec.{ltb}
+use lib.ListN.{getD, length}
+use borrow.Author.Tests.{ltb-true, lt-ltb}
+use Rattle.bits.specs.Slot.{slot}
+use Rattle.bits.specs.Tab.{Tells}
+use Rattle.bits.proofs.Tests.{decided, below?}
+use Rattle.routes.specs.Route.{key, keyOf, within, long, need, Fine, Good}
+use Rattle.routes.specs.Record.{written}
+use Rattle.routes.specs.Standing.{insert, remove}
+use Rattle.routes.specs.declared.Route.{Route}
+use Rattle.routes.proofs.Standing.{insert-good, remove-good, remove-length, remove-any}
+use Rattle.routes.proofs.Rows.{length-written, length-routes}
+use Rattle.sail.specs.Geometry.{bits2, bits3, Valid}
+use Rattle.sail.specs.Lent.{Lent}
+use Rattle.sail.specs.Level.{entry}
+use Rattle.sail.specs.Sizes.{Sized}
+use Rattle.sail.specs.Sound.{Sound, standing, used}
+use Rattle.sail.specs.declared.geometry.Geometry.{Geometry}
+use Rattle.sail.specs.declared.table.Table.{Table}
+use Rattle.sail.proofs.Sounds.{standing-good, chunks-need}
+use Rattle.sail_theory.specs.Render.{find, mid, rendered, Fits2, Fits3, roomOf, Rendered}
+use Rattle.sail_theory.specs.Calls.{Owners, open2, open3, opened, keep2, keep3, kept, ownersOf, stateOf, lentOf}
+use Rattle.sail_theory.specs.Facts.{SameSize, Holds, Welcome, Farewell}
+use Rattle.sail_theory.proofs.Chunks.{chunk-at, chunk-le, used-le, free-used, used-free}
+use Rattle.sail_theory.proofs.Rendered.{sound-rendered, render-standing, render-sized, render-sound}
+use Rattle.sail_theory.proofs.Stores.{length-keep}
+use Rattle.sail_theory.proofs.Needs.{need-more, need-same}
+use Rattle.sail_theory.proofs.Grown.{length-open2, length-open3, open-fits2, open-fits3}
+use Rattle.sail_theory.proofs.Shrunk.{keep-fits2, keep-fits3}
+
+-- what is rendered over arrays of these sizes holds its routes
+module _ (t : Table) (l : Lent) (z : Sized (t .geometry) l) (rs : List Route) (good : Good rs) (roomy : length rs ≤ roomOf l) (o : Owners)
+    (len2 : length (o .own2) ≡ length (l .own2)) (len3 : length (o .own3) ≡ length (l .own3)) where
+  few : roomOf l ≤ 4096
+  few = omega (arith, z .room)
+
+  few2 : length (o .own2) ≤ 4096
+  few2 = omega (arith, z .few2)
+
+  few3 : length (o .own3) ≤ 4096
+  few3 = omega (arith, z .few3)
+
+  sized : Sized (t .geometry) (lentOf t l rs o)
+  sized = render-sized (t .geometry) (z .valid) (roomOf l) few rs good roomy (o .own2) (o .own3) few2 few3
+
+  size : SameSize l (lentOf t l rs o)
+  unfolding rendered
+  size = record {
+    list = omega (arith, length-written rs (roomOf l), z .whole);
+    first = sized .cells1 ∙ sym (z .cells1);
+    second = sized .cells2 ∙ ap (λ (n : ℕ). n * 2 ^ bits2 (t .geometry)) len2 ∙ sym (z .cells2);
+    third = sized .cells3 ∙ ap (λ (n : ℕ). n * 2 ^ bits3 (t .geometry)) len3 ∙ sym (z .cells3);
+    chunks2 = len2;
+    chunks3 = len3;
+  }
+
+  list-is : lentOf t l rs o .list ≡ written rs (roomOf l)
+  unfolding rendered
+  list-is = refl
+
+  pub render-holds : Fits2 (t .geometry) rs (o .own2) → Fits3 (t .geometry) rs (o .own2) (o .own3) → Holds t l rs (stateOf t rs) (lentOf t l rs o)
+  render-holds f2 f3 = record {
+    sound = render-sound (t .geometry) (z .valid) (roomOf l) few rs good roomy (o .own2) (o .own3) few2 few3 f2 f3;
+    routes = render-standing (t .geometry) (z .valid) (roomOf l) few rs good roomy (o .own2) (o .own3) few2 few3;
+    list = list-is;
+    count = refl;
+    geometry = refl;
+    size = size;
+  }
+
+-- as many chunks are in use as the standing routes need
+module _ (t : Table) (l : Lent) (s : Sound t l) where
+  pub mid-is : mid (t .geometry) ≡ t .geometry .p2
+  mid-is = let v = s .sized .valid in omega arith
+
+  pub sound-needs : (used (l .own2) ≡ need (standing t l) (t .geometry .p1)) × (used (l .own3) ≡ need (standing t l) (mid (t .geometry)))
+  sound-needs = let n = chunks-need t l s in (n .0, n .1 ∙ ap (need (standing t l)) (sym mid-is))
+
+-- the lowest free chunk, where not all are in use
+free-pair : (own : List ℕ) → used own < length own → (find own 0 < length own) × (getD own (find own 0) 0 ≡ 0)
+free-pair own h = let k = used-free (entry own) (length own) h in (k, chunk-at (entry own) (length own) 0 k)
+
+-- an announcement that is accepted
+module _ (t : Table) (l : Lent) (r : Route) (w : Welcome t l r) where
+  abbrev g : Geometry
+  g = t .geometry
+
+  abbrev rs : List Route
+  rs = standing t l
+
+  is : Rendered t l
+  is = sound-rendered t l (w .sound)
+
+  good : Good rs
+  good = standing-good t l (w .sound)
+
+  valid : Valid g
+  valid = w .sound .sized .valid
+
+  -- where one chunk more is needed, one is free
+  pub space2 : ltb (g .p1) (r .len) ≡ true → long rs (g .p1) (slot (g .p1) (r .addr)) ≡ false → (find (l .own2) 0 < length (l .own2)) × (getD (l .own2) (find (l .own2) 0) 0 ≡ 0)
+  space2 e f = let v = valid in free-pair (l .own2) (omega (arith, w .enough2, sound-needs t l (w .sound) .0, need-more r rs (w .fine) good (g .p1) (omega arith) e f))
+
+  pub space3 : ltb (mid g) (r .len) ≡ true → long rs (mid g) (slot (mid g) (r .addr)) ≡ false → (find (l .own3) 0 < length (l .own3)) × (getD (l .own3) (find (l .own3) 0) 0 ≡ 0)
+  space3 e f =
+      let v = valid in
+      let n : need (insert r rs) (mid g) ≤ length (l .own3) = rw (mid-is t l (w .sound)) (w .enough3) in
+      free-pair (l .own3) (omega (arith, n, sound-needs t l (w .sound) .1, need-more r rs (w .fine) good (mid g) (omega arith) e f))
+
+  pub welcome-fits2 : Fits2 g (insert r rs) (open2 g (l .own2) r)
+  welcome-fits2 = open-fits2 g valid r rs (w .fine) good (l .own2) (l .own3) (find (l .own2) 0) (find (l .own3) 0) (is .fits2) (is .fits3) space2 space3
+
+  pub welcome-fits3 : Fits3 g (insert r rs) (open2 g (l .own2) r) (open3 g (open2 g (l .own2) r) (l .own3) r)
+  welcome-fits3 = open-fits3 g valid r rs (w .fine) good (l .own2) (l .own3) (find (l .own2) 0) (find (l .own3) 0) (is .fits2) (is .fits3) space2 space3
+
+  pub welcome-holds : Holds t l (insert r rs) (stateOf t (insert r rs)) (lentOf t l (insert r rs) (opened g (ownersOf l) r))
+  welcome-holds = render-holds t l (w .sound .sized) (insert r rs) (insert-good r rs (w .fine) good) (w .roomy) (opened g (ownersOf l) r)
+      (length-open2 g (l .own2) (find (l .own2) 0) r) (length-open3 g (open2 g (l .own2) r) (l .own3) (find (l .own3) 0) r) welcome-fits2 welcome-fits3
+
+-- a withdrawal that is accepted
+module _ (t : Table) (l : Lent) (a len : ℕ) (w : Farewell t l a len) where
+  abbrev left : List Route
+  left = remove (keyOf a len) (standing t l)
+
+  was : Rendered t l
+  was = sound-rendered t l (w .sound)
+
+  less : (p i : ℕ) → long left p i ≡ true → long (standing t l) p i ≡ true
+  less p i e = remove-any (within p i) (keyOf a len) (standing t l) e
+
+  pub farewell-fits2 : Fits2 (t .geometry) left (keep2 (t .geometry) left (l .own2))
+  farewell-fits2 = keep-fits2 (t .geometry) (w .sound .sized .valid) (standing t l) left less (l .own2) (l .own3) (was .fits2) (was .fits3)
+
+  pub farewell-fits3 : Fits3 (t .geometry) left (keep2 (t .geometry) left (l .own2)) (keep3 (t .geometry) left (l .own2) (l .own3))
+  farewell-fits3 = keep-fits3 (t .geometry) (w .sound .sized .valid) (standing t l) left less (l .own2) (l .own3) (was .fits2) (was .fits3)
+
+  fewer : length left ≤ roomOf l
+  fewer = omega (arith, remove-length (keyOf a len) (standing t l), length-routes (l .list) (t .count), w .sound .listed .records .room)
+
+  pub farewell-holds : Holds t l left (stateOf t left) (lentOf t l left (kept (t .geometry) left (ownersOf l)))
+  farewell-holds = render-holds t l (w .sound .sized) left (remove-good (keyOf a len) (standing t l) (standing-good t l (w .sound))) fewer (kept (t .geometry) left (ownersOf l))
+      (length-keep _ _ (l .own2)) (length-keep _ _ (l .own3)) farewell-fits2 farewell-fits3
+
+-- A program finds out about 7 and 8 by looking for a chunk, and does not count.
+-- the route is longer than p, its cell of level p is not long, and no chunk is free
+pub record Wants (rs : List Route) (r : Route) (p : ℕ) (own : List ℕ) : Type 0 where
+  pub longer : p < r .len
+  pub fresh : long rs p (slot p (r .addr)) ≡ false
+  pub full : find own 0 ≡ length own
+
+module _ (rs : List Route) (good : Good rs) (r : Route) (fine : Fine r) (p : ℕ) (h : p ≤ 32) (own : List ℕ) (u : used own ≡ need rs p) where
+  want : Tells (ltb (length own) (need (insert r rs) p)) (Wants rs r p own)
+  want = (
+    λ e. there (ltb-true _ _ e) (decided (ltb p (r .len))) (decided (long rs p (slot p (r .addr)))),
+    λ w.
+        let e = lt-ltb p (r .len) (w .longer) in
+        let m = need-more r rs fine good p h e (w .fresh) in
+        lt-ltb (length own) (need (insert r rs) p) (full (w .full) m (below? (used own) (length own))),
+  )
+    where
+      full : find own 0 ≡ length own → need (insert r rs) p ≡ suc (need rs p) → (used own < length own) ⊎ (length own ≤ used own) → length own < need (insert r rs) p
+      full z m (inl y) = absurd (omega (arith, used-free (entry own) (length own) y))
+      full z m (inr y) = omega arith
+
+      there : length own < need (insert r rs) p → (ltb p (r .len) ≡ true) ⊎ (ltb p (r .len) ≡ false) → (long rs p (slot p (r .addr)) ≡ true) ⊎ (long rs p (slot p (r .addr)) ≡ false) → Wants rs r p own
+      there l (inr a) b = absurd (omega (arith, used-le (entry own) (length own), need-same r rs fine good p h (λ z. absurd (true≢false (sym z ∙ a)))))
+      there l (inl a) (inl b) = absurd (omega (arith, used-le (entry own) (length own), need-same r rs fine good p h (λ z. b)))
+      there l (inl a) (inr b) = record { longer = ltb-true p (r .len) a; fresh = b; full = is (below? (find own 0) (length own)) }
+        where
+          is : (find own 0 < length own) ⊎ (length own ≤ find own 0) → find own 0 ≡ length own
+          is (inl y) = absurd (omega (arith, free-used (entry own) (length own) y, need-more r rs fine good p h a b))
+          is (inr y) = omega (arith, chunk-le (entry own) (length own) 0)
+
+module _ (t : Table) (l : Lent) (s : Sound t l) (r : Route) (fine : Fine r) where
+  pub want-seven : Tells (ltb (length (l .own2)) (need (insert r (standing t l)) (t .geometry .p1))) (Wants (standing t l) r (t .geometry .p1) (l .own2))
+  want-seven = let v = s .sized .valid in want (standing t l) (standing-good t l s) r fine (t .geometry .p1) (omega arith) (l .own2) (sound-needs t l s .0)
+
+  pub want-eight : Tells (ltb (length (l .own3)) (need (insert r (standing t l)) (t .geometry .p2))) (Wants (standing t l) r (t .geometry .p2) (l .own3))
+  want-eight = let v = s .sized .valid in want (standing t l) (standing-good t l s) r fine (t .geometry .p2) (omega arith) (l .own3) (chunks-need t l s .1)

@@ -1,0 +1,163 @@
+-- Arrays of owners after a chunk is granted, and after what is no longer deep is closed: one store at most. Assumes nothing.
+use mathlib.Core.Path.{_≡_, refl, sym, _∙_, ap}
+use mathlib.Core.Logic.{_⊎_, inl, inr, _≢_}
+use mathlib.Core.Bool.{Bool, true, false, cond, true≢false}
+use mathlib.Core.List.{List, [], _∷_, map}
+use Prim.Native.Nat.{ℕ, zero, suc, _-_, _≤_, _<_}
+use native.Mathlib.Omega.{arith}
+use lib.Dec.{ltb}
+use lib.ListN.{getD, length, set, length-set, length-map}
+use lib.Seq.{getD-set-same, getD-set-other, ext-getD}
+use borrow.Author.Tests.{lt-ltb, le-ltb}
+use Rattle.bits.proofs.Tests.{decided, below?, equal?}
+use Rattle.sail.specs.Level.{entry}
+use Rattle.sail_theory.specs.Render.{chunkFor, find, Fits}
+use Rattle.sail_theory.specs.Calls.{grant, keep}
+use Rattle.sail_theory.proofs.Chunks.{chunk-at, free-zero}
+use Rattle.sail_theory.proofs.Owners.{fits-held, fits-hung}
+
+-- a chunk that is had already, and one that is given
+pub grant-had : (own : List ℕ) (c q : ℕ) → find own (suc q) < length own → grant own c q ≡ own
+unfolding grant
+grant-had own c q h = rw (lt-ltb (find own (suc q)) (length own) h)
+
+pub grant-new : (own : List ℕ) (c q : ℕ) → length own ≤ find own (suc q) → grant own c q ≡ set own c (suc q)
+unfolding grant
+grant-new own c q h = rw (le-ltb (find own (suc q)) (length own) h)
+
+pub length-grant : (own : List ℕ) (c q : ℕ) → length (grant own c q) ≡ length own
+unfolding grant
+length-grant own c q = go (ltb (find own (suc q)) (length own))
+  where
+    go : (b : Bool) → length (cond b own (set own c (suc q))) ≡ length own
+    go true = refl
+    go false = length-set own c (suc q)
+
+pub had? : (own : List ℕ) (q : ℕ) → (find own (suc q) < length own) ⊎ (length own ≤ find own (suc q))
+had? own q = below? (find own (suc q)) (length own)
+
+-- an owner stays when the lowest free chunk is granted, and the one that comes is the lowest
+pub grant-stays : (own : List ℕ) (q c x : ℕ) → getD own c 0 ≡ suc x → getD (grant own (find own 0) q) c 0 ≡ suc x
+grant-stays own q c x e = go (had? own q)
+  where
+    go : (find own (suc q) < length own) ⊎ (length own ≤ find own (suc q)) → getD (grant own (find own 0) q) c 0 ≡ suc x
+    go (inl h) = rw (grant-had own (find own 0) q h) e
+    go (inr h) = rw (grant-new own (find own 0) q h) (getD-set-other own (find own 0) c (suc q) 0 (λ y. omega (arith, free-zero own, ap (entry own) y)) ∙ e)
+
+pub grant-lowest : (own : List ℕ) (q c x : ℕ) → getD own c 0 ≡ 0 → getD (grant own (find own 0) q) c 0 ≡ suc x → c ≡ find own 0
+grant-lowest own q c x was now = go (had? own q) (equal? c (find own 0))
+  where
+    go : (find own (suc q) < length own) ⊎ (length own ≤ find own (suc q)) → (c ≡ find own 0) ⊎ (c ≢ find own 0) → c ≡ find own 0
+    go (inl h) y = absurd (omega (arith, ap (λ (l : List ℕ). getD l c 0) (grant-had own (find own 0) q h)))
+    go (inr h) (inl y) = y
+    go (inr h) (inr y) = absurd (omega (arith, getD-set-other own (find own 0) c (suc q) 0 y, ap (λ (l : List ℕ). getD l c 0) (grant-new own (find own 0) q h)))
+
+-- one cell more is deep, and its place has a chunk
+module _ (deep deep′ : ℕ → Bool) (n : ℕ) (live : ℕ → Bool) (at : ℕ → ℕ) (own : List ℕ) (f : Fits deep n live at (length own) (entry own))
+    (q : ℕ) (ql : q < n) (lq : live q ≡ true) (now : deep′ (at q) ≡ true)
+    (others : (x : ℕ) → x < n → live x ≡ true → x ≢ q → deep′ (at x) ≡ deep (at x)) where
+  pub grant-fits : (c : ℕ) → (length own ≤ find own (suc q) → (c < length own) × (getD own c 0 ≡ 0)) → Fits deep′ n live at (length (grant own c q)) (entry (grant own c q))
+  grant-fits c space = rw length-grant (go (had? own q))
+    where
+      go : (find own (suc q) < length own) ⊎ (length own ≤ find own (suc q)) → Fits deep′ n live at (length own) (entry (grant own c q))
+      go (inl h) = rw (grant-had own c q h) (fits-held deep deep′ n live at (length own) (entry own) f q ql lq now others h)
+      go (inr h) = rw (grant-new own c q h) (fits-hung deep deep′ n live at (length own) (entry own) f q ql lq now others (entry (set own c (suc q))) h c (space h .0) (space h .1)
+          (getD-set-same own c (suc q) 0 (space h .0)) (λ k y. getD-set-other own c k (suc q) 0 y))
+
+-- what is closed
+pub getD-keep : (deep : ℕ → Bool) (at : ℕ → ℕ) (own : List ℕ) (c : ℕ) → getD (keep deep at own) c 0 ≡ cond (deep (at (getD own c 0 - 1))) (getD own c 0) 0
+unfolding keep
+getD-keep deep at [] c = go (deep (at (0 - 1)))
+  where
+    go : (b : Bool) → _≡_ {A = ℕ} 0 (cond b 0 0)
+    go true = refl
+    go false = refl
+getD-keep deep at (o ∷ own) zero = refl
+getD-keep deep at (o ∷ own) (suc c) = getD-keep deep at own c
+
+pub length-keep : (deep : ℕ → Bool) (at : ℕ → ℕ) (own : List ℕ) → length (keep deep at own) ≡ length own
+unfolding keep
+length-keep deep at own = length-map own _
+
+module _ (deep : ℕ → Bool) (at : ℕ → ℕ) (own : List ℕ) where
+  -- an owner that is left was there, and is deep; one that was there and is deep is left
+  pub kept-was : (c q : ℕ) → getD (keep deep at own) c 0 ≡ suc q → (getD own c 0 ≡ suc q) × (deep (at q) ≡ true)
+  kept-was c q e = go (deep (at (getD own c 0 - 1))) refl (sym (getD-keep deep at own c) ∙ e)
+    where
+      go : (b : Bool) → deep (at (getD own c 0 - 1)) ≡ b → cond b (getD own c 0) 0 ≡ suc q → (getD own c 0 ≡ suc q) × (deep (at q) ≡ true)
+      go true d z = (z, sym (ap (λ (x : ℕ). deep (at x)) (let y : getD own c 0 - 1 ≡ q = omega arith in y)) ∙ d)
+      go false d z = absurd (omega arith)
+
+  pub kept-stays : (c q : ℕ) → getD own c 0 ≡ suc q → deep (at q) ≡ true → getD (keep deep at own) c 0 ≡ suc q
+  kept-stays c q e d =
+      let y : getD own c 0 - 1 ≡ q = omega arith in
+      getD-keep deep at own c ∙ rw (y, d) e
+
+-- at most the chunk of the one cell that is deep no longer
+module _ (deep deep′ : ℕ → Bool) (n : ℕ) (live : ℕ → Bool) (at : ℕ → ℕ) (own : List ℕ) (f : Fits deep n live at (length own) (entry own)) (q : ℕ)
+    (others : (x : ℕ) → x < n → live x ≡ true → x ≢ q → deep′ (at x) ≡ deep (at x)) where
+  zero-at : (c : ℕ) → getD own c 0 ≡ 0 → cond (deep′ (at (getD own c 0 - 1))) (getD own c 0) 0 ≡ getD own c 0
+  zero-at c e = rw e (both-zero (deep′ (at (0 - 1))))
+    where
+      both-zero : (b : Bool) → _≡_ {A = ℕ} (cond b 0 0) 0
+      both-zero true = refl
+      both-zero false = refl
+
+  same-at : (c : ℕ) → c < length own → (find own (suc q) ≢ c) ⊎ (deep′ (at q) ≡ true) → getD (keep deep′ at own) c 0 ≡ getD own c 0
+  same-at c l w = go (equal? (getD own c 0) 0)
+    where
+      go : (getD own c 0 ≡ 0) ⊎ (getD own c 0 ≢ 0) → getD (keep deep′ at own) c 0 ≡ getD own c 0
+      go (inl e) = getD-keep deep′ at own c ∙ zero-at c e
+      go (inr e) = kept-stays deep′ at own c x o (is (equal? x q) w) ∙ sym o
+        where
+          x : ℕ
+          x = getD own c 0 - 1
+
+          o : getD own c 0 ≡ suc (getD own c 0 - 1)
+          o = omega arith
+
+          is : (x ≡ q) ⊎ (x ≢ q) → (find own (suc q) ≢ c) ⊎ (deep′ (at q) ≡ true) → deep′ (at x) ≡ true
+          is (inl y) (inr d) = ap (λ (z : ℕ). deep′ (at z)) y ∙ d
+          is (inl y) (inl m) = absurd (m (ap (λ (z : ℕ). find own (suc z)) (sym y) ∙ f .once c x l o))
+          is (inr y) m = let k = f .lies c x l o in others x (k .0) (k .1) y ∙ k .2
+
+  -- nothing is closed where the cell is deep still, or never was
+  pub keep-all : (deep′ (at q) ≡ true) ⊎ (deep (at q) ≡ false) → keep deep′ at own ≡ own
+  keep-all w = ext-getD 0 (keep deep′ at own) own (length-keep deep′ at own) (λ c l. same-at c (rw length-keep at l) (side c (rw length-keep at l) w))
+    where
+      side : (c : ℕ) → c < length own → (deep′ (at q) ≡ true) ⊎ (deep (at q) ≡ false) → (find own (suc q) ≢ c) ⊎ (deep′ (at q) ≡ true)
+      side c l (inl d) = inr d
+      side c l (inr d) = inl (λ e.
+          let k : find own (suc q) < length own = omega arith in
+          true≢false (sym (f .lies (find own (suc q)) q k (chunk-at (entry own) (length own) (suc q) k) .2) ∙ d))
+
+  -- else its chunk, and no other
+  pub keep-but : q < n → live q ≡ true → deep (at q) ≡ true → deep′ (at q) ≡ false → keep deep′ at own ≡ set own (find own (suc q)) 0
+  keep-but ql lq d d′ =
+      ext-getD 0 (keep deep′ at own) (set own (find own (suc q)) 0) (length-keep deep′ at own ∙ sym (length-set own (find own (suc q)) 0)) (λ c l. go c (rw length-keep at l) (equal? c (find own (suc q))))
+    where
+      h : find own (suc q) < length own
+      h = f .has q ql lq d
+
+      go : (c : ℕ) → c < length own → (c ≡ find own (suc q)) ⊎ (c ≢ find own (suc q)) → getD (keep deep′ at own) c 0 ≡ getD (set own (find own (suc q)) 0) c 0
+      go c l (inl e) =
+          let o : getD own c 0 ≡ suc q = rw e (chunk-at (entry own) (length own) (suc q) h) in
+          let y : getD own c 0 - 1 ≡ q = omega arith in
+          getD-keep deep′ at own c ∙ rw (y, d′) (sym (rw e (getD-set-same own (find own (suc q)) 0 0 h)))
+      go c l (inr e) = same-at c l (inl (λ z. e (sym z))) ∙ sym (getD-set-other own (find own (suc q)) c 0 0 e)
+
+-- what is granted, by whether the cell was deep
+pub grant-deep : (deep : ℕ → Bool) (n : ℕ) (live : ℕ → Bool) (at : ℕ → ℕ) (own : List ℕ) → Fits deep n live at (length own) (entry own) → (c q : ℕ) → q < n → live q ≡ true
+    → grant own c q ≡ cond (deep (at q)) own (set own c (suc q))
+grant-deep deep n live at own f c q l e = go (decided (deep (at q)))
+  where
+    none : deep (at q) ≡ false → length own ≤ find own (suc q)
+    none d = out (had? own q)
+      where
+        out : (find own (suc q) < length own) ⊎ (length own ≤ find own (suc q)) → length own ≤ find own (suc q)
+        out (inr h) = h
+        out (inl k) = absurd (true≢false (sym (f .lies (find own (suc q)) q k (chunk-at (entry own) (length own) (suc q) k) .2) ∙ d))
+
+    go : (deep (at q) ≡ true) ⊎ (deep (at q) ≡ false) → grant own c q ≡ cond (deep (at q)) own (set own c (suc q))
+    go (inl d) = rw d (grant-had own c q (f .has q l e d))
+    go (inr d) = rw d (grant-new own c q (none d))
