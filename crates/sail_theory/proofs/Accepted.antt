@@ -125,9 +125,12 @@ module _ (t : Table) (l : Lent) (a len hop : ℕ) where
   announce-said = outcome-said (announceSaid t l a len hop) t l _ _
 
   -- Refused: the number alone, and all as it was. (The number is that of the first condition that holds: `announce-judged`.)
-  pub announce-refused : took (announced t l a len hop .said) ≡ false → announced t l a len hop ≡ record { said = announceSaid t l a len hop; table = t; lent = l }
+  pub announce-off : (s : Said) → announceSaid t l a len hop ≡ s → took s ≡ false → announced t l a len hop ≡ record { said = s; table = t; lent = l }
   unfolding announced
-  announce-refused e = outcome-not _ t l _ _ (sym (ap took announce-said) ∙ e)
+  announce-off s q e = rw q (outcome-not s t l _ _ e)
+
+  pub announce-refused : took (announced t l a len hop .said) ≡ false → announced t l a len hop ≡ record { said = announceSaid t l a len hop; table = t; lent = l }
+  announce-refused e = announce-off (announceSaid t l a len hop) refl (sym (ap took announce-said) ∙ e)
 
   -- Accepted: sound, and the list holds the routes with this one inserted
   pub announce-holds : took (announced t l a len hop .said) ≡ true → Holds t l (insert r rs) (announced t l a len hop .table) (announced t l a len hop .lent)
@@ -160,9 +163,12 @@ module _ (t : Table) (l : Lent) (a len : ℕ) where
   unfolding withdrawn
   withdraw-said = outcome-said (withdrawSaid t l a len) t l _ _
 
-  pub withdraw-refused : took (withdrawn t l a len .said) ≡ false → withdrawn t l a len ≡ record { said = withdrawSaid t l a len; table = t; lent = l }
+  pub withdraw-off : (s : Said) → withdrawSaid t l a len ≡ s → took s ≡ false → withdrawn t l a len ≡ record { said = s; table = t; lent = l }
   unfolding withdrawn
-  withdraw-refused e = outcome-not _ t l _ _ (sym (ap took withdraw-said) ∙ e)
+  withdraw-off s q e = rw q (outcome-not s t l _ _ e)
+
+  pub withdraw-refused : took (withdrawn t l a len .said) ≡ false → withdrawn t l a len ≡ record { said = withdrawSaid t l a len; table = t; lent = l }
+  withdraw-refused e = withdraw-off (withdrawSaid t l a len) refl (sym (ap took withdraw-said) ∙ e)
 
   -- Accepted: sound, and the list holds the routes with those of this prefix removed
   pub withdraw-holds : took (withdrawn t l a len .said) ≡ true → Holds t l left (withdrawn t l a len .table) (withdrawn t l a len .lent)

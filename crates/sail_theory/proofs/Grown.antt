@@ -129,7 +129,7 @@ module _ (g : Geometry) (valid : Valid g) (r : Route) (rs : List Route) (fine : 
           at (inr y) = stayed (ap (λ (l : List ℕ). getD l c 0) is ∙ getD-set-other own2 c2 c (suc q1) 0 y)
 
   -- the third owners fit the old routes above the new second owners
-  shifted : Fits3 g rs own2′ own3
+  pub shifted : Fits3 g rs own2′ own3
   shifted = rw length-open2 (fits-shift (long rs (mid g)) (length own2 * 2 ^ bits2 g) (liveIn (entry own2) (bits2 g)) (liveIn (entry own2′) (bits2 g)) (at2 g own2) (at2 g own2′) (length own3) (entry own3)
       (λ q l e. stay q e (grew (q / 2 ^ bits2 g)))
       (λ q l e d. new q e d (grew (q / 2 ^ bits2 g))) f3)
@@ -153,13 +153,13 @@ module _ (g : Geometry) (valid : Valid g) (r : Route) (rs : List Route) (fine : 
     own-long : long (insert r rs) (g .p1) q1 ≡ true
     own-long = long-own r rs fine good (g .p1) (lt-ltb (g .p1) (r .len) (omega (arith, ltb-true (mid g) (r .len) e)))
 
-    q2-lt : q2 < length own2′ * 2 ^ bits2 g
+    pub q2-lt : q2 < length own2′ * 2 ^ bits2 g
     q2-lt = place-in g valid (insert r rs) own2′ open-fits2 (r .addr) (fine .prefix .addr-ok) own-long
 
-    q2-live : liveIn (entry own2′) (bits2 g) q2 ≡ true
+    pub q2-live : liveIn (entry own2′) (bits2 g) q2 ≡ true
     q2-live = place-live2 g valid (insert r rs) own2′ open-fits2 (r .addr) (fine .prefix .addr-ok) own-long
 
-    q2-at : at2 g own2′ q2 ≡ slot (mid g) (r .addr)
+    pub q2-at : at2 g own2′ q2 ≡ slot (mid g) (r .addr)
     q2-at = place-at2 g valid (insert r rs) own2′ open-fits2 (r .addr) (fine .prefix .addr-ok) own-long
 
     granted : Fits3 g (insert r rs) own2′ (grant own3 c3 q2)

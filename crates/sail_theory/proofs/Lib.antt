@@ -13,3 +13,9 @@ pub mod Judged
 pub mod Only
 pub mod Changes
 pub mod Accepted
+pub mod Fresh
+pub mod Cells
+pub mod Opens
+pub mod Ends
+pub mod Loads
+pub mod Ascends

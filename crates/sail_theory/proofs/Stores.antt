@@ -14,6 +14,7 @@ use Rattle.sail.specs.Level.{entry}
 use Rattle.sail_theory.specs.Render.{chunkFor, find, Fits}
 use Rattle.sail_theory.specs.Calls.{grant, keep}
 use Rattle.sail_theory.proofs.Chunks.{chunk-at, free-zero}
+use Rattle.sail_theory.proofs.Places.{Apart}
 use Rattle.sail_theory.proofs.Owners.{fits-held, fits-hung}
 
 -- a chunk that is had already, and one that is given
@@ -65,13 +66,13 @@ module _ (deep deep′ : ℕ → Bool) (n : ℕ) (live : ℕ → Bool) (at : ℕ
           (getD-set-same own c (suc q) 0 (space h .0)) (λ k y. getD-set-other own c k (suc q) 0 y))
 
 -- what is closed
+either-zero : (b : Bool) → _≡_ {A = ℕ} (cond b 0 0) 0
+either-zero true = refl
+either-zero false = refl
+
 pub getD-keep : (deep : ℕ → Bool) (at : ℕ → ℕ) (own : List ℕ) (c : ℕ) → getD (keep deep at own) c 0 ≡ cond (deep (at (getD own c 0 - 1))) (getD own c 0) 0
 unfolding keep
-getD-keep deep at [] c = go (deep (at (0 - 1)))
-  where
-    go : (b : Bool) → _≡_ {A = ℕ} 0 (cond b 0 0)
-    go true = refl
-    go false = refl
+getD-keep deep at [] c = sym (either-zero (deep (at (0 - 1))))
 getD-keep deep at (o ∷ own) zero = refl
 getD-keep deep at (o ∷ own) (suc c) = getD-keep deep at own c
 
@@ -93,58 +94,57 @@ module _ (deep : ℕ → Bool) (at : ℕ → ℕ) (own : List ℕ) where
       let y : getD own c 0 - 1 ≡ q = omega arith in
       getD-keep deep at own c ∙ rw (y, d) e
 
--- at most the chunk of the one cell that is deep no longer
-module _ (deep deep′ : ℕ → Bool) (n : ℕ) (live : ℕ → Bool) (at : ℕ → ℕ) (own : List ℕ) (f : Fits deep n live at (length own) (entry own)) (q : ℕ)
-    (others : (x : ℕ) → x < n → live x ≡ true → x ≢ q → deep′ (at x) ≡ deep (at x)) where
-  zero-at : (c : ℕ) → getD own c 0 ≡ 0 → cond (deep′ (at (getD own c 0 - 1))) (getD own c 0) 0 ≡ getD own c 0
-  zero-at c e = rw e (both-zero (deep′ (at (0 - 1))))
+-- nothing is closed where every chunk in use hangs from a cell that is deep
+pub keep-all : (deep : ℕ → Bool) (at : ℕ → ℕ) (own : List ℕ) → ((c x : ℕ) → c < length own → getD own c 0 ≡ suc x → deep (at x) ≡ true) → keep deep at own ≡ own
+keep-all deep at own h = ext-getD 0 (keep deep at own) own (length-keep deep at own) (λ c l. kept c (rw length-keep at l))
+  where
+    kept : (c : ℕ) → c < length own → getD (keep deep at own) c 0 ≡ getD own c 0
+    kept c l = getD-keep deep at own c ∙ go (equal? (getD own c 0) 0)
+      where
+        go : (getD own c 0 ≡ 0) ⊎ (getD own c 0 ≢ 0) → cond (deep (at (getD own c 0 - 1))) (getD own c 0) 0 ≡ getD own c 0
+        go (inl e) = rw e (either-zero (deep (at (0 - 1))))
+        go (inr e) = let o : getD own c 0 ≡ suc (getD own c 0 - 1) = omega arith in rw (h c (getD own c 0 - 1) l o)
+
+-- One cell alone, i, may be deep no longer; its place, where it is deep, is q. Where it was deep and is no more, its chunk is closed, and no other.
+module _ (deep deep′ : ℕ → Bool) (n : ℕ) (live : ℕ → Bool) (at : ℕ → ℕ) (own : List ℕ) (f : Fits deep n live at (length own) (entry own)) (apart : Apart n live at) (i q : ℕ)
+    (others : (j : ℕ) → j ≢ i → deep′ j ≡ deep j) (here : deep i ≡ true → (q < n) × (live q ≡ true) × (at q ≡ i)) where
+  keep-same : (deep′ i ≡ true) ⊎ (deep i ≡ false) → keep deep′ at own ≡ own
+  keep-same w = keep-all deep′ at own (λ c x l e. is x (f .lies c x l e .2) (equal? (at x) i) w)
     where
-      both-zero : (b : Bool) → _≡_ {A = ℕ} (cond b 0 0) 0
-      both-zero true = refl
-      both-zero false = refl
+      is : (x : ℕ) → deep (at x) ≡ true → (at x ≡ i) ⊎ (at x ≢ i) → (deep′ i ≡ true) ⊎ (deep i ≡ false) → deep′ (at x) ≡ true
+      is x k (inr y) w = others (at x) y ∙ k
+      is x k (inl y) (inl d) = ap deep′ y ∙ d
+      is x k (inl y) (inr d) = absurd (true≢false (sym k ∙ ap deep y ∙ d))
 
-  same-at : (c : ℕ) → c < length own → (find own (suc q) ≢ c) ⊎ (deep′ (at q) ≡ true) → getD (keep deep′ at own) c 0 ≡ getD own c 0
-  same-at c l w = go (equal? (getD own c 0) 0)
+  keep-but : deep i ≡ true → deep′ i ≡ false → keep deep′ at own ≡ set own (find own (suc q)) 0
+  keep-but d d′ =
+      ext-getD 0 (keep deep′ at own) (set own (find own (suc q)) 0) (length-keep deep′ at own ∙ sym (length-set own (find own (suc q)) 0)) (λ c l. go c (rw length-keep at l) (equal? c (find own (suc q))) (equal? (getD own c 0) 0))
     where
-      go : (getD own c 0 ≡ 0) ⊎ (getD own c 0 ≢ 0) → getD (keep deep′ at own) c 0 ≡ getD own c 0
-      go (inl e) = getD-keep deep′ at own c ∙ zero-at c e
-      go (inr e) = kept-stays deep′ at own c x o (is (equal? x q) w) ∙ sym o
-        where
-          x : ℕ
-          x = getD own c 0 - 1
+      on : (q < n) × (live q ≡ true) × (at q ≡ i)
+      on = here d
 
-          o : getD own c 0 ≡ suc (getD own c 0 - 1)
-          o = omega arith
-
-          is : (x ≡ q) ⊎ (x ≢ q) → (find own (suc q) ≢ c) ⊎ (deep′ (at q) ≡ true) → deep′ (at x) ≡ true
-          is (inl y) (inr d) = ap (λ (z : ℕ). deep′ (at z)) y ∙ d
-          is (inl y) (inl m) = absurd (m (ap (λ (z : ℕ). find own (suc z)) (sym y) ∙ f .once c x l o))
-          is (inr y) m = let k = f .lies c x l o in others x (k .0) (k .1) y ∙ k .2
-
-  -- nothing is closed where the cell is deep still, or never was
-  pub keep-all : (deep′ (at q) ≡ true) ⊎ (deep (at q) ≡ false) → keep deep′ at own ≡ own
-  keep-all w = ext-getD 0 (keep deep′ at own) own (length-keep deep′ at own) (λ c l. same-at c (rw length-keep at l) (side c (rw length-keep at l) w))
-    where
-      side : (c : ℕ) → c < length own → (deep′ (at q) ≡ true) ⊎ (deep (at q) ≡ false) → (find own (suc q) ≢ c) ⊎ (deep′ (at q) ≡ true)
-      side c l (inl d) = inr d
-      side c l (inr d) = inl (λ e.
-          let k : find own (suc q) < length own = omega arith in
-          true≢false (sym (f .lies (find own (suc q)) q k (chunk-at (entry own) (length own) (suc q) k) .2) ∙ d))
-
-  -- else its chunk, and no other
-  pub keep-but : q < n → live q ≡ true → deep (at q) ≡ true → deep′ (at q) ≡ false → keep deep′ at own ≡ set own (find own (suc q)) 0
-  keep-but ql lq d d′ =
-      ext-getD 0 (keep deep′ at own) (set own (find own (suc q)) 0) (length-keep deep′ at own ∙ sym (length-set own (find own (suc q)) 0)) (λ c l. go c (rw length-keep at l) (equal? c (find own (suc q))))
-    where
       h : find own (suc q) < length own
-      h = f .has q ql lq d
+      h = f .has q (on .0) (on .1) (ap deep (on .2) ∙ d)
 
-      go : (c : ℕ) → c < length own → (c ≡ find own (suc q)) ⊎ (c ≢ find own (suc q)) → getD (keep deep′ at own) c 0 ≡ getD (set own (find own (suc q)) 0) c 0
-      go c l (inl e) =
+      go : (c : ℕ) → c < length own → (c ≡ find own (suc q)) ⊎ (c ≢ find own (suc q)) → (getD own c 0 ≡ 0) ⊎ (getD own c 0 ≢ 0) → getD (keep deep′ at own) c 0 ≡ getD (set own (find own (suc q)) 0) c 0
+      go c l (inl e) z =
           let o : getD own c 0 ≡ suc q = rw e (chunk-at (entry own) (length own) (suc q) h) in
           let y : getD own c 0 - 1 ≡ q = omega arith in
-          getD-keep deep′ at own c ∙ rw (y, d′) (sym (rw e (getD-set-same own (find own (suc q)) 0 0 h)))
-      go c l (inr e) = same-at c l (inl (λ z. e (sym z))) ∙ sym (getD-set-other own (find own (suc q)) c 0 0 e)
+          getD-keep deep′ at own c ∙ rw (y, on .2, d′) (sym (rw e (getD-set-same own (find own (suc q)) 0 0 h)))
+      go c l (inr e) (inl z) = getD-keep deep′ at own c ∙ rw z (either-zero (deep′ (at (0 - 1)))) ∙ sym (getD-set-other own (find own (suc q)) c 0 0 e ∙ z)
+      go c l (inr e) (inr z) =
+          let o : getD own c 0 ≡ suc (getD own c 0 - 1) = omega arith in
+          let k = f .lies c (getD own c 0 - 1) l o in
+          let away : at (getD own c 0 - 1) ≢ i = λ y. e (sym (f .once c (getD own c 0 - 1) l o) ∙ ap (λ (x : ℕ). find own (suc x)) (apart _ q (k .0) (on .0) (k .1) (on .1) (y ∙ sym (on .2)))) in
+          kept-stays deep′ at own c (getD own c 0 - 1) o (others _ away ∙ k .2) ∙ sym o ∙ sym (getD-set-other own (find own (suc q)) c 0 0 e)
+
+  pub keep-stores : keep deep′ at own ≡ cond (deep i) (cond (deep′ i) own (set own (find own (suc q)) 0)) own
+  keep-stores = go (decided (deep i)) (decided (deep′ i))
+    where
+      go : (deep i ≡ true) ⊎ (deep i ≡ false) → (deep′ i ≡ true) ⊎ (deep′ i ≡ false) → keep deep′ at own ≡ cond (deep i) (cond (deep′ i) own (set own (find own (suc q)) 0)) own
+      go (inr e) d = rw e (keep-same (inr e))
+      go (inl e) (inl d) = rw (e, d) (keep-same (inl d))
+      go (inl e) (inr d) = rw (e, d) (keep-but e d)
 
 -- what is granted, by whether the cell was deep
 pub grant-deep : (deep : ℕ → Bool) (n : ℕ) (live : ℕ → Bool) (at : ℕ → ℕ) (own : List ℕ) → Fits deep n live at (length own) (entry own) → (c q : ℕ) → q < n → live q ≡ true

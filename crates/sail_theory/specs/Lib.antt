@@ -3,3 +3,4 @@ pub mod Render
 pub mod Test
 pub mod Calls
 pub mod Facts
+pub mod Runs

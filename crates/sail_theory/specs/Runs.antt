@@ -1,0 +1,51 @@
+-- Calls one after the other, and the routes that stand by what they said alone. Assumes nothing.
+use mathlib.Core.Bool.{Bool, cond}
+use mathlib.Core.List.{List, [], _∷_}
+use mathlib.Core.Path.{_≡_}
+use Prim.Native.Nat.{ℕ}
+use lib.Dec.{eqb}
+use Rattle.routes.specs.Route.{keyOf}
+use Rattle.routes.specs.Said.{Said, accepted}
+use Rattle.routes.specs.Standing.{Held, absent, stood, routeAt}
+use Rattle.routes.specs.declared.Route.{Route}
+use Rattle.sail.specs.Lent.{Lent}
+use Rattle.sail.specs.declared.table.Table.{Table}
+use Rattle.sail_theory.specs.Calls.{route, inputRoutes, Out, took, made, announced, withdrawn, loaded}
+
+-- what is left after announcing each of these in order
+unfoldable pub announceAll : Out → List Route → Out
+announceAll o [] = o
+announceAll o (r ∷ rs) = announceAll (announced (o .table) (o .lent) (r .addr) (r .len) (r .hop)) rs
+
+-- each of these answers is that the route was added
+unfoldable pub AllAdded : Out → List Route → Type 0
+AllAdded o [] = Unit
+AllAdded o (r ∷ rs) =
+    (announced (o .table) (o .lent) (r .addr) (r .len) (r .hop) .said ≡ accepted (0 ∷ []))
+    × AllAdded (announced (o .table) (o .lent) (r .addr) (r .len) (r .hop)) rs
+
+pub data Call : Type 0 where
+  announce : ℕ → ℕ → ℕ → Call
+  withdraw : ℕ → ℕ → Call
+  load : List ℕ → Call
+
+unfoldable pub done : Table → Lent → Call → Out
+done t l (announce a len hop) = announced t l a len hop
+done t l (withdraw a len) = withdrawn t l a len
+done t l (load input) = loaded t l input
+
+-- what a run of calls from a fresh table leaves; the last call stands first
+unfoldable pub after : Table → Lent → List Call → Out
+after t l [] = made t l
+after t l (c ∷ cs) = done (after t l cs .table) (after t l cs .lent) c
+
+-- what stands for the prefix with key k after an accepted call, where `before` stood for it
+abbrev pub says : Call → ℕ → Held → Held
+says (announce a len hop) k before = cond (eqb (keyOf a len) k) (stood (route a len hop)) before
+says (withdraw a len) k before = cond (eqb (keyOf a len) k) absent before
+says (load input) k before = routeAt k (inputRoutes input)
+
+-- "Which routes stand after a run is worked out from its accepted calls alone"
+unfoldable pub worked : Table → Lent → List Call → ℕ → Held
+worked t l [] k = absent
+worked t l (c ∷ cs) k = cond (took (after t l (c ∷ cs) .said)) (says c k (worked t l cs k)) (worked t l cs k)
