@@ -18,6 +18,7 @@ use Rattle.bits.proofs.Tests.{both, untrue}
 use Rattle.routes.specs.Route.{covers, within, any, long, best, lastHop, key, Fine, Good}
 use Rattle.routes.specs.Record.{noRoute}
 use Rattle.routes.specs.declared.Route.{Route}
+use Rattle.routes.proofs.Levels.{within-up}
 use Rattle.routes.proofs.Paint.{slot-cover, best-last}
 use Rattle.chain.specs.Words.{routeOf, routesIn, Words}
 use Rattle.chain.specs.Place.{Run}
@@ -51,11 +52,7 @@ module _ (l p c : ℕ) (h : l ≤ p) (hp : p ≤ 32) where
   covers-within r f k e = both (lt-ltb l (r .len) k) (eq-eqb _ _ (slot-cover p c l r (f .prefix .len-ok) e (omega arith)))
 
   within-within : (r : Route) → within p c r ≡ true → within l up r ≡ true
-  within-within r e =
-      let t = within-parts p c r e in
-      let q : l + (p - l) ≡ p = omega arith in
-      both (lt-ltb l (r .len) (omega arith))
-      (eq-eqb _ _ (sym (slot-up l (p - l) (r .addr) (omega arith)) ∙ ap (λ (n : ℕ). slot n (r .addr) / 2 ^ (p - l)) q ∙ ap (λ (n : ℕ). n / 2 ^ (p - l)) (t .1)))
+  within-within r e = let q : l + (p - l) ≡ p = omega arith in within-up l (p - l) c (omega arith) r (rw q e)
 
   -- a route that does not lie within the cell above covers both or neither
   outside-same : (r : Route) → Fine r → within l up r ≡ false → covers p c r ≡ covers l up r
