@@ -120,8 +120,7 @@ module _ (t : Table) (l : Lent) (a len : ℕ) (w : Farewell t l a len) where
           → (placeIn (t .geometry) (l .own2) a < length (l .own2) * 2 ^ bits2 (t .geometry)) × (liveIn (entry (l .own2)) (bits2 (t .geometry)) (placeIn (t .geometry) (l .own2) a) ≡ true) × (at2 (t .geometry) (l .own2) (placeIn (t .geometry) (l .own2) a) ≡ i2)
       here e =
           let v = w .sound .sized .valid in
-          let up : long (standing t l) (t .geometry .p1) q1 ≡ true = rw (slot-up (t .geometry .p1) (bits2 (t .geometry)) a (omega arith)) at (long-up (standing t l) (t .geometry .p1) (bits2 (t .geometry)) i2 (omega arith) e) in
-          (
+          let up : long (standing t l) (t .geometry .p1) q1 ≡ true = rw (slot-up (t .geometry .p1) (bits2 (t .geometry)) a (omega arith)) at (long-up (standing t l) (t .geometry .p1) (bits2 (t .geometry)) i2 (omega arith) e) in (
             place-in (t .geometry) v (standing t l) (l .own2) (was .fits2) a (w .prefix .addr-ok) up,
             place-live2 (t .geometry) v (standing t l) (l .own2) (was .fits2) a (w .prefix .addr-ok) up,
             place-at2 (t .geometry) v (standing t l) (l .own2) (was .fits2) a (w .prefix .addr-ok) up,

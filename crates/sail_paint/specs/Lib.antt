@@ -1,0 +1,2 @@
+-- Which cells a change of a prefix makes stale, and what repainting asks and leaves.
+pub mod Stale

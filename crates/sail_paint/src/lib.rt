@@ -1,0 +1,1 @@
+// The cells of a table painted again, where a prefix has changed.
