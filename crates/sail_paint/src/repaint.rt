@@ -1,4 +1,5 @@
 // A table painted again, where the routes under a prefix have changed.
+ghost use mathlib.Core.List.{[]};
 ghost use Rattle.chain.specs.Words.{routesIn};
 ghost use Rattle.sail.specs.Lent.{lent};
 ghost use Rattle.sail_paint.specs.Stale.{Stale, Repainted};
