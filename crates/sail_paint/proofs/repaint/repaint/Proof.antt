@@ -1,63 +1,26 @@
+-- `sail_paint::repaint::repaint` meets its contract. Assumes nothing.
+use native.Mathlib.Omega.{arith}
+use Rattle.sail_paint.proofs.Rights.{first-asks, first-stamps, second-asks, second-stamps, third-asks, first-is, second-is, third-is}
 use borrow.Author.Needs.{needs}
 use Rattle.sail_paint.proofs.repaint.repaint.Statement.{statement}
 use Rattle.sail_paint.proofs.repaint.repaint.Tie as tie
-use Rattle.sail_paint.proofs.repaint.repaint.Reads as reads
-use Rattle.sail_paint.proofs.repaint.repaint.Lts as lts
-use Rattle.sail_paint.proofs.part.paint_first.Reads as paint-first-reads
-use Rattle.sail_paint.proofs.pool.paint_pool.Reads as paint-pool-reads
-use Rattle.sail_paint.proofs.pool.stamp.Reads as stamp-reads
-
--- src/repaint.rt:31:5
-paint-first-requires : tie.Need-paint-first-requires
-paint-first-requires c κs = search needs
-
--- src/repaint.rt:32:5
-stamp-requires : tie.Need-stamp-requires
-stamp-requires c κs = ?
-
--- src/repaint.rt:33:5
-paint-pool-requires : tie.Need-paint-pool-requires
-paint-pool-requires c κs = ?
-
--- src/repaint.rt:34:5
-stamp-requires-2 : tie.Need-stamp-requires-2
-stamp-requires-2 c κs = ?
-
--- src/repaint.rt:35:50
-sub-paint-pool : tie.Need-sub-paint-pool
-sub-paint-pool c = ?
-
--- src/repaint.rt:35:5
-paint-pool-requires-2 : tie.Need-paint-pool-requires-2
-paint-pool-requires-2 c κs = ?
-
--- src/repaint.rt:14:1
-same-length : tie.Need-same-length
-same-length c = search needs
-
--- src/repaint.rt:14:1
-same-length-2 : tie.Need-same-length-2
-same-length-2 c = search needs
-
--- src/repaint.rt:14:1
-same-length-3 : tie.Need-same-length-3
-same-length-3 c = search needs
-
--- src/repaint.rt:14:1
-returns : tie.Need-returns
-returns c = ?
 
 pub repaint-spec : {M : Type 1} → statement M
 repaint-spec =
     tie.close
     (tie.spec
-    paint-first-requires
-    stamp-requires
-    paint-pool-requires
-    stamp-requires-2
-    sub-paint-pool
-    paint-pool-requires-2
-    same-length
-    same-length-2
-    same-length-3
-    returns)
+    (λ c κs. first-asks _ _ _ _ _ _ (c .before .before .before .before .before .before .before .before .pre))
+    (λ c κs. first-stamps _ _ _ _ _ _ (c .before .before .before .before .before .before .before .before .before .before .before .before .pre) _ (c .before .before .before .paint-first .ensures))
+    (λ c κs. second-asks _ _ _ _ _ _ (c .before .before .before .before .before .before .before .before .before .before .before .before .before .before .before .before .pre))
+    (λ c κs. second-stamps _ _ _ _ _ _ (c .before .before .before .before .before .before .before .before .before .before .before .before .before .before .before .before .before .before .before .before .pre) _ _ _ _ (c .before .before .before .paint-pool .ensures))
+    (λ c. let v = c .before .before .before .before .before .before .before .before .before .before .before .before .before .before .before .before .before .before .before .before .before .before .before .pre .sized .valid in omega arith)
+    (λ c κs. third-asks _ _ _ _ _ _ (c .before .before .before .before .before .before .before .before .before .before .before .before .before .before .before .before .before .before .before .before .before .before .before .before .pre))
+    (λ c. search needs)
+    (λ c. search needs)
+    (λ c. search needs)
+    (λ c. let s = c .before .before .before .before .before .before .before .before .before .before .before .before .before .before .before .before .before .before .before .before .before .before .before .before .before .before .before .pre in
+    record {
+      is-first = first-is _ _ _ _ _ _ s _ _ (c .before .before .before .before .before .before .before .before .before .before .before .before .before .before .before .before .before .before .paint-first .ensures) (c .before .before .before .before .before .before .before .before .before .before .before .before .before .before .stamp .ensures);
+      is-second = second-is _ _ _ _ _ _ s _ _ (c .before .before .before .before .before .before .before .before .before .before .paint-pool .ensures) (c .before .before .before .before .before .before .stamp2 .ensures);
+      is-third = third-is _ _ _ _ _ _ s _ (c .before .before .paint-pool2 .ensures);
+    }))
