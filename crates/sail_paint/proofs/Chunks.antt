@@ -1,22 +1,21 @@
 -- The chunks of a pool that hang from cells which meet a prefix, painted one by one. Assumes nothing.
 use mathlib.Core.Path.{_≡_, refl, sym, ap, _∙_}
 use mathlib.Core.Logic.{_⊎_, inl, inr}
-use mathlib.Core.Bool.{Bool, true, false, not, _&&_, true≢false, and-false}
+use mathlib.Core.Bool.{Bool, true, false, not, _&&_, and-true, and-false}
 use mathlib.Core.List.{List}
-use Prim.Native.Nat.{ℕ, suc, _+_, _-_, _*_, _/_, _%_, _^_, _≤_, _<_}
+use Prim.Native.Nat.{ℕ, _+_, _-_, _*_, _/_, _%_, _^_, _≤_, _<_}
 use native.Mathlib.Nat.{div-add-mod', one-mul, mul-le-mul-right, add-mul}
 use native.Mathlib.Omega.{arith}
 use lib.Dec.{eqb, ltb}
 use lib.ListN.{length, getD}
-use lib.Pow.{pow-pos}
-use borrow.Author.Tests.{not-true, not-false, eqb-true, eqb-false, eq-eqb, ne-eqb, lt-ltb, le-ltb, ltb-true, ltb-false}
-use Rattle.bits.proofs.Tests.{decided, both, and-split}
+use borrow.Author.Tests.{not-true, not-false, eqb-true, eqb-false, lt-ltb, le-ltb, ltb-true}
+use Rattle.bits.proofs.Tests.{decided, both, and-split, same}
 use Rattle.routes.specs.declared.Route.{Route}
 use Rattle.plan.specs.Paint.{between}
-use Rattle.sail.specs.Level.{liveIn, partOf, entry}
+use Rattle.sail.specs.Level.{partOf, entry}
 use Rattle.sail_theory.proofs.Places.{chunk-lt}
 use Rattle.sail_paint.specs.Stale.{meets}
-use Rattle.sail_paint.specs.Paint.{overpainted, standsFor, staleIn, staleOf, Above, Part, Levels, Hangs, ChunkOf, Pool}
+use Rattle.sail_paint.specs.Paint.{overpainted, standsFor, staleIn, staleOf, Above, Part, ChunkOf, Pool}
 use Rattle.sail_paint.proofs.Places.{block-is}
 use Rattle.sail_paint.proofs.Overs.{length-over, over-none, over-ext, over-more}
 
@@ -50,12 +49,12 @@ module _ (rs : List Route) (a len l p d e : ℕ) (up : List ℕ) where
         let z : meets a len l (at (o - 1)) ≡ true = ap (meets a len l) (sym ei) ∙ sym is ∙ not-false b t in
         let u : ltb 0 o ≡ true = lt-ltb 0 o (omega arith) in
         was ∙ over-ext rs p (between from (from + n)) (staleOf a len l d at c o) (λ q. base + (q - from)) (partOf (λ _. o) d at) cells
-        (λ q k. rw (ef, en, one-mul, block-is c d q, u, z) (sym (mathlib.Core.Bool.and-true (eqb (q / 2 ^ d) c))))
+        (λ q k. rw (ef, en, one-mul, block-is c d q, u, z) (sym (and-true (eqb (q / 2 ^ d) c))))
         (λ q k s.
-            let f : q / 2 ^ d * 2 ^ d ≡ c * 2 ^ d = ap (λ (x : ℕ). x * 2 ^ d) (eqb-true (q / 2 ^ d) c (and-split (eqb (q / 2 ^ d) c) _ s .0)) in
-            let g = div-add-mod' q (2 ^ d) in
-            let j : i * 2 ^ d ≡ at (o - 1) * 2 ^ d = ap (λ (x : ℕ). x * 2 ^ d) ei in
-            omega arith)
+        let f : q / 2 ^ d * 2 ^ d ≡ c * 2 ^ d = ap (λ (x : ℕ). x * 2 ^ d) (eqb-true (q / 2 ^ d) c (and-split (eqb (q / 2 ^ d) c) _ s .0)) in
+        let g = div-add-mod' q (2 ^ d) in
+        let j : i * 2 ^ d ≡ at (o - 1) * 2 ^ d = ap (λ (x : ℕ). x * 2 ^ d) ei in
+        omega arith)
 
   -- the pool, up to chunk c
   module _ (own cells₀ : List ℕ) where
@@ -89,11 +88,11 @@ module _ (rs : List Route) (a len l p d e : ℕ) (up : List ℕ) where
             go : (eqb (q / 2 ^ d) c ≡ true) ⊎ (eqb (q / 2 ^ d) c ≡ false) → upTo (c + 1) q ≡ upTo c q
             go (inl y) =
                 let z : staleIn a len l d at (entry own) q ≡ false = sym (ap (λ (x : ℕ). ltb 0 x && meets a len l (at (x - 1))) (hung q y)) ∙ rw y at t in
-                rw (z, and-false) (sym (and-false (ltb (q / 2 ^ d) c)))
+                rw z (and-false (ltb (q / 2 ^ d) (c + 1)) ∙ sym (and-false (ltb (q / 2 ^ d) c)))
             go (inr y) = ap (λ (b : Bool). b && staleIn a len l d at (entry own) q) (more (q / 2 ^ d) (eqb-false (q / 2 ^ d) c y))
               where
                 more : (x : ℕ) → (x ≡ c → ⊥) → ltb x (c + 1) ≡ ltb x c
-                more x n = Rattle.bits.proofs.Tests.same (ltb x (c + 1)) (ltb x c) (λ t. let w = ltb-true x (c + 1) t in lt-ltb x c (omega arith)) (λ t. let w = ltb-true x c t in lt-ltb x (c + 1) (omega arith))
+                more x n = same (ltb x (c + 1)) (ltb x c) (λ t. let w = ltb-true x (c + 1) t in lt-ltb x c (omega arith)) (λ t. let w = ltb-true x c t in lt-ltb x (c + 1) (omega arith))
 
     pub pool-all : (c : ℕ) (cells : List ℕ) → length own ≤ c → length cells₀ ≡ length own * 2 ^ d → Pooled rs a len l p d e up own cells₀ c cells → cells ≡ overpainted rs p (staleIn a len l d at (entry own)) (partOf (entry own) d at) cells₀
     pool-all c cells u size was =
@@ -132,6 +131,7 @@ module _ (ws par : List ℕ) (len l p : ℕ) (up : List ℕ) (e o : ℕ) (cells 
         };
       }
 
+-- and each chunk of a pool has it
 pub pool-chunk : (ws par : List ℕ) (len l p : ℕ) (up : List ℕ) (e : ℕ) (own cells₀ cells : List ℕ) (c o : ℕ) → Pool ws par len l p up e own cells₀ → length cells ≡ length cells₀ → c < length own → (o ≡ getD own c 0) × (o < 4294967296)
     → ChunkOf ws par len l p up e o cells c
 pool-chunk ws par len l p up e own cells₀ cells c o h n k is = record {

@@ -1,8 +1,8 @@
 -- The first cells that meet a prefix, painted block by block. Assumes nothing.
 use mathlib.Core.Path.{_≡_, refl, sym, ap, _∙_}
-use mathlib.Core.Bool.{Bool, true, false}
+use mathlib.Core.Bool.{Bool, false, true≢false}
 use mathlib.Core.List.{List}
-use Prim.Native.Nat.{ℕ, _+_, _-_, _*_, _/_, _%_, _^_, _≤_, _<_}
+use Prim.Native.Nat.{ℕ, _+_, _-_, _*_, _/_, _^_, _≤_}
 use native.Mathlib.Omega.{arith}
 use lib.ListN.{length}
 use lib.Pow.{pow-add}
@@ -33,7 +33,7 @@ grown a lo hi q l u n = go (place a lo q) (place lo hi q)
     go (below x) z = rw (between-below a lo q x) (between-below a hi q x)
     go (inside x y) z = rw (between-in a lo q x y) (between-in a hi q x (omega arith))
     go (above x y) (below z) = absurd (omega arith)
-    go (above x y) (inside z w) = absurd (mathlib.Core.Bool.true≢false (sym (between-in lo hi q z w) ∙ n))
+    go (above x y) (inside z w) = absurd (true≢false (sym (between-in lo hi q z w) ∙ n))
     go (above x y) (above z w) = rw (between-above a lo q y) (between-above a hi q w)
 
 module _ (rs : List Route) (p : ℕ) (first₀ : List ℕ) (from : ℕ) where

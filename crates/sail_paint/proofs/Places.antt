@@ -1,13 +1,13 @@
 -- Where chunks hang, and which cells meet a prefix. Assumes nothing.
 use mathlib.Core.Path.{_≡_, refl, sym, ap, _∙_}
-use mathlib.Core.Bool.{Bool, true, false}
+use mathlib.Core.Bool.{true, cond}
 use mathlib.Core.List.{List}
 use Prim.Native.Nat.{ℕ, zero, suc, _+_, _-_, _*_, _/_, _%_, _^_, _≤_, _<_}
 use native.Mathlib.Nat.{mod-lt, mul-le-mul, mul-le-mul-right, mul-assoc, div-mul-le-self, lt-div-mul-add, div-eq-of-lt-le, add-mul, one-mul}
 use native.Mathlib.Decide.{decLe}
 use native.Mathlib.Omega.{arith}
 use lib.Dec.{eqb, leb, ltb}
-use lib.ListN.{length, getD}
+use lib.ListN.{getD}
 use lib.Pow.{pow-add, pow-pos, pow-mono, shl-exact, shl-shr}
 use borrow.Author.Tests.{leb-true, ltb-true, eqb-true, le-leb, lt-leb, lt-ltb, eq-eqb}
 use Rattle.bits.specs.Slot.{slot}
@@ -66,7 +66,7 @@ meets-holds a len p i h = rw (lt-leb len p h)
 pub between-parts : (from to q : ℕ) → between from to q ≡ true → (from ≤ q) × (q < to)
 between-parts from to q e = let s = and-split (leb from q) (ltb q to) e in (leb-true from q (s .0), ltb-true q to (s .1))
 
-pub parts-between : (from to q : ℕ) → from ≤ q → q < to → between from to q ≡ true
+parts-between : (from to q : ℕ) → from ≤ q → q < to → between from to q ≡ true
 parts-between from to q a b = both (le-leb from q a) (lt-ltb q to b)
 
 -- the numbers whose high digits are c: a block of 2 ^ k
@@ -75,13 +75,13 @@ block-is c k q =
     same (between (c * 2 ^ k) (c * 2 ^ k + 2 ^ k) q) (eqb (q / 2 ^ k) c)
     (λ t. let s = between-parts _ _ q t in eq-eqb (q / 2 ^ k) c (div-eq-of-lt-le {k = c} (2 ^ k) {m = q} (s .0) (rw (add-mul, one-mul) (s .1))))
     (λ t.
-        let e : q / 2 ^ k * 2 ^ k ≡ c * 2 ^ k = ap (λ (x : ℕ). x * 2 ^ k) (eqb-true (q / 2 ^ k) c t) in
-        let l = div-mul-le-self q (2 ^ k) in
-        let u = lt-div-mul-add {a = q} (pow-pos k) in
-        parts-between _ _ q (omega arith) (omega arith))
+    let e : q / 2 ^ k * 2 ^ k ≡ c * 2 ^ k = ap (λ (x : ℕ). x * 2 ^ k) (eqb-true (q / 2 ^ k) c t) in
+    let l = div-mul-le-self q (2 ^ k) in
+    let u = lt-div-mul-add {a = q} (pow-pos k) in
+    parts-between _ _ q (omega arith) (omega arith))
 
 -- a block of one
-pub one-is : (c q : ℕ) → between c (c + 1) q ≡ eqb c q
+one-is : (c q : ℕ) → between c (c + 1) q ≡ eqb c q
 one-is c q =
     same (between c (c + 1) q) (eqb c q)
     (λ t. let s = between-parts c (c + 1) q t in eq-eqb c q (omega (arith, s .0, s .1)))
@@ -100,7 +100,7 @@ module _ (a len p : ℕ) (ok : Prefix a len) (deep : p ≤ 32) where
   unfolding meets
   range-is q = go (decLe len p)
     where
-      go : Dec (len ≤ p) → between (slot p a) (slot p a + 2 ^ (p - len)) q ≡ mathlib.Core.Bool.cond (leb len p) (eqb (q / 2 ^ (p - len)) (slot len a)) (eqb (slot p a) q)
+      go : Dec (len ≤ p) → between (slot p a) (slot p a + 2 ^ (p - len)) q ≡ cond (leb len p) (eqb (q / 2 ^ (p - len)) (slot len a)) (eqb (slot p a) q)
       go (yes h) = rw (le-leb len p h, first-is h) (block-is (slot len a) (p - len) q)
       go (no h) =
           let z : p - len ≡ 0 = omega arith in

@@ -1,17 +1,16 @@
 -- Painting and stamping make a stale table right. Assumes nothing.
 use mathlib.Core.Path.{_≡_, refl, sym, ap, _∙_}
 use mathlib.Core.Logic.{_⊎_, inl, inr}
-use mathlib.Core.Bool.{Bool, true, false, cond, true≢false, false≢true}
+use mathlib.Core.Bool.{Bool, true, false, cond, false≢true}
 use mathlib.Core.List.{List}
-use Prim.Native.Nat.{ℕ, suc, _+_, _-_, _*_, _/_, _%_, _^_, _≤_, _<_}
+use Prim.Native.Nat.{ℕ, suc, _+_, _-_, _*_, _/_, _^_, _≤_, _<_}
 use native.Mathlib.Nat.{mod-lt, not-suc-le-zero}
 use native.Mathlib.Omega.{arith}
 use lib.Arith.{digits-lt}
-use lib.Dec.{ltb}
 use lib.ListN.{length, getD}
 use lib.Pow.{pow-add, pow-pos}
 use lib.Seq.{ext-getD}
-use borrow.Author.Tests.{lt-ltb, le-ltb, ltb-true}
+use borrow.Author.Tests.{lt-ltb, le-ltb}
 use Rattle.bits.proofs.Tests.{decided, below?, and-split}
 use Rattle.routes.specs.Route.{long, best}
 use Rattle.routes.specs.declared.Route.{Route}
@@ -27,14 +26,14 @@ use Rattle.sail_theory.specs.Render.{chunkFor, pool, never, mid, at2, at3, rend
 use Rattle.sail_theory.proofs.Chunks.{chunk-at}
 use Rattle.sail_theory.proofs.Places.{chunk-lt, live-owner}
 use Rattle.sail_theory.proofs.Pools.{length-pool, pool-leaf, pool-node}
-use Rattle.sail_paint.specs.Stale.{meets, stale2, stale3, Stale, Repainted}
-use Rattle.sail_paint.specs.Paint.{overpainted, stampedBy, stamped, standsFor, staleIn, FirstCells, Pool, Stamps}
+use Rattle.sail_paint.specs.Stale.{meets, stale2, stale3, Stale}
+use Rattle.sail_paint.specs.Paint.{overpainted, stampedBy, stamped, standsFor, staleIn, Above, FirstCells, Pool, Stamps}
 use Rattle.sail_paint.proofs.Places.{stands-itself, stands-part}
 use Rattle.sail_paint.proofs.Overs.{length-over, over-at}
 use Rattle.sail_paint.proofs.Stamping.{stampAt, length-stamped, stamped-at, stamp-none}
 
 -- a plan that is no 0
-pub plan-leaf : (rs : List Route) (p i : ℕ) → long rs p i ≡ false → plan rs p i ≡ 32768 + best rs p i
+plan-leaf : (rs : List Route) (p i : ℕ) → long rs p i ≡ false → plan rs p i ≡ 32768 + best rs p i
 unfolding plan
 plan-leaf rs p i e = rw e
 
@@ -54,7 +53,7 @@ module _ (deep : ℕ → Bool) (hop : ℕ → ℕ) (n : ℕ) (live : ℕ → Boo
       go (inl e) (inl d) = absurd (omega (arith, f .has q (rw size at l) (lives q e) d))
       go (inl e) (inr d) = rw e (leaf (at q) d ∙ sym (pool-leaf deep hop n live at m own q (rw size at l) (lives q e) d))
 
-  pub level-right : stampedBy m own (overpainted rs p stale at cells) ≡ pool deep hop n live at m own
+  level-right : stampedBy m own (overpainted rs p stale at cells) ≡ pool deep hop n live at m own
   level-right =
       ext-getD 0 _ _ (length-stamped own (overpainted rs p stale at cells) m ∙ length-over rs p stale at cells ∙ size ∙ sym (length-pool deep hop n live at m own))
       (λ q k. each q (let z = length-stamped own (overpainted rs p stale at cells) m in let y = length-over rs p stale at cells in omega arith))
@@ -121,16 +120,13 @@ module _ (g : Geometry) (ws par : List ℕ) (a len : ℕ) (l : Lent) (s : Stale 
         chunks = s .sized .cells3;
       }
     where
-      up : ℕ → ℕ → ℕ
-      up c q = getD (l .own2) (q / 2 ^ bits2 g) 0
-
       owned : (c q : ℕ) → c < length (l .own3) → getD (l .own3) c 0 ≡ suc q → getD (l .own2) (q / 2 ^ bits2 g) 0 ≡ suc (getD (l .own2) (q / 2 ^ bits2 g) 0 - 1)
       owned c q k o = live-owner (entry (l .own2)) (bits2 g) q (s .fits3 .lies c q k o .1)
 
       chunk : (c q : ℕ) → c < length (l .own3) → getD (l .own3) c 0 ≡ suc q → q / 2 ^ bits2 g < length (l .own2)
       chunk c q k o = chunk-lt (bits2 g) (length (l .own2)) q (s .fits3 .lies c q k o .0)
 
-      above : (c q : ℕ) → c < length (l .own3) → getD (l .own3) c 0 ≡ suc q → Rattle.sail_paint.specs.Paint.Above (l .own2) (bits2 g) q
+      above : (c q : ℕ) → c < length (l .own3) → getD (l .own3) c 0 ≡ suc q → Above (l .own2) (bits2 g) q
       above c q k o = record { small = s .sized .valid .near; chunk = λ z. chunk c q k o; owned = λ z. omega (arith, owned c q k o) }
 
       cell : (c q : ℕ) → c < length (l .own3) → getD (l .own3) c 0 ≡ suc q → standsFor (bits2 g) (l .own2) q < 2 ^ g .p2

@@ -1,7 +1,7 @@
 -- The numbers of chunks, stamped one by one into the cells that they hang from. Assumes nothing.
-use mathlib.Core.Path.{_≡_, refl, sym, ap, _∙_}
+use mathlib.Core.Path.{_≡_, refl, sym, _∙_}
 use mathlib.Core.Logic.{_⊎_, inl, inr, _≢_}
-use mathlib.Core.Bool.{Bool, true, false, cond}
+use mathlib.Core.Bool.{true, false, cond}
 use mathlib.Core.List.{List}
 use Prim.Native.Nat.{ℕ, suc, _+_, _-_, _≤_, _<_}
 use native.Mathlib.Numerals.{add-one}
@@ -9,11 +9,11 @@ use native.Mathlib.Omega.{arith}
 use lib.Dec.{eqb, ltb}
 use lib.ListN.{length, getD, set}
 use borrow.Author.Tests.{lt-ltb, le-ltb, eqb-true, eqb-false}
-use Rattle.bits.proofs.Tests.{decided, below?}
+use Rattle.bits.proofs.Tests.{decided, below?, equal?}
 use Rattle.bits.proofs.Tabs.{length-tabulate, getD-tabulate, is-tabulate, tabulate-ext, set-tabulate}
 use Rattle.sail.specs.Level.{entry}
-use Rattle.sail_theory.specs.Render.{chunkFor, find}
-use Rattle.sail_theory.proofs.Chunks.{chunk-at, chunk-before, chunk-is, chunk-none, chunk-has}
+use Rattle.sail_theory.specs.Render.{chunkFor}
+use Rattle.sail_theory.proofs.Chunks.{chunk-at, chunk-before, chunk-is, chunk-none}
 use Rattle.sail_paint.specs.Paint.{stampedBy, Stamps}
 
 -- what is stamped over x at place q, of the first m chunks
@@ -30,7 +30,7 @@ module _ (own : ℕ → ℕ) (q x : ℕ) where
           let e : chunkFor own (suc k) (suc q) ≡ chunkFor own k (suc q) = chunk-is own (suc k) (suc q) (chunkFor own k (suc q)) (omega arith) (chunk-at own k (suc q) l) (chunk-before own k (suc q)) in
           rw (e, lt-ltb (chunkFor own k (suc q)) (suc k) (omega arith), lt-ltb (chunkFor own k (suc q)) k l)
       go (inr l) =
-          let e : chunkFor own (suc k) (suc q) ≡ suc k = chunk-none own (suc k) (suc q) (λ j u. each j u (Rattle.bits.proofs.Tests.equal? j k)) in
+          let e : chunkFor own (suc k) (suc q) ≡ suc k = chunk-none own (suc k) (suc q) (λ j u. each j u (equal? j k)) in
           rw (e, le-ltb (suc k) (suc k) (omega arith), le-ltb (chunkFor own k (suc q)) k l)
         where
           each : (j : ℕ) → j < suc k → (j ≡ k) ⊎ (j ≢ k) → own j ≢ suc q

@@ -5,11 +5,11 @@ ghost use Prim.Native.Nat.{_-_};
 ghost use Rattle.chain.specs.Words.{routesIn};
 ghost use Rattle.sail.specs.Level.{partOf, entry};
 ghost use Rattle.sail_paint.specs.Paint.{overpainted, stamped, standsFor, staleOf, staleIn, ChunkOf, Pool, Stamps};
-use chain::place::shifted;
 use crate::part::paint_part;
 use crate::place::meets;
 use crate::place::seen;
 use crate::place::stands_for;
+use chain::place::shifted;
 
 // Chunk c, whose owner is o, as the routes ask, where it is in use and the cell that it hangs from meets the prefix. The
 // chunk's cells are of level p. It hangs from a cell of level l, whose places lie in chunks of 2^e with the owners `up`.

@@ -3,10 +3,10 @@ ghost use mathlib.Core.List.{[]};
 ghost use Rattle.chain.specs.Words.{routesIn};
 ghost use Rattle.sail.specs.Lent.{lent};
 ghost use Rattle.sail_paint.specs.Stale.{Stale, Repainted};
-use sail::geometry::Geometry;
 use crate::part::paint_first;
 use crate::pool::paint_pool;
 use crate::pool::stamp;
+use sail::geometry::Geometry;
 
 // Makes the cells of all three levels what the routes and owners ask for, where no cell is wrong but those that a change
 // at the prefix of len bits of addr made stale. `par` is what `chain::cover::ready` makes of the words. The owners are

@@ -1,5 +1,4 @@
 -- `sail_paint::pool::paint_chunk` meets its contract. Assumes nothing.
-use native.Mathlib.Omega.{arith}
 use Rattle.sail_paint.proofs.Chunks.{chunk-free, chunk-apart, chunk-over, chunk-above, chunk-cell, chunk-part}
 use borrow.Author.Needs.{needs}
 use Rattle.sail_paint.proofs.pool.paint_chunk.Statement.{statement}
