@@ -1,0 +1,6 @@
+-- What joins the test's code to soundness.
+pub mod Refuted
+pub mod Lists
+pub mod Cells
+pub mod Blocks
+pub mod Chunks
