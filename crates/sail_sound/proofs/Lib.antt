@@ -4,3 +4,5 @@ pub mod Lists
 pub mod Cells
 pub mod Blocks
 pub mod Chunks
+pub mod Levels
+pub mod Sounds
