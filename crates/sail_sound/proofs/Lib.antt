@@ -6,3 +6,4 @@ pub mod Blocks
 pub mod Chunks
 pub mod Levels
 pub mod Sounds
+pub mod Tries

@@ -1,5 +1,5 @@
 -- What the test of a list asks for is that it holds n routes and nothing else. Assumes nothing.
-use mathlib.Core.Path.{_≡_}
+use mathlib.Core.Path.{_≡_, ap, _∙_}
 use mathlib.Core.Logic.{_⊎_, inl, inr}
 use mathlib.Core.Bool.{Bool, true, false, not, _||_}
 use mathlib.Core.List.{List}
@@ -10,13 +10,16 @@ use lib.ListN.{length, getD}
 use borrow.Author.Tests.{eqb-true, le-leb, eq-eqb, ltb-true, ltb-false}
 use Rattle.bits.specs.Tab.{Tells, every}
 use Rattle.bits.proofs.Tests.{decided, both, and-split}
-use Rattle.bits.proofs.Tabs.{every-true, true-every}
+use Rattle.bits.proofs.Tabs.{every-true, true-every, length-tabulate}
 use Rattle.routes.specs.Input.{faultAt}
 use Rattle.routes.specs.Record.{Listed}
+use Rattle.chain.specs.Words.{wordAt, wordsOf, routesIn}
+use Rattle.chain.specs.Cover.{Room, Ready}
+use Rattle.chain.proofs.Decodes.{words-routes, records-words}
 use Rattle.plan.proofs.Tells.{is-no, is-yes, tells-same}
 use Rattle.sail_theory.specs.Test.{listed?}
 use Rattle.sail_theory.proofs.Tells.{listed-tells}
-use Rattle.sail_sound.specs.List.{AllRight, Zeros}
+use Rattle.sail_sound.specs.List.{AllRight, Zeros, ChainRoom, Chained}
 use Rattle.sail_sound.proofs.Refuted.{refuted, passed}
 
 module _ (s : List ℕ) (n : ℕ) where
@@ -67,3 +70,15 @@ module _ (s : List ℕ) (at : ℕ) where
 
     pub zero-all : (b : Bool) → length s ≤ j → j ≤ length s → Tells b (Zeros s at j) → Tells b (Zeros s at (length s))
     zero-all b l u t = let q : j ≡ length s = omega arith in rw q at t
+
+-- the words of good records
+module _ (s ws par : List ℕ) (r : ChainRoom s ws par) (words : List ℕ) (are : words ≡ wordsOf s (length ws)) where
+  long : length (wordsOf s (length ws)) ≡ length ws
+  unfolding wordsOf
+  long = length-tabulate (length ws) (wordAt s)
+
+  pub words-room : Room words par
+  words-room = rw are (record { words = records-words s (length ws) (r .records); few = omega (arith, long, r .records .few); room = r .room })
+
+  pub words-chained : (chain : List ℕ) → Ready words chain → Chained s (length ws) words chain
+  words-chained chain k = record { routes = ap routesIn are ∙ words-routes s (length ws) (r .records); ready = k }

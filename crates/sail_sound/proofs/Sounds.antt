@@ -3,7 +3,7 @@ use mathlib.Core.Path.{_≡_, refl, sym, ap, subst, _∙_}
 use mathlib.Core.Bool.{Bool, true, false, true≢false}
 use mathlib.Core.List.{List, [], _∷_}
 use Prim.Native.Nat.{ℕ, zero, suc, _+_, _-_, _*_, _/_, _%_, _^_, _≤_, _<_}
-use native.Mathlib.Nat.{mod-lt, not-suc-le-zero, div-lt-iff-lt-mul, div-add-mod'}
+use native.Mathlib.Nat.{mod-lt, mod-eq-of-lt, div-eq-of-lt, not-suc-le-zero, div-lt-iff-lt-mul, div-add-mod'}
 use native.Mathlib.Omega.{arith}
 use lib.Arith.{digits-lt, digits-div, digits-mod}
 use lib.Dec.{ltb}
@@ -14,9 +14,17 @@ use borrow.Rule.Slice.PartMut.{mid-len}
 use Rattle.bits.specs.Tab.{Tells}
 use Rattle.routes.specs.Route.{long, best}
 use Rattle.routes.specs.declared.Route.{Route}
-use Rattle.plan.specs.Part.{Names, Right, Zero}
-use Rattle.sail.specs.Level.{Level, Clear, always, itself, nobody, inUse, liveIn, partOf, entry}
-use Rattle.sail_sound.specs.Pool.{partAt, chunkOf, Hung, ChunkOk, PoolOk}
+use Rattle.routes.specs.Record.{Listed}
+use Rattle.plan.proofs.Tells.{tells-same}
+use Rattle.sail.specs.Geometry.{bits2, bits3}
+use Rattle.sail.specs.Lent.{Lent}
+use Rattle.sail.specs.Level.{Level, Clear, always, itself, nobody, liveIn, partOf, entry}
+use Rattle.sail.specs.Sizes.{Sized}
+use Rattle.sail.specs.Sound.{Sound, standing}
+use Rattle.sail.specs.declared.geometry.Geometry.{Geometry}
+use Rattle.sail.specs.declared.table.Table.{Table}
+use Rattle.sail_sound.specs.Pool.{chunkOf, PoolOk}
+use Rattle.sail_sound.specs.Test.{root, Passed}
 use Rattle.sail_sound.proofs.Cells.{Cell, cell-as, right-cell, cells-right, part-at}
 use Rattle.sail_sound.proofs.Chunks.{chunk-room}
 
@@ -99,3 +107,87 @@ module _ (rs : List Route) (p d : ℕ) (above : List ℕ) (live : ℕ → Bool) 
           let f : getD own c 0 - 1 ≡ q = omega arith in
           let g : partOf (entry own) d at (c * 2 ^ d + j) ≡ at q * 2 ^ d + j = rw (digits-div c u, digits-mod c u, f) in
           cell-as rs p below g (sym (part-at cells (c * 2 ^ d) (2 ^ d) j u)) (omega arith) (ok (c * 2 ^ d + j) (digits-lt l u) v)
+
+  -- what holds of the pool above where chunks hang is all that counts
+  pub pool-same : (live′ : ℕ → Bool) (at′ : ℕ → ℕ) → ((q : ℕ) → q < length above → live q ≡ live′ q) → ((q : ℕ) → q < length above → at q ≡ at′ q)
+      → PoolOk rs p d above live at own cells below → PoolOk rs p d above live′ at′ own cells below
+  pool-same live′ at′ u v k = record {
+    each = λ c l. let h = k .each c l in record {
+      free = h .free;
+      lives = λ q e. sym (u q (h .hangs q e .inside)) ∙ h .lives q e;
+      hangs = λ q e. rw (v q (h .hangs q e .inside)) at (h .hangs q e);
+    };
+  }
+
+-- the first cells as one chunk: each is live, and stands for itself
+module _ (p q : ℕ) (l : q < 2 ^ p) where
+  pub root-live : liveIn (entry root) p q ≡ true
+  root-live = rw (div-eq-of-lt l)
+
+  pub root-at : partOf (entry root) p itself q ≡ itself q
+  root-at = rw (div-eq-of-lt l, mod-eq-of-lt l) (omega arith)
+
+module _ (t : Table) (l : Lent) (s : Sized (t .geometry) l) (h : Listed (l .list) (t .count)) where
+  abbrev g : Geometry
+  g = t .geometry
+
+  abbrev rs : List Route
+  rs = standing t l
+
+  abbrev Test : Type 0
+  Test = Passed rs g (l .first) (l .second) (l .third) (l .own2) (l .own3)
+
+  sum : g .p1 + bits2 g ≡ g .p2
+  sum = let v = s .valid in omega arith
+
+  inside : (q : ℕ) → q < length (l .first) → q < 2 ^ g .p1
+  inside q u = rw (s .cells1) at u
+
+  abbrev Pool2 : (ℕ → Bool) → (ℕ → ℕ) → Type 0
+  Pool2 live at = PoolOk rs (g .p2) (bits2 g) (l .first) live at (l .own2) (l .second) (l .own3)
+
+  from-root : Pool2 (liveIn (entry root) (g .p1)) (partOf (entry root) (g .p1) itself) → Pool2 always itself
+  from-root k = pool-same rs (g .p2) (bits2 g) (l .first) _ _ (l .own2) (l .second) (l .own3) (s .cells2) always itself (λ q u. root-live (g .p1) q (inside q u)) (λ q u. root-at (g .p1) q (inside q u)) k
+
+  to-root : Pool2 always itself → Pool2 (liveIn (entry root) (g .p1)) (partOf (entry root) (g .p1) itself)
+  to-root k = pool-same rs (g .p2) (bits2 g) (l .first) always itself (l .own2) (l .second) (l .own3) (s .cells2) _ _ (λ q u. sym (root-live (g .p1) q (inside q u))) (λ q u. sym (root-at (g .p1) q (inside q u))) k
+
+  passed-sound : Test → Sound t l
+  passed-sound k =
+      let pool2 = from-root (k .pool2) in
+      record {
+        sized = s;
+        listed = h;
+        serves = record {
+          level1 = level-of rs (g .p1) (2 ^ g .p1) always itself (l .first) (l .own2) (s .few2)
+              (λ q u v. cell-as rs (g .p1) (l .own2) (omega arith) refl (omega arith) (right-cell rs (g .p1) (l .own2) 0 (l .first) 1 (length (l .first)) (k .cells1) q (rw (s .cells1) u)))
+              (λ c q u e. let m = pool-named rs (g .p2) (bits2 g) (l .first) always itself (l .own2) (l .second) (l .own3) (s .cells2) pool2 c q u e in (inside q (m .0), refl, m .2));
+          level2 = rw sum (level-of rs (g .p2) (length (l .own2) * 2 ^ bits2 g) (liveIn (entry (l .own2)) (bits2 g)) (partOf (entry (l .own2)) (bits2 g) itself) (l .second) (l .own3) (s .few3)
+              (pool-asked rs (g .p2) (bits2 g) (l .first) always itself (l .own2) (l .second) (l .own3) (s .cells2) pool2)
+              (λ c q u e. let m = pool-named rs 32 (bits3 g) (l .second) _ _ (l .own3) (l .third) [] (s .cells3) (k .pool3) c q u e in (rw (s .cells2) at (m .0), m .1, m .2)));
+          level3 = level-of rs 32 (length (l .own3) * 2 ^ bits3 g) (liveIn (entry (l .own3)) (bits3 g)) (partOf (entry (l .own3)) (bits3 g) (partOf (entry (l .own2)) (bits2 g) itself)) (l .third) [] (omega arith)
+              (pool-asked rs 32 (bits3 g) (l .second) _ _ (l .own3) (l .third) [] (s .cells3) (k .pool3))
+              (λ c q u e. absurd (not-suc-le-zero u));
+        };
+        clear2 = pool-clear rs (g .p2) (bits2 g) (l .first) always itself (l .own2) (l .second) (l .own3) (s .cells2) pool2;
+        clear3 = pool-clear rs 32 (bits3 g) (l .second) _ _ (l .own3) (l .third) [] (s .cells3) (k .pool3);
+      }
+
+  sound-passed : Sound t l → Test
+  sound-passed w =
+      let v2 = rw sum at (w .serves .level2) in
+      record {
+        cells1 = cells-right rs (g .p1) (l .own2) 0 (l .first) 1 (length (l .first)) (λ q u.
+            cell-as rs (g .p1) (l .own2) (omega arith) refl (omega arith) (level-asked rs (g .p1) (2 ^ g .p1) always itself (l .first) (l .own2) (w .serves .level1) q (inside q u) refl));
+        pool2 = to-root (pool-of rs (g .p2) (bits2 g) (l .first) always itself (l .own2) (l .second) (l .own3) (s .cells2)
+            (level-asked rs (g .p2) _ _ _ (l .second) (l .own3) v2)
+            (λ c q u e. let m = level-named rs (g .p1) (2 ^ g .p1) always itself (l .first) (l .own2) (w .serves .level1) c q u e in (rw (s .cells1) (m .0), refl, m .2))
+            (w .clear2));
+        pool3 = pool-of rs 32 (bits3 g) (l .second) _ _ (l .own3) (l .third) [] (s .cells3)
+            (level-asked rs 32 _ _ _ (l .third) [] (w .serves .level3))
+            (λ c q u e. let m = level-named rs (g .p2) _ _ _ (l .second) (l .own3) v2 c q u e in (rw (s .cells2) (m .0), m .1, m .2))
+            (w .clear3);
+      }
+
+  pub tells-sound : (b : Bool) → Tells b Test → Tells b (Sound t l)
+  tells-sound b = tells-same passed-sound sound-passed

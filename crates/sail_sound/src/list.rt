@@ -4,7 +4,7 @@ ghost use Prim.Native.Nat.{_*_, _≤_, _<_};
 ghost use lib.ListN.{length};
 ghost use Rattle.bits.specs.Tab.{Tells};
 ghost use Rattle.routes.specs.Record.{Listed};
-ghost use Rattle.sail_sound.specs.List.{AllRight, Zeros};
+ghost use Rattle.sail_sound.specs.List.{AllRight, Zeros, ChainRoom, Chained};
 
 // Whether each of the first n records is right.
 fn all_right(list: &[u8], n: usize) -> bool
@@ -55,4 +55,13 @@ pub fn list_ok(list: &[u8], n: usize) -> bool
         return false;
     }
     zeros_from(list, n * 8)
+}
+
+// The routes of a list as words, with the chain that answers for a cell: `ws` and `par` are room for them.
+pub fn chained(list: &[u8], ws: &mut [u64], par: &mut [u16])
+    requires { ⌜ ChainRoom (now list) (now ws) (now par) ⌝ }
+    ensures { λ _. ⌜ Chained (now (list .entry)) (length (now (ws .entry))) (now (ws .exit)) (now (par .exit)) ⌝ }
+{
+    chain::words::decode(list, ws);
+    chain::cover::ready(ws, par);
 }

@@ -1,13 +1,13 @@
 // The soundness test of a whole table: its list, then its three levels beside the routes of the list.
 ghost use mathlib.Core.List.{[]};
 ghost use Rattle.bits.specs.Tab.{Tells};
-ghost use Rattle.chain.specs.Words.{routesIn, Words};
+ghost use Rattle.chain.specs.Words.{routesIn};
 ghost use Rattle.chain.specs.Cover.{Ready};
-ghost use Prim.Native.Nat.{_≤_};
-ghost use lib.ListN.{length};
 ghost use Rattle.sail.specs.Lent.{lent};
 ghost use Rattle.sail.specs.Sizes.{Sized};
+ghost use Rattle.sail_sound.specs.List.{Scratch};
 ghost use Rattle.sail_sound.specs.Test.{Passed, Tried};
+use crate::list::chained;
 use crate::list::list_ok;
 use crate::pool::first_ok;
 use crate::pool::pool_ok;
@@ -43,4 +43,47 @@ fn levels_ok(
     }
     let none = &own3[..0];
     pool_ok(ws, par, 32, 32 - p2, own2, d, second, third, own3, none, &mut want)
+}
+
+// Whether a table of the right sizes is sound; `ws` and `par` are room for the words of its routes and their chain.
+pub fn sound_with(
+    t: Table,
+    list: &[u8],
+    first: &[u16],
+    second: &[u16],
+    third: &[u16],
+    own2: &[u32],
+    own3: &[u32],
+    ws: &mut [u64],
+    par: &mut [u16],
+) -> bool
+    requires { ⌜ Sized (t .geometry) (lent (now list) (now first) (now second) (now third) (now own2) (now own3)) ⌝ }
+    requires { ⌜ Scratch (now ws) (now par) ⌝ }
+    ensures { λ r. ⌜ Tried r t (lent (now (list .entry)) (now (first .entry)) (now (second .entry)) (now (third .entry)) (now (own2 .entry)) (now (own3 .entry))) ⌝ }
+{
+    let n = t.count as usize;
+    if !list_ok(list, n) {
+        return false;
+    }
+    chained(list, &mut ws[..n], par);
+    let g = t.geometry;
+    levels_ok(&ws[..n], par, g, first, second, third, own2, own3)
+}
+
+// The same with room of its own.
+pub fn sound(
+    t: Table,
+    list: &[u8],
+    first: &[u16],
+    second: &[u16],
+    third: &[u16],
+    own2: &[u32],
+    own3: &[u32],
+) -> bool
+    requires { ⌜ Sized (t .geometry) (lent (now list) (now first) (now second) (now third) (now own2) (now own3)) ⌝ }
+    ensures { λ r. ⌜ Tried r t (lent (now (list .entry)) (now (first .entry)) (now (second .entry)) (now (third .entry)) (now (own2 .entry)) (now (own3 .entry))) ⌝ }
+{
+    let mut ws = [0u64; 4096];
+    let mut par = [0u16; 4353];
+    sound_with(t, list, first, second, third, own2, own3, &mut ws, &mut par)
 }
