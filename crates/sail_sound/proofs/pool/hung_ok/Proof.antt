@@ -1,4 +1,3 @@
-use native.Mathlib.Omega.{arith}
 use Rattle.sail_sound.proofs.Chunks.{not-named, named-tells}
 use borrow.Author.Needs.{needs}
 use Rattle.sail_sound.proofs.pool.hung_ok.Statement.{statement}
@@ -27,7 +26,7 @@ add-if1 c = search needs
 
 -- src/pool.rt:122:9
 returns : tie.Need-returns
-returns c = not-named _ _ _ _ _ _ _ _ _ _ _ (c .before .before .before .before .before .before .before .before .before .pre) _ (c .before .wide .ensures) _ _ (c .if1 .taken)
+returns c = not-named _ _ _ _ _ _ _ _ _ _ _ (c .if1 .taken) (c .before .wide .ensures)
 
 -- src/pool.rt:124:39
 start-requires : tie.Need-start-requires
