@@ -52,7 +52,11 @@ pub fn in_use(own: &[u32]) -> u32
 
 // What the report says: the route count and the needs for second and third chunks; or a refusal's number.
 pub enum Reported {
-    Standing { routes: u32, second: u32, third: u32 },
+    Standing {
+        routes: u32,
+        second: u32,
+        third: u32,
+    },
     Refused(u8),
 }
 
