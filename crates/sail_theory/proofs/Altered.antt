@@ -11,6 +11,7 @@ use lib.Dec.{ltb}
 use lib.ListN.{getD, length}
 use borrow.Author.Tests.{ltb-false}
 use Rattle.bits.specs.Slot.{slot}
+use Rattle.routes.specs.Said.{accepts}
 use Rattle.routes.specs.Route.{keyOf, long}
 use Rattle.routes.specs.Standing.{insert, remove}
 use Rattle.routes.specs.declared.Route.{Route}
@@ -23,7 +24,7 @@ use Rattle.sail.specs.declared.geometry.Geometry.{Geometry}
 use Rattle.sail.specs.declared.table.Table.{Table}
 use Rattle.sail.proofs.Sounds.{standing-good}
 use Rattle.sail_theory.specs.Render.{find, at2, rendered, Rendered, asAsked}
-use Rattle.sail_theory.specs.Calls.{grant, placeIn, openAt2, openAt3, open2, open3, opened, keep2, keep3, kept, ownersOf, route, Out, took, lentOf, announced, withdrawn}
+use Rattle.sail_theory.specs.Calls.{grant, placeIn, openAt2, openAt3, open2, open3, opened, keep2, keep3, kept, ownersOf, route, Out, lentOf, announced, withdrawn}
 use Rattle.sail_theory.specs.Facts.{Welcome, Farewell}
 use Rattle.sail_theory.specs.Alters.{Alters, NoneUnder, Frame}
 use Rattle.sail_theory.proofs.Chunks.{chunk-before}
@@ -34,7 +35,7 @@ use Rattle.sail_theory.proofs.Needs.{long-grows}
 use Rattle.sail_theory.proofs.Grown.{length-open2, length-open3, open2-stays, open3-stays}
 use Rattle.sail_theory.proofs.Shrunk.{kept-over}
 use Rattle.sail_theory.proofs.Changes.{welcome-fits2, welcome-fits3, farewell-fits2, farewell-fits3}
-use Rattle.sail_theory.proofs.Accepted.{announce-said, took-welcome, announce-is, withdraw-said, took-farewell, withdraw-is}
+use Rattle.sail_theory.proofs.Accepted.{announce-said, accepted-welcome, announce-is, withdraw-said, accepted-farewell, withdraw-is}
 use Rattle.sail_theory.proofs.Frames.{Moved, frame, still1, still2}
 use Rattle.sail_theory.proofs.Read.{reads-second, reads-third}
 
@@ -119,9 +120,9 @@ module _ (t : Table) (l : Lent) (r : Route) (w : Welcome t l r) where
   welcome-alters = frame-alters t l (w .sound) (r .addr) (r .len) now announce-frame
       (λ c e. same-owner _ _ (λ x. open2-stays g (l .own2) r c x) e) (λ c e. same-owner _ _ (λ x. open3-stays g own2′ (l .own3) r c x) e)
 
-pub announce-alters : (t : Table) (l : Lent) (a len hop : ℕ) → took (announced t l a len hop .said) ≡ true → Alters (t .geometry) a len l (announced t l a len hop .lent)
+pub announce-alters : (t : Table) (l : Lent) (a len hop : ℕ) → accepts (announced t l a len hop .said) ≡ true → Alters (t .geometry) a len l (announced t l a len hop .lent)
 announce-alters t l a len hop e =
-    let w = took-welcome t l a len hop (sym (ap took (announce-said t l a len hop)) ∙ e) in
+    let w = accepted-welcome t l a len hop (sym (ap accepts (announce-said t l a len hop)) ∙ e) in
     subst (λ (o : Out). Alters (t .geometry) a len l (o .lent)) (sym (announce-is t l a len hop w)) (welcome-alters t l (route a len hop) w)
 
 -- withdraw
@@ -177,9 +178,9 @@ module _ (t : Table) (l : Lent) (a len : ℕ) (w : Farewell t l a len) where
       (λ c e. sym (same-owner _ _ (λ x z. kept-was (long left (t .geometry .p1)) itself (l .own2) c x z .0) (sym e)))
       (λ c e. sym (same-owner _ _ (λ x z. kept-was (long left (t .geometry .p2)) (at2 (t .geometry) (l .own2)) (l .own3) c x z .0) (sym e)))
 
-pub withdraw-alters : (t : Table) (l : Lent) (a len : ℕ) → took (withdrawn t l a len .said) ≡ true → Alters (t .geometry) a len l (withdrawn t l a len .lent)
+pub withdraw-alters : (t : Table) (l : Lent) (a len : ℕ) → accepts (withdrawn t l a len .said) ≡ true → Alters (t .geometry) a len l (withdrawn t l a len .lent)
 withdraw-alters t l a len e =
-    let w = took-farewell t l a len (sym (ap took (withdraw-said t l a len)) ∙ e) in
+    let w = accepted-farewell t l a len (sym (ap accepts (withdraw-said t l a len)) ∙ e) in
     subst (λ (o : Out). Alters (t .geometry) a len l (o .lent)) (sym (withdraw-is t l a len w)) (farewell-alters t l a len w)
 
 -- "A newly opened chunk takes the lowest free number": c was free and is in use, so no chunk before it was free
@@ -187,9 +188,9 @@ lowest : (b : Bool) (own : List ℕ) (q c x : ℕ) → getD own c 0 ≡ 0 → ge
 lowest true own q c x was now j h = let z = grant-lowest own q c x was now in chunk-before (entry own) (length own) 0 j (omega arith)
 lowest false own q c x was now j h = absurd (omega arith)
 
-module _ (t : Table) (l : Lent) (a len hop : ℕ) (e : took (announced t l a len hop .said) ≡ true) where
+module _ (t : Table) (l : Lent) (a len hop : ℕ) (e : accepts (announced t l a len hop .said) ≡ true) where
   after-is : announced t l a len hop .lent ≡ lentOf t l (insert (route a len hop) (standing t l)) (opened (t .geometry) (ownersOf l) (route a len hop))
-  after-is = ap (λ (o : Out). o .lent) (announce-is t l a len hop (took-welcome t l a len hop (sym (ap took (announce-said t l a len hop)) ∙ e)))
+  after-is = ap (λ (o : Out). o .lent) (announce-is t l a len hop (accepted-welcome t l a len hop (sym (ap accepts (announce-said t l a len hop)) ∙ e)))
 
   pub opened-lowest2 : (c x : ℕ) → getD (l .own2) c 0 ≡ 0 → getD (announced t l a len hop .lent .own2) c 0 ≡ suc x → (j : ℕ) → j < c → getD (l .own2) j 0 ≢ 0
   unfolding rendered openAt2

@@ -6,6 +6,7 @@ use mathlib.Core.Bool.{true}
 use Prim.Native.Nat.{ℕ, _/_, _^_, _≤_, _<_}
 use native.Mathlib.Omega.{arith}
 use lib.ListN.{length}
+use Rattle.routes.specs.Said.{accepts}
 use Rattle.routes.specs.Route.{need, best, Good}
 use Rattle.routes.specs.Record.{written}
 use Rattle.routes.specs.declared.Route.{Route}
@@ -18,7 +19,7 @@ use Rattle.sail.specs.Walk.{hopSaid, lookupSaid}
 use Rattle.sail.specs.declared.geometry.Geometry.{Geometry}
 use Rattle.sail.specs.declared.table.Table.{Table}
 use Rattle.sail.proofs.Sounds.{standing-good, sail-serves, chunks-need}
-use Rattle.sail_theory.specs.Calls.{inputRoutes, Out, took, loaded}
+use Rattle.sail_theory.specs.Calls.{inputRoutes, Out, loaded}
 use Rattle.sail_theory.specs.Facts.{SameSize, Holds, Loadable}
 use Rattle.sail_theory.specs.Runs.{Call, after, Carries}
 use Rattle.sail_theory.proofs.Chunks.{used-le}
@@ -76,7 +77,7 @@ module _ (t : Table) (l : Lent) (s : Sound t l) (u : Table) (v : Lent) (geo : u 
         enough3 = rw (routes-are, geo) (omega (arith, n .1, used-le (entry (l .own3)) (length (l .own3)), size .chunks3));
       }
 
-  pub fresh-accepted : took (loaded u v input .said) ≡ true
+  pub fresh-accepted : accepts (loaded u v input .said) ≡ true
   fresh-accepted = rw (load-is u v input readable loadable)
 
   fresh-holds : Holds u v (inputRoutes input) (loaded u v input .table) (loaded u v input .lent)
@@ -91,7 +92,7 @@ module _ (t : Table) (l : Lent) (s : Sound t l) (u : Table) (v : Lent) (geo : u 
 -- Demand 3: after a run from a fresh table of t's geometry over arrays of l's sizes, a load of the standing routes into any (u, v) of that
 -- geometry and these sizes is accepted, looks the same, and uses as many chunks.
 pub record AsFresh (t : Table) (l : Lent) (o : Out) : Type 0 where
-  pub accepted-too : took (o .said) ≡ true
+  pub accepted-too : accepts (o .said) ≡ true
   pub lookups : (a : ℕ) → a < 2 ^ 32 → lookupSaid t l a ≡ lookupSaid (o .table) (o .lent) a
   pub chunks2 : used (l .own2) ≡ used (o .lent .own2)
   pub chunks3 : used (l .own3) ≡ used (o .lent .own3)
@@ -109,3 +110,9 @@ run-as-fresh t l z cs u v geo size input c =
       chunks2 = sym (k .0);
       chunks3 = sym (k .1);
     }
+
+-- there is such an input: the bytes of the standing routes
+pub run-carried : (t : Table) (l : Lent) → Sized (t .geometry) l → (cs : List Call) → let rs : List Route = standing (after t l cs .table) (after t l cs .lent) in Carries (written rs (length rs)) rs
+run-carried t l z cs =
+    let s = run-is t l z cs .sound in
+    carried _ (standing-good _ _ s) (omega (arith, s .listed .records .few, length-routes (after t l cs .lent .list) (after t l cs .table .count)))

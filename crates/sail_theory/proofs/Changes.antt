@@ -9,7 +9,6 @@ use lib.Dec.{ltb}
 use lib.ListN.{getD, length}
 use Rattle.bits.specs.Slot.{slot}
 use Rattle.routes.specs.Route.{keyOf, within, long, Good}
-use Rattle.routes.specs.Record.{written}
 use Rattle.routes.specs.Standing.{insert, remove}
 use Rattle.routes.specs.declared.Route.{Route}
 use Rattle.routes.proofs.Standing.{insert-good, remove-good, remove-length, remove-any}
@@ -26,6 +25,7 @@ use Rattle.sail_theory.specs.Render.{find, rendered, Fits2, Fits3, roomO
 use Rattle.sail_theory.specs.Calls.{Owners, open2, open3, opened, keep2, keep3, kept, ownersOf, stateOf, lentOf}
 use Rattle.sail_theory.specs.Facts.{SameSize, Holds, Welcome, Farewell}
 use Rattle.sail_theory.proofs.Chunks.{chunk-at, used-free}
+use Rattle.sail_theory.proofs.Cells.{shape-list}
 use Rattle.sail_theory.proofs.Rendered.{sound-rendered, render-standing, render-sized, render-sound}
 use Rattle.sail_theory.proofs.Stores.{length-keep}
 use Rattle.sail_theory.proofs.Needs.{need-more}
@@ -58,15 +58,11 @@ module _ (t : Table) (l : Lent) (z : Sized (t .geometry) l) (rs : List Route) (g
     chunks3 = len3;
   }
 
-  list-is : lentOf t l rs o .list ≡ written rs (roomOf l)
-  unfolding rendered
-  list-is = refl
-
   pub render-holds : Fits2 (t .geometry) rs (o .own2) → Fits3 (t .geometry) rs (o .own2) (o .own3) → Holds t l rs (stateOf t rs) (lentOf t l rs o)
   render-holds f2 f3 = record {
     sound = render-sound (t .geometry) (z .valid) (roomOf l) few rs good roomy (o .own2) (o .own3) few2 few3 f2 f3;
     routes = render-standing (t .geometry) (z .valid) (roomOf l) few rs good roomy (o .own2) (o .own3) few2 few3;
-    list = list-is;
+    list = shape-list (t .geometry) (roomOf l) rs (o .own2) (o .own3);
     count = refl;
     geometry = refl;
     size = size;

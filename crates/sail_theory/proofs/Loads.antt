@@ -8,7 +8,7 @@ use lib.Dec.{ltb}
 use lib.ListN.{getD, length, length-append, length-replicate}
 use Rattle.bits.specs.Slot.{slot}
 use Rattle.routes.specs.Route.{key, within, long, need, Fine, Good}
-use Rattle.routes.specs.Said.{Said, accepted}
+use Rattle.routes.specs.Said.{Said, accepted, accepts}
 use Rattle.routes.specs.Standing.{insert}
 use Rattle.routes.specs.declared.Route.{Route}
 use Rattle.sail.specs.Lent.{Lent}
@@ -16,7 +16,7 @@ use Rattle.sail.specs.Sizes.{Sized}
 use Rattle.sail.specs.declared.geometry.Geometry.{Geometry}
 use Rattle.sail.specs.declared.table.Table.{Table}
 use Rattle.sail_theory.specs.Render.{find, rendered, Fits2, Fits3, roomOf}
-use Rattle.sail_theory.specs.Calls.{Owners, open2, opened, settled, ownersOf, noOwners, route, inputRoutes, loadSaid, Out, took, stateOf, lentOf, made, announced, loaded}
+use Rattle.sail_theory.specs.Calls.{Owners, open2, opened, settled, ownersOf, noOwners, route, inputRoutes, loadSaid, Out, stateOf, lentOf, made, announced, loaded}
 use Rattle.sail_theory.specs.Facts.{Holds, Welcome, Loadable}
 use Rattle.sail_theory.specs.Runs.{announceAll, AllAdded}
 use Rattle.sail_theory.proofs.Ends.{good-front, good-next, good-below, insert-end, none-stands, any-front}
@@ -25,7 +25,7 @@ use Rattle.sail_theory.proofs.Grown.{length-open2, length-open3}
 use Rattle.sail_theory.proofs.Judged.{Readable, Load, load-judged}
 use Rattle.sail_theory.proofs.Only.{load-only}
 use Rattle.sail_theory.proofs.Changes.{render-holds, space2, space3, welcome-fits2, welcome-fits3}
-use Rattle.sail_theory.proofs.Accepted.{announce-is, outcome-said, outcome-not}
+use Rattle.sail_theory.proofs.Accepted.{announce-is, outcome-said, outcome-refused}
 use Rattle.sail_theory.proofs.Fresh.{none-fits2, none-fits3, fresh-rendered, make-is}
 
 -- a route without spare is made of its parts
@@ -186,14 +186,14 @@ module _ (t : Table) (l : Lent) (input : List ℕ) where
   rs = inputRoutes input
 
   -- accepted exactly where the input is good and may be loaded
-  pub took-loadable : took (loadSaid t l input) ≡ true → Readable t l input × Loadable t l rs
-  took-loadable e = go (load-judged t l input) e
+  pub accepted-loadable : accepts (loadSaid t l input) ≡ true → Readable t l input × Loadable t l rs
+  accepted-loadable e = go (load-judged t l input) e
     where
-      go : {s : Said} → Load t l input s → took s ≡ true → Readable t l input × Loadable t l rs
+      go : {s : Said} → Load t l input s → accepts s ≡ true → Readable t l input × Loadable t l rs
       go (Load.sizing n h) e = absurd (false≢true e)
       go (Load.bad-input {s} z c h) e = absurd (off s h e)
         where
-          off : (s : Said) → ((ns : List ℕ) → s ≡ accepted ns → ⊥) → took s ≡ true → ⊥
+          off : (s : Said) → ((ns : List ℕ) → s ≡ accepted ns → ⊥) → accepts s ≡ true → ⊥
           off (Said.accepted ns) h e = h ns refl
           off (Said.refused n) h e = false≢true e
           off (Said.refusedAt n k) h e = false≢true e
@@ -213,18 +213,18 @@ module _ (t : Table) (l : Lent) (input : List ℕ) where
   unfolding loaded
   load-said = outcome-said (loadSaid t l input) t l _ _
 
-  pub load-off : (s : Said) → loadSaid t l input ≡ s → took s ≡ false → loaded t l input ≡ record { said = s; table = t; lent = l }
+  pub load-off : (s : Said) → loadSaid t l input ≡ s → accepts s ≡ false → loaded t l input ≡ record { said = s; table = t; lent = l }
   unfolding loaded
-  load-off s q e = rw q (outcome-not s t l _ _ e)
+  load-off s q e = rw q (outcome-refused s t l _ _ e)
 
   -- Refused: all as it was. (What it says is that of the first condition that holds: `load-judged`.)
-  pub load-refused : took (loaded t l input .said) ≡ false → loaded t l input ≡ record { said = loadSaid t l input; table = t; lent = l }
-  load-refused e = load-off (loadSaid t l input) refl (sym (ap took load-said) ∙ e)
+  pub load-refused : accepts (loaded t l input .said) ≡ false → loaded t l input ≡ record { said = loadSaid t l input; table = t; lent = l }
+  load-refused e = load-off (loadSaid t l input) refl (sym (ap accepts load-said) ∙ e)
 
   -- Accepted: sound, and the list holds the routes of the input
-  module _ (e : took (loaded t l input .said) ≡ true) where
+  module _ (e : accepts (loaded t l input .said) ≡ true) where
     ok : Readable t l input × Loadable t l rs
-    ok = took-loadable (sym (ap took load-said) ∙ e)
+    ok = accepted-loadable (sym (ap accepts load-said) ∙ e)
 
     pub load-holds : Holds t l rs (loaded t l input .table) (loaded t l input .lent)
     load-holds = subst (λ (o : Out). Holds t l rs (o .table) (o .lent)) (sym (load-is (ok .0) (ok .1))) (loadable-holds t l rs (ok .1))

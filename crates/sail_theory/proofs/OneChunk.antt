@@ -9,7 +9,7 @@ use Rattle.bits.specs.Slot.{cut}
 use Rattle.bits.specs.Search.{firstFrom, firstOf}
 use Rattle.routes.specs.Route.{keyOf, any, need, Fine}
 use Rattle.routes.specs.Input.{properPrefix}
-use Rattle.routes.specs.Said.{accepted, refused}
+use Rattle.routes.specs.Said.{accepted, refused, accepts}
 use Rattle.routes.specs.Standing.{stands, insert, remove}
 use Rattle.routes.specs.declared.Route.{Route}
 use Rattle.routes.proofs.Meaning.{prefix-true}
@@ -17,11 +17,11 @@ use Rattle.sail.specs.Geometry.{standardGeo}
 use Rattle.sail.specs.Sound.{standing, freshLent}
 use Rattle.sail.specs.declared.geometry.Geometry.{Geometry}
 use Rattle.sail_theory.specs.Render.{chunkFor, rendered, roomOf}
-use Rattle.sail_theory.specs.Calls.{Owners, grant, openAt2, openAt3, keep, opened, kept, ownersOf, route, termsOf, chunksFault, orSay, Out, took}
+use Rattle.sail_theory.specs.Calls.{Owners, grant, openAt2, openAt3, keep, opened, kept, ownersOf, route, termsOf, chunksFault, orSay, Out}
 use Rattle.sail_theory.specs.Facts.{Farewell}
 use Rattle.sail_theory.specs.Runs.{Call, announce, withdraw, done, after}
 use Rattle.sail_theory.proofs.Only.{roomy-said}
-use Rattle.sail_theory.proofs.Accepted.{announce-said, took-welcome, announce-is, announce-refused, announce-holds, withdraw-said, withdraw-is, farewell-said, withdraw-holds}
+use Rattle.sail_theory.proofs.Accepted.{announce-said, accepted-welcome, announce-is, announce-refused, announce-holds, withdraw-said, withdraw-is, farewell-said, withdraw-holds}
 use Rattle.sail_theory.proofs.Fresh.{make-is, make-holds}
 use Rattle.sail_theory.proofs.Sizes.{terms-same}
 use Rattle.sail_theory.proofs.Runs.{run-is, run-sound}
@@ -80,7 +80,7 @@ entered : (cs : List Call) (rs : List Route) (own2 own3 : List ℕ) → Stands c
 unfolding after done rendered t
 entered cs rs own2 own3 w a len hop e =
     let k = run-is t l sized cs in
-    let v = took-welcome (after t l cs .table) (after t l cs .lent) a len hop (rw (← announce-said (after t l cs .table) (after t l cs .lent) a len hop, e)) in
+    let v = accepted-welcome (after t l cs .table) (after t l cs .lent) a len hop (rw (← announce-said (after t l cs .table) (after t l cs .lent) a len hop, e)) in
     let q = announce-is (after t l cs .table) (after t l cs .lent) a len hop v in
     record {
       routes = announce-holds (after t l cs .table) (after t l cs .lent) a len hop (rw e) .routes ∙ rw (w .routes);
@@ -120,7 +120,7 @@ said2 = says run1 (route a1 24 44 ∷ []) (2562 ∷ []) (0 ∷ []) stands1 a2 24
 stands2 : Stands run2 (route a1 24 44 ∷ []) (2562 ∷ []) (0 ∷ [])
 unfolding after done
 stands2 =
-    let q = announce-refused (after t l run1 .table) (after t l run1 .lent) a2 24 45 (ap took said2) in
+    let q = announce-refused (after t l run1 .table) (after t l run1 .lent) a2 24 45 (ap accepts said2) in
     record {
       routes = ap (λ (o : Out). standing (o .table) (o .lent)) q ∙ stands1 .routes;
       owners = ap (λ (o : Out). ownersOf (o .lent)) q ∙ stands1 .owners;

@@ -14,7 +14,7 @@ use Rattle.sail.specs.Geometry.{bits2, bits3, Valid}
 use Rattle.sail.specs.Lent.{Lent}
 use Rattle.sail.specs.Level.{Level, always, itself, liveIn, partOf, entry, whole}
 use Rattle.sail.specs.Sound.{Sound, standing}
-use Rattle.sail.specs.Walk.{place, place2, cell2, ReadsSecond, ReadsThird}
+use Rattle.sail.specs.Walk.{place, place2, cell2, Leads, ReadsSecond, ReadsThird}
 use Rattle.sail.specs.declared.geometry.Geometry.{Geometry}
 use Rattle.sail.specs.declared.table.Table.{Table}
 use Rattle.sail_theory.specs.Render.{at2, at3}
@@ -35,6 +35,9 @@ module _ (deep : ℕ → Bool) (hop : ℕ → ℕ) (n : ℕ) (live : ℕ → Boo
       let low : i % 2 ^ d ≡ q % 2 ^ d = ap (λ (j : ℕ). j % 2 ^ d) (sym p) ∙ part-low own d at q in
       let chunk : cells z - 1 ≡ q / 2 ^ d = omega arith in
       (is, omega arith, ap₂ (λ (x y : ℕ). x * 2 ^ d + y) chunk low ∙ div-add-mod' q (2 ^ d))
+
+leads : {v c m : ℕ} → v ≡ suc c → v ≤ m → m ≤ 4096 → Leads v m
+leads e h f = record { low = omega arith; one = omega arith; last = h }
 
 -- the lookup of x reads the live place that stands for its cell
 module _ (t : Table) (l : Lent) (s : Sound t l) (x : ℕ) (small : x < 2 ^ 32) where
@@ -64,7 +67,7 @@ module _ (t : Table) (l : Lent) (s : Sound t l) (x : ℕ) (small : x < 2 ^ 32) w
       (bits2 g) (slot (g .p1) x) (slot (g .p2) x) (slot-lt (g .p1) x (omega arith) small) refl up1 q h e p
 
   pub reads-second : (q : ℕ) → q < length (l .own2) * 2 ^ bits2 g → liveIn (entry (l .own2)) (bits2 g) q ≡ true → at2 g (l .own2) q ≡ slot (g .p2) x → ReadsSecond (g .p1) (bits2 g) (bits3 g) (whole l) x q
-  reads-second q h e p = let k = named2 q h e p in record { goes = omega (arith, k .1, s .sized .few2); there = place2-is ∙ k .2 }
+  reads-second q h e p = let k = named2 q h e p in record { goes = leads (k .0) (k .1) (s .sized .few2); there = place2-is ∙ k .2 }
 
   pub reads-third : (q : ℕ) → q < length (l .own3) * 2 ^ bits3 g → liveIn (entry (l .own3)) (bits3 g) q ≡ true → at3 g (l .own2) (l .own3) q ≡ x → ReadsThird (g .p1) (bits2 g) (bits3 g) (whole l) x q
   reads-third q h e p =
@@ -78,7 +81,7 @@ module _ (t : Table) (l : Lent) (s : Sound t l) (x : ℕ) (small : x < 2 ^ 32) w
       (apart2 g rs (l .own2) (w .fits2)) (bits3 g) z x (k .0) (k .1) (stands ∙ up2) q h e p in
       let here : cell2 (g .p1) (bits2 g) (bits3 g) (whole l) x ≡ getD (l .second) z 0 = ap (entry (l .second)) (place2-is ∙ two .2) in
       record {
-        goes = omega (arith, two .1, s .sized .few2);
-        on = subst (λ (j : ℕ). j < 32768) (sym here) (omega (arith, three .1, s .sized .few3));
+        goes = leads (two .0) (two .1) (s .sized .few2);
+        on = subst (λ (j : ℕ). Leads j (length (l .own3))) (sym here) (leads (three .0) (three .1) (s .sized .few3));
         there = ap (λ (j : ℕ). place (bits3 g) j x) here ∙ three .2;
       }

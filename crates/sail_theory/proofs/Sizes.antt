@@ -5,7 +5,7 @@ use mathlib.Core.Bool.{true}
 use mathlib.Core.List.{List, []}
 use Prim.Native.Nat.{ℕ, _*_, _^_}
 use Rattle.routes.specs.Input.{inputSaid}
-use Rattle.routes.specs.Said.{accepted, andThen}
+use Rattle.routes.specs.Said.{accepted, andThen, accepts}
 use Rattle.routes.specs.declared.Route.{Route}
 use Rattle.sail.specs.Geometry.{bits2, bits3}
 use Rattle.sail.specs.Lent.{Lent}
@@ -13,9 +13,9 @@ use Rattle.sail.specs.Sizes.{lengthsFit, sizesFault, Sized}
 use Rattle.sail.specs.Sound.{freshTable, freshLent}
 use Rattle.sail.specs.declared.geometry.Geometry.{Geometry}
 use Rattle.sail.specs.declared.table.Table.{Table}
-use Rattle.sail_theory.specs.Calls.{settled, noOwners, Terms, termsOf, loadFault, orSay, makeSaid, loadSaid, inputRoutes, Out, took, stateOf, lentOf, loaded}
+use Rattle.sail_theory.specs.Calls.{settled, noOwners, Terms, termsOf, loadFault, orSay, makeSaid, loadSaid, inputRoutes, Out, stateOf, lentOf, loaded}
 use Rattle.sail_theory.specs.Facts.{SameSize}
-use Rattle.sail_theory.proofs.Accepted.{outcome-took}
+use Rattle.sail_theory.proofs.Accepted.{outcome-accepted}
 
 pub size-refl : (l : Lent) → SameSize l l
 size-refl l = record { list = refl; first = refl; second = refl; third = refl; chunks2 = refl; chunks3 = refl }
@@ -81,6 +81,6 @@ module _ (t : Table) (l : Lent) (u : Table) (v : Lent) (geo : u .geometry ≡ t 
         (record { said = loadSaid t l input; table = stateOf t rs; lent = lentOf t l rs (settled (t .geometry) (noOwners l) rs) })
     same = rw (load-says, geo, s .list, none-same)
 
-    pub load-blind : took (loadSaid t l input) ≡ true → loaded u v input ≡ loaded t l input
+    pub load-blind : accepts (loadSaid t l input) ≡ true → loaded u v input ≡ loaded t l input
     unfolding loaded
-    load-blind e = outcome-took _ u v _ _ (rw load-says e) ∙ same ∙ sym (outcome-took _ t l _ _ e)
+    load-blind e = outcome-accepted _ u v _ _ (rw load-says e) ∙ same ∙ sym (outcome-accepted _ t l _ _ e)

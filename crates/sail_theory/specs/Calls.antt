@@ -1,6 +1,6 @@
 -- The calls that change a table. Each is a function from the state and what is lent at entry to what it says, the state and what is lent
 -- at exit, for every state and every contents. Assumes nothing.
-use mathlib.Core.Bool.{Bool, true, false, not, cond}
+use mathlib.Core.Bool.{Bool, not, cond}
 use mathlib.Core.List.{List, [], _∷_, map}
 use Prim.Native.Nat.{ℕ, zero, suc, _+_, _-_, _*_, _/_, _%_, _^_}
 use lib.Dec.{ltb, leb}
@@ -154,12 +154,6 @@ loadSaid t l input =
     (accepted [])))
 
 -- Outcomes.
-
--- what is said accepts
-abbrev pub took : Said → Bool
-took (accepted vs) = true
-took (refused n) = false
-took (refusedAt n k) = false
 
 pub record Out : Type 0 where
   pub said : Said

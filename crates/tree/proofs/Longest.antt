@@ -1,7 +1,7 @@
 -- Where an image holds routes, each at the bit of its node, the walk finds the longest route that matches. Routes are given here by
 -- their hops: `R l q` is the hop of the route of length l whose bits are q, and 0 where there is none. Assumes nothing.
 use mathlib.Core.Path.{_≡_, refl, sym, ap, subst, _∙_}
-use mathlib.Core.Bool.{Bool, true, false, cond}
+use mathlib.Core.Bool.{Bool, true, false, not, cond}
 use mathlib.Core.Logic.{_⊎_, inl, inr, ⊎-elim}
 use mathlib.Core.List.{List}
 use Prim.Native.Nat.{ℕ, zero, suc, _+_, _-_, _*_, _/_, _%_, _^_, _<_, _≤_}
@@ -167,7 +167,7 @@ module _ (st : ℕ → ℕ → Bool) (R : Hops) (ws hs : List ℕ) (a : ℕ) whe
   unfolding Holds readsFrom
   found zero m i p best e x k r =
       let n : 9 ≡ m + 1 = omega arith in
-      sym (walk-last ws hs a 0 i best (k .here) _ refl (not-set (bitsOf ws i) 15 (k .clear)) _ _ (told (longest R a 33) (m + 1)) refl refl refl
+      sym (walk-last ws hs a 0 i best _ refl (k .here) _ refl (not-set (bitsOf ws i) 15 (k .clear)) refl _ _ (told (longest R a 33) (m + 1)) refl refl
       (rw n (sym (fetched hs (m + 1) _ _ (last-rep R ws hs a m i p best r k (omega arith) (x ∙ div-one a))))))
   found (suc d) m i p best e x k r = go (decided (st (m + 1) (a / 2 ^ (4 * d)))) (λ j b. found d (m + 1) j (a / 2 ^ (4 * d)) b (omega arith) refl)
     where
@@ -195,14 +195,14 @@ module _ (st : ℕ → ℕ → Bool) (R : Hops) (ws hs : List ℕ) (a : ℕ) whe
           let j : ℕ = childAt (bitsOf ws i) (childOf ws i) (a / 2 ^ (4 * d) % 16) in
           let b : Place = betterOf (bitsOf ws i) (baseOf ws i) (deepestOf (bitsOf ws i) (a / 2 ^ (4 * d) % 16)) best in
           rw o
-          (sym (walk-down ws hs a (suc d) i best (k .0 .here) _ refl (not-set (bitsOf ws i) 15 (k .0 .clear)) (λ (y : suc d ≡ 0). omega arith) _ nib _ refl b refl _ refl j (eq-eqb _ 1 (kid .0)) refl)
+          (sym (walk-down ws hs a (suc d) i best _ refl (k .0 .here) _ refl (not-set (bitsOf ws i) 15 (k .0 .clear)) (λ (y : suc d ≡ 0). omega arith) _ nib _ refl b refl _ refl j (ap not (eq-eqb _ 1 (kid .0))) refl)
           ∙ ap (λ (n : ℕ). walkFrom n ws hs a j b) less
           ∙ ih j b (subst (λ (y : ℕ). Holds st R ws hs d (m + 1) j y) (sym path) (kid .1)) (rw deeper rep))
       go (inr z) ih =
           let none = k .2 (a / 2 ^ (4 * d) % 16) (omega arith) (rw path at z) in
           let n : 8 - (suc d - 1) ≡ m + 1 = omega arith in
           rw z
-          (sym (walk-stop ws hs a (suc d) i best (k .0 .here) _ refl (not-set (bitsOf ws i) 15 (k .0 .clear)) (λ (y : suc d ≡ 0). omega arith) _ nib _ refl _ refl _ refl _ (not-set _ _ (none .0))
+          (sym (walk-stop ws hs a (suc d) i best _ refl (k .0 .here) _ refl (not-set (bitsOf ws i) 15 (k .0 .clear)) (λ (y : suc d ≡ 0). omega arith) _ nib _ refl _ refl _ refl _ (ap not (not-set (bitsOf ws i) (16 + a / 2 ^ (4 * d) % 16) (none .0)))
           (rw n (sym (fetched hs (m + 1) _ _ (rw (no-longer R a m d e (rw path (none .1)) 33 (omega arith) (omega arith)) rep))))))
 
 -- Where the image holds the routes R, the walk answers with the hop of the longest route that matches, and with the nodes on the address's path.

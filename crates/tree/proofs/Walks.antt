@@ -1,16 +1,16 @@
 -- What the tests of the code say of the walk. Assumes nothing.
 use mathlib.Core.Path.{_≡_, refl, sym, ap, _∙_}
-use mathlib.Core.Bool.{Bool, true, false, cond}
+use mathlib.Core.Bool.{Bool, true, false, cond, not}
 use mathlib.Core.List.{List}
 use Prim.Native.Nat.{ℕ, zero, suc, _+_, _-_, _/_, _%_, _^_, _<_, _≤_}
 use native.Mathlib.Omega.{arith}
 use lib.ListN.{length, getD}
 use lib.Count.{ones}
-use borrow.Author.Tests.{lt-ltb, le-ltb, le-leb, lt-leb, eq-eqb, ne-eqb}
+use borrow.Author.Tests.{not-true, not-false, lt-ltb, le-ltb, le-leb, lt-leb, eq-eqb, ne-eqb}
 use Rattle.routes.specs.Said.{Said, refused}
 use Rattle.routes.specs.Input.{hopFine}
 use Rattle.tree.specs.Node.{bitsOf, childOf, baseOf, isSet, sound, nibbleOf, tryBit, deepestOf, betterOf, childAt}
-use Rattle.tree.specs.Walk.{saysTreeFound, told, fetchedFrom, innerMatch, walkFrom}
+use Rattle.tree.specs.Walk.{saysTreeFound, told, fetchedFrom, lastMatch, innerMatch, walkFrom}
 use Rattle.tree.specs.declared.Place.{Place}
 use Rattle.tree.specs.declared.Place.the-variants.{Nowhere, At}
 use Rattle.tree.specs.declared.TreeFound.{TreeFound}
@@ -74,22 +74,22 @@ module _ (hs : List ℕ) (n : ℕ) (best : Place) where
       unfolding saysTreeFound fetchedFrom hopFine told
       fetch-hop z b = rw (e, lt-ltb h (length hs) p, le-leb 1 (getD hs h 0) (omega arith), le-leb (getD hs h 0) 32767 b, ne-eqb (getD hs h 0) 0 z)
 
--- the walk at node i, with d levels below it
-module _ (ws hs : List ℕ) (a d i : ℕ) (best : Place) where
-  not-sound : sound ws i ≡ false → saysTreeFound Broken ≡ walkFrom d ws hs a i best
+-- the walk at node i, with d levels below it; `said` is what it says
+module _ (ws hs : List ℕ) (a d i : ℕ) (best : Place) (said : Said) (walks : walkFrom d ws hs a i best ≡ said) where
+  not-sound : sound ws i ≡ false → saysTreeFound Broken ≡ said
   unfolding saysTreeFound walkFrom
-  not-sound e = go d
+  not-sound e = go d ∙ walks
     where
       go : (d : ℕ) → refused 13 ≡ walkFrom d ws hs a i best
       go zero = rw e
       go (suc d) = rw e
 
-  pub walk-past : length ws / 3 ≤ i → saysTreeFound Broken ≡ walkFrom d ws hs a i best
+  pub walk-past : length ws / 3 ≤ i → saysTreeFound Broken ≡ said
   unfolding sound
   walk-past p = not-sound (rw (le-ltb i (length ws / 3) p))
 
   module _ (p : i < length ws / 3) (t : Bool) (e : t ≡ isSet (bitsOf ws i) 15) where
-    pub walk-broken : t ≡ true → saysTreeFound Broken ≡ walkFrom d ws hs a i best
+    pub walk-broken : t ≡ true → saysTreeFound Broken ≡ said
     unfolding sound
     walk-broken h = not-sound (rw (lt-ltb i (length ws / 3) p, ← e, h))
 
@@ -98,20 +98,22 @@ module _ (ws hs : List ℕ) (a d i : ℕ) (best : Place) where
       unfolding sound
       is-sound = rw (lt-ltb i (length ws / 3) p, ← e, h)
 
-      pub walk-last : (b : ℕ) (x : Place) (r : Said) → d ≡ 0 → b ≡ tryBit (bitsOf ws i) 0 15 → x ≡ betterOf (bitsOf ws i) (baseOf ws i) b best → r ≡ fetchedFrom hs 9 x → r ≡ walkFrom d ws hs a i best
+      pub walk-last : d ≡ 0 → (b : ℕ) (x : Place) (r : Said) → b ≡ tryBit (bitsOf ws i) 0 15 → x ≡ betterOf (bitsOf ws i) (baseOf ws i) b best → r ≡ fetchedFrom hs 9 x → r ≡ said
       unfolding walkFrom
-      walk-last b x r z eb ex er = rw (z, is-sound, er, ex, eb)
+      walk-last z b x r eb ex er =
+          let q : fetchedFrom hs 9 (lastMatch ws i best) ≡ walkFrom d ws hs a i best = rw (z, is-sound) in
+          rw (er, ex, eb) q ∙ walks
 
       module _ (z : d ≡ 0 → ⊥) (v : ℕ) (ev : v ≡ nibbleOf a (d - 1)) (b : ℕ) (eb : b ≡ deepestOf (bitsOf ws i) v) (x : Place) (ex : x ≡ betterOf (bitsOf ws i) (baseOf ws i) b best) (s : Bool) (es : s ≡ isSet (bitsOf ws i) (16 + v)) where
-        walk-inner : cond s (walkFrom (d - 1) ws hs a (childAt (bitsOf ws i) (childOf ws i) v) x) (fetchedFrom hs (8 - (d - 1)) x) ≡ walkFrom d ws hs a i best
+        walk-inner : cond s (walkFrom (d - 1) ws hs a (childAt (bitsOf ws i) (childOf ws i) v) x) (fetchedFrom hs (8 - (d - 1)) x) ≡ said
         unfolding walkFrom
         walk-inner =
             let q : suc (d - 1) ≡ d = omega arith in
             rw (es, ex, eb, ev) (ap (λ (t : Bool). cond t (cond (isSet (bitsOf ws i) (16 + nibbleOf a (d - 1))) (walkFrom (d - 1) ws hs a (childAt (bitsOf ws i) (childOf ws i) (nibbleOf a (d - 1))) (innerMatch ws i (nibbleOf a (d - 1)) best)) (fetchedFrom hs (8 - (d - 1)) (innerMatch ws i (nibbleOf a (d - 1)) best))) (refused 13)) (sym is-sound)
-            ∙ ap (λ (k : ℕ). walkFrom k ws hs a i best) q)
+            ∙ ap (λ (k : ℕ). walkFrom k ws hs a i best) q) ∙ walks
 
-        pub walk-stop : (r : Said) → s ≡ false → r ≡ fetchedFrom hs (8 - (d - 1)) x → r ≡ walkFrom d ws hs a i best
-        walk-stop r f er = er ∙ (rw f at walk-inner)
+        pub walk-stop : (r : Said) → not s ≡ true → r ≡ fetchedFrom hs (8 - (d - 1)) x → r ≡ said
+        walk-stop r f er = er ∙ (rw (not-true s f) at walk-inner)
 
-        pub walk-down : (j : ℕ) → s ≡ true → j ≡ childAt (bitsOf ws i) (childOf ws i) v → walkFrom (d - 1) ws hs a j x ≡ walkFrom d ws hs a i best
-        walk-down j f ej = rw ej (rw f at walk-inner)
+        pub walk-down : (j : ℕ) → not s ≡ false → j ≡ childAt (bitsOf ws i) (childOf ws i) v → walkFrom (d - 1) ws hs a j x ≡ said
+        walk-down j f ej = rw ej (rw (not-false s f) at walk-inner)

@@ -9,7 +9,7 @@ pub better-spec : {M : Type 1} → statement M
 better-spec =
     tie.close
     (tie.spec
-    (λ c. better-none _ _ _ _ (c .if1 .taken))
+    (λ c. search better-none)
     (λ c κs. search needs)
     (λ c κs. search needs)
     (λ c κs. search needs)

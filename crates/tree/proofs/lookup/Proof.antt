@@ -1,6 +1,5 @@
 -- `tree::lookup` meets its contract. Assumes nothing.
-use borrow.Author.Tests.{not-true, not-false}
-use mathlib.Core.Path.{_≡_, refl, _∙_}
+use mathlib.Core.Path.{_≡_, refl}
 use Prim.Native.Nat.{_≤_}
 use native.Mathlib.Omega.{arith}
 use borrow.Author.Needs.{needs}
@@ -31,11 +30,11 @@ lookup-spec =
     (λ c. search needs)
     (λ c. search needs)
     (λ c κs. search needs)
-    (λ c. walk-broken _ _ _ _ _ _ (c .before .before .before .before .loop-test .taken) _ (c .before .is-set .ensures) (c .if1 .taken) ∙ c .before .before .before .before .before .loop .inv .1)
+    (λ c. search walk-broken)
     (λ c κs. search needs)
     (λ c κs. search needs)
     (λ c κs. search needs)
-    (λ c. walk-last _ _ _ _ _ _ (c .before .before .before .before .before .before .before .before .loop-test .taken) _ (c .before .before .before .before .before .is-set .ensures) (c .before .before .before .before .if1 .left) _ _ _ (c .before .before .before .if2 .taken) (c .before .before .own-bit .ensures .0) (c .before .better .ensures) (c .fetch .ensures) ∙ c .before .before .before .before .before .before .before .before .before .loop .inv .1)
+    (λ c. search walk-last)
     (λ c. search needs)
     (λ c κs. search needs)
     (λ c κs. search needs)
@@ -44,7 +43,7 @@ lookup-spec =
     (λ c κs. search needs)
     (λ c. search needs)
     (λ c κs. search needs)
-    (λ c. walk-stop _ _ _ _ _ _ (c .before .before .before .before .before .before .before .before .before .before .before .loop-test .taken) _ (c .before .before .before .before .before .before .before .before .is-set .ensures) (c .before .before .before .before .before .before .before .if1 .left) (c .before .before .before .before .before .before .if2 .left) _ (c .before .before .before .before .before .nibble .ensures .0) _ (c .before .before .before .before .deepest .ensures .0) _ (c .before .before .before .better2 .ensures) _ (c .before .before .is-set2 .ensures) _ (not-true _ (c .before .if3 .taken)) (c .fetch2 .ensures) ∙ c .before .before .before .before .before .before .before .before .before .before .before .before .loop .inv .1)
+    (λ c. search walk-stop)
     (λ c. search needs)
     (λ c. search needs)
     (λ c. search needs)
@@ -53,6 +52,6 @@ lookup-spec =
     (λ c. search needs)
     (λ c. (
       omega arith,
-      walk-down _ _ _ _ _ _ (c .before .before .before .before .before .before .before .before .before .before .before .before .loop-test .taken) _ (c .before .before .before .before .before .before .before .before .before .is-set .ensures) (c .before .before .before .before .before .before .before .before .if1 .left) (c .before .before .before .before .before .before .before .if2 .left) _ (c .before .before .before .before .before .before .nibble .ensures .0) _ (c .before .before .before .before .before .deepest .ensures .0) _ (c .before .before .before .before .better2 .ensures) _ (c .before .before .before .is-set2 .ensures) _ (not-false _ (c .before .before .if3 .left)) (c .child .ensures) ∙ c .before .before .before .before .before .before .before .before .before .before .before .before .before .loop .inv .1,
+      search walk-down,
     ))
-    (λ c. walk-past _ _ _ _ _ _ (c .loop-test .left) ∙ c .before .loop .inv .1))
+    (λ c. search walk-past))

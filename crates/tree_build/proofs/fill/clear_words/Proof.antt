@@ -27,4 +27,4 @@ clear-words-spec =
     (λ c. search needs)
     (λ c. (simp length-set (omega arith), omega arith, zeros-more (c .before .loop .words) (c .before .loop .k) (omega arith) (c .before .loop .inv .2)))
     (λ c. c .before .loop .inv .0)
-    (λ c. zeros-all _ _ _ (c .before .loop .inv .0) (c .loop-test .left) (c .before .loop .inv .2)))
+    (λ c. search zeros-all))

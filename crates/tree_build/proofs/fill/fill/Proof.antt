@@ -24,7 +24,7 @@ fill-spec =
     μ-loop
     (λ c κs. search needs)
     (λ c. (c .before .before .before .before .start .ensures, refl, refl))
-    (λ c κs. state-waits _ _ _ _ _ _ (c .before .before .before .loop .inv .0) (c .before .before .loop-test .taken))
+    (λ c κs. search state-waits)
     (λ c. omega (arith, node-taken _ _ _ _ _ _ (c .before .before .before .before .before .before .before .before .loop .inv .0) (c .before .before .before .before .before .before .before .loop-test .taken), c .before .before .before .before .before .before .before .before .loop .inv .0 .room .words-fit))
     (λ c. omega (arith, node-taken _ _ _ _ _ _ (c .before .before .before .before .before .before .before .before .loop .inv .0) (c .before .before .before .before .before .before .before .loop-test .taken)))
     (λ c. (c .before .before .before .before .step .ensures, omega arith, omega arith))

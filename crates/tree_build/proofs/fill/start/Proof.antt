@@ -11,8 +11,8 @@ start-spec =
     (tie.spec
     (λ c κs. search needs)
     (λ c κs. search needs)
-    (λ c κs. omega (arith, c .before .before .before .before .before .before .before .before .before .before .before .before .pre .records .few))
-    (λ c κs. root-room _ _ _ (c .before .before .before .before .before .before .before .before .before .before .before .before .before .pre) _ _ (c .before .before .before .before .before .before .before .before .clear-words .ensures) (c .before .before .before .before .clear-hops .ensures))
+    (λ c κs. omega arith)
+    (λ c κs. search root-room)
     (λ c. search needs)
     (λ c. search needs)
-    (λ c. state-start _ _ _ (c .before .before .before .before .before .before .before .before .before .before .before .before .before .before .before .before .pre) _ _ (c .before .before .before .before .before .before .before .before .before .before .before .clear-words .ensures) (c .before .before .before .before .before .before .before .clear-hops .ensures) _ _ (c .before .before .before .narrow .ensures) (c .before .before .put-node .ensures)))
+    (λ c. search state-start))

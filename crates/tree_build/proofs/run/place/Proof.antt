@@ -14,7 +14,7 @@ place-spec =
     (λ c. search needs)
     (λ c. search needs)
     (λ c. search needs)
-    (λ c. some _ _ (c .before .pre .0) (c .if1 .taken))
+    (λ c. search some)
     (λ c κs. search needs)
     (λ c. record { fits = omega (arith, inner-place _ _ (c .before .before .pre .0) (c .before .if1 .taken) (c .before .before .args .addr) (c .slot .result) (c .slot .ensures) .1) })
     (λ c. inner-place _ _ (c .before .before .pre .0) (c .before .if1 .taken) _ _ (c .slot .ensures))

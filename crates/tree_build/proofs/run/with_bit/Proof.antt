@@ -9,4 +9,4 @@ with-bit-spec =
     tie.close
     (tie.spec
     (λ c. search needs)
-    (λ c. with-bit _ _ (c .fits .word .fits) (c .pre)))
+    (λ c. search with-bit))
