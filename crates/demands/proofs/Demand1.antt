@@ -13,7 +13,7 @@ use Prim.Native.Nat.{ℕ}
 use native.Mathlib.Omega.{arith}
 use Rattle.routes.specs.Input.{inputSaid}
 use Rattle.routes.specs.Answers.{routeSaid}
-use Rattle.routes.specs.Said.{Said, accepted, refused, refusedAt}
+use Rattle.routes.specs.Said.{Said, accepted, refused, refusedAt, accepts}
 use Rattle.routes.proofs.Meaning.{Checked, input-checked}
 use Rattle.lists.specs.Run.{runSaid}
 use Rattle.sail.specs.Lent.{Lent}
@@ -22,7 +22,7 @@ use Rattle.sail.specs.declared.table.Table.{Table}
 use Rattle.sail.specs.declared.lookup.Found.{Found}
 use Rattle.sail.specs.declared.lookup.Found.the-variants as found
 use Rattle.sail.proofs.Answers.{found-injective}
-use Rattle.sail_theory.specs.Calls.{Out, took, made, announced, withdrawn, loaded, reported}
+use Rattle.sail_theory.specs.Calls.{Out, made, announced, withdrawn, loaded, reported}
 use Rattle.sail_theory.proofs.Judged.{Make, make-judged, Announce, announce-judged, Withdraw, withdraw-judged, Load, load-judged, Report, report-judged}
 use Rattle.sail_theory.proofs.Only.{make-only, announce-only, withdraw-only, load-only, report-only}
 use Rattle.sail_theory.proofs.Accepted.{announce-said, announce-refused, withdraw-said, withdraw-refused}
@@ -111,17 +111,17 @@ parts : (o : Out) (s : Said) (t : Table) (l : Lent) → o ≡ record { said = s;
 parts o s t l e = (ap (λ (x : Out). x .table) e, ap (λ (x : Out). x .lent) e)
 
 module _ (t : Table) (l : Lent) where
-  pub refused-leaves-all-make : took (made t l .said) ≡ false → (made t l .table ≡ t) × (made t l .lent ≡ l)
+  pub refused-leaves-all-make : accepts (made t l .said) ≡ false → (made t l .table ≡ t) × (made t l .lent ≡ l)
   refused-leaves-all-make e = parts _ _ t l (make-refused t l e)
 
-  pub refused-leaves-all-load : (input : List ℕ) → took (loaded t l input .said) ≡ false → (loaded t l input .table ≡ t) × (loaded t l input .lent ≡ l)
+  pub refused-leaves-all-load : (input : List ℕ) → accepts (loaded t l input .said) ≡ false → (loaded t l input .table ≡ t) × (loaded t l input .lent ≡ l)
   refused-leaves-all-load input e = parts _ _ t l (load-refused t l input e)
 
-  pub refused-leaves-all-announce : (a len hop : ℕ) → took (announced t l a len hop .said) ≡ false → (announced t l a len hop .table ≡ t) × (announced t l a len hop .lent ≡ l)
+  pub refused-leaves-all-announce : (a len hop : ℕ) → accepts (announced t l a len hop .said) ≡ false → (announced t l a len hop .table ≡ t) × (announced t l a len hop .lent ≡ l)
   refused-leaves-all-announce a len hop e = parts _ _ t l (announce-refused t l a len hop e)
 
-  pub refused-leaves-all-withdraw : (a len : ℕ) → took (withdrawn t l a len .said) ≡ false → (withdrawn t l a len .table ≡ t) × (withdrawn t l a len .lent ≡ l)
+  pub refused-leaves-all-withdraw : (a len : ℕ) → accepts (withdrawn t l a len .said) ≡ false → (withdrawn t l a len .table ≡ t) × (withdrawn t l a len .lent ≡ l)
   refused-leaves-all-withdraw a len e = parts _ _ t l (withdraw-refused t l a len e)
 
-pub refused-leaves-all-build : (input words hops : List ℕ) → took (built input words hops .said) ≡ false → (built input words hops .words ≡ words) × (built input words hops .hops ≡ hops)
-refused-leaves-all-build input words hops e = refused-leaves input words hops (λ vs q. false≢true (sym e ∙ ap took q))
+pub refused-leaves-all-build : (input words hops : List ℕ) → accepts (built input words hops .said) ≡ false → (built input words hops .words ≡ words) × (built input words hops .hops ≡ hops)
+refused-leaves-all-build input words hops e = refused-leaves input words hops (λ vs q. false≢true (sym e ∙ ap accepts q))

@@ -10,14 +10,13 @@ use mathlib.Core.Logic.{_⊎_, inl, inr}
 use mathlib.Core.Bool.{true, false}
 use mathlib.Core.List.{List, _∷_}
 use Prim.Native.Nat.{ℕ, _/_}
-use native.Mathlib.Omega.{arith}
 use lib.ListN.{length}
 use Rattle.bits.proofs.Tests.{decided}
 use Rattle.routes.specs.Route.{Good}
 use Rattle.routes.specs.Record.{written}
+use Rattle.routes.specs.Said.{accepts}
 use Rattle.routes.specs.Standing.{routeAt}
 use Rattle.routes.specs.declared.Route.{Route}
-use Rattle.routes.proofs.Rows.{length-routes}
 use Rattle.sail.specs.Lent.{Lent}
 use Rattle.sail.specs.Sizes.{Sized}
 use Rattle.sail.specs.Sound.{Sound, standing}
@@ -25,12 +24,12 @@ use Rattle.sail.specs.declared.geometry.Geometry.{Geometry}
 use Rattle.sail.specs.declared.table.Table.{Table}
 use Rattle.sail.proofs.Sounds.{standing-good}
 use Rattle.sail_theory.specs.Render.{roomOf}
-use Rattle.sail_theory.specs.Calls.{termsOf, inputRoutes, Out, took, made, announced, withdrawn, loaded}
+use Rattle.sail_theory.specs.Calls.{termsOf, inputRoutes, Out, made, announced, withdrawn, loaded}
 use Rattle.sail_theory.specs.Facts.{SameSize}
 use Rattle.sail_theory.specs.Runs.{announceAll, AllAdded, Call, after, worked, would, Formed, Carries}
 use Rattle.sail_theory.specs.Alters.{Alters}
 use Rattle.sail_theory.proofs.Accepted.{announce-refused, withdraw-refused}
-use Rattle.sail_theory.proofs.Fresh.{took-sized}
+use Rattle.sail_theory.proofs.Fresh.{accepted-sized}
 use Rattle.sail_theory.proofs.Loads as loads
 use Rattle.sail_theory.proofs.Runs as runs
 use Rattle.sail_theory.proofs.Anew as anew
@@ -67,9 +66,7 @@ module _ (t : Table) (l : Lent) (z : Sized (t .geometry) l) where
 
   -- There is such an input.
   pub run-input : (cs : List Call) → Carries (written (now cs) (length (now cs))) (now cs)
-  run-input cs =
-      let s = run-sound cs in
-      anew.carried (now cs) (run-in-order cs) (omega (arith, length-routes (after t l cs .lent .list) (after t l cs .table .count), s .listed .records .few))
+  run-input = anew.run-carried t l z
 
   -- "Refusals for want of chunks come exactly when the routes need more": a well-formed change for which the list has room is refused with 7
   -- or 8 by the needs of the routes that would then stand, and is else accepted
@@ -84,8 +81,8 @@ module _ (t : Table) (l : Lent) (z : Sized (t .geometry) l) where
       rw room at (chunks-formed (after t l cs .table) (after t l cs .lent) c w)
 
 -- Where make is refused there is no fresh table, and so no run.
-pub made-sized : (t : Table) (l : Lent) → took (made t l .said) ≡ true → Sized (t .geometry) l
-made-sized = took-sized
+pub made-sized : (t : Table) (l : Lent) → accepts (made t l .said) ≡ true → Sized (t .geometry) l
+made-sized = accepted-sized
 
 -- "A change alters no cell but those under its prefix": those that serve an address under it, and those in chunks that it opens or closes. In
 -- any state, and so after any run; what is refused alters nothing.
@@ -93,22 +90,22 @@ alters-none : (g : Geometry) (a len : ℕ) (l u : Lent) → u ≡ l → Alters g
 alters-none g a len l u e = rw e (record { first = λ q h n. refl; second = λ q h n o. refl; third = λ q h n o. refl })
 
 pub change-frame-announce : (t : Table) (l : Lent) (a len hop : ℕ) → Alters (t .geometry) a len l (announced t l a len hop .lent)
-change-frame-announce t l a len hop = go (decided (took (announced t l a len hop .said)))
+change-frame-announce t l a len hop = go (decided (accepts (announced t l a len hop .said)))
   where
-    go : (took (announced t l a len hop .said) ≡ true) ⊎ (took (announced t l a len hop .said) ≡ false) → Alters (t .geometry) a len l (announced t l a len hop .lent)
+    go : (accepts (announced t l a len hop .said) ≡ true) ⊎ (accepts (announced t l a len hop .said) ≡ false) → Alters (t .geometry) a len l (announced t l a len hop .lent)
     go (inl e) = announce-alters t l a len hop e
     go (inr e) = alters-none (t .geometry) a len l _ (ap (λ (o : Out). o .lent) (announce-refused t l a len hop e))
 
 pub change-frame-withdraw : (t : Table) (l : Lent) (a len : ℕ) → Alters (t .geometry) a len l (withdrawn t l a len .lent)
-change-frame-withdraw t l a len = go (decided (took (withdrawn t l a len .said)))
+change-frame-withdraw t l a len = go (decided (accepts (withdrawn t l a len .said)))
   where
-    go : (took (withdrawn t l a len .said) ≡ true) ⊎ (took (withdrawn t l a len .said) ≡ false) → Alters (t .geometry) a len l (withdrawn t l a len .lent)
+    go : (accepts (withdrawn t l a len .said) ≡ true) ⊎ (accepts (withdrawn t l a len .said) ≡ false) → Alters (t .geometry) a len l (withdrawn t l a len .lent)
     go (inl e) = withdraw-alters t l a len e
     go (inr e) = alters-none (t .geometry) a len l _ (ap (λ (o : Out). o .lent) (withdraw-refused t l a len e))
 
 -- "Load equals make and then announcing each record in order, where it is accepted": in the state and in all that is lent, and each of these
 -- announcements adds its route.
-pub load-as-announces : (t : Table) (l : Lent) (input : List ℕ) → took (loaded t l input .said) ≡ true
+pub load-as-announces : (t : Table) (l : Lent) (input : List ℕ) → accepts (loaded t l input .said) ≡ true
     → (loaded t l input .table ≡ announceAll (made t l) (inputRoutes input) .table)
     × (loaded t l input .lent ≡ announceAll (made t l) (inputRoutes input) .lent)
     × AllAdded (made t l) (inputRoutes input)

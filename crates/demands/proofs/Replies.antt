@@ -6,7 +6,7 @@ use mathlib.Core.List.{List, [], _∷_}
 use Rattle.bits.specs.Count.{bit}
 use Rattle.routes.specs.Route.{keyOf}
 use Rattle.routes.specs.Input.{inputSaid}
-use Rattle.routes.specs.Said.{Said, accepted, andThen}
+use Rattle.routes.specs.Said.{Said, accepted, andThen, accepts}
 use Rattle.routes.specs.Standing.{stands}
 use Rattle.routes.specs.declared.Route.{Route}
 use Rattle.sail.specs.Lent.{Lent}
@@ -14,7 +14,7 @@ use Rattle.sail.specs.Sizes.{Sized}
 use Rattle.sail.specs.Sound.{Sound, standing}
 use Rattle.sail.specs.declared.table.Table.{Table}
 use Rattle.sail.proofs.Fitting.{none-is}
-use Rattle.sail_theory.specs.Calls.{Terms, termsOf, announceFault, withdrawFault, loadFault, orSay, announceSaid, withdrawSaid, loadSaid, inputRoutes, took}
+use Rattle.sail_theory.specs.Calls.{Terms, termsOf, announceFault, withdrawFault, loadFault, orSay, announceSaid, withdrawSaid, loadSaid, inputRoutes}
 use Rattle.sail_theory.specs.Runs.{Call, announce, withdraw, load, done, after, would}
 use Rattle.sail_theory.proofs.Tells.{sound-tells}
 use Rattle.sail_theory.proofs.Accepted.{announce-said, withdraw-said}
@@ -32,7 +32,7 @@ reply m rs (load input) = andThen (inputSaid input) (orSay (loadFault m (inputRo
 -- the routes that stand after a run; the last call stands first
 unfoldable pub stood : Terms → List Call → List Route
 stood m [] = []
-stood m (c ∷ cs) = cond (took (reply m (stood m cs) c)) (would c (stood m cs)) (stood m cs)
+stood m (c ∷ cs) = cond (accepts (reply m (stood m cs) c)) (would c (stood m cs)) (stood m cs)
 
 -- a call on a sound table
 pub done-says : (t : Table) (l : Lent) → Sound t l → (c : Call) → done t l c .said ≡ reply (termsOf t l) (standing t l) c

@@ -8,7 +8,7 @@ use native.Mathlib.Omega.{arith}
 use lib.ListN.{length}
 use Rattle.routes.specs.Route.{need}
 use Rattle.routes.specs.Input.{inputSaid}
-use Rattle.routes.specs.Said.{Said, accepted, refused, refusedAt}
+use Rattle.routes.specs.Said.{Said, accepted, refused, refusedAt, accepts}
 use Rattle.routes.specs.declared.Route.{Route}
 use Rattle.routes.proofs.Changed.{insert-adds}
 use Rattle.routes.proofs.Meaning.{Checked, input-checked, good-input}
@@ -16,7 +16,7 @@ use Rattle.sail.specs.Lent.{Lent}
 use Rattle.sail.specs.Sound.{standing}
 use Rattle.sail.specs.declared.table.Table.{Table}
 use Rattle.sail_theory.specs.Render.{roomOf}
-use Rattle.sail_theory.specs.Calls.{route, Terms, took}
+use Rattle.sail_theory.specs.Calls.{route, Terms}
 use Rattle.sail_theory.specs.Runs.{Call, announce, withdraw, load, done, Formed}
 use Rattle.sail_theory.proofs.Judged.{Sizing, Announce, announce-judged, Withdraw, withdraw-judged, Readable, Load, load-judged}
 use Rattle.sail_theory.proofs.Accepted.{announce-said, withdraw-said}
@@ -28,7 +28,7 @@ use Rattle.sail_theory.proofs.Wanting.{Wanting}
 pub record ByNeed (m : Terms) (rs : List Route) (s : Said) : Type 0 where
   pub seven : (s ≡ refused 7) ↔ (m .most2 < need rs (m .geometry .p1))
   pub eight : (s ≡ refused 8) ↔ ((need rs (m .geometry .p1) ≤ m .most2) × (m .most3 < need rs (m .geometry .p2)))
-  pub taken : (took s ≡ true) ↔ ((need rs (m .geometry .p1) ≤ m .most2) × (need rs (m .geometry .p2) ≤ m .most3))
+  pub taken : (accepts s ≡ true) ↔ ((need rs (m .geometry .p1) ≤ m .most2) × (need rs (m .geometry .p2) ≤ m .most3))
 
 pub wanting-exact : {m : Terms} {rs : List Route} {s : Said} → Wanting m rs s → ByNeed m rs s
 wanting-exact (Wanting.second x) = record {

@@ -6,7 +6,7 @@ use mathlib.Core.List.{List, [], _∷_}
 use Prim.Native.Nat.{ℕ, _*_, _^_, _<_}
 use lib.ListN.{getD, length}
 use Rattle.routes.specs.Route.{keyOf, long, best, need}
-use Rattle.routes.specs.Said.{Said, accepted, refused, refusedAt}
+use Rattle.routes.specs.Said.{Said, accepted, refused, refusedAt, accepts}
 use Rattle.routes.specs.Standing.{remove}
 use Rattle.routes.specs.declared.Route.{Route}
 use Rattle.routes.proofs.Rows.{length-routes}
@@ -20,7 +20,7 @@ use Rattle.sail.specs.declared.geometry.Geometry.{Geometry}
 use Rattle.sail.specs.declared.table.Table.{Table}
 use Rattle.sail.proofs.Sounds.{sail-serves}
 use Rattle.sail_theory.specs.Render.{shown, at2, rendered}
-use Rattle.sail_theory.specs.Calls.{Owners, opened, settled, kept, ownersOf, noOwners, route, termsOf, announceSaid, withdrawSaid, loadSaid, inputRoutes, took, Out, leaving, announced, withdrawn, loaded, reported}
+use Rattle.sail_theory.specs.Calls.{Owners, opened, settled, kept, ownersOf, noOwners, route, termsOf, announceSaid, withdrawSaid, loadSaid, inputRoutes, Out, leaving, announced, withdrawn, loaded, reported}
 use Rattle.sail_theory.specs.Runs.{Call, announce, withdraw, load, done, after, would}
 use Rattle.sail_theory.proofs.Judged.{Report}
 use Rattle.sail_theory.proofs.Only.{report-only}
@@ -71,13 +71,13 @@ owned g none (withdraw a len) rs o = kept g (remove (keyOf a len) rs) o
 owned g none (load input) rs o = settled g none (inputRoutes input)
 
 -- a call leaves these owners where it is accepted, and else those that were
-leaves-owners : (s : Said) (t : Table) (l : Lent) (rs : List Route) (o : Owners) → ownersOf (leaving s t l rs o .lent) ≡ cond (took (leaving s t l rs o .said)) o (ownersOf l)
+leaves-owners : (s : Said) (t : Table) (l : Lent) (rs : List Route) (o : Owners) → ownersOf (leaving s t l rs o .lent) ≡ cond (accepts (leaving s t l rs o .said)) o (ownersOf l)
 unfolding rendered
 leaves-owners (accepted vs) t l rs o = refl
 leaves-owners (refused n) t l rs o = refl
 leaves-owners (refusedAt n k) t l rs o = refl
 
-done-owners : (t : Table) (l : Lent) (c : Call) → ownersOf (done t l c .lent) ≡ cond (took (done t l c .said)) (owned (t .geometry) (noOwners l) c (standing t l) (ownersOf l)) (ownersOf l)
+done-owners : (t : Table) (l : Lent) (c : Call) → ownersOf (done t l c .lent) ≡ cond (accepts (done t l c .said)) (owned (t .geometry) (noOwners l) c (standing t l) (ownersOf l)) (ownersOf l)
 unfolding done announced withdrawn loaded
 done-owners t l (announce a len hop) = leaves-owners (announceSaid t l a len hop) t l (would (announce a len hop) (standing t l)) (owned (t .geometry) (noOwners l) (announce a len hop) (standing t l) (ownersOf l))
 done-owners t l (withdraw a len) = leaves-owners (withdrawSaid t l a len) t l (would (withdraw a len) (standing t l)) (owned (t .geometry) (noOwners l) (withdraw a len) (standing t l) (ownersOf l))
@@ -87,14 +87,14 @@ module _ (t : Table) (l : Lent) (z : Sized (t .geometry) l) where
   -- the owners after a run
   unfoldable pub ownedBy : List Call → Owners
   ownedBy [] = noOwners l
-  ownedBy (c ∷ cs) = cond (took (reply (termsOf t l) (stood (termsOf t l) cs) c)) (owned (t .geometry) (noOwners l) c (stood (termsOf t l) cs) (ownedBy cs)) (ownedBy cs)
+  ownedBy (c ∷ cs) = cond (accepts (reply (termsOf t l) (stood (termsOf t l) cs) c)) (owned (t .geometry) (noOwners l) c (stood (termsOf t l) cs) (ownedBy cs)) (ownedBy cs)
 
   fresh-owners : ownersOf (after t l [] .lent) ≡ noOwners l
   unfolding after freshLent
   fresh-owners = ap (λ (o : Out). ownersOf (o .lent)) (make-is t l z)
 
   next-owners : (c : Call) (cs : List Call) → ownersOf (after t l (c ∷ cs) .lent)
-      ≡ cond (took (after t l (c ∷ cs) .said)) (owned (after t l cs .table .geometry) (noOwners (after t l cs .lent)) c (standing (after t l cs .table) (after t l cs .lent)) (ownersOf (after t l cs .lent))) (ownersOf (after t l cs .lent))
+      ≡ cond (accepts (after t l (c ∷ cs) .said)) (owned (after t l cs .table .geometry) (noOwners (after t l cs .lent)) c (standing (after t l cs .table) (after t l cs .lent)) (ownersOf (after t l cs .lent))) (ownersOf (after t l cs .lent))
   unfolding after
   next-owners c cs = done-owners (after t l cs .table) (after t l cs .lent) c
 

@@ -12,7 +12,7 @@ use Rattle.bits.specs.Tab.{tabulate}
 use Rattle.routes.specs.Route.{any}
 use Rattle.routes.specs.Record.{recordAt, routesOf, written}
 use Rattle.routes.specs.Input.{properPrefix, hopFine, routeFault, inOrder, faultAt, inputSaid}
-use Rattle.routes.specs.Said.{Said, accepted, refused}
+use Rattle.routes.specs.Said.{Said, accepted, refused, accepts}
 use Rattle.routes.specs.declared.Route.{Route}
 use Rattle.routes.proofs.Meaning.{prefix-true}
 use Rattle.sail.specs.Geometry.{standardGeo, validGeo}
@@ -23,7 +23,7 @@ use Rattle.sail.specs.Walk.{lookupSaid, saysFound}
 use Rattle.sail.specs.declared.table.Table.{Table}
 use Rattle.sail.specs.declared.lookup.Found.the-variants as found
 use Rattle.sail.proofs.Fresh.{fresh-sound}
-use Rattle.sail_theory.specs.Calls.{termsOf, withdrawFault, took, made, announced, withdrawn, loaded}
+use Rattle.sail_theory.specs.Calls.{termsOf, withdrawFault, made, announced, withdrawn, loaded}
 use Rattle.sail_theory.specs.Runs.{Call, announce, withdraw, load, done, after, would, Formed}
 use Rattle.sail_theory.specs.Render.{roomOf}
 use Rattle.sail_theory.proofs.Accepted.{announce-said, announce-off}
@@ -59,23 +59,23 @@ unfolding stood
 first-says c = run-says table arrays sized c [] ∙ ap (λ (rs : List Route). reply (termsOf table arrays) rs c) (run-stood table arrays sized [])
 
 -- Demand 1: refusals of each kind.
-pub refused-make : took (made (freshTable (geo 16 27)) (bare (geo 16 27)) .said) ≡ false
+pub refused-make : accepts (made (freshTable (geo 16 27)) (bare (geo 16 27)) .said) ≡ false
 unfolding starred answer
-refused-make = ap took (make-said (freshTable (geo 16 27)) (bare (geo 16 27)) ∙ line 24)
+refused-make = ap accepts (make-said (freshTable (geo 16 27)) (bare (geo 16 27)) ∙ line 24)
 
-pub refused-load : took (loaded (t []) (l []) (1 ∷ []) .said) ≡ false
+pub refused-load : accepts (loaded (t []) (l []) (1 ∷ []) .said) ≡ false
 unfolding after done reply inputSaid
-refused-load = ap took (first-says (load (1 ∷ [])))
+refused-load = ap accepts (first-says (load (1 ∷ [])))
 
-pub refused-announce : took (announced (t entered) (l entered) (ip 10 2 2 0) 24 45 .said) ≡ false
+pub refused-announce : accepts (announced (t entered) (l entered) (ip 10 2 2 0) 24 45 .said) ≡ false
 unfolding starred answer after done
-refused-announce = ap took (line 34)
+refused-announce = ap accepts (line 34)
 
-pub refused-withdraw : took (withdrawn (t []) (l []) 0 0 .said) ≡ false
+pub refused-withdraw : accepts (withdrawn (t []) (l []) 0 0 .said) ≡ false
 unfolding after done reply withdrawFault properPrefix cut any
-refused-withdraw = ap took (first-says (withdraw 0 0))
+refused-withdraw = ap accepts (first-says (withdraw 0 0))
 
-pub refused-build : took (built (1 ∷ []) [] [] .said) ≡ false
+pub refused-build : accepts (built (1 ∷ []) [] [] .said) ≡ false
 unfolding built inputSaid
 refused-build = refl
 
@@ -106,13 +106,13 @@ unfolding starred answer image
 builtA = line 17
 
 -- both have its routes, and so the same hop at every address
-stood-A : stood (termsOf table arrays) loadedA ≡ cond (took (after table arrays loadedA .said)) (routesIn listA) []
+stood-A : stood (termsOf table arrays) loadedA ≡ cond (accepts (after table arrays loadedA .said)) (routesIn listA) []
 unfolding stood
-stood-A = ap (λ (s : Said). cond (took s) (routesIn listA) []) (sym (first-says (load listA)))
+stood-A = ap (λ (s : Said). cond (accepts s) (routesIn listA) []) (sym (first-says (load listA)))
 
 pub same-routes : routesIn listA ≡ standing (t loadedA) (l loadedA)
 unfolding starred answer
-same-routes = sym (run-stood table arrays sized loadedA ∙ stood-A ∙ ap (λ (s : Said). cond (took s) (routesIn listA) []) (line 0))
+same-routes = sym (run-stood table arrays sized loadedA ∙ stood-A ∙ ap (λ (s : Said). cond (accepts s) (routesIn listA) []) (line 0))
 
 pub same-hops : (a : ℕ) → a < 2 ^ 32 → demand2.uncounted (lookupSaid (t loadedA) (l loadedA) a)
     ≡ demand2.uncounted (treeSaid (built listA (replicate 21 0) (replicate 5 0) .words) (built listA (replicate 21 0) (replicate 5 0) .hops) a)
@@ -147,9 +147,9 @@ unfolding arrays
 formed-load = (5, goodA, omega arith)
 
 -- and a load that is accepted.
-pub loads-A : took (loaded (t []) (l []) listA .said) ≡ true
+pub loads-A : accepts (loaded (t []) (l []) listA .said) ≡ true
 unfolding starred answer after done
-loads-A = ap took (line 0)
+loads-A = ap accepts (line 0)
 
 -- One answer: outcomes that meet the statements of a lookup and of an announcement.
 pub found-A : MeetsLookup (t loadedA) (l loadedA) (ip 10 1 2 200) (found.Hop 57 3)

@@ -112,7 +112,6 @@ abbrev pub _gives_ : Asked → Said → Line
 q gives s = record { asked = q; expected = s }
 
 infix 5 _gives_
-
 unfoldable pub starred : List Line
 starred =
     -- list A is loaded; "10.1.2.200: 57, 3 cells; tree 7 nodes", "10.1.2.5: 44, 3 cells", "10.1.3.1: 31, 2 cells; tree 6 nodes",
