@@ -31,13 +31,12 @@ use Rattle.sail_theory.proofs.Loads.{load-said, load-refused}
 use Rattle.tree.specs.Walk.{saysTreeFound, treeSaid}
 use Rattle.tree.specs.declared.TreeFound.{TreeFound}
 use Rattle.tree.specs.declared.TreeFound.the-variants as treeFound
-use Rattle.tree.proofs.Walks.{saysTreeFound-injective}
 use Rattle.tree_build.specs.Built.{built}
 use Rattle.tree_build.proofs.Serves.{refused-leaves}
 use Rattle.demands.proofs.Inputs.{check-only, RunChecked, run-judged, run-only, RouteRead, route-judged, route-only}
 use Rattle.demands.proofs.Lookups.{Lookup, lookup-judged, lookup-only}
 use Rattle.demands.proofs.Builds.{Build, build-judged, build-only}
-use Rattle.demands.proofs.Walks.{OnlyThirteen, tree-thirteen}
+use Rattle.demands.proofs.Walks.{TreeLookup, tree-judged, tree-only}
 
 -- "A refusal is never a hop."
 
@@ -53,12 +52,15 @@ pub refused-no-hop-lookup : (t : Table) (l : Lent) (a : ℕ) (r : Found) → say
 unfolding saysFound
 refused-no-hop-lookup t l a r e n q = found-injective r (found.Refused n) (e ∙ q)
 
--- and in an image it is 13
+-- and in an image that number is 13
 pub refused-no-hop-tree : (ws hs : List ℕ) (a : ℕ) (r : TreeFound) → saysTreeFound r ≡ treeSaid ws hs a → (n : ℕ) → treeSaid ws hs a ≡ refused n → (n ≡ 13) × (r ≡ treeFound.Broken)
 unfolding saysTreeFound
-refused-no-hop-tree ws hs a r e n q =
-    let z : n ≡ 13 = subst OnlyThirteen q (tree-thirteen ws hs a) in
-    (z, saysTreeFound-injective r treeFound.Broken (e ∙ q ∙ ap refused z))
+refused-no-hop-tree ws hs a r e n q = go r (e ∙ q)
+  where
+    go : (r : TreeFound) → saysTreeFound r ≡ refused n → (n ≡ 13) × (r ≡ treeFound.Broken)
+    go (treeFound.Hop h k) e = absurd (let z : _≡_ {A = ℕ} 0 1 = cc in omega arith)
+    go (treeFound.NoRoute k) e = absurd (let z : _≡_ {A = ℕ} 0 1 = cc in omega arith)
+    go treeFound.Broken e = (cc, refl)
 
 -- "Carries its number": a call says s exactly where the condition that stands beside s holds. The conditions are listed in document 01's
 -- order, each with the failure of those before it; so the number is that of the first that holds.
@@ -105,6 +107,10 @@ module _ (t : Table) (l : Lent) where
   -- lookup: 1, 2, 5
   pub refused-number-lookup : (a : ℕ) (s : Said) → (lookupSaid t l a ≡ s) ↔ Lookup t l a s
   refused-number-lookup a = exactly (Lookup t l a) _ _ refl (lookup-judged t l a) (lookup-only t l a)
+
+-- lookup in an image: 13
+pub refused-number-tree-lookup : (words hops : List ℕ) (a : ℕ) (s : Said) → (treeSaid words hops a ≡ s) ↔ TreeLookup words hops a s
+refused-number-tree-lookup words hops a = exactly (TreeLookup words hops a) _ _ refl (tree-judged words hops a) (tree-only words hops a)
 
 -- "State and buffers stay exactly as they were."
 parts : (o : Out) (s : Said) (t : Table) (l : Lent) → o ≡ record { said = s; table = t; lent = l } → (o .table ≡ t) × (o .lent ≡ l)
