@@ -8,14 +8,18 @@
 use mathlib.Core.Path.{_≡_, refl, sym, _∙_, ap, subst}
 use mathlib.Core.Logic.{_↔_}
 use mathlib.Core.Bool.{false, false≢true}
-use mathlib.Core.List.{List}
+use mathlib.Core.List.{List, []}
 use Prim.Native.Nat.{ℕ}
 use native.Mathlib.Omega.{arith}
+use lib.ListN.{replicate}
 use Rattle.routes.specs.Input.{inputSaid}
 use Rattle.routes.specs.Answers.{routeSaid}
 use Rattle.routes.specs.Said.{Said, accepted, refused, refusedAt, accepts}
 use Rattle.routes.proofs.Meaning.{Checked, input-checked}
-use Rattle.lists.specs.Run.{runSaid}
+use Rattle.lists.specs.Run.{runSaid, runOf, runAt}
+use Rattle.lists.specs.Tally.{tallyOf}
+use Rattle.lists.proofs.Runs.{run-refused}
+use Rattle.lists.proofs.Tallies.{tally-refused}
 use Rattle.sail.specs.Lent.{Lent}
 use Rattle.sail.specs.Walk.{lookupSaid, saysFound}
 use Rattle.sail.specs.declared.table.Table.{Table}
@@ -61,6 +65,13 @@ refused-no-hop-tree ws hs a r e n q = go r (e ∙ q)
     go (treeFound.Hop h k) e = absurd (let z : _≡_ {A = ℕ} 0 1 = cc in omega arith)
     go (treeFound.NoRoute k) e = absurd (let z : _≡_ {A = ℕ} 0 1 = cc in omega arith)
     go treeFound.Broken e = (cc, refl)
+
+-- a refused tally holds 33 zeros, and a refused run is the empty part at the list's start
+pub refused-tally : (bytes : List ℕ) → accepts (inputSaid bytes) ≡ false → tallyOf bytes ≡ replicate 33 0
+refused-tally = tally-refused
+
+pub refused-run : (bytes : List ℕ) (a len : ℕ) → accepts (runSaid bytes a len) ≡ false → (runOf bytes a len ≡ []) × (runAt bytes a len ≡ 0)
+refused-run = run-refused
 
 -- "Carries its number": a call says s exactly where the condition that stands beside s holds. The conditions are listed in document 01's
 -- order, each with the failure of those before it; so the number is that of the first that holds.

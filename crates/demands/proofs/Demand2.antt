@@ -90,7 +90,7 @@ uncounted (accepted (n ∷ vs)) = accepted vs
 uncounted (refused k) = refused k
 uncounted (refusedAt k i) = refusedAt k i
 
-hop-alone : (n m h : ℕ) → uncounted (hopSaid n h) ≡ uncounted (hopSaid m h)
+pub hop-alone : (n m h : ℕ) → uncounted (hopSaid n h) ≡ uncounted (hopSaid m h)
 unfolding hopSaid
 hop-alone n m h = go (eqb h 0)
   where

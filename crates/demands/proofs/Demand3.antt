@@ -6,11 +6,12 @@
 -- lent then. The fresh table has t's geometry, in arrays of l's sizes; make accepts these exactly where they are right (`Sized`).
 -- docs/DEMAND3.md walks through this file. Assumes nothing.
 use mathlib.Core.Path.{_≡_, refl, ap}
-use mathlib.Core.Logic.{_⊎_, inl, inr}
+use mathlib.Core.Logic.{⊎-elim, _≢_}
 use mathlib.Core.Bool.{true, false}
 use mathlib.Core.List.{List, _∷_}
-use Prim.Native.Nat.{ℕ, _/_}
+use Prim.Native.Nat.{ℕ, _/_, _^_, _<_}
 use lib.ListN.{length}
+use Rattle.bits.specs.Slot.{slot}
 use Rattle.bits.proofs.Tests.{decided}
 use Rattle.routes.specs.Route.{Good}
 use Rattle.routes.specs.Record.{written}
@@ -20,6 +21,7 @@ use Rattle.routes.specs.declared.Route.{Route}
 use Rattle.sail.specs.Lent.{Lent}
 use Rattle.sail.specs.Sizes.{Sized}
 use Rattle.sail.specs.Sound.{Sound, standing}
+use Rattle.sail.specs.Walk.{lookupSaid}
 use Rattle.sail.specs.declared.geometry.Geometry.{Geometry}
 use Rattle.sail.specs.declared.table.Table.{Table}
 use Rattle.sail.proofs.Sounds.{standing-good}
@@ -35,6 +37,10 @@ use Rattle.sail_theory.proofs.Runs as runs
 use Rattle.sail_theory.proofs.Anew as anew
 use Rattle.sail_theory.proofs.Wanting as wanting
 use Rattle.sail_theory.proofs.Altered.{announce-alters, withdraw-alters}
+use Rattle.demands.proofs.Demand2.{uncounted}
+use Rattle.demands.proofs.Elsewhere.{announce-elsewhere, withdraw-elsewhere}
+use Rattle.demands.proofs.Replies.{reply}
+use Rattle.demands.proofs.Replies as replies
 use Rattle.demands.proofs.Wants.{ByNeed, wanting-exact, ForChunks, chunks-formed}
 
 module _ (t : Table) (l : Lent) (z : Sized (t .geometry) l) where
@@ -57,6 +63,11 @@ module _ (t : Table) (l : Lent) (z : Sized (t .geometry) l) where
 
   pub run-only : (cs : List Call) (rs : List Route) → Good rs → ((k : ℕ) → routeAt k rs ≡ worked t l cs k) → now cs ≡ rs
   run-only = runs.run-only t l z
+
+  -- What each call of a run says, "refused ones among them", follows from the routes that stand, the geometry, the room of the list and the
+  -- chunks lent: no cell is asked.
+  pub run-says : (c : Call) (cs : List Call) → after t l (c ∷ cs) .said ≡ reply (termsOf t l) (now cs) c
+  run-says = replies.run-says t l z
 
   -- "A table serves every address as one freshly loaded: same hop, same reads, as many chunks": the fresh load is that of an input which holds
   -- the standing routes, into any table of the same geometry and array sizes; it is accepted.
@@ -90,18 +101,25 @@ alters-none : (g : Geometry) (a len : ℕ) (l u : Lent) → u ≡ l → Alters g
 alters-none g a len l u e = rw e (record { first = λ q h n. refl; second = λ q h n o. refl; third = λ q h n o. refl })
 
 pub change-frame-announce : (t : Table) (l : Lent) (a len hop : ℕ) → Alters (t .geometry) a len l (announced t l a len hop .lent)
-change-frame-announce t l a len hop = go (decided (accepts (announced t l a len hop .said)))
-  where
-    go : (accepts (announced t l a len hop .said) ≡ true) ⊎ (accepts (announced t l a len hop .said) ≡ false) → Alters (t .geometry) a len l (announced t l a len hop .lent)
-    go (inl e) = announce-alters t l a len hop e
-    go (inr e) = alters-none (t .geometry) a len l _ (ap (λ (o : Out). o .lent) (announce-refused t l a len hop e))
+change-frame-announce t l a len hop =
+    ⊎-elim (announce-alters t l a len hop)
+    (λ (e : accepts (announced t l a len hop .said) ≡ false). alters-none (t .geometry) a len l _ (ap (λ (o : Out). o .lent) (announce-refused t l a len hop e)))
+    (decided (accepts (announced t l a len hop .said)))
 
 pub change-frame-withdraw : (t : Table) (l : Lent) (a len : ℕ) → Alters (t .geometry) a len l (withdrawn t l a len .lent)
-change-frame-withdraw t l a len = go (decided (accepts (withdrawn t l a len .said)))
-  where
-    go : (accepts (withdrawn t l a len .said) ≡ true) ⊎ (accepts (withdrawn t l a len .said) ≡ false) → Alters (t .geometry) a len l (withdrawn t l a len .lent)
-    go (inl e) = withdraw-alters t l a len e
-    go (inr e) = alters-none (t .geometry) a len l _ (ap (λ (o : Out). o .lent) (withdraw-refused t l a len e))
+change-frame-withdraw t l a len =
+    ⊎-elim (withdraw-alters t l a len)
+    (λ (e : accepts (withdrawn t l a len .said) ≡ false). alters-none (t .geometry) a len l _ (ap (λ (o : Out). o .lent) (withdraw-refused t l a len e)))
+    (decided (accepts (withdrawn t l a len .said)))
+
+-- So the hop of no address outside the prefix changes. (Its count of cells can, where a chunk is opened or closed above it.)
+pub change-elsewhere-announce : (t : Table) (l : Lent) (a len hop x : ℕ) → x < 2 ^ 32 → slot len x ≢ slot len a
+    → uncounted (lookupSaid (announced t l a len hop .table) (announced t l a len hop .lent) x) ≡ uncounted (lookupSaid t l x)
+change-elsewhere-announce t l a len hop x h n = announce-elsewhere t l a len x h n hop
+
+pub change-elsewhere-withdraw : (t : Table) (l : Lent) (a len x : ℕ) → x < 2 ^ 32 → slot len x ≢ slot len a
+    → uncounted (lookupSaid (withdrawn t l a len .table) (withdrawn t l a len .lent) x) ≡ uncounted (lookupSaid t l x)
+change-elsewhere-withdraw = withdraw-elsewhere
 
 -- "Load equals make and then announcing each record in order, where it is accepted": in the state and in all that is lent, and each of these
 -- announcements adds its route.

@@ -7,5 +7,6 @@ pub mod Demand1
 pub mod Demand2
 pub mod Replies
 pub mod Wants
+pub mod Elsewhere
 pub mod Demand3
 pub mod OneAnswer
