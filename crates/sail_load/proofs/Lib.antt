@@ -5,4 +5,5 @@ pub mod Makes
 pub mod Needs
 pub mod Packs
 pub mod Passes
+pub mod Renews
 pub mod Loads

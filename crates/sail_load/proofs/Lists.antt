@@ -8,7 +8,7 @@ use lib.ListN.{length, getD, List·getD-eq-default}
 use lib.Seq.{ext-getD}
 use Rattle.bits.proofs.Tests.{below?}
 use Rattle.bits.proofs.Tabs.{length-tabulate, getD-tabulate}
-use Rattle.routes.specs.Record.{written, Listed}
+use Rattle.routes.specs.Record.{written}
 use Rattle.routes.proofs.Rows.{length-routes, length-written, byte-written, zero-written, listed-written}
 use Rattle.sail_theory.specs.Calls.{inputRoutes}
 use Rattle.sail_load.specs.Fill.{padded}

@@ -1,25 +1,25 @@
 -- What load says, and what it leaves. Assumes nothing.
 use mathlib.Core.Path.{_≡_, refl, sym, _∙_, ap}
-use mathlib.Core.Bool.{Bool, true, false, cond}
+use mathlib.Core.Bool.{Bool, true, false}
 use mathlib.Core.List.{List, [], _∷_}
-use Prim.Native.Nat.{ℕ, _*_, _/_, _<_, _≤_}
+use Prim.Native.Nat.{ℕ, _/_, _<_, _≤_}
 use native.Mathlib.Omega.{arith}
 use lib.ListN.{length}
 use borrow.Author.Tests.{lt-ltb, le-ltb}
 use Rattle.routes.specs.Route.{need}
-use Rattle.routes.specs.Record.{routesOf, Records}
+use Rattle.routes.specs.Record.{routesOf}
 use Rattle.routes.specs.declared.Route.{Route}
-use Rattle.routes.specs.Said.{Said, accepted, refused, refusedAt}
+use Rattle.routes.specs.Said.{accepted, refused, refusedAt}
 use Rattle.routes.specs.Input.{inputSaid}
 use Rattle.routes.proofs.Rows.{length-routes}
 use Rattle.routes.proofs.Meaning.{input-good}
 use Rattle.sail.specs.Lent.{Lent}
-use Rattle.sail.specs.Sizes.{sizesFault, Sized, Checked}
+use Rattle.sail.specs.Sizes.{sizesFault, Checked}
 use Rattle.sail.specs.declared.geometry.Geometry.{Geometry}
 use Rattle.sail.specs.declared.table.Table.{Table}
 use Rattle.sail_theory.specs.Render.{roomOf}
 use Rattle.sail_theory.specs.Calls.{chunksFault, loadFault, loadSaid, took, loaded, inputRoutes}
-use Rattle.sail_theory.proofs.Loads.{took-loadable, load-is, load-off}
+use Rattle.sail_theory.proofs.Loads.{took-loadable, loadable-said, load-is, load-off}
 use Rattle.sail_load.specs.Answers.{out, saysLoaded}
 use Rattle.sail_load.specs.Need.{terms, Weighs}
 use Rattle.sail_load.specs.Renew.{Renewable, anew}
@@ -104,7 +104,9 @@ module _ (t : Table) (l : Lent) (input : List ℕ) (a : Loaded) (b : Bool) (told
     pub load-loads : (v : Lent) → v ≡ anew t l input → out (saysLoaded a) (record { geometry = t .geometry; count = length input / 8 }) v ≡ loaded t l input
     load-loads v e =
         let w = took-loadable t l input accepted-said in
-        ?
+        let said : saysLoaded a ≡ accepted [] = told ∙ loadable-said t l input (w .0) (w .1) in
+        let n = length-routes input (length input / 8) in
+        (λ i. record { said = said i; table = record { geometry = t .geometry; count = sym n i }; lent = e i }) ∙ sym (load-is t l input (w .0) (w .1))
 
 -- two answers that are told the same are the same
 pub loaded-injective : (x y : Loaded) → saysLoaded x ≡ saysLoaded y → x ≡ y

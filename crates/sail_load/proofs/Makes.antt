@@ -1,11 +1,11 @@
 -- What make leaves and says. Assumes nothing.
-use mathlib.Core.Path.{_≡_, refl, sym, _∙_, ap}
+use mathlib.Core.Path.{_≡_, refl, sym, _∙_}
 use mathlib.Core.List.{List, []}
 use Prim.Native.Nat.{ℕ, zero, suc}
 use lib.ListN.{length, replicate}
 use Rattle.routes.specs.Said.{Said, accepted, refused}
 use Rattle.sail.specs.Lent.{Lent, lent}
-use Rattle.sail.specs.Sizes.{sizesFault, Sized, Checked}
+use Rattle.sail.specs.Sizes.{Checked}
 use Rattle.sail.specs.Sound.{freshTable, freshLent}
 use Rattle.sail.specs.declared.table.Table.{Table}
 use Rattle.plan.specs.Paint.{filled}

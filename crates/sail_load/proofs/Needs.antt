@@ -1,23 +1,22 @@
 -- The need of an ascending list, counted route by route. Assumes nothing.
 use mathlib.Core.Path.{_≡_, refl, sym, _∙_, ap, subst}
 use mathlib.Core.Logic.{_⊎_, inl, inr, _≢_}
-use mathlib.Core.Bool.{Bool, true, false, true≢false, false≢true}
+use mathlib.Core.Bool.{true, false, true≢false, false≢true}
 use mathlib.Core.List.{List, [], _∷_, _++_, List·Memᴰ}
-use Prim.Native.Nat.{ℕ, suc, _+_, _-_, _*_, _/_, _^_, _≤_, _<_}
+use Prim.Native.Nat.{ℕ, suc, _+_, _-_, _≤_, _<_}
 use native.Mathlib.Omega.{arith}
 use native.Mathlib.Numerals.{add-one}
 use lib.Dec.{eqb, ltb}
 use lib.Pow.{shr-mono}
-use borrow.Author.Tests.{ltb-true, eqb-true, lt-ltb, le-ltb}
+use borrow.Author.Tests.{eqb-true, lt-ltb, le-ltb}
 use Rattle.bits.specs.Slot.{slot}
 use Rattle.bits.specs.Tab.{tabulate}
 use Rattle.bits.proofs.Tests.{and-split, untrue, equal?}
 use Rattle.bits.proofs.Tabs.{tabulate-snoc}
 use Rattle.routes.specs.Route.{key, within, any, long, need, Fine, Good}
-use Rattle.routes.specs.Record.{recordAt, routesOf, noRoute, Records}
+use Rattle.routes.specs.Record.{recordAt, routesOf, Records}
 use Rattle.routes.specs.Standing.{insert}
 use Rattle.routes.specs.declared.Route.{Route}
-use Rattle.routes.proofs.Goods.{good-fine}
 use Rattle.routes.proofs.Rows.{listed-nth, nth-route, length-routes, records-good}
 use Rattle.sail_theory.proofs.Ends.{insert-end, any-some}
 use Rattle.sail_theory.proofs.Needs.{long-own, long-other, long-short, need-more, need-same}

@@ -1,24 +1,21 @@
 -- Chunks in use come first: what hanging one more leaves. Assumes nothing.
-use mathlib.Core.Path.{_≡_, refl, sym, _∙_, ap}
+use mathlib.Core.Path.{_≡_, sym, _∙_, ap}
 use mathlib.Core.Logic.{_⊎_, inl, inr, _≢_}
-use mathlib.Core.Bool.{true, false}
 use mathlib.Core.List.{List}
-use Prim.Native.Nat.{ℕ, suc, _+_, _-_, _*_, _/_, _%_, _^_, _≤_, _<_}
+use Prim.Native.Nat.{ℕ, suc, _+_, _-_, _*_, _%_, _^_, _≤_, _<_}
 use native.Mathlib.Omega.{arith}
 use native.Mathlib.Nat.{mod-lt, mul-le-mul-right}
-use lib.Dec.{ltb}
 use lib.ListN.{length, getD, set, length-set}
 use lib.Seq.{getD-set-same, getD-set-other}
 use borrow.Author.Tests.{lt-ltb, le-ltb}
 use Rattle.bits.specs.Slot.{slot}
-use Rattle.bits.specs.Tab.{Tells}
 use Rattle.bits.proofs.Tests.{below?, equal?}
 use Rattle.routes.specs.declared.Route.{Route}
-use Rattle.sail.specs.Geometry.{bits2, Valid, Power}
+use Rattle.sail.specs.Geometry.{bits2, Power}
 use Rattle.sail.specs.Level.{entry}
 use Rattle.sail.specs.declared.geometry.Geometry.{Geometry}
 use Rattle.sail_theory.specs.Render.{find}
-use Rattle.sail_theory.specs.Calls.{grant, placeIn, openAt2, openAt3, open2, open3}
+use Rattle.sail_theory.specs.Calls.{grant, placeIn, openAt2, openAt3, open2}
 use Rattle.sail_theory.proofs.Chunks.{chunk-is, chunk-none}
 use Rattle.sail_theory.proofs.Stores.{grant-had, grant-new}
 use Rattle.sail_theory.proofs.Opens.{find-hung}

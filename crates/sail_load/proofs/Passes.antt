@@ -1,14 +1,13 @@
 -- The pass over the records of a load: after the first k of them the owners are those of announcing these k in order. Assumes nothing.
 use mathlib.Core.Path.{_≡_, refl, sym, _∙_, ap, subst}
 use mathlib.Core.Logic.{_⊎_, inl, inr}
-use mathlib.Core.Bool.{true, false}
+use mathlib.Core.Bool.{true}
 use mathlib.Core.List.{List, [], _∷_, _++_}
-use Prim.Native.Nat.{ℕ, suc, _+_, _-_, _*_, _/_, _%_, _^_, _≤_, _<_}
+use Prim.Native.Nat.{ℕ, suc, _+_, _-_, _*_, _/_, _^_, _≤_, _<_}
 use native.Mathlib.Omega.{arith}
 use native.Mathlib.Numerals.{add-one}
 use native.Mathlib.Nat.{mul-le-mul-left, mul-le-mul-right, le-trans}
-use lib.Dec.{ltb}
-use lib.ListN.{length, getD, set, replicate, take, drop, length-replicate}
+use lib.ListN.{length, getD, replicate, take, drop, length-replicate}
 use lib.Pow.{pow-mono}
 use lib.Seq.{take-suc, drop-cons, take-all, set-out}
 use borrow.Author.Tests.{lt-ltb}
@@ -16,7 +15,7 @@ use Rattle.bits.specs.Slot.{slot}
 use Rattle.bits.proofs.Slots.{slot-lt}
 use Rattle.bits.proofs.Tests.{below?}
 use Rattle.routes.specs.Route.{long, need, Fine, Good}
-use Rattle.routes.specs.Record.{recordAt, noRoute, Records}
+use Rattle.routes.specs.Record.{recordAt, noRoute}
 use Rattle.routes.specs.declared.Route.{Route}
 use Rattle.routes.proofs.Rows.{length-routes, nth-route, records-good}
 use Rattle.sail.specs.Geometry.{bits2, bits3, Valid}
@@ -24,12 +23,12 @@ use Rattle.sail.specs.Lent.{Lent, lent}
 use Rattle.sail.specs.Sizes.{Sized}
 use Rattle.sail.specs.declared.geometry.Geometry.{Geometry}
 use Rattle.sail.specs.declared.table.Table.{Table}
-use Rattle.sail_theory.specs.Render.{find, at2}
-use Rattle.sail_theory.specs.Calls.{Owners, grant, placeIn, openAt2, openAt3, open2, open3, opened, settled, noOwners, inputRoutes}
+use Rattle.sail_theory.specs.Render.{find}
+use Rattle.sail_theory.specs.Calls.{Owners, grant, placeIn, openAt2, openAt3, open2, opened, settled, noOwners, inputRoutes}
 use Rattle.sail_theory.specs.Facts.{Loadable}
 use Rattle.sail_theory.proofs.Ends.{good-front, good-next, good-below, insert-end}
 use Rattle.sail_theory.proofs.Fresh.{zeros}
-use Rattle.sail_theory.proofs.Grown.{length-open2, length-open3, chunk2-lt, place-in, place-live2, place-at2}
+use Rattle.sail_theory.proofs.Grown.{chunk2-lt, place-in, place-live2, place-at2}
 use Rattle.sail_theory.proofs.Loads.{Fronts, fronts-none, fronts-next}
 use Rattle.sail_theory.proofs.Needs.{long-own}
 use Rattle.sail_theory.proofs.Stores.{grant-new, length-grant}

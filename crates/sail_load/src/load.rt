@@ -97,20 +97,20 @@ pub fn load(
     ensures { λ r. ⌜ out (saysLoaded (r .answer)) (r .table) (lent (now (list .exit)) (now (first .exit)) (now (second .exit)) (now (third .exit)) (now (own2 .exit)) (now (own3 .exit))) ≡ loaded t (lent (now (list .entry)) (now (first .entry)) (now (second .entry)) (now (third .entry)) (now (own2 .entry)) (now (own3 .entry))) (now (input .entry)) ⌝ }
 {
     let answer = judge(t, input, list, first, second, third, own2, own3);
-    if !accepts(answer) {
+    if accepts(answer) {
+        renew(t, input, list, first, second, third, own2, own3);
+        let g = t.geometry;
+        let count = (input.len() / 8) as u32;
         return Changed {
             answer,
-            table: t,
+            table: Table {
+                geometry: g,
+                count,
+            },
         };
     }
-    let g = t.geometry;
-    renew(t, input, list, first, second, third, own2, own3);
-    let count = (input.len() / 8) as u32;
     Changed {
         answer,
-        table: Table {
-            geometry: g,
-            count,
-        },
+        table: t,
     }
 }

@@ -1,7 +1,6 @@
 // All that is lent, written anew for the routes of an input: nothing of what it held is read.
 ghost use mathlib.Core.Path.{_≡_};
 ghost use mathlib.Core.List.{[]};
-ghost use lib.ListN.{length};
 ghost use Rattle.sail.specs.Lent.{lent};
 ghost use Rattle.sail_paint.specs.Stale.{Repainted};
 ghost use Rattle.sail_theory.specs.Calls.{inputRoutes};

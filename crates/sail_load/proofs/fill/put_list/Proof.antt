@@ -1,5 +1,4 @@
 -- `sail_load::fill::put_list` meets its contract. Assumes nothing.
-use mathlib.Core.Path.{_≡_, _∙_}
 use borrow.Author.Needs.{needs}
 use Rattle.sail_load.proofs.Fills.{put-list-is}
 use Rattle.sail_load.proofs.fill.put_list.Statement.{statement}

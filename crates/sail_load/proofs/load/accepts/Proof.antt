@@ -3,8 +3,6 @@ use borrow.Author.Needs.{needs}
 use Rattle.sail_load.specs.Answers.{saysLoaded}
 use Rattle.sail_load.proofs.load.accepts.Statement.{statement}
 use Rattle.sail_load.proofs.load.accepts.Tie as tie
-use Rattle.sail_load.proofs.load.accepts.Reads as reads
-use Rattle.sail_load.proofs.load.accepts.Lts as lts
 
 pub accepts-spec : {M : Type 1} → statement M
 unfolding saysLoaded

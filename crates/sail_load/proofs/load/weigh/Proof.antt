@@ -1,11 +1,8 @@
 -- `sail_load::load::weigh` meets its contract. Assumes nothing.
-use native.Mathlib.Omega.{arith}
 use borrow.Author.Needs.{needs}
 use Rattle.sail_load.proofs.Loads.{weigh-six, weigh-seven, weigh-eight, weigh-none}
 use Rattle.sail_load.proofs.load.weigh.Statement.{statement}
 use Rattle.sail_load.proofs.load.weigh.Tie as tie
-use Rattle.sail_load.proofs.load.weigh.Reads as reads
-use Rattle.sail_load.proofs.load.weigh.Lts as lts
 
 pub weigh-spec : {M : Type 1} → statement M
 weigh-spec =

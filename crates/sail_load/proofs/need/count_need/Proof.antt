@@ -7,8 +7,6 @@ use Rattle.routes.specs.Record.{routesOf}
 use Rattle.sail_load.proofs.Needs.{Counted, counts-none, counts-short, counts-again, counts-new}
 use Rattle.sail_load.proofs.need.count_need.Statement.{statement}
 use Rattle.sail_load.proofs.need.count_need.Tie as tie
-use Rattle.sail_load.proofs.need.count_need.Reads as reads
-use Rattle.sail_load.proofs.need.count_need.Lts as lts
 
 abbrev Inv-loop : tie.InvT-loop
 Inv-loop list n p m₀ last₀ k₀ m last k = (k ≤ n) × (m ≤ k) × Counted (routesOf list k) p m last

@@ -1,13 +1,10 @@
 -- `sail_load::owners::hang` meets its contract. Assumes nothing.
-use mathlib.Core.Path.{_≡_, sym, _∙_}
+use mathlib.Core.Path.{sym, _∙_}
 use mathlib.Core.Bool.{true≢false}
-use native.Mathlib.Omega.{arith}
 use borrow.Author.Needs.{needs}
 use Rattle.sail_load.proofs.Packs.{room, hung-had, hung-new}
 use Rattle.sail_load.proofs.owners.hang.Statement.{statement}
 use Rattle.sail_load.proofs.owners.hang.Tie as tie
-use Rattle.sail_load.proofs.owners.hang.Reads as reads
-use Rattle.sail_load.proofs.owners.hang.Lts as lts
 
 pub hang-spec : {M : Type 1} → statement M
 hang-spec =

@@ -5,8 +5,6 @@ use borrow.Author.Needs.{needs}
 use borrow.Author.Tests.{eqb-true, eq-eqb}
 use Rattle.sail_load.proofs.owners.last_is.Statement.{statement}
 use Rattle.sail_load.proofs.owners.last_is.Tie as tie
-use Rattle.sail_load.proofs.owners.last_is.Reads as reads
-use Rattle.sail_load.proofs.owners.last_is.Lts as lts
 
 pub last-is-spec : {M : Type 1} → statement M
 last-is-spec =

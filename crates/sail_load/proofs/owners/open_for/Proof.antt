@@ -4,8 +4,6 @@ use borrow.Author.Needs.{needs}
 use Rattle.sail_load.proofs.Packs.{hangs-second, opened-none, chunk-second, opened-second, hangs-third, opened-third}
 use Rattle.sail_load.proofs.owners.open_for.Statement.{statement}
 use Rattle.sail_load.proofs.owners.open_for.Tie as tie
-use Rattle.sail_load.proofs.owners.open_for.Reads as reads
-use Rattle.sail_load.proofs.owners.open_for.Lts as lts
 
 pub open-for-spec : {M : Type 1} → statement M
 open-for-spec =

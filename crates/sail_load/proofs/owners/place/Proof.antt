@@ -4,8 +4,6 @@ use borrow.Author.Needs.{needs}
 use Rattle.sail_load.proofs.Packs.{place-at, place-few}
 use Rattle.sail_load.proofs.owners.place.Statement.{statement}
 use Rattle.sail_load.proofs.owners.place.Tie as tie
-use Rattle.sail_load.proofs.owners.place.Reads as reads
-use Rattle.sail_load.proofs.owners.place.Lts as lts
 
 pub place-spec : {M : Type 1} → statement M
 place-spec =

@@ -1,13 +1,9 @@
 -- `sail_load::owners::settle_owners` meets its contract. The invariant: the owners of the records passed. Assumes nothing.
-use mathlib.Core.Path.{_≡_}
-use Prim.Native.Nat.{_-_, _/_, _≤_}
+use Prim.Native.Nat.{_-_, _≤_}
 use native.Mathlib.Omega.{arith}
-use borrow.Author.Needs.{needs}
 use Rattle.sail_load.proofs.Passes.{Passed, passed-none, passed-opens, passed-more, passed-all}
 use Rattle.sail_load.proofs.owners.settle_owners.Statement.{statement}
 use Rattle.sail_load.proofs.owners.settle_owners.Tie as tie
-use Rattle.sail_load.proofs.owners.settle_owners.Reads as reads
-use Rattle.sail_load.proofs.owners.settle_owners.Lts as lts
 
 abbrev Inv-loop : tie.InvT-loop
 Inv-loop g input own2₀ own3₀ n used₀ k₀ own2 own3 used k = (k ≤ n) × Passed g input own2₀ own3₀ k own2 own3 used
