@@ -5,4 +5,3 @@ pub mod make;
 pub mod need;
 pub mod owners;
 pub mod renew;
-mod standin;

@@ -13,7 +13,7 @@ use chain::cover::ready;
 use chain::words::decode;
 use sail::geometry::Geometry;
 use sail::table::Table;
-use crate::standin::repaint;
+use sail_paint::repaint::repaint;
 
 // The cells of the three levels, where both pools are zero and the owners fit the input's routes. `ws` and `par` are room
 // for its words and their chain.
