@@ -34,7 +34,8 @@ fn last_is(own: &[u32], m: usize, o: u32) -> bool
 // A chunk hangs from the place q: the last in use, or a new one. Says how many are then in use.
 fn hang(own: &mut [u32], m: usize, q: u32) -> usize
     requires { ⌜ Hangs (now own) m q ⌝ }
-    ensures { λ r. ⌜ Hung (now (own .entry)) q (now (own .exit)) r ⌝ }
+    requires { ⌜ q < 4294967295 ⌝ }
+    ensures { λ r. ⌜ Hung (now (own .entry)) m q (now (own .exit)) r ⌝ }
 {
     let o = q + 1;
     if last_is(own, m, o) {
