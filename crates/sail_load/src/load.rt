@@ -104,14 +104,8 @@ pub fn load(
         let count = (input.len() / 8) as u32;
         return Changed {
             answer,
-            table: Table {
-                geometry: g,
-                count,
-            },
+            table: Table { geometry: g, count },
         };
     }
-    Changed {
-        answer,
-        table: t,
-    }
+    Changed { answer, table: t }
 }

@@ -55,13 +55,7 @@ fn place(g: Geometry, c: usize, addr: u32) -> u32
 }
 
 // Opens the chunks of a route that comes after all those before it.
-fn open_for(
-    g: Geometry,
-    r: Route,
-    used: InUse,
-    own2: &mut [u32],
-    own3: &mut [u32],
-) -> InUse
+fn open_for(g: Geometry, r: Route, used: InUse, own2: &mut [u32], own3: &mut [u32]) -> InUse
     requires { ⌜ Opens g r used (now own2) (now own3) ⌝ }
     ensures { λ u. ⌜ Opened g r (now (own2 .entry)) (now (own3 .entry)) u (now (own2 .exit)) (now (own3 .exit)) ⌝ }
 {

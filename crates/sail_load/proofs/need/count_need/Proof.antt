@@ -30,22 +30,26 @@ count-need-spec =
     (λ c. omega (arith, c .before .before .before .before .before .before .before .before .before .pre .records .few))
     (λ c. omega arith)
     (λ c.
-        let l = c .before .before .before .before .before .before .before .loop in
-        let q = c .before .before .before .before .before .before .before .before .before .pre in
-        (omega arith, omega arith,
-        counted-new _ _ _ _ _ _ (q .records) (omega arith) (q .level) (l .inv .2) _ (c .before .before .before .before .before .read-record .ensures) (omega arith) _ (c .before .wide64 .ensures ∙ c .before .before .slot .ensures) (c .if2 .taken)))
+    let l = c .before .before .before .before .before .before .before .loop in
+    let q = c .before .before .before .before .before .before .before .before .before .pre in (
+      omega arith,
+      omega arith,
+      counted-new _ _ _ _ _ _ (q .records) (omega arith) (q .level) (l .inv .2) _ (c .before .before .before .before .before .read-record .ensures) (omega arith) _ (c .before .wide64 .ensures ∙ c .before .before .slot .ensures) (c .if2 .taken),
+    ))
     (λ c. omega arith)
     (λ c.
-        let l = c .before .before .before .before .before .before .before .loop in
-        let q = c .before .before .before .before .before .before .before .before .before .pre in
-        (omega arith, omega arith,
-        counted-had _ _ _ _ _ _ (q .records) (omega arith) (q .level) (l .inv .2) _ (c .before .before .before .before .before .read-record .ensures) (omega arith) _ (c .before .wide64 .ensures ∙ c .before .before .slot .ensures) (c .if2 .left)))
+    let l = c .before .before .before .before .before .before .before .loop in
+    let q = c .before .before .before .before .before .before .before .before .before .pre in (
+      omega arith,
+      omega arith,
+      counted-had _ _ _ _ _ _ (q .records) (omega arith) (q .level) (l .inv .2) _ (c .before .before .before .before .before .read-record .ensures) (omega arith) _ (c .before .wide64 .ensures ∙ c .before .before .slot .ensures) (c .if2 .left),
+    ))
     (λ c. omega arith)
     (λ c.
-        let l = c .before .before .before .before .loop in
-        let q = c .before .before .before .before .before .before .pre in
-        (omega arith, omega arith, counted-short _ _ _ _ _ _ (q .records) (omega arith) (q .level) (l .inv .2) _ (c .before .before .read-record .ensures) (omega arith)))
+    let l = c .before .before .before .before .loop in
+    let q = c .before .before .before .before .before .before .pre in
+    (omega arith, omega arith, counted-short _ _ _ _ _ _ (q .records) (omega arith) (q .level) (l .inv .2) _ (c .before .before .read-record .ensures) (omega arith)))
     (λ c.
-        let l = c .before .loop in
-        let e : l .k ≡ c .before .before .before .args .n = omega arith in
-        (rw (← e) (l .inv .2 .number), omega arith)))
+    let l = c .before .loop in
+    let e : l .k ≡ c .before .before .before .args .n = omega arith in
+    (rw (← e) (l .inv .2 .number), omega arith)))
