@@ -4,6 +4,7 @@ mod inputs;
 mod print;
 mod runs;
 mod samples;
+mod tables;
 
 fn main() {
     inputs::run();
@@ -14,4 +15,7 @@ fn main() {
     images::list_a();
     images::sizes();
     images::broken();
+    tables::list_a();
+    tables::states();
+    tables::damaged();
 }
