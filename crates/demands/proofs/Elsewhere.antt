@@ -45,8 +45,8 @@ module _ (t : Table) (l : Lent) (a len x : ℕ) (small : x < 2 ^ 32) (off : slot
   announce-elsewhere hop =
       ⊎-elim
       (λ (e : accepts (announced t l a len hop .said) ≡ true).
-          let w = accepted-welcome t l a len hop (sym (ap accepts (announce-said t l a len hop)) ∙ e) in
-          changed (w .sound) _ _ _ (announce-holds t l a len hop e) (insert-but (route a len hop) (standing t l) (w .fine) (standing-good t l (w .sound))))
+      let w = accepted-welcome t l a len hop (sym (ap accepts (announce-said t l a len hop)) ∙ e) in
+      changed (w .sound) _ _ _ (announce-holds t l a len hop e) (insert-but (route a len hop) (standing t l) (w .fine) (standing-good t l (w .sound))))
       (λ (e : accepts (announced t l a len hop .said) ≡ false). same _ _ (announce-refused t l a len hop e))
       (decided (accepts (announced t l a len hop .said)))
 
@@ -54,7 +54,7 @@ module _ (t : Table) (l : Lent) (a len x : ℕ) (small : x < 2 ^ 32) (off : slot
   withdraw-elsewhere =
       ⊎-elim
       (λ (e : accepts (withdrawn t l a len .said) ≡ true).
-          let w = accepted-farewell t l a len (sym (ap accepts (withdraw-said t l a len)) ∙ e) in
-          changed (w .sound) _ _ _ (withdraw-holds t l a len e) (remove-but a len (standing t l) (w .prefix .len-ok) (standing-good t l (w .sound))))
+      let w = accepted-farewell t l a len (sym (ap accepts (withdraw-said t l a len)) ∙ e) in
+      changed (w .sound) _ _ _ (withdraw-holds t l a len e) (remove-but a len (standing t l) (w .prefix .len-ok) (standing-good t l (w .sound))))
       (λ (e : accepts (withdrawn t l a len .said) ≡ false). same _ _ (withdraw-refused t l a len e))
       (decided (accepts (withdrawn t l a len .said)))
