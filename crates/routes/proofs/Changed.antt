@@ -7,7 +7,7 @@ use Prim.Native.Nat.{ℕ, suc, _+_, _*_, _/_, _^_, _≤_, _<_}
 use native.Mathlib.Omega.{arith}
 use lib.Dec.{eqb, ltb}
 use lib.ListN.{length}
-use borrow.Author.Tests.{eqb-true, eqb-false, ne-eqb, eq-eqb, le-ltb, lt-ltb}
+use borrow.Author.Tests.{eqb-true, ne-eqb}
 use Rattle.bits.specs.Slot.{slot}
 use Rattle.bits.proofs.Tests.{decided, or-none}
 use Rattle.routes.specs.Route.{any, long, best, key, keyOf, Fine, Good}
@@ -39,12 +39,17 @@ module _ (a l : ℕ) (rs : List Route) (w : l ≤ 32) (g : Good rs) (p i : ℕ) 
 pub insert-adds : (r : Route) (rs : List Route) → stands (key r) rs ≡ false → length (insert r rs) ≡ suc (length rs)
 unfolding insert any
 insert-adds r [] e = refl
-insert-adds r (s ∷ ss) e = go (decided (ltb (key r) (key s))) (or-none (isAt (key r) s) (stands (key r) ss) e) (insert-adds r ss)
+insert-adds r (x ∷ xs) e = let n = or-none (isAt (key r) x) (any (isAt (key r)) xs) e in rw (n .0) (go (ltb (key r) (key x)) (insert-adds r xs (n .1)))
   where
-    go : (ltb (key r) (key s) ≡ true) ⊎ (ltb (key r) (key s) ≡ false) → (isAt (key r) s ≡ false) × (stands (key r) ss ≡ false) → (stands (key r) ss ≡ false → length (insert r ss) ≡ suc (length ss))
-        → length (cond (ltb (key r) (key s)) (r ∷ s ∷ ss) (cond (eqb (key s) (key r)) (r ∷ ss) (s ∷ insert r ss))) ≡ suc (suc (length ss))
-    go (inl b) n ih = rw b
-    go (inr b) n ih = rw (b, n .0) (ap suc (ih (n .1)))
+    go : (b : Bool) → length (insert r xs) ≡ suc (length xs) → length (cond b (r ∷ x ∷ xs) (x ∷ insert r xs)) ≡ suc (suc (length xs))
+    go true ih = refl
+    go false ih = ap suc ih
+
+-- nothing is taken out where it did not stand
+pub remove-absent : (p : ℕ) (rs : List Route) → stands p rs ≡ false → remove p rs ≡ rs
+unfolding remove any
+remove-absent p [] e = refl
+remove-absent p (x ∷ xs) e = let n = or-none (isAt p x) (any (isAt p) xs) e in rw (n .0, remove-absent p xs (n .1))
 
 none-later : (k : ℕ) (rs : List Route) → ((s : Route) → List·Memᴰ s rs → k < key s) → remove k rs ≡ rs
 unfolding remove

@@ -40,7 +40,7 @@ here-within p k j h r e =
     both (lt-ltb p (r .len) (omega arith)) (eq-eqb _ _ (sym (slot-up p (suc k) (r .addr) h) ∙ ap (λ (n : ℕ). n / 2 ^ suc k) c))
 
 -- and so does one that lies within a cell k levels down
-within-up : (p k j : ℕ) → p + k ≤ 32 → (r : Route) → within (p + k) j r ≡ true → within p (j / 2 ^ k) r ≡ true
+pub within-up : (p k j : ℕ) → p + k ≤ 32 → (r : Route) → within (p + k) j r ≡ true → within p (j / 2 ^ k) r ≡ true
 within-up p k j h r e =
     let s = and-split (ltb (p + k) (r .len)) (eqb (slot (p + k) (r .addr)) j) e in
     let l : p + k < r .len = ltb-true _ _ (s .0) in

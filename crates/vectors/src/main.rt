@@ -1,10 +1,21 @@
 // Runs worked cases and prints what they give. The file stdout has what document 01 says of them.
+mod images;
 mod inputs;
 mod print;
+mod runs;
 mod samples;
+mod tables;
 
 fn main() {
     inputs::run();
     inputs::refusals();
     inputs::most();
+    runs::run();
+    runs::tallies();
+    images::list_a();
+    images::sizes();
+    images::broken();
+    tables::list_a();
+    tables::states();
+    tables::damaged();
 }

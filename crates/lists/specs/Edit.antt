@@ -1,0 +1,96 @@
+-- A list of records that is changed in place: how its bytes move, what a change asks, and what the list then holds.
+-- Assumes nothing.
+use Prim.Native.Nat.{ℕ, _+_, _-_, _*_, _/_, _≤_, _<_}
+use mathlib.Core.Bool.{Bool, true, false, cond, _&&_}
+use mathlib.Core.List.{List}
+use mathlib.Core.Path.{_≡_}
+use lib.Dec.{leb, ltb}
+use lib.ListN.{length, getD}
+use Rattle.bits.specs.Tab.{tabulate}
+use Rattle.routes.specs.Route.{key, Fine}
+use Rattle.routes.specs.Standing.{stands, insert, remove}
+use Rattle.routes.specs.Record.{recordAt, routesOf, written, Records, Listed}
+use Rattle.routes.specs.declared.Route.{Route}
+use Rattle.lists.specs.Place.{placeOf}
+use Rattle.lists.specs.declared.edit.Put.{Put}
+use Rattle.lists.specs.declared.edit.Put.the-variants as put
+
+-- s, where each byte from a on and before e is drawn from another place of s
+unfoldable pub drawn : List ℕ → ℕ → ℕ → (ℕ → ℕ) → List ℕ
+drawn s a e from = tabulate (length s) (λ j. cond (leb a j && ltb j e) (getD s (from j) 0) (getD s j 0))
+
+-- the bytes from a on and before e, moved up by one record
+abbrev pub movedUp : List ℕ → ℕ → ℕ → List ℕ
+movedUp s a e = drawn s (a + 8) (e + 8) (λ j. j - 8)
+
+-- the bytes from a on and before e become those one record further on
+abbrev pub movedDown : List ℕ → ℕ → ℕ → List ℕ
+movedDown s a e = drawn s a e (λ j. j + 8)
+
+-- the bytes of a list that holds n routes, with r put in, or without the route of a prefix: the array stays as long
+abbrev pub inserted : List ℕ → ℕ → Route → List ℕ
+inserted s n r = written (insert r (routesOf s n)) (length s / 8)
+
+abbrev pub removed : List ℕ → ℕ → ℕ → List ℕ
+removed s n p = written (remove p (routesOf s n)) (length s / 8)
+
+-- r belongs before record k of the n in the list, and there is room for it
+pub record InsertAt (s : List ℕ) (n k : ℕ) (r : Route) : Type 0 where
+  pub listed : Listed s n
+  pub room : (n + 1) * 8 ≤ length s
+  pub place : k ≤ n
+  pub before : (i : ℕ) → i < k → key (recordAt s i) < key r
+  pub after : k < n → key r < key (recordAt s k)
+
+-- record k has r's prefix
+pub record ReplaceAt (s : List ℕ) (n k : ℕ) (r : Route) : Type 0 where
+  pub listed : Listed s n
+  pub place : k < n
+  pub same : key (recordAt s k) ≡ key r
+
+-- there is a record k
+pub record RemoveAt (s : List ℕ) (n k : ℕ) : Type 0 where
+  pub listed : Listed s n
+  pub place : k < n
+
+-- k is the place of the key p among n records
+pub record Placed (s : List ℕ) (n k p : ℕ) : Type 0 where
+  pub records : Records s n
+  pub place : k ≡ placeOf s n p
+
+-- r can be put into the list: there is room for one record more, unless r's prefix stands
+pub record Insertable (s : List ℕ) (n : ℕ) (r : Route) : Type 0 where
+  pub listed : Listed s n
+  pub fine : Fine r
+  pub room : stands (key r) (routesOf s n) ≡ false → (n + 1) * 8 ≤ length s
+
+-- what a change tells, whether a route of the prefix stood before it, and the list that it leaves
+pub record Edited : Type 0 where
+  pub stood : Bool
+  pub list : List ℕ
+
+abbrev pub edited : Bool → List ℕ → Edited
+edited b s = record { stood = b; list = s }
+
+abbrev pub inserting : List ℕ → ℕ → Route → Edited
+inserting s n r = edited (stands (key r) (routesOf s n)) (inserted s n r)
+
+abbrev pub removing : List ℕ → ℕ → ℕ → Edited
+removing s n p = edited (stands p (routesOf s n)) (removed s n p)
+
+-- whether a route of the prefix stood before
+unfoldable pub saysPut : Put → Bool
+saysPut put.Added = false
+saysPut put.Replaced = true
+
+-- how many routes stand with a route put in, and with one taken out, where n stood: by whether one of the prefix was among them
+abbrev pub countWith : Bool → ℕ → ℕ
+countWith b n = cond b n (n + 1)
+
+abbrev pub countWithout : Bool → ℕ → ℕ
+countWithout b n = cond b (n - 1) n
+
+-- the list holds n routes, and they are rs
+pub record Holds (s : List ℕ) (n : ℕ) (rs : List Route) : Type 0 where
+  pub listed : Listed s n
+  pub routes : routesOf s n ≡ rs

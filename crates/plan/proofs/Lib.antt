@@ -1,0 +1,9 @@
+-- Painting in list order is right; and what joins the code to that.
+pub mod Plans
+pub mod Runs
+pub mod Fills
+pub mod Ranges
+pub mod Tells
+pub mod Settles
+pub mod Rights
+pub mod Unders

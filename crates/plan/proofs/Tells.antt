@@ -1,0 +1,25 @@
+-- Answers that tell whether something holds. Assumes nothing.
+use mathlib.Core.Path.{refl}
+use mathlib.Core.Bool.{Bool, true, false, false≢true}
+use Prim.Native.Nat.{ℕ, _+_, _<_}
+use native.Mathlib.Omega.{arith}
+use borrow.Author.Count.{below-more}
+use Rattle.bits.specs.Tab.{Tells}
+
+pub is-no : {P : Type 0} → (P → ⊥) → Tells false P
+is-no f = (λ e. absurd (false≢true e), λ x. absurd (f x))
+
+pub is-yes : {P : Type 0} → P → Tells true P
+is-yes x = (λ e. x, λ y. refl)
+
+-- what is told of one thing is told of another that holds at the same time
+pub tells-same : {P Q : Type 0} {b : Bool} → (P → Q) → (Q → P) → Tells b P → Tells b Q
+tells-same f g t = (λ e. f (t .0 e), λ q. t .1 (g q))
+
+-- one more that passes
+pub tells-more : (Q : ℕ → Type 0) (b : Bool) (i : ℕ) → Q i → Tells b ((k : ℕ) → k < i → Q k) → Tells b ((k : ℕ) → k < i + 1 → Q k)
+tells-more Q b i x = tells-same (λ f. below-more Q i f x) (λ f k l. f k (omega arith))
+
+-- one that does not
+pub tells-none : (Q : ℕ → Type 0) (i : ℕ) → (Q i → ⊥) → Tells false ((k : ℕ) → k < i + 1 → Q k)
+tells-none Q i x = is-no (λ f. x (f i (omega arith)))

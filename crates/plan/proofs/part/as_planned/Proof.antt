@@ -1,0 +1,17 @@
+-- `plan::part::as_planned` meets its contract. Assumes nothing.
+use Rattle.plan.proofs.Settles.{judged-no, judged-yes}
+use borrow.Author.Needs.{needs}
+use Rattle.plan.proofs.part.as_planned.Statement.{statement}
+use Rattle.plan.proofs.part.as_planned.Tie as tie
+
+pub as-planned-spec : {M : Type 1} → statement M
+as-planned-spec =
+    tie.close
+    (tie.spec
+    (λ c κs. search needs)
+    (λ c κs. search needs)
+    (λ c. search needs)
+    (λ c. search judged-no)
+    (λ c κs. search needs)
+    (λ c. search needs)
+    (λ c. search judged-yes))

@@ -1,0 +1,20 @@
+-- `plan::part::names` meets its contract. Assumes nothing.
+use native.Mathlib.Omega.{arith}
+use Rattle.plan.proofs.Tells.{is-no}
+use Rattle.plan.proofs.Settles.{names-tested}
+use borrow.Author.Needs.{needs}
+use Rattle.plan.proofs.part.names.Statement.{statement}
+use Rattle.plan.proofs.part.names.Tie as tie
+
+pub names-spec : {M : Type 1} → statement M
+names-spec =
+    tie.close
+    (tie.spec
+    (λ c κs. search needs)
+    (λ c. is-no (λ n. let a = n .one in omega arith))
+    (λ c. is-no (λ n. let a = n .few in omega arith))
+    (λ c. search needs)
+    (λ c. search needs)
+    (λ c. search needs)
+    (λ c κs. search needs)
+    (λ c. search names-tested))

@@ -1,0 +1,20 @@
+-- `plan::under::right_under` meets its contract. Assumes nothing.
+use Rattle.plan.proofs.Unders.{run-judges, run-right}
+use borrow.Author.Needs.{needs}
+use Rattle.plan.proofs.under.right_under.Statement.{statement}
+use Rattle.plan.proofs.under.right_under.Tie as tie
+
+pub right-under-spec : {M : Type 1} → statement M
+right-under-spec =
+    tie.close
+    (tie.spec
+    (λ c κs. search needs)
+    (λ c κs. search needs)
+    (λ c κs. search needs)
+    (λ c. search needs)
+    (λ c. search needs)
+    (λ c. search needs)
+    (λ c. search needs)
+    (λ c κs. search run-judges)
+    (λ c. search needs)
+    (λ c. search run-right))

@@ -1,0 +1,153 @@
+// A part of lent cells beside its plan. The plan has 0 for each cell that names a chunk. Such cells are settled route by
+// route: their plan becomes what they hold, and each must name a chunk that names it back. One plain comparison of the
+// whole part then does the rest. Loops over cells have no early end, so that they can be done many cells at a time.
+ghost use mathlib.Core.Path.{_≡_};
+ghost use Prim.Native.Nat.{_+_, _<_};
+ghost use lib.ListN.{length};
+ghost use Rattle.bits.specs.Tab.{Tells};
+ghost use Rattle.routes.specs.Route.{within, long};
+ghost use Rattle.chain.specs.Words.{routeOf, routesIn};
+ghost use Rattle.plan.specs.Plan.{plannedFrom};
+ghost use Rattle.plan.specs.Part.{Names, Settled, Matches, Zero, Beside, Judges};
+use super::paint::plan_words;
+
+fn wide(x: u16) -> usize
+    ensures { λ r. ⌜ (r ≡ x) × (r < 65536) ⌝ }
+{
+    x as usize
+}
+
+fn wide_owner(x: u32) -> usize
+    ensures { λ r. ⌜ r ≡ x ⌝ }
+{
+    x as usize
+}
+
+// Whether v is the number, from 1, of a chunk whose owner number is o.
+pub fn names(v: u16, own: &[u32], o: usize) -> bool
+    ensures { λ r. ⌜ Tells r (Names v (now (own .entry)) o) ⌝ }
+{
+    let c = wide(v);
+    if c == 0 {
+        return false;
+    }
+    if own.len() < c {
+        return false;
+    }
+    wide_owner(own[c - 1]) == o
+}
+
+// Whether two lists of cells are the same.
+pub fn matches_all(cells: &[u16], want: &[u16]) -> bool
+    ensures { λ r. ⌜ Tells r (now (cells .entry) ≡ now (want .entry)) ⌝ }
+{
+    if cells.len() != want.len() {
+        return false;
+    }
+    let mut same = true;
+    let mut j = 0;
+    while j < cells.len() {
+        let a = cells[j];
+        let b = want[j];
+        j += 1;
+        if a != b {
+            same = false;
+        }
+    }
+    same
+}
+
+// Whether every cell is 0.
+pub fn zero(part: &[u16]) -> bool
+    ensures { λ r. ⌜ Tells r (Zero (now (part .entry))) ⌝ }
+{
+    let mut all = true;
+    let mut j = 0;
+    while j < part.len() {
+        let v = part[j];
+        j += 1;
+        if v != 0 {
+            all = false;
+        }
+    }
+    all
+}
+
+// The cell that the route of a word lies within, where it is one of the part: its plan becomes what it holds. Says
+// whether the cell names a chunk that names it back; cell j of the part has the owner number o + j.
+pub fn settle_one(
+    w: u64,
+    p: u32,
+    base: usize,
+    part: &[u16],
+    o: usize,
+    want: &mut [u16],
+    own: &[u32],
+) -> bool
+    requires { ⌜ Beside p o (now part) (now want) ⌝ }
+    ensures { λ r. ⌜ Settled (λ j. within p (base + j) (routeOf w)) (now (part .entry)) (now (own .entry)) o (now (want .entry)) (now (want .exit)) r ⌝ }
+{
+    let n = want.len();
+    let len = (w / 16777216 % 256) as u32;
+    if len <= p {
+        return true;
+    }
+    let cell = ((w / 4294967296) >> (32 - p)) as usize;
+    if cell < base {
+        return true;
+    }
+    let j = cell - base;
+    if n <= j {
+        return true;
+    }
+    let v = part[j];
+    want[j] = v;
+    names(v, own, o + j)
+}
+
+// The same for each word of a run, in any order.
+pub fn settle(
+    run: &[u64],
+    p: u32,
+    base: usize,
+    part: &[u16],
+    o: usize,
+    want: &mut [u16],
+    own: &[u32],
+) -> bool
+    requires { ⌜ Beside p o (now part) (now want) ⌝ }
+    ensures { λ r. ⌜ Settled (λ j. long (routesIn (now (run .entry))) p (base + j)) (now (part .entry)) (now (own .entry)) o (now (want .entry)) (now (want .exit)) r ⌝ }
+{
+    let mut ok = true;
+    let mut k = 0;
+    while k < run.len() {
+        let w = run[k];
+        k += 1;
+        if !settle_one(w, p, base, part, o, want, own) {
+            ok = false;
+        }
+    }
+    ok
+}
+
+// Whether a part is as the routes of a run ask for the cells of level p from base on, where the hop h is inherited;
+// `want` is room for the plan.
+pub fn as_planned(
+    run: &[u64],
+    h: u16,
+    p: u32,
+    base: usize,
+    part: &[u16],
+    o: usize,
+    want: &mut [u16],
+    own: &[u32],
+) -> bool
+    requires { ⌜ Judges (now run) h p o (now part) (now want) ⌝ }
+    ensures { λ r. ⌜ Tells r (Matches (now (part .entry)) o (plannedFrom h (routesIn (now (run .entry))) p base (length (now (want .entry)))) (now (own .entry))) ⌝ }
+{
+    plan_words(run, h, p, base, want);
+    if !settle(run, p, base, part, o, want, own) {
+        return false;
+    }
+    matches_all(part, want)
+}

@@ -1,0 +1,10 @@
+-- Laws of geometry, sizes and the walk, and what they say of sound tables.
+pub mod Geos
+pub mod Fitting
+pub mod Steps
+pub mod Answers
+pub mod Places
+pub mod Walks
+pub mod Sounds
+pub mod Fresh
+pub mod Examples

@@ -1,0 +1,137 @@
+-- The walk step by step, as the code takes it. Assumes nothing.
+use mathlib.Core.Path.{_≡_, refl, sym, ap, ap₂, _∙_}
+use mathlib.Core.Bool.{Bool, true, false, not}
+use Prim.Native.Nat.{ℕ, _+_, _-_, _*_, _%_, _^_, _≤_, _<_}
+use native.Mathlib.Nat.{mod-lt, mul-le-mul-left}
+use native.Mathlib.Omega.{arith}
+use lib.Arith.{digits-lt}
+use lib.Dec.{leb}
+use lib.ListN.{length, getD}
+use lib.Pow.{pow-pos, pow-mono, shl-exact}
+use borrow.Author.Tests.{leb-true, le-leb, lt-leb, eq-eqb, ne-eqb}
+use Rattle.bits.specs.Slot.{slot}
+use Rattle.bits.proofs.Slots.{shl-one, slot-lt}
+use Rattle.bits.proofs.Tests.{and-split}
+use Rattle.routes.specs.Said.{Said, refused}
+use Rattle.sail.specs.Geometry.{bits2, bits3}
+use Rattle.sail.specs.Lent.{Lent}
+use Rattle.sail.specs.Level.{whole}
+use Rattle.sail.specs.Sizes.{sizesFault, Sized, Checked}
+use Rattle.sail.specs.Pool.{Inside, Chunk}
+use Rattle.sail.specs.Walk.{place, cell2, cell3, leafSaid, stepSaid, oneOf, shut, walkSaid, foundSaid, lookupSaid}
+use Rattle.sail.specs.declared.geometry.Geometry.{Geometry}
+use Rattle.sail.specs.declared.table.Table.{Table}
+
+-- the place lies in the pool
+place-in : (m n c k i : ℕ) → Chunk m n c k → place k c i < m
+place-in m n c k i h =
+    let a : (c - 1) * 2 ^ k + i % 2 ^ k < n * 2 ^ k = digits-lt (omega arith) (mod-lt i (pow-pos k)) in
+    omega arith
+
+-- where a chunk begins, by a shift
+pub begin-is : (c k : ℕ) → c ≤ 4096 → k ≤ 10 → (c - 1) * 2 ^ k % 2 ^ 64 ≡ (c - 1) * 2 ^ k
+begin-is c k h l = shl-exact 12 k 64 (omega arith) (omega arith)
+
+pub place-fits : (c k x : ℕ) → Inside c k x → (c - 1) * 2 ^ k % 2 ^ 64 + x < 2 ^ 64
+place-fits c k x h =
+    let a : (c - 1) * 2 ^ k + x < 4096 * 2 ^ k = digits-lt (omega arith) (h .inside) in
+    omega (arith, begin-is c k (h .last) (h .size), mul-le-mul-left 4096 (pow-mono (h .size)))
+
+-- a place in a chunk, by a remainder
+pub inside-is : (c k i : ℕ) → 1 ≤ c → c ≤ 4096 → k ≤ 10 → Inside c k (i % (1 * 2 ^ k % 2 ^ 64))
+inside-is c k i a b h = record { one = a; last = b; size = h; inside = rw (shl-one 64 k (omega arith)) (mod-lt i (pow-pos k)) }
+
+pub size-some : (k : ℕ) → k ≤ 10 → 0 < 1 * 2 ^ k % 2 ^ 64
+size-some k h = omega (arith, shl-one 64 k (omega arith), pow-pos k)
+
+pub place-is : (c k i r : ℕ) → k ≤ 10 → r ≡ (c - 1) * 2 ^ k + i % (1 * 2 ^ k % 2 ^ 64) → r ≡ place k c i
+place-is c k i r h e = e ∙ ap (λ (y : ℕ). (c - 1) * 2 ^ k + i % y) (shl-one 64 k (omega arith))
+
+pub reads-in : (m n c k i r : ℕ) → Chunk m n c k → r ≡ (c - 1) * 2 ^ k + i % (1 * 2 ^ k % 2 ^ 64) → r < m
+reads-in m n c k i r h e = omega (arith, place-is c k i r (h .size) e, place-in m n c k i h)
+
+-- a chunk's number
+named : (m v : ℕ) → oneOf m v ≡ true → (1 ≤ v) × (v ≤ m)
+named m v e = let s = and-split (leb 1 v) (leb v m) e in (leb-true 1 v (s .0), leb-true v m (s .1))
+
+opened : (b t : Bool) → b ≡ t → not b ≡ false → t ≡ true
+opened true t e h = sym e
+opened false t e h = absurd (let z : _≡_ {A = ℕ} 0 1 = cc in omega arith)
+
+closed : (b t : Bool) → b ≡ t → not b ≡ true → t ≡ false
+closed false t e h = sym e
+closed true t e h = absurd (let z : _≡_ {A = ℕ} 0 1 = cc in omega arith)
+
+-- a chunk that a cell names
+pub chunk-named : (m n v k : ℕ) (b : Bool) → b ≡ oneOf n v → not b ≡ false → m ≡ n * 2 ^ k → n ≤ 4096 → k ≤ 10 → Chunk m n v k
+chunk-named m n v k b e on s f z =
+    let i = named n v (opened b (oneOf n v) e on) in
+    record { cells = s; one = i .0; last = i .1; few = f; size = z }
+
+-- the first cell of an address is there
+pub first-in : (g : Geometry) (l : Lent) (a : ℕ) → Sized g l → a < 2 ^ 32 → slot (g .p1) a < length (l .first)
+first-in g l a s h = omega (arith, slot-lt (g .p1) a (omega arith) h)
+
+-- one step
+module _ (n : ℕ) (opens : ℕ → Bool) (v : ℕ) (on : Said) where
+  pub step-leaf : 32768 ≤ v → leafSaid n v ≡ stepSaid n opens v on
+  unfolding stepSaid
+  step-leaf h = rw (le-leb 32768 v h)
+
+  step-off : v < 32768 → opens v ≡ false → refused 5 ≡ stepSaid n opens v on
+  unfolding stepSaid
+  step-off h e = rw (lt-leb 32768 v h, e)
+
+  pub step-on : v < 32768 → opens v ≡ true → on ≡ stepSaid n opens v on
+  unfolding stepSaid
+  step-on h e = rw (lt-leb 32768 v h, e)
+
+-- the code's three cells: the first by the address's first bits, the second and the third by their places in the pools
+module _ (g : Geometry) (l : Lent) (a : ℕ) (sized : Sized g l) where
+  steps : (v1 v2 v3 : ℕ) → v1 ≡ getD (l .first) (slot (g .p1) a) 0 → v2 ≡ getD (l .second) (place (bits2 g) v1 (slot (g .p2) a)) 0 → v3 ≡ getD (l .third) (place (bits3 g) v2 a) 0
+      → stepSaid 1 (oneOf (length (l .own2))) v1 (stepSaid 2 (oneOf (length (l .own3))) v2 (stepSaid 3 shut v3 (refused 5))) ≡ foundSaid g l a
+  unfolding foundSaid walkSaid
+  steps v1 v2 v3 e1 e2 e3 =
+      let p : g .p2 ≡ g .p1 + bits2 g = omega arith in
+      let q2 : v2 ≡ cell2 (g .p1) (bits2 g) (bits3 g) (whole l) a = e2 ∙ ap₂ (λ (x y : ℕ). getD (l .second) (place (bits2 g) x (slot y a)) 0) e1 p in
+      let q3 : v3 ≡ cell3 (g .p1) (bits2 g) (bits3 g) (whole l) a = e3 ∙ ap (λ (x : ℕ). getD (l .third) (place (bits3 g) x a) 0) q2 in
+      cc
+
+  module _ (v1 : ℕ) (e1 : v1 ≡ getD (l .first) (slot (g .p1) a) 0) where
+    pub leaf1 : (s : Said) → 32768 ≤ v1 → s ≡ leafSaid 1 v1 → s ≡ foundSaid g l a
+    leaf1 s h e = e ∙ step-leaf 1 _ v1 _ h ∙ steps v1 _ _ e1 refl refl
+
+    module _ (b1 : Bool) (o1 : b1 ≡ oneOf (length (l .own2)) v1) (low1 : v1 < 32768) where
+      pub off1 : not b1 ≡ true → refused 5 ≡ foundSaid g l a
+      off1 n = step-off 1 _ v1 _ low1 (closed b1 _ o1 n) ∙ steps v1 _ _ e1 refl refl
+
+      module _ (on1 : not b1 ≡ false) (v2 : ℕ) (e2 : v2 ≡ getD (l .second) (place (bits2 g) v1 (slot (g .p2) a)) 0) where
+        down1 : (v3 : ℕ) → v3 ≡ getD (l .third) (place (bits3 g) v2 a) 0 → stepSaid 2 (oneOf (length (l .own3))) v2 (stepSaid 3 shut v3 (refused 5)) ≡ foundSaid g l a
+        down1 v3 e3 = step-on 1 _ v1 _ low1 (opened b1 _ o1 on1) ∙ steps v1 v2 v3 e1 e2 e3
+
+        pub leaf2 : (s : Said) → 32768 ≤ v2 → s ≡ leafSaid 2 v2 → s ≡ foundSaid g l a
+        leaf2 s h e = e ∙ step-leaf 2 _ v2 _ h ∙ down1 _ refl
+
+        module _ (b2 : Bool) (o2 : b2 ≡ oneOf (length (l .own3)) v2) (low2 : v2 < 32768) where
+          pub off2 : not b2 ≡ true → refused 5 ≡ foundSaid g l a
+          off2 n = step-off 2 _ v2 _ low2 (closed b2 _ o2 n) ∙ down1 _ refl
+
+          module _ (on2 : not b2 ≡ false) (v3 : ℕ) (e3 : v3 ≡ getD (l .third) (place (bits3 g) v2 a) 0) where
+            down2 : stepSaid 3 shut v3 (refused 5) ≡ foundSaid g l a
+            down2 = step-on 2 _ v2 _ low2 (opened b2 _ o2 on2) ∙ down1 v3 e3
+
+            pub leaf3 : (s : Said) → 32768 ≤ v3 → s ≡ leafSaid 3 v3 → s ≡ foundSaid g l a
+            leaf3 s h e = e ∙ step-leaf 3 _ v3 _ h ∙ down2
+
+            pub off3 : v3 < 32768 → refused 5 ≡ foundSaid g l a
+            off3 h = step-off 3 shut v3 _ h refl ∙ down2
+
+-- with the sizes checked first
+module _ (t : Table) (l : Lent) (a r : ℕ) (told : Checked r (t .geometry) l) where
+  pub look-on : (s : Said) → r ≡ 0 → s ≡ foundSaid (t .geometry) l a → s ≡ lookupSaid t l a
+  unfolding lookupSaid
+  look-on s e f = rw (eq-eqb (sizesFault (t .geometry) l) 0 (sym (told .number) ∙ e)) f
+
+  pub look-not : (r ≡ 0 → ⊥) → refused r ≡ lookupSaid t l a
+  unfolding lookupSaid
+  look-not n = rw (← told .number, ne-eqb r 0 n)

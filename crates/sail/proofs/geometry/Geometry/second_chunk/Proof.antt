@@ -1,0 +1,15 @@
+-- `sail::geometry::Geometry::second_chunk` meets its contract. Assumes nothing.
+use borrow.Author.Needs.{needs}
+use native.Mathlib.Omega.{arith}
+use Rattle.sail.proofs.Geos.{power}
+use Rattle.sail.proofs.geometry.Geometry.second_chunk.Statement.{statement}
+use Rattle.sail.proofs.geometry.Geometry.second_chunk.Tie as tie
+
+pub second-chunk-spec : {M : Type 1} → statement M
+second-chunk-spec =
+    tie.close
+    (tie.spec
+    (λ c. search needs)
+    (λ c. search needs)
+    (λ c. search needs)
+    (λ c. power _ 10 (omega arith) (omega arith)))

@@ -1,0 +1,35 @@
+-- `sail::lookup::find` meets its contract. Assumes nothing.
+use borrow.Author.Needs.{needs}
+use native.Mathlib.Omega.{arith}
+use Rattle.sail.specs.Walk.{saysFound}
+use Rattle.sail.proofs.Steps.{first-in, chunk-named, leaf1, off1, leaf2, off2, leaf3, off3}
+use Rattle.sail.proofs.lookup.find.Statement.{statement}
+use Rattle.sail.proofs.lookup.find.Tie as tie
+
+pub find-spec : {M : Type 1} → statement M
+unfolding saysFound
+find-spec =
+    tie.close
+    (tie.spec
+    (λ c. search needs)
+    (λ c. search needs)
+    (λ c. let s = c .before .before .before .before .before .before in omega (arith, first-in _ _ _ (s .pre) (s .fits .addr .fits)))
+    (λ c. let s = c .before .before .before .before .before .before in omega (arith, first-in _ _ _ (s .pre) (s .fits .addr .fits)))
+    (λ c. let s = c .before .before .before .before .before .before .before in first-in _ _ _ (s .pre) (s .fits .addr .fits))
+    (λ c κs. search needs)
+    (λ c. search leaf1)
+    (λ c κs. search needs)
+    (λ c. search off1)
+    (λ c. search needs)
+    (λ c. search needs)
+    (λ c. search needs)
+    (λ c κs. chunk-named _ _ _ _ _ (c .before .opens .ensures) (c .if2 .left) (search needs) (search needs) (search needs))
+    (λ c κs. search needs)
+    (λ c. search leaf2)
+    (λ c κs. search needs)
+    (λ c. search off2)
+    (λ c. search needs)
+    (λ c κs. chunk-named _ _ _ _ _ (c .before .opens2 .ensures) (c .if4 .left) (search needs) (search needs) (search needs))
+    (λ c κs. search needs)
+    (λ c. search leaf3)
+    (λ c. search off3))

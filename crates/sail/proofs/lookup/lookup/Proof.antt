@@ -1,0 +1,16 @@
+-- `sail::lookup::lookup` meets its contract. Assumes nothing.
+use borrow.Author.Needs.{needs}
+use Rattle.sail.specs.Walk.{saysFound}
+use Rattle.sail.proofs.Steps.{look-on, look-not}
+use Rattle.sail.proofs.lookup.lookup.Statement.{statement}
+use Rattle.sail.proofs.lookup.lookup.Tie as tie
+
+pub lookup-spec : {M : Type 1} → statement M
+unfolding saysFound
+lookup-spec =
+    tie.close
+    (tie.spec
+    (λ c κs. search needs)
+    (λ c κs. c .before .sizes .ensures .facts (c .if1 .taken))
+    (λ c. search look-on)
+    (λ c. search look-not))

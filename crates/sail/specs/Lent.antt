@@ -1,0 +1,22 @@
+-- What is lent to every table call: the list of records, the cells of three levels, and the owners of the two pools' chunks.
+-- Assumes nothing.
+use mathlib.Core.List.{List}
+use Prim.Native.Nat.{ℕ}
+
+pub record Lent : Type 0 where
+  pub list : List ℕ
+  pub first : List ℕ
+  pub second : List ℕ
+  pub third : List ℕ
+  pub own2 : List ℕ
+  pub own3 : List ℕ
+
+abbrev pub lent : List ℕ → List ℕ → List ℕ → List ℕ → List ℕ → List ℕ → Lent
+lent list first second third own2 own3 = record {
+  list = list;
+  first = first;
+  second = second;
+  third = third;
+  own2 = own2;
+  own3 = own3;
+}

@@ -1,0 +1,41 @@
+-- Refusals 1 and 2: the geometry and the sizes of what is lent. The route count is no matter of sizes. Assumes nothing.
+use mathlib.Core.Bool.{Bool, _&&_, cond}
+use mathlib.Core.Path.{_≡_}
+use Prim.Native.Nat.{ℕ, _*_, _%_, _^_, _≤_}
+use lib.Dec.{eqb, leb}
+use lib.ListN.{length}
+use Rattle.sail.specs.Geometry.{bits2, bits3, validGeo, Valid}
+use Rattle.sail.specs.Lent.{Lent}
+use Rattle.sail.specs.declared.geometry.Geometry.{Geometry}
+
+-- "the list, 0 to 4,096 records of room; 2^p1 first cells; a second pool of 0 to 4,096 chunks of 2^(p2 - p1) cells; a third pool of
+-- 0 to 4,096 chunks of 2^(32 - p2) cells; for each pool an owner number for each chunk"
+unfoldable pub lengthsFit : Geometry → Lent → Bool
+lengthsFit g l =
+    eqb (length (l .list) % 8) 0
+    && (leb (length (l .list)) (4096 * 8)
+    && (eqb (length (l .first)) (2 ^ g .p1)
+    && (leb (length (l .own2)) 4096
+    && (eqb (length (l .second)) (length (l .own2) * 2 ^ bits2 g)
+    && (leb (length (l .own3)) 4096
+    && eqb (length (l .third)) (length (l .own3) * 2 ^ bits3 g))))))
+
+-- 1: the geometry is outside the limits; else 2: a size is wrong; else 0
+unfoldable pub sizesFault : Geometry → Lent → ℕ
+sizesFault g l = cond (validGeo g) (cond (lengthsFit g l) 0 2) 1
+
+-- neither, as facts
+pub record Sized (g : Geometry) (l : Lent) : Type 0 where
+  pub valid : Valid g
+  pub whole : length (l .list) % 8 ≡ 0
+  pub room : length (l .list) ≤ 4096 * 8
+  pub cells1 : length (l .first) ≡ 2 ^ g .p1
+  pub few2 : length (l .own2) ≤ 4096
+  pub cells2 : length (l .second) ≡ length (l .own2) * 2 ^ bits2 g
+  pub few3 : length (l .own3) ≤ 4096
+  pub cells3 : length (l .third) ≡ length (l .own3) * 2 ^ bits3 g
+
+-- what the check of the sizes answers: the number, and where it is 0, the facts
+pub record Checked (r : ℕ) (g : Geometry) (l : Lent) : Type 0 where
+  pub number : r ≡ sizesFault g l
+  pub facts : r ≡ 0 → Sized g l

@@ -1,0 +1,105 @@
+-- What lookup says, of any state, arrays and address, damaged tables too. Assumes nothing.
+use mathlib.Core.Bool.{Bool, false, _&&_, cond}
+use mathlib.Core.List.{[], _∷_}
+use mathlib.Core.Path.{_≡_}
+use Prim.Native.Nat.{ℕ, _+_, _-_, _*_, _%_, _^_, _≤_, _<_}
+use lib.Dec.{eqb, leb}
+use lib.ListN.{length}
+use Rattle.bits.specs.Slot.{slot}
+use Rattle.routes.specs.Said.{Said, accepted, refused}
+use Rattle.sail.specs.Geometry.{bits2, bits3}
+use Rattle.sail.specs.Lent.{Lent}
+use Rattle.sail.specs.Level.{View, whole}
+use Rattle.sail.specs.Sizes.{sizesFault}
+use Rattle.sail.specs.declared.geometry.Geometry.{Geometry}
+use Rattle.sail.specs.declared.table.Table.{Table}
+use Rattle.sail.specs.declared.lookup.Found.{Found}
+use Rattle.sail.specs.declared.lookup.Found.the-variants.{Hop, NoRoute, Refused}
+
+-- "Chunk c begins at cell (c - 1) times the chunk size": the place, in a pool of chunks of 2 ^ d cells, of the cell in chunk c that
+-- serves cell i of its level
+abbrev pub place : ℕ → ℕ → ℕ → ℕ
+place d c i = (c - 1) * 2 ^ d + i % 2 ^ d
+
+-- the cells that the walk for the address a may read, and where the second and the third stand in their pools
+module _ (p1 d1 d2 : ℕ) (t : View) (a : ℕ) where
+  abbrev pub cell1 : ℕ
+  cell1 = t .first (slot p1 a)
+
+  abbrev pub place2 : ℕ
+  place2 = place d1 cell1 (slot (p1 + d1) a)
+
+  abbrev pub cell2 : ℕ
+  cell2 = t .second place2
+
+  abbrev pub place3 : ℕ
+  place3 = place d2 cell2 a
+
+  abbrev pub cell3 : ℕ
+  cell3 = t .third place3
+
+-- v is the number of one of m chunks
+pub record Leads (v m : ℕ) : Type 0 where
+  pub low : v < 32768
+  pub one : 1 ≤ v
+  pub last : v ≤ m
+
+-- "A cell serves an address when that address's lookup reads it": the second cell where the first leads on, the third where both do.
+-- (The first cell that a lookup reads is that of the address's first p1 bits.)
+pub record ReadsSecond (p1 d1 d2 : ℕ) (t : View) (a q : ℕ) : Type 0 where
+  pub goes : Leads (cell1 p1 d1 d2 t a) (t .many2)
+  pub there : place2 p1 d1 d2 t a ≡ q
+
+pub record ReadsThird (p1 d1 d2 : ℕ) (t : View) (a q : ℕ) : Type 0 where
+  pub goes : Leads (cell1 p1 d1 d2 t a) (t .many2)
+  pub on : Leads (cell2 p1 d1 d2 t a) (t .many3)
+  pub there : place3 p1 d1 d2 t a ≡ q
+
+-- the cell at which the walk ends
+unfoldable pub lastCell : ℕ → ℕ → ℕ → View → ℕ → ℕ
+lastCell p1 d1 d2 t a =
+    cond (leb 32768 (cell1 p1 d1 d2 t a)) (cell1 p1 d1 d2 t a)
+    (cond (leb 32768 (cell2 p1 d1 d2 t a)) (cell2 p1 d1 d2 t a) (cell3 p1 d1 d2 t a))
+
+-- after n cells were read: n and the hop; n alone where the hop is 0, which is no route
+unfoldable pub hopSaid : ℕ → ℕ → Said
+hopSaid n h = cond (eqb h 0) (accepted (n ∷ [])) (accepted (n ∷ h ∷ []))
+
+-- "A cell with its top bit set is a leaf: the low 15 bits are the hop, 0 for no route"
+abbrev pub leafSaid : ℕ → ℕ → Said
+leafSaid n v = hopSaid n (v - 32768)
+
+-- The n-th cell read holds v. A leaf ends the walk, a chunk number that opens leads on, and any other is refused
+unfoldable pub stepSaid : ℕ → (ℕ → Bool) → ℕ → Said → Said
+stepSaid n opens v on = cond (leb 32768 v) (leafSaid n v) (cond (opens v) on (refused 5))
+
+-- the number of one of m chunks
+abbrev pub oneOf : ℕ → ℕ → Bool
+oneOf m v = leb 1 v && leb v m
+
+-- a third cell leads nowhere
+abbrev pub shut : ℕ → Bool
+shut v = false
+
+unfoldable pub walkSaid : ℕ → ℕ → ℕ → (ℕ → Bool) → (ℕ → Bool) → View → ℕ → Said
+walkSaid p1 d1 d2 opens2 opens3 t a =
+    stepSaid 1 opens2 (cell1 p1 d1 d2 t a)
+    (stepSaid 2 opens3 (cell2 p1 d1 d2 t a)
+    (stepSaid 3 shut (cell3 p1 d1 d2 t a) (refused 5)))
+
+-- the walk in what is lent: every chunk of a pool opens
+unfoldable pub foundSaid : Geometry → Lent → ℕ → Said
+foundSaid g l a = walkSaid (g .p1) (bits2 g) (bits3 g) (oneOf (length (l .own2))) (oneOf (length (l .own3))) (whole l) a
+
+-- 1, 2, then the walk's own answer
+unfoldable pub lookupSaid : Table → Lent → ℕ → Said
+lookupSaid t l a =
+    cond (eqb (sizesFault (t .geometry) l) 0)
+    (foundSaid (t .geometry) l a)
+    (refused (sizesFault (t .geometry) l))
+
+-- what the code's answer says
+unfoldable pub saysFound : Found → Said
+saysFound (Hop h n) = accepted (n ∷ h ∷ [])
+saysFound (NoRoute n) = accepted (n ∷ [])
+saysFound (Refused k) = refused k

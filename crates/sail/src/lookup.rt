@@ -1,0 +1,112 @@
+// Lookup: the walk from a first cell down to a leaf, in any table.
+ghost use mathlib.Core.Path.{_≡_};
+ghost use Prim.Native.Nat.{_+_, _-_, _*_, _^_, _≤_};
+ghost use lib.ListN.{length, getD};
+ghost use Rattle.sail.specs.Lent.{lent};
+ghost use Rattle.sail.specs.Sizes.{Sized};
+ghost use Rattle.sail.specs.Pool.{Inside, Chunk};
+ghost use Rattle.sail.specs.Walk.{place, oneOf, leafSaid, foundSaid, lookupSaid, saysFound};
+use crate::geometry::Geometry;
+use crate::table::Table;
+
+// What a lookup finds: a hop or no route, each with the count of cells read; or a refusal's number.
+pub enum Found {
+    Hop(u16, u32),
+    NoRoute(u32),
+    Refused(u8),
+}
+
+// What a leaf says that is read as the n-th cell.
+fn leaf(v: u16, n: u32) -> Found
+    requires { ⌜ 32768 ≤ v ⌝ }
+    ensures { λ r. ⌜ saysFound r ≡ leafSaid n v ⌝ }
+{
+    if v == 32768 {
+        return Found::NoRoute(n);
+    }
+    Found::Hop(v - 32768, n)
+}
+
+// Whether a cell names one of a pool's chunks.
+fn opens(v: u16, chunks: usize) -> bool
+    ensures { λ r. ⌜ r ≡ oneOf chunks v ⌝ }
+{
+    if v == 0 {
+        return false;
+    }
+    v as usize <= chunks
+}
+
+// The place of cell x of chunk c, where a chunk has 2^k cells.
+fn place(c: u16, k: u32, x: usize) -> usize
+    requires { ⌜ Inside c k x ⌝ }
+    ensures { λ r. ⌜ r ≡ (c - 1) * 2 ^ k + x ⌝ }
+{
+    (((c as usize) - 1) << k) + x
+}
+
+// The cell in chunk c, of a pool of so many chunks of 2^k cells, that serves cell i of its level.
+fn cell(pool: &[u16], chunks: usize, c: u16, k: u32, i: u32) -> u16
+    requires { ⌜ Chunk (length (now pool)) chunks c k ⌝ }
+    ensures { λ r. ⌜ r ≡ getD (now (pool .entry)) (place k c i) 0 ⌝ }
+{
+    let at = place(c, k, (i as usize) % (1 << k));
+    pool[at]
+}
+
+// The walk, where the sizes are right.
+pub fn find(
+    g: Geometry,
+    list: &[u8],
+    first: &[u16],
+    second: &[u16],
+    third: &[u16],
+    own2: &[u32],
+    own3: &[u32],
+    addr: u32,
+) -> Found
+    requires { ⌜ Sized g (lent (now list) (now first) (now second) (now third) (now own2) (now own3)) ⌝ }
+    ensures { λ r. ⌜ saysFound r ≡ foundSaid g (lent (now (list .entry)) (now (first .entry)) (now (second .entry)) (now (third .entry)) (now (own2 .entry)) (now (own3 .entry))) addr ⌝ }
+{
+    let p1 = g.p1;
+    let p2 = g.p2;
+    let v1 = first[(addr >> (32 - p1)) as usize];
+    if 32768 <= v1 {
+        return leaf(v1, 1);
+    }
+    if !opens(v1, own2.len()) {
+        return Found::Refused(5);
+    }
+    let v2 = cell(second, own2.len(), v1, p2 - p1, addr >> (32 - p2));
+    if 32768 <= v2 {
+        return leaf(v2, 2);
+    }
+    if !opens(v2, own3.len()) {
+        return Found::Refused(5);
+    }
+    let v3 = cell(third, own3.len(), v2, 32 - p2, addr);
+    if 32768 <= v3 {
+        return leaf(v3, 3);
+    }
+    Found::Refused(5)
+}
+
+// The hop of the longest route that covers the address, with the count of cells read.
+pub fn lookup(
+    t: Table,
+    list: &[u8],
+    first: &[u16],
+    second: &[u16],
+    third: &[u16],
+    own2: &[u32],
+    own3: &[u32],
+    addr: u32,
+) -> Found
+    ensures { λ r. ⌜ saysFound r ≡ lookupSaid t (lent (now (list .entry)) (now (first .entry)) (now (second .entry)) (now (third .entry)) (now (own2 .entry)) (now (own3 .entry))) addr ⌝ }
+{
+    let s = crate::table::sizes(t, list, first, second, third, own2, own3);
+    if s == 0 {
+        return find(t.geometry, list, first, second, third, own2, own3, addr);
+    }
+    Found::Refused(s)
+}

@@ -1,0 +1,179 @@
+-- All that is lent, written anew: what repainting the whole table asks, and what a load leaves. Assumes nothing.
+use mathlib.Core.Path.{_≡_, refl, sym, _∙_, ap, subst}
+use mathlib.Core.Logic.{_⊎_, inl, inr}
+use mathlib.Core.Bool.{Bool, true, false, _&&_, true≢false}
+use mathlib.Core.List.{List, []}
+use Prim.Native.Nat.{ℕ, suc, _-_, _*_, _/_, _^_, _≤_, _<_, zero-le}
+use native.Mathlib.Omega.{arith}
+use native.Mathlib.Nat.{div-eq-of-lt}
+use lib.Dec.{eqb, ltb}
+use lib.ListN.{length, getD, replicate, length-replicate, List·getD-eq-default}
+use borrow.Author.Tests.{le-leb, ltb-true, eqb-true}
+use Rattle.bits.specs.Slot.{slot}
+use Rattle.bits.proofs.Slots.{slot-lt, cut-zero}
+use Rattle.bits.proofs.Tests.{decided, below?, and-split}
+use Rattle.routes.specs.Route.{within, long, Good}
+use Rattle.routes.specs.Record.{written}
+use Rattle.routes.specs.Said.{accepted}
+use Rattle.routes.specs.declared.Route.{Route}
+use Rattle.routes.proofs.Goods.{good-fine}
+use Rattle.routes.proofs.Rows.{length-routes, records-good}
+use Rattle.chain.specs.Words.{wordsOf, routesIn}
+use Rattle.chain.specs.Cover.{Room, Ready}
+use Rattle.chain.proofs.Decodes.{words-routes, records-words}
+use Rattle.sail.specs.Geometry.{bits2, bits3}
+use Rattle.sail.specs.Lent.{Lent, lent}
+use Rattle.sail.specs.Level.{liveIn, entry}
+use Rattle.sail.specs.declared.geometry.Geometry.{Geometry}
+use Rattle.sail.specs.declared.table.Table.{Table}
+use Rattle.sail_paint.specs.Stale.{meets, Stale, Repainted}
+use Rattle.sail_theory.specs.Render.{rendered, Fits, roomOf}
+use Rattle.sail_theory.specs.Calls.{Owners, settled, noOwners, inputRoutes}
+use Rattle.sail_theory.proofs.Cells.{second-free, third-free}
+use Rattle.sail_theory.proofs.Ends.{any-some}
+use Rattle.sail_theory.proofs.Fresh.{zeros}
+use Rattle.sail_theory.proofs.Loads.{Fronts, fronts-none, settles}
+use Rattle.sail_load.specs.Fill.{padded}
+use Rattle.sail_load.specs.Owners.{owners, Ownable}
+use Rattle.sail_load.specs.Renew.{Readable, Scratch, Bare, Renewable, anew}
+use Rattle.sail_load.proofs.Lists.{padded-written}
+
+-- every cell lies under the prefix of no bits
+all-meet : (p i : ℕ) → i < 2 ^ p → meets 0 0 p i ≡ true
+unfolding meets
+all-meet p i h =
+    let z : i / 2 ^ (p - 0) ≡ 0 = div-eq-of-lt (let e : p - 0 ≡ p = omega arith in rw e h) in
+    rw (le-leb 0 p zero-le, z)
+
+-- a long cell is one of its level
+long-lt : (rs : List Route) (p i : ℕ) → p ≤ 32 → Good rs → long rs p i ≡ true → i < 2 ^ p
+long-lt rs p i h good e = any-some (within p i) rs (i < 2 ^ p) e (λ r m t.
+    let c = eqb-true (slot p (r .addr)) i (and-split (ltb p (r .len)) (eqb (slot p (r .addr)) i) t .1) in
+    omega (arith, c, slot-lt p (r .addr) h (good-fine rs good r m .prefix .addr-ok)))
+
+-- so a place that is not stale is in no chunk in use
+not-live : (rs : List Route) (p : ℕ) → p ≤ 32 → Good rs → (own : List ℕ) (d n : ℕ) (live : ℕ → Bool) (at : ℕ → ℕ) → Fits (long rs p) n live at (length own) (entry own)
+    → (q : ℕ) → liveIn (entry own) d q && meets 0 0 p (at (getD own (q / 2 ^ d) 0 - 1)) ≡ false → liveIn (entry own) d q ≡ false
+not-live rs p h good own d n live at f q e = go (decided (liveIn (entry own) d q))
+  where
+    go : (liveIn (entry own) d q ≡ true) ⊎ (liveIn (entry own) d q ≡ false) → liveIn (entry own) d q ≡ false
+    go (inr x) = x
+    go (inl x) =
+        let some = ltb-true 0 (getD own (q / 2 ^ d) 0) x in
+        let o : getD own (q / 2 ^ d) 0 ≡ suc (getD own (q / 2 ^ d) 0 - 1) = omega arith in
+        let deep = f .lies (q / 2 ^ d) (getD own (q / 2 ^ d) 0 - 1) (inside (below? (q / 2 ^ d) (length own))) o .2 in
+        absurd (true≢false (sym (all-meet p _ (long-lt rs p _ h good deep)) ∙ rw x at e))
+      where
+        inside : (q / 2 ^ d < length own) ⊎ (length own ≤ q / 2 ^ d) → q / 2 ^ d < length own
+        inside (inl l) = l
+        inside (inr l) = absurd (omega (arith, ltb-true 0 (getD own (q / 2 ^ d) 0) x, List·getD-eq-default own 0 l))
+
+-- the words of a good input, and room for their chain
+pub words-room : (ws par input out : List ℕ) → Readable input → Scratch ws par input → out ≡ wordsOf input (length ws) → length out ≡ length ws → Room out par
+words-room ws par input out good room e n =
+    let r = good .records in
+    record { words = rw (e, room .words) (records-words input (length input / 8) r); few = omega (arith, r .few, room .words); room = room .chain }
+
+module _ (g : Geometry) (input : List ℕ) (l : Lent) (b : Bare g input l) (ws : List ℕ) (n : ℕ) (all : n ≡ length input / 8) (is : ws ≡ wordsOf input n) where
+  routes : routesIn ws ≡ inputRoutes input
+  routes = rw (is, all) (words-routes input (length input / 8) (b .readable .records))
+
+  good : Good (inputRoutes input)
+  good = records-good input (length input / 8) (b .readable .records)
+
+  -- all may be stale
+  pub stale-all : (par : List ℕ) → Ready ws par → Stale g ws par 0 0 l
+  stale-all par ready =
+      let v = b .sized .valid in
+      record {
+        ready = ready;
+        sized = b .sized;
+        prefix = record { len-ok = omega arith; addr-ok = omega arith; clear = cut-zero 0 0 (omega arith) refl };
+        fits2 = rw routes (b .fits2);
+        fits3 = rw routes (b .fits3);
+        right1 = λ q h e. absurd (true≢false (sym (all-meet (g .p1) q (rw (b .sized .cells1) at h)) ∙ e));
+        right2 = λ q h e. b .zero2 q ∙ sym (second-free g 0 (routesIn ws) (l .own2) (l .own3) q (rw (b .sized .cells2) at h) (not-live (inputRoutes input) (g .p1) (omega arith) good (l .own2) (bits2 g) _ _ _ (b .fits2) q e));
+        right3 = λ q h e. b .zero3 q ∙ sym (third-free g 0 (routesIn ws) (l .own2) (l .own3) q (rw (b .sized .cells3) at h) (not-live (inputRoutes input) (g .p2) (omega arith) good (l .own3) (bits3 g) _ _ _ (b .fits3) q e));
+      }
+
+  pub painted-all : (first second third : List ℕ) → Repainted g (routesIn ws) l first second third → Repainted g (inputRoutes input) l first second third
+  painted-all first second third p = rw routes at p
+
+-- what a load leaves
+module _ (t : Table) (l : Lent) (input : List ℕ) (w : Renewable t input l) where
+  abbrev g : Geometry
+  g = t .geometry
+
+  abbrev rs : List Route
+  rs = inputRoutes input
+
+  -- the owners of announcing the routes in order
+  abbrev o : Owners
+  o = settled g (noOwners l) rs
+
+  ends : Fronts t l rs [] o
+  ends = settles (accepted []) t l rs [] (noOwners l) (fronts-none t l rs (w .loadable)) .ends
+
+  pub fits-list : length input ≤ length (l .list)
+  fits-list = omega (arith, w .readable .whole, w .loadable .roomy, w .loadable .sized .whole, length-routes input (length input / 8))
+
+  module _ (z2 z3 : List ℕ) (e2 : z2 ≡ replicate (length (l .own2)) 0) (e3 : z3 ≡ replicate (length (l .own3)) 0) where
+    none : (z : List ℕ) (n : ℕ) → z ≡ replicate n 0 → (length z ≡ n) × (z ≡ replicate (length z) 0)
+    none z n e = let q : length z ≡ n = ap length e ∙ length-replicate n 0 in (q, rw q e)
+
+    pub ownable : Ownable g input z2 z3
+    ownable =
+        let s = w .loadable .sized in
+        let n2 = none z2 (length (l .own2)) e2 in
+        let n3 = none z3 (length (l .own3)) e3 in
+        record {
+          valid = s .valid;
+          records = w .readable .records;
+          few2 = omega (arith, n2 .0, s .few2);
+          few3 = omega (arith, n3 .0, s .few3);
+          enough2 = omega (arith, n2 .0, w .loadable .enough2);
+          enough3 = omega (arith, n3 .0, w .loadable .enough3);
+          none2 = n2 .1;
+          none3 = n3 .1;
+        }
+
+    module _ (second third own2 own3 : List ℕ) (s2 : second ≡ replicate (length (l .second)) 0) (s3 : third ≡ replicate (length (l .third)) 0) (settles : owners own2 own3 ≡ settled g (owners z2 z3) rs) where
+      owned : owners own2 own3 ≡ o
+      owned = rw (e2, e3) at settles
+
+      bare-then : Bare g input (lent [] (l .first) second third (o .own2) (o .own3))
+      bare-then =
+          let s = w .loadable .sized in
+          record {
+            readable = w .readable;
+            sized = record {
+              valid = s .valid;
+              whole = refl;
+              room = omega arith;
+              cells1 = s .cells1;
+              few2 = omega (arith, ends .len2, s .few2);
+              cells2 = ap length s2 ∙ length-replicate (length (l .second)) 0 ∙ s .cells2 ∙ ap (λ (n : ℕ). n * 2 ^ bits2 g) (sym (ends .len2));
+              few3 = omega (arith, ends .len3, s .few3);
+              cells3 = ap length s3 ∙ length-replicate (length (l .third)) 0 ∙ s .cells3 ∙ ap (λ (n : ℕ). n * 2 ^ bits3 g) (sym (ends .len3));
+            };
+            fits2 = ends .fits2;
+            fits3 = ends .fits3;
+            zero2 = λ q. rw s2 (zeros (length (l .second)) q);
+            zero3 = λ q. rw s3 (zeros (length (l .third)) q);
+          }
+
+      pub bare : Bare g input (lent [] (l .first) second third own2 own3)
+      bare = subst (λ (x : Owners). Bare g input (lent [] (l .first) second third (x .own2) (x .own3))) (sym owned) bare-then
+
+      module _ (bytes : (j : ℕ) → getD input j 0 < 256) (list a b c : List ℕ) (put : list ≡ padded input (length (l .list))) where
+        listed : list ≡ written rs (roomOf l)
+        listed =
+            let e : length (l .list) ≡ roomOf l * 8 = omega (arith, w .loadable .sized .whole) in
+            put ∙ ap (padded input) e ∙ padded-written input bytes (w .readable) (roomOf l) (omega (arith, w .loadable .roomy, length-routes input (length input / 8)))
+
+        renews-then : Repainted g rs (lent [] (l .first) second third (o .own2) (o .own3)) a b c → lent list a b c (o .own2) (o .own3) ≡ anew t l input
+        unfolding rendered
+        renews-then p = λ i. record { list = listed i; first = p .is-first i; second = p .is-second i; third = p .is-third i; own2 = o .own2; own3 = o .own3 }
+
+        pub renews : Repainted g rs (lent [] (l .first) second third own2 own3) a b c → lent list a b c own2 own3 ≡ anew t l input
+        renews = subst (λ (x : Owners). Repainted g rs (lent [] (l .first) second third (x .own2) (x .own3)) a b c → lent list a b c (x .own2) (x .own3) ≡ anew t l input) (sym owned) renews-then

@@ -1,0 +1,17 @@
+-- `sail_load::load::accepts` meets its contract. Assumes nothing.
+use borrow.Author.Needs.{needs}
+use Rattle.sail_load.specs.Answers.{saysLoaded}
+use Rattle.sail_load.proofs.load.accepts.Statement.{statement}
+use Rattle.sail_load.proofs.load.accepts.Tie as tie
+
+pub accepts-spec : {M : Type 1} → statement M
+unfolding saysLoaded
+accepts-spec =
+    tie.close
+    (tie.spec
+    (λ c. search needs)
+    (λ c. search needs)
+    (λ c. search needs)
+    (λ c. rw (c .enum-told .given .1))
+    (λ c. rw (c .enum-told2 .given .1))
+    (λ c. rw (c .enum-told3 .given .1)))

@@ -1,0 +1,111 @@
+// A table loaded from a record input.
+ghost use mathlib.Core.Path.{_≡_};
+ghost use Rattle.routes.specs.Record.{routesOf};
+ghost use Rattle.routes.specs.Said.{accepts};
+ghost use Rattle.sail.specs.Lent.{lent};
+ghost use Rattle.sail_theory.specs.Calls.{loadFault, loadSaid, loaded};
+ghost use Rattle.sail_load.specs.Answers.{out, saysLoaded};
+ghost use Rattle.sail_load.specs.Need.{terms, Weighs};
+use crate::need::count_need;
+use crate::renew::renew;
+use routes::input::Input;
+use routes::input::check_input;
+use sail::geometry::Geometry;
+use sail::table::Table;
+use sail::table::sizes;
+
+// Loaded; or a refusal's number, with the index of a record where the input itself is at fault.
+pub enum Loaded {
+    Done,
+    Refused(u8),
+    RefusedAt(u8, usize),
+}
+
+// The answer, and the state beside it.
+pub struct Changed {
+    pub answer: Loaded,
+    pub table: Table,
+}
+
+// Whether n good records find room: 6, 7 or 8 where they do not, and else 0.
+fn weigh(g: Geometry, input: &[u8], n: usize, room: usize, most2: usize, most3: usize) -> u8
+    requires { ⌜ Weighs g (now input) n ⌝ }
+    ensures { λ r. ⌜ r ≡ loadFault (terms g room most2 most3) (routesOf (now (input .entry)) n) ⌝ }
+{
+    if room < n {
+        return 6;
+    }
+    if most2 < count_need(input, n, g.p1) {
+        return 7;
+    }
+    if most3 < count_need(input, n, g.p2) {
+        return 8;
+    }
+    0
+}
+
+// What load answers. Nothing is written, and nothing is read of the old table but its geometry and its sizes.
+fn judge(
+    t: Table,
+    input: &[u8],
+    list: &[u8],
+    first: &[u16],
+    second: &[u16],
+    third: &[u16],
+    own2: &[u32],
+    own3: &[u32],
+) -> Loaded
+    ensures { λ r. ⌜ saysLoaded r ≡ loadSaid t (lent (now (list .entry)) (now (first .entry)) (now (second .entry)) (now (third .entry)) (now (own2 .entry)) (now (own3 .entry))) (now (input .entry)) ⌝ }
+{
+    let z = sizes(t, list, first, second, third, own2, own3);
+    if z != 0 {
+        return Loaded::Refused(z);
+    }
+    match check_input(input) {
+        Input::Good(n) => {
+            let f = weigh(t.geometry, input, n, list.len() / 8, own2.len(), own3.len());
+            if f != 0 {
+                return Loaded::Refused(f);
+            }
+            Loaded::Done
+        }
+        Input::Refused(f, k) => Loaded::RefusedAt(f, k),
+        Input::TooMany => Loaded::Refused(6),
+    }
+}
+
+fn accepts(a: Loaded) -> bool
+    ensures { λ r. ⌜ r ≡ accepts (saysLoaded a) ⌝ }
+{
+    match a {
+        Loaded::Done => true,
+        Loaded::Refused(_) => false,
+        Loaded::RefusedAt(_, _) => false,
+    }
+}
+
+// The routes of a record input, whatever the table held before: as make and then each announcement in order.
+pub fn load(
+    t: Table,
+    input: &[u8],
+    list: &mut [u8],
+    first: &mut [u16],
+    second: &mut [u16],
+    third: &mut [u16],
+    own2: &mut [u32],
+    own3: &mut [u32],
+) -> Changed
+    ensures { λ r. ⌜ out (saysLoaded (r .answer)) (r .table) (lent (now (list .exit)) (now (first .exit)) (now (second .exit)) (now (third .exit)) (now (own2 .exit)) (now (own3 .exit))) ≡ loaded t (lent (now (list .entry)) (now (first .entry)) (now (second .entry)) (now (third .entry)) (now (own2 .entry)) (now (own3 .entry))) (now (input .entry)) ⌝ }
+{
+    let answer = judge(t, input, list, first, second, third, own2, own3);
+    if accepts(answer) {
+        renew(t, input, list, first, second, third, own2, own3);
+        let g = t.geometry;
+        let count = (input.len() / 8) as u32;
+        return Changed {
+            answer,
+            table: Table { geometry: g, count },
+        };
+    }
+    Changed { answer, table: t }
+}

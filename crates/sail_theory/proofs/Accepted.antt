@@ -1,0 +1,191 @@
+-- The calls whole. A refusal leaves all as it was. Where a call is accepted, what it leaves is sound, and its list holds the routes that
+-- then stand. Assumes nothing.
+use mathlib.Core.Path.{_≡_, refl, sym, _∙_, ap, subst}
+use mathlib.Core.Logic.{_⊎_, inl, inr}
+use mathlib.Core.Bool.{true, false, true≢false, false≢true}
+use mathlib.Core.List.{List, [], _∷_}
+use Prim.Native.Nat.{ℕ, suc, _≤_}
+use native.Mathlib.Omega.{arith}
+use lib.ListN.{length}
+use Rattle.bits.specs.Count.{bit}
+use Rattle.bits.proofs.Tests.{decided}
+use Rattle.routes.specs.Route.{keyOf}
+use Rattle.routes.specs.Said.{Said, accepted, refused, refusedAt, accepts}
+use Rattle.routes.specs.Standing.{stands, insert, remove}
+use Rattle.routes.specs.declared.Route.{Route}
+use Rattle.routes.proofs.Standing.{insert-replaces}
+use Rattle.routes.proofs.Changed.{insert-adds, remove-takes}
+use Rattle.routes.proofs.Rows.{length-routes}
+use Rattle.sail.specs.Lent.{Lent}
+use Rattle.sail.specs.Level.{entry}
+use Rattle.sail.specs.Sound.{Sound, standing, used}
+use Rattle.sail.specs.declared.table.Table.{Table}
+use Rattle.sail.proofs.Sounds.{standing-good, chunks-need}
+use Rattle.sail_theory.specs.Render.{roomOf}
+use Rattle.sail_theory.specs.Calls.{opened, kept, ownersOf, route, announceSaid, withdrawSaid, Out, outcome, stateOf, lentOf, announced, withdrawn, reported}
+use Rattle.sail_theory.specs.Facts.{Holds, Welcome, Farewell}
+use Rattle.sail_theory.proofs.Chunks.{used-le}
+use Rattle.sail_theory.proofs.Needs.{need-same, stands-long}
+use Rattle.sail_theory.proofs.Judged.{Proper, Announce, announce-judged, Withdraw, withdraw-judged, Report}
+use Rattle.sail_theory.proofs.Only.{announce-only, withdraw-only, report-only}
+use Rattle.sail_theory.proofs.Changes.{welcome-holds, farewell-holds}
+
+-- outcomes
+module _ (s : Said) (t : Table) (l : Lent) (t′ : Table) (l′ : Lent) where
+  pub outcome-said : outcome s t l t′ l′ .said ≡ s
+  outcome-said = go s
+    where
+      go : (s : Said) → outcome s t l t′ l′ .said ≡ s
+      go (accepted vs) = refl
+      go (refused n) = refl
+      go (refusedAt n k) = refl
+
+  pub outcome-accepted : accepts s ≡ true → outcome s t l t′ l′ ≡ record { said = s; table = t′; lent = l′ }
+  outcome-accepted e = go s e
+    where
+      go : (s : Said) → accepts s ≡ true → outcome s t l t′ l′ ≡ record { said = s; table = t′; lent = l′ }
+      go (accepted vs) e = refl
+      go (refused n) e = absurd (false≢true e)
+      go (refusedAt n k) e = absurd (false≢true e)
+
+  pub outcome-refused : accepts s ≡ false → outcome s t l t′ l′ ≡ record { said = s; table = t; lent = l }
+  outcome-refused e = go s e
+    where
+      go : (s : Said) → accepts s ≡ false → outcome s t l t′ l′ ≡ record { said = s; table = t; lent = l }
+      go (accepted vs) e = absurd (true≢false e)
+      go (refused n) e = refl
+      go (refusedAt n k) e = refl
+
+module _ (t : Table) (l : Lent) (a len hop : ℕ) where
+  abbrev r : Route
+  r = route a len hop
+
+  abbrev rs : List Route
+  rs = standing t l
+
+  -- a list with its routes is within its room
+  within-room : Sound t l → length rs ≤ roomOf l
+  within-room s = omega (arith, length-routes (l .list) (t .count), s .listed .records .room)
+
+  -- a replacement needs no chunk more
+  pub replaced-welcome : Proper t l a len hop → stands (keyOf a len) rs ≡ true → Welcome t l r
+  replaced-welcome p e =
+      let s = p .sound in
+      let v = s .sized .valid in
+      let n = chunks-need t l s in
+      let good = standing-good t l s in
+      record {
+        fine = p .fine;
+        sound = s;
+        roomy = omega (arith, insert-replaces r rs good e, within-room s);
+        enough2 = omega (arith, n .0, used-le (entry (l .own2)) (length (l .own2)), need-same r rs (p .fine) good (t .geometry .p1) (omega arith) (stands-long r rs (p .fine) good e (t .geometry .p1)));
+        enough3 = omega (arith, n .1, used-le (entry (l .own3)) (length (l .own3)), need-same r rs (p .fine) good (t .geometry .p2) (omega arith) (stands-long r rs (p .fine) good e (t .geometry .p2)));
+      }
+
+  -- accepted exactly where the route is welcome
+  pub accepted-welcome : accepts (announceSaid t l a len hop) ≡ true → Welcome t l r
+  accepted-welcome e = go (announce-judged t l a len hop) e
+    where
+      go : {s : Said} → Announce t l a len hop s → accepts s ≡ true → Welcome t l r
+      go (Announce.sizing n h) e = absurd (false≢true e)
+      go (Announce.bad-prefix z h) e = absurd (false≢true e)
+      go (Announce.bad-hop z p h) e = absurd (false≢true e)
+      go (Announce.unsound z f h) e = absurd (false≢true e)
+      go (Announce.replaced p h) e = replaced-welcome p h
+      go (Announce.full p h k) e = absurd (false≢true e)
+      go (Announce.second w x) e = absurd (false≢true e)
+      go (Announce.third w x y) e = absurd (false≢true e)
+      go (Announce.added w x y) e = record {
+        fine = w .proper .fine;
+        sound = w .proper .sound;
+        roomy = omega (arith, insert-adds r rs (w .new), w .room);
+        enough2 = x;
+        enough3 = y;
+      }
+
+  pub welcome-said : Welcome t l r → announceSaid t l a len hop ≡ accepted (bit (stands (keyOf a len) rs) ∷ [])
+  welcome-said w = go (decided (stands (keyOf a len) rs))
+    where
+      go : (stands (keyOf a len) rs ≡ true) ⊎ (stands (keyOf a len) rs ≡ false) → announceSaid t l a len hop ≡ accepted (bit (stands (keyOf a len) rs) ∷ [])
+      go (inl e) = rw e (announce-only t l a len hop _ (Announce.replaced (record { fine = w .fine; sound = w .sound }) e))
+      go (inr e) =
+          rw e (announce-only t l a len hop _ (Announce.added (record {
+            proper = record { fine = w .fine; sound = w .sound };
+            new = e;
+            room = omega (arith, insert-adds r rs e, w .roomy);
+          }) (w .enough2) (w .enough3)))
+
+  -- what is then left
+  pub announce-is : Welcome t l r → announced t l a len hop ≡ record { said = accepted (bit (stands (keyOf a len) rs) ∷ []); table = stateOf t (insert r rs); lent = lentOf t l (insert r rs) (opened (t .geometry) (ownersOf l) r) }
+  unfolding announced
+  announce-is w = rw (welcome-said w)
+
+  -- the count: one more where the route is added, and the same where it is replaced
+  pub count-added : stands (keyOf a len) rs ≡ false → stateOf t (insert r rs) .count ≡ suc (t .count)
+  count-added e = insert-adds r rs e ∙ ap suc (length-routes (l .list) (t .count))
+
+  pub count-replaced : Sound t l → stands (keyOf a len) rs ≡ true → stateOf t (insert r rs) .count ≡ t .count
+  count-replaced s e = insert-replaces r rs (standing-good t l s) e ∙ length-routes (l .list) (t .count)
+
+  pub announce-said : announced t l a len hop .said ≡ announceSaid t l a len hop
+  unfolding announced
+  announce-said = outcome-said (announceSaid t l a len hop) t l _ _
+
+  -- Refused: the number alone, and all as it was. (The number is that of the first condition that holds: `announce-judged`.)
+  pub announce-off : (s : Said) → announceSaid t l a len hop ≡ s → accepts s ≡ false → announced t l a len hop ≡ record { said = s; table = t; lent = l }
+  unfolding announced
+  announce-off s q e = rw q (outcome-refused s t l _ _ e)
+
+  pub announce-refused : accepts (announced t l a len hop .said) ≡ false → announced t l a len hop ≡ record { said = announceSaid t l a len hop; table = t; lent = l }
+  announce-refused e = announce-off (announceSaid t l a len hop) refl (sym (ap accepts announce-said) ∙ e)
+
+  -- Accepted: sound, and the list holds the routes with this one inserted
+  pub announce-holds : accepts (announced t l a len hop .said) ≡ true → Holds t l (insert r rs) (announced t l a len hop .table) (announced t l a len hop .lent)
+  announce-holds e =
+      let w = accepted-welcome (sym (ap accepts announce-said) ∙ e) in
+      subst (λ (o : Out). Holds t l (insert r rs) (o .table) (o .lent)) (sym (announce-is w)) (welcome-holds t l r w)
+
+module _ (t : Table) (l : Lent) (a len : ℕ) where
+  abbrev left : List Route
+  left = remove (keyOf a len) (standing t l)
+
+  pub accepted-farewell : accepts (withdrawSaid t l a len) ≡ true → Farewell t l a len
+  accepted-farewell e = go (withdraw-judged t l a len) e
+    where
+      go : {s : Said} → Withdraw t l a len s → accepts s ≡ true → Farewell t l a len
+      go (Withdraw.sizing n h) e = absurd (false≢true e)
+      go (Withdraw.bad-prefix z h) e = absurd (false≢true e)
+      go (Withdraw.unsound z p h) e = absurd (false≢true e)
+      go (Withdraw.absent p k h) e = absurd (false≢true e)
+      go (Withdraw.removed w) e = w
+
+  pub farewell-said : Farewell t l a len → withdrawSaid t l a len ≡ accepted []
+  farewell-said w = withdraw-only t l a len _ (Withdraw.removed w)
+
+  pub withdraw-is : Farewell t l a len → withdrawn t l a len ≡ record { said = accepted []; table = stateOf t left; lent = lentOf t l left (kept (t .geometry) left (ownersOf l)) }
+  unfolding withdrawn
+  withdraw-is w = rw (farewell-said w)
+
+  pub count-removed : Farewell t l a len → suc (stateOf t left .count) ≡ t .count
+  count-removed w = remove-takes (keyOf a len) (standing t l) (standing-good t l (w .sound)) (w .old) ∙ length-routes (l .list) (t .count)
+
+  pub withdraw-said : withdrawn t l a len .said ≡ withdrawSaid t l a len
+  unfolding withdrawn
+  withdraw-said = outcome-said (withdrawSaid t l a len) t l _ _
+
+  pub withdraw-off : (s : Said) → withdrawSaid t l a len ≡ s → accepts s ≡ false → withdrawn t l a len ≡ record { said = s; table = t; lent = l }
+  unfolding withdrawn
+  withdraw-off s q e = rw q (outcome-refused s t l _ _ e)
+
+  pub withdraw-refused : accepts (withdrawn t l a len .said) ≡ false → withdrawn t l a len ≡ record { said = withdrawSaid t l a len; table = t; lent = l }
+  withdraw-refused e = withdraw-off (withdrawSaid t l a len) refl (sym (ap accepts withdraw-said) ∙ e)
+
+  -- Accepted: sound, and the list holds the routes with those of this prefix removed
+  pub withdraw-holds : accepts (withdrawn t l a len .said) ≡ true → Holds t l left (withdrawn t l a len .table) (withdrawn t l a len .lent)
+  withdraw-holds e =
+      let w = accepted-farewell (sym (ap accepts withdraw-said) ∙ e) in
+      subst (λ (o : Out). Holds t l left (o .table) (o .lent)) (sym (withdraw-is w)) (farewell-holds t l a len w)
+
+-- the report of a sound table: its count, and how many chunks of each pool are in use
+pub report-is : (t : Table) (l : Lent) → Sound t l → reported t l ≡ accepted (t .count ∷ used (l .own2) ∷ used (l .own3) ∷ [])
+report-is t l s = let n = chunks-need t l s in report-only t l _ (Report.counts s) ∙ rw (n .0, n .1)

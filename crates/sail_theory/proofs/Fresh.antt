@@ -1,0 +1,116 @@
+-- Make: a fresh table is what is rendered for no routes and no owners. Assumes nothing.
+use mathlib.Core.Path.{_≡_, refl, sym, _∙_, ap, subst}
+use mathlib.Core.Bool.{Bool, true, false, false≢true}
+use mathlib.Core.List.{List, []}
+use Prim.Native.Nat.{ℕ, zero, suc, _*_, _/_, _^_, _<_}
+use native.Mathlib.Omega.{arith}
+use lib.ListN.{getD, length, replicate, getD-replicate, length-replicate}
+use lib.Seq.{ext-getD}
+use Rattle.routes.specs.Route.{any, first, long, best, Good}
+use Rattle.routes.specs.Record.{written}
+use Rattle.routes.specs.Said.{Said, accepted, accepts}
+use Rattle.routes.proofs.Rows.{length-written, zero-written}
+use Rattle.sail.specs.Geometry.{bits2, bits3}
+use Rattle.sail.specs.Lent.{Lent}
+use Rattle.sail.specs.Level.{always, itself, nobody, liveIn, entry}
+use Rattle.sail.specs.Sizes.{Sized}
+use Rattle.sail.specs.Sound.{freshTable, freshLent}
+use Rattle.sail.specs.declared.geometry.Geometry.{Geometry}
+use Rattle.sail.specs.declared.table.Table.{Table}
+use Rattle.sail_theory.specs.Render.{never, at2, at3, rendered, Fits, Fits2, Fits3, roomOf}
+use Rattle.sail_theory.specs.Calls.{noOwners, makeSaid, Out, lentOf, made}
+use Rattle.sail_theory.specs.Facts.{Holds}
+use Rattle.sail_theory.proofs.Pools.{length-pool, pool-free, pool-leaf}
+use Rattle.sail_theory.proofs.Judged.{Make, make-judged}
+use Rattle.sail_theory.proofs.Only.{make-only}
+use Rattle.sail_theory.proofs.Changes.{render-holds}
+use Rattle.sail_theory.proofs.Accepted.{outcome-said, outcome-refused}
+
+pub zeros : (n i : ℕ) → _≡_ {A = ℕ} (getD (replicate n 0) i 0) 0
+zeros zero i = refl
+zeros (suc n) zero = refl
+zeros (suc n) (suc i) = zeros n i
+
+best-none : (p i : ℕ) → best [] p i ≡ 0
+unfolding best first
+best-none zero i = refl
+best-none (suc p) i = best-none p (i / 2)
+
+-- no owners fit no routes
+no-fits : (p n m : ℕ) (live : ℕ → Bool) (at : ℕ → ℕ) → Fits (long [] p) n live at (length (replicate {A = ℕ} m 0)) (entry (replicate m 0))
+unfolding any
+no-fits p n m live at = record {
+  lies = λ c q l e. absurd (omega (arith, zeros m c));
+  has = λ q l e d. absurd (false≢true d);
+  once = λ c q l e. absurd (omega (arith, zeros m c));
+}
+
+module _ (g : Geometry) (l : Lent) where
+  pub none-fits2 : Fits2 g [] (noOwners l .own2)
+  none-fits2 = no-fits (g .p1) _ (length (l .own2)) _ _
+
+  pub none-fits3 : Fits3 g [] (noOwners l .own2) (noOwners l .own3)
+  none-fits3 = no-fits (g .p2) _ (length (l .own3)) _ _
+
+-- an array of one number
+constant : (v n : ℕ) (xs : List ℕ) → length xs ≡ n → ((i : ℕ) → i < n → getD xs i 0 ≡ v) → replicate n v ≡ xs
+constant v n xs e h = ext-getD 0 (replicate n v) xs (length-replicate n v ∙ sym e) (λ i l. let k : i < n = rw length-replicate at l in getD-replicate {A = ℕ} n i v 0 k ∙ sym (h i k))
+
+module _ (t : Table) (l : Lent) (z : Sized (t .geometry) l) where
+  abbrev g : Geometry
+  g = t .geometry
+
+  abbrev none2 : List ℕ
+  none2 = noOwners l .own2
+
+  abbrev none3 : List ℕ
+  none3 = noOwners l .own3
+
+  -- no chunk is in use
+  unused : (n d q : ℕ) → liveIn (entry (replicate n 0)) d q ≡ false
+  unused n d q = rw zeros
+
+  pub fresh-rendered : freshLent l ≡ lentOf t l [] (noOwners l)
+  unfolding freshLent rendered any
+  fresh-rendered =
+      let w = length-written [] (roomOf l) in
+      let m : length (l .list) ≡ roomOf l * 8 = omega (arith, z .whole) in
+      let e1 = constant 0 (length (l .list)) (written [] (roomOf l)) (w ∙ sym m) (λ j h. zero-written [] (roomOf l) j (omega arith) (omega arith)) in
+      let e2 = constant 32768 (length (l .first)) (lentOf t l [] (noOwners l) .first) (length-pool (long [] (g .p1)) (best [] (g .p1)) (2 ^ g .p1) always itself (length none2) (entry none2) ∙ sym (z .cells1))
+      (λ q h. pool-leaf (long [] (g .p1)) (best [] (g .p1)) (2 ^ g .p1) always itself (length none2) (entry none2) q (rw (z .cells1) at h) refl refl ∙ rw best-none) in
+      let n2 : length none2 * 2 ^ bits2 g ≡ length (l .second) = ap (λ (n : ℕ). n * 2 ^ bits2 g) (length-replicate (length (l .own2)) 0) ∙ sym (z .cells2) in
+      let e3 = constant 0 (length (l .second)) (lentOf t l [] (noOwners l) .second) (length-pool (long [] (g .p2)) (best [] (g .p2)) (length none2 * 2 ^ bits2 g) (liveIn (entry none2) (bits2 g)) (at2 g none2) (length none3) (entry none3) ∙ n2)
+      (λ q h. pool-free (long [] (g .p2)) (best [] (g .p2)) (length none2 * 2 ^ bits2 g) (liveIn (entry none2) (bits2 g)) (at2 g none2) (length none3) (entry none3) q (rw n2 h) (unused (length (l .own2)) (bits2 g) q)) in
+      let n3 : length none3 * 2 ^ bits3 g ≡ length (l .third) = ap (λ (n : ℕ). n * 2 ^ bits3 g) (length-replicate (length (l .own3)) 0) ∙ sym (z .cells3) in
+      let e4 = constant 0 (length (l .third)) (lentOf t l [] (noOwners l) .third) (length-pool never (best [] 32) (length none3 * 2 ^ bits3 g) (liveIn (entry none3) (bits3 g)) (at3 g none2 none3) 0 nobody ∙ n3)
+      (λ q h. pool-free never (best [] 32) (length none3 * 2 ^ bits3 g) (liveIn (entry none3) (bits3 g)) (at3 g none2 none3) 0 nobody q (rw n3 h) (unused (length (l .own3)) (bits3 g) q)) in
+      λ i. record { list = e1 i; first = e2 i; second = e3 i; third = e4 i; own2 = none2; own3 = none3 }
+
+  pub make-is : made t l ≡ record { said = accepted []; table = freshTable (t .geometry); lent = freshLent l }
+  unfolding made
+  make-is = rw (make-only t l _ (Make.done z))
+
+  pub make-holds : Holds t l [] (made t l .table) (made t l .lent)
+  unfolding Good
+  make-holds =
+      subst (λ (o : Out). Holds t l [] (o .table) (o .lent)) (sym make-is)
+      (rw fresh-rendered (render-holds t l z [] tt (omega arith) (noOwners l) (length-replicate (length (l .own2)) 0) (length-replicate (length (l .own3)) 0) (none-fits2 (t .geometry) l) (none-fits3 (t .geometry) l)))
+
+pub make-said : (t : Table) (l : Lent) → made t l .said ≡ makeSaid t l
+unfolding made
+make-said t l = outcome-said (makeSaid t l) t l _ _
+
+pub make-off : (t : Table) (l : Lent) (s : Said) → makeSaid t l ≡ s → accepts s ≡ false → made t l ≡ record { said = s; table = t; lent = l }
+unfolding made
+make-off t l s q e = rw q (outcome-refused s t l _ _ e)
+
+pub make-refused : (t : Table) (l : Lent) → accepts (made t l .said) ≡ false → made t l ≡ record { said = makeSaid t l; table = t; lent = l }
+make-refused t l e = make-off t l (makeSaid t l) refl (sym (ap accepts (make-said t l)) ∙ e)
+
+-- accepted exactly where the sizes are right
+pub accepted-sized : (t : Table) (l : Lent) → accepts (made t l .said) ≡ true → Sized (t .geometry) l
+accepted-sized t l e = go (make-judged t l) (sym (ap accepts (make-said t l)) ∙ e)
+  where
+    go : {s : Said} → Make t l s → accepts s ≡ true → Sized (t .geometry) l
+    go (Make.sizing n h) e = absurd (false≢true e)
+    go (Make.done z) e = z

@@ -1,0 +1,210 @@
+-- What each call says is decided by the first condition, in document 01's order, that holds. For each call a type lists what it can say,
+-- with all that then holds: the cases exclude each other, and the call says what one of them has. Assumes nothing.
+use mathlib.Core.Path.{_≡_, refl, sym, _∙_}
+use mathlib.Core.Logic.{_⊎_, inl, inr}
+use mathlib.Core.Bool.{true, false, not, cond, true≢false}
+use mathlib.Core.List.{List, [], _∷_}
+use Prim.Native.Nat.{ℕ, _*_, _/_, _≤_, _<_}
+use native.Mathlib.Omega.{arith}
+use lib.Dec.{ltb, leb}
+use lib.ListN.{length}
+use borrow.Author.Tests.{lt-leb, le-leb, lt-ltb, le-ltb}
+use Rattle.bits.specs.Count.{bit}
+use Rattle.bits.proofs.Tests.{decided, below?}
+use Rattle.routes.specs.Route.{keyOf, need, Prefix, Fine}
+use Rattle.routes.specs.Record.{Records}
+use Rattle.routes.specs.Input.{properPrefix, hopFine, inputSaid}
+use Rattle.routes.specs.Said.{Said, accepted, refused, andThen}
+use Rattle.routes.specs.Standing.{stands, insert}
+use Rattle.routes.specs.declared.Route.{Route}
+use Rattle.routes.proofs.Rows.{length-routes, records-good}
+use Rattle.routes.proofs.Meaning.{prefix-true, true-prefix, hop-true, true-hop, Checked, input-checked}
+use Rattle.sail.specs.Geometry.{Valid}
+use Rattle.sail.specs.Lent.{Lent}
+use Rattle.sail.specs.Sizes.{sizesFault, Sized}
+use Rattle.sail.specs.Sound.{Sound, standing}
+use Rattle.sail.specs.declared.table.Table.{Table}
+use Rattle.sail.proofs.Fitting.{Fault, fault-is}
+use Rattle.sail_theory.specs.Render.{roomOf}
+use Rattle.sail_theory.specs.Test.{sound?}
+use Rattle.sail_theory.specs.Calls.{route, termsOf, chunksFault, announceFault, withdrawFault, loadFault, orSay, makeSaid, announceSaid, withdrawSaid, loadSaid, inputRoutes, reported}
+use Rattle.sail_theory.specs.Facts.{Farewell, Loadable}
+use Rattle.sail_theory.proofs.Tells.{sound-tells}
+
+-- 1 and 2, with which every call begins
+pub data Sizing (t : Table) (l : Lent) : ℕ → Type 0 where
+  limits : (Valid (t .geometry) → ⊥) → Sizing t l 1
+  size : Valid (t .geometry) → (Sized (t .geometry) l → ⊥) → Sizing t l 2
+
+-- what a call says where it gets so far, after the sizes
+after-sizes : (t : Table) (l : Lent) (P : Said → Type 0) (s : Said) → ((n : ℕ) → Sizing t l n → P (refused n)) → (Sized (t .geometry) l → P s) → P (orSay (sizesFault (t .geometry) l) s)
+after-sizes t l P s off on = go (fault-is (t .geometry) l)
+  where
+    go : {n : ℕ} → Fault (t .geometry) l n → P (orSay n s)
+    go (Fault.none z) = on z
+    go (Fault.limits h) = off 1 (limits h)
+    go (Fault.size v h) = off 2 (size v h)
+
+module _ (t : Table) (l : Lent) where
+  pub data Make : Said → Type 0 where
+    sizing : (n : ℕ) → Sizing t l n → Make (refused n)
+    done : Sized (t .geometry) l → Make (accepted [])
+
+  pub make-judged : Make (makeSaid t l)
+  unfolding makeSaid
+  make-judged = after-sizes t l Make (accepted []) sizing done
+
+-- announce: 1, 2, 3, 4, 5, 6, 7, 8; a replacement never meets 6 to 8
+module _ (t : Table) (l : Lent) (a len hop : ℕ) where
+  abbrev rs : List Route
+  rs = standing t l
+
+  -- the routes that would then stand
+  abbrev next : List Route
+  next = insert (route a len hop) rs
+
+  -- the route is fine, and the table sound
+  pub record Proper : Type 0 where
+    pub fine : Fine (route a len hop)
+    pub sound : Sound t l
+
+  -- and the prefix does not stand, and the list has room
+  pub record Roomy : Type 0 where
+    pub proper : Proper
+    pub new : stands (keyOf a len) rs ≡ false
+    pub room : length rs < roomOf l
+
+  pub data Announce : Said → Type 0 where
+    sizing : (n : ℕ) → Sizing t l n → Announce (refused n)
+    bad-prefix : Sized (t .geometry) l → (Prefix a len → ⊥) → Announce (refused 3)
+    bad-hop : Sized (t .geometry) l → Prefix a len → (1 ≤ hop → hop ≤ 32767 → ⊥) → Announce (refused 4)
+    unsound : Sized (t .geometry) l → Fine (route a len hop) → (Sound t l → ⊥) → Announce (refused 5)
+    replaced : Proper → stands (keyOf a len) rs ≡ true → Announce (accepted (1 ∷ []))
+    full : Proper → stands (keyOf a len) rs ≡ false → roomOf l ≤ length rs → Announce (refused 6)
+    second : Roomy → length (l .own2) < need next (t .geometry .p1) → Announce (refused 7)
+    third : Roomy → need next (t .geometry .p1) ≤ length (l .own2) → length (l .own3) < need next (t .geometry .p2) → Announce (refused 8)
+    added : Roomy → need next (t .geometry .p1) ≤ length (l .own2) → need next (t .geometry .p2) ≤ length (l .own3) → Announce (accepted (0 ∷ []))
+
+  announce-fine : Fine (route a len hop) → Sized (t .geometry) l → Announce (orSay (announceFault (sound? t l) (termsOf t l) rs a len hop) (accepted (bit (stands (keyOf a len) rs) ∷ [])))
+  unfolding announceFault chunksFault
+  announce-fine f z =
+      rw (true-prefix a len (f .prefix), true-hop hop (f .hop-one) (f .hop-ok))
+      (go (decided (sound? t l)) (decided (stands (keyOf a len) rs)) (below? (length rs) (roomOf l)) (below? (length (l .own2)) (need next (t .geometry .p1))) (below? (length (l .own3)) (need next (t .geometry .p2))))
+    where
+      go : (sound? t l ≡ true) ⊎ (sound? t l ≡ false) → (stands (keyOf a len) rs ≡ true) ⊎ (stands (keyOf a len) rs ≡ false) → (length rs < roomOf l) ⊎ (roomOf l ≤ length rs)
+          → (length (l .own2) < need next (t .geometry .p1)) ⊎ (need next (t .geometry .p1) ≤ length (l .own2))
+          → (length (l .own3) < need next (t .geometry .p2)) ⊎ (need next (t .geometry .p2) ≤ length (l .own3))
+          → Announce (orSay (cond (not (sound? t l)) 5 (cond (stands (keyOf a len) rs) 0 (cond (leb (roomOf l) (length rs)) 6
+          (cond (ltb (length (l .own2)) (need next (t .geometry .p1))) 7 (cond (ltb (length (l .own3)) (need next (t .geometry .p2))) 8 0)))))
+          (accepted (bit (stands (keyOf a len) rs) ∷ [])))
+      go (inr u) e r x y = rw u (unsound z f (λ s. true≢false (sym (sound-tells t l .1 s) ∙ u)))
+      go (inl u) e r x y = rest e r x y
+        where
+          proper : Proper
+          proper = record { fine = f; sound = sound-tells t l .0 u }
+
+          rest : (stands (keyOf a len) rs ≡ true) ⊎ (stands (keyOf a len) rs ≡ false) → (length rs < roomOf l) ⊎ (roomOf l ≤ length rs)
+              → (length (l .own2) < need next (t .geometry .p1)) ⊎ (need next (t .geometry .p1) ≤ length (l .own2))
+              → (length (l .own3) < need next (t .geometry .p2)) ⊎ (need next (t .geometry .p2) ≤ length (l .own3))
+              → Announce (orSay (cond (not (sound? t l)) 5 (cond (stands (keyOf a len) rs) 0 (cond (leb (roomOf l) (length rs)) 6
+              (cond (ltb (length (l .own2)) (need next (t .geometry .p1))) 7 (cond (ltb (length (l .own3)) (need next (t .geometry .p2))) 8 0)))))
+              (accepted (bit (stands (keyOf a len) rs) ∷ [])))
+          rest (inl e) r x y = rw (u, e) (replaced proper e)
+          rest (inr e) (inr r) x y = rw (u, e, le-leb (roomOf l) (length rs) r) (full proper e r)
+          rest (inr e) (inl r) (inl x) y = rw (u, e, lt-leb (roomOf l) (length rs) r, lt-ltb _ _ x) (second (record { proper = proper; new = e; room = r }) x)
+          rest (inr e) (inl r) (inr x) (inl y) = rw (u, e, lt-leb (roomOf l) (length rs) r, le-ltb _ _ x, lt-ltb _ _ y) (third (record { proper = proper; new = e; room = r }) x y)
+          rest (inr e) (inl r) (inr x) (inr y) = rw (u, e, lt-leb (roomOf l) (length rs) r, le-ltb _ _ x, le-ltb _ _ y) (added (record { proper = proper; new = e; room = r }) x y)
+
+  pub announce-judged : Announce (announceSaid t l a len hop)
+  unfolding announceSaid announceFault
+  announce-judged = after-sizes t l Announce _ sizing (λ z. go z (decided (properPrefix a len)) (decided (hopFine hop)))
+    where
+      go : Sized (t .geometry) l → (properPrefix a len ≡ true) ⊎ (properPrefix a len ≡ false) → (hopFine hop ≡ true) ⊎ (hopFine hop ≡ false)
+          → Announce (orSay (announceFault (sound? t l) (termsOf t l) rs a len hop) (accepted (bit (stands (keyOf a len) rs) ∷ [])))
+      go z (inr p) h = rw p (bad-prefix z (λ q. true≢false (sym (true-prefix a len q) ∙ p)))
+      go z (inl p) (inr h) = rw (p, h) (bad-hop z (prefix-true a len p) (λ i j. true≢false (sym (true-hop hop i j) ∙ h)))
+      go z (inl p) (inl h) = let b = hop-true hop h in announce-fine (record { prefix = prefix-true a len p; hop-one = b .0; hop-ok = b .1; spare-ok = refl }) z
+
+-- withdraw: 1, 2, 3, 5, 9
+module _ (t : Table) (l : Lent) (a len : ℕ) where
+  pub data Withdraw : Said → Type 0 where
+    sizing : (n : ℕ) → Sizing t l n → Withdraw (refused n)
+    bad-prefix : Sized (t .geometry) l → (Prefix a len → ⊥) → Withdraw (refused 3)
+    unsound : Sized (t .geometry) l → Prefix a len → (Sound t l → ⊥) → Withdraw (refused 5)
+    absent : Prefix a len → Sound t l → stands (keyOf a len) (standing t l) ≡ false → Withdraw (refused 9)
+    removed : Farewell t l a len → Withdraw (accepted [])
+
+  pub withdraw-judged : Withdraw (withdrawSaid t l a len)
+  unfolding withdrawSaid withdrawFault
+  withdraw-judged = after-sizes t l Withdraw _ sizing (λ z. go z (decided (properPrefix a len)) (decided (sound? t l)) (decided (stands (keyOf a len) (standing t l))))
+    where
+      go : Sized (t .geometry) l → (properPrefix a len ≡ true) ⊎ (properPrefix a len ≡ false) → (sound? t l ≡ true) ⊎ (sound? t l ≡ false)
+          → (stands (keyOf a len) (standing t l) ≡ true) ⊎ (stands (keyOf a len) (standing t l) ≡ false)
+          → Withdraw (orSay (withdrawFault (sound? t l) (standing t l) a len) (accepted []))
+      go z (inr p) u e = rw p (bad-prefix z (λ q. true≢false (sym (true-prefix a len q) ∙ p)))
+      go z (inl p) (inr u) e = rw (p, u) (unsound z (prefix-true a len p) (λ s. true≢false (sym (sound-tells t l .1 s) ∙ u)))
+      go z (inl p) (inl u) (inr e) = rw (p, u, e) (absent (prefix-true a len p) (sound-tells t l .0 u) e)
+      go z (inl p) (inl u) (inl e) = rw (p, u, e) (removed (record { prefix = prefix-true a len p; sound = sound-tells t l .0 u; old = e }))
+
+-- load: 1, 2, the input's with its index, 6, 7, 8
+module _ (t : Table) (l : Lent) (input : List ℕ) where
+  -- right sizes and a good input; what is wrong with one that is not good is in crate routes, proofs/Meaning.antt
+  pub record Readable : Type 0 where
+    pub sized : Sized (t .geometry) l
+    pub whole : length input ≡ length input / 8 * 8
+    pub records : Records input (length input / 8)
+
+  pub data Load : Said → Type 0 where
+    sizing : (n : ℕ) → Sizing t l n → Load (refused n)
+    bad-input : {s : Said} → Sized (t .geometry) l → inputSaid input ≡ s → ((ns : List ℕ) → s ≡ accepted ns → ⊥) → Load s
+    full : Readable → roomOf l < length input / 8 → Load (refused 6)
+    second : Readable → length input / 8 ≤ roomOf l → length (l .own2) < need (inputRoutes input) (t .geometry .p1) → Load (refused 7)
+    third : Readable → length input / 8 ≤ roomOf l → need (inputRoutes input) (t .geometry .p1) ≤ length (l .own2) → length (l .own3) < need (inputRoutes input) (t .geometry .p2) → Load (refused 8)
+    done : Readable → Loadable t l (inputRoutes input) → Load (accepted [])
+
+  load-read : Readable → Load (orSay (loadFault (termsOf t l) (inputRoutes input)) (accepted []))
+  unfolding loadFault chunksFault
+  load-read w = rw (length-routes input (length input / 8)) (go (below? (roomOf l) (length input / 8)) (below? (length (l .own2)) (need (inputRoutes input) (t .geometry .p1))) (below? (length (l .own3)) (need (inputRoutes input) (t .geometry .p2))))
+    where
+      go : (roomOf l < length input / 8) ⊎ (length input / 8 ≤ roomOf l)
+          → (length (l .own2) < need (inputRoutes input) (t .geometry .p1)) ⊎ (need (inputRoutes input) (t .geometry .p1) ≤ length (l .own2))
+          → (length (l .own3) < need (inputRoutes input) (t .geometry .p2)) ⊎ (need (inputRoutes input) (t .geometry .p2) ≤ length (l .own3))
+          → Load (orSay (cond (ltb (roomOf l) (length input / 8)) 6 (cond (ltb (length (l .own2)) (need (inputRoutes input) (t .geometry .p1))) 7 (cond (ltb (length (l .own3)) (need (inputRoutes input) (t .geometry .p2))) 8 0))) (accepted []))
+      go (inl r) x y = rw (lt-ltb _ _ r) (full w r)
+      go (inr r) (inl x) y = rw (le-ltb _ _ r, lt-ltb _ _ x) (second w r x)
+      go (inr r) (inr x) (inl y) = rw (le-ltb _ _ r, le-ltb _ _ x, lt-ltb _ _ y) (third w r x y)
+      go (inr r) (inr x) (inr y) = rw (le-ltb _ _ r, le-ltb _ _ x, le-ltb _ _ y) (done w (record {
+        sized = w .sized;
+        good = records-good input (length input / 8) (w .records);
+        roomy = rw length-routes r;
+        enough2 = x;
+        enough3 = y;
+      }))
+
+  pub load-judged : Load (loadSaid t l input)
+  unfolding loadSaid
+  load-judged = after-sizes t l Load _ sizing (λ z. go z (input-checked input) refl)
+    where
+      go : Sized (t .geometry) l → {s : Said} → Checked input s → inputSaid input ≡ s → Load (andThen s (orSay (loadFault (termsOf t l) (inputRoutes input)) (accepted [])))
+      go z (Checked.ragged w) e = bad-input z e (λ ns q. absurd (let y : _≡_ {A = ℕ} 0 1 = cc in omega arith))
+      go z (Checked.stopped k f w i b x p) e = bad-input z e (λ ns q. absurd (let y : _≡_ {A = ℕ} 0 1 = cc in omega arith))
+      go z (Checked.many w b m) e = bad-input z e (λ ns q. absurd (let y : _≡_ {A = ℕ} 0 1 = cc in omega arith))
+      go z (Checked.good n w r) e =
+          let q : n ≡ length input / 8 = omega arith in
+          load-read (record { sized = z; whole = omega arith; records = rw q at r })
+
+-- report: 1, 2, 5
+module _ (t : Table) (l : Lent) where
+  pub data Report : Said → Type 0 where
+    sizing : (n : ℕ) → Sizing t l n → Report (refused n)
+    unsound : Sized (t .geometry) l → (Sound t l → ⊥) → Report (refused 5)
+    counts : Sound t l → Report (accepted (t .count ∷ need (standing t l) (t .geometry .p1) ∷ need (standing t l) (t .geometry .p2) ∷ []))
+
+  pub report-judged : Report (reported t l)
+  unfolding reported
+  report-judged = after-sizes t l Report _ sizing (λ z. go z (decided (sound? t l)))
+    where
+      go : Sized (t .geometry) l → (sound? t l ≡ true) ⊎ (sound? t l ≡ false)
+          → Report (cond (not (sound? t l)) (refused 5) (accepted (t .count ∷ need (standing t l) (t .geometry .p1) ∷ need (standing t l) (t .geometry .p2) ∷ [])))
+      go z (inl u) = rw u (counts (sound-tells t l .0 u))
+      go z (inr u) = rw u (unsound z (λ s. true≢false (sym (sound-tells t l .1 s) ∙ u)))

@@ -1,0 +1,210 @@
+-- The calls that change a table. Each is a function from the state and what is lent at entry to what it says, the state and what is lent
+-- at exit, for every state and every contents. Assumes nothing.
+use mathlib.Core.Bool.{Bool, not, cond}
+use mathlib.Core.List.{List, [], _∷_, map}
+use Prim.Native.Nat.{ℕ, zero, suc, _+_, _-_, _*_, _/_, _%_, _^_}
+use lib.Dec.{ltb, leb}
+use lib.ListN.{length, set, replicate}
+use Rattle.bits.specs.Slot.{slot}
+use Rattle.bits.specs.Count.{bit}
+use Rattle.routes.specs.Route.{keyOf, long, need}
+use Rattle.routes.specs.Record.{routesOf}
+use Rattle.routes.specs.Input.{properPrefix, hopFine, inputSaid}
+use Rattle.routes.specs.Said.{Said, accepted, refused, refusedAt, andThen}
+use Rattle.routes.specs.Standing.{stands, insert, remove}
+use Rattle.routes.specs.declared.Route.{Route}
+use Rattle.sail.specs.Geometry.{bits2}
+use Rattle.sail.specs.Lent.{Lent}
+use Rattle.sail.specs.Level.{itself}
+use Rattle.sail.specs.Sizes.{sizesFault}
+use Rattle.sail.specs.Sound.{standing, freshTable, freshLent}
+use Rattle.sail.specs.declared.geometry.Geometry.{Geometry}
+use Rattle.sail.specs.declared.table.Table.{Table}
+use Rattle.sail_theory.specs.Render.{find, at2, rendered, roomOf}
+use Rattle.sail_theory.specs.Test.{sound?}
+
+-- Owners.
+
+pub record Owners : Type 0 where
+  pub own2 : List ℕ
+  pub own3 : List ℕ
+
+-- a chunk hangs from the place q; if none did, it is c
+unfoldable pub grant : List ℕ → ℕ → ℕ → List ℕ
+grant own c q = cond (ltb (find own (suc q)) (length own)) own (set own c (suc q))
+
+-- the place in the second pool that serves the address a
+abbrev pub placeIn : Geometry → List ℕ → ℕ → ℕ
+placeIn g own2 a = find own2 (suc (slot (g .p1) a)) * 2 ^ bits2 g + slot (g .p2) a % 2 ^ bits2 g
+
+-- a route longer than p1 has a second chunk, one longer than p2 a third; if it had none, it is c
+unfoldable pub openAt2 : Geometry → List ℕ → ℕ → Route → List ℕ
+openAt2 g own2 c r = cond (ltb (g .p1) (r .len)) (grant own2 c (slot (g .p1) (r .addr))) own2
+
+unfoldable pub openAt3 : Geometry → List ℕ → List ℕ → ℕ → Route → List ℕ
+openAt3 g own2 own3 c r = cond (ltb (g .p2) (r .len)) (grant own3 c (placeIn g own2 (r .addr))) own3
+
+-- "A newly opened chunk takes the lowest free number"
+abbrev pub open2 : Geometry → List ℕ → Route → List ℕ
+open2 g own2 r = openAt2 g own2 (find own2 0) r
+
+abbrev pub open3 : Geometry → List ℕ → List ℕ → Route → List ℕ
+open3 g own2 own3 r = openAt3 g own2 own3 (find own3 0) r
+
+-- the owners after r is announced
+abbrev pub opened : Geometry → Owners → Route → Owners
+opened g o r = record { own2 = open2 g (o .own2) r; own3 = open3 g (open2 g (o .own2) r) (o .own3) r }
+
+-- after each of these is, in order
+unfoldable pub settled : Geometry → Owners → List Route → Owners
+settled g o [] = o
+settled g o (r ∷ rs) = settled g (opened g o r) rs
+
+-- owners whose cell is no longer deep are 0
+unfoldable pub keep : (ℕ → Bool) → (ℕ → ℕ) → List ℕ → List ℕ
+keep deep at own = map (λ o. cond (deep (at (o - 1))) o 0) own
+
+abbrev pub keep2 : Geometry → List Route → List ℕ → List ℕ
+keep2 g rs own2 = keep (long rs (g .p1)) itself own2
+
+abbrev pub keep3 : Geometry → List Route → List ℕ → List ℕ → List ℕ
+keep3 g rs own2 own3 = keep (long rs (g .p2)) (at2 g own2) own3
+
+-- "closes chunks that are no longer needed": the owners after a withdrawal that leaves these routes
+abbrev pub kept : Geometry → List Route → Owners → Owners
+kept g rs o = record { own2 = keep2 g rs (o .own2); own3 = keep3 g rs (o .own2) (o .own3) }
+
+abbrev pub ownersOf : Lent → Owners
+ownersOf l = record { own2 = l .own2; own3 = l .own3 }
+
+abbrev pub noOwners : Lent → Owners
+noOwners l = record { own2 = replicate (length (l .own2)) 0; own3 = replicate (length (l .own3)) 0 }
+
+-- Refusals.
+
+-- what a table has for its routes: room in the list, and how many chunks it may use
+pub record Terms : Type 0 where
+  pub geometry : Geometry
+  pub room : ℕ
+  pub most2 : ℕ
+  pub most3 : ℕ
+
+-- all that is lent
+abbrev pub termsOf : Table → Lent → Terms
+termsOf t l = record { geometry = t .geometry; room = roomOf l; most2 = length (l .own2); most3 = length (l .own3) }
+
+-- 7: the need for second chunks exceeds what there is; 8: the need for third chunks does; 0: neither
+unfoldable pub chunksFault : Terms → List Route → ℕ
+chunksFault m rs = cond (ltb (m .most2) (need rs (m .geometry .p1))) 7 (cond (ltb (m .most3) (need rs (m .geometry .p2))) 8 0)
+
+abbrev pub route : ℕ → ℕ → ℕ → Route
+route a len hop = record { addr = a; len = len; spare = 0; hop = hop }
+
+-- 3, 4, 5, 6, 7, 8; a replacement never meets 6 to 8. `ok` tells whether the table is sound
+unfoldable pub announceFault : Bool → Terms → List Route → ℕ → ℕ → ℕ → ℕ
+announceFault ok m rs a len hop =
+    cond (not (properPrefix a len)) 3
+    (cond (not (hopFine hop)) 4
+    (cond (not ok) 5
+    (cond (stands (keyOf a len) rs) 0
+    (cond (leb (m .room) (length rs)) 6
+    (chunksFault m (insert (route a len hop) rs))))))
+
+-- 3, 5, 9
+unfoldable pub withdrawFault : Bool → List Route → ℕ → ℕ → ℕ
+withdrawFault ok rs a len =
+    cond (not (properPrefix a len)) 3
+    (cond (not ok) 5
+    (cond (not (stands (keyOf a len) rs)) 9 0))
+
+-- 6, 7, 8, after the input itself is good
+unfoldable pub loadFault : Terms → List Route → ℕ
+loadFault m rs = cond (ltb (m .room) (length rs)) 6 (chunksFault m rs)
+
+-- a number is a refusal; 0 lets the next step speak
+abbrev pub orSay : ℕ → Said → Said
+orSay zero s = s
+orSay (suc n) s = refused (suc n)
+
+unfoldable pub makeSaid : Table → Lent → Said
+makeSaid t l = orSay (sizesFault (t .geometry) l) (accepted [])
+
+-- added says 0, replaced says 1
+unfoldable pub announceSaid : Table → Lent → ℕ → ℕ → ℕ → Said
+announceSaid t l a len hop =
+    orSay (sizesFault (t .geometry) l)
+    (orSay (announceFault (sound? t l) (termsOf t l) (standing t l) a len hop)
+    (accepted (bit (stands (keyOf a len) (standing t l)) ∷ [])))
+
+unfoldable pub withdrawSaid : Table → Lent → ℕ → ℕ → Said
+withdrawSaid t l a len =
+    orSay (sizesFault (t .geometry) l)
+    (orSay (withdrawFault (sound? t l) (standing t l) a len)
+    (accepted []))
+
+-- the routes of a record input
+abbrev pub inputRoutes : List ℕ → List Route
+inputRoutes input = routesOf input (length input / 8)
+
+unfoldable pub loadSaid : Table → Lent → List ℕ → Said
+loadSaid t l input =
+    orSay (sizesFault (t .geometry) l)
+    (andThen (inputSaid input)
+    (orSay (loadFault (termsOf t l) (inputRoutes input))
+    (accepted [])))
+
+-- Outcomes.
+
+pub record Out : Type 0 where
+  pub said : Said
+  pub table : Table
+  pub lent : Lent
+
+-- a refusal leaves all as it was
+abbrev pub outcome : Said → Table → Lent → Table → Lent → Out
+outcome (accepted vs) t l t′ l′ = record { said = accepted vs; table = t′; lent = l′ }
+outcome (refused n) t l t′ l′ = record { said = refused n; table = t; lent = l }
+outcome (refusedAt n k) t l t′ l′ = record { said = refusedAt n k; table = t; lent = l }
+
+-- the state and all that is lent where these routes stand with these owners
+abbrev pub stateOf : Table → List Route → Table
+stateOf t rs = record { geometry = t .geometry; count = length rs }
+
+abbrev pub lentOf : Table → Lent → List Route → Owners → Lent
+lentOf t l rs o = rendered (t .geometry) (roomOf l) rs (o .own2) (o .own3)
+
+-- where it is accepted, these routes stand with these owners: all else that is lent follows from them
+abbrev pub leaving : Said → Table → Lent → List Route → Owners → Out
+leaving s t l rs o = outcome s t l (stateOf t rs) (lentOf t l rs o)
+
+-- a fresh table
+unfoldable pub made : Table → Lent → Out
+made t l = outcome (makeSaid t l) t l (freshTable (t .geometry)) (freshLent l)
+
+-- "Announce adds, or replaces the hop of a standing prefix, and says which"
+unfoldable pub announced : Table → Lent → ℕ → ℕ → ℕ → Out
+announced t l a len hop =
+    leaving (announceSaid t l a len hop) t l
+    (insert (route a len hop) (standing t l))
+    (opened (t .geometry) (ownersOf l) (route a len hop))
+
+-- "Withdraw removes, and closes chunks that are no longer needed"
+unfoldable pub withdrawn : Table → Lent → ℕ → ℕ → Out
+withdrawn t l a len =
+    leaving (withdrawSaid t l a len) t l
+    (remove (keyOf a len) (standing t l))
+    (kept (t .geometry) (remove (keyOf a len) (standing t l)) (ownersOf l))
+
+-- of the old table its geometry and its sizes alone
+unfoldable pub loaded : Table → Lent → List ℕ → Out
+loaded t l input =
+    leaving (loadSaid t l input) t l
+    (inputRoutes input)
+    (settled (t .geometry) (noOwners l) (inputRoutes input))
+
+-- "The report gives the route count and both needs"; it changes nothing
+unfoldable pub reported : Table → Lent → Said
+reported t l =
+    orSay (sizesFault (t .geometry) l)
+    (cond (not (sound? t l)) (refused 5)
+    (accepted (t .count ∷ need (standing t l) (t .geometry .p1) ∷ need (standing t l) (t .geometry .p2) ∷ [])))

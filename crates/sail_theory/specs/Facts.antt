@@ -1,0 +1,56 @@
+-- What holds where a call is accepted, as facts. A program's test of its arguments hands these on, and the part that changes the table
+-- rests on them. Assumes nothing.
+use mathlib.Core.Bool.{true}
+use mathlib.Core.List.{List}
+use mathlib.Core.Path.{_≡_}
+use Prim.Native.Nat.{ℕ, _≤_}
+use lib.ListN.{length}
+use Rattle.routes.specs.Route.{keyOf, need, Prefix, Fine, Good}
+use Rattle.routes.specs.Record.{written}
+use Rattle.routes.specs.Standing.{stands, insert}
+use Rattle.routes.specs.declared.Route.{Route}
+use Rattle.sail.specs.Lent.{Lent}
+use Rattle.sail.specs.Sizes.{Sized}
+use Rattle.sail.specs.Sound.{Sound, standing}
+use Rattle.sail.specs.declared.table.Table.{Table}
+use Rattle.sail_theory.specs.Render.{roomOf}
+
+-- as many of everything is lent
+pub record SameSize (l u : Lent) : Type 0 where
+  pub list : length (u .list) ≡ length (l .list)
+  pub first : length (u .first) ≡ length (l .first)
+  pub second : length (u .second) ≡ length (l .second)
+  pub third : length (u .third) ≡ length (l .third)
+  pub chunks2 : length (u .own2) ≡ length (l .own2)
+  pub chunks3 : length (u .own3) ≡ length (l .own3)
+
+-- a sound table of the same geometry and sizes, whose list holds these routes, in order, and zero bytes after them
+pub record Holds (t : Table) (l : Lent) (rs : List Route) (u : Table) (v : Lent) : Type 0 where
+  pub sound : Sound u v
+  pub routes : standing u v ≡ rs
+  pub list : v .list ≡ written rs (roomOf l)
+  pub count : u .count ≡ length rs
+  pub geometry : u .geometry ≡ t .geometry
+  pub size : SameSize l v
+
+-- the route r may be announced
+pub record Welcome (t : Table) (l : Lent) (r : Route) : Type 0 where
+  pub fine : Fine r
+  pub sound : Sound t l
+  pub roomy : length (insert r (standing t l)) ≤ roomOf l
+  pub enough2 : need (insert r (standing t l)) (t .geometry .p1) ≤ length (l .own2)
+  pub enough3 : need (insert r (standing t l)) (t .geometry .p2) ≤ length (l .own3)
+
+-- the prefix may be withdrawn
+pub record Farewell (t : Table) (l : Lent) (a len : ℕ) : Type 0 where
+  pub prefix : Prefix a len
+  pub sound : Sound t l
+  pub old : stands (keyOf a len) (standing t l) ≡ true
+
+-- the routes rs may be loaded
+pub record Loadable (t : Table) (l : Lent) (rs : List Route) : Type 0 where
+  pub sized : Sized (t .geometry) l
+  pub good : Good rs
+  pub roomy : length rs ≤ roomOf l
+  pub enough2 : need rs (t .geometry .p1) ≤ length (l .own2)
+  pub enough3 : need rs (t .geometry .p2) ≤ length (l .own3)

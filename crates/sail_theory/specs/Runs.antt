@@ -1,0 +1,72 @@
+-- Calls one after the other, and the routes that stand by what they said alone. Assumes nothing.
+use mathlib.Core.Bool.{true, cond}
+use mathlib.Core.List.{List, [], _∷_}
+use mathlib.Core.Path.{_≡_}
+use Prim.Native.Nat.{ℕ, _*_, _≤_}
+use lib.Dec.{eqb}
+use lib.ListN.{length}
+use Rattle.routes.specs.Route.{keyOf, Prefix, Fine}
+use Rattle.routes.specs.Record.{routesOf, Records}
+use Rattle.routes.specs.Input.{inputSaid}
+use Rattle.routes.specs.Said.{accepted, accepts}
+use Rattle.routes.specs.Standing.{stands, Held, absent, stood, routeAt, insert, remove}
+use Rattle.routes.specs.declared.Route.{Route}
+use Rattle.sail.specs.Lent.{Lent}
+use Rattle.sail.specs.declared.table.Table.{Table}
+use Rattle.sail_theory.specs.Calls.{route, inputRoutes, Out, made, announced, withdrawn, loaded}
+
+-- what is left after announcing each of these in order
+unfoldable pub announceAll : Out → List Route → Out
+announceAll o [] = o
+announceAll o (r ∷ rs) = announceAll (announced (o .table) (o .lent) (r .addr) (r .len) (r .hop)) rs
+
+-- each of these answers is that the route was added
+unfoldable pub AllAdded : Out → List Route → Type 0
+AllAdded o [] = Unit
+AllAdded o (r ∷ rs) =
+    (announced (o .table) (o .lent) (r .addr) (r .len) (r .hop) .said ≡ accepted (0 ∷ []))
+    × AllAdded (announced (o .table) (o .lent) (r .addr) (r .len) (r .hop)) rs
+
+pub data Call : Type 0 where
+  announce : ℕ → ℕ → ℕ → Call
+  withdraw : ℕ → ℕ → Call
+  load : List ℕ → Call
+
+unfoldable pub done : Table → Lent → Call → Out
+done t l (announce a len hop) = announced t l a len hop
+done t l (withdraw a len) = withdrawn t l a len
+done t l (load input) = loaded t l input
+
+-- what a run of calls from a fresh table leaves; the last call stands first
+unfoldable pub after : Table → Lent → List Call → Out
+after t l [] = made t l
+after t l (c ∷ cs) = done (after t l cs .table) (after t l cs .lent) c
+
+-- what stands for the prefix with key k after an accepted call, where `before` stood for it
+abbrev pub says : Call → ℕ → Held → Held
+says (announce a len hop) k before = cond (eqb (keyOf a len) k) (stood (route a len hop)) before
+says (withdraw a len) k before = cond (eqb (keyOf a len) k) absent before
+says (load input) k before = routeAt k (inputRoutes input)
+
+-- "Which routes stand after a run is worked out from its accepted calls alone"
+unfoldable pub worked : Table → Lent → List Call → ℕ → Held
+worked t l [] k = absent
+worked t l (c ∷ cs) k = cond (accepts (after t l (c ∷ cs) .said)) (says c k (worked t l cs k)) (worked t l cs k)
+
+-- the routes that would stand after the call, where rs stand
+abbrev pub would : Call → List Route → List Route
+would (announce a len hop) rs = insert (route a len hop) rs
+would (withdraw a len) rs = remove (keyOf a len) rs
+would (load input) rs = inputRoutes input
+
+-- a well-formed change for which a list of this room has room, where rs stand
+abbrev pub Formed : Call → List Route → ℕ → Type 0
+Formed (announce a len hop) rs room = Fine (route a len hop) × (length (insert (route a len hop) rs) ≤ room)
+Formed (withdraw a len) rs room = Prefix a len × (stands (keyOf a len) rs ≡ true)
+Formed (load input) rs room = (n : ℕ) × (inputSaid input ≡ accepted (n ∷ [])) × (n ≤ room)
+
+-- a record input of these routes
+pub record Carries (input : List ℕ) (rs : List Route) : Type 0 where
+  pub whole : length input ≡ length rs * 8
+  pub records : Records input (length rs)
+  pub routes : routesOf input (length rs) ≡ rs

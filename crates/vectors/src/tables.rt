@@ -1,0 +1,204 @@
+// SAIL tables: list A's table at the standard geometry, written out by hand from document 01, looked up, reported and damaged.
+use crate::print;
+use crate::samples;
+use sail::geometry::Geometry;
+use sail::lookup;
+use sail::lookup::Found;
+use sail::table::Table;
+use sail_sound::report;
+use sail_sound::report::Reported;
+
+fn found(answer: Found) {
+    print::text(b"lookup");
+    match answer {
+        Found::Hop(h, n) => {
+            print::text(b" hop");
+            print::value16(h);
+            print::text(b" cells");
+            print::value32(n);
+        }
+        Found::NoRoute(n) => {
+            print::text(b" no route cells");
+            print::value32(n);
+        }
+        Found::Refused(f) => {
+            print::text(b" refused");
+            print::value(f as u64);
+        }
+    }
+    print::end();
+}
+
+fn reported(answer: Reported) {
+    print::text(b"report");
+    match answer {
+        Reported::Standing {
+            routes,
+            second,
+            third,
+        } => {
+            print::text(b" routes");
+            print::value32(routes);
+            print::text(b" second");
+            print::value32(second);
+            print::text(b" third");
+            print::value32(third);
+        }
+        Reported::Refused(f) => {
+            print::text(b" refused");
+            print::value(f as u64);
+        }
+    }
+    print::end();
+}
+
+// A lookup of 10.1.2.200 and the report.
+fn judge(
+    t: Table,
+    list: &[u8],
+    first: &[u16],
+    second: &[u16],
+    third: &[u16],
+    own2: &[u32],
+    own3: &[u32],
+) {
+    found(lookup::lookup(t, list, first, second, third, own2, own3, 0x0A01_02C8));
+    reported(report::report(t, list, first, second, third, own2, own3));
+}
+
+// The five addresses of list A.
+fn look(
+    t: Table,
+    list: &[u8],
+    first: &[u16],
+    second: &[u16],
+    third: &[u16],
+    own2: &[u32],
+    own3: &[u32],
+) {
+    found(lookup::lookup(t, list, first, second, third, own2, own3, 0x0A01_02C8));
+    found(lookup::lookup(t, list, first, second, third, own2, own3, 0x0A01_0205));
+    found(lookup::lookup(t, list, first, second, third, own2, own3, 0x0A01_0301));
+    found(lookup::lookup(t, list, first, second, third, own2, own3, 0x0A02_0001));
+    found(lookup::lookup(t, list, first, second, third, own2, own3, 0xC000_0201));
+}
+
+fn standard(count: u32) -> Table {
+    Table {
+        geometry: Geometry::STANDARD,
+        count,
+    }
+}
+
+// Cells by hand: 0/0 is 32774, 10/8 32788, 10.1/16 32799, 10.1.2/24 32812, 10.1.2.128/25 32825.
+// First cell 2561 holds v: 1 where nothing is damaged.
+fn first_cells(v: u16) -> [u16; 65536] {
+    let mut first = [32774u16; 65536];
+    plan::paint::fill(&mut first, 2560, 2816, 32788);
+    first[2561] = v;
+    first
+}
+
+fn second_cells() -> [u16; 1024] {
+    let mut second = [0u16; 1024];
+    plan::paint::fill(&mut second, 0, 256, 32799);
+    second[2] = 1;
+    second
+}
+
+// Third cell 200, in the chunk in use, holds v; the last cell, in a free chunk, holds w.
+fn third_cells(v: u16, w: u16) -> [u16; 1024] {
+    let mut third = [32812u16; 1024];
+    plan::paint::fill(&mut third, 128, 256, 32825);
+    plan::paint::fill(&mut third, 256, 1024, 0);
+    third[200] = v;
+    third[1023] = w;
+    third
+}
+
+// List A's records with room for eight; the last byte is b.
+fn records(b: u8) -> [u8; 64] {
+    let mut list = [0u8; 64];
+    routes::record::write_record(&mut list, 0, samples::route(0, 0, 0, 6));
+    routes::record::write_record(&mut list, 1, samples::route(0x0A00_0000, 8, 0, 20));
+    routes::record::write_record(&mut list, 2, samples::route(0x0A01_0000, 16, 0, 31));
+    routes::record::write_record(&mut list, 3, samples::route(0x0A01_0200, 24, 0, 44));
+    routes::record::write_record(&mut list, 4, samples::route(0x0A01_0280, 25, 0, 57));
+    list[63] = b;
+    list
+}
+
+// The table with one thing changed in its cells or its list.
+fn cells(v: u16, third: u16, free: u16, last: u8) {
+    let list = records(last);
+    let first = first_cells(v);
+    let second = second_cells();
+    let thirds = third_cells(third, free);
+    let own2 = [2562u32, 0, 0, 0];
+    let own3 = [3u32, 0, 0, 0];
+    judge(standard(5), &list, &first, &second, &thirds, &own2, &own3);
+}
+
+// The same with this owner of the second chunk, in this state.
+fn owner(o: u32, t: Table) {
+    let list = records(0);
+    let first = first_cells(1);
+    let second = second_cells();
+    let third = third_cells(32825, 0);
+    let own2 = [o, 0, 0, 0];
+    let own3 = [3u32, 0, 0, 0];
+    judge(t, &list, &first, &second, &third, &own2, &own3);
+}
+
+// A list that is no whole number of records.
+fn ragged() {
+    let first = first_cells(1);
+    let second = second_cells();
+    let third = third_cells(32825, 0);
+    let own2 = [2562u32, 0, 0, 0];
+    let own3 = [3u32, 0, 0, 0];
+    judge(
+        standard(5),
+        b"nine byte",
+        &first,
+        &second,
+        &third,
+        &own2,
+        &own3,
+    );
+}
+
+// The five lookups.
+pub fn list_a() {
+    let list = records(0);
+    let first = first_cells(1);
+    let second = second_cells();
+    let third = third_cells(32825, 0);
+    let own2 = [2562u32, 0, 0, 0];
+    let own3 = [3u32, 0, 0, 0];
+    look(standard(5), &list, &first, &second, &third, &own2, &own3);
+}
+
+// A wrong owner; counts above the room and below the routes; a size and a geometry that are none.
+pub fn states() {
+    owner(2563, standard(5));
+    owner(2562, standard(9));
+    owner(2562, standard(4));
+    ragged();
+    let wide = Table {
+        geometry: Geometry { p1: 16, p2: 27 },
+        count: 5,
+    };
+    owner(2562, wide);
+}
+
+// Nothing damaged; chunk numbers 0 and beyond the pool; a third cell that is no leaf; a free chunk that is not zero, which no
+// lookup reads; a stray byte past the count.
+pub fn damaged() {
+    cells(1, 32825, 0, 0);
+    cells(0, 32825, 0, 0);
+    cells(5, 32825, 0, 0);
+    cells(1, 1, 0, 0);
+    cells(1, 32825, 1, 0);
+    cells(1, 32825, 0, 1);
+}
