@@ -1,9 +1,9 @@
 -- The nodes are counted right: each node below the root is fresh at one record, the first of its run. Assumes nothing.
 use mathlib.Core.Path.{_≡_, refl, sym, _∙_, ap, ap₂, subst}
 use mathlib.Core.Logic.{_⊎_, inl, inr}
-use mathlib.Core.Bool.{Bool, true, false, not, cond, true≢false}
+use mathlib.Core.Bool.{true, false, not, cond, true≢false}
 use mathlib.Core.List.{List}
-use Prim.Native.Nat.{ℕ, zero, suc, _+_, _-_, _*_, _/_, _≤_, _<_}
+use Prim.Native.Nat.{ℕ, zero, suc, _+_, _-_, _*_, _/_, _<_}
 use native.Mathlib.Nat.{eq-or-lt-of-le}
 use native.Mathlib.Omega.{arith}
 use lib.Dec.{leb, eqb}
@@ -12,25 +12,18 @@ use borrow.Author.Tests.{le-leb, leb-true, eq-eqb, ne-eqb, eqb-true, not-true}
 use Rattle.bits.specs.Count.{count}
 use Rattle.bits.specs.Search.{firstOf}
 use Rattle.bits.proofs.Counts.{count-matched}
-use Rattle.bits.proofs.Searches.{firstOf-is, firstOf-at, firstOf-before}
-use Rattle.bits.proofs.Tests.{both, and-split, below?, equal?, untrue}
+use Rattle.bits.proofs.Searches.{firstOf-is, firstOf-before}
+use Rattle.bits.proofs.Tests.{both, and-split, equal?, untrue}
 use Rattle.routes.specs.Record.{recordAt, Records}
 use Rattle.tree.specs.Image.{Node, node, level, upTo}
 use Rattle.tree.proofs.Counts.{count-all}
 use Rattle.tree.proofs.Levels.{LevelOf, level-is}
 use Rattle.tree.proofs.Lies.{pass-parts, pass-make}
+use Rattle.tree.proofs.Ranks.{first-found}
 use Rattle.tree_build.specs.Built.{routesIn}
 use Rattle.tree_build.specs.Run.{standsIn, pathAt, throughAt}
 use Rattle.tree_build.specs.Count.{freshAt, nodesTo}
 use Rattle.tree_build.proofs.Runs.{good-list, stands-at, stands-by, convex}
-
--- a search that some number passes ends at one that passes, no later
-first-found : (f : ℕ → Bool) (n i : ℕ) → i < n → f i ≡ true → (firstOf f n < n) × (f (firstOf f n) ≡ true)
-first-found f n i l e = go (below? i (firstOf f n))
-  where
-    go : (i < firstOf f n) ⊎ (firstOf f n ≤ i) → (firstOf f n < n) × (f (firstOf f n) ≡ true)
-    go (inl u) = absurd (true≢false (sym e ∙ firstOf-before f n i u))
-    go (inr u) = (omega arith, firstOf-at f n (omega arith))
 
 module _ (s : List ℕ) (good : Records s (length s / 8)) (d : ℕ) where
   abbrev m : ℕ
