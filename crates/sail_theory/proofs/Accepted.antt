@@ -68,7 +68,7 @@ module _ (t : Table) (l : Lent) (a len hop : ℕ) where
   within-room s = omega (arith, length-routes (l .list) (t .count), s .listed .records .room)
 
   -- a replacement needs no chunk more
-  replaced-welcome : Proper t l a len hop → stands (keyOf a len) rs ≡ true → Welcome t l r
+  pub replaced-welcome : Proper t l a len hop → stands (keyOf a len) rs ≡ true → Welcome t l r
   replaced-welcome p e =
       let s = p .sound in
       let v = s .sized .valid in

@@ -14,7 +14,6 @@ use lib.Pow.{pow-pos, shr-mono}
 use lib.Seq.{getD-set-other, getD-set-same, set-out}
 use borrow.Author.Tests.{ltb-true, eqb-true, lt-ltb}
 use Rattle.bits.specs.Slot.{slot}
-use Rattle.bits.proofs.Slots.{slot-lt, slot-up}
 use Rattle.bits.proofs.Tests.{decided, and-split, equal?, below?}
 use Rattle.routes.specs.Route.{key, within, long, Fine, Good}
 use Rattle.routes.specs.declared.Route.{Route}
@@ -24,15 +23,16 @@ use Rattle.sail.specs.Lent.{Lent}
 use Rattle.sail.specs.Level.{itself, liveIn, partOf, entry}
 use Rattle.sail.specs.declared.geometry.Geometry.{Geometry}
 use Rattle.sail.specs.declared.table.Table.{Table}
-use Rattle.sail_theory.specs.Render.{find, mid, at2}
+use Rattle.sail_theory.specs.Render.{find, at2}
 use Rattle.sail_theory.specs.Calls.{Owners, grant, placeIn, openAt2, openAt3, open2, open3, opened, settled, noOwners}
 use Rattle.sail_theory.specs.Facts.{Loadable}
 use Rattle.sail_theory.proofs.Chunks.{chunk-at, chunk-before, chunk-has, free-zero}
 use Rattle.sail_theory.proofs.Ends.{good-front, good-next, good-below, insert-end, any-some}
+use Rattle.sail_theory.proofs.Mids.{slot-mid}
 use Rattle.sail_theory.proofs.Places.{part-up}
-use Rattle.sail_theory.proofs.Stores.{grant-had, grant-new, had?, grant-stays}
+use Rattle.sail_theory.proofs.Stores.{grant-had, grant-new, had?}
 use Rattle.sail_theory.proofs.Needs.{long-own}
-use Rattle.sail_theory.proofs.Grown.{chunk2-owner}
+use Rattle.sail_theory.proofs.Grown.{chunk2-owner, open2-stays, open3-stays}
 use Rattle.sail_theory.proofs.Fresh.{zeros}
 use Rattle.sail_theory.proofs.Loads.{Fronts, fronts-next, fronts-none}
 
@@ -188,25 +188,9 @@ module _ (t : Table) (l : Lent) (xs : List Route) (r : Route) (ys : List Route) 
       go (inl k) = (omega (arith, good-below xs r ys (f .good) s k), good-fine xs (good-front xs (r ∷ ys) (f .good)) s k .prefix .len-ok)
       go (inr k) = let q = List·Memᴰ·eq-of-singleton k in (rw q (le-refl (key r)), rw q (fine .prefix .len-ok))
 
-  stays2 : (c x : ℕ) → getD (o .own2) c 0 ≡ suc x → getD o2 c 0 ≡ suc x
-  unfolding openAt2
-  stays2 c x e = go (ltb (g .p1) (r .len))
-    where
-      go : (b : Bool) → getD (cond b (grant (o .own2) (find (o .own2) 0) (slot (g .p1) (r .addr))) (o .own2)) c 0 ≡ suc x
-      go true = grant-stays (o .own2) (slot (g .p1) (r .addr)) c x e
-      go false = e
-
-  stays3 : (c x : ℕ) → getD (o .own3) c 0 ≡ suc x → getD o3 c 0 ≡ suc x
-  unfolding openAt3
-  stays3 c x e = go (ltb (mid g) (r .len))
-    where
-      go : (b : Bool) → getD (cond b (grant (o .own3) (find (o .own3) 0) (placeIn g o2 (r .addr))) (o .own3)) c 0 ≡ suc x
-      go true = grant-stays (o .own3) (placeIn g o2 (r .addr)) c x e
-      go false = e
-
   pub top2 : (c x : ℕ) → getD (o .own2) c 0 ≡ suc x → x ≤ slot (g .p1) (r .addr)
   top2 c x e =
-      let e′ = stays2 c x e in
+      let e′ = open2-stays g (o .own2) r c x e in
       long-top r xs′ (g .p1) x (fine .prefix .len-ok) upto (then .fits2 .lies c x (inside o2 c x e′) e′ .2)
 
   rise2 : Rising (o .own2) → Rising o2
@@ -217,23 +201,23 @@ module _ (t : Table) (l : Lent) (xs : List Route) (r : Route) (ys : List Route) 
       go (inl e) = rw e (grant-rising (o .own2) (slot (g .p1) (r .addr)) up top2)
       go (inr e) = rw e up
 
-  pub top3 : Rising (o .own2) → ltb (mid g) (r .len) ≡ true → (c x : ℕ) → getD (o .own3) c 0 ≡ suc x → x ≤ placeIn g o2 (r .addr)
+  pub top3 : Rising (o .own2) → ltb (g .p2) (r .len) ≡ true → (c x : ℕ) → getD (o .own3) c 0 ≡ suc x → x ≤ placeIn g o2 (r .addr)
   top3 up h c x e =
       let v = f .sized .valid in
-      let e′ = stays3 c x e in
+      let e′ = open3-stays g o2 (o .own3) r c x e in
       let k = then .fits3 .lies c x (inside o3 c x e′) e′ in
-      let deeper : ltb (g .p1) (r .len) ≡ true = lt-ltb (g .p1) (r .len) (omega (arith, ltb-true (mid g) (r .len) h)) in
+      let deeper : ltb (g .p1) (r .len) ≡ true = lt-ltb (g .p1) (r .len) (omega (arith, ltb-true (g .p2) (r .len) h)) in
       let own-long : long xs′ (g .p1) (slot (g .p1) (r .addr)) ≡ true
       = rw (insert-end r xs (good-below xs r ys (f .good))) at (long-own r xs fine (good-front xs (r ∷ ys) (f .good)) (g .p1) deeper) in
-      place-le o2 (bits2 g) (rise2 up) x (find o2 (suc (slot (g .p1) (r .addr)))) (slot (g .p1) (r .addr)) (slot (mid g) (r .addr)) (k .1)
-      (chunk2-owner g v xs′ o2 (then .fits2) (r .addr) (fine .prefix .addr-ok) own-long) (sym (slot-up (g .p1) (bits2 g) (r .addr) (omega arith)))
-      (long-top r xs′ (mid g) (at2 g o2 x) (fine .prefix .len-ok) upto (k .2))
+      place-le o2 (bits2 g) (rise2 up) x (find o2 (suc (slot (g .p1) (r .addr)))) (slot (g .p1) (r .addr)) (slot (g .p2) (r .addr)) (k .1)
+      (chunk2-owner g v xs′ o2 (then .fits2) (r .addr) (fine .prefix .addr-ok) own-long) (slot-mid g v (r .addr))
+      (long-top r xs′ (g .p2) (at2 g o2 x) (fine .prefix .len-ok) upto (k .2))
 
   rise3 : Rising (o .own2) → Rising (o .own3) → Rising o3
   unfolding openAt3
-  rise3 up up3 = go (decided (ltb (mid g) (r .len)))
+  rise3 up up3 = go (decided (ltb (g .p2) (r .len)))
     where
-      go : (ltb (mid g) (r .len) ≡ true) ⊎ (ltb (mid g) (r .len) ≡ false) → Rising (cond (ltb (mid g) (r .len)) (grant (o .own3) (find (o .own3) 0) (placeIn g o2 (r .addr))) (o .own3))
+      go : (ltb (g .p2) (r .len) ≡ true) ⊎ (ltb (g .p2) (r .len) ≡ false) → Rising (cond (ltb (g .p2) (r .len)) (grant (o .own3) (find (o .own3) 0) (placeIn g o2 (r .addr))) (o .own3))
       go (inl e) = rw e (grant-rising (o .own3) (placeIn g o2 (r .addr)) up3 (top3 up e))
       go (inr e) = rw e up3
 

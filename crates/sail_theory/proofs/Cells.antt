@@ -17,8 +17,9 @@ use Rattle.sail.specs.Level.{Level, always, itself, nobody, liveIn, entry}
 use Rattle.sail.specs.Sound.{Sound, standing}
 use Rattle.sail.specs.declared.geometry.Geometry.{Geometry}
 use Rattle.sail.specs.declared.table.Table.{Table}
-use Rattle.sail_theory.specs.Render.{find, never, mid, at2, at3, rendered}
+use Rattle.sail_theory.specs.Render.{find, never, at2, at3, rendered}
 use Rattle.sail_theory.proofs.Chunks.{chunk-at}
+use Rattle.sail_theory.proofs.Rendered.{level-two}
 use Rattle.sail_theory.proofs.Pools.{length-pool, pool-free, pool-leaf, pool-node, level-fits}
 
 module _ (g : Geometry) (room : ℕ) (rs : List Route) (own2 own3 : List ℕ) where
@@ -35,15 +36,15 @@ module _ (g : Geometry) (room : ℕ) (rs : List Route) (own2 own3 : List ℕ) wh
 
   pub second-free : (q : ℕ) → q < length own2 * 2 ^ bits2 g → liveIn (entry own2) (bits2 g) q ≡ false → getD (shape .second) q 0 ≡ 0
   unfolding rendered
-  second-free q l e = pool-free (long rs (mid g)) (best rs (mid g)) (length own2 * 2 ^ bits2 g) (liveIn (entry own2) (bits2 g)) (at2 g own2) (length own3) (entry own3) q l e
+  second-free q l e = pool-free (long rs (g .p2)) (best rs (g .p2)) (length own2 * 2 ^ bits2 g) (liveIn (entry own2) (bits2 g)) (at2 g own2) (length own3) (entry own3) q l e
 
-  pub second-leaf : (q : ℕ) → q < length own2 * 2 ^ bits2 g → liveIn (entry own2) (bits2 g) q ≡ true → long rs (mid g) (at2 g own2 q) ≡ false → getD (shape .second) q 0 ≡ 32768 + best rs (mid g) (at2 g own2 q)
+  pub second-leaf : (q : ℕ) → q < length own2 * 2 ^ bits2 g → liveIn (entry own2) (bits2 g) q ≡ true → long rs (g .p2) (at2 g own2 q) ≡ false → getD (shape .second) q 0 ≡ 32768 + best rs (g .p2) (at2 g own2 q)
   unfolding rendered
-  second-leaf q l e d = pool-leaf (long rs (mid g)) (best rs (mid g)) (length own2 * 2 ^ bits2 g) (liveIn (entry own2) (bits2 g)) (at2 g own2) (length own3) (entry own3) q l e d
+  second-leaf q l e d = pool-leaf (long rs (g .p2)) (best rs (g .p2)) (length own2 * 2 ^ bits2 g) (liveIn (entry own2) (bits2 g)) (at2 g own2) (length own3) (entry own3) q l e d
 
-  pub second-node : (q : ℕ) → q < length own2 * 2 ^ bits2 g → liveIn (entry own2) (bits2 g) q ≡ true → long rs (mid g) (at2 g own2 q) ≡ true → getD (shape .second) q 0 ≡ suc (find own3 (suc q))
+  pub second-node : (q : ℕ) → q < length own2 * 2 ^ bits2 g → liveIn (entry own2) (bits2 g) q ≡ true → long rs (g .p2) (at2 g own2 q) ≡ true → getD (shape .second) q 0 ≡ suc (find own3 (suc q))
   unfolding rendered
-  second-node q l e d = pool-node (long rs (mid g)) (best rs (mid g)) (length own2 * 2 ^ bits2 g) (liveIn (entry own2) (bits2 g)) (at2 g own2) (length own3) (entry own3) q l e d
+  second-node q l e d = pool-node (long rs (g .p2)) (best rs (g .p2)) (length own2 * 2 ^ bits2 g) (liveIn (entry own2) (bits2 g)) (at2 g own2) (length own3) (entry own3) q l e d
 
   pub third-free : (q : ℕ) → q < length own3 * 2 ^ bits3 g → liveIn (entry own3) (bits3 g) q ≡ false → getD (shape .third) q 0 ≡ 0
   unfolding rendered
@@ -61,7 +62,7 @@ module _ (g : Geometry) (room : ℕ) (rs : List Route) (own2 own3 : List ℕ) wh
   unfolding rendered
   shape-lengths = (
     length-pool (long rs (g .p1)) (best rs (g .p1)) (2 ^ g .p1) always itself (length own2) (entry own2),
-    length-pool (long rs (mid g)) (best rs (mid g)) (length own2 * 2 ^ bits2 g) (liveIn (entry own2) (bits2 g)) (at2 g own2) (length own3) (entry own3),
+    length-pool (long rs (g .p2)) (best rs (g .p2)) (length own2 * 2 ^ bits2 g) (liveIn (entry own2) (bits2 g)) (at2 g own2) (length own3) (entry own3),
     length-pool never (best rs 32) (length own3 * 2 ^ bits3 g) (liveIn (entry own3) (bits3 g)) (at3 g own2 own3) 0 nobody,
   )
 
@@ -119,8 +120,8 @@ module _ (t : Table) (l : Lent) (s : Sound t l) (q : ℕ) where
     first-high = high-leaf (long rs (g .p1)) (best rs (g .p1)) (2 ^ g .p1) always itself (entry (l .first)) (l .own2) (s .sized .few2) (s .serves .level1) q h refl
 
   module _ (h : q < length (l .own2) * 2 ^ bits2 g) (e : liveIn (entry (l .own2)) (bits2 g) q ≡ true) where
-    pub second-low : getD (l .second) q 0 < 32768 → Names (long rs (mid g) (at2 g (l .own2) q)) (getD (l .second) q 0) (l .own3) q
-    second-low = low-names (long rs (mid g)) (best rs (mid g)) (length (l .own2) * 2 ^ bits2 g) (liveIn (entry (l .own2)) (bits2 g)) (at2 g (l .own2)) (entry (l .second)) (l .own3) (s .sized .few3) (s .serves .level2) q h e
+    pub second-low : getD (l .second) q 0 < 32768 → Names (long rs (g .p2) (at2 g (l .own2) q)) (getD (l .second) q 0) (l .own3) q
+    second-low = low-names (long rs (g .p2)) (best rs (g .p2)) (length (l .own2) * 2 ^ bits2 g) (liveIn (entry (l .own2)) (bits2 g)) (at2 g (l .own2)) (entry (l .second)) (l .own3) (s .sized .few3) (level-two t l s) q h e
 
-    pub second-high : 32768 ≤ getD (l .second) q 0 → long rs (mid g) (at2 g (l .own2) q) ≡ false
-    second-high = high-leaf (long rs (mid g)) (best rs (mid g)) (length (l .own2) * 2 ^ bits2 g) (liveIn (entry (l .own2)) (bits2 g)) (at2 g (l .own2)) (entry (l .second)) (l .own3) (s .sized .few3) (s .serves .level2) q h e
+    pub second-high : 32768 ≤ getD (l .second) q 0 → long rs (g .p2) (at2 g (l .own2) q) ≡ false
+    second-high = high-leaf (long rs (g .p2)) (best rs (g .p2)) (length (l .own2) * 2 ^ bits2 g) (liveIn (entry (l .own2)) (bits2 g)) (at2 g (l .own2)) (entry (l .second)) (l .own3) (s .sized .few3) (level-two t l s) q h e

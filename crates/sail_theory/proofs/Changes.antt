@@ -26,7 +26,7 @@ use Rattle.sail.specs.Sound.{Sound, standing, used}
 use Rattle.sail.specs.declared.geometry.Geometry.{Geometry}
 use Rattle.sail.specs.declared.table.Table.{Table}
 use Rattle.sail.proofs.Sounds.{standing-good, chunks-need}
-use Rattle.sail_theory.specs.Render.{find, mid, rendered, Fits2, Fits3, roomOf, Rendered}
+use Rattle.sail_theory.specs.Render.{find, rendered, Fits2, Fits3, roomOf, Rendered}
 use Rattle.sail_theory.specs.Calls.{Owners, open2, open3, opened, keep2, keep3, kept, ownersOf, stateOf, lentOf}
 use Rattle.sail_theory.specs.Facts.{SameSize, Holds, Welcome, Farewell}
 use Rattle.sail_theory.proofs.Chunks.{chunk-at, chunk-le, used-le, free-used, used-free}
@@ -76,14 +76,6 @@ module _ (t : Table) (l : Lent) (z : Sized (t .geometry) l) (rs : List Route) (g
     size = size;
   }
 
--- as many chunks are in use as the standing routes need
-module _ (t : Table) (l : Lent) (s : Sound t l) where
-  pub mid-is : mid (t .geometry) ≡ t .geometry .p2
-  mid-is = let v = s .sized .valid in omega arith
-
-  pub sound-needs : (used (l .own2) ≡ need (standing t l) (t .geometry .p1)) × (used (l .own3) ≡ need (standing t l) (mid (t .geometry)))
-  sound-needs = let n = chunks-need t l s in (n .0, n .1 ∙ ap (need (standing t l)) (sym mid-is))
-
 -- the lowest free chunk, where not all are in use
 free-pair : (own : List ℕ) → used own < length own → (find own 0 < length own) × (getD own (find own 0) 0 ≡ 0)
 free-pair own h = let k = used-free (entry own) (length own) h in (k, chunk-at (entry own) (length own) 0 k)
@@ -107,13 +99,10 @@ module _ (t : Table) (l : Lent) (r : Route) (w : Welcome t l r) where
 
   -- where one chunk more is needed, one is free
   pub space2 : ltb (g .p1) (r .len) ≡ true → long rs (g .p1) (slot (g .p1) (r .addr)) ≡ false → (find (l .own2) 0 < length (l .own2)) × (getD (l .own2) (find (l .own2) 0) 0 ≡ 0)
-  space2 e f = let v = valid in free-pair (l .own2) (omega (arith, w .enough2, sound-needs t l (w .sound) .0, need-more r rs (w .fine) good (g .p1) (omega arith) e f))
+  space2 e f = let v = valid in free-pair (l .own2) (omega (arith, w .enough2, chunks-need t l (w .sound) .0, need-more r rs (w .fine) good (g .p1) (omega arith) e f))
 
-  pub space3 : ltb (mid g) (r .len) ≡ true → long rs (mid g) (slot (mid g) (r .addr)) ≡ false → (find (l .own3) 0 < length (l .own3)) × (getD (l .own3) (find (l .own3) 0) 0 ≡ 0)
-  space3 e f =
-      let v = valid in
-      let n : need (insert r rs) (mid g) ≤ length (l .own3) = rw (mid-is t l (w .sound)) (w .enough3) in
-      free-pair (l .own3) (omega (arith, n, sound-needs t l (w .sound) .1, need-more r rs (w .fine) good (mid g) (omega arith) e f))
+  pub space3 : ltb (g .p2) (r .len) ≡ true → long rs (g .p2) (slot (g .p2) (r .addr)) ≡ false → (find (l .own3) 0 < length (l .own3)) × (getD (l .own3) (find (l .own3) 0) 0 ≡ 0)
+  space3 e f = let v = valid in free-pair (l .own3) (omega (arith, w .enough3, chunks-need t l (w .sound) .1, need-more r rs (w .fine) good (g .p2) (omega arith) e f))
 
   pub welcome-fits2 : Fits2 g (insert r rs) (open2 g (l .own2) r)
   welcome-fits2 = open-fits2 g valid r rs (w .fine) good (l .own2) (l .own3) (find (l .own2) 0) (find (l .own3) 0) (is .fits2) (is .fits3) space2 space3
@@ -148,40 +137,3 @@ module _ (t : Table) (l : Lent) (a len : ℕ) (w : Farewell t l a len) where
   pub farewell-holds : Holds t l left (stateOf t left) (lentOf t l left (kept (t .geometry) left (ownersOf l)))
   farewell-holds = render-holds t l (w .sound .sized) left (remove-good (keyOf a len) (standing t l) (standing-good t l (w .sound))) fewer (kept (t .geometry) left (ownersOf l))
       (length-keep _ _ (l .own2)) (length-keep _ _ (l .own3)) farewell-fits2 farewell-fits3
-
--- A program finds out about 7 and 8 by looking for a chunk, and does not count.
--- the route is longer than p, its cell of level p is not long, and no chunk is free
-pub record Wants (rs : List Route) (r : Route) (p : ℕ) (own : List ℕ) : Type 0 where
-  pub longer : p < r .len
-  pub fresh : long rs p (slot p (r .addr)) ≡ false
-  pub full : find own 0 ≡ length own
-
-module _ (rs : List Route) (good : Good rs) (r : Route) (fine : Fine r) (p : ℕ) (h : p ≤ 32) (own : List ℕ) (u : used own ≡ need rs p) where
-  want : Tells (ltb (length own) (need (insert r rs) p)) (Wants rs r p own)
-  want = (
-    λ e. there (ltb-true _ _ e) (decided (ltb p (r .len))) (decided (long rs p (slot p (r .addr)))),
-    λ w.
-        let e = lt-ltb p (r .len) (w .longer) in
-        let m = need-more r rs fine good p h e (w .fresh) in
-        lt-ltb (length own) (need (insert r rs) p) (full (w .full) m (below? (used own) (length own))),
-  )
-    where
-      full : find own 0 ≡ length own → need (insert r rs) p ≡ suc (need rs p) → (used own < length own) ⊎ (length own ≤ used own) → length own < need (insert r rs) p
-      full z m (inl y) = absurd (omega (arith, used-free (entry own) (length own) y))
-      full z m (inr y) = omega arith
-
-      there : length own < need (insert r rs) p → (ltb p (r .len) ≡ true) ⊎ (ltb p (r .len) ≡ false) → (long rs p (slot p (r .addr)) ≡ true) ⊎ (long rs p (slot p (r .addr)) ≡ false) → Wants rs r p own
-      there l (inr a) b = absurd (omega (arith, used-le (entry own) (length own), need-same r rs fine good p h (λ z. absurd (true≢false (sym z ∙ a)))))
-      there l (inl a) (inl b) = absurd (omega (arith, used-le (entry own) (length own), need-same r rs fine good p h (λ z. b)))
-      there l (inl a) (inr b) = record { longer = ltb-true p (r .len) a; fresh = b; full = is (below? (find own 0) (length own)) }
-        where
-          is : (find own 0 < length own) ⊎ (length own ≤ find own 0) → find own 0 ≡ length own
-          is (inl y) = absurd (omega (arith, free-used (entry own) (length own) y, need-more r rs fine good p h a b))
-          is (inr y) = omega (arith, chunk-le (entry own) (length own) 0)
-
-module _ (t : Table) (l : Lent) (s : Sound t l) (r : Route) (fine : Fine r) where
-  pub want-seven : Tells (ltb (length (l .own2)) (need (insert r (standing t l)) (t .geometry .p1))) (Wants (standing t l) r (t .geometry .p1) (l .own2))
-  want-seven = let v = s .sized .valid in want (standing t l) (standing-good t l s) r fine (t .geometry .p1) (omega arith) (l .own2) (sound-needs t l s .0)
-
-  pub want-eight : Tells (ltb (length (l .own3)) (need (insert r (standing t l)) (t .geometry .p2))) (Wants (standing t l) r (t .geometry .p2) (l .own3))
-  want-eight = let v = s .sized .valid in want (standing t l) (standing-good t l s) r fine (t .geometry .p2) (omega arith) (l .own3) (chunks-need t l s .1)

@@ -17,7 +17,7 @@ use Rattle.sail.specs.Sizes.{Sized}
 use Rattle.sail.specs.Sound.{Sound, standing, freshTable, freshLent}
 use Rattle.sail.specs.declared.geometry.Geometry.{Geometry}
 use Rattle.sail.specs.declared.table.Table.{Table}
-use Rattle.sail_theory.specs.Render.{never, mid, at2, at3, rendered, Fits, Fits2, Fits3, roomOf}
+use Rattle.sail_theory.specs.Render.{never, at2, at3, rendered, Fits, Fits2, Fits3, roomOf}
 use Rattle.sail_theory.specs.Calls.{noOwners, makeSaid, Out, took, stateOf, lentOf, made}
 use Rattle.sail_theory.specs.Facts.{Holds}
 use Rattle.sail_theory.proofs.Pools.{length-pool, pool-free, pool-leaf}
@@ -50,7 +50,7 @@ module _ (g : Geometry) (l : Lent) where
   none-fits2 = no-fits (g .p1) _ (length (l .own2)) _ _
 
   pub none-fits3 : Fits3 g [] (noOwners l .own2) (noOwners l .own3)
-  none-fits3 = no-fits (mid g) _ (length (l .own3)) _ _
+  none-fits3 = no-fits (g .p2) _ (length (l .own3)) _ _
 
 -- an array of one number
 constant : (v n : ℕ) (xs : List ℕ) → length xs ≡ n → ((i : ℕ) → i < n → getD xs i 0 ≡ v) → replicate n v ≡ xs
@@ -79,8 +79,8 @@ module _ (t : Table) (l : Lent) (z : Sized (t .geometry) l) where
       let e2 = constant 32768 (length (l .first)) (lentOf t l [] (noOwners l) .first) (length-pool (long [] (g .p1)) (best [] (g .p1)) (2 ^ g .p1) always itself (length none2) (entry none2) ∙ sym (z .cells1))
       (λ q h. pool-leaf (long [] (g .p1)) (best [] (g .p1)) (2 ^ g .p1) always itself (length none2) (entry none2) q (rw (z .cells1) at h) refl refl ∙ rw best-none) in
       let n2 : length none2 * 2 ^ bits2 g ≡ length (l .second) = ap (λ (n : ℕ). n * 2 ^ bits2 g) (length-replicate (length (l .own2)) 0) ∙ sym (z .cells2) in
-      let e3 = constant 0 (length (l .second)) (lentOf t l [] (noOwners l) .second) (length-pool (long [] (mid g)) (best [] (mid g)) (length none2 * 2 ^ bits2 g) (liveIn (entry none2) (bits2 g)) (at2 g none2) (length none3) (entry none3) ∙ n2)
-      (λ q h. pool-free (long [] (mid g)) (best [] (mid g)) (length none2 * 2 ^ bits2 g) (liveIn (entry none2) (bits2 g)) (at2 g none2) (length none3) (entry none3) q (rw n2 h) (unused (length (l .own2)) (bits2 g) q)) in
+      let e3 = constant 0 (length (l .second)) (lentOf t l [] (noOwners l) .second) (length-pool (long [] (g .p2)) (best [] (g .p2)) (length none2 * 2 ^ bits2 g) (liveIn (entry none2) (bits2 g)) (at2 g none2) (length none3) (entry none3) ∙ n2)
+      (λ q h. pool-free (long [] (g .p2)) (best [] (g .p2)) (length none2 * 2 ^ bits2 g) (liveIn (entry none2) (bits2 g)) (at2 g none2) (length none3) (entry none3) q (rw n2 h) (unused (length (l .own2)) (bits2 g) q)) in
       let n3 : length none3 * 2 ^ bits3 g ≡ length (l .third) = ap (λ (n : ℕ). n * 2 ^ bits3 g) (length-replicate (length (l .own3)) 0) ∙ sym (z .cells3) in
       let e4 = constant 0 (length (l .third)) (lentOf t l [] (noOwners l) .third) (length-pool never (best [] 32) (length none3 * 2 ^ bits3 g) (liveIn (entry none3) (bits3 g)) (at3 g none2 none3) 0 nobody ∙ n3)
       (λ q h. pool-free never (best [] 32) (length none3 * 2 ^ bits3 g) (liveIn (entry none3) (bits3 g)) (at3 g none2 none3) 0 nobody q (rw n3 h) (unused (length (l .own3)) (bits3 g) q)) in

@@ -1,6 +1,7 @@
 -- Theorems on tables and on the calls that change them.
 pub mod Chunks
 pub mod Pools
+pub mod Mids
 pub mod Rendered
 pub mod Tells
 pub mod Places
@@ -12,6 +13,7 @@ pub mod Shrunk
 pub mod Judged
 pub mod Only
 pub mod Changes
+pub mod Wants
 pub mod Accepted
 pub mod Fresh
 pub mod Cells
@@ -19,3 +21,8 @@ pub mod Opens
 pub mod Ends
 pub mod Loads
 pub mod Ascends
+pub mod Runs
+pub mod Anew
+pub mod Wanting
+pub mod Frames
+pub mod Altered

@@ -70,7 +70,7 @@ module _ (t : Table) (l : Lent) (a len hop : ℕ) where
   proper-said p = rw (none-is (t .geometry) l (p .sound .sized), true-prefix a len (p .fine .prefix), true-hop hop (p .fine .hop-one) (p .fine .hop-ok), sound-tells t l .1 (p .sound))
 
   -- past 6
-  roomy-said : Roomy t l a len hop → announceSaid t l a len hop ≡ orSay (chunksFault (termsOf t l) (insert (route a len hop) rs)) (accepted (0 ∷ []))
+  pub roomy-said : Roomy t l a len hop → announceSaid t l a len hop ≡ orSay (chunksFault (termsOf t l) (insert (route a len hop) rs)) (accepted (0 ∷ []))
   roomy-said w = proper-said (w .proper) ∙ rw (w .new, lt-leb (roomOf l) (length rs) (w .room))
 
   pub announce-only : (s : Said) → Announce t l a len hop s → announceSaid t l a len hop ≡ s
@@ -95,7 +95,7 @@ withdraw-only t l a len s (Withdraw.removed w) = rw (none-is (t .geometry) l (w 
 
 module _ (t : Table) (l : Lent) (input : List ℕ) where
   -- past the input
-  read-said : Readable t l input → loadSaid t l input ≡ orSay (cond (ltb (roomOf l) (length input / 8)) 6 (chunksFault (termsOf t l) (inputRoutes input))) (accepted [])
+  pub read-said : Readable t l input → loadSaid t l input ≡ orSay (cond (ltb (roomOf l) (length input / 8)) 6 (chunksFault (termsOf t l) (inputRoutes input))) (accepted [])
   unfolding loadSaid loadFault
   read-said w = rw (none-is (t .geometry) l (w .sized), good-input input (length input / 8) (w .whole) (w .records), length-routes input (length input / 8))
 

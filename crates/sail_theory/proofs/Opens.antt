@@ -25,10 +25,11 @@ use Rattle.sail.specs.Sound.{Sound, standing}
 use Rattle.sail.specs.declared.geometry.Geometry.{Geometry}
 use Rattle.sail.specs.declared.table.Table.{Table}
 use Rattle.sail.proofs.Sounds.{standing-good}
-use Rattle.sail_theory.specs.Render.{chunkFor, find, mid, at2, Fits2, Fits3, Rendered}
+use Rattle.sail_theory.specs.Render.{chunkFor, find, at2, Fits2, Fits3, Rendered}
 use Rattle.sail_theory.specs.Calls.{grant, placeIn, openAt2, openAt3, open2, open3, keep2, keep3}
 use Rattle.sail_theory.specs.Facts.{Welcome, Farewell}
 use Rattle.sail_theory.proofs.Chunks.{chunk-at, chunk-is, chunk-before}
+use Rattle.sail_theory.proofs.Mids.{slot-mid, long-mid}
 use Rattle.sail_theory.proofs.Rendered.{sound-rendered}
 use Rattle.sail_theory.proofs.Places.{apart-itself}
 use Rattle.sail_theory.proofs.Stores.{grant-deep, keep-stores}
@@ -70,20 +71,20 @@ module _ (t : Table) (l : Lent) (r : Route) (w : Welcome t l r) where
       (grant-deep (long rs (g .p1)) (2 ^ g .p1) always itself (l .own2) (is .fits2) (find (l .own2) 0) (slot (g .p1) (r .addr)) (slot-lt (g .p1) (r .addr) (omega arith) (w .fine .prefix .addr-ok)) refl)
 
   pub open3-stores : open3 g own2′ (l .own3) r
-      ≡ cond (ltb (mid g) (r .len)) (cond (long rs (mid g) (slot (mid g) (r .addr))) (l .own3) (set (l .own3) (find (l .own3) 0) (suc (placeIn g own2′ (r .addr))))) (l .own3)
+      ≡ cond (ltb (g .p2) (r .len)) (cond (long rs (g .p2) (slot (g .p2) (r .addr))) (l .own3) (set (l .own3) (find (l .own3) 0) (suc (placeIn g own2′ (r .addr))))) (l .own3)
   unfolding openAt3
-  open3-stores = go (decided (ltb (mid g) (r .len)))
+  open3-stores = go (decided (ltb (g .p2) (r .len)))
     where
-      go : (ltb (mid g) (r .len) ≡ true) ⊎ (ltb (mid g) (r .len) ≡ false)
-          → cond (ltb (mid g) (r .len)) (grant (l .own3) (find (l .own3) 0) (placeIn g own2′ (r .addr))) (l .own3)
-          ≡ cond (ltb (mid g) (r .len)) (cond (long rs (mid g) (slot (mid g) (r .addr))) (l .own3) (set (l .own3) (find (l .own3) 0) (suc (placeIn g own2′ (r .addr))))) (l .own3)
+      go : (ltb (g .p2) (r .len) ≡ true) ⊎ (ltb (g .p2) (r .len) ≡ false)
+          → cond (ltb (g .p2) (r .len)) (grant (l .own3) (find (l .own3) 0) (placeIn g own2′ (r .addr))) (l .own3)
+          ≡ cond (ltb (g .p2) (r .len)) (cond (long rs (g .p2) (slot (g .p2) (r .addr))) (l .own3) (set (l .own3) (find (l .own3) 0) (suc (placeIn g own2′ (r .addr))))) (l .own3)
       go (inr e) = rw e
       go (inl e) =
-          rw e (grant-deep (long rs (mid g)) (length own2′ * 2 ^ bits2 g) (liveIn (entry own2′) (bits2 g)) (at2 g own2′) (l .own3)
+          rw e (grant-deep (long rs (g .p2)) (length own2′ * 2 ^ bits2 g) (liveIn (entry own2′) (bits2 g)) (at2 g own2′) (l .own3)
           (shifted g valid r rs (w .fine) good (l .own2) (l .own3) (find (l .own2) 0) (find (l .own3) 0) (is .fits2) (is .fits3) (space2 t l r w) (space3 t l r w)) (find (l .own3) 0) (placeIn g own2′ (r .addr))
           (q2-lt g valid r rs (w .fine) good (l .own2) (l .own3) (find (l .own2) 0) (find (l .own3) 0) (is .fits2) (is .fits3) (space2 t l r w) (space3 t l r w) e)
           (q2-live g valid r rs (w .fine) good (l .own2) (l .own3) (find (l .own2) 0) (find (l .own3) 0) (is .fits2) (is .fits3) (space2 t l r w) (space3 t l r w) e)
-          ∙ ap (λ (i : ℕ). cond (long rs (mid g) i) (l .own3) (set (l .own3) (find (l .own3) 0) (suc (placeIn g own2′ (r .addr)))))
+          ∙ ap (λ (i : ℕ). cond (long rs (g .p2) i) (l .own3) (set (l .own3) (find (l .own3) 0) (suc (placeIn g own2′ (r .addr)))))
           (q2-at g valid r rs (w .fine) good (l .own2) (l .own3) (find (l .own2) 0) (find (l .own3) 0) (is .fits2) (is .fits3) (space2 t l r w) (space3 t l r w) e))
 
 -- Withdraw: a chunk is closed where the prefix's cell was long and is long no more. `left` are the routes that are left.
@@ -102,7 +103,7 @@ module _ (t : Table) (l : Lent) (a len : ℕ) (w : Farewell t l a len) where
   q1 = slot (t .geometry .p1) a
 
   abbrev i2 : ℕ
-  i2 = slot (mid (t .geometry)) a
+  i2 = slot (t .geometry .p2) a
 
   pub keep2-stores : keep2 (t .geometry) left (l .own2) ≡ cond (long (standing t l) (t .geometry .p1) q1) (cond (long left (t .geometry .p1) q1) (l .own2) (set (l .own2) (find (l .own2) (suc q1)) 0)) (l .own2)
   keep2-stores =
@@ -111,16 +112,17 @@ module _ (t : Table) (l : Lent) (a len : ℕ) (w : Farewell t l a len) where
       (still (t .geometry .p1)) (λ e. (slot-lt (t .geometry .p1) a (omega arith) (w .prefix .addr-ok), refl, refl))
 
   pub keep3-stores : keep3 (t .geometry) left (l .own2) (l .own3)
-      ≡ cond (long (standing t l) (mid (t .geometry)) i2) (cond (long left (mid (t .geometry)) i2) (l .own3) (set (l .own3) (find (l .own3) (suc (placeIn (t .geometry) (l .own2) a))) 0)) (l .own3)
+      ≡ cond (long (standing t l) (t .geometry .p2) i2) (cond (long left (t .geometry .p2) i2) (l .own3) (set (l .own3) (find (l .own3) (suc (placeIn (t .geometry) (l .own2) a))) 0)) (l .own3)
   keep3-stores =
-      keep-stores (long (standing t l) (mid (t .geometry))) (long left (mid (t .geometry))) (length (l .own2) * 2 ^ bits2 (t .geometry)) (liveIn (entry (l .own2)) (bits2 (t .geometry))) (at2 (t .geometry) (l .own2)) (l .own3) (was .fits3)
-      (apart2 (t .geometry) (standing t l) (l .own2) (was .fits2)) i2 (placeIn (t .geometry) (l .own2) a) (still (mid (t .geometry))) here
+      keep-stores (long (standing t l) (t .geometry .p2)) (long left (t .geometry .p2)) (length (l .own2) * 2 ^ bits2 (t .geometry)) (liveIn (entry (l .own2)) (bits2 (t .geometry))) (at2 (t .geometry) (l .own2)) (l .own3) (was .fits3)
+      (apart2 (t .geometry) (standing t l) (l .own2) (was .fits2)) i2 (placeIn (t .geometry) (l .own2) a) (still (t .geometry .p2)) here
     where
-      here : long (standing t l) (mid (t .geometry)) i2 ≡ true
+      here : long (standing t l) (t .geometry .p2) i2 ≡ true
           → (placeIn (t .geometry) (l .own2) a < length (l .own2) * 2 ^ bits2 (t .geometry)) × (liveIn (entry (l .own2)) (bits2 (t .geometry)) (placeIn (t .geometry) (l .own2) a) ≡ true) × (at2 (t .geometry) (l .own2) (placeIn (t .geometry) (l .own2) a) ≡ i2)
       here e =
           let v = w .sound .sized .valid in
-          let up : long (standing t l) (t .geometry .p1) q1 ≡ true = rw (slot-up (t .geometry .p1) (bits2 (t .geometry)) a (omega arith)) at (long-up (standing t l) (t .geometry .p1) (bits2 (t .geometry)) i2 (omega arith) e) in (
+          let up : long (standing t l) (t .geometry .p1) q1 ≡ true = rw (slot-mid (t .geometry) v a) (long-mid (t .geometry) v (standing t l) i2 e) in
+          (
             place-in (t .geometry) v (standing t l) (l .own2) (was .fits2) a (w .prefix .addr-ok) up,
             place-live2 (t .geometry) v (standing t l) (l .own2) (was .fits2) a (w .prefix .addr-ok) up,
             place-at2 (t .geometry) v (standing t l) (l .own2) (was .fits2) a (w .prefix .addr-ok) up,

@@ -23,7 +23,8 @@ use Rattle.sail.specs.Sizes.{Sized}
 use Rattle.sail.specs.Sound.{Sound, standing}
 use Rattle.sail.specs.declared.geometry.Geometry.{Geometry}
 use Rattle.sail.specs.declared.table.Table.{Table}
-use Rattle.sail_theory.specs.Render.{pool, never, mid, at2, at3, rendered, Fits, Fits2, Fits3, roomOf, asAsked, Rendered}
+use Rattle.sail_theory.specs.Render.{pool, never, at2, at3, rendered, Fits, Fits2, Fits3, roomOf, asAsked, Rendered}
+use Rattle.sail_theory.proofs.Mids.{sum2}
 use Rattle.sail_theory.proofs.Pools.{length-pool, pool-free, pool-leaf, pool-level, level-fits, level-pool}
 
 -- a pool in which free chunks are blank, and one in which all that is not live is 0
@@ -70,6 +71,10 @@ module _ (t : Table) (l : Lent) where
   pub listed-good : Listed (l .list) (t .count) → Good rs
   listed-good h = records-good (l .list) (t .count) (h .records)
 
+  -- the second level, by p2
+  pub level-two : Sound t l → Level (long rs (g .p2)) (best rs (g .p2)) (length own2 * 2 ^ bits2 g) (liveIn (entry own2) (bits2 g)) (at2 g own2) (entry (l .second)) (length own3) (entry own3)
+  level-two s = subst (λ (p : ℕ). Level (long rs p) (best rs p) (length own2 * 2 ^ bits2 g) (liveIn (entry own2) (bits2 g)) (at2 g own2) (entry (l .second)) (length own3) (entry own3)) (sum2 g (s .sized .valid)) (s .serves .level2)
+
   -- from the levels: this is what a program that looks at every cell shows
   pub sound-rendered : Sound t l → Rendered t l
   unfolding rendered
@@ -77,9 +82,9 @@ module _ (t : Table) (l : Lent) where
     sized = s .sized;
     listed = s .listed;
     fits2 = level-fits (long rs (g .p1)) (best rs (g .p1)) (2 ^ g .p1) always itself (length own2) (entry own2) (entry (l .first)) (s .serves .level1);
-    fits3 = level-fits (long rs (mid g)) (best rs (mid g)) (length own2 * 2 ^ bits2 g) (liveIn (entry own2) (bits2 g)) (at2 g own2) (length own3) (entry own3) (entry (l .second)) (s .serves .level2);
+    fits3 = level-fits (long rs (g .p2)) (best rs (g .p2)) (length own2 * 2 ^ bits2 g) (liveIn (entry own2) (bits2 g)) (at2 g own2) (length own3) (entry own3) (entry (l .second)) (level-two s);
     is-first = level-pool (long rs (g .p1)) (best rs (g .p1)) (2 ^ g .p1) always itself (length own2) (entry own2) (l .first) (s .serves .level1) (s .sized .cells1) (λ q h e. absurd (true≢false e));
-    is-second = level-pool (long rs (mid g)) (best rs (mid g)) (length own2 * 2 ^ bits2 g) (liveIn (entry own2) (bits2 g)) (at2 g own2) (length own3) (entry own3) (l .second) (s .serves .level2) (s .sized .cells2)
+    is-second = level-pool (long rs (g .p2)) (best rs (g .p2)) (length own2 * 2 ^ bits2 g) (liveIn (entry own2) (bits2 g)) (at2 g own2) (length own3) (entry own3) (l .second) (level-two s) (s .sized .cells2)
         (clear-blank (length own2) (bits2 g) (entry own2) (l .second) (s .clear2));
     is-third = level-pool never (best rs 32) (length own3 * 2 ^ bits3 g) (liveIn (entry own3) (bits3 g)) (at3 g own2 own3) 0 nobody (l .third)
         (third-never rs (listed-good (s .listed)) (length own3 * 2 ^ bits3 g) (liveIn (entry own3) (bits3 g)) (at3 g own2 own3) (entry (l .third)) (s .serves .level3)) (s .sized .cells3)
@@ -93,10 +98,10 @@ module _ (t : Table) (l : Lent) where
     listed = w .listed;
     serves = record {
       level1 = rw (w .is-first) (pool-level (long rs (g .p1)) (best rs (g .p1)) (2 ^ g .p1) always itself (length own2) (entry own2) (w .fits2));
-      level2 = rw (w .is-second) (pool-level (long rs (mid g)) (best rs (mid g)) (length own2 * 2 ^ bits2 g) (liveIn (entry own2) (bits2 g)) (at2 g own2) (length own3) (entry own3) (w .fits3));
+      level2 = rw (sum2 g (w .sized .valid), w .is-second) (pool-level (long rs (g .p2)) (best rs (g .p2)) (length own2 * 2 ^ bits2 g) (liveIn (entry own2) (bits2 g)) (at2 g own2) (length own3) (entry own3) (w .fits3));
       level3 = rw (w .is-third) (third-long rs (listed-good (w .listed)) _ _ _ _ (λ q h e. pool-leaf never (best rs 32) (length own3 * 2 ^ bits3 g) (liveIn (entry own3) (bits3 g)) (at3 g own2 own3) 0 nobody q h e refl));
     };
-    clear2 = rw (w .is-second) (blank-clear (length own2) (bits2 g) (entry own2) (asAsked t l .second) (pool-free (long rs (mid g)) (best rs (mid g)) (length own2 * 2 ^ bits2 g) (liveIn (entry own2) (bits2 g)) (at2 g own2) (length own3) (entry own3)));
+    clear2 = rw (w .is-second) (blank-clear (length own2) (bits2 g) (entry own2) (asAsked t l .second) (pool-free (long rs (g .p2)) (best rs (g .p2)) (length own2 * 2 ^ bits2 g) (liveIn (entry own2) (bits2 g)) (at2 g own2) (length own3) (entry own3)));
     clear3 = rw (w .is-third) (blank-clear (length own3) (bits3 g) (entry own3) (asAsked t l .third) (pool-free never (best rs 32) (length own3 * 2 ^ bits3 g) (liveIn (entry own3) (bits3 g)) (at3 g own2 own3) 0 nobody));
   }
 
@@ -123,7 +128,7 @@ module _ (g : Geometry) (valid : Valid g) (room : ℕ) (few : room ≤ 4096) (rs
         room = omega arith;
         cells1 = length-pool (long rs (g .p1)) (best rs (g .p1)) (2 ^ g .p1) always itself (length own2) (entry own2);
         few2 = few2;
-        cells2 = length-pool (long rs (mid g)) (best rs (mid g)) (length own2 * 2 ^ bits2 g) (liveIn (entry own2) (bits2 g)) (at2 g own2) (length own3) (entry own3);
+        cells2 = length-pool (long rs (g .p2)) (best rs (g .p2)) (length own2 * 2 ^ bits2 g) (liveIn (entry own2) (bits2 g)) (at2 g own2) (length own3) (entry own3);
         few3 = few3;
         cells3 = length-pool never (best rs 32) (length own3 * 2 ^ bits3 g) (liveIn (entry own3) (bits3 g)) (at3 g own2 own3) 0 nobody;
       }

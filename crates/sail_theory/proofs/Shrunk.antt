@@ -3,18 +3,17 @@ use mathlib.Core.Path.{_≡_, refl, sym, _∙_, ap}
 use mathlib.Core.Bool.{Bool, true, false}
 use mathlib.Core.List.{List}
 use Prim.Native.Nat.{ℕ, suc, _+_, _-_, _*_, _/_, _%_, _^_, _≤_, _<_}
-use native.Mathlib.Omega.{arith}
 use lib.Dec.{ltb}
 use lib.ListN.{getD, length}
 use borrow.Author.Tests.{lt-ltb}
 use Rattle.routes.specs.Route.{long}
 use Rattle.routes.specs.declared.Route.{Route}
-use Rattle.routes.proofs.Levels.{long-up}
 use Rattle.sail.specs.Geometry.{bits2, bits3, Valid}
 use Rattle.sail.specs.Level.{always, itself, liveIn, entry}
 use Rattle.sail.specs.declared.geometry.Geometry.{Geometry}
-use Rattle.sail_theory.specs.Render.{mid, at2, Fits2, Fits3}
+use Rattle.sail_theory.specs.Render.{at2, Fits2, Fits3}
 use Rattle.sail_theory.specs.Calls.{keep2, keep3}
+use Rattle.sail_theory.proofs.Mids.{long-mid}
 use Rattle.sail_theory.proofs.Places.{live-owner, part-up}
 use Rattle.sail_theory.proofs.Owners.{fits-kept}
 use Rattle.sail_theory.proofs.Stores.{kept-was, kept-stays, length-keep}
@@ -29,16 +28,16 @@ module _ (g : Geometry) (valid : Valid g) (rs rs′ : List Route) (less : (p i :
       (kept-was (long rs′ (g .p1)) itself own2) (kept-stays (long rs′ (g .p1)) itself own2) (λ q l e d. refl) (λ q l e. (refl, refl)))
 
   -- a second chunk above a third one that is kept is kept
-  pub kept-over : (q : ℕ) → liveIn (entry own2) (bits2 g) q ≡ true → long rs′ (mid g) (at2 g own2 q) ≡ true → getD own2′ (q / 2 ^ bits2 g) 0 ≡ getD own2 (q / 2 ^ bits2 g) 0
+  pub kept-over : (q : ℕ) → liveIn (entry own2) (bits2 g) q ≡ true → long rs′ (g .p2) (at2 g own2 q) ≡ true → getD own2′ (q / 2 ^ bits2 g) 0 ≡ getD own2 (q / 2 ^ bits2 g) 0
   kept-over q e d =
       let o = live-owner (entry own2) (bits2 g) q e in
-      let up = long-up rs′ (g .p1) (bits2 g) (at2 g own2 q) (omega arith) d in
+      let up = long-mid g valid rs′ (at2 g own2 q) d in
       kept-stays (long rs′ (g .p1)) itself own2 (q / 2 ^ bits2 g) _ o (sym (ap (long rs′ (g .p1)) (part-up (entry own2) (bits2 g) itself q)) ∙ up) ∙ sym o
 
   pub keep-fits3 : Fits3 g rs′ own2′ (keep3 g rs′ own2 own3)
-  keep-fits3 = rw (length-keep (long rs′ (g .p1)) itself own2, length-keep (long rs′ (mid g)) (at2 g own2) own3) (fits-kept (long rs (mid g)) (long rs′ (mid g)) (length own2 * 2 ^ bits2 g)
-      (liveIn (entry own2) (bits2 g)) (liveIn (entry own2′) (bits2 g)) (at2 g own2) (at2 g own2′) (length own3) (entry own3) (entry (keep3 g rs′ own2 own3)) f3 (less (mid g))
-      (kept-was (long rs′ (mid g)) (at2 g own2) own3) (kept-stays (long rs′ (mid g)) (at2 g own2) own3) (λ q l e d. ap (ltb 0) (kept-over q e d) ∙ e) back)
+  keep-fits3 = rw (length-keep (long rs′ (g .p1)) itself own2, length-keep (long rs′ (g .p2)) (at2 g own2) own3) (fits-kept (long rs (g .p2)) (long rs′ (g .p2)) (length own2 * 2 ^ bits2 g)
+      (liveIn (entry own2) (bits2 g)) (liveIn (entry own2′) (bits2 g)) (at2 g own2) (at2 g own2′) (length own3) (entry own3) (entry (keep3 g rs′ own2 own3)) f3 (less (g .p2))
+      (kept-was (long rs′ (g .p2)) (at2 g own2) own3) (kept-stays (long rs′ (g .p2)) (at2 g own2) own3) (λ q l e d. ap (ltb 0) (kept-over q e d) ∙ e) back)
     where
       back : (q : ℕ) → q < length own2 * 2 ^ bits2 g → liveIn (entry own2′) (bits2 g) q ≡ true → (liveIn (entry own2) (bits2 g) q ≡ true) × (at2 g own2′ q ≡ at2 g own2 q)
       back q l e =

@@ -23,7 +23,7 @@ use Rattle.sail.specs.Sound.{Sound, standing}
 use Rattle.sail.specs.declared.geometry.Geometry.{Geometry}
 use Rattle.sail.specs.declared.table.Table.{Table}
 use Rattle.sail.proofs.Fitting.{Fault, none, limits, size, none-is, fault-is}
-use Rattle.sail_theory.specs.Render.{chunkFor, mid, at2, rendered, asAsked, Fits, Rendered}
+use Rattle.sail_theory.specs.Render.{chunkFor, at2, rendered, asAsked, Fits, Rendered}
 use Rattle.sail_theory.specs.Test.{listed?, fits?, sound?}
 use Rattle.sail_theory.proofs.Rendered.{sound-rendered, rendered-sound}
 

@@ -20,7 +20,7 @@ use Rattle.sail.specs.Sizes.{sizesFault}
 use Rattle.sail.specs.Sound.{standing, freshTable, freshLent}
 use Rattle.sail.specs.declared.geometry.Geometry.{Geometry}
 use Rattle.sail.specs.declared.table.Table.{Table}
-use Rattle.sail_theory.specs.Render.{find, mid, at2, rendered, roomOf}
+use Rattle.sail_theory.specs.Render.{find, at2, rendered, roomOf}
 use Rattle.sail_theory.specs.Test.{sound?}
 
 -- Owners.
@@ -35,14 +35,14 @@ grant own c q = cond (ltb (find own (suc q)) (length own)) own (set own c (suc q
 
 -- the place in the second pool that serves the address a
 abbrev pub placeIn : Geometry → List ℕ → ℕ → ℕ
-placeIn g own2 a = find own2 (suc (slot (g .p1) a)) * 2 ^ bits2 g + slot (mid g) a % 2 ^ bits2 g
+placeIn g own2 a = find own2 (suc (slot (g .p1) a)) * 2 ^ bits2 g + slot (g .p2) a % 2 ^ bits2 g
 
 -- a route longer than p1 has a second chunk, one longer than p2 a third; if it had none, it is c
 unfoldable pub openAt2 : Geometry → List ℕ → ℕ → Route → List ℕ
 openAt2 g own2 c r = cond (ltb (g .p1) (r .len)) (grant own2 c (slot (g .p1) (r .addr))) own2
 
 unfoldable pub openAt3 : Geometry → List ℕ → List ℕ → ℕ → Route → List ℕ
-openAt3 g own2 own3 c r = cond (ltb (mid g) (r .len)) (grant own3 c (placeIn g own2 (r .addr))) own3
+openAt3 g own2 own3 c r = cond (ltb (g .p2) (r .len)) (grant own3 c (placeIn g own2 (r .addr))) own3
 
 -- "A newly opened chunk takes the lowest free number"
 abbrev pub open2 : Geometry → List ℕ → Route → List ℕ
@@ -68,7 +68,7 @@ abbrev pub keep2 : Geometry → List Route → List ℕ → List ℕ
 keep2 g rs own2 = keep (long rs (g .p1)) itself own2
 
 abbrev pub keep3 : Geometry → List Route → List ℕ → List ℕ → List ℕ
-keep3 g rs own2 own3 = keep (long rs (mid g)) (at2 g own2) own3
+keep3 g rs own2 own3 = keep (long rs (g .p2)) (at2 g own2) own3
 
 -- "closes chunks that are no longer needed": the owners after a withdrawal that leaves these routes
 abbrev pub kept : Geometry → List Route → Owners → Owners

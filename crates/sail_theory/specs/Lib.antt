@@ -4,3 +4,4 @@ pub mod Test
 pub mod Calls
 pub mod Facts
 pub mod Runs
+pub mod Alters

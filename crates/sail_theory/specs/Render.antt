@@ -43,10 +43,6 @@ pool deep hop n live at m own = block n live (shown deep hop at m own)
 abbrev pub never : ℕ → Bool
 never i = false
 
--- the level of the second cells: p2, as a sum
-abbrev pub mid : Geometry → ℕ
-mid g = g .p1 + bits2 g
-
 -- the cells that the places of the second and of the third pool stand for
 abbrev pub at2 : Geometry → List ℕ → ℕ → ℕ
 at2 g own2 = partOf (entry own2) (bits2 g) itself
@@ -59,7 +55,7 @@ unfoldable pub rendered : Geometry → ℕ → List Route → List ℕ → List 
 rendered g room rs own2 own3 = record {
   list = written rs room;
   first = pool (long rs (g .p1)) (best rs (g .p1)) (2 ^ g .p1) always itself (length own2) (entry own2);
-  second = pool (long rs (mid g)) (best rs (mid g)) (length own2 * 2 ^ bits2 g) (liveIn (entry own2) (bits2 g)) (at2 g own2) (length own3) (entry own3);
+  second = pool (long rs (g .p2)) (best rs (g .p2)) (length own2 * 2 ^ bits2 g) (liveIn (entry own2) (bits2 g)) (at2 g own2) (length own3) (entry own3);
   third = pool never (best rs 32) (length own3 * 2 ^ bits3 g) (liveIn (entry own3) (bits3 g)) (at3 g own2 own3) 0 nobody;
   own2 = own2;
   own3 = own3;
@@ -75,7 +71,7 @@ abbrev pub Fits2 : Geometry → List Route → List ℕ → Type 0
 Fits2 g rs own2 = Fits (long rs (g .p1)) (2 ^ g .p1) always itself (length own2) (entry own2)
 
 abbrev pub Fits3 : Geometry → List Route → List ℕ → List ℕ → Type 0
-Fits3 g rs own2 own3 = Fits (long rs (mid g)) (length own2 * 2 ^ bits2 g) (liveIn (entry own2) (bits2 g)) (at2 g own2) (length own3) (entry own3)
+Fits3 g rs own2 own3 = Fits (long rs (g .p2)) (length own2 * 2 ^ bits2 g) (liveIn (entry own2) (bits2 g)) (at2 g own2) (length own3) (entry own3)
 
 -- how many records the list has room for
 abbrev pub roomOf : Lent → ℕ

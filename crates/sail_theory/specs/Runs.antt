@@ -1,12 +1,15 @@
 -- Calls one after the other, and the routes that stand by what they said alone. Assumes nothing.
-use mathlib.Core.Bool.{Bool, cond}
+use mathlib.Core.Bool.{true, cond}
 use mathlib.Core.List.{List, [], _∷_}
 use mathlib.Core.Path.{_≡_}
-use Prim.Native.Nat.{ℕ}
+use Prim.Native.Nat.{ℕ, _*_, _≤_}
 use lib.Dec.{eqb}
-use Rattle.routes.specs.Route.{keyOf}
+use lib.ListN.{length}
+use Rattle.routes.specs.Route.{keyOf, Prefix, Fine}
+use Rattle.routes.specs.Record.{routesOf, Records}
+use Rattle.routes.specs.Input.{inputSaid}
 use Rattle.routes.specs.Said.{Said, accepted}
-use Rattle.routes.specs.Standing.{Held, absent, stood, routeAt}
+use Rattle.routes.specs.Standing.{stands, Held, absent, stood, routeAt, insert, remove}
 use Rattle.routes.specs.declared.Route.{Route}
 use Rattle.sail.specs.Lent.{Lent}
 use Rattle.sail.specs.declared.table.Table.{Table}
@@ -49,3 +52,21 @@ says (load input) k before = routeAt k (inputRoutes input)
 unfoldable pub worked : Table → Lent → List Call → ℕ → Held
 worked t l [] k = absent
 worked t l (c ∷ cs) k = cond (took (after t l (c ∷ cs) .said)) (says c k (worked t l cs k)) (worked t l cs k)
+
+-- the routes that would stand after the call, where rs stand
+abbrev pub would : Call → List Route → List Route
+would (announce a len hop) rs = insert (route a len hop) rs
+would (withdraw a len) rs = remove (keyOf a len) rs
+would (load input) rs = inputRoutes input
+
+-- a well-formed change for which a list of this room has room, where rs stand
+abbrev pub Formed : Call → List Route → ℕ → Type 0
+Formed (announce a len hop) rs room = Fine (route a len hop) × (length (insert (route a len hop) rs) ≤ room)
+Formed (withdraw a len) rs room = Prefix a len × (stands (keyOf a len) rs ≡ true)
+Formed (load input) rs room = (n : ℕ) × (inputSaid input ≡ accepted (n ∷ [])) × (n ≤ room)
+
+-- a record input of these routes
+pub record Carries (input : List ℕ) (rs : List Route) : Type 0 where
+  pub whole : length input ≡ length rs * 8
+  pub records : Records input (length rs)
+  pub routes : routesOf input (length rs) ≡ rs

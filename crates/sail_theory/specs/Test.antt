@@ -14,7 +14,7 @@ use Rattle.sail.specs.Level.{always, itself, liveIn, entry}
 use Rattle.sail.specs.Sizes.{sizesFault}
 use Rattle.sail.specs.Sound.{standing}
 use Rattle.sail.specs.declared.table.Table.{Table}
-use Rattle.sail_theory.specs.Render.{chunkFor, mid, at2, asAsked}
+use Rattle.sail_theory.specs.Render.{chunkFor, at2, asAsked}
 
 -- whole records, the first n of them good, and zero bytes after them
 unfoldable pub listed? : List ℕ → ℕ → Bool
@@ -36,7 +36,7 @@ sound? t l =
     eqb (sizesFault (t .geometry) l) 0
     && (listed? (l .list) (t .count)
     && (fits? (long (standing t l) (t .geometry .p1)) (2 ^ t .geometry .p1) always itself (length (l .own2)) (entry (l .own2))
-    && (fits? (long (standing t l) (mid (t .geometry))) (length (l .own2) * 2 ^ bits2 (t .geometry)) (liveIn (entry (l .own2)) (bits2 (t .geometry))) (at2 (t .geometry) (l .own2)) (length (l .own3)) (entry (l .own3))
+    && (fits? (long (standing t l) (t .geometry .p2)) (length (l .own2) * 2 ^ bits2 (t .geometry)) (liveIn (entry (l .own2)) (bits2 (t .geometry))) (at2 (t .geometry) (l .own2)) (length (l .own3)) (entry (l .own3))
     && (same (l .first) (asAsked t l .first)
     && (same (l .second) (asAsked t l .second)
     && same (l .third) (asAsked t l .third))))))

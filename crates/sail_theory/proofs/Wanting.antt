@@ -1,0 +1,103 @@
+-- Demand 3: a well-formed change for which the list has room is refused for want of chunks exactly when the routes that would then stand
+-- need more than were lent, and else it is accepted. Assumes nothing.
+use mathlib.Core.Path.{_≡_, refl, sym, _∙_, ap, subst}
+use mathlib.Core.Logic.{_⊎_, inl, inr}
+use mathlib.Core.Bool.{Bool, true, false, cond}
+use mathlib.Core.List.{List, [], _∷_}
+use Prim.Native.Nat.{ℕ, _+_, _*_, _/_, _≤_, _<_}
+use native.Mathlib.Omega.{arith}
+use lib.Dec.{ltb}
+use lib.ListN.{length}
+use borrow.Author.Tests.{lt-ltb, le-ltb}
+use Rattle.bits.specs.Count.{bit}
+use Rattle.bits.proofs.Tests.{decided, below?}
+use Rattle.routes.specs.Route.{keyOf, within, need, Fine, Good}
+use Rattle.routes.specs.Said.{Said, accepted, refused}
+use Rattle.routes.specs.Standing.{stands, insert, remove}
+use Rattle.routes.specs.declared.Route.{Route}
+use Rattle.routes.proofs.Standing.{remove-good, remove-any}
+use Rattle.routes.proofs.Changed.{insert-adds}
+use Rattle.routes.proofs.Meaning.{input-good}
+use Rattle.sail.specs.Lent.{Lent}
+use Rattle.sail.specs.Level.{entry}
+use Rattle.sail.specs.Sizes.{Sized}
+use Rattle.sail.specs.Sound.{Sound, standing}
+use Rattle.sail.specs.declared.table.Table.{Table}
+use Rattle.sail.proofs.Sounds.{standing-good, chunks-need}
+use Rattle.sail_theory.specs.Render.{roomOf}
+use Rattle.sail_theory.specs.Calls.{route, Terms, termsOf, chunksFault, inputRoutes, orSay, Out, took, announced, withdrawn, loaded}
+use Rattle.sail_theory.specs.Facts.{Holds, Welcome, Farewell, Loadable}
+use Rattle.sail_theory.specs.Runs.{Call, announce, withdraw, load, done, after, would, Formed}
+use Rattle.sail_theory.proofs.Chunks.{used-le}
+use Rattle.sail_theory.proofs.Needs.{need-mono}
+use Rattle.sail_theory.proofs.Judged.{Proper, Roomy, Announce, Readable}
+use Rattle.sail_theory.proofs.Only.{roomy-said, read-said}
+use Rattle.sail_theory.proofs.Accepted.{replaced-welcome, announce-said, welcome-said, withdraw-said, farewell-said}
+use Rattle.sail_theory.proofs.Loads.{load-said}
+use Rattle.sail_theory.proofs.Runs.{run-is}
+
+-- What the change says: 7 exactly when second chunks are wanting, 8 exactly when third chunks alone are, and else that it is accepted.
+pub data Wanting (m : Terms) (rs : List Route) : Said → Type 0 where
+  second : m .most2 < need rs (m .geometry .p1) → Wanting m rs (refused 7)
+  third : need rs (m .geometry .p1) ≤ m .most2 → m .most3 < need rs (m .geometry .p2) → Wanting m rs (refused 8)
+  neither : need rs (m .geometry .p1) ≤ m .most2 → need rs (m .geometry .p2) ≤ m .most3 → (vs : List ℕ) → Wanting m rs (accepted vs)
+
+wanting : (m : Terms) (rs : List Route) (vs : List ℕ) → Wanting m rs (orSay (chunksFault m rs) (accepted vs))
+unfolding chunksFault
+wanting m rs vs = go (below? (m .most2) (need rs (m .geometry .p1))) (below? (m .most3) (need rs (m .geometry .p2)))
+  where
+    go : (m .most2 < need rs (m .geometry .p1)) ⊎ (need rs (m .geometry .p1) ≤ m .most2) → (m .most3 < need rs (m .geometry .p2)) ⊎ (need rs (m .geometry .p2) ≤ m .most3)
+        → Wanting m rs (orSay (cond (ltb (m .most2) (need rs (m .geometry .p1))) 7 (cond (ltb (m .most3) (need rs (m .geometry .p2))) 8 0)) (accepted vs))
+    go (inl x) y = rw (lt-ltb _ _ x) (second x)
+    go (inr x) (inl y) = rw (le-ltb _ _ x, lt-ltb _ _ y) (third x y)
+    go (inr x) (inr y) = rw (le-ltb _ _ x, le-ltb _ _ y) (neither x y vs)
+
+module _ (t : Table) (l : Lent) (s : Sound t l) where
+  abbrev rs : List Route
+  rs = standing t l
+
+  announce-wants : (a len hop : ℕ) → Formed (announce a len hop) rs (roomOf l) → Wanting (termsOf t l) (insert (route a len hop) rs) (announced t l a len hop .said)
+  announce-wants a len hop f = go (decided (stands (keyOf a len) rs))
+    where
+      proper : Proper t l a len hop
+      proper = record { fine = f .0; sound = s }
+
+      go : (stands (keyOf a len) rs ≡ true) ⊎ (stands (keyOf a len) rs ≡ false) → Wanting (termsOf t l) (insert (route a len hop) rs) (announced t l a len hop .said)
+      go (inl e) =
+          let w = replaced-welcome t l a len hop proper e in
+          rw (announce-said t l a len hop ∙ welcome-said t l a len hop w) (neither (w .enough2) (w .enough3) (bit (stands (keyOf a len) rs) ∷ []))
+      go (inr e) = rw (announce-said t l a len hop ∙ roomy-said t l a len hop (record { proper = proper; new = e; room = omega (arith, insert-adds (route a len hop) rs e, f .1) })) (wanting (termsOf t l) (insert (route a len hop) rs) (0 ∷ []))
+
+  withdraw-wants : (a len : ℕ) → Formed (withdraw a len) rs (roomOf l) → Wanting (termsOf t l) (remove (keyOf a len) rs) (withdrawn t l a len .said)
+  withdraw-wants a len f =
+      let n = chunks-need t l s in
+      let v = s .sized .valid in
+      let good = standing-good t l s in
+      let less : (p : ℕ) → p ≤ 32 → need (remove (keyOf a len) rs) p ≤ need rs p
+      = λ p h. need-mono (remove (keyOf a len) rs) rs p h (remove-good (keyOf a len) rs good) good (λ i e. remove-any (within p i) (keyOf a len) rs e) in
+      rw (withdraw-said t l a len ∙ farewell-said t l a len (record { prefix = f .0; sound = s; old = f .1 }))
+      (neither (omega (arith, n .0, used-le (entry (l .own2)) (length (l .own2)), less (t .geometry .p1) (omega arith)))
+      (omega (arith, n .1, used-le (entry (l .own3)) (length (l .own3)), less (t .geometry .p2) (omega arith))) [])
+
+  load-wants : (input : List ℕ) → Formed (load input) rs (roomOf l) → Wanting (termsOf t l) (inputRoutes input) (loaded t l input .said)
+  load-wants input f =
+      let g = input-good input (f .0) (f .1) in
+      let m : f .0 ≡ length input / 8 = omega (arith, g .0) in
+      rw (load-said t l input ∙ read-said t l input (record { sized = s .sized; whole = rw m at (g .0); records = rw m at (g .1) }), le-ltb (roomOf l) (length input / 8) (rw m at (f .2)))
+      (wanting (termsOf t l) (inputRoutes input) [])
+
+  pub change-wants : (c : Call) → Formed c rs (roomOf l) → Wanting (termsOf t l) (would c rs) (done t l c .said)
+  unfolding done
+  change-wants (announce a len hop) f = announce-wants a len hop f
+  change-wants (withdraw a len) f = withdraw-wants a len f
+  change-wants (load input) f = load-wants input f
+
+-- after any run: by the chunks that were lent
+pub want-of-chunks : (t : Table) (l : Lent) → Sized (t .geometry) l → (cs : List Call) (c : Call) → Formed c (standing (after t l cs .table) (after t l cs .lent)) (roomOf l)
+    → Wanting (termsOf t l) (would c (standing (after t l cs .table) (after t l cs .lent))) (after t l (c ∷ cs) .said)
+unfolding after
+want-of-chunks t l z cs c f =
+    let w = run-is t l z cs in
+    let room : roomOf (after t l cs .lent) ≡ roomOf l = ap (λ (n : ℕ). n / 8) (w .size .list) in
+    let terms : termsOf (after t l cs .table) (after t l cs .lent) ≡ termsOf t l = rw (w .geometry, w .size .list, w .size .chunks2, w .size .chunks3) in
+    rw terms at (change-wants (after t l cs .table) (after t l cs .lent) (w .sound) c (rw room f))
