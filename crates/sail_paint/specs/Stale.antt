@@ -16,7 +16,7 @@ use Rattle.sail.specs.Lent.{Lent}
 use Rattle.sail.specs.Sizes.{Sized}
 use Rattle.sail.specs.Level.{liveIn, entry}
 use Rattle.sail.specs.declared.geometry.Geometry.{Geometry}
-use Rattle.sail_theory.specs.Render.{rendered, Fits2, Fits3, mid, at2}
+use Rattle.sail_theory.specs.Render.{rendered, Fits2, Fits3, at2}
 
 -- cell i of level p lies under the prefix of len bits of a, or holds it
 unfoldable pub meets : ℕ → ℕ → ℕ → ℕ → Bool
@@ -27,7 +27,7 @@ abbrev pub stale2 : Geometry → ℕ → ℕ → List ℕ → ℕ → Bool
 stale2 g a len own2 q = liveIn (entry own2) (bits2 g) q && meets a len (g .p1) (getD own2 (q / 2 ^ bits2 g) 0 - 1)
 
 abbrev pub stale3 : Geometry → ℕ → ℕ → List ℕ → List ℕ → ℕ → Bool
-stale3 g a len own2 own3 q = liveIn (entry own3) (bits3 g) q && meets a len (mid g) (at2 g own2 (getD own3 (q / 2 ^ bits3 g) 0 - 1))
+stale3 g a len own2 own3 q = liveIn (entry own3) (bits3 g) q && meets a len (g .p2) (at2 g own2 (getD own3 (q / 2 ^ bits3 g) 0 - 1))
 
 -- what these routes and the owners lent ask for
 abbrev pub asked : Geometry → List Route → Lent → Lent

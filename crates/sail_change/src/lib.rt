@@ -1,0 +1,2 @@
+// Announce and withdraw: the calls that change a SAIL table by one route.
+pub mod chunks;
