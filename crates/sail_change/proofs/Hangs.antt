@@ -1,13 +1,15 @@
 -- A search for a free chunk, and a chunk hung or closed. Assumes nothing.
 use mathlib.Core.Path.{_≡_, refl, sym, ap, _∙_}
-use mathlib.Core.Logic.{_≢_}
+use mathlib.Core.Logic.{_⊎_, inl, inr, _≢_}
 use mathlib.Core.Bool.{Bool, true, false, cond, _&&_}
 use mathlib.Core.List.{List}
-use Prim.Native.Nat.{ℕ, _+_, _*_, _^_, _≤_, _<_}
+use Prim.Native.Nat.{ℕ, suc, _+_, _*_, _^_, _≤_, _<_}
 use native.Mathlib.Omega.{arith}
 use native.Mathlib.Nat.{mul-le-mul-right, suc-mul, one-mul}
 use lib.Dec.{eqb}
-use lib.ListN.{getD, length, set}
+use lib.ListN.{getD, length, set, length-set, List·getD-eq-default}
+use lib.Seq.{getD-set-same, getD-set-other}
+use Rattle.bits.proofs.Tests.{equal?, below?}
 use Rattle.plan.specs.Paint.{filled, Range}
 use Rattle.sail.specs.Level.{entry}
 use Rattle.sail_theory.specs.Render.{find}
@@ -56,3 +58,16 @@ module _ (b : Bool) (own cells : List ℕ) (c d : ℕ) where
   pub close-off : b ≡ false → (own ≡ closed b c own) × (cells ≡ blanked b c d cells)
   unfolding closed blanked
   close-off h = (rw h, rw h)
+
+-- an owner that is there after a chunk was hung from z was there before, unless it is the new one
+pub hung-was : (own : List ℕ) (b : Bool) (z c x : ℕ) → getD (hung b (suc z) own) c 0 ≡ suc x → (b ≡ true → x ≢ z) → getD own c 0 ≡ suc x
+unfolding hung
+hung-was own false z c x e other = e
+hung-was own true z c x e other = go (equal? c (find own 0)) (below? c (length own))
+  where
+    go : (c ≡ find own 0) ⊎ (c ≢ find own 0) → (c < length own) ⊎ (length own ≤ c) → getD own c 0 ≡ suc x
+    go (inr n) l = sym (getD-set-other own (find own 0) c (suc z) 0 n) ∙ e
+    go (inl q) (inl l) = absurd (other refl (omega (arith, getD-set-same own c (suc z) 0 l, rw (← q) at e)))
+    go (inl q) (inr l) =
+        let k : length (set own (find own 0) (suc z)) ≤ c = rw length-set l in
+        absurd (omega (arith, e, List·getD-eq-default (set own (find own 0) (suc z)) 0 k))

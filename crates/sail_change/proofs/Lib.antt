@@ -1,2 +1,5 @@
 -- Laws that the proofs of the functions cite.
 pub mod Hangs
+pub mod Still
+pub mod Shuts
+pub mod Underway

@@ -1,9 +1,13 @@
 -- A chunk opened or closed, where that is asked: at most one owner changes, and a closed chunk's cells are 0. Assumes nothing.
-use mathlib.Core.Bool.{Bool, true, cond}
+use mathlib.Core.Bool.{Bool, true, not, _&&_, cond}
 use mathlib.Core.List.{List}
 use mathlib.Core.Path.{_≡_}
 use Prim.Native.Nat.{ℕ, _+_, _*_, _^_, _≤_, _<_}
+use lib.Dec.{ltb}
 use lib.ListN.{length, set}
+use Rattle.bits.specs.Slot.{slot}
+use Rattle.routes.specs.Route.{long}
+use Rattle.routes.specs.declared.Route.{Route}
 use Rattle.plan.specs.Paint.{filled}
 use Rattle.sail_theory.specs.Render.{find}
 
@@ -29,3 +33,8 @@ pub record Closing (closes : Bool) (own cells : List ℕ) (c d : ℕ) : Type 0 w
   pub few : length own ≤ 4096
   pub size : d ≤ 10
   pub whole : length cells ≡ length own * 2 ^ d
+
+-- The prefix of len bits of a is longer than p, and no route longer than p has its first p bits. So it alone needs a chunk for its cell of
+-- level p: one that is to be opened, where rs are the routes before it comes, and to be closed, where they are those after it is gone.
+abbrev pub alone : List Route → ℕ → ℕ → ℕ → Bool
+alone rs p a len = ltb p len && not (long rs p (slot p a))

@@ -1,2 +1,3 @@
 -- What the calls that change a table by one route ask and leave, step by step.
 pub mod Chunks
+pub mod Pending
