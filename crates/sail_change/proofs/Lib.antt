@@ -3,3 +3,5 @@ pub mod Hangs
 pub mod Still
 pub mod Shuts
 pub mod Underway
+pub mod Opened
+pub mod Shrinks
