@@ -5,3 +5,4 @@ pub mod Shuts
 pub mod Underway
 pub mod Opened
 pub mod Shrinks
+pub mod Trails

@@ -1,2 +1,3 @@
 // Announce and withdraw: the calls that change a SAIL table by one route.
 pub mod chunks;
+pub mod trail;
