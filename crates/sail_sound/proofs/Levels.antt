@@ -1,0 +1,72 @@
+-- What the test of each level rests on: the sizes of what is lent. Assumes nothing.
+use mathlib.Core.Path.{_≡_}
+use mathlib.Core.Bool.{Bool}
+use mathlib.Core.List.{List, [], _∷_}
+use Prim.Native.Nat.{ℕ, zero, suc, _+_, _-_, _*_, _^_, _≤_, _<_}
+use native.Mathlib.Decide.{decLt}
+use native.Mathlib.Omega.{arith}
+use lib.ListN.{length, getD, List·getD-eq-default}
+use lib.Pow.{pow-mono}
+use Rattle.routes.specs.declared.Route.{Route}
+use Rattle.chain.specs.Cover.{Ready}
+use Rattle.sail.specs.Geometry.{bits2, bits3}
+use Rattle.sail.specs.Lent.{lent}
+use Rattle.sail.specs.Sizes.{Sized}
+use Rattle.sail.specs.declared.geometry.Geometry.{Geometry}
+use Rattle.sail_sound.specs.Pool.{PoolOk, FirstCells, Pooled}
+use Rattle.sail_sound.specs.Test.{root}
+
+-- no owner in a right pool names a place past the pool above
+pub pool-owners : (rs : List Route) (p d : ℕ) (above : List ℕ) (live : ℕ → Bool) (at : ℕ → ℕ) (own cells below : List ℕ) → PoolOk rs p d above live at own cells below → (c : ℕ) → getD own c 0 ≤ length above
+pool-owners rs p d above live at own cells below k c = go (decLt c (length own)) (decLt 0 (getD own c 0))
+  where
+    go : Dec (c < length own) → Dec (0 < getD own c 0) → getD own c 0 ≤ length above
+    go (yes a) (yes b) = let h = k .each c a .hangs (getD own c 0 - 1) (omega arith) .inside in omega arith
+    go (yes a) (no b) = omega arith
+    go (no a) b = let h : length own ≤ c = omega arith in rw (List·getD-eq-default own 0 h) (omega arith)
+
+root-owner : (c : ℕ) → getD root c 0 ≤ 2 ^ 0
+root-owner zero = omega arith
+root-owner (suc c) = omega arith
+
+module _ (ws par : List ℕ) (ready : Ready ws par) (g : Geometry) (first second third own2 own3 : List ℕ) (s : Sized g (lent [] first second third own2 own3)) (want : List ℕ) (room : length want ≡ 1024) where
+  pub first-cells : FirstCells ws par (g .p1) first 1 want
+  first-cells =
+      let v = s .valid in
+      record { ready = ready; low = omega arith; deep = omega arith; cells = s .cells1; few = omega (arith, pow-mono (v .p1-high), s .cells1); room = room }
+
+  pub pooled2 : Pooled ws par (g .p2) (bits2 g) root (g .p1) first second own2 want
+  pooled2 =
+      let v = s .valid in
+      record {
+        ready = ready;
+        deep = omega arith;
+        small = v .near;
+        near = v .p1-high;
+        top = 0;
+        high = omega arith;
+        sum = omega arith;
+        owners = root-owner;
+        places = omega (arith, s .cells1);
+        chunks = s .cells2;
+        few = s .few2;
+        room = room;
+      }
+
+  pub pooled3 : ((c : ℕ) → getD own2 c 0 ≤ length first) → Pooled ws par 32 (bits3 g) own2 (bits2 g) second third own3 want
+  pooled3 o =
+      let v = s .valid in
+      record {
+        ready = ready;
+        deep = omega arith;
+        small = omega arith;
+        near = omega arith;
+        top = g .p1;
+        high = v .p1-high;
+        sum = omega arith;
+        owners = λ c. omega (arith, o c, s .cells1);
+        places = s .cells2;
+        chunks = s .cells3;
+        few = s .few3;
+        room = room;
+      }

@@ -1,0 +1,31 @@
+-- The whole test: what it goes through, and what it answers. Assumes nothing.
+use mathlib.Core.Path.{_≡_}
+use mathlib.Core.Bool.{Bool}
+use mathlib.Core.List.{List, [], _∷_}
+use Prim.Native.Nat.{ℕ}
+use lib.ListN.{length}
+use Rattle.bits.specs.Tab.{Tells}
+use Rattle.routes.specs.declared.Route.{Route}
+use Rattle.plan.specs.Part.{Right}
+use Rattle.sail.specs.Geometry.{bits2, bits3}
+use Rattle.sail.specs.Lent.{Lent}
+use Rattle.sail.specs.Sound.{Sound}
+use Rattle.sail.specs.declared.geometry.Geometry.{Geometry}
+use Rattle.sail.specs.declared.table.Table.{Table}
+use Rattle.sail_theory.specs.Test.{sound?}
+use Rattle.sail_sound.specs.Pool.{HookedPool}
+
+-- the first cells as one chunk, whose owner is 1
+abbrev pub root : List ℕ
+root = 1 ∷ []
+
+-- the three levels, as the test goes through them
+pub record Passed (rs : List Route) (g : Geometry) (first second third own2 own3 : List ℕ) : Type 0 where
+  pub cells1 : Right rs (g .p1) 0 first own2 1 (length first)
+  pub pool2 : HookedPool rs (g .p2) (bits2 g) root (g .p1) first own2 second own3
+  pub pool3 : HookedPool rs 32 (bits3 g) own2 (bits2 g) second own3 third []
+
+-- the answer tells whether the table is sound, and is that of the test by which the calls are defined
+pub record Tried (r : Bool) (t : Table) (l : Lent) : Type 0 where
+  pub tells : Tells r (Sound t l)
+  pub is : r ≡ sound? t l

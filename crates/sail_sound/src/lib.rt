@@ -1,0 +1,4 @@
+// The soundness test of a SAIL table, and the report.
+pub mod list;
+pub mod pool;
+pub mod test;

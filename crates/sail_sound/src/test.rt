@@ -1,0 +1,89 @@
+// The soundness test of a whole table: its list, then its three levels beside the routes of the list.
+ghost use mathlib.Core.List.{[]};
+ghost use Rattle.bits.specs.Tab.{Tells};
+ghost use Rattle.chain.specs.Words.{routesIn};
+ghost use Rattle.chain.specs.Cover.{Ready};
+ghost use Rattle.sail.specs.Lent.{lent};
+ghost use Rattle.sail.specs.Sizes.{Sized};
+ghost use Rattle.sail_sound.specs.List.{Scratch};
+ghost use Rattle.sail_sound.specs.Test.{Passed, Tried};
+use crate::list::chained;
+use crate::list::list_ok;
+use crate::pool::first_ok;
+use crate::pool::pool_ok;
+use sail::geometry::Geometry;
+use sail::table::Table;
+
+// The three levels beside the routes of the words. The first cells are one chunk, whose owner is 1; a third cell names no
+// chunk.
+fn levels_ok(
+    ws: &[u64],
+    par: &[u16],
+    g: Geometry,
+    first: &[u16],
+    second: &[u16],
+    third: &[u16],
+    own2: &[u32],
+    own3: &[u32],
+) -> bool
+    requires { ⌜ Ready (now ws) (now par) ⌝ }
+    requires { ⌜ Sized g (lent [] (now first) (now second) (now third) (now own2) (now own3)) ⌝ }
+    ensures { λ r. ⌜ Tells r (Passed (routesIn (now (ws .entry))) g (now (first .entry)) (now (second .entry)) (now (third .entry)) (now (own2 .entry)) (now (own3 .entry))) ⌝ }
+{
+    let p1 = g.p1;
+    let p2 = g.p2;
+    let d = p2 - p1;
+    let mut want = [0u16; 1024];
+    if !first_ok(ws, par, p1, first, 1, own2, &mut want) {
+        return false;
+    }
+    let root = [1u32; 1];
+    if !pool_ok(ws, par, p2, d, &root, p1, first, second, own2, own3, &mut want) {
+        return false;
+    }
+    let none = &own3[..0];
+    pool_ok(ws, par, 32, 32 - p2, own2, d, second, third, own3, none, &mut want)
+}
+
+// Whether a table of the right sizes is sound; `ws` and `par` are room for the words of its routes and their chain.
+pub fn sound_with(
+    t: Table,
+    list: &[u8],
+    first: &[u16],
+    second: &[u16],
+    third: &[u16],
+    own2: &[u32],
+    own3: &[u32],
+    ws: &mut [u64],
+    par: &mut [u16],
+) -> bool
+    requires { ⌜ Sized (t .geometry) (lent (now list) (now first) (now second) (now third) (now own2) (now own3)) ⌝ }
+    requires { ⌜ Scratch (now ws) (now par) ⌝ }
+    ensures { λ r. ⌜ Tried r t (lent (now (list .entry)) (now (first .entry)) (now (second .entry)) (now (third .entry)) (now (own2 .entry)) (now (own3 .entry))) ⌝ }
+{
+    let n = t.count as usize;
+    if !list_ok(list, n) {
+        return false;
+    }
+    chained(list, &mut ws[..n], par);
+    let g = t.geometry;
+    levels_ok(&ws[..n], par, g, first, second, third, own2, own3)
+}
+
+// The same with room of its own.
+pub fn sound(
+    t: Table,
+    list: &[u8],
+    first: &[u16],
+    second: &[u16],
+    third: &[u16],
+    own2: &[u32],
+    own3: &[u32],
+) -> bool
+    requires { ⌜ Sized (t .geometry) (lent (now list) (now first) (now second) (now third) (now own2) (now own3)) ⌝ }
+    ensures { λ r. ⌜ Tried r t (lent (now (list .entry)) (now (first .entry)) (now (second .entry)) (now (third .entry)) (now (own2 .entry)) (now (own3 .entry))) ⌝ }
+{
+    let mut ws = [0u64; 4096];
+    let mut par = [0u16; 4353];
+    sound_with(t, list, first, second, third, own2, own3, &mut ws, &mut par)
+}
