@@ -2,7 +2,7 @@
 use mathlib.Core.List.{List, []}
 use mathlib.Core.Path.{_≡_}
 use Prim.Native.Nat.{ℕ}
-use Rattle.routes.specs.Record.{routesOf, Records}
+use Rattle.routes.specs.Record.{routesOf, Listed}
 use Rattle.chain.specs.Words.{routesIn}
 use Rattle.chain.specs.Cover.{Ready}
 use Rattle.sail.specs.Lent.{Lent, lent}
@@ -15,5 +15,5 @@ cellsOf l = lent [] (l .first) (l .second) (l .third) (l .own2) (l .own3)
 
 -- the list holds n good records, and no cell is wrong but those that a change at the prefix made stale
 pub record Pending (g : Geometry) (n a len : ℕ) (l : Lent) : Type 0 where
-  pub records : Records (l .list) n
+  pub listed : Listed (l .list) n
   pub stale : (ws par : List ℕ) → Ready ws par → routesIn ws ≡ routesOf (l .list) n → Stale g ws par a len (cellsOf l)

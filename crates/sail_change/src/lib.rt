@@ -1,3 +1,4 @@
 // Announce and withdraw: the calls that change a SAIL table by one route.
 pub mod chunks;
+pub mod renew;
 pub mod trail;
