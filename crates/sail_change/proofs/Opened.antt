@@ -76,12 +76,15 @@ module _ (t : Table) (l : Lent) (r : Route) (w : Welcome t l r) where
   valid = w .sound .sized .valid
 
   pub open2-hung : own2′ ≡ hung (alone rs (g .p1) (r .addr) (r .len)) (suc (slot (g .p1) (r .addr))) (l .own2)
+  unfolding alone
   open2-hung = open2-stores t l r w ∙ opens-is (ltb (g .p1) (r .len)) (long rs (g .p1) (slot (g .p1) (r .addr))) _ (l .own2)
 
   pub open3-hung : own3′ ≡ hung (alone rs (g .p2) (r .addr) (r .len)) (suc (placeIn g own2′ (r .addr))) (l .own3)
+  unfolding alone
   open3-hung = open3-stores t l r w ∙ opens-is (ltb (g .p2) (r .len)) (long rs (g .p2) (slot (g .p2) (r .addr))) _ (l .own3)
 
   longer : (p : ℕ) → alone rs p (r .addr) (r .len) ≡ true → p < r .len
+  unfolding alone
   longer p e = ltb-true p (r .len) (and-split _ _ e .0)
 
   keeps2 : (c x : ℕ) → getD own2′ c 0 ≡ suc x → meets (r .addr) (r .len) (g .p1) x ≡ false → getD (l .own2) c 0 ≡ suc x
@@ -121,6 +124,7 @@ module _ (t : Table) (l : Lent) (r : Route) (w : Welcome t l r) where
 
   -- where a chunk is to be opened, one is free
   fresh : (p : ℕ) → alone rs p (r .addr) (r .len) ≡ true → (ltb p (r .len) ≡ true) × (long rs p (slot p (r .addr)) ≡ false)
+  unfolding alone
   fresh p e = let k = and-split _ _ e in (k .0, not-true _ (k .1))
 
   pub free2 : Free (alone rs (g .p1) (r .addr) (r .len)) (l .own2)

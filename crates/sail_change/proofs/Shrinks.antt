@@ -106,15 +106,19 @@ module _ (t : Table) (l : Lent) (a len : ℕ) (w : Farewell t l a len) where
   same-long p e = sym (remove-long a len rs (w .prefix .len-ok) (standing-good t l (w .sound)) p (slot p a) (λ h _. absurd (true≢false (sym (lt-ltb p len h) ∙ e))))
 
   pub keep2-closed : own2′ ≡ closed (alone left (g .p1) a len) c2 (l .own2)
+  unfolding alone
   keep2-closed = keep2-stores t l a len w ∙ closes-is (long rs (g .p1) (slot (g .p1) a)) (long left (g .p1) (slot (g .p1) a)) (ltb (g .p1) len) c2 (l .own2) (λ e. was-long (g .p1) (ltb-true _ _ e)) (same-long (g .p1))
 
   pub keep3-closed : own3′ ≡ closed (alone left (g .p2) a len) c3 (l .own3)
+  unfolding alone
   keep3-closed = keep3-stores t l a len w ∙ closes-is (long rs (g .p2) (slot (g .p2) a)) (long left (g .p2) (slot (g .p2) a)) (ltb (g .p2) len) c3 (l .own3) (λ e. was-long (g .p2) (ltb-true _ _ e)) (same-long (g .p2))
 
   one2 : alone left (g .p1) a len ≡ true → c2 < length (l .own2)
+  unfolding alone
   one2 e = let v = valid in is .fits2 .has (slot (g .p1) a) (slot-lt (g .p1) a (omega arith) (w .prefix .addr-ok)) refl (was-long (g .p1) (ltb-true _ _ (and-split _ _ e .0)))
 
   one3 : alone left (g .p2) a len ≡ true → c3 < length (l .own3)
+  unfolding alone
   one3 e =
       let v = valid in
       let d = was-long (g .p2) (ltb-true _ _ (and-split _ _ e .0)) in

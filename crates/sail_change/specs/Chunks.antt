@@ -7,6 +7,7 @@ use lib.Dec.{ltb}
 use lib.ListN.{length, set}
 use Rattle.bits.specs.Slot.{slot}
 use Rattle.routes.specs.Route.{long}
+use Rattle.routes.specs.Record.{Records}
 use Rattle.routes.specs.declared.Route.{Route}
 use Rattle.plan.specs.Paint.{filled}
 use Rattle.sail_theory.specs.Render.{find}
@@ -36,5 +37,10 @@ pub record Closing (closes : Bool) (own cells : List ℕ) (c d : ℕ) : Type 0 w
 
 -- The prefix of len bits of a is longer than p, and no route longer than p has its first p bits. So it alone needs a chunk for its cell of
 -- level p: one that is to be opened, where rs are the routes before it comes, and to be closed, where they are those after it is gone.
-abbrev pub alone : List Route → ℕ → ℕ → ℕ → Bool
+unfoldable pub alone : List Route → ℕ → ℕ → ℕ → Bool
 alone rs p a len = ltb p len && not (long rs p (slot p a))
+
+-- n good records, and a level
+pub record Levelled (s : List ℕ) (n p : ℕ) : Type 0 where
+  pub records : Records s n
+  pub level : p ≤ 32
