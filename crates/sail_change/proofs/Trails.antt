@@ -25,10 +25,10 @@ use Rattle.sail_theory.proofs.Rendered.{sound-rendered}
 use Rattle.sail_change.specs.Trail.{Told, Trailed}
 
 -- a place is small
-pub place-bound : (n d c i : ℕ) → c ≤ 4096 → Power n d 1024 → (c * n ≤ 4194304) × (i % n < 1024)
-place-bound n d c i h p = (omega (arith, mul-le-mul h (p .few)), omega (arith, mod-lt i (p .some), p .few))
+pub place-bound : (n d c i : ℕ) → c < 65536 → Power n d 1024 → (c * n ≤ 67108864) × (i % n < 1024)
+place-bound n d c i h p = (omega (arith, mul-le-mul (let z : c ≤ 65536 = omega arith in z) (p .few)), omega (arith, mod-lt i (p .some), p .few))
 
-pub place-is : (n d c i x : ℕ) → c ≤ 4096 → Power n d 1024 → x ≡ i → (c * n + x % n ≡ c * 2 ^ d + i % 2 ^ d) × (c * n + x % n < 4195328)
+pub place-is : (n d c i x : ℕ) → c < 65536 → Power n d 1024 → x ≡ i → (c * n + x % n ≡ c * 2 ^ d + i % 2 ^ d) × (c * n + x % n < 67109888)
 place-is n d c i x h p e = let b = place-bound n d c x h p in (rw (e, p .is), omega (arith, b .0, b .1))
 
 module _ (t : Table) (l : Lent) (a : ℕ) (s : Sound t l) (small : a < 2 ^ 32) where

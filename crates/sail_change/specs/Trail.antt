@@ -27,4 +27,4 @@ pub record Trailed (t : Table) (l : Lent) (a v1 v2 : ℕ) : Type 0 where
 -- a chunk of a second pool
 pub record Chunk (g : Geometry) (c : ℕ) : Type 0 where
   pub valid : Valid g
-  pub few : c ≤ 4096
+  pub few : c < 65536

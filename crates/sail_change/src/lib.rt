@@ -1,5 +1,4 @@
-// Announce and withdraw: the calls that change a SAIL table by one route.
+// What the calls that change a SAIL table by one route do, step by step.
 pub mod alone;
 pub mod chunks;
-pub mod renew;
 pub mod trail;

@@ -18,7 +18,7 @@ pub struct Trail {
 // The place of an address's second cell, where its chunk is c, counted from 0.
 pub fn place(g: Geometry, c: usize, addr: u32) -> usize
     requires { ⌜ Chunk g c ⌝ }
-    ensures { λ r. ⌜ (r ≡ c * 2 ^ bits2 g + slot (g .p2) addr % 2 ^ bits2 g) × (r < 4195328) ⌝ }
+    ensures { λ r. ⌜ (r ≡ c * 2 ^ bits2 g + slot (g .p2) addr % 2 ^ bits2 g) × (r < 67109888) ⌝ }
 {
     let n = g.second_chunk();
     let i = bits::slot(g.p2, addr) as usize;

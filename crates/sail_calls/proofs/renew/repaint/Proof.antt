@@ -1,8 +1,8 @@
 use borrow.Author.Needs.{needs}
-use Rattle.sail_change.proofs.renew.repaint.Statement.{statement}
-use Rattle.sail_change.proofs.renew.repaint.Tie as tie
-use Rattle.sail_change.proofs.renew.repaint.Reads as reads
-use Rattle.sail_change.proofs.renew.repaint.Lts as lts
+use Rattle.sail_calls.proofs.renew.repaint.Statement.{statement}
+use Rattle.sail_calls.proofs.renew.repaint.Tie as tie
+use Rattle.sail_calls.proofs.renew.repaint.Reads as reads
+use Rattle.sail_calls.proofs.renew.repaint.Lts as lts
 
 -- src/renew.rt:27:9
 slice-write-first : tie.Need-slice-write-first

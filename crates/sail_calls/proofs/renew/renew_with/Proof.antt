@@ -1,11 +1,11 @@
 use Rattle.sail_sound.proofs.Tries.{count-in, count-room, chain-room, still-in, front-room, front-chained}
-use Rattle.sail_change.proofs.Renews.{renewed}
+use Rattle.sail_calls.proofs.Renews.{renewed}
 use borrow.Author.Needs.{needs}
-use Rattle.sail_change.proofs.renew.renew_with.Statement.{statement}
-use Rattle.sail_change.proofs.renew.renew_with.Tie as tie
-use Rattle.sail_change.proofs.renew.renew_with.Reads as reads
-use Rattle.sail_change.proofs.renew.renew_with.Lts as lts
-use Rattle.sail_change.proofs.renew.repaint.Reads as repaint-reads
+use Rattle.sail_calls.proofs.renew.renew_with.Statement.{statement}
+use Rattle.sail_calls.proofs.renew.renew_with.Tie as tie
+use Rattle.sail_calls.proofs.renew.renew_with.Reads as reads
+use Rattle.sail_calls.proofs.renew.renew_with.Lts as lts
+use Rattle.sail_calls.proofs.renew.repaint.Reads as repaint-reads
 use Rattle.sail_sound.proofs.list.chained.Reads as chained-reads
 
 -- src/renew.rt:53:19

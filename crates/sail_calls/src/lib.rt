@@ -1,0 +1,4 @@
+// The calls that change a SAIL table by one route: announce and withdraw.
+pub mod answers;
+pub mod opening;
+pub mod renew;
