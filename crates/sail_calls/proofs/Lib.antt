@@ -1,2 +1,3 @@
 -- Laws that the proofs of the calls cite.
 pub mod Renews
+pub mod Openings
