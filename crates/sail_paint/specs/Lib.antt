@@ -1,2 +1,3 @@
--- Which cells a change of a prefix makes stale, and what repainting asks and leaves.
+-- Which cells a change of a prefix makes stale, what repainting asks and leaves, and how it is done.
 pub mod Stale
+pub mod Paint

@@ -1,6 +1,6 @@
 -- The cells that a change at a prefix may make stale: those that lie under the prefix or hold it, and the cells of chunks that hang from
 -- such cells. All others hold already what the routes and owners ask. Assumes nothing.
-use mathlib.Core.Bool.{Bool, true, false, _&&_, cond}
+use mathlib.Core.Bool.{Bool, false, _&&_, cond}
 use mathlib.Core.List.{List}
 use mathlib.Core.Path.{_≡_}
 use Prim.Native.Nat.{ℕ, _-_, _/_, _^_, _<_}

@@ -1,0 +1,7 @@
+-- Laws of painting and stamping, and that both together make a stale table right.
+pub mod Places
+pub mod Overs
+pub mod Firsts
+pub mod Chunks
+pub mod Stamping
+pub mod Rights

@@ -1,0 +1,18 @@
+-- `sail_paint::part::range_end` meets its contract. Assumes nothing.
+use native.Mathlib.Omega.{arith}
+use Rattle.plan.proofs.Ranges.{span-one, span-more}
+use borrow.Author.Needs.{needs}
+use Rattle.sail_paint.proofs.part.range_end.Statement.{statement}
+use Rattle.sail_paint.proofs.part.range_end.Tie as tie
+
+pub range-end-spec : {M : Type 1} → statement M
+range-end-spec =
+    tie.close
+    (tie.spec
+    (λ c. search needs)
+    (λ c. let a = c .before .args in omega (arith, span-one (a .p) (a .len) (c .if1 .taken)))
+    (λ c. search needs)
+    (λ c. search needs)
+    (λ c. search needs)
+    (λ c. let a = c .before .args in omega (arith, span-more (a .p) (a .len) (c .before .pre .0)))
+    (λ c. let a = c .before .args in omega (arith, span-more (a .p) (a .len) (c .before .pre .0))))

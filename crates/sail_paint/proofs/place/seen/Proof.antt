@@ -1,0 +1,15 @@
+-- `sail_paint::place::seen` meets its contract. Assumes nothing.
+use mathlib.Core.Path.{refl}
+use native.Mathlib.Omega.{arith}
+use borrow.Author.Needs.{needs}
+use Rattle.sail_paint.proofs.place.seen.Statement.{statement}
+use Rattle.sail_paint.proofs.place.seen.Tie as tie
+
+pub seen-spec : {M : Type 1} → statement M
+seen-spec =
+    tie.close
+    (tie.spec
+    (λ c. search needs)
+    (λ c. search needs)
+    (λ c. omega (arith, c .shared-slice-known .given (c .before .args .c)))
+    (λ c. (refl, omega (arith, c .shared-slice-known .given (c .before .args .c)))))
