@@ -1,6 +1,5 @@
 -- Two answers of lookup that are told the same are the same. Assumes nothing.
 use mathlib.Core.Path.{_≡_}
-use Prim.Native.Nat.{ℕ}
 use Rattle.sail.specs.Walk.{saysFound}
 use Rattle.sail.specs.declared.lookup.Found.{Found}
 use Rattle.sail.specs.declared.lookup.Found.the-variants.{Hop, NoRoute, Refused}

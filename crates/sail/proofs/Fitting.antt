@@ -1,7 +1,7 @@
 -- The test of the sizes, its number and its facts say the same. Assumes nothing.
-use mathlib.Core.Path.{_≡_, refl, sym, ap, _∙_}
+use mathlib.Core.Path.{_≡_, sym, ap, _∙_}
 use mathlib.Core.Logic.{_⊎_, inl, inr}
-use mathlib.Core.Bool.{Bool, true, false, _&&_, cond, true≢false}
+use mathlib.Core.Bool.{Bool, true, false, true≢false}
 use Prim.Native.Nat.{ℕ, _*_, _%_, _^_, _≤_, _<_}
 use native.Mathlib.Nat.{mul-le-mul}
 use native.Mathlib.Omega.{arith}
@@ -10,7 +10,7 @@ use lib.ListN.{length}
 use borrow.Author.Tests.{leb-true, le-leb, eqb-true, eq-eqb}
 use Rattle.bits.specs.Tab.{Tells}
 use Rattle.bits.proofs.Tests.{both, and-split, untrue, decided}
-use Rattle.sail.specs.Geometry.{bits2, bits3, validGeo, Valid}
+use Rattle.sail.specs.Geometry.{bits2, validGeo, Valid}
 use Rattle.sail.specs.Lent.{Lent}
 use Rattle.sail.specs.Sizes.{lengthsFit, sizesFault, Sized, Checked}
 use Rattle.sail.specs.declared.geometry.Geometry.{Geometry}

@@ -1,5 +1,5 @@
 -- A fresh table is sound: every first cell is a leaf of hop 0, and every chunk is free. Assumes nothing.
-use mathlib.Core.Path.{_≡_, refl, ap, _∙_}
+use mathlib.Core.Path.{_≡_, refl}
 use mathlib.Core.Bool.{Bool, true, false, false≢true}
 use mathlib.Core.List.{[]}
 use Prim.Native.Nat.{ℕ, zero, suc, _+_, _*_, _/_, _%_, _^_, _<_}
@@ -11,7 +11,7 @@ use Rattle.routes.specs.Route.{any, first, best}
 use Rattle.routes.specs.Record.{routesOf, Listed}
 use Rattle.sail.specs.Geometry.{bits2, bits3}
 use Rattle.sail.specs.Lent.{Lent}
-use Rattle.sail.specs.Level.{Level, Clear, View, Serves, nobody, liveIn}
+use Rattle.sail.specs.Level.{Level, View, Serves, nobody, liveIn}
 use Rattle.sail.specs.Sizes.{Sized}
 use Rattle.sail.specs.Sound.{Sound, freshTable, freshLent}
 use Rattle.sail.specs.declared.geometry.Geometry.{Geometry}

@@ -1,7 +1,7 @@
 -- Laws of geometries. Assumes nothing.
-use mathlib.Core.Path.{_≡_, refl, sym, subst, _∙_}
-use mathlib.Core.Bool.{Bool, true, false, _&&_, false≢true}
-use Prim.Native.Nat.{ℕ, _+_, _-_, _*_, _%_, _^_, _≤_, _<_}
+use mathlib.Core.Path.{_≡_, refl}
+use mathlib.Core.Bool.{true, false, _&&_, false≢true}
+use Prim.Native.Nat.{ℕ, _*_, _%_, _^_, _≤_, _<_}
 use native.Mathlib.Omega.{arith}
 use lib.Dec.{leb}
 use lib.Pow.{pow-pos, pow-mono}
@@ -9,7 +9,7 @@ use borrow.Author.Tests.{leb-true, le-leb}
 use Rattle.bits.specs.Tab.{Tells}
 use Rattle.bits.proofs.Slots.{shl-one}
 use Rattle.bits.proofs.Tests.{both, and-split}
-use Rattle.sail.specs.Geometry.{bits2, bits3, validGeo, Valid, Power}
+use Rattle.sail.specs.Geometry.{bits2, validGeo, Valid, Power}
 use Rattle.sail.specs.declared.geometry.Geometry.{Geometry}
 
 -- 1 shifted by k is 2 ^ k

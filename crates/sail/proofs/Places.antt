@@ -1,6 +1,7 @@
 -- How the live places of a pool match cells of a level of the routes. Said of any level, and so proved once for all.
 -- Assumes nothing.
-use mathlib.Core.Path.{_≡_, refl, sym, _∙_, ap, ap₂}
+use mathlib.Core.Path.{_≡_, _∙_, ap, ap₂}
+use mathlib.Core.Logic.{_⊎_, inl, inr}
 use mathlib.Core.Bool.{Bool, true, false}
 use Prim.Native.Nat.{ℕ, suc, _+_, _-_, _*_, _/_, _%_, _^_, _≤_, _<_}
 use native.Mathlib.Nat.{div-lt-iff-lt-mul, mod-lt, div-add-mod'}
@@ -9,6 +10,7 @@ use lib.Arith.{digits-lt, digits-div, digits-mod}
 use lib.Pow.{pow-pos}
 use borrow.Author.Tests.{ltb-true, lt-ltb}
 use Rattle.bits.specs.Count.{count}
+use Rattle.bits.proofs.Tests.{decided}
 use Rattle.bits.proofs.Counts.{Matched, count-matched}
 use Rattle.sail.specs.Level.{Level, inUse, liveIn, partOf}
 
@@ -27,6 +29,15 @@ spread-half P Q f g m n b pos h s l e =
 spread : (P Q : ℕ → Bool) (f g : ℕ → ℕ) (m n b : ℕ) → 0 < b → Matched P Q f g m n
     → Matched (λ s. P (s / b)) (λ i. Q (i / b)) (λ s. f (s / b) * b + s % b) (λ i. g (i / b) * b + i % b) (m * b) (n * b)
 spread P Q f g m n b pos h = record { there = spread-half P Q f g m n b pos (h .there); back = spread-half Q P g f n m b pos (h .back) }
+
+-- a live cell names a chunk exactly where it is deep: else its top bit is set
+pub names-exactly : (deep : ℕ → Bool) (hop : ℕ → ℕ) (n : ℕ) (live : ℕ → Bool) (at cells : ℕ → ℕ) (m : ℕ) (own : ℕ → ℕ) → Level deep hop n live at cells m own → m < 32768
+    → (q : ℕ) → q < n → live q ≡ true → (cells q < 32768 → deep (at q) ≡ true) × (deep (at q) ≡ true → cells q < 32768)
+names-exactly deep hop n live at cells m own v few q l e = ((λ h. go h (decided (deep (at q)))), (λ d. omega (arith, v .node q l e d .1)))
+  where
+    go : cells q < 32768 → (deep (at q) ≡ true) ⊎ (deep (at q) ≡ false) → deep (at q) ≡ true
+    go h (inl d) = d
+    go h (inr d) = absurd (omega (arith, v .leaf q l e d))
 
 -- A level of n places, whose live ones match the cells below w that are reached: the cell i is at the place `find i`.
 module _ (deep : ℕ → Bool) (hop : ℕ → ℕ) (n w : ℕ) (live reach : ℕ → Bool) (at find cells : ℕ → ℕ) (k : ℕ) (own : ℕ → ℕ)
@@ -59,7 +70,7 @@ module _ (deep : ℕ → Bool) (hop : ℕ → ℕ) (n w : ℕ) (live reach : ℕ
   pub read-leaf : (i : ℕ) → i < w → reach i ≡ true → deep i ≡ false → cells (find i) ≡ 32768 + hop i
   read-leaf i l e f =
       let j = m .back i l e in
-      rw (j .2) at (v .leaf (find i) (j .0) (j .1) (rw (j .2) f))
+      v .leaf (find i) (j .0) (j .1) (rw (j .2) f) ∙ ap (λ (x : ℕ). 32768 + hop x) (j .2)
 
   pub read-node : (i : ℕ) → i < w → deep i ≡ true → (1 ≤ cells (find i)) × (cells (find i) ≤ k) × (0 < own (cells (find i) - 1))
   read-node i l e =

@@ -1,22 +1,22 @@
 -- What soundness gives: the answers of lookup, the chunks in use, and the leaves. Assumes nothing.
-use mathlib.Core.Path.{_≡_, refl, sym, _∙_, ap, ap₂}
-use mathlib.Core.Bool.{Bool, true, false, true≢false}
-use mathlib.Core.List.{List, List·Memᴰ}
-use Prim.Native.Nat.{ℕ, _+_, _-_, _*_, _/_, _^_, _≤_, _<_}
+use mathlib.Core.Path.{_≡_, refl, sym, _∙_, ap}
+use mathlib.Core.Logic.{_⊎_, inl, inr}
+use mathlib.Core.Bool.{Bool, true, false, cond}
+use mathlib.Core.List.{List, [], _∷_, List·Memᴰ}
+use Prim.Native.Nat.{ℕ, _+_, _-_, _*_, _^_, _≤_, _<_}
 use native.Mathlib.Omega.{arith}
 use lib.Dec.{eqb}
 use lib.ListN.{length}
 use lib.Pow.{shl-lt, shl-shr}
-use borrow.Author.Tests.{le-leb, eq-eqb}
+use borrow.Author.Tests.{le-leb, eq-eqb, eqb-true}
 use Rattle.bits.specs.Slot.{slot}
 use Rattle.bits.specs.Count.{bit}
-use Rattle.bits.specs.Tab.{Tells}
-use Rattle.bits.proofs.Tests.{both}
-use Rattle.routes.specs.Route.{covers, long, best, need, Longest, Best, Good}
+use Rattle.bits.proofs.Tests.{both, decided}
+use Rattle.routes.specs.Route.{covers, long, best, need, Good}
 use Rattle.routes.specs.Record.{routesOf}
+use Rattle.routes.specs.Said.{accepted}
 use Rattle.routes.specs.declared.Route.{Route}
-use Rattle.routes.proofs.Goods.{good-fine}
-use Rattle.routes.proofs.Longest.{best-is}
+use Rattle.routes.proofs.Only.{none-covers, covers-none}
 use Rattle.routes.proofs.Rows.{records-good}
 use Rattle.sail.specs.Geometry.{bits2, bits3}
 use Rattle.sail.specs.Lent.{Lent}
@@ -24,87 +24,98 @@ use Rattle.sail.specs.Level.{whole, entry, liveIn}
 use Rattle.sail.specs.Sizes.{sizesFault}
 use Rattle.sail.specs.Walk.{oneOf, hopSaid, foundSaid, lookupSaid, lastCell, ReadsSecond, ReadsThird}
 use Rattle.sail.specs.Sound.{standing, Sound, cellsRead, used}
+use Rattle.sail.specs.declared.geometry.Geometry.{Geometry}
 use Rattle.sail.specs.declared.table.Table.{Table}
 use Rattle.sail.proofs.Fitting.{none-is}
 use Rattle.sail.proofs.Walks.{walk-best, last-best, second-read, third-read, used2-need, used3-need}
 
--- of a good list: there is no best hop exactly where no route covers
-pub no-route : (rs : List Route) (p i : ℕ) → Good rs → (best rs p i ≡ 0 → (r : Route) → List·Memᴰ r rs → covers p i r ≡ false) × (((r : Route) → List·Memᴰ r rs → covers p i r ≡ false) → best rs p i ≡ 0)
-no-route rs p i g = ((λ e. none e (best-is rs p i)), (λ h. zero h (best-is rs p i)))
+-- an answer of no hop
+hop-none : (n h : ℕ) → hopSaid n h ≡ accepted (n ∷ []) → h ≡ 0
+unfolding hopSaid
+hop-none n h e = go (decided (eqb h 0)) e
   where
-    none : {h : ℕ} → h ≡ 0 → Best rs p i h → (r : Route) → List·Memᴰ r rs → covers p i r ≡ false
-    none e (Best.none z n) = n
-    none e (Best.one w) = absurd (omega (arith, e, w .its-hop, good-fine rs g (w .route) (w .listed) .hop-one))
+    go : (eqb h 0 ≡ true) ⊎ (eqb h 0 ≡ false) → cond (eqb h 0) (accepted (n ∷ [])) (accepted (n ∷ h ∷ [])) ≡ accepted (n ∷ []) → h ≡ 0
+    go (inl q) e = eqb-true h 0 q
+    go (inr q) e = let f : accepted (n ∷ h ∷ []) ≡ accepted (n ∷ []) = rw q at e in cc
 
-    zero : {h : ℕ} → ((r : Route) → List·Memᴰ r rs → covers p i r ≡ false) → Best rs p i h → h ≡ 0
-    zero h (Best.none z n) = z
-    zero h (Best.one w) = absurd (true≢false (sym (w .covering) ∙ h (w .route) (w .listed)))
+none-hop : (n : ℕ) → hopSaid n 0 ≡ accepted (n ∷ [])
+unfolding hopSaid
+none-hop n = refl
 
 bit-le : (b : Bool) → bit b ≤ 1
 bit-le true = omega arith
 bit-le false = omega arith
 
 module _ (t : Table) (l : Lent) (s : Sound t l) where
-  sum : t .geometry .p1 + bits2 (t .geometry) ≡ t .geometry .p2
+  abbrev g : Geometry
+  g = t .geometry
+
+  abbrev rs : List Route
+  rs = standing t l
+
+  sum : g .p1 + bits2 g ≡ g .p2
   sum = let v = s .sized .valid in omega arith
 
-  wide : t .geometry .p1 + bits2 (t .geometry) + bits3 (t .geometry) ≡ 32
+  wide : g .p1 + bits2 g + bits3 g ≡ 32
   wide = let v = s .sized .valid in omega arith
 
-  pub standing-good : Good (standing t l)
+  few2 : length (l .own2) < 32768
+  few2 = omega (arith, s .sized .few2)
+
+  few3 : length (l .own3) < 32768
+  few3 = omega (arith, s .sized .few3)
+
+  pub standing-good : Good rs
   standing-good = records-good (l .list) (t .count) (s .listed .records)
 
   -- Demand 2. Lookup in a sound table says the hop of the longest standing route that covers the address, and no hop where none does;
   -- the count of cells read is that of the routes
-  pub sail-serves : (a : ℕ) → a < 2 ^ 32 → lookupSaid t l a ≡ hopSaid (cellsRead (t .geometry) (standing t l) a) (best (standing t l) 32 a)
+  pub sail-serves : (a : ℕ) → a < 2 ^ 32 → lookupSaid t l a ≡ hopSaid (cellsRead g rs a) (best rs 32 a)
   unfolding lookupSaid foundSaid
   sail-serves a h =
-      rw (eq-eqb (sizesFault (t .geometry) l) 0 (none-is (t .geometry) l (s .sized)))
-      (walk-best (standing t l) (t .geometry .p1) (bits2 (t .geometry)) (bits3 (t .geometry)) (whole l) wide standing-good (s .serves) a h
-      (omega (arith, s .sized .few2)) (omega (arith, s .sized .few3)) (oneOf (length (l .own2))) (oneOf (length (l .own3)))
+      rw (eq-eqb (sizesFault g l) 0 (none-is g l (s .sized)))
+      (walk-best rs (g .p1) (bits2 g) (bits3 g) (whole l) wide standing-good (s .serves) a h few2 few3 (oneOf (length (l .own2))) (oneOf (length (l .own3)))
       (λ v i j o. both (le-leb 1 v i) (le-leb v _ j)) (λ v i j o. both (le-leb 1 v i) (le-leb v _ j))
-      ∙ ap (λ (n : ℕ). hopSaid (1 + bit (long (standing t l) (t .geometry .p1) (slot (t .geometry .p1) a)) + bit (long (standing t l) n (slot n a))) (best (standing t l) 32 a)) sum)
+      ∙ ap (λ (n : ℕ). hopSaid (1 + bit (long rs (g .p1) (slot (g .p1) a)) + bit (long rs n (slot n a))) (best rs 32 a)) sum)
 
-  -- the count is 1, 2 or 3
-  pub reads-few : (a : ℕ) → (1 ≤ cellsRead (t .geometry) (standing t l) a) × (cellsRead (t .geometry) (standing t l) a ≤ 3)
-  reads-few a = (
-    omega arith,
-    omega (arith, bit-le (long (standing t l) (t .geometry .p1) (slot (t .geometry .p1) a)), bit-le (long (standing t l) (t .geometry .p2) (slot (t .geometry .p2) a))),
+  -- so it says no route exactly where no standing route covers the address
+  pub sail-no-route : (a : ℕ) → a < 2 ^ 32
+      → (lookupSaid t l a ≡ accepted (cellsRead g rs a ∷ []) → (r : Route) → List·Memᴰ r rs → covers 32 a r ≡ false)
+      × (((r : Route) → List·Memᴰ r rs → covers 32 a r ≡ false) → lookupSaid t l a ≡ accepted (cellsRead g rs a ∷ []))
+  sail-no-route a h = (
+    (λ e. none-covers rs standing-good 32 a (hop-none (cellsRead g rs a) (best rs 32 a) (sym (sail-serves a h) ∙ e))),
+    (λ n. sail-serves a h ∙ ap (hopSaid (cellsRead g rs a)) (covers-none rs standing-good 32 a n) ∙ none-hop (cellsRead g rs a)),
   )
 
+  -- the count is 1, 2 or 3
+  pub reads-few : (a : ℕ) → (1 ≤ cellsRead g rs a) × (cellsRead g rs a ≤ 3)
+  reads-few a = (omega arith, omega (arith, bit-le (long rs (g .p1) (slot (g .p1) a)), bit-le (long rs (g .p2) (slot (g .p2) a))))
+
   -- in both pools as many chunks are in use as the standing routes need
-  pub chunks-need : (used (l .own2) ≡ need (standing t l) (t .geometry .p1)) × (used (l .own3) ≡ need (standing t l) (t .geometry .p2))
+  pub chunks-need : (used (l .own2) ≡ need rs (g .p1)) × (used (l .own3) ≡ need rs (g .p2))
   chunks-need = (
-    used2-need (standing t l) (t .geometry .p1) (bits2 (t .geometry)) (bits3 (t .geometry)) (whole l) wide standing-good (s .serves),
-    used3-need (standing t l) (t .geometry .p1) (bits2 (t .geometry)) (bits3 (t .geometry)) (whole l) wide standing-good (s .serves) ∙ ap (need (standing t l)) sum,
+    used2-need rs (g .p1) (bits2 g) (bits3 g) (whole l) wide standing-good (s .serves),
+    used3-need rs (g .p1) (bits2 g) (bits3 g) (whole l) wide standing-good (s .serves) ∙ ap (need rs) sum,
   )
 
   -- the leaf at which the walk for an address ends holds the hop of the longest standing route that covers the address
-  pub leaf-is : (a : ℕ) → a < 2 ^ 32 → lastCell (t .geometry .p1) (bits2 (t .geometry)) (bits3 (t .geometry)) (whole l) a ≡ 32768 + best (standing t l) 32 a
-  leaf-is a h =
-      last-best (standing t l) (t .geometry .p1) (bits2 (t .geometry)) (bits3 (t .geometry)) (whole l) wide standing-good (s .serves) a h
-      (omega (arith, s .sized .few2)) (omega (arith, s .sized .few3))
+  pub leaf-is : (a : ℕ) → a < 2 ^ 32 → lastCell (g .p1) (bits2 g) (bits3 g) (whole l) a ≡ 32768 + best rs 32 a
+  leaf-is a h = last-best rs (g .p1) (bits2 g) (bits3 g) (whole l) wide standing-good (s .serves) a h few2 few3
 
   -- and each first cell, and each cell of a chunk in use, is one that the walk for some address reads
-  pub first-served : (q : ℕ) → q < 2 ^ (t .geometry .p1) → (a : ℕ) × (a < 2 ^ 32) × (slot (t .geometry .p1) a ≡ q)
+  pub first-served : (q : ℕ) → q < 2 ^ g .p1 → (a : ℕ) × (a < 2 ^ 32) × (slot (g .p1) a ≡ q)
   first-served q h =
       let v = s .sized .valid in
-      let e : t .geometry .p1 + (32 - t .geometry .p1) ≡ 32 = omega arith in
-      (q * 2 ^ (32 - t .geometry .p1), rw e at (shl-lt (t .geometry .p1) (32 - t .geometry .p1) h), shl-shr q (32 - t .geometry .p1))
+      let e : g .p1 + (32 - g .p1) ≡ 32 = omega arith in
+      (q * 2 ^ (32 - g .p1), rw e at (shl-lt (g .p1) (32 - g .p1) h), shl-shr q (32 - g .p1))
 
-  pub second-served : (q : ℕ) → q < length (l .second) → liveIn (entry (l .own2)) (bits2 (t .geometry)) q ≡ true
-      → (a : ℕ) × (a < 2 ^ 32) × ReadsSecond (t .geometry .p1) (bits2 (t .geometry)) (bits3 (t .geometry)) (whole l) a q
-  second-served q h e =
-      second-read (standing t l) (t .geometry .p1) (bits2 (t .geometry)) (bits3 (t .geometry)) (whole l) wide standing-good (s .serves)
-      (omega (arith, s .sized .few2)) q (rw (s .sized .cells2) at h) e
+  pub second-served : (q : ℕ) → q < length (l .second) → liveIn (entry (l .own2)) (bits2 g) q ≡ true → (a : ℕ) × (a < 2 ^ 32) × ReadsSecond (g .p1) (bits2 g) (bits3 g) (whole l) a q
+  second-served q h e = second-read rs (g .p1) (bits2 g) (bits3 g) (whole l) wide standing-good (s .serves) few2 q (rw (s .sized .cells2) at h) e
 
-  pub third-served : (q : ℕ) → q < length (l .third) → liveIn (entry (l .own3)) (bits3 (t .geometry)) q ≡ true
-      → (a : ℕ) × (a < 2 ^ 32) × ReadsThird (t .geometry .p1) (bits2 (t .geometry)) (bits3 (t .geometry)) (whole l) a q
-  third-served q h e =
-      third-read (standing t l) (t .geometry .p1) (bits2 (t .geometry)) (bits3 (t .geometry)) (whole l) wide standing-good (s .serves)
-      (omega (arith, s .sized .few2)) (omega (arith, s .sized .few3)) q (rw (s .sized .cells3) at h) e
+  pub third-served : (q : ℕ) → q < length (l .third) → liveIn (entry (l .own3)) (bits3 g) q ≡ true → (a : ℕ) × (a < 2 ^ 32) × ReadsThird (g .p1) (bits2 g) (bits3 g) (whole l) a q
+  third-served q h e = third-read rs (g .p1) (bits2 g) (bits3 g) (whole l) wide standing-good (s .serves) few2 few3 q (rw (s .sized .cells3) at h) e
 
 -- So two sound tables of one list have the same leaves, whatever numbers their chunks have.
 pub leaf-determined : (t : Table) (l l′ : Lent) → Sound t l → Sound t l′ → l .list ≡ l′ .list → (a : ℕ) → a < 2 ^ 32
-    → lastCell (t .geometry .p1) (bits2 (t .geometry)) (bits3 (t .geometry)) (whole l) a ≡ lastCell (t .geometry .p1) (bits2 (t .geometry)) (bits3 (t .geometry)) (whole l′) a
+    → let g : Geometry = t .geometry in lastCell (g .p1) (bits2 g) (bits3 g) (whole l) a ≡ lastCell (g .p1) (bits2 g) (bits3 g) (whole l′) a
 leaf-determined t l l′ s s′ e a h = leaf-is t l s a h ∙ ap (λ (xs : List ℕ). 32768 + best (routesOf xs (t .count)) 32 a) e ∙ sym (leaf-is t l′ s′ a h)

@@ -1,24 +1,24 @@
 -- The walk step by step, as the code takes it. Assumes nothing.
 use mathlib.Core.Path.{_≡_, refl, sym, ap, ap₂, _∙_}
-use mathlib.Core.Bool.{Bool, true, false, not, _&&_, cond}
-use mathlib.Core.List.{List, [], _∷_}
-use Prim.Native.Nat.{ℕ, _+_, _-_, _*_, _/_, _%_, _^_, _≤_, _<_}
-use native.Mathlib.Nat.{mod-lt, mod-eq-of-lt}
+use mathlib.Core.Bool.{Bool, true, false, not}
+use Prim.Native.Nat.{ℕ, _+_, _-_, _*_, _%_, _^_, _≤_, _<_}
+use native.Mathlib.Nat.{mod-lt, mul-le-mul-left}
 use native.Mathlib.Omega.{arith}
 use lib.Arith.{digits-lt}
-use lib.Dec.{eqb, leb}
+use lib.Dec.{leb}
 use lib.ListN.{length, getD}
-use lib.Pow.{pow-pos, shl-exact}
+use lib.Pow.{pow-pos, pow-mono, shl-exact}
 use borrow.Author.Tests.{leb-true, le-leb, lt-leb, eq-eqb, ne-eqb}
 use Rattle.bits.specs.Slot.{slot}
 use Rattle.bits.proofs.Slots.{shl-one, slot-lt}
 use Rattle.bits.proofs.Tests.{and-split}
-use Rattle.routes.specs.Said.{Said, accepted, refused}
-use Rattle.sail.specs.Geometry.{bits2, bits3, Valid}
+use Rattle.routes.specs.Said.{Said, refused}
+use Rattle.sail.specs.Geometry.{bits2, bits3}
 use Rattle.sail.specs.Lent.{Lent}
 use Rattle.sail.specs.Level.{whole}
 use Rattle.sail.specs.Sizes.{sizesFault, Sized, Checked}
-use Rattle.sail.specs.Walk.{Chunk, place, leafSaid, stepSaid, oneOf, shut, walkSaid, foundSaid, lookupSaid}
+use Rattle.sail.specs.Pool.{Inside, Chunk}
+use Rattle.sail.specs.Walk.{place, cell2, cell3, leafSaid, stepSaid, oneOf, shut, walkSaid, foundSaid, lookupSaid}
 use Rattle.sail.specs.declared.geometry.Geometry.{Geometry}
 use Rattle.sail.specs.declared.table.Table.{Table}
 
@@ -28,16 +28,27 @@ place-in m n c k i h =
     let a : (c - 1) * 2 ^ k + i % 2 ^ k < n * 2 ^ k = digits-lt (omega arith) (mod-lt i (pow-pos k)) in
     omega arith
 
--- a size, by a shift
+-- where a chunk begins, by a shift
+pub begin-is : (c k : ℕ) → c ≤ 4096 → k ≤ 10 → (c - 1) * 2 ^ k % 2 ^ 64 ≡ (c - 1) * 2 ^ k
+begin-is c k h l = shl-exact 12 k 64 (omega arith) (omega arith)
+
+pub place-fits : (c k x : ℕ) → Inside c k x → (c - 1) * 2 ^ k % 2 ^ 64 + x < 2 ^ 64
+place-fits c k x h =
+    let a : (c - 1) * 2 ^ k + x < 4096 * 2 ^ k = digits-lt (omega arith) (h .inside) in
+    omega (arith, begin-is c k (h .last) (h .size), mul-le-mul-left 4096 (pow-mono (h .size)))
+
+-- a place in a chunk, by a remainder
+pub inside-is : (c k i : ℕ) → 1 ≤ c → c ≤ 4096 → k ≤ 10 → Inside c k (i % (1 * 2 ^ k % 2 ^ 64))
+inside-is c k i a b h = record { one = a; last = b; size = h; inside = rw (shl-one 64 k (omega arith)) (mod-lt i (pow-pos k)) }
+
 pub size-some : (k : ℕ) → k ≤ 10 → 0 < 1 * 2 ^ k % 2 ^ 64
 size-some k h = omega (arith, shl-one 64 k (omega arith), pow-pos k)
 
--- the place, by two shifts
-pub place-is : (c k i : ℕ) → c ≤ 4096 → k ≤ 10 → (c - 1) * 2 ^ k % 2 ^ 64 + i % (1 * 2 ^ k % 2 ^ 64) ≡ place k c i
-place-is c k i h l = ap₂ (λ (x y : ℕ). x + i % y) (shl-exact 12 k 64 (omega arith) (omega arith)) (shl-one 64 k (omega arith))
+pub place-is : (c k i r : ℕ) → k ≤ 10 → r ≡ (c - 1) * 2 ^ k + i % (1 * 2 ^ k % 2 ^ 64) → r ≡ place k c i
+place-is c k i r h e = e ∙ ap (λ (y : ℕ). (c - 1) * 2 ^ k + i % y) (shl-one 64 k (omega arith))
 
-pub index-in : (m n c k i : ℕ) → Chunk m n c k → (c - 1) * 2 ^ k % 2 ^ 64 + i % (1 * 2 ^ k % 2 ^ 64) < m
-index-in m n c k i h = omega (arith, place-is c k i (omega arith) (omega arith), place-in m n c k i h)
+pub reads-in : (m n c k i r : ℕ) → Chunk m n c k → r ≡ (c - 1) * 2 ^ k + i % (1 * 2 ^ k % 2 ^ 64) → r < m
+reads-in m n c k i r h e = omega (arith, place-is c k i r (h .size) e, place-in m n c k i h)
 
 -- a chunk's number
 named : (m v : ℕ) → oneOf m v ≡ true → (1 ≤ v) × (v ≤ m)
@@ -81,8 +92,10 @@ module _ (g : Geometry) (l : Lent) (a : ℕ) (sized : Sized g l) where
       → stepSaid 1 (oneOf (length (l .own2))) v1 (stepSaid 2 (oneOf (length (l .own3))) v2 (stepSaid 3 shut v3 (refused 5))) ≡ foundSaid g l a
   unfolding foundSaid walkSaid
   steps v1 v2 v3 e1 e2 e3 =
-      let p : g .p1 + bits2 g ≡ g .p2 = omega arith in
-      rw (p, ← e1, ← e2, ← e3)
+      let p : g .p2 ≡ g .p1 + bits2 g = omega arith in
+      let q2 : v2 ≡ cell2 (g .p1) (bits2 g) (bits3 g) (whole l) a = e2 ∙ ap₂ (λ (x y : ℕ). getD (l .second) (place (bits2 g) x (slot y a)) 0) e1 p in
+      let q3 : v3 ≡ cell3 (g .p1) (bits2 g) (bits3 g) (whole l) a = e3 ∙ ap (λ (x : ℕ). getD (l .third) (place (bits3 g) x a) 0) q2 in
+      cc
 
   module _ (v1 : ℕ) (e1 : v1 ≡ getD (l .first) (slot (g .p1) a) 0) where
     pub leaf1 : (s : Said) → 32768 ≤ v1 → s ≡ leafSaid 1 v1 → s ≡ foundSaid g l a

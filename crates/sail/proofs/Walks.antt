@@ -1,10 +1,10 @@
 -- Where three levels serve a list of routes: what the walk for an address reads and says, and how many chunks are in use.
 -- Said of what is seen of a table, so that it holds of a part of one. Assumes nothing.
-use mathlib.Core.Path.{_≡_, refl, sym, _∙_, ap, ap₂, subst}
+use mathlib.Core.Path.{_≡_, refl, sym, _∙_, ap}
 use mathlib.Core.Logic.{_⊎_, inl, inr}
 use mathlib.Core.Bool.{Bool, true, false, cond, true≢false}
 use mathlib.Core.List.{List}
-use Prim.Native.Nat.{ℕ, _+_, _-_, _*_, _/_, _%_, _^_, _≤_, _<_}
+use Prim.Native.Nat.{ℕ, _+_, _-_, _*_, _/_, _^_, _≤_, _<_}
 use native.Mathlib.Nat.{mul-lt-mul-of-pos-right}
 use native.Mathlib.Omega.{arith}
 use lib.Dec.{leb}
@@ -21,9 +21,12 @@ use Rattle.routes.specs.declared.Route.{Route}
 use Rattle.routes.proofs.Levels.{long-up, best-slot}
 use Rattle.routes.proofs.Need.{need-count, none-longer}
 use Rattle.sail.specs.Level.{View, Serves, always, itself, inUse, liveIn, partOf}
-use Rattle.sail.specs.Walk.{place, cell1, place2, cell2, place3, cell3, ReadsSecond, ReadsThird, lastCell, hopSaid, stepSaid, shut, walkSaid}
+use Rattle.sail.specs.Walk.{place, cell1, place2, cell2, place3, cell3, Leads, ReadsSecond, ReadsThird, lastCell, hopSaid, stepSaid, shut, walkSaid}
 use Rattle.sail.proofs.Steps.{step-leaf, step-on}
 use Rattle.sail.proofs.Places.{used-deep, parts, read-leaf, read-node}
+
+leads : {v m o : ℕ} → m < 32768 → (1 ≤ v) × (v ≤ m) × (0 < o) → Leads v m
+leads h g = record { low = omega arith; one = g .0; last = g .1 }
 
 module _ (rs : List Route) (p1 d1 d2 : ℕ) (t : View) (wide : p1 + d1 + d2 ≡ 32) (good : Good rs) (s : Serves rs p1 d1 d2 t) where
   -- where the cells of the second and the third level stand in their pools, from the cells above them
@@ -189,7 +192,7 @@ module _ (rs : List Route) (p1 d1 d2 : ℕ) (t : View) (wide : p1 + d1 + d2 ≡ 
       let h : a < 2 ^ 32 = rw all at (mul-lt-mul-of-pos-right (j .0) (pow-pos d2)) in
       let i : slot (p1 + d1) a ≡ at2 q = sym (a-i2 a h) ∙ shl-shr (at2 q) d2 in
       let f : long rs p1 (slot p1 a) ≡ true = rw (i2-i1 a h) at (rw (← i) at (j .1)) in
-      (a, h, record { goes = omega (arith, node1 a h f .1); there = sym (place2-is a h) ∙ ap find2 i ∙ j .2 })
+      (a, h, record { goes = leads few (node1 a h f); there = sym (place2-is a h) ∙ ap find2 i ∙ j .2 })
 
   pub third-read : t .many2 < 32768 → t .many3 < 32768 → (q : ℕ) → q < t .many3 * 2 ^ d2 → liveIn (t .own3) d2 q ≡ true → (a : ℕ) × (a < 2 ^ 32) × ReadsThird p1 d1 d2 t a q
   unfolding i2
@@ -198,4 +201,4 @@ module _ (rs : List Route) (p1 d1 d2 : ℕ) (t : View) (wide : p1 + d1 + d2 ≡ 
       let a : ℕ = partOf (t .own3) d2 at2 q in
       let h : a < 2 ^ 32 = rw all at (j .0) in
       let f : long rs (p1 + d1) (slot (p1 + d1) a) ≡ true = rw (a-i2 a h) at (j .1) in
-      (a, h, record { goes = omega (arith, node1 a h (long2-long1 a h f) .1); on = omega (arith, node2 a h f .1); there = sym (place3-is a h) ∙ j .2 })
+      (a, h, record { goes = leads few2 (node1 a h (long2-long1 a h f)); on = leads few3 (node2 a h f); there = sym (place3-is a h) ∙ j .2 })

@@ -4,4 +4,5 @@ pub mod Lent
 pub mod Sizes
 pub mod Level
 pub mod Walk
+pub mod Pool
 pub mod Sound

@@ -1,7 +1,7 @@
 -- Refusals 1 and 2: the geometry and the sizes of what is lent. The route count is no matter of sizes. Assumes nothing.
 use mathlib.Core.Bool.{Bool, _&&_, cond}
 use mathlib.Core.Path.{_≡_}
-use Prim.Native.Nat.{ℕ, _-_, _*_, _%_, _^_, _≤_}
+use Prim.Native.Nat.{ℕ, _*_, _%_, _^_, _≤_}
 use lib.Dec.{eqb, leb}
 use lib.ListN.{length}
 use Rattle.sail.specs.Geometry.{bits2, bits3, validGeo, Valid}

@@ -1,6 +1,6 @@
 -- What lookup says, of any state, arrays and address, damaged tables too. Assumes nothing.
 use mathlib.Core.Bool.{Bool, false, _&&_, cond}
-use mathlib.Core.List.{List, [], _∷_}
+use mathlib.Core.List.{[], _∷_}
 use mathlib.Core.Path.{_≡_}
 use Prim.Native.Nat.{ℕ, _+_, _-_, _*_, _%_, _^_, _≤_, _<_}
 use lib.Dec.{eqb, leb}
@@ -21,14 +21,6 @@ use Rattle.sail.specs.declared.lookup.Found.the-variants.{Hop, NoRoute, 
 abbrev pub place : ℕ → ℕ → ℕ → ℕ
 place d c i = (c - 1) * 2 ^ d + i % 2 ^ d
 
--- a pool of m cells is n chunks of 2 ^ k cells, of which c is one
-pub record Chunk (m n c k : ℕ) : Type 0 where
-  pub cells : m ≡ n * 2 ^ k
-  pub one : 1 ≤ c
-  pub last : c ≤ n
-  pub few : n ≤ 4096
-  pub size : k ≤ 10
-
 -- the cells that the walk for the address a may read, and where the second and the third stand in their pools
 module _ (p1 d1 d2 : ℕ) (t : View) (a : ℕ) where
   abbrev pub cell1 : ℕ
@@ -46,15 +38,21 @@ module _ (p1 d1 d2 : ℕ) (t : View) (a : ℕ) where
   abbrev pub cell3 : ℕ
   cell3 = t .third place3
 
--- "A cell serves an address when that address's lookup reads it": the second cell where the first is no leaf, the third where neither is.
--- (The first cell that a reads is that of its first p1 bits.)
+-- v is the number of one of m chunks
+pub record Leads (v m : ℕ) : Type 0 where
+  pub low : v < 32768
+  pub one : 1 ≤ v
+  pub last : v ≤ m
+
+-- "A cell serves an address when that address's lookup reads it": the second cell where the first leads on, the third where both do.
+-- (The first cell that a lookup reads is that of the address's first p1 bits.)
 pub record ReadsSecond (p1 d1 d2 : ℕ) (t : View) (a q : ℕ) : Type 0 where
-  pub goes : cell1 p1 d1 d2 t a < 32768
+  pub goes : Leads (cell1 p1 d1 d2 t a) (t .many2)
   pub there : place2 p1 d1 d2 t a ≡ q
 
 pub record ReadsThird (p1 d1 d2 : ℕ) (t : View) (a q : ℕ) : Type 0 where
-  pub goes : cell1 p1 d1 d2 t a < 32768
-  pub on : cell2 p1 d1 d2 t a < 32768
+  pub goes : Leads (cell1 p1 d1 d2 t a) (t .many2)
+  pub on : Leads (cell2 p1 d1 d2 t a) (t .many3)
   pub there : place3 p1 d1 d2 t a ≡ q
 
 -- the cell at which the walk ends

@@ -1,10 +1,11 @@
 // Lookup: the walk from a first cell down to a leaf, in any table.
 ghost use mathlib.Core.Path.{_≡_};
-ghost use Prim.Native.Nat.{_≤_};
+ghost use Prim.Native.Nat.{_+_, _-_, _*_, _^_, _≤_};
 ghost use lib.ListN.{length, getD};
 ghost use Rattle.sail.specs.Lent.{lent};
 ghost use Rattle.sail.specs.Sizes.{Sized};
-ghost use Rattle.sail.specs.Walk.{Chunk, place, oneOf, leafSaid, foundSaid, lookupSaid, saysFound};
+ghost use Rattle.sail.specs.Pool.{Inside, Chunk};
+ghost use Rattle.sail.specs.Walk.{place, oneOf, leafSaid, foundSaid, lookupSaid, saysFound};
 use crate::geometry::Geometry;
 use crate::table::Table;
 
@@ -36,13 +37,20 @@ fn opens(v: u16, chunks: usize) -> bool
     v as usize <= chunks
 }
 
+// The place of cell x of chunk c, where a chunk has 2^k cells.
+fn place(c: u16, k: u32, x: usize) -> usize
+    requires { ⌜ Inside c k x ⌝ }
+    ensures { λ r. ⌜ r ≡ (c - 1) * 2 ^ k + x ⌝ }
+{
+    (((c as usize) - 1) << k) + x
+}
+
 // The cell in chunk c, of a pool of so many chunks of 2^k cells, that serves cell i of its level.
 fn cell(pool: &[u16], chunks: usize, c: u16, k: u32, i: u32) -> u16
     requires { ⌜ Chunk (length (now pool)) chunks c k ⌝ }
     ensures { λ r. ⌜ r ≡ getD (now (pool .entry)) (place k c i) 0 ⌝ }
 {
-    let x = (i as usize) % (1 << k);
-    let at = (((c as usize) - 1) << k) + x;
+    let at = place(c, k, (i as usize) % (1 << k));
     pool[at]
 }
 

@@ -22,7 +22,7 @@ use Rattle.sail.specs.Geometry.{bits2, bits3}
 use Rattle.sail.specs.Lent.{Lent}
 use Rattle.sail.specs.Level.{always, itself, nobody, liveIn, partOf, entry}
 use Rattle.sail.specs.declared.geometry.Geometry.{Geometry}
-use Rattle.sail_theory.specs.Render.{chunkFor, pool, never, mid, at2, at3, rendered, Fits}
+use Rattle.sail_theory.specs.Render.{chunkFor, pool, never, at2, at3, rendered, Fits}
 use Rattle.sail_theory.proofs.Chunks.{chunk-at}
 use Rattle.sail_theory.proofs.Places.{chunk-lt, live-owner}
 use Rattle.sail_theory.proofs.Pools.{length-pool, pool-leaf, pool-node}
@@ -73,7 +73,7 @@ module _ (g : Geometry) (ws par : List ℕ) (a len : ℕ) (l : Lent) (s : Stale 
   abbrev rs : List Route
   rs = routesIn ws
 
-  sum : mid g ≡ g .p2
+  sum : g .p1 + bits2 g ≡ g .p2
   sum = let v = s .sized .valid in omega arith
 
   -- What is asked at each step.
@@ -149,8 +149,8 @@ module _ (g : Geometry) (ws par : List ℕ) (a len : ℕ) (l : Lent) (s : Stale 
   unfolding rendered
   second-is now after e e′ =
       e′ ∙ ap (stamped (l .own3)) (e ∙ ap (λ (h : ℕ → ℕ). overpainted rs (g .p2) (staleIn a len (g .p1) (bits2 g) h (entry (l .own2))) (partOf (entry (l .own2)) (bits2 g) h) (l .second)) (λ i q. sym (stands-itself 0 (l .own2) q refl) i))
-      ∙ level-right (long rs (mid g)) (best rs (mid g)) (length (l .own2) * 2 ^ bits2 g) (liveIn (entry (l .own2)) (bits2 g)) (at2 g (l .own2)) (length (l .own3)) (entry (l .own3)) (s .fits3) rs (g .p2)
-      (λ i d. ap (λ (p : ℕ). plan rs p i) (sym sum) ∙ plan-leaf rs (mid g) i d) (stale2 g a len (l .own2)) (λ q t. and-split (liveIn (entry (l .own2)) (bits2 g) q) _ t .0) (l .second) (s .sized .cells2) (s .right2)
+      ∙ level-right (long rs (g .p2)) (best rs (g .p2)) (length (l .own2) * 2 ^ bits2 g) (liveIn (entry (l .own2)) (bits2 g)) (at2 g (l .own2)) (length (l .own3)) (entry (l .own3)) (s .fits3) rs (g .p2)
+      (plan-leaf rs (g .p2)) (stale2 g a len (l .own2)) (λ q t. and-split (liveIn (entry (l .own2)) (bits2 g) q) _ t .0) (l .second) (s .sized .cells2) (s .right2)
 
   pub third-is : (after : List ℕ)
       → after ≡ overpainted rs 32 (staleIn a len (g .p2) (bits3 g) (standsFor (bits2 g) (l .own2)) (entry (l .own3))) (partOf (entry (l .own3)) (bits3 g) (standsFor (bits2 g) (l .own2))) (l .third)
@@ -158,7 +158,6 @@ module _ (g : Geometry) (ws par : List ℕ) (a len : ℕ) (l : Lent) (s : Stale 
   unfolding rendered
   third-is after e =
       e ∙ ap (λ (h : ℕ → ℕ). overpainted rs 32 (staleIn a len (g .p2) (bits3 g) h (entry (l .own3))) (partOf (entry (l .own3)) (bits3 g) h) (l .third)) (λ i q. stands-part (bits2 g) (l .own2) q some2 i)
-      ∙ ap (λ (p : ℕ). overpainted rs 32 (staleIn a len p (bits3 g) (at2 g (l .own2)) (entry (l .own3))) (at3 g (l .own2) (l .own3)) (l .third)) (sym sum)
       ∙ stamp-none nobody _
       ∙ level-right never (best rs 32) (length (l .own3) * 2 ^ bits3 g) (liveIn (entry (l .own3)) (bits3 g)) (at3 g (l .own2) (l .own3)) 0 nobody (none-fits _ _ _) rs 32
       (λ i d. plan-leaf rs 32 i (none-longer rs i (words-good ws (s .ready .words)))) (stale3 g a len (l .own2) (l .own3)) (λ q t. and-split (liveIn (entry (l .own3)) (bits3 g) q) _ t .0) (l .third) (s .sized .cells3) (s .right3)

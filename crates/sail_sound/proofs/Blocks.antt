@@ -115,13 +115,10 @@ module _ (x q e : ℕ) (h : Stands x e) where
   cell-is : (x - 1) * 2 ^ e % 2 ^ 64 ≡ (x - 1) * 2 ^ e
   cell-is = shl-exact 16 e 64 (omega arith) (omega arith)
 
-  pub stands-is : (x - 1) * 2 ^ e % 2 ^ 64 + q % (1 * 2 ^ e % 2 ^ 64) ≡ (x - 1) * 2 ^ e + q % 2 ^ e
-  stands-is = rw (cell-is, size-is)
-
-  pub stands-fits : (x - 1) * 2 ^ e % 2 ^ 64 + q % (1 * 2 ^ e % 2 ^ 64) < 2 ^ 64
-  stands-fits =
+  pub stands-is : ((x - 1) * 2 ^ e % 2 ^ 64 + q % (1 * 2 ^ e % 2 ^ 64) ≡ (x - 1) * 2 ^ e + q % 2 ^ e) × ((x - 1) * 2 ^ e % 2 ^ 64 + q % (1 * 2 ^ e % 2 ^ 64) < 2 ^ 63)
+  stands-is =
       let m = mod-lt q size-some in
       let z = pow-mono (h .small) in
       let a : x - 1 ≤ 65536 = omega arith in
       let u = mul-le-mul a z in
-      omega (arith, cell-is, size-is)
+      (rw (cell-is, size-is), omega (arith, cell-is, size-is))

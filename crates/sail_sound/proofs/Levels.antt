@@ -1,23 +1,27 @@
 -- What the test of each level rests on: the sizes of what is lent. Assumes nothing.
 use mathlib.Core.Path.{_≡_}
-use mathlib.Core.Bool.{Bool}
+use mathlib.Core.Bool.{Bool, true, false, not}
 use mathlib.Core.List.{List, [], _∷_}
 use Prim.Native.Nat.{ℕ, zero, suc, _+_, _-_, _*_, _^_, _≤_, _<_}
 use native.Mathlib.Decide.{decLt}
 use native.Mathlib.Omega.{arith}
 use lib.ListN.{length, getD, List·getD-eq-default}
 use lib.Pow.{pow-mono}
+use Rattle.bits.specs.Tab.{Tells}
 use Rattle.routes.specs.declared.Route.{Route}
 use Rattle.chain.specs.Cover.{Ready}
+use Rattle.plan.specs.Part.{Right}
+use Rattle.plan.proofs.Tells.{tells-same}
 use Rattle.sail.specs.Geometry.{bits2, bits3}
 use Rattle.sail.specs.Lent.{lent}
 use Rattle.sail.specs.Sizes.{Sized}
 use Rattle.sail.specs.declared.geometry.Geometry.{Geometry}
-use Rattle.sail_sound.specs.Pool.{PoolOk, FirstCells, Pooled}
-use Rattle.sail_sound.specs.Test.{root}
+use Rattle.sail_sound.specs.Pool.{PoolOk, HookedPool, FirstCells, Pooled}
+use Rattle.sail_sound.specs.Test.{root, Passed}
+use Rattle.sail_sound.proofs.Refuted.{refuted, passed}
 
 -- no owner in a right pool names a place past the pool above
-pub pool-owners : (rs : List Route) (p d : ℕ) (above : List ℕ) (live : ℕ → Bool) (at : ℕ → ℕ) (own cells below : List ℕ) → PoolOk rs p d above live at own cells below → (c : ℕ) → getD own c 0 ≤ length above
+pool-owners : (rs : List Route) (p d : ℕ) (above : List ℕ) (live : ℕ → Bool) (at : ℕ → ℕ) (own cells below : List ℕ) → PoolOk rs p d above live at own cells below → (c : ℕ) → getD own c 0 ≤ length above
 pool-owners rs p d above live at own cells below k c = go (decLt c (length own)) (decLt 0 (getD own c 0))
   where
     go : Dec (c < length own) → Dec (0 < getD own c 0) → getD own c 0 ≤ length above
@@ -53,9 +57,11 @@ module _ (ws par : List ℕ) (ready : Ready ws par) (g : Geometry) (first second
         room = room;
       }
 
-  pub pooled3 : ((c : ℕ) → getD own2 c 0 ≤ length first) → Pooled ws par 32 (bits3 g) own2 (bits2 g) second third own3 want
-  pooled3 o =
+  pub pooled3 : (rs : List Route) (b : Bool) → Tells b (HookedPool rs (g .p2) (bits2 g) root (g .p1) first own2 second own3) → not b ≡ false
+      → Pooled ws par 32 (bits3 g) own2 (bits2 g) second third own3 want
+  pooled3 rs b t n =
       let v = s .valid in
+      let o = pool-owners rs (g .p2) (bits2 g) first _ _ own2 second own3 (passed t n) in
       record {
         ready = ready;
         deep = omega arith;
@@ -70,3 +76,15 @@ module _ (ws par : List ℕ) (ready : Ready ws par) (g : Geometry) (first second
         few = s .few3;
         room = room;
       }
+
+-- the answers of `levels_ok`
+module _ (rs : List Route) (g : Geometry) (first second third own2 own3 : List ℕ) (b : Bool) (cells : Tells b (Right rs (g .p1) 0 first own2 1 (length first))) where
+  pub first-fails : not b ≡ true → Tells false (Passed rs g first second third own2 own3)
+  first-fails n = refuted cells n (λ h. h .cells1)
+
+  module _ (c : Bool) (pool : Tells c (HookedPool rs (g .p2) (bits2 g) root (g .p1) first own2 second own3)) where
+    pub second-fails : not c ≡ true → Tells false (Passed rs g first second third own2 own3)
+    second-fails n = refuted pool n (λ h. h .pool2)
+
+    pub third-tells : not b ≡ false → not c ≡ false → (r : Bool) → Tells r (HookedPool rs 32 (bits3 g) own2 (bits2 g) second own3 third []) → Tells r (Passed rs g first second third own2 own3)
+    third-tells m n r = tells-same (λ k. record { cells1 = passed cells m; pool2 = passed pool n; pool3 = k }) (λ h. h .pool3)

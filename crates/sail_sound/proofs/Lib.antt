@@ -7,3 +7,4 @@ pub mod Chunks
 pub mod Levels
 pub mod Sounds
 pub mod Tries
+pub mod Reports

@@ -8,7 +8,8 @@ use lib.ListN.{length, take, drop}
 use lib.Seq.{length-take-le, length-front, take-at}
 use Rattle.bits.specs.Tab.{Tells}
 use Rattle.bits.proofs.Tests.{same}
-use Rattle.routes.specs.Record.{Listed}
+use Rattle.routes.specs.Record.{routesOf, Listed}
+use Rattle.chain.specs.Cover.{Ready}
 use Rattle.chain.specs.Words.{routesIn}
 use Rattle.sail.specs.Lent.{Lent, lent}
 use Rattle.sail.specs.Sizes.{Sized}
@@ -19,7 +20,7 @@ use Rattle.sail_theory.specs.Test.{sound?}
 use Rattle.sail_theory.proofs.Tells.{sound-tells}
 use Rattle.sail_sound.specs.List.{ChainRoom, Chained, Scratch}
 use Rattle.sail_sound.specs.Test.{Passed, Tried}
-use Rattle.sail_sound.proofs.Refuted.{refuted}
+use Rattle.sail_sound.proofs.Refuted.{refuted, passed}
 use Rattle.sail_sound.proofs.Sounds.{tells-sound}
 
 -- what tells whether a table is sound is the test by which the calls are defined
@@ -28,10 +29,6 @@ tried t l b x = record { tells = x; is = same b (sound? t l) (λ e. sound-tells 
 
 pub no-list : (t : Table) (l : Lent) (b : Bool) → Tells b (Listed (l .list) (t .count)) → not b ≡ true → Tried false t l
 no-list t l b told e = tried t l false (refuted told e (λ w. w .listed))
-
-pub levels-tried : (t : Table) (l : Lent) (s : Sized (t .geometry) l) → Listed (l .list) (t .count) → (ws par : List ℕ) → Chained (l .list) (t .count) ws par → (r : Bool)
-    → Tells r (Passed (routesIn ws) (t .geometry) (l .first) (l .second) (l .third) (l .own2) (l .own3)) → Tried r t l
-levels-tried t l s listed ws par k r x = tried t l r (tells-sound t l s listed r (rw (k .routes) at x))
 
 -- the cells alone have the right sizes too
 pub sized-cells : (g : Geometry) (l : Lent) → Sized g l → Sized g (lent [] (l .first) (l .second) (l .third) (l .own2) (l .own3))
@@ -47,7 +44,10 @@ sized-cells g l s = record {
 }
 
 -- the words of a list, in the front of their room
-module _ (s : List ℕ) (n : ℕ) (listed : Listed s n) (ws par : List ℕ) (room : Scratch ws par) where
+module _ (s : List ℕ) (n : ℕ) (b : Bool) (told : Tells b (Listed s n)) (e : not b ≡ false) (ws par : List ℕ) (room : Scratch ws par) where
+  listed : Listed s n
+  listed = passed told e
+
   pub count-in : n ≤ length ws
   count-in = let f = listed .records .few in omega arith
 
@@ -67,5 +67,17 @@ module _ (s : List ℕ) (n : ℕ) (listed : Listed s n) (ws par : List ℕ) (roo
     pub front-room : n ≡ length (take n (words ++ drop n ws))
     front-room = count-room ∙ sym kept ∙ ap length (sym front)
 
-    pub front-chained : (chain : List ℕ) → Chained s (length (take n ws)) words chain → Chained s n (take n (words ++ drop n ws)) chain
-    front-chained chain k = rw front (rw (← count-room) at k)
+    module _ (chain : List ℕ) (k : Chained s (length (take n ws)) words chain) where
+      pub front-ready : Ready (take n (words ++ drop n ws)) chain
+      front-ready = rw front (k .ready)
+
+      front-routes : routesIn (take n (words ++ drop n ws)) ≡ routesOf s n
+      front-routes = rw (front, k .routes, ← count-room)
+
+-- the levels beside these words
+pub levels-tried : (t : Table) (l : Lent) (z : Sized (t .geometry) l) (b : Bool) (told : Tells b (Listed (l .list) (t .count))) (e : not b ≡ false) (ws par : List ℕ) (room : Scratch ws par)
+    (words : List ℕ) (kept : length words ≡ length (take (t .count) ws)) (chain : List ℕ) (k : Chained (l .list) (length (take (t .count) ws)) words chain) (r : Bool)
+    → Tells r (Passed (routesIn (take (t .count) (words ++ drop (t .count) ws))) (t .geometry) (l .first) (l .second) (l .third) (l .own2) (l .own3)) → Tried r t l
+levels-tried t l z b told e ws par room words kept chain k r x =
+    let x′ = rw (front-routes (l .list) (t .count) b told e ws par room words kept chain k) at x in
+    tried t l r (tells-sound t l z (passed told e) r x′)

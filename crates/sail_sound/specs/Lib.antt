@@ -2,3 +2,4 @@
 pub mod List
 pub mod Pool
 pub mod Test
+pub mod Report

@@ -1,7 +1,7 @@
 -- Pools of chunks, as the test goes through them: each chunk is free and zero, or hangs from a cell that names it and is as the routes
 -- ask. Assumes nothing.
 use mathlib.Core.Path.{_≡_}
-use mathlib.Core.Bool.{Bool, true}
+use mathlib.Core.Bool.{Bool, true, false}
 use mathlib.Core.List.{List}
 use Prim.Native.Nat.{ℕ, suc, _+_, _-_, _*_, _^_, _≤_, _<_}
 use lib.ListN.{length, getD, take, drop}
@@ -42,6 +42,13 @@ HookedChunk rs p d up e above cells below c o = ChunkOk rs p d above (liveIn (en
 abbrev pub HookedPool : List Route → ℕ → ℕ → List ℕ → ℕ → List ℕ → List ℕ → List ℕ → List ℕ → Type 0
 HookedPool rs p d up e above own cells below = PoolOk rs p d above (liveIn (entry up) e) (partOf (entry up) e itself) own cells below
 
+-- place q of a pool of n places: where it is live, r is 1 + the cell that it stands for, and else 0
+pub record Hook (up : List ℕ) (e n q r : ℕ) : Type 0 where
+  pub none : r ≡ 0 → q < n → liveIn (entry up) e q ≡ false
+  pub inside : 0 < r → q < n
+  pub lives : 0 < r → liveIn (entry up) e q ≡ true
+  pub cell : 0 < r → r - 1 ≡ partOf (entry up) e itself q
+
 -- What the functions rest on.
 
 -- a block: words with their chain; 2 ^ d cells from place a on, which lie in cell i of level p - d; owner numbers of 32 bits from o on; and
@@ -76,6 +83,12 @@ pub record Stands (x e : ℕ) : Type 0 where
   pub one : 1 ≤ x
   pub few : x ≤ 65536
   pub small : e ≤ 16
+
+-- a pool of n places, by the owners of its chunks of 2 ^ e cells
+pub record Hooks (up : List ℕ) (e n : ℕ) : Type 0 where
+  pub small : e ≤ 16
+  pub owners : (c : ℕ) → getD up c 0 ≤ 65536
+  pub places : n ≡ length up * 2 ^ e
 
 -- A pool of chunks of 2 ^ d cells of level p. The cells of the pool above lie in chunks of 2 ^ e, which hang from a level of `top` bits.
 pub record Pooled (ws par : List ℕ) (p d : ℕ) (up : List ℕ) (e : ℕ) (above cells own want : List ℕ) : Type 0 where

@@ -7,7 +7,7 @@ ghost use Rattle.bits.specs.Tab.{Tells};
 ghost use Rattle.chain.specs.Words.{routesIn};
 ghost use Rattle.plan.specs.Part.{Right, Zero};
 ghost use Rattle.sail.specs.Geometry.{Power};
-ghost use Rattle.sail_sound.specs.Pool.{partAt, Hung, HookedChunk, HookedPool, Blocked, FirstCells, Stands, Hanging, Pooled};
+ghost use Rattle.sail_sound.specs.Pool.{partAt, Hung, HookedChunk, HookedPool, Blocked, FirstCells, Stands, Hooks, Hook, Hanging, Pooled};
 use chain::place::shifted;
 use plan::part::zero;
 use plan::under::right_under;
@@ -127,9 +127,26 @@ pub fn hung_ok(
 // The cell that place q of a pool stands for, where its chunk has 2^e cells and the owner x.
 fn stands_for(x: u32, q: usize, e: u32) -> u64
     requires { ⌜ Stands x e ⌝ }
-    ensures { λ r. ⌜ r ≡ (x - 1) * 2 ^ e + q % 2 ^ e ⌝ }
+    ensures { λ r. ⌜ (r ≡ (x - 1) * 2 ^ e + q % 2 ^ e) × (r < 2 ^ 63) ⌝ }
 {
     (((x - 1) as u64) << e) + (q as u64) % (1u64 << e)
+}
+
+// 1 + the cell that place q of a pool of n places stands for, and 0 where it is no place or its chunk is free. The pool's
+// chunks have 2^e cells and the owners `up`.
+fn hook(up: &[u32], e: u32, n: usize, q: usize) -> u64
+    requires { ⌜ Hooks (now up) e n ⌝ }
+    ensures { λ r. ⌜ Hook (now (up .entry)) e n q r ⌝ }
+{
+    if n <= q {
+        return 0;
+    }
+    let k = q >> e;
+    let x = up[k];
+    if x == 0 {
+        return 0;
+    }
+    1 + stands_for(x, q, e)
 }
 
 // Whether chunk c of a pool is free and zero, or hangs from the pool above and is right. The cells of the pool above lie in
@@ -153,21 +170,17 @@ fn chunk_ok(
     ensures { λ r. ⌜ Tells r (HookedChunk (routesIn (now (ws .entry))) p d (now (up .entry)) e (now (above .entry)) (now (cells .entry)) (now (below .entry)) c (getD (now (own .entry)) c 0)) ⌝ }
 {
     let a = start(c, d);
-    let o = own[c];
+    let o = wide_owner(own[c]);
     if o == 0 {
         return free_ok(cells, a, size(d));
     }
-    let q = wide_owner(o - 1);
-    if above.len() <= q {
+    let q = o - 1;
+    let i = hook(up, e, above.len(), q);
+    if i == 0 {
         return false;
     }
-    let k = q >> e;
-    let x = up[k];
-    if x == 0 {
-        return false;
-    }
-    let i = stands_for(x, q, e);
-    hung_ok(ws, par, p, d, above, q, i, cells, c, 1 + a, below, want)
+    let j = i - 1;
+    hung_ok(ws, par, p, d, above, q, j, cells, c, 1 + a, below, want)
 }
 
 // Whether a whole pool is right.

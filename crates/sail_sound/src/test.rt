@@ -38,11 +38,35 @@ fn levels_ok(
         return false;
     }
     let root = [1u32; 1];
-    if !pool_ok(ws, par, p2, d, &root, p1, first, second, own2, own3, &mut want) {
+    if !pool_ok(
+        ws,
+        par,
+        p2,
+        d,
+        &root,
+        p1,
+        first,
+        second,
+        own2,
+        own3,
+        &mut want,
+    ) {
         return false;
     }
     let none = &own3[..0];
-    pool_ok(ws, par, 32, 32 - p2, own2, d, second, third, own3, none, &mut want)
+    pool_ok(
+        ws,
+        par,
+        32,
+        32 - p2,
+        own2,
+        d,
+        second,
+        third,
+        own3,
+        none,
+        &mut want,
+    )
 }
 
 // Whether a table of the right sizes is sound; `ws` and `par` are room for the words of its routes and their chain.

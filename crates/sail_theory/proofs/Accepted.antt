@@ -2,19 +2,19 @@
 -- then stand. Assumes nothing.
 use mathlib.Core.Path.{_≡_, refl, sym, _∙_, ap, subst}
 use mathlib.Core.Logic.{_⊎_, inl, inr}
-use mathlib.Core.Bool.{Bool, true, false, true≢false, false≢true}
+use mathlib.Core.Bool.{true, false, true≢false, false≢true}
 use mathlib.Core.List.{List, [], _∷_}
-use Prim.Native.Nat.{ℕ, _+_, _*_, _/_, _≤_, _<_}
+use Prim.Native.Nat.{ℕ, suc, _≤_}
 use native.Mathlib.Omega.{arith}
 use lib.ListN.{length}
 use Rattle.bits.specs.Count.{bit}
 use Rattle.bits.proofs.Tests.{decided}
-use Rattle.routes.specs.Route.{key, keyOf, need, Fine, Good}
-use Rattle.routes.specs.Said.{Said, accepted, refused, refusedAt}
+use Rattle.routes.specs.Route.{keyOf}
+use Rattle.routes.specs.Said.{Said, accepted, refused, refusedAt, accepts}
 use Rattle.routes.specs.Standing.{stands, insert, remove}
 use Rattle.routes.specs.declared.Route.{Route}
 use Rattle.routes.proofs.Standing.{insert-replaces}
-use Rattle.routes.proofs.Changed.{insert-adds}
+use Rattle.routes.proofs.Changed.{insert-adds, remove-takes}
 use Rattle.routes.proofs.Rows.{length-routes}
 use Rattle.sail.specs.Lent.{Lent}
 use Rattle.sail.specs.Level.{entry}
@@ -22,12 +22,12 @@ use Rattle.sail.specs.Sound.{Sound, standing, used}
 use Rattle.sail.specs.declared.table.Table.{Table}
 use Rattle.sail.proofs.Sounds.{standing-good, chunks-need}
 use Rattle.sail_theory.specs.Render.{roomOf}
-use Rattle.sail_theory.specs.Calls.{opened, kept, ownersOf, route, announceSaid, withdrawSaid, Out, took, outcome, stateOf, lentOf, announced, withdrawn}
+use Rattle.sail_theory.specs.Calls.{opened, kept, ownersOf, route, announceSaid, withdrawSaid, Out, outcome, stateOf, lentOf, announced, withdrawn, reported}
 use Rattle.sail_theory.specs.Facts.{Holds, Welcome, Farewell}
 use Rattle.sail_theory.proofs.Chunks.{used-le}
 use Rattle.sail_theory.proofs.Needs.{need-same, stands-long}
-use Rattle.sail_theory.proofs.Judged.{Proper, Roomy, Announce, announce-judged, Withdraw, withdraw-judged}
-use Rattle.sail_theory.proofs.Only.{announce-only, withdraw-only}
+use Rattle.sail_theory.proofs.Judged.{Proper, Announce, announce-judged, Withdraw, withdraw-judged, Report}
+use Rattle.sail_theory.proofs.Only.{announce-only, withdraw-only, report-only}
 use Rattle.sail_theory.proofs.Changes.{welcome-holds, farewell-holds}
 
 -- outcomes
@@ -40,18 +40,18 @@ module _ (s : Said) (t : Table) (l : Lent) (t′ : Table) (l′ : Lent) where
       go (refused n) = refl
       go (refusedAt n k) = refl
 
-  pub outcome-took : took s ≡ true → outcome s t l t′ l′ ≡ record { said = s; table = t′; lent = l′ }
-  outcome-took e = go s e
+  pub outcome-accepted : accepts s ≡ true → outcome s t l t′ l′ ≡ record { said = s; table = t′; lent = l′ }
+  outcome-accepted e = go s e
     where
-      go : (s : Said) → took s ≡ true → outcome s t l t′ l′ ≡ record { said = s; table = t′; lent = l′ }
+      go : (s : Said) → accepts s ≡ true → outcome s t l t′ l′ ≡ record { said = s; table = t′; lent = l′ }
       go (accepted vs) e = refl
       go (refused n) e = absurd (false≢true e)
       go (refusedAt n k) e = absurd (false≢true e)
 
-  pub outcome-not : took s ≡ false → outcome s t l t′ l′ ≡ record { said = s; table = t; lent = l }
-  outcome-not e = go s e
+  pub outcome-refused : accepts s ≡ false → outcome s t l t′ l′ ≡ record { said = s; table = t; lent = l }
+  outcome-refused e = go s e
     where
-      go : (s : Said) → took s ≡ false → outcome s t l t′ l′ ≡ record { said = s; table = t; lent = l }
+      go : (s : Said) → accepts s ≡ false → outcome s t l t′ l′ ≡ record { said = s; table = t; lent = l }
       go (accepted vs) e = absurd (true≢false e)
       go (refused n) e = refl
       go (refusedAt n k) e = refl
@@ -83,10 +83,10 @@ module _ (t : Table) (l : Lent) (a len hop : ℕ) where
       }
 
   -- accepted exactly where the route is welcome
-  pub took-welcome : took (announceSaid t l a len hop) ≡ true → Welcome t l r
-  took-welcome e = go (announce-judged t l a len hop) e
+  pub accepted-welcome : accepts (announceSaid t l a len hop) ≡ true → Welcome t l r
+  accepted-welcome e = go (announce-judged t l a len hop) e
     where
-      go : {s : Said} → Announce t l a len hop s → took s ≡ true → Welcome t l r
+      go : {s : Said} → Announce t l a len hop s → accepts s ≡ true → Welcome t l r
       go (Announce.sizing n h) e = absurd (false≢true e)
       go (Announce.bad-prefix z h) e = absurd (false≢true e)
       go (Announce.bad-hop z p h) e = absurd (false≢true e)
@@ -120,32 +120,39 @@ module _ (t : Table) (l : Lent) (a len hop : ℕ) where
   unfolding announced
   announce-is w = rw (welcome-said w)
 
+  -- the count: one more where the route is added, and the same where it is replaced
+  pub count-added : stands (keyOf a len) rs ≡ false → stateOf t (insert r rs) .count ≡ suc (t .count)
+  count-added e = insert-adds r rs e ∙ ap suc (length-routes (l .list) (t .count))
+
+  pub count-replaced : Sound t l → stands (keyOf a len) rs ≡ true → stateOf t (insert r rs) .count ≡ t .count
+  count-replaced s e = insert-replaces r rs (standing-good t l s) e ∙ length-routes (l .list) (t .count)
+
   pub announce-said : announced t l a len hop .said ≡ announceSaid t l a len hop
   unfolding announced
   announce-said = outcome-said (announceSaid t l a len hop) t l _ _
 
   -- Refused: the number alone, and all as it was. (The number is that of the first condition that holds: `announce-judged`.)
-  pub announce-off : (s : Said) → announceSaid t l a len hop ≡ s → took s ≡ false → announced t l a len hop ≡ record { said = s; table = t; lent = l }
+  pub announce-off : (s : Said) → announceSaid t l a len hop ≡ s → accepts s ≡ false → announced t l a len hop ≡ record { said = s; table = t; lent = l }
   unfolding announced
-  announce-off s q e = rw q (outcome-not s t l _ _ e)
+  announce-off s q e = rw q (outcome-refused s t l _ _ e)
 
-  pub announce-refused : took (announced t l a len hop .said) ≡ false → announced t l a len hop ≡ record { said = announceSaid t l a len hop; table = t; lent = l }
-  announce-refused e = announce-off (announceSaid t l a len hop) refl (sym (ap took announce-said) ∙ e)
+  pub announce-refused : accepts (announced t l a len hop .said) ≡ false → announced t l a len hop ≡ record { said = announceSaid t l a len hop; table = t; lent = l }
+  announce-refused e = announce-off (announceSaid t l a len hop) refl (sym (ap accepts announce-said) ∙ e)
 
   -- Accepted: sound, and the list holds the routes with this one inserted
-  pub announce-holds : took (announced t l a len hop .said) ≡ true → Holds t l (insert r rs) (announced t l a len hop .table) (announced t l a len hop .lent)
+  pub announce-holds : accepts (announced t l a len hop .said) ≡ true → Holds t l (insert r rs) (announced t l a len hop .table) (announced t l a len hop .lent)
   announce-holds e =
-      let w = took-welcome (sym (ap took announce-said) ∙ e) in
+      let w = accepted-welcome (sym (ap accepts announce-said) ∙ e) in
       subst (λ (o : Out). Holds t l (insert r rs) (o .table) (o .lent)) (sym (announce-is w)) (welcome-holds t l r w)
 
 module _ (t : Table) (l : Lent) (a len : ℕ) where
   abbrev left : List Route
   left = remove (keyOf a len) (standing t l)
 
-  pub took-farewell : took (withdrawSaid t l a len) ≡ true → Farewell t l a len
-  took-farewell e = go (withdraw-judged t l a len) e
+  pub accepted-farewell : accepts (withdrawSaid t l a len) ≡ true → Farewell t l a len
+  accepted-farewell e = go (withdraw-judged t l a len) e
     where
-      go : {s : Said} → Withdraw t l a len s → took s ≡ true → Farewell t l a len
+      go : {s : Said} → Withdraw t l a len s → accepts s ≡ true → Farewell t l a len
       go (Withdraw.sizing n h) e = absurd (false≢true e)
       go (Withdraw.bad-prefix z h) e = absurd (false≢true e)
       go (Withdraw.unsound z p h) e = absurd (false≢true e)
@@ -159,19 +166,26 @@ module _ (t : Table) (l : Lent) (a len : ℕ) where
   unfolding withdrawn
   withdraw-is w = rw (farewell-said w)
 
+  pub count-removed : Farewell t l a len → suc (stateOf t left .count) ≡ t .count
+  count-removed w = remove-takes (keyOf a len) (standing t l) (standing-good t l (w .sound)) (w .old) ∙ length-routes (l .list) (t .count)
+
   pub withdraw-said : withdrawn t l a len .said ≡ withdrawSaid t l a len
   unfolding withdrawn
   withdraw-said = outcome-said (withdrawSaid t l a len) t l _ _
 
-  pub withdraw-off : (s : Said) → withdrawSaid t l a len ≡ s → took s ≡ false → withdrawn t l a len ≡ record { said = s; table = t; lent = l }
+  pub withdraw-off : (s : Said) → withdrawSaid t l a len ≡ s → accepts s ≡ false → withdrawn t l a len ≡ record { said = s; table = t; lent = l }
   unfolding withdrawn
-  withdraw-off s q e = rw q (outcome-not s t l _ _ e)
+  withdraw-off s q e = rw q (outcome-refused s t l _ _ e)
 
-  pub withdraw-refused : took (withdrawn t l a len .said) ≡ false → withdrawn t l a len ≡ record { said = withdrawSaid t l a len; table = t; lent = l }
-  withdraw-refused e = withdraw-off (withdrawSaid t l a len) refl (sym (ap took withdraw-said) ∙ e)
+  pub withdraw-refused : accepts (withdrawn t l a len .said) ≡ false → withdrawn t l a len ≡ record { said = withdrawSaid t l a len; table = t; lent = l }
+  withdraw-refused e = withdraw-off (withdrawSaid t l a len) refl (sym (ap accepts withdraw-said) ∙ e)
 
   -- Accepted: sound, and the list holds the routes with those of this prefix removed
-  pub withdraw-holds : took (withdrawn t l a len .said) ≡ true → Holds t l left (withdrawn t l a len .table) (withdrawn t l a len .lent)
+  pub withdraw-holds : accepts (withdrawn t l a len .said) ≡ true → Holds t l left (withdrawn t l a len .table) (withdrawn t l a len .lent)
   withdraw-holds e =
-      let w = took-farewell (sym (ap took withdraw-said) ∙ e) in
+      let w = accepted-farewell (sym (ap accepts withdraw-said) ∙ e) in
       subst (λ (o : Out). Holds t l left (o .table) (o .lent)) (sym (withdraw-is w)) (farewell-holds t l a len w)
+
+-- the report of a sound table: its count, and how many chunks of each pool are in use
+pub report-is : (t : Table) (l : Lent) → Sound t l → reported t l ≡ accepted (t .count ∷ used (l .own2) ∷ used (l .own3) ∷ [])
+report-is t l s = let n = chunks-need t l s in report-only t l _ (Report.counts s) ∙ rw (n .0, n .1)

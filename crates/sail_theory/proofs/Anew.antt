@@ -1,16 +1,16 @@
 -- After any run the table is as good as one that is freshly loaded with its routes: that load is accepted, every address gets the same hop
 -- and count of cells, and as many chunks are in use. Assumes nothing.
-use mathlib.Core.Path.{_≡_, refl, sym, _∙_, ap, ap₂, subst}
+use mathlib.Core.Path.{_≡_, sym, _∙_, ap₂, subst}
 use mathlib.Core.List.{List}
 use mathlib.Core.Bool.{true}
-use Prim.Native.Nat.{ℕ, _+_, _*_, _/_, _%_, _^_, _≤_, _<_}
+use Prim.Native.Nat.{ℕ, _/_, _^_, _≤_, _<_}
 use native.Mathlib.Omega.{arith}
 use lib.ListN.{length}
+use Rattle.routes.specs.Said.{accepts}
 use Rattle.routes.specs.Route.{need, best, Good}
-use Rattle.routes.specs.Record.{routesOf, written, Records}
+use Rattle.routes.specs.Record.{written}
 use Rattle.routes.specs.declared.Route.{Route}
 use Rattle.routes.proofs.Rows.{length-routes, length-written, routes-written, written-listed}
-use Rattle.sail.specs.Geometry.{bits2, bits3}
 use Rattle.sail.specs.Lent.{Lent}
 use Rattle.sail.specs.Level.{entry}
 use Rattle.sail.specs.Sizes.{Sized}
@@ -19,27 +19,14 @@ use Rattle.sail.specs.Walk.{hopSaid, lookupSaid}
 use Rattle.sail.specs.declared.geometry.Geometry.{Geometry}
 use Rattle.sail.specs.declared.table.Table.{Table}
 use Rattle.sail.proofs.Sounds.{standing-good, sail-serves, chunks-need}
-use Rattle.sail_theory.specs.Render.{roomOf}
-use Rattle.sail_theory.specs.Calls.{inputRoutes, Out, took, loaded}
+use Rattle.sail_theory.specs.Calls.{inputRoutes, Out, loaded}
 use Rattle.sail_theory.specs.Facts.{SameSize, Holds, Loadable}
 use Rattle.sail_theory.specs.Runs.{Call, after, Carries}
 use Rattle.sail_theory.proofs.Chunks.{used-le}
 use Rattle.sail_theory.proofs.Judged.{Readable}
+use Rattle.sail_theory.proofs.Sizes.{size-sym, size-trans, sized-same}
 use Rattle.sail_theory.proofs.Loads.{load-is, loadable-holds}
 use Rattle.sail_theory.proofs.Runs.{run-is}
-
--- sizes are a matter of lengths
-pub sized-same : (g : Geometry) (l u : Lent) → Sized g l → SameSize l u → Sized g u
-sized-same g l u z s = record {
-  valid = z .valid;
-  whole = rw (s .list) (z .whole);
-  room = rw (s .list) (z .room);
-  cells1 = s .first ∙ z .cells1;
-  few2 = rw (s .chunks2) (z .few2);
-  cells2 = s .second ∙ z .cells2 ∙ ap (λ (n : ℕ). n * 2 ^ bits2 g) (sym (s .chunks2));
-  few3 = rw (s .chunks3) (z .few3);
-  cells3 = s .third ∙ z .cells3 ∙ ap (λ (n : ℕ). n * 2 ^ bits3 g) (sym (s .chunks3));
-}
 
 -- two sound tables of one geometry and one list of routes look the same from outside
 pub same-lookups : (t : Table) (l : Lent) (u : Table) (v : Lent) → Sound t l → Sound u v → u .geometry ≡ t .geometry → standing u v ≡ standing t l → (a : ℕ) → a < 2 ^ 32 → lookupSaid u v a ≡ lookupSaid t l a
@@ -49,8 +36,7 @@ same-lookups t l u v s k g e a h =
 pub same-used : (t : Table) (l : Lent) (u : Table) (v : Lent) → Sound t l → Sound u v → u .geometry ≡ t .geometry → standing u v ≡ standing t l → (used (v .own2) ≡ used (l .own2)) × (used (v .own3) ≡ used (l .own3))
 same-used t l u v s k g e =
     let m = chunks-need u v k in
-    let n = chunks-need t l s in
-    (
+    let n = chunks-need t l s in (
       m .0 ∙ ap₂ (λ (x : Geometry) (rs : List Route). need rs (x .p1)) g e ∙ sym (n .0),
       m .1 ∙ ap₂ (λ (x : Geometry) (rs : List Route). need rs (x .p2)) g e ∙ sym (n .1),
     )
@@ -91,7 +77,7 @@ module _ (t : Table) (l : Lent) (s : Sound t l) (u : Table) (v : Lent) (geo : u 
         enough3 = rw (routes-are, geo) (omega (arith, n .1, used-le (entry (l .own3)) (length (l .own3)), size .chunks3));
       }
 
-  pub fresh-accepted : took (loaded u v input .said) ≡ true
+  pub fresh-accepted : accepts (loaded u v input .said) ≡ true
   fresh-accepted = rw (load-is u v input readable loadable)
 
   fresh-holds : Holds u v (inputRoutes input) (loaded u v input .table) (loaded u v input .lent)
@@ -106,7 +92,7 @@ module _ (t : Table) (l : Lent) (s : Sound t l) (u : Table) (v : Lent) (geo : u 
 -- Demand 3: after a run from a fresh table of t's geometry over arrays of l's sizes, a load of the standing routes into any (u, v) of that
 -- geometry and these sizes is accepted, looks the same, and uses as many chunks.
 pub record AsFresh (t : Table) (l : Lent) (o : Out) : Type 0 where
-  pub accepted-too : took (o .said) ≡ true
+  pub accepted-too : accepts (o .said) ≡ true
   pub lookups : (a : ℕ) → a < 2 ^ 32 → lookupSaid t l a ≡ lookupSaid (o .table) (o .lent) a
   pub chunks2 : used (l .own2) ≡ used (o .lent .own2)
   pub chunks3 : used (l .own3) ≡ used (o .lent .own3)
@@ -116,14 +102,7 @@ pub run-as-fresh : (t : Table) (l : Lent) → Sized (t .geometry) l → (cs : Li
 run-as-fresh t l z cs u v geo size input c =
     let w = run-is t l z cs in
     let geo′ : u .geometry ≡ after t l cs .table .geometry = geo ∙ sym (w .geometry) in
-    let size′ : SameSize (after t l cs .lent) v = record {
-      list = size .list ∙ sym (w .size .list);
-      first = size .first ∙ sym (w .size .first);
-      second = size .second ∙ sym (w .size .second);
-      third = size .third ∙ sym (w .size .third);
-      chunks2 = size .chunks2 ∙ sym (w .size .chunks2);
-      chunks3 = size .chunks3 ∙ sym (w .size .chunks3);
-    } in
+    let size′ : SameSize (after t l cs .lent) v = size-trans (after t l cs .lent) l v (size-sym l (after t l cs .lent) (w .size)) size in
     let k = fresh-used _ _ (w .sound) u v geo′ size′ input c in
     record {
       accepted-too = fresh-accepted _ _ (w .sound) u v geo′ size′ input c;
@@ -131,3 +110,9 @@ run-as-fresh t l z cs u v geo size input c =
       chunks2 = sym (k .0);
       chunks3 = sym (k .1);
     }
+
+-- there is such an input: the bytes of the standing routes
+pub run-carried : (t : Table) (l : Lent) → Sized (t .geometry) l → (cs : List Call) → let rs : List Route = standing (after t l cs .table) (after t l cs .lent) in Carries (written rs (length rs)) rs
+run-carried t l z cs =
+    let s = run-is t l z cs .sound in
+    carried _ (standing-good _ _ s) (omega (arith, s .listed .records .few, length-routes (after t l cs .lent .list) (after t l cs .table .count)))

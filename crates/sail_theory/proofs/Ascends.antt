@@ -1,10 +1,10 @@
 -- After a load the chunk numbers ascend: chunks in use come first, and their owners rise. So a load in one pass looks at the last chunk in
 -- use alone. Assumes nothing.
-use mathlib.Core.Path.{_≡_, refl, sym, _∙_, ap, subst}
+use mathlib.Core.Path.{_≡_, ap, subst}
 use mathlib.Core.Logic.{_⊎_, inl, inr, _≢_}
-use mathlib.Core.Bool.{Bool, true, false, cond}
+use mathlib.Core.Bool.{true, false, cond}
 use mathlib.Core.List.{List, [], _∷_, _++_, List·Memᴰ, List·Memᴰ·append-cases, List·Memᴰ·eq-of-singleton}
-use Prim.Native.Nat.{ℕ, zero, suc, _+_, _-_, _*_, _/_, _%_, _^_, _≤_, _<_}
+use Prim.Native.Nat.{ℕ, suc, _+_, _-_, _*_, _/_, _%_, _^_, _≤_, _<_}
 use native.Mathlib.Omega.{arith}
 use native.Mathlib.Nat.{mod-lt, div-add-mod', le-refl, eq-or-lt-of-le}
 use lib.Arith.{digits-lt}
@@ -15,17 +15,16 @@ use lib.Seq.{getD-set-other, getD-set-same, set-out}
 use borrow.Author.Tests.{ltb-true, eqb-true, lt-ltb}
 use Rattle.bits.specs.Slot.{slot}
 use Rattle.bits.proofs.Tests.{decided, and-split, equal?, below?}
-use Rattle.routes.specs.Route.{key, within, long, Fine, Good}
+use Rattle.routes.specs.Route.{key, within, long, Fine}
 use Rattle.routes.specs.declared.Route.{Route}
 use Rattle.routes.proofs.Goods.{good-fine}
-use Rattle.sail.specs.Geometry.{bits2, Valid}
+use Rattle.sail.specs.Geometry.{bits2}
 use Rattle.sail.specs.Lent.{Lent}
 use Rattle.sail.specs.Level.{itself, liveIn, partOf, entry}
 use Rattle.sail.specs.declared.geometry.Geometry.{Geometry}
 use Rattle.sail.specs.declared.table.Table.{Table}
 use Rattle.sail_theory.specs.Render.{find, at2}
-use Rattle.sail_theory.specs.Calls.{Owners, grant, placeIn, openAt2, openAt3, open2, open3, opened, settled, noOwners}
-use Rattle.sail_theory.specs.Facts.{Loadable}
+use Rattle.sail_theory.specs.Calls.{Owners, grant, placeIn, openAt2, openAt3, open2, open3, opened}
 use Rattle.sail_theory.proofs.Chunks.{chunk-at, chunk-before, chunk-has, free-zero}
 use Rattle.sail_theory.proofs.Ends.{good-front, good-next, good-below, insert-end, any-some}
 use Rattle.sail_theory.proofs.Mids.{slot-mid}
@@ -34,13 +33,13 @@ use Rattle.sail_theory.proofs.Stores.{grant-had, grant-new, had?}
 use Rattle.sail_theory.proofs.Needs.{long-own}
 use Rattle.sail_theory.proofs.Grown.{chunk2-owner, open2-stays, open3-stays}
 use Rattle.sail_theory.proofs.Fresh.{zeros}
-use Rattle.sail_theory.proofs.Loads.{Fronts, fronts-next, fronts-none}
+use Rattle.sail_theory.proofs.Loads.{Fronts, fronts-next}
 
 -- a chunk before one in use is in use, and its owner is smaller
-pub Rising : List ℕ → Type 0
+abbrev pub Rising : List ℕ → Type 0
 Rising own = (c c′ : ℕ) → c < c′ → 1 ≤ getD own c′ 0 → (1 ≤ getD own c 0) × (getD own c 0 < getD own c′ 0)
 
-inside : (own : List ℕ) (c x : ℕ) → getD own c 0 ≡ suc x → c < length own
+pub inside : (own : List ℕ) (c x : ℕ) → getD own c 0 ≡ suc x → c < length own
 inside own c x e = go (below? c (length own))
   where
     go : (c < length own) ⊎ (length own ≤ c) → c < length own
@@ -50,7 +49,6 @@ inside own c x e = go (below? c (length own))
 -- no place with a chunk lies after q
 module _ (own : List ℕ) (q : ℕ) (up : Rising own) (top : (c x : ℕ) → getD own c 0 ≡ suc x → x ≤ q) where
   set-rising : length own ≤ find own (suc q) → find own 0 < length own → Rising (set own (find own 0) (suc q))
-  unfolding Rising
   set-rising none free c c′ l e = go (equal? c′ (find own 0)) (equal? c (find own 0))
     where
       z : getD (set own (find own 0) (suc q)) (find own 0) 0 ≡ suc q
@@ -87,7 +85,6 @@ module _ (own : List ℕ) (q : ℕ) (up : Rising own) (top : (c x : ℕ) → get
 
   -- the chunk that hangs from q, if it is the last in use
   pub last-had : (k : ℕ) → getD own k 0 ≡ suc q → find own (suc q) ≡ k
-  unfolding Rising
   last-had k e = go (eq-or-lt-of-le (chunk-has (entry own) (length own) (suc q) k e))
     where
       go : (find own (suc q) ≡ k) ⊎ (find own (suc q) < k) → find own (suc q) ≡ k
@@ -99,7 +96,6 @@ module _ (own : List ℕ) (q : ℕ) (up : Rising own) (top : (c x : ℕ) → get
 
   -- and if the last in use hangs elsewhere, none hangs from q
   pub last-new : ((k : ℕ) → find own 0 ≡ suc k → getD own k 0 ≢ suc q) → length own ≤ find own (suc q)
-  unfolding Rising
   last-new n = go (had? own q)
     where
       c : ℕ
@@ -125,7 +121,7 @@ module _ (own : List ℕ) (q : ℕ) (up : Rising own) (top : (c x : ℕ) → get
               low (inr z) = omega (arith, l, free-zero own, up (find own 0) c (let w = l in omega arith) (omega (arith, is)) .0)
 
 -- a long cell of routes up to r is no later than r's
-long-top : (r : Route) (rs : List Route) (p i : ℕ) → r .len ≤ 32 → ((s : Route) → List·Memᴰ s rs → (key s ≤ key r) × (s .len ≤ 32)) → long rs p i ≡ true → i ≤ slot p (r .addr)
+pub long-top : (r : Route) (rs : List Route) (p i : ℕ) → r .len ≤ 32 → ((s : Route) → List·Memᴰ s rs → (key s ≤ key r) × (s .len ≤ 32)) → long rs p i ≡ true → i ≤ slot p (r .addr)
 long-top r rs p i w h e = any-some (within p i) rs (i ≤ slot p (r .addr)) e (λ s m t.
     let c = eqb-true (slot p (s .addr)) i (and-split (ltb p (s .len)) (eqb (slot p (s .addr)) i) t .1) in
     let k = h s m in
@@ -144,7 +140,6 @@ module _ (own : List ℕ) (d : ℕ) (up : Rising own) (x c q i : ℕ) (live : li
   y-le = omega (arith, part-up (entry own) d itself x, shr-mono d le, u)
 
   chunk-le : x / 2 ^ d ≤ c
-  unfolding Rising
   chunk-le = go (below? c (x / 2 ^ d))
     where
       go : (c < x / 2 ^ d) ⊎ (x / 2 ^ d ≤ c) → x / 2 ^ d ≤ c
@@ -224,15 +219,5 @@ module _ (t : Table) (l : Lent) (xs : List Route) (r : Route) (ys : List Route) 
   pub rises : Rising (o .own2) × Rising (o .own3) → Rising o2 × Rising o3
   rises u = (rise2 (u .0), rise3 (u .0) (u .1))
 
-zero-rising : (n : ℕ) → Rising (replicate n 0)
-unfolding Rising
+pub zero-rising : (n : ℕ) → Rising (replicate n 0)
 zero-rising n c c′ l e = absurd (omega (arith, zeros n c′))
-
-pub settled-rises : (t : Table) (l : Lent) (ys xs : List Route) (o : Owners) → Fronts t l xs ys o → Rising (o .own2) × Rising (o .own3) → Rising (settled (t .geometry) o ys .own2) × Rising (settled (t .geometry) o ys .own3)
-unfolding settled
-settled-rises t l [] xs o f u = u
-settled-rises t l (r ∷ ys) xs o f u = settled-rises t l ys (xs ++ (r ∷ [])) (opened (t .geometry) o r) (fronts-next t l xs r ys o f) (rises t l xs r ys o f u)
-
--- the chunk numbers of a load ascend
-pub load-ascends : (t : Table) (l : Lent) (rs : List Route) → Loadable t l rs → Rising (settled (t .geometry) (noOwners l) rs .own2) × Rising (settled (t .geometry) (noOwners l) rs .own3)
-load-ascends t l rs w = settled-rises t l rs [] (noOwners l) (fronts-none t l rs w) (zero-rising (length (l .own2)), zero-rising (length (l .own3)))

@@ -10,6 +10,7 @@ use lib.ListN.{getD, length}
 use lib.Seq.{ext-getD}
 use Rattle.bits.proofs.Tests.{decided}
 use Rattle.routes.specs.Route.{long, best}
+use Rattle.routes.specs.Record.{written}
 use Rattle.routes.specs.declared.Route.{Route}
 use Rattle.sail.specs.Geometry.{bits2, bits3}
 use Rattle.sail.specs.Lent.{Lent}
@@ -53,6 +54,10 @@ module _ (g : Geometry) (room : ℕ) (rs : List Route) (own2 own3 : List ℕ) wh
   pub third-leaf : (q : ℕ) → q < length own3 * 2 ^ bits3 g → liveIn (entry own3) (bits3 g) q ≡ true → getD (shape .third) q 0 ≡ 32768 + best rs 32 (at3 g own2 own3 q)
   unfolding rendered
   third-leaf q l e = pool-leaf never (best rs 32) (length own3 * 2 ^ bits3 g) (liveIn (entry own3) (bits3 g)) (at3 g own2 own3) 0 nobody q l e refl
+
+  pub shape-list : shape .list ≡ written rs room
+  unfolding rendered
+  shape-list = refl
 
   pub shape-owners : (shape .own2 ≡ own2) × (shape .own3 ≡ own3)
   unfolding rendered

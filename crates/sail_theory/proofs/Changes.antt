@@ -1,19 +1,14 @@
 -- Announce and withdraw: what is left where they are accepted is sound, and its list holds the routes that then stand; and a chunk more is
 -- needed exactly where one has to be opened. Assumes nothing.
-use mathlib.Core.Path.{_≡_, refl, sym, _∙_, ap, subst}
-use mathlib.Core.Logic.{_⊎_, inl, inr}
-use mathlib.Core.Bool.{Bool, true, false, true≢false}
+use mathlib.Core.Path.{_≡_, refl, sym, _∙_, ap}
+use mathlib.Core.Bool.{true, false}
 use mathlib.Core.List.{List}
-use Prim.Native.Nat.{ℕ, suc, _+_, _-_, _*_, _/_, _%_, _^_, _≤_, _<_}
+use Prim.Native.Nat.{ℕ, _*_, _^_, _≤_, _<_}
 use native.Mathlib.Omega.{arith}
 use lib.Dec.{ltb}
 use lib.ListN.{getD, length}
-use borrow.Author.Tests.{ltb-true, lt-ltb}
 use Rattle.bits.specs.Slot.{slot}
-use Rattle.bits.specs.Tab.{Tells}
-use Rattle.bits.proofs.Tests.{decided, below?}
-use Rattle.routes.specs.Route.{key, keyOf, within, long, need, Fine, Good}
-use Rattle.routes.specs.Record.{written}
+use Rattle.routes.specs.Route.{keyOf, within, long, Good}
 use Rattle.routes.specs.Standing.{insert, remove}
 use Rattle.routes.specs.declared.Route.{Route}
 use Rattle.routes.proofs.Standing.{insert-good, remove-good, remove-length, remove-any}
@@ -22,17 +17,18 @@ use Rattle.sail.specs.Geometry.{bits2, bits3, Valid}
 use Rattle.sail.specs.Lent.{Lent}
 use Rattle.sail.specs.Level.{entry}
 use Rattle.sail.specs.Sizes.{Sized}
-use Rattle.sail.specs.Sound.{Sound, standing, used}
+use Rattle.sail.specs.Sound.{standing, used}
 use Rattle.sail.specs.declared.geometry.Geometry.{Geometry}
 use Rattle.sail.specs.declared.table.Table.{Table}
 use Rattle.sail.proofs.Sounds.{standing-good, chunks-need}
 use Rattle.sail_theory.specs.Render.{find, rendered, Fits2, Fits3, roomOf, Rendered}
 use Rattle.sail_theory.specs.Calls.{Owners, open2, open3, opened, keep2, keep3, kept, ownersOf, stateOf, lentOf}
 use Rattle.sail_theory.specs.Facts.{SameSize, Holds, Welcome, Farewell}
-use Rattle.sail_theory.proofs.Chunks.{chunk-at, chunk-le, used-le, free-used, used-free}
+use Rattle.sail_theory.proofs.Chunks.{chunk-at, used-free}
+use Rattle.sail_theory.proofs.Cells.{shape-list}
 use Rattle.sail_theory.proofs.Rendered.{sound-rendered, render-standing, render-sized, render-sound}
 use Rattle.sail_theory.proofs.Stores.{length-keep}
-use Rattle.sail_theory.proofs.Needs.{need-more, need-same}
+use Rattle.sail_theory.proofs.Needs.{need-more}
 use Rattle.sail_theory.proofs.Grown.{length-open2, length-open3, open-fits2, open-fits3}
 use Rattle.sail_theory.proofs.Shrunk.{keep-fits2, keep-fits3}
 
@@ -62,15 +58,11 @@ module _ (t : Table) (l : Lent) (z : Sized (t .geometry) l) (rs : List Route) (g
     chunks3 = len3;
   }
 
-  list-is : lentOf t l rs o .list ≡ written rs (roomOf l)
-  unfolding rendered
-  list-is = refl
-
   pub render-holds : Fits2 (t .geometry) rs (o .own2) → Fits3 (t .geometry) rs (o .own2) (o .own3) → Holds t l rs (stateOf t rs) (lentOf t l rs o)
   render-holds f2 f3 = record {
     sound = render-sound (t .geometry) (z .valid) (roomOf l) few rs good roomy (o .own2) (o .own3) few2 few3 f2 f3;
     routes = render-standing (t .geometry) (z .valid) (roomOf l) few rs good roomy (o .own2) (o .own3) few2 few3;
-    list = list-is;
+    list = shape-list (t .geometry) (roomOf l) rs (o .own2) (o .own3);
     count = refl;
     geometry = refl;
     size = size;

@@ -1,20 +1,18 @@
 -- Laws of `chunkFor`, and of how many chunks are in use. Assumes nothing.
-use mathlib.Core.Path.{_≡_, refl, sym, _∙_, ap}
+use mathlib.Core.Path.{_≡_, refl, ap}
 use mathlib.Core.Logic.{_⊎_, inl, inr, _≢_}
-use mathlib.Core.Bool.{Bool, true, false, true≢false}
+use mathlib.Core.Bool.{Bool, true, false}
 use mathlib.Core.List.{List}
 use Prim.Native.Nat.{ℕ, zero, suc, _+_, _≤_, _<_}
 use native.Mathlib.Omega.{arith}
-use native.Mathlib.Nat.{le-step, le-refl, eq-or-lt-of-le}
-use lib.Dec.{eqb, ltb}
+use native.Mathlib.Nat.{le-step, le-refl}
+use lib.Dec.{eqb}
 use lib.ListN.{getD, length, List·getD-eq-default}
-use borrow.Author.Tests.{eqb-true, eqb-false, eq-eqb, ne-eqb, lt-ltb, le-ltb, ltb-true}
-use Rattle.bits.specs.Search.{firstOf}
+use borrow.Author.Tests.{eqb-true, eqb-false, eq-eqb, ne-eqb, lt-ltb, le-ltb}
 use Rattle.bits.specs.Count.{bit, count}
 use Rattle.bits.proofs.Searches.{firstOf-is, firstOf-le, firstOf-before, firstOf-at}
 use Rattle.bits.proofs.Tests.{below?, equal?}
 use Rattle.sail.specs.Level.{entry, inUse}
-use Rattle.sail.specs.Sound.{used}
 use Rattle.sail_theory.specs.Render.{chunkFor, find}
 
 module _ (own : ℕ → ℕ) (m : ℕ) (o : ℕ) where
@@ -46,16 +44,6 @@ module _ (own : ℕ → ℕ) (m : ℕ) (o : ℕ) where
       go : (c < chunkFor own m o) ⊎ (chunkFor own m o ≤ c) → chunkFor own m o ≤ c
       go (inl l) = absurd (chunk-before c l e)
       go (inr l) = l
-
--- a search looks at the first m alone
-pub chunk-ext : (own own′ : ℕ → ℕ) (m o : ℕ) → ((c : ℕ) → c < m → own′ c ≡ own c) → chunkFor own′ m o ≡ chunkFor own m o
-chunk-ext own own′ m o h = go (below? (chunkFor own m o) m)
-  where
-    go : (chunkFor own m o < m) ⊎ (m ≤ chunkFor own m o) → chunkFor own′ m o ≡ chunkFor own m o
-    go (inl l) = chunk-is own′ m o (chunkFor own m o) l (h _ l ∙ chunk-at own m o l) (λ j i e. chunk-before own m o j i (sym (h j (omega arith)) ∙ e))
-    go (inr l) =
-        let z = chunk-le own m o in
-        chunk-none own′ m o (λ j i e. chunk-before own m o j (omega arith) (sym (h j i) ∙ e)) ∙ omega arith
 
 -- past the last chunk, too, the owner is 0
 pub free-zero : (own : List ℕ) → getD own (find own 0) 0 ≡ 0

@@ -2,29 +2,29 @@
 use mathlib.Core.Path.{_≡_, refl, sym, _∙_, ap, subst}
 use mathlib.Core.Bool.{Bool, true, false, false≢true}
 use mathlib.Core.List.{List, []}
-use Prim.Native.Nat.{ℕ, zero, suc, _+_, _-_, _*_, _/_, _%_, _^_, _≤_, _<_}
+use Prim.Native.Nat.{ℕ, zero, suc, _*_, _/_, _^_, _<_}
 use native.Mathlib.Omega.{arith}
 use lib.ListN.{getD, length, replicate, getD-replicate, length-replicate}
 use lib.Seq.{ext-getD}
 use Rattle.routes.specs.Route.{any, first, long, best, Good}
-use Rattle.routes.specs.Record.{routesOf, written}
-use Rattle.routes.specs.Said.{Said, accepted, refused}
+use Rattle.routes.specs.Record.{written}
+use Rattle.routes.specs.Said.{Said, accepted, accepts}
 use Rattle.routes.proofs.Rows.{length-written, zero-written}
-use Rattle.sail.specs.Geometry.{bits2, bits3, Valid}
+use Rattle.sail.specs.Geometry.{bits2, bits3}
 use Rattle.sail.specs.Lent.{Lent}
 use Rattle.sail.specs.Level.{always, itself, nobody, liveIn, entry}
 use Rattle.sail.specs.Sizes.{Sized}
-use Rattle.sail.specs.Sound.{Sound, standing, freshTable, freshLent}
+use Rattle.sail.specs.Sound.{freshTable, freshLent}
 use Rattle.sail.specs.declared.geometry.Geometry.{Geometry}
 use Rattle.sail.specs.declared.table.Table.{Table}
 use Rattle.sail_theory.specs.Render.{never, at2, at3, rendered, Fits, Fits2, Fits3, roomOf}
-use Rattle.sail_theory.specs.Calls.{noOwners, makeSaid, Out, took, stateOf, lentOf, made}
+use Rattle.sail_theory.specs.Calls.{noOwners, makeSaid, Out, lentOf, made}
 use Rattle.sail_theory.specs.Facts.{Holds}
 use Rattle.sail_theory.proofs.Pools.{length-pool, pool-free, pool-leaf}
 use Rattle.sail_theory.proofs.Judged.{Make, make-judged}
 use Rattle.sail_theory.proofs.Only.{make-only}
 use Rattle.sail_theory.proofs.Changes.{render-holds}
-use Rattle.sail_theory.proofs.Accepted.{outcome-said, outcome-not}
+use Rattle.sail_theory.proofs.Accepted.{outcome-said, outcome-refused}
 
 pub zeros : (n i : ℕ) → _≡_ {A = ℕ} (getD (replicate n 0) i 0) 0
 zeros zero i = refl
@@ -100,17 +100,17 @@ pub make-said : (t : Table) (l : Lent) → made t l .said ≡ makeSaid t l
 unfolding made
 make-said t l = outcome-said (makeSaid t l) t l _ _
 
-pub make-off : (t : Table) (l : Lent) (s : Said) → makeSaid t l ≡ s → took s ≡ false → made t l ≡ record { said = s; table = t; lent = l }
+pub make-off : (t : Table) (l : Lent) (s : Said) → makeSaid t l ≡ s → accepts s ≡ false → made t l ≡ record { said = s; table = t; lent = l }
 unfolding made
-make-off t l s q e = rw q (outcome-not s t l _ _ e)
+make-off t l s q e = rw q (outcome-refused s t l _ _ e)
 
-pub make-refused : (t : Table) (l : Lent) → took (made t l .said) ≡ false → made t l ≡ record { said = makeSaid t l; table = t; lent = l }
-make-refused t l e = make-off t l (makeSaid t l) refl (sym (ap took (make-said t l)) ∙ e)
+pub make-refused : (t : Table) (l : Lent) → accepts (made t l .said) ≡ false → made t l ≡ record { said = makeSaid t l; table = t; lent = l }
+make-refused t l e = make-off t l (makeSaid t l) refl (sym (ap accepts (make-said t l)) ∙ e)
 
 -- accepted exactly where the sizes are right
-pub took-sized : (t : Table) (l : Lent) → took (made t l .said) ≡ true → Sized (t .geometry) l
-took-sized t l e = go (make-judged t l) (sym (ap took (make-said t l)) ∙ e)
+pub accepted-sized : (t : Table) (l : Lent) → accepts (made t l .said) ≡ true → Sized (t .geometry) l
+accepted-sized t l e = go (make-judged t l) (sym (ap accepts (make-said t l)) ∙ e)
   where
-    go : {s : Said} → Make t l s → took s ≡ true → Sized (t .geometry) l
+    go : {s : Said} → Make t l s → accepts s ≡ true → Sized (t .geometry) l
     go (Make.sizing n h) e = absurd (false≢true e)
     go (Make.done z) e = z

@@ -18,14 +18,14 @@ use Rattle.bits.proofs.Tests.{decided, untrue, equal?}
 use Rattle.routes.specs.Route.{long, Fine, Good}
 use Rattle.routes.specs.Standing.{insert}
 use Rattle.routes.specs.declared.Route.{Route}
-use Rattle.sail.specs.Geometry.{bits2, bits3, Valid}
+use Rattle.sail.specs.Geometry.{bits2, Valid}
 use Rattle.sail.specs.Level.{always, itself, liveIn, entry}
 use Rattle.sail.specs.declared.geometry.Geometry.{Geometry}
 use Rattle.sail_theory.specs.Render.{find, at2, Fits2, Fits3}
 use Rattle.sail_theory.specs.Calls.{grant, placeIn, openAt2, openAt3, open2, open3}
 use Rattle.sail_theory.proofs.Chunks.{chunk-at}
 use Rattle.sail_theory.proofs.Mids.{slot-mid, long-mid}
-use Rattle.sail_theory.proofs.Places.{live-owner, part-up, place-live, place-at, apart-itself, apart-below, Apart}
+use Rattle.sail_theory.proofs.Places.{part-up, place-live, place-at, apart-itself, apart-below, Apart}
 use Rattle.sail_theory.proofs.Owners.{fits-ext, fits-shift}
 use Rattle.sail_theory.proofs.Stores.{grant-had, grant-new, grant-stays, length-grant, had?, grant-fits}
 use Rattle.sail_theory.proofs.Needs.{long-own, long-other, long-short}

@@ -1,8 +1,8 @@
 -- What each call says is decided by the first condition, in document 01's order, that holds. For each call a type lists what it can say,
 -- with all that then holds: the cases exclude each other, and the call says what one of them has. Assumes nothing.
-use mathlib.Core.Path.{_≡_, refl, sym, _∙_, ap}
+use mathlib.Core.Path.{_≡_, refl, sym, _∙_}
 use mathlib.Core.Logic.{_⊎_, inl, inr}
-use mathlib.Core.Bool.{Bool, true, false, not, cond, true≢false}
+use mathlib.Core.Bool.{true, false, not, cond, true≢false}
 use mathlib.Core.List.{List, [], _∷_}
 use Prim.Native.Nat.{ℕ, _*_, _/_, _≤_, _<_}
 use native.Mathlib.Omega.{arith}
@@ -10,11 +10,11 @@ use lib.Dec.{ltb, leb}
 use lib.ListN.{length}
 use borrow.Author.Tests.{lt-leb, le-leb, lt-ltb, le-ltb}
 use Rattle.bits.specs.Count.{bit}
-use Rattle.bits.proofs.Tests.{decided, below?, untrue}
-use Rattle.routes.specs.Route.{keyOf, need, Prefix, Fine, Good}
-use Rattle.routes.specs.Record.{routesOf, Records}
+use Rattle.bits.proofs.Tests.{decided, below?}
+use Rattle.routes.specs.Route.{keyOf, need, Prefix, Fine}
+use Rattle.routes.specs.Record.{Records}
 use Rattle.routes.specs.Input.{properPrefix, hopFine, inputSaid}
-use Rattle.routes.specs.Said.{Said, accepted, refused, refusedAt, andThen}
+use Rattle.routes.specs.Said.{Said, accepted, refused, andThen}
 use Rattle.routes.specs.Standing.{stands, insert}
 use Rattle.routes.specs.declared.Route.{Route}
 use Rattle.routes.proofs.Rows.{length-routes, records-good}

@@ -19,10 +19,17 @@ pub mod Fresh
 pub mod Cells
 pub mod Opens
 pub mod Ends
+pub mod Sizes
 pub mod Loads
 pub mod Ascends
 pub mod Runs
 pub mod Anew
 pub mod Wanting
 pub mod Frames
+pub mod Read
 pub mod Altered
+pub mod Passing
+pub mod Counting
+pub mod Example
+pub mod OneChunk
+pub mod Wrong

@@ -1,33 +1,31 @@
 -- Load equals make and then announcing each record in order, wherever it is accepted, and each of these adds its route. Assumes nothing.
 use mathlib.Core.Path.{_≡_, refl, sym, _∙_, ap, subst}
-use mathlib.Core.Bool.{Bool, true, false, false≢true}
+use mathlib.Core.Bool.{true, false, false≢true}
 use mathlib.Core.List.{List, [], _∷_, _++_, append-assoc, append-nil, List·Memᴰ}
-use Prim.Native.Nat.{ℕ, _+_, _*_, _/_, _≤_, _<_}
+use Prim.Native.Nat.{ℕ, _/_, _≤_, _<_}
 use native.Mathlib.Omega.{arith}
-use lib.ListN.{length, length-append, length-replicate}
-use Rattle.bits.specs.Count.{bit}
-use Rattle.routes.specs.Route.{key, keyOf, within, long, need, Fine, Good}
-use Rattle.routes.specs.Said.{Said, accepted}
-use Rattle.routes.specs.Standing.{stands, insert}
+use lib.Dec.{ltb}
+use lib.ListN.{getD, length, length-append, length-replicate}
+use Rattle.bits.specs.Slot.{slot}
+use Rattle.routes.specs.Route.{key, within, long, need, Fine, Good}
+use Rattle.routes.specs.Said.{Said, accepted, accepts}
+use Rattle.routes.specs.Standing.{insert}
 use Rattle.routes.specs.declared.Route.{Route}
-use Rattle.routes.proofs.Rows.{length-written}
-use Rattle.sail.specs.Geometry.{Valid}
 use Rattle.sail.specs.Lent.{Lent}
 use Rattle.sail.specs.Sizes.{Sized}
-use Rattle.sail.specs.Sound.{Sound, standing}
 use Rattle.sail.specs.declared.geometry.Geometry.{Geometry}
 use Rattle.sail.specs.declared.table.Table.{Table}
-use Rattle.sail_theory.specs.Render.{rendered, Fits2, Fits3, roomOf}
-use Rattle.sail_theory.specs.Calls.{Owners, open2, opened, settled, ownersOf, noOwners, route, inputRoutes, loadSaid, Out, took, stateOf, lentOf, made, announced, loaded}
-use Rattle.sail_theory.specs.Facts.{SameSize, Holds, Welcome, Loadable}
+use Rattle.sail_theory.specs.Render.{find, rendered, Fits2, Fits3, roomOf}
+use Rattle.sail_theory.specs.Calls.{Owners, open2, opened, settled, ownersOf, noOwners, route, inputRoutes, loadSaid, Out, stateOf, lentOf, made, announced, loaded}
+use Rattle.sail_theory.specs.Facts.{Holds, Welcome, Loadable}
 use Rattle.sail_theory.specs.Runs.{announceAll, AllAdded}
 use Rattle.sail_theory.proofs.Ends.{good-front, good-next, good-below, insert-end, none-stands, any-front}
 use Rattle.sail_theory.proofs.Needs.{need-mono}
 use Rattle.sail_theory.proofs.Grown.{length-open2, length-open3}
 use Rattle.sail_theory.proofs.Judged.{Readable, Load, load-judged}
 use Rattle.sail_theory.proofs.Only.{load-only}
-use Rattle.sail_theory.proofs.Changes.{render-holds, welcome-fits2, welcome-fits3}
-use Rattle.sail_theory.proofs.Accepted.{announce-is, outcome-said, outcome-not}
+use Rattle.sail_theory.proofs.Changes.{render-holds, space2, space3, welcome-fits2, welcome-fits3}
+use Rattle.sail_theory.proofs.Accepted.{announce-is, outcome-said, outcome-refused}
 use Rattle.sail_theory.proofs.Fresh.{none-fits2, none-fits3, fresh-rendered, make-is}
 
 -- a route without spare is made of its parts
@@ -95,6 +93,15 @@ module _ (t : Table) (l : Lent) (xs : List Route) (r : Route) (ys : List Route) 
         enough2 = rw (now .routes) (omega (arith, part (g .p1) (omega arith), f .enough2, now .size .chunks2));
         enough3 = rw (now .routes) (omega (arith, part (g .p2) (omega arith), f .enough3, now .size .chunks3));
       }
+
+  -- where a chunk has to be opened, one is free
+  pub fronts-space2 : ltb (g .p1) (r .len) ≡ true → long xs (g .p1) (slot (g .p1) (r .addr)) ≡ false → (find (o .own2) 0 < length (o .own2)) × (getD (o .own2) (find (o .own2) 0) 0 ≡ 0)
+  unfolding rendered
+  fronts-space2 e h = space2 u v r welcome e (rw (now .routes) h)
+
+  pub fronts-space3 : ltb (g .p2) (r .len) ≡ true → long xs (g .p2) (slot (g .p2) (r .addr)) ≡ false → (find (o .own3) 0 < length (o .own3)) × (getD (o .own3) (find (o .own3) 0) 0 ≡ 0)
+  unfolding rendered
+  fronts-space3 e h = space3 u v r welcome e (rw (now .routes) h)
 
   -- it is added, and its chunks opened
   next : announced u v (r .addr) (r .len) (r .hop) ≡ record { said = accepted (0 ∷ []); table = stateOf t xs′; lent = lentOf t l xs′ (opened g o r) }
@@ -179,14 +186,14 @@ module _ (t : Table) (l : Lent) (input : List ℕ) where
   rs = inputRoutes input
 
   -- accepted exactly where the input is good and may be loaded
-  pub took-loadable : took (loadSaid t l input) ≡ true → Readable t l input × Loadable t l rs
-  took-loadable e = go (load-judged t l input) e
+  pub accepted-loadable : accepts (loadSaid t l input) ≡ true → Readable t l input × Loadable t l rs
+  accepted-loadable e = go (load-judged t l input) e
     where
-      go : {s : Said} → Load t l input s → took s ≡ true → Readable t l input × Loadable t l rs
+      go : {s : Said} → Load t l input s → accepts s ≡ true → Readable t l input × Loadable t l rs
       go (Load.sizing n h) e = absurd (false≢true e)
       go (Load.bad-input {s} z c h) e = absurd (off s h e)
         where
-          off : (s : Said) → ((ns : List ℕ) → s ≡ accepted ns → ⊥) → took s ≡ true → ⊥
+          off : (s : Said) → ((ns : List ℕ) → s ≡ accepted ns → ⊥) → accepts s ≡ true → ⊥
           off (Said.accepted ns) h e = h ns refl
           off (Said.refused n) h e = false≢true e
           off (Said.refusedAt n k) h e = false≢true e
@@ -206,18 +213,18 @@ module _ (t : Table) (l : Lent) (input : List ℕ) where
   unfolding loaded
   load-said = outcome-said (loadSaid t l input) t l _ _
 
-  pub load-off : (s : Said) → loadSaid t l input ≡ s → took s ≡ false → loaded t l input ≡ record { said = s; table = t; lent = l }
+  pub load-off : (s : Said) → loadSaid t l input ≡ s → accepts s ≡ false → loaded t l input ≡ record { said = s; table = t; lent = l }
   unfolding loaded
-  load-off s q e = rw q (outcome-not s t l _ _ e)
+  load-off s q e = rw q (outcome-refused s t l _ _ e)
 
   -- Refused: all as it was. (What it says is that of the first condition that holds: `load-judged`.)
-  pub load-refused : took (loaded t l input .said) ≡ false → loaded t l input ≡ record { said = loadSaid t l input; table = t; lent = l }
-  load-refused e = load-off (loadSaid t l input) refl (sym (ap took load-said) ∙ e)
+  pub load-refused : accepts (loaded t l input .said) ≡ false → loaded t l input ≡ record { said = loadSaid t l input; table = t; lent = l }
+  load-refused e = load-off (loadSaid t l input) refl (sym (ap accepts load-said) ∙ e)
 
   -- Accepted: sound, and the list holds the routes of the input
-  module _ (e : took (loaded t l input .said) ≡ true) where
+  module _ (e : accepts (loaded t l input .said) ≡ true) where
     ok : Readable t l input × Loadable t l rs
-    ok = took-loadable (sym (ap took load-said) ∙ e)
+    ok = accepted-loadable (sym (ap accepts load-said) ∙ e)
 
     pub load-holds : Holds t l rs (loaded t l input .table) (loaded t l input .lent)
     load-holds = subst (λ (o : Out). Holds t l rs (o .table) (o .lent)) (sym (load-is (ok .0) (ok .1))) (loadable-holds t l rs (ok .1))

@@ -1,12 +1,13 @@
 -- The second level lies bits2 below the first, and the third bits3 below the second. Assumes nothing.
 use mathlib.Core.Path.{_≡_, sym, _∙_, ap}
-use mathlib.Core.Bool.{true}
+use mathlib.Core.Bool.{true, false}
 use mathlib.Core.List.{List}
-use Prim.Native.Nat.{ℕ, _+_, _-_, _*_, _/_, _^_}
+use Prim.Native.Nat.{ℕ, _+_, _*_, _/_, _^_}
 use native.Mathlib.Omega.{arith}
 use lib.Pow.{pow-add}
 use Rattle.bits.specs.Slot.{slot}
 use Rattle.bits.proofs.Slots.{slot-up}
+use Rattle.bits.proofs.Tests.{fails}
 use Rattle.routes.specs.Route.{long}
 use Rattle.routes.specs.declared.Route.{Route}
 use Rattle.routes.proofs.Levels.{long-up}
@@ -36,3 +37,6 @@ module _ (g : Geometry) (v : Valid g) where
   -- a long second cell lies in a long first cell
   pub long-mid : (rs : List Route) (j : ℕ) → long rs (g .p2) j ≡ true → long rs (g .p1) (j / 2 ^ bits2 g) ≡ true
   long-mid rs j e = long-up rs (g .p1) (bits2 g) j (omega arith) (rw sum2 e)
+
+  pub short-mid : (rs : List Route) (j : ℕ) → long rs (g .p1) (j / 2 ^ bits2 g) ≡ false → long rs (g .p2) j ≡ false
+  short-mid rs j e = fails (long rs (g .p2) j) (long rs (g .p1) (j / 2 ^ bits2 g)) (long-mid rs j) e

@@ -1,14 +1,13 @@
 -- Which cells are long, and how many chunks are needed, after one route is inserted or one prefix removed. Assumes nothing.
 use mathlib.Core.Path.{_≡_, refl, sym, _∙_, ap}
 use mathlib.Core.Logic.{_⊎_, inl, inr, _≢_}
-use mathlib.Core.Bool.{Bool, true, false, _||_, true≢false, false≢true, or-true}
+use mathlib.Core.Bool.{true, false, _||_, false≢true, or-true}
 use mathlib.Core.List.{List, [], _∷_}
-use Prim.Native.Nat.{ℕ, suc, _^_, _≤_, _<_}
+use Prim.Native.Nat.{ℕ, suc, _^_, _≤_}
 use native.Mathlib.Omega.{arith}
 use lib.Dec.{eqb, ltb}
 use borrow.Author.Tests.{eqb-true, eq-eqb}
 use Rattle.bits.specs.Slot.{slot}
-use Rattle.bits.specs.Count.{count}
 use Rattle.bits.proofs.Tests.{decided, both, and-split, or-split, untrue, equal?}
 use Rattle.bits.proofs.Slots.{slot-lt}
 use Rattle.bits.proofs.Counts.{count-ext, without, without-same, without-other, count-without, count-into}
@@ -48,7 +47,7 @@ module _ (r : Route) (rs : List Route) (fine : Fine r) (good : Good rs) where
   pub long-short : (p i : ℕ) → ltb p (r .len) ≡ false → long (insert r rs) p i ≡ long rs p i
   long-short p i h = insert-long r rs fine good p i ∙ rw (within-not r p i h)
 
-  long-grows : (p i : ℕ) → long rs p i ≡ true → long (insert r rs) p i ≡ true
+  pub long-grows : (p i : ℕ) → long rs p i ≡ true → long (insert r rs) p i ≡ true
   long-grows p i e = insert-long r rs fine good p i ∙ rw e (or-true (within p i r))
 
   -- so one chunk more is needed exactly where the route's cell was not long

@@ -1,23 +1,22 @@
 -- The conditions exclude each other: where one holds, the call says what stands beside it, and nothing else. Assumes nothing.
-use mathlib.Core.Path.{_≡_, refl, sym, _∙_, ap}
-use mathlib.Core.Bool.{Bool, true, false, cond}
+use mathlib.Core.Path.{_≡_, refl, _∙_}
+use mathlib.Core.Bool.{false, cond}
 use mathlib.Core.List.{List, [], _∷_}
-use Prim.Native.Nat.{ℕ, _/_, _≤_, _<_}
-use native.Mathlib.Omega.{arith}
+use Prim.Native.Nat.{ℕ, _/_, _≤_}
 use lib.Dec.{leb, ltb}
 use lib.ListN.{length}
 use borrow.Author.Tests.{lt-leb, le-leb, lt-ltb, le-ltb}
 use Rattle.bits.specs.Count.{bit}
 use Rattle.bits.proofs.Tests.{untrue}
-use Rattle.routes.specs.Route.{keyOf, need, Prefix, Fine}
-use Rattle.routes.specs.Input.{properPrefix, hopFine, inputSaid}
+use Rattle.routes.specs.Route.{keyOf, Prefix}
+use Rattle.routes.specs.Input.{properPrefix, hopFine}
 use Rattle.routes.specs.Said.{Said, accepted, refused, andThen}
 use Rattle.routes.specs.Standing.{stands, insert}
 use Rattle.routes.specs.declared.Route.{Route}
 use Rattle.routes.proofs.Meaning.{prefix-true, true-prefix, hop-true, true-hop, good-input}
 use Rattle.routes.proofs.Rows.{length-routes}
 use Rattle.sail.specs.Lent.{Lent}
-use Rattle.sail.specs.Sizes.{sizesFault, Sized}
+use Rattle.sail.specs.Sizes.{sizesFault}
 use Rattle.sail.specs.Sound.{Sound, standing}
 use Rattle.sail.specs.declared.table.Table.{Table}
 use Rattle.sail.proofs.Fitting.{Fault, none-is, fault-is}

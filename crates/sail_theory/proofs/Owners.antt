@@ -1,8 +1,8 @@
 -- Owners that fit a level still do after a chunk is granted, after the level above has one more, and after what is no longer deep is closed.
 -- Said of any level, and of owners by what is read of them. Assumes nothing.
-use mathlib.Core.Path.{_≡_, refl, sym, _∙_, ap}
+use mathlib.Core.Path.{_≡_, sym, _∙_, ap}
 use mathlib.Core.Logic.{_⊎_, inl, inr, _≢_}
-use mathlib.Core.Bool.{Bool, true, false}
+use mathlib.Core.Bool.{Bool, true}
 use Prim.Native.Nat.{ℕ, suc, _≤_, _<_}
 use native.Mathlib.Omega.{arith}
 use Rattle.bits.proofs.Tests.{equal?}

@@ -1,15 +1,14 @@
 -- The places of a pool, and the cells that they stand for. Said of any level. Assumes nothing.
-use mathlib.Core.Path.{_≡_, refl, sym, _∙_, ap, ap₂}
+use mathlib.Core.Path.{_≡_, sym, _∙_, ap, ap₂}
 use mathlib.Core.Bool.{Bool, true, false}
-use Prim.Native.Nat.{ℕ, suc, _+_, _-_, _*_, _/_, _%_, _^_, _≤_, _<_}
+use Prim.Native.Nat.{ℕ, suc, _+_, _-_, _*_, _/_, _%_, _^_, _<_}
 use native.Mathlib.Omega.{arith}
 use native.Mathlib.Nat.{mod-lt, div-add-mod', div-lt-iff-lt-mul}
-use lib.Arith.{digits-lt, digits-div, digits-mod}
+use lib.Arith.{digits-div, digits-mod}
 use lib.Pow.{pow-pos}
-use borrow.Author.Tests.{ltb-true, lt-ltb}
+use borrow.Author.Tests.{ltb-true, lt-ltb, le-ltb}
 use Rattle.sail.specs.Level.{liveIn, partOf}
 use Rattle.sail_theory.specs.Render.{chunkFor, Fits}
-use Rattle.sail_theory.proofs.Chunks.{chunk-at}
 
 -- the chunk of a place
 pub chunk-lt : (d m q : ℕ) → q < m * 2 ^ d → q / 2 ^ d < m
@@ -39,6 +38,19 @@ module _ (own : ℕ → ℕ) (d : ℕ) where
       place-at =
           let e : own ((c * 2 ^ d + i % 2 ^ d) / 2 ^ d) - 1 ≡ q = omega (arith, o, ap own place-chunk) in
           ap₂ (λ (x y : ℕ). at x * 2 ^ d + y) e (digits-mod c (mod-lt i (pow-pos d))) ∙ ap (λ (x : ℕ). x * 2 ^ d + i % 2 ^ d) u ∙ div-add-mod' i (2 ^ d)
+
+-- the cells of a chunk that hangs from the place q, and of one that is free
+module _ (own : ℕ → ℕ) (d c j : ℕ) (h : j < 2 ^ d) where
+  pub chunk-live : (q : ℕ) → own c ≡ suc q → liveIn own d (c * 2 ^ d + j) ≡ true
+  chunk-live q o = lt-ltb 0 (own ((c * 2 ^ d + j) / 2 ^ d)) (omega (arith, o, ap own (digits-div c h)))
+
+  pub chunk-part : (at : ℕ → ℕ) (q : ℕ) → own c ≡ suc q → partOf own d at (c * 2 ^ d + j) ≡ at q * 2 ^ d + j
+  chunk-part at q o =
+      let e : own ((c * 2 ^ d + j) / 2 ^ d) - 1 ≡ q = omega (arith, o, ap own (digits-div c h)) in
+      ap₂ (λ (x y : ℕ). at x * 2 ^ d + y) e (digits-mod c h)
+
+  pub chunk-dead : own c ≡ 0 → liveIn own d (c * 2 ^ d + j) ≡ false
+  chunk-dead o = le-ltb 0 (own ((c * 2 ^ d + j) / 2 ^ d)) (omega (arith, o, ap own (digits-div c h)))
 
 -- no two live places stand for one cell
 abbrev pub Apart : ℕ → (ℕ → Bool) → (ℕ → ℕ) → Type 0

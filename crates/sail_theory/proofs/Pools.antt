@@ -1,12 +1,11 @@
 -- A level holds what it should exactly where its owners fit and its live cells are as they are shown. Said of any level. Assumes nothing.
-use mathlib.Core.Path.{_≡_, refl, sym, _∙_, ap}
+use mathlib.Core.Path.{_≡_, sym, _∙_, ap}
 use mathlib.Core.Logic.{_⊎_, inl, inr}
 use mathlib.Core.Bool.{Bool, true, false, cond}
 use mathlib.Core.List.{List}
-use Prim.Native.Nat.{ℕ, suc, _+_, _-_, _≤_, _<_}
+use Prim.Native.Nat.{ℕ, suc, _+_, _-_, _<_}
 use native.Mathlib.Omega.{arith}
 use lib.ListN.{getD, length}
-use Rattle.bits.specs.Tab.{tabulate}
 use Rattle.bits.proofs.Tests.{decided}
 use Rattle.bits.proofs.Tabs.{length-tabulate, getD-tabulate, is-tabulate}
 use Rattle.sail.specs.Level.{Level, entry}

@@ -1,10 +1,9 @@
 -- A table is sound exactly when its sizes are right, its list is good, its owners fit, and its cells are those that are rendered.
 -- Assumes nothing.
 use mathlib.Core.Path.{_≡_, refl, sym, _∙_, ap, subst}
-use mathlib.Core.Logic.{_⊎_, inl, inr}
 use mathlib.Core.Bool.{Bool, true, false, true≢false, false≢true}
 use mathlib.Core.List.{List}
-use Prim.Native.Nat.{ℕ, suc, _+_, _-_, _*_, _/_, _%_, _^_, _≤_, _<_}
+use Prim.Native.Nat.{ℕ, _+_, _*_, _/_, _%_, _^_, _≤_, _<_}
 use native.Mathlib.Omega.{arith}
 use native.Mathlib.Nat.{not-suc-le-zero, mod-lt, div-add-mod', div-lt-iff-lt-mul}
 use lib.Arith.{digits-lt, digits-div}
@@ -12,18 +11,18 @@ use lib.Dec.{ltb}
 use lib.ListN.{getD, length}
 use lib.Pow.{pow-pos}
 use Rattle.routes.specs.Route.{long, best, Good}
-use Rattle.routes.specs.Record.{routesOf, written, Listed}
+use Rattle.routes.specs.Record.{Listed}
 use Rattle.routes.specs.declared.Route.{Route}
 use Rattle.routes.proofs.Need.{none-longer}
 use Rattle.routes.proofs.Rows.{records-good, length-written, routes-written, written-listed}
 use Rattle.sail.specs.Geometry.{bits2, bits3, Valid}
 use Rattle.sail.specs.Lent.{Lent}
-use Rattle.sail.specs.Level.{Level, Clear, Serves, always, itself, nobody, inUse, liveIn, entry, whole}
+use Rattle.sail.specs.Level.{Level, Clear, always, itself, nobody, inUse, liveIn, entry, whole}
 use Rattle.sail.specs.Sizes.{Sized}
 use Rattle.sail.specs.Sound.{Sound, standing}
 use Rattle.sail.specs.declared.geometry.Geometry.{Geometry}
 use Rattle.sail.specs.declared.table.Table.{Table}
-use Rattle.sail_theory.specs.Render.{pool, never, at2, at3, rendered, Fits, Fits2, Fits3, roomOf, asAsked, Rendered}
+use Rattle.sail_theory.specs.Render.{never, at2, at3, rendered, Fits2, Fits3, asAsked, Rendered}
 use Rattle.sail_theory.proofs.Mids.{sum2}
 use Rattle.sail_theory.proofs.Pools.{length-pool, pool-free, pool-leaf, pool-level, level-fits, level-pool}
 

@@ -1,65 +1,39 @@
 -- Demand 3. Any run of calls from a fresh table, refused ones among them: the table is sound, its list holds exactly the routes worked out
 -- from the accepted calls, and it is as good as a fresh load of them. Assumes nothing.
-use mathlib.Core.Path.{_≡_, refl, sym, _∙_, ap, ap₂, subst}
+use mathlib.Core.Path.{_≡_, refl, sym, _∙_, ap}
 use mathlib.Core.Logic.{_⊎_, inl, inr}
-use mathlib.Core.Bool.{Bool, true, false, cond}
+use mathlib.Core.Bool.{true, false, cond}
 use mathlib.Core.List.{List, [], _∷_}
-use Prim.Native.Nat.{ℕ, _+_, _*_, _/_, _%_, _^_, _≤_, _<_}
-use native.Mathlib.Omega.{arith}
-use lib.Dec.{ltb, leb, eqb}
-use lib.ListN.{length}
-use borrow.Author.Tests.{lt-leb}
-use Rattle.bits.specs.Tab.{tabulate}
+use Prim.Native.Nat.{ℕ}
 use Rattle.bits.proofs.Tests.{decided}
-use Rattle.routes.specs.Route.{keyOf, need, best, Fine, Good}
-use Rattle.routes.specs.Record.{routesOf, written, Records}
-use Rattle.routes.specs.Input.{properPrefix, hopFine}
-use Rattle.routes.specs.Said.{Said, accepted, refused}
-use Rattle.routes.specs.Standing.{stands, Held, absent, stood, routeAt, insert}
+use Rattle.routes.specs.Said.{accepts}
+use Rattle.routes.specs.Route.{keyOf, Good}
+use Rattle.routes.specs.Standing.{absent, routeAt}
 use Rattle.routes.specs.declared.Route.{Route}
 use Rattle.routes.proofs.Standing.{insert-stands, remove-stands, same-standing}
-use Rattle.routes.proofs.Rows.{length-routes, length-written, routes-written, written-listed}
 use Rattle.sail.specs.Lent.{Lent}
-use Rattle.sail.specs.Level.{entry}
 use Rattle.sail.specs.Sizes.{Sized}
-use Rattle.sail.specs.Sound.{Sound, standing, used, cellsRead}
-use Rattle.sail.specs.Walk.{hopSaid, lookupSaid}
-use Rattle.sail.specs.declared.geometry.Geometry.{Geometry}
+use Rattle.sail.specs.Sound.{Sound, standing}
 use Rattle.sail.specs.declared.table.Table.{Table}
-use Rattle.sail.proofs.Sounds.{standing-good, sail-serves, chunks-need}
-use Rattle.sail_theory.specs.Render.{roomOf}
-use Rattle.sail_theory.specs.Calls.{route, termsOf, chunksFault, inputRoutes, announceSaid, Out, took, made, announced, withdrawn, loaded}
-use Rattle.sail_theory.specs.Facts.{SameSize, Holds, Loadable}
+use Rattle.sail.proofs.Sounds.{standing-good}
+use Rattle.sail_theory.specs.Calls.{route, Out, made, announced, withdrawn, loaded}
+use Rattle.sail_theory.specs.Facts.{SameSize, Holds}
 use Rattle.sail_theory.specs.Runs.{Call, announce, withdraw, load, done, after, says, worked, would}
-use Rattle.sail_theory.proofs.Chunks.{used-le}
-use Rattle.sail_theory.proofs.Judged.{Readable}
 use Rattle.sail_theory.proofs.Accepted.{announce-refused, announce-holds, withdraw-refused, withdraw-holds}
 use Rattle.sail_theory.proofs.Fresh.{make-holds}
-use Rattle.sail_theory.proofs.Loads.{load-refused, load-holds, load-is, loadable-holds}
-
-pub size-refl : (l : Lent) → SameSize l l
-size-refl l = record { list = refl; first = refl; second = refl; third = refl; chunks2 = refl; chunks3 = refl }
-
-pub size-trans : (l u v : Lent) → SameSize l u → SameSize u v → SameSize l v
-size-trans l u v a b = record {
-  list = b .list ∙ a .list;
-  first = b .first ∙ a .first;
-  second = b .second ∙ a .second;
-  third = b .third ∙ a .third;
-  chunks2 = b .chunks2 ∙ a .chunks2;
-  chunks3 = b .chunks3 ∙ a .chunks3;
-}
+use Rattle.sail_theory.proofs.Sizes.{size-refl, size-trans}
+use Rattle.sail_theory.proofs.Loads.{load-refused, load-holds}
 
 -- what a call leaves of a sound table: one that is sound, of the same geometry and size, with what it says for each prefix, if it is accepted
 pub record Leaves (t : Table) (l : Lent) (c : Call) (o : Out) : Type 0 where
   pub sound : Sound (o .table) (o .lent)
   pub geometry : o .table .geometry ≡ t .geometry
   pub size : SameSize l (o .lent)
-  pub list-so : standing (o .table) (o .lent) ≡ cond (took (o .said)) (would c (standing t l)) (standing t l)
-  pub says-so : (k : ℕ) → routeAt k (standing (o .table) (o .lent)) ≡ cond (took (o .said)) (says c k (routeAt k (standing t l))) (routeAt k (standing t l))
+  pub list-so : standing (o .table) (o .lent) ≡ cond (accepts (o .said)) (would c (standing t l)) (standing t l)
+  pub says-so : (k : ℕ) → routeAt k (standing (o .table) (o .lent)) ≡ cond (accepts (o .said)) (says c k (routeAt k (standing t l))) (routeAt k (standing t l))
 
 module _ (t : Table) (l : Lent) (s : Sound t l) (c : Call) (o : Out) where
-  refused-leaves : took (o .said) ≡ false → o .table ≡ t → o .lent ≡ l → Leaves t l c o
+  refused-leaves : accepts (o .said) ≡ false → o .table ≡ t → o .lent ≡ l → Leaves t l c o
   refused-leaves e p q = record {
     sound = rw (p, q) s;
     geometry = ap (λ (x : Table). x .geometry) p;
@@ -68,32 +42,32 @@ module _ (t : Table) (l : Lent) (s : Sound t l) (c : Call) (o : Out) where
     says-so = λ k. rw (e, p, q);
   }
 
-  holds-leaves : took (o .said) ≡ true → Holds t l (would c (standing t l)) (o .table) (o .lent) → ((k : ℕ) → routeAt k (would c (standing t l)) ≡ says c k (routeAt k (standing t l))) → Leaves t l c o
+  holds-leaves : accepts (o .said) ≡ true → Holds t l (would c (standing t l)) (o .table) (o .lent) → ((k : ℕ) → routeAt k (would c (standing t l)) ≡ says c k (routeAt k (standing t l))) → Leaves t l c o
   holds-leaves e h so = record { sound = h .sound; geometry = h .geometry; size = h .size; list-so = rw (e, h .routes); says-so = λ k. rw (e, h .routes) (so k) }
 
 module _ (t : Table) (l : Lent) (s : Sound t l) where
   announce-leaves : (a len hop : ℕ) → Leaves t l (announce a len hop) (announced t l a len hop)
-  announce-leaves a len hop = go (decided (took (announced t l a len hop .said)))
+  announce-leaves a len hop = go (decided (accepts (announced t l a len hop .said)))
     where
-      go : (took (announced t l a len hop .said) ≡ true) ⊎ (took (announced t l a len hop .said) ≡ false) → Leaves t l (announce a len hop) (announced t l a len hop)
+      go : (accepts (announced t l a len hop .said) ≡ true) ⊎ (accepts (announced t l a len hop .said) ≡ false) → Leaves t l (announce a len hop) (announced t l a len hop)
       go (inl e) = holds-leaves t l s (announce a len hop) _ e (announce-holds t l a len hop e) (λ k. insert-stands k (route a len hop) (standing t l))
       go (inr e) =
           let q = announce-refused t l a len hop e in
           refused-leaves t l s (announce a len hop) _ e (ap (λ (x : Out). x .table) q) (ap (λ (x : Out). x .lent) q)
 
   withdraw-leaves : (a len : ℕ) → Leaves t l (withdraw a len) (withdrawn t l a len)
-  withdraw-leaves a len = go (decided (took (withdrawn t l a len .said)))
+  withdraw-leaves a len = go (decided (accepts (withdrawn t l a len .said)))
     where
-      go : (took (withdrawn t l a len .said) ≡ true) ⊎ (took (withdrawn t l a len .said) ≡ false) → Leaves t l (withdraw a len) (withdrawn t l a len)
+      go : (accepts (withdrawn t l a len .said) ≡ true) ⊎ (accepts (withdrawn t l a len .said) ≡ false) → Leaves t l (withdraw a len) (withdrawn t l a len)
       go (inl e) = holds-leaves t l s (withdraw a len) _ e (withdraw-holds t l a len e) (λ k. remove-stands (keyOf a len) k (standing t l))
       go (inr e) =
           let q = withdraw-refused t l a len e in
           refused-leaves t l s (withdraw a len) _ e (ap (λ (x : Out). x .table) q) (ap (λ (x : Out). x .lent) q)
 
   load-leaves : (input : List ℕ) → Leaves t l (load input) (loaded t l input)
-  load-leaves input = go (decided (took (loaded t l input .said)))
+  load-leaves input = go (decided (accepts (loaded t l input .said)))
     where
-      go : (took (loaded t l input .said) ≡ true) ⊎ (took (loaded t l input .said) ≡ false) → Leaves t l (load input) (loaded t l input)
+      go : (accepts (loaded t l input .said) ≡ true) ⊎ (accepts (loaded t l input .said) ≡ false) → Leaves t l (load input) (loaded t l input)
       go (inl e) = holds-leaves t l s (load input) _ e (load-holds t l input e) (λ k. refl)
       go (inr e) =
           let q = load-refused t l input e in
@@ -141,7 +115,7 @@ module _ (t : Table) (l : Lent) (z : Sized (t .geometry) l) where
 
   -- from call to call: what is accepted changes the list as it says, and what is refused does not
   pub run-list : (c : Call) (cs : List Call) → standing (after t l (c ∷ cs) .table) (after t l (c ∷ cs) .lent)
-      ≡ cond (took (after t l (c ∷ cs) .said)) (would c (standing (after t l cs .table) (after t l cs .lent))) (standing (after t l cs .table) (after t l cs .lent))
+      ≡ cond (accepts (after t l (c ∷ cs) .said)) (would c (standing (after t l cs .table) (after t l cs .lent))) (standing (after t l cs .table) (after t l cs .lent))
   unfolding after
   run-list c cs = leaves (after t l cs .table) (after t l cs .lent) (run-sound cs) c .list-so
 

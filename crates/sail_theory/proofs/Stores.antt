@@ -2,7 +2,7 @@
 use mathlib.Core.Path.{_≡_, refl, sym, _∙_, ap}
 use mathlib.Core.Logic.{_⊎_, inl, inr, _≢_}
 use mathlib.Core.Bool.{Bool, true, false, cond, true≢false}
-use mathlib.Core.List.{List, [], _∷_, map}
+use mathlib.Core.List.{List, [], _∷_}
 use Prim.Native.Nat.{ℕ, zero, suc, _-_, _≤_, _<_}
 use native.Mathlib.Omega.{arith}
 use lib.Dec.{ltb}
@@ -11,7 +11,7 @@ use lib.Seq.{getD-set-same, getD-set-other, ext-getD}
 use borrow.Author.Tests.{lt-ltb, le-ltb}
 use Rattle.bits.proofs.Tests.{decided, below?, equal?}
 use Rattle.sail.specs.Level.{entry}
-use Rattle.sail_theory.specs.Render.{chunkFor, find, Fits}
+use Rattle.sail_theory.specs.Render.{find, Fits}
 use Rattle.sail_theory.specs.Calls.{grant, keep}
 use Rattle.sail_theory.proofs.Chunks.{chunk-at, free-zero}
 use Rattle.sail_theory.proofs.Places.{Apart}
@@ -146,18 +146,19 @@ module _ (deep deep′ : ℕ → Bool) (n : ℕ) (live : ℕ → Bool) (at : ℕ
       go (inl e) (inl d) = rw (e, d) (keep-same (inl d))
       go (inl e) (inr d) = rw (e, d) (keep-but e d)
 
+-- no chunk hangs from a cell that is not deep
+pub unhung : (deep : ℕ → Bool) (n : ℕ) (live : ℕ → Bool) (at : ℕ → ℕ) (own : List ℕ) → Fits deep n live at (length own) (entry own) → (q : ℕ) → deep (at q) ≡ false → length own ≤ find own (suc q)
+unhung deep n live at own f q d = go (had? own q)
+  where
+    go : (find own (suc q) < length own) ⊎ (length own ≤ find own (suc q)) → length own ≤ find own (suc q)
+    go (inr h) = h
+    go (inl k) = absurd (true≢false (sym (f .lies (find own (suc q)) q k (chunk-at (entry own) (length own) (suc q) k) .2) ∙ d))
+
 -- what is granted, by whether the cell was deep
 pub grant-deep : (deep : ℕ → Bool) (n : ℕ) (live : ℕ → Bool) (at : ℕ → ℕ) (own : List ℕ) → Fits deep n live at (length own) (entry own) → (c q : ℕ) → q < n → live q ≡ true
     → grant own c q ≡ cond (deep (at q)) own (set own c (suc q))
 grant-deep deep n live at own f c q l e = go (decided (deep (at q)))
   where
-    none : deep (at q) ≡ false → length own ≤ find own (suc q)
-    none d = out (had? own q)
-      where
-        out : (find own (suc q) < length own) ⊎ (length own ≤ find own (suc q)) → length own ≤ find own (suc q)
-        out (inr h) = h
-        out (inl k) = absurd (true≢false (sym (f .lies (find own (suc q)) q k (chunk-at (entry own) (length own) (suc q) k) .2) ∙ d))
-
     go : (deep (at q) ≡ true) ⊎ (deep (at q) ≡ false) → grant own c q ≡ cond (deep (at q)) own (set own c (suc q))
     go (inl d) = rw d (grant-had own c q (f .has q l e d))
-    go (inr d) = rw d (grant-new own c q (none d))
+    go (inr d) = rw d (grant-new own c q (unhung deep n live at own f q d))

@@ -1,29 +1,27 @@
 -- The test of soundness tells exactly whether a table is sound. Assumes nothing.
-use mathlib.Core.Path.{_≡_, refl, sym, _∙_, ap}
-use mathlib.Core.Logic.{_⊎_, inl, inr, _≢_}
+use mathlib.Core.Path.{_≡_, _∙_, ap}
+use mathlib.Core.Logic.{_⊎_, inl, inr}
 use mathlib.Core.Bool.{Bool, true, false, not, _&&_, _||_, cond}
 use mathlib.Core.List.{List}
-use Prim.Native.Nat.{ℕ, suc, _+_, _-_, _*_, _%_, _^_, _≤_, _<_}
+use Prim.Native.Nat.{ℕ, suc, _-_, _*_, _%_, _≤_, _<_}
 use native.Mathlib.Omega.{arith}
 use lib.Dec.{eqb, ltb, leb}
 use lib.ListN.{getD, length}
-use borrow.Author.Tests.{ltb-true, leb-true, eqb-true, eqb-false, lt-ltb, le-leb, eq-eqb, ne-eqb}
+use borrow.Author.Tests.{ltb-true, leb-true, eqb-true, eqb-false, lt-ltb, le-leb, eq-eqb}
 use Rattle.bits.specs.Tab.{Tells, every, same}
 use Rattle.bits.proofs.Tests.{decided, both, and-split, or-split}
 use Rattle.bits.proofs.Tabs.{every-true, true-every, same-true, true-same}
-use Rattle.routes.specs.Route.{long, key}
+use Rattle.routes.specs.Route.{key}
 use Rattle.routes.specs.Record.{recordAt, Listed}
 use Rattle.routes.specs.Input.{routeFault, inOrder, faultAt}
 use Rattle.routes.proofs.Meaning.{RightRecord, RecordChecked, right, wrong, record-checked, fine-fault, right-records, records-right}
-use Rattle.sail.specs.Geometry.{bits2}
 use Rattle.sail.specs.Lent.{Lent}
-use Rattle.sail.specs.Level.{always, itself, liveIn, entry}
 use Rattle.sail.specs.Sizes.{sizesFault, Sized}
-use Rattle.sail.specs.Sound.{Sound, standing}
+use Rattle.sail.specs.Sound.{Sound}
 use Rattle.sail.specs.declared.geometry.Geometry.{Geometry}
 use Rattle.sail.specs.declared.table.Table.{Table}
 use Rattle.sail.proofs.Fitting.{Fault, none, limits, size, none-is, fault-is}
-use Rattle.sail_theory.specs.Render.{chunkFor, at2, rendered, asAsked, Fits, Rendered}
+use Rattle.sail_theory.specs.Render.{chunkFor, asAsked, Fits, Rendered}
 use Rattle.sail_theory.specs.Test.{listed?, fits?, sound?}
 use Rattle.sail_theory.proofs.Rendered.{sound-rendered, rendered-sound}
 

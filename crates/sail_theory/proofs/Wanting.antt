@@ -1,17 +1,17 @@
 -- Demand 3: a well-formed change for which the list has room is refused for want of chunks exactly when the routes that would then stand
 -- need more than were lent, and else it is accepted. Assumes nothing.
-use mathlib.Core.Path.{_≡_, refl, sym, _∙_, ap, subst}
+use mathlib.Core.Path.{_≡_, _∙_, ap}
 use mathlib.Core.Logic.{_⊎_, inl, inr}
-use mathlib.Core.Bool.{Bool, true, false, cond}
+use mathlib.Core.Bool.{true, false, cond}
 use mathlib.Core.List.{List, [], _∷_}
-use Prim.Native.Nat.{ℕ, _+_, _*_, _/_, _≤_, _<_}
+use Prim.Native.Nat.{ℕ, _/_, _≤_, _<_}
 use native.Mathlib.Omega.{arith}
 use lib.Dec.{ltb}
 use lib.ListN.{length}
 use borrow.Author.Tests.{lt-ltb, le-ltb}
 use Rattle.bits.specs.Count.{bit}
 use Rattle.bits.proofs.Tests.{decided, below?}
-use Rattle.routes.specs.Route.{keyOf, within, need, Fine, Good}
+use Rattle.routes.specs.Route.{keyOf, within, need}
 use Rattle.routes.specs.Said.{Said, accepted, refused}
 use Rattle.routes.specs.Standing.{stands, insert, remove}
 use Rattle.routes.specs.declared.Route.{Route}
@@ -25,14 +25,14 @@ use Rattle.sail.specs.Sound.{Sound, standing}
 use Rattle.sail.specs.declared.table.Table.{Table}
 use Rattle.sail.proofs.Sounds.{standing-good, chunks-need}
 use Rattle.sail_theory.specs.Render.{roomOf}
-use Rattle.sail_theory.specs.Calls.{route, Terms, termsOf, chunksFault, inputRoutes, orSay, Out, took, announced, withdrawn, loaded}
-use Rattle.sail_theory.specs.Facts.{Holds, Welcome, Farewell, Loadable}
+use Rattle.sail_theory.specs.Calls.{route, Terms, termsOf, chunksFault, inputRoutes, orSay, announced, withdrawn, loaded}
 use Rattle.sail_theory.specs.Runs.{Call, announce, withdraw, load, done, after, would, Formed}
 use Rattle.sail_theory.proofs.Chunks.{used-le}
 use Rattle.sail_theory.proofs.Needs.{need-mono}
-use Rattle.sail_theory.proofs.Judged.{Proper, Roomy, Announce, Readable}
+use Rattle.sail_theory.proofs.Judged.{Proper}
 use Rattle.sail_theory.proofs.Only.{roomy-said, read-said}
 use Rattle.sail_theory.proofs.Accepted.{replaced-welcome, announce-said, welcome-said, withdraw-said, farewell-said}
+use Rattle.sail_theory.proofs.Sizes.{terms-same}
 use Rattle.sail_theory.proofs.Loads.{load-said}
 use Rattle.sail_theory.proofs.Runs.{run-is}
 
@@ -99,5 +99,4 @@ unfolding after
 want-of-chunks t l z cs c f =
     let w = run-is t l z cs in
     let room : roomOf (after t l cs .lent) ≡ roomOf l = ap (λ (n : ℕ). n / 8) (w .size .list) in
-    let terms : termsOf (after t l cs .table) (after t l cs .lent) ≡ termsOf t l = rw (w .geometry, w .size .list, w .size .chunks2, w .size .chunks3) in
-    rw terms at (change-wants (after t l cs .table) (after t l cs .lent) (w .sound) c (rw room f))
+    rw (terms-same t l (after t l cs .table) (after t l cs .lent) (w .geometry) (w .size)) at (change-wants (after t l cs .table) (after t l cs .lent) (w .sound) c (rw room f))

@@ -1,13 +1,13 @@
 -- The calls that change a table. Each is a function from the state and what is lent at entry to what it says, the state and what is lent
 -- at exit, for every state and every contents. Assumes nothing.
-use mathlib.Core.Bool.{Bool, true, false, not, cond}
+use mathlib.Core.Bool.{Bool, not, cond}
 use mathlib.Core.List.{List, [], _∷_, map}
 use Prim.Native.Nat.{ℕ, zero, suc, _+_, _-_, _*_, _/_, _%_, _^_}
 use lib.Dec.{ltb, leb}
 use lib.ListN.{length, set, replicate}
 use Rattle.bits.specs.Slot.{slot}
 use Rattle.bits.specs.Count.{bit}
-use Rattle.routes.specs.Route.{key, keyOf, long, need}
+use Rattle.routes.specs.Route.{keyOf, long, need}
 use Rattle.routes.specs.Record.{routesOf}
 use Rattle.routes.specs.Input.{properPrefix, hopFine, inputSaid}
 use Rattle.routes.specs.Said.{Said, accepted, refused, refusedAt, andThen}
@@ -115,7 +115,7 @@ unfoldable pub withdrawFault : Bool → List Route → ℕ → ℕ → ℕ
 withdrawFault ok rs a len =
     cond (not (properPrefix a len)) 3
     (cond (not ok) 5
-    (cond (stands (keyOf a len) rs) 0 9))
+    (cond (not (stands (keyOf a len) rs)) 9 0))
 
 -- 6, 7, 8, after the input itself is good
 unfoldable pub loadFault : Terms → List Route → ℕ
@@ -154,12 +154,6 @@ loadSaid t l input =
     (accepted [])))
 
 -- Outcomes.
-
--- what is said accepts
-abbrev pub took : Said → Bool
-took (accepted vs) = true
-took (refused n) = false
-took (refusedAt n k) = false
 
 pub record Out : Type 0 where
   pub said : Said

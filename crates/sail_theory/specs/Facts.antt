@@ -1,6 +1,6 @@
 -- What holds where a call is accepted, as facts. A program's test of its arguments hands these on, and the part that changes the table
 -- rests on them. Assumes nothing.
-use mathlib.Core.Bool.{Bool, true}
+use mathlib.Core.Bool.{true}
 use mathlib.Core.List.{List}
 use mathlib.Core.Path.{_≡_}
 use Prim.Native.Nat.{ℕ, _≤_}

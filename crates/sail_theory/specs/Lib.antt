@@ -5,3 +5,4 @@ pub mod Calls
 pub mod Facts
 pub mod Runs
 pub mod Alters
+pub mod Pass

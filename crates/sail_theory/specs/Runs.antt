@@ -8,12 +8,12 @@ use lib.ListN.{length}
 use Rattle.routes.specs.Route.{keyOf, Prefix, Fine}
 use Rattle.routes.specs.Record.{routesOf, Records}
 use Rattle.routes.specs.Input.{inputSaid}
-use Rattle.routes.specs.Said.{Said, accepted}
+use Rattle.routes.specs.Said.{accepted, accepts}
 use Rattle.routes.specs.Standing.{stands, Held, absent, stood, routeAt, insert, remove}
 use Rattle.routes.specs.declared.Route.{Route}
 use Rattle.sail.specs.Lent.{Lent}
 use Rattle.sail.specs.declared.table.Table.{Table}
-use Rattle.sail_theory.specs.Calls.{route, inputRoutes, Out, took, made, announced, withdrawn, loaded}
+use Rattle.sail_theory.specs.Calls.{route, inputRoutes, Out, made, announced, withdrawn, loaded}
 
 -- what is left after announcing each of these in order
 unfoldable pub announceAll : Out → List Route → Out
@@ -51,7 +51,7 @@ says (load input) k before = routeAt k (inputRoutes input)
 -- "Which routes stand after a run is worked out from its accepted calls alone"
 unfoldable pub worked : Table → Lent → List Call → ℕ → Held
 worked t l [] k = absent
-worked t l (c ∷ cs) k = cond (took (after t l (c ∷ cs) .said)) (says c k (worked t l cs k)) (worked t l cs k)
+worked t l (c ∷ cs) k = cond (accepts (after t l (c ∷ cs) .said)) (says c k (worked t l cs k)) (worked t l cs k)
 
 -- the routes that would stand after the call, where rs stand
 abbrev pub would : Call → List Route → List Route

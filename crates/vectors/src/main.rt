@@ -1,4 +1,5 @@
 // Runs worked cases and prints what they give. The file stdout has what document 01 says of them.
+mod images;
 mod inputs;
 mod print;
 mod runs;
@@ -10,4 +11,7 @@ fn main() {
     inputs::most();
     runs::run();
     runs::tallies();
+    images::list_a();
+    images::sizes();
+    images::broken();
 }

@@ -14,6 +14,14 @@ pub fn value(n: u64) {
     number(n);
 }
 
+pub fn value32(n: u32) {
+    value(n as u64);
+}
+
+pub fn value16(n: u16) {
+    value(n as u64);
+}
+
 pub fn end() {
     text(b"\n");
 }

@@ -1,3 +1,4 @@
+-- `sail_sound::list::all_right` meets its contract. Assumes nothing.
 use Rattle.plan.proofs.Tells.{is-no, is-yes}
 use mathlib.Core.Path.{_≡_, _∙_}
 use Prim.Native.Nat.{ℕ, _-_, _≤_, _<_}

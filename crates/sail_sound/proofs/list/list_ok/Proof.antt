@@ -1,3 +1,4 @@
+-- `sail_sound::list::list_ok` meets its contract. Assumes nothing.
 use native.Mathlib.Omega.{arith}
 use Rattle.plan.proofs.Tells.{is-no}
 use Rattle.sail_sound.proofs.Lists.{not-right, then-zeros}

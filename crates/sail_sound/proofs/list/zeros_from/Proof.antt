@@ -1,3 +1,4 @@
+-- `sail_sound::list::zeros_from` meets its contract. Assumes nothing.
 use Prim.Native.Nat.{_-_, _≤_}
 use native.Mathlib.Omega.{arith}
 use borrow.Author.Needs.{needs}

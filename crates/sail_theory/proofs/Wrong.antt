@@ -1,0 +1,43 @@
+-- Wrong versions of the calls, and the fact that refuses each. Assumes nothing.
+use mathlib.Core.Path.{_≡_, refl, sym, _∙_}
+use mathlib.Core.Logic.{_≢_}
+use mathlib.Core.Bool.{false}
+use mathlib.Core.List.{List, [], _∷_}
+use Prim.Native.Nat.{ℕ, suc, _^_, _<_}
+use native.Mathlib.Omega.{arith}
+use lib.ListN.{getD, set}
+use borrow.Author.Tests.{eq-eqb}
+use Rattle.routes.specs.Route.{keyOf, long, best, need}
+use Rattle.routes.specs.Said.{accepted}
+use Rattle.routes.specs.Standing.{absent, stood, routeAt}
+use Rattle.sail.specs.Lent.{Lent}
+use Rattle.sail.specs.Sound.{Sound, standing, used}
+use Rattle.sail.specs.declared.table.Table.{Table}
+use Rattle.sail.proofs.Sounds.{chunks-need}
+use Rattle.sail_theory.specs.Calls.{route}
+use Rattle.sail_theory.specs.Runs.{announce}
+use Rattle.sail_theory.proofs.Runs.{Leaves}
+
+-- an announcement that changes nothing is sound, and within its frame: what it leaves standing refuses it
+pub idle-refused : (t : Table) (l : Lent) (a len hop : ℕ) → routeAt (keyOf a len) (standing t l) ≡ absent
+    → Leaves t l (announce a len hop) (record { said = accepted (0 ∷ []); table = t; lent = l }) → ⊥
+idle-refused t l a len hop none w =
+    let f : absent ≡ stood (route a len hop) = sym none ∙ w .says-so (keyOf a len) ∙ rw (eq-eqb (keyOf a len) (keyOf a len) refl) in
+    let z : _≡_ {A = ℕ} 0 1 = cc in
+    omega arith
+
+-- a withdrawal that leaves no route where a shorter route covers is not sound
+pub blank-refused : (t : Table) (l : Lent) (q : ℕ) → q < 2 ^ t .geometry .p1 → long (standing t l) (t .geometry .p1) q ≡ false → best (standing t l) (t .geometry .p1) q ≢ 0
+    → getD (l .first) q 0 ≡ 32768 → Sound t l → ⊥
+blank-refused t l q h e b w s = b (omega (arith, s .serves .level1 .leaf q h refl e))
+
+-- a withdrawal that closes no chunk has more in use than are needed
+pub kept-refused : (t : Table) (l : Lent) → need (standing t l) (t .geometry .p1) < used (l .own2) → Sound t l → ⊥
+kept-refused t l h s = omega (arith, chunks-need t l s .0)
+
+-- numbers taken highest first: chunk 1 of two free ones, where chunk 0 is the lowest
+abbrev twoFree : List ℕ
+twoFree = 0 ∷ 0 ∷ []
+
+pub highest-refused : (q : ℕ) → ((c x : ℕ) → getD twoFree c 0 ≡ 0 → getD (set twoFree 1 (suc q)) c 0 ≡ suc x → (j : ℕ) → j < c → getD twoFree j 0 ≢ 0) → ⊥
+highest-refused q h = h 1 q refl refl 0 (omega arith) refl

@@ -1,0 +1,21 @@
+-- `text::line::refusal_at_text` meets its contract. Assumes nothing.
+use Rattle.text.specs.Text.{saidText, labelled, ascii}
+use native.Mathlib.Omega.{arith}
+use Rattle.text.proofs.Writes.{wrote-more}
+use Rattle.text.proofs.Digits.{digits-few}
+use borrow.Author.Needs.{needs}
+use Rattle.text.proofs.line.refusal_at_text.Statement.{statement}
+use Rattle.text.proofs.line.refusal_at_text.Tie as tie
+
+pub refusal-at-text-spec : {M : Type 1} → statement M
+unfolding saidText labelled ascii
+refusal-at-text-spec =
+    tie.close
+    (tie.spec
+    (λ c. search needs)
+    (λ c κs. record { room = omega (arith, digits-few 2 (c .before .before .before .args .number) (omega arith)) })
+    (λ c. search needs)
+    (λ c κs. let a = c .before .before .before .before .before .before .before .before .args in record { room = omega (arith, digits-few 2 (a .number) (omega arith), digits-few 19 (a .index) (omega arith)) })
+    (λ c κs. let a = c .before .before .before .before .before .before .before .before .before .before .before .before .args in record { room = omega (arith, digits-few 2 (a .number) (omega arith), digits-few 19 (a .index) (omega arith)) })
+    (λ c. search needs)
+    (λ c. wrote-more (wrote-more (c .before .before .before .before .before .before .before .before .before .before .before .put-labelled .ensures) (c .before .before .before .before .before .before .put-labelled2 .ensures)) (c .before .before .put-byte .ensures)))

@@ -1,0 +1,19 @@
+-- `text::line::refusal_text` meets its contract. Assumes nothing.
+use Rattle.text.specs.Text.{saidText, labelled, ascii}
+use native.Mathlib.Omega.{arith}
+use Rattle.text.proofs.Writes.{wrote-more}
+use Rattle.text.proofs.Digits.{digits-few}
+use borrow.Author.Needs.{needs}
+use Rattle.text.proofs.line.refusal_text.Statement.{statement}
+use Rattle.text.proofs.line.refusal_text.Tie as tie
+
+pub refusal-text-spec : {M : Type 1} → statement M
+unfolding saidText labelled ascii
+refusal-text-spec =
+    tie.close
+    (tie.spec
+    (λ c. search needs)
+    (λ c κs. record { room = omega (arith, digits-few 2 (c .before .before .before .args .number) (omega arith)) })
+    (λ c κs. record { room = omega (arith, digits-few 2 (c .before .before .before .before .before .before .before .args .number) (omega arith)) })
+    (λ c. search needs)
+    (λ c. wrote-more (c .before .before .before .before .before .before .put-labelled .ensures) (c .before .before .put-byte .ensures)))

@@ -1,0 +1,13 @@
+-- Laws of images and of the walk.
+pub mod Walks
+pub mod Counts
+pub mod Packed
+pub mod Parts
+pub mod Nodes
+pub mod Longest
+pub mod Holds
+pub mod Lies
+pub mod Levels
+pub mod Needs
+pub mod Serves
+pub mod ListA

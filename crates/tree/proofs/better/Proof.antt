@@ -1,0 +1,17 @@
+-- `tree::better` meets its contract. Assumes nothing.
+use mathlib.Core.Path.{_∙_}
+use Rattle.tree.proofs.Walks.{better-none, better-at}
+use borrow.Author.Needs.{needs}
+use Rattle.tree.proofs.better.Statement.{statement}
+use Rattle.tree.proofs.better.Tie as tie
+
+pub better-spec : {M : Type 1} → statement M
+better-spec =
+    tie.close
+    (tie.spec
+    (λ c. search better-none)
+    (λ c κs. search needs)
+    (λ c κs. search needs)
+    (λ c κs. search needs)
+    (λ c. search needs)
+    (λ c. better-at _ _ _ _ _ _ (c .before .before .before .if1 .left) (c .before .before .wide .ensures .0) (c .wide2 .ensures .0 ∙ c .before .ones-below .ensures .0)))

@@ -1,0 +1,5 @@
+-- What an image is, and what a lookup in it says.
+pub mod Node
+pub mod Walk
+pub mod Parts
+pub mod Image

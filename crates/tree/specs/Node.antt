@@ -1,0 +1,48 @@
+-- A node of an image: its three words, and what they say of the next four bits of an address. Assumes nothing.
+use Prim.Native.Nat.{ℕ, _+_, _*_, _/_, _%_, _^_}
+use mathlib.Core.Bool.{Bool, cond, not, _&&_}
+use mathlib.Core.List.{List}
+use lib.Dec.{eqb, ltb}
+use lib.ListN.{length, getD}
+use lib.Count.{ones}
+use Rattle.bits.specs.Bit.{bitAt}
+use Rattle.tree.specs.declared.Place.{Place}
+use Rattle.tree.specs.declared.Place.the-variants.{At}
+
+-- the words of node i: its bits, its child base and its hop base
+abbrev pub bitsOf : List ℕ → ℕ → ℕ
+bitsOf ws i = getD ws (3 * i) 0
+
+abbrev pub childOf : List ℕ → ℕ → ℕ
+childOf ws i = getD ws (3 * i + 1) 0
+
+abbrev pub baseOf : List ℕ → ℕ → ℕ
+baseOf ws i = getD ws (3 * i + 2) 0
+
+-- the bit is set
+abbrev pub isSet : ℕ → ℕ → Bool
+isSet w b = eqb (bitAt w b) 1
+
+-- node i is lent whole, and its bit 15 is zero
+unfoldable pub sound : List ℕ → ℕ → Bool
+sound ws i = ltb i (length ws / 3) && not (isSet (bitsOf ws i) 15)
+
+-- the four bits of an address that have 4 * d bits below them
+abbrev pub nibbleOf : ℕ → ℕ → ℕ
+nibbleOf a d = a / 2 ^ (4 * d) % 16
+
+-- the internal bit b, if it is set
+unfoldable pub tryBit : ℕ → ℕ → ℕ → ℕ
+tryBit w b rest = cond (isSet w b) b rest
+
+-- the bit of the longest inner length that matches the four bits v; 15, which is no internal bit, where none does
+unfoldable pub deepestOf : ℕ → ℕ → ℕ
+deepestOf w v = tryBit w (7 + v / 2) (tryBit w (3 + v / 4) (tryBit w (1 + v / 8) (tryBit w 0 15)))
+
+-- the place of the hop at the internal bit b: the hop base and the ones below; the place found before, where there is no bit
+unfoldable pub betterOf : ℕ → ℕ → ℕ → Place → Place
+betterOf w base b best = cond (eqb b 15) best (At (base + ones (w % 2 ^ b)))
+
+-- the place of the child at the four bits v: the child base and the extending ones below
+abbrev pub childAt : ℕ → ℕ → ℕ → ℕ
+childAt w base v = base + ones (w / 2 ^ 16 % 2 ^ v)

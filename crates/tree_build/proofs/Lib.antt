@@ -1,0 +1,13 @@
+-- What joins the code to the image.
+pub mod Marks
+pub mod Scans
+pub mod Stores
+pub mod Runs
+pub mod Words
+pub mod Hops
+pub mod Kids
+pub mod Steps
+pub mod Ends
+pub mod Levels
+pub mod Answers
+pub mod Serves

@@ -1,0 +1,19 @@
+-- `tree_build::make` meets its contract. Assumes nothing.
+use Rattle.tree_build.proofs.Answers.{few-nodes, few-hops, roomy, made}
+use borrow.Author.Needs.{needs}
+use Rattle.tree_build.proofs.make.Statement.{statement}
+use Rattle.tree_build.proofs.make.Tie as tie
+
+pub make-spec : {M : Type 1} → statement M
+make-spec =
+    tie.close
+    (tie.spec
+    (λ c κs. search needs)
+    (λ c. search few-nodes)
+    (λ c. search few-hops)
+    (λ c κs. search roomy)
+    (λ c κs. search needs)
+    (λ c κs. search needs)
+    (λ c. search needs)
+    (λ c. search needs)
+    (λ c. search made))

@@ -1,0 +1,31 @@
+-- `tree_build::run::run_end` meets its contract. Assumes nothing.
+use Prim.Native.Nat.{_-_, _≤_, _<_}
+use native.Mathlib.Omega.{arith}
+use borrow.Author.Needs.{needs}
+use Rattle.tree_build.proofs.Scans.{AllTo, all-more, run-stops, run-ends}
+use Rattle.tree_build.proofs.run.run_end.Statement.{statement}
+use Rattle.tree_build.proofs.run.run_end.Tie as tie
+
+abbrev Inv-loop : tie.InvT-loop
+Inv-loop list m a e path k₀ k = (a < k) × (k ≤ e) × AllTo list m a k
+
+abbrev μ-loop : tie.MeasureT-loop
+μ-loop list m a e path k₀ k = e - k
+
+pub run-end-spec : {M : Type 1} → statement M
+run-end-spec =
+    tie.close
+    (tie.spec
+    Inv-loop
+    μ-loop
+    (λ c κs. search needs)
+    (λ c. search needs)
+    (λ c κs. search needs)
+    (λ c. search needs)
+    (λ c. (omega arith, omega arith, λ j l u. absurd (omega arith)))
+    (λ c κs. search needs)
+    (λ c. search run-stops)
+    (λ c. search needs)
+    (λ c. search needs)
+    (λ c. (omega arith, omega arith, all-more _ _ _ _ _ (c .before .before .before .before .before .read-record .ensures) (c .before .before .before .before .slot .ensures) _ _ (c .before .passes .ensures) (c .before .before .before .loop .inv .2) (c .if1 .left)))
+    (λ c. search run-ends))

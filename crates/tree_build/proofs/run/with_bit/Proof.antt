@@ -1,0 +1,12 @@
+-- `tree_build::run::with_bit` meets its contract. Assumes nothing.
+use Rattle.tree_build.proofs.Marks.{with-bit}
+use borrow.Author.Needs.{needs}
+use Rattle.tree_build.proofs.run.with_bit.Statement.{statement}
+use Rattle.tree_build.proofs.run.with_bit.Tie as tie
+
+pub with-bit-spec : {M : Type 1} → statement M
+with-bit-spec =
+    tie.close
+    (tie.spec
+    (λ c. search needs)
+    (λ c. search with-bit))

@@ -1,0 +1,55 @@
+-- What a build answers, and what the two arrays then hold. Assumes nothing.
+use mathlib.Core.Bool.{cond}
+use mathlib.Core.List.{List, [], _∷_}
+use mathlib.Core.Path.{_≡_}
+use Prim.Native.Nat.{ℕ, _*_, _/_}
+use lib.Dec.{ltb}
+use lib.ListN.{length}
+use Rattle.routes.specs.Record.{routesOf, Records}
+use Rattle.routes.specs.Input.{inputSaid}
+use Rattle.routes.specs.Said.{Said, accepted, refused, refusedAt}
+use Rattle.routes.specs.declared.Route.{Route}
+use Rattle.tree.specs.Image.{imageOf, nodeNeed}
+use Rattle.tree_build.specs.declared.Built.{Built}
+use Rattle.tree_build.specs.declared.Built.the-variants.{Made, RefusedAt, Refused}
+
+-- document 01's number and values for each answer: the nodes and the hops used
+unfoldable pub saysBuilt : Built → Said
+saysBuilt (Made nodes hops) = accepted (nodes ∷ hops ∷ [])
+saysBuilt (RefusedAt f k) = refusedAt f k
+saysBuilt (Refused f) = refused f
+
+-- what is told, and what the words and the hops are at the end
+pub record Out : Type 0 where
+  pub said : Said
+  pub words : List ℕ
+  pub hops : List ℕ
+
+abbrev pub out : Said → List ℕ → List ℕ → Out
+out x ws hs = record { said = x; words = ws; hops = hs }
+
+-- an input of n good records, and nothing after them
+pub record GoodInput (s : List ℕ) (n : ℕ) : Type 0 where
+  pub records : Records s n
+  pub whole : length s ≡ n * 8
+
+-- the routes of an input
+abbrev pub routesIn : List ℕ → List Route
+routesIn s = routesOf s (length s / 8)
+
+-- good routes into the words ws and the hops hs: 11 for too few whole nodes, 12 for too few hops, and the arrays as they were;
+-- otherwise the image in arrays of these sizes
+unfoldable pub madeOf : List Route → List ℕ → List ℕ → Out
+madeOf rs ws hs =
+    cond (ltb (length ws / 3) (nodeNeed rs)) (out (refused 11) ws hs)
+    (cond (ltb (length hs) (length rs)) (out (refused 12) ws hs)
+    (out (accepted (nodeNeed rs ∷ length rs ∷ [])) (imageOf rs (length ws) (length hs) .words) (imageOf rs (length ws) (length hs) .hops)))
+
+-- the input's refusals come first, and leave the arrays as they were
+abbrev pub afterInput : Said → List ℕ → List ℕ → List ℕ → Out
+afterInput (accepted vs) s ws hs = madeOf (routesIn s) ws hs
+afterInput (refused n) s ws hs = out (refused n) ws hs
+afterInput (refusedAt n k) s ws hs = out (refusedAt n k) ws hs
+
+unfoldable pub built : List ℕ → List ℕ → List ℕ → Out
+built s ws hs = afterInput (inputSaid s) s ws hs

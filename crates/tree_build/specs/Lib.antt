@@ -1,0 +1,5 @@
+-- What a build answers and leaves, and what holds while it works.
+pub mod Built
+pub mod Run
+pub mod Count
+pub mod Queue

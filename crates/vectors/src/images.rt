@@ -1,0 +1,115 @@
+// Tree bitmap images: built, looked up, refused and broken.
+use crate::print;
+use crate::samples;
+use tree::TreeFound;
+use tree_build::Built;
+
+fn built(answer: Built) {
+    print::text(b"image");
+    match answer {
+        Built::Made(nodes, hops) => {
+            print::text(b" nodes");
+            print::value(nodes as u64);
+            print::text(b" hops");
+            print::value(hops as u64);
+        }
+        Built::RefusedAt(f, k) => {
+            print::text(b" refused");
+            print::value(f as u64);
+            print::text(b" at");
+            print::value(k as u64);
+        }
+        Built::Refused(f) => {
+            print::text(b" refused");
+            print::value(f as u64);
+        }
+    }
+    print::end();
+}
+
+fn found(answer: TreeFound) {
+    print::text(b"tree");
+    match answer {
+        TreeFound::Hop(h, n) => {
+            print::text(b" hop");
+            print::value(h as u64);
+            print::text(b" nodes");
+            print::value(n as u64);
+        }
+        TreeFound::NoRoute(n) => {
+            print::text(b" no route nodes");
+            print::value(n as u64);
+        }
+        TreeFound::Broken => {
+            print::text(b" refused 13");
+        }
+    }
+    print::end();
+}
+
+fn words(list: &[u32]) {
+    print::text(b"words");
+    let mut i = 0;
+    while i < list.len() {
+        print::value32(list[i]);
+        i += 1;
+    }
+    print::end();
+}
+
+fn hops(list: &[u16]) {
+    print::text(b"hops");
+    let mut i = 0;
+    while i < list.len() {
+        print::value16(list[i]);
+        i += 1;
+    }
+    print::end();
+}
+
+// List A's image in arrays that held other numbers, and lookups in it.
+pub fn list_a() {
+    let a = samples::list_a();
+    let mut ws = [9u32; 23];
+    let mut hs = [9u16; 6];
+    built(tree_build::build(&a, &mut ws, &mut hs));
+    words(&ws);
+    hops(&hs);
+    found(tree::lookup(&ws, &hs, 0x0A01_02C8));
+    found(tree::lookup(&ws, &hs, 0x0A01_0301));
+    found(tree::lookup(&ws, &hs, 0xC000_0201));
+}
+
+// The image of no routes, and arrays that are too small: they stay as they were.
+pub fn sizes() {
+    let a = samples::list_a();
+    let mut ws = [9u32; 20];
+    let mut hs = [9u16; 4];
+    built(tree_build::build(&a, &mut ws, &mut hs));
+    words(&ws);
+    hops(&hs);
+    built(tree_build::build(b"", &mut ws, &mut hs));
+    words(&ws);
+    found(tree::lookup(&ws, &hs, 0x0A01_02C8));
+    let mut more = [9u32; 21];
+    built(tree_build::build(&a, &mut more, &mut hs));
+    built(tree_build::build(b"nine byte", &mut more, &mut hs));
+}
+
+// Each cause of 13: no root, bit 15 set, a child beyond what is lent, a hop beyond, hop 0, hop 32,768.
+pub fn broken() {
+    let none = [0u32; 2];
+    let bit = [0x0000_8000u32, 0, 0];
+    let child = [0x0001_0000u32, 1, 0];
+    let root = [0x0000_0001u32, 1, 0];
+    let zero = [0u16; 1];
+    let large = [32768u16; 1];
+    let last = [32767u16; 1];
+    found(tree::lookup(&none, &last, 0));
+    found(tree::lookup(&bit, &last, 0));
+    found(tree::lookup(&child, &last, 0));
+    found(tree::lookup(&root, &zero[..0], 0));
+    found(tree::lookup(&root, &zero, 0));
+    found(tree::lookup(&root, &large, 0));
+    found(tree::lookup(&root, &last, 0));
+}
