@@ -1,33 +1,13 @@
 // The cells of a table whose list and owners have changed at a prefix.
 ghost use mathlib.Core.List.{[]};
-ghost use Rattle.chain.specs.Words.{routesIn};
 ghost use Rattle.routes.specs.Record.{routesOf};
 ghost use Rattle.sail.specs.Lent.{lent};
-ghost use Rattle.sail_paint.specs.Stale.{Stale, Repainted};
+ghost use Rattle.sail_paint.specs.Stale.{Repainted};
 ghost use Rattle.sail_sound.specs.List.{Scratch};
 ghost use Rattle.sail_change.specs.Pending.{Pending};
 use sail::geometry::Geometry;
+use sail_paint::repaint::repaint;
 use sail_sound::list::chained;
-
-fn repaint(
-    ws: &[u64],
-    par: &[u16],
-    g: Geometry,
-    addr: u32,
-    len: u32,
-    first: &mut [u16],
-    second: &mut [u16],
-    third: &mut [u16],
-    own2: &[u32],
-    own3: &[u32],
-)
-    requires { ⌜ Stale g (now ws) (now par) addr len (lent [] (now first) (now second) (now third) (now own2) (now own3)) ⌝ }
-    ensures { λ _. ⌜ Repainted g (routesIn (now (ws .entry))) (lent [] (now (first .entry)) (now (second .entry)) (now (third .entry)) (now (own2 .entry)) (now (own3 .entry))) (now (first .exit)) (now (second .exit)) (now (third .exit)) ⌝ }
-{
-    if 0 < first.len() {
-        first[0] = 0;
-    }
-}
 
 // The cells become what the first n records of the list and the owners ask for. `addr` and `len` are the prefix at which
 // these have changed, and no cell that it does not touch is painted. `ws` and `par` are room for the words of the routes
