@@ -47,6 +47,10 @@ or-said : (f z : ℕ) (s : Said) → z ≡ f → (z ≡ 0 → ⊥) → orSay f s
 or-said zero z s e h = absurd (h e)
 or-said (suc f) z s e h = ap refused (sym e)
 
+-- past the test of soundness
+pub tried-sound : (t : Table) (l : Lent) (b : Bool) → Tried b t l → not b ≡ false → Sound t l
+tried-sound t l b k e = k .tells .0 (not-false b e)
+
 -- a chunk is to be opened, and none is free
 wants-is : (rs : List Route) (r : Route) (p : ℕ) (own : List ℕ) → (alone rs p (r .addr) (r .len) && eqb (find own 0) (length own)) ≡ true → Wants rs r p own
 unfolding alone
@@ -143,4 +147,38 @@ module _ (t : Table) (l : Lent) (a len hop : ℕ) where
           judge-sound n = off 5 (omega arith) (Announce.unsound (check .facts h) fine (λ s. true≢false (sym (k .tells .1 s) ∙ not-true d n)))
 
           pub judge-proper : not d ≡ false → Proper t l a len hop
-          judge-proper n = record { fine = fine; sound = k .tells .0 (not-false d n) }
+          judge-proper n = record { fine = fine; sound = tried-sound t l d k n }
+
+-- withdraw
+module _ (t : Table) (l : Lent) (a len : ℕ) where
+  abbrev Left : ℕ → Type 0
+  Left n = Judged n (withdrawSaid t l a len) (Farewell t l a len)
+
+  no : (n : ℕ) → 1 ≤ n → Withdraw t l a len (refused n) → Left n
+  no n h x = judged-off n _ _ h (withdraw-only t l a len (refused n) x)
+
+  module _ (z : ℕ) (check : Checked z (t .geometry) l) where
+    pub leave-sizes : (z ≡ 0 → ⊥) → Left z
+    unfolding withdrawSaid
+    leave-sizes h = record { off = λ _. or-said _ z _ (check .number) h; on = λ e. absurd (h e) }
+
+    module _ (h : z ≡ 0) (b : Bool) (e : b ≡ properPrefix a len) where
+      pub leave-prefix : not b ≡ true → Left 3
+      leave-prefix n = no 3 (omega arith) (Withdraw.bad-prefix (check .facts h) (λ q. true≢false (sym (true-prefix a len q) ∙ sym e ∙ not-true b n)))
+
+      module _ (p : not b ≡ false) (d : Bool) (k : Tried d t l) where
+        is-prefix : Prefix a len
+        is-prefix = prefix-true a len (sym e ∙ not-false b p)
+
+        pub leave-sound : not d ≡ true → Left 5
+        leave-sound n = no 5 (omega arith) (Withdraw.unsound (check .facts h) is-prefix (λ s. true≢false (sym (k .tells .1 s) ∙ not-true d n)))
+
+        module _ (q : not d ≡ false) (x : ℕ) (c : Bool) (key : x ≡ keyOf a len) (f : c ≡ stands x (standing t l)) where
+          is-sound : Sound t l
+          is-sound = tried-sound t l d k q
+
+          pub leave-stands : c ≡ true → Left 0
+          leave-stands y = judged-on _ _ (record { prefix = is-prefix; sound = is-sound; old = rw (← key, ← f) y })
+
+          pub leave-absent : c ≡ false → Left 9
+          leave-absent y = no 9 (omega arith) (Withdraw.absent is-prefix is-sound (rw (← key, ← f) y))

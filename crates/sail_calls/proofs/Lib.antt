@@ -3,3 +3,4 @@ pub mod Renews
 pub mod Openings
 pub mod Judges
 pub mod Adds
+pub mod Takes

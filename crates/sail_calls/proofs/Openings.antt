@@ -58,7 +58,7 @@ module _ (deep : Bool) (v : ℕ) (own : List ℕ) (q : ℕ) (k : Told deep v own
       go (inl h) = omega (arith, k .low h .number)
       go (inr h) = omega arith
 
-  told-chunk : deep ≡ true → v - 1 ≡ find own (suc q)
+  pub told-chunk : deep ≡ true → v - 1 ≡ find own (suc q)
   told-chunk d = go (below? v 32768)
     where
       go : (v < 32768) ⊎ (32768 ≤ v) → v - 1 ≡ find own (suc q)
@@ -69,7 +69,7 @@ leaf-alone : (rs : List Route) (p a len v : ℕ) (own : List ℕ) (q : ℕ) → 
 unfolding alone
 leaf-alone rs p a len v own q k = rw (told-leaf _ v own q k)
 
-alone-longer : (rs : List Route) (p a len : ℕ) → alone rs p a len ≡ true → p < len
+pub alone-longer : (rs : List Route) (p a len : ℕ) → alone rs p a len ≡ true → p < len
 unfolding alone
 alone-longer rs p a len e = ltb-true p len (and-split (ltb p len) _ e .0)
 

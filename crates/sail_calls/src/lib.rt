@@ -3,3 +3,4 @@ pub mod announce;
 pub mod answers;
 pub mod opening;
 pub mod renew;
+pub mod withdraw;
