@@ -1,0 +1,184 @@
+-- What the judges answer. Assumes nothing.
+use mathlib.Core.Path.{_≡_, refl, sym, _∙_, ap}
+use mathlib.Core.Logic.{_⊎_, inl, inr}
+use mathlib.Core.Bool.{Bool, true, false, not, _&&_, true≢false}
+use mathlib.Core.List.{List, [], _∷_}
+use Prim.Native.Nat.{ℕ, zero, suc, _/_, _≤_, _<_}
+use native.Mathlib.Omega.{arith}
+use lib.Dec.{ltb, eqb}
+use lib.ListN.{length}
+use borrow.Author.Tests.{ltb-true, ltb-false, lt-ltb, eqb-true, eq-eqb, not-true, not-false}
+use Rattle.bits.specs.Slot.{slot}
+use Rattle.bits.proofs.Tests.{and-split, same, untrue}
+use Rattle.routes.specs.Route.{keyOf, long, need, Prefix, Fine}
+use Rattle.routes.specs.Input.{properPrefix, hopFine}
+use Rattle.routes.specs.Said.{Said, accepted, refused}
+use Rattle.routes.specs.Standing.{stands, insert}
+use Rattle.routes.specs.declared.Route.{Route}
+use Rattle.routes.proofs.Meaning.{prefix-true, true-prefix, hop-true, true-hop}
+use Rattle.routes.proofs.Rows.{length-routes}
+use Rattle.routes.proofs.Changed.{insert-adds}
+use Rattle.sail.specs.Lent.{Lent}
+use Rattle.sail.specs.Sizes.{Sized, Checked}
+use Rattle.sail.specs.Sound.{Sound, standing}
+use Rattle.sail.specs.declared.table.Table.{Table}
+use Rattle.sail_theory.specs.Render.{find, roomOf}
+use Rattle.sail_theory.specs.Calls.{route, orSay, announceSaid, withdrawSaid}
+use Rattle.sail_theory.specs.Facts.{Welcome, Farewell}
+use Rattle.sail_theory.proofs.Judged.{Proper, Roomy, Announce, Withdraw}
+use Rattle.sail_theory.proofs.Only.{announce-only, withdraw-only}
+use Rattle.sail_theory.proofs.Accepted.{replaced-welcome}
+use Rattle.sail_theory.proofs.Wants.{Wants, want-seven, want-eight}
+use Rattle.sail_sound.specs.Test.{Tried}
+use Rattle.sail_change.specs.Chunks.{alone}
+use Rattle.sail_calls.specs.Answers.{Judged}
+use Rattle.sail_calls.specs.Opening.{Opens}
+use Rattle.sail_calls.specs.declared.opening.Opening.{Opening}
+
+-- a refusal, and none
+judged-off : (n : ℕ) (s : Said) (P : Type 0) → 1 ≤ n → s ≡ refused n → Judged n s P
+judged-off n s P h e = record { off = λ _. e; on = λ z. absurd (omega arith) }
+
+judged-on : (s : Said) (P : Type 0) → P → Judged 0 s P
+judged-on s P p = record { off = λ h. absurd (h refl); on = λ _. p }
+
+-- the sizes' refusal comes first
+or-said : (f z : ℕ) (s : Said) → z ≡ f → (z ≡ 0 → ⊥) → orSay f s ≡ refused z
+or-said zero z s e h = absurd (h e)
+or-said (suc f) z s e h = ap refused (sym e)
+
+-- past the test of soundness
+pub tried-sound : (t : Table) (l : Lent) (b : Bool) → Tried b t l → not b ≡ false → Sound t l
+tried-sound t l b k e = k .tells .0 (not-false b e)
+
+-- a chunk is to be opened, and none is free
+wants-is : (rs : List Route) (r : Route) (p : ℕ) (own : List ℕ) → (alone rs p (r .addr) (r .len) && eqb (find own 0) (length own)) ≡ true → Wants rs r p own
+unfolding alone
+wants-is rs r p own e =
+    let k = and-split (alone rs p (r .addr) (r .len)) _ e in
+    let a = and-split (ltb p (r .len)) (not (long rs p (slot p (r .addr)))) (k .0) in
+    record { longer = ltb-true p (r .len) (a .0); fresh = not-true _ (a .1); full = eqb-true _ _ (k .1) }
+
+is-wants : (rs : List Route) (r : Route) (p : ℕ) (own : List ℕ) → Wants rs r p own → (alone rs p (r .addr) (r .len) && eqb (find own 0) (length own)) ≡ true
+unfolding alone
+is-wants rs r p own w = rw (lt-ltb p (r .len) (w .longer), w .fresh) (eq-eqb (find own 0) (length own) (w .full))
+
+module _ (t : Table) (l : Lent) (a len hop : ℕ) where
+  abbrev rs : List Route
+  rs = standing t l
+
+  abbrev r : Route
+  r = route a len hop
+
+  abbrev Told : ℕ → Type 0
+  Told n = Judged n (announceSaid t l a len hop) (Welcome t l r)
+
+  off : (n : ℕ) → 1 ≤ n → Announce t l a len hop (refused n) → Told n
+  off n h x = judged-off n _ _ h (announce-only t l a len hop (refused n) x)
+
+  -- b tells whether the prefix stands
+  module _ (x : ℕ) (b : Bool) (p : Proper t l a len hop) (key : x ≡ keyOf a len) (e : b ≡ stands x rs) where
+    stands-is : b ≡ stands (keyOf a len) rs
+    stands-is = rw (← key) e
+
+    pub room-stands : b ≡ true → Told 0
+    room-stands h = judged-on _ _ (replaced-welcome t l a len hop p (sym stands-is ∙ h))
+
+    pub room-full : b ≡ false → length (l .list) / 8 ≤ t .count → Told 6
+    room-full h f = off 6 (omega arith) (Announce.full p (sym stands-is ∙ h) (rw length-routes f))
+
+    module _ (h : b ≡ false) (f : t .count < length (l .list) / 8) (o : Opening) (k : Opens t l a len o) where
+      roomy : Roomy t l a len hop
+      roomy = record { proper = p; new = sym stands-is ∙ h; room = rw length-routes f }
+
+      -- the test of a pool tells whether the need exceeds it
+      seven : (c : Bool) → c ≡ (o .second && eqb (find (l .own2) 0) (length (l .own2))) → c ≡ ltb (length (l .own2)) (need (insert r rs) (t .geometry .p1))
+      seven c z = z ∙ rw (k .second) (same (alone rs (t .geometry .p1) a len && eqb (find (l .own2) 0) (length (l .own2))) _
+          (λ y. want-seven t l (p .sound) r (p .fine) .1 (wants-is rs r (t .geometry .p1) (l .own2) y))
+          (λ y. is-wants rs r (t .geometry .p1) (l .own2) (want-seven t l (p .sound) r (p .fine) .0 y)))
+
+      eight : (c : Bool) → c ≡ (o .third && eqb (find (l .own3) 0) (length (l .own3))) → c ≡ ltb (length (l .own3)) (need (insert r rs) (t .geometry .p2))
+      eight c z = z ∙ rw (k .third) (same (alone rs (t .geometry .p2) a len && eqb (find (l .own3) 0) (length (l .own3))) _
+          (λ y. want-eight t l (p .sound) r (p .fine) .1 (wants-is rs r (t .geometry .p2) (l .own3) y))
+          (λ y. is-wants rs r (t .geometry .p2) (l .own3) (want-eight t l (p .sound) r (p .fine) .0 y)))
+
+      module _ (c : Bool) (z : c ≡ (o .second && eqb (find (l .own2) 0) (length (l .own2)))) where
+        pub room-second : c ≡ true → Told 7
+        room-second y = off 7 (omega arith) (Announce.second roomy (ltb-true _ _ (sym (seven c z) ∙ y)))
+
+        module _ (y : c ≡ false) (d : Bool) (u : d ≡ (o .third && eqb (find (l .own3) 0) (length (l .own3)))) where
+          enough : need (insert r rs) (t .geometry .p1) ≤ length (l .own2)
+          enough = ltb-false _ _ (sym (seven c z) ∙ y)
+
+          pub room-third : d ≡ true → Told 8
+          room-third v = off 8 (omega arith) (Announce.third roomy enough (ltb-true _ _ (sym (eight d u) ∙ v)))
+
+          pub room-enough : d ≡ false → Told 0
+          room-enough v = judged-on _ _ (record {
+            fine = p .fine;
+            sound = p .sound;
+            roomy = omega (arith, insert-adds r rs (roomy .new), roomy .room);
+            enough2 = enough;
+            enough3 = ltb-false _ _ (sym (eight d u) ∙ v);
+          })
+
+  -- the steps before
+  module _ (z : ℕ) (check : Checked z (t .geometry) l) where
+    pub judge-sizes : (z ≡ 0 → ⊥) → Told z
+    unfolding announceSaid
+    judge-sizes h = record { off = λ _. or-said _ z _ (check .number) h; on = λ e. absurd (h e) }
+
+    module _ (h : z ≡ 0) (b : Bool) (e : b ≡ properPrefix a len) where
+      pub judge-prefix : not b ≡ true → Told 3
+      judge-prefix n = off 3 (omega arith) (Announce.bad-prefix (check .facts h) (λ q. true≢false (sym (true-prefix a len q) ∙ sym e ∙ not-true b n)))
+
+      module _ (p : not b ≡ false) (c : Bool) (f : c ≡ hopFine hop) where
+        prefix : Prefix a len
+        prefix = prefix-true a len (sym e ∙ not-false b p)
+
+        pub judge-hop : not c ≡ true → Told 4
+        judge-hop n = off 4 (omega arith) (Announce.bad-hop (check .facts h) prefix (λ i j. true≢false (sym (true-hop hop i j) ∙ sym f ∙ not-true c n)))
+
+        module _ (q : not c ≡ false) (d : Bool) (k : Tried d t l) where
+          fine : Fine r
+          fine = let g = hop-true hop (sym f ∙ not-false c q) in record { prefix = prefix; hop-one = g .0; hop-ok = g .1; spare-ok = refl }
+
+          pub judge-sound : not d ≡ true → Told 5
+          judge-sound n = off 5 (omega arith) (Announce.unsound (check .facts h) fine (λ s. true≢false (sym (k .tells .1 s) ∙ not-true d n)))
+
+          pub judge-proper : not d ≡ false → Proper t l a len hop
+          judge-proper n = record { fine = fine; sound = tried-sound t l d k n }
+
+-- withdraw
+module _ (t : Table) (l : Lent) (a len : ℕ) where
+  abbrev Left : ℕ → Type 0
+  Left n = Judged n (withdrawSaid t l a len) (Farewell t l a len)
+
+  no : (n : ℕ) → 1 ≤ n → Withdraw t l a len (refused n) → Left n
+  no n h x = judged-off n _ _ h (withdraw-only t l a len (refused n) x)
+
+  module _ (z : ℕ) (check : Checked z (t .geometry) l) where
+    pub leave-sizes : (z ≡ 0 → ⊥) → Left z
+    unfolding withdrawSaid
+    leave-sizes h = record { off = λ _. or-said _ z _ (check .number) h; on = λ e. absurd (h e) }
+
+    module _ (h : z ≡ 0) (b : Bool) (e : b ≡ properPrefix a len) where
+      pub leave-prefix : not b ≡ true → Left 3
+      leave-prefix n = no 3 (omega arith) (Withdraw.bad-prefix (check .facts h) (λ q. true≢false (sym (true-prefix a len q) ∙ sym e ∙ not-true b n)))
+
+      module _ (p : not b ≡ false) (d : Bool) (k : Tried d t l) where
+        is-prefix : Prefix a len
+        is-prefix = prefix-true a len (sym e ∙ not-false b p)
+
+        pub leave-sound : not d ≡ true → Left 5
+        leave-sound n = no 5 (omega arith) (Withdraw.unsound (check .facts h) is-prefix (λ s. true≢false (sym (k .tells .1 s) ∙ not-true d n)))
+
+        module _ (q : not d ≡ false) (x : ℕ) (c : Bool) (key : x ≡ keyOf a len) (f : c ≡ stands x (standing t l)) where
+          is-sound : Sound t l
+          is-sound = tried-sound t l d k q
+
+          pub leave-stands : c ≡ true → Left 0
+          leave-stands y = judged-on _ _ (record { prefix = is-prefix; sound = is-sound; old = rw (← key, ← f) y })
+
+          pub leave-absent : c ≡ false → Left 9
+          leave-absent y = no 9 (omega arith) (Withdraw.absent is-prefix is-sound (rw (← key, ← f) y))

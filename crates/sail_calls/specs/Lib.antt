@@ -1,0 +1,3 @@
+-- What the calls that change a table by one route ask and answer.
+pub mod Opening
+pub mod Answers

@@ -1,0 +1,73 @@
+-- A search for a free chunk, and a chunk hung or closed. Assumes nothing.
+use mathlib.Core.Path.{_≡_, refl, sym, ap, _∙_}
+use mathlib.Core.Logic.{_⊎_, inl, inr, _≢_}
+use mathlib.Core.Bool.{Bool, true, false, cond, _&&_}
+use mathlib.Core.List.{List}
+use Prim.Native.Nat.{ℕ, suc, _+_, _*_, _^_, _≤_, _<_}
+use native.Mathlib.Omega.{arith}
+use native.Mathlib.Nat.{mul-le-mul-right, suc-mul, one-mul}
+use lib.Dec.{eqb}
+use lib.ListN.{getD, length, set, length-set, List·getD-eq-default}
+use lib.Seq.{getD-set-same, getD-set-other}
+use Rattle.bits.proofs.Tests.{equal?, below?}
+use Rattle.plan.specs.Paint.{filled, Range}
+use Rattle.sail.specs.Level.{entry}
+use Rattle.sail_theory.specs.Render.{find}
+use Rattle.sail_theory.proofs.Chunks.{chunk-is, chunk-none}
+use Rattle.sail_change.specs.Chunks.{hung, closed, blanked, Closing}
+
+-- the owners before c are in use
+abbrev pub Used : List ℕ → ℕ → Type 0
+Used own c = (j : ℕ) → j < c → getD own j 0 ≢ 0
+
+pub free-here : (own : List ℕ) (c : ℕ) → c < length own → Used own c → getD own c 0 ≡ 0 → (c ≡ find own 0) × (c ≤ length own)
+free-here own c l u e = (sym (chunk-is (entry own) (length own) 0 c l e u), omega arith)
+
+pub free-nowhere : (own : List ℕ) (c : ℕ) → c ≤ length own → length own ≤ c → Used own c → (c ≡ find own 0) × (c ≤ length own)
+free-nowhere own c l m u = let e : c ≡ length own = omega arith in (e ∙ sym (chunk-none (entry own) (length own) 0 (λ j i. u j (omega arith))), l)
+
+-- the answers of `wanting`
+pub wanting-on : (own : List ℕ) (b : Bool) (c : ℕ) → c ≡ find own 0 → b ≡ true → eqb c (length own) ≡ (b && eqb (find own 0) (length own))
+wanting-on own b c e h = rw (e, h)
+
+pub wanting-off : (own : List ℕ) (b : Bool) → b ≡ false → false ≡ (b && eqb (find own 0) (length own))
+wanting-off own b h = rw h
+
+-- a chunk hung, or not
+pub hang-on : (own own′ : List ℕ) (b : Bool) (o c : ℕ) → c ≡ find own 0 → b ≡ true → own′ ≡ set own c o → own′ ≡ hung b o own
+unfolding hung
+hang-on own own′ b o c e h w = rw (w, h, e)
+
+pub hang-off : (own : List ℕ) (b : Bool) (o : ℕ) → b ≡ false → own ≡ hung b o own
+unfolding hung
+hang-off own b o h = rw h
+
+-- a chunk closed, or not
+module _ (b : Bool) (own cells : List ℕ) (c d : ℕ) where
+  pub close-range : Closing b own cells c d → b ≡ true → (a n : ℕ) → a ≡ c * 2 ^ d → n ≡ 1 * 2 ^ d → Range a (a + n) (length cells)
+  close-range k h a n e f = record {
+    rises = omega arith;
+    fits = omega (arith, k .whole, mul-le-mul-right (2 ^ d) (k .one h), suc-mul c (2 ^ d));
+  }
+
+  pub close-on : (own′ cells′ : List ℕ) (a n : ℕ) → b ≡ true → own′ ≡ set own c 0 → a ≡ c * 2 ^ d → n ≡ 1 * 2 ^ d → cells′ ≡ filled cells a (a + n) 0
+      → (own′ ≡ closed b c own) × (cells′ ≡ blanked b c d cells)
+  unfolding closed blanked
+  close-on own′ cells′ a n h w e f z = (rw (w, h), rw (z, h, e, f, one-mul))
+
+  pub close-off : b ≡ false → (own ≡ closed b c own) × (cells ≡ blanked b c d cells)
+  unfolding closed blanked
+  close-off h = (rw h, rw h)
+
+-- an owner that is there after a chunk was hung from z was there before, unless it is the new one
+pub hung-was : (own : List ℕ) (b : Bool) (z c x : ℕ) → getD (hung b (suc z) own) c 0 ≡ suc x → (b ≡ true → x ≢ z) → getD own c 0 ≡ suc x
+unfolding hung
+hung-was own false z c x e other = e
+hung-was own true z c x e other = go (equal? c (find own 0)) (below? c (length own))
+  where
+    go : (c ≡ find own 0) ⊎ (c ≢ find own 0) → (c < length own) ⊎ (length own ≤ c) → getD own c 0 ≡ suc x
+    go (inr n) l = sym (getD-set-other own (find own 0) c (suc z) 0 n) ∙ e
+    go (inl q) (inl l) = absurd (other refl (omega (arith, getD-set-same own c (suc z) 0 l, rw (← q) at e)))
+    go (inl q) (inr l) =
+        let k : length (set own (find own 0) (suc z)) ≤ c = rw length-set l in
+        absurd (omega (arith, e, List·getD-eq-default (set own (find own 0) (suc z)) 0 k))

@@ -1,0 +1,149 @@
+-- An announcement under way: at most one chunk in each pool is hung, the lowest free one. Assumes nothing.
+use mathlib.Core.Path.{_≡_, refl, sym, _∙_, ap}
+use mathlib.Core.Logic.{_⊎_, inl, inr, _≢_}
+use mathlib.Core.Bool.{Bool, true, false, not, _&&_, cond, true≢false}
+use mathlib.Core.List.{List}
+use Prim.Native.Nat.{ℕ, suc, _+_, _-_, _*_, _/_, _%_, _^_, _≤_, _<_}
+use native.Mathlib.Omega.{arith}
+use lib.Dec.{ltb, leb}
+use lib.ListN.{getD, length, set}
+use borrow.Author.Tests.{ltb-true, ltb-false, lt-ltb, lt-leb, eq-eqb, not-true}
+use Rattle.bits.specs.Slot.{slot}
+use Rattle.bits.proofs.Tests.{decided, and-split}
+use Rattle.routes.specs.Route.{long, Good}
+use Rattle.routes.specs.Standing.{insert}
+use Rattle.routes.specs.declared.Route.{Route}
+use Rattle.sail.specs.Geometry.{bits2, bits3, Valid}
+use Rattle.sail.specs.Lent.{Lent, lent}
+use Rattle.sail.specs.Level.{liveIn, entry}
+use Rattle.sail.specs.Sound.{Sound, standing}
+use Rattle.sail.specs.declared.geometry.Geometry.{Geometry}
+use Rattle.sail.specs.declared.table.Table.{Table}
+use Rattle.sail.proofs.Sounds.{standing-good}
+use Rattle.sail_theory.specs.Render.{find, at2, roomOf, Rendered}
+use Rattle.sail_theory.specs.Calls.{placeIn, open2, open3}
+use Rattle.sail_theory.specs.Facts.{Welcome}
+use Rattle.sail_theory.proofs.Rendered.{sound-rendered, clear-blank}
+use Rattle.sail_theory.proofs.Chunks.{chunk-at}
+use Rattle.sail_theory.proofs.Places.{live-owner}
+use Rattle.sail_theory.proofs.Stores.{had?}
+use Rattle.sail_theory.proofs.Needs.{long-own}
+use Rattle.sail_theory.proofs.Grown.{length-open2, length-open3, open2-stays, open3-stays, place-at2}
+use Rattle.sail_theory.proofs.Changes.{space2, space3, welcome-fits2, welcome-fits3}
+use Rattle.sail_theory.proofs.Opens.{open2-stores, open3-stores, find-hung}
+use Rattle.sail_theory.proofs.Altered.{announce-frame}
+use Rattle.sail_paint.specs.Stale.{meets}
+use Rattle.sail_change.specs.Chunks.{hung, alone, Free}
+use Rattle.sail_change.proofs.Hangs.{hung-was}
+use Rattle.sail_change.proofs.Underway.{Held, Underway}
+
+-- the cell of a level that a longer prefix lies in meets it
+pub meets-own : (a len p : ℕ) → p < len → meets a len p (slot p a) ≡ true
+unfolding meets
+meets-own a len p l = rw (lt-leb len p l) (eq-eqb (slot p a) (slot p a) refl)
+
+-- owners that stay: a pool that was right holds 0 wherever no chunk is in use
+stay-held : (m d : ℕ) (own own′ cells : List ℕ) → ((c x : ℕ) → getD own c 0 ≡ suc x → getD own′ c 0 ≡ suc x) → ((q : ℕ) → q < m * 2 ^ d → liveIn (entry own) d q ≡ false → getD cells q 0 ≡ 0) → Held m d own′ cells cells
+stay-held m d own own′ cells stays blank = record { size = refl; held = λ q l e. refl; blank = λ q l e. blank q l (free q e (decided (liveIn (entry own) d q))) }
+  where
+    free : (q : ℕ) → liveIn (entry own′) d q ≡ false → (liveIn (entry own) d q ≡ true) ⊎ (liveIn (entry own) d q ≡ false) → liveIn (entry own) d q ≡ false
+    free q e (inr u) = u
+    free q e (inl u) = absurd (omega (arith, ltb-false 0 (getD own′ (q / 2 ^ d) 0) e, stays (q / 2 ^ d) _ (live-owner (entry own) d q u)))
+
+opens-is : (x y : Bool) (o : ℕ) (own : List ℕ) → cond x (cond y own (set own (find own 0) o)) own ≡ hung (x && not y) o own
+unfolding hung
+opens-is true true o own = refl
+opens-is true false o own = refl
+opens-is false y o own = refl
+
+module _ (t : Table) (l : Lent) (r : Route) (w : Welcome t l r) where
+  abbrev g : Geometry
+  g = t .geometry
+
+  abbrev rs : List Route
+  rs = standing t l
+
+  abbrev own2′ : List ℕ
+  own2′ = open2 g (l .own2) r
+
+  abbrev own3′ : List ℕ
+  own3′ = open3 g own2′ (l .own3) r
+
+  is : Rendered t l
+  is = sound-rendered t l (w .sound)
+
+  valid : Valid g
+  valid = w .sound .sized .valid
+
+  pub open2-hung : own2′ ≡ hung (alone rs (g .p1) (r .addr) (r .len)) (suc (slot (g .p1) (r .addr))) (l .own2)
+  unfolding alone
+  open2-hung = open2-stores t l r w ∙ opens-is (ltb (g .p1) (r .len)) (long rs (g .p1) (slot (g .p1) (r .addr))) _ (l .own2)
+
+  pub open3-hung : own3′ ≡ hung (alone rs (g .p2) (r .addr) (r .len)) (suc (placeIn g own2′ (r .addr))) (l .own3)
+  unfolding alone
+  open3-hung = open3-stores t l r w ∙ opens-is (ltb (g .p2) (r .len)) (long rs (g .p2) (slot (g .p2) (r .addr))) _ (l .own3)
+
+  longer : (p : ℕ) → alone rs p (r .addr) (r .len) ≡ true → p < r .len
+  unfolding alone
+  longer p e = ltb-true p (r .len) (and-split _ _ e .0)
+
+  keeps2 : (c x : ℕ) → getD own2′ c 0 ≡ suc x → meets (r .addr) (r .len) (g .p1) x ≡ false → getD (l .own2) c 0 ≡ suc x
+  keeps2 c x e m =
+      hung-was (l .own2) _ (slot (g .p1) (r .addr)) c x (rw open2-hung at e)
+      (λ b y. true≢false (sym (rw (← y) at (meets-own (r .addr) (r .len) (g .p1) (longer (g .p1) b))) ∙ m))
+
+  at-place : g .p2 < r .len → at2 g own2′ (placeIn g own2′ (r .addr)) ≡ slot (g .p2) (r .addr)
+  at-place h =
+      let v = valid in
+      place-at2 g v (insert r rs) own2′ (welcome-fits2 t l r w) (r .addr) (w .fine .prefix .addr-ok) (long-own r rs (w .fine) (standing-good t l (w .sound)) (g .p1) (lt-ltb (g .p1) (r .len) (omega arith)))
+
+  keeps3 : (c x : ℕ) → c < length (l .own3) → getD own3′ c 0 ≡ suc x → meets (r .addr) (r .len) (g .p2) (at2 g own2′ x) ≡ false → (getD (l .own3) c 0 ≡ suc x) × (at2 g (l .own2) x ≡ at2 g own2′ x)
+  keeps3 c x h e m =
+      let k = hung-was (l .own3) _ (placeIn g own2′ (r .addr)) c x (rw open3-hung at e)
+          (λ b y. true≢false (sym (ap (meets (r .addr) (r .len) (g .p2)) (ap (at2 g own2′) y ∙ at-place (longer (g .p2) b)) ∙ meets-own (r .addr) (r .len) (g .p2) (longer (g .p2) b)) ∙ m)) in
+      let o = live-owner (entry (l .own2)) (bits2 g) x (is .fits3 .lies c x h k .1) in
+      (k, ap (λ (y : ℕ). (y - 1) * 2 ^ bits2 g + x % 2 ^ bits2 g) (o ∙ sym (open2-stays g (l .own2) r _ _ o)))
+
+  -- whatever the list then is
+  pub welcome-underway : (s : List ℕ) → Underway g (r .addr) (r .len) (insert r rs) l (lent s (l .first) (l .second) (l .third) own2′ own3′)
+  welcome-underway s = record {
+    sized = w .sound .sized;
+    prefix = w .fine .prefix;
+    room = roomOf l;
+    frame = announce-frame t l r w;
+    fits2 = welcome-fits2 t l r w;
+    fits3 = welcome-fits3 t l r w;
+    first = refl;
+    second = stay-held (length (l .own2)) (bits2 g) (l .own2) own2′ (l .second) (open2-stays g (l .own2) r) (clear-blank (length (l .own2)) (bits2 g) (entry (l .own2)) (l .second) (w .sound .clear2));
+    third = stay-held (length (l .own3)) (bits3 g) (l .own3) own3′ (l .third) (open3-stays g own2′ (l .own3) r) (clear-blank (length (l .own3)) (bits3 g) (entry (l .own3)) (l .third) (w .sound .clear3));
+    chunks2 = length-open2 g (l .own2) _ r;
+    chunks3 = length-open3 g own2′ (l .own3) _ r;
+    keeps2 = λ c x _. keeps2 c x;
+    keeps3 = keeps3;
+  }
+
+  -- where a chunk is to be opened, one is free
+  fresh : (p : ℕ) → alone rs p (r .addr) (r .len) ≡ true → (ltb p (r .len) ≡ true) × (long rs p (slot p (r .addr)) ≡ false)
+  unfolding alone
+  fresh p e = let k = and-split _ _ e in (k .0, not-true _ (k .1))
+
+  pub free2 : Free (alone rs (g .p1) (r .addr) (r .len)) (l .own2)
+  free2 = record { some = λ e. let k = fresh (g .p1) e in space2 t l r w (k .0) (k .1) .0 }
+
+  pub free3 : Free (alone rs (g .p2) (r .addr) (r .len)) (l .own3)
+  free3 = record { some = λ e. let k = fresh (g .p2) e in space3 t l r w (k .0) (k .1) .0 }
+
+  -- the second chunk that then serves the route: the new one, or the one that was there
+  pub chunk-next : g .p1 < r .len → cond (alone rs (g .p1) (r .addr) (r .len)) (find (l .own2) 0) (find (l .own2) (suc (slot (g .p1) (r .addr)))) ≡ find own2′ (suc (slot (g .p1) (r .addr)))
+  unfolding hung
+  chunk-next h = rw open2-hung (go (decided (alone rs (g .p1) (r .addr) (r .len))))
+    where
+      go : (alone rs (g .p1) (r .addr) (r .len) ≡ true) ⊎ (alone rs (g .p1) (r .addr) (r .len) ≡ false)
+          → cond (alone rs (g .p1) (r .addr) (r .len)) (find (l .own2) 0) (find (l .own2) (suc (slot (g .p1) (r .addr))))
+          ≡ find (cond (alone rs (g .p1) (r .addr) (r .len)) (set (l .own2) (find (l .own2) 0) (suc (slot (g .p1) (r .addr)))) (l .own2)) (suc (slot (g .p1) (r .addr)))
+      go (inr e) = rw e
+      go (inl e) = rw e (sym (find-hung (l .own2) (find (l .own2) 0) (slot (g .p1) (r .addr)) (free2 .some e) (none (had? (l .own2) (slot (g .p1) (r .addr))))))
+        where
+          none : (find (l .own2) (suc (slot (g .p1) (r .addr))) < length (l .own2)) ⊎ (length (l .own2) ≤ find (l .own2) (suc (slot (g .p1) (r .addr)))) → length (l .own2) ≤ find (l .own2) (suc (slot (g .p1) (r .addr)))
+          none (inr z) = z
+          none (inl z) = absurd (true≢false (sym (is .fits2 .lies _ (slot (g .p1) (r .addr)) z (chunk-at (entry (l .own2)) (length (l .own2)) _ z) .2) ∙ fresh (g .p1) e .1))

@@ -1,0 +1,159 @@
+-- A withdrawal under way: at most one chunk in each pool is closed, and its cells are 0. Assumes nothing.
+use mathlib.Core.Path.{_≡_, refl, sym, _∙_, ap}
+use mathlib.Core.Bool.{Bool, true, false, not, _&&_, cond, true≢false}
+use mathlib.Core.List.{List}
+use Prim.Native.Nat.{ℕ, suc, _+_, _-_, _*_, _/_, _%_, _^_, _≤_, _<_}
+use native.Mathlib.Omega.{arith}
+use lib.Dec.{ltb}
+use lib.ListN.{getD, length, set}
+use borrow.Author.Tests.{ltb-true, ltb-false, lt-ltb}
+use Rattle.bits.specs.Slot.{slot}
+use Rattle.bits.proofs.Slots.{slot-lt}
+use Rattle.bits.proofs.Tests.{and-split}
+use Rattle.bits.proofs.Tabs.{length-tabulate}
+use Rattle.routes.specs.Route.{keyOf, long, Good}
+use Rattle.routes.specs.Standing.{remove}
+use Rattle.routes.specs.declared.Route.{Route}
+use Rattle.routes.proofs.Changed.{remove-long}
+use Rattle.routes.proofs.Standing.{remove-any}
+use Rattle.plan.specs.Paint.{filled}
+use Rattle.sail.specs.Geometry.{bits2, bits3, Valid}
+use Rattle.sail.specs.Lent.{Lent, lent}
+use Rattle.sail.specs.Level.{itself, liveIn, entry}
+use Rattle.sail.specs.Sound.{Sound, standing}
+use Rattle.sail.specs.declared.geometry.Geometry.{Geometry}
+use Rattle.sail.specs.declared.table.Table.{Table}
+use Rattle.sail.proofs.Sounds.{standing-good}
+use Rattle.sail_theory.specs.Render.{find, at2, roomOf, Rendered}
+use Rattle.sail_theory.specs.Calls.{placeIn, keep2, keep3, route}
+use Rattle.sail_theory.specs.Facts.{Farewell}
+use Rattle.sail_theory.proofs.Mids.{slot-mid, long-mid}
+use Rattle.sail_theory.proofs.Rendered.{sound-rendered, clear-blank}
+use Rattle.sail_theory.proofs.Needs.{stands-long}
+use Rattle.sail_theory.proofs.Stores.{length-keep, kept-was}
+use Rattle.sail_theory.proofs.Grown.{place-in, place-live2, place-at2}
+use Rattle.sail_theory.proofs.Shrunk.{kept-over}
+use Rattle.sail_theory.proofs.Changes.{farewell-fits2, farewell-fits3}
+use Rattle.sail_theory.proofs.Opens.{keep2-stores, keep3-stores}
+use Rattle.sail_theory.proofs.Altered.{withdraw-frame}
+use Rattle.sail_change.specs.Chunks.{closed, blanked, alone, Closing}
+use Rattle.sail_change.proofs.Shuts.{closed-held, closed-blank}
+use Rattle.sail_change.proofs.Underway.{Held, Underway}
+
+-- x: the cell was long; y: it is long still; z: the prefix is longer than the level
+closes-is : (x y z : Bool) (c : ℕ) (own : List ℕ) → (z ≡ true → x ≡ true) → (z ≡ false → y ≡ x) → cond x (cond y own (set own c 0)) own ≡ closed (z && not y) c own
+unfolding closed
+closes-is true true z c own f h = go z
+  where
+    go : (z : Bool) → own ≡ cond (z && false) (set own c 0) own
+    go true = refl
+    go false = refl
+closes-is true false true c own f h = refl
+closes-is true false false c own f h = absurd (true≢false (sym (h refl)))
+closes-is false y true c own f h = absurd (true≢false (sym (f refl)))
+closes-is false y false c own f h = refl
+
+length-blanked : (b : Bool) (c d : ℕ) (cells : List ℕ) → length (blanked b c d cells) ≡ length cells
+unfolding blanked filled
+length-blanked true c d cells = length-tabulate (length cells) _
+length-blanked false c d cells = refl
+
+-- a pool of which a chunk is closed
+closed-pool : (m d : ℕ) (b : Bool) (c : ℕ) (own own′ cells : List ℕ) → own′ ≡ closed b c own → (b ≡ true → c < length own) → length cells ≡ m * 2 ^ d
+    → ((q : ℕ) → q < m * 2 ^ d → liveIn (entry own) d q ≡ false → getD cells q 0 ≡ 0) → Held m d own′ cells (blanked b c d cells)
+closed-pool m d b c own own′ cells e one size blank = record {
+  size = length-blanked b c d cells;
+  held = λ q l u. closed-held b own cells c d one q (rw size l) (rw e at u);
+  blank = λ q l u. closed-blank b own cells c d one q (rw size l) (blank q l) (rw e at u);
+}
+
+module _ (t : Table) (l : Lent) (a len : ℕ) (w : Farewell t l a len) where
+  abbrev g : Geometry
+  g = t .geometry
+
+  abbrev rs : List Route
+  rs = standing t l
+
+  abbrev left : List Route
+  left = remove (keyOf a len) rs
+
+  abbrev own2′ : List ℕ
+  own2′ = keep2 g left (l .own2)
+
+  abbrev own3′ : List ℕ
+  own3′ = keep3 g left (l .own2) (l .own3)
+
+  -- the chunks that serve the prefix
+  abbrev c2 : ℕ
+  c2 = find (l .own2) (suc (slot (g .p1) a))
+
+  abbrev c3 : ℕ
+  c3 = find (l .own3) (suc (placeIn g (l .own2) a))
+
+  is : Rendered t l
+  is = sound-rendered t l (w .sound)
+
+  valid : Valid g
+  valid = w .sound .sized .valid
+
+  -- a prefix that stands has its cells long
+  pub was-long : (p : ℕ) → p < len → long rs p (slot p a) ≡ true
+  was-long p h =
+      stands-long (route a len 1) rs (record { prefix = w .prefix; hop-one = omega arith; hop-ok = omega arith; spare-ok = refl }) (standing-good t l (w .sound)) (w .old) p (lt-ltb p len h)
+
+  -- and a level that is as long as the prefix keeps them
+  same-long : (p : ℕ) → ltb p len ≡ false → long left p (slot p a) ≡ long rs p (slot p a)
+  same-long p e = sym (remove-long a len rs (w .prefix .len-ok) (standing-good t l (w .sound)) p (slot p a) (λ h _. absurd (true≢false (sym (lt-ltb p len h) ∙ e))))
+
+  pub keep2-closed : own2′ ≡ closed (alone left (g .p1) a len) c2 (l .own2)
+  unfolding alone
+  keep2-closed = keep2-stores t l a len w ∙ closes-is (long rs (g .p1) (slot (g .p1) a)) (long left (g .p1) (slot (g .p1) a)) (ltb (g .p1) len) c2 (l .own2) (λ e. was-long (g .p1) (ltb-true _ _ e)) (same-long (g .p1))
+
+  pub keep3-closed : own3′ ≡ closed (alone left (g .p2) a len) c3 (l .own3)
+  unfolding alone
+  keep3-closed = keep3-stores t l a len w ∙ closes-is (long rs (g .p2) (slot (g .p2) a)) (long left (g .p2) (slot (g .p2) a)) (ltb (g .p2) len) c3 (l .own3) (λ e. was-long (g .p2) (ltb-true _ _ e)) (same-long (g .p2))
+
+  one2 : alone left (g .p1) a len ≡ true → c2 < length (l .own2)
+  unfolding alone
+  one2 e = let v = valid in is .fits2 .has (slot (g .p1) a) (slot-lt (g .p1) a (omega arith) (w .prefix .addr-ok)) refl (was-long (g .p1) (ltb-true _ _ (and-split _ _ e .0)))
+
+  one3 : alone left (g .p2) a len ≡ true → c3 < length (l .own3)
+  unfolding alone
+  one3 e =
+      let v = valid in
+      let d = was-long (g .p2) (ltb-true _ _ (and-split _ _ e .0)) in
+      let up : long rs (g .p1) (slot (g .p1) a) ≡ true = rw (slot-mid g v a) (long-mid g v rs (slot (g .p2) a) d) in
+      is .fits3 .has (placeIn g (l .own2) a) (place-in g v rs (l .own2) (is .fits2) a (w .prefix .addr-ok) up) (place-live2 g v rs (l .own2) (is .fits2) a (w .prefix .addr-ok) up)
+      (ap (long rs (g .p2)) (place-at2 g v rs (l .own2) (is .fits2) a (w .prefix .addr-ok) up) ∙ d)
+
+  -- what closing asks
+  pub closing2 : Closing (alone left (g .p1) a len) (l .own2) (l .second) c2 (bits2 g)
+  closing2 = record { one = one2; few = w .sound .sized .few2; size = valid .near; whole = w .sound .sized .cells2 }
+
+  pub closing3 : Closing (alone left (g .p2) a len) (l .own3) (l .third) c3 (bits3 g)
+  closing3 = let v = valid in record { one = one3; few = w .sound .sized .few3; size = omega arith; whole = w .sound .sized .cells3 }
+
+  keeps3 : (c x : ℕ) → c < length (l .own3) → getD own3′ c 0 ≡ suc x → (getD (l .own3) c 0 ≡ suc x) × (at2 g (l .own2) x ≡ at2 g own2′ x)
+  keeps3 c x h e =
+      let k = kept-was (long left (g .p2)) (at2 g (l .own2)) (l .own3) c x e in
+      let o = kept-over g valid rs left (λ p i. remove-any _ (keyOf a len) rs) (l .own2) (l .own3) (is .fits2) (is .fits3) x (is .fits3 .lies c x h (k .0) .1) (k .1) in
+      (k .0, sym (ap (λ (y : ℕ). (y - 1) * 2 ^ bits2 g + x % 2 ^ bits2 g) o))
+
+  -- whatever the list then is
+  pub farewell-underway : (s : List ℕ)
+      → Underway g a len left l (lent s (l .first) (blanked (alone left (g .p1) a len) c2 (bits2 g) (l .second)) (blanked (alone left (g .p2) a len) c3 (bits3 g) (l .third)) own2′ own3′)
+  farewell-underway s = record {
+    sized = w .sound .sized;
+    prefix = w .prefix;
+    room = roomOf l;
+    frame = withdraw-frame t l a len w;
+    fits2 = farewell-fits2 t l a len w;
+    fits3 = farewell-fits3 t l a len w;
+    first = refl;
+    second = closed-pool (length (l .own2)) (bits2 g) (alone left (g .p1) a len) c2 (l .own2) own2′ (l .second) keep2-closed one2 (w .sound .sized .cells2) (clear-blank (length (l .own2)) (bits2 g) (entry (l .own2)) (l .second) (w .sound .clear2));
+    third = closed-pool (length (l .own3)) (bits3 g) (alone left (g .p2) a len) c3 (l .own3) own3′ (l .third) keep3-closed one3 (w .sound .sized .cells3) (clear-blank (length (l .own3)) (bits3 g) (entry (l .own3)) (l .third) (w .sound .clear3));
+    chunks2 = length-keep _ _ (l .own2);
+    chunks3 = length-keep _ _ (l .own3);
+    keeps2 = λ c x _ e _. kept-was (long left (g .p1)) itself (l .own2) c x e .0;
+    keeps3 = λ c x h e _. keeps3 c x h e;
+  }

@@ -1,0 +1,92 @@
+-- The cells of an address in a sound table. Assumes nothing.
+use mathlib.Core.Path.{_≡_, refl, sym, _∙_, ap}
+use mathlib.Core.Bool.{Bool, true, false, true≢false}
+use mathlib.Core.List.{List}
+use Prim.Native.Nat.{ℕ, suc, _+_, _-_, _*_, _%_, _^_, _≤_, _<_}
+use native.Mathlib.Nat.{mul-le-mul, mod-lt}
+use native.Mathlib.Omega.{arith}
+use lib.ListN.{getD, length}
+use Rattle.bits.specs.Slot.{slot}
+use Rattle.bits.proofs.Slots.{slot-lt}
+use Rattle.bits.proofs.Tests.{untrue}
+use Rattle.routes.specs.Route.{long}
+use Rattle.routes.specs.declared.Route.{Route}
+use Rattle.sail.specs.Geometry.{bits2, Power}
+use Rattle.sail.specs.Lent.{Lent}
+use Rattle.sail.specs.Sound.{Sound, standing}
+use Rattle.sail.specs.declared.geometry.Geometry.{Geometry}
+use Rattle.sail.specs.declared.table.Table.{Table}
+use Rattle.sail_theory.specs.Render.{find}
+use Rattle.sail_theory.specs.Calls.{placeIn}
+use Rattle.sail_theory.proofs.Mids.{slot-mid, long-mid}
+use Rattle.sail_theory.proofs.Cells.{Names, first-low, first-high, second-low, second-high}
+use Rattle.sail_theory.proofs.Grown.{place-in, place-live2, place-at2}
+use Rattle.sail_theory.proofs.Rendered.{sound-rendered}
+use Rattle.sail_change.specs.Trail.{Told, Trailed}
+
+-- a place is small
+pub place-bound : (n d c i : ℕ) → c < 65536 → Power n d 1024 → (c * n ≤ 67108864) × (i % n < 1024)
+place-bound n d c i h p = (omega (arith, mul-le-mul (let z : c ≤ 65536 = omega arith in z) (p .few)), omega (arith, mod-lt i (p .some), p .few))
+
+pub place-is : (n d c i x : ℕ) → c < 65536 → Power n d 1024 → x ≡ i → (c * n + x % n ≡ c * 2 ^ d + i % 2 ^ d) × (c * n + x % n < 67109888)
+place-is n d c i x h p e = let b = place-bound n d c x h p in (rw (e, p .is), omega (arith, b .0, b .1))
+
+module _ (t : Table) (l : Lent) (a : ℕ) (s : Sound t l) (small : a < 2 ^ 32) where
+  abbrev g : Geometry
+  g = t .geometry
+
+  abbrev rs : List Route
+  rs = standing t l
+
+  in-level : slot (g .p1) a < 2 ^ g .p1
+  in-level = let v = s .sized .valid in slot-lt (g .p1) a (omega arith) small
+
+  pub first-there : (i : ℕ) → i ≡ slot (g .p1) a → i < length (l .first)
+  first-there i e = rw (e, s .sized .cells1) in-level
+
+  module _ (i : ℕ) (e : i ≡ slot (g .p1) a) where
+    abbrev v : ℕ
+    v = getD (l .first) i 0
+
+    -- the first cell is a leaf
+    pub trail-short : 32768 ≤ v → Trailed t l a v 32768
+    trail-short h = record {
+      first = record { low = λ k. absurd (omega arith); high = λ _. none };
+      second = record {
+        low = λ k. absurd (omega arith);
+        high = λ _. untrue _ (λ d. true≢false (sym (rw (slot-mid g (s .sized .valid) a) (long-mid g (s .sized .valid) rs (slot (g .p2) a) d)) ∙ none));
+      };
+    }
+      where
+        none : long rs (g .p1) (slot (g .p1) a) ≡ false
+        none = first-high t l s (slot (g .p1) a) in-level (rw e at h)
+
+    -- or names a chunk
+    module _ (h : v < 32768) where
+      pub named : Names (long rs (g .p1) (slot (g .p1) a)) v (l .own2) (slot (g .p1) a)
+      named = rw e (first-low t l s (slot (g .p1) a) in-level (rw e at h))
+
+      pub named-small : (1 ≤ v) × (v ≤ 4096)
+      named-small = let n = named in let f = s .sized .few2 in (omega arith, omega arith)
+
+      module _ (q : ℕ) (p : q ≡ (v - 1) * 2 ^ bits2 g + slot (g .p2) a % 2 ^ bits2 g) where
+        is-place : q ≡ placeIn g (l .own2) a
+        is-place = let n = named in p ∙ ap (λ (x : ℕ). x * 2 ^ bits2 g + slot (g .p2) a % 2 ^ bits2 g) (omega arith)
+
+        there : placeIn g (l .own2) a < length (l .own2) * 2 ^ bits2 g
+        there = place-in g (s .sized .valid) rs (l .own2) (sound-rendered t l s .fits2) a small (named .is-deep)
+
+        pub second-there : q < length (l .second)
+        second-there = rw (is-place, s .sized .cells2) there
+
+        pub trail-long : Trailed t l a v (getD (l .second) q 0)
+        trail-long =
+            let live = place-live2 g (s .sized .valid) rs (l .own2) (sound-rendered t l s .fits2) a small (named .is-deep) in
+            let at = place-at2 g (s .sized .valid) rs (l .own2) (sound-rendered t l s .fits2) a small (named .is-deep) in
+            rw is-place (record {
+              first = record { low = λ _. named; high = λ k. absurd (omega arith) };
+              second = record {
+                low = λ k. rw at at (second-low t l s (placeIn g (l .own2) a) there live k);
+                high = λ k. rw at at (second-high t l s (placeIn g (l .own2) a) there live k);
+              };
+            })

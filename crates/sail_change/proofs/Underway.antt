@@ -1,0 +1,106 @@
+-- A change at a prefix that is under way: the list and the owners are the new ones, and the cells still the old ones, but for those of a
+-- chunk that is closed. Then no cell is wrong but those that the change made stale. Assumes nothing.
+use mathlib.Core.Path.{_≡_, refl, sym, _∙_, ap, subst}
+use mathlib.Core.Bool.{Bool, true, false, _&&_}
+use mathlib.Core.List.{List, []}
+use Prim.Native.Nat.{ℕ, suc, _+_, _-_, _*_, _/_, _^_, _≤_, _<_}
+use native.Mathlib.Omega.{arith}
+use lib.ListN.{getD, length}
+use Rattle.routes.specs.Route.{Prefix}
+use Rattle.routes.specs.Record.{routesOf, Records}
+use Rattle.routes.specs.declared.Route.{Route}
+use Rattle.chain.specs.Words.{routesIn}
+use Rattle.chain.specs.Cover.{Ready}
+use Rattle.sail.specs.Geometry.{bits2, bits3}
+use Rattle.sail.specs.Lent.{Lent, lent}
+use Rattle.sail.specs.Level.{itself, liveIn, entry}
+use Rattle.sail.specs.Sizes.{Sized}
+use Rattle.sail.specs.declared.geometry.Geometry.{Geometry}
+use Rattle.sail_theory.specs.Render.{at2, rendered, Fits2, Fits3}
+use Rattle.sail_theory.specs.Alters.{NoneUnder, Frame}
+use Rattle.sail_theory.proofs.Mids.{sum2, sum3}
+use Rattle.sail_theory.proofs.Cells.{second-free, third-free}
+use Rattle.sail_paint.specs.Stale.{meets, stale2, stale3, Stale}
+use Rattle.sail_change.specs.Pending.{Pending, cellsOf}
+use Rattle.sail_change.proofs.Still.{meets-none, still-right}
+
+-- in a pool of m chunks of 2 ^ d cells, the cells of chunks in use are as they were, and the others are 0
+pub record Held (m d : ℕ) (own : List ℕ) (was now : List ℕ) : Type 0 where
+  pub size : length now ≡ length was
+  pub held : (q : ℕ) → q < m * 2 ^ d → liveIn (entry own) d q ≡ true → getD now q 0 ≡ getD was q 0
+  pub blank : (q : ℕ) → q < m * 2 ^ d → liveIn (entry own) d q ≡ false → getD now q 0 ≡ 0
+
+-- l is the table before the change, u the one under way, and rs the routes that then stand
+pub record Underway (g : Geometry) (a len : ℕ) (rs : List Route) (l u : Lent) : Type 0 where
+  pub sized : Sized g l
+  pub prefix : Prefix a len
+  pub room : ℕ
+  pub frame : Frame g a len l (rendered g room rs (u .own2) (u .own3))
+  pub fits2 : Fits2 g rs (u .own2)
+  pub fits3 : Fits3 g rs (u .own2) (u .own3)
+  pub first : u .first ≡ l .first
+  pub second : Held (length (l .own2)) (bits2 g) (u .own2) (l .second) (u .second)
+  pub third : Held (length (l .own3)) (bits3 g) (u .own3) (l .third) (u .third)
+  pub chunks2 : length (u .own2) ≡ length (l .own2)
+  pub chunks3 : length (u .own3) ≡ length (l .own3)
+  pub keeps2 : (c x : ℕ) → c < length (l .own2) → getD (u .own2) c 0 ≡ suc x → meets a len (g .p1) x ≡ false → getD (l .own2) c 0 ≡ suc x
+  pub keeps3 : (c x : ℕ) → c < length (l .own3) → getD (u .own3) c 0 ≡ suc x → meets a len (g .p2) (at2 g (u .own2) x) ≡ false → (getD (l .own3) c 0 ≡ suc x) × (at2 g (l .own2) x ≡ at2 g (u .own2) x)
+
+module _ (g : Geometry) (a len : ℕ) (rs : List Route) (l u : Lent) (w : Underway g a len rs l u) where
+  still-sized : Sized g (cellsOf u)
+  still-sized =
+      let z = w .sized in
+      record {
+        valid = z .valid;
+        whole = refl;
+        room = omega arith;
+        cells1 = rw (w .first) (z .cells1);
+        few2 = rw (w .chunks2) (z .few2);
+        cells2 = w .second .size ∙ rw (w .chunks2) (z .cells2);
+        few3 = rw (w .chunks3) (z .few3);
+        cells3 = w .third .size ∙ rw (w .chunks3) (z .cells3);
+      }
+
+  abbrev is : Lent
+  is = rendered g (w .room) rs (u .own2) (u .own3)
+
+  right1 : (q : ℕ) → q < length (u .first) → meets a len (g .p1) q ≡ false → getD (u .first) q 0 ≡ getD (is .first) q 0
+  right1 q i m =
+      let v = w .sized .valid in
+      ap (λ (x : List ℕ). getD x q 0) (w .first) ∙ sym (w .frame .first q (rw (w .first) at i) (meets-none a len (g .p1) q (w .prefix .len-ok) (omega arith) m))
+
+  right2 : (q : ℕ) → q < length (u .second) → stale2 g a len (u .own2) q ≡ false → getD (u .second) q 0 ≡ getD (is .second) q 0
+  unfolding rendered
+  right2 q i =
+      let v = w .sized .valid in
+      still-right a len (g .p1) (bits2 g) (g .p2) (length (l .own2)) (w .prefix .len-ok) (sum2 g v) (omega arith)
+      (entry (l .own2)) (entry (u .own2)) itself itself (entry (l .second)) (entry (is .second)) (entry (u .second))
+      (λ c x k e m. (w .keeps2 c x k e m, refl))
+      (λ y k o n. w .frame .second y (rw (w .sized .cells2) k) o n)
+      (λ y k e. second-free g (w .room) rs (u .own2) (u .own3) y (rw (w .chunks2) k) e)
+      (w .second .held) (w .second .blank) q (rw (w .second .size, w .sized .cells2) at i)
+
+  right3 : (q : ℕ) → q < length (u .third) → stale3 g a len (u .own2) (u .own3) q ≡ false → getD (u .third) q 0 ≡ getD (is .third) q 0
+  unfolding rendered
+  right3 q i =
+      let v = w .sized .valid in
+      still-right a len (g .p2) (bits3 g) 32 (length (l .own3)) (w .prefix .len-ok) (sum3 g v) (omega arith)
+      (entry (l .own3)) (entry (u .own3)) (at2 g (l .own2)) (at2 g (u .own2)) (entry (l .third)) (entry (is .third)) (entry (u .third))
+      (w .keeps3)
+      (λ y k o n. w .frame .third y (rw (w .sized .cells3) k) o n)
+      (λ y k e. third-free g (w .room) rs (u .own2) (u .own3) y (rw (w .chunks3) k) e)
+      (w .third .held) (w .third .blank) q (rw (w .third .size, w .sized .cells3) at i)
+
+  -- the routes of the words are those that then stand
+  pub underway-stale : (ws par : List ℕ) → Ready ws par → routesIn ws ≡ rs → Stale g ws par a len (cellsOf u)
+  unfolding rendered
+  underway-stale ws par ready e = record {
+    ready = ready;
+    sized = still-sized;
+    prefix = w .prefix;
+    fits2 = rw e (w .fits2);
+    fits3 = rw e (w .fits3);
+    right1 = rw e right1;
+    right2 = rw e right2;
+    right3 = rw e right3;
+  }

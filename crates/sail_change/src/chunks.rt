@@ -1,0 +1,59 @@
+// Chunks taken and given back: the owners of a pool, and the cells of a chunk that is closed.
+ghost use mathlib.Core.Path.{_≡_};
+ghost use mathlib.Core.Bool.{true, _&&_};
+ghost use Prim.Native.Nat.{_≤_, _<_};
+ghost use lib.Dec.{eqb};
+ghost use lib.ListN.{length};
+ghost use Rattle.sail_theory.specs.Render.{find};
+ghost use Rattle.sail_change.specs.Chunks.{hung, closed, blanked, Free, Closing};
+use chain::place::shifted;
+use plan::paint::fill;
+
+// The lowest free chunk, counted from 0: the first whose owner is 0. As many as there are where none is free.
+pub fn lowest_free(own: &[u32]) -> usize
+    ensures { λ r. ⌜ (r ≡ find (now (own .entry)) 0) × (r ≤ length (now (own .entry))) ⌝ }
+{
+    let mut c = 0;
+    while c < own.len() {
+        if own[c] == 0 {
+            return c;
+        }
+        c += 1;
+    }
+    c
+}
+
+// Whether a chunk is to be opened and none is free.
+pub fn wanting(opens: bool, own: &[u32]) -> bool
+    ensures { λ r. ⌜ r ≡ (opens && eqb (find (now (own .entry)) 0) (length (now (own .entry)))) ⌝ }
+{
+    if opens {
+        return lowest_free(own) == own.len();
+    }
+    false
+}
+
+// The lowest free chunk gets the owner o, where one is to be opened.
+pub fn hang(own: &mut [u32], opens: bool, o: u32)
+    requires { ⌜ Free opens (now own) ⌝ }
+    ensures { λ _. ⌜ now (own .exit) ≡ hung opens o (now (own .entry)) ⌝ }
+{
+    if opens {
+        let c = lowest_free(own);
+        own[c] = o;
+    }
+}
+
+// Chunk c of a pool of chunks of 2^d cells, where it is to be closed: its owner and its cells become 0.
+pub fn close(own: &mut [u32], cells: &mut [u16], closes: bool, c: usize, d: u32)
+    requires { ⌜ Closing closes (now own) (now cells) c d ⌝ }
+    ensures owner { λ _. ⌜ now (own .exit) ≡ closed closes c (now (own .entry)) ⌝ }
+    ensures blank { λ _. ⌜ now (cells .exit) ≡ blanked closes c d (now (cells .entry)) ⌝ }
+{
+    if closes {
+        own[c] = 0;
+        let a = shifted(c as u64, 12, d) as usize;
+        let n = shifted(1, 1, d) as usize;
+        fill(cells, a, a + n, 0);
+    }
+}
