@@ -141,7 +141,18 @@ fn add(
     open(t, r, list, first, second, third, own2, own3);
     let p = edit::insert(list, n, r);
     let m = count_with(p, n);
-    renew(g, list, m, addr, record::wide(len), first, second, third, own2, own3);
+    renew(
+        g,
+        list,
+        m,
+        addr,
+        record::wide(len),
+        first,
+        second,
+        third,
+        own2,
+        own3,
+    );
     let u = Table {
         geometry: g,
         count: m as u32,

@@ -78,7 +78,18 @@ fn take(
     let three = alone(list, m, p2, addr, len);
     close(own2, second, two, (v.first - 1) as usize, p2 - p1);
     close(own3, third, three, (v.second - 1) as usize, 32 - p2);
-    renew(g, list, m, addr, record::wide(len), first, second, third, own2, own3);
+    renew(
+        g,
+        list,
+        m,
+        addr,
+        record::wide(len),
+        first,
+        second,
+        third,
+        own2,
+        own3,
+    );
     let u = Table {
         geometry: g,
         count: m as u32,

@@ -100,7 +100,7 @@ module _ (t : Table) (l : Lent) (r : Route) (w : Welcome t l r) where
   keeps3 : (c x : ℕ) → c < length (l .own3) → getD own3′ c 0 ≡ suc x → meets (r .addr) (r .len) (g .p2) (at2 g own2′ x) ≡ false → (getD (l .own3) c 0 ≡ suc x) × (at2 g (l .own2) x ≡ at2 g own2′ x)
   keeps3 c x h e m =
       let k = hung-was (l .own3) _ (placeIn g own2′ (r .addr)) c x (rw open3-hung at e)
-          (λ b y. true≢false (sym (ap (meets (r .addr) (r .len) (g .p2)) (ap (at2 g own2′) y ∙ at-place (longer (g .p2) b)) ∙ meets-own (r .addr) (r .len) (g .p2) (longer (g .p2) b)) ∙ m)) in
+      (λ b y. true≢false (sym (ap (meets (r .addr) (r .len) (g .p2)) (ap (at2 g own2′) y ∙ at-place (longer (g .p2) b)) ∙ meets-own (r .addr) (r .len) (g .p2) (longer (g .p2) b)) ∙ m)) in
       let o = live-owner (entry (l .own2)) (bits2 g) x (is .fits3 .lies c x h k .1) in
       (k, ap (λ (y : ℕ). (y - 1) * 2 ^ bits2 g + x % 2 ^ bits2 g) (o ∙ sym (open2-stays g (l .own2) r _ _ o)))
 
