@@ -25,7 +25,7 @@ impl Harm<'_> {
 
     /// One change at random. Some fit no table at hand and change nothing; some leave it sound.
     pub fn one(&mut self, rng: &mut Rng) {
-        match rng.below(24) {
+        match rng.below(30) {
             0 | 1 => self.first_cell(rng),
             2 | 3 => self.second_cell(rng),
             4 | 5 => self.third_cell(rng),
@@ -37,15 +37,16 @@ impl Harm<'_> {
             11 => self.records_swapped(rng),
             12 => self.record_lost(rng),
             13 => self.count_changed(rng),
-            14 => self.open_second(rng),
-            15 => self.open_third(rng),
-            16 => self.close_second(rng),
-            17 => self.close_third(rng),
-            18 => self.names_swapped(rng),
-            19 => self.contents_swapped(rng),
-            20 => self.named_twice(rng),
-            21 => self.free_chunk(rng),
-            22 => self.leaf_off(rng),
+            14 | 15 => self.open_second(rng),
+            16 | 17 => self.open_third(rng),
+            18 | 19 => self.close_second(rng),
+            20 | 21 => self.close_third(rng),
+            22 => self.names_swapped(rng),
+            23 => self.contents_swapped(rng),
+            24 => self.named_twice(rng),
+            25 | 26 => self.free_chunk(rng),
+            27 => self.leaf_off(rng),
+            28 => self.copied(rng),
             _ => self.owner_and_name(rng),
         }
     }
@@ -199,33 +200,49 @@ impl Harm<'_> {
         };
     }
 
-    /// A chunk that no route needs is opened, with name, owner and right hops.
+    /// A chunk that no route needs is opened, with name, owner and right hops, or with one of the three left out.
     fn open_second(&mut self, rng: &mut Rng) {
         let k = self.first_place(rng);
         let size = self.size2();
+        let out = left_out(rng);
         if let (Some(c), true) = (free(rng, &self.t.own2), self.t.first[k] & LEAF != 0) {
             let leaf = self.t.first[k];
-            self.t.second[c * size..(c + 1) * size].fill(leaf);
-            self.t.own2[c] = k as u32 + 1;
-            self.t.first[k] = c as u16 + 1;
+            if out != Some(0) {
+                self.t.second[c * size..(c + 1) * size].fill(leaf);
+            }
+            if out != Some(1) {
+                self.t.own2[c] = k as u32 + 1;
+            }
+            if out != Some(2) {
+                self.t.first[k] = c as u16 + 1;
+            }
         }
     }
 
     fn open_third(&mut self, rng: &mut Rng) {
         let size = self.size3();
+        let out = left_out(rng);
         let Some(k) = self.pool_place(rng, &self.t.own2, &self.t.second, self.size2()) else { return };
         if let (Some(c), true) = (free(rng, &self.t.own3), self.t.second[k] & LEAF != 0) {
             let leaf = self.t.second[k];
-            self.t.third[c * size..(c + 1) * size].fill(leaf);
-            self.t.own3[c] = k as u32 + 1;
-            self.t.second[k] = c as u16 + 1;
+            if out != Some(0) {
+                self.t.third[c * size..(c + 1) * size].fill(leaf);
+            }
+            if out != Some(1) {
+                self.t.own3[c] = k as u32 + 1;
+            }
+            if out != Some(2) {
+                self.t.second[k] = c as u16 + 1;
+            }
         }
     }
 
-    /// A chunk that routes need is closed in good order, and its cell gets a leaf.
+    /// A chunk that routes need is closed, and its cell gets a leaf, or another chunk's name; or one part is left out.
     fn close_second(&mut self, rng: &mut Rng) {
         let size = self.size2();
+        let out = left_out(rng);
         let Some(c) = in_use(rng, &self.t.own2) else { return };
+        let other = in_use(rng, &self.t.own2).unwrap_or(c);
         let k = self.t.own2[c] as usize - 1;
         if k >= self.t.first.len() {
             return;
@@ -239,22 +256,48 @@ impl Harm<'_> {
                 self.t.own3[d] = 0;
             }
         }
-        self.t.second[c * size..(c + 1) * size].fill(0);
-        self.t.own2[c] = 0;
-        self.t.first[k] = leaf;
+        if out != Some(0) {
+            self.t.second[c * size..(c + 1) * size].fill(0);
+        }
+        if out != Some(1) {
+            self.t.own2[c] = 0;
+        }
+        if out != Some(2) {
+            self.t.first[k] = if rng.one_in(3) { other as u16 + 1 } else { leaf };
+        }
     }
 
     fn close_third(&mut self, rng: &mut Rng) {
         let size = self.size3();
+        let out = left_out(rng);
         let Some(c) = in_use(rng, &self.t.own3) else { return };
+        let other = in_use(rng, &self.t.own3).unwrap_or(c);
         let k = self.t.own3[c] as usize - 1;
         if k >= self.t.second.len() {
             return;
         }
         let leaf = self.t.third[c * size + rng.below(size)] | LEAF;
-        self.t.third[c * size..(c + 1) * size].fill(0);
-        self.t.own3[c] = 0;
-        self.t.second[k] = leaf;
+        if out != Some(0) {
+            self.t.third[c * size..(c + 1) * size].fill(0);
+        }
+        if out != Some(1) {
+            self.t.own3[c] = 0;
+        }
+        if out != Some(2) {
+            self.t.second[k] = if rng.one_in(3) { other as u16 + 1 } else { leaf };
+        }
+    }
+
+    /// A free chunk becomes a copy of one in use, owner and all: the same cell would name both.
+    fn copied(&mut self, rng: &mut Rng) {
+        let second = rng.one_in(2);
+        let size = if second { self.size2() } else { self.size3() };
+        let (own, cells) =
+            if second { (&mut self.t.own2, &mut self.t.second) } else { (&mut self.t.own3, &mut self.t.third) };
+        if let (Some(from), Some(to)) = (in_use(rng, own), free(rng, own)) {
+            cells.copy_within(from * size..(from + 1) * size, to * size);
+            own[to] = own[from];
+        }
     }
 
     /// Two cells that name chunks exchange the names, with or without the owners; the contents stay.
@@ -357,6 +400,11 @@ impl Harm<'_> {
             }
         }
     }
+}
+
+/// Which of the three parts of opening or closing a chunk is left out: cells (0), owner (1), name (2), mostly none.
+fn left_out(rng: &mut Rng) -> Option<usize> {
+    rng.one_in(2).then(|| rng.below(3))
 }
 
 fn free(rng: &mut Rng, own: &[u32]) -> Option<usize> {

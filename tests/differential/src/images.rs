@@ -16,9 +16,9 @@ pub fn build(run: &mut Run, rng: &mut Rng, input: &[u8]) -> Option<(Vec<u32>, Ve
         (rng.below(20), rng.below(20))
     };
     let about = |rng: &mut Rng, n: usize| match rng.below(8) {
-        0 => n.saturating_sub(1),
-        1 => rng.below(n + 1),
-        2 => n + rng.range(1, 9),
+        0 | 1 => n.saturating_sub(1),
+        2 => rng.below(n + 1),
+        3 => n + rng.range(1, 9),
         _ => n,
     };
     let words = about(rng, nodes) * 3 + if rng.one_in(3) { rng.range(1, 2) } else { 0 };
@@ -74,7 +74,12 @@ pub fn episode(run: &mut Run, rng: &mut Rng) {
         _ => field.routes(rng, n),
     };
     let input = records(&routes);
-    let Some((words, hops)) = build(run, rng, &input) else { return };
+    // Into arrays of several sizes, until it is built.
+    let (words, hops) = loop {
+        if let Some(image) = build(run, rng, &input) {
+            break image;
+        }
+    };
     let mut addrs = edges(&routes);
     addrs.extend([0, u32::MAX]);
     for _ in 0..10 {

@@ -9,7 +9,9 @@ pub fn episode(run: &mut Run, rng: &mut Rng) {
     let field = Field::new(rng, 16, 24);
     let n = *rng.pick(&[0, 1, 2, 5, 20, 60]);
     let routes = if rng.one_in(4) { spread(rng, n) } else { field.routes(rng, n) };
-    ask(run, rng, &field, &routes, &records(&routes));
+    for _ in 0..4 {
+        ask(run, rng, &field, &routes, &records(&routes));
+    }
     for _ in 0..12 {
         let input = damaged_input(rng, &routes);
         ask(run, rng, &field, &routes, &input);

@@ -20,7 +20,7 @@ use std::time::{Instant, SystemTime, UNIX_EPOCH};
 
 /// A run of at least this many calls must have met everything that it should.
 const FULL: u64 = 20_000;
-const DEFAULT: u64 = 24_000;
+const DEFAULT: u64 = 40_000;
 
 fn main() {
     let args: Vec<u64> = std::env::args()

@@ -241,7 +241,8 @@ impl Pair {
 
     /// Lookups at the edges of all prefixes, or of some when there are many, and at random.
     pub fn look_around(&mut self, run: &mut Run, rng: &mut Rng, most: usize) {
-        let mut addrs = match plain::check_input(&self.plain.list[..self.plain.list.len().min(8 * self.count as usize) / 8 * 8]) {
+        let listed = self.plain.room().min(self.count as usize);
+        let mut addrs = match plain::check_input(&self.plain.list[..8 * listed]) {
             Ok(routes) => edges(&routes),
             Err(_) => Vec::new(),
         };

@@ -258,6 +258,11 @@ fn long_cells(routes: &[Route], p: u32) -> BTreeSet<u32> {
     routes.iter().filter(|r| r.len as u32 > p).map(|r| bits(r.addr, p)).collect()
 }
 
+/// The need for chunks below level `p`.
+pub fn need(routes: &[Route], p: u32) -> usize {
+    long_cells(routes, p).len()
+}
+
 /// For each cell of level `p` that lies in cell `i` of the shorter level `d`: the hop of the longest route of length
 /// at most `p` that covers it, 0 for none. Shorter routes are written first and longer ones over them.
 fn hops_under(by_length: &[Route], d: u32, i: u32, p: u32) -> Vec<u16> {
@@ -447,9 +452,9 @@ fn write_all(p1: u32, p2: u32, routes: &[Route], lent: &mut Lent) {
 
 /// Refusals 7 and 8.
 fn check_needs(p1: u32, p2: u32, routes: &[Route], lent: &Lent) -> Result<(), u64> {
-    if long_cells(routes, p1).len() > lent.own2.len() {
+    if need(routes, p1) > lent.own2.len() {
         Err(refused(7))
-    } else if long_cells(routes, p2).len() > lent.own3.len() {
+    } else if need(routes, p2) > lent.own3.len() {
         Err(refused(8))
     } else {
         Ok(())
@@ -540,8 +545,8 @@ pub fn report(p1: u32, p2: u32, count: u32, lent: &Lent) -> u64 {
     either((|| {
         check_sizes(p1, p2, lent)?;
         let routes = sound(p1, p2, count, lent).ok_or(refused(5))?;
-        let need2 = long_cells(&routes, p1).len() as u64;
-        let need3 = long_cells(&routes, p2).len() as u64;
+        let need2 = need(&routes, p1) as u64;
+        let need3 = need(&routes, p2) as u64;
         Ok(accepted_routes(routes.len()) | need2 << 32 | need3 << 48)
     })())
 }

@@ -95,5 +95,5 @@ const MUST_HAPPEN: [(&str, &str); 13] = [
     ("run", "0, 3, 3 at, 4 at, 6, 10 at, empty, some"),
     ("tally", "0, 2, 3 at, 4 at, 6, 10 at"),
     ("route", "0, 3 at, 4 at, 6, 10 at, none"),
-    ("table", "damaged and not sound, damaged and sound, chunks renumbered, 4096 second chunks, 4096 third chunks, 4096 routes"),
+    ("table", "damaged and not sound, chunks renumbered, 4096 second chunks, 4096 third chunks, 4096 routes"),
 ];

@@ -4,7 +4,7 @@ use crate::damage::{renumber, Harm};
 use crate::pair::{used, Call, Pair};
 use crate::run::Run;
 use differential::gen::{asked_prefix, cut, damaged_input, spread, tidy, Field, Rng};
-use differential::plain::{geometry_ok, number, records, size2, size3, Lent, Route};
+use differential::plain::{geometry_ok, need, number, records, size2, size3, Lent, Route};
 
 /// All geometries, the cheap and the named ones more often.
 fn geometry(rng: &mut Rng) -> (u32, u32) {
@@ -24,13 +24,13 @@ fn sizes(rng: &mut Rng) -> (usize, usize, usize) {
     let room = match rng.below(12) {
         0 => rng.range(0, 2),
         1..=5 => rng.range(3, 12),
-        6..=9 => rng.range(12, 40),
+        6..=8 => rng.range(12, 40),
         _ => rng.range(40, 160),
     };
     let pool = |rng: &mut Rng| match rng.below(10) {
         0 => 0,
         1 => 1,
-        2..=4 => rng.range(1, 3),
+        2..=4 if room < 40 => rng.range(1, 3),
         5..=8 => rng.range(2, 8),
         _ => rng.range(8, 24),
     };
@@ -121,8 +121,14 @@ fn any_call(rng: &mut Rng, field: &Field, t: &Pair, standing: &[Route]) -> Call 
 
 pub fn episode(run: &mut Run, rng: &mut Rng) {
     let (p1, p2) = geometry(rng);
-    let (room, second, third) = sizes(rng);
+    let (mut room, mut second, mut third) = sizes(rng);
     let field = Field::new(rng, p1, p2);
+    // Now and then exactly what some routes need: once they stand, all is full.
+    let mut filling = Vec::new();
+    if rng.one_in(5) {
+        filling = field.routes(rng, 12);
+        (room, second, third) = (filling.len(), need(&filling, p1), need(&filling, p2));
+    }
     let mut lent = Lent::new(p1, p2, room, second, third);
     litter(rng, &mut lent);
     let mut t = Pair::new(p1, p2, rng.below(room + 2) as u32, lent);
@@ -137,6 +143,13 @@ pub fn episode(run: &mut Run, rng: &mut Rng) {
     t.step(run, &begin);
     if t.standing.is_none() {
         t.step(run, &Call::Make);
+    }
+    if !filling.is_empty() {
+        t.step(run, &Call::Make);
+        while !filling.is_empty() {
+            let r = filling.swap_remove(rng.below(filling.len()));
+            t.step(run, &Call::Announce(r.addr, r.len, r.hop));
+        }
     }
     let mut growing = true;
     for _ in 0..rng.range(20, 140) {
@@ -307,10 +320,10 @@ fn other_sizes(run: &mut Run, rng: &mut Rng, field: &Field, t: &Pair, standing: 
         10 => {
             // One chunk too many, or as many as may be.
             let n = rng.range(4096, 4097);
-            if rng.one_in(2) && size2 <= 256 {
+            if rng.one_in(2) {
                 lent.own2.resize(n, 0);
                 lent.second.resize(n * size2, 0);
-            } else if size3 <= 256 {
+            } else {
                 lent.own3.resize(n, 0);
                 lent.third.resize(n * size3, 0);
             }
@@ -391,7 +404,8 @@ pub fn large(run: &mut Run, rng: &mut Rng, kind: u64) {
         }
     }
     t.step(run, &Call::Report);
-    t.look_around(run, rng, 1500);
+    // Every edge once; a linear search over so many routes is long.
+    t.look_around(run, rng, if kind % 3 == 1 { usize::MAX } else { 1500 });
     for k in 0..8 {
         let standing = t.standing.clone().unwrap_or_default();
         let call = match k % 4 {
