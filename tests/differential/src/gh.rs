@@ -4,6 +4,10 @@
 
 use differential::plain::Lent;
 use std::ops::{Deref, DerefMut};
+use sys::*;
+
+#[path = "../../../bindings/rust/src/sys.rs"]
+mod sys;
 
 /// A word that an array can be made of.
 pub trait Word: Copy + PartialEq + std::fmt::LowerHex {
@@ -121,151 +125,6 @@ impl Six {
             .or_else(|| self.own2.differs("own2", &should.own2))
             .or_else(|| self.own3.differs("own3", &should.own3))
     }
-}
-
-#[allow(clippy::too_many_arguments)]
-extern "C" {
-    fn gh_make(
-        p1: u32,
-        p2: u32,
-        list: *mut u8,
-        list_len: usize,
-        first: *mut u16,
-        first_len: usize,
-        second: *mut u16,
-        second_len: usize,
-        third: *mut u16,
-        third_len: usize,
-        own2: *mut u32,
-        own2_len: usize,
-        own3: *mut u32,
-        own3_len: usize,
-    ) -> u64;
-    fn gh_load(
-        p1: u32,
-        p2: u32,
-        input: *const u8,
-        input_len: usize,
-        list: *mut u8,
-        list_len: usize,
-        first: *mut u16,
-        first_len: usize,
-        second: *mut u16,
-        second_len: usize,
-        third: *mut u16,
-        third_len: usize,
-        own2: *mut u32,
-        own2_len: usize,
-        own3: *mut u32,
-        own3_len: usize,
-    ) -> u64;
-    fn gh_announce(
-        p1: u32,
-        p2: u32,
-        count: u32,
-        list: *mut u8,
-        list_len: usize,
-        first: *mut u16,
-        first_len: usize,
-        second: *mut u16,
-        second_len: usize,
-        third: *mut u16,
-        third_len: usize,
-        own2: *mut u32,
-        own2_len: usize,
-        own3: *mut u32,
-        own3_len: usize,
-        addr: u32,
-        len: u8,
-        hop: u16,
-    ) -> u64;
-    fn gh_withdraw(
-        p1: u32,
-        p2: u32,
-        count: u32,
-        list: *mut u8,
-        list_len: usize,
-        first: *mut u16,
-        first_len: usize,
-        second: *mut u16,
-        second_len: usize,
-        third: *mut u16,
-        third_len: usize,
-        own2: *mut u32,
-        own2_len: usize,
-        own3: *mut u32,
-        own3_len: usize,
-        addr: u32,
-        len: u8,
-    ) -> u64;
-    fn gh_report(
-        p1: u32,
-        p2: u32,
-        count: u32,
-        list: *const u8,
-        list_len: usize,
-        first: *const u16,
-        first_len: usize,
-        second: *const u16,
-        second_len: usize,
-        third: *const u16,
-        third_len: usize,
-        own2: *const u32,
-        own2_len: usize,
-        own3: *const u32,
-        own3_len: usize,
-    ) -> u64;
-    fn gh_lookup(
-        p1: u32,
-        p2: u32,
-        count: u32,
-        list: *const u8,
-        list_len: usize,
-        first: *const u16,
-        first_len: usize,
-        second: *const u16,
-        second_len: usize,
-        third: *const u16,
-        third_len: usize,
-        own2: *const u32,
-        own2_len: usize,
-        own3: *const u32,
-        own3_len: usize,
-        addr: u32,
-    ) -> u64;
-    fn gh_lookup_many(
-        p1: u32,
-        p2: u32,
-        count: u32,
-        list: *const u8,
-        list_len: usize,
-        first: *const u16,
-        first_len: usize,
-        second: *const u16,
-        second_len: usize,
-        third: *const u16,
-        third_len: usize,
-        own2: *const u32,
-        own2_len: usize,
-        own3: *const u32,
-        own3_len: usize,
-        addrs: *const u32,
-        addrs_len: usize,
-        out: *mut u32,
-        out_len: usize,
-    ) -> u64;
-    fn gh_build(
-        input: *const u8,
-        input_len: usize,
-        words: *mut u32,
-        words_len: usize,
-        hops: *mut u16,
-        hops_len: usize,
-    ) -> u64;
-    fn gh_tree_lookup(words: *const u32, words_len: usize, hops: *const u16, hops_len: usize, addr: u32) -> u64;
-    fn gh_run(input: *const u8, input_len: usize, addr: u32, len: u8) -> u64;
-    fn gh_tally(input: *const u8, input_len: usize, out: *mut u32, out_len: usize) -> u64;
-    fn gh_route(input: *const u8, input_len: usize, index: u32) -> u64;
 }
 
 /// Calls a function of the library: what comes before the six arrays; the six, `mut` where it changes them; what
