@@ -97,11 +97,13 @@ pub fn episode(run: &mut Run, rng: &mut Rng) {
     for _ in 0..10 {
         let (mut words, mut hops) = (words.clone(), hops.clone());
         for _ in 0..rng.range(1, 2) {
-            damage(rng, &mut words, &mut hops);
+            let at = *rng.pick(&addrs);
+            damage(rng, &mut words, &mut hops, at);
         }
         let (lent_words, lent_hops) = (Fenced::new(&words), Fenced::new(&hops));
-        for _ in 0..30 {
-            let addr = if rng.one_in(4) { field.addr(rng) } else { *rng.pick(&addrs) };
+        for k in 0..addrs.len().min(100) {
+            // All of them where there are few.
+            let addr = if addrs.len() <= 100 { addrs[k] } else { *rng.pick(&addrs) };
             look(run, &lent_words, &lent_hops, addr);
         }
         if let Some(what) = lent_words.differs("words", &words).or_else(|| lent_hops.differs("hops", &hops)) {
@@ -110,10 +112,31 @@ pub fn episode(run: &mut Run, rng: &mut Rng) {
     }
 }
 
-fn damage(rng: &mut Rng, words: &mut Vec<u32>, hops: &mut Vec<u16>) {
+/// The nodes that the walk of an address reads, as far as they stand.
+fn nodes_read(words: &[u32], addr: u32) -> Vec<usize> {
+    let mut read = vec![0];
+    for m in 0..8 {
+        let bitmap = words[3 * read[m]];
+        let next = addr << (4 * m) >> 28;
+        let below = (bitmap >> 16) & ((1 << next) - 1);
+        let child = words[3 * read[m] + 1] as usize + below.count_ones() as usize;
+        if bitmap >> (16 + next) & 1 == 0 || child >= words.len() / 3 {
+            break;
+        }
+        read.push(child);
+    }
+    read
+}
+
+/// Harm to an image that has a root, mostly on the walk of this address.
+fn damage(rng: &mut Rng, words: &mut Vec<u32>, hops: &mut Vec<u16>, addr: u32) {
     let nodes = words.len() / 3;
-    // Early nodes are on many walks.
-    let node = if rng.one_in(2) { rng.below(nodes.min(9)) } else { rng.below(nodes) };
+    let read = nodes_read(words, addr);
+    let node = match rng.below(4) {
+        0 => *rng.pick(&read),
+        1 => rng.below(nodes),
+        _ => read[read.len() - 1],
+    };
     match rng.below(11) {
         0 => words[3 * node] |= 1 << 15,
         1 => words[3 * node] ^= 1 << rng.below(32),
@@ -139,7 +162,7 @@ fn damage(rng: &mut Rng, words: &mut Vec<u32>, hops: &mut Vec<u16>) {
 
 /// Images of random words, where walks go in circles, end at the last word, or leave what is lent.
 pub fn wild(run: &mut Run, rng: &mut Rng) {
-    for _ in 0..40 {
+    for _ in 0..150 {
         let nodes = rng.range(0, 6);
         let mut words = Vec::new();
         let mut hops: Vec<u16> = (0..rng.below(12)).map(|_| rng.range(1, 99) as u16).collect();
@@ -160,9 +183,10 @@ pub fn wild(run: &mut Run, rng: &mut Rng) {
             if !rng.one_in(10) {
                 bitmap &= !(1 << 15);
             }
-            // A child base so near to 0 or to the top that most children stand.
-            let child = if rng.one_in(12) { u32::MAX - rng.below(20) as u32 } else { rng.below(nodes + 1) as u32 };
-            let hop = if rng.one_in(12) { u32::MAX - rng.below(20) as u32 } else { rng.below(hops.len() + 2) as u32 };
+            // Bases so near to 0 that most children and hops stand, or so near to the top that a sum leaves 32 bits.
+            let top = |rng: &mut Rng| u32::MAX - rng.below(5) as u32;
+            let child = if rng.one_in(8) { top(rng) } else { rng.below(nodes + 1) as u32 };
+            let hop = if rng.one_in(8) { top(rng) } else { rng.below(hops.len() + 2) as u32 };
             words.extend([bitmap, child, hop]);
         }
         for _ in 0..rng.below(3) {
