@@ -94,10 +94,12 @@ pub fn episode(run: &mut Run, rng: &mut Rng) {
             run.fault("a linear search over the routes finds another answer", &told);
         }
     }
-    for _ in 0..10 {
+    for _ in 0..30 {
         let (mut words, mut hops) = (words.clone(), hops.clone());
         for _ in 0..rng.range(1, 2) {
-            let at = *rng.pick(&addrs);
+            // Of four addresses the one whose walk is deepest.
+            let few = [(); 4].map(|()| *rng.pick(&addrs));
+            let at = few.into_iter().max_by_key(|&a| nodes_read(&words, a).len()).unwrap();
             damage(rng, &mut words, &mut hops, at);
         }
         let (lent_words, lent_hops) = (Fenced::new(&words), Fenced::new(&hops));
@@ -137,8 +139,8 @@ fn damage(rng: &mut Rng, words: &mut Vec<u32>, hops: &mut Vec<u16>, addr: u32) {
         1 => rng.below(nodes),
         _ => read[read.len() - 1],
     };
-    match rng.below(11) {
-        0 => words[3 * node] |= 1 << 15,
+    match rng.below(12) {
+        0 | 11 => words[3 * node] |= 1 << 15,
         1 => words[3 * node] ^= 1 << rng.below(32),
         2 => words[3 * node] = rng.word(),
         3 => words[3 * node + 1] = rng.below(nodes + 2) as u32,
