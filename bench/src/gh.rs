@@ -150,14 +150,7 @@ impl Image {
     pub fn build(&mut self, input: &[u8]) -> u64 {
         let (words, hops) = (&mut self.words, &mut self.hops);
         unsafe {
-            sys::gh_build(
-                input.as_ptr(),
-                input.len(),
-                words.as_mut_ptr(),
-                words.len(),
-                hops.as_mut_ptr(),
-                hops.len(),
-            )
+            sys::gh_build(input.as_ptr(), input.len(), words.as_mut_ptr(), words.len(), hops.as_mut_ptr(), hops.len())
         }
     }
 
@@ -165,8 +158,7 @@ impl Image {
     pub fn lookup_each(&self, addrs: &[u32], out: &mut [u32]) {
         let (words, hops) = (&self.words, &self.hops);
         for (o, &addr) in out.iter_mut().zip(addrs) {
-            let answer =
-                unsafe { sys::gh_tree_lookup(words.as_ptr(), words.len(), hops.as_ptr(), hops.len(), addr) };
+            let answer = unsafe { sys::gh_tree_lookup(words.as_ptr(), words.len(), hops.as_ptr(), hops.len(), addr) };
             *o = answer as u32;
         }
     }
@@ -175,9 +167,8 @@ impl Image {
     pub fn hand_each(&self, addrs: &[u32], out: &mut [u32]) {
         let (words, hops) = (&self.words, &self.hops);
         for (o, &addr) in out.iter_mut().zip(addrs) {
-            let answer = unsafe {
-                crate::hand::hand_tree_lookup(words.as_ptr(), words.len(), hops.as_ptr(), hops.len(), addr)
-            };
+            let answer =
+                unsafe { crate::hand::hand_tree_lookup(words.as_ptr(), words.len(), hops.as_ptr(), hops.len(), addr) };
             *o = answer as u32;
         }
     }

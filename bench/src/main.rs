@@ -45,8 +45,26 @@ impl Rng {
 /// How many of 1,000 routes have each length, about as in tables of the Internet: most are /24. A few longer ones
 /// stand for a network's own.
 const LENGTHS: [(u8, usize); 20] = [
-    (8, 1), (10, 1), (11, 1), (12, 1), (13, 1), (14, 2), (15, 3), (16, 15), (17, 9), (18, 15), (19, 27),
-    (20, 44), (21, 50), (22, 113), (23, 103), (24, 584), (25, 6), (26, 6), (28, 6), (32, 12),
+    (8, 1),
+    (10, 1),
+    (11, 1),
+    (12, 1),
+    (13, 1),
+    (14, 2),
+    (15, 3),
+    (16, 15),
+    (17, 9),
+    (18, 15),
+    (19, 27),
+    (20, 44),
+    (21, 50),
+    (22, 113),
+    (23, 103),
+    (24, 584),
+    (25, 6),
+    (26, 6),
+    (28, 6),
+    (32, 12),
 ];
 
 fn cut(addr: u32, len: u8) -> u32 {
@@ -345,9 +363,7 @@ fn main() {
         rounds
     );
     let rte = dpdk::start(&all);
-    for (name, addrs) in
-        [("random", random_traffic(&mut rng)), ("prefix-based", prefix_traffic(&mut rng, &all))]
-    {
+    for (name, addrs) in [("random", random_traffic(&mut rng)), ("prefix-based", prefix_traffic(&mut rng, &all))] {
         println!("\n{name} traffic, {} addresses, time for one", addrs.len());
         lookups(rounds, &table, &image, &dir, rte, &addrs);
     }

@@ -355,8 +355,7 @@ impl Image {
         let addr = u32::from(addr.into());
         let (words, hops) = (&self.words, &self.hops);
         // Each pointer is to a vector of that length, and the call writes nothing.
-        let answer =
-            unsafe { sys::gh_tree_lookup(words.as_ptr(), words.len(), hops.as_ptr(), hops.len(), addr) };
+        let answer = unsafe { sys::gh_tree_lookup(words.as_ptr(), words.len(), hops.as_ptr(), hops.len(), addr) };
         found(answered(answer)? as u32)
     }
 }

@@ -139,13 +139,7 @@ extern "C" {
         hops: *mut u16,
         hops_len: usize,
     ) -> u64;
-    pub fn gh_tree_lookup(
-        words: *const u32,
-        words_len: usize,
-        hops: *const u16,
-        hops_len: usize,
-        addr: u32,
-    ) -> u64;
+    pub fn gh_tree_lookup(words: *const u32, words_len: usize, hops: *const u16, hops_len: usize, addr: u32) -> u64;
     pub fn gh_run(input: *const u8, input_len: usize, addr: u32, len: u8) -> u64;
     pub fn gh_tally(input: *const u8, input_len: usize, out: *mut u32, out_len: usize) -> u64;
     pub fn gh_route(input: *const u8, input_len: usize, index: u32) -> u64;

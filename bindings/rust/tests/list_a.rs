@@ -103,5 +103,8 @@ fn inputs() {
     let mut bad = input.clone();
     bad[8 * 3 + 5] = 1;
     assert_eq!(refused(route(&bad, 0)), (10, Some(3)));
-    assert_eq!(route(&bad, 0).unwrap_err().to_string(), "refused 10 at 3: record input not a multiple of 8 bytes, spare not zero, or not ascending");
+    assert_eq!(
+        route(&bad, 0).unwrap_err().to_string(),
+        "refused 10 at 3: record input not a multiple of 8 bytes, spare not zero, or not ascending"
+    );
 }

@@ -320,8 +320,7 @@ impl Harm<'_> {
     fn contents_swapped(&mut self, rng: &mut Rng) {
         let second = rng.one_in(2);
         let size = if second { self.size2() } else { self.size3() };
-        let (own, cells) =
-            if second { (&self.t.own2, &mut self.t.second) } else { (&self.t.own3, &mut self.t.third) };
+        let (own, cells) = if second { (&self.t.own2, &mut self.t.second) } else { (&self.t.own3, &mut self.t.third) };
         if let Some(a) = in_use(rng, own) {
             let b = rng.below(own.len());
             for k in 0..size {
@@ -436,7 +435,13 @@ pub fn renumber(rng: &mut Rng, p1: u32, p2: u32, t: &mut Lent) -> bool {
         for o in t.own3.iter_mut().filter(|o| **o != 0) {
             let place = *o as usize - 1;
             let c = place / size;
-            let c = if c == a { b } else if c == b { a } else { c };
+            let c = if c == a {
+                b
+            } else if c == b {
+                a
+            } else {
+                c
+            };
             *o = (c * size + place % size) as u32 + 1;
         }
         a != b

@@ -14,11 +14,11 @@ impl Rng {
     /// The generator of part `n` of a run, so that each part can be run alone.
     pub fn part(seed: u64, n: u64) -> Rng {
         let mut r = Rng(seed ^ n.wrapping_mul(0xD6E8_FEB8_6659_FD93));
-        r.next();
+        r.draw();
         r
     }
 
-    pub fn next(&mut self) -> u64 {
+    pub fn draw(&mut self) -> u64 {
         self.0 = self.0.wrapping_add(0x9E37_79B9_7F4A_7C15);
         let mut z = self.0;
         z = (z ^ (z >> 30)).wrapping_mul(0xBF58_476D_1CE4_E5B9);
@@ -27,12 +27,12 @@ impl Rng {
     }
 
     pub fn word(&mut self) -> u32 {
-        (self.next() >> 32) as u32
+        (self.draw() >> 32) as u32
     }
 
     /// A number below `n`, which is not 0.
     pub fn below(&mut self, n: usize) -> usize {
-        (self.next() >> 16) as usize % n
+        (self.draw() >> 16) as usize % n
     }
 
     /// A number from `a` to `b`, both among them.
@@ -202,7 +202,7 @@ pub fn damaged_input(rng: &mut Rng, routes: &[Route]) -> Vec<u8> {
 fn damage_input(rng: &mut Rng, input: &mut Vec<u8>) {
     let whole = input.len() / 8;
     if whole == 0 {
-        let random = rng.next().to_le_bytes();
+        let random = rng.draw().to_le_bytes();
         input.extend(&random[..rng.range(0, 8)]);
         return;
     }

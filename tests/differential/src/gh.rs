@@ -189,9 +189,7 @@ pub fn lookup_many(p1: u32, p2: u32, count: u32, t: &Six, addrs: &[u32], out: &m
 }
 
 pub fn build(input: &[u8], words: &mut [u32], hops: &mut [u16]) -> u64 {
-    unsafe {
-        gh_build(input.as_ptr(), input.len(), words.as_mut_ptr(), words.len(), hops.as_mut_ptr(), hops.len())
-    }
+    unsafe { gh_build(input.as_ptr(), input.len(), words.as_mut_ptr(), words.len(), hops.as_mut_ptr(), hops.len()) }
 }
 
 pub fn tree_lookup(words: &[u32], hops: &[u16], addr: u32) -> u64 {

@@ -144,7 +144,10 @@ fn damage(rng: &mut Rng, words: &mut Vec<u32>, hops: &mut Vec<u16>, addr: u32) {
         1 => words[3 * node] ^= 1 << rng.below(32),
         2 => words[3 * node] = rng.word(),
         3 => words[3 * node + 1] = rng.below(nodes + 2) as u32,
-        4 => words[3 * node + 1] = *rng.pick(&[u32::MAX, u32::MAX - 7, 0x5555_5555, 0x5555_5556, 0xAAAA_AAAB, 0, 1 << 31]),
+        4 => {
+            words[3 * node + 1] =
+                *rng.pick(&[u32::MAX, u32::MAX - 7, 0x5555_5555, 0x5555_5556, 0xAAAA_AAAB, 0, 1 << 31])
+        }
         5 => words[3 * node + 2] = rng.below(hops.len() + 2) as u32,
         6 => words[3 * node + 2] = *rng.pick(&[u32::MAX, u32::MAX - 7, 0, 1 << 31, 1 << 16]),
         7 => words.truncate(rng.below(words.len() + 1).max(3)),

@@ -23,10 +23,8 @@ const FULL: u64 = 20_000;
 const DEFAULT: u64 = 40_000;
 
 fn main() {
-    let args: Vec<u64> = std::env::args()
-        .skip(1)
-        .map(|a| a.replace('_', "").parse().unwrap_or_else(|_| usage()))
-        .collect();
+    let args: Vec<u64> =
+        std::env::args().skip(1).map(|a| a.replace('_', "").parse().unwrap_or_else(|_| usage())).collect();
     if args.len() > 3 {
         usage();
     }

@@ -271,8 +271,7 @@ impl Pair {
         let Some(routes) = &self.standing else { return };
         let lent = &self.plain;
         let (size2, size3) = (plain::size2(self.p1, self.p2), plain::size3(self.p2));
-        let fresh =
-            Lent::new(self.p1, self.p2, lent.room(), lent.second.len() / size2, lent.third.len() / size3);
+        let fresh = Lent::new(self.p1, self.p2, lent.room(), lent.second.len() / size2, lent.third.len() / size3);
         let mut fresh = Pair::new(self.p1, self.p2, 0, fresh);
         let answer = fresh.step(run, &Call::Load(records(routes)));
         let told = || self.tell("against a fresh load");

@@ -181,9 +181,8 @@ pub fn search_table(p1: u32, p2: u32, routes: &[Route], addr: u32) -> u64 {
 
 /// What a lookup in a built image answers, worked out from the routes alone.
 pub fn search_image(routes: &[Route], addr: u32) -> u64 {
-    let stands = |m: &u32| {
-        *m == 0 || routes.iter().any(|r| r.len as u32 >= 4 * m && bits(r.addr, 4 * m) == bits(addr, 4 * m))
-    };
+    let stands =
+        |m: &u32| *m == 0 || routes.iter().any(|r| r.len as u32 >= 4 * m && bits(r.addr, 4 * m) == bits(addr, 4 * m));
     accepted_lookup((0..=8).filter(stands).count() as u64, search(routes, addr))
 }
 

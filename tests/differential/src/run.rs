@@ -38,7 +38,10 @@ impl Run {
     pub fn fault(&self, what: &str, told: &dyn Fn() -> String) -> ! {
         println!("FAULT: {what}");
         println!("{}", told());
-        println!("episode {} of seed {}; again: differential 1 {} {}", self.episode, self.seed, self.seed, self.episode);
+        println!(
+            "episode {} of seed {}; again: differential 1 {} {}",
+            self.episode, self.seed, self.seed, self.episode
+        );
         std::process::exit(1)
     }
 

@@ -353,7 +353,18 @@ fn other_geometry(run: &mut Run, rng: &mut Rng, field: &Field, t: &Pair, standin
         };
         odd_calls(run, rng, field, Pair::new(p1, p2, t.count, t.plain.clone()), standing);
     } else {
-        let (p1, p2) = *rng.pick(&[(11, 21), (11, 22), (12, 23), (12, 21), (13, 24), (14, 25), (15, 26), (16, 27), (17, 26), (17, 27)]);
+        let (p1, p2) = *rng.pick(&[
+            (11, 21),
+            (11, 22),
+            (12, 23),
+            (12, 21),
+            (13, 24),
+            (14, 25),
+            (15, 26),
+            (16, 27),
+            (17, 26),
+            (17, 27),
+        ]);
         let mut lent = Lent::new(p1, p2, rng.range(0, 4), rng.range(0, 2), rng.range(0, 2));
         lent.first.fill(0x8000);
         odd_calls(run, rng, field, Pair::new(p1, p2, 0, lent), standing);
