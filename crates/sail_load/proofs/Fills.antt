@@ -21,8 +21,8 @@ unfolding filled
 filled-whole l n v e =
     ext-getD 0 (filled l 0 n v) (replicate n v) (length-tabulate (length l) _ ∙ sym e ∙ sym (length-replicate n v))
     (λ i h.
-        let k : i < length l = rw length-tabulate at h in
-        getD-tabulate {A = ℕ} (length l) _ i 0 k ∙ rw (between-in 0 n i zero-le (omega arith)) (sym (getD-replicate {A = ℕ} n i v 0 (omega arith))))
+    let k : i < length l = rw length-tabulate at h in
+    getD-tabulate {A = ℕ} (length l) _ i 0 k ∙ rw (between-in 0 n i zero-le (omega arith)) (sym (getD-replicate {A = ℕ} n i v 0 (omega arith))))
 
 -- bytes copied one by one
 pub copied-none : (l s : List ℕ) → l ≡ copied l s 0
@@ -52,8 +52,8 @@ unfolding filled padded
 padded-is l s h =
     is-tabulate 0 _ (length l) _ (length-tabulate (length (copied l s (length s))) _ ∙ length-copied l s (length s))
     (λ i k.
-        let u : i < length (copied l s (length s)) = rw length-copied k in
-        getD-tabulate {A = ℕ} (length (copied l s (length s))) _ i 0 u ∙ go i k u (below? i (length s)))
+    let u : i < length (copied l s (length s)) = rw length-copied k in
+    getD-tabulate {A = ℕ} (length (copied l s (length s))) _ i 0 u ∙ go i k u (below? i (length s)))
   where
     go : (i : ℕ) → i < length l → i < length (copied l s (length s)) → (i < length s) ⊎ (length s ≤ i) → cond (between (length s) (length (copied l s (length s))) i) 0 (getD (copied l s (length s)) i 0) ≡ getD s i 0
     go i k u (inl b) = rw (between-below (length s) (length (copied l s (length s))) i b) (getD-copied l s (length s) i k b)

@@ -26,8 +26,8 @@ module _ (s : List ℕ) (bytes : (j : ℕ) → getD s j 0 < 256) (good : Readabl
   padded-written room fits =
       ext-getD 0 _ (written (inputRoutes s) room) (length-tabulate (room * 8) _ ∙ sym (length-written (inputRoutes s) room))
       (λ j h.
-          let k : j < room * 8 = rw length-tabulate at h in
-          getD-tabulate {A = ℕ} (room * 8) _ j 0 k ∙ go j k (below? (j / 8) n))
+      let k : j < room * 8 = rw length-tabulate at h in
+      getD-tabulate {A = ℕ} (room * 8) _ j 0 k ∙ go j k (below? (j / 8) n))
     where
       go : (j : ℕ) → j < room * 8 → (j / 8 < n) ⊎ (n ≤ j / 8) → getD s j 0 ≡ getD (written (inputRoutes s) room) j 0
       go j h (inl l) =

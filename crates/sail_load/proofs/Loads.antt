@@ -9,7 +9,7 @@ use borrow.Author.Tests.{lt-ltb, le-ltb}
 use Rattle.routes.specs.Route.{need}
 use Rattle.routes.specs.Record.{routesOf}
 use Rattle.routes.specs.declared.Route.{Route}
-use Rattle.routes.specs.Said.{accepted, refused, refusedAt}
+use Rattle.routes.specs.Said.{accepted, refused, refusedAt, accepts}
 use Rattle.routes.specs.Input.{inputSaid}
 use Rattle.routes.proofs.Rows.{length-routes}
 use Rattle.routes.proofs.Meaning.{input-good}
@@ -18,8 +18,8 @@ use Rattle.sail.specs.Sizes.{sizesFault, Checked}
 use Rattle.sail.specs.declared.geometry.Geometry.{Geometry}
 use Rattle.sail.specs.declared.table.Table.{Table}
 use Rattle.sail_theory.specs.Render.{roomOf}
-use Rattle.sail_theory.specs.Calls.{chunksFault, loadFault, loadSaid, took, loaded, inputRoutes}
-use Rattle.sail_theory.proofs.Loads.{took-loadable, loadable-said, load-is, load-off}
+use Rattle.sail_theory.specs.Calls.{chunksFault, loadFault, loadSaid, loaded, inputRoutes}
+use Rattle.sail_theory.proofs.Loads.{accepted-loadable, loadable-said, load-is, load-off}
 use Rattle.sail_load.specs.Answers.{out, saysLoaded}
 use Rattle.sail_load.specs.Need.{terms, Weighs}
 use Rattle.sail_load.specs.Renew.{Renewable, anew}
@@ -85,17 +85,17 @@ module _ (t : Table) (l : Lent) (input : List ℕ) (z : ℕ) (check : Checked z 
         says-done h = rw (none, good, ← whole, h)
 
 -- the whole call
-module _ (t : Table) (l : Lent) (input : List ℕ) (a : Loaded) (b : Bool) (told : saysLoaded a ≡ loadSaid t l input) (accepts : b ≡ took (saysLoaded a)) where
+module _ (t : Table) (l : Lent) (input : List ℕ) (a : Loaded) (b : Bool) (told : saysLoaded a ≡ loadSaid t l input) (says : b ≡ accepts (saysLoaded a)) where
   pub load-refuses : b ≡ false → out (saysLoaded a) t l ≡ loaded t l input
-  load-refuses h = sym (load-off t l input (saysLoaded a) (sym told) (sym accepts ∙ h))
+  load-refuses h = sym (load-off t l input (saysLoaded a) (sym told) (sym says ∙ h))
 
   module _ (h : b ≡ true) where
-    accepted-said : took (loadSaid t l input) ≡ true
-    accepted-said = sym (ap took told) ∙ sym accepts ∙ h
+    accepted-said : accepts (loadSaid t l input) ≡ true
+    accepted-said = sym (ap accepts told) ∙ sym says ∙ h
 
     pub renewable : Renewable t input l
     renewable =
-        let w = took-loadable t l input accepted-said in
+        let w = accepted-loadable t l input accepted-said in
         record { readable = record { whole = w .0 .whole; records = w .0 .records }; loadable = w .1 }
 
     pub few : length input / 8 ≤ 4096
@@ -103,7 +103,7 @@ module _ (t : Table) (l : Lent) (input : List ℕ) (a : Loaded) (b : Bool) (told
 
     pub load-loads : (v : Lent) → v ≡ anew t l input → out (saysLoaded a) (record { geometry = t .geometry; count = length input / 8 }) v ≡ loaded t l input
     load-loads v e =
-        let w = took-loadable t l input accepted-said in
+        let w = accepted-loadable t l input accepted-said in
         let said : saysLoaded a ≡ accepted [] = told ∙ loadable-said t l input (w .0) (w .1) in
         let n = length-routes input (length input / 8) in
         (λ i. record { said = said i; table = record { geometry = t .geometry; count = sym n i }; lent = e i }) ∙ sym (load-is t l input (w .0) (w .1))

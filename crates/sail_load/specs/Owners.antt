@@ -2,7 +2,7 @@
 use mathlib.Core.List.{List}
 use mathlib.Core.Path.{_≡_}
 use Prim.Native.Nat.{ℕ, suc, _-_, _/_, _≤_, _<_}
-use lib.ListN.{length, getD, replicate}
+use lib.ListN.{length, getD, set, replicate}
 use Rattle.bits.specs.Slot.{slot}
 use Rattle.routes.specs.Route.{need, Fine}
 use Rattle.routes.specs.Record.{Records}
@@ -27,16 +27,15 @@ pub record LastIs (own : List ℕ) (m o : ℕ) : Type 0 where
   pub some : 0 < m
   pub is : getD own (m - 1) 0 ≡ o
 
--- A chunk may be hung from the place q. The last chunk in use decides: it hangs there, or none does and a chunk is free.
+-- A chunk may be hung from the place q. The last chunk in use decides: it hangs there; or none does, and the next chunk is free.
 pub record Hangs (own : List ℕ) (m q : ℕ) : Type 0 where
   pub packed : Packed own m
-  pub fits : q < 4294967295
-  pub had : LastIs own m (suc q) → suc (find own (suc q)) ≡ m
-  pub new : (LastIs own m (suc q) → ⊥) → (length own ≤ find own (suc q)) × (m < length own)
+  pub had : LastIs own m (suc q) → (grant own m q ≡ own) × (suc (find own (suc q)) ≡ m)
+  pub new : (LastIs own m (suc q) → ⊥) → (m < length own) × (grant own m q ≡ set own m (suc q)) × (find (set own m (suc q)) (suc q) ≡ m)
 
--- A chunk hangs from q: one that did, or the lowest free one. It is the last of the r that are then in use.
-pub record Hung (own : List ℕ) (q : ℕ) (own′ : List ℕ) (r : ℕ) : Type 0 where
-  pub is : own′ ≡ grant own (find own 0) q
+-- A chunk hangs from q, and is the last of the r that are then in use.
+pub record Hung (own : List ℕ) (m q : ℕ) (own′ : List ℕ) (r : ℕ) : Type 0 where
+  pub is : own′ ≡ grant own m q
   pub packed : Packed own′ r
   pub last : suc (find own′ (suc q)) ≡ r
 

@@ -1,8 +1,9 @@
 // A table loaded from a record input.
 ghost use mathlib.Core.Path.{_≡_};
 ghost use Rattle.routes.specs.Record.{routesOf};
+ghost use Rattle.routes.specs.Said.{accepts};
 ghost use Rattle.sail.specs.Lent.{lent};
-ghost use Rattle.sail_theory.specs.Calls.{loadFault, loadSaid, loaded, took};
+ghost use Rattle.sail_theory.specs.Calls.{loadFault, loadSaid, loaded};
 ghost use Rattle.sail_load.specs.Answers.{out, saysLoaded};
 ghost use Rattle.sail_load.specs.Need.{terms, Weighs};
 use crate::need::count_need;
@@ -74,7 +75,7 @@ fn judge(
 }
 
 fn accepts(a: Loaded) -> bool
-    ensures { λ r. ⌜ r ≡ took (saysLoaded a) ⌝ }
+    ensures { λ r. ⌜ r ≡ accepts (saysLoaded a) ⌝ }
 {
     match a {
         Loaded::Done => true,
@@ -103,14 +104,8 @@ pub fn load(
         let count = (input.len() / 8) as u32;
         return Changed {
             answer,
-            table: Table {
-                geometry: g,
-                count,
-            },
+            table: Table { geometry: g, count },
         };
     }
-    Changed {
-        answer,
-        table: t,
-    }
+    Changed { answer, table: t }
 }

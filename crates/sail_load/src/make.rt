@@ -5,8 +5,8 @@ ghost use Rattle.sail.specs.Sound.{freshLent};
 ghost use Rattle.sail_theory.specs.Calls.{made};
 ghost use Rattle.sail_load.specs.Answers.{out, saysMade};
 use crate::fill::fill16;
-use crate::fill::zero32;
 use crate::fill::zero8;
+use crate::fill::zero32;
 use sail::table::Table;
 use sail::table::sizes;
 

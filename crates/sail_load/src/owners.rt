@@ -34,7 +34,8 @@ fn last_is(own: &[u32], m: usize, o: u32) -> bool
 // A chunk hangs from the place q: the last in use, or a new one. Says how many are then in use.
 fn hang(own: &mut [u32], m: usize, q: u32) -> usize
     requires { ⌜ Hangs (now own) m q ⌝ }
-    ensures { λ r. ⌜ Hung (now (own .entry)) q (now (own .exit)) r ⌝ }
+    requires { ⌜ q < 4294967295 ⌝ }
+    ensures { λ r. ⌜ Hung (now (own .entry)) m q (now (own .exit)) r ⌝ }
 {
     let o = q + 1;
     if last_is(own, m, o) {
@@ -54,13 +55,7 @@ fn place(g: Geometry, c: usize, addr: u32) -> u32
 }
 
 // Opens the chunks of a route that comes after all those before it.
-fn open_for(
-    g: Geometry,
-    r: Route,
-    used: InUse,
-    own2: &mut [u32],
-    own3: &mut [u32],
-) -> InUse
+fn open_for(g: Geometry, r: Route, used: InUse, own2: &mut [u32], own3: &mut [u32]) -> InUse
     requires { ⌜ Opens g r used (now own2) (now own3) ⌝ }
     ensures { λ u. ⌜ Opened g r (now (own2 .entry)) (now (own3 .entry)) u (now (own2 .exit)) (now (own3 .exit)) ⌝ }
 {

@@ -53,7 +53,17 @@ fn paint(
     let n = input.len() / 8;
     let mut ws = [0u64; 4096];
     let mut par = [0u16; 4353];
-    paint_with(&mut ws[..n], &mut par, g, input, first, second, third, own2, own3);
+    paint_with(
+        &mut ws[..n],
+        &mut par,
+        g,
+        input,
+        first,
+        second,
+        third,
+        own2,
+        own3,
+    );
 }
 
 // The list, the owners and the cells.

@@ -1,6 +1,6 @@
 -- A chunk, free or in use, as the code tests it. Assumes nothing.
-use mathlib.Core.Path.{_≡_, refl, sym, ap, _∙_}
-use mathlib.Core.Bool.{Bool, true, false, not, true≢false}
+use mathlib.Core.Path.{_≡_, sym, _∙_}
+use mathlib.Core.Bool.{Bool, true, false, true≢false}
 use mathlib.Core.List.{List}
 use Prim.Native.Nat.{ℕ, suc, _+_, _-_, _*_, _/_, _%_, _^_, _≤_, _<_}
 use native.Mathlib.Nat.{mod-lt, div-lt-iff-lt-mul, mul-le-mul-right, add-mul, one-mul}
@@ -15,7 +15,7 @@ use Rattle.plan.specs.Part.{Right, Zero}
 use Rattle.plan.proofs.Tells.{is-no, tells-same}
 use Rattle.sail.specs.Geometry.{Power}
 use Rattle.sail.specs.Level.{itself, liveIn, partOf, entry}
-use Rattle.sail_sound.specs.Pool.{partAt, chunkOf, Hung, ChunkOk, HookedChunk, Stands, Hooks, Hook, Hanging, Pooled}
+use Rattle.sail_sound.specs.Pool.{partAt, Hung, HookedChunk, Stands, Hooks, Hook, Hanging, Pooled}
 
 -- the answers of `hung_ok`
 module _ (rs : List Route) (p d : ℕ) (above cells below : List ℕ) (c o q i v : ℕ) where

@@ -1,22 +1,20 @@
 -- The judgement and the report as the code makes them. Assumes nothing.
 use mathlib.Core.Path.{_≡_, refl, sym, ap, ap₂, _∙_}
-use mathlib.Core.Logic.{_⊎_, inl, inr}
 use mathlib.Core.Bool.{Bool, true, false, not, cond}
 use mathlib.Core.List.{List, [], _∷_}
-use Prim.Native.Nat.{ℕ, zero, suc, _+_, _≤_, _<_}
+use Prim.Native.Nat.{ℕ, zero, suc, _+_, _≤_}
 use native.Mathlib.Numerals.{add-one}
 use native.Mathlib.Omega.{arith}
-use lib.Dec.{eqb, ltb}
+use lib.Dec.{eqb}
 use lib.ListN.{length, getD}
-use borrow.Author.Tests.{eqb-true, eqb-false, eq-eqb, ne-eqb, lt-ltb, le-ltb}
-use Rattle.bits.specs.Count.{bit, count}
-use Rattle.bits.proofs.Tests.{decided}
+use borrow.Author.Tests.{ne-eqb, lt-ltb, le-ltb}
+use Rattle.bits.specs.Count.{count}
 use Rattle.routes.specs.Route.{need}
 use Rattle.routes.specs.Said.{Said, accepted, refused}
 use Rattle.sail.specs.Lent.{Lent}
 use Rattle.sail.specs.Level.{inUse, entry}
 use Rattle.sail.specs.Sizes.{sizesFault, Checked}
-use Rattle.sail.specs.Sound.{Sound, standing, used}
+use Rattle.sail.specs.Sound.{standing, used}
 use Rattle.sail.specs.declared.table.Table.{Table}
 use Rattle.sail.proofs.Sounds.{chunks-need}
 use Rattle.sail_theory.specs.Test.{sound?}

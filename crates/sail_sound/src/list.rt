@@ -1,5 +1,4 @@
 // The list of a table: whole records, the first n of them good, and zero bytes after them.
-ghost use mathlib.Core.Path.{_≡_};
 ghost use Prim.Native.Nat.{_*_, _≤_, _<_};
 ghost use lib.ListN.{length};
 ghost use Rattle.bits.specs.Tab.{Tells};

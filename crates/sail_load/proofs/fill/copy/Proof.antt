@@ -27,10 +27,10 @@ copy-spec =
     (λ c. search needs)
     (λ c. search needs)
     (λ c.
-        let l = c .before .before .loop in
-        (search needs, rw (l .inv .1) (copied-more _ _ _), simp length-set (l .inv .2)))
+    let l = c .before .before .loop in
+    (search needs, rw (l .inv .1) (copied-more _ _ _), simp length-set (l .inv .2)))
     (λ c. search needs)
     (λ c.
-        let l = c .before .loop in
-        let e : l .i ≡ length (c .before .before .args .input .now) = omega arith in
-        rw (← e) (l .inv .1)))
+    let l = c .before .loop in
+    let e : l .i ≡ length (c .before .before .args .input .now) = omega arith in
+    rw (← e) (l .inv .1)))

@@ -28,10 +28,10 @@ zero32-spec =
     (λ c. search needs)
     (λ c. search needs)
     (λ c.
-        let l = c .before .loop in
-        (search needs, rw (l .inv .1) (filled-more _ _ _ _ (search needs)), simp length-set (l .inv .2)))
+    let l = c .before .loop in
+    (search needs, rw (l .inv .1) (filled-more _ _ _ _ (search needs)), simp length-set (l .inv .2)))
     (λ c. search needs)
     (λ c.
-        let l = c .before .loop in
-        let e : l .i ≡ length (c .before .before .args .out .now) = omega arith in
-        l .inv .1 ∙ rw e (filled-whole _ _ _ refl)))
+    let l = c .before .loop in
+    let e : l .i ≡ length (c .before .before .args .out .now) = omega arith in
+    l .inv .1 ∙ rw e (filled-whole _ _ _ refl)))

@@ -27,10 +27,10 @@ zero8-spec =
     (λ c. search needs)
     (λ c. search needs)
     (λ c.
-        let l = c .before .loop in
-        (search needs, search needs, rw (l .inv .2) (filled-more _ _ _ _ (l .inv .0)), simp length-set (l .inv .3)))
+    let l = c .before .loop in
+    (search needs, search needs, rw (l .inv .2) (filled-more _ _ _ _ (l .inv .0)), simp length-set (l .inv .3)))
     (λ c. search needs)
     (λ c.
-        let l = c .before .loop in
-        let e : l .i ≡ length (c .before .before .args .out .now) = omega arith in
-        rw (← e) (l .inv .2)))
+    let l = c .before .loop in
+    let e : l .i ≡ length (c .before .before .args .out .now) = omega arith in
+    rw (← e) (l .inv .2)))

@@ -4,7 +4,7 @@ use Prim.Native.Nat.{_-_, _≤_}
 use native.Mathlib.Omega.{arith}
 use borrow.Author.Needs.{needs}
 use Rattle.routes.specs.Record.{routesOf}
-use Rattle.sail_load.proofs.Needs.{Counted, counts-none, counts-short, counts-again, counts-new}
+use Rattle.sail_load.proofs.Needs.{Counted, counted-none, counted-short, counted-had, counted-new}
 use Rattle.sail_load.proofs.need.count_need.Statement.{statement}
 use Rattle.sail_load.proofs.need.count_need.Tie as tie
 
@@ -20,7 +20,7 @@ count-need-spec =
     (tie.spec
     Inv-loop
     μ-loop
-    (λ c. (omega arith, omega arith, counts-none _ _))
+    (λ c. (omega arith, omega arith, counted-none _ _))
     (λ c κs. omega (arith, c .before .before .before .pre .records .room))
     (λ c. omega (arith, c .before .before .before .before .pre .records .few))
     (λ c κs. search needs)
@@ -30,22 +30,26 @@ count-need-spec =
     (λ c. omega (arith, c .before .before .before .before .before .before .before .before .before .pre .records .few))
     (λ c. omega arith)
     (λ c.
-        let l = c .before .before .before .before .before .before .before .loop in
-        let q = c .before .before .before .before .before .before .before .before .before .pre in
-        (omega arith, omega arith,
-        counts-new _ _ _ (q .records) (omega arith) _ (q .level) _ _ (l .inv .2) _ (c .before .before .before .before .before .read-record .ensures) (omega arith) _ (c .before .wide64 .ensures ∙ c .before .before .slot .ensures) (c .if2 .taken)))
+    let l = c .before .before .before .before .before .before .before .loop in
+    let q = c .before .before .before .before .before .before .before .before .before .pre in (
+      omega arith,
+      omega arith,
+      counted-new _ _ _ _ _ _ (q .records) (omega arith) (q .level) (l .inv .2) _ (c .before .before .before .before .before .read-record .ensures) (omega arith) _ (c .before .wide64 .ensures ∙ c .before .before .slot .ensures) (c .if2 .taken),
+    ))
     (λ c. omega arith)
     (λ c.
-        let l = c .before .before .before .before .before .before .before .loop in
-        let q = c .before .before .before .before .before .before .before .before .before .pre in
-        (omega arith, omega arith,
-        counts-again _ _ _ (q .records) (omega arith) _ (q .level) _ _ (l .inv .2) _ (c .before .before .before .before .before .read-record .ensures) (omega arith) _ (c .before .wide64 .ensures ∙ c .before .before .slot .ensures) (c .if2 .left)))
+    let l = c .before .before .before .before .before .before .before .loop in
+    let q = c .before .before .before .before .before .before .before .before .before .pre in (
+      omega arith,
+      omega arith,
+      counted-had _ _ _ _ _ _ (q .records) (omega arith) (q .level) (l .inv .2) _ (c .before .before .before .before .before .read-record .ensures) (omega arith) _ (c .before .wide64 .ensures ∙ c .before .before .slot .ensures) (c .if2 .left),
+    ))
     (λ c. omega arith)
     (λ c.
-        let l = c .before .before .before .before .loop in
-        let q = c .before .before .before .before .before .before .pre in
-        (omega arith, omega arith, counts-short _ _ _ (q .records) (omega arith) _ (q .level) _ _ (l .inv .2) _ (c .before .before .read-record .ensures) (omega arith)))
+    let l = c .before .before .before .before .loop in
+    let q = c .before .before .before .before .before .before .pre in
+    (omega arith, omega arith, counted-short _ _ _ _ _ _ (q .records) (omega arith) (q .level) (l .inv .2) _ (c .before .before .read-record .ensures) (omega arith)))
     (λ c.
-        let l = c .before .loop in
-        let e : l .k ≡ c .before .before .before .args .n = omega arith in
-        (rw (← e) (l .inv .2 .number), omega arith)))
+    let l = c .before .loop in
+    let e : l .k ≡ c .before .before .before .args .n = omega arith in
+    (rw (← e) (l .inv .2 .number), omega arith)))

@@ -16,7 +16,7 @@ open-for-spec =
     (λ c. search needs)
     (λ c. opened-second _ _ _ _ _ (c .before .before .before .before .before .before .before .before .before .before .pre) (omega arith) _ (c .before .before .before .before .slot .ensures) _ _ (c .before .before .before .hang .ensures) (omega arith))
     (λ c κs. chunk-second _ _ _ _ _ (c .before .before .before .before .before .before .before .before .before .before .before .pre) (omega arith) _ (c .before .before .before .before .before .slot .ensures) _ _ (c .before .before .before .before .hang .ensures) (c .before .before .before .before .hang .kept .0))
-    (λ c κs. hangs-third _ _ _ _ _ (c .before .before .before .before .before .before .before .before .before .before .before .before .pre) (omega arith) _ (c .before .before .before .before .before .before .slot .ensures) _ _ (c .before .before .before .before .before .hang .ensures) (omega arith) _ (c .place .ensures .0))
+    (λ c κs. (hangs-third _ _ _ _ _ (c .before .before .before .before .before .before .before .before .before .before .before .before .pre) (omega arith) _ (c .before .before .before .before .before .before .slot .ensures) _ _ (c .before .before .before .before .before .hang .ensures) (omega arith) _ (c .place .ensures .0), omega (arith, c .place .ensures .1)))
     (λ c. search needs)
     (λ c. search needs)
     (λ c. opened-third _ _ _ _ _ (c .before .before .before .before .before .before .before .before .before .before .before .before .before .before .before .pre) (omega arith) _ (c .before .before .before .before .before .before .before .before .before .slot .ensures) _ _ (c .before .before .before .before .before .before .before .before .hang .ensures) (omega arith) _ (c .before .before .before .place .ensures .0) _ _ (c .before .before .hang2 .ensures)))

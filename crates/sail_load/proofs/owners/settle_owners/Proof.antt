@@ -1,7 +1,7 @@
 -- `sail_load::owners::settle_owners` meets its contract. The invariant: the owners of the records passed. Assumes nothing.
 use Prim.Native.Nat.{_-_, _≤_}
 use native.Mathlib.Omega.{arith}
-use Rattle.sail_load.proofs.Passes.{Passed, passed-none, passed-opens, passed-more, passed-all}
+use Rattle.sail_load.proofs.Passes.{Passed, passed-none, passed-lengths, passed-all, passed-opens, passed-more}
 use Rattle.sail_load.proofs.owners.settle_owners.Statement.{statement}
 use Rattle.sail_load.proofs.owners.settle_owners.Tie as tie
 
@@ -19,10 +19,10 @@ settle-owners-spec =
     μ-loop
     (λ c. (omega arith, passed-none _ _ _ _ (c .before .before .before .pre)))
     (λ c κs. omega arith)
-    (λ c κs. passed-opens _ _ _ _ _ _ _ _ (c .before .before .before .before .loop .inv .1) (omega arith) _ (c .before .before .read-record .ensures))
+    (λ c κs. passed-opens _ _ _ _ (c .before .before .before .before .before .before .before .before .pre) _ _ _ _ (c .before .before .before .before .loop .inv .1) (omega arith) _ (c .before .before .read-record .ensures))
     (λ c. omega (arith, c .before .before .before .before .before .before .before .before .before .before .before .before .before .pre .records .few))
     (λ c. omega arith)
-    (λ c. (omega arith, passed-more _ _ _ _ _ _ _ _ (c .before .before .before .before .before .before .before .before .before .loop .inv .1) (omega arith) _ (c .before .before .before .before .before .before .before .read-record .ensures) _ _ _ (c .before .before .before .before .open-for .ensures)))
-    (λ c. c .before .loop .inv .1 .fronts .len2)
-    (λ c. c .before .loop .inv .1 .fronts .len3)
-    (λ c. passed-all _ _ _ _ _ _ _ _ (c .before .loop .inv .1) (omega arith)))
+    (λ c. (omega arith, passed-more _ _ _ _ (c .before .before .before .before .before .before .before .before .before .before .before .before .before .pre) _ _ _ _ (c .before .before .before .before .before .before .before .before .before .loop .inv .1) (omega arith) _ (c .before .before .before .before .before .before .before .read-record .ensures) _ _ _ (c .before .before .before .before .open-for .ensures)))
+    (λ c. passed-lengths _ _ _ _ (c .before .before .before .before .before .pre) _ _ _ _ (c .before .loop .inv .1) .0)
+    (λ c. passed-lengths _ _ _ _ (c .before .before .before .before .before .pre) _ _ _ _ (c .before .loop .inv .1) .1)
+    (λ c. passed-all _ _ _ _ (c .before .before .before .before .before .pre) _ _ _ _ (c .before .loop .inv .1) (omega arith)))

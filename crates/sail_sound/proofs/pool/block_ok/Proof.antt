@@ -1,5 +1,4 @@
 -- `sail_sound::pool::block_ok` meets its contract. Assumes nothing.
-use native.Mathlib.Omega.{arith}
 use Rattle.sail_sound.proofs.Blocks.{plan-room, block-tested, block-tells}
 use borrow.Author.Needs.{needs}
 use Rattle.sail_sound.proofs.pool.block_ok.Statement.{statement}

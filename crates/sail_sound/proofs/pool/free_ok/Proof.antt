@@ -1,5 +1,4 @@
 -- `sail_sound::pool::free_ok` meets its contract. Assumes nothing.
-use native.Mathlib.Omega.{arith}
 use Rattle.sail_sound.proofs.Blocks.{free-tells}
 use borrow.Author.Needs.{needs}
 use Rattle.sail_sound.proofs.pool.free_ok.Statement.{statement}

@@ -1,5 +1,4 @@
 -- `sail_sound::pool::start` meets its contract. Assumes nothing.
-use native.Mathlib.Omega.{arith}
 use Rattle.sail_sound.proofs.Blocks.{start-is}
 use borrow.Author.Needs.{needs}
 use Rattle.sail_sound.proofs.pool.start.Statement.{statement}

@@ -1,0 +1,127 @@
+-- Demand 1. "Every call answers for every input and ends; a refusal is never a hop, carries its number, and state and buffers stay exactly
+-- as they were."
+--
+-- That every call answers for every input and ends is the language's own promise: a crate is built only where each of its functions is shown
+-- to end, and a call on offer has no `requires`. What it answers is its contract's equation; the theorems below say what the equations mean.
+-- Calls that take their arrays by `&` cannot change them. For the five that change something, a refusal leaves all as it was.
+-- Assumes nothing.
+use mathlib.Core.Path.{_≡_, refl, sym, _∙_, ap, subst}
+use mathlib.Core.Logic.{_↔_}
+use mathlib.Core.Bool.{false, false≢true}
+use mathlib.Core.List.{List}
+use Prim.Native.Nat.{ℕ}
+use native.Mathlib.Omega.{arith}
+use Rattle.routes.specs.Input.{inputSaid}
+use Rattle.routes.specs.Answers.{routeSaid}
+use Rattle.routes.specs.Said.{Said, accepted, refused, refusedAt, accepts}
+use Rattle.routes.proofs.Meaning.{Checked, input-checked}
+use Rattle.lists.specs.Run.{runSaid}
+use Rattle.sail.specs.Lent.{Lent}
+use Rattle.sail.specs.Walk.{lookupSaid, saysFound}
+use Rattle.sail.specs.declared.table.Table.{Table}
+use Rattle.sail.specs.declared.lookup.Found.{Found}
+use Rattle.sail.specs.declared.lookup.Found.the-variants as found
+use Rattle.sail.proofs.Answers.{found-injective}
+use Rattle.sail_theory.specs.Calls.{Out, made, announced, withdrawn, loaded, reported}
+use Rattle.sail_theory.proofs.Judged.{Make, make-judged, Announce, announce-judged, Withdraw, withdraw-judged, Load, load-judged, Report, report-judged}
+use Rattle.sail_theory.proofs.Only.{make-only, announce-only, withdraw-only, load-only, report-only}
+use Rattle.sail_theory.proofs.Accepted.{announce-said, announce-refused, withdraw-said, withdraw-refused}
+use Rattle.sail_theory.proofs.Fresh.{make-said, make-refused}
+use Rattle.sail_theory.proofs.Loads.{load-said, load-refused}
+use Rattle.tree.specs.Walk.{saysTreeFound, treeSaid}
+use Rattle.tree.specs.declared.TreeFound.{TreeFound}
+use Rattle.tree.specs.declared.TreeFound.the-variants as treeFound
+use Rattle.tree.proofs.Walks.{saysTreeFound-injective}
+use Rattle.tree_build.specs.Built.{built}
+use Rattle.tree_build.proofs.Serves.{refused-leaves}
+use Rattle.demands.proofs.Inputs.{check-only, RunChecked, run-judged, run-only, RouteRead, route-judged, route-only}
+use Rattle.demands.proofs.Lookups.{Lookup, lookup-judged, lookup-only}
+use Rattle.demands.proofs.Builds.{Build, build-judged, build-only}
+use Rattle.demands.proofs.Walks.{OnlyThirteen, tree-thirteen}
+
+-- "A refusal is never a hop."
+
+-- what is refused has a number, and no hop and no count
+pub refused-no-values : (n : ℕ) (vs : List ℕ) → refused n ≡ accepted vs → ⊥
+refused-no-values n vs e = let z : _≡_ {A = ℕ} 0 1 = cc in omega arith
+
+pub refused-at-no-values : (n k : ℕ) (vs : List ℕ) → refusedAt n k ≡ accepted vs → ⊥
+refused-at-no-values n k vs e = let z : _≡_ {A = ℕ} 0 1 = cc in omega arith
+
+-- so the answer of a lookup that is refused is the number alone
+pub refused-no-hop-lookup : (t : Table) (l : Lent) (a : ℕ) (r : Found) → saysFound r ≡ lookupSaid t l a → (n : ℕ) → lookupSaid t l a ≡ refused n → r ≡ found.Refused n
+unfolding saysFound
+refused-no-hop-lookup t l a r e n q = found-injective r (found.Refused n) (e ∙ q)
+
+-- and in an image it is 13
+pub refused-no-hop-tree : (ws hs : List ℕ) (a : ℕ) (r : TreeFound) → saysTreeFound r ≡ treeSaid ws hs a → (n : ℕ) → treeSaid ws hs a ≡ refused n → (n ≡ 13) × (r ≡ treeFound.Broken)
+unfolding saysTreeFound
+refused-no-hop-tree ws hs a r e n q =
+    let z : n ≡ 13 = subst OnlyThirteen q (tree-thirteen ws hs a) in
+    (z, saysTreeFound-injective r treeFound.Broken (e ∙ q ∙ ap refused z))
+
+-- "Carries its number": a call says s exactly where the condition that stands beside s holds. The conditions are listed in document 01's
+-- order, each with the failure of those before it; so the number is that of the first that holds.
+exactly : (P : Said → Type 0) (x y : Said) → x ≡ y → P y → ((s : Said) → P s → y ≡ s) → (s : Said) → (x ≡ s) ↔ P s
+exactly P x y q h only s = ((λ e. subst P (sym q ∙ e) h), (λ c. q ∙ only s c))
+
+-- check_input, and with it the tally: the length (10), record by record 3, 4, spare, order (10), then 6
+pub refused-number-check-input : (bytes : List ℕ) (s : Said) → (inputSaid bytes ≡ s) ↔ Checked bytes s
+refused-number-check-input bytes = exactly (Checked bytes) _ _ refl (input-checked bytes) (check-only bytes)
+
+-- route_at: the input's
+pub refused-number-route-at : (bytes : List ℕ) (k : ℕ) (s : Said) → (routeSaid bytes k ≡ s) ↔ RouteRead bytes k s
+refused-number-route-at bytes k = exactly (RouteRead bytes k) _ _ refl (route-judged bytes k) (route-only bytes k)
+
+-- run_check: the input's, then 3
+pub refused-number-run-check : (bytes : List ℕ) (a len : ℕ) (s : Said) → (runSaid bytes a len ≡ s) ↔ RunChecked bytes a len s
+refused-number-run-check bytes a len = exactly (RunChecked bytes a len) _ _ refl (run-judged bytes a len) (run-only bytes a len)
+
+-- build: the input's, then 11, 12
+pub refused-number-build : (input words hops : List ℕ) (s : Said) → (built input words hops .said ≡ s) ↔ Build input words hops s
+refused-number-build input words hops = exactly (Build input words hops) _ _ refl (build-judged input words hops) (build-only input words hops)
+
+module _ (t : Table) (l : Lent) where
+  -- make: 1, 2
+  pub refused-number-make : (s : Said) → (made t l .said ≡ s) ↔ Make t l s
+  refused-number-make = exactly (Make t l) _ _ (make-said t l) (make-judged t l) (make-only t l)
+
+  -- load: 1, 2, the input's, then 6, 7, 8
+  pub refused-number-load : (input : List ℕ) (s : Said) → (loaded t l input .said ≡ s) ↔ Load t l input s
+  refused-number-load input = exactly (Load t l input) _ _ (load-said t l input) (load-judged t l input) (load-only t l input)
+
+  -- announce: 1, 2, 3, 4, 5, 6, 7, 8; a replacement never meets 6 to 8
+  pub refused-number-announce : (a len hop : ℕ) (s : Said) → (announced t l a len hop .said ≡ s) ↔ Announce t l a len hop s
+  refused-number-announce a len hop = exactly (Announce t l a len hop) _ _ (announce-said t l a len hop) (announce-judged t l a len hop) (announce-only t l a len hop)
+
+  -- withdraw: 1, 2, 3, 5, 9
+  pub refused-number-withdraw : (a len : ℕ) (s : Said) → (withdrawn t l a len .said ≡ s) ↔ Withdraw t l a len s
+  refused-number-withdraw a len = exactly (Withdraw t l a len) _ _ (withdraw-said t l a len) (withdraw-judged t l a len) (withdraw-only t l a len)
+
+  -- report: 1, 2, 5
+  pub refused-number-report : (s : Said) → (reported t l ≡ s) ↔ Report t l s
+  refused-number-report = exactly (Report t l) _ _ refl (report-judged t l) (report-only t l)
+
+  -- lookup: 1, 2, 5
+  pub refused-number-lookup : (a : ℕ) (s : Said) → (lookupSaid t l a ≡ s) ↔ Lookup t l a s
+  refused-number-lookup a = exactly (Lookup t l a) _ _ refl (lookup-judged t l a) (lookup-only t l a)
+
+-- "State and buffers stay exactly as they were."
+parts : (o : Out) (s : Said) (t : Table) (l : Lent) → o ≡ record { said = s; table = t; lent = l } → (o .table ≡ t) × (o .lent ≡ l)
+parts o s t l e = (ap (λ (x : Out). x .table) e, ap (λ (x : Out). x .lent) e)
+
+module _ (t : Table) (l : Lent) where
+  pub refused-leaves-all-make : accepts (made t l .said) ≡ false → (made t l .table ≡ t) × (made t l .lent ≡ l)
+  refused-leaves-all-make e = parts _ _ t l (make-refused t l e)
+
+  pub refused-leaves-all-load : (input : List ℕ) → accepts (loaded t l input .said) ≡ false → (loaded t l input .table ≡ t) × (loaded t l input .lent ≡ l)
+  refused-leaves-all-load input e = parts _ _ t l (load-refused t l input e)
+
+  pub refused-leaves-all-announce : (a len hop : ℕ) → accepts (announced t l a len hop .said) ≡ false → (announced t l a len hop .table ≡ t) × (announced t l a len hop .lent ≡ l)
+  refused-leaves-all-announce a len hop e = parts _ _ t l (announce-refused t l a len hop e)
+
+  pub refused-leaves-all-withdraw : (a len : ℕ) → accepts (withdrawn t l a len .said) ≡ false → (withdrawn t l a len .table ≡ t) × (withdrawn t l a len .lent ≡ l)
+  refused-leaves-all-withdraw a len e = parts _ _ t l (withdraw-refused t l a len e)
+
+pub refused-leaves-all-build : (input words hops : List ℕ) → accepts (built input words hops .said) ≡ false → (built input words hops .words ≡ words) × (built input words hops .hops ≡ hops)
+refused-leaves-all-build input words hops e = refused-leaves input words hops (λ vs q. false≢true (sym e ∙ ap accepts q))

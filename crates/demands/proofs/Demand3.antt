@@ -1,0 +1,112 @@
+-- Demand 3. "After any run of announcements, withdrawals and loads, refused ones among them, a table serves every address as one freshly
+-- loaded: same hop, same reads, as many chunks; refusals for want of chunks come exactly when the routes need more; a change alters no cell but
+-- those under its prefix."
+--
+-- A run is a list of calls from a fresh table, the last call first: `after t l cs` is what the last call says, and the state and all that is
+-- lent then. The fresh table has t's geometry, in arrays of l's sizes; make accepts these exactly where they are right (`Sized`).
+-- docs/DEMAND3.md walks through this file. Assumes nothing.
+use mathlib.Core.Path.{_≡_, refl, ap}
+use mathlib.Core.Logic.{_⊎_, inl, inr}
+use mathlib.Core.Bool.{true, false}
+use mathlib.Core.List.{List, _∷_}
+use Prim.Native.Nat.{ℕ, _/_}
+use lib.ListN.{length}
+use Rattle.bits.proofs.Tests.{decided}
+use Rattle.routes.specs.Route.{Good}
+use Rattle.routes.specs.Record.{written}
+use Rattle.routes.specs.Said.{accepts}
+use Rattle.routes.specs.Standing.{routeAt}
+use Rattle.routes.specs.declared.Route.{Route}
+use Rattle.sail.specs.Lent.{Lent}
+use Rattle.sail.specs.Sizes.{Sized}
+use Rattle.sail.specs.Sound.{Sound, standing}
+use Rattle.sail.specs.declared.geometry.Geometry.{Geometry}
+use Rattle.sail.specs.declared.table.Table.{Table}
+use Rattle.sail.proofs.Sounds.{standing-good}
+use Rattle.sail_theory.specs.Render.{roomOf}
+use Rattle.sail_theory.specs.Calls.{termsOf, inputRoutes, Out, made, announced, withdrawn, loaded}
+use Rattle.sail_theory.specs.Facts.{SameSize}
+use Rattle.sail_theory.specs.Runs.{announceAll, AllAdded, Call, after, worked, would, Formed, Carries}
+use Rattle.sail_theory.specs.Alters.{Alters}
+use Rattle.sail_theory.proofs.Accepted.{announce-refused, withdraw-refused}
+use Rattle.sail_theory.proofs.Fresh.{accepted-sized}
+use Rattle.sail_theory.proofs.Loads as loads
+use Rattle.sail_theory.proofs.Runs as runs
+use Rattle.sail_theory.proofs.Anew as anew
+use Rattle.sail_theory.proofs.Wanting as wanting
+use Rattle.sail_theory.proofs.Altered.{announce-alters, withdraw-alters}
+use Rattle.demands.proofs.Wants.{ByNeed, wanting-exact, ForChunks, chunks-formed}
+
+module _ (t : Table) (l : Lent) (z : Sized (t .geometry) l) where
+  -- what stands after a run
+  abbrev pub now : List Call → List Route
+  now cs = standing (after t l cs .table) (after t l cs .lent)
+
+  -- "After any run .., refused ones among them": the table is sound.
+  pub run-sound : (cs : List Call) → Sound (after t l cs .table) (after t l cs .lent)
+  run-sound = runs.run-sound t l z
+
+  -- "Which routes stand after a run is worked out from its accepted calls alone": for each prefix, by its key, what stands is what the last
+  -- accepted call that speaks of it said.
+  pub run-standing : (cs : List Call) (k : ℕ) → routeAt k (now cs) ≡ worked t l cs k
+  run-standing = runs.run-standing t l z
+
+  -- "And the list then holds exactly those, in order": it ascends, and is the only ascending list that holds them.
+  pub run-in-order : (cs : List Call) → Good (now cs)
+  run-in-order cs = standing-good (after t l cs .table) (after t l cs .lent) (run-sound cs)
+
+  pub run-only : (cs : List Call) (rs : List Route) → Good rs → ((k : ℕ) → routeAt k rs ≡ worked t l cs k) → now cs ≡ rs
+  run-only = runs.run-only t l z
+
+  -- "A table serves every address as one freshly loaded: same hop, same reads, as many chunks": the fresh load is that of an input which holds
+  -- the standing routes, into any table of the same geometry and array sizes; it is accepted.
+  pub run-as-fresh : (cs : List Call) (u : Table) (v : Lent) → u .geometry ≡ t .geometry → SameSize l v
+      → (input : List ℕ) → Carries input (now cs) → anew.AsFresh (after t l cs .table) (after t l cs .lent) (loaded u v input)
+  run-as-fresh = anew.run-as-fresh t l z
+
+  -- There is such an input.
+  pub run-input : (cs : List Call) → Carries (written (now cs) (length (now cs))) (now cs)
+  run-input = anew.run-carried t l z
+
+  -- "Refusals for want of chunks come exactly when the routes need more": a well-formed change for which the list has room is refused with 7
+  -- or 8 by the needs of the routes that would then stand, and is else accepted
+  pub want-of-chunks : (cs : List Call) (c : Call) → Formed c (now cs) (roomOf l) → ByNeed (termsOf t l) (would c (now cs)) (after t l (c ∷ cs) .said)
+  want-of-chunks cs c f = wanting-exact (wanting.want-of-chunks t l z cs c f)
+
+  -- and no other call is refused with 7 or 8.
+  pub want-formed : (cs : List Call) (c : Call) → ForChunks (after t l (c ∷ cs) .said) → Formed c (now cs) (roomOf l)
+  unfolding after
+  want-formed cs c w =
+      let room : roomOf (after t l cs .lent) ≡ roomOf l = ap (λ (n : ℕ). n / 8) (runs.run-is t l z cs .size .list) in
+      rw room at (chunks-formed (after t l cs .table) (after t l cs .lent) c w)
+
+-- Where make is refused there is no fresh table, and so no run.
+pub made-sized : (t : Table) (l : Lent) → accepts (made t l .said) ≡ true → Sized (t .geometry) l
+made-sized = accepted-sized
+
+-- "A change alters no cell but those under its prefix": those that serve an address under it, and those in chunks that it opens or closes. In
+-- any state, and so after any run; what is refused alters nothing.
+alters-none : (g : Geometry) (a len : ℕ) (l u : Lent) → u ≡ l → Alters g a len l u
+alters-none g a len l u e = rw e (record { first = λ q h n. refl; second = λ q h n o. refl; third = λ q h n o. refl })
+
+pub change-frame-announce : (t : Table) (l : Lent) (a len hop : ℕ) → Alters (t .geometry) a len l (announced t l a len hop .lent)
+change-frame-announce t l a len hop = go (decided (accepts (announced t l a len hop .said)))
+  where
+    go : (accepts (announced t l a len hop .said) ≡ true) ⊎ (accepts (announced t l a len hop .said) ≡ false) → Alters (t .geometry) a len l (announced t l a len hop .lent)
+    go (inl e) = announce-alters t l a len hop e
+    go (inr e) = alters-none (t .geometry) a len l _ (ap (λ (o : Out). o .lent) (announce-refused t l a len hop e))
+
+pub change-frame-withdraw : (t : Table) (l : Lent) (a len : ℕ) → Alters (t .geometry) a len l (withdrawn t l a len .lent)
+change-frame-withdraw t l a len = go (decided (accepts (withdrawn t l a len .said)))
+  where
+    go : (accepts (withdrawn t l a len .said) ≡ true) ⊎ (accepts (withdrawn t l a len .said) ≡ false) → Alters (t .geometry) a len l (withdrawn t l a len .lent)
+    go (inl e) = withdraw-alters t l a len e
+    go (inr e) = alters-none (t .geometry) a len l _ (ap (λ (o : Out). o .lent) (withdraw-refused t l a len e))
+
+-- "Load equals make and then announcing each record in order, where it is accepted": in the state and in all that is lent, and each of these
+-- announcements adds its route.
+pub load-as-announces : (t : Table) (l : Lent) (input : List ℕ) → accepts (loaded t l input .said) ≡ true
+    → (loaded t l input .table ≡ announceAll (made t l) (inputRoutes input) .table)
+    × (loaded t l input .lent ≡ announceAll (made t l) (inputRoutes input) .lent)
+    × AllAdded (made t l) (inputRoutes input)
+load-as-announces = loads.load-as-announces

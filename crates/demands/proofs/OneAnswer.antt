@@ -1,0 +1,97 @@
+-- "A call's statement determines its answer and the final contents of everything lent. Show that no second answer would satisfy it."
+--
+-- For each call on offer: two outcomes that meet its statement are equal. The statements are those of specs/Meets.antt. Assumes nothing.
+use mathlib.Core.Path.{_≡_, refl, sym, _∙_, ap}
+use mathlib.Core.List.{List, [], _∷_}
+use Prim.Native.Nat.{ℕ}
+use lib.ListN.{getD}
+use denote.Ref.{RefT, ptr, now}
+use Rattle.routes.specs.Answers.{saysGot}
+use Rattle.routes.specs.Said.{Said, accepted, refused, refusedAt}
+use Rattle.routes.specs.declared.input.Input.{Input}
+use Rattle.routes.specs.declared.input.Got.{Got}
+use Rattle.routes.specs.declared.input.Got.the-variants as got
+use Rattle.routes.proofs.Inputs.{input-injective}
+use Rattle.lists.specs.declared.run.RunCheck.{RunCheck}
+use Rattle.lists.specs.declared.tally.Tallied.{Tallied}
+use Rattle.lists.proofs.Runs.{run-check-injective, run-one}
+use Rattle.lists.proofs.Tallies.{tally-one}
+use Rattle.sail.specs.Lent.{Lent}
+use Rattle.sail.specs.declared.table.Table.{Table}
+use Rattle.sail.specs.declared.lookup.Found.{Found}
+use Rattle.sail.proofs.Answers.{found-injective}
+use Rattle.sail_theory.specs.Calls.{Out}
+use Rattle.tree.specs.declared.TreeFound.{TreeFound}
+use Rattle.tree.proofs.Walks.{saysTreeFound-injective}
+use Rattle.tree_build.specs.Built as building
+use Rattle.tree_build.proofs.Answers.{saysBuilt-injective}
+use Rattle.demands.specs.Meets.{MeetsCheckInput, MeetsRouteAt, MeetsRun, MeetsRunCheck, MeetsTally, MeetsLookup, MeetsTreeLookup, BuildEnd, MeetsBuild}
+use Rattle.demands.specs.Meets.{End, told, MeetsReport, MeetsMake, MeetsLoad, MeetsAnnounce, MeetsWithdraw}
+
+-- The calls on a record input.
+pub one-answer-check-input : (bytes : List ℕ) (x y : Input) → MeetsCheckInput bytes x → MeetsCheckInput bytes y → x ≡ y
+one-answer-check-input bytes x y p q = input-injective x y (p ∙ sym q)
+
+-- a route that is read back is read from what is said
+readGot : Said → Got
+readGot (accepted []) = got.Nothing
+readGot (accepted (a ∷ vs)) = got.One (record { addr = a; len = getD vs 0 0; spare = getD vs 1 0; hop = getD vs 2 0 })
+readGot (refused n) = got.TooMany
+readGot (refusedAt n k) = got.Refused n k
+
+read-got : (x : Got) → readGot (saysGot x) ≡ x
+unfolding readGot saysGot
+read-got (got.One r) = refl
+read-got got.Nothing = refl
+read-got (got.Refused f k) = refl
+read-got got.TooMany = refl
+
+pub one-answer-route-at : (bytes : List ℕ) (index : ℕ) (x y : Got) → MeetsRouteAt bytes index x → MeetsRouteAt bytes index y → x ≡ y
+one-answer-route-at bytes index x y p q = sym (read-got x) ∙ ap readGot (p ∙ sym q) ∙ read-got y
+
+-- a part of the list is its elements and its place; a reference has nothing else that a program can see
+pub one-answer-run : (list : RefT (List ℕ)) (addr len : ℕ) (x y : RefT (List ℕ)) → MeetsRun list addr len x → MeetsRun list addr len y → (now x ≡ now y) × (ptr x ≡ ptr y)
+one-answer-run list addr len x y p q = run-one list x y addr len p q
+
+pub one-answer-run-check : (list : List ℕ) (addr len : ℕ) (x y : RunCheck) → MeetsRunCheck list addr len x → MeetsRunCheck list addr len y → x ≡ y
+one-answer-run-check list addr len x y p q = run-check-injective x y (p ∙ sym q)
+
+pub one-answer-tally : (bytes : List ℕ) (x y : Tallied) → MeetsTally bytes x → MeetsTally bytes y → x ≡ y
+one-answer-tally bytes x y p q = tally-one bytes x y p q
+
+-- The calls on a table.
+pub one-answer-lookup : (t : Table) (l : Lent) (addr : ℕ) (x y : Found) → MeetsLookup t l addr x → MeetsLookup t l addr y → x ≡ y
+one-answer-lookup t l addr x y p q = found-injective x y (p ∙ sym q)
+
+-- for every type of answers in which two that are told the same are the same
+module _ {A : Type 0} (says : A → Said) (injective : (x y : A) → says x ≡ says y → x ≡ y) (t : Table) (l : Lent) where
+  pub one-answer-report : (x y : A) → MeetsReport says t l x → MeetsReport says t l y → x ≡ y
+  one-answer-report x y p q = injective x y (p ∙ sym q)
+
+  one-end : (o : Out) (x y : End A) → told says x ≡ o → told says y ≡ o → x ≡ y
+  one-end o x y p q =
+      let e : told says x ≡ told says y = p ∙ sym q in
+      let a = injective (x .answer) (y .answer) (ap (λ (u : Out). u .said) e) in
+      λ i. record { answer = a i; table = e i .table; lent = e i .lent }
+
+  pub one-answer-make : (x y : End A) → MeetsMake says t l x → MeetsMake says t l y → x ≡ y
+  one-answer-make = one-end _
+
+  pub one-answer-load : (input : List ℕ) (x y : End A) → MeetsLoad says t l input x → MeetsLoad says t l input y → x ≡ y
+  one-answer-load input = one-end _
+
+  pub one-answer-announce : (addr len hop : ℕ) (x y : End A) → MeetsAnnounce says t l addr len hop x → MeetsAnnounce says t l addr len hop y → x ≡ y
+  one-answer-announce addr len hop = one-end _
+
+  pub one-answer-withdraw : (addr len : ℕ) (x y : End A) → MeetsWithdraw says t l addr len x → MeetsWithdraw says t l addr len y → x ≡ y
+  one-answer-withdraw addr len = one-end _
+
+-- The calls on an image.
+pub one-answer-tree-lookup : (words hops : List ℕ) (addr : ℕ) (x y : TreeFound) → MeetsTreeLookup words hops addr x → MeetsTreeLookup words hops addr y → x ≡ y
+one-answer-tree-lookup words hops addr x y p q = saysTreeFound-injective x y (p ∙ sym q)
+
+pub one-answer-build : (input words hops : List ℕ) (x y : BuildEnd) → MeetsBuild input words hops x → MeetsBuild input words hops y → x ≡ y
+one-answer-build input words hops x y p q =
+    let e = p ∙ sym q in
+    let a = saysBuilt-injective (x .answer) (y .answer) (ap (λ (u : building.Out). u .said) e) in
+    λ i. record { answer = a i; words = e i .words; hops = e i .hops }

@@ -1,0 +1,2 @@
+-- The statements of the calls, as predicates on what they answer and leave.
+pub mod Meets

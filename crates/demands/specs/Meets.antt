@@ -1,0 +1,82 @@
+-- The statement of each call on offer, as a predicate on its outcome: its answer, and the state and the arrays that it may change, as they are
+-- at exit. The other arguments are what the call was given. This is the `ensures` of the call, word for word. What is lent by `&` is at exit
+-- what it was at entry, by the language. Assumes nothing.
+use mathlib.Core.List.{List}
+use mathlib.Core.Path.{_≡_}
+use Prim.Native.Nat.{ℕ}
+use denote.Ref.{RefT}
+use Rattle.routes.specs.Input.{inputSaid}
+use Rattle.routes.specs.Answers.{saysInput, saysGot, routeSaid}
+use Rattle.routes.specs.Said.{Said}
+use Rattle.routes.specs.declared.input.Input.{Input}
+use Rattle.routes.specs.declared.input.Got.{Got}
+use Rattle.lists.specs.Run.{runSaid, saysRunCheck, IsRun}
+use Rattle.lists.specs.Tally.{IsTally}
+use Rattle.lists.specs.declared.run.RunCheck.{RunCheck}
+use Rattle.lists.specs.declared.tally.Tallied.{Tallied}
+use Rattle.sail.specs.Lent.{Lent}
+use Rattle.sail.specs.Walk.{lookupSaid, saysFound}
+use Rattle.sail.specs.declared.table.Table.{Table}
+use Rattle.sail.specs.declared.lookup.Found.{Found}
+use Rattle.sail_theory.specs.Calls.{Out, made, announced, withdrawn, loaded, reported}
+use Rattle.tree.specs.Walk.{saysTreeFound, treeSaid}
+use Rattle.tree.specs.declared.TreeFound.{TreeFound}
+use Rattle.tree_build.specs.Built.{saysBuilt, out, built}
+use Rattle.tree_build.specs.declared.Built.{Built}
+
+-- The calls on a record input.
+abbrev pub MeetsCheckInput : List ℕ → Input → Type 0
+MeetsCheckInput bytes r = saysInput r ≡ inputSaid bytes
+
+abbrev pub MeetsRouteAt : List ℕ → ℕ → Got → Type 0
+MeetsRouteAt bytes index r = saysGot r ≡ routeSaid bytes index
+
+abbrev pub MeetsRun : RefT (List ℕ) → ℕ → ℕ → RefT (List ℕ) → Type 0
+MeetsRun list addr len r = IsRun list r addr len
+
+abbrev pub MeetsRunCheck : List ℕ → ℕ → ℕ → RunCheck → Type 0
+MeetsRunCheck list addr len r = saysRunCheck r ≡ runSaid list addr len
+
+abbrev pub MeetsTally : List ℕ → Tallied → Type 0
+MeetsTally bytes r = IsTally bytes r
+
+-- The calls on a table. Each of those whose answer is of a type A has a definition `says` from A to what document 01 says.
+abbrev pub MeetsLookup : Table → Lent → ℕ → Found → Type 0
+MeetsLookup t l addr r = saysFound r ≡ lookupSaid t l addr
+
+-- the answer, the state and all that is lent at exit
+pub record End (A : Type 0) : Type 0 where
+  pub answer : A
+  pub table : Table
+  pub lent : Lent
+
+module _ {A : Type 0} (says : A → Said) where
+  abbrev pub told : End A → Out
+  told r = record { said = says (r .answer); table = r .table; lent = r .lent }
+
+  abbrev pub MeetsReport : Table → Lent → A → Type 0
+  MeetsReport t l r = says r ≡ reported t l
+
+  abbrev pub MeetsMake : Table → Lent → End A → Type 0
+  MeetsMake t l r = told r ≡ made t l
+
+  abbrev pub MeetsLoad : Table → Lent → List ℕ → End A → Type 0
+  MeetsLoad t l input r = told r ≡ loaded t l input
+
+  abbrev pub MeetsAnnounce : Table → Lent → ℕ → ℕ → ℕ → End A → Type 0
+  MeetsAnnounce t l addr len hop r = told r ≡ announced t l addr len hop
+
+  abbrev pub MeetsWithdraw : Table → Lent → ℕ → ℕ → End A → Type 0
+  MeetsWithdraw t l addr len r = told r ≡ withdrawn t l addr len
+
+-- The calls on an image.
+abbrev pub MeetsTreeLookup : List ℕ → List ℕ → ℕ → TreeFound → Type 0
+MeetsTreeLookup words hops addr r = saysTreeFound r ≡ treeSaid words hops addr
+
+pub record BuildEnd : Type 0 where
+  pub answer : Built
+  pub words : List ℕ
+  pub hops : List ℕ
+
+abbrev pub MeetsBuild : List ℕ → List ℕ → List ℕ → BuildEnd → Type 0
+MeetsBuild input words hops r = out (saysBuilt (r .answer)) (r .words) (r .hops) ≡ built input words hops

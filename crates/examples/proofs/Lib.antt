@@ -1,0 +1,4 @@
+-- The examples hold.
+pub mod Paper
+pub mod Starred
+pub mod Witness

@@ -1,0 +1,119 @@
+-- A table on paper: its geometry, its routes and its owners. After a run they follow from the calls alone, and all that is asked of a sound
+-- table follows from them. So no cell array is ever computed. Assumes nothing.
+use mathlib.Core.Path.{_≡_, refl, sym, _∙_, ap}
+use mathlib.Core.Bool.{true, cond}
+use mathlib.Core.List.{List, [], _∷_}
+use Prim.Native.Nat.{ℕ, _*_, _^_, _<_}
+use lib.ListN.{getD, length}
+use Rattle.routes.specs.Route.{keyOf, long, best, need}
+use Rattle.routes.specs.Said.{Said, accepted, refused, refusedAt, accepts}
+use Rattle.routes.specs.Standing.{remove}
+use Rattle.routes.specs.declared.Route.{Route}
+use Rattle.routes.proofs.Rows.{length-routes}
+use Rattle.sail.specs.Geometry.{bits2}
+use Rattle.sail.specs.Lent.{Lent}
+use Rattle.sail.specs.Level.{always, itself, liveIn, entry}
+use Rattle.sail.specs.Sizes.{Sized}
+use Rattle.sail.specs.Sound.{Sound, standing, cellsRead, freshLent}
+use Rattle.sail.specs.Walk.{hopSaid, lookupSaid}
+use Rattle.sail.specs.declared.geometry.Geometry.{Geometry}
+use Rattle.sail.specs.declared.table.Table.{Table}
+use Rattle.sail.proofs.Sounds.{sail-serves}
+use Rattle.sail_theory.specs.Render.{shown, at2, rendered}
+use Rattle.sail_theory.specs.Calls.{Owners, opened, settled, kept, ownersOf, noOwners, route, termsOf, announceSaid, withdrawSaid, loadSaid, inputRoutes, Out, leaving, announced, withdrawn, loaded, reported}
+use Rattle.sail_theory.specs.Runs.{Call, announce, withdraw, load, done, after, would}
+use Rattle.sail_theory.proofs.Judged.{Report}
+use Rattle.sail_theory.proofs.Only.{report-only}
+use Rattle.sail_theory.proofs.Fresh.{make-is}
+use Rattle.sail_theory.proofs.Pools.{level-shown}
+use Rattle.sail_theory.proofs.Rendered.{level-two}
+use Rattle.sail_theory.proofs.Runs.{run-is}
+use Rattle.demands.proofs.Replies.{reply, stood, run-says, run-stood}
+
+pub record Paper : Type 0 where
+  pub geometry : Geometry
+  pub routes : List Route
+  pub owners : Owners
+
+abbrev pub paperOf : Table → Lent → Paper
+paperOf t l = record { geometry = t .geometry; routes = standing t l; owners = ownersOf l }
+
+-- what is asked of it
+abbrev pub lookupOn : ℕ → Paper → Said
+lookupOn a p = hopSaid (cellsRead (p .geometry) (p .routes) a) (best (p .routes) 32 a)
+
+abbrev pub reportOn : Paper → Said
+reportOn p = accepted (length (p .routes) ∷ need (p .routes) (p .geometry .p1) ∷ need (p .routes) (p .geometry .p2) ∷ [])
+
+abbrev pub firstOn : ℕ → Paper → ℕ
+firstOn q p = shown (long (p .routes) (p .geometry .p1)) (best (p .routes) (p .geometry .p1)) itself (length (p .owners .own2)) (entry (p .owners .own2)) q
+
+abbrev pub secondOn : ℕ → Paper → ℕ
+secondOn q p = shown (long (p .routes) (p .geometry .p2)) (best (p .routes) (p .geometry .p2)) (at2 (p .geometry) (p .owners .own2)) (length (p .owners .own3)) (entry (p .owners .own3)) q
+
+module _ (t : Table) (l : Lent) (s : Sound t l) where
+  pub lookup-on : (a : ℕ) → a < 2 ^ 32 → lookupSaid t l a ≡ lookupOn a (paperOf t l)
+  lookup-on = sail-serves t l s
+
+  pub report-on : reported t l ≡ reportOn (paperOf t l)
+  report-on = report-only t l _ (Report.counts s) ∙ ap (λ (n : ℕ). accepted (n ∷ need (standing t l) (t .geometry .p1) ∷ need (standing t l) (t .geometry .p2) ∷ [])) (sym (length-routes (l .list) (t .count)))
+
+  pub first-on : (q : ℕ) → q < 2 ^ t .geometry .p1 → getD (l .first) q 0 ≡ firstOn q (paperOf t l)
+  first-on q h = level-shown _ _ _ always itself (length (l .own2)) (entry (l .own2)) (entry (l .first)) (s .serves .level1) q h refl
+
+  pub second-on : (q : ℕ) → q < length (l .own2) * 2 ^ bits2 (t .geometry) → liveIn (entry (l .own2)) (bits2 (t .geometry)) q ≡ true → getD (l .second) q 0 ≡ secondOn q (paperOf t l)
+  second-on q h e = level-shown _ _ _ _ (at2 (t .geometry) (l .own2)) (length (l .own3)) (entry (l .own3)) (entry (l .second)) (level-two t l s) q h e
+
+-- the owners after an accepted call, where the routes rs stand with the owners o; `none` are the owners of a fresh table
+abbrev owned : Geometry → Owners → Call → List Route → Owners → Owners
+owned g none (announce a len hop) rs o = opened g o (route a len hop)
+owned g none (withdraw a len) rs o = kept g (remove (keyOf a len) rs) o
+owned g none (load input) rs o = settled g none (inputRoutes input)
+
+-- a call leaves these owners where it is accepted, and else those that were
+leaves-owners : (s : Said) (t : Table) (l : Lent) (rs : List Route) (o : Owners) → ownersOf (leaving s t l rs o .lent) ≡ cond (accepts (leaving s t l rs o .said)) o (ownersOf l)
+unfolding rendered
+leaves-owners (accepted vs) t l rs o = refl
+leaves-owners (refused n) t l rs o = refl
+leaves-owners (refusedAt n k) t l rs o = refl
+
+done-owners : (t : Table) (l : Lent) (c : Call) → ownersOf (done t l c .lent) ≡ cond (accepts (done t l c .said)) (owned (t .geometry) (noOwners l) c (standing t l) (ownersOf l)) (ownersOf l)
+unfolding done announced withdrawn loaded
+done-owners t l (announce a len hop) = leaves-owners (announceSaid t l a len hop) t l (would (announce a len hop) (standing t l)) (owned (t .geometry) (noOwners l) (announce a len hop) (standing t l) (ownersOf l))
+done-owners t l (withdraw a len) = leaves-owners (withdrawSaid t l a len) t l (would (withdraw a len) (standing t l)) (owned (t .geometry) (noOwners l) (withdraw a len) (standing t l) (ownersOf l))
+done-owners t l (load input) = leaves-owners (loadSaid t l input) t l (would (load input) (standing t l)) (owned (t .geometry) (noOwners l) (load input) (standing t l) (ownersOf l))
+
+module _ (t : Table) (l : Lent) (z : Sized (t .geometry) l) where
+  -- the owners after a run
+  unfoldable pub ownedBy : List Call → Owners
+  ownedBy [] = noOwners l
+  ownedBy (c ∷ cs) = cond (accepts (reply (termsOf t l) (stood (termsOf t l) cs) c)) (owned (t .geometry) (noOwners l) c (stood (termsOf t l) cs) (ownedBy cs)) (ownedBy cs)
+
+  fresh-owners : ownersOf (after t l [] .lent) ≡ noOwners l
+  unfolding after freshLent
+  fresh-owners = ap (λ (o : Out). ownersOf (o .lent)) (make-is t l z)
+
+  next-owners : (c : Call) (cs : List Call) → ownersOf (after t l (c ∷ cs) .lent)
+      ≡ cond (accepts (after t l (c ∷ cs) .said)) (owned (after t l cs .table .geometry) (noOwners (after t l cs .lent)) c (standing (after t l cs .table) (after t l cs .lent)) (ownersOf (after t l cs .lent))) (ownersOf (after t l cs .lent))
+  unfolding after
+  next-owners c cs = done-owners (after t l cs .table) (after t l cs .lent) c
+
+  run-owners : (cs : List Call) → ownersOf (after t l cs .lent) ≡ ownedBy cs
+  unfolding ownedBy
+  run-owners [] = fresh-owners
+  run-owners (c ∷ cs) =
+      let w = run-is t l z cs in
+      next-owners c cs
+      ∙ rw (run-says t l z c cs, run-stood t l z cs, w .geometry, w .size .chunks2, w .size .chunks3, run-owners cs)
+
+  -- the table on paper after a run
+  unfoldable pub onPaper : List Call → Paper
+  onPaper cs = record { geometry = t .geometry; routes = stood (termsOf t l) cs; owners = ownedBy cs }
+
+  pub run-paper : (cs : List Call) → paperOf (after t l cs .table) (after t l cs .lent) ≡ onPaper cs
+  unfolding onPaper
+  run-paper cs =
+      let g = run-is t l z cs .geometry in
+      let r = run-stood t l z cs in
+      let o = run-owners cs in
+      λ i. record { geometry = g i; routes = r i; owners = o i }

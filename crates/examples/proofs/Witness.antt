@@ -1,0 +1,161 @@
+-- Tables, images and calls that meet what the theorems on the demands suppose: the fresh table, list A loaded and built, and calls that are
+-- refused. So none of them speaks of nothing. Assumes nothing.
+use mathlib.Core.Path.{_≡_, refl, sym, _∙_, ap}
+use mathlib.Core.Bool.{true, false, cond}
+use mathlib.Core.List.{List, [], _∷_, map}
+use Prim.Native.Nat.{ℕ, _^_, _<_}
+use native.Mathlib.Omega.{arith}
+use lib.ListN.{getD, length, replicate, List·getD-map}
+use Rattle.bits.specs.Slot.{cut}
+use Rattle.bits.specs.Search.{firstFrom, firstOf}
+use Rattle.bits.specs.Tab.{tabulate}
+use Rattle.routes.specs.Route.{any}
+use Rattle.routes.specs.Record.{recordAt, routesOf, written}
+use Rattle.routes.specs.Input.{properPrefix, hopFine, routeFault, inOrder, faultAt, inputSaid}
+use Rattle.routes.specs.Said.{Said, accepted, refused, accepts}
+use Rattle.routes.specs.declared.Route.{Route}
+use Rattle.routes.proofs.Meaning.{prefix-true}
+use Rattle.sail.specs.Geometry.{standardGeo, validGeo}
+use Rattle.sail.specs.Lent.{Lent}
+use Rattle.sail.specs.Sizes.{sizesFault}
+use Rattle.sail.specs.Sound.{Sound, standing, freshTable, freshLent}
+use Rattle.sail.specs.Walk.{lookupSaid, saysFound}
+use Rattle.sail.specs.declared.table.Table.{Table}
+use Rattle.sail.specs.declared.lookup.Found.the-variants as found
+use Rattle.sail.proofs.Fresh.{fresh-sound}
+use Rattle.sail_theory.specs.Calls.{termsOf, withdrawFault, made, announced, withdrawn, loaded}
+use Rattle.sail_theory.specs.Runs.{Call, announce, withdraw, load, done, after, would, Formed}
+use Rattle.sail_theory.specs.Render.{roomOf}
+use Rattle.sail_theory.proofs.Accepted.{announce-said, announce-off}
+use Rattle.sail_theory.proofs.Anew as anew
+use Rattle.sail_theory.proofs.Fresh.{make-said}
+use Rattle.sail_theory.proofs.Sizes.{size-refl}
+use Rattle.tree.specs.Node.{sound}
+use Rattle.tree.specs.Walk.{walkFrom, treeSaid}
+use Rattle.tree_build.specs.Built.{routesIn, built}
+use Rattle.demands.specs.Meets.{MeetsAnnounce, MeetsLookup}
+use Rattle.demands.proofs.Replies.{reply, stood, run-says, run-stood}
+use Rattle.demands.proofs.Wants.{ByNeed, ForChunks}
+use Rattle.demands.proofs.Demand2 as demand2
+use Rattle.demands.proofs.Demand3 as demand3
+use Rattle.examples.specs.Starred.{ip, geo, table, arrays, bare, listA, image, loadedA, entered, other, last, answer, Line, _gives_, starred, Holds}
+use Rattle.examples.proofs.Starred.{sized, starred-hold}
+
+-- a line of the examples
+line : (k : ℕ) → answer (getD starred k (last [] gives accepted []) .asked) ≡ getD (map (λ (x : Line). x .expected) starred) k (answer (last []))
+unfolding Holds
+line k = sym (List·getD-map (λ (x : Line). answer (x .asked)) starred k (last [] gives accepted [])) ∙ ap (λ (ss : List Said). getD ss k (answer (last []))) starred-hold
+
+-- the table and the arrays after a run
+abbrev t : List Call → Table
+t cs = after table arrays cs .table
+
+abbrev l : List Call → Lent
+l cs = after table arrays cs .lent
+
+-- what a call says after a run on which nothing stands
+first-says : (c : Call) → after table arrays (c ∷ []) .said ≡ reply (termsOf table arrays) [] c
+unfolding stood
+first-says c = run-says table arrays sized c [] ∙ ap (λ (rs : List Route). reply (termsOf table arrays) rs c) (run-stood table arrays sized [])
+
+-- Demand 1: refusals of each kind.
+pub refused-make : accepts (made (freshTable (geo 16 27)) (bare (geo 16 27)) .said) ≡ false
+unfolding starred answer
+refused-make = ap accepts (make-said (freshTable (geo 16 27)) (bare (geo 16 27)) ∙ line 24)
+
+pub refused-load : accepts (loaded (t []) (l []) (1 ∷ []) .said) ≡ false
+unfolding after done reply inputSaid
+refused-load = ap accepts (first-says (load (1 ∷ [])))
+
+pub refused-announce : accepts (announced (t entered) (l entered) (ip 10 2 2 0) 24 45 .said) ≡ false
+unfolding starred answer after done
+refused-announce = ap accepts (line 34)
+
+pub refused-withdraw : accepts (withdrawn (t []) (l []) 0 0 .said) ≡ false
+unfolding after done reply withdrawFault properPrefix cut any
+refused-withdraw = ap accepts (first-says (withdraw 0 0))
+
+pub refused-build : accepts (built (1 ∷ []) [] [] .said) ≡ false
+unfolding built inputSaid
+refused-build = refl
+
+-- and a lookup that is: its answer is the number
+pub refused-lookup : (a : ℕ) → lookupSaid (freshTable (geo 16 27)) (bare (geo 16 27)) a ≡ refused 1
+unfolding lookupSaid sizesFault validGeo
+refused-lookup a = refl
+
+pub refused-tree : (a : ℕ) → treeSaid [] [] a ≡ refused 13
+unfolding treeSaid walkFrom sound
+refused-tree a = refl
+
+-- Demand 2: the fresh table is sound, and so is the one that list A is loaded into.
+pub fresh : Sound (freshTable standardGeo) (freshLent arrays)
+unfolding table
+fresh = fresh-sound standardGeo arrays sized
+
+pub soundA : Sound (t loadedA) (l loadedA)
+soundA = demand3.run-sound table arrays sized loadedA
+
+-- list A is a good input, and its image is built
+pub goodA : inputSaid listA ≡ accepted (5 ∷ [])
+unfolding listA inputSaid firstOf firstFrom faultAt routeFault inOrder properPrefix hopFine recordAt cut
+goodA = refl
+
+pub builtA : built listA (replicate 21 0) (replicate 5 0) .said ≡ accepted (7 ∷ 5 ∷ [])
+unfolding starred answer image
+builtA = line 17
+
+-- both have its routes, and so the same hop at every address
+stood-A : stood (termsOf table arrays) loadedA ≡ cond (accepts (after table arrays loadedA .said)) (routesIn listA) []
+unfolding stood
+stood-A = ap (λ (s : Said). cond (accepts s) (routesIn listA) []) (sym (first-says (load listA)))
+
+pub same-routes : routesIn listA ≡ standing (t loadedA) (l loadedA)
+unfolding starred answer
+same-routes = sym (run-stood table arrays sized loadedA ∙ stood-A ∙ ap (λ (s : Said). cond (accepts s) (routesIn listA) []) (line 0))
+
+pub same-hops : (a : ℕ) → a < 2 ^ 32 → demand2.uncounted (lookupSaid (t loadedA) (l loadedA) a)
+    ≡ demand2.uncounted (treeSaid (built listA (replicate 21 0) (replicate 5 0) .words) (built listA (replicate 21 0) (replicate 5 0) .hops) a)
+same-hops = demand2.table-as-image (t loadedA) (l loadedA) soundA listA (replicate 21 0) (replicate 5 0) (7 ∷ 5 ∷ []) builtA same-routes
+
+-- its five routes are read back
+pub readA : demand2.ReadBack listA (routesOf listA 5)
+readA = demand2.read-back-input listA 5 goodA
+
+-- Demand 3: after each run there is a fresh load to compare with, into the arrays themselves,
+pub freshly : (cs : List Call) → anew.AsFresh (t cs) (l cs) (loaded table arrays (written (demand3.now table arrays sized cs) (length (demand3.now table arrays sized cs))))
+freshly cs = demand3.run-as-fresh table arrays sized cs table arrays refl (size-refl arrays) _ (demand3.run-input table arrays sized cs)
+
+-- a change that is refused for want of chunks, and so is well-formed, and wants a chunk,
+pub wantedA : ForChunks (after table arrays other .said)
+unfolding starred answer
+wantedA = rw (line 34) (omega arith, omega arith)
+
+pub formed-announce : Formed (announce (ip 10 2 2 0) 24 45) (demand3.now table arrays sized entered) (roomOf arrays)
+formed-announce = demand3.want-formed table arrays sized entered (announce (ip 10 2 2 0) 24 45) wantedA
+
+pub needed : ByNeed (termsOf table arrays) (would (announce (ip 10 2 2 0) 24 45) (demand3.now table arrays sized entered)) (after table arrays other .said)
+needed = demand3.want-of-chunks table arrays sized entered (announce (ip 10 2 2 0) 24 45) formed-announce
+
+-- a withdrawal and a load that are well-formed,
+pub formed-withdraw : Formed (withdraw 0 0) (demand3.now table arrays sized loadedA) (roomOf arrays)
+unfolding listA properPrefix cut any routesOf tabulate recordAt
+formed-withdraw = (prefix-true 0 0 refl, rw (← same-routes))
+
+pub formed-load : Formed (load listA) (demand3.now table arrays sized []) (roomOf arrays)
+unfolding arrays
+formed-load = (5, goodA, omega arith)
+
+-- and a load that is accepted.
+pub loads-A : accepts (loaded (t []) (l []) listA .said) ≡ true
+unfolding starred answer after done
+loads-A = ap accepts (line 0)
+
+-- One answer: outcomes that meet the statements of a lookup and of an announcement.
+pub found-A : MeetsLookup (t loadedA) (l loadedA) (ip 10 1 2 200) (found.Hop 57 3)
+unfolding starred answer saysFound
+found-A = sym (line 1)
+
+pub announced-A : MeetsAnnounce (λ (s : Said). s) (t entered) (l entered) (ip 10 2 2 0) 24 45 (record { answer = refused 7; table = t entered; lent = l entered })
+unfolding starred answer after done
+announced-A = sym (announce-off (t entered) (l entered) (ip 10 2 2 0) 24 45 (refused 7) (sym (announce-said (t entered) (l entered) (ip 10 2 2 0) 24 45) ∙ line 34) refl)
