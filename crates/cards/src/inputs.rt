@@ -1,0 +1,20 @@
+// The calls on record inputs.
+ghost use mathlib.Core.Path.{_≡_};
+ghost use Rattle.routes.specs.Answers.{routeSaid};
+ghost use Rattle.lists.specs.Run.{runSaid};
+ghost use Rattle.cards.specs.Pack.{packRun, packRoute};
+use crate::pack;
+
+#[no_mangle]
+pub extern "C" fn gh_run(input: &[u8], addr: u32, len: u8) -> u64
+    ensures { λ r. ⌜ r ≡ packRun (runSaid (now (input .entry)) addr len) ⌝ }
+{
+    pack::run(lists::run::run_check(input, addr, len))
+}
+
+#[no_mangle]
+pub extern "C" fn gh_route(input: &[u8], index: u32) -> u64
+    ensures { λ r. ⌜ r ≡ packRoute (routeSaid (now (input .entry)) index) ⌝ }
+{
+    pack::got(routes::input::route_at(input, index as usize))
+}

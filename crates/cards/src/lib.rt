@@ -1,0 +1,5 @@
+// The calls as C sees them: slices as pointer and length, and each answer packed into one number.
+pub mod images;
+pub mod inputs;
+pub mod pack;
+pub mod tables;
