@@ -1,17 +1,19 @@
 -- Packed answers beside what is lent, and a loop that stores one word a turn. Assumes nothing.
-use mathlib.Core.Path.{_≡_, _∙_, sym, ap}
+use mathlib.Core.Bool.{Bool, true, false, cond}
+use mathlib.Core.Path.{_≡_, _∙_, refl, sym, ap}
 use mathlib.Core.List.{List}
-use Prim.Native.Nat.{ℕ, _+_, _*_, _%_, _^_, _<_}
+use Prim.Native.Nat.{ℕ, _+_, _*_, _/_, _%_, _^_, _<_}
 use native.Mathlib.Omega.{arith}
 use borrow.Author.Count.{below-more}
 use borrow.Author.Tests.{eq-eqb, ne-eqb}
-use lib.ListN.{length, getD, set}
+use lib.ListN.{length, getD, set, replicate}
 use lib.Seq.{getD-set-same, getD-set-other, ext-getD}
-use Rattle.bits.proofs.Tabs.{is-tabulate}
-use Rattle.routes.specs.Said.{Said}
+use Rattle.bits.proofs.Tabs.{is-tabulate, length-tabulate}
+use Rattle.bits.specs.Count.{count}
+use Rattle.routes.specs.Said.{Said, accepts}
 use Rattle.routes.specs.Input.{inputSaid}
 use Rattle.routes.specs.Answers.{saysInput}
-use Rattle.lists.specs.Tally.{IsTally}
+use Rattle.lists.specs.Tally.{IsTally, tallyOf, lengthsOf, hasLength}
 use Rattle.lists.specs.declared.tally.Tallied.{Tallied}
 use Rattle.sail.specs.Lent.{Lent}
 use Rattle.sail.specs.Sizes.{sizesFault, Checked}
@@ -82,3 +84,14 @@ pub report-packs : (a : Reported) (n s t w1 w2 w3 l1 l2 l3 : ℕ) → a ≡ Stan
 unfolding saysReported packed
 report-packs a n s t w1 w2 w3 l1 l2 l3 e p1 q1 p2 q2 p3 q3 =
     rw (q1, q2, q3, p1, p2, p3) (sym (ap (λ (x : Reported). packReport (saysReported x)) e))
+
+-- there are 33 counts, also where the input is refused
+cond-length : (b : Bool) (xs ys : List ℕ) (n : ℕ) → length xs ≡ n → length ys ≡ n → length (cond b xs ys) ≡ n
+cond-length true xs ys n p q = p
+cond-length false xs ys n p q = q
+
+pub tally-length : (s : List ℕ) → length (tallyOf s) ≡ 33
+unfolding tallyOf lengthsOf
+tally-length s =
+    cond-length (accepts (inputSaid s)) (lengthsOf s (length s / 8)) (replicate 33 0) 33
+    (length-tabulate 33 (λ (l : ℕ). count (hasLength s l) (length s / 8))) refl

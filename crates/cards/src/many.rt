@@ -31,7 +31,15 @@ pub extern "C" fn gh_lookup_many(
     ensures { λ r. ⌜ wordsCard r (now (out .exit)) ≡ manyCard (tableOf p1 p2 count) (lent (now (list .entry)) (now (first .entry)) (now (second .entry)) (now (third .entry)) (now (own2 .entry)) (now (own3 .entry))) (now (addrs .entry)) (now (out .entry)) ⌝ }
 {
     let geometry = Geometry { p1, p2 };
-    let z = sail::table::sizes(Table { geometry, count }, list, first, second, third, own2, own3);
+    let z = sail::table::sizes(
+        Table { geometry, count },
+        list,
+        first,
+        second,
+        third,
+        own2,
+        own3,
+    );
     if z != 0 {
         return z as u64;
     }

@@ -23,7 +23,15 @@ pub extern "C" fn gh_make(
     ensures { λ r. ⌜ card r (lent (now (list .exit)) (now (first .exit)) (now (second .exit)) (now (third .exit)) (now (own2 .exit)) (now (own3 .exit))) ≡ cardOf (made (tableOf p1 p2 0) (lent (now (list .entry)) (now (first .entry)) (now (second .entry)) (now (third .entry)) (now (own2 .entry)) (now (own3 .entry)))) ⌝ }
 {
     let geometry = Geometry { p1, p2 };
-    let c = sail_load::make::make(Table { geometry, count: 0 }, list, first, second, third, own2, own3);
+    let c = sail_load::make::make(
+        Table { geometry, count: 0 },
+        list,
+        first,
+        second,
+        third,
+        own2,
+        own3,
+    );
     let t = c.table;
     let n = t.count;
     let a = c.answer;
@@ -45,7 +53,16 @@ pub extern "C" fn gh_load(
     ensures { λ r. ⌜ card r (lent (now (list .exit)) (now (first .exit)) (now (second .exit)) (now (third .exit)) (now (own2 .exit)) (now (own3 .exit))) ≡ cardOf (loaded (tableOf p1 p2 0) (lent (now (list .entry)) (now (first .entry)) (now (second .entry)) (now (third .entry)) (now (own2 .entry)) (now (own3 .entry))) (now (input .entry))) ⌝ }
 {
     let geometry = Geometry { p1, p2 };
-    let c = sail_load::load::load(Table { geometry, count: 0 }, input, list, first, second, third, own2, own3);
+    let c = sail_load::load::load(
+        Table { geometry, count: 0 },
+        input,
+        list,
+        first,
+        second,
+        third,
+        own2,
+        own3,
+    );
     let t = c.table;
     let n = t.count;
     let a = c.answer;
@@ -67,7 +84,15 @@ pub extern "C" fn gh_report(
     ensures { λ r. ⌜ r ≡ packReport (reported (tableOf p1 p2 count) (lent (now (list .entry)) (now (first .entry)) (now (second .entry)) (now (third .entry)) (now (own2 .entry)) (now (own3 .entry)))) ⌝ }
 {
     let geometry = Geometry { p1, p2 };
-    pack::reported(sail_sound::report::report(Table { geometry, count }, list, first, second, third, own2, own3))
+    pack::reported(sail_sound::report::report(
+        Table { geometry, count },
+        list,
+        first,
+        second,
+        third,
+        own2,
+        own3,
+    ))
 }
 
 #[no_mangle]
@@ -86,5 +111,14 @@ pub extern "C" fn gh_lookup(
     ensures { λ r. ⌜ r ≡ packFound (lookupSaid (tableOf p1 p2 count) (lent (now (list .entry)) (now (first .entry)) (now (second .entry)) (now (third .entry)) (now (own2 .entry)) (now (own3 .entry))) addr) ⌝ }
 {
     let geometry = Geometry { p1, p2 };
-    pack::found(sail::lookup::lookup(Table { geometry, count }, list, first, second, third, own2, own3, addr))
+    pack::found(sail::lookup::lookup(
+        Table { geometry, count },
+        list,
+        first,
+        second,
+        third,
+        own2,
+        own3,
+        addr,
+    ))
 }

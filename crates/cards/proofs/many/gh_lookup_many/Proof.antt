@@ -38,12 +38,12 @@ gh-lookup-many-spec =
     (λ c. omega (arith, c .before .before .before .before .before .before .before .before .before .before .before .before .before .before .before .before .before .good .1 .1 .1 .1 .1 .1 .1 .1 .1 .0))
     (λ c. search needs)
     (λ c. let a = c .before .before .before .before .before .before .before .before .before .before .before .before .before .before .before .before .before .args in
-        let t = tableOf (a .p1) (a .p2) (a .count) in
-        let l = lent (a .list .now) (a .first .now) (a .second .now) (a .third .now) (a .own2 .now) (a .own3 .now) in (
-          omega arith,
-          simp length-set (c .before .before .before .before .before .loop .inv .1),
-          stored-more (λ k. lowFound t l (getD (a .addrs .now) k 0)) (c .before .before .before .before .before .loop .out) (c .before .before .before .before .before .loop .i) (c .low32 .result) (omega arith) (c .before .before .before .before .before .loop .inv .2)
-              (low-is t l _ _ (c .before .before .before .before .before .before .before .before .sizes .ensures) (c .before .before .before .before .before .before .before .if1 .left) _ (c .before .before .find .ensures) _ _ (c .before .found .ensures) (c .low32 .ensures)),
-        ))
+    let t = tableOf (a .p1) (a .p2) (a .count) in
+    let l = lent (a .list .now) (a .first .now) (a .second .now) (a .third .now) (a .own2 .now) (a .own3 .now) in (
+      omega arith,
+      simp length-set (c .before .before .before .before .before .loop .inv .1),
+      stored-more (λ k. lowFound t l (getD (a .addrs .now) k 0)) (c .before .before .before .before .before .loop .out) (c .before .before .before .before .before .loop .i) (c .low32 .result) (omega arith) (c .before .before .before .before .before .loop .inv .2)
+          (low-is t l _ _ (c .before .before .before .before .before .before .before .before .sizes .ensures) (c .before .before .before .before .before .before .before .if1 .left) _ (c .before .before .find .ensures) _ _ (c .before .found .ensures) (c .low32 .ensures)),
+    ))
     (λ c. omega arith)
     (λ c. many-all _ _ _ _ _ (c .before .before .before .before .sizes .ensures) (c .before .before .before .if1 .left) (c .before .before .if2 .left) _ (c .before .loop .inv .1) (λ k h. c .before .loop .inv .2 k (omega arith))))
