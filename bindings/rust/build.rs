@@ -1,0 +1,14 @@
+//! Says where `libcards.a` is: in the folder that GHATUMRI_LIB names (a relative one counts from this package), or
+//! else in target/native of the repository.
+
+use std::path::PathBuf;
+
+fn main() {
+    let here = PathBuf::from(std::env::var_os("CARGO_MANIFEST_DIR").unwrap());
+    let folder = here.join(std::env::var_os("GHATUMRI_LIB").unwrap_or_else(|| "../../target/native".into()));
+    println!("cargo:rerun-if-changed=build.rs");
+    println!("cargo:rerun-if-env-changed=GHATUMRI_LIB");
+    println!("cargo:rerun-if-changed={}", folder.join("libcards.a").display());
+    println!("cargo:rustc-link-search=native={}", folder.display());
+    println!("cargo:rustc-link-lib=static=cards");
+}

@@ -1,0 +1,110 @@
+//! List A of document 01, and the refusals, through the safe functions.
+
+use ghatumri::*;
+use std::net::Ipv4Addr;
+
+fn list_a() -> Vec<u8> {
+    [
+        Route::new([0, 0, 0, 0], 0, 6),
+        Route::new([10, 0, 0, 0], 8, 20),
+        Route::new([10, 1, 0, 0], 16, 31),
+        Route::new([10, 1, 2, 0], 24, 44),
+        Route::new([10, 1, 2, 128], 25, 57),
+    ]
+    .iter()
+    .flat_map(Route::record)
+    .collect()
+}
+
+fn refused<T: std::fmt::Debug>(r: Result<T, Refusal>) -> (u8, Option<u32>) {
+    let refusal = r.unwrap_err();
+    (refusal.number, refusal.index)
+}
+
+#[test]
+fn a_table() {
+    let mut table = Table::new(Geometry::STANDARD, 8, 1, 1).unwrap();
+    assert_eq!(table.load(&list_a()), Ok(5));
+    assert_eq!(table.records(), list_a());
+    let hop = |t: &Table, a: [u8; 4]| t.lookup(a).map(|f| (f.hop, f.reads));
+    assert_eq!(hop(&table, [10, 1, 2, 200]), Ok((Some(57), 3)));
+    assert_eq!(hop(&table, [10, 1, 2, 5]), Ok((Some(44), 3)));
+    assert_eq!(hop(&table, [10, 1, 3, 1]), Ok((Some(31), 2)));
+    assert_eq!(hop(&table, [192, 0, 2, 1]), Ok((Some(6), 1)));
+    assert_eq!(table.report(), Ok(Report { routes: 5, second: 1, third: 1 }));
+    assert_eq!((table.first[2561], table.own2[0], table.second[2], table.own3[0]), (1, 2562, 1, 3));
+
+    let addrs = [u32::from(Ipv4Addr::new(10, 1, 2, 200)), 0];
+    let mut out = [0; 2];
+    table.lookup_many(&addrs, &mut out).unwrap();
+    assert_eq!(found(out[0]), Ok(Found { hop: Some(57), reads: 3 }));
+    assert_eq!(found(out[1]), Ok(Found { hop: Some(6), reads: 1 }));
+    assert_eq!(refused(table.lookup_many(&addrs, &mut [0; 3])), (2, None));
+
+    assert_eq!(table.announce([10, 1, 0, 0], 16, 32), Ok(Announced::Replaced));
+    assert_eq!(table.announce([11, 0, 0, 0], 8, 7), Ok(Announced::Added));
+    assert_eq!(table.count, 6);
+    assert_eq!(refused(table.announce([10, 2, 0, 0], 17, 7)), (7, None));
+    assert_eq!(refused(table.announce([10, 1, 0, 0], 15, 0)), (3, None));
+    table.withdraw([0, 0, 0, 0], 0).unwrap();
+    assert_eq!(hop(&table, [192, 0, 2, 1]), Ok((None, 1)));
+    assert_eq!(refused(table.withdraw([0, 0, 0, 0], 0)), (9, None));
+
+    let before = table.clone();
+    table.first[0] = 77;
+    assert_eq!(refused(table.report()), (5, None));
+    assert_eq!(refused(table.lookup([0, 0, 0, 1])), (5, None));
+    table.first[0] = before.first[0];
+    assert_eq!(table, before);
+    table.make().unwrap();
+    assert_eq!(table.report(), Ok(Report { routes: 0, second: 0, third: 0 }));
+}
+
+#[test]
+fn sizes_and_geometries() {
+    assert!(Table::new(Geometry::SMALL, 0, 0, 0).is_ok());
+    assert!(Table::new(Geometry { p1: 16, p2: 26 }, 4096, 4096, 4096).is_ok());
+    for (p1, p2) in [(16, 27), (12, 23), (11, 22), (0, 0), (40, 99), (u32::MAX, u32::MAX)] {
+        assert_eq!(refused(Table::new(Geometry { p1, p2 }, 1, 1, 1)), (1, None));
+    }
+    assert_eq!(refused(Table::new(Geometry::SMALL, 4097, 0, 0)), (2, None));
+    assert_eq!(refused(Table::new(Geometry::SMALL, usize::MAX, usize::MAX, usize::MAX)), (2, None));
+}
+
+#[test]
+fn an_image() {
+    let image = Image::of(&list_a()).unwrap();
+    assert_eq!(image.words.len(), 7 * 3);
+    assert_eq!(image.words[18..], [5, 7, 3]);
+    assert_eq!(image.hops, [6, 20, 31, 44, 57]);
+    assert_eq!(image.lookup([10, 1, 2, 200]), Ok(Found { hop: Some(57), reads: 7 }));
+    assert_eq!(image.lookup([10, 1, 3, 1]), Ok(Found { hop: Some(31), reads: 6 }));
+    assert_eq!(image.lookup([192, 0, 2, 1]), Ok(Found { hop: Some(6), reads: 1 }));
+    assert_eq!(refused(Image::new(6, 5).build(&list_a())), (11, None));
+    assert_eq!(refused(Image::new(7, 4).build(&list_a())), (12, None));
+    assert_eq!(refused(Image::new(0, 0).lookup([1, 2, 3, 4])), (13, None));
+    assert!(Image::of(&[]).is_ok());
+}
+
+#[test]
+fn inputs() {
+    let input = list_a();
+    let run_of = |a: [u8; 4], len| run(&input, a, len).map(|part| part.as_ptr() as usize - input.as_ptr() as usize);
+    assert_eq!(run(&input, [10, 1, 0, 0], 16).unwrap(), &input[16..40]);
+    assert_eq!((run_of([10, 1, 0, 0], 16), run_of([11, 0, 0, 0], 8)), (Ok(16), Ok(40)));
+    assert!(run(&input, [11, 0, 0, 0], 8).unwrap().is_empty());
+    assert_eq!(refused(run(&input, [1, 0, 0, 0], 0)), (3, None));
+    let counts = tally(&input).unwrap();
+    assert_eq!((counts[0], counts[8], counts[25], counts.iter().sum::<u32>()), (1, 1, 1, 5));
+    assert_eq!(route(&input, 4), Ok(Some(Route::new([10, 1, 2, 128], 25, 57))));
+    assert_eq!(route(&input, 5), Ok(None));
+    assert_eq!(route(&input, 4).unwrap().unwrap().to_string(), "10.1.2.128/25 57");
+    assert_eq!(refused(tally(&input[..39])), (10, Some(4)));
+    let mut bad = input.clone();
+    bad[8 * 3 + 5] = 1;
+    assert_eq!(refused(route(&bad, 0)), (10, Some(3)));
+    assert_eq!(
+        route(&bad, 0).unwrap_err().to_string(),
+        "refused 10 at 3: record input not a multiple of 8 bytes, spare not zero, or not ascending"
+    );
+}

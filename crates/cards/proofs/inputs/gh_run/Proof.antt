@@ -1,0 +1,14 @@
+-- `cards::inputs::gh_run` meets its contract. Assumes nothing.
+use mathlib.Core.Path.{ap, _∙_}
+use Rattle.cards.specs.Pack.{packRun}
+use borrow.Author.Needs.{needs}
+use Rattle.cards.proofs.inputs.gh_run.Statement.{statement}
+use Rattle.cards.proofs.inputs.gh_run.Tie as tie
+
+pub gh-run-spec : {M : Type 1} → statement M
+gh-run-spec =
+    tie.close
+    (tie.spec
+    (λ c κs. search needs)
+    (λ c κs. search needs)
+    (λ c. c .run .ensures ∙ ap packRun (c .before .run-check .ensures)))

@@ -1,0 +1,41 @@
+-- `cards::inputs::gh_tally` meets its contract: the words stored so far are the first counts. Assumes nothing.
+use native.Mathlib.Omega.{arith}
+use Prim.Native.Nat.{ℕ, _+_, _-_, _≤_, _<_}
+use mathlib.Core.Path.{_≡_, refl, sym, ap, _∙_}
+use lib.ListN.{length, getD, length-set}
+use Rattle.cards.proofs.Laws.{tally-short, tally-all, tally-length, stored-more}
+use borrow.Author.Needs.{needs}
+use Rattle.cards.proofs.inputs.gh_tally.Statement.{statement}
+use Rattle.cards.proofs.inputs.gh_tally.Tie as tie
+
+abbrev Inv-loop : tie.InvT-loop
+Inv-loop input out₀ answer counts k₀ out k =
+    (k ≤ 33) × (length out ≡ 33) × (length counts ≡ 33) × ((j : ℕ) → j < k → getD out j 0 ≡ getD counts j 0)
+
+abbrev μ-loop : tie.MeasureT-loop
+μ-loop input out₀ answer counts k₀ out k = 33 - k
+
+pub gh-tally-spec : {M : Type 1} → statement M
+gh-tally-spec =
+    tie.close
+    (tie.spec
+    Inv-loop
+    μ-loop
+    (λ c. search tally-short)
+    (λ c κs. search needs)
+    (λ c. (search needs, search needs, ap length (c .before .tally .ensures .counted) ∙ tally-length _, λ j h. absurd (omega arith)))
+    (λ c. search needs)
+    (λ c. search needs)
+    (λ c. search needs)
+    (λ c. search needs)
+    (λ c. search needs)
+    (λ c. search needs)
+    (λ c. (
+      omega arith,
+      simp length-set (c .before .loop .inv .1),
+      c .before .loop .inv .2,
+      stored-more (λ j. getD (c .before .before .before .tally .result .counts) j 0) (c .before .loop .out) (c .before .loop .k) _ (omega arith) (c .before .loop .inv .3) refl,
+    ))
+    (λ c κs. search needs)
+    (λ c. omega arith)
+    (λ c. tally-all _ _ (c .before .before .before .before .before .if1 .left) _ (c .before .before .before .before .tally .ensures) _ (c .before .before .loop .inv .1) (c .before .before .loop .inv .2) (λ j h. c .before .before .loop .inv .3 j (omega arith)) _ (c .input .ensures)))

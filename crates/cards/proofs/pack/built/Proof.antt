@@ -1,0 +1,29 @@
+-- `cards::pack::built` meets its contract. Assumes nothing.
+use mathlib.Core.Path.{ap}
+use native.Mathlib.Omega.{arith}
+use Rattle.tree_build.specs.Built.{saysBuilt}
+use Rattle.tree_build.specs.declared.Built.{Built}
+use Rattle.cards.specs.Pack.{packBuilt, packed}
+use borrow.Author.Needs.{needs}
+use Rattle.cards.proofs.pack.built.Statement.{statement}
+use Rattle.cards.proofs.pack.built.Tie as tie
+
+pub built-spec : {M : Type 1} → statement M
+unfolding saysBuilt packed
+built-spec =
+    tie.close
+    (tie.spec
+    (λ c. search needs)
+    (λ c κs. search needs)
+    (λ c κs. search needs)
+    (λ c. search needs)
+    (λ c κs. search needs)
+    (λ c. search needs)
+    (λ c. search needs)
+    (λ c. search needs)
+    (λ c κs. search needs)
+    (λ c. search needs)
+    (λ c κs. search needs)
+    (λ c. omega (arith, ap (λ (x : Built). packBuilt (saysBuilt x)) (c .before .before .before .before .a .given .1)))
+    (λ c. omega (arith, ap (λ (x : Built). packBuilt (saysBuilt x)) (c .before .before .a2 .given .1)))
+    (λ c. omega (arith, ap (λ (x : Built). packBuilt (saysBuilt x)) (c .before .before .a3 .given .1))))

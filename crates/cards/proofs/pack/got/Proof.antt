@@ -1,0 +1,32 @@
+-- `cards::pack::got` meets its contract. Assumes nothing.
+use mathlib.Core.Path.{ap}
+use native.Mathlib.Omega.{arith}
+use Rattle.routes.specs.Answers.{saysGot}
+use Rattle.routes.specs.declared.input.Got.{Got}
+use Rattle.cards.specs.Pack.{packRoute, packed}
+use borrow.Author.Needs.{needs}
+use Rattle.cards.proofs.pack.got.Statement.{statement}
+use Rattle.cards.proofs.pack.got.Tie as tie
+
+pub got-spec : {M : Type 1} → statement M
+unfolding saysGot packed
+got-spec =
+    tie.close
+    (tie.spec
+    (λ c. search needs)
+    (λ c κs. search needs)
+    (λ c. search needs)
+    (λ c κs. search needs)
+    (λ c. search needs)
+    (λ c. search needs)
+    (λ c κs. search needs)
+    (λ c. search needs)
+    (λ c. search needs)
+    (λ c. search needs)
+    (λ c. search needs)
+    (λ c κs. search needs)
+    (λ c. search needs)
+    (λ c. omega (arith, ap (λ (x : Got). packRoute (saysGot x)) (c .before .before .before .before .a .given .1)))
+    (λ c. omega (arith, ap (λ (x : Got). packRoute (saysGot x)) (c .enum-told .given .1)))
+    (λ c. omega (arith, ap (λ (x : Got). packRoute (saysGot x)) (c .before .before .a2 .given .1)))
+    (λ c. omega (arith, ap (λ (x : Got). packRoute (saysGot x)) (c .enum-told2 .given .1))))

@@ -1,0 +1,22 @@
+-- `cards::pack::input` meets its contract. Assumes nothing.
+use mathlib.Core.Path.{ap}
+use native.Mathlib.Omega.{arith}
+use Rattle.routes.specs.Answers.{saysInput}
+use Rattle.routes.specs.declared.input.Input.{Input}
+use Rattle.cards.specs.Pack.{packNone, packed}
+use borrow.Author.Needs.{needs}
+use Rattle.cards.proofs.pack.input.Statement.{statement}
+use Rattle.cards.proofs.pack.input.Tie as tie
+
+pub input-spec : {M : Type 1} → statement M
+unfolding saysInput packed
+input-spec =
+    tie.close
+    (tie.spec
+    (λ c. search needs)
+    (λ c. search needs)
+    (λ c κs. search needs)
+    (λ c. search needs)
+    (λ c. omega (arith, ap (λ (x : Input). packNone (saysInput x)) (c .enum-told .given .1)))
+    (λ c. omega (arith, ap (λ (x : Input). packNone (saysInput x)) (c .before .before .a .given .1)))
+    (λ c. omega (arith, ap (λ (x : Input). packNone (saysInput x)) (c .enum-told2 .given .1))))

@@ -1,0 +1,24 @@
+-- `cards::pack::loaded` meets its contract. Assumes nothing.
+use mathlib.Core.Path.{ap}
+use native.Mathlib.Omega.{arith}
+use Rattle.sail_load.specs.Answers.{saysLoaded}
+use Rattle.sail_load.specs.declared.load.Loaded.{Loaded}
+use Rattle.cards.specs.Pack.{packChange, packed}
+use borrow.Author.Needs.{needs}
+use Rattle.cards.proofs.pack.loaded.Statement.{statement}
+use Rattle.cards.proofs.pack.loaded.Tie as tie
+
+pub loaded-spec : {M : Type 1} → statement M
+unfolding saysLoaded packed
+loaded-spec =
+    tie.close
+    (tie.spec
+    (λ c. search needs)
+    (λ c κs. search needs)
+    (λ c. search needs)
+    (λ c κs. search needs)
+    (λ c. search needs)
+    (λ c κs. search needs)
+    (λ c. omega (arith, ap (λ (x : Loaded). packChange (c .before .before .before .args .count) (saysLoaded x)) (c .before .enum-told .given .1)))
+    (λ c. omega (arith, ap (λ (x : Loaded). packChange (c .before .before .before .before .args .count) (saysLoaded x)) (c .before .before .a .given .1)))
+    (λ c. omega (arith, ap (λ (x : Loaded). packChange (c .before .before .before .before .args .count) (saysLoaded x)) (c .before .before .a2 .given .1))))

@@ -1,0 +1,21 @@
+-- `cards::pack::made` meets its contract. Assumes nothing.
+use mathlib.Core.Path.{ap}
+use native.Mathlib.Omega.{arith}
+use Rattle.sail_load.specs.Answers.{saysMade}
+use Rattle.sail_load.specs.declared.make.Made.{Made}
+use Rattle.cards.specs.Pack.{packChange, packed}
+use borrow.Author.Needs.{needs}
+use Rattle.cards.proofs.pack.made.Statement.{statement}
+use Rattle.cards.proofs.pack.made.Tie as tie
+
+pub made-spec : {M : Type 1} → statement M
+unfolding saysMade packed
+made-spec =
+    tie.close
+    (tie.spec
+    (λ c. search needs)
+    (λ c κs. search needs)
+    (λ c. search needs)
+    (λ c κs. search needs)
+    (λ c. omega (arith, ap (λ (x : Made). packChange (c .before .before .before .args .count) (saysMade x)) (c .before .enum-told .given .1)))
+    (λ c. omega (arith, ap (λ (x : Made). packChange (c .before .before .before .before .args .count) (saysMade x)) (c .before .before .a .given .1))))

@@ -1,0 +1,32 @@
+-- `cards::pack::reported` meets its contract. Assumes nothing.
+use mathlib.Core.Path.{ap}
+use native.Mathlib.Omega.{arith}
+use Rattle.sail_sound.specs.Report.{saysReported}
+use Rattle.sail_sound.specs.declared.report.Reported.{Reported}
+use Rattle.cards.specs.Pack.{packReport, packed}
+use Rattle.cards.proofs.Laws.{report-packs}
+use borrow.Author.Needs.{needs}
+use Rattle.cards.proofs.pack.reported.Statement.{statement}
+use Rattle.cards.proofs.pack.reported.Tie as tie
+
+pub reported-spec : {M : Type 1} → statement M
+unfolding saysReported packed
+reported-spec =
+    tie.close
+    (tie.spec
+    (λ c. search needs)
+    (λ c κs. search needs)
+    (λ c κs. search needs)
+    (λ c. search needs)
+    (λ c κs. search needs)
+    (λ c κs. search needs)
+    (λ c. search needs)
+    (λ c. search needs)
+    (λ c κs. search needs)
+    (λ c κs. search needs)
+    (λ c. search needs)
+    (λ c. search needs)
+    (λ c. search needs)
+    (λ c κs. search needs)
+    (λ c. report-packs _ _ _ _ _ _ _ _ _ _ (c .before .before .before .before .before .before .before .a .given .1) (c .before .before .before .before .before .word .ensures .0) (c .before .before .before .before .narrow .ensures .0) (c .before .before .before .word2 .ensures .0) (c .before .before .narrow2 .ensures .0) (c .before .word3 .ensures .0) (c .narrow3 .ensures .0))
+    (λ c. omega (arith, ap (λ (x : Reported). packReport (saysReported x)) (c .before .before .a2 .given .1))))

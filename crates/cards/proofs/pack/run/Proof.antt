@@ -1,0 +1,29 @@
+-- `cards::pack::run` meets its contract. Assumes nothing.
+use mathlib.Core.Path.{ap}
+use native.Mathlib.Omega.{arith}
+use Rattle.lists.specs.Run.{saysRunCheck}
+use Rattle.lists.specs.declared.run.RunCheck.{RunCheck}
+use Rattle.cards.specs.Pack.{packRun, packed}
+use borrow.Author.Needs.{needs}
+use Rattle.cards.proofs.pack.run.Statement.{statement}
+use Rattle.cards.proofs.pack.run.Tie as tie
+
+pub run-spec : {M : Type 1} → statement M
+unfolding saysRunCheck packed
+run-spec =
+    tie.close
+    (tie.spec
+    (λ c. search needs)
+    (λ c κs. search needs)
+    (λ c. search needs)
+    (λ c κs. search needs)
+    (λ c. search needs)
+    (λ c. search needs)
+    (λ c. search needs)
+    (λ c κs. search needs)
+    (λ c. search needs)
+    (λ c. search needs)
+    (λ c. omega (arith, ap (λ (x : RunCheck). packRun (saysRunCheck x)) (c .before .before .before .a .given .1)))
+    (λ c. omega (arith, ap (λ (x : RunCheck). packRun (saysRunCheck x)) (c .before .before .a2 .given .1)))
+    (λ c. omega (arith, ap (λ (x : RunCheck). packRun (saysRunCheck x)) (c .enum-told .given .1)))
+    (λ c. omega (arith, ap (λ (x : RunCheck). packRun (saysRunCheck x)) (c .enum-told2 .given .1))))

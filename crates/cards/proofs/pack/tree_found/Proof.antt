@@ -1,0 +1,28 @@
+-- `cards::pack::tree_found` meets its contract. Assumes nothing.
+use mathlib.Core.Path.{ap}
+use native.Mathlib.Omega.{arith}
+use Rattle.tree.specs.Walk.{saysTreeFound}
+use Rattle.tree.specs.declared.TreeFound.{TreeFound}
+use Rattle.cards.specs.Pack.{packFound, packed}
+use borrow.Author.Needs.{needs}
+use Rattle.cards.proofs.pack.tree_found.Statement.{statement}
+use Rattle.cards.proofs.pack.tree_found.Tie as tie
+
+pub tree-found-spec : {M : Type 1} → statement M
+unfolding saysTreeFound packed
+tree-found-spec =
+    tie.close
+    (tie.spec
+    (λ c. search needs)
+    (λ c κs. search needs)
+    (λ c. search needs)
+    (λ c κs. search needs)
+    (λ c. search needs)
+    (λ c. search needs)
+    (λ c. search needs)
+    (λ c κs. search needs)
+    (λ c. search needs)
+    (λ c. search needs)
+    (λ c. omega (arith, ap (λ (x : TreeFound). packFound (saysTreeFound x)) (c .before .before .before .f .given .1)))
+    (λ c. omega (arith, ap (λ (x : TreeFound). packFound (saysTreeFound x)) (c .before .before .f2 .given .1)))
+    (λ c. omega (arith, ap (λ (x : TreeFound). packFound (saysTreeFound x)) (c .enum-told .given .1))))

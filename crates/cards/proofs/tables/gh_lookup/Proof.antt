@@ -1,0 +1,14 @@
+-- `cards::tables::gh_lookup` meets its contract. Assumes nothing.
+use mathlib.Core.Path.{ap, _∙_}
+use Rattle.cards.specs.Pack.{packFound}
+use borrow.Author.Needs.{needs}
+use Rattle.cards.proofs.tables.gh_lookup.Statement.{statement}
+use Rattle.cards.proofs.tables.gh_lookup.Tie as tie
+
+pub gh-lookup-spec : {M : Type 1} → statement M
+gh-lookup-spec =
+    tie.close
+    (tie.spec
+    (λ c κs. search needs)
+    (λ c κs. search needs)
+    (λ c. c .found .ensures ∙ ap packFound (c .before .lookup .ensures)))

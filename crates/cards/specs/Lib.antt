@@ -1,0 +1,3 @@
+-- How answers are packed into one number, and what each exported call answers and leaves.
+pub mod Pack
+pub mod Cards

@@ -1,0 +1,39 @@
+// The calls on record inputs.
+ghost use mathlib.Core.Path.{_≡_};
+ghost use Rattle.routes.specs.Answers.{routeSaid};
+ghost use Rattle.lists.specs.Run.{runSaid};
+ghost use Rattle.cards.specs.Pack.{packRun, packRoute};
+ghost use Rattle.cards.specs.Cards.{wordsCard, tallyCard};
+use crate::pack;
+
+#[no_mangle]
+pub extern "C" fn gh_run(input: &[u8], addr: u32, len: u8) -> u64
+    ensures { λ r. ⌜ r ≡ packRun (runSaid (now (input .entry)) addr len) ⌝ }
+{
+    pack::run(lists::run::run_check(input, addr, len))
+}
+
+#[no_mangle]
+pub extern "C" fn gh_route(input: &[u8], index: u32) -> u64
+    ensures { λ r. ⌜ r ≡ packRoute (routeSaid (now (input .entry)) index) ⌝ }
+{
+    pack::got(routes::input::route_at(input, index as usize))
+}
+
+#[no_mangle]
+pub extern "C" fn gh_tally(input: &[u8], out: &mut [u32]) -> u64
+    ensures { λ r. ⌜ wordsCard r (now (out .exit)) ≡ tallyCard (now (input .entry)) (now (out .entry)) ⌝ }
+{
+    if out.len() != 33 {
+        return 2;
+    }
+    let t = lists::tally::tally(input);
+    let answer = t.answer;
+    let counts = t.counts;
+    let mut k = 0;
+    while k < 33 {
+        out[k] = counts[k];
+        k += 1;
+    }
+    pack::input(answer)
+}

@@ -1,0 +1,159 @@
+// Answers as one number of 64 bits. Which value stands in which bits is said with each function's definition.
+ghost use mathlib.Core.Path.{_≡_};
+ghost use Prim.Native.Nat.{_+_, _*_, _%_, _^_, _<_};
+ghost use Rattle.sail.specs.Walk.{saysFound};
+ghost use Rattle.sail_load.specs.Answers.{saysMade, saysLoaded};
+ghost use Rattle.sail_sound.specs.Report.{saysReported};
+ghost use Rattle.routes.specs.Answers.{saysInput, saysGot};
+ghost use Rattle.lists.specs.Run.{saysRunCheck};
+ghost use Rattle.tree.specs.Walk.{saysTreeFound};
+ghost use Rattle.tree_build.specs.Built.{saysBuilt};
+ghost use Rattle.cards.specs.Pack.{packFound, packReport, packChange, packBuilt, packRun, packNone, packRoute};
+use lists::run::RunCheck;
+use routes::input::Got;
+use routes::input::Input;
+use sail::lookup::Found;
+use sail_load::load::Loaded;
+use sail_load::make::Made;
+use sail_sound::report::Reported;
+use tree::TreeFound;
+use tree_build::Built;
+
+// Numbers, each with the bits that it fills.
+fn byte(x: u8) -> u64
+    ensures { λ r. ⌜ (r ≡ x) × (r < 256) ⌝ }
+{
+    x as u64
+}
+
+fn half(x: u16) -> u64
+    ensures { λ r. ⌜ (r ≡ x) × (r < 65536) ⌝ }
+{
+    x as u64
+}
+
+fn word(x: u32) -> u64
+    ensures { λ r. ⌜ (r ≡ x) × (r < 2 ^ 32) ⌝ }
+{
+    x as u64
+}
+
+fn narrow(x: u64) -> u64
+    ensures { λ r. ⌜ (r ≡ x % 65536) × (r < 65536) ⌝ }
+{
+    x % 65536
+}
+
+// A refusal with an index.
+fn refused_at(n: u8, k: usize) -> u64
+    ensures { λ r. ⌜ r ≡ n + 256 + k % 2 ^ 32 * 2 ^ 32 ⌝ }
+{
+    byte(n) + 256 + (k as u64) % 4294967296 * 4294967296
+}
+
+// A change that was accepted, by the route count after it.
+fn counted(count: u32) -> u64
+    ensures { λ r. ⌜ r ≡ 0 * 256 + count * 65536 ⌝ }
+{
+    word(count) * 65536
+}
+
+pub fn found(f: Found) -> u64
+    ensures { λ r. ⌜ r ≡ packFound (saysFound f) ⌝ }
+{
+    match f {
+        Found::Hop(h, n) => word(n) * 256 + half(h) * 65536,
+        Found::NoRoute(n) => word(n) * 256,
+        Found::Refused(z) => byte(z),
+    }
+}
+
+pub fn reported(a: Reported) -> u64
+    ensures { λ r. ⌜ r ≡ packReport (saysReported a) ⌝ }
+{
+    match a {
+        Reported::Standing {
+            routes,
+            second,
+            third,
+        } => {
+            narrow(word(routes)) * 65536
+                + narrow(word(second)) * 4294967296
+                + narrow(word(third)) * 281474976710656
+        }
+        Reported::Refused(z) => byte(z),
+    }
+}
+
+pub fn made(a: Made, count: u32) -> u64
+    ensures { λ r. ⌜ r ≡ packChange count (saysMade a) ⌝ }
+{
+    match a {
+        Made::Done => counted(count),
+        Made::Refused(z) => byte(z),
+    }
+}
+
+pub fn loaded(a: Loaded, count: u32) -> u64
+    ensures { λ r. ⌜ r ≡ packChange count (saysLoaded a) ⌝ }
+{
+    match a {
+        Loaded::Done => counted(count),
+        Loaded::Refused(z) => byte(z),
+        Loaded::RefusedAt(z, k) => refused_at(z, k),
+    }
+}
+
+pub fn tree_found(f: TreeFound) -> u64
+    ensures { λ r. ⌜ r ≡ packFound (saysTreeFound f) ⌝ }
+{
+    match f {
+        TreeFound::Hop(h, n) => word(n) * 256 + half(h) * 65536,
+        TreeFound::NoRoute(n) => word(n) * 256,
+        TreeFound::Broken => 13,
+    }
+}
+
+pub fn built(a: Built) -> u64
+    ensures { λ r. ⌜ r ≡ packBuilt (saysBuilt a) ⌝ }
+{
+    match a {
+        Built::Made(nodes, hops) => narrow(word(hops)) * 65536 + word(nodes) * 4294967296,
+        Built::RefusedAt(z, k) => refused_at(z, k),
+        Built::Refused(z) => byte(z),
+    }
+}
+
+pub fn run(a: RunCheck) -> u64
+    ensures { λ r. ⌜ r ≡ packRun (saysRunCheck a) ⌝ }
+{
+    match a {
+        RunCheck::Run { start, count } => {
+            narrow(start as u64) * 65536 + narrow(count as u64) * 4294967296
+        }
+        RunCheck::Refused(z, k) => refused_at(z, k),
+        RunCheck::TooMany => 6,
+        RunCheck::NoPrefix => 3,
+    }
+}
+
+pub fn input(a: Input) -> u64
+    ensures { λ r. ⌜ r ≡ packNone (saysInput a) ⌝ }
+{
+    match a {
+        Input::Good(_) => 0,
+        Input::Refused(z, k) => refused_at(z, k),
+        Input::TooMany => 6,
+    }
+}
+
+pub fn got(a: Got) -> u64
+    ensures { λ r. ⌜ r ≡ packRoute (saysGot a) ⌝ }
+{
+    match a {
+        Got::One(r) => byte(r.len) * 256 + half(r.hop) * 65536 + word(r.addr) * 4294967296,
+        Got::Nothing => 0,
+        Got::Refused(z, k) => refused_at(z, k),
+        Got::TooMany => 6,
+    }
+}

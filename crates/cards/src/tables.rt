@@ -1,0 +1,124 @@
+// The calls on SAIL tables. The state is three numbers: both levels of the geometry and the route count.
+ghost use mathlib.Core.Path.{_≡_};
+ghost use Rattle.sail.specs.Lent.{lent};
+ghost use Rattle.sail.specs.Walk.{lookupSaid};
+ghost use Rattle.sail_theory.specs.Calls.{made, loaded, reported};
+ghost use Rattle.cards.specs.Pack.{packFound, packReport};
+ghost use Rattle.cards.specs.Cards.{tableOf, card, cardOf};
+use crate::pack;
+use sail::geometry::Geometry;
+use sail::table::Table;
+
+#[no_mangle]
+pub extern "C" fn gh_make(
+    p1: u32,
+    p2: u32,
+    list: &mut [u8],
+    first: &mut [u16],
+    second: &mut [u16],
+    third: &mut [u16],
+    own2: &mut [u32],
+    own3: &mut [u32],
+) -> u64
+    ensures { λ r. ⌜ card r (lent (now (list .exit)) (now (first .exit)) (now (second .exit)) (now (third .exit)) (now (own2 .exit)) (now (own3 .exit))) ≡ cardOf (made (tableOf p1 p2 0) (lent (now (list .entry)) (now (first .entry)) (now (second .entry)) (now (third .entry)) (now (own2 .entry)) (now (own3 .entry)))) ⌝ }
+{
+    let geometry = Geometry { p1, p2 };
+    let c = sail_load::make::make(
+        Table { geometry, count: 0 },
+        list,
+        first,
+        second,
+        third,
+        own2,
+        own3,
+    );
+    let t = c.table;
+    let n = t.count;
+    let a = c.answer;
+    pack::made(a, n)
+}
+
+#[no_mangle]
+pub extern "C" fn gh_load(
+    p1: u32,
+    p2: u32,
+    input: &[u8],
+    list: &mut [u8],
+    first: &mut [u16],
+    second: &mut [u16],
+    third: &mut [u16],
+    own2: &mut [u32],
+    own3: &mut [u32],
+) -> u64
+    ensures { λ r. ⌜ card r (lent (now (list .exit)) (now (first .exit)) (now (second .exit)) (now (third .exit)) (now (own2 .exit)) (now (own3 .exit))) ≡ cardOf (loaded (tableOf p1 p2 0) (lent (now (list .entry)) (now (first .entry)) (now (second .entry)) (now (third .entry)) (now (own2 .entry)) (now (own3 .entry))) (now (input .entry))) ⌝ }
+{
+    let geometry = Geometry { p1, p2 };
+    let c = sail_load::load::load(
+        Table { geometry, count: 0 },
+        input,
+        list,
+        first,
+        second,
+        third,
+        own2,
+        own3,
+    );
+    let t = c.table;
+    let n = t.count;
+    let a = c.answer;
+    pack::loaded(a, n)
+}
+
+#[no_mangle]
+pub extern "C" fn gh_report(
+    p1: u32,
+    p2: u32,
+    count: u32,
+    list: &[u8],
+    first: &[u16],
+    second: &[u16],
+    third: &[u16],
+    own2: &[u32],
+    own3: &[u32],
+) -> u64
+    ensures { λ r. ⌜ r ≡ packReport (reported (tableOf p1 p2 count) (lent (now (list .entry)) (now (first .entry)) (now (second .entry)) (now (third .entry)) (now (own2 .entry)) (now (own3 .entry)))) ⌝ }
+{
+    let geometry = Geometry { p1, p2 };
+    pack::reported(sail_sound::report::report(
+        Table { geometry, count },
+        list,
+        first,
+        second,
+        third,
+        own2,
+        own3,
+    ))
+}
+
+#[no_mangle]
+pub extern "C" fn gh_lookup(
+    p1: u32,
+    p2: u32,
+    count: u32,
+    list: &[u8],
+    first: &[u16],
+    second: &[u16],
+    third: &[u16],
+    own2: &[u32],
+    own3: &[u32],
+    addr: u32,
+) -> u64
+    ensures { λ r. ⌜ r ≡ packFound (lookupSaid (tableOf p1 p2 count) (lent (now (list .entry)) (now (first .entry)) (now (second .entry)) (now (third .entry)) (now (own2 .entry)) (now (own3 .entry))) addr) ⌝ }
+{
+    let geometry = Geometry { p1, p2 };
+    pack::found(sail::lookup::lookup(
+        Table { geometry, count },
+        list,
+        first,
+        second,
+        third,
+        own2,
+        own3,
+        addr,
+    ))
+}

@@ -1,0 +1,77 @@
+//! Compares the proved library with a plain implementation of document 01, over random and adversarial sequences of
+//! calls: every answer, and every word of every array after every call.
+//!
+//!     differential [CALLS [SEED [EPISODE]]]
+//!
+//! CALLS is how many calls to make at least (single lookups are counted apart). SEED fixes the run. With EPISODE only
+//! that part of the run is made, the way to look at a fault again.
+
+mod damage;
+mod gh;
+mod images;
+mod inputs;
+mod pair;
+mod run;
+mod tables;
+
+use differential::gen::Rng;
+use run::Run;
+use std::time::{Instant, SystemTime, UNIX_EPOCH};
+
+/// A run of at least this many calls must have met everything that it should.
+const FULL: u64 = 20_000;
+const DEFAULT: u64 = 40_000;
+
+fn main() {
+    let args: Vec<u64> =
+        std::env::args().skip(1).map(|a| a.replace('_', "").parse().unwrap_or_else(|_| usage())).collect();
+    if args.len() > 3 {
+        usage();
+    }
+    let wanted = args.first().copied().unwrap_or(DEFAULT);
+    let seed = args.get(1).copied().unwrap_or_else(|| {
+        let now = SystemTime::now().duration_since(UNIX_EPOCH).map_or(1, |d| d.as_nanos() as u64);
+        now % 1_000_000_000
+    });
+    println!("seed {seed}, at least {wanted} calls");
+    let begin = Instant::now();
+    let mut run = Run::new(seed);
+    if let Some(&only) = args.get(2) {
+        run.episode = only;
+        episode(&mut run);
+        println!("episode {only}: {} calls and {} lookups agree", run.calls, run.lookups);
+        return;
+    }
+    while run.calls < wanted {
+        episode(&mut run);
+        run.episode += 1;
+    }
+    run.print();
+    let seconds = begin.elapsed().as_secs_f64();
+    println!(
+        "{} calls and {} lookups in {} episodes agree with the plain implementation, {seconds:.1} s, seed {seed}",
+        run.calls, run.lookups, run.episode
+    );
+    if wanted >= FULL && !run.all_happened() {
+        std::process::exit(1);
+    }
+}
+
+/// One part of the run. Which kind it is follows from its number.
+fn episode(run: &mut Run) {
+    let n = run.episode;
+    let mut rng = Rng::part(run.seed, n);
+    match n % 100 {
+        7 => tables::large(run, &mut rng, n / 100),
+        57 => inputs::long(run, &mut rng),
+        k if k % 10 == 3 => inputs::episode(run, &mut rng),
+        k if k % 10 == 6 => images::episode(run, &mut rng),
+        k if k % 20 == 9 => images::wild(run, &mut rng),
+        _ => tables::episode(run, &mut rng),
+    }
+}
+
+fn usage() -> ! {
+    println!("usage: differential [CALLS [SEED [EPISODE]]]");
+    std::process::exit(2)
+}

@@ -1,0 +1,102 @@
+//! What a run has seen, and how it tells a fault.
+
+use differential::plain::number;
+use std::collections::BTreeMap;
+
+pub struct Run {
+    pub seed: u64,
+    /// The part of the run that is going on. Each part can be run alone.
+    pub episode: u64,
+    /// Calls of the library, single lookups not among them.
+    pub calls: u64,
+    /// Single lookups, in tables and in images.
+    pub lookups: u64,
+    /// How often each call gave each answer. A label is a refusal's number, or a name for something else worth counting.
+    pub seen: BTreeMap<(&'static str, String), u64>,
+}
+
+impl Run {
+    pub fn new(seed: u64) -> Run {
+        Run { seed, episode: 0, calls: 0, lookups: 0, seen: BTreeMap::new() }
+    }
+
+    pub fn count(&mut self, call: &'static str, label: &str) {
+        *self.seen.entry((call, label.to_string())).or_insert(0) += 1;
+    }
+
+    /// Compares an answer with what it should be, and counts it.
+    pub fn answered(&mut self, call: &'static str, is: u64, should: u64, told: &dyn Fn() -> String) {
+        if is != should {
+            self.fault(&format!("the answer is {} and should be {}", say(is), say(should)), told);
+        }
+        let n = number(is);
+        let with_index = if n != 0 && is >> 8 & 1 == 1 { " at" } else { "" };
+        self.count(call, &format!("{n}{with_index}"));
+    }
+
+    /// Ends the run: `told` says at which call and over which arrays.
+    pub fn fault(&self, what: &str, told: &dyn Fn() -> String) -> ! {
+        println!("FAULT: {what}");
+        println!("{}", told());
+        println!(
+            "episode {} of seed {}; again: differential 1 {} {}",
+            self.episode, self.seed, self.seed, self.episode
+        );
+        std::process::exit(1)
+    }
+
+    /// Stops when something did not happen at all in a run of full length: then the run shows less than it should.
+    pub fn all_happened(&self) -> bool {
+        let mut all = true;
+        for (call, labels) in MUST_HAPPEN {
+            for label in labels.split(", ") {
+                if !self.seen.contains_key(&(call, label.to_string())) {
+                    println!("never happened: {call}: {label}");
+                    all = false;
+                }
+            }
+        }
+        all
+    }
+
+    pub fn print(&self) {
+        let mut last = "";
+        for ((call, label), times) in &self.seen {
+            if *call != last {
+                print!("{}{call}:", if last.is_empty() { "" } else { "\n" });
+                last = call;
+            }
+            print!("  {label} ({times})");
+        }
+        println!();
+    }
+}
+
+/// An answer in words.
+fn say(answer: u64) -> String {
+    let n = number(answer);
+    if n == 0 {
+        format!("{answer:016x} (hex, accepted)")
+    } else if answer >> 8 & 1 == 1 {
+        format!("{answer:016x} (hex, refused {n} at {})", answer >> 32)
+    } else {
+        format!("{answer:016x} (hex, refused {n})")
+    }
+}
+
+/// What a run of full length meets. Numbers are refusals, 0 is accepted, `at` is with an index.
+const MUST_HAPPEN: [(&str, &str); 13] = [
+    ("make", "0, 1, 2"),
+    ("load", "0, 1, 2, 3 at, 4 at, 6, 7, 8, 10 at"),
+    ("announce", "0, 1, 2, 3, 4, 5, 6, 7, 8, replaced, room and chunks full, second opened, third opened, hole filled"),
+    ("withdraw", "0, 1, 2, 3, 5, 9, second closed, third closed, under a cover"),
+    ("report", "0, 1, 2, 5"),
+    ("lookup", "0, 1, 2, 5, hop in 1, hop in 2, hop in 3, no route in 1, no route in 2, no route in 3"),
+    ("lookup_many", "0, 1, 2"),
+    ("build", "0, 3 at, 4 at, 6, 10 at, 11, 12"),
+    ("tree_lookup", "0, 13, nodes 1, nodes 2, nodes 3, nodes 4, nodes 5, nodes 6, nodes 7, nodes 8, nodes 9, no route"),
+    ("run", "0, 3, 3 at, 4 at, 6, 10 at, empty, some"),
+    ("tally", "0, 2, 3 at, 4 at, 6, 10 at"),
+    ("route", "0, 3 at, 4 at, 6, 10 at, none"),
+    ("table", "damaged and not sound, chunks renumbered, 4096 second chunks, 4096 third chunks, 4096 routes"),
+];

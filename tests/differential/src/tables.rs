@@ -1,0 +1,444 @@
+//! Sequences of calls on tables: routes come and go, arrays are damaged and put right, sizes and geometries are wrong.
+
+use crate::damage::{renumber, Harm};
+use crate::pair::{used, Call, Pair};
+use crate::run::Run;
+use differential::gen::{asked_prefix, cut, damaged_input, spread, tidy, Field, Rng};
+use differential::plain::{geometry_ok, need, number, records, size2, size3, Lent, Route};
+
+/// All geometries, the cheap and the named ones more often.
+fn geometry(rng: &mut Rng) -> (u32, u32) {
+    if rng.one_in(3) {
+        loop {
+            let (p1, p2) = (rng.range(12, 16) as u32, rng.range(22, 26) as u32);
+            if geometry_ok(p1, p2) {
+                return (p1, p2);
+            }
+        }
+    }
+    *rng.pick(&[(12, 22), (12, 22), (12, 22), (16, 24), (13, 23), (13, 22), (14, 24), (16, 26)])
+}
+
+/// Room and pools, mostly so small that they fill.
+fn sizes(rng: &mut Rng) -> (usize, usize, usize) {
+    let room = match rng.below(12) {
+        0 => rng.range(0, 2),
+        1..=5 => rng.range(3, 12),
+        6..=8 => rng.range(12, 40),
+        _ => rng.range(40, 160),
+    };
+    let pool = |rng: &mut Rng| match rng.below(10) {
+        0 => 0,
+        1 => 1,
+        2..=4 if room < 40 => rng.range(1, 3),
+        5..=8 => rng.range(2, 8),
+        _ => rng.range(8, 24),
+    };
+    (room, pool(rng), pool(rng))
+}
+
+/// Fills the arrays with what a caller may have left there.
+fn litter(rng: &mut Rng, t: &mut Lent) {
+    let zero = rng.one_in(3);
+    let mut word = || if zero { 0 } else { rng.word() };
+    t.list.fill_with(|| word() as u8);
+    t.first.fill_with(|| word() as u16);
+    t.second.fill_with(|| word() as u16);
+    t.third.fill_with(|| word() as u16);
+    t.own2.fill_with(&mut word);
+    t.own3.fill_with(&mut word);
+}
+
+/// A route to announce: a new one, a standing one with another hop, one that nests with a standing one, a bad one.
+fn to_announce(rng: &mut Rng, field: &Field, standing: &[Route]) -> Call {
+    let (addr, len) = match rng.below(12) {
+        0 | 1 if !standing.is_empty() => {
+            let r = rng.pick(standing);
+            (r.addr, r.len)
+        }
+        2 | 3 => asked_prefix(rng, field, standing),
+        4 if !standing.is_empty() => {
+            // A short route over standing ones, announced late.
+            let r = *rng.pick(standing);
+            let len = rng.below(r.len as usize + 1) as u32;
+            (cut(r.addr, len), len as u8)
+        }
+        _ => {
+            let r = field.route(rng);
+            (r.addr, r.len)
+        }
+    };
+    let hop = if rng.one_in(20) { *rng.pick(&[0, 32_768, 65_535, 32_767]) } else { field.hop(rng) };
+    Call::Announce(addr, len, hop)
+}
+
+fn to_withdraw(rng: &mut Rng, field: &Field, standing: &[Route]) -> Call {
+    if standing.is_empty() || rng.one_in(6) {
+        let (addr, len) = asked_prefix(rng, field, standing);
+        return Call::Withdraw(addr, len);
+    }
+    let r = rng.pick(standing);
+    Call::Withdraw(r.addr, r.len)
+}
+
+fn to_load(rng: &mut Rng, field: &Field, t: &Pair) -> Call {
+    let n = match rng.below(4) {
+        0 => rng.range(0, t.plain.room()),
+        1 => t.plain.room() + rng.range(0, 2),
+        _ => rng.range(0, 12),
+    };
+    let mut routes = match &t.standing {
+        Some(routes) if rng.one_in(3) => routes.clone(),
+        _ => field.routes(rng, n),
+    };
+    if rng.one_in(4) {
+        // Enough long routes to want more chunks than there are.
+        for _ in 0..rng.range(1, 6) {
+            let len = *rng.pick(&[field.p1 + 1, field.p2, field.p2 + 1, 32]);
+            routes.push(Route { addr: cut(rng.word(), len), len: len as u8, hop: field.hop(rng) });
+        }
+        tidy(&mut routes);
+    }
+    let input = if rng.one_in(4) { damaged_input(rng, &routes) } else { records(&routes) };
+    Call::Load(input)
+}
+
+/// Any call, also where the table is not sound.
+fn any_call(rng: &mut Rng, field: &Field, t: &Pair, standing: &[Route]) -> Call {
+    match rng.below(12) {
+        0..=3 => to_announce(rng, field, standing),
+        4..=6 => to_withdraw(rng, field, standing),
+        7 | 8 => Call::Report,
+        9 => {
+            let n = rng.range(0, 5);
+            let room = if rng.one_in(3) { rng.range(0, 6) } else { n };
+            Call::LookupMany((0..n).map(|_| field.addr(rng)).collect(), room)
+        }
+        10 => to_load(rng, field, t),
+        _ => Call::Make,
+    }
+}
+
+pub fn episode(run: &mut Run, rng: &mut Rng) {
+    let (p1, p2) = geometry(rng);
+    let (mut room, mut second, mut third) = sizes(rng);
+    let field = Field::new(rng, p1, p2);
+    // Now and then exactly what some routes need: once they stand, all is full.
+    let mut filling = Vec::new();
+    if rng.one_in(5) {
+        filling = field.routes(rng, 12);
+        (room, second, third) = (filling.len(), need(&filling, p1), need(&filling, p2));
+    }
+    let mut lent = Lent::new(p1, p2, room, second, third);
+    litter(rng, &mut lent);
+    let mut t = Pair::new(p1, p2, rng.below(room + 2) as u32, lent);
+    if rng.one_in(3) {
+        for _ in 0..3 {
+            let call = any_call(rng, &field, &t, &[]);
+            t.step(run, &call);
+        }
+        t.look_around(run, rng, 40);
+    }
+    let begin = if rng.one_in(3) { to_load(rng, &field, &t) } else { Call::Make };
+    t.step(run, &begin);
+    if t.standing.is_none() {
+        t.step(run, &Call::Make);
+    }
+    if !filling.is_empty() {
+        t.step(run, &Call::Make);
+        while !filling.is_empty() {
+            let r = filling.swap_remove(rng.below(filling.len()));
+            t.step(run, &Call::Announce(r.addr, r.len, r.hop));
+        }
+    }
+    let mut growing = true;
+    for _ in 0..rng.range(20, 140) {
+        if rng.one_in(14) {
+            growing = !growing;
+        }
+        one_step(run, rng, &field, &mut t, growing);
+    }
+    t.look_around(run, rng, 700);
+    t.against_fresh_load(run);
+}
+
+fn one_step(run: &mut Run, rng: &mut Rng, field: &Field, t: &mut Pair, growing: bool) {
+    let standing = t.standing.clone().expect("between steps the table is sound");
+    match rng.below(100) {
+        0..=57 => {
+            // Mostly announcing, then mostly withdrawing, so that the table fills and empties.
+            let call = if rng.below(10) < if growing { 8 } else { 3 } {
+                to_announce(rng, field, &standing)
+            } else {
+                to_withdraw(rng, field, &standing)
+            };
+            t.step(run, &call);
+        }
+        58..=61 => {
+            t.step(run, &Call::Report);
+        }
+        62..=68 => t.look_around(run, rng, 160),
+        69..=71 => {
+            let call = to_load(rng, field, t);
+            t.step(run, &call);
+        }
+        72 => {
+            t.step(run, &Call::Make);
+        }
+        73..=76 => {
+            if renumber(rng, t.p1, t.p2, &mut t.plain) {
+                run.count("table", "chunks renumbered");
+                t.look_again();
+                assert!(t.standing.is_some(), "other numbers leave a table sound");
+                t.step(run, &Call::Report);
+            }
+        }
+        77..=90 => damaged(run, rng, field, t, &standing),
+        91..=94 => other_sizes(run, rng, field, t, &standing),
+        95..=97 => other_geometry(run, rng, field, t, &standing),
+        _ => {
+            // A sure refusal in each of the orders that the document fixes.
+            let r = field.route(rng);
+            let bad_len = *rng.pick(&[33, 64, 255]);
+            let bad_hop = *rng.pick(&[0, 32_768]);
+            for call in [
+                Call::Announce(r.addr, bad_len, bad_hop),
+                Call::Announce(r.addr, r.len, bad_hop),
+                Call::Withdraw(r.addr, bad_len),
+            ] {
+                t.step(run, &call);
+            }
+        }
+    }
+}
+
+/// Damages the arrays or the count at one to three places, makes some calls, and puts the table right again: as it
+/// was, or by a load or a make, which read nothing of it.
+fn damaged(run: &mut Run, rng: &mut Rng, field: &Field, t: &mut Pair, standing: &[Route]) {
+    let (good, count) = (t.plain.clone(), t.count);
+    for _ in 0..*rng.pick(&[1, 1, 1, 1, 2, 3]) {
+        Harm { p1: t.p1, p2: t.p2, count: &mut t.count, t: &mut t.plain }.one(rng);
+    }
+    t.look_again();
+    if t.plain != good || t.count != count {
+        run.count("table", if t.standing.is_some() { "damaged and sound" } else { "damaged and not sound" });
+    }
+    // Calls that need soundness: one of them would change the table if the damage were not seen.
+    t.step(run, &Call::Report);
+    let call = if rng.one_in(2) { to_announce(rng, field, standing) } else { to_withdraw(rng, field, standing) };
+    t.step(run, &call);
+    if rng.one_in(3) {
+        t.look_around(run, rng, 60);
+    }
+    match rng.below(8) {
+        0 => {
+            let call = to_load(rng, field, t);
+            t.step(run, &call);
+        }
+        1 => {
+            t.step(run, &Call::Make);
+        }
+        _ => {}
+    }
+    if t.standing.is_none() || rng.one_in(2) {
+        t.plain = good;
+        t.count = count;
+        t.look_again();
+    }
+}
+
+/// Some calls on a table beside the one at hand.
+fn odd_calls(run: &mut Run, rng: &mut Rng, field: &Field, mut odd: Pair, standing: &[Route]) {
+    for _ in 0..rng.range(2, 5) {
+        let call = match rng.below(8) {
+            0 => Call::Make,
+            1 => Call::Load(records(standing)),
+            2 => Call::Announce(1, 8, 0),
+            3 => Call::Withdraw(1, 8),
+            _ => any_call(rng, field, &odd, standing),
+        };
+        odd.step(run, &call);
+        odd.look(run, field.addr(rng));
+    }
+}
+
+/// One array has another length. Now and then the lengths fit again, and the table may even be sound.
+fn other_sizes(run: &mut Run, rng: &mut Rng, field: &Field, t: &Pair, standing: &[Route]) {
+    let mut lent = t.plain.clone();
+    let (size2, size3) = (size2(t.p1, t.p2), size3(t.p2));
+    // A length near this one, or far from it.
+    let near = |rng: &mut Rng, len: usize, step: usize| match rng.below(8) {
+        0 => len + 1,
+        1 => len.saturating_sub(1),
+        2 => len + step,
+        3 => len.saturating_sub(step),
+        4 => 0,
+        5 => 2 * len,
+        6 => len / 2,
+        _ => rng.below(2 * len + 2),
+    };
+    match rng.below(12) {
+        0 | 1 => {
+            let n = near(rng, lent.list.len(), 8);
+            lent.list.resize(n, 0);
+        }
+        2 => {
+            let n = 8 * *rng.pick(&[4096, 4097, 5000]);
+            lent.list.resize(n, 0);
+        }
+        3 => {
+            let n = near(rng, lent.first.len(), 256);
+            lent.first.resize(n, 0x8000);
+        }
+        4 => {
+            let n = near(rng, lent.second.len(), size2);
+            lent.second.resize(n, 0);
+        }
+        5 => {
+            let n = near(rng, lent.third.len(), size3);
+            lent.third.resize(n, 0);
+        }
+        6 => {
+            let n = near(rng, lent.own2.len(), 2);
+            lent.own2.resize(n, 0);
+        }
+        7 => {
+            let n = near(rng, lent.own3.len(), 2);
+            lent.own3.resize(n, 0);
+        }
+        8 => {
+            // A pool of another size, in good order.
+            let n = near(rng, lent.own2.len(), 2);
+            lent.own2.resize(n, 0);
+            lent.second.resize(n * size2, 0);
+        }
+        9 => {
+            let n = near(rng, lent.own3.len(), 2);
+            lent.own3.resize(n, 0);
+            lent.third.resize(n * size3, 0);
+        }
+        10 => {
+            // One chunk too many, or as many as may be.
+            let n = rng.range(4096, 4097);
+            if rng.one_in(2) {
+                lent.own2.resize(n, 0);
+                lent.second.resize(n * size2, 0);
+            } else {
+                lent.own3.resize(n, 0);
+                lent.third.resize(n * size3, 0);
+            }
+        }
+        _ => {
+            std::mem::swap(&mut lent.second, &mut lent.third);
+            if rng.one_in(2) {
+                std::mem::swap(&mut lent.own2, &mut lent.own3);
+            }
+        }
+    }
+    odd_calls(run, rng, field, Pair::new(t.p1, t.p2, t.count, lent), standing);
+}
+
+/// Another geometry over the same arrays, or a wrong one over arrays that would fit it.
+fn other_geometry(run: &mut Run, rng: &mut Rng, field: &Field, t: &Pair, standing: &[Route]) {
+    if rng.one_in(2) {
+        let (p1, p2) = match rng.below(8) {
+            0 => (t.p1 - 1, t.p2),
+            1 => (t.p1 + 1, t.p2),
+            2 => (t.p1, t.p2 - 1),
+            3 => (t.p1, t.p2 + 1),
+            4 => (t.p2, t.p1),
+            5 => (rng.range(0, 40) as u32, rng.range(0, 40) as u32),
+            6 => (rng.word(), rng.word()),
+            _ => *rng.pick(&[(0, 0), (u32::MAX, u32::MAX), (t.p1 + 32, t.p2 + 32), (t.p1, t.p2 | 1 << 31), (32, 32)]),
+        };
+        odd_calls(run, rng, field, Pair::new(p1, p2, t.count, t.plain.clone()), standing);
+    } else {
+        let (p1, p2) = *rng.pick(&[
+            (11, 21),
+            (11, 22),
+            (12, 23),
+            (12, 21),
+            (13, 24),
+            (14, 25),
+            (15, 26),
+            (16, 27),
+            (17, 26),
+            (17, 27),
+        ]);
+        let mut lent = Lent::new(p1, p2, rng.range(0, 4), rng.range(0, 2), rng.range(0, 2));
+        lent.first.fill(0x8000);
+        odd_calls(run, rng, field, Pair::new(p1, p2, 0, lent), standing);
+    }
+}
+
+/// Full-sized tables: 4,096 records of room and pools up to 4,096 chunks. Few calls, since each is long.
+pub fn large(run: &mut Run, rng: &mut Rng, kind: u64) {
+    let (p1, p2, second, third, mut routes) = match kind % 3 {
+        0 => {
+            // Every second and every third chunk is wanted: one long route under each first cell.
+            let routes: Vec<Route> = (0..4096u32)
+                .map(|i| Route { addr: i << 20 | (rng.word() >> 12), len: 32, hop: rng.range(1, 99) as u16 })
+                .collect();
+            (12, 22, 4096, 4096, routes)
+        }
+        1 => (16, 24, 4096, 600, spread(rng, 4095)),
+        _ => {
+            // Close together: many routes in few chunks.
+            let near = rng.word();
+            let mut routes: Vec<Route> = (0..4096)
+                .map(|_| {
+                    let len = rng.range(17, 32) as u32;
+                    let keep = rng.range(12, 20) as u32;
+                    let addr = cut(near, keep) | (rng.word() & !cut(u32::MAX, keep));
+                    Route { addr: cut(addr, len), len: len as u8, hop: rng.range(1, 9) as u16 }
+                })
+                .collect();
+            tidy(&mut routes);
+            (16, 26, 700, 4096, routes)
+        }
+    };
+    let field = Field::new(rng, p1, p2);
+    let mut t = Pair::new(p1, p2, 0, Lent::new(p1, p2, 4096, second, third));
+    let answer = t.step(run, &Call::Load(records(&routes)));
+    if number(answer) != 0 {
+        // Too much for these pools: fewer routes.
+        routes.truncate(500);
+        t.step(run, &Call::Load(records(&routes)));
+    }
+    for (label, n) in [
+        ("4096 second chunks", used(&t.plain.own2)),
+        ("4096 third chunks", used(&t.plain.own3)),
+        ("4096 routes", t.count as usize),
+    ] {
+        if n == 4096 {
+            run.count("table", label);
+        }
+    }
+    t.step(run, &Call::Report);
+    // Every edge once; a linear search over so many routes is long.
+    t.look_around(run, rng, if kind % 3 == 1 { usize::MAX } else { 1500 });
+    for k in 0..8 {
+        let standing = t.standing.clone().unwrap_or_default();
+        let call = match k % 4 {
+            0 => to_announce(rng, &field, &standing),
+            1 => to_withdraw(rng, &field, &standing),
+            2 => {
+                let r = *rng.pick(&standing);
+                Call::Withdraw(r.addr, r.len)
+            }
+            _ => {
+                // Room and chunks were just freed.
+                let r = *rng.pick(&standing);
+                Call::Announce(r.addr ^ 1 << (32 - p1), 32, 7)
+            }
+        };
+        t.step(run, &call);
+    }
+    let count = t.count;
+    Harm { p1, p2, count: &mut t.count, t: &mut t.plain }.one(rng);
+    t.look_again();
+    t.step(run, &Call::Report);
+    t.count = count;
+    t.step(run, &Call::Load(records(&routes[..routes.len() / 2])));
+    t.look_around(run, rng, 400);
+}
