@@ -88,9 +88,9 @@ module _ (t : Table) (l : Lent) (a len hop : ℕ) (w : Welcome t l (route a len 
         stale = λ ws par ready z. underway-stale g a len (insert r rs) l (lent s (l .first) (l .second) (l .third) own2′ own3′) (welcome-underway t l r w s) ws par ready (z ∙ holds .routes);
       })
 
-      module _ (first second third : List ℕ) (u : Lent) (u2 : u .own2 ≡ own2) (u3 : u .own3 ≡ own3) (h : Repainted g (routesOf s m) u first second third) (n : Announce) (q : saysAnnounce n ≡ accepted (bit (saysPut p) ∷ [])) where
+      module _ (first second third : List ℕ) (h : Repainted g (routesOf s m) (lent [] (l .first) (l .second) (l .third) own2 own3) first second third) (n : Announce) (q : saysAnnounce n ≡ accepted (bit (saysPut p) ∷ [])) where
         pub add-done : out (saysAnnounce n) (record { geometry = g; count = m }) (lent s first second third own2 own3) ≡ announced t l a len hop
         unfolding rendered
         add-done =
-            let h′ : Repainted g (insert r rs) u first second third = rw (holds .routes) at h in
-            rw (q, stood, count-is, list-is, h′ .is-first, h′ .is-second, h′ .is-third, u2, u3, o2, o3) (sym (announce-is t l a len hop w))
+            let h′ = rw (holds .routes) at h in
+            rw (q, stood, count-is, list-is, h′ .is-first, h′ .is-second, h′ .is-third, o2, o3) (sym (announce-is t l a len hop w))

@@ -4,3 +4,4 @@ pub mod Openings
 pub mod Judges
 pub mod Adds
 pub mod Takes
+pub mod OneAnswer

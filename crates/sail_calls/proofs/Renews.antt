@@ -43,5 +43,5 @@ module _ (g : Geometry) (n a len : ℕ) (l : Lent) (w : Pending g n a len l) (ws
       front-stale = w .stale _ _ (tries.front-ready (l .list) n true told refl ws par room words kept chain k) routes
 
       -- what is painted from the words is painted from the routes of the list
-      pub renewed : (u : Lent) (first second third : List ℕ) → Repainted g (routesIn (take n (words ++ drop n ws))) u first second third → Repainted g (routesOf (l .list) n) u first second third
-      renewed u first second third r = rw routes at r
+      pub renewed : (first second third : List ℕ) → Repainted g (routesIn (take n (words ++ drop n ws))) (cellsOf l) first second third → Repainted g (routesOf (l .list) n) (cellsOf l) first second third
+      renewed first second third r = rw routes at r

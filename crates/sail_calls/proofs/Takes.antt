@@ -16,7 +16,7 @@ use Rattle.routes.specs.declared.Route.{Route}
 use Rattle.lists.specs.Edit.{Edited, edited, removed, removing, countWithout, Holds}
 use Rattle.lists.proofs.EditHolds.{remove-holds}
 use Rattle.plan.specs.Paint.{filled}
-use Rattle.sail.specs.Geometry.{bits2, bits3}
+use Rattle.sail.specs.Geometry.{bits2, bits3, Valid}
 use Rattle.sail.specs.Lent.{Lent, lent}
 use Rattle.sail.specs.Sound.{standing}
 use Rattle.sail.specs.declared.geometry.Geometry.{Geometry}
@@ -26,7 +26,7 @@ use Rattle.sail_theory.specs.Calls.{placeIn, keep2, keep3, withdrawSaid, withdr
 use Rattle.sail_theory.specs.Facts.{Farewell}
 use Rattle.sail_theory.proofs.Accepted.{count-removed, withdraw-is, withdraw-off}
 use Rattle.sail_paint.specs.Stale.{Repainted}
-use Rattle.sail_change.specs.Chunks.{alone, closed, blanked, Closing, Levelled}
+use Rattle.sail_change.specs.Chunks.{alone, closed, blanked, Closing, Closable}
 use Rattle.sail_change.specs.Pending.{Pending}
 use Rattle.sail_change.specs.Trail.{Trailed}
 use Rattle.sail_change.proofs.Shrinks.{was-long, keep2-closed, keep3-closed, closing2, closing3, farewell-underway}
@@ -93,15 +93,9 @@ module _ (t : Table) (l : Lent) (a len : ℕ) (w : Farewell t l a len) where
         let k : Holds (removed (l .list) (t .count) (keyOf a len)) (countWithout (stands (keyOf a len) rs) (t .count)) left = remove-holds (l .list) (t .count) few (keyOf a len) (w .sound .listed) in
         rw list-is (rw (w .old) at k)
 
-    pub take-levelled : (p : ℕ) → p ≤ 32 → Levelled s m p
-    take-levelled p h = record { records = holds .listed .records; level = h }
-
-    module _ (v1 v2 : ℕ) (k : Trailed t l a v1 v2) (two three : Bool) (x2 : two ≡ alone (routesOf s m) (g .p1) a len) (x3 : three ≡ alone (routesOf s m) (g .p2) a len) where
-      two-is : two ≡ alone left (g .p1) a len
-      two-is = rw (holds .routes) at x2
-
-      three-is : three ≡ alone left (g .p2) a len
-      three-is = rw (holds .routes) at x3
+    module _ (v1 v2 : ℕ) (k : Trailed t l a v1 v2) where
+      valid : Valid g
+      valid = w .sound .sized .valid
 
       -- a chunk that is closed is the one that the cell names
       chunk2 : alone left (g .p1) a len ≡ true → v1 - 1 ≡ find (l .own2) (suc (slot (g .p1) a))
@@ -110,25 +104,38 @@ module _ (t : Table) (l : Lent) (a len : ℕ) (w : Farewell t l a len) where
       chunk3 : alone left (g .p2) a len ≡ true → v2 - 1 ≡ find (l .own3) (suc (placeIn g (l .own2) a))
       chunk3 q = told-chunk _ v2 _ _ (k .second) (was-long t l a len w (g .p2) (alone-longer left (g .p2) a len q))
 
-      pub take-closing2 : Closing two (l .own2) (l .second) (v1 - 1) (bits2 g)
-      take-closing2 = rw two-is (same-closing _ _ _ chunk2 (l .own2) (l .second) (bits2 g) (closing2 t l a len w))
+      pub take-second : Closable s m (g .p1) a len v1 (bits2 g) (l .own2) (l .second)
+      take-second =
+          let v = valid in
+          record {
+            levelled = record { records = holds .listed .records; level = omega arith };
+            some = told-one _ v1 _ _ (k .first);
+            closing = rw (holds .routes) (same-closing _ _ _ chunk2 (l .own2) (l .second) (bits2 g) (closing2 t l a len w));
+          }
 
-      pub take-closing3 : Closing three (l .own3) (l .third) (v2 - 1) (bits3 g)
-      take-closing3 = rw three-is (same-closing _ _ _ chunk3 (l .own3) (l .third) (bits3 g) (closing3 t l a len w))
+      pub take-third : Closable s m (g .p2) a len v2 (bits3 g) (l .own3) (l .third)
+      take-third =
+          let v = valid in
+          record {
+            levelled = record { records = holds .listed .records; level = omega arith };
+            some = told-one _ v2 _ _ (k .second);
+            closing = rw (holds .routes) (same-closing _ _ _ chunk3 (l .own3) (l .third) (bits3 g) (closing3 t l a len w));
+          }
 
-      module _ (own2 own3 second third : List ℕ) (o2 : own2 ≡ closed two (v1 - 1) (l .own2)) (s2 : second ≡ blanked two (v1 - 1) (bits2 g) (l .second))
-          (o3 : own3 ≡ closed three (v2 - 1) (l .own3)) (s3 : third ≡ blanked three (v2 - 1) (bits3 g) (l .third)) where
+      module _ (own2 own3 second third : List ℕ)
+          (o2 : own2 ≡ closed (alone (routesOf s m) (g .p1) a len) (v1 - 1) (l .own2)) (s2 : second ≡ blanked (alone (routesOf s m) (g .p1) a len) (v1 - 1) (bits2 g) (l .second))
+          (o3 : own3 ≡ closed (alone (routesOf s m) (g .p2) a len) (v2 - 1) (l .own3)) (s3 : third ≡ blanked (alone (routesOf s m) (g .p2) a len) (v2 - 1) (bits3 g) (l .third)) where
         own2-is : own2 ≡ keep2 g left (l .own2)
-        own2-is = o2 ∙ rw two-is (same-closed _ _ _ chunk2 (l .own2) ∙ sym (keep2-closed t l a len w))
+        own2-is = o2 ∙ rw (holds .routes) (same-closed _ _ _ chunk2 (l .own2) ∙ sym (keep2-closed t l a len w))
 
         own3-is : own3 ≡ keep3 g left (l .own2) (l .own3)
-        own3-is = o3 ∙ rw three-is (same-closed _ _ _ chunk3 (l .own3) ∙ sym (keep3-closed t l a len w))
+        own3-is = o3 ∙ rw (holds .routes) (same-closed _ _ _ chunk3 (l .own3) ∙ sym (keep3-closed t l a len w))
 
         second-is : second ≡ blanked (alone left (g .p1) a len) (find (l .own2) (suc (slot (g .p1) a))) (bits2 g) (l .second)
-        second-is = s2 ∙ rw two-is (same-blanked _ _ _ chunk2 (bits2 g) (l .second))
+        second-is = s2 ∙ rw (holds .routes) (same-blanked _ _ _ chunk2 (bits2 g) (l .second))
 
         third-is : third ≡ blanked (alone left (g .p2) a len) (find (l .own3) (suc (placeIn g (l .own2) a))) (bits3 g) (l .third)
-        third-is = s3 ∙ rw three-is (same-blanked _ _ _ chunk3 (bits3 g) (l .third))
+        third-is = s3 ∙ rw (holds .routes) (same-blanked _ _ _ chunk3 (bits3 g) (l .third))
 
         pub take-pending : (x : ℕ) → x ≡ len → Pending g m a x (lent s (l .first) second third own2 own3)
         take-pending x q = rw (q, own2-is, own3-is, second-is, third-is) (record {
@@ -136,9 +143,9 @@ module _ (t : Table) (l : Lent) (a len : ℕ) (w : Farewell t l a len) where
           stale = λ ws par ready z. underway-stale g a len left l _ (farewell-underway t l a len w s) ws par ready (z ∙ holds .routes);
         })
 
-        module _ (first′ second′ third′ : List ℕ) (u : Lent) (u2 : u .own2 ≡ own2) (u3 : u .own3 ≡ own3) (h : Repainted g (routesOf s m) u first′ second′ third′) where
+        module _ (first′ second′ third′ : List ℕ) (h : Repainted g (routesOf s m) (lent [] (l .first) second third own2 own3) first′ second′ third′) where
           pub take-done : out (saysWithdraw withdraw.Removed) (record { geometry = g; count = m }) (lent s first′ second′ third′ own2 own3) ≡ withdrawn t l a len
           unfolding rendered saysWithdraw
           take-done =
-              let h′ : Repainted g left u first′ second′ third′ = rw (holds .routes) at h in
-              rw (count-is, list-is, h′ .is-first, h′ .is-second, h′ .is-third, u2, u3, own2-is, own3-is) (sym (withdraw-is t l a len w))
+              let h′ = rw (holds .routes) at h in
+              rw (count-is, list-is, h′ .is-first, h′ .is-second, h′ .is-third, own2-is, own3-is) (sym (withdraw-is t l a len w))

@@ -13,8 +13,7 @@ use routes::input;
 use routes::record;
 use sail::table::Table;
 use sail::table::sizes;
-use sail_change::alone::alone;
-use sail_change::chunks::close;
+use sail_change::alone::close_alone;
 use sail_change::trail::follow;
 use sail_sound::test::sound;
 
@@ -74,10 +73,8 @@ fn take(
     let v = follow(t, list, first, second, third, own2, own3, addr);
     edit::remove(list, n, addr, len);
     let m = n - 1;
-    let two = alone(list, m, p1, addr, len);
-    let three = alone(list, m, p2, addr, len);
-    close(own2, second, two, (v.first - 1) as usize, p2 - p1);
-    close(own3, third, three, (v.second - 1) as usize, 32 - p2);
+    close_alone(list, m, p1, addr, len, v.first, p2 - p1, own2, second);
+    close_alone(list, m, p2, addr, len, v.second, 32 - p2, own3, third);
     renew(
         g,
         list,

@@ -1,7 +1,9 @@
-// Whether a prefix alone needs a chunk, by the records of a list: two places are looked at, and no cell.
+// Chunks that a prefix alone needs. Whether it does is told by the records of a list: one place is looked at, and no cell.
 ghost use mathlib.Core.Path.{_≡_};
 ghost use Rattle.routes.specs.Record.{routesOf};
-ghost use Rattle.sail_change.specs.Chunks.{alone, Levelled};
+ghost use Prim.Native.Nat.{_-_};
+ghost use Rattle.sail_change.specs.Chunks.{alone, Levelled, closed, blanked, Closable};
+use crate::chunks::close;
 use chain::place::under_key;
 use lists::place::place;
 use routes::record;
@@ -22,4 +24,25 @@ pub fn alone(list: &[u8], n: usize, p: u32, addr: u32, len: u8) -> bool
     }
     let r = record::read_record(list, k);
     bits::slot(p, r.addr) != i
+}
+
+// The chunk that the cell v names, of a pool of chunks of 2^d cells that hang from cells of level p, is closed where the
+// prefix alone needed it and n routes without it are left.
+pub fn close_alone(
+    list: &[u8],
+    n: usize,
+    p: u32,
+    addr: u32,
+    len: u8,
+    v: u16,
+    d: u32,
+    own: &mut [u32],
+    cells: &mut [u16],
+)
+    requires { ⌜ Closable (now list) n p addr len v d (now own) (now cells) ⌝ }
+    ensures owner { λ _. ⌜ now (own .exit) ≡ closed (alone (routesOf (now (list .entry)) n) p addr len) (v - 1) (now (own .entry)) ⌝ }
+    ensures blank { λ _. ⌜ now (cells .exit) ≡ blanked (alone (routesOf (now (list .entry)) n) p addr len) (v - 1) d (now (cells .entry)) ⌝ }
+{
+    let closes = alone(list, n, p, addr, len);
+    close(own, cells, closes, (v - 1) as usize, d);
 }

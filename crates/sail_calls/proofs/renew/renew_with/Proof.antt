@@ -19,4 +19,4 @@ renew-with-spec =
     (λ c. search needs)
     (λ c. search needs)
     (λ c. search needs)
-    (λ c. let s = c .before .before .before .before .before .before .before .before .before .before .before .before .before .before .before .before .before .before .before .before .before .before .before .before .before .before .before in let k = c .before .before .before .before .before .before .before .before .before .before .before .before .before .before .before .before .chained in renewed _ _ _ _ _ (s .pre .0) _ _ (s .pre .1) _ (k .kept .1 .0) _ (k .ensures) _ _ _ _ (c .before .before .before .before .before .before .repaint .ensures)))
+    (λ c. let s = c .before .before .before .before .before .before .before .before .before .before .before .before .before .before .before .before .before .before .before .before .before .before .before .before .before .before .before in let k = c .before .before .before .before .before .before .before .before .before .before .before .before .before .before .before .before .chained in renewed _ _ _ _ _ (s .pre .0) _ _ (s .pre .1) _ (k .kept .1 .0) _ (k .ensures) _ _ _ (c .before .before .before .before .before .before .repaint .ensures)))
