@@ -1,28 +1,27 @@
 -- What the judges answer. Assumes nothing.
 use mathlib.Core.Path.{_≡_, refl, sym, _∙_, ap}
-use mathlib.Core.Logic.{_⊎_, inl, inr}
 use mathlib.Core.Bool.{Bool, true, false, not, _&&_, true≢false}
-use mathlib.Core.List.{List, [], _∷_}
+use mathlib.Core.List.{List}
 use Prim.Native.Nat.{ℕ, zero, suc, _/_, _≤_, _<_}
 use native.Mathlib.Omega.{arith}
 use lib.Dec.{ltb, eqb}
 use lib.ListN.{length}
 use borrow.Author.Tests.{ltb-true, ltb-false, lt-ltb, eqb-true, eq-eqb, not-true, not-false}
 use Rattle.bits.specs.Slot.{slot}
-use Rattle.bits.proofs.Tests.{and-split, same, untrue}
+use Rattle.bits.proofs.Tests.{and-split, same}
 use Rattle.routes.specs.Route.{keyOf, long, need, Prefix, Fine}
 use Rattle.routes.specs.Input.{properPrefix, hopFine}
-use Rattle.routes.specs.Said.{Said, accepted, refused}
+use Rattle.routes.specs.Said.{Said, refused}
 use Rattle.routes.specs.Standing.{stands, insert}
 use Rattle.routes.specs.declared.Route.{Route}
 use Rattle.routes.proofs.Meaning.{prefix-true, true-prefix, hop-true, true-hop}
 use Rattle.routes.proofs.Rows.{length-routes}
 use Rattle.routes.proofs.Changed.{insert-adds}
 use Rattle.sail.specs.Lent.{Lent}
-use Rattle.sail.specs.Sizes.{Sized, Checked}
+use Rattle.sail.specs.Sizes.{Checked}
 use Rattle.sail.specs.Sound.{Sound, standing}
 use Rattle.sail.specs.declared.table.Table.{Table}
-use Rattle.sail_theory.specs.Render.{find, roomOf}
+use Rattle.sail_theory.specs.Render.{find}
 use Rattle.sail_theory.specs.Calls.{route, orSay, announceSaid, withdrawSaid}
 use Rattle.sail_theory.specs.Facts.{Welcome, Farewell}
 use Rattle.sail_theory.proofs.Judged.{Proper, Roomy, Announce, Withdraw}

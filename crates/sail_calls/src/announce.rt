@@ -76,9 +76,9 @@ fn judge_announce(
 ) -> u8
     ensures { λ r. ⌜ Judged r (announceSaid t (lent (now (list .entry)) (now (first .entry)) (now (second .entry)) (now (third .entry)) (now (own2 .entry)) (now (own3 .entry))) addr len hop) (Welcome t (lent (now (list .entry)) (now (first .entry)) (now (second .entry)) (now (third .entry)) (now (own2 .entry)) (now (own3 .entry))) (route addr len hop)) ⌝ }
 {
-    let z = sizes(t, list, first, second, third, own2, own3);
-    if z != 0 {
-        return z;
+    let s = sizes(t, list, first, second, third, own2, own3);
+    if s != 0 {
+        return s;
     }
     if !input::prefix_ok(addr, len) {
         return 3;
@@ -141,7 +141,18 @@ fn add(
     open(t, r, list, first, second, third, own2, own3);
     let p = edit::insert(list, n, r);
     let m = count_with(p, n);
-    renew(g, list, m, addr, record::wide(len), first, second, third, own2, own3);
+    renew(
+        g,
+        list,
+        m,
+        addr,
+        record::wide(len),
+        first,
+        second,
+        third,
+        own2,
+        own3,
+    );
     let u = Table {
         geometry: g,
         count: m as u32,

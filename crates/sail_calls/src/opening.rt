@@ -1,9 +1,8 @@
 // Which chunks an announcement opens, and their owners.
 ghost use mathlib.Core.Path.{_≡_};
 ghost use mathlib.Core.Bool.{cond, _&&_};
-ghost use Prim.Native.Nat.{_-_, _≤_, _<_};
+ghost use Prim.Native.Nat.{_-_, _<_};
 ghost use lib.Dec.{ltb, leb};
-ghost use lib.ListN.{length};
 ghost use Rattle.sail.specs.Lent.{lent};
 ghost use Rattle.sail.specs.Sound.{Sound};
 ghost use Rattle.sail_theory.specs.Render.{find};

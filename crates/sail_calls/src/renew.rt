@@ -31,7 +31,18 @@ fn renew_with(
     ensures { λ _. ⌜ Repainted g (routesOf (now (list .entry)) n) (lent [] (now (first .entry)) (now (second .entry)) (now (third .entry)) (now (own2 .entry)) (now (own3 .entry))) (now (first .exit)) (now (second .exit)) (now (third .exit)) ⌝ }
 {
     chained(list, &mut ws[..n], par);
-    repaint(&ws[..n], par, g, addr, len, first, second, third, own2, own3);
+    repaint(
+        &ws[..n],
+        par,
+        g,
+        addr,
+        len,
+        first,
+        second,
+        third,
+        own2,
+        own3,
+    );
 }
 
 // The same with room of its own.
@@ -52,5 +63,18 @@ pub fn renew(
 {
     let mut ws = [0u64; 4096];
     let mut par = [0u16; 4353];
-    renew_with(g, list, n, addr, len, first, second, third, own2, own3, &mut ws, &mut par);
+    renew_with(
+        g,
+        list,
+        n,
+        addr,
+        len,
+        first,
+        second,
+        third,
+        own2,
+        own3,
+        &mut ws,
+        &mut par,
+    );
 }

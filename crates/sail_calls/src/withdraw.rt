@@ -31,9 +31,9 @@ fn judge_withdraw(
 ) -> u8
     ensures { λ r. ⌜ Judged r (withdrawSaid t (lent (now (list .entry)) (now (first .entry)) (now (second .entry)) (now (third .entry)) (now (own2 .entry)) (now (own3 .entry))) addr len) (Farewell t (lent (now (list .entry)) (now (first .entry)) (now (second .entry)) (now (third .entry)) (now (own2 .entry)) (now (own3 .entry))) addr len) ⌝ }
 {
-    let z = sizes(t, list, first, second, third, own2, own3);
-    if z != 0 {
-        return z;
+    let s = sizes(t, list, first, second, third, own2, own3);
+    if s != 0 {
+        return s;
     }
     if !input::prefix_ok(addr, len) {
         return 3;
@@ -75,7 +75,18 @@ fn take(
     let m = n - 1;
     close_alone(list, m, p1, addr, len, v.first, p2 - p1, own2, second);
     close_alone(list, m, p2, addr, len, v.second, 32 - p2, own3, third);
-    renew(g, list, m, addr, record::wide(len), first, second, third, own2, own3);
+    renew(
+        g,
+        list,
+        m,
+        addr,
+        record::wide(len),
+        first,
+        second,
+        third,
+        own2,
+        own3,
+    );
     let u = Table {
         geometry: g,
         count: m as u32,

@@ -19,7 +19,7 @@ take-spec =
     (λ c κs. let m = c .before .before .before .before .before .before .before .before .before .before .before .before .before in let f = m .before .before in let s = f .before .before .before .before .before .before .before .before .before .before .before .before .before .before .before in take-third _ _ _ _ (s .pre) _ _ (m .remove .ensures) _ _ (f .follow .ensures))
     (λ c κs. search needs)
     (λ c κs. let w = c .before .before .before .before .before in let y = w .before .before .before .before .before .before in let x = y .before .before .before .before .before .before .before .before in let m = x .before .before .before .before .before .before in let f = m .before .before in let s = f .before .before .before .before .before .before .before .before .before .before .before .before .before .before .before in
-            take-pending _ _ _ _ (s .pre) _ _ (m .remove .ensures) _ _ (f .follow .ensures) _ _ _ _ (x .close-alone .ensures .0) (x .close-alone .ensures .1) (y .close-alone2 .ensures .0) (y .close-alone2 .ensures .1) _ (w .wide .ensures .0))
+    take-pending _ _ _ _ (s .pre) _ _ (m .remove .ensures) _ _ (f .follow .ensures) _ _ _ _ (x .close-alone .ensures .0) (x .close-alone .ensures .1) (y .close-alone2 .ensures .0) (y .close-alone2 .ensures .1) _ (w .wide .ensures .0))
     (λ c. let s = c .before .before .before .before .before .before .before .before .before .before .before .before .before .before .before .before .before .before .before .before .before .before .before .before .before .before .before .before .before .before .before .before .before .before .before .before .before .before .before .before .before .before .before .before .before .before .before .before .before in let few = s .pre .sound .listed .records .few in omega arith)
     (λ c. let m = c .before .before .before .before .before .before .before .before .before .before .before .before .before .before .before .before .before .before .before .before .before .before .before .before .before .before .before .before .before .before .before .before in m .remove .kept .0)
     (λ c. search needs)
@@ -28,4 +28,4 @@ take-spec =
     (λ c. search needs)
     (λ c. search needs)
     (λ c. let r = c .before .before .before .before .before .before in let y = r .before .before .before .before .before .before .before .before .before .before .before .before in let x = y .before .before .before .before .before .before .before .before in let m = x .before .before .before .before .before .before in let f = m .before .before in let s = f .before .before .before .before .before .before .before .before .before .before .before .before .before .before .before in
-            take-done _ _ _ _ (s .pre) _ _ (m .remove .ensures) _ _ (f .follow .ensures) _ _ _ _ (x .close-alone .ensures .0) (x .close-alone .ensures .1) (y .close-alone2 .ensures .0) (y .close-alone2 .ensures .1) _ _ _ (r .renew .ensures)))
+    take-done _ _ _ _ (s .pre) _ _ (m .remove .ensures) _ _ (f .follow .ensures) _ _ _ _ (x .close-alone .ensures .0) (x .close-alone .ensures .1) (y .close-alone2 .ensures .0) (y .close-alone2 .ensures .1) _ _ _ (r .renew .ensures)))
