@@ -31,8 +31,8 @@ use Rattle.sail_theory.proofs.Wants.{Wants, want-seven, want-eight}
 use Rattle.sail_sound.specs.Test.{Tried}
 use Rattle.sail_change.specs.Chunks.{alone}
 use Rattle.sail_calls.specs.Answers.{Judged}
-use Rattle.sail_calls.specs.Opening.{Opens}
-use Rattle.sail_calls.specs.declared.opening.Opening.{Opening}
+use Rattle.sail_change.specs.Opening.{Opens}
+use Rattle.sail_change.specs.declared.opening.Opening.{Opening}
 
 -- a refusal, and none
 judged-off : (n : ℕ) (s : Said) (P : Type 0) → 1 ≤ n → s ≡ refused n → Judged n s P

@@ -33,7 +33,7 @@ use Rattle.sail_change.proofs.Shrinks.{was-long, keep2-closed, keep3-closed, cl
 use Rattle.sail_change.proofs.Underway.{underway-stale}
 use Rattle.sail_calls.specs.Answers.{saysWithdraw, out, Judged}
 use Rattle.sail_calls.specs.declared.answers.Withdraw.the-variants as withdraw
-use Rattle.sail_calls.proofs.Openings.{told-one, told-chunk, alone-longer}
+use Rattle.sail_change.proofs.Openings.{told-one, told-chunk, alone-longer}
 
 -- a refusal leaves all as it was
 pub withdraw-refused : (t : Table) (l : Lent) (a len z : ℕ) → Judged z (withdrawSaid t l a len) (Farewell t l a len) → (z ≡ 0 → ⊥) → out (saysWithdraw (withdraw.Refused z)) t l ≡ withdrawn t l a len

@@ -12,8 +12,6 @@ ghost use Rattle.sail_theory.proofs.Judged.{Proper};
 ghost use Rattle.sail_calls.specs.Answers.{saysAnnounce, out, Judged};
 use crate::answers::Announce;
 use crate::answers::Announced;
-use crate::opening::open;
-use crate::opening::to_open;
 use crate::renew::renew;
 use lists::edit;
 use lists::edit::Put;
@@ -24,6 +22,8 @@ use routes::record;
 use sail::table::Table;
 use sail::table::sizes;
 use sail_change::chunks::wanting;
+use sail_change::opening::open;
+use sail_change::opening::to_open;
 use sail_sound::test::sound;
 
 // 6, 7 or 8, for a fine route and a sound table. A prefix that stands meets none of them.
