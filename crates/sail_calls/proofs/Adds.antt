@@ -1,14 +1,13 @@
 -- An announcement step by step: what each step asks, and what they leave. Assumes nothing.
-use mathlib.Core.Path.{_≡_, refl, sym, _∙_, ap, subst}
-use mathlib.Core.Bool.{Bool, false}
+use mathlib.Core.Path.{_≡_, refl, sym, _∙_, ap}
 use mathlib.Core.List.{List, [], _∷_}
-use Prim.Native.Nat.{ℕ, _+_, _*_, _/_, _≤_}
+use Prim.Native.Nat.{ℕ, _/_, _≤_}
 use native.Mathlib.Omega.{arith}
 use lib.ListN.{length}
 use Rattle.bits.specs.Count.{bit}
-use Rattle.routes.specs.Route.{key, keyOf}
-use Rattle.routes.specs.Record.{routesOf, written}
-use Rattle.routes.specs.Said.{Said, accepted, refused}
+use Rattle.routes.specs.Route.{key}
+use Rattle.routes.specs.Record.{routesOf}
+use Rattle.routes.specs.Said.{accepted, refused}
 use Rattle.routes.specs.Standing.{stands, insert}
 use Rattle.routes.specs.declared.Route.{Route}
 use Rattle.routes.proofs.Rows.{length-routes}
@@ -21,14 +20,14 @@ use Rattle.sail.specs.Sound.{standing}
 use Rattle.sail.specs.declared.geometry.Geometry.{Geometry}
 use Rattle.sail.specs.declared.table.Table.{Table}
 use Rattle.sail.proofs.Sounds.{standing-good}
-use Rattle.sail_theory.specs.Render.{rendered, roomOf}
+use Rattle.sail_theory.specs.Render.{rendered}
 use Rattle.sail_theory.specs.Calls.{route, open2, open3, announceSaid, announced}
 use Rattle.sail_theory.specs.Facts.{Welcome}
 use Rattle.sail_theory.proofs.Accepted.{announce-is, announce-off}
 use Rattle.sail_paint.specs.Stale.{Repainted}
-use Rattle.sail_change.specs.Pending.{Pending, cellsOf}
+use Rattle.sail_change.specs.Pending.{Pending}
 use Rattle.sail_change.proofs.Opened.{welcome-underway}
-use Rattle.sail_change.proofs.Underway.{Underway, underway-stale}
+use Rattle.sail_change.proofs.Underway.{underway-stale}
 use Rattle.sail_calls.specs.Answers.{saysAnnounce, out, Judged}
 use Rattle.sail_calls.specs.declared.answers.Announce.{Announce}
 use Rattle.sail_calls.specs.declared.answers.Announce.the-variants as announce

@@ -1,6 +1,5 @@
 -- Laws that the proofs of the calls cite.
 pub mod Renews
-pub mod Openings
 pub mod Judges
 pub mod Adds
 pub mod Takes

@@ -1,9 +1,7 @@
 -- Two answers of a call that are told the same are the same; and so no second answer, state or array meets a call's statement.
 -- Assumes nothing.
 use mathlib.Core.Path.{_≡_, sym, _∙_, ap}
-use Rattle.routes.specs.Said.{Said}
 use Rattle.sail.specs.Lent.{Lent}
-use Rattle.sail.specs.declared.table.Table.{Table}
 use Rattle.sail_theory.specs.Calls.{Out}
 use Rattle.sail_calls.specs.Answers.{saysAnnounce, saysWithdraw, out}
 use Rattle.sail_calls.specs.declared.answers.Announce.{Announce}

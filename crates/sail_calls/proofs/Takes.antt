@@ -10,7 +10,7 @@ use Rattle.bits.specs.Slot.{slot}
 use Rattle.bits.proofs.Tests.{decided}
 use Rattle.routes.specs.Route.{keyOf}
 use Rattle.routes.specs.Record.{routesOf}
-use Rattle.routes.specs.Said.{Said, accepted, refused}
+use Rattle.routes.specs.Said.{refused}
 use Rattle.routes.specs.Standing.{stands, remove}
 use Rattle.routes.specs.declared.Route.{Route}
 use Rattle.lists.specs.Edit.{Edited, edited, removed, removing, countWithout, Holds}
@@ -32,9 +32,8 @@ use Rattle.sail_change.specs.Trail.{Trailed}
 use Rattle.sail_change.proofs.Shrinks.{was-long, keep2-closed, keep3-closed, closing2, closing3, farewell-underway}
 use Rattle.sail_change.proofs.Underway.{underway-stale}
 use Rattle.sail_calls.specs.Answers.{saysWithdraw, out, Judged}
-use Rattle.sail_calls.specs.declared.answers.Withdraw.{Withdraw}
 use Rattle.sail_calls.specs.declared.answers.Withdraw.the-variants as withdraw
-use Rattle.sail_calls.proofs.Openings.{told-one, told-chunk, alone-longer}
+use Rattle.sail_change.proofs.Openings.{told-one, told-chunk, alone-longer}
 
 -- a refusal leaves all as it was
 pub withdraw-refused : (t : Table) (l : Lent) (a len z : ℕ) → Judged z (withdrawSaid t l a len) (Farewell t l a len) → (z ≡ 0 → ⊥) → out (saysWithdraw (withdraw.Refused z)) t l ≡ withdrawn t l a len

@@ -1,3 +1,2 @@
 -- What the calls that change a table by one route ask and answer.
-pub mod Opening
 pub mod Answers

@@ -12,8 +12,6 @@ ghost use Rattle.sail_theory.proofs.Judged.{Proper};
 ghost use Rattle.sail_calls.specs.Answers.{saysAnnounce, out, Judged};
 use crate::answers::Announce;
 use crate::answers::Announced;
-use crate::opening::open;
-use crate::opening::to_open;
 use crate::renew::renew;
 use lists::edit;
 use lists::edit::Put;
@@ -24,6 +22,8 @@ use routes::record;
 use sail::table::Table;
 use sail::table::sizes;
 use sail_change::chunks::wanting;
+use sail_change::opening::open;
+use sail_change::opening::to_open;
 use sail_sound::test::sound;
 
 // 6, 7 or 8, for a fine route and a sound table. A prefix that stands meets none of them.
@@ -76,9 +76,9 @@ fn judge_announce(
 ) -> u8
     ensures { λ r. ⌜ Judged r (announceSaid t (lent (now (list .entry)) (now (first .entry)) (now (second .entry)) (now (third .entry)) (now (own2 .entry)) (now (own3 .entry))) addr len hop) (Welcome t (lent (now (list .entry)) (now (first .entry)) (now (second .entry)) (now (third .entry)) (now (own2 .entry)) (now (own3 .entry))) (route addr len hop)) ⌝ }
 {
-    let z = sizes(t, list, first, second, third, own2, own3);
-    if z != 0 {
-        return z;
+    let s = sizes(t, list, first, second, third, own2, own3);
+    if s != 0 {
+        return s;
     }
     if !input::prefix_ok(addr, len) {
         return 3;

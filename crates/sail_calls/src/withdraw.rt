@@ -31,9 +31,9 @@ fn judge_withdraw(
 ) -> u8
     ensures { λ r. ⌜ Judged r (withdrawSaid t (lent (now (list .entry)) (now (first .entry)) (now (second .entry)) (now (third .entry)) (now (own2 .entry)) (now (own3 .entry))) addr len) (Farewell t (lent (now (list .entry)) (now (first .entry)) (now (second .entry)) (now (third .entry)) (now (own2 .entry)) (now (own3 .entry))) addr len) ⌝ }
 {
-    let z = sizes(t, list, first, second, third, own2, own3);
-    if z != 0 {
-        return z;
+    let s = sizes(t, list, first, second, third, own2, own3);
+    if s != 0 {
+        return s;
     }
     if !input::prefix_ok(addr, len) {
         return 3;

@@ -1,7 +1,7 @@
 -- A search for a free chunk, and a chunk hung or closed. Assumes nothing.
-use mathlib.Core.Path.{_≡_, refl, sym, ap, _∙_}
+use mathlib.Core.Path.{_≡_, refl, sym, _∙_}
 use mathlib.Core.Logic.{_⊎_, inl, inr, _≢_}
-use mathlib.Core.Bool.{Bool, true, false, cond, _&&_}
+use mathlib.Core.Bool.{Bool, true, false, _&&_}
 use mathlib.Core.List.{List}
 use Prim.Native.Nat.{ℕ, suc, _+_, _*_, _^_, _≤_, _<_}
 use native.Mathlib.Omega.{arith}
@@ -26,12 +26,9 @@ free-here own c l u e = (sym (chunk-is (entry own) (length own) 0 c l e u), omeg
 pub free-nowhere : (own : List ℕ) (c : ℕ) → c ≤ length own → length own ≤ c → Used own c → (c ≡ find own 0) × (c ≤ length own)
 free-nowhere own c l m u = let e : c ≡ length own = omega arith in (e ∙ sym (chunk-none (entry own) (length own) 0 (λ j i. u j (omega arith))), l)
 
--- the answers of `wanting`
+-- what `wanting` answers, where a chunk is to be opened
 pub wanting-on : (own : List ℕ) (b : Bool) (c : ℕ) → c ≡ find own 0 → b ≡ true → eqb c (length own) ≡ (b && eqb (find own 0) (length own))
 wanting-on own b c e h = rw (e, h)
-
-pub wanting-off : (own : List ℕ) (b : Bool) → b ≡ false → false ≡ (b && eqb (find own 0) (length own))
-wanting-off own b h = rw h
 
 -- a chunk hung, or not
 pub hang-on : (own own′ : List ℕ) (b : Bool) (o c : ℕ) → c ≡ find own 0 → b ≡ true → own′ ≡ set own c o → own′ ≡ hung b o own

@@ -7,3 +7,4 @@ pub mod Opened
 pub mod Shrinks
 pub mod Trails
 pub mod Unders
+pub mod Openings

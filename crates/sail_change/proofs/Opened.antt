@@ -5,18 +5,18 @@ use mathlib.Core.Bool.{Bool, true, false, not, _&&_, cond, true≢false}
 use mathlib.Core.List.{List}
 use Prim.Native.Nat.{ℕ, suc, _+_, _-_, _*_, _/_, _%_, _^_, _≤_, _<_}
 use native.Mathlib.Omega.{arith}
-use lib.Dec.{ltb, leb}
+use lib.Dec.{ltb}
 use lib.ListN.{getD, length, set}
 use borrow.Author.Tests.{ltb-true, ltb-false, lt-ltb, lt-leb, eq-eqb, not-true}
 use Rattle.bits.specs.Slot.{slot}
 use Rattle.bits.proofs.Tests.{decided, and-split}
-use Rattle.routes.specs.Route.{long, Good}
+use Rattle.routes.specs.Route.{long}
 use Rattle.routes.specs.Standing.{insert}
 use Rattle.routes.specs.declared.Route.{Route}
 use Rattle.sail.specs.Geometry.{bits2, bits3, Valid}
 use Rattle.sail.specs.Lent.{Lent, lent}
 use Rattle.sail.specs.Level.{liveIn, entry}
-use Rattle.sail.specs.Sound.{Sound, standing}
+use Rattle.sail.specs.Sound.{standing}
 use Rattle.sail.specs.declared.geometry.Geometry.{Geometry}
 use Rattle.sail.specs.declared.table.Table.{Table}
 use Rattle.sail.proofs.Sounds.{standing-good}
@@ -38,7 +38,7 @@ use Rattle.sail_change.proofs.Hangs.{hung-was}
 use Rattle.sail_change.proofs.Underway.{Held, Underway}
 
 -- the cell of a level that a longer prefix lies in meets it
-pub meets-own : (a len p : ℕ) → p < len → meets a len p (slot p a) ≡ true
+meets-own : (a len p : ℕ) → p < len → meets a len p (slot p a) ≡ true
 unfolding meets
 meets-own a len p l = rw (lt-leb len p l) (eq-eqb (slot p a) (slot p a) refl)
 

@@ -1,8 +1,8 @@
 -- The cells of an address in a sound table. Assumes nothing.
-use mathlib.Core.Path.{_≡_, refl, sym, _∙_, ap}
-use mathlib.Core.Bool.{Bool, true, false, true≢false}
+use mathlib.Core.Path.{_≡_, sym, _∙_, ap}
+use mathlib.Core.Bool.{true, false, true≢false}
 use mathlib.Core.List.{List}
-use Prim.Native.Nat.{ℕ, suc, _+_, _-_, _*_, _%_, _^_, _≤_, _<_}
+use Prim.Native.Nat.{ℕ, _+_, _-_, _*_, _%_, _^_, _≤_, _<_}
 use native.Mathlib.Nat.{mul-le-mul, mod-lt}
 use native.Mathlib.Omega.{arith}
 use lib.ListN.{getD, length}
@@ -16,13 +16,12 @@ use Rattle.sail.specs.Lent.{Lent}
 use Rattle.sail.specs.Sound.{Sound, standing}
 use Rattle.sail.specs.declared.geometry.Geometry.{Geometry}
 use Rattle.sail.specs.declared.table.Table.{Table}
-use Rattle.sail_theory.specs.Render.{find}
 use Rattle.sail_theory.specs.Calls.{placeIn}
 use Rattle.sail_theory.proofs.Mids.{slot-mid, long-mid}
 use Rattle.sail_theory.proofs.Cells.{Names, first-low, first-high, second-low, second-high}
 use Rattle.sail_theory.proofs.Grown.{place-in, place-live2, place-at2}
 use Rattle.sail_theory.proofs.Rendered.{sound-rendered}
-use Rattle.sail_change.specs.Trail.{Told, Trailed}
+use Rattle.sail_change.specs.Trail.{Trailed}
 
 -- a place is small
 pub place-bound : (n d c i : ℕ) → c < 65536 → Power n d 1024 → (c * n ≤ 67108864) × (i % n < 1024)
@@ -63,7 +62,7 @@ module _ (t : Table) (l : Lent) (a : ℕ) (s : Sound t l) (small : a < 2 ^ 32) w
 
     -- or names a chunk
     module _ (h : v < 32768) where
-      pub named : Names (long rs (g .p1) (slot (g .p1) a)) v (l .own2) (slot (g .p1) a)
+      named : Names (long rs (g .p1) (slot (g .p1) a)) v (l .own2) (slot (g .p1) a)
       named = rw e (first-low t l s (slot (g .p1) a) in-level (rw e at h))
 
       pub named-small : (1 ≤ v) × (v ≤ 4096)

@@ -3,18 +3,18 @@ use mathlib.Core.Path.{_≡_, refl, sym, _∙_, ap}
 use mathlib.Core.Logic.{_⊎_, inl, inr, _≢_}
 use mathlib.Core.Bool.{Bool, true, false, not, _&&_, or-true}
 use mathlib.Core.List.{List, [], _∷_}
-use Prim.Native.Nat.{ℕ, zero, suc, _+_, _-_, _*_, _^_, _≤_, _<_, suc-le-suc}
+use Prim.Native.Nat.{ℕ, zero, suc, _-_, _*_, _^_, _≤_, _<_, suc-le-suc}
 use native.Mathlib.Nat.{not-suc-le-zero, le-of-suc-le-suc}
 use native.Mathlib.Omega.{arith}
 use lib.Dec.{ltb, eqb}
 use lib.ListN.{getD, length}
 use lib.Pow.{shr-mono, shl-shr}
 use borrow.Author.Tests.{ltb-true, lt-ltb, le-ltb, eqb-true, eq-eqb, ne-eqb}
-use Rattle.bits.specs.Slot.{slot, cut}
+use Rattle.bits.specs.Slot.{slot}
 use Rattle.bits.proofs.Slots.{cut-is, cut-le, cut-more}
 use Rattle.bits.proofs.Tests.{both, and-split, untrue, below?, equal?}
-use Rattle.routes.specs.Route.{any, within, long, key}
-use Rattle.routes.specs.Record.{recordAt, routesOf, noRoute, Records}
+use Rattle.routes.specs.Route.{any, within, long}
+use Rattle.routes.specs.Record.{recordAt, routesOf, noRoute}
 use Rattle.routes.specs.declared.Route.{Route}
 use Rattle.routes.proofs.Rows.{length-routes, nth-route}
 use Rattle.chain.specs.Place.{underKey}

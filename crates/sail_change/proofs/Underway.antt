@@ -1,27 +1,26 @@
 -- A change at a prefix that is under way: the list and the owners are the new ones, and the cells still the old ones, but for those of a
 -- chunk that is closed. Then no cell is wrong but those that the change made stale. Assumes nothing.
-use mathlib.Core.Path.{_≡_, refl, sym, _∙_, ap, subst}
-use mathlib.Core.Bool.{Bool, true, false, _&&_}
-use mathlib.Core.List.{List, []}
-use Prim.Native.Nat.{ℕ, suc, _+_, _-_, _*_, _/_, _^_, _≤_, _<_}
+use mathlib.Core.Path.{_≡_, refl, sym, _∙_, ap}
+use mathlib.Core.Bool.{true, false}
+use mathlib.Core.List.{List}
+use Prim.Native.Nat.{ℕ, suc, _-_, _*_, _^_, _<_}
 use native.Mathlib.Omega.{arith}
 use lib.ListN.{getD, length}
 use Rattle.routes.specs.Route.{Prefix}
-use Rattle.routes.specs.Record.{routesOf, Records}
 use Rattle.routes.specs.declared.Route.{Route}
 use Rattle.chain.specs.Words.{routesIn}
 use Rattle.chain.specs.Cover.{Ready}
 use Rattle.sail.specs.Geometry.{bits2, bits3}
-use Rattle.sail.specs.Lent.{Lent, lent}
+use Rattle.sail.specs.Lent.{Lent}
 use Rattle.sail.specs.Level.{itself, liveIn, entry}
 use Rattle.sail.specs.Sizes.{Sized}
 use Rattle.sail.specs.declared.geometry.Geometry.{Geometry}
 use Rattle.sail_theory.specs.Render.{at2, rendered, Fits2, Fits3}
-use Rattle.sail_theory.specs.Alters.{NoneUnder, Frame}
+use Rattle.sail_theory.specs.Alters.{Frame}
 use Rattle.sail_theory.proofs.Mids.{sum2, sum3}
 use Rattle.sail_theory.proofs.Cells.{second-free, third-free}
 use Rattle.sail_paint.specs.Stale.{meets, stale2, stale3, Stale}
-use Rattle.sail_change.specs.Pending.{Pending, cellsOf}
+use Rattle.sail_change.specs.Pending.{cellsOf}
 use Rattle.sail_change.proofs.Still.{meets-none, still-right}
 
 -- in a pool of m chunks of 2 ^ d cells, the cells of chunks in use are as they were, and the others are 0

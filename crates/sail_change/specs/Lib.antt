@@ -2,3 +2,4 @@
 pub mod Chunks
 pub mod Pending
 pub mod Trail
+pub mod Opening

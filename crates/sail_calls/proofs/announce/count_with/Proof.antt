@@ -1,5 +1,4 @@
 -- `sail_calls::announce::count_with` meets its contract. Assumes nothing.
-use native.Mathlib.Omega.{arith}
 use mathlib.Core.Path.{refl}
 use Rattle.lists.specs.Edit.{saysPut}
 use borrow.Author.Needs.{needs}

@@ -1,5 +1,5 @@
 -- `sail_change::chunks::wanting` meets its contract. Assumes nothing.
-use Rattle.sail_change.proofs.Hangs.{wanting-on, wanting-off}
+use Rattle.sail_change.proofs.Hangs.{wanting-on}
 use borrow.Author.Needs.{needs}
 use Rattle.sail_change.proofs.chunks.wanting.Statement.{statement}
 use Rattle.sail_change.proofs.chunks.wanting.Tie as tie

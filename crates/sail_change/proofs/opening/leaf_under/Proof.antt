@@ -1,7 +1,7 @@
--- `sail_calls::opening::leaf_under` meets its contract. Assumes nothing.
-use Rattle.sail_calls.proofs.Openings.{leaf-longer, leaf-shorter}
-use Rattle.sail_calls.proofs.opening.leaf_under.Statement.{statement}
-use Rattle.sail_calls.proofs.opening.leaf_under.Tie as tie
+-- `sail_change::opening::leaf_under` meets its contract. Assumes nothing.
+use Rattle.sail_change.proofs.Openings.{leaf-longer, leaf-shorter}
+use Rattle.sail_change.proofs.opening.leaf_under.Statement.{statement}
+use Rattle.sail_change.proofs.opening.leaf_under.Tie as tie
 
 pub leaf-under-spec : {M : Type 1} → statement M
 leaf-under-spec =

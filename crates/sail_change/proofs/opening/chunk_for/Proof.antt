@@ -1,8 +1,8 @@
--- `sail_calls::opening::chunk_for` meets its contract. Assumes nothing.
-use Rattle.sail_calls.proofs.Openings.{chunk-free, chunk-had}
+-- `sail_change::opening::chunk_for` meets its contract. Assumes nothing.
+use Rattle.sail_change.proofs.Openings.{chunk-free, chunk-had}
 use borrow.Author.Needs.{needs}
-use Rattle.sail_calls.proofs.opening.chunk_for.Statement.{statement}
-use Rattle.sail_calls.proofs.opening.chunk_for.Tie as tie
+use Rattle.sail_change.proofs.opening.chunk_for.Statement.{statement}
+use Rattle.sail_change.proofs.opening.chunk_for.Tie as tie
 
 pub chunk-for-spec : {M : Type 1} → statement M
 chunk-for-spec =

@@ -9,8 +9,8 @@ use Rattle.sail.specs.Lent.{Lent}
 use Rattle.sail.specs.Sound.{standing}
 use Rattle.sail.specs.declared.table.Table.{Table}
 use Rattle.sail_theory.specs.Render.{find}
 use Rattle.sail_change.specs.Chunks.{alone}
-use Rattle.sail_calls.specs.declared.opening.Opening.{Opening}
+use Rattle.sail_change.specs.declared.opening.Opening.{Opening}
 
 -- a cell of a sound table is not 0, and its pool has few chunks
 pub record Named (v : ℕ) (own : List ℕ) : Type 0 where

@@ -1,22 +1,21 @@
 // Which chunks an announcement opens, and their owners.
 ghost use mathlib.Core.Path.{_≡_};
 ghost use mathlib.Core.Bool.{cond, _&&_};
-ghost use Prim.Native.Nat.{_-_, _≤_, _<_};
+ghost use Prim.Native.Nat.{_-_, _<_};
 ghost use lib.Dec.{ltb, leb};
-ghost use lib.ListN.{length};
 ghost use Rattle.sail.specs.Lent.{lent};
 ghost use Rattle.sail.specs.Sound.{Sound};
 ghost use Rattle.sail_theory.specs.Render.{find};
 ghost use Rattle.sail_theory.specs.Calls.{open2, open3};
 ghost use Rattle.sail_theory.specs.Facts.{Welcome};
-ghost use Rattle.sail_calls.specs.Opening.{Named, Opens};
+ghost use Rattle.sail_change.specs.Opening.{Named, Opens};
+use crate::chunks::hang;
+use crate::chunks::lowest_free;
+use crate::trail::follow;
+use crate::trail::place;
 use routes::Route;
 use routes::record::wide;
 use sail::table::Table;
-use sail_change::chunks::hang;
-use sail_change::chunks::lowest_free;
-use sail_change::trail::follow;
-use sail_change::trail::place;
 
 // Whether a second and whether a third chunk is to be opened, and the second chunk that then serves the prefix, from 0.
 pub struct Opening {

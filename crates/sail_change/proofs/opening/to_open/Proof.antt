@@ -1,8 +1,8 @@
--- `sail_calls::opening::to_open` meets its contract. Assumes nothing.
-use Rattle.sail_calls.proofs.Openings.{named-first, opens-is}
+-- `sail_change::opening::to_open` meets its contract. Assumes nothing.
+use Rattle.sail_change.proofs.Openings.{named-first, opens-is}
 use borrow.Author.Needs.{needs}
-use Rattle.sail_calls.proofs.opening.to_open.Statement.{statement}
-use Rattle.sail_calls.proofs.opening.to_open.Tie as tie
+use Rattle.sail_change.proofs.opening.to_open.Statement.{statement}
+use Rattle.sail_change.proofs.opening.to_open.Tie as tie
 
 pub to-open-spec : {M : Type 1} → statement M
 to-open-spec =

@@ -1,9 +1,9 @@
--- `sail_calls::opening::open` meets its contract. Assumes nothing.
+-- `sail_change::opening::open` meets its contract. Assumes nothing.
 use native.Mathlib.Omega.{arith}
-use Rattle.sail_calls.proofs.Openings.{hang-second, hang-third, opened-second, opened-third, slot-small}
+use Rattle.sail_change.proofs.Openings.{hang-second, hang-third, opened-second, opened-third, slot-small}
 use borrow.Author.Needs.{needs}
-use Rattle.sail_calls.proofs.opening.open.Statement.{statement}
-use Rattle.sail_calls.proofs.opening.open.Tie as tie
+use Rattle.sail_change.proofs.opening.open.Statement.{statement}
+use Rattle.sail_change.proofs.opening.open.Tie as tie
 
 pub open-spec : {M : Type 1} → statement M
 open-spec =

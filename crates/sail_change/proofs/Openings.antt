@@ -1,5 +1,5 @@
 -- Which chunks an announcement opens. Assumes nothing.
-use mathlib.Core.Path.{_≡_, refl, sym, _∙_, ap}
+use mathlib.Core.Path.{_≡_, sym, _∙_, ap}
 use mathlib.Core.Logic.{_⊎_, inl, inr}
 use mathlib.Core.Bool.{Bool, true, false, not, _&&_, cond, true≢false}
 use mathlib.Core.List.{List}
@@ -23,11 +23,11 @@ use Rattle.sail.specs.declared.table.Table.{Table}
 use Rattle.sail_theory.specs.Render.{find}
 use Rattle.sail_theory.specs.Calls.{placeIn, open2, open3}
 use Rattle.sail_theory.specs.Facts.{Welcome}
 use Rattle.sail_change.specs.Chunks.{alone, hung, Free}
 use Rattle.sail_change.specs.Trail.{Told, Trailed}
 use Rattle.sail_change.proofs.Opened.{open2-hung, open3-hung, free2, free3, chunk-next}
-use Rattle.sail_calls.specs.Opening.{Named, Opens}
-use Rattle.sail_calls.specs.declared.opening.Opening.{Opening}
+use Rattle.sail_change.specs.Opening.{Named, Opens}
+use Rattle.sail_change.specs.declared.opening.Opening.{Opening}
 
 -- the answers of `leaf_under` and `chunk_for`
 pub leaf-longer : (v p len : ℕ) → p < len → leb 32768 v ≡ (ltb p len && leb 32768 v)
