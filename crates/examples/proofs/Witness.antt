@@ -14,12 +14,16 @@ use Rattle.routes.specs.Route.{any, Good}
 use Rattle.routes.specs.Record.{recordAt, routesOf, written}
 use Rattle.routes.specs.Input.{properPrefix, hopFine, routeFault, inOrder, faultAt, inputSaid}
 use Rattle.routes.specs.Said.{Said, accepted, refused, accepts}
-use Rattle.routes.specs.Answers.{saysInput}
+use Rattle.routes.specs.Answers.{saysInput, saysGot, routeSaid}
 use Rattle.routes.specs.Standing.{routeAt}
 use Rattle.routes.specs.declared.input.Input.the-variants as ofInput
+use Rattle.routes.specs.declared.input.Got.the-variants as got
 use Rattle.routes.specs.declared.Route.{Route}
 use Rattle.routes.proofs.Meaning.{prefix-true}
-use Rattle.lists.specs.Run.{runSaid}
+use Rattle.lists.specs.Place.{placeOf}
+use Rattle.lists.specs.Run.{runSaid, saysRunCheck}
+use Rattle.lists.specs.Tally.{tallyOf}
+use Rattle.lists.specs.declared.run.RunCheck.the-variants as runCheck
 use Rattle.sail.specs.Geometry.{standardGeo, validGeo}
 use Rattle.sail.specs.Lent.{Lent}
 use Rattle.sail.specs.Sizes.{sizesFault}
@@ -48,7 +52,7 @@ use Rattle.tree.specs.Walk.{walkFrom, treeSaid, saysTreeFound}
 use Rattle.tree.specs.declared.TreeFound.the-variants as treeFound
 use Rattle.tree_build.specs.Built.{saysBuilt, routesIn, built}
 use Rattle.tree_build.specs.declared.Built.the-variants as ofBuild
-use Rattle.demands.specs.Meets.{MeetsCheckInput, MeetsLookup, MeetsReport, MeetsMake, MeetsLoad, MeetsAnnounce, MeetsWithdraw, MeetsTreeLookup, MeetsBuild}
+use Rattle.demands.specs.Meets.{MeetsCheckInput, MeetsRouteAt, MeetsRunCheck, MeetsTally, MeetsLookup, MeetsReport, MeetsMake, MeetsLoad, MeetsAnnounce, MeetsWithdraw, MeetsTreeLookup, MeetsBuild}
 use Rattle.demands.proofs.Replies.{reply, stood, run-says, run-stood}
 use Rattle.demands.proofs.Wants.{ByNeed, ForChunks}
 use Rattle.demands.proofs.Demand2 as demand2
@@ -193,6 +197,17 @@ told o s e i = out (sym e i) (o .table) (o .lent)
 pub checked-A : MeetsCheckInput listA (ofInput.Good 5)
 unfolding saysInput
 checked-A = sym goodA
+
+pub route-A : MeetsRouteAt listA 4 (got.One (record { addr = ip 10 1 2 128; len = 25; spare = 0; hop = 57 }))
+unfolding saysGot routeSaid listA recordAt
+route-A = rw goodA
+
+pub run-A : MeetsRunCheck listA (ip 10 1 0 0) 16 (runCheck.Run 2 3)
+unfolding saysRunCheck runSaid listA recordAt placeOf firstOf firstFrom properPrefix cut
+run-A = rw goodA
+
+pub tally-A : MeetsTally listA (record { answer = ofInput.Good 5; counts = tallyOf listA })
+tally-A = record { answered = checked-A; counted = refl }
 
 pub found-A : MeetsLookup (t loadedA) (l loadedA) (ip 10 1 2 200) (found.Hop 57 3)
 unfolding starred answer saysFound
