@@ -18,16 +18,16 @@ field-is low width below v above x b c e =
     ap (field low width) e ∙ ap (λ (y : ℕ). y % 2 ^ width) (digits-div (above * 2 ^ width + v) b) ∙ digits-mod above c
 
 -- Refusals, the same in all layouts.
-module _ (values : ℕ → List ℕ) where
-  number-read : (n x : ℕ) → 1 ≤ n → n < 2 ^ 8 → x ≡ n → unpacked values x ≡ refused n
-  unfolding unpacked refusalOf
+module _ (layout : List ℕ → ℕ) (values : ℕ → List ℕ) where
+  number-read : (n x : ℕ) → 1 ≤ n → n < 2 ^ 8 → x ≡ packed layout (refused n) → unpacked values x ≡ refused n
+  unfolding packed unpacked refusalOf
   number-read n x a b e =
       let f : field 0 8 x ≡ n = omega arith in
       let g : field 8 1 x ≡ 0 = omega arith in
       rw (f, g, ne-eqb n 0 (λ z. omega arith))
 
-  index-read : (n k x : ℕ) → 1 ≤ n → n < 2 ^ 8 → k < 2 ^ 32 → x ≡ n + 256 + k % 2 ^ 32 * 2 ^ 32 → unpacked values x ≡ refusedAt n k
-  unfolding unpacked refusalOf
+  index-read : (n k x : ℕ) → 1 ≤ n → n < 2 ^ 8 → k < 2 ^ 32 → x ≡ packed layout (refusedAt n k) → unpacked values x ≡ refusedAt n k
+  unfolding packed unpacked refusalOf
   index-read n k x a b c e =
       let f : field 0 8 x ≡ n = omega arith in
       let g : field 8 1 x ≡ 1 = omega arith in
@@ -46,30 +46,30 @@ module _ (most : ℕ) (few : most ≤ 2 ^ 32) (P : List ℕ → Type 0) (layout 
   said-read : (s : Said) → Fits most P s → unpacked values (packed layout s) ≡ s
   unfolding packed unpacked
   said-read _ (Fits.values vs p) = let r = reads vs p in rw (eq-eqb _ 0 (r .none)) (ap accepted (r .back))
-  said-read _ (Fits.number n a b) = number-read values n n a b refl
-  said-read _ (Fits.index n k a b c) = index-read values n k _ a b (omega arith) refl
+  said-read _ (Fits.number n a b) = number-read layout values n _ a b refl
+  said-read _ (Fits.index n k a b c) = index-read layout values n k _ a b (omega arith) refl
 
 -- no two answers are packed alike, where both are read back
 pub packed-once : (read : ℕ → Said) (pack : Said → ℕ) (s u : Said) → read (pack s) ≡ s → read (pack u) ≡ u → pack s ≡ pack u → s ≡ u
 packed-once read pack s u f g e = sym f ∙ ap read e ∙ g
 
 -- The layouts, each over its packed number.
-hop-read : (n h x : ℕ) → n < 2 ^ 8 → 1 ≤ h → h < 2 ^ 16 → x ≡ n * 256 + h * 65536 → Reads foundValues x (n ∷ h ∷ [])
-unfolding foundValues
+hop-read : (n h x : ℕ) → n < 2 ^ 8 → 1 ≤ h → h < 2 ^ 16 → x ≡ packFound (accepted (n ∷ h ∷ [])) → Reads foundValues x (n ∷ h ∷ [])
+unfolding packed foundValues
 hop-read n h x a b c e =
     let f : field 8 8 x ≡ n = omega arith in
     let g : field 16 16 x ≡ h = omega arith in
     record { none = omega arith; back = rw (f, g, ne-eqb h 0 (λ z. omega arith)) }
 
-no-hop-read : (n x : ℕ) → n < 2 ^ 8 → x ≡ n * 256 → Reads foundValues x (n ∷ [])
-unfolding foundValues
+no-hop-read : (n x : ℕ) → n < 2 ^ 8 → x ≡ packFound (accepted (n ∷ [])) → Reads foundValues x (n ∷ [])
+unfolding packed foundValues
 no-hop-read n x a e =
     let f : field 8 8 x ≡ n = omega arith in
     let g : field 16 16 x ≡ 0 = omega arith in
     record { none = omega arith; back = rw (f, g) }
 
-report-values : (n y z x : ℕ) → n < 2 ^ 16 → y < 2 ^ 16 → z < 2 ^ 16 → x ≡ n % 65536 * 65536 + y % 65536 * 2 ^ 32 + z % 65536 * 2 ^ 48 → Reads reportValues x (n ∷ y ∷ z ∷ [])
-unfolding reportValues
+report-values : (n y z x : ℕ) → n < 2 ^ 16 → y < 2 ^ 16 → z < 2 ^ 16 → x ≡ packReport (accepted (n ∷ y ∷ z ∷ [])) → Reads reportValues x (n ∷ y ∷ z ∷ [])
+unfolding packed reportValues
 report-values n y z x a b c e =
     let f : field 16 16 x ≡ n = omega arith in
     let g : field 32 16 x ≡ y = omega arith in
@@ -79,30 +79,30 @@ report-values n y z x a b c e =
     let h : field 48 16 x ≡ z = field-is 48 16 (n * 65536 + y * 2 ^ 32) z 0 x (omega arith) c (omega arith) in
     record { none = omega arith; back = rw (f, g, h) }
 
-built-values : (n h x : ℕ) → n < 2 ^ 32 → h < 2 ^ 16 → x ≡ h % 65536 * 65536 + n * 2 ^ 32 → Reads builtValues x (n ∷ h ∷ [])
-unfolding builtValues
+built-values : (n h x : ℕ) → n < 2 ^ 32 → h < 2 ^ 16 → x ≡ packBuilt (accepted (n ∷ h ∷ [])) → Reads builtValues x (n ∷ h ∷ [])
+unfolding packed builtValues
 built-values n h x a b e =
     let f : field 32 32 x ≡ n = omega arith in
     let g : field 16 16 x ≡ h = omega arith in
     record { none = omega arith; back = rw (f, g) }
 
-run-values : (j n x : ℕ) → j < 2 ^ 16 → n < 2 ^ 16 → x ≡ j % 65536 * 65536 + n % 65536 * 2 ^ 32 → Reads runValues x (j ∷ n ∷ [])
-unfolding runValues
+run-values : (j n x : ℕ) → j < 2 ^ 16 → n < 2 ^ 16 → x ≡ packRun (accepted (j ∷ n ∷ [])) → Reads runValues x (j ∷ n ∷ [])
+unfolding packed runValues
 run-values j n x a b e =
     let f : field 16 16 x ≡ j = omega arith in
     let g : field 32 16 x ≡ n = omega arith in
     record { none = omega arith; back = rw (f, g) }
 
-route-values : (a len hop x : ℕ) → a < 2 ^ 32 → len < 2 ^ 8 → 1 ≤ hop → hop < 2 ^ 16 → x ≡ len * 256 + hop * 65536 + a * 2 ^ 32 → Reads routeValues x (a ∷ len ∷ 0 ∷ hop ∷ [])
-unfolding routeValues
+route-values : (a len hop x : ℕ) → a < 2 ^ 32 → len < 2 ^ 8 → 1 ≤ hop → hop < 2 ^ 16 → x ≡ packRoute (accepted (a ∷ len ∷ 0 ∷ hop ∷ [])) → Reads routeValues x (a ∷ len ∷ 0 ∷ hop ∷ [])
+unfolding packed routeValues
 route-values a len hop x i j k m e =
     let f : field 32 32 x ≡ a = omega arith in
     let g : field 8 8 x ≡ len = omega arith in
     let h : field 16 16 x ≡ hop = omega arith in
     record { none = omega arith; back = rw (f, g, h, ne-eqb hop 0 (λ z. omega arith)) }
 
-announce-values : (b n x : ℕ) → b < 2 → n < 2 ^ 16 → x ≡ b * 256 + n * 65536 → Reads announceValues x (b ∷ [])
-unfolding announceValues
+announce-values : (b n x : ℕ) → b < 2 → n < 2 ^ 16 → x ≡ packChange n (accepted (b ∷ [])) → Reads announceValues x (b ∷ [])
+unfolding packed announceValues
 announce-values b n x i j e = let f : field 8 1 x ≡ b = omega arith in record { none = omega arith; back = rw f }
 
 -- The theorem, for each layout.
@@ -113,7 +113,7 @@ module _ (most : ℕ) (few : most ≤ 2 ^ 32) where
     where
       go : (vs : List ℕ) → FoundFits vs → Reads foundValues (packFound (accepted vs)) vs
       go _ (FoundFits.hop n h a b c) = hop-read n h _ a b c refl
-      go _ (FoundFits.none n a) = no-hop-read n _ a (omega arith)
+      go _ (FoundFits.none n a) = no-hop-read n _ a refl
 
   pub report-read : (s : Said) → Fits most ReportFits s → unpackReport (packReport s) ≡ s
   unfolding packed
@@ -162,8 +162,8 @@ module _ (most : ℕ) (few : most ≤ 2 ^ 32) where
   pub none-read : (P : List ℕ → Type 0) (s : Said) → Fits most P s → unpackNone (packNone s) ≡ andThen s (accepted [])
   unfolding packed unpacked noValues
   none-read P _ (Fits.values vs p) = refl
-  none-read P _ (Fits.number n a b) = number-read noValues n n a b refl
-  none-read P _ (Fits.index n k a b c) = index-read noValues n k _ a b (omega arith) refl
+  none-read P _ (Fits.number n a b) = number-read (λ vs. 0) noValues n _ a b refl
+  none-read P _ (Fits.index n k a b c) = index-read (λ vs. 0) noValues n k _ a b (omega arith) refl
 
 -- the route count after a change that was accepted
 change-count : (most count : ℕ) (P : List ℕ → Type 0) → ((vs : List ℕ) → P vs → (value 0 vs < 2) × (count < 2 ^ 16)) → (s : Said) → Fits most P s → accepts s ≡ true → countOf (packChange count s) ≡ count
