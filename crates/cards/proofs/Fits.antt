@@ -1,6 +1,6 @@
 -- What the calls say has room in their answers. Nothing is supposed but what the boundary's types give: cells of 16 bits (`Cells`), and
 -- for the index of a record an input shorter than 2^35 bytes, so that it has fewer than 2^32 records. Assumes nothing.
-use mathlib.Core.Path.{_≡_, refl, sym, _∙_, ap, subst}
+use mathlib.Core.Path.{_≡_, refl, _∙_, ap, subst}
 use mathlib.Core.Logic.{_⊎_, inl, inr}
 use mathlib.Core.Bool.{true, false, cond, true≢false}
 use mathlib.Core.List.{List, [], _∷_}
