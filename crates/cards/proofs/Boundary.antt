@@ -25,7 +25,8 @@ use Rattle.sail.proofs.Fitting.{Fault, fault-is}
 use Rattle.sail_theory.specs.Calls.{orSay, made, loaded, announced, withdrawn, reported}
 use Rattle.tree.specs.Walk.{treeSaid}
 use Rattle.tree_build.specs.Built.{built}
-use Rattle.cards.specs.Pack.{packFound, packReport, packRun, packNone, packRoute}
+use Rattle.sail.specs.Word.{packFound}
+use Rattle.cards.specs.Pack.{packReport, packRun, packNone, packRoute}
 use Rattle.cards.specs.Unpack.{refusalOf, unpacked, noValues, unpackFound, unpackReport, unpackBuilt, unpackRun, unpackRoute, unpackAnnounce, unpackDone, unpackNone, countOf, Cells}
 use Rattle.cards.specs.Cards.{cardOf, imageCardOf, wordsCard, tallyCard, lowFound, manyCard}
 use Rattle.cards.proofs.Unpacks.{found-read, report-read, built-read, run-read, route-read, announce-read, done-read, none-read, announce-count, done-count, found-low}

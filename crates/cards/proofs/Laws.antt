@@ -17,16 +17,18 @@ use Rattle.lists.specs.Tally.{IsTally, tallyOf, lengthsOf, hasLength}
 use Rattle.lists.specs.declared.tally.Tallied.{Tallied}
 use Rattle.sail.specs.Lent.{Lent}
 use Rattle.sail.specs.Sizes.{sizesFault, Checked}
-use Rattle.sail.specs.Walk.{foundSaid}
+use Rattle.sail.specs.Walk.{foundSaid, lookupSaid}
+use Rattle.sail.specs.declared.geometry.Geometry.{Geometry}
 use Rattle.sail.specs.declared.table.Table.{Table}
-use Rattle.sail.proofs.Steps.{look-on}
+use Rattle.sail.proofs.Steps.{look-on, look-not}
 use Rattle.sail_sound.specs.Report.{saysReported}
 use Rattle.sail_sound.specs.declared.report.Reported.{Reported}
 use Rattle.sail_sound.specs.declared.report.Reported.the-variants.{Standing}
 use Rattle.sail_theory.specs.Calls.{Out, out}
 use Rattle.tree_build.specs.Built as tree
-use Rattle.cards.specs.Pack.{packed, packFound, packReport, packChange, packBuilt, packNone}
-use Rattle.cards.specs.Cards.{card, cardOf, imageCard, imageCardOf, wordsCard, tallyCard, lowFound, manyCard}
+use Rattle.sail.specs.Word.{packed, packFound, Word}
+use Rattle.cards.specs.Pack.{packReport, packChange, packBuilt, packNone}
+use Rattle.cards.specs.Cards.{card, cardOf, imageCard, imageCardOf, wordsCard, tallyCard, tableOf, manyCard}
 
 pub card-is : (s : Said) (t : Table) (l : Lent) (o : Out) (r : ℕ) → out s t l ≡ o → r ≡ packChange (t .count) s → card r l ≡ cardOf o
 unfolding cardOf
@@ -42,6 +44,13 @@ pub stored-more : (f : ℕ → ℕ) (out : List ℕ) (i v : ℕ) → i < length 
 stored-more f out i v l h e =
     below-more (λ (k : ℕ). getD (set out i v) k 0 ≡ f k) i (λ k b. getD-set-other out i k v 0 (λ q. omega arith) ∙ h k b) (getD-set-same out i v 0 l ∙ e)
 
+-- the low 32 bits of the walk's answer
+abbrev pub lowWalk : Geometry → Lent → ℕ → ℕ
+lowWalk g l a = packFound (foundSaid g l a) % 2 ^ 32
+
+pub word-low : (w : ℕ) (s : Said) → Word w s → w < 2 ^ 32 → w ≡ packFound s % 2 ^ 32
+word-low w s h b = omega (arith, h .packs)
+
 module _ (t : Table) (l : Lent) (ads xs : List ℕ) (r : ℕ) (told : Checked r (t .geometry) l) where
   pub many-not : (r ≡ 0 → ⊥) → wordsCard r xs ≡ manyCard t l ads xs
   unfolding manyCard
@@ -52,16 +61,31 @@ module _ (t : Table) (l : Lent) (ads xs : List ℕ) (r : ℕ) (told : Checked r 
   many-uneven e n = rw (eq-eqb (sizesFault (t .geometry) l) 0 (sym (told .number) ∙ e), ne-eqb (length xs) (length ads) n)
 
   pub many-all : r ≡ 0 → length xs ≡ length ads → (ys : List ℕ) → length ys ≡ length ads
-      → ((k : ℕ) → k < length ads → getD ys k 0 ≡ lowFound t l (getD ads k 0)) → wordsCard 0 ys ≡ manyCard t l ads xs
-  unfolding manyCard
+      → ((k : ℕ) → k < length ads → getD ys k 0 ≡ lowWalk (t .geometry) l (getD ads k 0)) → wordsCard 0 ys ≡ manyCard t l ads xs
+  unfolding manyCard lookupSaid
   many-all e n ys m h =
       rw (eq-eqb (sizesFault (t .geometry) l) 0 (sym (told .number) ∙ e), eq-eqb (length xs) (length ads) n)
-      (ap (wordsCard 0) (is-tabulate 0 ys (length ads) (λ (k : ℕ). lowFound t l (getD ads k 0)) m h))
+      (ap (wordsCard 0) (is-tabulate 0 ys (length ads) (λ (k : ℕ). lowWalk (t .geometry) l (getD ads k 0)) m h))
 
--- one address: the packed answer, and its low 32 bits
-pub low-is : (t : Table) (l : Lent) (r : ℕ) (a : ℕ) → Checked r (t .geometry) l → r ≡ 0 → (s : Said) → s ≡ foundSaid (t .geometry) l a
-    → (v w : ℕ) → v ≡ packFound s → w ≡ v % 2 ^ 32 → w ≡ lowFound t l a
-low-is t l r a told z s e v w p q = q ∙ ap (λ (x : ℕ). x % 2 ^ 32) (p ∙ ap packFound (look-on t l a r told s z e))
+-- one address, after the check of the sizes
+module _ (t : Table) (l : Lent) (a r : ℕ) (told : Checked r (t .geometry) l) where
+  pub look-off : (z : ℕ) → z ≡ r → (r ≡ 0 → ⊥) → z ≡ packFound (lookupSaid t l a)
+  unfolding packed
+  look-off z e n = e ∙ ap packFound (look-not t l a r told n)
+
+  pub look-is : r ≡ 0 → (w z : ℕ) → Word w (foundSaid (t .geometry) l a) → z ≡ w → z ≡ packFound (lookupSaid t l a)
+  look-is e w z found q = q ∙ look-on t l a r told w e found .packs
+
+-- the standard geometry, told by its two levels
+module _ (p1 p2 n : ℕ) (e1 : p1 ≡ 16) (e2 : p2 ≡ 24) where
+  standard-table : tableOf 16 24 n ≡ tableOf p1 p2 n
+  standard-table = rw (e1, e2)
+
+  pub look-standard : (l : Lent) (a r : ℕ) → r ≡ packFound (lookupSaid (tableOf 16 24 n) l a) → r ≡ packFound (lookupSaid (tableOf p1 p2 n) l a)
+  look-standard l a r q = q ∙ ap (λ (t : Table). packFound (lookupSaid t l a)) standard-table
+
+  pub many-standard : (l : Lent) (ads xs ys : List ℕ) (r : ℕ) → wordsCard r ys ≡ manyCard (tableOf 16 24 n) l ads xs → wordsCard r ys ≡ manyCard (tableOf p1 p2 n) l ads xs
+  many-standard l ads xs ys r q = q ∙ ap (λ (t : Table). manyCard t l ads xs) standard-table
 
 -- the tally
 module _ (s xs : List ℕ) where

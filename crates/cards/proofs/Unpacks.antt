@@ -9,7 +9,8 @@ use native.Mathlib.Omega.{arith}
 use lib.Arith.{digits-div, digits-mod}
 use borrow.Author.Tests.{eq-eqb, ne-eqb}
 use Rattle.routes.specs.Said.{Said, accepted, refused, refusedAt, andThen, accepts}
-use Rattle.cards.specs.Pack.{packed, value, packFound, packReport, packChange, packBuilt, packRun, packNone, packRoute}
+use Rattle.sail.specs.Word.{packed, value, packFound}
+use Rattle.cards.specs.Pack.{packReport, packChange, packBuilt, packRun, packNone, packRoute}
 use Rattle.cards.specs.Unpack.{field, refusalOf, unpacked, foundValues, unpackFound, reportValues, unpackReport, builtValues, unpackBuilt, runValues, unpackRun, routeValues, unpackRoute, announceValues, unpackAnnounce, noValues, unpackDone, unpackNone, countOf, Fits, FoundFits, ReportFits, BuiltFits, RunFits, RouteFits, AnnounceFits, DoneFits}
 
 -- A field is read whatever stands below it and above it. (Most of those below `omega` does by itself; the highest fields it does not.)

@@ -13,7 +13,8 @@ use Rattle.sail.specs.Walk.{lookupSaid}
 use Rattle.sail.specs.declared.table.Table.{Table}
 use Rattle.sail_theory.specs.Calls.{Out}
 use Rattle.tree_build.specs.Built as tree
-use Rattle.cards.specs.Pack.{packFound, packChange, packBuilt, packNone}
+use Rattle.sail.specs.Word.{packFound}
+use Rattle.cards.specs.Pack.{packChange, packBuilt, packNone}
 
 -- the state, from the three numbers that stand for it
 abbrev pub tableOf : ℕ → ℕ → ℕ → Table

@@ -1,23 +1,8 @@
--- How an answer is packed into one number of 64 bits: the refusal's number in bits 0 to 7; a refusal's index in bits 32 to 63, with
--- bit 8 set; and the values of an accepted call by its own layout. Assumes nothing.
-use mathlib.Core.List.{List}
+-- How the values of each call are laid out in its answer of 64 bits. Refusals, and the layout of a lookup, stand in sail/specs/Word.antt.
+-- Assumes nothing.
 use Prim.Native.Nat.{ℕ, _+_, _*_, _%_, _^_}
-use lib.ListN.{getD}
-use Rattle.routes.specs.Said.{Said, accepted, refused, refusedAt}
-
--- a refusal is packed the same everywhere. (An index beyond 32 bits would be of an input of more than 32 GiB.)
-unfoldable pub packed : (List ℕ → ℕ) → Said → ℕ
-packed layout (accepted vs) = layout vs
-packed layout (refused n) = n
-packed layout (refusedAt n k) = n + 256 + k % 2 ^ 32 * 2 ^ 32
-
--- one of the values; 0 where there are fewer
-abbrev pub value : ℕ → List ℕ → ℕ
-value k vs = getD vs k 0
-
--- reads in bits 8 to 15, hop in 16 to 31
-abbrev pub packFound : Said → ℕ
-packFound = packed (λ vs. value 0 vs * 256 + value 1 vs * 65536)
+use Rattle.routes.specs.Said.{Said}
+use Rattle.sail.specs.Word.{packed, value}
 
 -- the route count in bits 16 to 31, the needs in 32 to 47 and 48 to 63
 abbrev pub packReport : Said → ℕ

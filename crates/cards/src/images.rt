@@ -2,7 +2,7 @@
 ghost use mathlib.Core.Path.{_≡_};
 ghost use Rattle.tree.specs.Walk.{treeSaid};
 ghost use Rattle.tree_build.specs.Built.{built};
-ghost use Rattle.cards.specs.Pack.{packFound};
+ghost use Rattle.sail.specs.Word.{packFound};
 ghost use Rattle.cards.specs.Cards.{imageCard, imageCardOf};
 use crate::pack;
 

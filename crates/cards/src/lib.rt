@@ -1,6 +1,6 @@
 // The calls as C sees them: slices as pointer and length, and each answer packed into one number.
 pub mod images;
 pub mod inputs;
-pub mod many;
+pub mod lookups;
 pub mod pack;
 pub mod tables;

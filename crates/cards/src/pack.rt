@@ -1,7 +1,6 @@
 // Answers as one number of 64 bits. Which value stands in which bits is said with each function's definition.
 ghost use mathlib.Core.Path.{_≡_};
 ghost use Prim.Native.Nat.{_+_, _*_, _%_, _^_, _<_};
-ghost use Rattle.sail.specs.Walk.{saysFound};
 ghost use Rattle.sail_load.specs.Answers.{saysMade, saysLoaded};
 ghost use Rattle.sail_calls.specs.Answers.{saysAnnounce, saysWithdraw};
 ghost use Rattle.sail_sound.specs.Report.{saysReported};
@@ -9,11 +8,11 @@ ghost use Rattle.routes.specs.Answers.{saysInput, saysGot};
 ghost use Rattle.lists.specs.Run.{saysRunCheck};
 ghost use Rattle.tree.specs.Walk.{saysTreeFound};
 ghost use Rattle.tree_build.specs.Built.{saysBuilt};
-ghost use Rattle.cards.specs.Pack.{packFound, packReport, packChange, packBuilt, packRun, packNone, packRoute};
+ghost use Rattle.sail.specs.Word.{packFound};
+ghost use Rattle.cards.specs.Pack.{packReport, packChange, packBuilt, packRun, packNone, packRoute};
 use lists::run::RunCheck;
 use routes::input::Got;
 use routes::input::Input;
-use sail::lookup::Found;
 use sail_calls::answers::Announce;
 use sail_calls::answers::Withdraw;
 use sail_load::load::Loaded;
@@ -59,16 +58,6 @@ fn counted(count: u32) -> u64
     ensures { λ r. ⌜ r ≡ 0 * 256 + count * 65536 ⌝ }
 {
     word(count) * 65536
-}
-
-pub fn found(f: Found) -> u64
-    ensures { λ r. ⌜ r ≡ packFound (saysFound f) ⌝ }
-{
-    match f {
-        Found::Hop(h, n) => word(n) * 256 + half(h) * 65536,
-        Found::NoRoute(n) => word(n) * 256,
-        Found::Refused(z) => byte(z),
-    }
 }
 
 pub fn reported(a: Reported) -> u64

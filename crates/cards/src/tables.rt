@@ -1,9 +1,8 @@
 // The calls on SAIL tables. The state is three numbers: both levels of the geometry and the route count.
 ghost use mathlib.Core.Path.{_≡_};
 ghost use Rattle.sail.specs.Lent.{lent};
-ghost use Rattle.sail.specs.Walk.{lookupSaid};
 ghost use Rattle.sail_theory.specs.Calls.{made, loaded, announced, withdrawn, reported};
-ghost use Rattle.cards.specs.Pack.{packFound, packReport};
+ghost use Rattle.cards.specs.Pack.{packReport};
 ghost use Rattle.cards.specs.Cards.{tableOf, card, cardOf};
 use crate::pack;
 use sail::geometry::Geometry;
@@ -167,34 +166,5 @@ pub extern "C" fn gh_report(
         third,
         own2,
         own3,
-    ))
-}
-
-// The hop for one address, with the count of cells read.
-#[no_mangle]
-pub extern "C" fn gh_lookup(
-    p1: u32,
-    p2: u32,
-    count: u32,
-    list: &[u8],
-    first: &[u16],
-    second: &[u16],
-    third: &[u16],
-    own2: &[u32],
-    own3: &[u32],
-    addr: u32,
-) -> u64
-    ensures { λ r. ⌜ r ≡ packFound (lookupSaid (tableOf p1 p2 count) (lent (now (list .entry)) (now (first .entry)) (now (second .entry)) (now (third .entry)) (now (own2 .entry)) (now (own3 .entry))) addr) ⌝ }
-{
-    let geometry = Geometry { p1, p2 };
-    pack::found(sail::lookup::lookup(
-        Table { geometry, count },
-        list,
-        first,
-        second,
-        third,
-        own2,
-        own3,
-        addr,
     ))
 }

@@ -1,6 +1,7 @@
 -- Laws of geometry, sizes and the walk, and what they say of sound tables.
 pub mod Geos
 pub mod Fitting
+pub mod Words
 pub mod Steps
 pub mod Answers
 pub mod Places

@@ -1,17 +1,18 @@
 -- The walk step by step, as the code takes it. Assumes nothing.
 use mathlib.Core.Path.{_≡_, refl, sym, ap, ap₂, _∙_}
 use mathlib.Core.Bool.{Bool, true, false, not}
+use mathlib.Core.Logic.{_⊎_, inl, inr}
 use Prim.Native.Nat.{ℕ, _+_, _-_, _*_, _%_, _^_, _≤_, _<_}
 use native.Mathlib.Nat.{mod-lt, mul-le-mul-left}
 use native.Mathlib.Omega.{arith}
 use lib.Arith.{digits-lt}
-use lib.Dec.{leb}
+use lib.Dec.{leb, ltb}
 use lib.ListN.{length, getD}
 use lib.Pow.{pow-pos, pow-mono, shl-exact}
-use borrow.Author.Tests.{leb-true, le-leb, lt-leb, eq-eqb, ne-eqb}
+use borrow.Author.Tests.{leb-true, le-leb, lt-leb, lt-ltb, le-ltb, eq-eqb, ne-eqb}
 use Rattle.bits.specs.Slot.{slot}
 use Rattle.bits.proofs.Slots.{shl-one, slot-lt}
-use Rattle.bits.proofs.Tests.{and-split}
+use Rattle.bits.proofs.Tests.{and-split, below?}
 use Rattle.routes.specs.Said.{Said, refused}
 use Rattle.sail.specs.Geometry.{bits2, bits3}
 use Rattle.sail.specs.Lent.{Lent}
@@ -19,8 +20,10 @@ use Rattle.sail.specs.Level.{whole}
 use Rattle.sail.specs.Sizes.{sizesFault, Sized, Checked}
 use Rattle.sail.specs.Pool.{Inside, Chunk}
 use Rattle.sail.specs.Walk.{place, cell2, cell3, leafSaid, stepSaid, oneOf, shut, walkSaid, foundSaid, lookupSaid}
+use Rattle.sail.specs.Word.{Word, saidOf}
 use Rattle.sail.specs.declared.geometry.Geometry.{Geometry}
 use Rattle.sail.specs.declared.table.Table.{Table}
+use Rattle.sail.proofs.Words.{word-of, word-five}
 
 -- the place lies in the pool
 place-in : (m n c k i : ℕ) → Chunk m n c k → place k c i < m
@@ -86,6 +89,15 @@ module _ (n : ℕ) (opens : ℕ → Bool) (v : ℕ) (on : Said) where
   unfolding stepSaid
   step-on h e = rw (lt-leb 32768 v h, e)
 
+-- a number less one, which wraps where it is 0, is below m: both tests by one comparison
+pub wraps-below : (m v r : ℕ) → (r + 1) % 2 ^ 64 ≡ v → r < 2 ^ 64 → m < 2 ^ 64 → ltb r m ≡ oneOf m v
+wraps-below m v r e f g = go (below? r m) (below? r (2 ^ 64 - 1))
+  where
+    go : (r < m) ⊎ (m ≤ r) → (r < 2 ^ 64 - 1) ⊎ (2 ^ 64 - 1 ≤ r) → ltb r m ≡ oneOf m v
+    go (inl b) _ = rw (lt-ltb r m b, le-leb 1 v (omega arith), le-leb v m (omega arith))
+    go (inr b) (inl w) = rw (le-ltb r m b, le-leb 1 v (omega arith), lt-leb v m (omega arith))
+    go (inr b) (inr w) = rw (le-ltb r m b, lt-leb 1 v (omega arith))
+
 -- the code's three cells: the first by the address's first bits, the second and the third by their places in the pools
 module _ (g : Geometry) (l : Lent) (a : ℕ) (sized : Sized g l) where
   steps : (v1 v2 v3 : ℕ) → v1 ≡ getD (l .first) (slot (g .p1) a) 0 → v2 ≡ getD (l .second) (place (bits2 g) v1 (slot (g .p2) a)) 0 → v3 ≡ getD (l .third) (place (bits3 g) v2 a) 0
@@ -98,39 +110,42 @@ module _ (g : Geometry) (l : Lent) (a : ℕ) (sized : Sized g l) where
       cc
 
   module _ (v1 : ℕ) (e1 : v1 ≡ getD (l .first) (slot (g .p1) a) 0) where
-    pub leaf1 : (s : Said) → 32768 ≤ v1 → s ≡ leafSaid 1 v1 → s ≡ foundSaid g l a
-    leaf1 s h e = e ∙ step-leaf 1 _ v1 _ h ∙ steps v1 _ _ e1 refl refl
+    pub leaf1 : (w : ℕ) → 32768 ≤ v1 → Word w (leafSaid 1 v1) → Word w (foundSaid g l a)
+    leaf1 w h = word-of w _ _ (step-leaf 1 _ v1 _ h ∙ steps v1 _ _ e1 refl refl)
 
     module _ (b1 : Bool) (o1 : b1 ≡ oneOf (length (l .own2)) v1) (low1 : v1 < 32768) where
-      pub off1 : not b1 ≡ true → refused 5 ≡ foundSaid g l a
-      off1 n = step-off 1 _ v1 _ low1 (closed b1 _ o1 n) ∙ steps v1 _ _ e1 refl refl
+      pub off1 : not b1 ≡ true → Word 5 (foundSaid g l a)
+      off1 n = word-five _ (step-off 1 _ v1 _ low1 (closed b1 _ o1 n) ∙ steps v1 _ _ e1 refl refl)
 
       module _ (on1 : not b1 ≡ false) (v2 : ℕ) (e2 : v2 ≡ getD (l .second) (place (bits2 g) v1 (slot (g .p2) a)) 0) where
         down1 : (v3 : ℕ) → v3 ≡ getD (l .third) (place (bits3 g) v2 a) 0 → stepSaid 2 (oneOf (length (l .own3))) v2 (stepSaid 3 shut v3 (refused 5)) ≡ foundSaid g l a
         down1 v3 e3 = step-on 1 _ v1 _ low1 (opened b1 _ o1 on1) ∙ steps v1 v2 v3 e1 e2 e3
 
-        pub leaf2 : (s : Said) → 32768 ≤ v2 → s ≡ leafSaid 2 v2 → s ≡ foundSaid g l a
-        leaf2 s h e = e ∙ step-leaf 2 _ v2 _ h ∙ down1 _ refl
+        pub leaf2 : (w : ℕ) → 32768 ≤ v2 → Word w (leafSaid 2 v2) → Word w (foundSaid g l a)
+        leaf2 w h = word-of w _ _ (step-leaf 2 _ v2 _ h ∙ down1 _ refl)
 
         module _ (b2 : Bool) (o2 : b2 ≡ oneOf (length (l .own3)) v2) (low2 : v2 < 32768) where
-          pub off2 : not b2 ≡ true → refused 5 ≡ foundSaid g l a
-          off2 n = step-off 2 _ v2 _ low2 (closed b2 _ o2 n) ∙ down1 _ refl
+          pub off2 : not b2 ≡ true → Word 5 (foundSaid g l a)
+          off2 n = word-five _ (step-off 2 _ v2 _ low2 (closed b2 _ o2 n) ∙ down1 _ refl)
 
           module _ (on2 : not b2 ≡ false) (v3 : ℕ) (e3 : v3 ≡ getD (l .third) (place (bits3 g) v2 a) 0) where
             down2 : stepSaid 3 shut v3 (refused 5) ≡ foundSaid g l a
             down2 = step-on 2 _ v2 _ low2 (opened b2 _ o2 on2) ∙ down1 v3 e3
 
-            pub leaf3 : (s : Said) → 32768 ≤ v3 → s ≡ leafSaid 3 v3 → s ≡ foundSaid g l a
-            leaf3 s h e = e ∙ step-leaf 3 _ v3 _ h ∙ down2
+            pub leaf3 : (w : ℕ) → 32768 ≤ v3 → Word w (leafSaid 3 v3) → Word w (foundSaid g l a)
+            leaf3 w h = word-of w _ _ (step-leaf 3 _ v3 _ h ∙ down2)
 
-            pub off3 : v3 < 32768 → refused 5 ≡ foundSaid g l a
-            off3 h = step-off 3 shut v3 _ h refl ∙ down2
+            pub off3 : v3 < 32768 → Word 5 (foundSaid g l a)
+            off3 h = word-five _ (step-off 3 shut v3 _ h refl ∙ down2)
 
 -- with the sizes checked first
 module _ (t : Table) (l : Lent) (a r : ℕ) (told : Checked r (t .geometry) l) where
-  pub look-on : (s : Said) → r ≡ 0 → s ≡ foundSaid (t .geometry) l a → s ≡ lookupSaid t l a
+  pub look-on : (w : ℕ) → r ≡ 0 → Word w (foundSaid (t .geometry) l a) → Word w (lookupSaid t l a)
   unfolding lookupSaid
-  look-on s e f = rw (eq-eqb (sizesFault (t .geometry) l) 0 (sym (told .number) ∙ e)) f
+  look-on w e = word-of w _ _ (rw (eq-eqb (sizesFault (t .geometry) l) 0 (sym (told .number) ∙ e)))
+
+  pub look-found : (w : ℕ) (s : Said) → r ≡ 0 → Word w (foundSaid (t .geometry) l a) → s ≡ saidOf w → s ≡ lookupSaid t l a
+  look-found w s e f q = q ∙ look-on w e f .back
 
   pub look-not : (r ≡ 0 → ⊥) → refused r ≡ lookupSaid t l a
   unfolding lookupSaid

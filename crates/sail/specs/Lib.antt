@@ -4,5 +4,6 @@ pub mod Lent
 pub mod Sizes
 pub mod Level
 pub mod Walk
+pub mod Word
 pub mod Pool
 pub mod Sound

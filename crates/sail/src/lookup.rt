@@ -6,6 +6,7 @@ ghost use Rattle.sail.specs.Lent.{lent};
 ghost use Rattle.sail.specs.Sizes.{Sized};
 ghost use Rattle.sail.specs.Pool.{Inside, Chunk};
 ghost use Rattle.sail.specs.Walk.{place, oneOf, leafSaid, foundSaid, lookupSaid, saysFound};
+ghost use Rattle.sail.specs.Word.{Word, saidOf};
 use crate::geometry::Geometry;
 use crate::table::Table;
 
@@ -16,25 +17,19 @@ pub enum Found {
     Refused(u8),
 }
 
-// What a leaf says that is read as the n-th cell.
-fn leaf(v: u16, n: u32) -> Found
-    requires { ⌜ 32768 ≤ v ⌝ }
-    ensures { λ r. ⌜ saysFound r ≡ leafSaid n v ⌝ }
+// What a leaf says that is read as the n-th cell, as a word.
+fn leaf(v: u16, n: u32) -> u32
+    requires { ⌜ (32768 ≤ v) × (n ≤ 3) ⌝ }
+    ensures { λ r. ⌜ Word r (leafSaid n v) ⌝ }
 {
-    if v == 32768 {
-        return Found::NoRoute(n);
-    }
-    Found::Hop(v - 32768, n)
+    n * 256 + ((v - 32768) as u32) * 65536
 }
 
-// Whether a cell names one of a pool's chunks.
+// Whether a cell names one of a pool's chunks. One comparison does: 0 wraps to the largest number.
 fn opens(v: u16, chunks: usize) -> bool
     ensures { λ r. ⌜ r ≡ oneOf chunks v ⌝ }
 {
-    if v == 0 {
-        return false;
-    }
-    v as usize <= chunks
+    std::num::wrapping_sub_usize(v as usize, 1) < chunks
 }
 
 // The place of cell x of chunk c, where a chunk has 2^k cells.
@@ -54,8 +49,8 @@ fn cell(pool: &[u16], chunks: usize, c: u16, k: u32, i: u32) -> u16
     pool[at]
 }
 
-// The walk, where the sizes are right.
-pub fn find(
+// The walk, where the sizes are right. It answers with a word: an enum would be written to memory and read again.
+pub fn walk(
     g: Geometry,
     list: &[u8],
     first: &[u16],
@@ -64,9 +59,9 @@ pub fn find(
     own2: &[u32],
     own3: &[u32],
     addr: u32,
-) -> Found
+) -> u32
     requires { ⌜ Sized g (lent (now list) (now first) (now second) (now third) (now own2) (now own3)) ⌝ }
-    ensures { λ r. ⌜ saysFound r ≡ foundSaid g (lent (now (list .entry)) (now (first .entry)) (now (second .entry)) (now (third .entry)) (now (own2 .entry)) (now (own3 .entry))) addr ⌝ }
+    ensures { λ r. ⌜ Word r (foundSaid g (lent (now (list .entry)) (now (first .entry)) (now (second .entry)) (now (third .entry)) (now (own2 .entry)) (now (own3 .entry))) addr) ⌝ }
 {
     let p1 = g.p1;
     let p2 = g.p2;
@@ -75,20 +70,34 @@ pub fn find(
         return leaf(v1, 1);
     }
     if !opens(v1, own2.len()) {
-        return Found::Refused(5);
+        return 5;
     }
     let v2 = cell(second, own2.len(), v1, p2 - p1, addr >> (32 - p2));
     if 32768 <= v2 {
         return leaf(v2, 2);
     }
     if !opens(v2, own3.len()) {
-        return Found::Refused(5);
+        return 5;
     }
     let v3 = cell(third, own3.len(), v2, 32 - p2, addr);
     if 32768 <= v3 {
         return leaf(v3, 3);
     }
-    Found::Refused(5)
+    5
+}
+
+// What a word says.
+fn said(w: u32) -> Found
+    ensures { λ r. ⌜ saysFound r ≡ saidOf w ⌝ }
+{
+    if w % 256 != 0 {
+        return Found::Refused((w % 256) as u8);
+    }
+    let n = w / 256 % 256;
+    if w / 65536 == 0 {
+        return Found::NoRoute(n);
+    }
+    Found::Hop((w / 65536) as u16, n)
 }
 
 // The hop of the longest route that covers the address, with the count of cells read.
@@ -106,7 +115,7 @@ pub fn lookup(
 {
     let s = crate::table::sizes(t, list, first, second, third, own2, own3);
     if s == 0 {
-        return find(t.geometry, list, first, second, third, own2, own3, addr);
+        return said(walk(t.geometry, list, first, second, third, own2, own3, addr));
     }
     Found::Refused(s)
 }

@@ -1,6 +1,6 @@
 -- `cards::images::gh_tree_lookup` meets its contract. Assumes nothing.
 use mathlib.Core.Path.{ap, _∙_}
-use Rattle.cards.specs.Pack.{packFound}
+use Rattle.sail.specs.Word.{packFound}
 use borrow.Author.Needs.{needs}
 use Rattle.cards.proofs.images.gh_tree_lookup.Statement.{statement}
 use Rattle.cards.proofs.images.gh_tree_lookup.Tie as tie

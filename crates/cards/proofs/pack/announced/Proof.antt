@@ -3,7 +3,8 @@ use mathlib.Core.Path.{ap}
 use native.Mathlib.Omega.{arith}
 use Rattle.sail_calls.specs.Answers.{saysAnnounce}
 use Rattle.sail_calls.specs.declared.answers.Announce.{Announce}
-use Rattle.cards.specs.Pack.{packChange, packed}
+use Rattle.sail.specs.Word.{packed}
+use Rattle.cards.specs.Pack.{packChange}
 use borrow.Author.Needs.{needs}
 use Rattle.cards.proofs.pack.announced.Statement.{statement}
 use Rattle.cards.proofs.pack.announced.Tie as tie

@@ -3,7 +3,8 @@ use mathlib.Core.Path.{ap}
 use native.Mathlib.Omega.{arith}
 use Rattle.tree_build.specs.Built.{saysBuilt}
 use Rattle.tree_build.specs.declared.Built.{Built}
-use Rattle.cards.specs.Pack.{packBuilt, packed}
+use Rattle.sail.specs.Word.{packed}
+use Rattle.cards.specs.Pack.{packBuilt}
 use borrow.Author.Needs.{needs}
 use Rattle.cards.proofs.pack.built.Statement.{statement}
 use Rattle.cards.proofs.pack.built.Tie as tie

@@ -3,7 +3,8 @@ use mathlib.Core.Path.{ap}
 use native.Mathlib.Omega.{arith}
 use Rattle.routes.specs.Answers.{saysGot}
 use Rattle.routes.specs.declared.input.Got.{Got}
-use Rattle.cards.specs.Pack.{packRoute, packed}
+use Rattle.sail.specs.Word.{packed}
+use Rattle.cards.specs.Pack.{packRoute}
 use borrow.Author.Needs.{needs}
 use Rattle.cards.proofs.pack.got.Statement.{statement}
 use Rattle.cards.proofs.pack.got.Tie as tie

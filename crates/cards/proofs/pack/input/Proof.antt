@@ -3,7 +3,8 @@ use mathlib.Core.Path.{ap}
 use native.Mathlib.Omega.{arith}
 use Rattle.routes.specs.Answers.{saysInput}
 use Rattle.routes.specs.declared.input.Input.{Input}
-use Rattle.cards.specs.Pack.{packNone, packed}
+use Rattle.sail.specs.Word.{packed}
+use Rattle.cards.specs.Pack.{packNone}
 use borrow.Author.Needs.{needs}
 use Rattle.cards.proofs.pack.input.Statement.{statement}
 use Rattle.cards.proofs.pack.input.Tie as tie

@@ -3,7 +3,8 @@ use mathlib.Core.Path.{ap}
 use native.Mathlib.Omega.{arith}
 use Rattle.sail_load.specs.Answers.{saysLoaded}
 use Rattle.sail_load.specs.declared.load.Loaded.{Loaded}
-use Rattle.cards.specs.Pack.{packChange, packed}
+use Rattle.sail.specs.Word.{packed}
+use Rattle.cards.specs.Pack.{packChange}
 use borrow.Author.Needs.{needs}
 use Rattle.cards.proofs.pack.loaded.Statement.{statement}
 use Rattle.cards.proofs.pack.loaded.Tie as tie

@@ -3,7 +3,8 @@ use mathlib.Core.Path.{ap}
 use native.Mathlib.Omega.{arith}
 use Rattle.sail_sound.specs.Report.{saysReported}
 use Rattle.sail_sound.specs.declared.report.Reported.{Reported}
-use Rattle.cards.specs.Pack.{packReport, packed}
+use Rattle.sail.specs.Word.{packed}
+use Rattle.cards.specs.Pack.{packReport}
 use Rattle.cards.proofs.Laws.{report-packs}
 use borrow.Author.Needs.{needs}
 use Rattle.cards.proofs.pack.reported.Statement.{statement}

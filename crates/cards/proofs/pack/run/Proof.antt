@@ -3,7 +3,8 @@ use mathlib.Core.Path.{ap}
 use native.Mathlib.Omega.{arith}
 use Rattle.lists.specs.Run.{saysRunCheck}
 use Rattle.lists.specs.declared.run.RunCheck.{RunCheck}
-use Rattle.cards.specs.Pack.{packRun, packed}
+use Rattle.sail.specs.Word.{packed}
+use Rattle.cards.specs.Pack.{packRun}
 use borrow.Author.Needs.{needs}
 use Rattle.cards.proofs.pack.run.Statement.{statement}
 use Rattle.cards.proofs.pack.run.Tie as tie

@@ -3,7 +3,7 @@ use mathlib.Core.Path.{ap}
 use native.Mathlib.Omega.{arith}
 use Rattle.tree.specs.Walk.{saysTreeFound}
 use Rattle.tree.specs.declared.TreeFound.{TreeFound}
-use Rattle.cards.specs.Pack.{packFound, packed}
+use Rattle.sail.specs.Word.{packFound, packed}
 use borrow.Author.Needs.{needs}
 use Rattle.cards.proofs.pack.tree_found.Statement.{statement}
 use Rattle.cards.proofs.pack.tree_found.Tie as tie

@@ -3,7 +3,8 @@ use mathlib.Core.Path.{ap}
 use native.Mathlib.Omega.{arith}
 use Rattle.sail_calls.specs.Answers.{saysWithdraw}
 use Rattle.sail_calls.specs.declared.answers.Withdraw.{Withdraw}
-use Rattle.cards.specs.Pack.{packChange, packed}
+use Rattle.sail.specs.Word.{packed}
+use Rattle.cards.specs.Pack.{packChange}
 use borrow.Author.Needs.{needs}
 use Rattle.cards.proofs.pack.withdrawn.Statement.{statement}
 use Rattle.cards.proofs.pack.withdrawn.Tie as tie

@@ -1,7 +1,7 @@
 -- `sail::lookup::lookup` meets its contract. Assumes nothing.
 use borrow.Author.Needs.{needs}
 use Rattle.sail.specs.Walk.{saysFound}
-use Rattle.sail.proofs.Steps.{look-on, look-not}
+use Rattle.sail.proofs.Steps.{look-found, look-not}
 use Rattle.sail.proofs.lookup.lookup.Statement.{statement}
 use Rattle.sail.proofs.lookup.lookup.Tie as tie
 
@@ -12,5 +12,6 @@ lookup-spec =
     (tie.spec
     (λ c κs. search needs)
     (λ c κs. c .before .sizes .ensures .facts (c .if1 .taken))
-    (λ c. search look-on)
+    (λ c κs. search needs)
+    (λ c. search look-found)
     (λ c. search look-not))

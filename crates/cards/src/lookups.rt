@@ -1,0 +1,120 @@
+// Lookups. The walk answers with the number itself, so nothing is packed after it.
+ghost use mathlib.Core.Path.{_≡_};
+ghost use Rattle.sail.specs.Lent.{lent};
+ghost use Rattle.sail.specs.Walk.{lookupSaid};
+ghost use Rattle.sail.specs.Word.{packFound};
+ghost use Rattle.cards.specs.Cards.{tableOf, wordsCard, manyCard};
+use sail::geometry::Geometry;
+use sail::lookup::walk;
+use sail::table::Table;
+use sail::table::sizes;
+
+// One lookup.
+fn look(
+    t: Table,
+    list: &[u8],
+    first: &[u16],
+    second: &[u16],
+    third: &[u16],
+    own2: &[u32],
+    own3: &[u32],
+    addr: u32,
+) -> u64
+    ensures { λ r. ⌜ r ≡ packFound (lookupSaid t (lent (now (list .entry)) (now (first .entry)) (now (second .entry)) (now (third .entry)) (now (own2 .entry)) (now (own3 .entry))) addr) ⌝ }
+{
+    let z = sizes(t, list, first, second, third, own2, own3);
+    if z != 0 {
+        return z as u64;
+    }
+    walk(t.geometry, list, first, second, third, own2, own3, addr) as u64
+}
+
+// The hop for one address, with the count of cells read.
+#[no_mangle]
+pub extern "C" fn gh_lookup(
+    p1: u32,
+    p2: u32,
+    count: u32,
+    list: &[u8],
+    first: &[u16],
+    second: &[u16],
+    third: &[u16],
+    own2: &[u32],
+    own3: &[u32],
+    addr: u32,
+) -> u64
+    ensures { λ r. ⌜ r ≡ packFound (lookupSaid (tableOf p1 p2 count) (lent (now (list .entry)) (now (first .entry)) (now (second .entry)) (now (third .entry)) (now (own2 .entry)) (now (own3 .entry))) addr) ⌝ }
+{
+    let geometry = Geometry { p1, p2 };
+    look(
+        Table { geometry, count },
+        list,
+        first,
+        second,
+        third,
+        own2,
+        own3,
+        addr,
+    )
+}
+
+// Many lookups with one check of geometry and sizes.
+fn look_each(
+    t: Table,
+    list: &[u8],
+    first: &[u16],
+    second: &[u16],
+    third: &[u16],
+    own2: &[u32],
+    own3: &[u32],
+    addrs: &[u32],
+    out: &mut [u32],
+) -> u64
+    ensures { λ r. ⌜ wordsCard r (now (out .exit)) ≡ manyCard t (lent (now (list .entry)) (now (first .entry)) (now (second .entry)) (now (third .entry)) (now (own2 .entry)) (now (own3 .entry))) (now (addrs .entry)) (now (out .entry)) ⌝ }
+{
+    let geometry = t.geometry;
+    let z = sizes(t, list, first, second, third, own2, own3);
+    if z != 0 {
+        return z as u64;
+    }
+    if out.len() != addrs.len() {
+        return 2;
+    }
+    let mut i = 0;
+    while i < addrs.len() {
+        out[i] = walk(geometry, list, first, second, third, own2, own3, addrs[i]);
+        i += 1;
+    }
+    0
+}
+
+// For each address the low 32 bits of what gh_lookup answers. Geometry and sizes are checked once.
+#[no_mangle]
+pub extern "C" fn gh_lookup_many(
+    p1: u32,
+    p2: u32,
+    count: u32,
+    list: &[u8],
+    first: &[u16],
+    second: &[u16],
+    third: &[u16],
+    own2: &[u32],
+    own3: &[u32],
+    addrs: &[u32],
+    out: &mut [u32],
+) -> u64
+    ensures { λ r. ⌜ wordsCard r (now (out .exit)) ≡ manyCard (tableOf p1 p2 count) (lent (now (list .entry)) (now (first .entry)) (now (second .entry)) (now (third .entry)) (now (own2 .entry)) (now (own3 .entry))) (now (addrs .entry)) (now (out .entry)) ⌝ }
+{
+    let geometry = Geometry { p1, p2 };
+    look_each(
+        Table { geometry, count },
+        list,
+        first,
+        second,
+        third,
+        own2,
+        own3,
+        addrs,
+        out,
+    )
+}

@@ -1,0 +1,17 @@
+-- `sail::lookup::said` meets its contract. Assumes nothing.
+use borrow.Author.Needs.{needs}
+use Rattle.sail.specs.Walk.{saysFound}
+use Rattle.sail.proofs.Words.{says-number, says-none, says-hop}
+use Rattle.sail.proofs.lookup.said.Statement.{statement}
+use Rattle.sail.proofs.lookup.said.Tie as tie
+
+pub said-spec : {M : Type 1} → statement M
+unfolding saysFound
+said-spec =
+    tie.close
+    (tie.spec
+    (λ c. search needs)
+    (λ c. search says-number)
+    (λ c. search says-none)
+    (λ c. search needs)
+    (λ c. search says-hop))
