@@ -29,6 +29,35 @@ fn look(
     walk(t.geometry, list, first, second, third, own2, own3, addr) as u64
 }
 
+// The same at the standard geometry, whose shifts the compiler then knows.
+fn look_standard(
+    count: u32,
+    list: &[u8],
+    first: &[u16],
+    second: &[u16],
+    third: &[u16],
+    own2: &[u32],
+    own3: &[u32],
+    addr: u32,
+) -> u64
+    ensures { λ r. ⌜ r ≡ packFound (lookupSaid (tableOf 16 24 count) (lent (now (list .entry)) (now (first .entry)) (now (second .entry)) (now (third .entry)) (now (own2 .entry)) (now (own3 .entry))) addr) ⌝ }
+{
+    let geometry = Geometry { p1: 16, p2: 24 };
+    let z = sizes(
+        Table { geometry, count },
+        list,
+        first,
+        second,
+        third,
+        own2,
+        own3,
+    );
+    if z != 0 {
+        return z as u64;
+    }
+    walk(geometry, list, first, second, third, own2, own3, addr) as u64
+}
+
 // The hop for one address, with the count of cells read.
 #[no_mangle]
 pub extern "C" fn gh_lookup(
@@ -45,6 +74,11 @@ pub extern "C" fn gh_lookup(
 ) -> u64
     ensures { λ r. ⌜ r ≡ packFound (lookupSaid (tableOf p1 p2 count) (lent (now (list .entry)) (now (first .entry)) (now (second .entry)) (now (third .entry)) (now (own2 .entry)) (now (own3 .entry))) addr) ⌝ }
 {
+    if p1 == 16 {
+        if p2 == 24 {
+            return look_standard(count, list, first, second, third, own2, own3, addr);
+        }
+    }
     let geometry = Geometry { p1, p2 };
     look(
         Table { geometry, count },
