@@ -100,6 +100,15 @@ fn routes(rng: &mut Rng) -> Vec<Route> {
     routes
 }
 
+/// 4,096 routes longer than 24 bits, each alone under its first 16: every one needs a chunk of its own in both pools.
+fn scattered(rng: &mut Rng) -> Vec<Route> {
+    let mut one = |k: u32| {
+        let len = 25 + rng.below(8) as u8;
+        (cut(k << 20 | rng.word() >> 12, len), len, 1 + rng.below(64) as u16)
+    };
+    (0..ROUTES as u32).map(&mut one).collect()
+}
+
 fn records(routes: &[Route]) -> Vec<u8> {
     let mut input = Vec::new();
     for &(addr, len, hop) in routes {
@@ -328,8 +337,8 @@ fn changes(rounds: usize, table: &mut Table, input: &[u8], fresh: &[Route]) {
         contender(LOAD, || shared.borrow_mut().0.load(black_box(input))),
     ];
     measure(rounds, 1, "us", false, &mut contenders);
-    for one in [REPORT, ANNOUNCE, REPLACE, WITHDRAW, LOAD] {
-        ratio(&contenders, one, READ, None);
+    for (one, limit) in [(REPORT, 4.0), (ANNOUNCE, 6.0), (REPLACE, 6.0), (WITHDRAW, 6.0), (LOAD, 10.0)] {
+        ratio(&contenders, one, READ, Some(limit));
     }
 }
 
@@ -344,11 +353,6 @@ fn main() {
     };
     let mut rng = Rng(20_240_601);
     let all = routes(&mut rng);
-    // Some routes are kept back, to be announced and withdrawn.
-    let (mut standing, mut fresh) = (Vec::new(), Vec::new());
-    for (k, &r) in all.iter().enumerate() {
-        if k % 64 == 5 && r.1 <= 24 { &mut fresh } else { &mut standing }.push(r);
-    }
     let input = records(&all);
     let mut table = Table::new(16, 24, ROUTES, 4096, 256);
     table.load(&input);
@@ -373,12 +377,22 @@ fn main() {
     }
 
     println!("\nchanges, time for one call");
+    change_table(rounds, &all, 4096, 256);
+    println!("\nchanges, pools of just the need");
+    change_table(rounds, &all, (report >> 32 & 0xFFFF) as usize, (report >> 48) as usize);
+    println!("\nchanges, the largest table, all chunks in use");
+    change_table(rounds, &scattered(&mut rng), 4096, 4096);
+}
+
+/// The changes over a table with pools of so many chunks. Some routes are kept back, to be announced and withdrawn.
+fn change_table(rounds: usize, all: &[Route], second: usize, third: usize) {
+    let (mut standing, mut fresh) = (Vec::new(), Vec::new());
+    for (k, &r) in all.iter().enumerate() {
+        if k % 64 == 5 { &mut fresh } else { &mut standing }.push(r);
+    }
     let input = records(&standing);
+    let mut table = Table::new(16, 24, ROUTES, second, third);
     table.load(&input);
+    println!("{} routes and one more, {} bytes lent", standing.len(), table.bytes());
     changes(4 * rounds, &mut table, &input, &fresh);
-    // The pools as small as the routes allow: what is lent is then what is used.
-    let mut tight = Table::new(16, 24, ROUTES, (report >> 32 & 0xFFFF) as usize, (report >> 48) as usize);
-    tight.load(&input);
-    println!("\nchanges, pools of just the need, {} bytes lent", tight.bytes());
-    changes(4 * rounds, &mut tight, &input, &fresh);
 }
