@@ -26,10 +26,10 @@ use Rattle.sail_theory.specs.Calls.{orSay, made, loaded, announced, withdrawn, 
 use Rattle.tree.specs.Walk.{treeSaid}
 use Rattle.tree_build.specs.Built.{built}
 use Rattle.sail.specs.Word.{packFound}
-use Rattle.cards.specs.Pack.{packReport, packRun, packNone, packRoute}
-use Rattle.cards.specs.Unpack.{refusalOf, unpacked, noValues, unpackFound, unpackReport, unpackBuilt, unpackRun, unpackRoute, unpackAnnounce, unpackDone, unpackNone, countOf, Cells}
+use Rattle.packing.specs.Pack.{packReport, packRun, packNone, packRoute}
+use Rattle.packing.specs.Unpack.{refusalOf, unpacked, noValues, unpackFound, unpackReport, unpackBuilt, unpackRun, unpackRoute, unpackAnnounce, unpackDone, unpackNone, countOf, Cells}
 use Rattle.cards.specs.Cards.{cardOf, imageCardOf, wordsCard, tallyCard, lowFound, manyCard}
-use Rattle.cards.proofs.Unpacks.{found-read, report-read, built-read, run-read, route-read, announce-read, done-read, none-read, announce-count, done-count, found-low}
+use Rattle.packing.proofs.Unpacks.{found-read, report-read, built-read, run-read, route-read, announce-read, done-read, none-read, announce-count, done-count, found-low}
 use Rattle.cards.proofs.Fits.{input-fits, run-fits, route-fits, built-fits, tree-fits, lookup-fits, report-fits, make-few, make-fits, load-few, load-fits, announce-few, announce-fits, withdraw-few, withdraw-fits}
 
 -- Tables.

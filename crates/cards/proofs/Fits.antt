@@ -40,7 +40,7 @@ use Rattle.demands.proofs.Inputs.{check-only, BadInput, GoodInput, RunChecked, 
 use Rattle.demands.proofs.Lookups.{v1, v2, v3, Lookup, lookup-judged}
 use Rattle.demands.proofs.Builds.{Build, build-judged}
 use Rattle.demands.proofs.Walks.{Fetched, Walked, tree-judged}
-use Rattle.cards.specs.Unpack.{Fits, FoundFits, ReportFits, BuiltFits, RunFits, RouteFits, AnnounceFits, DoneFits, Cells}
+use Rattle.packing.specs.Unpack.{Fits, FoundFits, ReportFits, BuiltFits, RunFits, RouteFits, AnnounceFits, DoneFits, Cells}
 
 -- 1 and 2
 sizing-fits : {most : ℕ} {P : List ℕ → Type 0} {t : Table} {l : Lent} {n : ℕ} → Sizing t l n → Fits most P (refused n)

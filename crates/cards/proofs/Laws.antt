@@ -21,13 +21,10 @@ use Rattle.sail.specs.Walk.{foundSaid, lookupSaid}
 use Rattle.sail.specs.declared.geometry.Geometry.{Geometry}
 use Rattle.sail.specs.declared.table.Table.{Table}
 use Rattle.sail.proofs.Steps.{look-on, look-not}
-use Rattle.sail_sound.specs.Report.{saysReported}
-use Rattle.sail_sound.specs.declared.report.Reported.{Reported}
-use Rattle.sail_sound.specs.declared.report.Reported.the-variants.{Standing}
 use Rattle.sail_theory.specs.Calls.{Out, out}
 use Rattle.tree_build.specs.Built as tree
 use Rattle.sail.specs.Word.{packed, packFound, Word}
-use Rattle.cards.specs.Pack.{packReport, packChange, packBuilt, packNone}
+use Rattle.packing.specs.Pack.{packChange, packBuilt, packNone}
 use Rattle.cards.specs.Cards.{card, cardOf, imageCard, imageCardOf, wordsCard, tallyCard, tableOf, manyCard}
 
 pub card-is : (s : Said) (t : Table) (l : Lent) (o : Out) (r : ℕ) → out s t l ≡ o → r ≡ packChange (t .count) s → card r l ≡ cardOf o
@@ -100,13 +97,6 @@ module _ (s xs : List ℕ) where
       rw (eq-eqb (length xs) 33 n)
       (ap (λ (x : ℕ). wordsCard x ys) (q ∙ ap packNone (is .answered))
       ∙ ap (wordsCard (packNone (inputSaid s))) (ext-getD 0 ys (t .counts) (m ∙ sym c) (λ k b. h k (omega arith)) ∙ is .counted))
-
--- a report's three values, each narrowed
-pub report-packs : (a : Reported) (n s t w1 w2 w3 l1 l2 l3 : ℕ) → a ≡ Standing n s t → w1 ≡ n → l1 ≡ w1 % 65536 → w2 ≡ s → l2 ≡ w2 % 65536
-    → w3 ≡ t → l3 ≡ w3 % 65536 → l1 * 65536 + l2 * 4294967296 + l3 * 281474976710656 ≡ packReport (saysReported a)
-unfolding saysReported packed
-report-packs a n s t w1 w2 w3 l1 l2 l3 e p1 q1 p2 q2 p3 q3 =
-    rw (q1, q2, q3, p1, p2, p3) (sym (ap (λ (x : Reported). packReport (saysReported x)) e))
 
 -- there are 33 counts, also where the input is refused
 cond-length : (b : Bool) (xs ys : List ℕ) (n : ℕ) → length xs ≡ n → length ys ≡ n → length (cond b xs ys) ≡ n

@@ -1,5 +1,4 @@
--- Laws of packed answers, and of loops that store one word a turn; and that a packed answer is read back.
+-- Laws of the exported calls; what they say fits their numbers, and is read back.
 mod Laws
-pub mod Unpacks
 pub mod Fits
 pub mod Boundary

@@ -14,7 +14,7 @@ use Rattle.sail.specs.declared.table.Table.{Table}
 use Rattle.sail_theory.specs.Calls.{Out}
 use Rattle.tree_build.specs.Built as tree
 use Rattle.sail.specs.Word.{packFound}
-use Rattle.cards.specs.Pack.{packChange, packBuilt, packNone}
+use Rattle.packing.specs.Pack.{packChange, packBuilt, packNone}
 
 -- the state, from the three numbers that stand for it
 abbrev pub tableOf : ℕ → ℕ → ℕ → Table

@@ -1,4 +1,2 @@
--- How answers are packed into one number and read out of it, and what each exported call answers and leaves.
-pub mod Pack
-pub mod Unpack
+-- What each exported call answers and leaves.
 pub mod Cards

@@ -2,16 +2,15 @@
 ghost use mathlib.Core.Path.{_≡_};
 ghost use Rattle.routes.specs.Answers.{routeSaid};
 ghost use Rattle.lists.specs.Run.{runSaid};
-ghost use Rattle.cards.specs.Pack.{packRun, packRoute};
+ghost use Rattle.packing.specs.Pack.{packRun, packRoute};
 ghost use Rattle.cards.specs.Cards.{wordsCard, tallyCard};
-use crate::pack;
 
 // The run under a prefix, as its first record and its number of records.
 #[no_mangle]
 pub extern "C" fn gh_run(input: &[u8], addr: u32, len: u8) -> u64
     ensures { λ r. ⌜ r ≡ packRun (runSaid (now (input .entry)) addr len) ⌝ }
 {
-    pack::run(lists::run::run_check(input, addr, len))
+    packing::run(lists::run::run_check(input, addr, len))
 }
 
 // One route of the input, read back.
@@ -19,7 +18,7 @@ pub extern "C" fn gh_run(input: &[u8], addr: u32, len: u8) -> u64
 pub extern "C" fn gh_route(input: &[u8], index: u32) -> u64
     ensures { λ r. ⌜ r ≡ packRoute (routeSaid (now (input .entry)) index) ⌝ }
 {
-    pack::got(routes::input::route_at(input, index as usize))
+    packing::got(routes::input::route_at(input, index as usize))
 }
 
 // The number of routes of each length, into 33 words.
@@ -38,5 +37,5 @@ pub extern "C" fn gh_tally(input: &[u8], out: &mut [u32]) -> u64
         out[k] = counts[k];
         k += 1;
     }
-    pack::input(answer)
+    packing::input(answer)
 }

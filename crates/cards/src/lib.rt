@@ -2,5 +2,4 @@
 pub mod images;
 pub mod inputs;
 pub mod lookups;
-pub mod pack;
 pub mod tables;

@@ -2,9 +2,8 @@
 ghost use mathlib.Core.Path.{_≡_};
 ghost use Rattle.sail.specs.Lent.{lent};
 ghost use Rattle.sail_theory.specs.Calls.{made, loaded, announced, withdrawn, reported};
-ghost use Rattle.cards.specs.Pack.{packReport};
+ghost use Rattle.packing.specs.Pack.{packReport};
 ghost use Rattle.cards.specs.Cards.{tableOf, card, cardOf};
-use crate::pack;
 use sail::geometry::Geometry;
 use sail::table::Table;
 
@@ -35,7 +34,7 @@ pub extern "C" fn gh_make(
     let t = c.table;
     let n = t.count;
     let a = c.answer;
-    pack::made(a, n)
+    packing::made(a, n)
 }
 
 // A table of the input's routes; nothing of the old one is read.
@@ -67,7 +66,7 @@ pub extern "C" fn gh_load(
     let t = c.table;
     let n = t.count;
     let a = c.answer;
-    pack::loaded(a, n)
+    packing::loaded(a, n)
 }
 
 // A route is added to the table, or replaces the hop of its prefix.
@@ -104,7 +103,7 @@ pub extern "C" fn gh_announce(
     let t = c.table;
     let n = t.count;
     let a = c.answer;
-    pack::announced(a, n)
+    packing::announced(a, n)
 }
 
 // A route is taken out of the table.
@@ -139,7 +138,7 @@ pub extern "C" fn gh_withdraw(
     let t = c.table;
     let n = t.count;
     let a = c.answer;
-    pack::withdrawn(a, n)
+    packing::withdrawn(a, n)
 }
 
 // The route count and both needs.
@@ -158,7 +157,7 @@ pub extern "C" fn gh_report(
     ensures { λ r. ⌜ r ≡ packReport (reported (tableOf p1 p2 count) (lent (now (list .entry)) (now (first .entry)) (now (second .entry)) (now (third .entry)) (now (own2 .entry)) (now (own3 .entry)))) ⌝ }
 {
     let geometry = Geometry { p1, p2 };
-    pack::reported(sail_sound::report::report(
+    packing::reported(sail_sound::report::report(
         Table { geometry, count },
         list,
         first,

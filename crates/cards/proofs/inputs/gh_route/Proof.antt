@@ -1,6 +1,6 @@
 -- `cards::inputs::gh_route` meets its contract. Assumes nothing.
 use mathlib.Core.Path.{ap, _∙_}
-use Rattle.cards.specs.Pack.{packRoute}
+use Rattle.packing.specs.Pack.{packRoute}
 use borrow.Author.Needs.{needs}
 use Rattle.cards.proofs.inputs.gh_route.Statement.{statement}
 use Rattle.cards.proofs.inputs.gh_route.Tie as tie

@@ -1,6 +1,6 @@
 -- `cards::inputs::gh_run` meets its contract. Assumes nothing.
 use mathlib.Core.Path.{ap, _∙_}
-use Rattle.cards.specs.Pack.{packRun}
+use Rattle.packing.specs.Pack.{packRun}
 use borrow.Author.Needs.{needs}
 use Rattle.cards.proofs.inputs.gh_run.Statement.{statement}
 use Rattle.cards.proofs.inputs.gh_run.Tie as tie

@@ -1,6 +1,6 @@
 -- `cards::tables::gh_report` meets its contract. Assumes nothing.
 use mathlib.Core.Path.{ap, _∙_}
-use Rattle.cards.specs.Pack.{packReport}
+use Rattle.packing.specs.Pack.{packReport}
 use borrow.Author.Needs.{needs}
 use Rattle.cards.proofs.tables.gh_report.Statement.{statement}
 use Rattle.cards.proofs.tables.gh_report.Tie as tie

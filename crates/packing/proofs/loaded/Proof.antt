@@ -1,13 +1,13 @@
--- `cards::pack::loaded` meets its contract. Assumes nothing.
+-- `packing::loaded` meets its contract. Assumes nothing.
 use mathlib.Core.Path.{ap}
 use native.Mathlib.Omega.{arith}
 use Rattle.sail_load.specs.Answers.{saysLoaded}
 use Rattle.sail_load.specs.declared.load.Loaded.{Loaded}
 use Rattle.sail.specs.Word.{packed}
-use Rattle.cards.specs.Pack.{packChange}
+use Rattle.packing.specs.Pack.{packChange}
 use borrow.Author.Needs.{needs}
-use Rattle.cards.proofs.pack.loaded.Statement.{statement}
-use Rattle.cards.proofs.pack.loaded.Tie as tie
+use Rattle.packing.proofs.loaded.Statement.{statement}
+use Rattle.packing.proofs.loaded.Tie as tie
 
 pub loaded-spec : {M : Type 1} → statement M
 unfolding saysLoaded packed

@@ -10,8 +10,8 @@ use lib.Arith.{digits-div, digits-mod}
 use borrow.Author.Tests.{eq-eqb, ne-eqb}
 use Rattle.routes.specs.Said.{Said, accepted, refused, refusedAt, andThen, accepts}
 use Rattle.sail.specs.Word.{packed, value, packFound}
-use Rattle.cards.specs.Pack.{packReport, packChange, packBuilt, packRun, packNone, packRoute}
-use Rattle.cards.specs.Unpack.{field, refusalOf, unpacked, foundValues, unpackFound, reportValues, unpackReport, builtValues, unpackBuilt, runValues, unpackRun, routeValues, unpackRoute, announceValues, unpackAnnounce, noValues, unpackDone, unpackNone, countOf, Fits, FoundFits, ReportFits, BuiltFits, RunFits, RouteFits, AnnounceFits, DoneFits}
+use Rattle.packing.specs.Pack.{packReport, packChange, packBuilt, packRun, packNone, packRoute}
+use Rattle.packing.specs.Unpack.{field, refusalOf, unpacked, foundValues, unpackFound, reportValues, unpackReport, builtValues, unpackBuilt, runValues, unpackRun, routeValues, unpackRoute, announceValues, unpackAnnounce, noValues, unpackDone, unpackNone, countOf, Fits, FoundFits, ReportFits, BuiltFits, RunFits, RouteFits, AnnounceFits, DoneFits}
 
 -- A field is read whatever stands below it and above it. (Most of those below `omega` does by itself; the highest fields it does not.)
 field-is : (low width below v above x : ℕ) → below < 2 ^ low → v < 2 ^ width → x ≡ (above * 2 ^ width + v) * 2 ^ low + below → field low width x ≡ v

@@ -1,13 +1,13 @@
--- `cards::pack::input` meets its contract. Assumes nothing.
+-- `packing::input` meets its contract. Assumes nothing.
 use mathlib.Core.Path.{ap}
 use native.Mathlib.Omega.{arith}
 use Rattle.routes.specs.Answers.{saysInput}
 use Rattle.routes.specs.declared.input.Input.{Input}
 use Rattle.sail.specs.Word.{packed}
-use Rattle.cards.specs.Pack.{packNone}
+use Rattle.packing.specs.Pack.{packNone}
 use borrow.Author.Needs.{needs}
-use Rattle.cards.proofs.pack.input.Statement.{statement}
-use Rattle.cards.proofs.pack.input.Tie as tie
+use Rattle.packing.proofs.input.Statement.{statement}
+use Rattle.packing.proofs.input.Tie as tie
 
 pub input-spec : {M : Type 1} → statement M
 unfolding saysInput packed

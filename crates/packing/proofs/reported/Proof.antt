@@ -1,14 +1,14 @@
--- `cards::pack::reported` meets its contract. Assumes nothing.
+-- `packing::reported` meets its contract. Assumes nothing.
 use mathlib.Core.Path.{ap}
 use native.Mathlib.Omega.{arith}
 use Rattle.sail_sound.specs.Report.{saysReported}
 use Rattle.sail_sound.specs.declared.report.Reported.{Reported}
 use Rattle.sail.specs.Word.{packed}
-use Rattle.cards.specs.Pack.{packReport}
-use Rattle.cards.proofs.Laws.{report-packs}
+use Rattle.packing.specs.Pack.{packReport}
+use Rattle.packing.proofs.Reports.{report-packs}
 use borrow.Author.Needs.{needs}
-use Rattle.cards.proofs.pack.reported.Statement.{statement}
-use Rattle.cards.proofs.pack.reported.Tie as tie
+use Rattle.packing.proofs.reported.Statement.{statement}
+use Rattle.packing.proofs.reported.Tie as tie
 
 pub reported-spec : {M : Type 1} → statement M
 unfolding saysReported packed

@@ -1,13 +1,13 @@
--- `cards::pack::built` meets its contract. Assumes nothing.
+-- `packing::built` meets its contract. Assumes nothing.
 use mathlib.Core.Path.{ap}
 use native.Mathlib.Omega.{arith}
 use Rattle.tree_build.specs.Built.{saysBuilt}
 use Rattle.tree_build.specs.declared.Built.{Built}
 use Rattle.sail.specs.Word.{packed}
-use Rattle.cards.specs.Pack.{packBuilt}
+use Rattle.packing.specs.Pack.{packBuilt}
 use borrow.Author.Needs.{needs}
-use Rattle.cards.proofs.pack.built.Statement.{statement}
-use Rattle.cards.proofs.pack.built.Tie as tie
+use Rattle.packing.proofs.built.Statement.{statement}
+use Rattle.packing.proofs.built.Tie as tie
 
 pub built-spec : {M : Type 1} → statement M
 unfolding saysBuilt packed

@@ -1,13 +1,13 @@
--- `cards::pack::run` meets its contract. Assumes nothing.
+-- `packing::run` meets its contract. Assumes nothing.
 use mathlib.Core.Path.{ap}
 use native.Mathlib.Omega.{arith}
 use Rattle.lists.specs.Run.{saysRunCheck}
 use Rattle.lists.specs.declared.run.RunCheck.{RunCheck}
 use Rattle.sail.specs.Word.{packed}
-use Rattle.cards.specs.Pack.{packRun}
+use Rattle.packing.specs.Pack.{packRun}
 use borrow.Author.Needs.{needs}
-use Rattle.cards.proofs.pack.run.Statement.{statement}
-use Rattle.cards.proofs.pack.run.Tie as tie
+use Rattle.packing.proofs.run.Statement.{statement}
+use Rattle.packing.proofs.run.Tie as tie
 
 pub run-spec : {M : Type 1} → statement M
 unfolding saysRunCheck packed

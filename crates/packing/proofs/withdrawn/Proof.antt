@@ -1,13 +1,13 @@
--- `cards::pack::withdrawn` meets its contract. Assumes nothing.
+-- `packing::withdrawn` meets its contract. Assumes nothing.
 use mathlib.Core.Path.{ap}
 use native.Mathlib.Omega.{arith}
 use Rattle.sail_calls.specs.Answers.{saysWithdraw}
 use Rattle.sail_calls.specs.declared.answers.Withdraw.{Withdraw}
 use Rattle.sail.specs.Word.{packed}
-use Rattle.cards.specs.Pack.{packChange}
+use Rattle.packing.specs.Pack.{packChange}
 use borrow.Author.Needs.{needs}
-use Rattle.cards.proofs.pack.withdrawn.Statement.{statement}
-use Rattle.cards.proofs.pack.withdrawn.Tie as tie
+use Rattle.packing.proofs.withdrawn.Statement.{statement}
+use Rattle.packing.proofs.withdrawn.Tie as tie
 
 pub withdrawn-spec : {M : Type 1} → statement M
 unfolding saysWithdraw packed

@@ -1,13 +1,13 @@
--- `cards::pack::announced` meets its contract. Assumes nothing.
+-- `packing::announced` meets its contract. Assumes nothing.
 use mathlib.Core.Path.{ap}
 use native.Mathlib.Omega.{arith}
 use Rattle.sail_calls.specs.Answers.{saysAnnounce}
 use Rattle.sail_calls.specs.declared.answers.Announce.{Announce}
 use Rattle.sail.specs.Word.{packed}
-use Rattle.cards.specs.Pack.{packChange}
+use Rattle.packing.specs.Pack.{packChange}
 use borrow.Author.Needs.{needs}
-use Rattle.cards.proofs.pack.announced.Statement.{statement}
-use Rattle.cards.proofs.pack.announced.Tie as tie
+use Rattle.packing.proofs.announced.Statement.{statement}
+use Rattle.packing.proofs.announced.Tie as tie
 
 pub announced-spec : {M : Type 1} → statement M
 unfolding saysAnnounce packed

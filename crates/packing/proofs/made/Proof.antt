@@ -1,13 +1,13 @@
--- `cards::pack::made` meets its contract. Assumes nothing.
+-- `packing::made` meets its contract. Assumes nothing.
 use mathlib.Core.Path.{ap}
 use native.Mathlib.Omega.{arith}
 use Rattle.sail_load.specs.Answers.{saysMade}
 use Rattle.sail_load.specs.declared.make.Made.{Made}
 use Rattle.sail.specs.Word.{packed}
-use Rattle.cards.specs.Pack.{packChange}
+use Rattle.packing.specs.Pack.{packChange}
 use borrow.Author.Needs.{needs}
-use Rattle.cards.proofs.pack.made.Statement.{statement}
-use Rattle.cards.proofs.pack.made.Tie as tie
+use Rattle.packing.proofs.made.Statement.{statement}
+use Rattle.packing.proofs.made.Tie as tie
 
 pub made-spec : {M : Type 1} → statement M
 unfolding saysMade packed

@@ -9,7 +9,7 @@ ghost use Rattle.lists.specs.Run.{saysRunCheck};
 ghost use Rattle.tree.specs.Walk.{saysTreeFound};
 ghost use Rattle.tree_build.specs.Built.{saysBuilt};
 ghost use Rattle.sail.specs.Word.{packFound};
-ghost use Rattle.cards.specs.Pack.{packReport, packChange, packBuilt, packRun, packNone, packRoute};
+ghost use Rattle.packing.specs.Pack.{packReport, packChange, packBuilt, packRun, packNone, packRoute};
 use lists::run::RunCheck;
 use routes::input::Got;
 use routes::input::Input;

@@ -1,12 +1,12 @@
--- `cards::pack::tree_found` meets its contract. Assumes nothing.
+-- `packing::tree_found` meets its contract. Assumes nothing.
 use mathlib.Core.Path.{ap}
 use native.Mathlib.Omega.{arith}
 use Rattle.tree.specs.Walk.{saysTreeFound}
 use Rattle.tree.specs.declared.TreeFound.{TreeFound}
 use Rattle.sail.specs.Word.{packFound, packed}
 use borrow.Author.Needs.{needs}
-use Rattle.cards.proofs.pack.tree_found.Statement.{statement}
-use Rattle.cards.proofs.pack.tree_found.Tie as tie
+use Rattle.packing.proofs.tree_found.Statement.{statement}
+use Rattle.packing.proofs.tree_found.Tie as tie
 
 pub tree-found-spec : {M : Type 1} → statement M
 unfolding saysTreeFound packed

@@ -1,13 +1,13 @@
--- `cards::pack::got` meets its contract. Assumes nothing.
+-- `packing::got` meets its contract. Assumes nothing.
 use mathlib.Core.Path.{ap}
 use native.Mathlib.Omega.{arith}
 use Rattle.routes.specs.Answers.{saysGot}
 use Rattle.routes.specs.declared.input.Got.{Got}
 use Rattle.sail.specs.Word.{packed}
-use Rattle.cards.specs.Pack.{packRoute}
+use Rattle.packing.specs.Pack.{packRoute}
 use borrow.Author.Needs.{needs}
-use Rattle.cards.proofs.pack.got.Statement.{statement}
-use Rattle.cards.proofs.pack.got.Tie as tie
+use Rattle.packing.proofs.got.Statement.{statement}
+use Rattle.packing.proofs.got.Tie as tie
 
 pub got-spec : {M : Type 1} → statement M
 unfolding saysGot packed

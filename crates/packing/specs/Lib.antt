@@ -1,0 +1,3 @@
+-- How answers are packed into one number, and how they are read back.
+pub mod Pack
+pub mod Unpack
