@@ -8,7 +8,7 @@ use sail::table::Table;
 use sail_sound::report;
 use sail_sound::report::Reported;
 
-fn found(answer: Found) {
+pub fn found(answer: Found) {
     print::text(b"lookup");
     match answer {
         Found::Hop(h, n) => {
@@ -29,7 +29,7 @@ fn found(answer: Found) {
     print::end();
 }
 
-fn reported(answer: Reported) {
+pub fn reported(answer: Reported) {
     print::text(b"report");
     match answer {
         Reported::Standing {
@@ -67,7 +67,7 @@ fn judge(
 }
 
 // The five addresses of list A.
-fn look(
+pub fn look(
     t: Table,
     list: &[u8],
     first: &[u16],
@@ -83,7 +83,7 @@ fn look(
     found(lookup::lookup(t, list, first, second, third, own2, own3, 0xC000_0201));
 }
 
-fn standard(count: u32) -> Table {
+pub fn standard(count: u32) -> Table {
     Table {
         geometry: Geometry::STANDARD,
         count,
