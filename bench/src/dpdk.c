@@ -11,9 +11,9 @@ static struct rte_lpm *lpm;
  * failed. rte_lpm has no route of length 0: two of length 1 stand for it. */
 int ghdpdk_start(const uint32_t *addrs, const uint8_t *lens, const uint16_t *hops, size_t n)
 {
-    static char *argv[] = {"bench", "--no-huge", "-m", "512", "--no-pci", "--in-memory", "--log-level=1", NULL};
+    static char *argv[] = {"bench", "--no-huge", "-m", "512", "--no-pci", "--no-shconf", "--no-telemetry", "--log-level=1", NULL};
     struct rte_lpm_config config = {.max_rules = 8192, .number_tbl8s = 4096, .flags = 0};
-    if (rte_eal_init(7, argv) < 0)
+    if (rte_eal_init(8, argv) < 0)
         return 1;
     lpm = rte_lpm_create("bench", SOCKET_ID_ANY, &config);
     if (lpm == NULL)

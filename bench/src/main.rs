@@ -13,6 +13,7 @@ mod sys;
 
 use gh::{Image, Table};
 use hand::Dir248;
+use std::cell::RefCell;
 use std::hint::black_box;
 use std::time::Instant;
 
@@ -142,11 +143,19 @@ fn median(mut of: Vec<f64>) -> f64 {
     of[of.len() / 2]
 }
 
-/// Runs all of them in each round, and prints the time of each for one of `count` things.
-fn measure(rounds: usize, count: usize, unit: &str, contenders: &mut [Contender]) {
+/// Runs all of them in each round, and prints the time of each for one of `count` things. Where they are `apart`, that
+/// is, none changes what another sees, a round begins with another one each time, and each runs once untimed right
+/// before its timed run: so none pays for what the one before it left in the caches.
+fn measure(rounds: usize, count: usize, unit: &str, apart: bool, contenders: &mut [Contender]) {
     let scale = if unit == "ns" { 1e9 } else { 1e6 };
     for round in 0..=rounds {
-        for c in contenders.iter_mut() {
+        for k in 0..contenders.len() {
+            let begins = if apart { round } else { 0 };
+            let at = (begins + k) % contenders.len();
+            let c = &mut contenders[at];
+            if apart {
+                (c.run)();
+            }
             let begin = Instant::now();
             (c.run)();
             let time = begin.elapsed().as_secs_f64();
@@ -233,8 +242,8 @@ const TREE: &str = "gh_tree_lookup";
 const HAND_TREE: &str = "unchecked Rust tree bitmap call";
 
 fn lookups(rounds: usize, table: &Table, image: &Image, dir: &Dir248, rte: bool, addrs: &[u32]) {
-    let mut out: Vec<Vec<u32>> = vec![vec![0; addrs.len()]; 8];
     {
+        let mut out = vec![vec![0; addrs.len()]; 3];
         let (first, rest) = out.split_at_mut(1);
         let first = &mut first[0];
         table.lookup_many(addrs, first);
@@ -252,40 +261,35 @@ fn lookups(rounds: usize, table: &Table, image: &Image, dir: &Dir248, rte: bool,
                 agree(name, first, &rest[0], 16, 0xFFFF);
             }
         }
-        image.lookup_each(addrs, &mut rest[1]);
-        agree(TREE, first, &rest[1].iter().map(|x| x >> 16).collect::<Vec<_>>(), 16, 0xFFFF);
-        image.hand_each(addrs, &mut rest[2]);
-        agree(HAND_TREE, &rest[1], &rest[2], 0, u32::MAX);
+        image.lookup_each(addrs, &mut rest[0]);
+        agree(TREE, first, &rest[0].iter().map(|x| x >> 16).collect::<Vec<_>>(), 16, 0xFFFF);
+        image.hand_each(addrs, &mut rest[1]);
+        agree(HAND_TREE, &rest[0], &rest[1], 0, u32::MAX);
     }
-    let mut outs = out.iter_mut();
-    let mut next = || outs.next().unwrap();
-    let (a, b, c, d, e) = (next(), next(), next(), next(), next());
+    // All write to one array: where an array lies in memory shows in the times.
+    let out = RefCell::new(vec![0; addrs.len()]);
+    let out = || out.borrow_mut();
     let mut contenders = vec![
-        contender(MANY, || table.lookup_many(addrs, black_box(a))),
-        contender(HAND_MANY, || unsafe { hand::lookup_many(table.lent(), addrs, black_box(b)) }),
-        contender(EACH, || table.lookup_each(addrs, black_box(c))),
-        contender(HAND_EACH, || table.hand_each(addrs, black_box(d))),
-        contender(DIR, || unsafe { dir.lookup_many(addrs, black_box(e)) }),
+        contender(MANY, || table.lookup_many(addrs, black_box(&mut out()))),
+        contender(HAND_MANY, || unsafe { hand::lookup_many(table.lent(), addrs, black_box(&mut out())) }),
+        contender(EACH, || table.lookup_each(addrs, black_box(&mut out()))),
+        contender(HAND_EACH, || table.hand_each(addrs, black_box(&mut out()))),
+        contender(DIR, || unsafe { dir.lookup_many(addrs, black_box(&mut out())) }),
+        contender(TREE, || image.lookup_each(addrs, black_box(&mut out()))),
+        contender(HAND_TREE, || image.hand_each(addrs, black_box(&mut out()))),
     ];
     if rte {
-        for ((name, look), out) in dpdk::LOOKS.into_iter().zip(outs) {
-            contenders.push(contender(name, move || look(addrs, black_box(out))));
+        for (name, look) in dpdk::LOOKS {
+            contenders.push(contender(name, move || look(addrs, black_box(&mut out()))));
         }
     }
-    measure(rounds, addrs.len(), "ns", &mut contenders);
+    measure(rounds, addrs.len(), "ns", true, &mut contenders);
     ratio(&contenders, MANY, HAND_MANY, Some(1.15));
     ratio(&contenders, EACH, HAND_EACH, Some(1.5));
     ratio(&contenders, MANY, DIR, None);
     for (name, _) in dpdk::LOOKS {
         ratio(&contenders, MANY, name, Some(0.6));
     }
-    drop(contenders);
-    let (a, b) = out.split_at_mut(1);
-    let mut contenders = [
-        contender(TREE, || image.lookup_each(addrs, black_box(&mut a[0]))),
-        contender(HAND_TREE, || image.hand_each(addrs, black_box(&mut b[0]))),
-    ];
-    measure(rounds, addrs.len(), "ns", &mut contenders);
     ratio(&contenders, TREE, HAND_TREE, None);
 }
 
@@ -298,7 +302,7 @@ fn changes(rounds: usize, table: &mut Table, input: &[u8], fresh: &[Route]) {
     const WITHDRAW: &str = "gh_withdraw";
     const LOAD: &str = "gh_load, all routes";
     let mut turn = 0;
-    let shared = std::cell::RefCell::new((table, &mut turn));
+    let shared = RefCell::new((table, &mut turn));
     let route = |turn: usize| fresh[turn % fresh.len()];
     let mut contenders = [
         contender(READ, || {
@@ -323,7 +327,7 @@ fn changes(rounds: usize, table: &mut Table, input: &[u8], fresh: &[Route]) {
         }),
         contender(LOAD, || shared.borrow_mut().0.load(black_box(input))),
     ];
-    measure(rounds, 1, "us", &mut contenders);
+    measure(rounds, 1, "us", false, &mut contenders);
     for one in [REPORT, ANNOUNCE, REPLACE, WITHDRAW, LOAD] {
         ratio(&contenders, one, READ, None);
     }

@@ -20,11 +20,10 @@ use Rattle.sail.specs.Sizes.{sizesFault, Checked}
 use Rattle.sail.specs.Walk.{foundSaid}
 use Rattle.sail.specs.declared.table.Table.{Table}
 use Rattle.sail.proofs.Steps.{look-on}
-use Rattle.sail_load.specs.Answers.{out}
 use Rattle.sail_sound.specs.Report.{saysReported}
 use Rattle.sail_sound.specs.declared.report.Reported.{Reported}
 use Rattle.sail_sound.specs.declared.report.Reported.the-variants.{Standing}
-use Rattle.sail_theory.specs.Calls.{Out}
+use Rattle.sail_theory.specs.Calls.{Out, out}
 use Rattle.tree_build.specs.Built as tree
 use Rattle.cards.specs.Pack.{packed, packFound, packReport, packChange, packBuilt, packNone}
 use Rattle.cards.specs.Cards.{card, cardOf, imageCard, imageCardOf, wordsCard, tallyCard, lowFound, manyCard}

@@ -6,6 +6,7 @@ ghost use Rattle.cards.specs.Pack.{packRun, packRoute};
 ghost use Rattle.cards.specs.Cards.{wordsCard, tallyCard};
 use crate::pack;
 
+// The run under a prefix, as its first record and its number of records.
 #[no_mangle]
 pub extern "C" fn gh_run(input: &[u8], addr: u32, len: u8) -> u64
     ensures { λ r. ⌜ r ≡ packRun (runSaid (now (input .entry)) addr len) ⌝ }
@@ -13,6 +14,7 @@ pub extern "C" fn gh_run(input: &[u8], addr: u32, len: u8) -> u64
     pack::run(lists::run::run_check(input, addr, len))
 }
 
+// One route of the input, read back.
 #[no_mangle]
 pub extern "C" fn gh_route(input: &[u8], index: u32) -> u64
     ensures { λ r. ⌜ r ≡ packRoute (routeSaid (now (input .entry)) index) ⌝ }
@@ -20,6 +22,7 @@ pub extern "C" fn gh_route(input: &[u8], index: u32) -> u64
     pack::got(routes::input::route_at(input, index as usize))
 }
 
+// The number of routes of each length, into 33 words.
 #[no_mangle]
 pub extern "C" fn gh_tally(input: &[u8], out: &mut [u32]) -> u64
     ensures { λ r. ⌜ wordsCard r (now (out .exit)) ≡ tallyCard (now (input .entry)) (now (out .entry)) ⌝ }

@@ -14,6 +14,7 @@ fn low32(x: u64) -> u32
     (x % 4294967296) as u32
 }
 
+// For each address the low 32 bits of what gh_lookup answers. Geometry and sizes are checked once.
 #[no_mangle]
 pub extern "C" fn gh_lookup_many(
     p1: u32,

@@ -3,6 +3,7 @@ ghost use mathlib.Core.Path.{_≡_};
 ghost use Prim.Native.Nat.{_+_, _*_, _%_, _^_, _<_};
 ghost use Rattle.sail.specs.Walk.{saysFound};
 ghost use Rattle.sail_load.specs.Answers.{saysMade, saysLoaded};
+ghost use Rattle.sail_calls.specs.Answers.{saysAnnounce, saysWithdraw};
 ghost use Rattle.sail_sound.specs.Report.{saysReported};
 ghost use Rattle.routes.specs.Answers.{saysInput, saysGot};
 ghost use Rattle.lists.specs.Run.{saysRunCheck};
@@ -13,6 +14,8 @@ use lists::run::RunCheck;
 use routes::input::Got;
 use routes::input::Input;
 use sail::lookup::Found;
+use sail_calls::answers::Announce;
+use sail_calls::answers::Withdraw;
 use sail_load::load::Loaded;
 use sail_load::make::Made;
 use sail_sound::report::Reported;
@@ -101,6 +104,25 @@ pub fn loaded(a: Loaded, count: u32) -> u64
         Loaded::Done => counted(count),
         Loaded::Refused(z) => byte(z),
         Loaded::RefusedAt(z, k) => refused_at(z, k),
+    }
+}
+
+pub fn announced(a: Announce, count: u32) -> u64
+    ensures { λ r. ⌜ r ≡ packChange count (saysAnnounce a) ⌝ }
+{
+    match a {
+        Announce::Added => counted(count),
+        Announce::Replaced => 256 + word(count) * 65536,
+        Announce::Refused(z) => byte(z),
+    }
+}
+
+pub fn withdrawn(a: Withdraw, count: u32) -> u64
+    ensures { λ r. ⌜ r ≡ packChange count (saysWithdraw a) ⌝ }
+{
+    match a {
+        Withdraw::Removed => counted(count),
+        Withdraw::Refused(z) => byte(z),
     }
 }
 

@@ -2,13 +2,14 @@
 ghost use mathlib.Core.Path.{_≡_};
 ghost use Rattle.sail.specs.Lent.{lent};
 ghost use Rattle.sail.specs.Walk.{lookupSaid};
-ghost use Rattle.sail_theory.specs.Calls.{made, loaded, reported};
+ghost use Rattle.sail_theory.specs.Calls.{made, loaded, announced, withdrawn, reported};
 ghost use Rattle.cards.specs.Pack.{packFound, packReport};
 ghost use Rattle.cards.specs.Cards.{tableOf, card, cardOf};
 use crate::pack;
 use sail::geometry::Geometry;
 use sail::table::Table;
 
+// A fresh table of this geometry.
 #[no_mangle]
 pub extern "C" fn gh_make(
     p1: u32,
@@ -38,6 +39,7 @@ pub extern "C" fn gh_make(
     pack::made(a, n)
 }
 
+// A table of the input's routes; nothing of the old one is read.
 #[no_mangle]
 pub extern "C" fn gh_load(
     p1: u32,
@@ -69,6 +71,79 @@ pub extern "C" fn gh_load(
     pack::loaded(a, n)
 }
 
+// A route is added to the table, or replaces the hop of its prefix.
+#[no_mangle]
+pub extern "C" fn gh_announce(
+    p1: u32,
+    p2: u32,
+    count: u32,
+    list: &mut [u8],
+    first: &mut [u16],
+    second: &mut [u16],
+    third: &mut [u16],
+    own2: &mut [u32],
+    own3: &mut [u32],
+    addr: u32,
+    len: u8,
+    hop: u16,
+) -> u64
+    ensures { λ r. ⌜ card r (lent (now (list .exit)) (now (first .exit)) (now (second .exit)) (now (third .exit)) (now (own2 .exit)) (now (own3 .exit))) ≡ cardOf (announced (tableOf p1 p2 count) (lent (now (list .entry)) (now (first .entry)) (now (second .entry)) (now (third .entry)) (now (own2 .entry)) (now (own3 .entry))) addr len hop) ⌝ }
+{
+    let geometry = Geometry { p1, p2 };
+    let c = sail_calls::announce::announce(
+        Table { geometry, count },
+        list,
+        first,
+        second,
+        third,
+        own2,
+        own3,
+        addr,
+        len,
+        hop,
+    );
+    let t = c.table;
+    let n = t.count;
+    let a = c.answer;
+    pack::announced(a, n)
+}
+
+// A route is taken out of the table.
+#[no_mangle]
+pub extern "C" fn gh_withdraw(
+    p1: u32,
+    p2: u32,
+    count: u32,
+    list: &mut [u8],
+    first: &mut [u16],
+    second: &mut [u16],
+    third: &mut [u16],
+    own2: &mut [u32],
+    own3: &mut [u32],
+    addr: u32,
+    len: u8,
+) -> u64
+    ensures { λ r. ⌜ card r (lent (now (list .exit)) (now (first .exit)) (now (second .exit)) (now (third .exit)) (now (own2 .exit)) (now (own3 .exit))) ≡ cardOf (withdrawn (tableOf p1 p2 count) (lent (now (list .entry)) (now (first .entry)) (now (second .entry)) (now (third .entry)) (now (own2 .entry)) (now (own3 .entry))) addr len) ⌝ }
+{
+    let geometry = Geometry { p1, p2 };
+    let c = sail_calls::withdraw::withdraw(
+        Table { geometry, count },
+        list,
+        first,
+        second,
+        third,
+        own2,
+        own3,
+        addr,
+        len,
+    );
+    let t = c.table;
+    let n = t.count;
+    let a = c.answer;
+    pack::withdrawn(a, n)
+}
+
+// The route count and both needs.
 #[no_mangle]
 pub extern "C" fn gh_report(
     p1: u32,
@@ -95,6 +170,7 @@ pub extern "C" fn gh_report(
     ))
 }
 
+// The hop for one address, with the count of cells read.
 #[no_mangle]
 pub extern "C" fn gh_lookup(
     p1: u32,

@@ -20,13 +20,24 @@ use Rattle.sail.specs.Lent.{Lent}
 use Rattle.sail.specs.declared.table.Table.{Table}
 use Rattle.sail.specs.declared.lookup.Found.{Found}
 use Rattle.sail.proofs.Answers.{found-injective}
-use Rattle.sail_theory.specs.Calls.{Out}
+use Rattle.sail_theory.specs.Calls.{Out, out}
+use Rattle.sail_sound.specs.declared.report.Reported.{Reported}
+use Rattle.sail_sound.proofs.Reports.{reported-injective}
+use Rattle.sail_load.specs.Answers.{saysMade, saysLoaded}
+use Rattle.sail_load.specs.declared.make.Fresh.{Fresh}
+use Rattle.sail_load.specs.declared.load.Changed.{Changed}
+use Rattle.sail_load.proofs.Makes.{made-injective}
+use Rattle.sail_load.proofs.Loads.{loaded-injective}
+use Rattle.sail_calls.specs.Answers.{saysAnnounce, saysWithdraw}
+use Rattle.sail_calls.specs.declared.answers.Announced.{Announced}
+use Rattle.sail_calls.specs.declared.answers.Withdrawn.{Withdrawn}
+use Rattle.sail_calls.proofs.Injective.{announce-injective, withdraw-injective}
 use Rattle.tree.specs.declared.TreeFound.{TreeFound}
 use Rattle.tree.proofs.Walks.{saysTreeFound-injective}
 use Rattle.tree_build.specs.Built as building
 use Rattle.tree_build.proofs.Answers.{saysBuilt-injective}
 use Rattle.demands.specs.Meets.{MeetsCheckInput, MeetsRouteAt, MeetsRun, MeetsRunCheck, MeetsTally, MeetsLookup, MeetsTreeLookup, BuildEnd, MeetsBuild}
-use Rattle.demands.specs.Meets.{End, told, MeetsReport, MeetsMake, MeetsLoad, MeetsAnnounce, MeetsWithdraw}
+use Rattle.demands.specs.Meets.{MeetsReport, MeetsMake, MeetsLoad, MeetsAnnounce, MeetsWithdraw}
 
 -- The calls on a record input.
 pub one-answer-check-input : (bytes : List ℕ) (x y : Input) → MeetsCheckInput bytes x → MeetsCheckInput bytes y → x ≡ y
@@ -63,28 +74,30 @@ one-answer-tally bytes x y p q = tally-one bytes x y p q
 pub one-answer-lookup : (t : Table) (l : Lent) (addr : ℕ) (x y : Found) → MeetsLookup t l addr x → MeetsLookup t l addr y → x ≡ y
 one-answer-lookup t l addr x y p q = found-injective x y (p ∙ sym q)
 
--- for every type of answers in which two that are told the same are the same
-module _ {A : Type 0} (says : A → Said) (injective : (x y : A) → says x ≡ says y → x ≡ y) (t : Table) (l : Lent) where
-  pub one-answer-report : (x y : A) → MeetsReport says t l x → MeetsReport says t l y → x ≡ y
-  one-answer-report x y p q = injective x y (p ∙ sym q)
+pub one-answer-report : (t : Table) (l : Lent) (x y : Reported) → MeetsReport t l x → MeetsReport t l y → x ≡ y
+one-answer-report t l x y p q = reported-injective x y (p ∙ sym q)
 
-  one-end : (o : Out) (x y : End A) → told says x ≡ o → told says y ≡ o → x ≡ y
-  one-end o x y p q =
-      let e : told says x ≡ told says y = p ∙ sym q in
-      let a = injective (x .answer) (y .answer) (ap (λ (u : Out). u .said) e) in
-      λ i. record { answer = a i; table = e i .table; lent = e i .lent }
+-- Of a call that changes the table: the answer is known from what it says, and the rest is part of the outcome. `both` puts answer and state
+-- together as the call hands them back.
+module _ {A R : Type 0} (says : A → Said) (injective : (a b : A) → says a ≡ says b → a ≡ b) (both : A → Table → R) where
+  one-end : (a b : A) (s t : Table) (u v : Lent) (o : Out) → out (says a) s u ≡ o → out (says b) t v ≡ o → (both a s ≡ both b t) × (u ≡ v)
+  one-end a b s t u v o p q =
+      let e : out (says a) s u ≡ out (says b) t v = p ∙ sym q in
+      let c = injective a b (ap (λ (z : Out). z .said) e) in
+      ((λ i. both (c i) (e i .table)), ap (λ (z : Out). z .lent) e)
 
-  pub one-answer-make : (x y : End A) → MeetsMake says t l x → MeetsMake says t l y → x ≡ y
-  one-answer-make = one-end _
+module _ (t : Table) (l : Lent) where
+  pub one-answer-make : (x y : Fresh) (u v : Lent) → MeetsMake t l x u → MeetsMake t l y v → (x ≡ y) × (u ≡ v)
+  one-answer-make x y u v = one-end saysMade made-injective (λ a s. record { answer = a; table = s }) (x .answer) (y .answer) (x .table) (y .table) u v _
 
-  pub one-answer-load : (input : List ℕ) (x y : End A) → MeetsLoad says t l input x → MeetsLoad says t l input y → x ≡ y
-  one-answer-load input = one-end _
+  pub one-answer-load : (input : List ℕ) (x y : Changed) (u v : Lent) → MeetsLoad t l input x u → MeetsLoad t l input y v → (x ≡ y) × (u ≡ v)
+  one-answer-load input x y u v = one-end saysLoaded loaded-injective (λ a s. record { answer = a; table = s }) (x .answer) (y .answer) (x .table) (y .table) u v _
 
-  pub one-answer-announce : (addr len hop : ℕ) (x y : End A) → MeetsAnnounce says t l addr len hop x → MeetsAnnounce says t l addr len hop y → x ≡ y
-  one-answer-announce addr len hop = one-end _
+  pub one-answer-announce : (addr len hop : ℕ) (x y : Announced) (u v : Lent) → MeetsAnnounce t l addr len hop x u → MeetsAnnounce t l addr len hop y v → (x ≡ y) × (u ≡ v)
+  one-answer-announce addr len hop x y u v = one-end saysAnnounce announce-injective (λ a s. record { answer = a; table = s }) (x .answer) (y .answer) (x .table) (y .table) u v _
 
-  pub one-answer-withdraw : (addr len : ℕ) (x y : End A) → MeetsWithdraw says t l addr len x → MeetsWithdraw says t l addr len y → x ≡ y
-  one-answer-withdraw addr len = one-end _
+  pub one-answer-withdraw : (addr len : ℕ) (x y : Withdrawn) (u v : Lent) → MeetsWithdraw t l addr len x u → MeetsWithdraw t l addr len y v → (x ≡ y) × (u ≡ v)
+  one-answer-withdraw addr len x y u v = one-end saysWithdraw withdraw-injective (λ a s. record { answer = a; table = s }) (x .answer) (y .answer) (x .table) (y .table) u v _
 
 -- The calls on an image.
 pub one-answer-tree-lookup : (words hops : List ℕ) (addr : ℕ) (x y : TreeFound) → MeetsTreeLookup words hops addr x → MeetsTreeLookup words hops addr y → x ≡ y

@@ -1,20 +1,29 @@
 -- Tables, images and calls that meet what the theorems on the demands suppose: the fresh table, list A loaded and built, and calls that are
 -- refused. So none of them speaks of nothing. Assumes nothing.
 use mathlib.Core.Path.{_≡_, refl, sym, _∙_, ap}
+use mathlib.Core.Logic.{_≢_}
 use mathlib.Core.Bool.{true, false, cond}
 use mathlib.Core.List.{List, [], _∷_, map}
 use Prim.Native.Nat.{ℕ, _^_, _<_}
 use native.Mathlib.Omega.{arith}
 use lib.ListN.{getD, length, replicate, List·getD-map}
-use Rattle.bits.specs.Slot.{cut}
+use Rattle.bits.specs.Slot.{slot, cut}
 use Rattle.bits.specs.Search.{firstFrom, firstOf}
 use Rattle.bits.specs.Tab.{tabulate}
-use Rattle.routes.specs.Route.{any}
+use Rattle.routes.specs.Route.{any, Good}
 use Rattle.routes.specs.Record.{recordAt, routesOf, written}
 use Rattle.routes.specs.Input.{properPrefix, hopFine, routeFault, inOrder, faultAt, inputSaid}
 use Rattle.routes.specs.Said.{Said, accepted, refused, accepts}
+use Rattle.routes.specs.Answers.{saysInput, saysGot, routeSaid}
+use Rattle.routes.specs.Standing.{routeAt}
+use Rattle.routes.specs.declared.input.Input.the-variants as ofInput
+use Rattle.routes.specs.declared.input.Got.the-variants as got
 use Rattle.routes.specs.declared.Route.{Route}
 use Rattle.routes.proofs.Meaning.{prefix-true}
+use Rattle.lists.specs.Place.{placeOf}
+use Rattle.lists.specs.Run.{runSaid, saysRunCheck}
+use Rattle.lists.specs.Tally.{tallyOf}
+use Rattle.lists.specs.declared.run.RunCheck.the-variants as runCheck
 use Rattle.sail.specs.Geometry.{standardGeo, validGeo}
 use Rattle.sail.specs.Lent.{Lent}
 use Rattle.sail.specs.Sizes.{sizesFault}
@@ -23,22 +32,32 @@ use Rattle.sail.specs.Walk.{lookupSaid, saysFound}
 use Rattle.sail.specs.declared.table.Table.{Table}
 use Rattle.sail.specs.declared.lookup.Found.the-variants as found
 use Rattle.sail.proofs.Fresh.{fresh-sound}
-use Rattle.sail_theory.specs.Calls.{termsOf, withdrawFault, made, announced, withdrawn, loaded}
-use Rattle.sail_theory.specs.Runs.{Call, announce, withdraw, load, done, after, would, Formed}
+use Rattle.sail_theory.specs.Calls.{termsOf, withdrawFault, Out, out, made, announced, withdrawn, loaded}
+use Rattle.sail_theory.specs.Runs.{Call, announce, withdraw, load, done, after, worked, would, Formed}
 use Rattle.sail_theory.specs.Render.{roomOf}
 use Rattle.sail_theory.proofs.Accepted.{announce-said, announce-off}
 use Rattle.sail_theory.proofs.Anew as anew
-use Rattle.sail_theory.proofs.Fresh.{make-said}
+use Rattle.sail_theory.proofs.Fresh.{make-said, make-is}
 use Rattle.sail_theory.proofs.Sizes.{size-refl}
+use Rattle.sail_sound.specs.Report.{saysReported}
+use Rattle.sail_sound.specs.declared.report.Reported.the-variants as ofReport
+use Rattle.sail_load.specs.Answers.{saysMade, saysLoaded}
+use Rattle.sail_load.specs.declared.make.Made.the-variants as ofMake
+use Rattle.sail_load.specs.declared.load.Loaded.the-variants as ofLoad
+use Rattle.sail_calls.specs.Answers.{saysAnnounce, saysWithdraw}
+use Rattle.sail_calls.specs.declared.answers.Announce.the-variants as ofAnnounce
+use Rattle.sail_calls.specs.declared.answers.Withdraw.the-variants as ofWithdraw
 use Rattle.tree.specs.Node.{sound}
-use Rattle.tree.specs.Walk.{walkFrom, treeSaid}
-use Rattle.tree_build.specs.Built.{routesIn, built}
-use Rattle.demands.specs.Meets.{MeetsAnnounce, MeetsLookup}
+use Rattle.tree.specs.Walk.{walkFrom, treeSaid, saysTreeFound}
+use Rattle.tree.specs.declared.TreeFound.the-variants as treeFound
+use Rattle.tree_build.specs.Built.{saysBuilt, routesIn, built}
+use Rattle.tree_build.specs.declared.Built.the-variants as ofBuild
+use Rattle.demands.specs.Meets.{MeetsCheckInput, MeetsRouteAt, MeetsRunCheck, MeetsTally, MeetsLookup, MeetsReport, MeetsMake, MeetsLoad, MeetsAnnounce, MeetsWithdraw, MeetsTreeLookup, MeetsBuild}
 use Rattle.demands.proofs.Replies.{reply, stood, run-says, run-stood}
 use Rattle.demands.proofs.Wants.{ByNeed, ForChunks}
 use Rattle.demands.proofs.Demand2 as demand2
 use Rattle.demands.proofs.Demand3 as demand3
-use Rattle.examples.specs.Starred.{ip, geo, table, arrays, bare, listA, image, loadedA, entered, other, last, answer, Line, _gives_, starred, Holds}
+use Rattle.examples.specs.Starred.{ip, geo, table, arrays, bare, listA, image, loadedA, without0, entered, other, last, answer, Line, _gives_, starred, Holds}
 use Rattle.examples.proofs.Starred.{sized, starred-hold}
 
 -- a line of the examples
@@ -58,7 +77,15 @@ first-says : (c : Call) → after table arrays (c ∷ []) .said ≡ reply (terms
 unfolding stood
 first-says c = run-says table arrays sized c [] ∙ ap (λ (rs : List Route). reply (termsOf table arrays) rs c) (run-stood table arrays sized [])
 
--- Demand 1: refusals of each kind.
+-- Demand 1: refusals of each kind. A record input, and with it a tally; a run; and the calls that change something.
+pub refused-input : accepts (inputSaid (1 ∷ [])) ≡ false
+unfolding inputSaid
+refused-input = refl
+
+pub refused-run : accepts (runSaid (1 ∷ []) 0 0) ≡ false
+unfolding runSaid inputSaid
+refused-run = refl
+
 pub refused-make : accepts (made (freshTable (geo 16 27)) (bare (geo 16 27)) .said) ≡ false
 unfolding starred answer
 refused-make = ap accepts (make-said (freshTable (geo 16 27)) (bare (geo 16 27)) ∙ line 24)
@@ -122,7 +149,15 @@ same-hops = demand2.table-as-image (t loadedA) (l loadedA) soundA listA (replica
 pub readA : demand2.ReadBack listA (routesOf listA 5)
 readA = demand2.read-back-input listA 5 goodA
 
--- Demand 3: after each run there is a fresh load to compare with, into the arrays themselves,
+-- Demand 3: make accepts the arrays,
+pub makes : accepts (made table arrays .said) ≡ true
+makes = ap (λ (o : Out). accepts (o .said)) (make-is table arrays sized)
+
+-- what stands after each run is a list as `run-only` speaks of,
+pub stands-in-order : (cs : List Call) → Good (demand3.now table arrays sized cs) × ((k : ℕ) → routeAt k (demand3.now table arrays sized cs) ≡ worked table arrays cs k)
+stands-in-order cs = (demand3.run-in-order table arrays sized cs, demand3.run-standing table arrays sized cs)
+
+-- after each run there is a fresh load to compare with, into the arrays themselves,
 pub freshly : (cs : List Call) → anew.AsFresh (t cs) (l cs) (loaded table arrays (written (demand3.now table arrays sized cs) (length (demand3.now table arrays sized cs))))
 freshly cs = demand3.run-as-fresh table arrays sized cs table arrays refl (size-refl arrays) _ (demand3.run-input table arrays sized cs)
 
@@ -146,16 +181,74 @@ pub formed-load : Formed (load listA) (demand3.now table arrays sized []) (roomO
 unfolding arrays
 formed-load = (5, goodA, omega arith)
 
+-- an address outside a prefix,
+pub elsewhere : slot 25 (ip 10 2 0 1) ≢ slot 25 (ip 10 1 2 128)
+elsewhere e = omega (arith, e)
+
 -- and a load that is accepted.
 pub loads-A : accepts (loaded (t []) (l []) listA .said) ≡ true
 unfolding starred answer after done
 loads-A = ap accepts (line 0)
 
--- One answer: outcomes that meet the statements of a lookup and of an announcement.
+-- One answer: outcomes that meet the statements, accepted and refused ones. (That every call has one for every input is what its own proof says.)
+told : (o : Out) (s : Said) → o .said ≡ s → out s (o .table) (o .lent) ≡ o
+told o s e i = out (sym e i) (o .table) (o .lent)
+
+pub checked-A : MeetsCheckInput listA (ofInput.Good 5)
+unfolding saysInput
+checked-A = sym goodA
+
+pub route-A : MeetsRouteAt listA 4 (got.One (record { addr = ip 10 1 2 128; len = 25; spare = 0; hop = 57 }))
+unfolding saysGot routeSaid listA recordAt
+route-A = rw goodA
+
+pub run-A : MeetsRunCheck listA (ip 10 1 0 0) 16 (runCheck.Run 2 3)
+unfolding saysRunCheck runSaid listA recordAt placeOf firstOf firstFrom properPrefix cut
+run-A = rw goodA
+
+pub tally-A : MeetsTally listA (record { answer = ofInput.Good 5; counts = tallyOf listA })
+tally-A = record { answered = checked-A; counted = refl }
+
 pub found-A : MeetsLookup (t loadedA) (l loadedA) (ip 10 1 2 200) (found.Hop 57 3)
 unfolding starred answer saysFound
 found-A = sym (line 1)
 
-pub announced-A : MeetsAnnounce (λ (s : Said). s) (t entered) (l entered) (ip 10 2 2 0) 24 45 (record { answer = refused 7; table = t entered; lent = l entered })
-unfolding starred answer after done
-announced-A = sym (announce-off (t entered) (l entered) (ip 10 2 2 0) 24 45 (refused 7) (sym (announce-said (t entered) (l entered) (ip 10 2 2 0) 24 45) ∙ line 34) refl)
+pub found-refused : (a : ℕ) → MeetsLookup (freshTable (geo 16 27)) (bare (geo 16 27)) a (found.Refused 1)
+unfolding saysFound
+found-refused a = sym (refused-lookup a)
+
+pub reported-A : MeetsReport (t loadedA) (l loadedA) (ofReport.Standing 5 1 1)
+unfolding starred answer saysReported
+reported-A = sym (line 11)
+
+pub made-fresh : MeetsMake table arrays (record { answer = ofMake.Done; table = freshTable standardGeo }) (freshLent arrays)
+unfolding table saysMade
+made-fresh = sym (make-is table arrays sized)
+
+pub loaded-A : MeetsLoad (t []) (l []) listA (record { answer = ofLoad.Done; table = t loadedA }) (l loadedA)
+unfolding starred answer after done saysLoaded
+loaded-A = told (loaded (t []) (l []) listA) (accepted []) (line 0)
+
+pub announced-first : MeetsAnnounce (t []) (l []) (ip 10 1 2 0) 24 44 (record { answer = ofAnnounce.Added; table = t entered }) (l entered)
+unfolding starred answer after done saysAnnounce
+announced-first = told (announced (t []) (l []) (ip 10 1 2 0) 24 44) (accepted (0 ∷ [])) (line 33)
+
+pub announced-other : MeetsAnnounce (t entered) (l entered) (ip 10 2 2 0) 24 45 (record { answer = ofAnnounce.Refused 7; table = t entered }) (l entered)
+unfolding starred answer after done saysAnnounce
+announced-other = sym (announce-off (t entered) (l entered) (ip 10 2 2 0) 24 45 (refused 7) (sym (announce-said (t entered) (l entered) (ip 10 2 2 0) 24 45) ∙ line 34) refl)
+
+pub withdrawn-A : MeetsWithdraw (t loadedA) (l loadedA) 0 0 (record { answer = ofWithdraw.Removed; table = t without0 }) (l without0)
+unfolding starred answer after done saysWithdraw
+withdrawn-A = told (withdrawn (t loadedA) (l loadedA) 0 0) (accepted []) (line 9)
+
+pub tree-found-A : MeetsTreeLookup (image .words) (image .hops) (ip 10 1 2 200) (treeFound.Hop 57 7)
+unfolding starred answer saysTreeFound
+tree-found-A = sym (line 2)
+
+pub tree-broken : (a : ℕ) → MeetsTreeLookup [] [] a treeFound.Broken
+unfolding saysTreeFound
+tree-broken a = sym (refused-tree a)
+
+pub built-A : MeetsBuild listA (replicate 21 0) (replicate 5 0) (record { answer = ofBuild.Made 7 5; words = image .words; hops = image .hops })
+unfolding image saysBuilt
+built-A i = record { said = sym builtA i; words = built listA (replicate 21 0) (replicate 5 0) .words; hops = built listA (replicate 21 0) (replicate 5 0) .hops }

@@ -21,14 +21,14 @@ use Rattle.sail.specs.declared.geometry.Geometry.{Geometry}
 use Rattle.sail.specs.declared.table.Table.{Table}
 use Rattle.sail.proofs.Sounds.{standing-good}
 use Rattle.sail_theory.specs.Render.{rendered}
-use Rattle.sail_theory.specs.Calls.{route, open2, open3, announceSaid, announced}
+use Rattle.sail_theory.specs.Calls.{route, open2, open3, announceSaid, out, announced}
 use Rattle.sail_theory.specs.Facts.{Welcome}
 use Rattle.sail_theory.proofs.Accepted.{announce-is, announce-off}
 use Rattle.sail_paint.specs.Stale.{Repainted}
 use Rattle.sail_change.specs.Pending.{Pending}
 use Rattle.sail_change.proofs.Opened.{welcome-underway}
 use Rattle.sail_change.proofs.Underway.{underway-stale}
-use Rattle.sail_calls.specs.Answers.{saysAnnounce, out, Judged}
+use Rattle.sail_calls.specs.Answers.{saysAnnounce, Judged}
 use Rattle.sail_calls.specs.declared.answers.Announce.{Announce}
 use Rattle.sail_calls.specs.declared.answers.Announce.the-variants as announce
 

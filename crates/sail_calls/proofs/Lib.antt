@@ -3,4 +3,4 @@ pub mod Renews
 pub mod Judges
 pub mod Adds
 pub mod Takes
-pub mod OneAnswer
+pub mod Injective

@@ -22,7 +22,7 @@ use Rattle.sail.specs.Sound.{standing}
 use Rattle.sail.specs.declared.geometry.Geometry.{Geometry}
 use Rattle.sail.specs.declared.table.Table.{Table}
 use Rattle.sail_theory.specs.Render.{find, rendered}
-use Rattle.sail_theory.specs.Calls.{placeIn, keep2, keep3, withdrawSaid, withdrawn}
+use Rattle.sail_theory.specs.Calls.{placeIn, keep2, keep3, withdrawSaid, out, withdrawn}
 use Rattle.sail_theory.specs.Facts.{Farewell}
 use Rattle.sail_theory.proofs.Accepted.{count-removed, withdraw-is, withdraw-off}
 use Rattle.sail_paint.specs.Stale.{Repainted}
@@ -31,7 +31,7 @@ use Rattle.sail_change.specs.Pending.{Pending}
 use Rattle.sail_change.specs.Trail.{Trailed}
 use Rattle.sail_change.proofs.Shrinks.{was-long, keep2-closed, keep3-closed, closing2, closing3, farewell-underway}
 use Rattle.sail_change.proofs.Underway.{underway-stale}
-use Rattle.sail_calls.specs.Answers.{saysWithdraw, out, Judged}
+use Rattle.sail_calls.specs.Answers.{saysWithdraw, Judged}
 use Rattle.sail_calls.specs.declared.answers.Withdraw.the-variants as withdraw
 use Rattle.sail_change.proofs.Openings.{told-one, told-chunk, alone-longer}
 

@@ -1,11 +1,8 @@
--- What each case of an answer says, and what a call that answers so leaves. Assumes nothing.
+-- What each case of an answer says, and what a judge answers. Assumes nothing.
 use mathlib.Core.Path.{_≡_}
 use mathlib.Core.List.{[], _∷_}
 use Prim.Native.Nat.{ℕ}
 use Rattle.routes.specs.Said.{Said, accepted, refused}
-use Rattle.sail.specs.Lent.{Lent}
-use Rattle.sail.specs.declared.table.Table.{Table}
-use Rattle.sail_theory.specs.Calls.{Out}
 use Rattle.sail_calls.specs.declared.answers.Announce.{Announce}
 use Rattle.sail_calls.specs.declared.answers.Announce.the-variants as announce
 use Rattle.sail_calls.specs.declared.answers.Withdraw.{Withdraw}
@@ -20,10 +17,6 @@ saysAnnounce (announce.Refused n) = refused n
 unfoldable pub saysWithdraw : Withdraw → Said
 saysWithdraw withdraw.Removed = accepted []
 saysWithdraw (withdraw.Refused n) = refused n
-
--- what a call says, the state and what is lent at exit
-abbrev pub out : Said → Table → Lent → Out
-out s t l = record { said = s; table = t; lent = l }
 
 -- what a judge answers: the number with which the call refuses; or 0, and then P holds
 pub record Judged (r : ℕ) (said : Said) (P : Type 0) : Type 0 where

@@ -1,9 +1,9 @@
 // Withdraw: a route is taken out of a table.
 ghost use mathlib.Core.Path.{_≡_};
 ghost use Rattle.sail.specs.Lent.{lent};
-ghost use Rattle.sail_theory.specs.Calls.{withdrawSaid, withdrawn};
+ghost use Rattle.sail_theory.specs.Calls.{withdrawSaid, out, withdrawn};
 ghost use Rattle.sail_theory.specs.Facts.{Farewell};
-ghost use Rattle.sail_calls.specs.Answers.{saysWithdraw, out, Judged};
+ghost use Rattle.sail_calls.specs.Answers.{saysWithdraw, Judged};
 use crate::answers::Withdraw;
 use crate::answers::Withdrawn;
 use crate::renew::renew;

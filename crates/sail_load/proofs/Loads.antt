@@ -18,9 +18,9 @@ use Rattle.sail.specs.Sizes.{sizesFault, Checked}
 use Rattle.sail.specs.declared.geometry.Geometry.{Geometry}
 use Rattle.sail.specs.declared.table.Table.{Table}
 use Rattle.sail_theory.specs.Render.{roomOf}
-use Rattle.sail_theory.specs.Calls.{chunksFault, loadFault, loadSaid, loaded, inputRoutes}
+use Rattle.sail_theory.specs.Calls.{chunksFault, loadFault, loadSaid, out, loaded, inputRoutes}
 use Rattle.sail_theory.proofs.Loads.{accepted-loadable, loadable-said, load-is, load-off}
-use Rattle.sail_load.specs.Answers.{out, saysLoaded}
+use Rattle.sail_load.specs.Answers.{saysLoaded}
 use Rattle.sail_load.specs.Need.{terms, Weighs}
 use Rattle.sail_load.specs.Renew.{Renewable, anew}
 use Rattle.sail_load.specs.declared.load.Loaded.{Loaded}

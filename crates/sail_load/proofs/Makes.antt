@@ -9,9 +9,9 @@ use Rattle.sail.specs.Sizes.{Checked}
 use Rattle.sail.specs.Sound.{freshTable, freshLent}
 use Rattle.sail.specs.declared.table.Table.{Table}
 use Rattle.plan.specs.Paint.{filled}
-use Rattle.sail_theory.specs.Calls.{orSay, makeSaid, made}
+use Rattle.sail_theory.specs.Calls.{orSay, makeSaid, out, made}
 use Rattle.sail_theory.proofs.Fresh.{make-is, make-off}
-use Rattle.sail_load.specs.Answers.{out, saysMade}
+use Rattle.sail_load.specs.Answers.{saysMade}
 use Rattle.sail_load.specs.declared.make.Made.{Made}
 use Rattle.sail_load.specs.declared.make.Made.the-variants.{Done, Refused}
 use Rattle.sail_load.proofs.Fills.{filled-whole}

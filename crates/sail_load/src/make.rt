@@ -2,8 +2,8 @@
 ghost use mathlib.Core.Path.{_≡_};
 ghost use Rattle.sail.specs.Lent.{lent};
 ghost use Rattle.sail.specs.Sound.{freshLent};
-ghost use Rattle.sail_theory.specs.Calls.{made};
-ghost use Rattle.sail_load.specs.Answers.{out, saysMade};
+ghost use Rattle.sail_theory.specs.Calls.{out, made};
+ghost use Rattle.sail_load.specs.Answers.{saysMade};
 use crate::fill::fill16;
 use crate::fill::zero8;
 use crate::fill::zero32;

@@ -30,6 +30,4 @@ pub mod Read
 pub mod Altered
 pub mod Passing
 pub mod Counting
-pub mod Example
-pub mod OneChunk
 pub mod Wrong

@@ -160,6 +160,10 @@ pub record Out : Type 0 where
   pub table : Table
   pub lent : Lent
 
+-- what is said, the state and all that is lent, as a call's contract puts them together
+abbrev pub out : Said → Table → Lent → Out
+out s t l = record { said = s; table = t; lent = l }
+
 -- a refusal leaves all as it was
 abbrev pub outcome : Said → Table → Lent → Table → Lent → Out
 outcome (accepted vs) t l t′ l′ = record { said = accepted vs; table = t′; lent = l′ }

@@ -1,0 +1,232 @@
+-- What the calls say has room in their answers. Nothing is supposed but what the boundary's types give: cells of 16 bits (`Cells`), and
+-- for the index of a record an input shorter than 2^35 bytes, so that it has fewer than 2^32 records. Assumes nothing.
+use mathlib.Core.Path.{_≡_, refl, _∙_, ap, subst}
+use mathlib.Core.Logic.{_⊎_, inl, inr}
+use mathlib.Core.Bool.{true, false, cond, true≢false}
+use mathlib.Core.List.{List, [], _∷_}
+use Prim.Native.Nat.{ℕ, _-_, _*_, _/_, _^_, _≤_, _<_}
+use native.Mathlib.Omega.{arith}
+use lib.Dec.{eqb}
+use lib.ListN.{length}
+use borrow.Author.Tests.{eqb-false}
+use Rattle.bits.proofs.Tests.{decided}
+use Rattle.routes.specs.Route.{keyOf, need}
+use Rattle.routes.specs.Record.{recordAt, Records}
+use Rattle.routes.specs.Input.{inputSaid}
+use Rattle.routes.specs.Answers.{routeSaid}
+use Rattle.routes.specs.Said.{Said, accepted, refused, accepts}
+use Rattle.routes.proofs.Meaning.{WrongRoute, WrongRecord, Checked, input-checked, input-good}
+use Rattle.routes.proofs.Rows.{length-routes, records-good}
+use Rattle.lists.specs.Run.{pastKey, runStart, runCount, runSaid}
+use Rattle.lists.proofs.Places.{place-le}
+use Rattle.sail.specs.Lent.{Lent}
+use Rattle.sail.specs.Level.{entry}
+use Rattle.sail.specs.Sound.{standing}
+use Rattle.sail.specs.Walk.{leafSaid, hopSaid, lookupSaid}
+use Rattle.sail.specs.declared.table.Table.{Table}
+use Rattle.sail.proofs.Sounds.{chunks-need}
+use Rattle.sail_theory.specs.Calls.{made, loaded, announced, withdrawn, reported}
+use Rattle.sail_theory.proofs.Chunks.{used-le}
+use Rattle.sail_theory.proofs.Judged.{Sizing, Make, make-judged, Announce, announce-judged, Withdraw, withdraw-judged, Load, load-judged, Report, report-judged}
+use Rattle.sail_theory.proofs.Accepted.{announce-said, announce-holds, withdraw-said, withdraw-holds}
+use Rattle.sail_theory.proofs.Fresh.{make-said, make-holds, accepted-sized}
+use Rattle.sail_theory.proofs.Loads.{load-said, load-holds}
+use Rattle.tree.specs.Image.{nodeNeed}
+use Rattle.tree.specs.Walk.{treeSaid}
+use Rattle.tree.specs.declared.Place.{Place}
+use Rattle.tree.proofs.Needs.{nodes-most}
+use Rattle.tree_build.specs.Built.{routesIn, built}
+use Rattle.demands.proofs.Inputs.{check-only, BadInput, GoodInput, RunChecked, run-judged, RouteRead, route-judged}
+use Rattle.demands.proofs.Lookups.{v1, v2, v3, Lookup, lookup-judged}
+use Rattle.demands.proofs.Builds.{Build, build-judged}
+use Rattle.demands.proofs.Walks.{Fetched, Walked, tree-judged}
+use Rattle.cards.specs.Unpack.{Fits, FoundFits, ReportFits, BuiltFits, RunFits, RouteFits, AnnounceFits, DoneFits, Cells}
+
+-- 1 and 2
+sizing-fits : {most : ℕ} {P : List ℕ → Type 0} {t : Table} {l : Lent} {n : ℕ} → Sizing t l n → Fits most P (refused n)
+sizing-fits (Sizing.limits h) = Fits.number 1 (omega arith) (omega arith)
+sizing-fits (Sizing.size v h) = Fits.number 2 (omega arith) (omega arith)
+
+-- The input's refusals.
+fault-low : {s : List ℕ} {k f : ℕ} → WrongRecord s k f → f < 2 ^ 8
+fault-low (WrongRecord.itself (WrongRoute.prefix h)) = omega arith
+fault-low (WrongRecord.itself (WrongRoute.hop p h)) = omega arith
+fault-low (WrongRecord.itself (WrongRoute.spare p a b h)) = omega arith
+fault-low (WrongRecord.order g h l) = omega arith
+
+module _ (P : List ℕ → Type 0) (s : List ℕ) (short : length s < 2 ^ 35) where
+  refused-fits : {x : Said} → Checked s x → accepts x ≡ false → Fits (2 ^ 32) P x
+  refused-fits (Checked.ragged w) e = Fits.index 10 (length s / 8) (omega arith) (omega arith) (omega arith)
+  refused-fits (Checked.stopped k f w l b x p) e = Fits.index f k (omega arith) (fault-low x) (omega arith)
+  refused-fits (Checked.many w b m) e = Fits.number 6 (omega arith) (omega arith)
+  refused-fits (Checked.good n w r) e = absurd (true≢false e)
+
+  bad-fits : (x : Said) → BadInput s x → Fits (2 ^ 32) P x
+  bad-fits x b = refused-fits (b .checked) (b .not-accepted)
+
+-- a good input has n records, at most 4,096
+good-whole : (s : List ℕ) (n : ℕ) → GoodInput s n → (length s ≡ n * 8) × Records s n
+good-whole s n g = input-good s n (check-only s _ g)
+
+-- The calls on record inputs.
+pub input-fits : (s : List ℕ) → length s < 2 ^ 35 → Fits (2 ^ 32) (λ vs. vs ≡ length s / 8 ∷ []) (inputSaid s)
+input-fits s short = go (input-checked s)
+  where
+    go : {x : Said} → Checked s x → Fits (2 ^ 32) (λ vs. vs ≡ length s / 8 ∷ []) x
+    go (Checked.ragged w) = refused-fits _ s short (Checked.ragged w) refl
+    go (Checked.stopped k f w l b x p) = refused-fits _ s short (Checked.stopped k f w l b x p) refl
+    go (Checked.many w b m) = refused-fits _ s short (Checked.many w b m) refl
+    go (Checked.good n w r) = let e : n ≡ length s / 8 = omega arith in Fits.values (n ∷ []) (rw e)
+
+module _ (s : List ℕ) (short : length s < 2 ^ 35) where
+  pub run-fits : (a len : ℕ) → Fits (2 ^ 32) RunFits (runSaid s a len)
+  run-fits a len = go (run-judged s a len)
+    where
+      go : {x : Said} → RunChecked s a len x → Fits (2 ^ 32) RunFits x
+      go (RunChecked.bad-input x b) = bad-fits RunFits s short x b
+      go (RunChecked.bad-prefix n g h) = Fits.number 3 (omega arith) (omega arith)
+      go (RunChecked.found n g p) =
+          let w = good-whole s n g in
+          let f = w .1 .few in
+          let x = place-le s (length s / 8) (keyOf a len) in
+          let y = place-le s (length s / 8) (pastKey a len) in
+          Fits.values _ (RunFits.run (runStart s a len) (runCount s a len) (omega (arith, w .0)) (omega (arith, w .0)))
+
+  pub route-fits : (k : ℕ) → Fits (2 ^ 32) RouteFits (routeSaid s k)
+  route-fits k = go (route-judged s k)
+    where
+      go : {x : Said} → RouteRead s k x → Fits (2 ^ 32) RouteFits x
+      go (RouteRead.bad-input x b) = bad-fits RouteFits s short x b
+      go (RouteRead.there n g h) =
+          let f = good-whole s n g .1 .each k h in
+          let r = recordAt s k in
+          Fits.values _ (RouteFits.one (r .addr) (r .len) (r .spare) (r .hop) (f .prefix .addr-ok) (omega (arith, f .prefix .len-ok)) (f .spare-ok) (f .hop-one) (omega (arith, f .hop-ok)))
+      go (RouteRead.past n g h) = Fits.values [] RouteFits.nothing
+
+  pub built-fits : (ws hs : List ℕ) → Fits (2 ^ 32) BuiltFits (built s ws hs .said)
+  built-fits ws hs = go (build-judged s ws hs)
+    where
+      go : {x : Said} → Build s ws hs x → Fits (2 ^ 32) BuiltFits x
+      go (Build.bad-input x b) = bad-fits BuiltFits s short x b
+      go (Build.few-nodes n g h) = Fits.number 11 (omega arith) (omega arith)
+      go (Build.few-hops n g h k) = Fits.number 12 (omega arith) (omega arith)
+      go (Build.done n g h k) =
+          let w = good-whole s n g in
+          let f = w .1 .few in
+          let e : n ≡ length s / 8 = omega (arith, w .0) in
+          let m = length-routes s (length s / 8) in
+          let z = nodes-most (routesIn s) (records-good s (length s / 8) (rw e at (w .1))) (omega arith) in
+          Fits.values _ (BuiltFits.image (nodeNeed (routesIn s)) (length (routesIn s)) (omega arith) (omega arith))
+
+-- Lookup in an image: at most 9 nodes, and a hop of 1 to 32,767.
+fetched-fits : {hs : List ℕ} {n : ℕ} {p : Place} {x : Said} → n < 2 ^ 8 → Fetched hs n p x → Fits 0 FoundFits x
+fetched-fits f Fetched.no-match = Fits.values _ (FoundFits.none _ f)
+fetched-fits f (Fetched.beyond h l) = Fits.number 13 (omega arith) (omega arith)
+fetched-fits f (Fetched.bad-hop h l b) = Fits.number 13 (omega arith) (omega arith)
+fetched-fits f (Fetched.match h l a b) = Fits.values _ (FoundFits.hop _ _ f a (omega arith))
+
+walked-fits : {ws hs : List ℕ} {a d i : ℕ} {best : Place} {x : Said} → Walked ws hs a d i best x → Fits 0 FoundFits x
+walked-fits (Walked.lost d i best l) = Fits.number 13 (omega arith) (omega arith)
+walked-fits (Walked.marked d i best l e) = Fits.number 13 (omega arith) (omega arith)
+walked-fits (Walked.deepest i best s r f) = fetched-fits (omega arith) f
+walked-fits (Walked.ends d i best s r e f) = fetched-fits (omega arith) f
+walked-fits (Walked.goes-on d i best s r e w) = walked-fits w
+
+pub tree-fits : (ws hs : List ℕ) (a : ℕ) → Fits 0 FoundFits (treeSaid ws hs a)
+tree-fits ws hs a = walked-fits (tree-judged ws hs a)
+
+-- Lookup in a table, of any cells: 1 to 3 cells, and a hop of at most 15 bits.
+leaf-fits : (n v : ℕ) → n < 2 ^ 8 → v < 2 ^ 16 → Fits 0 FoundFits (leafSaid n v)
+unfolding hopSaid
+leaf-fits n v a b = go (decided (eqb (v - 32768) 0))
+  where
+    go : (eqb (v - 32768) 0 ≡ true) ⊎ (eqb (v - 32768) 0 ≡ false) → Fits 0 FoundFits (cond (eqb (v - 32768) 0) (accepted (n ∷ [])) (accepted (n ∷ (v - 32768) ∷ [])))
+    go (inl e) = rw e (Fits.values _ (FoundFits.none n a))
+    go (inr e) = let z = eqb-false (v - 32768) 0 e in rw e (Fits.values _ (FoundFits.hop n (v - 32768) a (omega arith) (omega arith)))
+
+module _ (t : Table) (l : Lent) where
+  pub lookup-fits : Cells l → (a : ℕ) → Fits 0 FoundFits (lookupSaid t l a)
+  lookup-fits cells a = go (lookup-judged t l a)
+    where
+      go : {x : Said} → Lookup t l a x → Fits 0 FoundFits x
+      go (Lookup.sizing n h) = sizing-fits h
+      go (Lookup.first-leaf z h) = leaf-fits 1 (v1 t l a) (omega arith) (cells .first _)
+      go (Lookup.first-stray z h) = Fits.number 5 (omega arith) (omega arith)
+      go (Lookup.second-leaf z k h) = leaf-fits 2 (v2 t l a) (omega arith) (cells .second _)
+      go (Lookup.second-stray z k h) = Fits.number 5 (omega arith) (omega arith)
+      go (Lookup.third-is-leaf z k j h) = leaf-fits 3 (v3 t l a) (omega arith) (cells .third _)
+      go (Lookup.third-no-leaf z k j h) = Fits.number 5 (omega arith) (omega arith)
+
+  -- the route count and both needs are at most 4,096
+  pub report-fits : Fits 0 ReportFits (reported t l)
+  report-fits = go (report-judged t l)
+    where
+      go : {x : Said} → Report t l x → Fits 0 ReportFits x
+      go (Report.sizing n h) = sizing-fits h
+      go (Report.unsound z h) = Fits.number 5 (omega arith) (omega arith)
+      go (Report.counts s) =
+          let n = s .listed .records .few in
+          let u = chunks-need t l s in
+          let x = used-le (entry (l .own2)) (length (l .own2)) in
+          let y = used-le (entry (l .own3)) (length (l .own3)) in
+          Fits.values _ (ReportFits.report (t .count) (need (standing t l) (t .geometry .p1)) (need (standing t l) (t .geometry .p2)) (omega arith) (omega (arith, u .0, s .sized .few2)) (omega (arith, u .1, s .sized .few3)))
+
+  -- Changes: where one is accepted, a sound table stands, so there are at most 4,096 routes.
+  pub make-few : accepts (made t l .said) ≡ true → made t l .table .count ≤ 4096
+  make-few e = make-holds t l (accepted-sized t l e) .sound .listed .records .few
+
+  pub make-fits : Fits 0 (DoneFits (made t l .table .count)) (made t l .said)
+  make-fits = rw (make-said t l) (go (make-judged t l) (λ e. make-few (ap accepts (make-said t l) ∙ e)))
+    where
+      go : {n : ℕ} {x : Said} → Make t l x → (accepts x ≡ true → n ≤ 4096) → Fits 0 (DoneFits n) x
+      go (Make.sizing n h) few = sizing-fits h
+      go (Make.done z) few = let f = few refl in Fits.values [] (DoneFits.done (omega arith))
+
+  pub load-few : (input : List ℕ) → accepts (loaded t l input .said) ≡ true → loaded t l input .table .count ≤ 4096
+  load-few input e = load-holds t l input e .sound .listed .records .few
+
+  pub load-fits : (input : List ℕ) → length input < 2 ^ 35 → Fits (2 ^ 32) (DoneFits (loaded t l input .table .count)) (loaded t l input .said)
+  load-fits input short = rw (load-said t l input) (go (load-judged t l input) (λ e. load-few input (ap accepts (load-said t l input) ∙ e)))
+    where
+      off : (x : Said) → ((ns : List ℕ) → x ≡ accepted ns → ⊥) → accepts x ≡ false
+      off (Said.accepted ns) h = absurd (h ns refl)
+      off (Said.refused n) h = refl
+      off (Said.refusedAt n k) h = refl
+
+      go : {n : ℕ} {x : Said} → Load t l input x → (accepts x ≡ true → n ≤ 4096) → Fits (2 ^ 32) (DoneFits n) x
+      go (Load.sizing n h) few = sizing-fits h
+      go (Load.bad-input {s} z e h) few = refused-fits _ input short (subst (Checked input) e (input-checked input)) (off s h)
+      go (Load.full w r) few = Fits.number 6 (omega arith) (omega arith)
+      go (Load.second w r x) few = Fits.number 7 (omega arith) (omega arith)
+      go (Load.third w r x y) few = Fits.number 8 (omega arith) (omega arith)
+      go (Load.done w k) few = let f = few refl in Fits.values [] (DoneFits.done (omega arith))
+
+  pub announce-few : (a len hop : ℕ) → accepts (announced t l a len hop .said) ≡ true → announced t l a len hop .table .count ≤ 4096
+  announce-few a len hop e = announce-holds t l a len hop e .sound .listed .records .few
+
+  pub announce-fits : (a len hop : ℕ) → Fits 0 (AnnounceFits (announced t l a len hop .table .count)) (announced t l a len hop .said)
+  announce-fits a len hop = rw (announce-said t l a len hop) (go (announce-judged t l a len hop) (λ e. announce-few a len hop (ap accepts (announce-said t l a len hop) ∙ e)))
+    where
+      go : {n : ℕ} {x : Said} → Announce t l a len hop x → (accepts x ≡ true → n ≤ 4096) → Fits 0 (AnnounceFits n) x
+      go (Announce.sizing n h) few = sizing-fits h
+      go (Announce.bad-prefix z h) few = Fits.number 3 (omega arith) (omega arith)
+      go (Announce.bad-hop z p h) few = Fits.number 4 (omega arith) (omega arith)
+      go (Announce.unsound z f h) few = Fits.number 5 (omega arith) (omega arith)
+      go (Announce.replaced p h) few = let f = few refl in Fits.values _ (AnnounceFits.which 1 (omega arith) (omega arith))
+      go (Announce.full p h k) few = Fits.number 6 (omega arith) (omega arith)
+      go (Announce.second w x) few = Fits.number 7 (omega arith) (omega arith)
+      go (Announce.third w x y) few = Fits.number 8 (omega arith) (omega arith)
+      go (Announce.added w x y) few = let f = few refl in Fits.values _ (AnnounceFits.which 0 (omega arith) (omega arith))
+
+  pub withdraw-few : (a len : ℕ) → accepts (withdrawn t l a len .said) ≡ true → withdrawn t l a len .table .count ≤ 4096
+  withdraw-few a len e = withdraw-holds t l a len e .sound .listed .records .few
+
+  pub withdraw-fits : (a len : ℕ) → Fits 0 (DoneFits (withdrawn t l a len .table .count)) (withdrawn t l a len .said)
+  withdraw-fits a len = rw (withdraw-said t l a len) (go (withdraw-judged t l a len) (λ e. withdraw-few a len (ap accepts (withdraw-said t l a len) ∙ e)))
+    where
+      go : {n : ℕ} {x : Said} → Withdraw t l a len x → (accepts x ≡ true → n ≤ 4096) → Fits 0 (DoneFits n) x
+      go (Withdraw.sizing n h) few = sizing-fits h
+      go (Withdraw.bad-prefix z h) few = Fits.number 3 (omega arith) (omega arith)
+      go (Withdraw.unsound z p h) few = Fits.number 5 (omega arith) (omega arith)
+      go (Withdraw.absent p k h) few = Fits.number 9 (omega arith) (omega arith)
+      go (Withdraw.removed w) few = let f = few refl in Fits.values [] (DoneFits.done (omega arith))

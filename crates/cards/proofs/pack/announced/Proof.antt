@@ -1,0 +1,26 @@
+-- `cards::pack::announced` meets its contract. Assumes nothing.
+use mathlib.Core.Path.{ap}
+use native.Mathlib.Omega.{arith}
+use Rattle.sail_calls.specs.Answers.{saysAnnounce}
+use Rattle.sail_calls.specs.declared.answers.Announce.{Announce}
+use Rattle.cards.specs.Pack.{packChange, packed}
+use borrow.Author.Needs.{needs}
+use Rattle.cards.proofs.pack.announced.Statement.{statement}
+use Rattle.cards.proofs.pack.announced.Tie as tie
+
+pub announced-spec : {M : Type 1} → statement M
+unfolding saysAnnounce packed
+announced-spec =
+    tie.close
+    (tie.spec
+    (λ c. search needs)
+    (λ c κs. search needs)
+    (λ c. search needs)
+    (λ c κs. search needs)
+    (λ c. search needs)
+    (λ c. search needs)
+    (λ c. search needs)
+    (λ c κs. search needs)
+    (λ c. omega (arith, ap (λ (x : Announce). packChange (c .before .before .before .args .count) (saysAnnounce x)) (c .before .enum-told .given .1)))
+    (λ c. omega (arith, ap (λ (x : Announce). packChange (c .before .before .before .args .count) (saysAnnounce x)) (c .before .enum-told2 .given .1)))
+    (λ c. omega (arith, ap (λ (x : Announce). packChange (c .before .before .before .before .args .count) (saysAnnounce x)) (c .before .before .a .given .1))))
