@@ -1,8 +1,8 @@
 // Tree bitmap images: built, looked up, refused and broken.
-use crate::print;
 use crate::samples;
 use tree::TreeFound;
 use tree_build::Built;
+use words::print;
 
 fn built(answer: Built) {
     print::text(b"image");

@@ -1,10 +1,10 @@
 // The record of a route, and what the check of an input says.
-use crate::print;
 use crate::samples;
 use routes::Route;
 use routes::input;
 use routes::input::Got;
 use routes::input::Input;
+use words::print;
 ghost use Prim.Native.Nat.{_≤_};
 ghost use lib.ListN.{length};
 

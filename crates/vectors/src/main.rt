@@ -1,7 +1,6 @@
-// Runs worked cases and prints what they give. The file stdout has what document 01 says of them.
+// Runs worked cases, and prints what they give. The file stdout has what document 01 says of them.
 mod images;
 mod inputs;
-mod print;
 mod runs;
 mod samples;
 mod tables;

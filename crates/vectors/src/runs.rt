@@ -1,9 +1,9 @@
 // The run under a prefix, and the tally.
-use crate::print;
 use crate::samples;
 use lists::run;
 use lists::run::RunCheck;
 use lists::tally;
+use words::print;
 
 fn said(answer: RunCheck) {
     match answer {

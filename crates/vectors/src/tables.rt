@@ -1,56 +1,10 @@
 // SAIL tables: list A's table at the standard geometry, written out by hand from document 01, looked up, reported and damaged.
-use crate::print;
 use crate::samples;
 use sail::geometry::Geometry;
 use sail::lookup;
-use sail::lookup::Found;
 use sail::table::Table;
 use sail_sound::report;
-use sail_sound::report::Reported;
-
-fn found(answer: Found) {
-    print::text(b"lookup");
-    match answer {
-        Found::Hop(h, n) => {
-            print::text(b" hop");
-            print::value16(h);
-            print::text(b" cells");
-            print::value32(n);
-        }
-        Found::NoRoute(n) => {
-            print::text(b" no route cells");
-            print::value32(n);
-        }
-        Found::Refused(f) => {
-            print::text(b" refused");
-            print::value(f as u64);
-        }
-    }
-    print::end();
-}
-
-fn reported(answer: Reported) {
-    print::text(b"report");
-    match answer {
-        Reported::Standing {
-            routes,
-            second,
-            third,
-        } => {
-            print::text(b" routes");
-            print::value32(routes);
-            print::text(b" second");
-            print::value32(second);
-            print::text(b" third");
-            print::value32(third);
-        }
-        Reported::Refused(f) => {
-            print::text(b" refused");
-            print::value(f as u64);
-        }
-    }
-    print::end();
-}
+use words::table;
 
 // A lookup of 10.1.2.200 and the report.
 fn judge(
@@ -62,8 +16,8 @@ fn judge(
     own2: &[u32],
     own3: &[u32],
 ) {
-    found(lookup::lookup(t, list, first, second, third, own2, own3, 0x0A01_02C8));
-    reported(report::report(t, list, first, second, third, own2, own3));
+    table::found(lookup::lookup(t, list, first, second, third, own2, own3, 0x0A01_02C8));
+    table::reported(report::report(t, list, first, second, third, own2, own3));
 }
 
 // The five addresses of list A.
@@ -76,11 +30,11 @@ fn look(
     own2: &[u32],
     own3: &[u32],
 ) {
-    found(lookup::lookup(t, list, first, second, third, own2, own3, 0x0A01_02C8));
-    found(lookup::lookup(t, list, first, second, third, own2, own3, 0x0A01_0205));
-    found(lookup::lookup(t, list, first, second, third, own2, own3, 0x0A01_0301));
-    found(lookup::lookup(t, list, first, second, third, own2, own3, 0x0A02_0001));
-    found(lookup::lookup(t, list, first, second, third, own2, own3, 0xC000_0201));
+    table::found(lookup::lookup(t, list, first, second, third, own2, own3, 0x0A01_02C8));
+    table::found(lookup::lookup(t, list, first, second, third, own2, own3, 0x0A01_0205));
+    table::found(lookup::lookup(t, list, first, second, third, own2, own3, 0x0A01_0301));
+    table::found(lookup::lookup(t, list, first, second, third, own2, own3, 0x0A02_0001));
+    table::found(lookup::lookup(t, list, first, second, third, own2, own3, 0xC000_0201));
 }
 
 fn standard(count: u32) -> Table {

@@ -1,23 +1,24 @@
--- `vectors::print::bytes` is safe and ends. Assumes nothing.
+-- `vectors_runs::arrays::over16` is safe and ends. Assumes nothing.
 use Prim.Native.Nat.{_-_, _≤_}
 use native.Mathlib.Omega.{arith}
 use lib.ListN.{length}
 use borrow.Author.Needs.{needs}
-use Rattle.vectors.proofs.print.bytes.Statement.{statement}
-use Rattle.vectors.proofs.print.bytes.Tie as tie
+use Rattle.vectors_runs.proofs.arrays.over16.Statement.{statement}
+use Rattle.vectors_runs.proofs.arrays.over16.Tie as tie
 
 abbrev Inv-loop : tie.InvT-loop
-Inv-loop list i₀ i = i ≤ length list
+Inv-loop a s₀ i₀ s i = i ≤ length a
 
 abbrev μ-loop : tie.MeasureT-loop
-μ-loop list i₀ i = length list - i
+μ-loop a s₀ i₀ s i = length a - i
 
-pub bytes-spec : {M : Type 1} → statement M
-bytes-spec =
+pub over16-spec : {M : Type 1} → statement M
+over16-spec =
     tie.close
     (tie.spec
     Inv-loop
     μ-loop
+    (λ c. search needs)
     (λ c. search needs)
     (λ c. search needs)
     (λ c κs. search needs)

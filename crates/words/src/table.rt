@@ -1,0 +1,48 @@
+// The answers of lookup and report, as words.
+use crate::print;
+use sail::lookup::Found;
+use sail_sound::report::Reported;
+
+pub fn found(answer: Found) {
+    print::text(b"lookup");
+    match answer {
+        Found::Hop(h, n) => {
+            print::text(b" hop");
+            print::value16(h);
+            print::text(b" cells");
+            print::value32(n);
+        }
+        Found::NoRoute(n) => {
+            print::text(b" no route cells");
+            print::value32(n);
+        }
+        Found::Refused(f) => {
+            print::text(b" refused");
+            print::value(f as u64);
+        }
+    }
+    print::end();
+}
+
+pub fn reported(answer: Reported) {
+    print::text(b"report");
+    match answer {
+        Reported::Standing {
+            routes,
+            second,
+            third,
+        } => {
+            print::text(b" routes");
+            print::value32(routes);
+            print::text(b" second");
+            print::value32(second);
+            print::text(b" third");
+            print::value32(third);
+        }
+        Reported::Refused(f) => {
+            print::text(b" refused");
+            print::value(f as u64);
+        }
+    }
+    print::end();
+}
