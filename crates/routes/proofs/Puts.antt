@@ -8,6 +8,7 @@ use native.Mathlib.Omega.{arith}
 use lib.Dec.{lit<}
 use lib.ListN.{length, getD, set, take, drop, length-append, List·getD-append}
 use lib.Seq.{sets, sets-eq, length-take-le, getD-append-add}
+use Rattle.routes.specs.Route.{key}
 use Rattle.routes.specs.Record.{word32, word16, recordAt, bytesOf, putAt, Ranged}
 use Rattle.routes.specs.declared.Route.{Route}
 
@@ -17,6 +18,35 @@ pub eight : (s : List ℕ) (i a b c d e f g h : ℕ) → i + 8 ≤ length s
 eight s i a b c d e f g h l =
     rw (add-one i, add-two i, add-three i, add-four i, add-five i, add-six i, add-seven i)
     (sets-eq (a ∷ b ∷ c ∷ d ∷ e ∷ f ∷ g ∷ h ∷ []) s i l)
+
+-- two numbers of two bytes are one of four
+pub word-halves : (s : List ℕ) (i a b x y : ℕ) → a ≡ word16 s i → b ≡ word16 s (i + 2) → x ≡ a → y ≡ b → x * 65536 + y ≡ word32 s i
+word-halves s i a b x y p q u v = let e = rw (add-assoc i 2 1) at q in omega arith
+
+-- a record and its key by their parts
+module _ (s : List ℕ) (k a : ℕ) (address : a ≡ word32 s (k * 8)) where
+  pub record-parts : (h : ℕ) → h ≡ word16 s (k * 8 + 6)
+      → _≡_ {A = Route} (record { addr = a; len = getD s (k * 8 + 4) 0; spare = getD s (k * 8 + 5) 0; hop = h }) (recordAt s k)
+  unfolding recordAt
+  record-parts h e = λ i. record { addr = address i; len = getD s (k * 8 + 4) 0; spare = getD s (k * 8 + 5) 0; hop = e i }
+
+  pub key-parts : (n : ℕ) → n ≡ a * 256 + getD s (k * 8 + 4) 0 → n ≡ key (recordAt s k)
+  unfolding recordAt
+  key-parts n e = omega arith
+
+-- a record is put by its halves: x and y are the list after each half of the address, z after the rest
+pub put-halves : (s x y z : List ℕ) (k : ℕ) (r : Route) → (k + 1) * 8 ≤ length s
+    → x ≡ set (set s (k * 8) (r .addr / 65536 / 256)) (k * 8 + 1) (r .addr / 65536 % 256)
+    → y ≡ set (set x (k * 8 + 2) (r .addr % 65536 / 256)) (k * 8 + 2 + 1) (r .addr % 65536 % 256)
+    → z ≡ set (set (set (set y (k * 8 + 4) (r .len)) (k * 8 + 5) (r .spare)) (k * 8 + 6) (r .hop / 256)) (k * 8 + 6 + 1) (r .hop % 256)
+    → z ≡ putAt s k r
+unfolding bytesOf putAt
+put-halves s x y z k r room ex ey ez =
+    let n = r .addr in
+    let b₀ : n / 65536 / 256 ≡ n / 16777216 = omega arith in
+    let b₂ : n % 65536 / 256 ≡ n / 256 % 256 = omega arith in
+    let b₃ : n % 65536 % 256 ≡ n % 256 = omega arith in
+    rw (ez, ey, ex, add-assoc (k * 8) 2 1, add-assoc (k * 8) 6 1, b₀, b₂, b₃) (eight s (k * 8) _ _ _ _ _ _ _ _ (omega arith))
 
 -- eight bytes at a record's place are the bytes of r: then r is read there
 pub bytes-read : (s : List ℕ) (k : ℕ) (r : Route) → Ranged r → ((j : ℕ) → j < 8 → getD s (k * 8 + j) 0 ≡ getD (bytesOf r) j 0) → recordAt s k ≡ r

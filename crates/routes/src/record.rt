@@ -1,8 +1,8 @@
 // One record of eight bytes: read, and written into a lent list.
 use crate::Route;
 ghost use mathlib.Core.Path.{_≡_};
-ghost use Prim.Native.Nat.{_+_, _*_, _≤_, _<_, _^_};
-ghost use lib.ListN.{length};
+ghost use Prim.Native.Nat.{_+_, _*_, _/_, _%_, _≤_, _<_, _^_};
+ghost use lib.ListN.{length, set};
 ghost use Rattle.routes.specs.Route.{key};
 ghost use Rattle.routes.specs.Record.{word32, word16, recordAt, putAt};
 
@@ -31,21 +31,26 @@ fn address64(a: u32) -> u64
     a as u64
 }
 
-// Four bytes from a place on, as a number.
-fn word_at(list: &[u8], at: usize) -> u32
-    requires { ⌜ at + 4 ≤ length (now list) ⌝ }
-    ensures { λ r. ⌜ r ≡ word32 (now (list .entry)) at ⌝ }
-{
-    ((wide(list[at]) * 256 + wide(list[at + 1])) * 256 + wide(list[at + 2])) * 256
-        + wide(list[at + 3])
-}
-
-// Two bytes.
+// Two bytes from a place on, as a number.
 fn half_at(list: &[u8], at: usize) -> u16
     requires { ⌜ at + 2 ≤ length (now list) ⌝ }
     ensures { λ r. ⌜ r ≡ word16 (now (list .entry)) at ⌝ }
 {
     wide16(list[at]) * 256 + wide16(list[at + 1])
+}
+
+fn wide_half(h: u16) -> u32
+    ensures { λ r. ⌜ (r ≡ h) × (r < 65536) ⌝ }
+{
+    h as u32
+}
+
+// Four bytes.
+fn word_at(list: &[u8], at: usize) -> u32
+    requires { ⌜ at + 4 ≤ length (now list) ⌝ }
+    ensures { λ r. ⌜ r ≡ word32 (now (list .entry)) at ⌝ }
+{
+    wide_half(half_at(list, at)) * 65536 + wide_half(half_at(list, at + 2))
 }
 
 // The route of record k.
@@ -78,6 +83,15 @@ pub fn key_at(list: &[u8], k: usize) -> u64
     key_of(word_at(list, at), list[at + 4])
 }
 
+// Two bytes from a place on are made those of a number.
+fn put_half(list: &mut [u8], at: usize, h: u16)
+    requires { ⌜ at + 2 ≤ length (now list) ⌝ }
+    ensures { λ _. ⌜ now (list .exit) ≡ set (set (now (list .entry)) at (h / 256)) (at + 1) (h % 256) ⌝ }
+{
+    list[at] = (h / 256) as u8;
+    list[at + 1] = (h % 256) as u8;
+}
+
 // Record k of the list is made `r`, and nothing else changes.
 pub fn write_record(list: &mut [u8], k: usize, r: Route)
     requires { ⌜ (k + 1) * 8 ≤ length (now list) ⌝ }
@@ -85,13 +99,9 @@ pub fn write_record(list: &mut [u8], k: usize, r: Route)
 {
     let at = k * 8;
     let addr = r.addr;
-    let hop = r.hop;
-    list[at] = (addr / 16777216) as u8;
-    list[at + 1] = (addr / 65536 % 256) as u8;
-    list[at + 2] = (addr / 256 % 256) as u8;
-    list[at + 3] = (addr % 256) as u8;
+    put_half(list, at, (addr / 65536) as u16);
+    put_half(list, at + 2, (addr % 65536) as u16);
     list[at + 4] = r.len;
     list[at + 5] = r.spare;
-    list[at + 6] = (hop / 256) as u8;
-    list[at + 7] = (hop % 256) as u8;
+    put_half(list, at + 6, r.hop);
 }

@@ -104,6 +104,22 @@ next : (R : Hops) (a k l q : ℕ) → k ≡ suc l → a / 2 ^ (32 - l) ≡ q →
 unfolding longest
 next R a k l q e f = rw (e, f)
 
+-- the first l bits of a, from its first 4 * m + 4 bits x
+cut-path : (a m e l n x q : ℕ) → m + suc e ≡ 8 → l + n ≡ 4 * m + 4 → a / 2 ^ (4 * e) ≡ x → x / 2 ^ n ≡ q → a / 2 ^ (32 - l) ≡ q
+cut-path a m e l n x q d s h f = let t : 32 - l ≡ 4 * e + n = omega arith in rw (t, ← shr-shr a (4 * e) n, h) f
+
+by-two : (p v : ℕ) → (p * 16 + v) / 2 ≡ p * 8 + v / 2
+by-two p v = omega arith
+
+by-four : (p v : ℕ) → (p * 16 + v) / 4 ≡ p * 4 + v / 4
+by-four p v = omega arith
+
+by-eight : (p v : ℕ) → (p * 16 + v) / 8 ≡ p * 2 + v / 8
+by-eight p v = omega arith
+
+by-sixteen : (p v : ℕ) → v < 16 → (p * 16 + v) / 16 ≡ p
+by-sixteen p v h = omega arith
+
 module _ (R : Hops) (ws hs : List ℕ) (a m i p : ℕ) (best : Place) (r : Rep hs best (longest R a (4 * m))) where
   none-rep : Rep hs (betterOf (bitsOf ws i) (baseOf ws i) 15 best) (longest R a (4 * m))
   unfolding betterOf
@@ -125,19 +141,11 @@ module _ (R : Hops) (ws hs : List ℕ) (a m i p : ℕ) (best : Place) (r : Rep h
   inner-rep : NodeOf R ws hs 4 m i p → (e v : ℕ) → m + suc e ≡ 8 → v < 16 → a / 2 ^ (4 * e) ≡ p * 16 + v → Rep hs (betterOf (bitsOf ws i) (baseOf ws i) (deepestOf (bitsOf ws i) v) best) (longest R a (4 * m + 4))
   unfolding deepestOf
   inner-rep k e v d h x =
-      let s3 : 32 - (4 * m + 3) ≡ 4 * e + 1 = omega arith in
-      let s2 : 32 - (4 * m + 2) ≡ 4 * e + 2 = omega arith in
-      let s1 : 32 - (4 * m + 1) ≡ 4 * e + 3 = omega arith in
-      let s0 : 32 - 4 * m ≡ 4 * e + 4 = omega arith in
-      let q3 : a / 2 ^ (32 - (4 * m + 3)) ≡ p * 8 + v / 2 = rw (s3, ← shr-shr a (4 * e) 1, x) (omega arith) in
-      let q2 : a / 2 ^ (32 - (4 * m + 2)) ≡ p * 4 + v / 4 = rw (s2, ← shr-shr a (4 * e) 2, x) (omega arith) in
-      let q1 : a / 2 ^ (32 - (4 * m + 1)) ≡ p * 2 + v / 8 = rw (s1, ← shr-shr a (4 * e) 3, x) (omega arith) in
-      let q0 : a / 2 ^ (32 - 4 * m) ≡ p = rw (s0, ← shr-shr a (4 * e) 4, x) (omega arith) in
       rw (
-        next R a (4 * m + 4) (4 * m + 3) (p * 8 + v / 2) (omega arith) q3,
-        next R a (4 * m + 3) (4 * m + 2) (p * 4 + v / 4) (omega arith) q2,
-        next R a (4 * m + 2) (4 * m + 1) (p * 2 + v / 8) (omega arith) q1,
-        next R a (4 * m + 1) (4 * m) p (omega arith) q0,
+        next R a (4 * m + 4) (4 * m + 3) (p * 8 + v / 2) (omega arith) (cut-path a m e (4 * m + 3) 1 _ _ d (omega arith) x (by-two p v)),
+        next R a (4 * m + 3) (4 * m + 2) (p * 4 + v / 4) (omega arith) (cut-path a m e (4 * m + 2) 2 _ _ d (omega arith) x (by-four p v)),
+        next R a (4 * m + 2) (4 * m + 1) (p * 2 + v / 8) (omega arith) (cut-path a m e (4 * m + 1) 3 _ _ d (omega arith) x (by-eight p v)),
+        next R a (4 * m + 1) (4 * m) p (omega arith) (cut-path a m e (4 * m) 4 _ _ d (omega arith) x (by-sixteen p v h)),
       )
       (try-rep R hs _ _ (7 + v / 2) (4 * m + 3) (p * 8 + v / 2) _ _ best (omega arith) (k .holds 3 (v / 2) (omega arith) (omega arith))
       (try-rep R hs _ _ (3 + v / 4) (4 * m + 2) (p * 4 + v / 4) _ _ best (omega arith) (k .holds 2 (v / 4) (omega arith) (omega arith))

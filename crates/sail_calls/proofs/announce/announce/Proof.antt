@@ -1,6 +1,6 @@
 -- `sail_calls::announce::announce` meets its contract. Assumes nothing.
+use mathlib.Core.Path.{refl}
 use Rattle.sail_calls.proofs.Adds.{announce-refused}
-use borrow.Author.Needs.{needs}
 use Rattle.sail_calls.proofs.announce.announce.Statement.{statement}
 use Rattle.sail_calls.proofs.announce.announce.Tie as tie
 
@@ -8,19 +8,19 @@ pub announce-spec : {M : Type 1} → statement M
 announce-spec =
     tie.close
     (tie.spec
-    (λ c κs. search needs)
-    (λ c. search needs)
-    (λ c. search needs)
-    (λ c. search needs)
-    (λ c. search needs)
-    (λ c. search needs)
-    (λ c. search needs)
+    (λ c κs. tt)
+    (λ c. refl)
+    (λ c. refl)
+    (λ c. refl)
+    (λ c. refl)
+    (λ c. refl)
+    (λ c. refl)
     (λ c. announce-refused _ _ _ _ _ _ (c .before .judge-announce .ensures) (c .if1 .taken))
     (λ c κs. c .before .before .before .before .before .before .before .judge-announce .ensures .on (c .before .before .before .before .before .before .if1 .left))
-    (λ c. search needs)
-    (λ c. search needs)
-    (λ c. search needs)
-    (λ c. search needs)
-    (λ c. search needs)
-    (λ c. search needs)
-    (λ c. search needs))
+    (λ c. c .before .before .before .before .before .before .before .before .before .before .before .before .add .kept .1 .0)
+    (λ c. c .before .before .before .before .before .before .before .before .before .before .before .before .add .kept .1 .1 .0)
+    (λ c. c .before .before .before .before .before .before .before .before .before .before .before .before .add .kept .1 .1 .1 .0)
+    (λ c. c .before .before .before .before .before .before .before .before .before .before .before .before .add .kept .1 .1 .1 .1 .0)
+    (λ c. c .before .before .before .before .before .before .before .before .before .before .before .before .add .kept .1 .1 .1 .1 .1 .0)
+    (λ c. c .before .before .before .before .before .before .before .before .before .before .before .before .add .kept .1 .1 .1 .1 .1 .1 .0)
+    (λ c. c .before .before .before .before .before .before .before .before .before .before .before .before .add .ensures))

@@ -1,0 +1,18 @@
+-- `routes::record::put_half` meets its contract. Assumes nothing.
+use mathlib.Core.Path.{refl}
+use native.Mathlib.Omega.{arith}
+use lib.ListN.{length-set}
+use Rattle.routes.proofs.record.put_half.Statement.{statement}
+use Rattle.routes.proofs.record.put_half.Tie as tie
+
+pub put-half-spec : {M : Type 1} → statement M
+put-half-spec =
+    tie.close
+    (tie.spec
+    (λ c. omega arith)
+    (λ c. omega arith)
+    (λ c. omega arith)
+    (λ c. omega arith)
+    (λ c. simp length-set (omega arith))
+    (λ c. simp length-set)
+    (λ c. refl))

@@ -1,0 +1,19 @@
+-- `routes::record::word_at` meets its contract. Assumes nothing.
+use native.Mathlib.Omega.{arith}
+use borrow.Author.Needs.{needs}
+use Rattle.routes.proofs.Puts.{word-halves}
+use Rattle.routes.proofs.record.word_at.Statement.{statement}
+use Rattle.routes.proofs.record.word_at.Tie as tie
+
+pub word-at-spec : {M : Type 1} → statement M
+word-at-spec =
+    tie.close
+    (tie.spec
+    (λ c κs. omega arith)
+    (λ c κs. tt)
+    (λ c. omega arith)
+    (λ c. search needs)
+    (λ c κs. omega arith)
+    (λ c κs. tt)
+    (λ c. omega arith)
+    (λ c. search word-halves))
