@@ -81,9 +81,6 @@ module _ (p1 p2 n : ℕ) (e1 : p1 ≡ 16) (e2 : p2 ≡ 24) where
   pub look-standard : (l : Lent) (a r : ℕ) → r ≡ packFound (lookupSaid (tableOf 16 24 n) l a) → r ≡ packFound (lookupSaid (tableOf p1 p2 n) l a)
   look-standard l a r q = q ∙ ap (λ (t : Table). packFound (lookupSaid t l a)) standard-table
 
-  pub many-standard : (l : Lent) (ads xs ys : List ℕ) (r : ℕ) → wordsCard r ys ≡ manyCard (tableOf 16 24 n) l ads xs → wordsCard r ys ≡ manyCard (tableOf p1 p2 n) l ads xs
-  many-standard l ads xs ys r q = q ∙ ap (λ (t : Table). manyCard t l ads xs) standard-table
-
 -- the tally
 module _ (s xs : List ℕ) where
   pub tally-short : (length xs ≡ 33 → ⊥) → wordsCard 2 xs ≡ tallyCard s xs
