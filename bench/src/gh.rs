@@ -2,6 +2,30 @@
 
 use crate::hand::Lent;
 use crate::sys;
+use std::hint::black_box;
+
+/// gh_lookup, and whatever has the same arguments.
+pub type Look = unsafe extern "C" fn(
+    u32,
+    u32,
+    u32,
+    *const u8,
+    usize,
+    *const u16,
+    usize,
+    *const u16,
+    usize,
+    *const u16,
+    usize,
+    *const u32,
+    usize,
+    *const u32,
+    usize,
+    u32,
+) -> u64;
+
+/// gh_tree_lookup, and whatever has the same arguments.
+pub type TreeLook = unsafe extern "C" fn(*const u32, usize, *const u16, usize, u32) -> u64;
 
 pub struct Table {
     pub p1: u32,
@@ -111,19 +135,13 @@ impl Table {
         accepted("report", read!(sys::gh_report, self, ()))
     }
 
-    /// gh_lookup for each address.
+    /// One call for each address: gh_lookup, or one with the same arguments. Both go through a pointer that the compiler
+    /// does not see through. Where it does see what is called, it leaves out the arguments that are not used.
     #[inline(never)]
-    pub fn lookup_each(&self, addrs: &[u32], out: &mut [u32]) {
+    pub fn each(&self, look: Look, addrs: &[u32], out: &mut [u32]) {
+        let look = black_box(look);
         for (o, &addr) in out.iter_mut().zip(addrs) {
-            *o = read!(sys::gh_lookup, self, (addr)) as u32;
-        }
-    }
-
-    /// The call by hand for each address, with the same arguments.
-    #[inline(never)]
-    pub fn hand_each(&self, addrs: &[u32], out: &mut [u32]) {
-        for (o, &addr) in out.iter_mut().zip(addrs) {
-            *o = read!(crate::hand::hand_lookup, self, (addr)) as u32;
+            *o = read!(look, self, (addr)) as u32;
         }
     }
 
@@ -154,22 +172,13 @@ impl Image {
         }
     }
 
+    /// One call for each address, as for tables.
     #[inline(never)]
-    pub fn lookup_each(&self, addrs: &[u32], out: &mut [u32]) {
+    pub fn each(&self, look: TreeLook, addrs: &[u32], out: &mut [u32]) {
+        let look = black_box(look);
         let (words, hops) = (&self.words, &self.hops);
         for (o, &addr) in out.iter_mut().zip(addrs) {
-            let answer = unsafe { sys::gh_tree_lookup(words.as_ptr(), words.len(), hops.as_ptr(), hops.len(), addr) };
-            *o = answer as u32;
-        }
-    }
-
-    #[inline(never)]
-    pub fn hand_each(&self, addrs: &[u32], out: &mut [u32]) {
-        let (words, hops) = (&self.words, &self.hops);
-        for (o, &addr) in out.iter_mut().zip(addrs) {
-            let answer =
-                unsafe { crate::hand::hand_tree_lookup(words.as_ptr(), words.len(), hops.as_ptr(), hops.len(), addr) };
-            *o = answer as u32;
+            *o = unsafe { look(words.as_ptr(), words.len(), hops.as_ptr(), hops.len(), addr) } as u32;
         }
     }
 }

@@ -30,13 +30,10 @@ unsafe fn walk(p1: u32, p2: u32, first: &[u16], second: &[u16], third: &[u16], a
     3 << 8 | ((c & 0x7FFF) as u64) << 16
 }
 
-/// A call with the same arguments as gh_lookup. It has an outside name, so that the compiler can neither drop arguments
-/// nor draw it into its caller.
+/// A call with the same arguments as gh_lookup.
 ///
 /// # Safety
 /// The table is sound.
-#[no_mangle]
-#[inline(never)]
 #[allow(clippy::too_many_arguments)]
 pub unsafe extern "C" fn hand_lookup(
     p1: u32,
@@ -124,8 +121,6 @@ impl Dir248 {
 ///
 /// # Safety
 /// The image was built.
-#[no_mangle]
-#[inline(never)]
 pub unsafe extern "C" fn hand_tree_lookup(
     words: *const u32,
     words_len: usize,

@@ -256,11 +256,11 @@ fn lookups(rounds: usize, table: &Table, image: &Image, dir: &Dir248, rte: bool,
         let (first, rest) = out.split_at_mut(1);
         let first = &mut first[0];
         table.lookup_many(addrs, first);
-        table.lookup_each(addrs, &mut rest[0]);
+        table.each(sys::gh_lookup, addrs, &mut rest[0]);
         agree(EACH, first, &rest[0], 0, u32::MAX);
         unsafe { hand::lookup_many(table.lent(), addrs, &mut rest[0]) };
         agree(HAND_MANY, first, &rest[0], 0, u32::MAX);
-        table.hand_each(addrs, &mut rest[0]);
+        table.each(hand::hand_lookup, addrs, &mut rest[0]);
         agree(HAND_EACH, first, &rest[0], 0, u32::MAX);
         unsafe { dir.lookup_many(addrs, &mut rest[0]) };
         agree(DIR, first, &rest[0], 16, 0xFFFF);
@@ -270,9 +270,9 @@ fn lookups(rounds: usize, table: &Table, image: &Image, dir: &Dir248, rte: bool,
                 agree(name, first, &rest[0], 16, 0xFFFF);
             }
         }
-        image.lookup_each(addrs, &mut rest[0]);
+        image.each(sys::gh_tree_lookup, addrs, &mut rest[0]);
         agree(TREE, first, &rest[0].iter().map(|x| x >> 16).collect::<Vec<_>>(), 16, 0xFFFF);
-        image.hand_each(addrs, &mut rest[1]);
+        image.each(hand::hand_tree_lookup, addrs, &mut rest[1]);
         agree(HAND_TREE, &rest[0], &rest[1], 0, u32::MAX);
     }
     // All write to one array: where an array lies in memory shows in the times.
@@ -281,11 +281,11 @@ fn lookups(rounds: usize, table: &Table, image: &Image, dir: &Dir248, rte: bool,
     let mut contenders = vec![
         contender(MANY, || table.lookup_many(addrs, black_box(&mut out()))),
         contender(HAND_MANY, || unsafe { hand::lookup_many(table.lent(), addrs, black_box(&mut out())) }),
-        contender(EACH, || table.lookup_each(addrs, black_box(&mut out()))),
-        contender(HAND_EACH, || table.hand_each(addrs, black_box(&mut out()))),
+        contender(EACH, || table.each(sys::gh_lookup, addrs, black_box(&mut out()))),
+        contender(HAND_EACH, || table.each(hand::hand_lookup, addrs, black_box(&mut out()))),
         contender(DIR, || unsafe { dir.lookup_many(addrs, black_box(&mut out())) }),
-        contender(TREE, || image.lookup_each(addrs, black_box(&mut out()))),
-        contender(HAND_TREE, || image.hand_each(addrs, black_box(&mut out()))),
+        contender(TREE, || image.each(sys::gh_tree_lookup, addrs, black_box(&mut out()))),
+        contender(HAND_TREE, || image.each(hand::hand_tree_lookup, addrs, black_box(&mut out()))),
     ];
     if rte {
         for (name, look) in dpdk::LOOKS {
