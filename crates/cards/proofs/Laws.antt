@@ -8,8 +8,9 @@ use borrow.Author.Count.{below-more}
 use borrow.Author.Tests.{eq-eqb, ne-eqb}
 use lib.ListN.{length, getD, set, replicate}
 use lib.Seq.{getD-set-same, getD-set-other, ext-getD}
-use Rattle.bits.proofs.Tabs.{is-tabulate, length-tabulate}
+use Rattle.bits.proofs.Tabs.{is-tabulate, length-tabulate, getD-tabulate}
 use Rattle.bits.specs.Count.{count}
+use Rattle.bits.specs.Tab.{tabulate}
 use Rattle.routes.specs.Said.{Said, accepts}
 use Rattle.routes.specs.Input.{inputSaid}
 use Rattle.routes.specs.Answers.{saysInput}
@@ -21,6 +22,8 @@ use Rattle.sail.specs.Walk.{foundSaid, lookupSaid}
 use Rattle.sail.specs.declared.geometry.Geometry.{Geometry}
 use Rattle.sail.specs.declared.table.Table.{Table}
 use Rattle.sail.proofs.Steps.{look-on, look-not}
+use Rattle.sail_many.specs.Words.{answerAt}
+use Rattle.sail_many.proofs.Answers.{answer-is}
 use Rattle.sail_theory.specs.Calls.{Out, out}
 use Rattle.tree_build.specs.Built as tree
 use Rattle.sail.specs.Word.{packed, packFound, Word}
@@ -63,6 +66,14 @@ module _ (t : Table) (l : Lent) (ads xs : List ℕ) (r : ℕ) (told : Checked r 
   many-all e n ys m h =
       rw (eq-eqb (sizesFault (t .geometry) l) 0 (sym (told .number) ∙ e), eq-eqb (length xs) (length ads) n)
       (ap (wordsCard 0) (is-tabulate 0 ys (length ads) (λ (k : ℕ). lowWalk (t .geometry) l (getD ads k 0)) m h))
+
+  -- the words of addresses that went their way through cells of 16 bits
+  pub many-answers : r ≡ 0 → length xs ≡ length ads → ((i : ℕ) → getD (l .first) i 0 < 65536) → ((i : ℕ) → getD (l .second) i 0 < 65536) → ((i : ℕ) → getD (l .third) i 0 < 65536) → (ys : List ℕ)
+      → ys ≡ tabulate (length ads) (answerAt (t .geometry .p1) (t .geometry .p2) (l .first) (l .second) (length (l .own2)) (l .third) (length (l .own3)) ads) → wordsCard 0 ys ≡ manyCard t l ads xs
+  many-answers e n b1 b2 b3 ys q =
+      many-all e n ys (ap length q ∙ length-tabulate (length ads) _)
+      (λ k h. ap (λ (zs : List ℕ). getD zs k 0) q ∙ getD-tabulate (length ads) _ k 0 h
+      ∙ (let w = answer-is (t .geometry) l (getD ads k 0) (told .facts e) b1 b2 b3 in word-low _ _ (w .is) (w .fits)))
 
 -- one address, after the check of the sizes
 module _ (t : Table) (l : Lent) (a r : ℕ) (told : Checked r (t .geometry) l) where

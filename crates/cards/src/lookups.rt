@@ -8,6 +8,7 @@ use sail::geometry::Geometry;
 use sail::lookup::walk;
 use sail::table::Table;
 use sail::table::sizes;
+use sail_many::flow::many;
 
 // One lookup.
 fn look(
@@ -106,7 +107,6 @@ fn look_each(
 ) -> u64
     ensures { λ r. ⌜ wordsCard r (now (out .exit)) ≡ manyCard t (lent (now (list .entry)) (now (first .entry)) (now (second .entry)) (now (third .entry)) (now (own2 .entry)) (now (own3 .entry))) (now (addrs .entry)) (now (out .entry)) ⌝ }
 {
-    let geometry = t.geometry;
     let z = sizes(t, list, first, second, third, own2, own3);
     if z != 0 {
         return z as u64;
@@ -114,11 +114,20 @@ fn look_each(
     if out.len() != addrs.len() {
         return 2;
     }
-    let mut i = 0;
-    while i < addrs.len() {
-        out[i] = walk(geometry, list, first, second, third, own2, own3, addrs[i]);
-        i += 1;
-    }
+    let g = t.geometry;
+    let p1 = g.p1;
+    let p2 = g.p2;
+    many(
+        p1,
+        p2,
+        first,
+        second,
+        own2.len(),
+        third,
+        own3.len(),
+        addrs,
+        out,
+    );
     0
 }
 

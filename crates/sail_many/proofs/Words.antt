@@ -1,0 +1,99 @@
+-- One word and one step of it. Assumes nothing.
+use mathlib.Core.Bool.{true, false}
+use mathlib.Core.List.{List}
+use mathlib.Core.Logic.{_⊎_, inl, inr}
+use mathlib.Core.Path.{_≡_, refl, sym, ap, _∙_}
+use Prim.Native.Nat.{ℕ, _+_, _-_, _*_, _/_, _%_, _^_, _≤_, _<_}
+use native.Mathlib.Nat.{mod-lt, mul-le-mul-left, mul-le-mul-right}
+use native.Mathlib.Omega.{arith}
+use lib.Arith.{digits-lt}
+use lib.Dec.{leb, eqb}
+use lib.ListN.{length, getD, set}
+use lib.Pow.{pow-pos, pow-mono, shl-exact}
+use lib.Seq.{set-getD}
+use borrow.Author.Tests.{le-leb, lt-leb, eq-eqb, ne-eqb}
+use Rattle.bits.specs.Slot.{slot}
+use Rattle.bits.proofs.Slots.{shl-one, slot-lt}
+use Rattle.bits.proofs.Tests.{below?}
+use Rattle.sail.specs.Walk.{place, oneOf}
+use Rattle.sail_many.specs.Words.{cellWord, chunkOf, word2, word3, thirdWord, put, Firsts, Whole, Points}
+
+-- the first cell of an address is there
+pub first-there : (p1 n a : ℕ) → Firsts p1 n → a < 2 ^ 32 → slot p1 a < n
+first-there p1 n a h b = omega (arith, slot-lt p1 a (omega arith) b)
+
+-- a place in a pool, by a shift and a remainder
+pub size-there : (k : ℕ) → k ≤ 10 → 0 < 1 * 2 ^ k % 2 ^ 64
+size-there k h = omega (arith, shl-one 64 k (omega arith), pow-pos k)
+
+module _ (n m k c i : ℕ) (h : Whole n m k) (b : c < m) where
+  begins : c * 2 ^ k % 2 ^ 64 ≡ c * 2 ^ k
+  begins = shl-exact 12 k 64 (omega arith) (omega arith)
+
+  pub spot-is : c * 2 ^ k % 2 ^ 64 + i % (1 * 2 ^ k % 2 ^ 64) ≡ place k (c + 1) i
+  spot-is = rw (begins, shl-one 64 k (omega arith)) (ap (λ (x : ℕ). x * 2 ^ k + i % 2 ^ k) (omega arith))
+
+  pub spot-in : c * 2 ^ k % 2 ^ 64 + i % (1 * 2 ^ k % 2 ^ 64) < n
+  spot-in = rw (begins, shl-one 64 k (omega arith)) (omega (arith, digits-lt b (mod-lt i (pow-pos k))))
+
+  pub spot-small : c * 2 ^ k % 2 ^ 64 + i % (1 * 2 ^ k % 2 ^ 64) < 4096 * 1024
+  spot-small = omega (arith, spot-in, mul-le-mul-right (2 ^ k) (h .few), mul-le-mul-left 4096 (pow-mono (h .size)))
+
+-- where a word leads, from the chunk that the code counts from 0
+module _ (m w c : ℕ) (e : Points c w) (few : m ≤ 4096) where
+  pub leads-is : c < m → chunkOf w ≡ c + 1
+  leads-is b = omega arith
+
+  pub leads-on : c < m → oneOf m (chunkOf w) ≡ true
+  leads-on b = rw (leads-is b, le-leb 1 (c + 1) (omega arith), le-leb (c + 1) m (omega arith))
+
+  pub leads-off : m ≤ c → oneOf m (chunkOf w) ≡ false
+  leads-off b = go (below? (c + 32769) (2 ^ 64))
+    where
+      go : (c + 32769 < 2 ^ 64) ⊎ (2 ^ 64 ≤ c + 32769) → oneOf m (chunkOf w) ≡ false
+      go (inl f) = rw (le-leb 1 (chunkOf w) (omega arith), lt-leb (chunkOf w) m (omega arith))
+      go (inr f) = rw (lt-leb 1 (chunkOf w) (omega arith))
+
+-- a word goes down, or stays
+module _ (p1 p2 : ℕ) (second : List ℕ) (m a w c : ℕ) (e : Points c w) (few : m ≤ 4096) where
+  pub goes-down : c < m → (v : ℕ) → v ≡ getD second (place (p2 - p1) (c + 1) (slot p2 a)) 0 → (x : ℕ) → x ≡ cellWord 2 v → x ≡ word2 p1 p2 second m a w
+  unfolding word2
+  goes-down b v q x z = z ∙ rw (leads-on m w c e few b, leads-is m w c e few b, q)
+
+  pub goes-not : m ≤ c → w ≡ word2 p1 p2 second m a w
+  unfolding word2
+  goes-not b = rw (leads-off m w c e few b)
+
+-- a word that is an answer stays; one that is none yet
+module _ (p2 : ℕ) (third : List ℕ) (m a w : ℕ) where
+  pub stays : w < 2147483648 → w ≡ word3 p2 third m a w
+  unfolding word3
+  stays h = rw (lt-leb 2147483648 w h)
+
+  module _ (h : 2147483648 ≤ w) where
+    pub off-first : (w / 256 % 256 ≡ 2 → ⊥) → 5 ≡ word3 p2 third m a w
+    unfolding word3
+    off-first n = rw (le-leb 2147483648 w h, ne-eqb (w / 256 % 256) 2 n)
+
+    module _ (r : w / 256 % 256 ≡ 2) (c : ℕ) (e : Points c w) (few : m ≤ 4096) where
+      pub off-second : m ≤ c → 5 ≡ word3 p2 third m a w
+      unfolding word3
+      off-second b = rw (le-leb 2147483648 w h, eq-eqb (w / 256 % 256) 2 r, leads-off m w c e few b)
+
+      module _ (b : c < m) (v : ℕ) (q : v ≡ getD third (place (32 - p2) (c + 1) a) 0) where
+        pub third-leaf : 32768 ≤ v → (x : ℕ) → x ≡ cellWord 3 v → x ≡ word3 p2 third m a w
+        unfolding word3 thirdWord
+        third-leaf f x z = z ∙ rw (le-leb 2147483648 w h, eq-eqb (w / 256 % 256) 2 r, leads-on m w c e few b, leads-is m w c e few b, ← q, le-leb 32768 v f)
+
+        pub off-third : v < 32768 → 5 ≡ word3 p2 third m a w
+        unfolding word3 thirdWord
+        off-third f = rw (le-leb 2147483648 w h, eq-eqb (w / 256 % 256) 2 r, leads-on m w c e few b, leads-is m w c e few b, ← q, lt-leb 32768 v f)
+
+-- a step is put, or nothing is to be written
+pub put-is : (f : ℕ → ℕ → ℕ) (j : ℕ) (out : List ℕ) (v : ℕ) → v ≡ f j (getD out j 0) → set out j v ≡ put f j out
+unfolding put
+put-is f j out v e = ap (set out j) e
+
+pub put-not : (f : ℕ → ℕ → ℕ) (j : ℕ) (out : List ℕ) → getD out j 0 ≡ f j (getD out j 0) → out ≡ put f j out
+unfolding put
+put-not f j out e = sym (set-getD out j 0) ∙ ap (set out j) e

@@ -1,0 +1,30 @@
+-- `sail_many::flow::stream` meets its contract: after i rounds, 2 i turns are done. Assumes nothing.
+use borrow.Author.Needs.{needs}
+use native.Mathlib.Omega.{arith}
+use mathlib.Core.Path.{sym, _∙_}
+use Prim.Native.Nat.{ℕ, _-_, _*_, _≤_}
+use Rattle.sail_many.specs.Words.{Flows}
+use Rattle.sail_many.proofs.Flows.{flows-at}
+use Rattle.sail_many.proofs.flow.stream.Statement.{statement}
+use Rattle.sail_many.proofs.flow.stream.Tie as tie
+
+abbrev Inv-loop : tie.InvT-loop
+Inv-loop p1 p2 first second chunks2 third chunks3 addrs out₀ half i₀ out i = (i ≤ half) × Flows p1 p2 first second chunks2 third chunks3 addrs (2 * i) out
+
+abbrev μ-loop : tie.MeasureT-loop
+μ-loop p1 p2 first second chunks2 third chunks3 addrs out₀ half i₀ out i = half - i
+
+pub stream-spec : {M : Type 1} → statement M
+stream-spec =
+    tie.close
+    (tie.spec
+    Inv-loop
+    μ-loop
+    (λ c. (search needs, c .before .before .before .before .before .pre .2))
+    (λ c. omega arith)
+    (λ c κs. (search needs, omega arith, search needs))
+    (λ c. omega arith)
+    (λ c. omega arith)
+    (λ c. (omega arith, flows-at _ _ _ _ _ _ _ _ _ _ _ (omega arith) (c .before .before .round .ensures)))
+    (λ c. c .before .loop .inv .1 .even ∙ sym (c .before .before .before .before .before .before .before .pre .2 .even))
+    (λ c. flows-at _ _ _ _ _ _ _ _ _ _ _ (omega arith) (c .before .loop .inv .1)))
