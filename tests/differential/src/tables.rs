@@ -110,8 +110,9 @@ fn any_call(rng: &mut Rng, field: &Field, t: &Pair, standing: &[Route]) -> Call 
         4..=6 => to_withdraw(rng, field, standing),
         7 | 8 => Call::Report,
         9 => {
-            let n = rng.range(0, 5);
-            let room = if rng.one_in(3) { rng.range(0, 6) } else { n };
+            // From sixteen addresses on the library takes them by turns.
+            let n = rng.range(0, 40);
+            let room = if rng.one_in(3) { rng.range(0, 41) } else { n };
             Call::LookupMany((0..n).map(|_| field.addr(rng)).collect(), room)
         }
         10 => to_load(rng, field, t),
