@@ -24,7 +24,7 @@ use Rattle.routes.specs.declared.Route.{Route}
 use Rattle.sail.specs.Geometry.{standardGeo, bits2, bits3, validGeo}
 use Rattle.sail.specs.Level.{liveIn, entry}
 use Rattle.sail.specs.Lent.{Lent}
-use Rattle.sail.specs.Sizes.{lengthsFit, sizesFault, Sized}
+use Rattle.sail.specs.Sizes.{sizesFit, sizesFault, Sized}
 use Rattle.sail.specs.Walk.{hopSaid}
 use Rattle.sail.specs.declared.geometry.Geometry.{Geometry}
 use Rattle.sail.specs.declared.table.Table.{Table}
@@ -145,7 +145,7 @@ last-agrees (c ∷ cs) = run-says table arrays sized c cs ∙ ap (λ (rs : List 
 
 -- bare arrays have the right sizes in every geometry that is within the limits
 make-agrees : (g : Geometry) → answer (make g) ≡ paper (make g)
-unfolding answer paper makeSaid sizesFault lengthsFit bare
+unfolding answer paper makeSaid sizesFault sizesFit bare
 make-agrees g = rw (length-replicate {A = ℕ} (2 ^ g .p1) 0, eq-eqb (2 ^ g .p1) (2 ^ g .p1) refl, zero-mul (2 ^ bits2 g), zero-mul (2 ^ bits3 g)) (go (validGeo g))
   where
     go : (b : Bool) → orSay (cond b 0 1) (accepted []) ≡ cond b (accepted []) (refused 1)

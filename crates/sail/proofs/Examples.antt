@@ -7,7 +7,7 @@ use lib.ListN.{replicate}
 use Rattle.routes.specs.Said.{accepted}
 use Rattle.sail.specs.Geometry.{standardGeo, validGeo}
 use Rattle.sail.specs.Lent.{Lent, lent}
-use Rattle.sail.specs.Sizes.{lengthsFit, sizesFault}
+use Rattle.sail.specs.Sizes.{sizesFit, sizesFault}
 use Rattle.sail.specs.Walk.{hopSaid, stepSaid, walkSaid, foundSaid, lookupSaid}
 use Rattle.sail.specs.declared.table.Table.{Table}
 
@@ -36,5 +36,5 @@ lentA = lent listA
 
 lookups : map (lookupSaid tableA lentA) (ip 10 1 2 200 ∷ ip 10 1 2 5 ∷ ip 10 1 3 1 ∷ ip 10 2 0 1 ∷ ip 192 0 2 1 ∷ [])
     ≡ accepted (3 ∷ 57 ∷ []) ∷ accepted (3 ∷ 44 ∷ []) ∷ accepted (2 ∷ 31 ∷ []) ∷ accepted (1 ∷ 20 ∷ []) ∷ accepted (1 ∷ 6 ∷ []) ∷ []
-unfolding tableA listA lentA validGeo lengthsFit sizesFault hopSaid stepSaid walkSaid foundSaid lookupSaid
+unfolding tableA listA lentA validGeo sizesFit sizesFault hopSaid stepSaid walkSaid foundSaid lookupSaid
 lookups = refl

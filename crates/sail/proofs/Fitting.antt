@@ -7,12 +7,12 @@ use native.Mathlib.Nat.{mul-le-mul}
 use native.Mathlib.Omega.{arith}
 use lib.Dec.{eqb, leb}
 use lib.ListN.{length}
-use borrow.Author.Tests.{leb-true, le-leb, eqb-true, eq-eqb}
+use borrow.Author.Tests.{leb-true, le-leb, lt-leb, eqb-true, eq-eqb, ne-eqb}
 use Rattle.bits.specs.Tab.{Tells}
 use Rattle.bits.proofs.Tests.{both, and-split, untrue, decided}
-use Rattle.sail.specs.Geometry.{bits2, validGeo, Valid}
+use Rattle.sail.specs.Geometry.{bits2, bits3, validGeo, Valid}
 use Rattle.sail.specs.Lent.{Lent}
-use Rattle.sail.specs.Sizes.{lengthsFit, sizesFault, Sized, Checked}
+use Rattle.sail.specs.Sizes.{sizesFit, lengthsFit, sizesFault, Sized, Checked}
 use Rattle.sail.specs.declared.geometry.Geometry.{Geometry}
 use Rattle.sail.proofs.Geos.{valid-is}
 
@@ -20,9 +20,52 @@ use Rattle.sail.proofs.Geos.{valid-is}
 pub product-fits : {a b : ℕ} → a ≤ 4096 → b ≤ 1024 → a * b < 2 ^ 64
 product-fits {a} {b} h k = omega (arith, mul-le-mul h k)
 
--- a pool of o chunks of b cells has another size
-pub pool-off : (n o b k : ℕ) → (n ≡ o * b → ⊥) → b ≡ 2 ^ k → n ≡ o * 2 ^ k → ⊥
-pool-off n o b k h e q = h (q ∙ ap (λ (x : ℕ). o * x) (sym e))
+-- the test of the lengths, as the code takes it
+module _ (g : Geometry) (n a b c d e : ℕ) where
+  pub off-whole : (n % 8 ≡ 0 → ⊥) → false ≡ sizesFit g n a b c d e
+  unfolding sizesFit
+  off-whole h = rw (ne-eqb (n % 8) 0 h)
+
+  module _ (h1 : n % 8 ≡ 0) where
+    pub off-room : 32768 < n → false ≡ sizesFit g n a b c d e
+    unfolding sizesFit
+    off-room h = rw (eq-eqb (n % 8) 0 h1, lt-leb n (4096 * 8) h)
+
+    module _ (h2 : n ≤ 32768) (x : ℕ) (q1 : x ≡ 2 ^ g .p1) where
+      pub off-first : (a ≡ x → ⊥) → false ≡ sizesFit g n a b c d e
+      unfolding sizesFit
+      off-first h = rw (eq-eqb (n % 8) 0 h1, le-leb n (4096 * 8) h2, ne-eqb a (2 ^ g .p1) (λ q. h (q ∙ sym q1)))
+
+      module _ (h3 : a ≡ x) where
+        pub off-few2 : 4096 < d → false ≡ sizesFit g n a b c d e
+        unfolding sizesFit
+        off-few2 h = rw (eq-eqb (n % 8) 0 h1, le-leb n (4096 * 8) h2, eq-eqb a (2 ^ g .p1) (h3 ∙ q1), lt-leb d 4096 h)
+
+        module _ (h4 : d ≤ 4096) (y : ℕ) (q2 : y ≡ 2 ^ bits2 g) where
+          pub off-second : (b ≡ d * y → ⊥) → false ≡ sizesFit g n a b c d e
+          unfolding sizesFit
+          off-second h =
+              rw (
+                eq-eqb (n % 8) 0 h1,
+                le-leb n (4096 * 8) h2,
+                eq-eqb a (2 ^ g .p1) (h3 ∙ q1),
+                le-leb d 4096 h4,
+                ne-eqb b (d * 2 ^ bits2 g) (λ q. h (q ∙ ap (λ (z : ℕ). d * z) (sym q2))),
+              )
+
+          module _ (h5 : b ≡ d * y) where
+            on-second : eqb b (d * 2 ^ bits2 g) ≡ true
+            on-second = eq-eqb b (d * 2 ^ bits2 g) (h5 ∙ ap (λ (z : ℕ). d * z) q2)
+
+            pub off-few3 : 4096 < e → false ≡ sizesFit g n a b c d e
+            unfolding sizesFit
+            off-few3 h = rw (eq-eqb (n % 8) 0 h1, le-leb n (4096 * 8) h2, eq-eqb a (2 ^ g .p1) (h3 ∙ q1), le-leb d 4096 h4, on-second, lt-leb e 4096 h)
+
+            pub on-few3 : e ≤ 4096 → (z : ℕ) → z ≡ 2 ^ bits3 g → eqb c (e * z) ≡ sizesFit g n a b c d e
+            unfolding sizesFit
+            on-few3 h z q3 =
+                rw (eq-eqb (n % 8) 0 h1, le-leb n (4096 * 8) h2, eq-eqb a (2 ^ g .p1) (h3 ∙ q1), le-leb d 4096 h4, on-second, le-leb e 4096 h)
+                (ap (λ (x : ℕ). eqb c (e * x)) q3)
 
 -- what each number rests on: exactly one of the three holds
 pub data Fault (g : Geometry) (l : Lent) : ℕ → Type 0 where
@@ -32,7 +75,7 @@ pub data Fault (g : Geometry) (l : Lent) : ℕ → Type 0 where
 
 module _ (g : Geometry) (l : Lent) where
   fitting : Valid g → lengthsFit g l ≡ true → Sized g l
-  unfolding lengthsFit
+  unfolding sizesFit
   fitting v e =
       let e1 = and-split (eqb (length (l .list) % 8) 0) _ e in
       let e2 = and-split (leb (length (l .list)) (4096 * 8)) _ (e1 .1) in
@@ -52,7 +95,7 @@ module _ (g : Geometry) (l : Lent) where
       }
 
   fit : Sized g l → lengthsFit g l ≡ true
-  unfolding lengthsFit
+  unfolding sizesFit
   fit s =
       both (eq-eqb _ _ (s .whole))
       (both (le-leb _ _ (s .room))
@@ -83,11 +126,11 @@ module _ (g : Geometry) (l : Lent) where
       geometry (inl e) (inr f) = let v = valid-is g .0 e in let n : Sized g l → ⊥ = λ s. true≢false (sym (fit s) ∙ f) in rw (size-is v n) (size v n)
 
   -- the three answers of the check
-  pub checked-0 : Sized g l → Checked 0 g l
-  checked-0 s = record { number = sym (none-is s); facts = λ e. s }
+  pub checked-0 : (b : Bool) → Valid g → b ≡ lengthsFit g l → b ≡ true → Checked 0 g l
+  checked-0 b v e h = let s = fitting v (sym e ∙ h) in record { number = sym (none-is s); facts = λ e. s }
 
   pub checked-1 : (b : Bool) → Tells b (Valid g) → b ≡ false → Checked 1 g l
   checked-1 b t n = record { number = sym (limits-is (λ v. true≢false (sym (t .1 v) ∙ n))); facts = λ e. absurd (omega arith) }
 
-  pub checked-2 : (b : Bool) → Valid g → Tells b (Sized g l) → b ≡ false → Checked 2 g l
-  checked-2 b v t n = record { number = sym (size-is v (λ s. true≢false (sym (t .1 s) ∙ n))); facts = λ e. absurd (omega arith) }
+  pub checked-2 : (b : Bool) → Valid g → b ≡ lengthsFit g l → b ≡ false → Checked 2 g l
+  checked-2 b v e n = record { number = sym (size-is v (λ s. true≢false (sym (fit s) ∙ sym e ∙ n))); facts = λ e. absurd (omega arith) }

@@ -10,15 +10,19 @@ use Rattle.sail.specs.declared.geometry.Geometry.{Geometry}
 
 -- "the list, 0 to 4,096 records of room; 2^p1 first cells; a second pool of 0 to 4,096 chunks of 2^(p2 - p1) cells; a third pool of
 -- 0 to 4,096 chunks of 2^(32 - p2) cells; for each pool an owner number for each chunk"
-unfoldable pub lengthsFit : Geometry → Lent → Bool
-lengthsFit g l =
-    eqb (length (l .list) % 8) 0
-    && (leb (length (l .list)) (4096 * 8)
-    && (eqb (length (l .first)) (2 ^ g .p1)
-    && (leb (length (l .own2)) 4096
-    && (eqb (length (l .second)) (length (l .own2) * 2 ^ bits2 g)
-    && (leb (length (l .own3)) 4096
-    && eqb (length (l .third)) (length (l .own3) * 2 ^ bits3 g))))))
+unfoldable pub sizesFit : Geometry → ℕ → ℕ → ℕ → ℕ → ℕ → ℕ → Bool
+sizesFit g list first second third own2 own3 =
+    eqb (list % 8) 0
+    && (leb list (4096 * 8)
+    && (eqb first (2 ^ g .p1)
+    && (leb own2 4096
+    && (eqb second (own2 * 2 ^ bits2 g)
+    && (leb own3 4096
+    && eqb third (own3 * 2 ^ bits3 g))))))
+
+-- so have the arrays that are lent
+abbrev pub lengthsFit : Geometry → Lent → Bool
+lengthsFit g l = sizesFit g (length (l .list)) (length (l .first)) (length (l .second)) (length (l .third)) (length (l .own2)) (length (l .own3))
 
 -- 1: the geometry is outside the limits; else 2: a size is wrong; else 0
 unfoldable pub sizesFault : Geometry → Lent → ℕ

@@ -1,8 +1,8 @@
 // The state of a table, and the sizes of what is lent with it.
-ghost use Rattle.bits.specs.Tab.{Tells};
+ghost use mathlib.Core.Path.{_≡_};
 ghost use Rattle.sail.specs.Geometry.{Valid};
 ghost use Rattle.sail.specs.Lent.{lent};
-ghost use Rattle.sail.specs.Sizes.{Sized, Checked};
+ghost use Rattle.sail.specs.Sizes.{sizesFit, Checked};
 use crate::geometry::Geometry;
 
 // The state: the geometry, and how many routes the list holds.
@@ -11,41 +11,38 @@ pub struct Table {
     pub count: u32,
 }
 
-// Whether each lent array has the size that the geometry asks for.
+// Whether arrays of these lengths are what the geometry asks for.
 fn lengths(
     g: Geometry,
-    list: &[u8],
-    first: &[u16],
-    second: &[u16],
-    third: &[u16],
-    own2: &[u32],
-    own3: &[u32],
+    list: usize,
+    first: usize,
+    second: usize,
+    third: usize,
+    own2: usize,
+    own3: usize,
 ) -> bool
     requires { ⌜ Valid g ⌝ }
-    ensures { λ r. ⌜ Tells r (Sized g (lent (now (list .entry)) (now (first .entry)) (now (second .entry)) (now (third .entry)) (now (own2 .entry)) (now (own3 .entry)))) ⌝ }
+    ensures { λ r. ⌜ r ≡ sizesFit g list first second third own2 own3 ⌝ }
 {
-    if list.len() % 8 != 0 {
+    if list % 8 != 0 {
         return false;
     }
-    if 32768 < list.len() {
+    if 32768 < list {
         return false;
     }
-    if first.len() != g.first_cells() {
+    if first != g.first_cells() {
         return false;
     }
-    if 4096 < own2.len() {
+    if 4096 < own2 {
         return false;
     }
-    if second.len() != own2.len() * g.second_chunk() {
+    if second != own2 * g.second_chunk() {
         return false;
     }
-    if 4096 < own3.len() {
+    if 4096 < own3 {
         return false;
     }
-    if third.len() != own3.len() * g.third_chunk() {
-        return false;
-    }
-    true
+    third == own3 * g.third_chunk()
 }
 
 // 1 where the geometry is outside the limits, 2 where a lent array has another size than it asks for, and 0 where all fit.
@@ -62,7 +59,15 @@ pub fn sizes(
 {
     let g = t.geometry;
     if g.valid() {
-        if lengths(g, list, first, second, third, own2, own3) {
+        if lengths(
+            g,
+            list.len(),
+            first.len(),
+            second.len(),
+            third.len(),
+            own2.len(),
+            own3.len(),
+        ) {
             return 0;
         }
         return 2;

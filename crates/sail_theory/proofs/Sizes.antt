@@ -9,7 +9,7 @@ use Rattle.routes.specs.Said.{accepted, andThen, accepts}
 use Rattle.routes.specs.declared.Route.{Route}
 use Rattle.sail.specs.Geometry.{bits2, bits3}
 use Rattle.sail.specs.Lent.{Lent}
-use Rattle.sail.specs.Sizes.{lengthsFit, sizesFault, Sized}
+use Rattle.sail.specs.Sizes.{sizesFit, sizesFault, Sized}
 use Rattle.sail.specs.Sound.{freshTable, freshLent}
 use Rattle.sail.specs.declared.geometry.Geometry.{Geometry}
 use Rattle.sail.specs.declared.table.Table.{Table}
@@ -57,7 +57,7 @@ module _ (t : Table) (l : Lent) (u : Table) (v : Lent) (geo : u .geometry ≡ t 
   terms-same = rw (geo, s .list, s .chunks2, s .chunks3)
 
   pub fault-same : sizesFault (u .geometry) v ≡ sizesFault (t .geometry) l
-  unfolding sizesFault lengthsFit
+  unfolding sizesFault sizesFit
   fault-same = rw (geo, s .list, s .first, s .second, s .third, s .chunks2, s .chunks3)
 
   none-same : noOwners v ≡ noOwners l

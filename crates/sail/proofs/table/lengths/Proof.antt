@@ -1,8 +1,7 @@
 -- `sail::table::lengths` meets its contract. Assumes nothing.
 use borrow.Author.Needs.{needs}
 use native.Mathlib.Omega.{arith}
-use Rattle.sail.proofs.Geos.{told, not-told}
-use Rattle.sail.proofs.Fitting.{product-fits, pool-off}
+use Rattle.sail.proofs.Fitting.{product-fits, off-whole, off-room, off-first, off-few2, off-second, off-few3, on-few3}
 use Rattle.sail.proofs.table.lengths.Statement.{statement}
 use Rattle.sail.proofs.table.lengths.Tie as tie
 
@@ -10,25 +9,15 @@ pub lengths-spec : {M : Type 1} → statement M
 lengths-spec =
     tie.close
     (tie.spec
-    (λ c. not-told (λ s. omega arith))
-    (λ c. not-told (λ s. omega arith))
+    (λ c. search off-whole)
+    (λ c. search off-room)
     (λ c κs. search needs)
-    (λ c. not-told (λ s. omega arith))
-    (λ c. not-told (λ s. omega arith))
-    (λ c κs. search needs)
-    (λ c. record { fits = product-fits (omega arith) (omega arith) })
-    (λ c. not-told (λ s. pool-off _ _ _ _ (c .if5 .taken) (c .before .second-chunk .ensures .is) (s .cells2)))
-    (λ c. not-told (λ s. omega arith))
+    (λ c. search off-first)
+    (λ c. search off-few2)
     (λ c κs. search needs)
     (λ c. record { fits = product-fits (omega arith) (omega arith) })
-    (λ c. not-told (λ s. pool-off _ _ _ _ (c .if7 .taken) (c .before .third-chunk .ensures .is) (s .cells3)))
-    (λ c. told (record {
-      valid = search needs;
-      whole = search needs;
-      room = search needs;
-      cells1 = search needs;
-      few2 = search needs;
-      cells2 = cc;
-      few3 = search needs;
-      cells3 = cc;
-    })))
+    (λ c. search off-second)
+    (λ c. search off-few3)
+    (λ c κs. search needs)
+    (λ c. record { fits = product-fits (omega arith) (omega arith) })
+    (λ c. search on-few3))

@@ -10,6 +10,6 @@ sizes-spec =
     (tie.spec
     (λ c κs. search needs)
     (λ c κs. c .before .valid .ensures .0 (c .if1 .taken))
-    (λ c. checked-0 _ _ (c .before .lengths .ensures .0 (c .if2 .taken)))
+    (λ c. checked-0 _ _ _ (c .before .before .before .valid .ensures .0 (c .before .before .if1 .taken)) (c .before .lengths .ensures) (c .if2 .taken))
     (λ c. checked-2 _ _ _ (c .before .before .before .valid .ensures .0 (c .before .before .if1 .taken)) (c .before .lengths .ensures) (c .if2 .left))
     (λ c. checked-1 _ _ _ (c .before .valid .ensures) (c .if1 .left)))
