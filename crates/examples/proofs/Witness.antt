@@ -10,12 +10,13 @@ use lib.ListN.{getD, length, replicate, List·getD-map}
 use Rattle.bits.specs.Slot.{slot, cut}
 use Rattle.bits.specs.Search.{firstFrom, firstOf}
 use Rattle.bits.specs.Tab.{tabulate}
-use Rattle.routes.specs.Route.{any, Good}
+use Rattle.routes.specs.Route.{Good}
+use Rattle.standing.specs.Cells.{any}
 use Rattle.routes.specs.Record.{recordAt, routesOf, written}
 use Rattle.routes.specs.Input.{properPrefix, hopFine, routeFault, inOrder, faultAt, inputSaid}
 use Rattle.routes.specs.Said.{Said, accepted, refused, accepts}
 use Rattle.routes.specs.Answers.{saysInput, saysGot, routeSaid}
-use Rattle.routes.specs.Standing.{routeAt}
+use Rattle.standing.specs.Standing.{routeAt}
 use Rattle.routes.specs.declared.input.Input.the-variants as ofInput
 use Rattle.routes.specs.declared.input.Got.the-variants as got
 use Rattle.routes.specs.declared.Route.{Route}

@@ -4,8 +4,9 @@ use mathlib.Core.Bool.{Bool, cond}
 use mathlib.Core.List.{List, [], _∷_}
 use Prim.Native.Nat.{ℕ}
 use lib.Dec.{eqb, ltb}
-use Rattle.routes.specs.Route.{key, any}
+use Rattle.routes.specs.Route.{key}
+use Rattle.standing.specs.Cells.{any}
 use Rattle.routes.specs.declared.Route.{Route}
 
 -- the route is the one of this prefix
 abbrev pub isAt : ℕ → Route → Bool

@@ -9,8 +9,9 @@ use native.Mathlib.Omega.{arith}
 use lib.Dec.{eqb, ltb, leb}
 use lib.Pow.{shr-lt}
 use borrow.Author.Tests.{ltb-true, ltb-false, leb-true, eqb-true, eqb-false, lt-ltb, eq-eqb, ne-eqb, le-ltb}
-use Rattle.routes.specs.Route.{within, any, long, need, Fine, Good}
+use Rattle.routes.specs.Route.{Fine, Good}
+use Rattle.standing.specs.Cells.{within, any, long, need}
 use Rattle.routes.specs.declared.Route.{Route}
 use Rattle.bits.specs.Slot.{slot, cut}
 use Rattle.bits.specs.Count.{bit, count}
 use Rattle.bits.proofs.Slots.{slot-lt}

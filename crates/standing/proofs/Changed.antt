@@ -10,11 +10,12 @@ use lib.ListN.{length}
 use borrow.Author.Tests.{eqb-true, ne-eqb}
 use Rattle.bits.specs.Slot.{slot}
 use Rattle.bits.proofs.Tests.{decided, or-none}
-use Rattle.routes.specs.Route.{any, long, best, key, keyOf, Fine, Good}
-use Rattle.routes.specs.Standing.{isAt, stands, insert, remove}
+use Rattle.routes.specs.Route.{key, keyOf, Fine, Good}
+use Rattle.standing.specs.Cells.{any, long, best}
+use Rattle.standing.specs.Standing.{isAt, stands, insert, remove}
 use Rattle.routes.specs.declared.Route.{Route}
-use Rattle.routes.proofs.Frame.{frame-long, frame-best}
-use Rattle.routes.proofs.Standing.{insert-but, remove-but}
+use Rattle.standing.proofs.Frame.{frame-long, frame-best}
+use Rattle.standing.proofs.Standing.{insert-but, remove-but}
 
 -- cell i of level p lies under the prefix a of l bits
 abbrev pub Under : ℕ → ℕ → ℕ → ℕ → Type 0

@@ -10,13 +10,14 @@ use native.Mathlib.Omega.{arith}
 use lib.Dec.{eqb, ltb, leb}
 use lib.Pow.{pow-add, shr-shr}
 use borrow.Author.Tests.{leb-true, le-leb, eqb-true, eq-eqb}
-use Rattle.routes.specs.Route.{here, covers, first, orElse, best, Longest, Best, key, Prefix, Fine, Good, lastHop}
+use Rattle.routes.specs.Route.{key, Prefix, Fine, Good}
+use Rattle.standing.specs.Cells.{here, covers, first, orElse, best, Longest, Best, lastHop}
 use Rattle.routes.specs.declared.Route.{Route}
 use Rattle.bits.specs.Slot.{slot, cut}
 use Rattle.bits.proofs.Tests.{and-split, both, untrue, decided}
 use Rattle.bits.proofs.Slots.{slot-up, cut-le, cut-is}
 use Rattle.routes.proofs.Goods.{good-fine}
-use Rattle.routes.proofs.Longest.{cover-parts, best-is}
+use Rattle.standing.proofs.Longest.{cover-parts, best-is}
 
 -- where a route covers a cell, the cells of the levels above the route are the same
 pub slot-cover : (p i l : ℕ) (s : Route) → s .len ≤ 32 → covers p i s ≡ true → l ≤ s .len → slot l (s .addr) ≡ i / 2 ^ (p - l)

@@ -10,13 +10,13 @@ use native.Mathlib.Nat.{le-refl, le-step}
 use lib.Dec.{eqb, ltb, leb}
 use lib.ListN.{length}
 use borrow.Author.Tests.{ltb-true, ltb-false, leb-true, eqb-true, eqb-false, lt-ltb, le-ltb, le-leb, eq-eqb, ne-eqb}
-use Rattle.routes.specs.Route.{key, keyOf, any, first, long, within, here}
+use Rattle.routes.specs.Route.{key, keyOf, Fine, Good}
+use Rattle.standing.specs.Cells.{any, first, long, within, here}
 use Rattle.routes.specs.declared.Route.{Route}
 use Rattle.bits.proofs.Tests.{decided, both, and-split, or-split, or-none, fails, untrue}
-use Rattle.routes.proofs.Frame.{SameBut}
-use Rattle.routes.specs.Route.{Fine, Good}
-use Rattle.routes.specs.Standing.{isAt, stands, insert, remove, Held, absent, stood, routeAt}
+use Rattle.standing.proofs.Frame.{SameBut}
+use Rattle.standing.specs.Standing.{isAt, stands, insert, remove, Held, absent, stood, routeAt}
 use Rattle.routes.proofs.Goods.{key-parts, good-fine}
 
 -- the three cases of `insert`, as equations
 module _ (r s : Route) (ss : List Route) where

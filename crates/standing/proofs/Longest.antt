@@ -9,8 +9,8 @@ use native.Mathlib.Nat.{div-one, le-of-suc-le-suc, lt-of-not-le}
 use native.Mathlib.Omega.{arith}
 use lib.Dec.{eqb, ltb, leb}
 use borrow.Author.Tests.{leb-true, le-leb, eqb-true, eq-eqb}
-use Rattle.routes.specs.Route.{here, covers, first, orElse, best, Longest, Best}
+use Rattle.standing.specs.Cells.{here, covers, first, orElse, best, Longest, Best}
 use Rattle.routes.specs.declared.Route.{Route}
 use Rattle.bits.specs.Slot.{slot, cut}
 use Rattle.bits.proofs.Tests.{and-split, both, untrue, decided}
 use Rattle.bits.proofs.Slots.{half-pow}

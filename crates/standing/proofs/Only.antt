@@ -8,11 +8,12 @@ use native.Mathlib.Omega.{arith}
 use lib.Dec.{leb, eqb}
 use borrow.Author.Tests.{le-leb}
 use Rattle.bits.specs.Slot.{slot}
-use Rattle.routes.specs.Route.{covers, Longest, Best, best, key, Fine, Good}
+use Rattle.routes.specs.Route.{key, Fine, Good}
+use Rattle.standing.specs.Cells.{covers, Longest, Best, best}
 use Rattle.routes.specs.declared.Route.{Route}
 use Rattle.routes.proofs.Goods.{good-fine}
-use Rattle.routes.proofs.Longest.{best-is}
-use Rattle.routes.proofs.Paint.{nested, same-route}
+use Rattle.standing.proofs.Longest.{best-is}
+use Rattle.standing.proofs.Paint.{nested, same-route}
 
 -- a route covers an address when the first bits, as many as its length, agree
 pub covers-address : (r : Route) (a : ℕ) → r .len ≤ 32 → covers 32 a r ≡ eqb (slot (r .len) (r .addr)) (slot (r .len) a)

@@ -9,8 +9,8 @@ use native.Mathlib.Nat.{div-one, add-zero, add-suc}
 use native.Mathlib.Omega.{arith}
 use lib.Dec.{eqb, ltb}
 use borrow.Author.Tests.{ltb-true, eqb-true}
-use Rattle.routes.specs.Route.{here, within, any, first, orElse, long, best}
+use Rattle.standing.specs.Cells.{here, within, any, first, orElse, long, best}
 use Rattle.routes.specs.declared.Route.{Route}
 use Rattle.bits.specs.Slot.{slot, cut}
 use Rattle.bits.proofs.Tests.{and-split, untrue}
 use Rattle.bits.proofs.Slots.{half-pow}

@@ -10,8 +10,8 @@ use native.Mathlib.Omega.{arith}
 use lib.Dec.{eqb, ltb, leb}
 use lib.Pow.{shr-shr}
 use borrow.Author.Tests.{ltb-true, ltb-false, leb-true, eqb-true, lt-ltb, eq-eqb}
-use Rattle.routes.specs.Route.{here, within, any, first, orElse, long, best}
+use Rattle.standing.specs.Cells.{here, within, any, first, orElse, long, best}
 use Rattle.routes.specs.declared.Route.{Route}
 use Rattle.bits.specs.Slot.{slot}
 use Rattle.bits.proofs.Slots.{slot-up, half-pow}
 use Rattle.bits.proofs.Tests.{decided, both, and-split, or-split, or-none, fails}
