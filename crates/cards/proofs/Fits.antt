@@ -18,7 +18,7 @@ use Rattle.routes.specs.Answers.{routeSaid}
 use Rattle.routes.specs.Said.{Said, accepted, refused, accepts}
 use Rattle.routes.proofs.Meaning.{WrongRoute, WrongRecord, Checked, input-checked, input-good}
 use Rattle.routes.proofs.Rows.{length-routes, records-good}
-use Rattle.lists.specs.Run.{pastKey, runStart, runCount, runSaid}
+use Rattle.runs.specs.Run.{pastKey, runStart, runCount, runSaid}
 use Rattle.lists.proofs.Places.{place-le}
 use Rattle.sail.specs.Lent.{Lent}
 use Rattle.sail.specs.Level.{entry}

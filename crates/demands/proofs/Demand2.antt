@@ -26,7 +26,7 @@ use Rattle.standing.proofs.Longest.{best-is}
 use Rattle.routes.proofs.Meaning.{input-checked}
 use Rattle.standing.proofs.Only.{best-only, covers-none}
 use Rattle.routes.proofs.Rows.{Place, listed-nth, length-routes, nth-route}
-use Rattle.lists.proofs.Runs.{part-record, part-good}
+use Rattle.runs.proofs.Runs.{part-record, part-good}
 use Rattle.sail.specs.Lent.{Lent}
 use Rattle.sail.specs.Sound.{Sound, standing, cellsRead}
 use Rattle.sail.specs.Walk.{hopSaid, lookupSaid}

@@ -22,9 +22,9 @@ use Rattle.routes.specs.declared.input.Got.the-variants as got
 use Rattle.routes.specs.declared.Route.{Route}
 use Rattle.routes.proofs.Meaning.{prefix-true}
 use Rattle.lists.specs.Place.{placeOf}
-use Rattle.lists.specs.Run.{runSaid, saysRunCheck}
-use Rattle.lists.specs.Tally.{tallyOf}
-use Rattle.lists.specs.declared.run.RunCheck.the-variants as runCheck
+use Rattle.runs.specs.Run.{runSaid, saysRunCheck}
+use Rattle.runs.specs.Tally.{tallyOf}
+use Rattle.runs.specs.declared.run.RunCheck.the-variants as runCheck
 use Rattle.sail.specs.Geometry.{standardGeo, validGeo}
 use Rattle.sail.specs.Lent.{Lent}
 use Rattle.sail.specs.Sizes.{sizesFault}

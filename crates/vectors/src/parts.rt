@@ -1,8 +1,8 @@
-// The run under a prefix, and the tally.
+// Parts of an input: the run under a prefix, and the tally.
 use crate::samples;
-use lists::run;
-use lists::run::RunCheck;
-use lists::tally;
+use runs::run;
+use runs::run::RunCheck;
+use runs::tally;
 use words::print;
 
 fn said(answer: RunCheck) {

@@ -1,20 +1,20 @@
--- `lists::run::run` meets its contract: the part that the check found, or the empty part at the start. Assumes nothing.
+-- `runs::run::run` meets its contract: the part that the check found, or the empty part at the start. Assumes nothing.
 use mathlib.Core.Path.{_≡_, refl, sym, ap, _∙_}
 use mathlib.Core.Logic.{⊎-elim}
 use mathlib.Core.List.{[], _∷_}
 use mathlib.Core.Bool.{false}
 use native.Mathlib.Omega.{arith}
 use Rattle.routes.specs.Said.{accepted, accepts}
-use Rattle.lists.specs.Run.{runSaid, saysRunCheck}
-use Rattle.lists.specs.declared.run.RunCheck.{RunCheck}
-use Rattle.lists.specs.declared.run.RunCheck.the-variants.{Run, Refused, TooMany, NoPrefix}
-use Rattle.lists.proofs.Runs.{run-room, is-run, no-run}
+use Rattle.runs.specs.Run.{runSaid, saysRunCheck}
+use Rattle.runs.specs.declared.run.RunCheck.{RunCheck}
+use Rattle.runs.specs.declared.run.RunCheck.the-variants.{Run, Refused, TooMany, NoPrefix}
+use Rattle.runs.proofs.Runs.{run-room, is-run, no-run}
 use borrow.Author.Needs.{needs}
-use Rattle.lists.proofs.run.run.Statement.{statement}
-use Rattle.lists.proofs.run.run.Tie as tie
+use Rattle.runs.proofs.run.run.Statement.{statement}
+use Rattle.runs.proofs.run.run.Tie as tie
 
 -- what came to the `else` is no run
-not-run : (x : RunCheck) → types.Run.OneOf (1 ∷ 2 ∷ 3 ∷ []) (denote.Enum.Declared.tagOf Rattle.lists.proofs.run.RunCheck.the-type x) → accepts (saysRunCheck x) ≡ false
+not-run : (x : RunCheck) → types.Run.OneOf (1 ∷ 2 ∷ 3 ∷ []) (denote.Enum.Declared.tagOf Rattle.runs.proofs.run.RunCheck.the-type x) → accepts (saysRunCheck x) ≡ false
 unfolding saysRunCheck
 not-run (Run start count) h = absurd (⊎-elim (λ (e : 0 ≡ 1). omega arith) (⊎-elim (λ (e : 0 ≡ 2). omega arith) (λ (e : 0 ≡ 3). omega arith)) h)
 not-run (Refused f k) h = refl

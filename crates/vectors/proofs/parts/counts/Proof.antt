@@ -1,9 +1,9 @@
--- `vectors::runs::counts` is safe and ends. Assumes nothing.
+-- `vectors::parts::counts` is safe and ends. Assumes nothing.
 use Prim.Native.Nat.{_-_, _≤_}
 use native.Mathlib.Omega.{arith}
 use borrow.Author.Needs.{needs}
-use Rattle.vectors.proofs.runs.counts.Statement.{statement}
-use Rattle.vectors.proofs.runs.counts.Tie as tie
+use Rattle.vectors.proofs.parts.counts.Statement.{statement}
+use Rattle.vectors.proofs.parts.counts.Tie as tie
 
 abbrev Inv-loop : tie.InvT-loop
 Inv-loop list counts l₀ l = l ≤ 33

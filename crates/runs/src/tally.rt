@@ -6,7 +6,7 @@ ghost use mathlib.Core.Path.{_≡_};
 ghost use Prim.Native.Nat.{_+_, _*_, _≤_};
 ghost use lib.ListN.{length};
 ghost use Rattle.routes.specs.Record.{recordAt, Records};
-ghost use Rattle.lists.specs.Tally.{lengthsOf, IsTally};
+ghost use Rattle.runs.specs.Tally.{lengthsOf, IsTally};
 
 // The length of record k.
 fn length_at(list: &[u8], k: usize) -> usize

@@ -1,11 +1,11 @@
 // The run under a prefix: the records of that length or longer inside it. They stand together in an ascending list.
-use crate::place::place;
+use lists::place::place;
 use routes::input;
 use routes::input::Input;
 use routes::record;
 ghost use mathlib.Core.Path.{_≡_};
 ghost use Prim.Native.Nat.{_≤_};
-ghost use Rattle.lists.specs.Run.{pastKey, runSaid, saysRunCheck, IsRun};
+ghost use Rattle.runs.specs.Run.{pastKey, runSaid, saysRunCheck, IsRun};
 
 // The key of the first address after a prefix. Every record inside the prefix is before it, and every later one is not.
 fn past_key(addr: u32, len: u8) -> u64

@@ -1,8 +1,8 @@
--- `lists::tally::length_at` meets its contract. Assumes nothing.
+-- `runs::tally::length_at` meets its contract. Assumes nothing.
 use Rattle.routes.specs.Record.{recordAt}
 use borrow.Author.Needs.{needs}
-use Rattle.lists.proofs.tally.length_at.Statement.{statement}
-use Rattle.lists.proofs.tally.length_at.Tie as tie
+use Rattle.runs.proofs.tally.length_at.Statement.{statement}
+use Rattle.runs.proofs.tally.length_at.Tie as tie
 
 pub length-at-spec : {M : Type 1} → statement M
 unfolding recordAt

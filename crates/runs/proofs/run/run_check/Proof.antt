@@ -1,4 +1,4 @@
--- `lists::run::run_check` meets its contract: each arm has its law. Assumes nothing.
+-- `runs::run::run_check` meets its contract: each arm has its law. Assumes nothing.
 use mathlib.Core.Path.{_≡_, sym, _∙_}
 use mathlib.Core.List.{[], _∷_}
 use borrow.Author.Tests.{not-false}
@@ -7,10 +7,10 @@ use Rattle.routes.specs.Said.{accepted}
 use Rattle.routes.specs.Input.{inputSaid}
 use Rattle.routes.proofs.Meaning.{prefix-true, input-good}
 use Rattle.routes.proofs.Inputs.{told-good, told-refused, told-many}
-use Rattle.lists.proofs.Runs.{says-no-prefix, says-run, says-refused, says-many, run-order}
+use Rattle.runs.proofs.Runs.{says-no-prefix, says-run, says-refused, says-many, run-order}
 use borrow.Author.Needs.{needs}
-use Rattle.lists.proofs.run.run_check.Statement.{statement}
-use Rattle.lists.proofs.run.run_check.Tie as tie
+use Rattle.runs.proofs.run.run_check.Statement.{statement}
+use Rattle.runs.proofs.run.run_check.Tie as tie
 
 told : (c : tie.After-known-told) → inputSaid (c .before .before .before .before .before .args .list .now) ≡ accepted (c .before .n .given .0 .0 ∷ [])
 told c = told-good _ _ (c .before .before .before .check-input .ensures) _ (c .before .n .given .1)

@@ -11,7 +11,7 @@ use Rattle.routes.specs.Record.{recordAt}
 use Rattle.routes.specs.Input.{inputSaid}
 use Rattle.routes.specs.Answers.{saysInput}
 use Rattle.routes.specs.Said.{accepts}
-use Rattle.lists.specs.declared.tally.Tallied.{Tallied}
+use Rattle.runs.specs.declared.tally.Tallied.{Tallied}
 
 -- record k has the length l
 abbrev pub hasLength : List ℕ → ℕ → ℕ → Bool

@@ -1,12 +1,12 @@
--- `lists::tally::lengths` meets its contract. The invariant: the counts are those of the records passed. Assumes nothing.
+-- `runs::tally::lengths` meets its contract. The invariant: the counts are those of the records passed. Assumes nothing.
 use mathlib.Core.Path.{_≡_, _∙_, ap}
 use Prim.Native.Nat.{_-_, _≤_, _<_}
 use native.Mathlib.Omega.{arith}
 use lib.ListN.{getD}
-use Rattle.lists.specs.Tally.{lengthsOf}
-use Rattle.lists.proofs.Tallies.{lengths-none, length-few, one-more}
-use Rattle.lists.proofs.tally.lengths.Statement.{statement}
-use Rattle.lists.proofs.tally.lengths.Tie as tie
+use Rattle.runs.specs.Tally.{lengthsOf}
+use Rattle.runs.proofs.Tallies.{lengths-none, length-few, one-more}
+use Rattle.runs.proofs.tally.lengths.Statement.{statement}
+use Rattle.runs.proofs.tally.lengths.Tie as tie
 
 abbrev Inv-loop : tie.InvT-loop
 Inv-loop list n counts₀ k₀ counts k = (k ≤ n) × (counts ≡ lengthsOf list k)

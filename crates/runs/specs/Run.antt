@@ -8,9 +8,9 @@ use denote.Ref.{RefT, ptr, now}
 use Rattle.routes.specs.Route.{keyOf}
 use Rattle.routes.specs.Said.{Said, accepted, refused, refusedAt, andThen, accepts}
 use Rattle.routes.specs.Input.{properPrefix, inputSaid}
 use Rattle.lists.specs.Place.{placeOf}
-use Rattle.lists.specs.declared.run.RunCheck.{RunCheck}
-use Rattle.lists.specs.declared.run.RunCheck.the-variants as check
+use Rattle.runs.specs.declared.run.RunCheck.{RunCheck}
+use Rattle.runs.specs.declared.run.RunCheck.the-variants as check
 
 -- n records of s, from record j on
 abbrev pub part : List ℕ → ℕ → ℕ → List ℕ

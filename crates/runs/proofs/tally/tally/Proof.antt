@@ -1,14 +1,14 @@
--- `lists::tally::tally` meets its contract: each arm has its law. Assumes nothing.
+-- `runs::tally::tally` meets its contract: each arm has its law. Assumes nothing.
 use mathlib.Core.Path.{ap}
 use Rattle.routes.specs.Answers.{saysInput}
 use Rattle.routes.specs.declared.input.Input.{Input}
 use Rattle.routes.proofs.Meaning.{input-good}
 use Rattle.routes.proofs.Inputs.{told-good}
 use Rattle.routes.specs.Said.{accepts}
-use Rattle.lists.proofs.Tallies.{is-tally, no-tally}
+use Rattle.runs.proofs.Tallies.{is-tally, no-tally}
 use borrow.Author.Needs.{needs}
-use Rattle.lists.proofs.tally.tally.Statement.{statement}
-use Rattle.lists.proofs.tally.tally.Tie as tie
+use Rattle.runs.proofs.tally.tally.Statement.{statement}
+use Rattle.runs.proofs.tally.tally.Tie as tie
 
 pub tally-spec : {M : Type 1} → statement M
 unfolding saysInput

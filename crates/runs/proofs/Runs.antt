@@ -20,11 +20,11 @@ use Rattle.routes.specs.Record.{recordAt, Records}
 use Rattle.routes.specs.Said.{Said, accepted, refused, refusedAt, andThen, accepts}
 use Rattle.routes.specs.Input.{properPrefix, inputSaid}
 use Rattle.routes.proofs.Meaning.{prefix-true, true-prefix, input-good, good-input, Checked, ragged, stopped, many, good, input-checked}
 use Rattle.lists.specs.Place.{placeOf}
-use Rattle.lists.specs.Run.{part, pastKey, runStart, runEnd, runCount, runSaid, saysRunCheck, runOf, runAt, IsRun}
-use Rattle.lists.specs.declared.run.RunCheck.{RunCheck}
-use Rattle.lists.specs.declared.run.RunCheck.the-variants as check
+use Rattle.runs.specs.Run.{part, pastKey, runStart, runEnd, runCount, runSaid, saysRunCheck, runOf, runAt, IsRun}
+use Rattle.runs.specs.declared.run.RunCheck.{RunCheck}
+use Rattle.runs.specs.declared.run.RunCheck.the-variants as check
 use Rattle.lists.proofs.Places.{place-le, place-before, place-after, place-mono}
 
 -- a part of a list of records is a list of records
 module _ (s : List ℕ) (i n : ℕ) where

@@ -22,8 +22,8 @@ use Rattle.routes.specs.declared.input.Input.{Input}
 use Rattle.routes.specs.declared.input.Input.the-variants as input
 use Rattle.routes.proofs.Meaning.{input-good}
 use Rattle.routes.proofs.Inputs.{told-good, input-injective}
-use Rattle.lists.specs.Tally.{hasLength, lengthsOf, tallyOf, IsTally, sumBelow}
-use Rattle.lists.specs.declared.tally.Tallied.{Tallied}
+use Rattle.runs.specs.Tally.{hasLength, lengthsOf, tallyOf, IsTally, sumBelow}
+use Rattle.runs.specs.declared.tally.Tallied.{Tallied}
 
 count-le : (f : ℕ → Bool) (n : ℕ) → count f n ≤ n
 unfolding count

@@ -1,9 +1,9 @@
--- `lists::run::past_key` meets its contract. Assumes nothing.
+-- `runs::run::past_key` meets its contract. Assumes nothing.
 use native.Mathlib.Omega.{arith}
-use Rattle.lists.proofs.Runs.{size-is}
+use Rattle.runs.proofs.Runs.{size-is}
 use borrow.Author.Needs.{needs}
-use Rattle.lists.proofs.run.past_key.Statement.{statement}
-use Rattle.lists.proofs.run.past_key.Tie as tie
+use Rattle.runs.proofs.run.past_key.Statement.{statement}
+use Rattle.runs.proofs.run.past_key.Tie as tie
 
 pub past-key-spec : {M : Type 1} → statement M
 past-key-spec =
