@@ -15,8 +15,8 @@ use Rattle.routes.specs.Input.{inputSaid}
 use Rattle.routes.specs.Answers.{routeSaid}
 use Rattle.routes.specs.Said.{Said, accepted, refused, andThen, accepts}
 use Rattle.routes.proofs.Meaning.{Checked, input-checked}
-use Rattle.lists.specs.Run.{runSaid}
-use Rattle.lists.specs.Tally.{tallyOf}
+use Rattle.runs.specs.Run.{runSaid}
+use Rattle.runs.specs.Tally.{tallyOf}
 use Rattle.sail.specs.Lent.{Lent}
 use Rattle.sail.specs.Sizes.{sizesFault}
 use Rattle.sail.specs.Walk.{lookupSaid}

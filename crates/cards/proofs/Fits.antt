@@ -10,14 +10,15 @@ use lib.Dec.{eqb}
 use lib.ListN.{length}
 use borrow.Author.Tests.{eqb-false}
 use Rattle.bits.proofs.Tests.{decided}
-use Rattle.routes.specs.Route.{keyOf, need}
+use Rattle.routes.specs.Route.{keyOf}
+use Rattle.standing.specs.Cells.{need}
 use Rattle.routes.specs.Record.{recordAt, Records}
 use Rattle.routes.specs.Input.{inputSaid}
 use Rattle.routes.specs.Answers.{routeSaid}
 use Rattle.routes.specs.Said.{Said, accepted, refused, accepts}
 use Rattle.routes.proofs.Meaning.{WrongRoute, WrongRecord, Checked, input-checked, input-good}
 use Rattle.routes.proofs.Rows.{length-routes, records-good}
-use Rattle.lists.specs.Run.{pastKey, runStart, runCount, runSaid}
+use Rattle.runs.specs.Run.{pastKey, runStart, runCount, runSaid}
 use Rattle.lists.proofs.Places.{place-le}
 use Rattle.sail.specs.Lent.{Lent}
 use Rattle.sail.specs.Level.{entry}

@@ -14,8 +14,8 @@ use Rattle.bits.specs.Tab.{tabulate}
 use Rattle.routes.specs.Said.{Said, accepts}
 use Rattle.routes.specs.Input.{inputSaid}
 use Rattle.routes.specs.Answers.{saysInput}
-use Rattle.lists.specs.Tally.{IsTally, tallyOf, lengthsOf, hasLength}
-use Rattle.lists.specs.declared.tally.Tallied.{Tallied}
+use Rattle.runs.specs.Tally.{IsTally, tallyOf, lengthsOf, hasLength}
+use Rattle.runs.specs.declared.tally.Tallied.{Tallied}
 use Rattle.sail.specs.Lent.{Lent}
 use Rattle.sail.specs.Sizes.{sizesFault, Checked}
 use Rattle.sail.specs.Walk.{foundSaid, lookupSaid}

@@ -6,7 +6,7 @@ use lib.Dec.{eqb}
 use lib.ListN.{length, getD}
 use Rattle.bits.specs.Tab.{tabulate}
 use Rattle.routes.specs.Input.{inputSaid}
-use Rattle.lists.specs.Tally.{tallyOf}
+use Rattle.runs.specs.Tally.{tallyOf}
 use Rattle.sail.specs.Lent.{Lent}
 use Rattle.sail.specs.Sizes.{sizesFault}
 use Rattle.sail.specs.Walk.{lookupSaid}

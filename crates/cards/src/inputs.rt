@@ -1,7 +1,7 @@
 // The calls on record inputs.
 ghost use mathlib.Core.Path.{_≡_};
 ghost use Rattle.routes.specs.Answers.{routeSaid};
-ghost use Rattle.lists.specs.Run.{runSaid};
+ghost use Rattle.runs.specs.Run.{runSaid};
 ghost use Rattle.packing.specs.Pack.{packRun, packRoute};
 ghost use Rattle.cards.specs.Cards.{wordsCard, tallyCard};
 
@@ -10,7 +10,7 @@ ghost use Rattle.cards.specs.Cards.{wordsCard, tallyCard};
 pub extern "C" fn gh_run(input: &[u8], addr: u32, len: u8) -> u64
     ensures { λ r. ⌜ r ≡ packRun (runSaid (now (input .entry)) addr len) ⌝ }
 {
-    packing::run(lists::run::run_check(input, addr, len))
+    packing::run(runs::run::run_check(input, addr, len))
 }
 
 // One route of the input, read back.
@@ -29,7 +29,7 @@ pub extern "C" fn gh_tally(input: &[u8], out: &mut [u32]) -> u64
     if out.len() != 33 {
         return 2;
     }
-    let t = lists::tally::tally(input);
+    let t = runs::tally::tally(input);
     let answer = t.answer;
     let counts = t.counts;
     let mut k = 0;

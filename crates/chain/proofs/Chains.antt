@@ -14,10 +14,11 @@ use borrow.Author.Tests.{lt-leb, le-leb, eq-eqb}
 use Rattle.bits.specs.Slot.{slot}
 use Rattle.bits.proofs.Tests.{both, untrue}
 use Rattle.bits.proofs.Slots.{slot-up, cut-is}
-use Rattle.routes.specs.Route.{covers, best, lastHop, Fine}
+use Rattle.routes.specs.Route.{Fine}
+use Rattle.standing.specs.Cells.{covers, best, lastHop}
 use Rattle.routes.specs.declared.Route.{Route}
-use Rattle.routes.proofs.Longest.{cover-parts}
-use Rattle.routes.proofs.Paint.{best-last}
+use Rattle.standing.proofs.Longest.{cover-parts}
+use Rattle.standing.proofs.Paint.{best-last}
 use Rattle.chain.specs.Words.{routeOf, routesIn, Words}
 use Rattle.chain.specs.Place.{Placed, Between, underKey, RunFrom}
 use Rattle.chain.specs.Cover.{addrIn, LastCover, Parents, Climb, Heads, Ready}

@@ -11,7 +11,7 @@ use borrow.Author.Tests.{lt-ltb, eq-eqb, ltb-true, eqb-true}
 use Rattle.bits.specs.Slot.{slot, cut}
 use Rattle.bits.proofs.Tests.{both, and-split, untrue}
 use Rattle.bits.proofs.Slots.{cut-is, cut-le, cut-more}
-use Rattle.routes.specs.Route.{within}
+use Rattle.standing.specs.Cells.{within}
 use Rattle.chain.specs.Words.{routeOf, Words}
 use Rattle.chain.specs.Place.{Placed, underKey, RunFrom, Run}
 use Rattle.chain.specs.Cover.{addrIn}

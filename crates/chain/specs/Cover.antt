@@ -5,7 +5,7 @@ use mathlib.Core.List.{List}
 use Prim.Native.Nat.{ℕ, _+_, _-_, _*_, _/_, _<_, _≤_}
 use lib.ListN.{length, getD}
 use Rattle.bits.specs.Slot.{slot}
-use Rattle.routes.specs.Route.{covers}
+use Rattle.standing.specs.Cells.{covers}
 use Rattle.chain.specs.Words.{routeOf, Words}
 use Rattle.chain.specs.Place.{Placed}
 

@@ -4,7 +4,8 @@ use mathlib.Core.Bool.{true, false}
 use mathlib.Core.List.{List}
 use Prim.Native.Nat.{ℕ, _+_, _-_, _*_, _^_, _<_, _≤_}
 use lib.ListN.{length, getD}
-use Rattle.routes.specs.Route.{keyOf, within}
+use Rattle.routes.specs.Route.{keyOf}
+use Rattle.standing.specs.Cells.{within}
 use Rattle.chain.specs.Words.{routeOf, keyIn, Words}
 
 -- r words have a smaller key, and the others not

@@ -3,7 +3,7 @@ ghost use mathlib.Core.Path.{_≡_};
 ghost use Prim.Native.Nat.{_/_, _%_, _<_, _≤_};
 ghost use lib.ListN.{length};
 ghost use Rattle.bits.specs.Slot.{slot};
-ghost use Rattle.routes.specs.Route.{covers, best};
+ghost use Rattle.standing.specs.Cells.{covers, best};
 ghost use Rattle.chain.specs.Words.{routeOf, routesIn};
 ghost use Rattle.chain.specs.Place.{Placed, InLevel, RunFrom};
 ghost use Rattle.chain.specs.Cover.{LastCover, Parents, Climb, Room, Ready};

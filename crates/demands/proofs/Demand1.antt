@@ -16,10 +16,10 @@ use Rattle.routes.specs.Input.{inputSaid}
 use Rattle.routes.specs.Answers.{routeSaid}
 use Rattle.routes.specs.Said.{Said, accepted, refused, refusedAt, accepts}
 use Rattle.routes.proofs.Meaning.{Checked, input-checked}
-use Rattle.lists.specs.Run.{runSaid, runOf, runAt}
-use Rattle.lists.specs.Tally.{tallyOf}
-use Rattle.lists.proofs.Runs.{run-refused}
-use Rattle.lists.proofs.Tallies.{tally-refused}
+use Rattle.runs.specs.Run.{runSaid, runOf, runAt}
+use Rattle.runs.specs.Tally.{tallyOf}
+use Rattle.runs.proofs.Runs.{run-refused}
+use Rattle.runs.proofs.Tallies.{tally-refused}
 use Rattle.sail.specs.Lent.{Lent}
 use Rattle.sail.specs.Walk.{lookupSaid, saysFound}
 use Rattle.sail.specs.declared.table.Table.{Table}

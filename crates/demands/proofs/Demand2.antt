@@ -14,18 +14,19 @@ use lib.ListN.{length, getD, take}
 use lib.Dec.{eqb}
 use borrow.Author.Tests.{ne-eqb}
 use Rattle.bits.proofs.Tabs.{tabulate-ext}
-use Rattle.routes.specs.Route.{covers, Longest, Best, best, Good}
+use Rattle.routes.specs.Route.{Good}
+use Rattle.standing.specs.Cells.{covers, Longest, Best, best}
 use Rattle.routes.specs.Record.{recordAt, routesOf, noRoute}
 use Rattle.routes.specs.Input.{inputSaid}
 use Rattle.routes.specs.Answers.{valuesOf, routeSaid}
 use Rattle.routes.specs.Said.{Said, accepted, refused, refusedAt}
 use Rattle.routes.specs.declared.Route.{Route}
 use Rattle.routes.proofs.Goods.{good-fine}
-use Rattle.routes.proofs.Longest.{best-is}
+use Rattle.standing.proofs.Longest.{best-is}
 use Rattle.routes.proofs.Meaning.{input-checked}
-use Rattle.routes.proofs.Only.{best-only, covers-none}
+use Rattle.standing.proofs.Only.{best-only, covers-none}
 use Rattle.routes.proofs.Rows.{Place, listed-nth, length-routes, nth-route}
-use Rattle.lists.proofs.Runs.{part-record, part-good}
+use Rattle.runs.proofs.Runs.{part-record, part-good}
 use Rattle.sail.specs.Lent.{Lent}
 use Rattle.sail.specs.Sound.{Sound, standing, cellsRead}
 use Rattle.sail.specs.Walk.{hopSaid, lookupSaid}

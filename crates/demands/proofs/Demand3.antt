@@ -16,7 +16,7 @@ use Rattle.bits.proofs.Tests.{decided}
 use Rattle.routes.specs.Route.{Good}
 use Rattle.routes.specs.Record.{written}
 use Rattle.routes.specs.Said.{accepts}
-use Rattle.routes.specs.Standing.{routeAt}
+use Rattle.standing.specs.Standing.{routeAt}
 use Rattle.routes.specs.declared.Route.{Route}
 use Rattle.sail.specs.Lent.{Lent}
 use Rattle.sail.specs.Sizes.{Sized}

@@ -7,11 +7,11 @@ use Prim.Native.Nat.{ℕ, _/_, _^_, _<_}
 use native.Mathlib.Omega.{arith}
 use Rattle.bits.specs.Slot.{slot}
 use Rattle.bits.proofs.Tests.{decided}
-use Rattle.routes.specs.Route.{best}
+use Rattle.standing.specs.Cells.{best}
 use Rattle.routes.specs.Said.{Said, accepts}
 use Rattle.routes.specs.declared.Route.{Route}
-use Rattle.routes.proofs.Frame.{SameBut, frame-best}
-use Rattle.routes.proofs.Standing.{insert-but, remove-but}
+use Rattle.standing.proofs.Frame.{SameBut, frame-best}
+use Rattle.standing.proofs.Standing.{insert-but, remove-but}
 use Rattle.sail.specs.Lent.{Lent}
 use Rattle.sail.specs.Sound.{Sound, standing, cellsRead}
 use Rattle.sail.specs.Walk.{hopSaid, lookupSaid}

@@ -16,8 +16,8 @@ use Rattle.routes.specs.Answers.{valuesOf, routeSaid}
 use Rattle.routes.specs.Said.{Said, accepted, refused, refusedAt, accepts}
 use Rattle.routes.specs.declared.Route.{Route}
 use Rattle.routes.proofs.Meaning.{prefix-true, true-prefix, WrongRoute, WrongRecord, RightRecord, records-right, Checked, input-checked, input-good}
-use Rattle.lists.specs.Run.{runStart, runCount, runSaid}
-use Rattle.lists.proofs.Runs.{run-input-first, run-prefix-next, run-found}
+use Rattle.runs.specs.Run.{runStart, runCount, runSaid}
+use Rattle.runs.proofs.Runs.{run-input-first, run-prefix-next, run-found}
 
 -- what is wrong with a route is one thing
 wrong-fine : {r : Route} {f : ℕ} → WrongRoute r f → Fine r → ⊥

@@ -12,10 +12,10 @@ use Rattle.routes.specs.declared.input.Input.{Input}
 use Rattle.routes.specs.declared.input.Got.{Got}
 use Rattle.routes.specs.declared.input.Got.the-variants as got
 use Rattle.routes.proofs.Inputs.{input-injective}
-use Rattle.lists.specs.declared.run.RunCheck.{RunCheck}
-use Rattle.lists.specs.declared.tally.Tallied.{Tallied}
-use Rattle.lists.proofs.Runs.{run-check-injective, run-one}
-use Rattle.lists.proofs.Tallies.{tally-one}
+use Rattle.runs.specs.declared.run.RunCheck.{RunCheck}
+use Rattle.runs.specs.declared.tally.Tallied.{Tallied}
+use Rattle.runs.proofs.Runs.{run-check-injective, run-one}
+use Rattle.runs.proofs.Tallies.{tally-one}
 use Rattle.sail.specs.Lent.{Lent}
 use Rattle.sail.specs.declared.table.Table.{Table}
 use Rattle.sail.specs.declared.lookup.Found.{Found}

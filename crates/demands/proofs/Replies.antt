@@ -7,7 +7,7 @@ use Rattle.bits.specs.Count.{bit}
 use Rattle.routes.specs.Route.{keyOf}
 use Rattle.routes.specs.Input.{inputSaid}
 use Rattle.routes.specs.Said.{Said, accepted, andThen, accepts}
-use Rattle.routes.specs.Standing.{stands}
+use Rattle.standing.specs.Standing.{stands}
 use Rattle.routes.specs.declared.Route.{Route}
 use Rattle.sail.specs.Lent.{Lent}
 use Rattle.sail.specs.Sizes.{Sized}

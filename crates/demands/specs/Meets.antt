@@ -9,10 +9,10 @@ use Rattle.routes.specs.Input.{inputSaid}
 use Rattle.routes.specs.Answers.{saysInput, saysGot, routeSaid}
 use Rattle.routes.specs.declared.input.Input.{Input}
 use Rattle.routes.specs.declared.input.Got.{Got}
-use Rattle.lists.specs.Run.{runSaid, saysRunCheck, IsRun}
-use Rattle.lists.specs.Tally.{IsTally}
-use Rattle.lists.specs.declared.run.RunCheck.{RunCheck}
-use Rattle.lists.specs.declared.tally.Tallied.{Tallied}
+use Rattle.runs.specs.Run.{runSaid, saysRunCheck, IsRun}
+use Rattle.runs.specs.Tally.{IsTally}
+use Rattle.runs.specs.declared.run.RunCheck.{RunCheck}
+use Rattle.runs.specs.declared.tally.Tallied.{Tallied}
 use Rattle.sail.specs.Lent.{Lent}
 use Rattle.sail.specs.Walk.{lookupSaid, saysFound}
 use Rattle.sail.specs.declared.table.Table.{Table}

@@ -5,9 +5,10 @@ use mathlib.Core.Bool.{true, cond}
 use mathlib.Core.List.{List, [], _∷_}
 use Prim.Native.Nat.{ℕ, _*_, _^_, _<_}
 use lib.ListN.{getD, length}
-use Rattle.routes.specs.Route.{keyOf, long, best, need}
+use Rattle.routes.specs.Route.{keyOf}
+use Rattle.standing.specs.Cells.{long, best, need}
 use Rattle.routes.specs.Said.{Said, accepted, refused, refusedAt, accepts}
-use Rattle.routes.specs.Standing.{remove}
+use Rattle.standing.specs.Standing.{remove}
 use Rattle.routes.specs.declared.Route.{Route}
 use Rattle.routes.proofs.Rows.{length-routes}
 use Rattle.sail.specs.Geometry.{bits2}

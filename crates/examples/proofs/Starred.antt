@@ -14,12 +14,12 @@ use Rattle.bits.specs.Search.{firstFrom, firstOf}
 use Rattle.bits.specs.Tab.{tabulate}
 use Rattle.bits.specs.Count.{count}
 use Rattle.bits.proofs.Tests.{and-split}
-use Rattle.routes.specs.Route.{any, best, need}
-use Rattle.routes.specs.Route as route
+use Rattle.standing.specs.Cells.{any, best, need}
+use Rattle.standing.specs.Cells as cells
 use Rattle.routes.specs.Record.{recordAt, routesOf}
 use Rattle.routes.specs.Input.{properPrefix, hopFine, routeFault, inOrder, faultAt, inputSaid}
 use Rattle.routes.specs.Said.{Said, accepted, refused}
-use Rattle.routes.specs.Standing.{insert, remove}
+use Rattle.standing.specs.Standing.{insert, remove}
 use Rattle.routes.specs.declared.Route.{Route}
 use Rattle.sail.specs.Geometry.{standardGeo, bits2, bits3, validGeo}
 use Rattle.sail.specs.Level.{liveIn, entry}
@@ -154,7 +154,7 @@ make-agrees g = rw (length-replicate {A = ℕ} (2 ^ g .p1) 0, eq-eqb (2 ^ g .p1)
 
 -- the build of list A is accepted
 built-A : image .said ≡ accepted (7 ∷ 5 ∷ [])
-unfolding image built madeOf listA inputSaid firstOf firstFrom faultAt routeFault inOrder properPrefix hopFine recordAt cut routesOf tabulate any route.first picked gather kids level upTo
+unfolding image built madeOf listA inputSaid firstOf firstFrom faultAt routeFault inOrder properPrefix hopFine recordAt cut routesOf tabulate any cells.first picked gather kids level upTo
 built-A = refl
 
 tree-agrees : (a : ℕ) → ltb a (2 ^ 32) ≡ true → answer (tree a) ≡ paper (tree a)
@@ -191,7 +191,7 @@ unfolding serves starred onPaper ownedBy stood reply inputSaid listA firstOf fir
 serve-all = refl
 
 on-paper : map (λ (x : Line). paper (x .asked)) starred ≡ map (λ (x : Line). x .expected) starred
-unfolding starred paper onPaper ownedBy stood reply inputSaid listA firstOf firstFrom faultAt routeFault inOrder properPrefix hopFine recordAt cut announceFault withdrawFault loadFault chunksFault arrays table routesOf tabulate need any best route.first insert remove settled openAt2 openAt3 grant keep chunkFor shown hopSaid validGeo image built madeOf count packed picked gather bitHop setBit word kids hopsOf level upTo wordsFrom words ofImage.hops imageBy
+unfolding starred paper onPaper ownedBy stood reply inputSaid listA firstOf firstFrom faultAt routeFault inOrder properPrefix hopFine recordAt cut announceFault withdrawFault loadFault chunksFault arrays table routesOf tabulate need any best cells.first insert remove settled openAt2 openAt3 grant keep chunkFor shown hopSaid validGeo image built madeOf count packed picked gather bitHop setBit word kids hopsOf level upTo wordsFrom words ofImage.hops imageBy
 on-paper = refl
 
 pub starred-hold : Holds

@@ -10,20 +10,21 @@ use lib.ListN.{getD, length, replicate, List·getD-map}
 use Rattle.bits.specs.Slot.{slot, cut}
 use Rattle.bits.specs.Search.{firstFrom, firstOf}
 use Rattle.bits.specs.Tab.{tabulate}
-use Rattle.routes.specs.Route.{any, Good}
+use Rattle.routes.specs.Route.{Good}
+use Rattle.standing.specs.Cells.{any}
 use Rattle.routes.specs.Record.{recordAt, routesOf, written}
 use Rattle.routes.specs.Input.{properPrefix, hopFine, routeFault, inOrder, faultAt, inputSaid}
 use Rattle.routes.specs.Said.{Said, accepted, refused, accepts}
 use Rattle.routes.specs.Answers.{saysInput, saysGot, routeSaid}
-use Rattle.routes.specs.Standing.{routeAt}
+use Rattle.standing.specs.Standing.{routeAt}
 use Rattle.routes.specs.declared.input.Input.the-variants as ofInput
 use Rattle.routes.specs.declared.input.Got.the-variants as got
 use Rattle.routes.specs.declared.Route.{Route}
 use Rattle.routes.proofs.Meaning.{prefix-true}
 use Rattle.lists.specs.Place.{placeOf}
-use Rattle.lists.specs.Run.{runSaid, saysRunCheck}
-use Rattle.lists.specs.Tally.{tallyOf}
-use Rattle.lists.specs.declared.run.RunCheck.the-variants as runCheck
+use Rattle.runs.specs.Run.{runSaid, saysRunCheck}
+use Rattle.runs.specs.Tally.{tallyOf}
+use Rattle.runs.specs.declared.run.RunCheck.the-variants as runCheck
 use Rattle.sail.specs.Geometry.{standardGeo, validGeo}
 use Rattle.sail.specs.Lent.{Lent}
 use Rattle.sail.specs.Sizes.{sizesFault}

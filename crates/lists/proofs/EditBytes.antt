@@ -8,10 +8,10 @@ use lib.ListN.{length, getD, set, take, drop, length-append, length-drop, length
 use lib.Seq.{ext-getD, getD-set-same, getD-set-other, getD-take, getD-drop, length-take-le, getD-append-add}
 use Rattle.bits.proofs.Tests.{below?, equal?}
 use Rattle.routes.specs.Route.{key, Good}
-use Rattle.routes.specs.Standing.{insert, remove}
+use Rattle.standing.specs.Standing.{insert, remove}
 use Rattle.routes.specs.Record.{recordAt, bytesOf, putAt, routesOf, noRoute, written, Listed}
 use Rattle.routes.specs.declared.Route.{Route}
-use Rattle.routes.proofs.Standing.{insert-length, remove-length}
+use Rattle.standing.proofs.Standing.{insert-length, remove-length}
 use Rattle.routes.proofs.Puts.{put-byte}
 use Rattle.routes.proofs.Rows.{length-routes, nth-route, records-good, length-written, byte-written, zero-written, listed-written}
 use Rattle.lists.specs.Edit.{movedUp, movedDown, inserted, removed, InsertAt, ReplaceAt, RemoveAt}

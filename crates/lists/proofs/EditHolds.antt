@@ -8,15 +8,15 @@ use native.Mathlib.Omega.{arith}
 use lib.ListN.{length}
 use Rattle.bits.proofs.Tests.{decided}
 use Rattle.routes.specs.Route.{key, Good}
-use Rattle.routes.specs.Standing.{stands, insert, remove}
+use Rattle.standing.specs.Standing.{stands, insert, remove}
 use Rattle.routes.specs.Record.{routesOf, written, Listed}
 use Rattle.routes.specs.declared.Route.{Route}
-use Rattle.routes.proofs.Standing.{insert-good, insert-replaces, remove-good, remove-length}
+use Rattle.standing.proofs.Standing.{insert-good, insert-replaces, remove-good, remove-length}
 use Rattle.routes.proofs.Rows.{length-routes, records-good, routes-written, written-listed}
 use Rattle.lists.specs.Edit.{Insertable, inserted, removed, saysPut, countWith, countWithout, Holds}
 use Rattle.lists.specs.declared.edit.Put.{Put}
 use Rattle.lists.specs.declared.edit.Put.the-variants as put
-use Rattle.routes.proofs.Changed.{insert-adds, remove-takes, remove-absent}
+use Rattle.standing.proofs.Changed.{insert-adds, remove-takes, remove-absent}
 
 pub insert-count : (r : Route) (rs : List Route) → Good rs → length (insert r rs) ≡ countWith (stands (key r) rs) (length rs)
 insert-count r rs good = go (decided (stands (key r) rs))

@@ -10,14 +10,14 @@ use lib.ListN.{length, getD}
 use borrow.Author.Tests.{eqb-true, eq-eqb, ne-eqb}
 use Rattle.bits.proofs.Tests.{below?, equal?}
 use Rattle.routes.specs.Route.{key}
-use Rattle.routes.specs.Standing.{stands}
+use Rattle.standing.specs.Standing.{stands}
 use Rattle.routes.specs.Record.{recordAt, routesOf, written, Listed}
 use Rattle.routes.specs.declared.Route.{Route}
 use Rattle.routes.proofs.Rows.{length-routes, nth-route, listed-written}
 use Rattle.lists.specs.Place.{placeOf}
 use Rattle.lists.specs.Edit.{InsertAt, ReplaceAt, RemoveAt, Placed, Insertable, edited, inserted, removed, inserting, removing}
 use Rattle.lists.proofs.Places.{place-le, place-before, place-after}
-use Rattle.routes.proofs.Changed.{remove-absent}
+use Rattle.standing.proofs.Changed.{remove-absent}
 use Rattle.lists.proofs.EditRoutes.{stands-some, stands-none}
 
 module _ (s : List ℕ) (n k p : ℕ) (at : Placed s n k p) where

@@ -11,12 +11,13 @@ use lib.Seq.{drop-cons, split-at, set-split, length-take-le, getD-take, getD-dro
 use lib.Dec.{ltb}
 use borrow.Author.Tests.{eqb-true, eq-eqb, ne-eqb}
 use Rattle.bits.proofs.Tests.{decided, or-none, below?}
-use Rattle.routes.specs.Route.{key, any, Good}
-use Rattle.routes.specs.Standing.{isAt, stands, insert, remove}
+use Rattle.routes.specs.Route.{key, Good}
+use Rattle.standing.specs.Cells.{any}
+use Rattle.standing.specs.Standing.{isAt, stands, insert, remove}
 use Rattle.routes.specs.Record.{noRoute}
 use Rattle.routes.specs.declared.Route.{Route}
-use Rattle.routes.proofs.Changed.{remove-absent}
-use Rattle.routes.proofs.Standing.{insert-before, insert-same, insert-after}
+use Rattle.standing.proofs.Changed.{remove-absent}
+use Rattle.standing.proofs.Standing.{insert-before, insert-same, insert-after}
 use Rattle.routes.proofs.Rows.{nth-listed, good-rises}
 
 -- routes of smaller keys stay before the new one

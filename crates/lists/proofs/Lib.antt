@@ -1,7 +1,5 @@
--- The laws of places, runs, tallies and changes.
+-- The laws of places and changes.
 pub mod Places
-pub mod Runs
-pub mod Tallies
 pub mod EditMoves
 pub mod EditRoutes
 pub mod EditBytes

@@ -8,7 +8,7 @@ use lib.Dec.{leb, ltb}
 use lib.ListN.{length, getD}
 use Rattle.bits.specs.Tab.{tabulate}
 use Rattle.routes.specs.Route.{key, Fine}
-use Rattle.routes.specs.Standing.{stands, insert, remove}
+use Rattle.standing.specs.Standing.{stands, insert, remove}
 use Rattle.routes.specs.Record.{recordAt, routesOf, written, Records, Listed}
 use Rattle.routes.specs.declared.Route.{Route}
 use Rattle.lists.specs.Place.{placeOf}

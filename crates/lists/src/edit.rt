@@ -7,7 +7,7 @@ ghost use Prim.Native.Nat.{_+_, _≤_};
 ghost use lib.ListN.{length};
 ghost use Rattle.routes.specs.Route.{key, keyOf};
 ghost use Rattle.routes.specs.Record.{recordAt, routesOf, Listed};
-ghost use Rattle.routes.specs.Standing.{stands};
+ghost use Rattle.standing.specs.Standing.{stands};
 ghost use Rattle.lists.specs.Edit.{movedUp, movedDown, inserted, removed, InsertAt, ReplaceAt, RemoveAt, Placed, Insertable};
 ghost use Rattle.lists.specs.Edit.{edited, inserting, removing, saysPut};
 

@@ -1,5 +1,3 @@
-// Lists of records: places, runs, tallies, and changes of one record.
+// Lists of records: places, and changes of one record.
 pub mod edit;
 pub mod place;
-pub mod run;
-pub mod tally;

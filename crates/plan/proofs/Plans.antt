@@ -10,11 +10,12 @@ use Rattle.bits.specs.Slot.{slot}
 use Rattle.bits.proofs.Slots.{slot-up, cut-le, cut-slot}
 use Rattle.bits.proofs.Tabs.{tabulate-ext}
 use Rattle.bits.proofs.Tests.{and-split, untrue}
-use Rattle.routes.specs.Route.{covers, within, any, long, lastHop, key, Fine, Good}
+use Rattle.routes.specs.Route.{key, Fine, Good}
+use Rattle.standing.specs.Cells.{covers, within, any, long, lastHop}
 use Rattle.routes.specs.declared.Route.{Route}
 use Rattle.routes.proofs.Goods.{good-fine}
-use Rattle.routes.proofs.Longest.{cover-parts}
-use Rattle.routes.proofs.Paint.{best-last}
+use Rattle.standing.proofs.Longest.{cover-parts}
+use Rattle.standing.proofs.Paint.{best-last}
 use Rattle.plan.specs.Plan.{plan, planned, planFrom, plannedFrom}
 use Rattle.plan.specs.Paint.{paintCell}
 

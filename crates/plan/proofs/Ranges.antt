@@ -15,7 +15,8 @@ use borrow.Author.Tests.{lt-ltb, le-ltb, le-leb, lt-leb, eq-eqb, ne-eqb}
 use Rattle.bits.specs.Slot.{slot}
 use Rattle.bits.proofs.Slots.{shl-one, cut-is}
 use Rattle.bits.proofs.Tabs.{length-tabulate, getD-tabulate, tabulate-ext}
-use Rattle.routes.specs.Route.{covers, within, any, lastHop, Fine, Good}
+use Rattle.routes.specs.Route.{Fine, Good}
+use Rattle.standing.specs.Cells.{covers, within, any, lastHop}
 use Rattle.routes.specs.declared.Route.{Route}
 use Rattle.chain.specs.Words.{routeOf, routesIn, Words}
 use Rattle.chain.proofs.Decodes.{words-part, words-good}

@@ -15,11 +15,12 @@ use Rattle.bits.specs.Slot.{slot}
 use Rattle.bits.proofs.Slots.{slot-up}
 use Rattle.bits.proofs.Tabs.{tabulate-ext}
 use Rattle.bits.proofs.Tests.{both, untrue}
-use Rattle.routes.specs.Route.{covers, within, any, long, best, lastHop, key, Fine, Good}
+use Rattle.routes.specs.Route.{key, Fine, Good}
+use Rattle.standing.specs.Cells.{covers, within, any, long, best, lastHop}
 use Rattle.routes.specs.Record.{noRoute}
 use Rattle.routes.specs.declared.Route.{Route}
-use Rattle.routes.proofs.Levels.{within-up}
-use Rattle.routes.proofs.Paint.{slot-cover, best-last}
+use Rattle.standing.proofs.Levels.{within-up}
+use Rattle.standing.proofs.Paint.{slot-cover, best-last}
 use Rattle.chain.specs.Words.{routeOf, routesIn, Words}
 use Rattle.chain.specs.Place.{Run}
 use Rattle.chain.proofs.Decodes.{words-good}

@@ -13,7 +13,7 @@ use borrow.Author.Tests.{not-true, not-false, eq-eqb, ne-eqb, eqb-true, lt-ltb, 
 use Rattle.bits.specs.Tab.{Tells}
 use Rattle.bits.proofs.Tabs.{length-tabulate, getD-tabulate, tabulate-ext, is-tabulate, set-tabulate}
 use Rattle.bits.proofs.Tests.{decided, or-split}
-use Rattle.routes.specs.Route.{within, any, long, covers, lastHop}
+use Rattle.standing.specs.Cells.{within, any, long, covers, lastHop}
 use Rattle.routes.specs.declared.Route.{Route}
 use Rattle.chain.specs.Words.{routeOf, routesIn}
 use Rattle.plan.specs.Plan.{planFrom, plannedFrom}

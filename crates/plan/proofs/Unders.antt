@@ -6,7 +6,7 @@ use Prim.Native.Nat.{ℕ, _-_, _<_}
 use native.Mathlib.Omega.{arith}
 use lib.ListN.{take, drop}
 use Rattle.bits.specs.Tab.{Tells}
-use Rattle.routes.specs.Route.{best}
+use Rattle.standing.specs.Cells.{best}
 use Rattle.chain.specs.Words.{routesIn}
 use Rattle.chain.specs.Place.{Run}
 use Rattle.chain.proofs.Decodes.{words-part}

@@ -5,7 +5,8 @@ use Prim.Native.Nat.{ℕ, _+_, _≤_}
 use lib.Dec.{leb, ltb}
 use lib.ListN.{length, getD}
 use Rattle.bits.specs.Tab.{tabulate}
-use Rattle.routes.specs.Route.{covers, within, Fine}
+use Rattle.routes.specs.Route.{Fine}
+use Rattle.standing.specs.Cells.{covers, within}
 use Rattle.routes.specs.declared.Route.{Route}
 use Rattle.chain.specs.Words.{routeOf, Words}
 

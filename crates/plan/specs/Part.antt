@@ -5,7 +5,7 @@ use mathlib.Core.List.{List}
 use Prim.Native.Nat.{ℕ, _+_, _-_, _≤_, _<_}
 use lib.ListN.{length, getD}
 use Rattle.bits.specs.Tab.{Tells, tabulate}
-use Rattle.routes.specs.Route.{long, best}
+use Rattle.standing.specs.Cells.{long, best}
 use Rattle.routes.specs.declared.Route.{Route}
 use Rattle.plan.specs.Paint.{Plans}
 

@@ -3,7 +3,7 @@ use mathlib.Core.Bool.{cond}
 use mathlib.Core.List.{List}
 use Prim.Native.Nat.{ℕ, _+_}
 use Rattle.bits.specs.Tab.{tabulate}
-use Rattle.routes.specs.Route.{covers, long, best, lastHop}
+use Rattle.standing.specs.Cells.{covers, long, best, lastHop}
 use Rattle.routes.specs.declared.Route.{Route}
 
 -- cell i of level p: 0 where it is long, for then it names a chunk; else a leaf with the hop of the longest route that covers it

@@ -4,7 +4,7 @@ use mathlib.Core.Bool.{cond}
 use mathlib.Core.List.{List, [], _∷_}
 use Prim.Native.Nat.{ℕ, _+_, _-_, _*_, _^_, _≤_}
 use lib.ListN.{length}
-use Rattle.routes.specs.Route.{within}
+use Rattle.standing.specs.Cells.{within}
 use Rattle.routes.specs.declared.Route.{Route}
 use Rattle.chain.specs.Place.{InLevel}
 use Rattle.chain.specs.Cover.{Ready}

@@ -5,7 +5,7 @@ ghost use mathlib.Core.Path.{_≡_};
 ghost use Prim.Native.Nat.{_+_, _<_};
 ghost use lib.ListN.{length};
 ghost use Rattle.bits.specs.Tab.{Tells};
-ghost use Rattle.routes.specs.Route.{within, long};
+ghost use Rattle.standing.specs.Cells.{within, long};
 ghost use Rattle.chain.specs.Words.{routeOf, routesIn};
 ghost use Rattle.plan.specs.Plan.{plannedFrom};
 ghost use Rattle.plan.specs.Part.{Names, Settled, Matches, Zero, Beside, Judges};

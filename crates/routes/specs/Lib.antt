@@ -1,6 +1,5 @@
--- What routes mean, the records that hold them, and what a call says of them.
+-- Good routes, the records that hold them, and what a call says of them.
 pub mod Route
-pub mod Standing
 pub mod Record
 pub mod Said
 pub mod Input

@@ -7,7 +7,7 @@ use native.Mathlib.Omega.{arith}
 use lib.ListN.{getD, length, replicate, getD-replicate, length-replicate}
 use borrow.Author.Tests.{ltb-true}
 use Rattle.bits.specs.Tab.{tabulate}
-use Rattle.routes.specs.Route.{any, first, best}
+use Rattle.standing.specs.Cells.{any, first, best}
 use Rattle.routes.specs.Record.{routesOf, Listed}
 use Rattle.sail.specs.Geometry.{bits2, bits3}
 use Rattle.sail.specs.Lent.{Lent}

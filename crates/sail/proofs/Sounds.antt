@@ -12,11 +12,12 @@ use borrow.Author.Tests.{le-leb, eq-eqb, eqb-true}
 use Rattle.bits.specs.Slot.{slot}
 use Rattle.bits.specs.Count.{bit}
 use Rattle.bits.proofs.Tests.{both, decided}
-use Rattle.routes.specs.Route.{covers, long, best, need, Good}
+use Rattle.routes.specs.Route.{Good}
+use Rattle.standing.specs.Cells.{covers, long, best, need}
 use Rattle.routes.specs.Record.{routesOf}
 use Rattle.routes.specs.Said.{accepted}
 use Rattle.routes.specs.declared.Route.{Route}
-use Rattle.routes.proofs.Only.{none-covers, covers-none}
+use Rattle.standing.proofs.Only.{none-covers, covers-none}
 use Rattle.routes.proofs.Rows.{records-good}
 use Rattle.sail.specs.Geometry.{bits2, bits3}
 use Rattle.sail.specs.Lent.{Lent}

@@ -15,11 +15,12 @@ use Rattle.bits.specs.Count.{bit, count}
 use Rattle.bits.proofs.Tests.{decided}
 use Rattle.bits.proofs.Slots.{slot-lt, slot-up}
 use Rattle.bits.proofs.Counts.{Matched}
-use Rattle.routes.specs.Route.{long, best, need, Good}
+use Rattle.routes.specs.Route.{Good}
+use Rattle.standing.specs.Cells.{long, best, need}
 use Rattle.routes.specs.Said.{Said, refused}
 use Rattle.routes.specs.declared.Route.{Route}
-use Rattle.routes.proofs.Levels.{long-up, best-slot}
-use Rattle.routes.proofs.Need.{need-count, none-longer}
+use Rattle.standing.proofs.Levels.{long-up, best-slot}
+use Rattle.standing.proofs.Need.{need-count, none-longer}
 use Rattle.sail.specs.Level.{View, Serves, always, itself, inUse, liveIn, partOf}
 use Rattle.sail.specs.Walk.{place, cell1, place2, cell2, place3, cell3, Leads, ReadsSecond, ReadsThird, lastCell, hopSaid, stepSaid, shut, walkSaid}
 use Rattle.sail.proofs.Steps.{step-leaf, step-on}

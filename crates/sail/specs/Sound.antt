@@ -5,7 +5,7 @@ use lib.Dec.{ltb}
 use lib.ListN.{length, replicate}
 use Rattle.bits.specs.Slot.{slot}
 use Rattle.bits.specs.Count.{bit, count}
-use Rattle.routes.specs.Route.{long}
+use Rattle.standing.specs.Cells.{long}
 use Rattle.routes.specs.Record.{routesOf, Listed}
 use Rattle.routes.specs.declared.Route.{Route}
 use Rattle.sail.specs.Geometry.{bits2, bits3}

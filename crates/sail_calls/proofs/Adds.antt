@@ -8,10 +8,10 @@ use Rattle.bits.specs.Count.{bit}
 use Rattle.routes.specs.Route.{key}
 use Rattle.routes.specs.Record.{routesOf}
 use Rattle.routes.specs.Said.{accepted, refused}
-use Rattle.routes.specs.Standing.{stands, insert}
+use Rattle.standing.specs.Standing.{stands, insert}
 use Rattle.routes.specs.declared.Route.{Route}
 use Rattle.routes.proofs.Rows.{length-routes}
-use Rattle.routes.proofs.Changed.{insert-adds}
+use Rattle.standing.proofs.Changed.{insert-adds}
 use Rattle.lists.specs.Edit.{Insertable, Edited, edited, inserted, inserting, saysPut, countWith, Holds}
 use Rattle.lists.specs.declared.edit.Put.{Put}
 use Rattle.lists.proofs.EditHolds.{insert-count, insert-holds}

@@ -9,14 +9,15 @@ use lib.ListN.{length}
 use borrow.Author.Tests.{ltb-true, ltb-false, lt-ltb, eqb-true, eq-eqb, not-true, not-false}
 use Rattle.bits.specs.Slot.{slot}
 use Rattle.bits.proofs.Tests.{and-split, same}
-use Rattle.routes.specs.Route.{keyOf, long, need, Prefix, Fine}
+use Rattle.routes.specs.Route.{keyOf, Prefix, Fine}
+use Rattle.standing.specs.Cells.{long, need}
 use Rattle.routes.specs.Input.{properPrefix, hopFine}
 use Rattle.routes.specs.Said.{Said, refused}
-use Rattle.routes.specs.Standing.{stands, insert}
+use Rattle.standing.specs.Standing.{stands, insert}
 use Rattle.routes.specs.declared.Route.{Route}
 use Rattle.routes.proofs.Meaning.{prefix-true, true-prefix, hop-true, true-hop}
 use Rattle.routes.proofs.Rows.{length-routes}
-use Rattle.routes.proofs.Changed.{insert-adds}
+use Rattle.standing.proofs.Changed.{insert-adds}
 use Rattle.sail.specs.Lent.{Lent}
 use Rattle.sail.specs.Sizes.{Checked}
 use Rattle.sail.specs.Sound.{Sound, standing}

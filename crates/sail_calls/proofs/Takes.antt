@@ -11,7 +11,7 @@ use Rattle.bits.proofs.Tests.{decided}
 use Rattle.routes.specs.Route.{keyOf}
 use Rattle.routes.specs.Record.{routesOf}
 use Rattle.routes.specs.Said.{refused}
-use Rattle.routes.specs.Standing.{stands, remove}
+use Rattle.standing.specs.Standing.{stands, remove}
 use Rattle.routes.specs.declared.Route.{Route}
 use Rattle.lists.specs.Edit.{Edited, edited, removed, removing, countWithout, Holds}
 use Rattle.lists.proofs.EditHolds.{remove-holds}

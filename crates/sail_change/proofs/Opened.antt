@@ -10,8 +10,8 @@ use lib.ListN.{getD, length, set}
 use borrow.Author.Tests.{ltb-true, ltb-false, lt-ltb, lt-leb, eq-eqb, not-true}
 use Rattle.bits.specs.Slot.{slot}
 use Rattle.bits.proofs.Tests.{decided, and-split}
-use Rattle.routes.specs.Route.{long}
-use Rattle.routes.specs.Standing.{insert}
+use Rattle.standing.specs.Cells.{long}
+use Rattle.standing.specs.Standing.{insert}
 use Rattle.routes.specs.declared.Route.{Route}
 use Rattle.sail.specs.Geometry.{bits2, bits3, Valid}
 use Rattle.sail.specs.Lent.{Lent, lent}

@@ -11,11 +11,12 @@ use Rattle.bits.specs.Slot.{slot}
 use Rattle.bits.proofs.Slots.{slot-lt}
 use Rattle.bits.proofs.Tests.{and-split}
 use Rattle.bits.proofs.Tabs.{length-tabulate}
-use Rattle.routes.specs.Route.{keyOf, long}
-use Rattle.routes.specs.Standing.{remove}
+use Rattle.routes.specs.Route.{keyOf}
+use Rattle.standing.specs.Cells.{long}
+use Rattle.standing.specs.Standing.{remove}
 use Rattle.routes.specs.declared.Route.{Route}
-use Rattle.routes.proofs.Changed.{remove-long}
-use Rattle.routes.proofs.Standing.{remove-any}
+use Rattle.standing.proofs.Changed.{remove-long}
+use Rattle.standing.proofs.Standing.{remove-any}
 use Rattle.plan.specs.Paint.{filled}
 use Rattle.sail.specs.Geometry.{bits2, bits3, Valid}
 use Rattle.sail.specs.Lent.{Lent, lent}

@@ -9,7 +9,7 @@ use lib.ListN.{getD, length}
 use Rattle.bits.specs.Slot.{slot}
 use Rattle.bits.proofs.Slots.{slot-lt}
 use Rattle.bits.proofs.Tests.{untrue}
-use Rattle.routes.specs.Route.{long}
+use Rattle.standing.specs.Cells.{long}
 use Rattle.routes.specs.declared.Route.{Route}
 use Rattle.sail.specs.Geometry.{bits2, Power}
 use Rattle.sail.specs.Lent.{Lent}

@@ -13,7 +13,7 @@ use borrow.Author.Tests.{ltb-true, lt-ltb, le-ltb, eqb-true, eq-eqb, ne-eqb}
 use Rattle.bits.specs.Slot.{slot}
 use Rattle.bits.proofs.Slots.{cut-is, cut-le, cut-more}
 use Rattle.bits.proofs.Tests.{both, and-split, untrue, below?, equal?}
-use Rattle.routes.specs.Route.{any, within, long}
+use Rattle.standing.specs.Cells.{any, within, long}
 use Rattle.routes.specs.Record.{recordAt, routesOf, noRoute}
 use Rattle.routes.specs.declared.Route.{Route}
 use Rattle.routes.proofs.Rows.{length-routes, nth-route}

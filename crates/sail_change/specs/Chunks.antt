@@ -6,7 +6,7 @@ use Prim.Native.Nat.{ℕ, _+_, _-_, _*_, _^_, _≤_, _<_}
 use lib.Dec.{ltb}
 use lib.ListN.{length, set}
 use Rattle.bits.specs.Slot.{slot}
-use Rattle.routes.specs.Route.{long}
+use Rattle.standing.specs.Cells.{long}
 use Rattle.routes.specs.Record.{routesOf, Records}
 use Rattle.routes.specs.declared.Route.{Route}
 use Rattle.plan.specs.Paint.{filled}

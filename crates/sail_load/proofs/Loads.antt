@@ -6,7 +6,7 @@ use Prim.Native.Nat.{ℕ, _/_, _<_, _≤_}
 use native.Mathlib.Omega.{arith}
 use lib.ListN.{length}
 use borrow.Author.Tests.{lt-ltb, le-ltb}
-use Rattle.routes.specs.Route.{need}
+use Rattle.standing.specs.Cells.{need}
 use Rattle.routes.specs.Record.{routesOf}
 use Rattle.routes.specs.declared.Route.{Route}
 use Rattle.routes.specs.Said.{accepted, refused, refusedAt, accepts}

@@ -7,7 +7,8 @@ use native.Mathlib.Omega.{arith}
 use borrow.Author.Tests.{lt-ltb, le-ltb}
 use Rattle.bits.specs.Slot.{slot}
 use Rattle.bits.specs.Tab.{tabulate}
-use Rattle.routes.specs.Route.{need, Good}
+use Rattle.routes.specs.Route.{Good}
+use Rattle.standing.specs.Cells.{need}
 use Rattle.routes.specs.Record.{recordAt, routesOf, Records}
 use Rattle.routes.specs.declared.Route.{Route}
 use Rattle.routes.proofs.Rows.{records-good}

@@ -12,7 +12,8 @@ use borrow.Author.Tests.{le-leb, ltb-true, eqb-true}
 use Rattle.bits.specs.Slot.{slot}
 use Rattle.bits.proofs.Slots.{slot-lt, cut-zero}
 use Rattle.bits.proofs.Tests.{decided, below?, and-split}
-use Rattle.routes.specs.Route.{within, long, Good}
+use Rattle.routes.specs.Route.{Good}
+use Rattle.standing.specs.Cells.{within, long}
 use Rattle.routes.specs.Record.{written}
 use Rattle.routes.specs.Said.{accepted}
 use Rattle.routes.specs.declared.Route.{Route}

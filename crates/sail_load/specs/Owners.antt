@@ -4,7 +4,8 @@ use mathlib.Core.Path.{_≡_}
 use Prim.Native.Nat.{ℕ, suc, _-_, _/_, _≤_, _<_}
 use lib.ListN.{length, getD, set, replicate}
 use Rattle.bits.specs.Slot.{slot}
-use Rattle.routes.specs.Route.{need, Fine}
+use Rattle.routes.specs.Route.{Fine}
+use Rattle.standing.specs.Cells.{need}
 use Rattle.routes.specs.Record.{Records}
 use Rattle.routes.specs.declared.Route.{Route}
 use Rattle.sail.specs.Geometry.{Valid}

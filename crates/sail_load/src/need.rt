@@ -1,7 +1,7 @@
 // How many chunks a list of routes needs, counted in one pass.
 ghost use mathlib.Core.Path.{_≡_};
 ghost use Prim.Native.Nat.{_≤_};
-ghost use Rattle.routes.specs.Route.{need};
+ghost use Rattle.standing.specs.Cells.{need};
 ghost use Rattle.routes.specs.Record.{routesOf};
 ghost use Rattle.sail_load.specs.Need.{Counts};
 use bits::slot;

@@ -12,9 +12,9 @@ use lib.Pow.{pow-add, pow-pos}
 use lib.Seq.{ext-getD}
 use borrow.Author.Tests.{lt-ltb, le-ltb}
 use Rattle.bits.proofs.Tests.{decided, below?, and-split}
-use Rattle.routes.specs.Route.{long, best}
+use Rattle.standing.specs.Cells.{long, best}
 use Rattle.routes.specs.declared.Route.{Route}
-use Rattle.routes.proofs.Need.{none-longer}
+use Rattle.standing.proofs.Need.{none-longer}
 use Rattle.chain.specs.Words.{routesIn}
 use Rattle.chain.proofs.Decodes.{words-good}
 use Rattle.plan.specs.Plan.{plan}

@@ -9,7 +9,7 @@ use lib.Dec.{eqb}
 use lib.ListN.{length, getD}
 use borrow.Author.Tests.{ne-eqb, lt-ltb, le-ltb}
 use Rattle.bits.specs.Count.{count}
-use Rattle.routes.specs.Route.{need}
+use Rattle.standing.specs.Cells.{need}
 use Rattle.routes.specs.Said.{Said, accepted, refused}
 use Rattle.sail.specs.Lent.{Lent}
 use Rattle.sail.specs.Level.{inUse, entry}

@@ -12,7 +12,7 @@ use lib.Pow.{pow-pos}
 use borrow.Author.Tests.{lt-ltb, le-ltb, ltb-true, ltb-false}
 use borrow.Rule.Slice.PartMut.{mid-len}
 use Rattle.bits.specs.Tab.{Tells}
-use Rattle.routes.specs.Route.{long, best}
+use Rattle.standing.specs.Cells.{long, best}
 use Rattle.routes.specs.declared.Route.{Route}
 use Rattle.routes.specs.Record.{Listed}
 use Rattle.plan.proofs.Tells.{tells-same}

@@ -11,10 +11,10 @@ use Rattle.bits.specs.Count.{bit}
 use Rattle.bits.proofs.Tests.{decided}
 use Rattle.routes.specs.Route.{keyOf}
 use Rattle.routes.specs.Said.{Said, accepted, refused, refusedAt, accepts}
-use Rattle.routes.specs.Standing.{stands, insert, remove}
+use Rattle.standing.specs.Standing.{stands, insert, remove}
 use Rattle.routes.specs.declared.Route.{Route}
-use Rattle.routes.proofs.Standing.{insert-replaces}
-use Rattle.routes.proofs.Changed.{insert-adds, remove-takes}
+use Rattle.standing.proofs.Standing.{insert-replaces}
+use Rattle.standing.proofs.Changed.{insert-adds, remove-takes}
 use Rattle.routes.proofs.Rows.{length-routes}
 use Rattle.sail.specs.Lent.{Lent}
 use Rattle.sail.specs.Level.{entry}

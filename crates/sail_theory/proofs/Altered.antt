@@ -12,10 +12,11 @@ use lib.ListN.{getD, length}
 use borrow.Author.Tests.{ltb-false}
 use Rattle.bits.specs.Slot.{slot}
 use Rattle.routes.specs.Said.{accepts}
-use Rattle.routes.specs.Route.{keyOf, long}
-use Rattle.routes.specs.Standing.{insert, remove}
+use Rattle.routes.specs.Route.{keyOf}
+use Rattle.standing.specs.Cells.{long}
+use Rattle.standing.specs.Standing.{insert, remove}
 use Rattle.routes.specs.declared.Route.{Route}
-use Rattle.routes.proofs.Standing.{insert-but, remove-but, remove-any}
+use Rattle.standing.proofs.Standing.{insert-but, remove-but, remove-any}
 use Rattle.sail.specs.Geometry.{bits2}
 use Rattle.sail.specs.Lent.{Lent}
 use Rattle.sail.specs.Level.{itself, inUse, liveIn, entry}

@@ -7,7 +7,8 @@ use Prim.Native.Nat.{ℕ, _/_, _^_, _≤_, _<_}
 use native.Mathlib.Omega.{arith}
 use lib.ListN.{length}
 use Rattle.routes.specs.Said.{accepts}
-use Rattle.routes.specs.Route.{need, best, Good}
+use Rattle.routes.specs.Route.{Good}
+use Rattle.standing.specs.Cells.{need, best}
 use Rattle.routes.specs.Record.{written}
 use Rattle.routes.specs.declared.Route.{Route}
 use Rattle.routes.proofs.Rows.{length-routes, length-written, routes-written, written-listed}

@@ -15,7 +15,8 @@ use lib.Seq.{getD-set-other, getD-set-same, set-out}
 use borrow.Author.Tests.{ltb-true, eqb-true, lt-ltb}
 use Rattle.bits.specs.Slot.{slot}
 use Rattle.bits.proofs.Tests.{decided, and-split, equal?, below?}
-use Rattle.routes.specs.Route.{key, within, long, Fine}
+use Rattle.routes.specs.Route.{key, Fine}
+use Rattle.standing.specs.Cells.{within, long}
 use Rattle.routes.specs.declared.Route.{Route}
 use Rattle.routes.proofs.Goods.{good-fine}
 use Rattle.sail.specs.Geometry.{bits2}

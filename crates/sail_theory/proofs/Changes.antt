@@ -8,10 +8,11 @@ use native.Mathlib.Omega.{arith}
 use lib.Dec.{ltb}
 use lib.ListN.{getD, length}
 use Rattle.bits.specs.Slot.{slot}
-use Rattle.routes.specs.Route.{keyOf, within, long, Good}
-use Rattle.routes.specs.Standing.{insert, remove}
+use Rattle.routes.specs.Route.{keyOf, Good}
+use Rattle.standing.specs.Cells.{within, long}
+use Rattle.standing.specs.Standing.{insert, remove}
 use Rattle.routes.specs.declared.Route.{Route}
-use Rattle.routes.proofs.Standing.{insert-good, remove-good, remove-length, remove-any}
+use Rattle.standing.proofs.Standing.{insert-good, remove-good, remove-length, remove-any}
 use Rattle.routes.proofs.Rows.{length-written, length-routes}
 use Rattle.sail.specs.Geometry.{bits2, bits3, Valid}
 use Rattle.sail.specs.Lent.{Lent}

@@ -13,9 +13,10 @@ use borrow.Author.Tests.{le-ltb, lt-ltb, eqb-true, eq-eqb}
 use Rattle.bits.specs.Slot.{slot}
 use Rattle.bits.proofs.Tests.{decided, and-split, or-split, untrue}
 use Rattle.bits.proofs.Tabs.{tabulate-snoc}
-use Rattle.routes.specs.Route.{key, any, within, long, need, Good}
+use Rattle.routes.specs.Route.{key, Good}
+use Rattle.standing.specs.Cells.{any, within, long, need}
 use Rattle.routes.specs.Record.{recordAt, routesOf}
-use Rattle.routes.specs.Standing.{insert}
+use Rattle.standing.specs.Standing.{insert}
 use Rattle.routes.specs.declared.Route.{Route}
 use Rattle.routes.proofs.Goods.{good-fine}
 use Rattle.sail_theory.specs.Pass.{lastLong}

@@ -7,10 +7,11 @@ use Prim.Native.Nat.{ℕ, _<_}
 use native.Mathlib.Omega.{arith}
 use borrow.Author.Tests.{ne-eqb}
 use Rattle.bits.proofs.Tests.{or-split}
-use Rattle.routes.specs.Route.{key, any, Fine, Good}
-use Rattle.routes.specs.Standing.{stands, insert}
+use Rattle.routes.specs.Route.{key, Fine, Good}
+use Rattle.standing.specs.Cells.{any}
+use Rattle.standing.specs.Standing.{stands, insert}
 use Rattle.routes.specs.declared.Route.{Route}
-use Rattle.routes.proofs.Standing.{insert-after}
+use Rattle.standing.proofs.Standing.{insert-after}
 
 -- a part of a good list is good
 pub good-front : (xs ys : List Route) → Good (xs ++ ys) → Good xs

@@ -15,9 +15,9 @@ use Rattle.bits.specs.Slot.{slot}
 use Rattle.bits.proofs.Slots.{slot-up}
 use Rattle.bits.proofs.Tests.{decided}
 use Rattle.bits.proofs.Tabs.{getD-tabulate}
-use Rattle.routes.specs.Route.{long, best}
+use Rattle.standing.specs.Cells.{long, best}
 use Rattle.routes.specs.declared.Route.{Route}
-use Rattle.routes.proofs.Frame.{SameBut, frame-long, frame-best}
+use Rattle.standing.proofs.Frame.{SameBut, frame-long, frame-best}
 use Rattle.sail.specs.Geometry.{bits2, bits3, Valid}
 use Rattle.sail.specs.Lent.{Lent}
 use Rattle.sail.specs.Level.{always, itself, nobody, liveIn, entry}

@@ -6,7 +6,8 @@ use Prim.Native.Nat.{ℕ, zero, suc, _*_, _/_, _^_, _<_}
 use native.Mathlib.Omega.{arith}
 use lib.ListN.{getD, length, replicate, getD-replicate, length-replicate}
 use lib.Seq.{ext-getD}
-use Rattle.routes.specs.Route.{any, first, long, best, Good}
+use Rattle.routes.specs.Route.{Good}
+use Rattle.standing.specs.Cells.{any, first, long, best}
 use Rattle.routes.specs.Record.{written}
 use Rattle.routes.specs.Said.{Said, accepted, accepts}
 use Rattle.routes.proofs.Rows.{length-written, zero-written}

@@ -15,8 +15,9 @@ use borrow.Author.Tests.{ltb-true, lt-ltb}
 use Rattle.bits.specs.Slot.{slot}
 use Rattle.bits.proofs.Slots.{slot-lt}
 use Rattle.bits.proofs.Tests.{decided, untrue, equal?}
-use Rattle.routes.specs.Route.{long, Fine, Good}
-use Rattle.routes.specs.Standing.{insert}
+use Rattle.routes.specs.Route.{Fine, Good}
+use Rattle.standing.specs.Cells.{long}
+use Rattle.standing.specs.Standing.{insert}
 use Rattle.routes.specs.declared.Route.{Route}
 use Rattle.sail.specs.Geometry.{bits2, Valid}
 use Rattle.sail.specs.Level.{always, itself, liveIn, entry}

@@ -11,11 +11,12 @@ use lib.ListN.{length}
 use borrow.Author.Tests.{lt-leb, le-leb, lt-ltb, le-ltb}
 use Rattle.bits.specs.Count.{bit}
 use Rattle.bits.proofs.Tests.{decided, below?}
-use Rattle.routes.specs.Route.{keyOf, need, Prefix, Fine}
+use Rattle.routes.specs.Route.{keyOf, Prefix, Fine}
+use Rattle.standing.specs.Cells.{need}
 use Rattle.routes.specs.Record.{Records}
 use Rattle.routes.specs.Input.{properPrefix, hopFine, inputSaid}
 use Rattle.routes.specs.Said.{Said, accepted, refused, andThen}
-use Rattle.routes.specs.Standing.{stands, insert}
+use Rattle.standing.specs.Standing.{stands, insert}
 use Rattle.routes.specs.declared.Route.{Route}
 use Rattle.routes.proofs.Rows.{length-routes, records-good}
 use Rattle.routes.proofs.Meaning.{prefix-true, true-prefix, hop-true, true-hop, Checked, input-checked}

@@ -7,9 +7,10 @@ use native.Mathlib.Omega.{arith}
 use lib.Dec.{ltb}
 use lib.ListN.{getD, length, length-append, length-replicate}
 use Rattle.bits.specs.Slot.{slot}
-use Rattle.routes.specs.Route.{key, within, long, need, Fine, Good}
+use Rattle.routes.specs.Route.{key, Fine, Good}
+use Rattle.standing.specs.Cells.{within, long, need}
 use Rattle.routes.specs.Said.{Said, accepted, accepts}
-use Rattle.routes.specs.Standing.{insert}
+use Rattle.standing.specs.Standing.{insert}
 use Rattle.routes.specs.declared.Route.{Route}
 use Rattle.sail.specs.Lent.{Lent}
 use Rattle.sail.specs.Sizes.{Sized}

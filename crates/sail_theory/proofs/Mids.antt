@@ -8,9 +8,9 @@ use lib.Pow.{pow-add}
 use Rattle.bits.specs.Slot.{slot}
 use Rattle.bits.proofs.Slots.{slot-up}
 use Rattle.bits.proofs.Tests.{fails}
-use Rattle.routes.specs.Route.{long}
+use Rattle.standing.specs.Cells.{long}
 use Rattle.routes.specs.declared.Route.{Route}
-use Rattle.routes.proofs.Levels.{long-up}
+use Rattle.standing.proofs.Levels.{long-up}
 use Rattle.sail.specs.Geometry.{bits2, bits3, Valid}
 use Rattle.sail.specs.declared.geometry.Geometry.{Geometry}
 

@@ -11,11 +11,12 @@ use Rattle.bits.specs.Slot.{slot}
 use Rattle.bits.proofs.Tests.{decided, both, and-split, or-split, untrue, equal?}
 use Rattle.bits.proofs.Slots.{slot-lt}
 use Rattle.bits.proofs.Counts.{count-ext, without, without-same, without-other, count-without, count-into}
-use Rattle.routes.specs.Route.{key, within, any, long, need, Fine, Good}
-use Rattle.routes.specs.Standing.{isAt, stands, insert}
+use Rattle.routes.specs.Route.{key, Fine, Good}
+use Rattle.standing.specs.Cells.{within, any, long, need}
+use Rattle.standing.specs.Standing.{isAt, stands, insert}
 use Rattle.routes.specs.declared.Route.{Route}
-use Rattle.routes.proofs.Need.{need-count}
-use Rattle.routes.proofs.Standing.{one-prefix, insert-good, insert-long}
+use Rattle.standing.proofs.Need.{need-count}
+use Rattle.standing.proofs.Standing.{one-prefix, insert-good, insert-long}
 
 -- more long cells need no fewer chunks
 pub need-mono : (xs ys : List Route) (p : ℕ) → p ≤ 32 → Good xs → Good ys → ((i : ℕ) → long xs p i ≡ true → long ys p i ≡ true) → need xs p ≤ need ys p

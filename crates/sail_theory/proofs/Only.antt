@@ -11,7 +11,7 @@ use Rattle.bits.proofs.Tests.{untrue}
 use Rattle.routes.specs.Route.{keyOf, Prefix}
 use Rattle.routes.specs.Input.{properPrefix, hopFine}
 use Rattle.routes.specs.Said.{Said, accepted, refused, andThen}
-use Rattle.routes.specs.Standing.{stands, insert}
+use Rattle.standing.specs.Standing.{stands, insert}
 use Rattle.routes.specs.declared.Route.{Route}
 use Rattle.routes.proofs.Meaning.{prefix-true, true-prefix, hop-true, true-hop, good-input}
 use Rattle.routes.proofs.Rows.{length-routes}

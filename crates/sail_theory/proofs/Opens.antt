@@ -12,10 +12,11 @@ use borrow.Author.Tests.{lt-ltb, le-ltb}
 use Rattle.bits.specs.Slot.{slot}
 use Rattle.bits.proofs.Slots.{slot-lt}
 use Rattle.bits.proofs.Tests.{decided}
-use Rattle.routes.specs.Route.{keyOf, long, Good}
-use Rattle.routes.specs.Standing.{remove}
+use Rattle.routes.specs.Route.{keyOf, Good}
+use Rattle.standing.specs.Cells.{long}
+use Rattle.standing.specs.Standing.{remove}
 use Rattle.routes.specs.declared.Route.{Route}
-use Rattle.routes.proofs.Changed.{remove-long}
+use Rattle.standing.proofs.Changed.{remove-long}
 use Rattle.sail.specs.Geometry.{bits2, Valid}
 use Rattle.sail.specs.Lent.{Lent}
 use Rattle.sail.specs.Level.{always, itself, liveIn, entry}

@@ -14,7 +14,8 @@ use borrow.Author.Tests.{lt-ltb, le-ltb}
 use Rattle.bits.specs.Slot.{slot}
 use Rattle.bits.proofs.Slots.{slot-lt}
 use Rattle.bits.proofs.Tests.{below?, equal?, untrue}
-use Rattle.routes.specs.Route.{long, Fine, Good}
+use Rattle.routes.specs.Route.{Fine, Good}
+use Rattle.standing.specs.Cells.{long}
 use Rattle.routes.specs.declared.Route.{Route}
 use Rattle.sail.specs.Lent.{Lent}
 use Rattle.sail.specs.Geometry.{bits2}

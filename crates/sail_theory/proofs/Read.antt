@@ -8,7 +8,7 @@ use native.Mathlib.Nat.{div-add-mod'}
 use lib.ListN.{getD, length}
 use Rattle.bits.specs.Slot.{slot}
 use Rattle.bits.proofs.Slots.{slot-lt}
-use Rattle.routes.specs.Route.{long, best}
+use Rattle.standing.specs.Cells.{long, best}
 use Rattle.routes.specs.declared.Route.{Route}
 use Rattle.sail.specs.Geometry.{bits2, bits3, Valid}
 use Rattle.sail.specs.Lent.{Lent}

@@ -10,10 +10,11 @@ use lib.Arith.{digits-lt, digits-div}
 use lib.Dec.{ltb}
 use lib.ListN.{getD, length}
 use lib.Pow.{pow-pos}
-use Rattle.routes.specs.Route.{long, best, Good}
+use Rattle.routes.specs.Route.{Good}
+use Rattle.standing.specs.Cells.{long, best}
 use Rattle.routes.specs.Record.{Listed}
 use Rattle.routes.specs.declared.Route.{Route}
-use Rattle.routes.proofs.Need.{none-longer}
+use Rattle.standing.proofs.Need.{none-longer}
 use Rattle.routes.proofs.Rows.{records-good, length-written, routes-written, written-listed}
 use Rattle.sail.specs.Geometry.{bits2, bits3, Valid}
 use Rattle.sail.specs.Lent.{Lent}

@@ -8,9 +8,9 @@ use Prim.Native.Nat.{ℕ}
 use Rattle.bits.proofs.Tests.{decided}
 use Rattle.routes.specs.Said.{accepts}
 use Rattle.routes.specs.Route.{keyOf, Good}
-use Rattle.routes.specs.Standing.{absent, routeAt}
+use Rattle.standing.specs.Standing.{absent, routeAt}
 use Rattle.routes.specs.declared.Route.{Route}
-use Rattle.routes.proofs.Standing.{insert-stands, remove-stands, same-standing}
+use Rattle.standing.proofs.Standing.{insert-stands, remove-stands, same-standing}
 use Rattle.sail.specs.Lent.{Lent}
 use Rattle.sail.specs.Sizes.{Sized}
 use Rattle.sail.specs.Sound.{Sound, standing}

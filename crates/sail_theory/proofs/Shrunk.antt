@@ -5,7 +5,7 @@ use mathlib.Core.List.{List}
 use Prim.Native.Nat.{ℕ, _+_, _-_, _*_, _/_, _%_, _^_, _<_}
 use lib.Dec.{ltb}
 use lib.ListN.{getD, length}
-use Rattle.routes.specs.Route.{long}
+use Rattle.standing.specs.Cells.{long}
 use Rattle.routes.specs.declared.Route.{Route}
 use Rattle.sail.specs.Geometry.{bits2, Valid}
 use Rattle.sail.specs.Level.{always, itself, liveIn, entry}

@@ -11,12 +11,13 @@ use lib.ListN.{length}
 use borrow.Author.Tests.{lt-ltb, le-ltb}
 use Rattle.bits.specs.Count.{bit}
 use Rattle.bits.proofs.Tests.{decided, below?}
-use Rattle.routes.specs.Route.{keyOf, within, need}
+use Rattle.routes.specs.Route.{keyOf}
+use Rattle.standing.specs.Cells.{within, need}
 use Rattle.routes.specs.Said.{Said, accepted, refused}
-use Rattle.routes.specs.Standing.{stands, insert, remove}
+use Rattle.standing.specs.Standing.{stands, insert, remove}
 use Rattle.routes.specs.declared.Route.{Route}
-use Rattle.routes.proofs.Standing.{remove-good, remove-any}
-use Rattle.routes.proofs.Changed.{insert-adds}
+use Rattle.standing.proofs.Standing.{remove-good, remove-any}
+use Rattle.standing.proofs.Changed.{insert-adds}
 use Rattle.routes.proofs.Meaning.{input-good}
 use Rattle.sail.specs.Lent.{Lent}
 use Rattle.sail.specs.Level.{entry}

@@ -11,8 +11,9 @@ use borrow.Author.Tests.{ltb-true, lt-ltb, le-ltb}
 use Rattle.bits.specs.Slot.{slot}
 use Rattle.bits.specs.Tab.{Tells}
 use Rattle.bits.proofs.Tests.{decided, below?}
-use Rattle.routes.specs.Route.{long, need, Fine, Good}
-use Rattle.routes.specs.Standing.{insert}
+use Rattle.routes.specs.Route.{Fine, Good}
+use Rattle.standing.specs.Cells.{long, need}
+use Rattle.standing.specs.Standing.{insert}
 use Rattle.routes.specs.declared.Route.{Route}
 use Rattle.sail.specs.Lent.{Lent}
 use Rattle.sail.specs.Level.{entry}

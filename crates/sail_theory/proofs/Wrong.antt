@@ -7,9 +7,10 @@ use Prim.Native.Nat.{ℕ, suc, _^_, _<_}
 use native.Mathlib.Omega.{arith}
 use lib.ListN.{getD, set}
 use borrow.Author.Tests.{eq-eqb}
-use Rattle.routes.specs.Route.{keyOf, long, best, need}
+use Rattle.routes.specs.Route.{keyOf}
+use Rattle.standing.specs.Cells.{long, best, need}
 use Rattle.routes.specs.Said.{accepted}
-use Rattle.routes.specs.Standing.{absent, stood, routeAt}
+use Rattle.standing.specs.Standing.{absent, stood, routeAt}
 use Rattle.sail.specs.Lent.{Lent}
 use Rattle.sail.specs.Sound.{Sound, standing, used}
 use Rattle.sail.specs.declared.table.Table.{Table}

@@ -7,11 +7,12 @@ use lib.Dec.{ltb, leb}
 use lib.ListN.{length, set, replicate}
 use Rattle.bits.specs.Slot.{slot}
 use Rattle.bits.specs.Count.{bit}
-use Rattle.routes.specs.Route.{keyOf, long, need}
+use Rattle.routes.specs.Route.{keyOf}
+use Rattle.standing.specs.Cells.{long, need}
 use Rattle.routes.specs.Record.{routesOf}
 use Rattle.routes.specs.Input.{properPrefix, hopFine, inputSaid}
 use Rattle.routes.specs.Said.{Said, accepted, refused, refusedAt, andThen}
-use Rattle.routes.specs.Standing.{stands, insert, remove}
+use Rattle.standing.specs.Standing.{stands, insert, remove}
 use Rattle.routes.specs.declared.Route.{Route}
 use Rattle.sail.specs.Geometry.{bits2}
 use Rattle.sail.specs.Lent.{Lent}

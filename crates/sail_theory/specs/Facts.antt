@@ -5,9 +5,10 @@ use mathlib.Core.List.{List}
 use mathlib.Core.Path.{_≡_}
 use Prim.Native.Nat.{ℕ, _≤_}
 use lib.ListN.{length}
-use Rattle.routes.specs.Route.{keyOf, need, Prefix, Fine, Good}
+use Rattle.routes.specs.Route.{keyOf, Prefix, Fine, Good}
+use Rattle.standing.specs.Cells.{need}
 use Rattle.routes.specs.Record.{written}
-use Rattle.routes.specs.Standing.{stands, insert}
+use Rattle.standing.specs.Standing.{stands, insert}
 use Rattle.routes.specs.declared.Route.{Route}
 use Rattle.sail.specs.Lent.{Lent}
 use Rattle.sail.specs.Sizes.{Sized}

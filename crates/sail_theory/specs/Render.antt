@@ -7,7 +7,7 @@ use lib.Dec.{eqb}
 use lib.ListN.{length}
 use Rattle.bits.specs.Search.{firstOf}
 use Rattle.bits.specs.Tab.{tabulate}
-use Rattle.routes.specs.Route.{long, best}
+use Rattle.standing.specs.Cells.{long, best}
 use Rattle.routes.specs.Record.{written, Listed}
 use Rattle.routes.specs.declared.Route.{Route}
 use Rattle.sail.specs.Geometry.{bits2, bits3}

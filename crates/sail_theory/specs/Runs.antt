@@ -9,7 +9,7 @@ use Rattle.routes.specs.Route.{keyOf, Prefix, Fine}
 use Rattle.routes.specs.Record.{routesOf, Records}
 use Rattle.routes.specs.Input.{inputSaid}
 use Rattle.routes.specs.Said.{accepted, accepts}
-use Rattle.routes.specs.Standing.{stands, Held, absent, stood, routeAt, insert, remove}
+use Rattle.standing.specs.Standing.{stands, Held, absent, stood, routeAt, insert, remove}
 use Rattle.routes.specs.declared.Route.{Route}
 use Rattle.sail.specs.Lent.{Lent}
 use Rattle.sail.specs.declared.table.Table.{Table}

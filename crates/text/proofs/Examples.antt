@@ -5,7 +5,7 @@ use Prim.Native.Nat.{ℕ}
 use Rattle.bits.specs.Tab.{tabulate}
 use Rattle.routes.specs.declared.Route.{Route}
 use Rattle.routes.specs.Record.{recordAt, routesOf}
-use Rattle.routes.specs.Route.{need, any}
+use Rattle.standing.specs.Cells.{need, any}
 use Rattle.routes.specs.Said.{refused, refusedAt}
 use Rattle.text.specs.Digits.{digitsIn, digitsOf}
 use Rattle.text.specs.Text.{ascii, labelled, dotted, routeLine, routeLines, headLine, tableText, saidText}

@@ -13,7 +13,8 @@ use borrow.Author.Tests.{ltb-true, ltb-false, lt-ltb, le-ltb, le-leb, leb-true, 
 use Rattle.bits.specs.Slot.{slot, cut}
 use Rattle.bits.proofs.Slots.{slot-up, cut-slot}
 use Rattle.bits.proofs.Tests.{decided, both, and-split, or-split, untrue}
-use Rattle.routes.specs.Route.{here, any, first, orElse, key, Fine, Good}
+use Rattle.routes.specs.Route.{key, Fine, Good}
+use Rattle.standing.specs.Cells.{here, any, first, orElse}
 use Rattle.routes.specs.declared.Route.{Route}
 use Rattle.routes.proofs.Goods.{good-fine}
 use Rattle.tree.specs.Image.{innerLen, through, hopFor}

@@ -6,7 +6,7 @@ use lib.Count.{ones}
 use lib.ListN.{drop}
 use Rattle.bits.specs.Count.{count}
 use Rattle.routes.specs.Input.{hopFine}
-use Rattle.routes.specs.Route.{any, first}
+use Rattle.standing.specs.Cells.{any, first}
 use Rattle.routes.specs.Said.{Said, accepted}
 use Rattle.routes.specs.declared.Route.{Route}
 use Rattle.tree.specs.Node.{sound, tryBit, deepestOf, betterOf}

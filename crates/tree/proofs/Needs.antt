@@ -12,7 +12,8 @@ use lib.ListN.{length, getD, length-append}
 use borrow.Author.Tests.{lt-ltb, leb-true, leb-false}
 use Rattle.bits.specs.Count.{bit, count}
 use Rattle.bits.proofs.Tests.{decided, untrue}
-use Rattle.routes.specs.Route.{here, any, first, orElse, Good}
+use Rattle.routes.specs.Route.{Good}
+use Rattle.standing.specs.Cells.{here, any, first, orElse}
 use Rattle.routes.specs.declared.Route.{Route}
 use Rattle.routes.proofs.Goods.{good-fine}
 use Rattle.tree.specs.Parts.{picked, gather}

@@ -15,9 +15,10 @@ use Rattle.bits.specs.Slot.{slot}
 use Rattle.bits.specs.Count.{count}
 use Rattle.bits.proofs.Slots.{slot-up}
 use Rattle.bits.proofs.Tests.{decided, both, and-split, fails}
-use Rattle.routes.specs.Route.{here, any, first, orElse, best, Good}
+use Rattle.routes.specs.Route.{Good}
+use Rattle.standing.specs.Cells.{here, any, first, orElse, best}
 use Rattle.routes.specs.declared.Route.{Route}
-use Rattle.routes.proofs.Levels.{any-mono}
+use Rattle.standing.proofs.Levels.{any-mono}
 use Rattle.tree.specs.Walk.{told, treeSaid}
 use Rattle.tree.specs.Image.{Node, node, nodes, words, hops, imageBy, imageOf, through, nodeStands, hopFor, nodeNeed, onPath}
 use Rattle.tree.proofs.Counts.{count-all, count-cut}

@@ -8,7 +8,7 @@ use lib.Dec.{ltb, leb, eqb}
 use lib.ListN.{length}
 use Rattle.bits.specs.Slot.{slot}
 use Rattle.bits.specs.Count.{count}
-use Rattle.routes.specs.Route.{here, any, first, orElse}
+use Rattle.standing.specs.Cells.{here, any, first, orElse}
 use Rattle.routes.specs.declared.Route.{Route}
 use Rattle.tree.specs.Parts.{packed, picked, gather, padded}
 

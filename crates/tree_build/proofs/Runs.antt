@@ -11,7 +11,8 @@ use lib.ListN.{length}
 use Rattle.bits.specs.Slot.{slot, cut}
 use Rattle.bits.proofs.Slots.{cut-is, cut-le, cut-more}
 use Rattle.bits.proofs.Tests.{below?}
-use Rattle.routes.specs.Route.{here, Good}
+use Rattle.routes.specs.Route.{Good}
+use Rattle.standing.specs.Cells.{here}
 use Rattle.routes.specs.Record.{recordAt, Records}
 use Rattle.routes.specs.declared.Route.{Route}
 use Rattle.routes.proofs.Rows.{nth-listed, listed-nth, length-routes, nth-route, records-good}

@@ -7,7 +7,8 @@ use native.Mathlib.Omega.{arith}
 use lib.ListN.{length}
 use borrow.Author.Tests.{lt-ltb, le-ltb}
 use Rattle.bits.proofs.Tests.{below?}
-use Rattle.routes.specs.Route.{best, Good}
+use Rattle.routes.specs.Route.{Good}
+use Rattle.standing.specs.Cells.{best}
 use Rattle.routes.specs.Record.{Records}
 use Rattle.routes.specs.Input.{inputSaid}
 use Rattle.routes.specs.Said.{Said, accepted, refused, refusedAt}

@@ -1,7 +1,7 @@
 // Runs worked cases, and prints what they give. The file stdout has what document 01 says of them.
 mod images;
 mod inputs;
-mod runs;
+mod parts;
 mod samples;
 mod tables;
 
@@ -9,8 +9,8 @@ fn main() {
     inputs::run();
     inputs::refusals();
     inputs::most();
-    runs::run();
-    runs::tallies();
+    parts::run();
+    parts::tallies();
     images::list_a();
     images::sizes();
     images::broken();

@@ -1,8 +1,8 @@
 -- `packing::run` meets its contract. Assumes nothing.
 use mathlib.Core.Path.{ap}
 use native.Mathlib.Omega.{arith}
-use Rattle.lists.specs.Run.{saysRunCheck}
-use Rattle.lists.specs.declared.run.RunCheck.{RunCheck}
+use Rattle.runs.specs.Run.{saysRunCheck}
+use Rattle.runs.specs.declared.run.RunCheck.{RunCheck}
 use Rattle.sail.specs.Word.{packed}
 use Rattle.packing.specs.Pack.{packRun}
 use borrow.Author.Needs.{needs}

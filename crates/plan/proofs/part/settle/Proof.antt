@@ -4,7 +4,7 @@ use native.Mathlib.Omega.{arith}
 use lib.ListN.{length, take}
 use denote.Ref.{now}
 use borrow.Author.Needs.{needs}
-use Rattle.routes.specs.Route.{long}
+use Rattle.standing.specs.Cells.{long}
 use Rattle.chain.specs.Words.{routesIn}
 use Rattle.plan.specs.Part.{Settled}
 use Rattle.plan.proofs.Settles.{settled-length, run-none, run-no, run-yes, run-all}

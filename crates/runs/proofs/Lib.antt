@@ -1,0 +1,3 @@
+-- The laws of runs and tallies, and what joins the code to them.
+pub mod Runs
+pub mod Tallies

@@ -1,0 +1,25 @@
+-- `runs::tally::tally` meets its contract: each arm has its law. Assumes nothing.
+use mathlib.Core.Path.{ap}
+use Rattle.routes.specs.Answers.{saysInput}
+use Rattle.routes.specs.declared.input.Input.{Input}
+use Rattle.routes.proofs.Meaning.{input-good}
+use Rattle.routes.proofs.Inputs.{told-good}
+use Rattle.routes.specs.Said.{accepts}
+use Rattle.runs.proofs.Tallies.{is-tally, no-tally}
+use borrow.Author.Needs.{needs}
+use Rattle.runs.proofs.tally.tally.Statement.{statement}
+use Rattle.runs.proofs.tally.tally.Tie as tie
+
+pub tally-spec : {M : Type 1} → statement M
+unfolding saysInput
+tally-spec =
+    tie.close
+    (tie.spec
+    (λ c κs. search needs)
+    (λ c. search needs)
+    (λ c κs. input-good _ _ (told-good _ _ (c .before .before .before .check-input .ensures) _ (c .before .answer .given .1)) .1)
+    (λ c. search needs)
+    (λ c. search needs)
+    (λ c. is-tally _ _ _ _ (c .before .before .before .before .check-input .ensures) (c .before .before .answer .given .1) (c .lengths .ensures))
+    (λ c. no-tally _ _ (c .before .before .check-input .ensures) (ap (λ (i : Input). accepts (saysInput i)) (c .enum-told .given .1)))
+    (λ c. no-tally _ _ (c .before .before .check-input .ensures) (ap (λ (i : Input). accepts (saysInput i)) (c .enum-told2 .given .1))))

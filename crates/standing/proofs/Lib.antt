@@ -1,0 +1,9 @@
+-- The laws of what routes say of a cell, and of lists that change by one route.
+pub mod Levels
+pub mod Longest
+pub mod Paint
+pub mod Need
+pub mod Frame
+pub mod Only
+pub mod Standing
+pub mod Changed

@@ -1,0 +1,3 @@
+-- What routes say of a cell, and what stands in a list.
+pub mod Cells
+pub mod Standing
