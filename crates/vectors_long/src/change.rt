@@ -1,14 +1,12 @@
 // Drawn changes, made one after the other.
-use crate::course;
 use crate::course::Course;
-use crate::draw;
+use crate::course;
 use crate::draw::Prefix;
+use crate::draw;
 use crate::linear;
 use crate::looks;
 use routes::record;
 use sail::table::Table;
-use sail_calls::announce;
-use sail_calls::withdraw;
 
 // A change: a route announced, or its prefix withdrawn.
 struct Act {
@@ -58,7 +56,7 @@ fn announced(
     own2: &mut [u32],
     own3: &mut [u32],
 ) -> Course {
-    let d = announce::announce(
+    let d = sail_announce::announce(
         r.table,
         list,
         first,
@@ -84,7 +82,7 @@ fn withdrawn(
     own2: &mut [u32],
     own3: &mut [u32],
 ) -> Course {
-    let d = withdraw::withdraw(
+    let d = sail_withdraw::withdraw(
         r.table,
         list,
         first,

@@ -1,10 +1,10 @@
 // Where a long run stands, and what it has counted.
 use crate::draw;
-use crate::looks;
 use crate::looks::Sums;
+use crate::looks;
 use sail::table::Table;
-use sail_calls::answers::Announce;
-use sail_calls::answers::Withdraw;
+use sail_announce::answers::Announce;
+use sail_withdraw::answers::Withdraw;
 use std::num;
 use words::print;
 

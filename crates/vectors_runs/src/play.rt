@@ -1,13 +1,11 @@
 // Steps played on a table, and what they give printed. Each kind of step is a function of its own, which leaves the others alone.
 use crate::said;
 use crate::same;
-use crate::steps;
 use crate::steps::Step;
+use crate::steps;
 use sail::geometry::Geometry;
 use sail::lookup;
 use sail::table::Table;
-use sail_calls::announce;
-use sail_calls::withdraw;
 use sail_load::make;
 use sail_sound::report;
 use words::print;
@@ -45,7 +43,7 @@ fn announced(
     let Step::Announce(addr, len, hop) = s else {
         return t;
     };
-    let r = announce::announce(t, list, first, second, third, own2, own3, addr, len, hop);
+    let r = sail_announce::announce(t, list, first, second, third, own2, own3, addr, len, hop);
     let answer = r.answer;
     said::announced(answer);
     r.table
@@ -64,7 +62,7 @@ fn withdrawn(
     let Step::Withdraw(addr, len) = s else {
         return t;
     };
-    let r = withdraw::withdraw(t, list, first, second, third, own2, own3, addr, len);
+    let r = sail_withdraw::withdraw(t, list, first, second, third, own2, own3, addr, len);
     let answer = r.answer;
     said::withdrawn(answer);
     r.table

@@ -1,6 +1,6 @@
 // What announce and withdraw answer, as words.
-use sail_calls::answers::Announce;
-use sail_calls::answers::Withdraw;
+use sail_announce::answers::Announce;
+use sail_withdraw::answers::Withdraw;
 use words::print;
 
 pub fn announced(answer: Announce) {
