@@ -23,10 +23,11 @@ use Rattle.sail.proofs.Answers.{found-injective}
 use Rattle.sail_theory.specs.Calls.{Out, out}
 use Rattle.sail_sound.specs.declared.report.Reported.{Reported}
 use Rattle.sail_sound.proofs.Reports.{reported-injective}
-use Rattle.sail_load.specs.Answers.{saysMade, saysLoaded}
-use Rattle.sail_load.specs.declared.make.Fresh.{Fresh}
+use Rattle.sail_make.specs.Answers.{saysMade}
+use Rattle.sail_load.specs.Answers.{saysLoaded}
+use Rattle.sail_make.specs.declared.Fresh.{Fresh}
 use Rattle.sail_load.specs.declared.load.Changed.{Changed}
-use Rattle.sail_load.proofs.Makes.{made-injective}
+use Rattle.sail_make.proofs.Makes.{made-injective}
 use Rattle.sail_load.proofs.Loads.{loaded-injective}
 use Rattle.sail_announce.specs.Answers.{saysAnnounce}
 use Rattle.sail_withdraw.specs.Answers.{saysWithdraw}

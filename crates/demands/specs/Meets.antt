@@ -20,8 +20,9 @@ use Rattle.sail.specs.declared.lookup.Found.{Found}
 use Rattle.sail_theory.specs.Calls.{out, made, announced, withdrawn, loaded, reported}
 use Rattle.sail_sound.specs.Report.{saysReported}
 use Rattle.sail_sound.specs.declared.report.Reported.{Reported}
-use Rattle.sail_load.specs.Answers.{saysMade, saysLoaded}
-use Rattle.sail_load.specs.declared.make.Fresh.{Fresh}
+use Rattle.sail_make.specs.Answers.{saysMade}
+use Rattle.sail_load.specs.Answers.{saysLoaded}
+use Rattle.sail_make.specs.declared.Fresh.{Fresh}
 use Rattle.sail_load.specs.declared.load.Changed.{Changed}
 use Rattle.sail_announce.specs.Answers.{saysAnnounce}
 use Rattle.sail_withdraw.specs.Answers.{saysWithdraw}

@@ -1,7 +1,8 @@
 // Answers as one number of 64 bits. Which value stands in which bits is said with each function's definition.
 ghost use mathlib.Core.Path.{_≡_};
 ghost use Prim.Native.Nat.{_+_, _*_, _%_, _^_, _<_};
-ghost use Rattle.sail_load.specs.Answers.{saysMade, saysLoaded};
+ghost use Rattle.sail_make.specs.Answers.{saysMade};
+ghost use Rattle.sail_load.specs.Answers.{saysLoaded};
 ghost use Rattle.sail_announce.specs.Answers.{saysAnnounce};
 ghost use Rattle.sail_withdraw.specs.Answers.{saysWithdraw};
 ghost use Rattle.sail_sound.specs.Report.{saysReported};
@@ -16,7 +17,7 @@ use routes::input::Got;
 use routes::input::Input;
 use sail_announce::answers::Announce;
 use sail_load::load::Loaded;
-use sail_load::make::Made;
+use sail_make::Made;
 use sail_sound::report::Reported;
 use sail_withdraw::answers::Withdraw;
 use tree::TreeFound;

@@ -33,8 +33,8 @@ use Rattle.sail_theory.proofs.Cells.{second-free, third-free}
 use Rattle.sail_theory.proofs.Ends.{any-some}
 use Rattle.sail_theory.proofs.Fresh.{zeros}
 use Rattle.sail_theory.proofs.Loads.{Fronts, fronts-none, settles}
-use Rattle.sail_load.specs.Fill.{padded}
-use Rattle.sail_load.specs.Owners.{owners, Ownable}
+use Rattle.sail_make.specs.Fill.{padded}
+use Rattle.sail_owners.specs.Owners.{owners, Ownable}
 use Rattle.sail_load.specs.Renew.{Readable, Scratch, Bare, Renewable, anew}
 use Rattle.sail_load.proofs.Lists.{padded-written}
 

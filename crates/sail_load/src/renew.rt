@@ -5,14 +5,14 @@ ghost use Rattle.sail.specs.Lent.{lent};
 ghost use Rattle.sail_paint.specs.Stale.{Repainted};
 ghost use Rattle.sail_theory.specs.Calls.{inputRoutes};
 ghost use Rattle.sail_load.specs.Renew.{Scratch, Bare, Renewable, anew};
-use crate::fill::fill16;
-use crate::fill::put_list;
-use crate::fill::zero32;
-use crate::owners::settle_owners;
 use chain::cover::ready;
 use chain::words::decode;
 use sail::geometry::Geometry;
 use sail::table::Table;
+use sail_make::fill::fill16;
+use sail_make::fill::put_list;
+use sail_make::fill::zero32;
+use sail_owners::owners::settle_owners;
 use sail_paint::repaint::repaint;
 
 // The cells of the three levels, where both pools are zero and the owners fit the input's routes. `ws` and `par` are room

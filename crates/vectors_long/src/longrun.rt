@@ -7,7 +7,6 @@ use crate::course;
 use crate::course::Course;
 use sail::geometry::Geometry;
 use sail::table::Table;
-use sail_load::make;
 use words::print;
 use words::table;
 
@@ -23,7 +22,7 @@ fn start(
     own3: &mut [u32],
 ) -> Course {
     let t = Table { geometry, count: 0 };
-    let r = make::make(t, list, first, second, third, own2, own3);
+    let r = sail_make::make(t, list, first, second, third, own2, own3);
     let answer = r.answer;
     table::made(answer);
     course::start(r.table, x)

@@ -6,7 +6,6 @@ use crate::steps;
 use sail::geometry::Geometry;
 use sail::lookup;
 use sail::table::Table;
-use sail_load::make;
 use sail_sound::report;
 use words::print;
 use words::table;
@@ -24,7 +23,7 @@ fn made(
     let Step::Make = s else {
         return t;
     };
-    let r = make::make(t, list, first, second, third, own2, own3);
+    let r = sail_make::make(t, list, first, second, third, own2, own3);
     let answer = r.answer;
     table::made(answer);
     r.table

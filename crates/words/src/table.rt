@@ -1,7 +1,7 @@
 // The answers of make, lookup and report, as words.
 use crate::print;
 use sail::lookup::Found;
-use sail_load::make::Made;
+use sail_make::Made;
 use sail_sound::report::Reported;
 
 pub fn made(answer: Made) {
