@@ -11,12 +11,13 @@ ghost use Rattle.sail_theory.specs.Facts.{Welcome};
 ghost use Rattle.sail_theory.proofs.Judged.{Proper};
 ghost use Rattle.sail_calls.specs.Judge.{Judged};
 ghost use Rattle.sail_announce.specs.Answers.{saysAnnounce};
+
 pub mod answers;
 
 use crate::answers::Announce;
 use crate::answers::Announced;
-use lists::edit::Put;
 use lists::edit;
+use lists::edit::Put;
 use lists::place::place;
 use routes::Route;
 use routes::input;

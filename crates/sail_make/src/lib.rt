@@ -4,6 +4,7 @@ ghost use Rattle.sail.specs.Lent.{lent};
 ghost use Rattle.sail.specs.Sound.{freshLent};
 ghost use Rattle.sail_theory.specs.Calls.{out, made};
 ghost use Rattle.sail_make.specs.Answers.{saysMade};
+
 pub mod fill;
 
 use crate::fill::fill16;

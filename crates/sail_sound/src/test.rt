@@ -7,12 +7,12 @@ ghost use Rattle.sail.specs.Lent.{lent};
 ghost use Rattle.sail.specs.Sizes.{Sized};
 ghost use Rattle.sail_list.specs.List.{Scratch};
 ghost use Rattle.sail_sound.specs.Test.{Passed, Tried};
+use sail::geometry::Geometry;
+use sail::table::Table;
 use sail_list::chained;
 use sail_list::list_ok;
 use sail_pool::first_ok;
 use sail_pool::pool_ok;
-use sail::geometry::Geometry;
-use sail::table::Table;
 
 // The three levels beside the routes of the words. The first cells are one chunk, whose owner is 1; a third cell names no
 // chunk.

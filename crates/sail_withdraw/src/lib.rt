@@ -5,6 +5,7 @@ ghost use Rattle.sail_theory.specs.Calls.{withdrawSaid, out, withdrawn};
 ghost use Rattle.sail_theory.specs.Facts.{Farewell};
 ghost use Rattle.sail_calls.specs.Judge.{Judged};
 ghost use Rattle.sail_withdraw.specs.Answers.{saysWithdraw};
+
 pub mod answers;
 
 use crate::answers::Withdraw;

@@ -1,8 +1,8 @@
 // Drawn changes, made one after the other.
-use crate::course::Course;
 use crate::course;
-use crate::draw::Prefix;
+use crate::course::Course;
 use crate::draw;
+use crate::draw::Prefix;
 use crate::linear;
 use crate::looks;
 use routes::record;

@@ -1,7 +1,7 @@
 // Where a long run stands, and what it has counted.
 use crate::draw;
-use crate::looks::Sums;
 use crate::looks;
+use crate::looks::Sums;
 use sail::table::Table;
 use sail_announce::answers::Announce;
 use sail_withdraw::answers::Withdraw;

@@ -1,8 +1,8 @@
 // Steps played on a table, and what they give printed. Each kind of step is a function of its own, which leaves the others alone.
 use crate::said;
 use crate::same;
-use crate::steps::Step;
 use crate::steps;
+use crate::steps::Step;
 use sail::geometry::Geometry;
 use sail::lookup;
 use sail::table::Table;
