@@ -1,6 +1,7 @@
 // The routes that a run left, loaded into other arrays, and the same lookups made there.
-use crate::linear;
-use crate::looks;
+use crate::course;
+use probes::linear;
+use probes::looks;
 use sail::table::Table;
 use sail_load::load;
 use sail_load::load::Loaded;
@@ -54,7 +55,7 @@ pub fn judge(
     x: u64,
 ) {
     table::reported(report::report(t, list, first, second, third, own2, own3));
-    looks::told(looks::look(t, list, first, second, third, own2, own3, x, looks::none()));
+    course::looked(looks::look(t, list, first, second, third, own2, own3, x, looks::none()));
 }
 
 fn again(

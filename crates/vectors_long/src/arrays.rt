@@ -1,5 +1,5 @@
 // A sum over each of the six arrays, every element in its order.
-use crate::draw;
+use probes::draw;
 use words::print;
 
 fn mix8(sum: u64, v: u8) -> u64 {

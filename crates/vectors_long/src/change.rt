@@ -1,10 +1,10 @@
 // Drawn changes, made one after the other.
 use crate::course;
 use crate::course::Course;
-use crate::draw;
-use crate::draw::Prefix;
-use crate::linear;
-use crate::looks;
+use probes::draw;
+use probes::draw::Prefix;
+use probes::linear;
+use probes::looks;
 use routes::record;
 use sail::table::Table;
 

@@ -1,7 +1,7 @@
 // Where a long run stands, and what it has counted.
-use crate::draw;
-use crate::looks;
-use crate::looks::Sums;
+use probes::draw;
+use probes::looks;
+use probes::looks::Sums;
 use sail::table::Table;
 use sail_announce::answers::Announce;
 use sail_withdraw::answers::Withdraw;
@@ -84,9 +84,22 @@ fn counted(tally: &[u64]) {
     numbers(tally, 1, 10);
 }
 
+// How many lookups there were, and what they found.
+pub fn looked(s: Sums) {
+    print::text(b"looked");
+    print::value(s.looked);
+    print::text(b" found");
+    print::value(s.found);
+    print::text(b" differ");
+    print::value(s.differ);
+    print::text(b" sum");
+    print::value(s.sum);
+    print::end();
+}
+
 // The changes and the lookups of a run.
 pub fn told(r: Course) {
     let tally = r.tally;
     counted(&tally);
-    looks::told(r.sums);
+    looked(r.sums);
 }

@@ -4,10 +4,7 @@ mod anew;
 mod arrays;
 mod change;
 mod course;
-mod draw;
-mod linear;
 mod longrun;
-mod looks;
 
 fn main() {
     longrun::standard();

@@ -1,9 +1,9 @@
--- `vectors_long::linear::longest` is safe and ends. Assumes nothing.
+-- `probes::linear::longest` is safe and ends. Assumes nothing.
 use Prim.Native.Nat.{_-_, _≤_}
 use native.Mathlib.Omega.{arith}
 use borrow.Author.Needs.{needs}
-use Rattle.vectors_long.proofs.linear.longest.Statement.{statement}
-use Rattle.vectors_long.proofs.linear.longest.Tie as tie
+use Rattle.probes.proofs.linear.longest.Statement.{statement}
+use Rattle.probes.proofs.linear.longest.Tie as tie
 
 abbrev Inv-loop : tie.InvT-loop
 Inv-loop list n addr best₀ k₀ best k = k ≤ n

@@ -1,9 +1,9 @@
--- `vectors_long::linear::more` is safe and ends. Assumes nothing.
+-- `probes::linear::more` is safe and ends. Assumes nothing.
 use Prim.Native.Nat.{_-_, _≤_}
 use native.Mathlib.Omega.{arith}
 use borrow.Author.Needs.{needs}
-use Rattle.vectors_long.proofs.linear.more.Statement.{statement}
-use Rattle.vectors_long.proofs.linear.more.Tie as tie
+use Rattle.probes.proofs.linear.more.Statement.{statement}
+use Rattle.probes.proofs.linear.more.Tie as tie
 
 abbrev Inv-loop : tie.InvT-loop
 Inv-loop list n p addr k₀ k = k ≤ n

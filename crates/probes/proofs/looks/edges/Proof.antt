@@ -1,10 +1,10 @@
--- `vectors_long::looks::edges` is safe and ends. Assumes nothing.
+-- `probes::looks::edges` is safe and ends. Assumes nothing.
 use Prim.Native.Nat.{_-_, _≤_, _*_}
 use native.Mathlib.Omega.{arith}
 use lib.ListN.{length}
 use borrow.Author.Needs.{needs}
-use Rattle.vectors_long.proofs.looks.edges.Statement.{statement}
-use Rattle.vectors_long.proofs.looks.edges.Tie as tie
+use Rattle.probes.proofs.looks.edges.Statement.{statement}
+use Rattle.probes.proofs.looks.edges.Tie as tie
 
 abbrev Inv-loop : tie.InvT-loop
 Inv-loop t list first second third own2 own3 n u₀ k₀ u k = (k ≤ n) × (n * 8 ≤ length list)

@@ -1,9 +1,9 @@
--- `vectors_long::looks::drawn` is safe and ends. Assumes nothing.
+-- `probes::looks::drawn` is safe and ends. Assumes nothing.
 use Prim.Native.Nat.{_-_, _≤_}
 use native.Mathlib.Omega.{arith}
 use borrow.Author.Needs.{needs}
-use Rattle.vectors_long.proofs.looks.drawn.Statement.{statement}
-use Rattle.vectors_long.proofs.looks.drawn.Tie as tie
+use Rattle.probes.proofs.looks.drawn.Statement.{statement}
+use Rattle.probes.proofs.looks.drawn.Tie as tie
 
 abbrev Inv-loop : tie.InvT-loop
 Inv-loop t list first second third own2 own3 seed u₀ x₀ i₀ u x i = i ≤ 8

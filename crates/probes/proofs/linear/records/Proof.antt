@@ -1,9 +1,9 @@
--- `vectors_long::linear::records` is safe and ends. Assumes nothing.
+-- `probes::linear::records` is safe and ends. Assumes nothing.
 use mathlib.Core.Path.{sym}
 use lib.Seq.{length-take-le}
 use borrow.Author.Needs.{needs}
-use Rattle.vectors_long.proofs.linear.records.Statement.{statement}
-use Rattle.vectors_long.proofs.linear.records.Tie as tie
+use Rattle.probes.proofs.linear.records.Statement.{statement}
+use Rattle.probes.proofs.linear.records.Tie as tie
 
 pub records-spec : {M : Type 1} → statement M
 records-spec =

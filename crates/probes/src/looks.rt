@@ -7,7 +7,6 @@ use sail::lookup;
 use sail::lookup::Found;
 use sail::table::Table;
 use std::num;
-use words::print;
 
 // How many lookups there were, how many of them found a hop and how many differ; and a sum over the answers.
 pub struct Sums {
@@ -24,18 +23,6 @@ pub fn none() -> Sums {
         differ: 0,
         sum: 0,
     }
-}
-
-pub fn told(s: Sums) {
-    print::text(b"looked");
-    print::value(s.looked);
-    print::text(b" found");
-    print::value(s.found);
-    print::text(b" differ");
-    print::value(s.differ);
-    print::text(b" sum");
-    print::value(s.sum);
-    print::end();
 }
 
 fn one(b: bool) -> u64 {
