@@ -22,7 +22,7 @@ pub extern "C" fn gh_make(
     ensures { λ r. ⌜ card r (lent (now (list .exit)) (now (first .exit)) (now (second .exit)) (now (third .exit)) (now (own2 .exit)) (now (own3 .exit))) ≡ cardOf (made (tableOf p1 p2 0) (lent (now (list .entry)) (now (first .entry)) (now (second .entry)) (now (third .entry)) (now (own2 .entry)) (now (own3 .entry)))) ⌝ }
 {
     let geometry = Geometry { p1, p2 };
-    let c = sail_load::make::make(
+    let c = sail_make::make(
         Table { geometry, count: 0 },
         list,
         first,
@@ -88,7 +88,7 @@ pub extern "C" fn gh_announce(
     ensures { λ r. ⌜ card r (lent (now (list .exit)) (now (first .exit)) (now (second .exit)) (now (third .exit)) (now (own2 .exit)) (now (own3 .exit))) ≡ cardOf (announced (tableOf p1 p2 count) (lent (now (list .entry)) (now (first .entry)) (now (second .entry)) (now (third .entry)) (now (own2 .entry)) (now (own3 .entry))) addr len hop) ⌝ }
 {
     let geometry = Geometry { p1, p2 };
-    let c = sail_calls::announce::announce(
+    let c = sail_announce::announce(
         Table { geometry, count },
         list,
         first,
@@ -124,7 +124,7 @@ pub extern "C" fn gh_withdraw(
     ensures { λ r. ⌜ card r (lent (now (list .exit)) (now (first .exit)) (now (second .exit)) (now (third .exit)) (now (own2 .exit)) (now (own3 .exit))) ≡ cardOf (withdrawn (tableOf p1 p2 count) (lent (now (list .entry)) (now (first .entry)) (now (second .entry)) (now (third .entry)) (now (own2 .entry)) (now (own3 .entry))) addr len) ⌝ }
 {
     let geometry = Geometry { p1, p2 };
-    let c = sail_calls::withdraw::withdraw(
+    let c = sail_withdraw::withdraw(
         Table { geometry, count },
         list,
         first,

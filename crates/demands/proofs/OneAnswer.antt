@@ -23,15 +23,18 @@ use Rattle.sail.proofs.Answers.{found-injective}
 use Rattle.sail_theory.specs.Calls.{Out, out}
 use Rattle.sail_sound.specs.declared.report.Reported.{Reported}
 use Rattle.sail_sound.proofs.Reports.{reported-injective}
-use Rattle.sail_load.specs.Answers.{saysMade, saysLoaded}
-use Rattle.sail_load.specs.declared.make.Fresh.{Fresh}
+use Rattle.sail_make.specs.Answers.{saysMade}
+use Rattle.sail_load.specs.Answers.{saysLoaded}
+use Rattle.sail_make.specs.declared.Fresh.{Fresh}
 use Rattle.sail_load.specs.declared.load.Changed.{Changed}
-use Rattle.sail_load.proofs.Makes.{made-injective}
+use Rattle.sail_make.proofs.Makes.{made-injective}
 use Rattle.sail_load.proofs.Loads.{loaded-injective}
-use Rattle.sail_calls.specs.Answers.{saysAnnounce, saysWithdraw}
-use Rattle.sail_calls.specs.declared.answers.Announced.{Announced}
-use Rattle.sail_calls.specs.declared.answers.Withdrawn.{Withdrawn}
-use Rattle.sail_calls.proofs.Injective.{announce-injective, withdraw-injective}
+use Rattle.sail_announce.specs.Answers.{saysAnnounce}
+use Rattle.sail_withdraw.specs.Answers.{saysWithdraw}
+use Rattle.sail_announce.specs.declared.answers.Announced.{Announced}
+use Rattle.sail_withdraw.specs.declared.answers.Withdrawn.{Withdrawn}
+use Rattle.sail_announce.proofs.Injective.{announce-injective}
+use Rattle.sail_withdraw.proofs.Injective.{withdraw-injective}
 use Rattle.tree.specs.declared.TreeFound.{TreeFound}
 use Rattle.tree.proofs.Walks.{saysTreeFound-injective}
 use Rattle.tree_build.specs.Built as building

@@ -20,12 +20,14 @@ use Rattle.sail.specs.declared.lookup.Found.{Found}
 use Rattle.sail_theory.specs.Calls.{out, made, announced, withdrawn, loaded, reported}
 use Rattle.sail_sound.specs.Report.{saysReported}
 use Rattle.sail_sound.specs.declared.report.Reported.{Reported}
-use Rattle.sail_load.specs.Answers.{saysMade, saysLoaded}
-use Rattle.sail_load.specs.declared.make.Fresh.{Fresh}
+use Rattle.sail_make.specs.Answers.{saysMade}
+use Rattle.sail_load.specs.Answers.{saysLoaded}
+use Rattle.sail_make.specs.declared.Fresh.{Fresh}
 use Rattle.sail_load.specs.declared.load.Changed.{Changed}
-use Rattle.sail_calls.specs.Answers.{saysAnnounce, saysWithdraw}
-use Rattle.sail_calls.specs.declared.answers.Announced.{Announced}
-use Rattle.sail_calls.specs.declared.answers.Withdrawn.{Withdrawn}
+use Rattle.sail_announce.specs.Answers.{saysAnnounce}
+use Rattle.sail_withdraw.specs.Answers.{saysWithdraw}
+use Rattle.sail_announce.specs.declared.answers.Announced.{Announced}
+use Rattle.sail_withdraw.specs.declared.answers.Withdrawn.{Withdrawn}
 use Rattle.tree.specs.Walk.{saysTreeFound, treeSaid}
 use Rattle.tree.specs.declared.TreeFound.{TreeFound}
 use Rattle.tree_build.specs.Built as building

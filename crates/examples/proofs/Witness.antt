@@ -42,12 +42,14 @@ use Rattle.sail_theory.proofs.Fresh.{make-said, make-is}
 use Rattle.sail_theory.proofs.Sizes.{size-refl}
 use Rattle.sail_sound.specs.Report.{saysReported}
 use Rattle.sail_sound.specs.declared.report.Reported.the-variants as ofReport
-use Rattle.sail_load.specs.Answers.{saysMade, saysLoaded}
-use Rattle.sail_load.specs.declared.make.Made.the-variants as ofMake
+use Rattle.sail_make.specs.Answers.{saysMade}
+use Rattle.sail_load.specs.Answers.{saysLoaded}
+use Rattle.sail_make.specs.declared.Made.the-variants as ofMake
 use Rattle.sail_load.specs.declared.load.Loaded.the-variants as ofLoad
-use Rattle.sail_calls.specs.Answers.{saysAnnounce, saysWithdraw}
-use Rattle.sail_calls.specs.declared.answers.Announce.the-variants as ofAnnounce
-use Rattle.sail_calls.specs.declared.answers.Withdraw.the-variants as ofWithdraw
+use Rattle.sail_announce.specs.Answers.{saysAnnounce}
+use Rattle.sail_withdraw.specs.Answers.{saysWithdraw}
+use Rattle.sail_announce.specs.declared.answers.Announce.the-variants as ofAnnounce
+use Rattle.sail_withdraw.specs.declared.answers.Withdraw.the-variants as ofWithdraw
 use Rattle.tree.specs.Node.{sound}
 use Rattle.tree.specs.Walk.{walkFrom, treeSaid, saysTreeFound}
 use Rattle.tree.specs.declared.TreeFound.the-variants as treeFound

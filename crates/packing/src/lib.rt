@@ -1,8 +1,10 @@
 // Answers as one number of 64 bits. Which value stands in which bits is said with each function's definition.
 ghost use mathlib.Core.Path.{_≡_};
 ghost use Prim.Native.Nat.{_+_, _*_, _%_, _^_, _<_};
-ghost use Rattle.sail_load.specs.Answers.{saysMade, saysLoaded};
-ghost use Rattle.sail_calls.specs.Answers.{saysAnnounce, saysWithdraw};
+ghost use Rattle.sail_make.specs.Answers.{saysMade};
+ghost use Rattle.sail_load.specs.Answers.{saysLoaded};
+ghost use Rattle.sail_announce.specs.Answers.{saysAnnounce};
+ghost use Rattle.sail_withdraw.specs.Answers.{saysWithdraw};
 ghost use Rattle.sail_sound.specs.Report.{saysReported};
 ghost use Rattle.routes.specs.Answers.{saysInput, saysGot};
 ghost use Rattle.runs.specs.Run.{saysRunCheck};
@@ -13,11 +15,11 @@ ghost use Rattle.packing.specs.Pack.{packReport, packChange, packBuilt, 
 use routes::input::Got;
 use routes::input::Input;
 use runs::run::RunCheck;
-use sail_calls::answers::Announce;
-use sail_calls::answers::Withdraw;
+use sail_announce::answers::Announce;
 use sail_load::load::Loaded;
-use sail_load::make::Made;
+use sail_make::Made;
 use sail_sound::report::Reported;
+use sail_withdraw::answers::Withdraw;
 use tree::TreeFound;
 use tree_build::Built;
 

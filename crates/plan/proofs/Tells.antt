@@ -1,9 +1,10 @@
 -- Answers that tell whether something holds. Assumes nothing.
-use mathlib.Core.Path.{refl}
-use mathlib.Core.Bool.{Bool, true, false, false≢true}
+use mathlib.Core.Path.{_≡_, refl, sym, _∙_}
+use mathlib.Core.Bool.{Bool, true, false, not, true≢false, false≢true}
 use Prim.Native.Nat.{ℕ, _+_, _<_}
 use native.Mathlib.Omega.{arith}
 use borrow.Author.Count.{below-more}
+use borrow.Author.Tests.{not-true, not-false}
 use Rattle.bits.specs.Tab.{Tells}
 
 pub is-no : {P : Type 0} → (P → ⊥) → Tells false P
@@ -23,3 +24,10 @@ tells-more Q b i x = tells-same (λ f. below-more Q i f x) (λ f k l. f k (omega
 -- one that does not
 pub tells-none : (Q : ℕ → Type 0) (i : ℕ) → (Q i → ⊥) → Tells false ((k : ℕ) → k < i + 1 → Q k)
 tells-none Q i x = is-no (λ f. x (f i (omega arith)))
+
+-- a part failed, so the whole does not hold
+pub refuted : {P Q : Type 0} {b : Bool} → Tells b P → not b ≡ true → (Q → P) → Tells false Q
+refuted {P} {Q} {b} t e f = is-no (λ q. true≢false (sym (t .1 (f q)) ∙ not-true b e))
+
+pub passed : {P : Type 0} {b : Bool} → Tells b P → not b ≡ false → P
+passed {P} {b} t e = t .0 (not-false b e)

@@ -1,6 +1,3 @@
--- Laws that the proofs of the calls cite.
-pub mod Renews
+-- What a judge tells, and what renewing a table asks and leaves.
 pub mod Judges
-pub mod Adds
-pub mod Takes
-pub mod Injective
+pub mod Renews

@@ -10,37 +10,37 @@ use Rattle.routes.specs.Record.{routesOf, Listed}
 use Rattle.chain.specs.Words.{routesIn}
 use Rattle.sail.specs.Lent.{Lent}
 use Rattle.sail.specs.declared.geometry.Geometry.{Geometry}
-use Rattle.sail_sound.specs.List.{ChainRoom, Chained, Scratch}
-use Rattle.sail_sound.proofs.Tries as tries
+use Rattle.sail_list.specs.List.{ChainRoom, Chained, Scratch}
+use Rattle.sail_list.proofs.Fronts as fronts
 use Rattle.sail_paint.specs.Stale.{Stale, Repainted}
-use Rattle.sail_change.specs.Pending.{Pending, cellsOf}
+use Rattle.sail_paint.specs.Pending.{Pending, cellsOf}
 
 module _ (g : Geometry) (n a len : ℕ) (l : Lent) (w : Pending g n a len l) (ws par : List ℕ) (room : Scratch ws par) where
   told : Tells true (Listed (l .list) n)
   told = ((λ _. w .listed), (λ _. refl))
 
   pub words-in : n ≤ length ws
-  words-in = tries.count-in (l .list) n true told refl ws par room
+  words-in = fronts.count-in (l .list) n true told refl ws par room
 
   pub words-room : n ≡ length (take n ws)
-  words-room = tries.count-room (l .list) n true told refl ws par room
+  words-room = fronts.count-room (l .list) n true told refl ws par room
 
   pub words-chain : ChainRoom (l .list) (take n ws) par
-  words-chain = tries.chain-room (l .list) n true told refl ws par room
+  words-chain = fronts.chain-room (l .list) n true told refl ws par room
 
   module _ (words : List ℕ) (kept : length words ≡ length (take n ws)) where
     pub front-in : n ≤ length (words ++ drop n ws)
-    front-in = tries.still-in (l .list) n true told refl ws par room words kept
+    front-in = fronts.still-in (l .list) n true told refl ws par room words kept
 
     pub front-room : n ≡ length (take n (words ++ drop n ws))
-    front-room = tries.front-room (l .list) n true told refl ws par room words kept
+    front-room = fronts.front-room (l .list) n true told refl ws par room words kept
 
     module _ (chain : List ℕ) (k : Chained (l .list) (length (take n ws)) words chain) where
       routes : routesIn (take n (words ++ drop n ws)) ≡ routesOf (l .list) n
       routes = rw (take-at words (drop n ws) n (kept ∙ sym words-room), k .routes, ← words-room)
 
       pub front-stale : Stale g (take n (words ++ drop n ws)) chain a len (cellsOf l)
-      front-stale = w .stale _ _ (tries.front-ready (l .list) n true told refl ws par room words kept chain k) routes
+      front-stale = w .stale _ _ (fronts.front-ready (l .list) n true told refl ws par room words kept chain k) routes
 
       -- what is painted from the words is painted from the routes of the list
       pub renewed : (first second third : List ℕ) → Repainted g (routesIn (take n (words ++ drop n ws))) (cellsOf l) first second third → Repainted g (routesOf (l .list) n) (cellsOf l) first second third

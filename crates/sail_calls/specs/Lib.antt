@@ -1,2 +1,2 @@
--- What the calls that change a table by one route ask and answer.
-pub mod Answers
+-- What the calls that change a table by one route have in common.
+pub mod Judge

@@ -1,5 +1,2 @@
-// The calls that change a SAIL table by one route: announce and withdraw.
-pub mod announce;
-pub mod answers;
+// What the calls that change a SAIL table have in common: its cells renewed from its list.
 pub mod renew;
-pub mod withdraw;

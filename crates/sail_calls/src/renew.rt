@@ -3,11 +3,11 @@ ghost use mathlib.Core.List.{[]};
 ghost use Rattle.routes.specs.Record.{routesOf};
 ghost use Rattle.sail.specs.Lent.{lent};
 ghost use Rattle.sail_paint.specs.Stale.{Repainted};
-ghost use Rattle.sail_sound.specs.List.{Scratch};
-ghost use Rattle.sail_change.specs.Pending.{Pending};
+ghost use Rattle.sail_list.specs.List.{Scratch};
+ghost use Rattle.sail_paint.specs.Pending.{Pending};
 use sail::geometry::Geometry;
+use sail_list::chained;
 use sail_paint::repaint::repaint;
-use sail_sound::list::chained;
 
 // The cells become what the first n records of the list and the owners ask for. `addr` and `len` are the prefix at which
 // these have changed, and no cell that it does not touch is painted. `ws` and `par` are room for the words of the routes

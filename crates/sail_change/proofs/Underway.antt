@@ -20,7 +20,7 @@ use Rattle.sail_theory.specs.Alters.{Frame}
 use Rattle.sail_theory.proofs.Mids.{sum2, sum3}
 use Rattle.sail_theory.proofs.Cells.{second-free, third-free}
 use Rattle.sail_paint.specs.Stale.{meets, stale2, stale3, Stale}
-use Rattle.sail_change.specs.Pending.{cellsOf}
+use Rattle.sail_paint.specs.Pending.{cellsOf}
 use Rattle.sail_change.proofs.Still.{meets-none, still-right}
 
 -- in a pool of m chunks of 2 ^ d cells, the cells of chunks in use are as they were, and the others are 0

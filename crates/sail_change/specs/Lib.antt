@@ -1,5 +1,4 @@
 -- What the calls that change a table by one route ask and leave, step by step.
 pub mod Chunks
-pub mod Pending
 pub mod Trail
 pub mod Opening

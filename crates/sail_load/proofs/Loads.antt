@@ -21,11 +21,11 @@ use Rattle.sail_theory.specs.Render.{roomOf}
 use Rattle.sail_theory.specs.Calls.{chunksFault, loadFault, loadSaid, out, loaded, inputRoutes}
 use Rattle.sail_theory.proofs.Loads.{accepted-loadable, loadable-said, load-is, load-off}
 use Rattle.sail_load.specs.Answers.{saysLoaded}
-use Rattle.sail_load.specs.Need.{terms, Weighs}
+use Rattle.sail_load.specs.Weigh.{terms, Weighs}
 use Rattle.sail_load.specs.Renew.{Renewable, anew}
 use Rattle.sail_load.specs.declared.load.Loaded.{Loaded}
 use Rattle.sail_load.specs.declared.load.Loaded.the-variants.{Done, Refused, RefusedAt}
-use Rattle.sail_load.proofs.Makes.{or-refused}
+use Rattle.sail_make.proofs.Makes.{or-refused}
 
 -- 6, 7 and 8
 module _ (g : Geometry) (s : List ℕ) (n room most2 most3 : ℕ) where

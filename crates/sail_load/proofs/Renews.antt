@@ -19,24 +19,23 @@ use Rattle.routes.specs.Said.{accepted}
 use Rattle.routes.specs.declared.Route.{Route}
 use Rattle.routes.proofs.Goods.{good-fine}
 use Rattle.routes.proofs.Rows.{length-routes, records-good}
-use Rattle.chain.specs.Words.{wordsOf, routesIn}
-use Rattle.chain.specs.Cover.{Room, Ready}
-use Rattle.chain.proofs.Decodes.{words-routes, records-words}
+use Rattle.chain.specs.Words.{routesIn}
 use Rattle.sail.specs.Geometry.{bits2, bits3}
 use Rattle.sail.specs.Lent.{Lent, lent}
 use Rattle.sail.specs.Level.{liveIn, entry}
 use Rattle.sail.specs.declared.geometry.Geometry.{Geometry}
 use Rattle.sail.specs.declared.table.Table.{Table}
-use Rattle.sail_paint.specs.Stale.{meets, Stale, Repainted}
+use Rattle.sail_paint.specs.Stale.{meets, Repainted}
+use Rattle.sail_paint.specs.Pending.{Pending}
 use Rattle.sail_theory.specs.Render.{rendered, Fits, roomOf}
 use Rattle.sail_theory.specs.Calls.{Owners, settled, noOwners, inputRoutes}
 use Rattle.sail_theory.proofs.Cells.{second-free, third-free}
 use Rattle.sail_theory.proofs.Ends.{any-some}
 use Rattle.sail_theory.proofs.Fresh.{zeros}
 use Rattle.sail_theory.proofs.Loads.{Fronts, fronts-none, settles}
-use Rattle.sail_load.specs.Fill.{padded}
-use Rattle.sail_load.specs.Owners.{owners, Ownable}
-use Rattle.sail_load.specs.Renew.{Readable, Scratch, Bare, Renewable, anew}
+use Rattle.sail_make.specs.Fill.{padded}
+use Rattle.sail_owners.specs.Owners.{owners, Ownable}
+use Rattle.sail_load.specs.Renew.{Bare, Renewable, anew}
 use Rattle.sail_load.proofs.Lists.{padded-written}
 
 -- every cell lies under the prefix of no bits
@@ -69,36 +68,28 @@ not-live rs p h good own d n live at f q e = go (decided (liveIn (entry own) d q
         inside (inl l) = l
         inside (inr l) = absurd (omega (arith, ltb-true 0 (getD own (q / 2 ^ d) 0) x, List·getD-eq-default own 0 l))
 
--- the words of a good input, and room for their chain
-pub words-room : (ws par input out : List ℕ) → Readable input → Scratch ws par input → out ≡ wordsOf input (length ws) → length out ≡ length ws → Room out par
-words-room ws par input out good room e n =
-    let r = good .records in
-    record { words = rw (e, room .words) (records-words input (length input / 8) r); few = omega (arith, r .few, room .words); room = room .chain }
-
-module _ (g : Geometry) (input : List ℕ) (l : Lent) (b : Bare g input l) (ws : List ℕ) (n : ℕ) (all : n ≡ length input / 8) (is : ws ≡ wordsOf input n) where
-  routes : routesIn ws ≡ inputRoutes input
-  routes = rw (is, all) (words-routes input (length input / 8) (b .readable .records))
-
+module _ (g : Geometry) (input first second third own2 own3 : List ℕ) (b : Bare g input (lent [] first second third own2 own3)) where
   good : Good (inputRoutes input)
   good = records-good input (length input / 8) (b .readable .records)
 
   -- all may be stale
-  pub stale-all : (par : List ℕ) → Ready ws par → Stale g ws par 0 0 l
-  stale-all par ready =
+  pub pending : Pending g (length input / 8) 0 0 (lent input first second third own2 own3)
+  pending =
       let v = b .sized .valid in
+      let w = b .readable .whole in
       record {
-        ready = ready;
-        sized = b .sized;
-        prefix = record { len-ok = omega arith; addr-ok = omega arith; clear = cut-zero 0 0 (omega arith) refl };
-        fits2 = rw routes (b .fits2);
-        fits3 = rw routes (b .fits3);
-        right1 = λ q h e. absurd (true≢false (sym (all-meet (g .p1) q (rw (b .sized .cells1) at h)) ∙ e));
-        right2 = λ q h e. b .zero2 q ∙ sym (second-free g 0 (routesIn ws) (l .own2) (l .own3) q (rw (b .sized .cells2) at h) (not-live (inputRoutes input) (g .p1) (omega arith) good (l .own2) (bits2 g) _ _ _ (b .fits2) q e));
-        right3 = λ q h e. b .zero3 q ∙ sym (third-free g 0 (routesIn ws) (l .own2) (l .own3) q (rw (b .sized .cells3) at h) (not-live (inputRoutes input) (g .p2) (omega arith) good (l .own3) (bits3 g) _ _ _ (b .fits3) q e));
+        listed = record { records = b .readable .records; whole = omega arith; zeros = λ j h l. absurd (omega arith) };
+        stale = λ ws par ready routes. record {
+          ready = ready;
+          sized = b .sized;
+          prefix = record { len-ok = omega arith; addr-ok = omega arith; clear = cut-zero 0 0 (omega arith) refl };
+          fits2 = rw routes (b .fits2);
+          fits3 = rw routes (b .fits3);
+          right1 = λ q h e. absurd (true≢false (sym (all-meet (g .p1) q (rw (b .sized .cells1) at h)) ∙ e));
+          right2 = λ q h e. b .zero2 q ∙ sym (second-free g 0 (routesIn ws) own2 own3 q (rw (b .sized .cells2) at h) (not-live (inputRoutes input) (g .p1) (omega arith) good own2 (bits2 g) _ _ _ (b .fits2) q e));
+          right3 = λ q h e. b .zero3 q ∙ sym (third-free g 0 (routesIn ws) own2 own3 q (rw (b .sized .cells3) at h) (not-live (inputRoutes input) (g .p2) (omega arith) good own3 (bits3 g) _ _ _ (b .fits3) q e));
+        };
       }
-
-  pub painted-all : (first second third : List ℕ) → Repainted g (routesIn ws) l first second third → Repainted g (inputRoutes input) l first second third
-  painted-all first second third p = rw routes at p
 
 -- what a load leaves
 module _ (t : Table) (l : Lent) (input : List ℕ) (w : Renewable t input l) where

@@ -17,11 +17,6 @@ pub record Readable (input : List ℕ) : Type 0 where
   pub whole : length input ≡ length input / 8 * 8
   pub records : Records input (length input / 8)
 
--- room for the words of an input and their chain
-pub record Scratch (ws par input : List ℕ) : Type 0 where
-  pub words : length ws ≡ length input / 8
-  pub chain : length par ≡ 4353
-
 -- owners that fit the input's routes, and pools of zeros
 pub record Bare (g : Geometry) (input : List ℕ) (l : Lent) : Type 0 where
   pub readable : Readable input

@@ -5,14 +5,14 @@ ghost use Rattle.routes.specs.Said.{accepts};
 ghost use Rattle.sail.specs.Lent.{lent};
 ghost use Rattle.sail_theory.specs.Calls.{loadFault, loadSaid, out, loaded};
 ghost use Rattle.sail_load.specs.Answers.{saysLoaded};
-ghost use Rattle.sail_load.specs.Need.{terms, Weighs};
-use crate::need::count_need;
+ghost use Rattle.sail_load.specs.Weigh.{terms, Weighs};
 use crate::renew::renew;
 use routes::input::Input;
 use routes::input::check_input;
 use sail::geometry::Geometry;
 use sail::table::Table;
 use sail::table::sizes;
+use sail_owners::need::count_need;
 
 // Loaded; or a refusal's number, with the index of a record where the input itself is at fault.
 pub enum Loaded {

@@ -11,14 +11,13 @@ use Rattle.bits.specs.Tab.{Tells}
 use Rattle.routes.specs.declared.Route.{Route}
 use Rattle.chain.specs.Cover.{Ready}
 use Rattle.plan.specs.Part.{Right}
-use Rattle.plan.proofs.Tells.{tells-same}
+use Rattle.plan.proofs.Tells.{tells-same, refuted, passed}
 use Rattle.sail.specs.Geometry.{bits2, bits3}
 use Rattle.sail.specs.Lent.{lent}
 use Rattle.sail.specs.Sizes.{Sized}
 use Rattle.sail.specs.declared.geometry.Geometry.{Geometry}
-use Rattle.sail_sound.specs.Pool.{PoolOk, HookedPool, FirstCells, Pooled}
+use Rattle.sail_pool.specs.Pool.{PoolOk, HookedPool, FirstCells, Pooled}
 use Rattle.sail_sound.specs.Test.{root, Passed}
-use Rattle.sail_sound.proofs.Refuted.{refuted, passed}
 
 -- no owner in a right pool names a place past the pool above
 pool-owners : (rs : List Route) (p d : ℕ) (above : List ℕ) (live : ℕ → Bool) (at : ℕ → ℕ) (own cells below : List ℕ) → PoolOk rs p d above live at own cells below → (c : ℕ) → getD own c 0 ≤ length above

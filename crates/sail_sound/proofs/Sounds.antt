@@ -23,10 +23,10 @@ use Rattle.sail.specs.Sizes.{Sized}
 use Rattle.sail.specs.Sound.{Sound, standing}
 use Rattle.sail.specs.declared.geometry.Geometry.{Geometry}
 use Rattle.sail.specs.declared.table.Table.{Table}
-use Rattle.sail_sound.specs.Pool.{chunkOf, PoolOk}
+use Rattle.sail_pool.specs.Pool.{chunkOf, PoolOk}
 use Rattle.sail_sound.specs.Test.{root, Passed}
-use Rattle.sail_sound.proofs.Cells.{Cell, cell-as, right-cell, cells-right, part-at}
-use Rattle.sail_sound.proofs.Chunks.{chunk-room}
+use Rattle.sail_pool.proofs.Cells.{Cell, cell-as, right-cell, cells-right, part-at}
+use Rattle.sail_pool.proofs.Chunks.{chunk-room}
 
 -- each live cell of n is as the routes ask
 abbrev Asked : List Route → ℕ → ℕ → (ℕ → Bool) → (ℕ → ℕ) → List ℕ → List ℕ → Type 0

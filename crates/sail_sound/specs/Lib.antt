@@ -1,5 +1,3 @@
--- What the soundness test asks of a list, of a pool of chunks, and of the three levels.
-pub mod List
-pub mod Pool
+-- What the soundness test asks of the three levels, and what the report says.
 pub mod Test
 pub mod Report

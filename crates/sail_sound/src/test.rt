@@ -5,14 +5,14 @@ ghost use Rattle.chain.specs.Words.{routesIn};
 ghost use Rattle.chain.specs.Cover.{Ready};
 ghost use Rattle.sail.specs.Lent.{lent};
 ghost use Rattle.sail.specs.Sizes.{Sized};
-ghost use Rattle.sail_sound.specs.List.{Scratch};
+ghost use Rattle.sail_list.specs.List.{Scratch};
 ghost use Rattle.sail_sound.specs.Test.{Passed, Tried};
-use crate::list::chained;
-use crate::list::list_ok;
-use crate::pool::first_ok;
-use crate::pool::pool_ok;
 use sail::geometry::Geometry;
 use sail::table::Table;
+use sail_list::chained;
+use sail_list::list_ok;
+use sail_pool::first_ok;
+use sail_pool::pool_ok;
 
 // The three levels beside the routes of the words. The first cells are one chunk, whose owner is 1; a third cell names no
 // chunk.

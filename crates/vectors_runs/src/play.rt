@@ -1,106 +1,182 @@
-// One loop plays all: the steps of a script, or drawn changes.
-use crate::calls;
-use crate::calls::Act;
-use crate::calls::Done;
-use crate::longrun;
-use crate::looks;
-use crate::looks::Sums;
-use crate::scripts;
+// Steps played on a table, and what they give printed. Each kind of step is a function of its own, which leaves the others alone.
+use crate::said;
+use crate::same;
+use crate::steps;
+use crate::steps::Step;
 use sail::geometry::Geometry;
+use sail::lookup;
 use sail::table::Table;
+use sail_sound::report;
+use words::print;
+use words::table;
 
-// The number of the run of drawn changes, among those of the scripts.
-pub const DRAWN: u8 = 9;
-
-// Where a run stands: the state; and, where changes are drawn, the next number, the lookups so far and how often each answer came.
-pub struct Course {
-    pub table: Table,
-    pub x: u64,
-    pub sums: Sums,
-    pub tally: [u64; 14],
+fn made(
+    s: Step,
+    t: Table,
+    list: &mut [u8],
+    first: &mut [u16],
+    second: &mut [u16],
+    third: &mut [u16],
+    own2: &mut [u32],
+    own3: &mut [u32],
+) -> Table {
+    let Step::Make = s else {
+        return t;
+    };
+    let r = sail_make::make(t, list, first, second, third, own2, own3);
+    let answer = r.answer;
+    table::made(answer);
+    r.table
 }
 
-pub fn start(geometry: Geometry, x: u64) -> Course {
-    let table = Table { geometry, count: 0 };
-    let sums = looks::none();
-    Course {
-        table,
-        x,
-        sums,
-        tally: [0u64; 14],
+fn announced(
+    s: Step,
+    t: Table,
+    list: &mut [u8],
+    first: &mut [u16],
+    second: &mut [u16],
+    third: &mut [u16],
+    own2: &mut [u32],
+    own3: &mut [u32],
+) -> Table {
+    let Step::Announce(addr, len, hop) = s else {
+        return t;
+    };
+    let r = sail_announce::announce(t, list, first, second, third, own2, own3, addr, len, hop);
+    let answer = r.answer;
+    said::announced(answer);
+    r.table
+}
+
+fn withdrawn(
+    s: Step,
+    t: Table,
+    list: &mut [u8],
+    first: &mut [u16],
+    second: &mut [u16],
+    third: &mut [u16],
+    own2: &mut [u32],
+    own3: &mut [u32],
+) -> Table {
+    let Step::Withdraw(addr, len) = s else {
+        return t;
+    };
+    let r = sail_withdraw::withdraw(t, list, first, second, third, own2, own3, addr, len);
+    let answer = r.answer;
+    said::withdrawn(answer);
+    r.table
+}
+
+// The state that a step sets.
+fn state(s: Step, t: Table) -> Table {
+    if let Step::State(p2, count) = s {
+        return Table {
+            geometry: Geometry { p1: 16, p2 },
+            count,
+        };
     }
+    t
 }
 
-fn length(script: u8) -> usize {
-    if script == DRAWN {
-        return 301;
+// A cell, and the owner of the first chunk of the pool below it.
+fn cell(cells: &[u16], own: &[u32], i: usize) {
+    print::text(b"cell");
+    if i < cells.len() {
+        print::value16(cells[i]);
     }
-    27
-}
-
-// The call of step k.
-fn call(script: u8, k: usize, r: Course, list: &[u8]) -> Act {
-    if script == DRAWN {
-        return longrun::call_of(k, r.table, list, r.x);
+    print::text(b" owner");
+    if 0 < own.len() {
+        print::value32(own[0]);
     }
-    scripts::call_of(script, k)
+    print::end();
 }
 
-// What comes after it.
-fn after(
-    script: u8,
-    k: usize,
-    a: Act,
-    d: Done,
-    r: Course,
+fn read(
+    s: Step,
+    t: Table,
     list: &[u8],
     first: &[u16],
     second: &[u16],
     third: &[u16],
     own2: &[u32],
     own3: &[u32],
-) -> Course {
-    if script == DRAWN {
-        return longrun::after(a, d, r, list, first, second, third, own2, own3);
+) {
+    match s {
+        Step::Lookup(addr) => {
+            table::found(lookup::lookup(t, list, first, second, third, own2, own3, addr));
+        }
+        Step::Report => {
+            table::reported(report::report(t, list, first, second, third, own2, own3));
+        }
+        Step::First(i) => {
+            cell(first, own2, i);
+        }
+        Step::Second(i) => {
+            cell(second, own3, i);
+        }
+        Step::Only24 => {
+            same::only_24(list, first, second, third, own2, own3);
+        }
+        _ => {}
     }
-    let t = scripts::after(script, k, a, d, list, first, second, third, own2, own3);
-    let mut c = r;
-    c.table = t;
-    c
 }
 
-fn turn(
-    script: u8,
-    k: usize,
-    r: Course,
+fn changed(
+    s: Step,
+    t: Table,
     list: &mut [u8],
     first: &mut [u16],
     second: &mut [u16],
     third: &mut [u16],
     own2: &mut [u32],
     own3: &mut [u32],
-) -> Course {
-    let a = call(script, k, r, list);
-    let d = calls::perform(a, r.table, list, first, second, third, own2, own3);
-    after(script, k, a, d, r, list, first, second, third, own2, own3)
+) -> Table {
+    let a = made(s, t, list, first, second, third, own2, own3);
+    let b = announced(s, a, list, first, second, third, own2, own3);
+    withdrawn(s, b, list, first, second, third, own2, own3)
 }
 
+// A step: its call, and the answer printed; a state set; and what it reads of the table.
+fn turn(
+    s: Step,
+    t: Table,
+    list: &mut [u8],
+    first: &mut [u16],
+    second: &mut [u16],
+    third: &mut [u16],
+    own2: &mut [u32],
+    own3: &mut [u32],
+) -> Table {
+    let u = state(s, changed(s, t, list, first, second, third, own2, own3));
+    read(s, u, list, first, second, third, own2, own3);
+    u
+}
+
+// No script has more than 27 steps.
 pub fn play(
     script: u8,
-    start: Course,
+    start: Table,
     list: &mut [u8],
     first: &mut [u16],
     second: &mut [u16],
     third: &mut [u16],
     own2: &mut [u32],
     own3: &mut [u32],
-) -> Course {
-    let n = length(script);
-    let mut r = start;
+) -> Table {
+    let mut t = start;
     let mut k = 0;
-    while k < n {
-        r = turn(script, k, r, list, first, second, third, own2, own3);
+    while k < 27 {
+        t = turn(
+            steps::nth(script, k),
+            t,
+            list,
+            first,
+            second,
+            third,
+            own2,
+            own3,
+        );
         k += 1;
     }
-    r
+    t
 }

@@ -1,71 +1,33 @@
-// What the calls that change a table answer, as words.
-use crate::calls;
-use sail_load::load::Loaded;
+// What announce and withdraw answer, as words.
+use sail_announce::answers::Announce;
+use sail_withdraw::answers::Withdraw;
 use words::print;
 
-fn refused(number: u8) {
-    print::text(b" refused");
-    print::value(number as u64);
-}
-
-pub fn loaded(answer: Loaded) {
-    print::text(b"load");
+pub fn announced(answer: Announce) {
+    print::text(b"announce");
     match answer {
-        Loaded::Done => {
-            print::text(b" done");
+        Announce::Added => {
+            print::text(b" added");
         }
-        Loaded::Refused(f) => {
-            refused(f);
+        Announce::Replaced => {
+            print::text(b" replaced");
         }
-        Loaded::RefusedAt(f, k) => {
-            refused(f);
-            print::text(b" at");
-            print::value(k as u64);
+        Announce::Refused(f) => {
+            print::refused(f);
         }
     }
     print::end();
 }
 
-fn name(call: u8) {
-    match call {
-        calls::MAKE => {
-            print::text(b"make");
-        }
-        calls::ANNOUNCE => {
-            print::text(b"announce");
-        }
-        _ => {
-            print::text(b"withdraw");
-        }
-    }
-}
-
-fn word(answer: u8) {
+pub fn withdrawn(answer: Withdraw) {
+    print::text(b"withdraw");
     match answer {
-        10 => {
-            print::text(b" added");
-        }
-        11 => {
-            print::text(b" replaced");
-        }
-        12 => {
+        Withdraw::Removed => {
             print::text(b" removed");
         }
-        13 => {
-            print::text(b" done");
-        }
-        _ => {
-            refused(answer);
+        Withdraw::Refused(f) => {
+            print::refused(f);
         }
     }
-}
-
-// A call and its answer, each as its number.
-pub fn answered(call: u8, answer: u8) {
-    if call == calls::NOTHING {
-        return;
-    }
-    name(call);
-    word(answer);
     print::end();
 }

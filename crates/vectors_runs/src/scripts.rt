@@ -1,283 +1,15 @@
-// Document 01's examples of announce and withdraw, at the standard geometry. Each is a script: steps that are played one after the
-// other on a table, and their answers printed.
-use crate::calls;
-use crate::calls::Act;
-use crate::calls::Done;
+// The scripts played at the standard geometry, each on arrays of its own sizes.
 use crate::play;
-use crate::play::Course;
-use crate::said;
-use crate::same;
+use crate::steps;
 use sail::geometry::Geometry;
-use sail::lookup;
 use sail::table::Table;
-use sail_sound::report;
-use words::print;
-use words::table;
-
-// A step: a call; another state (its second level and its count); a lookup or the report; a first or a
-// second cell, and the owner of the first chunk of the pool below it; whether the table is that of 10.1.2.0/24 alone; or nothing.
-enum Step {
-    Make,
-    Announce(u32, u8, u16),
-    Withdraw(u32, u8),
-    State(u32, u32),
-    Lookup(u32),
-    Report,
-    First(usize),
-    Second(usize),
-    Only24,
-    Rest,
-}
-
-// List A is announced, and served. First cell 2561 and second cell 2 name the chunks; second cell 3 is a leaf.
-fn enter_a(k: usize) -> Step {
-    match k {
-        0 => Step::Make,
-        1 => Step::Announce(0, 0, 6),
-        2 => Step::Announce(0x0A00_0000, 8, 20),
-        3 => Step::Announce(0x0A01_0000, 16, 31),
-        4 => Step::Announce(0x0A01_0200, 24, 44),
-        5 => Step::Announce(0x0A01_0280, 25, 57),
-        6 => Step::Lookup(0x0A01_02C8),
-        7 => Step::Lookup(0x0A01_0205),
-        8 => Step::Lookup(0x0A01_0301),
-        9 => Step::Lookup(0x0A02_0001),
-        10 => Step::Lookup(0xC000_0201),
-        11 => Step::Report,
-        12 => Step::First(2561),
-        13 => Step::Second(2),
-        14 => Step::Second(3),
-        _ => Step::Rest,
-    }
-}
-
-// No room is left and no chunk: a new prefix gives 6, and a standing one is replaced, there and back. Withdrawn are /25, whose
-// third chunk closes; /0, after which nothing covers 192.0.2.1; and /0 again, which stands no more.
-fn change_a(k: usize) -> Step {
-    match k {
-        0 => Step::Announce(0x0B00_0000, 8, 9),
-        1 => Step::Announce(0x0A01_0280, 25, 58),
-        2 => Step::Lookup(0x0A01_02C8),
-        3 => Step::Report,
-        4 => Step::Announce(0x0A01_0280, 25, 57),
-        5 => Step::Withdraw(0x0A01_0280, 25),
-        6 => Step::Lookup(0x0A01_02C8),
-        7 => Step::Report,
-        8 => Step::Withdraw(0, 0),
-        9 => Step::Lookup(0xC000_0201),
-        10 => Step::Report,
-        11 => Step::Withdraw(0, 0),
-        _ => Step::Rest,
-    }
-}
-
-// Both, one after the other.
-fn list_a_step(k: usize) -> Step {
-    if k < 15 {
-        return enter_a(k);
-    }
-    change_a(k - 15)
-}
-
-// Refused for want of a chunk: 10.2.2.0/24 of a second one (7), 10.1.2.128/25 of a third one (8). They leave all six arrays as they
-// were. Then 10.1.2.0/24 is withdrawn, and 10.2.2.0/24 takes the chunk that is free again: first cell 2562 is 1, and the chunk's
-// owner is 2563.
-fn chunk(k: usize) -> Step {
-    match k {
-        0 => Step::Make,
-        1 => Step::Announce(0x0A01_0200, 24, 44),
-        2 => Step::Announce(0x0A02_0200, 24, 45),
-        3 => Step::Announce(0x0A01_0280, 25, 57),
-        4 => Step::Only24,
-        5 => Step::Withdraw(0x0A01_0200, 24),
-        6 => Step::Announce(0x0A02_0200, 24, 45),
-        7 => Step::Lookup(0x0A02_0201),
-        8 => Step::Report,
-        9 => Step::First(2561),
-        10 => Step::First(2562),
-        _ => Step::Rest,
-    }
-}
-
-// 10.0.0.0/8 comes late: inside 10.1.2.0/24 the longer route's leaf stays. Hop 32,767 passes. Prefixes and hops that are none, and
-// a prefix that does not stand.
-fn late_short(k: usize) -> Step {
-    match k {
-        0 => Step::Make,
-        1 => Step::Announce(0x0A01_0200, 24, 44),
-        2 => Step::Announce(0x0A00_0000, 8, 20),
-        3 => Step::Lookup(0x0A01_02C8),
-        4 => Step::Lookup(0x0A01_0205),
-        5 => Step::Lookup(0x0A01_0301),
-        6 => Step::Lookup(0x0A02_0001),
-        7 => Step::Lookup(0xC000_0201),
-        8 => Step::Announce(0x0B00_0000, 16, 32767),
-        9 => Step::Announce(0x0B00_0000, 24, 32768),
-        10 => Step::Announce(0x0B00_0000, 24, 0),
-        11 => Step::Announce(0x0B00_0000, 33, 0),
-        12 => Step::Announce(0x0B00_0001, 24, 1),
-        13 => Step::Withdraw(0x0B00_0000, 33),
-        14 => Step::Withdraw(0x0B00_0000, 24),
-        15 => Step::Lookup(0x0B00_0001),
-        16 => Step::Report,
-        _ => Step::Rest,
-    }
-}
-
-// Two calls that only a state or arrays at fault refuse.
-fn plain(k: usize) -> Step {
-    match k {
-        0 => Step::Announce(0x0B00_0000, 8, 9),
-        1 => Step::Withdraw(0x0A01_0200, 24),
-        _ => Step::Rest,
-    }
-}
-
-// Other states: geometry (16, 27) gives 1; a count of routes that is not the list's gives 5, but 3 and 4 come before it, and 9
-// after. Then the right one, with the table as it was.
-fn states(k: usize) -> Step {
-    match k {
-        0 => Step::State(27, 3),
-        1 => Step::Announce(0x0B00_0000, 33, 0),
-        2 => Step::Withdraw(0x0B00_0000, 33),
-        3 => Step::State(24, 2),
-        4 => Step::Announce(0x0B00_0000, 33, 0),
-        5 => Step::Announce(0x0B00_0000, 24, 0),
-        6 => Step::Announce(0x0B00_0000, 24, 1),
-        7 => Step::Withdraw(0x0B00_0000, 33),
-        8 => Step::Withdraw(0x0B00_0000, 24),
-        9 => Step::State(24, 3),
-        10 => Step::Lookup(0x0B00_0001),
-        11 => Step::Report,
-        _ => Step::Rest,
-    }
-}
-
-const LIST_A: u8 = 0;
-
-const ONE_CHUNK: u8 = 1;
-
-const LATE_SHORT: u8 = 2;
-
-const PLAIN: u8 = 3;
-
-const STATES: u8 = 4;
-
-// Step k of a script: none has more than 27.
-fn nth(script: u8, k: usize) -> Step {
-    match script {
-        LIST_A => list_a_step(k),
-        ONE_CHUNK => chunk(k),
-        LATE_SHORT => late_short(k),
-        PLAIN => plain(k),
-        STATES => states(k),
-        _ => Step::Rest,
-    }
-}
-
-fn call(call: u8, addr: u32, len: u8, hop: u16) -> Act {
-    Act {
-        call,
-        addr,
-        len,
-        hop,
-    }
-}
-
-// The call of a script's step k.
-pub fn call_of(script: u8, k: usize) -> Act {
-    let s = nth(script, k);
-    match s {
-        Step::Make => call(calls::MAKE, 0, 0, 0),
-        Step::Announce(addr, len, hop) => call(calls::ANNOUNCE, addr, len, hop),
-        Step::Withdraw(addr, len) => call(calls::WITHDRAW, addr, len, 0),
-        Step::State(_, _) => call(calls::NOTHING, 0, 0, 0),
-        Step::Lookup(_) => call(calls::NOTHING, 0, 0, 0),
-        Step::Report => call(calls::NOTHING, 0, 0, 0),
-        Step::First(_) => call(calls::NOTHING, 0, 0, 0),
-        Step::Second(_) => call(calls::NOTHING, 0, 0, 0),
-        Step::Only24 => call(calls::NOTHING, 0, 0, 0),
-        Step::Rest => call(calls::NOTHING, 0, 0, 0),
-    }
-}
-
-// The state that a step sets.
-fn state(s: Step, t: Table) -> Table {
-    if let Step::State(p2, count) = s {
-        return Table {
-            geometry: Geometry { p1: 16, p2 },
-            count,
-        };
-    }
-    t
-}
-
-// A cell, and the owner of the first chunk of the pool below it.
-fn cell(cells: &[u16], own: &[u32], i: usize) {
-    print::text(b"cell");
-    if i < cells.len() {
-        print::value16(cells[i]);
-    }
-    print::text(b" owner");
-    if 0 < own.len() {
-        print::value32(own[0]);
-    }
-    print::end();
-}
-
-fn read(
-    s: Step,
-    t: Table,
-    list: &[u8],
-    first: &[u16],
-    second: &[u16],
-    third: &[u16],
-    own2: &[u32],
-    own3: &[u32],
-) {
-    match s {
-        Step::Lookup(addr) => {
-            table::found(lookup::lookup(t, list, first, second, third, own2, own3, addr));
-        }
-        Step::Report => {
-            table::reported(report::report(t, list, first, second, third, own2, own3));
-        }
-        Step::First(i) => {
-            cell(first, own2, i);
-        }
-        Step::Second(i) => {
-            cell(second, own3, i);
-        }
-        Step::Only24 => {
-            same::only_24(list, first, second, third, own2, own3);
-        }
-        _ => {}
-    }
-}
-
-// What comes after the call of step k: its answer printed, a state set, and what the step reads of the table.
-pub fn after(
-    script: u8,
-    k: usize,
-    a: Act,
-    d: Done,
-    list: &[u8],
-    first: &[u16],
-    second: &[u16],
-    third: &[u16],
-    own2: &[u32],
-    own3: &[u32],
-) -> Table {
-    said::answered(a.call, d.answer);
-    let s = nth(script, k);
-    let t = state(s, d.table);
-    read(s, t, list, first, second, third, own2, own3);
-    t
-}
 
 // A fresh start at the standard geometry.
-fn start() -> Course {
-    play::start(Geometry::STANDARD, 0)
+fn start() -> Table {
+    Table {
+        geometry: Geometry::STANDARD,
+        count: 0,
+    }
 }
 
 // Room for five routes and one chunk in each pool.
@@ -289,7 +21,7 @@ pub fn list_a() {
     let mut own2 = [0u32; 1];
     let mut own3 = [0u32; 1];
     play::play(
-        LIST_A,
+        steps::LIST_A,
         start(),
         &mut list,
         &mut first,
@@ -309,7 +41,7 @@ pub fn one_chunk() {
     let mut own2 = [0u32; 1];
     let mut own3 = [0u32; 0];
     play::play(
-        ONE_CHUNK,
+        steps::ONE_CHUNK,
         start(),
         &mut list,
         &mut first,
@@ -330,7 +62,7 @@ pub fn refusals() {
     let mut own2 = [0u32; 2];
     let mut own3 = [0u32; 1];
     let r = play::play(
-        LATE_SHORT,
+        steps::LATE_SHORT,
         start(),
         &mut list,
         &mut first,
@@ -340,7 +72,7 @@ pub fn refusals() {
         &mut own3,
     );
     play::play(
-        PLAIN,
+        steps::PLAIN,
         r,
         &mut nine,
         &mut first,
@@ -350,7 +82,7 @@ pub fn refusals() {
         &mut own3,
     );
     play::play(
-        STATES,
+        steps::STATES,
         r,
         &mut list,
         &mut first,

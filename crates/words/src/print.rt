@@ -26,6 +26,12 @@ pub fn end() {
     text(b"\n");
 }
 
+// A refusal and its number.
+pub fn refused(number: u8) {
+    text(b" refused");
+    value(number as u64);
+}
+
 // A space, and a byte in hexadecimal.
 fn byte(b: u8) {
     text(b" ");

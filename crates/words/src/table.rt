@@ -1,7 +1,21 @@
-// The answers of lookup and report, as words.
+// The answers of make, lookup and report, as words.
 use crate::print;
 use sail::lookup::Found;
+use sail_make::Made;
 use sail_sound::report::Reported;
+
+pub fn made(answer: Made) {
+    print::text(b"make");
+    match answer {
+        Made::Done => {
+            print::text(b" done");
+        }
+        Made::Refused(f) => {
+            print::refused(f);
+        }
+    }
+    print::end();
+}
 
 pub fn found(answer: Found) {
     print::text(b"lookup");
@@ -17,8 +31,7 @@ pub fn found(answer: Found) {
             print::value32(n);
         }
         Found::Refused(f) => {
-            print::text(b" refused");
-            print::value(f as u64);
+            print::refused(f);
         }
     }
     print::end();
@@ -40,8 +53,7 @@ pub fn reported(answer: Reported) {
             print::value32(third);
         }
         Reported::Refused(f) => {
-            print::text(b" refused");
-            print::value(f as u64);
+            print::refused(f);
         }
     }
     print::end();

@@ -1,8 +1,8 @@
 -- `packing::announced` meets its contract. Assumes nothing.
 use mathlib.Core.Path.{ap}
 use native.Mathlib.Omega.{arith}
-use Rattle.sail_calls.specs.Answers.{saysAnnounce}
-use Rattle.sail_calls.specs.declared.answers.Announce.{Announce}
+use Rattle.sail_announce.specs.Answers.{saysAnnounce}
+use Rattle.sail_announce.specs.declared.answers.Announce.{Announce}
 use Rattle.sail.specs.Word.{packed}
 use Rattle.packing.specs.Pack.{packChange}
 use borrow.Author.Needs.{needs}

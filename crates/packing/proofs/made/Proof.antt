@@ -1,8 +1,8 @@
 -- `packing::made` meets its contract. Assumes nothing.
 use mathlib.Core.Path.{ap}
 use native.Mathlib.Omega.{arith}
-use Rattle.sail_load.specs.Answers.{saysMade}
-use Rattle.sail_load.specs.declared.make.Made.{Made}
+use Rattle.sail_make.specs.Answers.{saysMade}
+use Rattle.sail_make.specs.declared.Made.{Made}
 use Rattle.sail.specs.Word.{packed}
 use Rattle.packing.specs.Pack.{packChange}
 use borrow.Author.Needs.{needs}

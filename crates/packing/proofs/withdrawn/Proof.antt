@@ -1,8 +1,8 @@
 -- `packing::withdrawn` meets its contract. Assumes nothing.
 use mathlib.Core.Path.{ap}
 use native.Mathlib.Omega.{arith}
-use Rattle.sail_calls.specs.Answers.{saysWithdraw}
-use Rattle.sail_calls.specs.declared.answers.Withdraw.{Withdraw}
+use Rattle.sail_withdraw.specs.Answers.{saysWithdraw}
+use Rattle.sail_withdraw.specs.declared.answers.Withdraw.{Withdraw}
 use Rattle.sail.specs.Word.{packed}
 use Rattle.packing.specs.Pack.{packChange}
 use borrow.Author.Needs.{needs}

@@ -8,10 +8,10 @@ use Rattle.vectors_runs.proofs.play.play.Statement.{statement}
 use Rattle.vectors_runs.proofs.play.play.Tie as tie
 
 abbrev Inv-loop : tie.InvT-loop
-Inv-loop script list₀ first₀ second₀ third₀ own2₀ own3₀ n t₀ k₀ list first second third own2 own3 t k = (k ≤ n) × (length list ≡ length list₀) × (length first ≡ length first₀) × (length second ≡ length second₀) × (length third ≡ length third₀) × (length own2 ≡ length own2₀) × (length own3 ≡ length own3₀)
+Inv-loop script list₀ first₀ second₀ third₀ own2₀ own3₀ t₀ k₀ list first second third own2 own3 t k = (k ≤ 27) × (length list ≡ length list₀) × (length first ≡ length first₀) × (length second ≡ length second₀) × (length third ≡ length third₀) × (length own2 ≡ length own2₀) × (length own3 ≡ length own3₀)
 
 abbrev μ-loop : tie.MeasureT-loop
-μ-loop script list₀ first₀ second₀ third₀ own2₀ own3₀ n t₀ k₀ list first second third own2 own3 t k = n - k
+μ-loop script list₀ first₀ second₀ third₀ own2₀ own3₀ t₀ k₀ list first second third own2 own3 t k = 27 - k
 
 pub play-spec : {M : Type 1} → statement M
 play-spec =
@@ -19,8 +19,8 @@ play-spec =
     (tie.spec
     Inv-loop
     μ-loop
-    (λ c κs. search needs)
     (λ c. search needs)
+    (λ c κs. search needs)
     (λ c κs. search needs)
     (λ c. search needs)
     (λ c. search needs)

@@ -1,0 +1,96 @@
+-- An announcement step by step: what each step asks, and what they leave. Assumes nothing.
+use mathlib.Core.Path.{_≡_, refl, sym, _∙_, ap}
+use mathlib.Core.List.{List, [], _∷_}
+use Prim.Native.Nat.{ℕ, _/_, _≤_}
+use native.Mathlib.Omega.{arith}
+use lib.ListN.{length}
+use Rattle.bits.specs.Count.{bit}
+use Rattle.routes.specs.Route.{key}
+use Rattle.routes.specs.Record.{routesOf}
+use Rattle.routes.specs.Said.{accepted, refused}
+use Rattle.standing.specs.Standing.{stands, insert}
+use Rattle.routes.specs.declared.Route.{Route}
+use Rattle.routes.proofs.Rows.{length-routes}
+use Rattle.standing.proofs.Changed.{insert-adds}
+use Rattle.lists.specs.Edit.{Insertable, Edited, edited, inserted, inserting, saysPut, countWith, Holds}
+use Rattle.lists.specs.declared.edit.Put.{Put}
+use Rattle.lists.proofs.EditHolds.{insert-count, insert-holds}
+use Rattle.sail.specs.Lent.{Lent, lent}
+use Rattle.sail.specs.Sound.{standing}
+use Rattle.sail.specs.declared.geometry.Geometry.{Geometry}
+use Rattle.sail.specs.declared.table.Table.{Table}
+use Rattle.sail.proofs.Sounds.{standing-good}
+use Rattle.sail_theory.specs.Render.{rendered}
+use Rattle.sail_theory.specs.Calls.{route, open2, open3, announceSaid, out, announced}
+use Rattle.sail_theory.specs.Facts.{Welcome}
+use Rattle.sail_theory.proofs.Accepted.{announce-is, announce-off}
+use Rattle.sail_paint.specs.Stale.{Repainted}
+use Rattle.sail_paint.specs.Pending.{Pending}
+use Rattle.sail_change.proofs.Opened.{welcome-underway}
+use Rattle.sail_change.proofs.Underway.{underway-stale}
+use Rattle.sail_calls.specs.Judge.{Judged}
+use Rattle.sail_announce.specs.Answers.{saysAnnounce}
+use Rattle.sail_announce.specs.declared.answers.Announce.{Announce}
+use Rattle.sail_announce.specs.declared.answers.Announce.the-variants as announce
+
+-- a refusal leaves all as it was
+pub announce-refused : (t : Table) (l : Lent) (a len hop z : ℕ) → Judged z (announceSaid t l a len hop) (Welcome t l (route a len hop)) → (z ≡ 0 → ⊥) → out (saysAnnounce (announce.Refused z)) t l ≡ announced t l a len hop
+unfolding saysAnnounce
+announce-refused t l a len hop z k h = sym (announce-off t l a len hop (refused z) (k .off h) refl)
+
+module _ (t : Table) (l : Lent) (a len hop : ℕ) (w : Welcome t l (route a len hop)) where
+  abbrev g : Geometry
+  g = t .geometry
+
+  abbrev rs : List Route
+  rs = standing t l
+
+  abbrev r : Route
+  r = route a len hop
+
+  abbrev own2′ : List ℕ
+  own2′ = open2 g (l .own2) r
+
+  abbrev own3′ : List ℕ
+  own3′ = open3 g own2′ (l .own3) r
+
+  pub add-insertable : Insertable (l .list) (t .count) r
+  add-insertable = record {
+    listed = w .sound .listed;
+    fine = w .fine;
+    room = λ e. omega (arith, w .roomy, insert-adds r rs e, length-routes (l .list) (t .count));
+  }
+
+  pub add-few : t .count ≤ 4096
+  add-few = w .sound .listed .records .few
+
+  -- s is the list with the route put in, and m the number of routes in it
+  module _ (p : Put) (s : List ℕ) (e : edited (saysPut p) s ≡ inserting (l .list) (t .count) r) (m : ℕ) (k : m ≡ countWith (saysPut p) (t .count)) where
+    stood : saysPut p ≡ stands (key r) rs
+    stood = ap (λ (x : Edited). x .stood) e
+
+    list-is : s ≡ inserted (l .list) (t .count) r
+    list-is = ap (λ (x : Edited). x .list) e
+
+    count-is : m ≡ length (insert r rs)
+    count-is = k ∙ rw stood (sym (rw length-routes at (insert-count r rs (standing-good t l (w .sound)))))
+
+    holds : Holds s m (insert r rs)
+    holds =
+        let few : length (l .list) / 8 ≤ 4096 = omega (arith, w .sound .sized .room) in
+        let c : m ≡ countWith (stands (key r) rs) (t .count) = rw stood at k in
+        rw (list-is, c) (insert-holds (l .list) (t .count) few r add-insertable)
+
+    module _ (own2 own3 : List ℕ) (o2 : own2 ≡ own2′) (o3 : own3 ≡ own3′) where
+      pub add-pending : (x : ℕ) → x ≡ len → Pending g m a x (lent s (l .first) (l .second) (l .third) own2 own3)
+      add-pending x q = rw (q, o2, o3) (record {
+        listed = holds .listed;
+        stale = λ ws par ready z. underway-stale g a len (insert r rs) l (lent s (l .first) (l .second) (l .third) own2′ own3′) (welcome-underway t l r w s) ws par ready (z ∙ holds .routes);
+      })
+
+      module _ (first second third : List ℕ) (h : Repainted g (routesOf s m) (lent [] (l .first) (l .second) (l .third) own2 own3) first second third) (n : Announce) (q : saysAnnounce n ≡ accepted (bit (saysPut p) ∷ [])) where
+        pub add-done : out (saysAnnounce n) (record { geometry = g; count = m }) (lent s first second third own2 own3) ≡ announced t l a len hop
+        unfolding rendered
+        add-done =
+            let h′ = rw (holds .routes) at h in
+            rw (q, stood, count-is, list-is, h′ .is-first, h′ .is-second, h′ .is-third, o2, o3) (sym (announce-is t l a len hop w))

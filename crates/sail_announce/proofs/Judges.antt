@@ -1,0 +1,136 @@
+-- What the judges of an announcement answer. Assumes nothing.
+use mathlib.Core.Path.{_≡_, refl, sym, _∙_}
+use mathlib.Core.Bool.{Bool, true, false, not, _&&_, true≢false}
+use mathlib.Core.List.{List}
+use Prim.Native.Nat.{ℕ, _/_, _≤_, _<_}
+use native.Mathlib.Omega.{arith}
+use lib.Dec.{ltb, eqb}
+use lib.ListN.{length}
+use borrow.Author.Tests.{ltb-true, ltb-false, lt-ltb, eqb-true, eq-eqb, not-true, not-false}
+use Rattle.bits.specs.Slot.{slot}
+use Rattle.bits.proofs.Tests.{and-split, same}
+use Rattle.routes.specs.Route.{keyOf, Prefix, Fine}
+use Rattle.standing.specs.Cells.{long, need}
+use Rattle.routes.specs.Input.{properPrefix, hopFine}
+use Rattle.routes.specs.Said.{refused}
+use Rattle.standing.specs.Standing.{stands, insert}
+use Rattle.routes.specs.declared.Route.{Route}
+use Rattle.routes.proofs.Meaning.{prefix-true, true-prefix, hop-true, true-hop}
+use Rattle.routes.proofs.Rows.{length-routes}
+use Rattle.standing.proofs.Changed.{insert-adds}
+use Rattle.sail.specs.Lent.{Lent}
+use Rattle.sail.specs.Sizes.{Checked}
+use Rattle.sail.specs.Sound.{standing}
+use Rattle.sail.specs.declared.table.Table.{Table}
+use Rattle.sail_theory.specs.Render.{find}
+use Rattle.sail_theory.specs.Calls.{route, announceSaid}
+use Rattle.sail_theory.specs.Facts.{Welcome}
+use Rattle.sail_theory.proofs.Judged.{Proper, Roomy, Announce}
+use Rattle.sail_theory.proofs.Only.{announce-only}
+use Rattle.sail_theory.proofs.Accepted.{replaced-welcome}
+use Rattle.sail_theory.proofs.Wants.{Wants, want-seven, want-eight}
+use Rattle.sail_sound.specs.Test.{Tried}
+use Rattle.sail_change.specs.Chunks.{alone}
+use Rattle.sail_calls.specs.Judge.{Judged}
+use Rattle.sail_change.specs.Opening.{Opens}
+use Rattle.sail_change.specs.declared.opening.Opening.{Opening}
+use Rattle.sail_sound.proofs.Tries.{tried-sound}
+use Rattle.sail_calls.proofs.Judges.{judged-off, judged-on, or-said}
+
+-- a chunk is to be opened, and none is free
+wants-is : (rs : List Route) (r : Route) (p : ℕ) (own : List ℕ) → (alone rs p (r .addr) (r .len) && eqb (find own 0) (length own)) ≡ true → Wants rs r p own
+unfolding alone
+wants-is rs r p own e =
+    let k = and-split (alone rs p (r .addr) (r .len)) _ e in
+    let a = and-split (ltb p (r .len)) (not (long rs p (slot p (r .addr)))) (k .0) in
+    record { longer = ltb-true p (r .len) (a .0); fresh = not-true _ (a .1); full = eqb-true _ _ (k .1) }
+
+is-wants : (rs : List Route) (r : Route) (p : ℕ) (own : List ℕ) → Wants rs r p own → (alone rs p (r .addr) (r .len) && eqb (find own 0) (length own)) ≡ true
+unfolding alone
+is-wants rs r p own w = rw (lt-ltb p (r .len) (w .longer), w .fresh) (eq-eqb (find own 0) (length own) (w .full))
+
+module _ (t : Table) (l : Lent) (a len hop : ℕ) where
+  abbrev rs : List Route
+  rs = standing t l
+
+  abbrev r : Route
+  r = route a len hop
+
+  abbrev Told : ℕ → Type 0
+  Told n = Judged n (announceSaid t l a len hop) (Welcome t l r)
+
+  off : (n : ℕ) → 1 ≤ n → Announce t l a len hop (refused n) → Told n
+  off n h x = judged-off n _ _ h (announce-only t l a len hop (refused n) x)
+
+  -- b tells whether the prefix stands
+  module _ (x : ℕ) (b : Bool) (p : Proper t l a len hop) (key : x ≡ keyOf a len) (e : b ≡ stands x rs) where
+    stands-is : b ≡ stands (keyOf a len) rs
+    stands-is = rw (← key) e
+
+    pub room-stands : b ≡ true → Told 0
+    room-stands h = judged-on _ _ (replaced-welcome t l a len hop p (sym stands-is ∙ h))
+
+    pub room-full : b ≡ false → length (l .list) / 8 ≤ t .count → Told 6
+    room-full h f = off 6 (omega arith) (Announce.full p (sym stands-is ∙ h) (rw length-routes f))
+
+    module _ (h : b ≡ false) (f : t .count < length (l .list) / 8) (o : Opening) (k : Opens t l a len o) where
+      roomy : Roomy t l a len hop
+      roomy = record { proper = p; new = sym stands-is ∙ h; room = rw length-routes f }
+
+      -- the test of a pool tells whether the need exceeds it
+      seven : (c : Bool) → c ≡ (o .second && eqb (find (l .own2) 0) (length (l .own2))) → c ≡ ltb (length (l .own2)) (need (insert r rs) (t .geometry .p1))
+      seven c z = z ∙ rw (k .second) (same (alone rs (t .geometry .p1) a len && eqb (find (l .own2) 0) (length (l .own2))) _
+          (λ y. want-seven t l (p .sound) r (p .fine) .1 (wants-is rs r (t .geometry .p1) (l .own2) y))
+          (λ y. is-wants rs r (t .geometry .p1) (l .own2) (want-seven t l (p .sound) r (p .fine) .0 y)))
+
+      eight : (c : Bool) → c ≡ (o .third && eqb (find (l .own3) 0) (length (l .own3))) → c ≡ ltb (length (l .own3)) (need (insert r rs) (t .geometry .p2))
+      eight c z = z ∙ rw (k .third) (same (alone rs (t .geometry .p2) a len && eqb (find (l .own3) 0) (length (l .own3))) _
+          (λ y. want-eight t l (p .sound) r (p .fine) .1 (wants-is rs r (t .geometry .p2) (l .own3) y))
+          (λ y. is-wants rs r (t .geometry .p2) (l .own3) (want-eight t l (p .sound) r (p .fine) .0 y)))
+
+      module _ (c : Bool) (z : c ≡ (o .second && eqb (find (l .own2) 0) (length (l .own2)))) where
+        pub room-second : c ≡ true → Told 7
+        room-second y = off 7 (omega arith) (Announce.second roomy (ltb-true _ _ (sym (seven c z) ∙ y)))
+
+        module _ (y : c ≡ false) (d : Bool) (u : d ≡ (o .third && eqb (find (l .own3) 0) (length (l .own3)))) where
+          enough : need (insert r rs) (t .geometry .p1) ≤ length (l .own2)
+          enough = ltb-false _ _ (sym (seven c z) ∙ y)
+
+          pub room-third : d ≡ true → Told 8
+          room-third v = off 8 (omega arith) (Announce.third roomy enough (ltb-true _ _ (sym (eight d u) ∙ v)))
+
+          pub room-enough : d ≡ false → Told 0
+          room-enough v = judged-on _ _ (record {
+            fine = p .fine;
+            sound = p .sound;
+            roomy = omega (arith, insert-adds r rs (roomy .new), roomy .room);
+            enough2 = enough;
+            enough3 = ltb-false _ _ (sym (eight d u) ∙ v);
+          })
+
+  -- the steps before
+  module _ (z : ℕ) (check : Checked z (t .geometry) l) where
+    pub judge-sizes : (z ≡ 0 → ⊥) → Told z
+    unfolding announceSaid
+    judge-sizes h = record { off = λ _. or-said _ z _ (check .number) h; on = λ e. absurd (h e) }
+
+    module _ (h : z ≡ 0) (b : Bool) (e : b ≡ properPrefix a len) where
+      pub judge-prefix : not b ≡ true → Told 3
+      judge-prefix n = off 3 (omega arith) (Announce.bad-prefix (check .facts h) (λ q. true≢false (sym (true-prefix a len q) ∙ sym e ∙ not-true b n)))
+
+      module _ (p : not b ≡ false) (c : Bool) (f : c ≡ hopFine hop) where
+        prefix : Prefix a len
+        prefix = prefix-true a len (sym e ∙ not-false b p)
+
+        pub judge-hop : not c ≡ true → Told 4
+        judge-hop n = off 4 (omega arith) (Announce.bad-hop (check .facts h) prefix (λ i j. true≢false (sym (true-hop hop i j) ∙ sym f ∙ not-true c n)))
+
+        module _ (q : not c ≡ false) (d : Bool) (k : Tried d t l) where
+          fine : Fine r
+          fine = let g = hop-true hop (sym f ∙ not-false c q) in record { prefix = prefix; hop-one = g .0; hop-ok = g .1; spare-ok = refl }
+
+          pub judge-sound : not d ≡ true → Told 5
+          judge-sound n = off 5 (omega arith) (Announce.unsound (check .facts h) fine (λ s. true≢false (sym (k .tells .1 s) ∙ not-true d n)))
+
+          pub judge-proper : not d ≡ false → Proper t l a len hop
+          judge-proper n = record { fine = fine; sound = tried-sound t l d k n }

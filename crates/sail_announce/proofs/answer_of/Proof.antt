@@ -1,0 +1,17 @@
+-- `sail_announce::answer_of` meets its contract. Assumes nothing.
+use mathlib.Core.Path.{refl}
+use Rattle.lists.specs.Edit.{saysPut}
+use Rattle.sail_announce.specs.Answers.{saysAnnounce}
+use borrow.Author.Needs.{needs}
+use Rattle.sail_announce.proofs.answer_of.Statement.{statement}
+use Rattle.sail_announce.proofs.answer_of.Tie as tie
+
+pub answer-of-spec : {M : Type 1} → statement M
+unfolding saysPut saysAnnounce
+answer-of-spec =
+    tie.close
+    (tie.spec
+    (λ c. search needs)
+    (λ c. search needs)
+    (λ c. rw (c .enum-told .given .1) refl)
+    (λ c. rw (c .enum-told2 .given .1) refl))

@@ -1,0 +1,2 @@
+-- What announce answers.
+pub mod Answers

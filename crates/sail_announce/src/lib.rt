@@ -1,0 +1,194 @@
+// Announce: a route is added to a table, or replaces the one of its prefix.
+ghost use mathlib.Core.List.{[], _∷_};
+ghost use mathlib.Core.Path.{_≡_};
+ghost use Prim.Native.Nat.{_≤_};
+ghost use Rattle.bits.specs.Count.{bit};
+ghost use Rattle.lists.specs.Edit.{countWith, saysPut};
+ghost use Rattle.routes.specs.Said.{accepted};
+ghost use Rattle.sail.specs.Lent.{lent};
+ghost use Rattle.sail_theory.specs.Calls.{route, announceSaid, out, announced};
+ghost use Rattle.sail_theory.specs.Facts.{Welcome};
+ghost use Rattle.sail_theory.proofs.Judged.{Proper};
+ghost use Rattle.sail_calls.specs.Judge.{Judged};
+ghost use Rattle.sail_announce.specs.Answers.{saysAnnounce};
+
+pub mod answers;
+
+use crate::answers::Announce;
+use crate::answers::Announced;
+use lists::edit;
+use lists::edit::Put;
+use lists::place::place;
+use routes::Route;
+use routes::input;
+use routes::record;
+use sail::table::Table;
+use sail::table::sizes;
+use sail_calls::renew::renew;
+use sail_change::chunks::wanting;
+use sail_change::opening::open;
+use sail_change::opening::to_open;
+use sail_sound::test::sound;
+
+// 6, 7 or 8, for a fine route and a sound table. A prefix that stands meets none of them.
+fn judge_room(
+    t: Table,
+    list: &[u8],
+    first: &[u16],
+    second: &[u16],
+    third: &[u16],
+    own2: &[u32],
+    own3: &[u32],
+    addr: u32,
+    len: u8,
+    hop: u16,
+) -> u8
+    requires { ⌜ Proper t (lent (now list) (now first) (now second) (now third) (now own2) (now own3)) addr len hop ⌝ }
+    ensures { λ r. ⌜ Judged r (announceSaid t (lent (now (list .entry)) (now (first .entry)) (now (second .entry)) (now (third .entry)) (now (own2 .entry)) (now (own3 .entry))) addr len hop) (Welcome t (lent (now (list .entry)) (now (first .entry)) (now (second .entry)) (now (third .entry)) (now (own2 .entry)) (now (own3 .entry))) (route addr len hop)) ⌝ }
+{
+    let n = t.count as usize;
+    let p = record::key_of(addr, len);
+    let k = place(list, n, p);
+    if edit::stands_at(list, n, k, p) {
+        return 0;
+    }
+    if list.len() / 8 <= n {
+        return 6;
+    }
+    let o = to_open(t, list, first, second, third, own2, own3, addr, len);
+    if wanting(o.second, own2) {
+        return 7;
+    }
+    if wanting(o.third, own3) {
+        return 8;
+    }
+    0
+}
+
+// The number with which the announcement is refused, by the first condition that holds; 0 where it is accepted.
+fn judge_announce(
+    t: Table,
+    list: &[u8],
+    first: &[u16],
+    second: &[u16],
+    third: &[u16],
+    own2: &[u32],
+    own3: &[u32],
+    addr: u32,
+    len: u8,
+    hop: u16,
+) -> u8
+    ensures { λ r. ⌜ Judged r (announceSaid t (lent (now (list .entry)) (now (first .entry)) (now (second .entry)) (now (third .entry)) (now (own2 .entry)) (now (own3 .entry))) addr len hop) (Welcome t (lent (now (list .entry)) (now (first .entry)) (now (second .entry)) (now (third .entry)) (now (own2 .entry)) (now (own3 .entry))) (route addr len hop)) ⌝ }
+{
+    let s = sizes(t, list, first, second, third, own2, own3);
+    if s != 0 {
+        return s;
+    }
+    if !input::prefix_ok(addr, len) {
+        return 3;
+    }
+    if !input::hop_ok(hop) {
+        return 4;
+    }
+    if !sound(t, list, first, second, third, own2, own3) {
+        return 5;
+    }
+    judge_room(t, list, first, second, third, own2, own3, addr, len, hop)
+}
+
+// How many routes stand after one was put into n.
+fn count_with(p: Put, n: usize) -> usize
+    requires { ⌜ n ≤ 4096 ⌝ }
+    ensures { λ r. ⌜ (r ≡ countWith (saysPut p) n) × (r ≤ 4097) ⌝ }
+{
+    match p {
+        Put::Added => n + 1,
+        Put::Replaced => n,
+    }
+}
+
+// What putting a route into the list answers for the table.
+fn answer_of(p: Put) -> Announce
+    ensures { λ r. ⌜ saysAnnounce r ≡ accepted (bit (saysPut p) ∷ []) ⌝ }
+{
+    match p {
+        Put::Added => Announce::Added,
+        Put::Replaced => Announce::Replaced,
+    }
+}
+
+// The announcement, where nothing speaks against it: chunks are opened, the route is put into the list, and what it
+// touches is painted again.
+fn add(
+    t: Table,
+    list: &mut [u8],
+    first: &mut [u16],
+    second: &mut [u16],
+    third: &mut [u16],
+    own2: &mut [u32],
+    own3: &mut [u32],
+    addr: u32,
+    len: u8,
+    hop: u16,
+) -> Announced
+    requires { ⌜ Welcome t (lent (now list) (now first) (now second) (now third) (now own2) (now own3)) (route addr len hop) ⌝ }
+    ensures { λ r. ⌜ out (saysAnnounce (r .answer)) (r .table) (lent (now (list .exit)) (now (first .exit)) (now (second .exit)) (now (third .exit)) (now (own2 .exit)) (now (own3 .exit))) ≡ announced t (lent (now (list .entry)) (now (first .entry)) (now (second .entry)) (now (third .entry)) (now (own2 .entry)) (now (own3 .entry))) addr len hop ⌝ }
+{
+    let g = t.geometry;
+    let r = Route {
+        addr,
+        len,
+        spare: 0,
+        hop,
+    };
+    let n = t.count as usize;
+    open(t, r, list, first, second, third, own2, own3);
+    let p = edit::insert(list, n, r);
+    let m = count_with(p, n);
+    renew(
+        g,
+        list,
+        m,
+        addr,
+        record::wide(len),
+        first,
+        second,
+        third,
+        own2,
+        own3,
+    );
+    let u = Table {
+        geometry: g,
+        count: m as u32,
+    };
+    Announced {
+        answer: answer_of(p),
+        table: u,
+    }
+}
+
+// Adds the route to the prefix of len bits of addr, or replaces its hop where one stands, and says which. A refusal
+// leaves the state and all that is lent as they were.
+pub fn announce(
+    t: Table,
+    list: &mut [u8],
+    first: &mut [u16],
+    second: &mut [u16],
+    third: &mut [u16],
+    own2: &mut [u32],
+    own3: &mut [u32],
+    addr: u32,
+    len: u8,
+    hop: u16,
+) -> Announced
+    ensures { λ r. ⌜ out (saysAnnounce (r .answer)) (r .table) (lent (now (list .exit)) (now (first .exit)) (now (second .exit)) (now (third .exit)) (now (own2 .exit)) (now (own3 .exit))) ≡ announced t (lent (now (list .entry)) (now (first .entry)) (now (second .entry)) (now (third .entry)) (now (own2 .entry)) (now (own3 .entry))) addr len hop ⌝ }
+{
+    let z = judge_announce(t, list, first, second, third, own2, own3, addr, len, hop);
+    if z != 0 {
+        return Announced {
+            answer: Announce::Refused(z),
+            table: t,
+        };
+    }
+    add(t, list, first, second, third, own2, own3, addr, len, hop)
+}

@@ -1,0 +1,3 @@
+-- What the code of a list tells.
+pub mod Lists
+pub mod Fronts

@@ -1,0 +1,2 @@
+-- What is asked of the list of a table.
+pub mod List

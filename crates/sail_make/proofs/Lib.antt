@@ -1,0 +1,3 @@
+-- What filling lent arrays leaves, and what make leaves and says.
+pub mod Fills
+pub mod Makes

@@ -1,0 +1,3 @@
+-- What make answers, and what is written over lent bytes.
+pub mod Answers
+pub mod Fill

@@ -1,0 +1,4 @@
+-- Laws that the functions' proofs cite.
+pub mod Needs
+pub mod Packs
+pub mod Passes

@@ -1,0 +1,55 @@
+-- `sail_owners::need::count_need` meets its contract. The invariant: the need of the records passed, and the last of their long cells. Assumes nothing.
+use mathlib.Core.Path.{_≡_, _∙_}
+use Prim.Native.Nat.{_-_, _≤_}
+use native.Mathlib.Omega.{arith}
+use borrow.Author.Needs.{needs}
+use Rattle.routes.specs.Record.{routesOf}
+use Rattle.sail_owners.proofs.Needs.{Counted, counted-none, counted-short, counted-had, counted-new}
+use Rattle.sail_owners.proofs.need.count_need.Statement.{statement}
+use Rattle.sail_owners.proofs.need.count_need.Tie as tie
+
+abbrev Inv-loop : tie.InvT-loop
+Inv-loop list n p m₀ last₀ k₀ m last k = (k ≤ n) × (m ≤ k) × Counted (routesOf list k) p m last
+
+abbrev μ-loop : tie.MeasureT-loop
+μ-loop list n p m₀ last₀ k₀ m last k = n - k
+
+pub count-need-spec : {M : Type 1} → statement M
+count-need-spec =
+    tie.close
+    (tie.spec
+    Inv-loop
+    μ-loop
+    (λ c. (omega arith, omega arith, counted-none _ _))
+    (λ c κs. omega (arith, c .before .before .before .pre .records .room))
+    (λ c. omega (arith, c .before .before .before .before .pre .records .few))
+    (λ c κs. search needs)
+    (λ c κs. search needs)
+    (λ c κs. search needs)
+    (λ c. omega arith)
+    (λ c. omega (arith, c .before .before .before .before .before .before .before .before .before .pre .records .few))
+    (λ c. omega arith)
+    (λ c.
+    let l = c .before .before .before .before .before .before .before .loop in
+    let q = c .before .before .before .before .before .before .before .before .before .pre in (
+      omega arith,
+      omega arith,
+      counted-new _ _ _ _ _ _ (q .records) (omega arith) (q .level) (l .inv .2) _ (c .before .before .before .before .before .read-record .ensures) (omega arith) _ (c .before .wide64 .ensures ∙ c .before .before .slot .ensures) (c .if2 .taken),
+    ))
+    (λ c. omega arith)
+    (λ c.
+    let l = c .before .before .before .before .before .before .before .loop in
+    let q = c .before .before .before .before .before .before .before .before .before .pre in (
+      omega arith,
+      omega arith,
+      counted-had _ _ _ _ _ _ (q .records) (omega arith) (q .level) (l .inv .2) _ (c .before .before .before .before .before .read-record .ensures) (omega arith) _ (c .before .wide64 .ensures ∙ c .before .before .slot .ensures) (c .if2 .left),
+    ))
+    (λ c. omega arith)
+    (λ c.
+    let l = c .before .before .before .before .loop in
+    let q = c .before .before .before .before .before .before .pre in
+    (omega arith, omega arith, counted-short _ _ _ _ _ _ (q .records) (omega arith) (q .level) (l .inv .2) _ (c .before .before .read-record .ensures) (omega arith)))
+    (λ c.
+    let l = c .before .loop in
+    let e : l .k ≡ c .before .before .before .args .n = omega arith in
+    (rw (← e) (l .inv .2 .number), omega arith)))

@@ -1,0 +1,3 @@
+-- What counting needs and settling owners ask and leave.
+pub mod Need
+pub mod Owners

@@ -1,0 +1,2 @@
+-- What is asked of a pool of chunks.
+pub mod Pool

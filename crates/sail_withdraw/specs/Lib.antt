@@ -1,0 +1,2 @@
+-- What withdraw answers.
+pub mod Answers

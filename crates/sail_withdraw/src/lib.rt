@@ -1,0 +1,127 @@
+// Withdraw: a route is taken out of a table.
+ghost use mathlib.Core.Path.{_≡_};
+ghost use Rattle.sail.specs.Lent.{lent};
+ghost use Rattle.sail_theory.specs.Calls.{withdrawSaid, out, withdrawn};
+ghost use Rattle.sail_theory.specs.Facts.{Farewell};
+ghost use Rattle.sail_calls.specs.Judge.{Judged};
+ghost use Rattle.sail_withdraw.specs.Answers.{saysWithdraw};
+
+pub mod answers;
+
+use crate::answers::Withdraw;
+use crate::answers::Withdrawn;
+use lists::edit;
+use lists::place::place;
+use routes::input;
+use routes::record;
+use sail::table::Table;
+use sail::table::sizes;
+use sail_calls::renew::renew;
+use sail_change::alone::close_alone;
+use sail_change::trail::follow;
+use sail_sound::test::sound;
+
+// The number with which the withdrawal is refused, by the first condition that holds; 0 where it is accepted.
+fn judge_withdraw(
+    t: Table,
+    list: &[u8],
+    first: &[u16],
+    second: &[u16],
+    third: &[u16],
+    own2: &[u32],
+    own3: &[u32],
+    addr: u32,
+    len: u8,
+) -> u8
+    ensures { λ r. ⌜ Judged r (withdrawSaid t (lent (now (list .entry)) (now (first .entry)) (now (second .entry)) (now (third .entry)) (now (own2 .entry)) (now (own3 .entry))) addr len) (Farewell t (lent (now (list .entry)) (now (first .entry)) (now (second .entry)) (now (third .entry)) (now (own2 .entry)) (now (own3 .entry))) addr len) ⌝ }
+{
+    let s = sizes(t, list, first, second, third, own2, own3);
+    if s != 0 {
+        return s;
+    }
+    if !input::prefix_ok(addr, len) {
+        return 3;
+    }
+    if !sound(t, list, first, second, third, own2, own3) {
+        return 5;
+    }
+    let n = t.count as usize;
+    let p = record::key_of(addr, len);
+    let k = place(list, n, p);
+    if edit::stands_at(list, n, k, p) {
+        return 0;
+    }
+    9
+}
+
+// The withdrawal, where the prefix stands: its record is taken out of the list, chunks that it alone needed are closed,
+// and what it touched is painted again.
+fn take(
+    t: Table,
+    list: &mut [u8],
+    first: &mut [u16],
+    second: &mut [u16],
+    third: &mut [u16],
+    own2: &mut [u32],
+    own3: &mut [u32],
+    addr: u32,
+    len: u8,
+) -> Withdrawn
+    requires { ⌜ Farewell t (lent (now list) (now first) (now second) (now third) (now own2) (now own3)) addr len ⌝ }
+    ensures { λ r. ⌜ out (saysWithdraw (r .answer)) (r .table) (lent (now (list .exit)) (now (first .exit)) (now (second .exit)) (now (third .exit)) (now (own2 .exit)) (now (own3 .exit))) ≡ withdrawn t (lent (now (list .entry)) (now (first .entry)) (now (second .entry)) (now (third .entry)) (now (own2 .entry)) (now (own3 .entry))) addr len ⌝ }
+{
+    let g = t.geometry;
+    let p1 = g.p1;
+    let p2 = g.p2;
+    let n = t.count as usize;
+    let v = follow(t, list, first, second, third, own2, own3, addr);
+    edit::remove(list, n, addr, len);
+    let m = n - 1;
+    close_alone(list, m, p1, addr, len, v.first, p2 - p1, own2, second);
+    close_alone(list, m, p2, addr, len, v.second, 32 - p2, own3, third);
+    renew(
+        g,
+        list,
+        m,
+        addr,
+        record::wide(len),
+        first,
+        second,
+        third,
+        own2,
+        own3,
+    );
+    let u = Table {
+        geometry: g,
+        count: m as u32,
+    };
+    Withdrawn {
+        answer: Withdraw::Removed,
+        table: u,
+    }
+}
+
+// Takes the route of the prefix of len bits of addr out of the table, and closes the chunks that are no longer needed.
+// A refusal leaves the state and all that is lent as they were.
+pub fn withdraw(
+    t: Table,
+    list: &mut [u8],
+    first: &mut [u16],
+    second: &mut [u16],
+    third: &mut [u16],
+    own2: &mut [u32],
+    own3: &mut [u32],
+    addr: u32,
+    len: u8,
+) -> Withdrawn
+    ensures { λ r. ⌜ out (saysWithdraw (r .answer)) (r .table) (lent (now (list .exit)) (now (first .exit)) (now (second .exit)) (now (third .exit)) (now (own2 .exit)) (now (own3 .exit))) ≡ withdrawn t (lent (now (list .entry)) (now (first .entry)) (now (second .entry)) (now (third .entry)) (now (own2 .entry)) (now (own3 .entry))) addr len ⌝ }
+{
+    let z = judge_withdraw(t, list, first, second, third, own2, own3, addr, len);
+    if z != 0 {
+        return Withdrawn {
+            answer: Withdraw::Refused(z),
+            table: t,
+        };
+    }
+    take(t, list, first, second, third, own2, own3, addr, len)
+}

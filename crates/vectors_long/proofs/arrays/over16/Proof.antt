@@ -1,0 +1,28 @@
+-- `vectors_long::arrays::over16` is safe and ends. Assumes nothing.
+use Prim.Native.Nat.{_-_, _≤_}
+use native.Mathlib.Omega.{arith}
+use lib.ListN.{length}
+use borrow.Author.Needs.{needs}
+use Rattle.vectors_long.proofs.arrays.over16.Statement.{statement}
+use Rattle.vectors_long.proofs.arrays.over16.Tie as tie
+
+abbrev Inv-loop : tie.InvT-loop
+Inv-loop a s₀ i₀ s i = i ≤ length a
+
+abbrev μ-loop : tie.MeasureT-loop
+μ-loop a s₀ i₀ s i = length a - i
+
+pub over16-spec : {M : Type 1} → statement M
+over16-spec =
+    tie.close
+    (tie.spec
+    Inv-loop
+    μ-loop
+    (λ c. search needs)
+    (λ c. search needs)
+    (λ c. search needs)
+    (λ c κs. search needs)
+    (λ c. search needs)
+    (λ c. search needs)
+    (λ c. search needs)
+    (λ c. search needs))
