@@ -5,9 +5,7 @@ use mathlib.Core.Logic.{_⊎_, inl, inr}
 use mathlib.Core.Path.{_≡_, refl, sym, ap, _∙_}
 use Prim.Native.Nat.{ℕ, _+_, _-_, _*_, _/_, _%_, _^_, _≤_, _<_}
 use native.Mathlib.Omega.{arith}
-use lib.Dec.{leb, eqb}
 use lib.ListN.{length, getD}
-use borrow.Author.Tests.{le-leb, lt-leb, eq-eqb, ne-eqb}
 use Rattle.bits.specs.Slot.{slot}
 use Rattle.bits.proofs.Tests.{below?, decided}
 use Rattle.sail.specs.Geometry.{bits2, bits3}
@@ -18,7 +16,8 @@ use Rattle.sail.specs.Word.{Word}
 use Rattle.sail.specs.declared.geometry.Geometry.{Geometry}
 use Rattle.sail.proofs.Words.{word-leaf}
 use Rattle.sail.proofs.Steps.{leaf1, off1, leaf2, off2, leaf3, off3}
-use Rattle.sail_many.specs.Words.{cellWord, chunkOf, word1, word2, word3, thirdWord, Ready}
+use Rattle.sail_many.specs.Words.{cellWord, chunkOf, word1, word2, word3, Ready}
+use Rattle.sail_many.proofs.Words.{down-not, down-on, last-stays, last-early, last-not, last-leaf, last-off}
 
 -- the word of a cell: a leaf's is its answer and leads nowhere; another's has the top bit set, leads to its chunk, and tells how many were read
 module _ (n v : ℕ) (b : v < 65536) (f : n ≤ 3) where
@@ -39,43 +38,6 @@ module _ (n v : ℕ) (b : v < 65536) (f : n ≤ 3) where
 
   node-reads : cellWord n v / 256 % 256 ≡ n
   node-reads = omega arith
-
--- one step of a word, by where it leads
-module _ (p1 p2 : ℕ) (second : List ℕ) (m a w v : ℕ) (e : chunkOf w ≡ v) where
-  down-not : oneOf m v ≡ false → word2 p1 p2 second m a w ≡ w
-  unfolding word2
-  down-not o = rw (e, o)
-
-  down-on : oneOf m v ≡ true → word2 p1 p2 second m a w ≡ cellWord 2 (getD second (place (p2 - p1) v (slot p2 a)) 0)
-  unfolding word2
-  down-on o = rw (e, o)
-
-module _ (p2 : ℕ) (third : List ℕ) (m a w : ℕ) where
-  last-stays : w < 2147483648 → word3 p2 third m a w ≡ w
-  unfolding word3
-  last-stays h = rw (lt-leb 2147483648 w h)
-
-  module _ (h : 2147483648 ≤ w) where
-    last-early : (w / 256 % 256 ≡ 2 → ⊥) → word3 p2 third m a w ≡ 5
-    unfolding word3
-    last-early n = rw (le-leb 2147483648 w h, ne-eqb (w / 256 % 256) 2 n)
-
-    module _ (r : w / 256 % 256 ≡ 2) (v : ℕ) (e : chunkOf w ≡ v) where
-      last-not : oneOf m v ≡ false → word3 p2 third m a w ≡ 5
-      unfolding word3
-      last-not o = rw (le-leb 2147483648 w h, eq-eqb (w / 256 % 256) 2 r, e, o)
-
-      last-on : oneOf m v ≡ true → word3 p2 third m a w ≡ thirdWord (getD third (place (32 - p2) v a) 0)
-      unfolding word3
-      last-on o = rw (le-leb 2147483648 w h, eq-eqb (w / 256 % 256) 2 r, e, o)
-
-third-is : (v : ℕ) → 32768 ≤ v → thirdWord v ≡ cellWord 3 v
-unfolding thirdWord
-third-is v h = rw (le-leb 32768 v h)
-
-third-not : (v : ℕ) → v < 32768 → thirdWord v ≡ 5
-unfolding thirdWord
-third-not v h = rw (lt-leb 32768 v h)
 
 -- sizes that were checked are what the addresses ask for on their way
 pub ready : (g : Geometry) (l : Lent) → Sized g l → Ready (g .p1) (g .p2) (l .first) (l .second) (length (l .own2)) (l .third) (length (l .own3))
@@ -126,19 +88,16 @@ module _ (g : Geometry) (l : Lent) (a : ℕ) (sized : Sized g l) (b1 : (i : ℕ)
           (off2 g l a sized v1 e1 (oneOf (length (l .own2)) v1) refl low1 closed1 v2 e2 (oneOf (length (l .own3)) v2) refl low2 (ap not o))
 
       module _ (on2 : oneOf (length (l .own3)) v2 ≡ true) (v3 : ℕ) (e3 : v3 ≡ getD (l .third) (place (bits3 g) v2 a) 0) (f3 : v3 < 65536) where
-        at3 : (x : ℕ) → thirdWord v3 ≡ x → answer ≡ x
-        at3 x e =
-            to3 _ (last-on _ _ _ _ _ (node-high 2 v2 f2 (omega arith) low2) (node-reads 2 v2 f2 (omega arith)) v2 (node-chunk 2 v2 f2 (omega arith) low2) on2)
-            ∙ ap thirdWord (sym e3) ∙ e
-
         third-leaf : 32768 ≤ v3 → Answers g l a answer
         third-leaf h =
-            answers-by g l a answer (cellWord 3 v3) (at3 _ (third-is v3 h)) (omega arith)
+            answers-by g l a answer (cellWord 3 v3)
+            (to3 _ (last-leaf _ _ _ _ _ (node-high 2 v2 f2 (omega arith) low2) (node-reads 2 v2 f2 (omega arith)) v2 (node-chunk 2 v2 f2 (omega arith) low2) on2 v3 e3 h)) (omega arith)
             (leaf3 g l a sized v1 e1 (oneOf (length (l .own2)) v1) refl low1 closed1 v2 e2 (oneOf (length (l .own3)) v2) refl low2 (ap not on2) v3 e3 (cellWord 3 v3) h (leaf-is 3 v3 f3 (omega arith) h))
 
         third-off : v3 < 32768 → Answers g l a answer
         third-off h =
-            answers-by g l a answer 5 (at3 _ (third-not v3 h)) (omega arith)
+            answers-by g l a answer 5
+            (to3 _ (last-off _ _ _ _ _ (node-high 2 v2 f2 (omega arith) low2) (node-reads 2 v2 f2 (omega arith)) v2 (node-chunk 2 v2 f2 (omega arith) low2) on2 v3 e3 h)) (omega arith)
             (off3 g l a sized v1 e1 (oneOf (length (l .own2)) v1) refl low1 closed1 v2 e2 (oneOf (length (l .own3)) v2) refl low2 (ap not on2) v3 e3 h)
 
   module _ (v1 : ℕ) (e1 : v1 ≡ getD (l .first) (slot (g .p1) a) 0) (f1 : v1 < 65536) where

@@ -39,55 +39,82 @@ module _ (n m k c i : ℕ) (h : Whole n m k) (b : c < m) where
   pub spot-small : c * 2 ^ k % 2 ^ 64 + i % (1 * 2 ^ k % 2 ^ 64) < 4096 * 1024
   spot-small = omega (arith, spot-in, mul-le-mul-right (2 ^ k) (h .few), mul-le-mul-left 4096 (pow-mono (h .size)))
 
+-- one step of a word, by where it leads
+module _ (p1 p2 : ℕ) (second : List ℕ) (m a w v : ℕ) (e : chunkOf w ≡ v) where
+  pub down-not : oneOf m v ≡ false → word2 p1 p2 second m a w ≡ w
+  unfolding word2
+  down-not o = rw (e, o)
+
+  pub down-on : oneOf m v ≡ true → word2 p1 p2 second m a w ≡ cellWord 2 (getD second (place (p2 - p1) v (slot p2 a)) 0)
+  unfolding word2
+  down-on o = rw (e, o)
+
+module _ (p2 : ℕ) (third : List ℕ) (m a w : ℕ) where
+  pub last-stays : w < 2147483648 → word3 p2 third m a w ≡ w
+  unfolding word3
+  last-stays h = rw (lt-leb 2147483648 w h)
+
+  module _ (h : 2147483648 ≤ w) where
+    pub last-early : (w / 256 % 256 ≡ 2 → ⊥) → word3 p2 third m a w ≡ 5
+    unfolding word3
+    last-early n = rw (le-leb 2147483648 w h, ne-eqb (w / 256 % 256) 2 n)
+
+    module _ (r : w / 256 % 256 ≡ 2) (v : ℕ) (e : chunkOf w ≡ v) where
+      pub last-not : oneOf m v ≡ false → word3 p2 third m a w ≡ 5
+      unfolding word3
+      last-not o = rw (le-leb 2147483648 w h, eq-eqb (w / 256 % 256) 2 r, e, o)
+
+      module _ (o : oneOf m v ≡ true) (x : ℕ) (q : x ≡ getD third (place (32 - p2) v a) 0) where
+        on-third : word3 p2 third m a w ≡ thirdWord x
+        unfolding word3
+        on-third = rw (le-leb 2147483648 w h, eq-eqb (w / 256 % 256) 2 r, e, o, q)
+
+        pub last-leaf : 32768 ≤ x → word3 p2 third m a w ≡ cellWord 3 x
+        unfolding thirdWord
+        last-leaf f = on-third ∙ rw (le-leb 32768 x f)
+
+        pub last-off : x < 32768 → word3 p2 third m a w ≡ 5
+        unfolding thirdWord
+        last-off f = on-third ∙ rw (lt-leb 32768 x f)
+
 -- where a word leads, from the chunk that the code counts from 0
 module _ (m w c : ℕ) (e : Points c w) (few : m ≤ 4096) where
-  pub leads-is : c < m → chunkOf w ≡ c + 1
+  leads-is : c < m → chunkOf w ≡ c + 1
   leads-is b = omega arith
 
-  pub leads-on : c < m → oneOf m (chunkOf w) ≡ true
-  leads-on b = rw (leads-is b, le-leb 1 (c + 1) (omega arith), le-leb (c + 1) m (omega arith))
+  leads-on : c < m → oneOf m (c + 1) ≡ true
+  leads-on b = rw (le-leb 1 (c + 1) (omega arith), le-leb (c + 1) m (omega arith))
 
-  pub leads-off : m ≤ c → oneOf m (chunkOf w) ≡ false
+  leads-off : m ≤ c → oneOf m (chunkOf w) ≡ false
   leads-off b = go (below? (c + 32769) (2 ^ 64))
     where
       go : (c + 32769 < 2 ^ 64) ⊎ (2 ^ 64 ≤ c + 32769) → oneOf m (chunkOf w) ≡ false
       go (inl f) = rw (le-leb 1 (chunkOf w) (omega arith), lt-leb (chunkOf w) m (omega arith))
       go (inr f) = rw (lt-leb 1 (chunkOf w) (omega arith))
 
--- a word goes down, or stays
-module _ (p1 p2 : ℕ) (second : List ℕ) (m a w c : ℕ) (e : Points c w) (few : m ≤ 4096) where
-  pub goes-down : c < m → (v : ℕ) → v ≡ getD second (place (p2 - p1) (c + 1) (slot p2 a)) 0 → (x : ℕ) → x ≡ cellWord 2 v → x ≡ word2 p1 p2 second m a w
-  unfolding word2
-  goes-down b v q x z = z ∙ rw (leads-on m w c e few b, leads-is m w c e few b, q)
+  -- a step, as the code takes it
+  pub goes-down : (p1 p2 : ℕ) (second : List ℕ) (a : ℕ) → c < m → (v : ℕ) → v ≡ getD second (place (p2 - p1) (c + 1) (slot p2 a)) 0 → (x : ℕ) → x ≡ cellWord 2 v → x ≡ word2 p1 p2 second m a w
+  goes-down p1 p2 second a b v q x z = z ∙ ap (cellWord 2) q ∙ sym (down-on p1 p2 second m a w (c + 1) (leads-is b) (leads-on b))
 
-  pub goes-not : m ≤ c → w ≡ word2 p1 p2 second m a w
-  unfolding word2
-  goes-not b = rw (leads-off m w c e few b)
+  pub goes-not : (p1 p2 : ℕ) (second : List ℕ) (a : ℕ) → m ≤ c → w ≡ word2 p1 p2 second m a w
+  goes-not p1 p2 second a b = sym (down-not p1 p2 second m a w (chunkOf w) refl (leads-off b))
 
--- a word that is an answer stays; one that is none yet
-module _ (p2 : ℕ) (third : List ℕ) (m a w : ℕ) where
-  pub stays : w < 2147483648 → w ≡ word3 p2 third m a w
-  unfolding word3
-  stays h = rw (lt-leb 2147483648 w h)
+  module _ (p2 : ℕ) (third : List ℕ) (a : ℕ) (h : 2147483648 ≤ w) (r : w / 256 % 256 ≡ 2) where
+    pub off-second : m ≤ c → 5 ≡ word3 p2 third m a w
+    off-second b = sym (last-not p2 third m a w h r (chunkOf w) refl (leads-off b))
 
-  module _ (h : 2147483648 ≤ w) where
-    pub off-first : (w / 256 % 256 ≡ 2 → ⊥) → 5 ≡ word3 p2 third m a w
-    unfolding word3
-    off-first n = rw (le-leb 2147483648 w h, ne-eqb (w / 256 % 256) 2 n)
+    module _ (b : c < m) (v : ℕ) (q : v ≡ getD third (place (32 - p2) (c + 1) a) 0) where
+      pub third-leaf : 32768 ≤ v → (x : ℕ) → x ≡ cellWord 3 v → x ≡ word3 p2 third m a w
+      third-leaf f x z = z ∙ sym (last-leaf p2 third m a w h r (c + 1) (leads-is b) (leads-on b) v q f)
 
-    module _ (r : w / 256 % 256 ≡ 2) (c : ℕ) (e : Points c w) (few : m ≤ 4096) where
-      pub off-second : m ≤ c → 5 ≡ word3 p2 third m a w
-      unfolding word3
-      off-second b = rw (le-leb 2147483648 w h, eq-eqb (w / 256 % 256) 2 r, leads-off m w c e few b)
+      pub off-third : v < 32768 → 5 ≡ word3 p2 third m a w
+      off-third f = sym (last-off p2 third m a w h r (c + 1) (leads-is b) (leads-on b) v q f)
 
-      module _ (b : c < m) (v : ℕ) (q : v ≡ getD third (place (32 - p2) (c + 1) a) 0) where
-        pub third-leaf : 32768 ≤ v → (x : ℕ) → x ≡ cellWord 3 v → x ≡ word3 p2 third m a w
-        unfolding word3 thirdWord
-        third-leaf f x z = z ∙ rw (le-leb 2147483648 w h, eq-eqb (w / 256 % 256) 2 r, leads-on m w c e few b, leads-is m w c e few b, ← q, le-leb 32768 v f)
+pub stays : (p2 : ℕ) (third : List ℕ) (m a w : ℕ) → w < 2147483648 → w ≡ word3 p2 third m a w
+stays p2 third m a w h = sym (last-stays p2 third m a w h)
 
-        pub off-third : v < 32768 → 5 ≡ word3 p2 third m a w
-        unfolding word3 thirdWord
-        off-third f = rw (le-leb 2147483648 w h, eq-eqb (w / 256 % 256) 2 r, leads-on m w c e few b, leads-is m w c e few b, ← q, lt-leb 32768 v f)
+pub off-first : (p2 : ℕ) (third : List ℕ) (m a w : ℕ) → 2147483648 ≤ w → (w / 256 % 256 ≡ 2 → ⊥) → 5 ≡ word3 p2 third m a w
+off-first p2 third m a w h n = sym (last-early p2 third m a w h n)
 
 -- a step is put, or nothing is to be written
 pub put-is : (f : ℕ → ℕ → ℕ) (j : ℕ) (out : List ℕ) (v : ℕ) → v ≡ f j (getD out j 0) → set out j v ≡ put f j out
