@@ -1,5 +1,5 @@
 // All levels at once: while an address enters, the one eight before it is at its second cell, and the one sixteen before it at its
-// last. What a cell leads to is asked eight turns after it was fetched, so that no test waits for memory.
+// last. What a cell leads to is asked eight turns after it was fetched, so that a test seldom waits for memory.
 ghost use mathlib.Core.Path.{_≡_};
 ghost use Prim.Native.Nat.{_+_, _*_, _≤_, _<_};
 ghost use lib.ListN.{length};
