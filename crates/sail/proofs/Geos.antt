@@ -1,5 +1,5 @@
 -- Laws of geometries. Assumes nothing.
-use mathlib.Core.Path.{_≡_, refl}
+use mathlib.Core.Path.{_≡_}
 use mathlib.Core.Bool.{true, false, _&&_, false≢true}
 use Prim.Native.Nat.{ℕ, _*_, _%_, _^_, _≤_, _<_}
 use native.Mathlib.Omega.{arith}
@@ -21,9 +21,6 @@ power k j h l =
 -- a refusal where the facts cannot hold
 pub not-told : {P : Type 0} → (P → ⊥) → Tells false P
 not-told h = ((λ e. absurd (false≢true e)), (λ p. absurd (h p)))
-
-pub told : {P : Type 0} → P → Tells true P
-told p = ((λ e. p), (λ q. refl))
 
 -- the test of a geometry and its facts say the same
 pub valid-is : (g : Geometry) → Tells (validGeo g) (Valid g)
