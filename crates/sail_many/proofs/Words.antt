@@ -23,9 +23,6 @@ pub first-there : (p1 n a : ℕ) → Firsts p1 n → a < 2 ^ 32 → slot p1 a < 
 first-there p1 n a h b = omega (arith, slot-lt p1 a (omega arith) b)
 
 -- a place in a pool, by a shift and a remainder
-pub size-there : (k : ℕ) → k ≤ 10 → 0 < 1 * 2 ^ k % 2 ^ 64
-size-there k h = omega (arith, shl-one 64 k (omega arith), pow-pos k)
-
 module _ (n m k c i : ℕ) (h : Whole n m k) (b : c < m) where
   begins : c * 2 ^ k % 2 ^ 64 ≡ c * 2 ^ k
   begins = shl-exact 12 k 64 (omega arith) (omega arith)

@@ -4,7 +4,8 @@ use mathlib.Core.Path.{ap}
 use native.Mathlib.Omega.{arith}
 use Prim.Native.Nat.{ℕ}
 use lib.ListN.{getD}
-use Rattle.sail_many.proofs.Words.{size-there, spot-is, spot-in, spot-small}
+use Rattle.sail.proofs.Steps.{size-some}
+use Rattle.sail_many.proofs.Words.{spot-is, spot-in, spot-small}
 use Rattle.sail_many.proofs.word.fetch.Statement.{statement}
 use Rattle.sail_many.proofs.word.fetch.Tie as tie
 
@@ -14,7 +15,7 @@ fetch-spec =
     (tie.spec
     (λ c. search needs)
     (λ c. search needs)
-    (λ c. size-there _ (omega arith))
+    (λ c. size-some _ (omega arith))
     (λ c. omega (arith, spot-small _ _ _ (c .args .c) (c .args .i) (c .pre .0) (c .pre .1)))
     (λ c. omega (arith, spot-small _ _ _ (c .args .c) (c .args .i) (c .pre .0) (c .pre .1)))
     (λ c. spot-in _ _ _ _ _ (c .before .pre .0) (c .before .pre .1))
