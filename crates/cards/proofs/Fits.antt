@@ -21,7 +21,7 @@ use Rattle.routes.proofs.Rows.{length-routes, records-good}
 use Rattle.runs.specs.Run.{pastKey, runStart, runCount, runSaid}
 use Rattle.lists.proofs.Places.{place-le}
 use Rattle.sail.specs.Lent.{Lent}
-use Rattle.sail.specs.Level.{entry}
+use Rattle.sail.specs.Level.{chunksOf}
 use Rattle.sail.specs.Sound.{standing}
 use Rattle.sail.specs.Walk.{leafSaid, hopSaid, lookupSaid}
 use Rattle.sail.specs.declared.table.Table.{Table}
@@ -168,8 +168,8 @@ module _ (t : Table) (l : Lent) where
       go (Report.counts s) =
           let n = s .listed .records .few in
           let u = chunks-need t l s in
-          let x = used-le (entry (l .own2)) (length (l .own2)) in
-          let y = used-le (entry (l .own3)) (length (l .own3)) in
+          let x = used-le (chunksOf (l .own2)) in
+          let y = used-le (chunksOf (l .own3)) in
           Fits.values _ (ReportFits.report (t .count) (need (standing t l) (t .geometry .p1)) (need (standing t l) (t .geometry .p2)) (omega arith) (omega (arith, u .0, s .sized .few2)) (omega (arith, u .1, s .sized .few3)))
 
   -- Changes: where one is accepted, a sound table stands, so there are at most 4,096 routes.

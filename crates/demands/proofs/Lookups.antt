@@ -7,7 +7,6 @@ use lib.ListN.{length}
 use borrow.Author.Tests.{le-leb, lt-leb, eq-eqb}
 use Rattle.bits.proofs.Tests.{below?}
 use Rattle.routes.specs.Said.{Said, refused}
-use Rattle.sail.specs.Geometry.{bits2, bits3}
 use Rattle.sail.specs.Lent.{Lent}
 use Rattle.sail.specs.Level.{whole}
 use Rattle.sail.specs.Sizes.{sizesFault, Sized}
@@ -64,13 +63,13 @@ module _ (t : Table) (l : Lent) (a : ℕ) where
   g = t .geometry
 
   abbrev pub v1 : ℕ
-  v1 = cell1 (g .p1) (bits2 g) (bits3 g) (whole l) a
+  v1 = cell1 g (whole l) a
 
   abbrev pub v2 : ℕ
-  v2 = cell2 (g .p1) (bits2 g) (bits3 g) (whole l) a
+  v2 = cell2 g (whole l) a
 
   abbrev pub v3 : ℕ
-  v3 = cell3 (g .p1) (bits2 g) (bits3 g) (whole l) a
+  v3 = cell3 g (whole l) a
 
   abbrev many2 : ℕ
   many2 = length (l .own2)

@@ -6,28 +6,27 @@ use mathlib.Core.List.{List, [], _∷_}
 use Prim.Native.Nat.{ℕ, _*_, _^_, _<_}
 use lib.ListN.{getD, length}
 use Rattle.routes.specs.Route.{keyOf}
-use Rattle.standing.specs.Cells.{long, best, need}
+use Rattle.standing.specs.Cells.{best, need}
 use Rattle.routes.specs.Said.{Said, accepted, refused, refusedAt, accepts}
 use Rattle.standing.specs.Standing.{remove}
 use Rattle.routes.specs.declared.Route.{Route}
 use Rattle.routes.proofs.Rows.{length-routes}
 use Rattle.sail.specs.Geometry.{bits2}
 use Rattle.sail.specs.Lent.{Lent}
-use Rattle.sail.specs.Level.{always, itself, liveIn, entry}
+use Rattle.sail.specs.Level.{liveIn, entry, chunksOf, level1, level2}
 use Rattle.sail.specs.Sizes.{Sized}
 use Rattle.sail.specs.Sound.{Sound, standing, cellsRead, freshLent}
 use Rattle.sail.specs.Walk.{hopSaid, lookupSaid}
 use Rattle.sail.specs.declared.geometry.Geometry.{Geometry}
 use Rattle.sail.specs.declared.table.Table.{Table}
 use Rattle.sail.proofs.Sounds.{sail-serves}
-use Rattle.sail_theory.specs.Render.{shown, at2, rendered}
+use Rattle.sail_theory.specs.Render.{shown}
 use Rattle.sail_theory.specs.Calls.{Owners, opened, settled, kept, ownersOf, noOwners, route, termsOf, announceSaid, withdrawSaid, loadSaid, inputRoutes, Out, leaving, announced, withdrawn, loaded, reported}
 use Rattle.sail_theory.specs.Runs.{Call, announce, withdraw, load, done, after, would}
 use Rattle.sail_theory.proofs.Judged.{Report}
 use Rattle.sail_theory.proofs.Only.{report-only}
 use Rattle.sail_theory.proofs.Fresh.{make-is}
-use Rattle.sail_theory.proofs.Pools.{level-shown}
-use Rattle.sail_theory.proofs.Rendered.{level-two}
+use Rattle.sail_theory.proofs.Pools.{shows-shown}
 use Rattle.sail_theory.proofs.Runs.{run-is}
 use Rattle.demands.proofs.Replies.{reply, stood, run-says, run-stood}
 
@@ -47,10 +46,10 @@ abbrev pub reportOn : Paper → Said
 reportOn p = accepted (length (p .routes) ∷ need (p .routes) (p .geometry .p1) ∷ need (p .routes) (p .geometry .p2) ∷ [])
 
 abbrev pub firstOn : ℕ → Paper → ℕ
-firstOn q p = shown (long (p .routes) (p .geometry .p1)) (best (p .routes) (p .geometry .p1)) itself (length (p .owners .own2)) (entry (p .owners .own2)) q
+firstOn q p = shown (p .routes) (level1 (p .geometry)) (chunksOf (p .owners .own2)) q
 
 abbrev pub secondOn : ℕ → Paper → ℕ
-secondOn q p = shown (long (p .routes) (p .geometry .p2)) (best (p .routes) (p .geometry .p2)) (at2 (p .geometry) (p .owners .own2)) (length (p .owners .own3)) (entry (p .owners .own3)) q
+secondOn q p = shown (p .routes) (level2 (p .geometry) (chunksOf (p .owners .own2))) (chunksOf (p .owners .own3)) q
 
 module _ (t : Table) (l : Lent) (s : Sound t l) where
   pub lookup-on : (a : ℕ) → a < 2 ^ 32 → lookupSaid t l a ≡ lookupOn a (paperOf t l)
@@ -60,10 +59,10 @@ module _ (t : Table) (l : Lent) (s : Sound t l) where
   report-on = report-only t l _ (Report.counts s) ∙ ap (λ (n : ℕ). accepted (n ∷ need (standing t l) (t .geometry .p1) ∷ need (standing t l) (t .geometry .p2) ∷ [])) (sym (length-routes (l .list) (t .count)))
 
   pub first-on : (q : ℕ) → q < 2 ^ t .geometry .p1 → getD (l .first) q 0 ≡ firstOn q (paperOf t l)
-  first-on q h = level-shown _ _ _ always itself (length (l .own2)) (entry (l .own2)) (entry (l .first)) (s .serves .level1) q h refl
+  first-on q h = shows-shown (standing t l) (level1 (t .geometry)) (chunksOf (l .own2)) (entry (l .first)) (s .serves .shows1) q h refl
 
   pub second-on : (q : ℕ) → q < length (l .own2) * 2 ^ bits2 (t .geometry) → liveIn (entry (l .own2)) (bits2 (t .geometry)) q ≡ true → getD (l .second) q 0 ≡ secondOn q (paperOf t l)
-  second-on q h e = level-shown _ _ _ _ (at2 (t .geometry) (l .own2)) (length (l .own3)) (entry (l .own3)) (entry (l .second)) (level-two t l s) q h e
+  second-on q h e = shows-shown (standing t l) (level2 (t .geometry) (chunksOf (l .own2))) (chunksOf (l .own3)) (entry (l .second)) (s .serves .shows2) q h e
 
 -- the owners after an accepted call, where the routes rs stand with the owners o; `none` are the owners of a fresh table
 abbrev owned : Geometry → Owners → Call → List Route → Owners → Owners
@@ -73,7 +72,6 @@ owned g none (load input) rs o = settled g none (inputRoutes input)
 
 -- a call leaves these owners where it is accepted, and else those that were
 leaves-owners : (s : Said) (t : Table) (l : Lent) (rs : List Route) (o : Owners) → ownersOf (leaving s t l rs o .lent) ≡ cond (accepts (leaving s t l rs o .said)) o (ownersOf l)
-unfolding rendered
 leaves-owners (accepted vs) t l rs o = refl
 leaves-owners (refused n) t l rs o = refl
 leaves-owners (refusedAt n k) t l rs o = refl

@@ -22,14 +22,14 @@ use Rattle.routes.specs.Said.{Said, accepted, refused}
 use Rattle.standing.specs.Standing.{insert, remove}
 use Rattle.routes.specs.declared.Route.{Route}
 use Rattle.sail.specs.Geometry.{standardGeo, bits2, bits3, validGeo}
-use Rattle.sail.specs.Level.{liveIn, entry}
+use Rattle.sail.specs.Level.{chunkFor, liveIn, entry}
 use Rattle.sail.specs.Lent.{Lent}
 use Rattle.sail.specs.Sizes.{sizesFit, sizesFault, Sized}
 use Rattle.sail.specs.Walk.{hopSaid}
 use Rattle.sail.specs.declared.geometry.Geometry.{Geometry}
 use Rattle.sail.specs.declared.table.Table.{Table}
-use Rattle.sail_theory.specs.Render.{chunkFor, shown}
-use Rattle.sail_theory.specs.Calls.{Terms, termsOf, grant, openAt2, openAt3, settled, keep, chunksFault, announceFault, withdrawFault, loadFault, orSay, makeSaid, Out}
+use Rattle.sail_theory.specs.Render.{shown}
+use Rattle.sail_theory.specs.Calls.{Terms, termsOf, grant, openAt, settled, keep, chunksFault, announceFault, withdrawFault, loadFault, orSay, makeSaid, Out}
 use Rattle.sail_theory.specs.Runs.{Call, after}
 use Rattle.sail_theory.proofs.Fresh.{make-is}
 use Rattle.sail_theory.proofs.Runs.{run-is, run-sound}
@@ -187,11 +187,11 @@ all-agree [] e = refl
 all-agree (x ∷ xs) e = let s = and-split (serves (x .asked)) (allServe xs) e in ap₂ _∷_ (agrees (x .asked) (s .0)) (all-agree xs (s .1))
 
 serve-all : allServe starred ≡ true
-unfolding serves starred onPaper ownedBy stood reply inputSaid listA firstOf firstFrom faultAt routeFault inOrder properPrefix hopFine recordAt cut loadFault chunksFault arrays table routesOf tabulate need any settled openAt2 openAt3 grant chunkFor
+unfolding serves starred onPaper ownedBy stood reply inputSaid listA firstOf firstFrom faultAt routeFault inOrder properPrefix hopFine recordAt cut loadFault chunksFault arrays table routesOf tabulate need any settled openAt grant chunkFor
 serve-all = refl
 
 on-paper : map (λ (x : Line). paper (x .asked)) starred ≡ map (λ (x : Line). x .expected) starred
-unfolding starred paper onPaper ownedBy stood reply inputSaid listA firstOf firstFrom faultAt routeFault inOrder properPrefix hopFine recordAt cut announceFault withdrawFault loadFault chunksFault arrays table routesOf tabulate need any best cells.first insert remove settled openAt2 openAt3 grant keep chunkFor shown hopSaid validGeo image built madeOf count packed picked gather bitHop setBit word kids hopsOf level upTo wordsFrom words ofImage.hops imageBy
+unfolding starred paper onPaper ownedBy stood reply inputSaid listA firstOf firstFrom faultAt routeFault inOrder properPrefix hopFine recordAt cut announceFault withdrawFault loadFault chunksFault arrays table routesOf tabulate need any best cells.first insert remove settled openAt grant keep chunkFor shown hopSaid validGeo image built madeOf count packed picked gather bitHop setBit word kids hopsOf level upTo wordsFrom words ofImage.hops imageBy
 on-paper = refl
 
 pub starred-hold : Holds

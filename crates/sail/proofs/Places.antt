@@ -1,18 +1,25 @@
 -- How the live places of a pool match cells of a level of the routes. Said of any level, and so proved once for all.
 -- Assumes nothing.
-use mathlib.Core.Path.{_≡_, _∙_, ap, ap₂}
+use mathlib.Core.Path.{_≡_, refl, sym, _∙_, ap, ap₂}
 use mathlib.Core.Logic.{_⊎_, inl, inr}
 use mathlib.Core.Bool.{Bool, true, false}
+use mathlib.Core.List.{List}
 use Prim.Native.Nat.{ℕ, suc, _+_, _-_, _*_, _/_, _%_, _^_, _≤_, _<_}
 use native.Mathlib.Nat.{div-lt-iff-lt-mul, mod-lt, div-add-mod'}
 use native.Mathlib.Omega.{arith}
 use lib.Arith.{digits-lt, digits-div, digits-mod}
-use lib.Pow.{pow-pos}
+use lib.Pow.{pow-add, pow-pos}
 use borrow.Author.Tests.{ltb-true, lt-ltb}
 use Rattle.bits.specs.Count.{count}
 use Rattle.bits.proofs.Tests.{decided}
 use Rattle.bits.proofs.Counts.{Matched, count-matched}
-use Rattle.sail.specs.Level.{Level, inUse, liveIn, partOf}
+use Rattle.routes.specs.Route.{Good}
+use Rattle.standing.specs.Cells.{long, best, need}
+use Rattle.routes.specs.declared.Route.{Route}
+use Rattle.standing.proofs.Levels.{long-up}
+use Rattle.standing.proofs.Need.{need-count}
+use Rattle.sail.specs.Level.{Level, Chunks, Shows, deep, always, itself, inUse, top, below}
+use Rattle.sail.specs.Walk.{place}
 
 -- numbers that match still do with a digit below b after each
 spread-half : (P Q : ℕ → Bool) (f g : ℕ → ℕ) (m n b : ℕ) → 0 < b
@@ -31,49 +38,64 @@ spread : (P Q : ℕ → Bool) (f g : ℕ → ℕ) (m n b : ℕ) → 0 < b → Ma
 spread P Q f g m n b pos h = record { there = spread-half P Q f g m n b pos (h .there); back = spread-half Q P g f n m b pos (h .back) }
 
 -- a live cell names a chunk exactly where it is deep: else its top bit is set
-pub names-exactly : (deep : ℕ → Bool) (hop : ℕ → ℕ) (n : ℕ) (live : ℕ → Bool) (at cells : ℕ → ℕ) (m : ℕ) (own : ℕ → ℕ) → Level deep hop n live at cells m own → m < 32768
-    → (q : ℕ) → q < n → live q ≡ true → (cells q < 32768 → deep (at q) ≡ true) × (deep (at q) ≡ true → cells q < 32768)
-names-exactly deep hop n live at cells m own v few q l e = ((λ h. go h (decided (deep (at q)))), (λ d. omega (arith, v .node q l e d .1)))
+pub names-exactly : (rs : List Route) (v : Level) (k : Chunks) (cells : ℕ → ℕ) → Shows rs v k cells → k .many < 32768
+    → (q : ℕ) → q < v .places → v .live q ≡ true → (cells q < 32768 → deep rs v q ≡ true) × (deep rs v q ≡ true → cells q < 32768)
+names-exactly rs v k cells s few q l e = ((λ h. go h (decided (deep rs v q))), (λ d. omega (arith, s .node q l e d .1)))
   where
-    go : cells q < 32768 → (deep (at q) ≡ true) ⊎ (deep (at q) ≡ false) → deep (at q) ≡ true
+    go : cells q < 32768 → (deep rs v q ≡ true) ⊎ (deep rs v q ≡ false) → deep rs v q ≡ true
     go h (inl d) = d
-    go h (inr d) = absurd (omega (arith, v .leaf q l e d))
+    go h (inr d) = absurd (omega (arith, s .leaf q l e d))
 
--- A level of n places, whose live ones match the cells below w that are reached: the cell i is at the place `find i`.
-module _ (deep : ℕ → Bool) (hop : ℕ → ℕ) (n w : ℕ) (live reach : ℕ → Bool) (at find cells : ℕ → ℕ) (k : ℕ) (own : ℕ → ℕ)
-    (v : Level deep hop n live at cells k own) (m : Matched live reach at find n w) (r : (i : ℕ) → deep i ≡ true → reach i ≡ true) where
+-- The live places of a level match the cells of its bits that are reached: the cell i is at the place `find i`.
+pub record Reached (rs : List Route) (v : Level) (reach : ℕ → Bool) (find : ℕ → ℕ) : Type 0 where
+  pub few : v .bits ≤ 32
+  pub match : Matched (v .live) reach (v .at) find (v .places) (2 ^ v .bits)
+  pub up : (i : ℕ) → long rs (v .bits) i ≡ true → reach i ≡ true
+
+pub top-reached : (rs : List Route) (p : ℕ) → p ≤ 32 → Reached rs (top p) always itself
+top-reached rs p h = record { few = h; match = record { there = λ x l e. (l, refl, refl); back = λ x l e. (l, refl, refl) }; up = λ i e. refl }
+
+module _ (rs : List Route) (v : Level) (k : Chunks) (cells : ℕ → ℕ) (s : Shows rs v k cells) (reach : ℕ → Bool) (find : ℕ → ℕ) (m : Reached rs v reach find) where
   -- the chunks in use match the deep cells
-  chunks : Matched (inUse own) deep (λ c. at (own c - 1)) (λ i. cells (find i) - 1) k w
+  chunks : Matched (inUse (k .own)) (long rs (v .bits)) (λ c. v .at (k .own c - 1)) (λ i. cells (find i) - 1) (k .many) (2 ^ v .bits)
   chunks = record {
     there = λ c l e.
-        let o : ℕ = own c - 1 in
-        let is : own c ≡ suc o = omega (arith, ltb-true 0 (own c) e) in
-        let g = v .owned c o l is in
-        let j = m .there o (g .0) (g .1) in
+        let o : ℕ = k .own c - 1 in
+        let is : k .own c ≡ suc o = omega (arith, ltb-true 0 (k .own c) e) in
+        let g = s .owned c o l is in
+        let j = m .match .there o (g .0) (g .1) in
         (j .0, g .2, rw (j .2) (omega (arith, g .3)));
     back = λ i l e.
-        let j = m .back i l (r i e) in
-        let g = v .node (find i) (j .0) (j .1) (rw (j .2) e) in
-        let u : own (cells (find i) - 1) - 1 ≡ find i = omega (arith, g .2) in
-        (omega (arith, g .0, g .1), lt-ltb 0 (own (cells (find i) - 1)) (omega (arith, g .2)), ap at u ∙ j .2);
+        let j = m .match .back i l (m .up i e) in
+        let g = s .node (find i) (j .0) (j .1) (rw (j .2) e) in
+        let u : k .own (cells (find i) - 1) - 1 ≡ find i = omega (arith, g .2) in
+        (omega (arith, g .0, g .1), lt-ltb 0 (k .own (cells (find i) - 1)) (omega (arith, g .2)), ap (v .at) u ∙ j .2);
   }
 
-  -- so there are as many chunks in use as deep cells
-  pub used-deep : count (inUse own) k ≡ count deep w
-  used-deep = count-matched (inUse own) deep (λ c. at (own c - 1)) (λ i. cells (find i) - 1) k w chunks
+  -- so as many chunks are in use as are needed
+  pub used-need : Good rs → count (inUse (k .own)) (k .many) ≡ need rs (v .bits)
+  used-need good = count-matched (inUse (k .own)) (long rs (v .bits)) (λ c. v .at (k .own c - 1)) (λ i. cells (find i) - 1) (k .many) (2 ^ v .bits) chunks ∙ sym (need-count rs (v .bits) (m .few) good)
 
-  -- and the live cells of the next pool match the parts of the deep cells
-  pub parts : (d : ℕ) → Matched (liveIn own d) (λ i. deep (i / 2 ^ d)) (partOf own d at) (λ i. (cells (find (i / 2 ^ d)) - 1) * 2 ^ d + i % 2 ^ d) (k * 2 ^ d) (w * 2 ^ d)
-  parts d = spread (inUse own) deep (λ c. at (own c - 1)) (λ i. cells (find i) - 1) k w (2 ^ d) (pow-pos d) chunks
+  -- and the level below is reached where the level is deep
+  pub below-reached : (p : ℕ) → v .bits ≤ p → p ≤ 32
+      → Reached rs (below v k p) (λ i. long rs (v .bits) (i / 2 ^ (p - v .bits))) (λ i. place (p - v .bits) (cells (find (i / 2 ^ (p - v .bits)))) i)
+  below-reached p h l =
+      let sum : v .bits + (p - v .bits) ≡ p = omega arith in
+      let all : 2 ^ v .bits * 2 ^ (p - v .bits) ≡ 2 ^ p = sym (pow-add 2 (v .bits) (p - v .bits)) ∙ ap (λ (n : ℕ). 2 ^ n) sum in
+      record {
+        few = l;
+        match = rw all at (spread (inUse (k .own)) (long rs (v .bits)) (λ c. v .at (k .own c - 1)) (λ i. cells (find i) - 1) (k .many) (2 ^ v .bits) (2 ^ (p - v .bits)) (pow-pos (p - v .bits)) chunks);
+        up = λ i e. long-up rs (v .bits) (p - v .bits) i (omega arith) (rw sum e);
+      }
 
   -- what stands at the place of a cell
-  pub read-leaf : (i : ℕ) → i < w → reach i ≡ true → deep i ≡ false → cells (find i) ≡ 32768 + hop i
+  pub read-leaf : (i : ℕ) → i < 2 ^ v .bits → reach i ≡ true → long rs (v .bits) i ≡ false → cells (find i) ≡ 32768 + best rs (v .bits) i
   read-leaf i l e f =
-      let j = m .back i l e in
-      v .leaf (find i) (j .0) (j .1) (rw (j .2) f) ∙ ap (λ (x : ℕ). 32768 + hop x) (j .2)
+      let j = m .match .back i l e in
+      s .leaf (find i) (j .0) (j .1) (rw (j .2) f) ∙ ap (λ (x : ℕ). 32768 + best rs (v .bits) x) (j .2)
 
-  pub read-node : (i : ℕ) → i < w → deep i ≡ true → (1 ≤ cells (find i)) × (cells (find i) ≤ k) × (0 < own (cells (find i) - 1))
+  pub read-node : (i : ℕ) → i < 2 ^ v .bits → long rs (v .bits) i ≡ true → (1 ≤ cells (find i)) × (cells (find i) ≤ k .many) × (0 < k .own (cells (find i) - 1))
   read-node i l e =
-      let j = m .back i l (r i e) in
-      let g = v .node (find i) (j .0) (j .1) (rw (j .2) e) in
+      let j = m .match .back i l (m .up i e) in
+      let g = s .node (find i) (j .0) (j .1) (rw (j .2) e) in
       (g .0, g .1, omega (arith, g .2))

@@ -19,9 +19,8 @@ use Rattle.routes.specs.Said.{accepted}
 use Rattle.routes.specs.declared.Route.{Route}
 use Rattle.standing.proofs.Only.{none-covers, covers-none}
 use Rattle.routes.proofs.Rows.{records-good}
-use Rattle.sail.specs.Geometry.{bits2, bits3}
 use Rattle.sail.specs.Lent.{Lent}
-use Rattle.sail.specs.Level.{whole, entry, liveIn}
+use Rattle.sail.specs.Level.{whole, chunksOf, level2, level3}
 use Rattle.sail.specs.Sizes.{sizesFault}
 use Rattle.sail.specs.Walk.{oneOf, hopSaid, foundSaid, lookupSaid, lastCell, ReadsSecond, ReadsThird}
 use Rattle.sail.specs.Sound.{standing, Sound, cellsRead, used}
@@ -54,12 +53,6 @@ module _ (t : Table) (l : Lent) (s : Sound t l) where
   abbrev rs : List Route
   rs = standing t l
 
-  sum : g .p1 + bits2 g ≡ g .p2
-  sum = let v = s .sized .valid in omega arith
-
-  wide : g .p1 + bits2 g + bits3 g ≡ 32
-  wide = let v = s .sized .valid in omega arith
-
   few2 : length (l .own2) < 32768
   few2 = omega (arith, s .sized .few2)
 
@@ -75,9 +68,8 @@ module _ (t : Table) (l : Lent) (s : Sound t l) where
   unfolding lookupSaid foundSaid
   sail-serves a h =
       rw (eq-eqb (sizesFault g l) 0 (none-is g l (s .sized)))
-      (walk-best rs (g .p1) (bits2 g) (bits3 g) (whole l) wide standing-good (s .serves) a h few2 few3 (oneOf (length (l .own2))) (oneOf (length (l .own3)))
-      (λ v i j o. both (le-leb 1 v i) (le-leb v _ j)) (λ v i j o. both (le-leb 1 v i) (le-leb v _ j))
-      ∙ ap (λ (n : ℕ). hopSaid (1 + bit (long rs (g .p1) (slot (g .p1) a)) + bit (long rs n (slot n a))) (best rs 32 a)) sum)
+      (walk-best rs g (whole l) (s .sized .valid) standing-good (s .serves) a h few2 few3 (oneOf (length (l .own2))) (oneOf (length (l .own3)))
+      (λ v i j o. both (le-leb 1 v i) (le-leb v _ j)) (λ v i j o. both (le-leb 1 v i) (le-leb v _ j)))
 
   -- so it says no route exactly where no standing route covers the address
   pub sail-no-route : (a : ℕ) → a < 2 ^ 32
@@ -95,13 +87,13 @@ module _ (t : Table) (l : Lent) (s : Sound t l) where
   -- in both pools as many chunks are in use as the standing routes need
   pub chunks-need : (used (l .own2) ≡ need rs (g .p1)) × (used (l .own3) ≡ need rs (g .p2))
   chunks-need = (
-    used2-need rs (g .p1) (bits2 g) (bits3 g) (whole l) wide standing-good (s .serves),
-    used3-need rs (g .p1) (bits2 g) (bits3 g) (whole l) wide standing-good (s .serves) ∙ ap (need rs) sum,
+    used2-need rs g (whole l) (s .sized .valid) standing-good (s .serves),
+    used3-need rs g (whole l) (s .sized .valid) standing-good (s .serves),
   )
 
   -- the leaf at which the walk for an address ends holds the hop of the longest standing route that covers the address
-  pub leaf-is : (a : ℕ) → a < 2 ^ 32 → lastCell (g .p1) (bits2 g) (bits3 g) (whole l) a ≡ 32768 + best rs 32 a
-  leaf-is a h = last-best rs (g .p1) (bits2 g) (bits3 g) (whole l) wide standing-good (s .serves) a h few2 few3
+  pub leaf-is : (a : ℕ) → a < 2 ^ 32 → lastCell g (whole l) a ≡ 32768 + best rs 32 a
+  leaf-is a h = last-best rs g (whole l) (s .sized .valid) standing-good (s .serves) a h few2 few3
 
   -- and each first cell, and each cell of a chunk in use, is one that the walk for some address reads
   pub first-served : (q : ℕ) → q < 2 ^ g .p1 → (a : ℕ) × (a < 2 ^ 32) × (slot (g .p1) a ≡ q)
@@ -110,13 +102,13 @@ module _ (t : Table) (l : Lent) (s : Sound t l) where
       let e : g .p1 + (32 - g .p1) ≡ 32 = omega arith in
       (q * 2 ^ (32 - g .p1), rw e at (shl-lt (g .p1) (32 - g .p1) h), shl-shr q (32 - g .p1))
 
-  pub second-served : (q : ℕ) → q < length (l .second) → liveIn (entry (l .own2)) (bits2 g) q ≡ true → (a : ℕ) × (a < 2 ^ 32) × ReadsSecond (g .p1) (bits2 g) (bits3 g) (whole l) a q
-  second-served q h e = second-read rs (g .p1) (bits2 g) (bits3 g) (whole l) wide standing-good (s .serves) few2 q (rw (s .sized .cells2) at h) e
+  pub second-served : (q : ℕ) → q < length (l .second) → level2 g (chunksOf (l .own2)) .live q ≡ true → (a : ℕ) × (a < 2 ^ 32) × ReadsSecond g (whole l) a q
+  second-served q h e = second-read rs g (whole l) (s .sized .valid) standing-good (s .serves) few2 q (rw (s .sized .cells2) at h) e
 
-  pub third-served : (q : ℕ) → q < length (l .third) → liveIn (entry (l .own3)) (bits3 g) q ≡ true → (a : ℕ) × (a < 2 ^ 32) × ReadsThird (g .p1) (bits2 g) (bits3 g) (whole l) a q
-  third-served q h e = third-read rs (g .p1) (bits2 g) (bits3 g) (whole l) wide standing-good (s .serves) few2 few3 q (rw (s .sized .cells3) at h) e
+  pub third-served : (q : ℕ) → q < length (l .third) → level3 g (chunksOf (l .own2)) (chunksOf (l .own3)) .live q ≡ true → (a : ℕ) × (a < 2 ^ 32) × ReadsThird g (whole l) a q
+  third-served q h e = third-read rs g (whole l) (s .sized .valid) standing-good (s .serves) few2 few3 q (rw (s .sized .cells3) at h) e
 
 -- So two sound tables of one list have the same leaves, whatever numbers their chunks have.
 pub leaf-determined : (t : Table) (l l′ : Lent) → Sound t l → Sound t l′ → l .list ≡ l′ .list → (a : ℕ) → a < 2 ^ 32
-    → let g : Geometry = t .geometry in lastCell (g .p1) (bits2 g) (bits3 g) (whole l) a ≡ lastCell (g .p1) (bits2 g) (bits3 g) (whole l′) a
+    → let g : Geometry = t .geometry in lastCell g (whole l) a ≡ lastCell g (whole l′) a
 leaf-determined t l l′ s s′ e a h = leaf-is t l s a h ∙ ap (λ (xs : List ℕ). 32768 + best (routesOf xs (t .count)) 32 a) e ∙ sym (leaf-is t l′ s′ a h)

@@ -1,5 +1,5 @@
 -- The walk step by step, as the code takes it. Assumes nothing.
-use mathlib.Core.Path.{_≡_, refl, sym, ap, ap₂, _∙_}
+use mathlib.Core.Path.{_≡_, refl, sym, ap, _∙_}
 use mathlib.Core.Bool.{Bool, true, false, not}
 use mathlib.Core.Logic.{_⊎_, inl, inr}
 use Prim.Native.Nat.{ℕ, _+_, _-_, _*_, _%_, _^_, _≤_, _<_}
@@ -104,9 +104,8 @@ module _ (g : Geometry) (l : Lent) (a : ℕ) (sized : Sized g l) where
       → stepSaid 1 (oneOf (length (l .own2))) v1 (stepSaid 2 (oneOf (length (l .own3))) v2 (stepSaid 3 shut v3 (refused 5))) ≡ foundSaid g l a
   unfolding foundSaid walkSaid
   steps v1 v2 v3 e1 e2 e3 =
-      let p : g .p2 ≡ g .p1 + bits2 g = omega arith in
-      let q2 : v2 ≡ cell2 (g .p1) (bits2 g) (bits3 g) (whole l) a = e2 ∙ ap₂ (λ (x y : ℕ). getD (l .second) (place (bits2 g) x (slot y a)) 0) e1 p in
-      let q3 : v3 ≡ cell3 (g .p1) (bits2 g) (bits3 g) (whole l) a = e3 ∙ ap (λ (x : ℕ). getD (l .third) (place (bits3 g) x a) 0) q2 in
+      let q2 : v2 ≡ cell2 g (whole l) a = e2 ∙ ap (λ (x : ℕ). getD (l .second) (place (bits2 g) x (slot (g .p2) a)) 0) e1 in
+      let q3 : v3 ≡ cell3 g (whole l) a = e3 ∙ ap (λ (x : ℕ). getD (l .third) (place (bits3 g) x a) 0) q2 in
       cc
 
   module _ (v1 : ℕ) (e1 : v1 ≡ getD (l .first) (slot (g .p1) a) 0) where

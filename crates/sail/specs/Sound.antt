@@ -30,7 +30,7 @@ pub record Sound (t : Table) (l : Lent) : Type 0 where
   -- "A second cell of a chunk in use does the same with p2"
   -- "A third cell of a chunk in use is always a leaf: the hop of the longest route that covers its one address"
   -- "An owner is 1 plus the index of the cell that names the chunk, the index counted over the whole of that lent cell array"
-  pub serves : Serves (standing t l) (t .geometry .p1) (bits2 (t .geometry)) (bits3 (t .geometry)) (whole l)
+  pub serves : Serves (standing t l) (t .geometry) (whole l)
   -- "A free chunk has owner 0 and all cells 0"
   pub clear2 : Clear (length (l .own2)) (bits2 (t .geometry)) (ltb 0) (entry (l .own2)) (entry (l .second))
   pub clear3 : Clear (length (l .own3)) (bits3 (t .geometry)) (ltb 0) (entry (l .own3)) (entry (l .third))

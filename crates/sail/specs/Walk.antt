@@ -22,18 +22,18 @@ abbrev pub place : ℕ → ℕ → ℕ → ℕ
 place d c i = (c - 1) * 2 ^ d + i % 2 ^ d
 
 -- the cells that the walk for the address a may read, and where the second and the third stand in their pools
-module _ (p1 d1 d2 : ℕ) (t : View) (a : ℕ) where
+module _ (g : Geometry) (t : View) (a : ℕ) where
   abbrev pub cell1 : ℕ
-  cell1 = t .first (slot p1 a)
+  cell1 = t .first (slot (g .p1) a)
 
   abbrev pub place2 : ℕ
-  place2 = place d1 cell1 (slot (p1 + d1) a)
+  place2 = place (bits2 g) cell1 (slot (g .p2) a)
 
   abbrev pub cell2 : ℕ
   cell2 = t .second place2
 
   abbrev pub place3 : ℕ
-  place3 = place d2 cell2 a
+  place3 = place (bits3 g) cell2 a
 
   abbrev pub cell3 : ℕ
   cell3 = t .third place3
@@ -46,20 +46,20 @@ pub record Leads (v m : ℕ) : Type 0 where
 
 -- "A cell serves an address when that address's lookup reads it": the second cell where the first leads on, the third where both do.
 -- (The first cell that a lookup reads is that of the address's first p1 bits.)
-pub record ReadsSecond (p1 d1 d2 : ℕ) (t : View) (a q : ℕ) : Type 0 where
-  pub goes : Leads (cell1 p1 d1 d2 t a) (t .many2)
-  pub there : place2 p1 d1 d2 t a ≡ q
+pub record ReadsSecond (g : Geometry) (t : View) (a q : ℕ) : Type 0 where
+  pub goes : Leads (cell1 g t a) (t .chunks2 .many)
+  pub there : place2 g t a ≡ q
 
-pub record ReadsThird (p1 d1 d2 : ℕ) (t : View) (a q : ℕ) : Type 0 where
-  pub goes : Leads (cell1 p1 d1 d2 t a) (t .many2)
-  pub on : Leads (cell2 p1 d1 d2 t a) (t .many3)
-  pub there : place3 p1 d1 d2 t a ≡ q
+pub record ReadsThird (g : Geometry) (t : View) (a q : ℕ) : Type 0 where
+  pub goes : Leads (cell1 g t a) (t .chunks2 .many)
+  pub on : Leads (cell2 g t a) (t .chunks3 .many)
+  pub there : place3 g t a ≡ q
 
 -- the cell at which the walk ends
-unfoldable pub lastCell : ℕ → ℕ → ℕ → View → ℕ → ℕ
-lastCell p1 d1 d2 t a =
-    cond (leb 32768 (cell1 p1 d1 d2 t a)) (cell1 p1 d1 d2 t a)
-    (cond (leb 32768 (cell2 p1 d1 d2 t a)) (cell2 p1 d1 d2 t a) (cell3 p1 d1 d2 t a))
+unfoldable pub lastCell : Geometry → View → ℕ → ℕ
+lastCell g t a =
+    cond (leb 32768 (cell1 g t a)) (cell1 g t a)
+    (cond (leb 32768 (cell2 g t a)) (cell2 g t a) (cell3 g t a))
 
 -- after n cells were read: n and the hop; n alone where the hop is 0, which is no route
 unfoldable pub hopSaid : ℕ → ℕ → Said
@@ -81,15 +81,15 @@ oneOf m v = leb 1 v && leb v m
 abbrev pub shut : ℕ → Bool
 shut v = false
 
-unfoldable pub walkSaid : ℕ → ℕ → ℕ → (ℕ → Bool) → (ℕ → Bool) → View → ℕ → Said
-walkSaid p1 d1 d2 opens2 opens3 t a =
-    stepSaid 1 opens2 (cell1 p1 d1 d2 t a)
-    (stepSaid 2 opens3 (cell2 p1 d1 d2 t a)
-    (stepSaid 3 shut (cell3 p1 d1 d2 t a) (refused 5)))
+unfoldable pub walkSaid : Geometry → (ℕ → Bool) → (ℕ → Bool) → View → ℕ → Said
+walkSaid g opens2 opens3 t a =
+    stepSaid 1 opens2 (cell1 g t a)
+    (stepSaid 2 opens3 (cell2 g t a)
+    (stepSaid 3 shut (cell3 g t a) (refused 5)))
 
 -- the walk in what is lent: every chunk of a pool opens
 unfoldable pub foundSaid : Geometry → Lent → ℕ → Said
-foundSaid g l a = walkSaid (g .p1) (bits2 g) (bits3 g) (oneOf (length (l .own2))) (oneOf (length (l .own3))) (whole l) a
+foundSaid g l a = walkSaid g (oneOf (length (l .own2))) (oneOf (length (l .own3))) (whole l) a
 
 -- 1, 2, then the walk's own answer
 unfoldable pub lookupSaid : Table → Lent → ℕ → Said

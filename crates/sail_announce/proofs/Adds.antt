@@ -20,8 +20,8 @@ use Rattle.sail.specs.Sound.{standing}
 use Rattle.sail.specs.declared.geometry.Geometry.{Geometry}
 use Rattle.sail.specs.declared.table.Table.{Table}
 use Rattle.sail.proofs.Sounds.{standing-good}
-use Rattle.sail_theory.specs.Render.{rendered}
-use Rattle.sail_theory.specs.Calls.{route, open2, open3, announceSaid, out, announced}
+use Rattle.sail_theory.specs.Calls.{route, opening, announceSaid, out, announced}
+use Rattle.sail.specs.Level.{chunksOf, level1, level2}
 use Rattle.sail_theory.specs.Facts.{Welcome}
 use Rattle.sail_theory.proofs.Accepted.{announce-is, announce-off}
 use Rattle.sail_paint.specs.Stale.{Repainted}
@@ -49,10 +49,10 @@ module _ (t : Table) (l : Lent) (a len hop : ℕ) (w : Welcome t l (route a len 
   r = route a len hop
 
   abbrev own2′ : List ℕ
-  own2′ = open2 g (l .own2) r
+  own2′ = opening (level1 g) (l .own2) r
 
   abbrev own3′ : List ℕ
-  own3′ = open3 g own2′ (l .own3) r
+  own3′ = opening (level2 g (chunksOf own2′)) (l .own3) r
 
   pub add-insertable : Insertable (l .list) (t .count) r
   add-insertable = record {
@@ -90,7 +90,6 @@ module _ (t : Table) (l : Lent) (a len hop : ℕ) (w : Welcome t l (route a len 
 
       module _ (first second third : List ℕ) (h : Repainted g (routesOf s m) (lent [] (l .first) (l .second) (l .third) own2 own3) first second third) (n : Announce) (q : saysAnnounce n ≡ accepted (bit (saysPut p) ∷ [])) where
         pub add-done : out (saysAnnounce n) (record { geometry = g; count = m }) (lent s first second third own2 own3) ≡ announced t l a len hop
-        unfolding rendered
         add-done =
             let h′ = rw (holds .routes) at h in
             rw (q, stood, count-is, list-is, h′ .is-first, h′ .is-second, h′ .is-third, o2, o3) (sym (announce-is t l a len hop w))

@@ -28,7 +28,7 @@ use Rattle.sail_theory.specs.Facts.{Welcome}
 use Rattle.sail_theory.proofs.Judged.{Proper, Roomy, Announce}
 use Rattle.sail_theory.proofs.Only.{announce-only}
 use Rattle.sail_theory.proofs.Accepted.{replaced-welcome}
-use Rattle.sail_theory.proofs.Wants.{Wants, want-seven, want-eight}
+use Rattle.sail_theory.proofs.Wants.{Wants, want, seven as second-chunks, eight as third-chunks}
 use Rattle.sail_sound.specs.Test.{Tried}
 use Rattle.sail_change.specs.Chunks.{alone}
 use Rattle.sail_calls.specs.Judge.{Judged}
@@ -80,13 +80,13 @@ module _ (t : Table) (l : Lent) (a len hop : ℕ) where
       -- the test of a pool tells whether the need exceeds it
       seven : (c : Bool) → c ≡ (o .second && eqb (find (l .own2) 0) (length (l .own2))) → c ≡ ltb (length (l .own2)) (need (insert r rs) (t .geometry .p1))
       seven c z = z ∙ rw (k .second) (same (alone rs (t .geometry .p1) a len && eqb (find (l .own2) 0) (length (l .own2))) _
-          (λ y. want-seven t l (p .sound) r (p .fine) .1 (wants-is rs r (t .geometry .p1) (l .own2) y))
-          (λ y. is-wants rs r (t .geometry .p1) (l .own2) (want-seven t l (p .sound) r (p .fine) .0 y)))
+          (λ y. want rs (t .geometry .p1) (l .own2) (second-chunks t l (p .sound)) r (p .fine) .1 (wants-is rs r (t .geometry .p1) (l .own2) y))
+          (λ y. is-wants rs r (t .geometry .p1) (l .own2) (want rs (t .geometry .p1) (l .own2) (second-chunks t l (p .sound)) r (p .fine) .0 y)))
 
       eight : (c : Bool) → c ≡ (o .third && eqb (find (l .own3) 0) (length (l .own3))) → c ≡ ltb (length (l .own3)) (need (insert r rs) (t .geometry .p2))
       eight c z = z ∙ rw (k .third) (same (alone rs (t .geometry .p2) a len && eqb (find (l .own3) 0) (length (l .own3))) _
-          (λ y. want-eight t l (p .sound) r (p .fine) .1 (wants-is rs r (t .geometry .p2) (l .own3) y))
-          (λ y. is-wants rs r (t .geometry .p2) (l .own3) (want-eight t l (p .sound) r (p .fine) .0 y)))
+          (λ y. want rs (t .geometry .p2) (l .own3) (third-chunks t l (p .sound)) r (p .fine) .1 (wants-is rs r (t .geometry .p2) (l .own3) y))
+          (λ y. is-wants rs r (t .geometry .p2) (l .own3) (want rs (t .geometry .p2) (l .own3) (third-chunks t l (p .sound)) r (p .fine) .0 y)))
 
       module _ (c : Bool) (z : c ≡ (o .second && eqb (find (l .own2) 0) (length (l .own2)))) where
         pub room-second : c ≡ true → Told 7

@@ -11,7 +11,7 @@ use lib.ListN.{getD, length, set, length-set, List·getD-eq-default}
 use lib.Seq.{getD-set-same, getD-set-other}
 use Rattle.bits.proofs.Tests.{equal?, below?}
 use Rattle.plan.specs.Paint.{filled, Range}
-use Rattle.sail.specs.Level.{entry}
+use Rattle.sail.specs.Level.{chunksOf}
 use Rattle.sail_theory.specs.Render.{find}
 use Rattle.sail_theory.proofs.Chunks.{chunk-is, chunk-none}
 use Rattle.sail_change.specs.Chunks.{hung, closed, blanked, Closing}
@@ -21,10 +21,10 @@ abbrev pub Used : List ℕ → ℕ → Type 0
 Used own c = (j : ℕ) → j < c → getD own j 0 ≢ 0
 
 pub free-here : (own : List ℕ) (c : ℕ) → c < length own → Used own c → getD own c 0 ≡ 0 → (c ≡ find own 0) × (c ≤ length own)
-free-here own c l u e = (sym (chunk-is (entry own) (length own) 0 c l e u), omega arith)
+free-here own c l u e = (sym (chunk-is (chunksOf own) 0 c l e u), omega arith)
 
 pub free-nowhere : (own : List ℕ) (c : ℕ) → c ≤ length own → length own ≤ c → Used own c → (c ≡ find own 0) × (c ≤ length own)
-free-nowhere own c l m u = let e : c ≡ length own = omega arith in (e ∙ sym (chunk-none (entry own) (length own) 0 (λ j i. u j (omega arith))), l)
+free-nowhere own c l m u = let e : c ≡ length own = omega arith in (e ∙ sym (chunk-none (chunksOf own) 0 (λ j i. u j (omega arith))), l)
 
 -- what `wanting` answers, where a chunk is to be opened
 pub wanting-on : (own : List ℕ) (b : Bool) (c : ℕ) → c ≡ find own 0 → b ≡ true → eqb c (length own) ≡ (b && eqb (find own 0) (length own))

@@ -7,30 +7,27 @@ use Prim.Native.Nat.{ℕ, suc, _+_, _-_, _*_, _/_, _%_, _^_, _≤_, _<_}
 use native.Mathlib.Omega.{arith}
 use lib.Dec.{ltb}
 use lib.ListN.{getD, length, set}
-use borrow.Author.Tests.{ltb-true, ltb-false, lt-ltb, lt-leb, eq-eqb, not-true}
+use borrow.Author.Tests.{ltb-true, ltb-false, lt-ltb, le-ltb, lt-leb, eq-eqb, not-true}
 use Rattle.bits.specs.Slot.{slot}
-use Rattle.bits.proofs.Tests.{decided, and-split}
+use Rattle.bits.proofs.Tests.{decided, below?, and-split}
 use Rattle.standing.specs.Cells.{long}
 use Rattle.standing.specs.Standing.{insert}
 use Rattle.routes.specs.declared.Route.{Route}
 use Rattle.sail.specs.Geometry.{bits2, bits3, Valid}
 use Rattle.sail.specs.Lent.{Lent, lent}
-use Rattle.sail.specs.Level.{liveIn, entry}
+use Rattle.sail.specs.Level.{Level, liveIn, entry, chunksOf, level1, level2}
 use Rattle.sail.specs.Sound.{standing}
 use Rattle.sail.specs.declared.geometry.Geometry.{Geometry}
 use Rattle.sail.specs.declared.table.Table.{Table}
-use Rattle.sail.proofs.Sounds.{standing-good}
-use Rattle.sail_theory.specs.Render.{find, at2, roomOf, Rendered}
-use Rattle.sail_theory.specs.Calls.{placeIn, open2, open3}
+use Rattle.sail_theory.specs.Render.{find, roomOf, Rendered}
+use Rattle.sail_theory.specs.Calls.{opening}
 use Rattle.sail_theory.specs.Facts.{Welcome}
 use Rattle.sail_theory.proofs.Rendered.{sound-rendered, clear-blank}
 use Rattle.sail_theory.proofs.Chunks.{chunk-at}
 use Rattle.sail_theory.proofs.Places.{live-owner}
 use Rattle.sail_theory.proofs.Stores.{had?}
-use Rattle.sail_theory.proofs.Needs.{long-own}
-use Rattle.sail_theory.proofs.Grown.{length-open2, length-open3, open2-stays, open3-stays, place-at2}
-use Rattle.sail_theory.proofs.Changes.{space2, space3, welcome-fits2, welcome-fits3}
-use Rattle.sail_theory.proofs.Opens.{open2-stores, open3-stores, find-hung}
+use Rattle.sail_theory.proofs.Grown.{Ready, length-open, open-stays, open-short, open-had, open-new, find-hung}
+use Rattle.sail_theory.proofs.Changes.{ready1, ready2, welcome-fits2, welcome-fits3}
 use Rattle.sail_theory.proofs.Altered.{announce-frame}
 use Rattle.sail_paint.specs.Stale.{meets}
 use Rattle.sail_change.specs.Chunks.{hung, alone, Free}
@@ -48,13 +45,18 @@ stay-held m d own own′ cells stays blank = record { size = refl; held = λ q l
   where
     free : (q : ℕ) → liveIn (entry own′) d q ≡ false → (liveIn (entry own) d q ≡ true) ⊎ (liveIn (entry own) d q ≡ false) → liveIn (entry own) d q ≡ false
     free q e (inr u) = u
-    free q e (inl u) = absurd (omega (arith, ltb-false 0 (getD own′ (q / 2 ^ d) 0) e, stays (q / 2 ^ d) _ (live-owner (entry own) d q u)))
+    free q e (inl u) = absurd (omega (arith, ltb-false 0 (getD own′ (q / 2 ^ d) 0) e, stays (q / 2 ^ d) _ (let z : getD own (q / 2 ^ d) 0 ≡ suc (getD own (q / 2 ^ d) 0 - 1) = omega (arith, ltb-true 0 (getD own (q / 2 ^ d) 0) u) in z)))
 
-opens-is : (x y : Bool) (o : ℕ) (own : List ℕ) → cond x (cond y own (set own (find own 0) o)) own ≡ hung (x && not y) o own
-unfolding hung
-opens-is true true o own = refl
-opens-is true false o own = refl
-opens-is false y o own = refl
+-- a chunk is opened where the route alone needs it
+open-hung : (rs : List Route) (r : Route) (v : Level) (own : List ℕ) → Ready rs r v own (find own 0) → opening v own r ≡ hung (alone rs (v .bits) (r .addr) (r .len)) (suc (v .serving (r .addr))) own
+unfolding hung alone
+open-hung rs r v own w = go (below? (v .bits) (r .len)) (decided (long rs (v .bits) (slot (v .bits) (r .addr))))
+  where
+    go : (v .bits < r .len) ⊎ (r .len ≤ v .bits) → (long rs (v .bits) (slot (v .bits) (r .addr)) ≡ true) ⊎ (long rs (v .bits) (slot (v .bits) (r .addr)) ≡ false)
+        → opening v own r ≡ cond (ltb (v .bits) (r .len) && not (long rs (v .bits) (slot (v .bits) (r .addr)))) (set own (find own 0) (suc (v .serving (r .addr)))) own
+    go (inr h) d = open-short rs r v own (find own 0) w h ∙ rw (le-ltb (v .bits) (r .len) h)
+    go (inl h) (inl d) = open-had rs r v own (find own 0) w d ∙ rw (lt-ltb (v .bits) (r .len) h, d)
+    go (inl h) (inr d) = open-new rs r v own (find own 0) w h d .1 ∙ rw (lt-ltb (v .bits) (r .len) h, d)
 
 module _ (t : Table) (l : Lent) (r : Route) (w : Welcome t l r) where
   abbrev g : Geometry
@@ -64,10 +66,10 @@ module _ (t : Table) (l : Lent) (r : Route) (w : Welcome t l r) where
   rs = standing t l
 
   abbrev own2′ : List ℕ
-  own2′ = open2 g (l .own2) r
+  own2′ = opening (level1 g) (l .own2) r
 
   abbrev own3′ : List ℕ
-  own3′ = open3 g own2′ (l .own3) r
+  own3′ = opening (level2 g (chunksOf own2′)) (l .own3) r
 
   is : Rendered t l
   is = sound-rendered t l (w .sound)
@@ -75,13 +77,17 @@ module _ (t : Table) (l : Lent) (r : Route) (w : Welcome t l r) where
   valid : Valid g
   valid = w .sound .sized .valid
 
-  pub open2-hung : own2′ ≡ hung (alone rs (g .p1) (r .addr) (r .len)) (suc (slot (g .p1) (r .addr))) (l .own2)
-  unfolding alone
-  open2-hung = open2-stores t l r w ∙ opens-is (ltb (g .p1) (r .len)) (long rs (g .p1) (slot (g .p1) (r .addr))) _ (l .own2)
+  ready-one : Ready rs r (level1 g) (l .own2) (find (l .own2) 0)
+  ready-one = ready1 t l r w
 
-  pub open3-hung : own3′ ≡ hung (alone rs (g .p2) (r .addr) (r .len)) (suc (placeIn g own2′ (r .addr))) (l .own3)
-  unfolding alone
-  open3-hung = open3-stores t l r w ∙ opens-is (ltb (g .p2) (r .len)) (long rs (g .p2) (slot (g .p2) (r .addr))) _ (l .own3)
+  ready-two : Ready rs r (level2 g (chunksOf own2′)) (l .own3) (find (l .own3) 0)
+  ready-two = ready2 t l r w
+
+  pub open2-hung : own2′ ≡ hung (alone rs (g .p1) (r .addr) (r .len)) (suc (slot (g .p1) (r .addr))) (l .own2)
+  open2-hung = open-hung rs r (level1 g) (l .own2) ready-one
+
+  pub open3-hung : own3′ ≡ hung (alone rs (g .p2) (r .addr) (r .len)) (suc (level2 g (chunksOf own2′) .serving (r .addr))) (l .own3)
+  open3-hung = open-hung rs r (level2 g (chunksOf own2′)) (l .own3) ready-two
 
   longer : (p : ℕ) → alone rs p (r .addr) (r .len) ≡ true → p < r .len
   unfolding alone
@@ -92,17 +98,15 @@ module _ (t : Table) (l : Lent) (r : Route) (w : Welcome t l r) where
       hung-was (l .own2) _ (slot (g .p1) (r .addr)) c x (rw open2-hung at e)
       (λ b y. true≢false (sym (rw (← y) at (meets-own (r .addr) (r .len) (g .p1) (longer (g .p1) b))) ∙ m))
 
-  at-place : g .p2 < r .len → at2 g own2′ (placeIn g own2′ (r .addr)) ≡ slot (g .p2) (r .addr)
-  at-place h =
-      let v = valid in
-      place-at2 g v (insert r rs) own2′ (welcome-fits2 t l r w) (r .addr) (w .fine .prefix .addr-ok) (long-own r rs (w .fine) (standing-good t l (w .sound)) (g .p1) (lt-ltb (g .p1) (r .len) (omega arith)))
+  at-place : g .p2 < r .len → level2 g (chunksOf own2′) .at (level2 g (chunksOf own2′) .serving (r .addr)) ≡ slot (g .p2) (r .addr)
+  at-place h = ready-two .served (lt-ltb (g .p2) (r .len) h) .stands
 
-  keeps3 : (c x : ℕ) → c < length (l .own3) → getD own3′ c 0 ≡ suc x → meets (r .addr) (r .len) (g .p2) (at2 g own2′ x) ≡ false → (getD (l .own3) c 0 ≡ suc x) × (at2 g (l .own2) x ≡ at2 g own2′ x)
+  keeps3 : (c x : ℕ) → c < length (l .own3) → getD own3′ c 0 ≡ suc x → meets (r .addr) (r .len) (g .p2) (level2 g (chunksOf own2′) .at x) ≡ false → (getD (l .own3) c 0 ≡ suc x) × (level2 g (chunksOf (l .own2)) .at x ≡ level2 g (chunksOf own2′) .at x)
   keeps3 c x h e m =
-      let k = hung-was (l .own3) _ (placeIn g own2′ (r .addr)) c x (rw open3-hung at e)
-      (λ b y. true≢false (sym (ap (meets (r .addr) (r .len) (g .p2)) (ap (at2 g own2′) y ∙ at-place (longer (g .p2) b)) ∙ meets-own (r .addr) (r .len) (g .p2) (longer (g .p2) b)) ∙ m)) in
-      let o = live-owner (entry (l .own2)) (bits2 g) x (is .fits3 .lies c x h k .1) in
-      (k, ap (λ (y : ℕ). (y - 1) * 2 ^ bits2 g + x % 2 ^ bits2 g) (o ∙ sym (open2-stays g (l .own2) r _ _ o)))
+      let k = hung-was (l .own3) _ (level2 g (chunksOf own2′) .serving (r .addr)) c x (rw open3-hung at e)
+      (λ b y. true≢false (sym (ap (meets (r .addr) (r .len) (g .p2)) (ap (level2 g (chunksOf own2′) .at) y ∙ at-place (longer (g .p2) b)) ∙ meets-own (r .addr) (r .len) (g .p2) (longer (g .p2) b)) ∙ m)) in
+      let o = live-owner (level1 g) (chunksOf (l .own2)) (g .p2) x (is .fits3 .lies c x h k .1) in
+      (k, ap (λ (y : ℕ). (y - 1) * 2 ^ bits2 g + x % 2 ^ bits2 g) (o ∙ sym (open-stays (level1 g) (l .own2) r _ _ o)))
 
   -- whatever the list then is
   pub welcome-underway : (s : List ℕ) → Underway g (r .addr) (r .len) (insert r rs) l (lent s (l .first) (l .second) (l .third) own2′ own3′)
@@ -114,10 +118,10 @@ module _ (t : Table) (l : Lent) (r : Route) (w : Welcome t l r) where
     fits2 = welcome-fits2 t l r w;
     fits3 = welcome-fits3 t l r w;
     first = refl;
-    second = stay-held (length (l .own2)) (bits2 g) (l .own2) own2′ (l .second) (open2-stays g (l .own2) r) (clear-blank (length (l .own2)) (bits2 g) (entry (l .own2)) (l .second) (w .sound .clear2));
-    third = stay-held (length (l .own3)) (bits3 g) (l .own3) own3′ (l .third) (open3-stays g own2′ (l .own3) r) (clear-blank (length (l .own3)) (bits3 g) (entry (l .own3)) (l .third) (w .sound .clear3));
-    chunks2 = length-open2 g (l .own2) _ r;
-    chunks3 = length-open3 g own2′ (l .own3) _ r;
+    second = stay-held (length (l .own2)) (bits2 g) (l .own2) own2′ (l .second) (open-stays (level1 g) (l .own2) r) (clear-blank (level1 g) (g .p2) (l .own2) (l .second) (w .sound .clear2));
+    third = stay-held (length (l .own3)) (bits3 g) (l .own3) own3′ (l .third) (open-stays (level2 g (chunksOf own2′)) (l .own3) r) (clear-blank (level2 g (chunksOf (l .own2))) 32 (l .own3) (l .third) (w .sound .clear3));
+    chunks2 = length-open (level1 g) (l .own2) _ r;
+    chunks3 = length-open (level2 g (chunksOf own2′)) (l .own3) _ r;
     keeps2 = λ c x _. keeps2 c x;
     keeps3 = keeps3;
   }
@@ -128,10 +132,10 @@ module _ (t : Table) (l : Lent) (r : Route) (w : Welcome t l r) where
   fresh p e = let k = and-split _ _ e in (k .0, not-true _ (k .1))
 
   pub free2 : Free (alone rs (g .p1) (r .addr) (r .len)) (l .own2)
-  free2 = record { some = λ e. let k = fresh (g .p1) e in space2 t l r w (k .0) (k .1) .0 }
+  free2 = record { some = λ e. let k = fresh (g .p1) e in ready-one .space (k .0) (k .1) .0 }
 
   pub free3 : Free (alone rs (g .p2) (r .addr) (r .len)) (l .own3)
-  free3 = record { some = λ e. let k = fresh (g .p2) e in space3 t l r w (k .0) (k .1) .0 }
+  free3 = record { some = λ e. let k = fresh (g .p2) e in ready-two .space (k .0) (k .1) .0 }
 
   -- the second chunk that then serves the route: the new one, or the one that was there
   pub chunk-next : g .p1 < r .len → cond (alone rs (g .p1) (r .addr) (r .len)) (find (l .own2) 0) (find (l .own2) (suc (slot (g .p1) (r .addr)))) ≡ find own2′ (suc (slot (g .p1) (r .addr)))
@@ -146,4 +150,4 @@ module _ (t : Table) (l : Lent) (r : Route) (w : Welcome t l r) where
         where
           none : (find (l .own2) (suc (slot (g .p1) (r .addr))) < length (l .own2)) ⊎ (length (l .own2) ≤ find (l .own2) (suc (slot (g .p1) (r .addr)))) → length (l .own2) ≤ find (l .own2) (suc (slot (g .p1) (r .addr)))
           none (inr z) = z
-          none (inl z) = absurd (true≢false (sym (is .fits2 .lies _ (slot (g .p1) (r .addr)) z (chunk-at (entry (l .own2)) (length (l .own2)) _ z) .2) ∙ fresh (g .p1) e .1))
+          none (inl z) = absurd (true≢false (sym (is .fits2 .lies _ (slot (g .p1) (r .addr)) z (chunk-at (chunksOf (l .own2)) _ z) .2) ∙ fresh (g .p1) e .1))

@@ -21,7 +21,8 @@ use Rattle.sail.specs.Sound.{Sound, standing}
 use Rattle.sail.specs.declared.geometry.Geometry.{Geometry}
 use Rattle.sail.specs.declared.table.Table.{Table}
 use Rattle.sail_theory.specs.Render.{find}
-use Rattle.sail_theory.specs.Calls.{placeIn, open2, open3}
+use Rattle.sail.specs.Level.{chunksOf, level1, level2}
+use Rattle.sail_theory.specs.Calls.{opening}
 use Rattle.sail_theory.specs.Facts.{Welcome}
 use Rattle.sail_change.specs.Chunks.{alone, hung, Free}
 use Rattle.sail_change.specs.Trail.{Told, Trailed}
@@ -113,20 +114,20 @@ module _ (t : Table) (l : Lent) (r : Route) (o : Opening) (w : Welcome t l r) (k
   pub hang-third : Free (o .third) (l .own3)
   hang-third = rw (k .third) (free3 t l r w)
 
-  pub opened-second : (x : ℕ) (own : List ℕ) → x ≡ slot (t .geometry .p1) (r .addr) → own ≡ hung (o .second) (x + 1) (l .own2) → own ≡ open2 (t .geometry) (l .own2) r
+  pub opened-second : (x : ℕ) (own : List ℕ) → x ≡ slot (t .geometry .p1) (r .addr) → own ≡ hung (o .second) (x + 1) (l .own2) → own ≡ opening (level1 (t .geometry)) (l .own2) r
   opened-second x own e h = h ∙ rw (k .second, e, add-one) (sym (open2-hung t l r w))
 
   pub opened-third : (q : ℕ) (own : List ℕ) → q ≡ o .chunk * 2 ^ bits2 (t .geometry) + slot (t .geometry .p2) (r .addr) % 2 ^ bits2 (t .geometry) → own ≡ hung (o .third) (q + 1) (l .own3)
-      → own ≡ open3 (t .geometry) (open2 (t .geometry) (l .own2) r) (l .own3) r
+      → own ≡ opening (level2 (t .geometry) (chunksOf (opening (level1 (t .geometry)) (l .own2) r))) (l .own3) r
   unfolding hung
   opened-third q own e h = h ∙ go (decided (o .third)) ∙ rw (k .third) (sym (open3-hung t l r w))
     where
-      go : (o .third ≡ true) ⊎ (o .third ≡ false) → hung (o .third) (q + 1) (l .own3) ≡ hung (o .third) (suc (placeIn (t .geometry) (open2 (t .geometry) (l .own2) r) (r .addr))) (l .own3)
+      go : (o .third ≡ true) ⊎ (o .third ≡ false) → hung (o .third) (q + 1) (l .own3) ≡ hung (o .third) (suc (level2 (t .geometry) (chunksOf (opening (level1 (t .geometry)) (l .own2) r)) .serving (r .addr))) (l .own3)
       go (inr z) = rw z
       go (inl z) =
           let v = w .sound .sized .valid in
           let u = alone-longer (standing t l) (t .geometry .p2) (r .addr) (r .len) (sym (k .third) ∙ z) in
-          let c : o .chunk ≡ find (open2 (t .geometry) (l .own2) r) (suc (slot (t .geometry .p1) (r .addr))) = k .chunk (omega arith) ∙ chunk-next t l r w (omega arith) in
+          let c : o .chunk ≡ find (opening (level1 (t .geometry)) (l .own2) r) (suc (slot (t .geometry .p1) (r .addr))) = k .chunk (omega arith) ∙ chunk-next t l r w (omega arith) in
           ap (λ (x : ℕ). hung (o .third) x (l .own3)) (add-one q ∙ ap suc (e ∙ rw c))
 
 -- the owner of a second chunk is small

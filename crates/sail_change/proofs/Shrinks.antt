@@ -20,22 +20,19 @@ use Rattle.standing.proofs.Standing.{remove-any}
 use Rattle.plan.specs.Paint.{filled}
 use Rattle.sail.specs.Geometry.{bits2, bits3, Valid}
 use Rattle.sail.specs.Lent.{Lent, lent}
-use Rattle.sail.specs.Level.{itself, liveIn, entry}
+use Rattle.sail.specs.Level.{Level, liveIn, entry, chunksOf, level1, level2}
 use Rattle.sail.specs.Sound.{standing}
 use Rattle.sail.specs.declared.geometry.Geometry.{Geometry}
 use Rattle.sail.specs.declared.table.Table.{Table}
 use Rattle.sail.proofs.Sounds.{standing-good}
-use Rattle.sail_theory.specs.Render.{find, at2, roomOf, Rendered}
-use Rattle.sail_theory.specs.Calls.{placeIn, keep2, keep3, route}
+use Rattle.sail_theory.specs.Render.{find, roomOf, Rendered}
+use Rattle.sail_theory.specs.Calls.{keep, route}
 use Rattle.sail_theory.specs.Facts.{Farewell}
-use Rattle.sail_theory.proofs.Mids.{slot-mid, long-mid}
 use Rattle.sail_theory.proofs.Rendered.{sound-rendered, clear-blank}
 use Rattle.sail_theory.proofs.Needs.{stands-long}
-use Rattle.sail_theory.proofs.Stores.{length-keep, kept-was}
-use Rattle.sail_theory.proofs.Grown.{place-in, place-live2, place-at2}
-use Rattle.sail_theory.proofs.Shrunk.{kept-over}
-use Rattle.sail_theory.proofs.Changes.{farewell-fits2, farewell-fits3}
-use Rattle.sail_theory.proofs.Opens.{keep2-stores, keep3-stores}
+use Rattle.sail_theory.proofs.Stores.{length-keep, kept-was, keep-closed, keep-stores, Losing}
+use Rattle.sail_theory.proofs.Owners.{kept-over}
+use Rattle.sail_theory.proofs.Changes.{farewell-fits2, farewell-fits3, losing1, losing2, less}
 use Rattle.sail_theory.proofs.Altered.{withdraw-frame}
 use Rattle.sail_change.specs.Chunks.{closed, blanked, alone, Closing}
 use Rattle.sail_change.proofs.Shuts.{closed-held, closed-blank}
@@ -79,17 +76,17 @@ module _ (t : Table) (l : Lent) (a len : ℕ) (w : Farewell t l a len) where
   left = remove (keyOf a len) rs
 
   abbrev own2′ : List ℕ
-  own2′ = keep2 g left (l .own2)
+  own2′ = keep left (level1 g) (l .own2)
 
   abbrev own3′ : List ℕ
-  own3′ = keep3 g left (l .own2) (l .own3)
+  own3′ = keep left (level2 g (chunksOf (l .own2))) (l .own3)
 
   -- the chunks that serve the prefix
   abbrev c2 : ℕ
   c2 = find (l .own2) (suc (slot (g .p1) a))
 
   abbrev c3 : ℕ
-  c3 = find (l .own3) (suc (placeIn g (l .own2) a))
+  c3 = find (l .own3) (suc (level2 g (chunksOf (l .own2)) .serving a))
 
   is : Rendered t l
   is = sound-rendered t l (w .sound)
@@ -108,24 +105,25 @@ module _ (t : Table) (l : Lent) (a len : ℕ) (w : Farewell t l a len) where
 
   pub keep2-closed : own2′ ≡ closed (alone left (g .p1) a len) c2 (l .own2)
   unfolding alone
-  keep2-closed = keep2-stores t l a len w ∙ closes-is (long rs (g .p1) (slot (g .p1) a)) (long left (g .p1) (slot (g .p1) a)) (ltb (g .p1) len) c2 (l .own2) (λ e. was-long (g .p1) (ltb-true _ _ e)) (same-long (g .p1))
+  keep2-closed = keep-stores rs left a (level1 g) (l .own2) (losing1 t l a len w) ∙ closes-is (long rs (g .p1) (slot (g .p1) a)) (long left (g .p1) (slot (g .p1) a)) (ltb (g .p1) len) c2 (l .own2) (λ e. was-long (g .p1) (ltb-true _ _ e)) (same-long (g .p1))
 
   pub keep3-closed : own3′ ≡ closed (alone left (g .p2) a len) c3 (l .own3)
   unfolding alone
-  keep3-closed = keep3-stores t l a len w ∙ closes-is (long rs (g .p2) (slot (g .p2) a)) (long left (g .p2) (slot (g .p2) a)) (ltb (g .p2) len) c3 (l .own3) (λ e. was-long (g .p2) (ltb-true _ _ e)) (same-long (g .p2))
+  keep3-closed = keep-stores rs left a (level2 g (chunksOf (l .own2))) (l .own3) (losing2 t l a len w) ∙ closes-is (long rs (g .p2) (slot (g .p2) a)) (long left (g .p2) (slot (g .p2) a)) (ltb (g .p2) len) c3 (l .own3) (λ e. was-long (g .p2) (ltb-true _ _ e)) (same-long (g .p2))
+
+  -- its chunk is there
+  one-of : (v : Level) (own : List ℕ) → Losing rs left a v own → alone left (v .bits) a len ≡ true → find own (suc (v .serving a)) < length own
+  unfolding alone
+  one-of v own z e =
+      let d = was-long (v .bits) (ltb-true _ _ (and-split _ _ e .0)) in
+      let p = z .served d in
+      z .fits .has (v .serving a) (p .inside) (p .used) (rw (p .stands) d)
 
   one2 : alone left (g .p1) a len ≡ true → c2 < length (l .own2)
-  unfolding alone
-  one2 e = let v = valid in is .fits2 .has (slot (g .p1) a) (slot-lt (g .p1) a (omega arith) (w .prefix .addr-ok)) refl (was-long (g .p1) (ltb-true _ _ (and-split _ _ e .0)))
+  one2 = one-of (level1 g) (l .own2) (losing1 t l a len w)
 
   one3 : alone left (g .p2) a len ≡ true → c3 < length (l .own3)
-  unfolding alone
-  one3 e =
-      let v = valid in
-      let d = was-long (g .p2) (ltb-true _ _ (and-split _ _ e .0)) in
-      let up : long rs (g .p1) (slot (g .p1) a) ≡ true = rw (slot-mid g v a) (long-mid g v rs (slot (g .p2) a) d) in
-      is .fits3 .has (placeIn g (l .own2) a) (place-in g v rs (l .own2) (is .fits2) a (w .prefix .addr-ok) up) (place-live2 g v rs (l .own2) (is .fits2) a (w .prefix .addr-ok) up)
-      (ap (long rs (g .p2)) (place-at2 g v rs (l .own2) (is .fits2) a (w .prefix .addr-ok) up) ∙ d)
+  one3 = one-of (level2 g (chunksOf (l .own2))) (l .own3) (losing2 t l a len w)
 
   -- what closing asks
   pub closing2 : Closing (alone left (g .p1) a len) (l .own2) (l .second) c2 (bits2 g)
@@ -134,10 +132,11 @@ module _ (t : Table) (l : Lent) (a len : ℕ) (w : Farewell t l a len) where
   pub closing3 : Closing (alone left (g .p2) a len) (l .own3) (l .third) c3 (bits3 g)
   closing3 = let v = valid in record { one = one3; few = w .sound .sized .few3; size = omega arith; whole = w .sound .sized .cells3 }
 
-  keeps3 : (c x : ℕ) → c < length (l .own3) → getD own3′ c 0 ≡ suc x → (getD (l .own3) c 0 ≡ suc x) × (at2 g (l .own2) x ≡ at2 g own2′ x)
+  keeps3 : (c x : ℕ) → c < length (l .own3) → getD own3′ c 0 ≡ suc x → (getD (l .own3) c 0 ≡ suc x) × (level2 g (chunksOf (l .own2)) .at x ≡ level2 g (chunksOf own2′) .at x)
   keeps3 c x h e =
-      let k = kept-was (long left (g .p2)) (at2 g (l .own2)) (l .own3) c x e in
-      let o = kept-over g valid rs left (λ p i. remove-any _ (keyOf a len) rs) (l .own2) (l .own3) (is .fits2) (is .fits3) x (is .fits3 .lies c x h (k .0) .1) (k .1) in
+      let v = valid in
+      let k = kept-was left (level2 g (chunksOf (l .own2))) (l .own3) c x e in
+      let o = kept-over rs left (less t l a len w) (level1 g) (chunksOf (l .own2)) (chunksOf own2′) (g .p2) (omega arith) (omega arith) (keep-closed left (level1 g) (l .own2)) x (is .fits3 .lies c x h (k .0) .1) (k .1) in
       (k .0, sym (ap (λ (y : ℕ). (y - 1) * 2 ^ bits2 g + x % 2 ^ bits2 g) o))
 
   -- whatever the list then is
@@ -151,10 +150,10 @@ module _ (t : Table) (l : Lent) (a len : ℕ) (w : Farewell t l a len) where
     fits2 = farewell-fits2 t l a len w;
     fits3 = farewell-fits3 t l a len w;
     first = refl;
-    second = closed-pool (length (l .own2)) (bits2 g) (alone left (g .p1) a len) c2 (l .own2) own2′ (l .second) keep2-closed one2 (w .sound .sized .cells2) (clear-blank (length (l .own2)) (bits2 g) (entry (l .own2)) (l .second) (w .sound .clear2));
-    third = closed-pool (length (l .own3)) (bits3 g) (alone left (g .p2) a len) c3 (l .own3) own3′ (l .third) keep3-closed one3 (w .sound .sized .cells3) (clear-blank (length (l .own3)) (bits3 g) (entry (l .own3)) (l .third) (w .sound .clear3));
+    second = closed-pool (length (l .own2)) (bits2 g) (alone left (g .p1) a len) c2 (l .own2) own2′ (l .second) keep2-closed one2 (w .sound .sized .cells2) (clear-blank (level1 g) (g .p2) (l .own2) (l .second) (w .sound .clear2));
+    third = closed-pool (length (l .own3)) (bits3 g) (alone left (g .p2) a len) c3 (l .own3) own3′ (l .third) keep3-closed one3 (w .sound .sized .cells3) (clear-blank (level2 g (chunksOf (l .own2))) 32 (l .own3) (l .third) (w .sound .clear3));
     chunks2 = length-keep _ _ (l .own2);
     chunks3 = length-keep _ _ (l .own3);
-    keeps2 = λ c x _ e _. kept-was (long left (g .p1)) itself (l .own2) c x e .0;
+    keeps2 = λ c x _ e _. kept-was left (level1 g) (l .own2) c x e .0;
     keeps3 = λ c x h e _. keeps3 c x h e;
   }

@@ -9,14 +9,14 @@ use native.Mathlib.Omega.{arith}
 use lib.Arith.{digits-div}
 use lib.Dec.{leb}
 use lib.Pow.{pow-pos}
-use borrow.Author.Tests.{leb-true, leb-false, eqb-false}
+use borrow.Author.Tests.{ltb-true, leb-true, leb-false, eqb-false}
 use Rattle.bits.specs.Slot.{slot}
 use Rattle.bits.proofs.Slots.{slot-up}
 use Rattle.bits.proofs.Tests.{decided}
 use Rattle.sail.specs.Level.{liveIn, partOf}
 use Rattle.sail_theory.specs.Alters.{NoneUnder}
 use Rattle.sail_theory.proofs.Frames.{none-outside, none-other}
-use Rattle.sail_theory.proofs.Places.{chunk-lt, live-owner}
+use Rattle.sail_theory.proofs.Places.{chunk-lt}
 use Rattle.sail_paint.specs.Stale.{meets}
 
 -- no address under the prefix lies in a cell that does not meet it, nor in the cells of deeper levels that lie in that cell
@@ -36,7 +36,7 @@ none-below a len p d p′ i j k h l n x s e u = n x s (sym (slot-up p d x (omega
 -- change; `own′`, `at′` those after it; `is` what is then asked, and `now` what the pool holds.
 module _ (a len p d p′ m : ℕ) (short : len ≤ 32) (sum : p + d ≡ p′) (top : p′ ≤ 32) (own own′ at at′ was is now : ℕ → ℕ)
     (keeps : (c x : ℕ) → c < m → own′ c ≡ suc x → meets a len p (at′ x) ≡ false → (own c ≡ suc x) × (at x ≡ at′ x))
-    (frame : (q : ℕ) → q < m * 2 ^ d → own′ (q / 2 ^ d) ≡ own (q / 2 ^ d) → (liveIn own d q ≡ true → NoneUnder a len p′ (partOf own d at q)) → is q ≡ was q)
+    (frame : (q : ℕ) → q < m * 2 ^ d → own′ (q / 2 ^ d) ≡ own (q / 2 ^ d) → ((z : ℕ) → own (q / 2 ^ d) ≡ suc z → at′ z ≡ at z) → (liveIn own d q ≡ true → NoneUnder a len p′ (partOf own d at q)) → is q ≡ was q)
     (free : (q : ℕ) → q < m * 2 ^ d → liveIn own′ d q ≡ false → is q ≡ 0)
     (held : (q : ℕ) → q < m * 2 ^ d → liveIn own′ d q ≡ true → now q ≡ was q)
     (blank : (q : ℕ) → q < m * 2 ^ d → liveIn own′ d q ≡ false → now q ≡ 0) where
@@ -46,9 +46,9 @@ module _ (a len p d p′ m : ℕ) (short : len ≤ 32) (sum : p + d ≡ p′) (t
       go : (liveIn own′ d q ≡ true) ⊎ (liveIn own′ d q ≡ false) → now q ≡ is q
       go (inr u) = blank q l u ∙ sym (free q l u)
       go (inl u) =
-          let o = live-owner own′ d q u in
+          let o : own′ (q / 2 ^ d) ≡ suc (own′ (q / 2 ^ d) - 1) = omega (arith, ltb-true 0 (own′ (q / 2 ^ d)) u) in
           let m′ : meets a len p (at′ (own′ (q / 2 ^ d) - 1)) ≡ false = rw u at e in
           let k = keeps (q / 2 ^ d) (own′ (q / 2 ^ d) - 1) (chunk-lt d m q l) o m′ in
           let same : own′ (q / 2 ^ d) ≡ own (q / 2 ^ d) = o ∙ sym (k .0) in
           let n : NoneUnder a len p (at (own (q / 2 ^ d) - 1)) = rw (← same, k .1) (meets-none a len p _ short (omega arith) m′) in
-          held q l u ∙ sym (frame q l same (λ _. none-below a len p d p′ _ _ sum top (mod-lt q (pow-pos d)) n))
+          held q l u ∙ sym (frame q l same (λ z e. let y : own′ (q / 2 ^ d) - 1 ≡ z = omega arith in rw y at (sym (k .1))) (λ _. none-below a len p d p′ _ _ sum top (mod-lt q (pow-pos d)) n))

@@ -1,5 +1,5 @@
 -- The cells of an address in a sound table. Assumes nothing.
-use mathlib.Core.Path.{_≡_, sym, _∙_, ap}
+use mathlib.Core.Path.{_≡_, refl, sym, _∙_, ap}
 use mathlib.Core.Bool.{true, false, true≢false}
 use mathlib.Core.List.{List}
 use Prim.Native.Nat.{ℕ, _+_, _-_, _*_, _%_, _^_, _≤_, _<_}
@@ -16,10 +16,10 @@ use Rattle.sail.specs.Lent.{Lent}
 use Rattle.sail.specs.Sound.{Sound, standing}
 use Rattle.sail.specs.declared.geometry.Geometry.{Geometry}
 use Rattle.sail.specs.declared.table.Table.{Table}
-use Rattle.sail_theory.specs.Calls.{placeIn}
-use Rattle.sail_theory.proofs.Mids.{slot-mid, long-mid}
-use Rattle.sail_theory.proofs.Cells.{Names, first-low, first-high, second-low, second-high}
-use Rattle.sail_theory.proofs.Grown.{place-in, place-live2, place-at2}
+use Rattle.sail.specs.Level.{entry, chunksOf, level1, level2}
+use Rattle.sail_theory.proofs.Mids.{slot-down, long-down}
+use Rattle.sail_theory.proofs.Cells.{Names, low-names, high-leaf}
+use Rattle.sail_theory.proofs.Places.{Served, top-served, below-served}
 use Rattle.sail_theory.proofs.Rendered.{sound-rendered}
 use Rattle.sail_change.specs.Trail.{Trailed}
 
@@ -53,39 +53,39 @@ module _ (t : Table) (l : Lent) (a : ℕ) (s : Sound t l) (small : a < 2 ^ 32) w
       first = record { low = λ k. absurd (omega arith); high = λ _. none };
       second = record {
         low = λ k. absurd (omega arith);
-        high = λ _. untrue _ (λ d. true≢false (sym (rw (slot-mid g (s .sized .valid) a) (long-mid g (s .sized .valid) rs (slot (g .p2) a) d)) ∙ none));
+        high = λ _. untrue _ (λ d. true≢false (sym (let v = s .sized .valid in rw (slot-down (g .p1) (g .p2) a (omega arith) (omega arith)) (long-down rs (g .p1) (g .p2) (slot (g .p2) a) (omega arith) (omega arith) d)) ∙ none));
       };
     }
       where
         none : long rs (g .p1) (slot (g .p1) a) ≡ false
-        none = first-high t l s (slot (g .p1) a) in-level (rw e at h)
+        none = high-leaf rs (level1 g) (entry (l .first)) (l .own2) (s .sized .few2) (s .serves .shows1) (slot (g .p1) a) in-level refl (rw e at h)
 
     -- or names a chunk
     module _ (h : v < 32768) where
       named : Names (long rs (g .p1) (slot (g .p1) a)) v (l .own2) (slot (g .p1) a)
-      named = rw e (first-low t l s (slot (g .p1) a) in-level (rw e at h))
+      named = rw e (low-names rs (level1 g) (entry (l .first)) (l .own2) (s .sized .few2) (s .serves .shows1) (slot (g .p1) a) in-level refl (rw e at h))
 
       pub named-small : (1 ≤ v) × (v ≤ 4096)
       named-small = let n = named in let f = s .sized .few2 in (omega arith, omega arith)
 
       module _ (q : ℕ) (p : q ≡ (v - 1) * 2 ^ bits2 g + slot (g .p2) a % 2 ^ bits2 g) where
-        is-place : q ≡ placeIn g (l .own2) a
+        is-place : q ≡ level2 g (chunksOf (l .own2)) .serving a
         is-place = let n = named in p ∙ ap (λ (x : ℕ). x * 2 ^ bits2 g + slot (g .p2) a % 2 ^ bits2 g) (omega arith)
 
-        there : placeIn g (l .own2) a < length (l .own2) * 2 ^ bits2 g
-        there = place-in g (s .sized .valid) rs (l .own2) (sound-rendered t l s .fits2) a small (named .is-deep)
+        two : Served (level2 g (chunksOf (l .own2))) a
+        two =
+            let v = s .sized .valid in
+            below-served rs (level1 g) (chunksOf (l .own2)) (sound-rendered t l s .fits2) (g .p2) a (omega arith) (omega arith) (top-served (g .p1) a (omega arith) small) (named .is-deep)
 
         pub second-there : q < length (l .second)
-        second-there = rw (is-place, s .sized .cells2) there
+        second-there = rw (is-place, s .sized .cells2) (two .inside)
 
         pub trail-long : Trailed t l a v (getD (l .second) q 0)
         trail-long =
-            let live = place-live2 g (s .sized .valid) rs (l .own2) (sound-rendered t l s .fits2) a small (named .is-deep) in
-            let at = place-at2 g (s .sized .valid) rs (l .own2) (sound-rendered t l s .fits2) a small (named .is-deep) in
             rw is-place (record {
               first = record { low = λ _. named; high = λ k. absurd (omega arith) };
               second = record {
-                low = λ k. rw at at (second-low t l s (placeIn g (l .own2) a) there live k);
-                high = λ k. rw at at (second-high t l s (placeIn g (l .own2) a) there live k);
+                low = λ k. rw (two .stands) at (low-names rs (level2 g (chunksOf (l .own2))) (entry (l .second)) (l .own3) (s .sized .few3) (s .serves .shows2) (level2 g (chunksOf (l .own2)) .serving a) (two .inside) (two .used) k);
+                high = λ k. rw (two .stands) at (high-leaf rs (level2 g (chunksOf (l .own2))) (entry (l .second)) (l .own3) (s .sized .few3) (s .serves .shows2) (level2 g (chunksOf (l .own2)) .serving a) (two .inside) (two .used) k);
               };
             })

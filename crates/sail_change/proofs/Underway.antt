@@ -12,14 +12,14 @@ use Rattle.chain.specs.Words.{routesIn}
 use Rattle.chain.specs.Cover.{Ready}
 use Rattle.sail.specs.Geometry.{bits2, bits3}
 use Rattle.sail.specs.Lent.{Lent}
-use Rattle.sail.specs.Level.{itself, liveIn, entry}
+use Rattle.sail.specs.Level.{itself, liveIn, entry, chunksOf, noChunks, level1, level2, level3}
 use Rattle.sail.specs.Sizes.{Sized}
 use Rattle.sail.specs.declared.geometry.Geometry.{Geometry}
-use Rattle.sail_theory.specs.Render.{at2, rendered, Fits2, Fits3}
+use Rattle.sail_theory.specs.Render.{rendered, Fits}
 use Rattle.sail_theory.specs.Alters.{Frame}
-use Rattle.sail_theory.proofs.Mids.{sum2, sum3}
-use Rattle.sail_theory.proofs.Cells.{second-free, third-free}
-use Rattle.sail_paint.specs.Stale.{meets, stale2, stale3, Stale}
+use Rattle.sail_theory.proofs.Pools.{pool-free}
+use Rattle.sail_theory.proofs.Frames.{below-same}
+use Rattle.sail_paint.specs.Stale.{meets, staleBelow, Stale}
 use Rattle.sail_paint.specs.Pending.{cellsOf}
 use Rattle.sail_change.proofs.Still.{meets-none, still-right}
 
@@ -35,15 +35,15 @@ pub record Underway (g : Geometry) (a len : ℕ) (rs : List Route) (l u : Lent) 
   pub prefix : Prefix a len
   pub room : ℕ
   pub frame : Frame g a len l (rendered g room rs (u .own2) (u .own3))
-  pub fits2 : Fits2 g rs (u .own2)
-  pub fits3 : Fits3 g rs (u .own2) (u .own3)
+  pub fits2 : Fits rs (level1 g) (chunksOf (u .own2))
+  pub fits3 : Fits rs (level2 g (chunksOf (u .own2))) (chunksOf (u .own3))
   pub first : u .first ≡ l .first
   pub second : Held (length (l .own2)) (bits2 g) (u .own2) (l .second) (u .second)
   pub third : Held (length (l .own3)) (bits3 g) (u .own3) (l .third) (u .third)
   pub chunks2 : length (u .own2) ≡ length (l .own2)
   pub chunks3 : length (u .own3) ≡ length (l .own3)
   pub keeps2 : (c x : ℕ) → c < length (l .own2) → getD (u .own2) c 0 ≡ suc x → meets a len (g .p1) x ≡ false → getD (l .own2) c 0 ≡ suc x
-  pub keeps3 : (c x : ℕ) → c < length (l .own3) → getD (u .own3) c 0 ≡ suc x → meets a len (g .p2) (at2 g (u .own2) x) ≡ false → (getD (l .own3) c 0 ≡ suc x) × (at2 g (l .own2) x ≡ at2 g (u .own2) x)
+  pub keeps3 : (c x : ℕ) → c < length (l .own3) → getD (u .own3) c 0 ≡ suc x → meets a len (g .p2) (level2 g (chunksOf (u .own2)) .at x) ≡ false → (getD (l .own3) c 0 ≡ suc x) × (level2 g (chunksOf (l .own2)) .at x ≡ level2 g (chunksOf (u .own2)) .at x)
 
 module _ (g : Geometry) (a len : ℕ) (rs : List Route) (l u : Lent) (w : Underway g a len rs l u) where
   still-sized : Sized g (cellsOf u)
@@ -66,33 +66,30 @@ module _ (g : Geometry) (a len : ℕ) (rs : List Route) (l u : Lent) (w : Underw
   right1 : (q : ℕ) → q < length (u .first) → meets a len (g .p1) q ≡ false → getD (u .first) q 0 ≡ getD (is .first) q 0
   right1 q i m =
       let v = w .sized .valid in
-      ap (λ (x : List ℕ). getD x q 0) (w .first) ∙ sym (w .frame .first q (rw (w .first) at i) (meets-none a len (g .p1) q (w .prefix .len-ok) (omega arith) m))
+      ap (λ (x : List ℕ). getD x q 0) (w .first) ∙ sym (w .frame .first .stays q (rw (w .first, w .sized .cells1) at i) (record { live = refl; at = λ _. refl }) (λ _. meets-none a len (g .p1) q (w .prefix .len-ok) (omega arith) m))
 
-  right2 : (q : ℕ) → q < length (u .second) → stale2 g a len (u .own2) q ≡ false → getD (u .second) q 0 ≡ getD (is .second) q 0
-  unfolding rendered
+  right2 : (q : ℕ) → q < length (u .second) → staleBelow a len (level1 g) (chunksOf (u .own2)) (g .p2) q ≡ false → getD (u .second) q 0 ≡ getD (is .second) q 0
   right2 q i =
       let v = w .sized .valid in
-      still-right a len (g .p1) (bits2 g) (g .p2) (length (l .own2)) (w .prefix .len-ok) (sum2 g v) (omega arith)
+      still-right a len (g .p1) (bits2 g) (g .p2) (length (l .own2)) (w .prefix .len-ok) (omega arith) (omega arith)
       (entry (l .own2)) (entry (u .own2)) itself itself (entry (l .second)) (entry (is .second)) (entry (u .second))
       (λ c x k e m. (w .keeps2 c x k e m, refl))
-      (λ y k o n. w .frame .second y (rw (w .sized .cells2) k) o n)
-      (λ y k e. second-free g (w .room) rs (u .own2) (u .own3) y (rw (w .chunks2) k) e)
+      (λ y k o z n. w .frame .second .stays y k (below-same (level1 g) (level1 g) (chunksOf (l .own2)) (chunksOf (u .own2)) (g .p2) y refl o z) n)
+      (λ y k e. pool-free rs (level2 g (chunksOf (u .own2))) (chunksOf (u .own3)) y (rw (w .chunks2) k) e)
       (w .second .held) (w .second .blank) q (rw (w .second .size, w .sized .cells2) at i)
 
-  right3 : (q : ℕ) → q < length (u .third) → stale3 g a len (u .own2) (u .own3) q ≡ false → getD (u .third) q 0 ≡ getD (is .third) q 0
-  unfolding rendered
+  right3 : (q : ℕ) → q < length (u .third) → staleBelow a len (level2 g (chunksOf (u .own2))) (chunksOf (u .own3)) 32 q ≡ false → getD (u .third) q 0 ≡ getD (is .third) q 0
   right3 q i =
       let v = w .sized .valid in
-      still-right a len (g .p2) (bits3 g) 32 (length (l .own3)) (w .prefix .len-ok) (sum3 g v) (omega arith)
-      (entry (l .own3)) (entry (u .own3)) (at2 g (l .own2)) (at2 g (u .own2)) (entry (l .third)) (entry (is .third)) (entry (u .third))
+      still-right a len (g .p2) (bits3 g) 32 (length (l .own3)) (w .prefix .len-ok) (omega arith) (omega arith)
+      (entry (l .own3)) (entry (u .own3)) (level2 g (chunksOf (l .own2)) .at) (level2 g (chunksOf (u .own2)) .at) (entry (l .third)) (entry (is .third)) (entry (u .third))
       (w .keeps3)
-      (λ y k o n. w .frame .third y (rw (w .sized .cells3) k) o n)
-      (λ y k e. third-free g (w .room) rs (u .own2) (u .own3) y (rw (w .chunks3) k) e)
+      (λ y k o z n. w .frame .third .stays y k (below-same (level2 g (chunksOf (l .own2))) (level2 g (chunksOf (u .own2))) (chunksOf (l .own3)) (chunksOf (u .own3)) 32 y refl o z) n)
+      (λ y k e. pool-free rs (level3 g (chunksOf (u .own2)) (chunksOf (u .own3))) noChunks y (rw (w .chunks3) k) e)
       (w .third .held) (w .third .blank) q (rw (w .third .size, w .sized .cells3) at i)
 
   -- the routes of the words are those that then stand
   pub underway-stale : (ws par : List ℕ) → Ready ws par → routesIn ws ≡ rs → Stale g ws par a len (cellsOf u)
-  unfolding rendered
   underway-stale ws par ready e = record {
     ready = ready;
     sized = still-sized;

@@ -10,7 +10,7 @@ use Rattle.sail.specs.Lent.{Lent}
 use Rattle.sail.specs.Sound.{standing}
 use Rattle.sail.specs.declared.geometry.Geometry.{Geometry}
 use Rattle.sail.specs.declared.table.Table.{Table}
-use Rattle.sail_theory.specs.Calls.{placeIn}
+use Rattle.sail.specs.Level.{chunksOf, level2}
 use Rattle.sail_theory.proofs.Cells.{Names}
 
 -- The cell v of a level, at place q: below 32768 it is the number of the chunk that hangs from q, and its cell is deep; from 32768 on its cell
@@ -22,7 +22,7 @@ pub record Told (deep : Bool) (v : ℕ) (own : List ℕ) (q : ℕ) : Type 0 wher
 -- the first and the second cell of the address a
 pub record Trailed (t : Table) (l : Lent) (a v1 v2 : ℕ) : Type 0 where
   pub first : Told (long (standing t l) (t .geometry .p1) (slot (t .geometry .p1) a)) v1 (l .own2) (slot (t .geometry .p1) a)
-  pub second : Told (long (standing t l) (t .geometry .p2) (slot (t .geometry .p2) a)) v2 (l .own3) (placeIn (t .geometry) (l .own2) a)
+  pub second : Told (long (standing t l) (t .geometry .p2) (slot (t .geometry .p2) a)) v2 (l .own3) (level2 (t .geometry) (chunksOf (l .own2)) .serving a)
 
 -- a chunk of a second pool
 pub record Chunk (g : Geometry) (c : ℕ) : Type 0 where

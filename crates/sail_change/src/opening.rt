@@ -6,7 +6,8 @@ ghost use lib.Dec.{ltb, leb};
 ghost use Rattle.sail.specs.Lent.{lent};
 ghost use Rattle.sail.specs.Sound.{Sound};
 ghost use Rattle.sail_theory.specs.Render.{find};
-ghost use Rattle.sail_theory.specs.Calls.{open2, open3};
+ghost use Rattle.sail_theory.specs.Calls.{opening};
+ghost use Rattle.sail.specs.Level.{chunksOf, level1, level2};
 ghost use Rattle.sail_theory.specs.Facts.{Welcome};
 ghost use Rattle.sail_change.specs.Opening.{Named, Opens};
 use crate::chunks::hang;
@@ -83,8 +84,8 @@ pub fn open(
     own3: &mut [u32],
 )
     requires { ⌜ Welcome t (lent (now list) (now first) (now second) (now third) (now own2) (now own3)) r ⌝ }
-    ensures second { λ _. ⌜ now (own2 .exit) ≡ open2 (t .geometry) (now (own2 .entry)) r ⌝ }
-    ensures third { λ _. ⌜ now (own3 .exit) ≡ open3 (t .geometry) (open2 (t .geometry) (now (own2 .entry)) r) (now (own3 .entry)) r ⌝ }
+    ensures second { λ _. ⌜ now (own2 .exit) ≡ opening (level1 (t .geometry)) (now (own2 .entry)) r ⌝ }
+    ensures third { λ _. ⌜ now (own3 .exit) ≡ opening (level2 (t .geometry) (chunksOf (opening (level1 (t .geometry)) (now (own2 .entry)) r))) (now (own3 .entry)) r ⌝ }
 {
     let g = t.geometry;
     let addr = r.addr;

@@ -22,14 +22,15 @@ use Rattle.routes.proofs.Rows.{length-routes, records-good}
 use Rattle.chain.specs.Words.{routesIn}
 use Rattle.sail.specs.Geometry.{bits2, bits3}
 use Rattle.sail.specs.Lent.{Lent, lent}
-use Rattle.sail.specs.Level.{liveIn, entry}
+use Rattle.sail.specs.Level.{Level, chunksOf, noChunks, below, level1, level2, level3}
 use Rattle.sail.specs.declared.geometry.Geometry.{Geometry}
 use Rattle.sail.specs.declared.table.Table.{Table}
-use Rattle.sail_paint.specs.Stale.{meets, Repainted}
+use Rattle.sail_paint.specs.Stale.{meets, staleBelow, Repainted}
 use Rattle.sail_paint.specs.Pending.{Pending}
-use Rattle.sail_theory.specs.Render.{rendered, Fits, roomOf}
+use Rattle.sail_theory.specs.Render.{Fits, roomOf}
 use Rattle.sail_theory.specs.Calls.{Owners, settled, noOwners, inputRoutes}
-use Rattle.sail_theory.proofs.Cells.{second-free, third-free}
+use Rattle.sail_theory.proofs.Places.{chunk-lt, live-owner}
+use Rattle.sail_theory.proofs.Pools.{pool-free}
 use Rattle.sail_theory.proofs.Ends.{any-some}
 use Rattle.sail_theory.proofs.Fresh.{zeros}
 use Rattle.sail_theory.proofs.Loads.{Fronts, fronts-none, settles}
@@ -51,22 +52,15 @@ long-lt rs p i h good e = any-some (within p i) rs (i < 2 ^ p) e (λ r m t.
     let c = eqb-true (slot p (r .addr)) i (and-split (ltb p (r .len)) (eqb (slot p (r .addr)) i) t .1) in
     omega (arith, c, slot-lt p (r .addr) h (good-fine rs good r m .prefix .addr-ok)))
 
--- so a place that is not stale is in no chunk in use
-not-live : (rs : List Route) (p : ℕ) → p ≤ 32 → Good rs → (own : List ℕ) (d n : ℕ) (live : ℕ → Bool) (at : ℕ → ℕ) → Fits (long rs p) n live at (length own) (entry own)
-    → (q : ℕ) → liveIn (entry own) d q && meets 0 0 p (at (getD own (q / 2 ^ d) 0 - 1)) ≡ false → liveIn (entry own) d q ≡ false
-not-live rs p h good own d n live at f q e = go (decided (liveIn (entry own) d q))
+-- so a place of the level below that is not stale is in no chunk in use
+not-live : (rs : List Route) → Good rs → (v : Level) → v .bits ≤ 32 → (own : List ℕ) (p : ℕ) → Fits rs v (chunksOf own) → (q : ℕ) → q < below v (chunksOf own) p .places → staleBelow 0 0 v (chunksOf own) p q ≡ false → below v (chunksOf own) p .live q ≡ false
+not-live rs good v h own p f q l e = go (decided (below v (chunksOf own) p .live q))
   where
-    go : (liveIn (entry own) d q ≡ true) ⊎ (liveIn (entry own) d q ≡ false) → liveIn (entry own) d q ≡ false
+    go : (below v (chunksOf own) p .live q ≡ true) ⊎ (below v (chunksOf own) p .live q ≡ false) → below v (chunksOf own) p .live q ≡ false
     go (inr x) = x
     go (inl x) =
-        let some = ltb-true 0 (getD own (q / 2 ^ d) 0) x in
-        let o : getD own (q / 2 ^ d) 0 ≡ suc (getD own (q / 2 ^ d) 0 - 1) = omega arith in
-        let deep = f .lies (q / 2 ^ d) (getD own (q / 2 ^ d) 0 - 1) (inside (below? (q / 2 ^ d) (length own))) o .2 in
-        absurd (true≢false (sym (all-meet p _ (long-lt rs p _ h good deep)) ∙ rw x at e))
-      where
-        inside : (q / 2 ^ d < length own) ⊎ (length own ≤ q / 2 ^ d) → q / 2 ^ d < length own
-        inside (inl l) = l
-        inside (inr l) = absurd (omega (arith, ltb-true 0 (getD own (q / 2 ^ d) 0) x, List·getD-eq-default own 0 l))
+        let long-here = f .lies _ _ (chunk-lt (p - v .bits) (length own) q l) (live-owner v (chunksOf own) p q x) .2 in
+        absurd (true≢false (sym (all-meet (v .bits) _ (long-lt rs (v .bits) _ h good long-here)) ∙ rw x at e))
 
 module _ (g : Geometry) (input first second third own2 own3 : List ℕ) (b : Bare g input (lent [] first second third own2 own3)) where
   good : Good (inputRoutes input)
@@ -86,8 +80,8 @@ module _ (g : Geometry) (input first second third own2 own3 : List ℕ) (b : Bar
           fits2 = rw routes (b .fits2);
           fits3 = rw routes (b .fits3);
           right1 = λ q h e. absurd (true≢false (sym (all-meet (g .p1) q (rw (b .sized .cells1) at h)) ∙ e));
-          right2 = λ q h e. b .zero2 q ∙ sym (second-free g 0 (routesIn ws) own2 own3 q (rw (b .sized .cells2) at h) (not-live (inputRoutes input) (g .p1) (omega arith) good own2 (bits2 g) _ _ _ (b .fits2) q e));
-          right3 = λ q h e. b .zero3 q ∙ sym (third-free g 0 (routesIn ws) own2 own3 q (rw (b .sized .cells3) at h) (not-live (inputRoutes input) (g .p2) (omega arith) good own3 (bits3 g) _ _ _ (b .fits3) q e));
+          right2 = λ q h e. let k = rw (b .sized .cells2) at h in b .zero2 q ∙ sym (pool-free (routesIn ws) (level2 g (chunksOf own2)) (chunksOf own3) q k (not-live (inputRoutes input) good (level1 g) (omega arith) own2 (g .p2) (b .fits2) q k e));
+          right3 = λ q h e. let k = rw (b .sized .cells3) at h in b .zero3 q ∙ sym (pool-free (routesIn ws) (level3 g (chunksOf own2) (chunksOf own3)) noChunks q k (not-live (inputRoutes input) good (level2 g (chunksOf own2)) (omega arith) own3 32 (b .fits3) q k e));
         };
       }
 
@@ -164,7 +158,6 @@ module _ (t : Table) (l : Lent) (input : List ℕ) (w : Renewable t input l) whe
             put ∙ ap (padded input) e ∙ padded-written input bytes (w .readable) (roomOf l) (omega (arith, w .loadable .roomy, length-routes input (length input / 8)))
 
         renews-then : Repainted g rs (lent [] (l .first) second third (o .own2) (o .own3)) a b c → lent list a b c (o .own2) (o .own3) ≡ anew t l input
-        unfolding rendered
         renews-then p = λ i. record { list = listed i; first = p .is-first i; second = p .is-second i; third = p .is-third i; own2 = o .own2; own3 = o .own3 }
 
         pub renews : Repainted g rs (lent [] (l .first) second third own2 own3) a b c → lent list a b c own2 own3 ≡ anew t l input

@@ -8,7 +8,8 @@ use Rattle.sail.specs.Lent.{Lent}
 use Rattle.sail.specs.Sizes.{Sized}
 use Rattle.sail.specs.declared.geometry.Geometry.{Geometry}
 use Rattle.sail.specs.declared.table.Table.{Table}
-use Rattle.sail_theory.specs.Render.{Fits2, Fits3}
+use Rattle.sail.specs.Level.{chunksOf, level1, level2}
+use Rattle.sail_theory.specs.Render.{Fits}
 use Rattle.sail_theory.specs.Calls.{settled, noOwners, inputRoutes, lentOf}
 use Rattle.sail_theory.specs.Facts.{Loadable}
 
@@ -21,8 +22,8 @@ pub record Readable (input : List ℕ) : Type 0 where
 pub record Bare (g : Geometry) (input : List ℕ) (l : Lent) : Type 0 where
   pub readable : Readable input
   pub sized : Sized g l
-  pub fits2 : Fits2 g (inputRoutes input) (l .own2)
-  pub fits3 : Fits3 g (inputRoutes input) (l .own2) (l .own3)
+  pub fits2 : Fits (inputRoutes input) (level1 g) (chunksOf (l .own2))
+  pub fits3 : Fits (inputRoutes input) (level2 g (chunksOf (l .own2))) (chunksOf (l .own3))
   pub zero2 : (q : ℕ) → getD (l .second) q 0 ≡ 0
   pub zero3 : (q : ℕ) → getD (l .third) q 0 ≡ 0
 

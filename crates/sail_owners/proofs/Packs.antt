@@ -14,10 +14,10 @@ use Rattle.bits.proofs.Slots.{slot-lt}
 use Rattle.bits.proofs.Tests.{below?, equal?}
 use Rattle.routes.specs.declared.Route.{Route}
 use Rattle.sail.specs.Geometry.{bits2, Power}
-use Rattle.sail.specs.Level.{entry}
+use Rattle.sail.specs.Level.{chunksOf, level1, level2}
 use Rattle.sail.specs.declared.geometry.Geometry.{Geometry}
 use Rattle.sail_theory.specs.Render.{find}
-use Rattle.sail_theory.specs.Calls.{grant, placeIn, openAt2, openAt3, open2}
+use Rattle.sail_theory.specs.Calls.{grant, openAt, opening}
 use Rattle.sail_theory.proofs.Chunks.{chunk-is, chunk-none}
 use Rattle.sail_owners.specs.Owners.{Packed, LastIs, Hangs, Hung, Chunk, Opens, Opened}
 use Rattle.sail_owners.specs.declared.owners.InUse.{InUse}
@@ -27,8 +27,8 @@ pub packed-find : (own : List ℕ) (m : ℕ) → Packed own m → find own 0 ≡
 packed-find own m p = go (below? m (length own))
   where
     go : (m < length own) ⊎ (length own ≤ m) → find own 0 ≡ m
-    go (inl l) = chunk-is (entry own) (length own) 0 m l (p .rest m (omega arith)) (λ j i e. absurd (omega (arith, p .front j i)))
-    go (inr l) = chunk-none (entry own) (length own) 0 (λ j i e. absurd (omega (arith, p .front j (omega arith)))) ∙ omega (arith, p .few)
+    go (inl l) = chunk-is (chunksOf own) 0 m l (p .rest m (omega arith)) (λ j i e. absurd (omega (arith, p .front j i)))
+    go (inr l) = chunk-none (chunksOf own) 0 (λ j i e. absurd (omega (arith, p .front j (omega arith)))) ∙ omega (arith, p .few)
 
 module _ (own : List ℕ) (m q : ℕ) (h : Hangs own m q) where
   more : q + 1 ≡ suc q
@@ -71,7 +71,7 @@ module _ (g : Geometry) (r : Route) (u : InUse) (own2 own3 : List ℕ) (o : Open
       (rw e (o .hangs2 h), omega (arith, slot-lt (g .p1) (r .addr) (omega arith) (o .fine .prefix .addr-ok)))
 
   pub opened-none : r .len ≤ g .p1 → Opened g r own2 own3 u own2 own3
-  unfolding openAt2 openAt3
+  unfolding openAt
   opened-none h =
       let v = o .valid in
       record {
@@ -81,24 +81,24 @@ module _ (g : Geometry) (r : Route) (u : InUse) (own2 own3 : List ℕ) (o : Open
         packed3 = o .packed3;
       }
 
-  module _ (h : g .p1 < r .len) (q2 : ℕ) (cell : q2 ≡ slot (g .p1) (r .addr)) (own2′ : List ℕ) (m2 : ℕ) (hung : Hung own2 (u .second) q2 own2′ m2) where
+  module _ (h : g .p1 < r .len) (q2 : ℕ) (cell : q2 ≡ slot (g .p1) (r .addr)) (own2′ : List ℕ) (m2 : ℕ) (now : Hung own2 (u .second) q2 own2′ m2) where
     hung2 : Hung own2 (u .second) (slot (g .p1) (r .addr)) own2′ m2
-    hung2 = rw cell at hung
+    hung2 = rw cell at now
 
     pub chunk-second : length own2′ ≡ length own2 → Chunk g m2
-    chunk-second e = record { valid = o .valid; one = omega (arith, hung .last); few = omega (arith, hung .packed .few, o .few2) }
+    chunk-second e = record { valid = o .valid; one = omega (arith, now .last); few = omega (arith, now .packed .few, o .few2) }
 
-    second : own2′ ≡ open2 g own2 r
-    unfolding openAt2
+    second : own2′ ≡ opening (level1 g) own2 r
+    unfolding openAt
     second = rw (lt-ltb (g .p1) (r .len) h, packed-find own2 (u .second) (o .packed2)) (hung2 .is)
 
     pub opened-second : r .len ≤ g .p2 → Opened g r own2 own3 (record { second = m2; third = u .third }) own2′ own3
-    unfolding openAt3
+    unfolding openAt
     opened-second k = record { is2 = second; is3 = rw (le-ltb (g .p2) (r .len) k); packed2 = hung2 .packed; packed3 = o .packed3 }
 
     -- where the third chunk hangs
     module _ (k : g .p2 < r .len) (q3 : ℕ) (at : q3 ≡ (m2 - 1) * 2 ^ bits2 g + slot (g .p2) (r .addr) % 2 ^ bits2 g) where
-      place-is : q3 ≡ placeIn g (open2 g own2 r) (r .addr)
+      place-is : q3 ≡ level2 g (chunksOf (opening (level1 g) own2 r)) .serving (r .addr)
       place-is =
           let e : find own2′ (suc (slot (g .p1) (r .addr))) ≡ m2 - 1 = omega (arith, hung2 .last) in
           rw (← second, e) at
@@ -107,7 +107,7 @@ module _ (g : Geometry) (r : Route) (u : InUse) (own2 own3 : List ℕ) (o : Open
       hangs-third = rw place-is (o .hangs3 k)
 
       pub opened-third : (own3′ : List ℕ) (m3 : ℕ) → Hung own3 (u .third) q3 own3′ m3 → Opened g r own2 own3 (record { second = m2; third = m3 }) own2′ own3′
-      unfolding openAt3
+      unfolding openAt
       opened-third own3′ m3 hung3 = record {
         is2 = second;
         is3 = rw (lt-ltb (g .p2) (r .len) k, packed-find own3 (u .third) (o .packed3)) (hung3 .is ∙ ap (grant own3 (u .third)) place-is);

@@ -18,11 +18,13 @@ use Rattle.sail.specs.Sizes.{Sized}
 use Rattle.sail.specs.declared.geometry.Geometry.{Geometry}
 use Rattle.sail.specs.declared.table.Table.{Table}
 use Rattle.sail_theory.specs.Render.{find}
-use Rattle.sail_theory.specs.Calls.{grant, placeIn, openAt2, openAt3, open2, open3, settled, noOwners, inputRoutes}
+use Rattle.sail_theory.specs.Calls.{grant, openAt, opening, settled, noOwners, inputRoutes}
+use Rattle.sail.specs.Level.{chunksOf, level1, level2}
 use Rattle.sail_theory.specs.Facts.{Loadable}
 use Rattle.sail_theory.proofs.Ends.{good-next}
 use Rattle.sail_theory.proofs.Fresh.{zeros}
-use Rattle.sail_theory.proofs.Passing.{Passing, passing, settled-snoc, step2-had, step2-new, step3-had, step3-new}
+use Rattle.sail_theory.proofs.Passing.{Passing, passing, settled-snoc, climbs1, climbs2}
+use Rattle.sail_theory.proofs.Ascends.{step-had, step-new}
 use Rattle.sail_owners.specs.Owners.{owners, Packed, Hangs, Opens, Opened, Ownable}
 use Rattle.sail_owners.specs.declared.owners.InUse.{InUse}
 use Rattle.sail_owners.proofs.Packs.{packed-find}
@@ -135,16 +137,16 @@ module _ (g : Geometry) (input start2 start3 : List ℕ) (w : Ownable g input st
       on = rw (drop-cons rs k noRoute inside, nth) at stands
 
       hangs2 : g .p1 < r .len → Hangs own2 (u .second) (slot (g .p1) (r .addr))
-      unfolding openAt2
+      unfolding openAt
       hangs2 h =
-          hangs own2 (open2 g own2 r) (u .second) (slot (g .p1) (r .addr)) (p .packed2) (rw (lt-ltb (g .p1) (r .len) h))
-          (step2-had t l xs r ys (owners own2 own3) on h) (step2-new t l xs r ys (owners own2 own3) on h)
+          hangs own2 (opening (level1 g) own2 r) (u .second) (slot (g .p1) (r .addr)) (p .packed2) (rw (lt-ltb (g .p1) (r .len) h))
+          (step-had xs r _ own2 (climbs1 t l xs r ys (owners own2 own3) on) h) (step-new xs r _ own2 (climbs1 t l xs r ys (owners own2 own3) on) h)
 
-      hangs3 : g .p2 < r .len → Hangs own3 (u .third) (placeIn g (open2 g own2 r) (r .addr))
-      unfolding openAt3
+      hangs3 : g .p2 < r .len → Hangs own3 (u .third) (level2 g (chunksOf (opening (level1 g) own2 r)) .serving (r .addr))
+      unfolding openAt
       hangs3 h =
-          hangs own3 (open3 g (open2 g own2 r) own3 r) (u .third) (placeIn g (open2 g own2 r) (r .addr)) (p .packed3) (rw (lt-ltb (g .p2) (r .len) h))
-          (step3-had t l xs r ys (owners own2 own3) on h) (step3-new t l xs r ys (owners own2 own3) on h)
+          hangs own3 (opening (level2 g (chunksOf (opening (level1 g) own2 r))) own3 r) (u .third) (level2 g (chunksOf (opening (level1 g) own2 r)) .serving (r .addr)) (p .packed3) (rw (lt-ltb (g .p2) (r .len) h))
+          (step-had xs r _ own3 (climbs2 t l xs r ys (owners own2 own3) on) h) (step-new xs r _ own3 (climbs2 t l xs r ys (owners own2 own3) on) h)
 
       pub passed-opens : Opens g r u own2 own3
       passed-opens = record {

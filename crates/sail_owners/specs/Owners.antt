@@ -11,7 +11,8 @@ use Rattle.routes.specs.declared.Route.{Route}
 use Rattle.sail.specs.Geometry.{Valid}
 use Rattle.sail.specs.declared.geometry.Geometry.{Geometry}
 use Rattle.sail_theory.specs.Render.{find}
-use Rattle.sail_theory.specs.Calls.{Owners, grant, placeIn, open2, open3, inputRoutes}
+use Rattle.sail_theory.specs.Calls.{Owners, grant, opening, inputRoutes}
+use Rattle.sail.specs.Level.{chunksOf, level1, level2}
 use Rattle.sail_owners.specs.declared.owners.InUse.{InUse}
 
 abbrev pub owners : List ℕ → List ℕ → Owners
@@ -28,7 +29,7 @@ pub record LastIs (own : List ℕ) (m o : ℕ) : Type 0 where
   pub some : 0 < m
   pub is : getD own (m - 1) 0 ≡ o
 
--- A chunk may be hung from the place q. The last chunk in use decides: it hangs there; or none does, and the next chunk is free.
+-- A chunk may be chunksOf from the place q. The last chunk in use decides: it hangs there; or none does, and the next chunk is free.
 pub record Hangs (own : List ℕ) (m q : ℕ) : Type 0 where
   pub packed : Packed own m
   pub had : LastIs own m (suc q) → (grant own m q ≡ own) × (suc (find own (suc q)) ≡ m)
@@ -54,12 +55,12 @@ pub record Opens (g : Geometry) (r : Route) (u : InUse) (own2 own3 : List ℕ) :
   pub packed2 : Packed own2 (u .second)
   pub packed3 : Packed own3 (u .third)
   pub hangs2 : g .p1 < r .len → Hangs own2 (u .second) (slot (g .p1) (r .addr))
-  pub hangs3 : g .p2 < r .len → Hangs own3 (u .third) (placeIn g (open2 g own2 r) (r .addr))
+  pub hangs3 : g .p2 < r .len → Hangs own3 (u .third) (level2 g (chunksOf (opening (level1 g) own2 r)) .serving (r .addr))
 
 -- its chunks are opened
 pub record Opened (g : Geometry) (r : Route) (own2 own3 : List ℕ) (u : InUse) (own2′ own3′ : List ℕ) : Type 0 where
-  pub is2 : own2′ ≡ open2 g own2 r
-  pub is3 : own3′ ≡ open3 g (open2 g own2 r) own3 r
+  pub is2 : own2′ ≡ opening (level1 g) own2 r
+  pub is3 : own3′ ≡ opening (level2 g (chunksOf (opening (level1 g) own2 r))) own3 r
   pub packed2 : Packed own2′ (u .second)
   pub packed3 : Packed own3′ (u .third)
 

@@ -72,13 +72,13 @@ module _ (rs : List Route) (a len l p d e : ℕ) (up : List ℕ) where
           ∙ over-more rs p (upTo c) (staleOf a len l d at c o) (upTo (c + 1)) (partOf (entry own) d at) (partOf (λ _. o) d at) cells₀ new old;
     }
       where
-        hung : (q : ℕ) → eqb (q / 2 ^ d) c ≡ true → o ≡ getD own (q / 2 ^ d) 0
-        hung q t = o-is .0 ∙ ap (entry own) (sym (eqb-true (q / 2 ^ d) c t))
+        chunksOf : (q : ℕ) → eqb (q / 2 ^ d) c ≡ true → o ≡ getD own (q / 2 ^ d) 0
+        chunksOf q t = o-is .0 ∙ ap (entry own) (sym (eqb-true (q / 2 ^ d) c t))
 
         new : (q : ℕ) → q < length cells₀ → staleOf a len l d at c o q ≡ true → (upTo (c + 1) q ≡ true) × (partOf (λ _. o) d at q ≡ partOf (entry own) d at q)
         new q k t =
             let s = and-split (eqb (q / 2 ^ d) c) _ t in
-            let f = hung q (s .0) in
+            let f = chunksOf q (s .0) in
             let z = eqb-true (q / 2 ^ d) c (s .0) in
             (both (lt-ltb (q / 2 ^ d) (c + 1) (omega arith)) (rw f at (s .1)), ap (λ (x : ℕ). at (x - 1) * 2 ^ d + q % 2 ^ d) f)
 
@@ -87,7 +87,7 @@ module _ (rs : List Route) (a len l p d e : ℕ) (up : List ℕ) where
           where
             go : (eqb (q / 2 ^ d) c ≡ true) ⊎ (eqb (q / 2 ^ d) c ≡ false) → upTo (c + 1) q ≡ upTo c q
             go (inl y) =
-                let z : staleIn a len l d at (entry own) q ≡ false = sym (ap (λ (x : ℕ). ltb 0 x && meets a len l (at (x - 1))) (hung q y)) ∙ rw y at t in
+                let z : staleIn a len l d at (entry own) q ≡ false = sym (ap (λ (x : ℕ). ltb 0 x && meets a len l (at (x - 1))) (chunksOf q y)) ∙ rw y at t in
                 rw z (and-false (ltb (q / 2 ^ d) (c + 1)) ∙ sym (and-false (ltb (q / 2 ^ d) c)))
             go (inr y) = ap (λ (b : Bool). b && staleIn a len l d at (entry own) q) (more (q / 2 ^ d) (eqb-false (q / 2 ^ d) c y))
               where

@@ -11,36 +11,35 @@ use lib.ListN.{length, getD, set}
 use borrow.Author.Tests.{lt-ltb, le-ltb, eqb-true, eqb-false}
 use Rattle.bits.proofs.Tests.{decided, below?, equal?}
 use Rattle.bits.proofs.Tabs.{length-tabulate, getD-tabulate, is-tabulate, tabulate-ext, set-tabulate}
-use Rattle.sail.specs.Level.{entry}
-use Rattle.sail_theory.specs.Render.{chunkFor}
+use Rattle.sail.specs.Level.{chunkFor, entry}
 use Rattle.sail_theory.proofs.Chunks.{chunk-at, chunk-before, chunk-is, chunk-none}
-use Rattle.sail_paint.specs.Paint.{stampedBy, Stamps}
+use Rattle.sail_paint.specs.Paint.{chunks, stampedBy, Stamps}
 
 -- what is stamped over x at place q, of the first m chunks
 abbrev pub stampAt : (ℕ → ℕ) → ℕ → ℕ → ℕ → ℕ
-stampAt own m q x = cond (ltb (chunkFor own m (suc q)) m) (suc (chunkFor own m (suc q))) x
+stampAt own m q x = cond (ltb (chunkFor (chunks m own) (suc q)) m) (suc (chunkFor (chunks m own) (suc q))) x
 
 module _ (own : ℕ → ℕ) (q x : ℕ) where
   -- chunk k hangs from another place
   stamp-other : (k : ℕ) → own k ≢ suc q → stampAt own (suc k) q x ≡ stampAt own k q x
-  stamp-other k n = go (below? (chunkFor own k (suc q)) k)
+  stamp-other k n = go (below? (chunkFor (chunks k own) (suc q)) k)
     where
-      go : (chunkFor own k (suc q) < k) ⊎ (k ≤ chunkFor own k (suc q)) → stampAt own (suc k) q x ≡ stampAt own k q x
+      go : (chunkFor (chunks k own) (suc q) < k) ⊎ (k ≤ chunkFor (chunks k own) (suc q)) → stampAt own (suc k) q x ≡ stampAt own k q x
       go (inl l) =
-          let e : chunkFor own (suc k) (suc q) ≡ chunkFor own k (suc q) = chunk-is own (suc k) (suc q) (chunkFor own k (suc q)) (omega arith) (chunk-at own k (suc q) l) (chunk-before own k (suc q)) in
-          rw (e, lt-ltb (chunkFor own k (suc q)) (suc k) (omega arith), lt-ltb (chunkFor own k (suc q)) k l)
+          let e : chunkFor (chunks (suc k) own) (suc q) ≡ chunkFor (chunks k own) (suc q) = chunk-is (chunks (suc k) own) (suc q) (chunkFor (chunks k own) (suc q)) (omega arith) (chunk-at (chunks k own) (suc q) l) (chunk-before (chunks k own) (suc q)) in
+          rw (e, lt-ltb (chunkFor (chunks k own) (suc q)) (suc k) (omega arith), lt-ltb (chunkFor (chunks k own) (suc q)) k l)
       go (inr l) =
-          let e : chunkFor own (suc k) (suc q) ≡ suc k = chunk-none own (suc k) (suc q) (λ j u. each j u (equal? j k)) in
-          rw (e, le-ltb (suc k) (suc k) (omega arith), le-ltb (chunkFor own k (suc q)) k l)
+          let e : chunkFor (chunks (suc k) own) (suc q) ≡ suc k = chunk-none (chunks (suc k) own) (suc q) (λ j u. each j u (equal? j k)) in
+          rw (e, le-ltb (suc k) (suc k) (omega arith), le-ltb (chunkFor (chunks k own) (suc q)) k l)
         where
           each : (j : ℕ) → j < suc k → (j ≡ k) ⊎ (j ≢ k) → own j ≢ suc q
           each j u (inl e) = rw e n
-          each j u (inr e) = chunk-before own k (suc q) j (omega arith)
+          each j u (inr e) = chunk-before (chunks k own) (suc q) j (omega arith)
 
   -- chunk k hangs from q, and none before it does
   stamp-same : (k : ℕ) → own k ≡ suc q → ((j : ℕ) → j < k → own j ≢ suc q) → stampAt own (suc k) q x ≡ suc k
   stamp-same k e n =
-      let z : chunkFor own (suc k) (suc q) ≡ k = chunk-is own (suc k) (suc q) k (omega arith) e n in
+      let z : chunkFor (chunks (suc k) own) (suc q) ≡ k = chunk-is (chunks (suc k) own) (suc q) k (omega arith) e n in
       rw (z, lt-ltb k (suc k) (omega arith))
 
 module _ (own : ℕ → ℕ) (cells : List ℕ) where
@@ -54,7 +53,7 @@ module _ (own : ℕ → ℕ) (cells : List ℕ) where
 
   pub stamp-none : cells ≡ stampedBy 0 own cells
   unfolding stampedBy
-  stamp-none = is-tabulate 0 cells (length cells) _ refl (λ q l. rw (le-ltb (chunkFor own 0 (suc q)) 0 (omega arith)))
+  stamp-none = is-tabulate 0 cells (length cells) _ refl (λ q l. rw (le-ltb (chunkFor (chunks 0 own) (suc q)) 0 (omega arith)))
 
 module _ (own cells : List ℕ) (s : Stamps own cells) (c o : ℕ) (l : c < length own) (is : (o ≡ getD own c 0) × (o < 4294967296)) where
   -- a chunk that is free

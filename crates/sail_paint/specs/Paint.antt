@@ -12,17 +12,20 @@ use Rattle.routes.specs.declared.Route.{Route}
 use Rattle.chain.specs.Cover.{Ready}
 use Rattle.plan.specs.Plan.{plan}
 use Rattle.plan.specs.Under.{Block}
-use Rattle.sail.specs.Level.{itself, liveIn, partOf, entry}
-use Rattle.sail_theory.specs.Render.{chunkFor, find}
+use Rattle.sail.specs.Level.{Chunks, chunkFor, itself, liveIn, partOf, entry}
+use Rattle.sail_theory.specs.Render.{find}
 use Rattle.sail_paint.specs.Stale.{meets}
 
 -- the cells of level p as planned wherever the test passes; the cell at place q stands for the cell `at q`
 unfoldable pub overpainted : List Route → ℕ → (ℕ → Bool) → (ℕ → ℕ) → List ℕ → List ℕ
 overpainted rs p stale at cells = tabulate (length cells) (λ q. cond (stale q) (plan rs p (at q)) (getD cells q 0))
 
+abbrev pub chunks : ℕ → (ℕ → ℕ) → Chunks
+chunks m own = record { many = m; own = own }
+
 -- the number of each of the first m chunks, from 1, at the place that it hangs from
 unfoldable pub stampedBy : ℕ → (ℕ → ℕ) → List ℕ → List ℕ
-stampedBy m own cells = tabulate (length cells) (λ q. cond (ltb (chunkFor own m (suc q)) m) (suc (chunkFor own m (suc q))) (getD cells q 0))
+stampedBy m own cells = tabulate (length cells) (λ q. cond (ltb (chunkFor (chunks m own) (suc q)) m) (suc (chunkFor (chunks m own) (suc q))) (getD cells q 0))
 
 abbrev pub stamped : List ℕ → List ℕ → List ℕ
 stamped own cells = stampedBy (length own) (entry own) cells

@@ -11,23 +11,19 @@ use Rattle.routes.specs.Route.{Prefix}
 use Rattle.routes.specs.declared.Route.{Route}
 use Rattle.chain.specs.Words.{routesIn}
 use Rattle.chain.specs.Cover.{Ready}
-use Rattle.sail.specs.Geometry.{bits2, bits3}
 use Rattle.sail.specs.Lent.{Lent}
 use Rattle.sail.specs.Sizes.{Sized}
-use Rattle.sail.specs.Level.{liveIn, entry}
+use Rattle.sail.specs.Level.{Level, Chunks, chunksOf, below, level1, level2}
 use Rattle.sail.specs.declared.geometry.Geometry.{Geometry}
-use Rattle.sail_theory.specs.Render.{rendered, Fits2, Fits3, at2}
+use Rattle.sail_theory.specs.Render.{rendered, Fits}
 
 -- cell i of level p lies under the prefix of len bits of a, or holds it
 unfoldable pub meets : ℕ → ℕ → ℕ → ℕ → Bool
 meets a len p i = cond (leb len p) (eqb (i / 2 ^ (p - len)) (slot len a)) (eqb (slot p a) i)
 
--- the second cell at place q is in use, and the first cell that its chunk hangs from meets the prefix; likewise the third
-abbrev pub stale2 : Geometry → ℕ → ℕ → List ℕ → ℕ → Bool
-stale2 g a len own2 q = liveIn (entry own2) (bits2 g) q && meets a len (g .p1) (getD own2 (q / 2 ^ bits2 g) 0 - 1)
-
-abbrev pub stale3 : Geometry → ℕ → ℕ → List ℕ → List ℕ → ℕ → Bool
-stale3 g a len own2 own3 q = liveIn (entry own3) (bits3 g) q && meets a len (g .p2) (at2 g own2 (getD own3 (q / 2 ^ bits3 g) 0 - 1))
+-- the cell at place q of the level of p bits below v is in use, and the cell that its chunk hangs from meets the prefix
+abbrev pub staleBelow : ℕ → ℕ → Level → Chunks → ℕ → ℕ → Bool
+staleBelow a len v k p q = below v k p .live q && meets a len (v .bits) (v .at (k .own (q / 2 ^ (p - v .bits)) - 1))
 
 -- what these routes and the owners lent ask for
 abbrev pub asked : Geometry → List Route → Lent → Lent
@@ -38,11 +34,11 @@ pub record Stale (g : Geometry) (ws par : List ℕ) (a len : ℕ) (l : Lent) : T
   pub ready : Ready ws par
   pub sized : Sized g l
   pub prefix : Prefix a len
-  pub fits2 : Fits2 g (routesIn ws) (l .own2)
-  pub fits3 : Fits3 g (routesIn ws) (l .own2) (l .own3)
+  pub fits2 : Fits (routesIn ws) (level1 g) (chunksOf (l .own2))
+  pub fits3 : Fits (routesIn ws) (level2 g (chunksOf (l .own2))) (chunksOf (l .own3))
   pub right1 : (q : ℕ) → q < length (l .first) → meets a len (g .p1) q ≡ false → getD (l .first) q 0 ≡ getD (asked g (routesIn ws) l .first) q 0
-  pub right2 : (q : ℕ) → q < length (l .second) → stale2 g a len (l .own2) q ≡ false → getD (l .second) q 0 ≡ getD (asked g (routesIn ws) l .second) q 0
-  pub right3 : (q : ℕ) → q < length (l .third) → stale3 g a len (l .own2) (l .own3) q ≡ false → getD (l .third) q 0 ≡ getD (asked g (routesIn ws) l .third) q 0
+  pub right2 : (q : ℕ) → q < length (l .second) → staleBelow a len (level1 g) (chunksOf (l .own2)) (g .p2) q ≡ false → getD (l .second) q 0 ≡ getD (asked g (routesIn ws) l .second) q 0
+  pub right3 : (q : ℕ) → q < length (l .third) → staleBelow a len (level2 g (chunksOf (l .own2))) (chunksOf (l .own3)) 32 q ≡ false → getD (l .third) q 0 ≡ getD (asked g (routesIn ws) l .third) q 0
 
 -- and what it leaves
 pub record Repainted (g : Geometry) (rs : List Route) (l : Lent) (first second third : List ℕ) : Type 0 where

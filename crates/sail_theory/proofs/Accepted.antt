@@ -17,7 +17,7 @@ use Rattle.standing.proofs.Standing.{insert-replaces}
 use Rattle.standing.proofs.Changed.{insert-adds, remove-takes}
 use Rattle.routes.proofs.Rows.{length-routes}
 use Rattle.sail.specs.Lent.{Lent}
-use Rattle.sail.specs.Level.{entry}
+use Rattle.sail.specs.Level.{chunksOf}
 use Rattle.sail.specs.Sound.{Sound, standing, used}
 use Rattle.sail.specs.declared.table.Table.{Table}
 use Rattle.sail.proofs.Sounds.{standing-good, chunks-need}
@@ -78,8 +78,8 @@ module _ (t : Table) (l : Lent) (a len hop : ℕ) where
         fine = p .fine;
         sound = s;
         roomy = omega (arith, insert-replaces r rs good e, within-room s);
-        enough2 = omega (arith, n .0, used-le (entry (l .own2)) (length (l .own2)), need-same r rs (p .fine) good (t .geometry .p1) (omega arith) (stands-long r rs (p .fine) good e (t .geometry .p1)));
-        enough3 = omega (arith, n .1, used-le (entry (l .own3)) (length (l .own3)), need-same r rs (p .fine) good (t .geometry .p2) (omega arith) (stands-long r rs (p .fine) good e (t .geometry .p2)));
+        enough2 = omega (arith, n .0, used-le (chunksOf (l .own2)), need-same r rs (p .fine) good (t .geometry .p1) (omega arith) (stands-long r rs (p .fine) good e (t .geometry .p1)));
+        enough3 = omega (arith, n .1, used-le (chunksOf (l .own3)), need-same r rs (p .fine) good (t .geometry .p2) (omega arith) (stands-long r rs (p .fine) good e (t .geometry .p2)));
       }
 
   -- accepted exactly where the route is welcome

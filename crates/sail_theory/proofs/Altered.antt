@@ -4,40 +4,37 @@ use mathlib.Core.Path.{_≡_, refl, sym, _∙_, ap, subst}
 use mathlib.Core.Logic.{_≢_}
 use mathlib.Core.Bool.{Bool, true, false, cond}
 use mathlib.Core.List.{List}
-use Prim.Native.Nat.{ℕ, zero, suc, _*_, _/_, _^_, _<_}
+use Prim.Native.Nat.{ℕ, zero, suc, _+_, _-_, _*_, _/_, _%_, _^_, _<_}
 use native.Mathlib.Omega.{arith}
-use native.Mathlib.Nat.{div-one}
 use lib.Dec.{ltb}
 use lib.ListN.{getD, length}
 use borrow.Author.Tests.{ltb-false}
-use Rattle.bits.specs.Slot.{slot}
 use Rattle.routes.specs.Said.{accepts}
-use Rattle.routes.specs.Route.{keyOf}
-use Rattle.standing.specs.Cells.{long}
+use Rattle.routes.specs.Route.{keyOf, Good}
 use Rattle.standing.specs.Standing.{insert, remove}
 use Rattle.routes.specs.declared.Route.{Route}
-use Rattle.standing.proofs.Standing.{insert-but, remove-but, remove-any}
-use Rattle.sail.specs.Geometry.{bits2}
+use Rattle.standing.proofs.Standing.{insert-good, insert-but, remove-good, remove-but}
+use Rattle.standing.proofs.Frame.{SameBut}
+use Rattle.sail.specs.Geometry.{bits2, bits3}
 use Rattle.sail.specs.Lent.{Lent}
-use Rattle.sail.specs.Level.{itself, inUse, liveIn, entry}
+use Rattle.sail.specs.Level.{Level, inUse, entry, chunksOf, noChunks, level1, level2, level3}
 use Rattle.sail.specs.Sound.{Sound, standing}
 use Rattle.sail.specs.declared.geometry.Geometry.{Geometry}
 use Rattle.sail.specs.declared.table.Table.{Table}
 use Rattle.sail.proofs.Sounds.{standing-good}
-use Rattle.sail_theory.specs.Render.{find, at2, rendered, Rendered, asAsked}
-use Rattle.sail_theory.specs.Calls.{grant, placeIn, openAt2, openAt3, open2, open3, opened, keep2, keep3, kept, ownersOf, route, Out, lentOf, announced, withdrawn}
+use Rattle.sail_theory.specs.Render.{find, Rendered}
+use Rattle.sail_theory.specs.Calls.{Owners, grant, openAt, opening, opened, kept, ownersOf, route, Out, lentOf, announced, withdrawn}
 use Rattle.sail_theory.specs.Facts.{Welcome, Farewell}
-use Rattle.sail_theory.specs.Alters.{Alters, NoneUnder, Frame}
+use Rattle.sail_theory.specs.Alters.{Alters, NoneUnder, Same, Frame}
 use Rattle.sail_theory.proofs.Chunks.{chunk-before}
-use Rattle.sail_theory.proofs.Places.{live-owner}
-use Rattle.sail_theory.proofs.Rendered.{sound-rendered}
-use Rattle.sail_theory.proofs.Stores.{length-keep, kept-was, kept-stays, grant-lowest}
-use Rattle.sail_theory.proofs.Needs.{long-grows}
-use Rattle.sail_theory.proofs.Grown.{length-open2, length-open3, open2-stays, open3-stays}
-use Rattle.sail_theory.proofs.Shrunk.{kept-over}
-use Rattle.sail_theory.proofs.Changes.{welcome-fits2, welcome-fits3, farewell-fits2, farewell-fits3}
+use Rattle.sail_theory.proofs.Places.{chunk-lt, live-owner}
+use Rattle.sail_theory.proofs.Rendered.{sound-rendered, listed-good, last-fits}
+use Rattle.sail_theory.proofs.Owners.{kept-over}
+use Rattle.sail_theory.proofs.Stores.{length-keep, kept-was, kept-stays, keep-closed, grant-lowest}
+use Rattle.sail_theory.proofs.Grown.{length-open, open-stays}
+use Rattle.sail_theory.proofs.Changes.{welcome-fits2, welcome-fits3, farewell-fits2, farewell-fits3, less}
 use Rattle.sail_theory.proofs.Accepted.{announce-said, accepted-welcome, announce-is, withdraw-said, accepted-farewell, withdraw-is}
-use Rattle.sail_theory.proofs.Frames.{Moved, frame, still1, still2}
+use Rattle.sail_theory.proofs.Frames.{Moved, framed, top-bounded, below-bounded, below-same}
 use Rattle.sail_theory.proofs.Read.{reads-second, reads-third}
 
 -- an owner that is kept is the same
@@ -45,25 +42,61 @@ same-owner : (a b : ℕ) → ((x : ℕ) → a ≡ suc x → b ≡ suc x) → ltb
 same-owner zero b h e = omega (arith, ltb-false 0 b e)
 same-owner (suc a) b h e = h a refl
 
+-- owners that are in use before and after are the same; and a second chunk above a third chunk that stays has its owner still
+pub record Kept (g : Geometry) (l u : Lent) : Type 0 where
+  pub same2 : (c : ℕ) → inUse (entry (u .own2)) c ≡ inUse (entry (l .own2)) c → getD (u .own2) c 0 ≡ getD (l .own2) c 0
+  pub same3 : (c : ℕ) → inUse (entry (u .own3)) c ≡ inUse (entry (l .own3)) c → getD (u .own3) c 0 ≡ getD (l .own3) c 0
+  pub over : (c q : ℕ) → c < length (l .own3) → getD (l .own3) c 0 ≡ suc q → getD (u .own3) c 0 ≡ suc q → getD (u .own2) (q / 2 ^ bits2 g) 0 ≡ getD (l .own2) (q / 2 ^ bits2 g) 0
+
+-- so a place stands where it stood where its chunk keeps its owner
+module _ (g : Geometry) (l u : Lent) (o : Kept g l u) where
+  pub kept-same2 : (q : ℕ) → getD (u .own2) (q / 2 ^ bits2 g) 0 ≡ getD (l .own2) (q / 2 ^ bits2 g) 0 → Same (level2 g (chunksOf (l .own2))) (level2 g (chunksOf (u .own2))) q
+  kept-same2 q e = below-same (level1 g) (level1 g) (chunksOf (l .own2)) (chunksOf (u .own2)) (g .p2) q refl e (λ z _. refl)
+
+  pub kept-same3 : (q : ℕ) → q < length (l .own3) * 2 ^ bits3 g → getD (u .own3) (q / 2 ^ bits3 g) 0 ≡ getD (l .own3) (q / 2 ^ bits3 g) 0
+      → Same (level3 g (chunksOf (l .own2)) (chunksOf (l .own3))) (level3 g (chunksOf (u .own2)) (chunksOf (u .own3))) q
+  kept-same3 q h e = below-same (level2 g (chunksOf (l .own2))) (level2 g (chunksOf (u .own2))) (chunksOf (l .own3)) (chunksOf (u .own3)) 32 q refl e
+      (λ z y. ap (λ (x : ℕ). (x - 1) * 2 ^ bits2 g + z % 2 ^ bits2 g) (o .over _ z (chunk-lt (bits3 g) (length (l .own3)) q h) y (e ∙ y)))
+
 -- from the frame by cells to the paper's words
-frame-alters : (t : Table) (l : Lent) → Sound t l → (a len : ℕ) (u : Lent) → Frame (t .geometry) a len l u
-    → ((c : ℕ) → inUse (entry (u .own2)) c ≡ inUse (entry (l .own2)) c → getD (u .own2) c 0 ≡ getD (l .own2) c 0)
-    → ((c : ℕ) → inUse (entry (u .own3)) c ≡ inUse (entry (l .own3)) c → getD (u .own3) c 0 ≡ getD (l .own3) c 0) → Alters (t .geometry) a len l u
+frame-alters : (t : Table) (l : Lent) → Sound t l → (a len : ℕ) (u : Lent) → Frame (t .geometry) a len l u → Kept (t .geometry) l u → Alters (t .geometry) a len l u
 unfolding NoneUnder
-frame-alters t l s a len u f o2 o3 = record {
-  first = λ q h n. f .first q h (λ x b c d. n x b d c);
-  second = λ q h n o. f .second q h (o2 _ o) (λ e x b c d. n x b d (reads-second t l s x b q (rw (s .sized .cells2) at h) e (sym c)));
-  third = λ q h n o. f .third q h (o3 _ o) (λ e x b c d. n x b d (reads-third t l s x b q (rw (s .sized .cells3) at h) e (sym (sym (div-one x) ∙ c))));
+frame-alters t l s a len u f o = record {
+  first = λ q h n. f .first .stays q (rw (s .sized .cells1) at h) (record { live = refl; at = λ _. refl }) (λ _ x b c d. n x b d c);
+  second = λ q h n e. let i = rw (s .sized .cells2) at h in f .second .stays q i (kept-same2 (t .geometry) l u o q (o .same2 _ e)) (λ y x b c d. n x b d (reads-second t l s x b q i y (sym c)));
+  third = λ q h n e. let i = rw (s .sized .cells3) at h in f .third .stays q i (kept-same3 (t .geometry) l u o q i (o .same3 _ e)) (λ y x b c d. n x b d (reads-third t l s x b q i y (sym c)));
 }
 
--- a sound table's cells are those that are rendered
-frame-from : (t : Table) (l : Lent) → Rendered t l → (a len : ℕ) (u : Lent) → Frame (t .geometry) a len (asAsked t l) u → Frame (t .geometry) a len l u
-unfolding rendered
-frame-from t l w a len u f = record {
-  first = λ q h n. f .first q (rw (w .is-first) at h) n ∙ sym (ap (λ (x : List ℕ). getD x q 0) (w .is-first));
-  second = λ q h o n. f .second q (rw (w .is-second) at h) o n ∙ sym (ap (λ (x : List ℕ). getD x q 0) (w .is-second));
-  third = λ q h o n. f .third q (rw (w .is-third) at h) o n ∙ sym (ap (λ (x : List ℕ). getD x q 0) (w .is-third));
-}
+-- Two lists of good routes that differ at one prefix, and the chunks of the two levels: the frame of the table.
+module _ (t : Table) (l : Lent) (w : Rendered t l) (a len : ℕ) (small : a < 2 ^ 32) (rs′ : List Route) (good′ : Good rs′) (but : SameBut a len (standing t l) rs′) (o : Owners)
+    (m1 : Moved (standing t l) rs′ (level1 (t .geometry)) (level1 (t .geometry)) (chunksOf (l .own2)) (chunksOf (o .own2)))
+    (m2 : Moved (standing t l) rs′ (level2 (t .geometry) (chunksOf (l .own2))) (level2 (t .geometry) (chunksOf (o .own2))) (chunksOf (l .own3)) (chunksOf (o .own3))) where
+  abbrev v3 : Level
+  v3 = level3 (t .geometry) (chunksOf (l .own2)) (chunksOf (l .own3))
+
+  abbrev v3′ : Level
+  v3′ = level3 (t .geometry) (chunksOf (o .own2)) (chunksOf (o .own3))
+
+  m3 : Moved (standing t l) rs′ v3 v3′ noChunks noChunks
+  m3 =
+      let v = w .sized .valid in
+      record {
+        few = omega arith;
+        bounded = below-bounded (standing t l) (level2 (t .geometry) (chunksOf (l .own2))) (chunksOf (l .own3)) 32 (omega arith) (w .fits3) (m2 .bounded);
+        bits = refl;
+        places = ap (λ (n : ℕ). n * 2 ^ bits3 (t .geometry)) (m2 .many);
+        was = last-fits (standing t l) (listed-good t l (w .listed)) (level2 (t .geometry) (chunksOf (l .own2))) (chunksOf (l .own3));
+        now = last-fits rs′ good′ (level2 (t .geometry) (chunksOf (o .own2))) (chunksOf (o .own3));
+        many = refl;
+        stay = λ c q e d. e;
+      }
+
+  table-frame : Frame (t .geometry) a len l (lentOf t l rs′ o)
+  table-frame = record {
+    first = rw (w .is-first) (framed _ _ _ _ _ _ m1 a len small but);
+    second = rw (w .is-second) (framed _ _ _ _ _ _ m2 a len small but);
+    third = rw (w .is-third) (framed _ _ _ _ _ _ m3 a len small but);
+  }
 
 -- announce
 module _ (t : Table) (l : Lent) (r : Route) (w : Welcome t l r) where
@@ -73,53 +106,57 @@ module _ (t : Table) (l : Lent) (r : Route) (w : Welcome t l r) where
   abbrev rs : List Route
   rs = standing t l
 
-  abbrev own2′ : List ℕ
-  own2′ = open2 g (l .own2) r
+  abbrev o : Owners
+  o = opened g (ownersOf l) r
 
   abbrev now : Lent
-  now = lentOf t l (insert r rs) (opened g (ownersOf l) r)
+  now = lentOf t l (insert r rs) o
 
   is : Rendered t l
   is = sound-rendered t l (w .sound)
 
-  -- a second chunk in use has its owner still
-  over : (q : ℕ) → liveIn (entry (l .own2)) (bits2 g) q ≡ true → getD own2′ (q / 2 ^ bits2 g) 0 ≡ getD (l .own2) (q / 2 ^ bits2 g) 0
-  over q e = let o = live-owner (entry (l .own2)) (bits2 g) q e in open2-stays g (l .own2) r _ _ o ∙ sym o
+  -- a chunk in use has its owner still
+  pub announce-moved1 : Moved rs (insert r rs) (level1 g) (level1 g) (chunksOf (l .own2)) (chunksOf (o .own2))
+  announce-moved1 =
+      let v = w .sound .sized .valid in
+      record {
+        few = omega arith;
+        bounded = top-bounded (g .p1);
+        bits = refl;
+        places = refl;
+        was = is .fits2;
+        now = welcome-fits2 t l r w;
+        many = length-open (level1 g) (l .own2) _ r;
+        stay = λ c q e _. open-stays (level1 g) (l .own2) r c q e;
+      }
 
-  announce-moved : Moved g (r .addr) (r .len) rs (insert r rs) (l .own2) own2′ (l .own3) (open3 g own2′ (l .own3) r)
-  announce-moved = record {
-    valid = w .sound .sized .valid;
-    small = w .fine .prefix .addr-ok;
-    but = insert-but r rs (w .fine) (standing-good t l (w .sound));
-    was2 = is .fits2;
-    was3 = is .fits3;
-    now2 = welcome-fits2 t l r w;
-    now3 = welcome-fits3 t l r w;
-    len2 = length-open2 g (l .own2) _ r;
-    len3 = length-open3 g own2′ (l .own3) _ r;
-    stay2 = λ c q e _. open2-stays g (l .own2) r c q e;
-    stay3 = λ c q e _. open3-stays g own2′ (l .own3) r c q e;
-    both3 = λ c q e _ h. over q (is .fits3 .lies c q h e .1);
-  }
-
-  grows : (p i : ℕ) → long rs p i ≡ true → long (insert r rs) p i ≡ true
-  grows = long-grows r rs (w .fine) (standing-good t l (w .sound))
+  pub announce-moved2 : Moved rs (insert r rs) (level2 g (chunksOf (l .own2))) (level2 g (chunksOf (o .own2))) (chunksOf (l .own3)) (chunksOf (o .own3))
+  announce-moved2 =
+      let v = w .sound .sized .valid in
+      record {
+        few = omega arith;
+        bounded = below-bounded rs (level1 g) (chunksOf (l .own2)) (g .p2) (omega arith) (is .fits2) (top-bounded (g .p1));
+        bits = refl;
+        places = ap (λ (n : ℕ). n * 2 ^ bits2 g) (announce-moved1 .many);
+        was = is .fits3;
+        now = welcome-fits3 t l r w;
+        many = length-open (level2 g (chunksOf (o .own2))) (l .own3) _ r;
+        stay = λ c q e _. open-stays (level2 g (chunksOf (o .own2))) (l .own3) r c q e;
+      }
 
   pub announce-frame : Frame g (r .addr) (r .len) l now
-  announce-frame = frame-from t l is (r .addr) (r .len) now (frame g (r .addr) (r .len) _ rs (insert r rs) (l .own2) own2′ (l .own3) _ announce-moved)
+  announce-frame = table-frame t l is (r .addr) (r .len) (w .fine .prefix .addr-ok) (insert r rs) (insert-good r rs (w .fine) (standing-good t l (w .sound))) (insert-but r rs (w .fine) (standing-good t l (w .sound))) o
+      announce-moved1 announce-moved2
 
-  -- cells that named a chunk still do, and name the same one
-  pub announce-still1 : (q : ℕ) → q < 2 ^ g .p1 → long rs (g .p1) q ≡ true → getD (now .first) q 0 ≡ getD (l .first) q 0
-  announce-still1 q h d = still1 g (r .addr) (r .len) _ rs (insert r rs) (l .own2) own2′ (l .own3) _ announce-moved q h d (grows (g .p1) q d) ∙ sym (ap (λ (x : List ℕ). getD x q 0) (is .is-first))
-
-  pub announce-still2 : (q : ℕ) → q < length (l .own2) * 2 ^ bits2 g → liveIn (entry (l .own2)) (bits2 g) q ≡ true → long rs (g .p2) (at2 g (l .own2) q) ≡ true → getD (now .second) q 0 ≡ getD (l .second) q 0
-  announce-still2 q h e d =
-      still2 g (r .addr) (r .len) _ rs (insert r rs) (l .own2) own2′ (l .own3) _ announce-moved q h e (over q e) d (grows (g .p2) _ d) ∙ sym (ap (λ (x : List ℕ). getD x q 0) (is .is-second))
+  pub announce-kept : Kept g l now
+  announce-kept = record {
+    same2 = λ c e. same-owner _ _ (λ x. open-stays (level1 g) (l .own2) r c x) e;
+    same3 = λ c e. same-owner _ _ (λ x. open-stays (level2 g (chunksOf (o .own2))) (l .own3) r c x) e;
+    over = λ c q h e _. let y = live-owner (level1 g) (chunksOf (l .own2)) (g .p2) q (is .fits3 .lies c q h e .1) in open-stays (level1 g) (l .own2) r _ _ y ∙ sym y;
+  }
 
   welcome-alters : Alters g (r .addr) (r .len) l now
-  unfolding rendered
-  welcome-alters = frame-alters t l (w .sound) (r .addr) (r .len) now announce-frame
-      (λ c e. same-owner _ _ (λ x. open2-stays g (l .own2) r c x) e) (λ c e. same-owner _ _ (λ x. open3-stays g own2′ (l .own3) r c x) e)
+  welcome-alters = frame-alters t l (w .sound) (r .addr) (r .len) now announce-frame announce-kept
 
 pub announce-alters : (t : Table) (l : Lent) (a len hop : ℕ) → accepts (announced t l a len hop .said) ≡ true → Alters (t .geometry) a len l (announced t l a len hop .lent)
 announce-alters t l a len hop e =
@@ -131,53 +168,59 @@ module _ (t : Table) (l : Lent) (a len : ℕ) (w : Farewell t l a len) where
   abbrev left : List Route
   left = remove (keyOf a len) (standing t l)
 
+  abbrev then : Owners
+  then = kept (t .geometry) left (ownersOf l)
+
   abbrev gone : Lent
-  gone = lentOf t l left (kept (t .geometry) left (ownersOf l))
+  gone = lentOf t l left then
 
   was : Rendered t l
   was = sound-rendered t l (w .sound)
 
-  less : (p i : ℕ) → long left p i ≡ true → long (standing t l) p i ≡ true
-  less p i = remove-any _ (keyOf a len) (standing t l)
+  pub withdraw-moved1 : Moved (standing t l) left (level1 (t .geometry)) (level1 (t .geometry)) (chunksOf (l .own2)) (chunksOf (then .own2))
+  withdraw-moved1 =
+      let v = w .sound .sized .valid in
+      record {
+        few = omega arith;
+        bounded = top-bounded (t .geometry .p1);
+        bits = refl;
+        places = refl;
+        was = was .fits2;
+        now = farewell-fits2 t l a len w;
+        many = length-keep _ _ (l .own2);
+        stay = kept-stays left (level1 (t .geometry)) (l .own2);
+      }
 
-  -- a second chunk above a cell that is long still has its owner still
-  above : (q : ℕ) → liveIn (entry (l .own2)) (bits2 (t .geometry)) q ≡ true → long left (t .geometry .p2) (at2 (t .geometry) (l .own2) q) ≡ true
-      → getD (keep2 (t .geometry) left (l .own2)) (q / 2 ^ bits2 (t .geometry)) 0 ≡ getD (l .own2) (q / 2 ^ bits2 (t .geometry)) 0
-  above = kept-over (t .geometry) (w .sound .sized .valid) (standing t l) left less (l .own2) (l .own3) (was .fits2) (was .fits3)
-
-  withdraw-moved : Moved (t .geometry) a len (standing t l) left (l .own2) (keep2 (t .geometry) left (l .own2)) (l .own3) (keep3 (t .geometry) left (l .own2) (l .own3))
-  withdraw-moved = record {
-    valid = w .sound .sized .valid;
-    small = w .prefix .addr-ok;
-    but = remove-but a len (standing t l) (w .prefix .len-ok) (standing-good t l (w .sound));
-    was2 = was .fits2;
-    was3 = was .fits3;
-    now2 = farewell-fits2 t l a len w;
-    now3 = farewell-fits3 t l a len w;
-    len2 = length-keep _ _ (l .own2);
-    len3 = length-keep _ _ (l .own3);
-    stay2 = kept-stays (long left (t .geometry .p1)) itself (l .own2);
-    stay3 = kept-stays (long left (t .geometry .p2)) (at2 (t .geometry) (l .own2)) (l .own3);
-    both3 = λ c q e z h. above q (was .fits3 .lies c q h e .1) (kept-was (long left (t .geometry .p2)) (at2 (t .geometry) (l .own2)) (l .own3) c q z .1);
-  }
+  pub withdraw-moved2 : Moved (standing t l) left (level2 (t .geometry) (chunksOf (l .own2))) (level2 (t .geometry) (chunksOf (then .own2))) (chunksOf (l .own3)) (chunksOf (then .own3))
+  withdraw-moved2 =
+      let v = w .sound .sized .valid in
+      record {
+        few = omega arith;
+        bounded = below-bounded (standing t l) (level1 (t .geometry)) (chunksOf (l .own2)) (t .geometry .p2) (omega arith) (was .fits2) (top-bounded (t .geometry .p1));
+        bits = refl;
+        places = ap (λ (n : ℕ). n * 2 ^ bits2 (t .geometry)) (withdraw-moved1 .many);
+        was = was .fits3;
+        now = farewell-fits3 t l a len w;
+        many = length-keep _ _ (l .own3);
+        stay = kept-stays left (level2 (t .geometry) (chunksOf (l .own2))) (l .own3);
+      }
 
   pub withdraw-frame : Frame (t .geometry) a len l gone
-  withdraw-frame = frame-from t l was a len gone (frame (t .geometry) a len _ (standing t l) left (l .own2) _ (l .own3) _ withdraw-moved)
+  withdraw-frame = table-frame t l was a len (w .prefix .addr-ok) left (remove-good (keyOf a len) (standing t l) (standing-good t l (w .sound))) (remove-but a len (standing t l) (w .prefix .len-ok) (standing-good t l (w .sound))) then
+      withdraw-moved1 withdraw-moved2
 
-  -- cells that name a chunk still named the same one
-  pub withdraw-still1 : (q : ℕ) → q < 2 ^ t .geometry .p1 → long left (t .geometry .p1) q ≡ true → getD (gone .first) q 0 ≡ getD (l .first) q 0
-  withdraw-still1 q h d = still1 (t .geometry) a len _ (standing t l) left (l .own2) _ (l .own3) _ withdraw-moved q h (less _ _ d) d ∙ sym (ap (λ (x : List ℕ). getD x q 0) (was .is-first))
-
-  pub withdraw-still2 : (q : ℕ) → q < length (l .own2) * 2 ^ bits2 (t .geometry) → liveIn (entry (l .own2)) (bits2 (t .geometry)) q ≡ true → long left (t .geometry .p2) (at2 (t .geometry) (l .own2) q) ≡ true
-      → getD (gone .second) q 0 ≡ getD (l .second) q 0
-  withdraw-still2 q h e d =
-      still2 (t .geometry) a len _ (standing t l) left (l .own2) _ (l .own3) _ withdraw-moved q h e (above q e d) (less _ _ d) d ∙ sym (ap (λ (x : List ℕ). getD x q 0) (was .is-second))
+  pub withdraw-kept : Kept (t .geometry) l gone
+  withdraw-kept =
+      let v = w .sound .sized .valid in
+      record {
+        same2 = λ c e. sym (same-owner _ _ (λ x z. kept-was left (level1 (t .geometry)) (l .own2) c x z .0) (sym e));
+        same3 = λ c e. sym (same-owner _ _ (λ x z. kept-was left (level2 (t .geometry) (chunksOf (l .own2))) (l .own3) c x z .0) (sym e));
+        over = λ c q h e z. kept-over (standing t l) left (less t l a len w) (level1 (t .geometry)) (chunksOf (l .own2)) (chunksOf (then .own2)) (t .geometry .p2) (omega arith) (omega arith)
+            (keep-closed left (level1 (t .geometry)) (l .own2)) q (was .fits3 .lies c q h e .1) (kept-was left (level2 (t .geometry) (chunksOf (l .own2))) (l .own3) c q z .1);
+      }
 
   farewell-alters : Alters (t .geometry) a len l gone
-  unfolding rendered
-  farewell-alters = frame-alters t l (w .sound) a len gone withdraw-frame
-      (λ c e. sym (same-owner _ _ (λ x z. kept-was (long left (t .geometry .p1)) itself (l .own2) c x z .0) (sym e)))
-      (λ c e. sym (same-owner _ _ (λ x z. kept-was (long left (t .geometry .p2)) (at2 (t .geometry) (l .own2)) (l .own3) c x z .0) (sym e)))
+  farewell-alters = frame-alters t l (w .sound) a len gone withdraw-frame withdraw-kept
 
 pub withdraw-alters : (t : Table) (l : Lent) (a len : ℕ) → accepts (withdrawn t l a len .said) ≡ true → Alters (t .geometry) a len l (withdrawn t l a len .lent)
 withdraw-alters t l a len e =
@@ -185,20 +228,20 @@ withdraw-alters t l a len e =
     subst (λ (o : Out). Alters (t .geometry) a len l (o .lent)) (sym (withdraw-is t l a len w)) (farewell-alters t l a len w)
 
 -- "A newly opened chunk takes the lowest free number": c was free and is in use, so no chunk before it was free
-lowest : (b : Bool) (own : List ℕ) (q c x : ℕ) → getD own c 0 ≡ 0 → getD (cond b (grant own (find own 0) q) own) c 0 ≡ suc x → (j : ℕ) → j < c → getD own j 0 ≢ 0
-lowest true own q c x was now j h = let z = grant-lowest own q c x was now in chunk-before (entry own) (length own) 0 j (omega arith)
-lowest false own q c x was now j h = absurd (omega arith)
+pub opened-lowest : (v : Level) (own : List ℕ) (r : Route) (c x : ℕ) → getD own c 0 ≡ 0 → getD (opening v own r) c 0 ≡ suc x → (j : ℕ) → j < c → getD own j 0 ≢ 0
+unfolding openAt
+opened-lowest v own r c x was now j h = go (ltb (v .bits) (r .len)) now
+  where
+    go : (b : Bool) → getD (cond b (grant own (find own 0) (v .serving (r .addr))) own) c 0 ≡ suc x → getD own j 0 ≢ 0
+    go true z = let y = grant-lowest own _ c x was z in chunk-before (chunksOf own) 0 j (omega arith)
+    go false z = absurd (omega arith)
 
 module _ (t : Table) (l : Lent) (a len hop : ℕ) (e : accepts (announced t l a len hop .said) ≡ true) where
   after-is : announced t l a len hop .lent ≡ lentOf t l (insert (route a len hop) (standing t l)) (opened (t .geometry) (ownersOf l) (route a len hop))
   after-is = ap (λ (o : Out). o .lent) (announce-is t l a len hop (accepted-welcome t l a len hop (sym (ap accepts (announce-said t l a len hop)) ∙ e)))
 
   pub opened-lowest2 : (c x : ℕ) → getD (l .own2) c 0 ≡ 0 → getD (announced t l a len hop .lent .own2) c 0 ≡ suc x → (j : ℕ) → j < c → getD (l .own2) j 0 ≢ 0
-  unfolding rendered openAt2
-  opened-lowest2 c x was now j h =
-      lowest (ltb (t .geometry .p1) len) (l .own2) (slot (t .geometry .p1) a) c x was (sym (ap {B = ℕ} (λ (u : Lent). getD (u .own2) c 0) after-is) ∙ now) j h
+  opened-lowest2 c x was now = opened-lowest (level1 (t .geometry)) (l .own2) (route a len hop) c x was (sym (ap {B = ℕ} (λ (u : Lent). getD (u .own2) c 0) after-is) ∙ now)
 
   pub opened-lowest3 : (c x : ℕ) → getD (l .own3) c 0 ≡ 0 → getD (announced t l a len hop .lent .own3) c 0 ≡ suc x → (j : ℕ) → j < c → getD (l .own3) j 0 ≢ 0
-  unfolding rendered openAt3
-  opened-lowest3 c x was now j h =
-      lowest (ltb (t .geometry .p2) len) (l .own3) (placeIn (t .geometry) (open2 (t .geometry) (l .own2) (route a len hop)) a) c x was (sym (ap {B = ℕ} (λ (u : Lent). getD (u .own3) c 0) after-is) ∙ now) j h
+  opened-lowest3 c x was now = opened-lowest (level2 (t .geometry) (chunksOf (opened (t .geometry) (ownersOf l) (route a len hop) .own2))) (l .own3) (route a len hop) c x was (sym (ap {B = ℕ} (λ (u : Lent). getD (u .own3) c 0) after-is) ∙ now)

@@ -13,7 +13,7 @@ use Rattle.routes.specs.Record.{written}
 use Rattle.routes.specs.declared.Route.{Route}
 use Rattle.routes.proofs.Rows.{length-routes, length-written, routes-written, written-listed}
 use Rattle.sail.specs.Lent.{Lent}
-use Rattle.sail.specs.Level.{entry}
+use Rattle.sail.specs.Level.{chunksOf}
 use Rattle.sail.specs.Sizes.{Sized}
 use Rattle.sail.specs.Sound.{Sound, standing, used, cellsRead}
 use Rattle.sail.specs.Walk.{hopSaid, lookupSaid}
@@ -74,8 +74,8 @@ module _ (t : Table) (l : Lent) (s : Sound t l) (u : Table) (v : Lent) (geo : u 
         sized = sized;
         good = rw routes-are (standing-good t l s);
         roomy = rw (routes-are, size .list) (omega (arith, length-routes (l .list) (t .count), s .listed .records .room));
-        enough2 = rw (routes-are, geo) (omega (arith, n .0, used-le (entry (l .own2)) (length (l .own2)), size .chunks2));
-        enough3 = rw (routes-are, geo) (omega (arith, n .1, used-le (entry (l .own3)) (length (l .own3)), size .chunks3));
+        enough2 = rw (routes-are, geo) (omega (arith, n .0, used-le (chunksOf (l .own2)), size .chunks2));
+        enough3 = rw (routes-are, geo) (omega (arith, n .1, used-le (chunksOf (l .own3)), size .chunks3));
       }
 
   pub fresh-accepted : accepts (loaded u v input .said) ≡ true

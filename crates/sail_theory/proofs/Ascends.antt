@@ -1,6 +1,6 @@
 -- After a load the chunk numbers ascend: chunks in use come first, and their owners rise. So a load in one pass looks at the last chunk in
 -- use alone. Assumes nothing.
-use mathlib.Core.Path.{_≡_, ap, subst}
+use mathlib.Core.Path.{_≡_, ap}
 use mathlib.Core.Logic.{_⊎_, inl, inr, _≢_}
 use mathlib.Core.Bool.{true, false, cond}
 use mathlib.Core.List.{List, [], _∷_, _++_, List·Memᴰ, List·Memᴰ·append-cases, List·Memᴰ·eq-of-singleton}
@@ -12,29 +12,24 @@ use lib.Dec.{eqb, ltb}
 use lib.ListN.{getD, length, set, replicate, List·getD-eq-default}
 use lib.Pow.{pow-pos, shr-mono}
 use lib.Seq.{getD-set-other, getD-set-same, set-out}
-use borrow.Author.Tests.{ltb-true, eqb-true, lt-ltb}
+use borrow.Author.Tests.{eqb-true, lt-ltb}
 use Rattle.bits.specs.Slot.{slot}
 use Rattle.bits.proofs.Tests.{decided, and-split, equal?, below?}
-use Rattle.routes.specs.Route.{key, Fine}
+use Rattle.routes.specs.Route.{key}
 use Rattle.standing.specs.Cells.{within, long}
+use Rattle.standing.specs.Standing.{insert}
 use Rattle.routes.specs.declared.Route.{Route}
 use Rattle.routes.proofs.Goods.{good-fine}
-use Rattle.sail.specs.Geometry.{bits2}
-use Rattle.sail.specs.Lent.{Lent}
-use Rattle.sail.specs.Level.{itself, liveIn, partOf, entry}
-use Rattle.sail.specs.declared.geometry.Geometry.{Geometry}
-use Rattle.sail.specs.declared.table.Table.{Table}
-use Rattle.sail_theory.specs.Render.{find, at2}
-use Rattle.sail_theory.specs.Calls.{Owners, grant, placeIn, openAt2, openAt3, open2, open3, opened}
+use Rattle.sail.specs.Level.{Level, chunksOf, entry, top, below}
+use Rattle.sail_theory.specs.Render.{find, Fits}
+use Rattle.sail_theory.specs.Calls.{grant, openAt, opening}
 use Rattle.sail_theory.proofs.Chunks.{chunk-at, chunk-before, chunk-has, free-zero}
-use Rattle.sail_theory.proofs.Ends.{good-front, good-next, good-below, insert-end, any-some}
-use Rattle.sail_theory.proofs.Mids.{slot-mid}
-use Rattle.sail_theory.proofs.Places.{part-up}
+use Rattle.sail_theory.proofs.Ends.{insert-end, any-some}
+use Rattle.sail_theory.proofs.Places.{chunk-lt, live-owner, part-up}
+use Rattle.sail_theory.proofs.Owners.{chunk-found}
 use Rattle.sail_theory.proofs.Stores.{grant-had, grant-new, had?}
-use Rattle.sail_theory.proofs.Needs.{long-own}
-use Rattle.sail_theory.proofs.Grown.{chunk2-owner, open2-stays, open3-stays}
+use Rattle.sail_theory.proofs.Grown.{Ready, open-stays, open-fits, open-new, not-long}
 use Rattle.sail_theory.proofs.Fresh.{zeros}
-use Rattle.sail_theory.proofs.Loads.{Fronts, fronts-next}
 
 -- a chunk before one in use is in use, and its owner is smaller
 abbrev pub Rising : List ℕ → Type 0
@@ -60,10 +55,10 @@ module _ (own : List ℕ) (q : ℕ) (up : Rising own) (top : (c x : ℕ) → get
       go (inl a) (inl b) = absurd (omega arith)
       go (inl a) (inr b) =
           let y = getD-set-other own (find own 0) c (suc q) 0 b in
-          let n = chunk-before (entry own) (length own) 0 c (omega arith) in
+          let n = chunk-before (chunksOf own) 0 c (omega arith) in
           let o : getD own c 0 ≡ suc (getD own c 0 - 1) = omega arith in
           let t = top c _ o in
-          let m : getD own c 0 ≢ suc q = λ k. let v = chunk-has (entry own) (length own) (suc q) c k in omega arith in
+          let m : getD own c 0 ≢ suc q = λ k. let v = chunk-has (chunksOf own) (suc q) c k in omega arith in
           let w : getD (set own (find own 0) (suc q)) c′ 0 ≡ suc q = rw a z in
           (omega arith, omega arith)
       go (inr a) (inl b) =
@@ -86,13 +81,13 @@ module _ (own : List ℕ) (q : ℕ) (up : Rising own) (top : (c x : ℕ) → get
 
   -- the chunk that hangs from q, if it is the last in use
   pub last-had : (k : ℕ) → getD own k 0 ≡ suc q → find own (suc q) ≡ k
-  last-had k e = go (eq-or-lt-of-le (chunk-has (entry own) (length own) (suc q) k e))
+  last-had k e = go (eq-or-lt-of-le (chunk-has (chunksOf own) (suc q) k e))
     where
       go : (find own (suc q) ≡ k) ⊎ (find own (suc q) < k) → find own (suc q) ≡ k
       go (inl z) = z
       go (inr l) =
           let i = inside own k q e in
-          let a = chunk-at (entry own) (length own) (suc q) (omega arith) in
+          let a = chunk-at (chunksOf own) (suc q) (omega arith) in
           absurd (omega (arith, up (find own (suc q)) k l (omega arith) .1))
 
   -- and if the last in use hangs elsewhere, none hangs from q
@@ -107,12 +102,12 @@ module _ (own : List ℕ) (q : ℕ) (up : Rising own) (top : (c x : ℕ) → get
       go (inl h) = absurd (at (equal? (find own 0) (suc c)) (below? c (find own 0)))
         where
           is : getD own (find own (suc q)) 0 ≡ suc q
-          is = chunk-at (entry own) (length own) (suc q) h
+          is = chunk-at (chunksOf own) (suc q) h
 
           at : (find own 0 ≡ suc c) ⊎ (find own 0 ≢ suc c) → (c < find own 0) ⊎ (find own 0 ≤ c) → ⊥
           at (inl e) b = n c e is
           at (inr e) (inl l) =
-              let m = chunk-before (entry own) (length own) 0 (suc c) (omega arith) in
+              let m = chunk-before (chunksOf own) 0 (suc c) (omega arith) in
               let o : getD own (suc c) 0 ≡ suc (getD own (suc c) 0 - 1) = omega arith in
               omega (arith, is, up c (suc c) (le-refl (suc c)) (omega arith) .1, top (suc c) _ o)
           at (inr e) (inr l) = low (equal? c (find own 0))
@@ -129,96 +124,102 @@ long-top r rs p i w h e = any-some (within p i) rs (i ≤ slot p (r .addr)) e (�
     let a : s .addr ≤ r .addr = omega (arith, k .0, k .1) in
     omega (arith, c, shr-mono (32 - p) a))
 
--- places rise with the cells that they stand for, where the owners above rise
-module _ (own : List ℕ) (d : ℕ) (up : Rising own) (x c q i : ℕ) (live : liveIn (entry own) d x ≡ true) (o : getD own c 0 ≡ suc q) (u : q ≡ i / 2 ^ d) (le : partOf (entry own) d itself x ≤ i) where
-  abbrev y : ℕ
-  y = getD own (x / 2 ^ d) 0 - 1
+-- Places rise with the cells that they stand for.
+abbrev pub Rises : Level → Type 0
+Rises v = (x y : ℕ) → x < v .places → y < v .places → v .live x ≡ true → v .live y ≡ true → v .at x ≤ v .at y → x ≤ y
 
-  y-is : getD own (x / 2 ^ d) 0 ≡ suc y
-  y-is = omega (arith, ltb-true 0 (getD own (x / 2 ^ d) 0) live)
+pub top-rises : (p : ℕ) → Rises (top p)
+top-rises p x y _ _ _ _ e = e
 
-  y-le : y ≤ q
-  y-le = omega (arith, part-up (entry own) d itself x, shr-mono d le, u)
+-- so they do below, where the owners rise
+module _ (rs : List Route) (v : Level) (own : List ℕ) (p : ℕ) (f : Fits rs v (chunksOf own)) (rises : Rises v) (up : Rising own) (x y : ℕ) (lx : x < below v (chunksOf own) p .places) (ly : y < below v (chunksOf own) p .places)
+    (ex : below v (chunksOf own) p .live x ≡ true) (ey : below v (chunksOf own) p .live y ≡ true) (le : below v (chunksOf own) p .at x ≤ below v (chunksOf own) p .at y) where
+  abbrev d : ℕ
+  d = p - v .bits
 
-  chunk-le : x / 2 ^ d ≤ c
-  chunk-le = go (below? c (x / 2 ^ d))
+  owner-le : getD own (x / 2 ^ d) 0 ≤ getD own (y / 2 ^ d) 0
+  owner-le =
+      let ox = live-owner v (chunksOf own) p x ex in
+      let oy = live-owner v (chunksOf own) p y ey in
+      let kx = f .lies _ _ (chunk-lt d (length own) x lx) ox in
+      let ky = f .lies _ _ (chunk-lt d (length own) y ly) oy in
+      let cells : v .at (getD own (x / 2 ^ d) 0 - 1) ≤ v .at (getD own (y / 2 ^ d) 0 - 1) = omega (arith, part-up v (chunksOf own) p x, part-up v (chunksOf own) p y, shr-mono d le) in
+      omega (arith, ox, oy, rises _ _ (kx .0) (ky .0) (kx .1) (ky .1) cells)
+
+  chunk-le : x / 2 ^ d ≤ y / 2 ^ d
+  chunk-le = go (below? (y / 2 ^ d) (x / 2 ^ d))
     where
-      go : (c < x / 2 ^ d) ⊎ (x / 2 ^ d ≤ c) → x / 2 ^ d ≤ c
+      go : (y / 2 ^ d < x / 2 ^ d) ⊎ (x / 2 ^ d ≤ y / 2 ^ d) → x / 2 ^ d ≤ y / 2 ^ d
       go (inr e) = e
-      go (inl e) = absurd (omega (arith, up c (x / 2 ^ d) e (omega (arith, y-is)) .1, y-is, y-le))
+      go (inl e) = absurd (omega (arith, up (y / 2 ^ d) (x / 2 ^ d) e (omega (arith, live-owner v (chunksOf own) p x ex)) .1, owner-le))
 
-  place-le : x ≤ c * 2 ^ d + i % 2 ^ d
-  place-le = go (eq-or-lt-of-le chunk-le)
+  pub below-rises : x ≤ y
+  below-rises = go (eq-or-lt-of-le chunk-le)
     where
-      go : (x / 2 ^ d ≡ c) ⊎ (x / 2 ^ d < c) → x ≤ c * 2 ^ d + i % 2 ^ d
+      go : (x / 2 ^ d ≡ y / 2 ^ d) ⊎ (x / 2 ^ d < y / 2 ^ d) → x ≤ y
       go (inl e) =
-          let same : getD own (x / 2 ^ d) 0 - 1 ≡ i / 2 ^ d = omega (arith, o, u, ap (entry own) e) in
-          let low : (i / 2 ^ d) * 2 ^ d + x % 2 ^ d ≤ i = subst (λ (k : ℕ). k * 2 ^ d + x % 2 ^ d ≤ i) same le in
-          omega (arith, div-add-mod' x (2 ^ d), div-add-mod' i (2 ^ d), ap (λ (k : ℕ). k * 2 ^ d) e)
-      go (inr l) = omega (arith, div-add-mod' x (2 ^ d), digits-lt l (mod-lt x (pow-pos d)))
+          let same : v .at (getD own (x / 2 ^ d) 0 - 1) * 2 ^ d ≡ v .at (getD own (y / 2 ^ d) 0 - 1) * 2 ^ d = ap (λ (k : ℕ). v .at (getD own k 0 - 1) * 2 ^ d) e in
+          omega (arith, le, same, div-add-mod' x (2 ^ d), div-add-mod' y (2 ^ d), ap (λ (k : ℕ). k * 2 ^ d) e)
+      go (inr l) = omega (arith, div-add-mod' x (2 ^ d), div-add-mod' y (2 ^ d), digits-lt l (mod-lt x (pow-pos d)))
 
--- one record more: no place with a chunk lies after the route's, and the numbers still ascend
-module _ (t : Table) (l : Lent) (xs : List Route) (r : Route) (ys : List Route) (o : Owners) (f : Fronts t l xs (r ∷ ys) o) where
-  abbrev g : Geometry
-  g = t .geometry
+-- One record more, after all others: r may be announced at the level, whose places rise, and whose chunks' owners do.
+pub record Climbs (xs : List Route) (r : Route) (v : Level) (own : List ℕ) : Type 0 where
+  pub ready : Ready xs r v own (find own 0)
+  pub last : (s : Route) → List·Memᴰ s xs → key s < key r
+  pub rises : Rises v
+  pub rising : Rising own
 
-  abbrev xs′ : List Route
-  xs′ = xs ++ (r ∷ [])
+module _ (xs : List Route) (r : Route) (v : Level) (own : List ℕ) (w : Climbs xs r v own) where
+  abbrev q : ℕ
+  q = v .serving (r .addr)
 
-  abbrev o2 : List ℕ
-  o2 = open2 g (o .own2) r
+  abbrev own′ : List ℕ
+  own′ = opening v own r
 
-  abbrev o3 : List ℕ
-  o3 = open3 g o2 (o .own3) r
+  fits : Fits (insert r xs) v (chunksOf own′)
+  fits = open-fits xs r v own (find own 0) (w .ready)
 
-  fine : Fine r
-  fine = good-next xs r ys (f .good)
-
-  then : Fronts t l xs′ ys (opened g o r)
-  then = fronts-next t l xs r ys o f
-
-  upto : (s : Route) → List·Memᴰ s xs′ → (key s ≤ key r) × (s .len ≤ 32)
+  upto : (s : Route) → List·Memᴰ s (xs ++ (r ∷ [])) → (key s ≤ key r) × (s .len ≤ 32)
   upto s m = go (List·Memᴰ·append-cases xs m)
     where
       go : List·Memᴰ s xs ⊎ List·Memᴰ s (r ∷ []) → (key s ≤ key r) × (s .len ≤ 32)
-      go (inl k) = (omega (arith, good-below xs r ys (f .good) s k), good-fine xs (good-front xs (r ∷ ys) (f .good)) s k .prefix .len-ok)
-      go (inr k) = let q = List·Memᴰ·eq-of-singleton k in (rw q (le-refl (key r)), rw q (fine .prefix .len-ok))
+      go (inl k) = (omega (arith, w .last s k), good-fine xs (w .ready .good) s k .prefix .len-ok)
+      go (inr k) = let e = List·Memᴰ·eq-of-singleton k in (rw e (le-refl (key r)), rw e (w .ready .fine .prefix .len-ok))
 
-  pub top2 : (c x : ℕ) → getD (o .own2) c 0 ≡ suc x → x ≤ slot (g .p1) (r .addr)
-  top2 c x e =
-      let e′ = open2-stays g (o .own2) r c x e in
-      long-top r xs′ (g .p1) x (fine .prefix .len-ok) upto (then .fits2 .lies c x (inside o2 c x e′) e′ .2)
+  -- no place with a chunk lies after the route's
+  topmost : ltb (v .bits) (r .len) ≡ true → (c x : ℕ) → getD own c 0 ≡ suc x → x ≤ q
+  topmost h c x e =
+      let e′ = open-stays v own r c x e in
+      let k = fits .lies c x (inside own′ c x e′) e′ in
+      let s = w .ready .served h in
+      let le : v .at x ≤ slot (v .bits) (r .addr) = long-top r (xs ++ (r ∷ [])) (v .bits) (v .at x) (w .ready .fine .prefix .len-ok) upto (rw (insert-end r xs (w .last)) at (k .2)) in
+      w .rises x q (k .0) (s .inside) (k .1) (s .used) (rw (s .stands) le)
 
-  rise2 : Rising (o .own2) → Rising o2
-  unfolding openAt2
-  rise2 up = go (decided (ltb (g .p1) (r .len)))
+  -- and the numbers still ascend
+  pub rise : Rising own′
+  unfolding openAt
+  rise = go (decided (ltb (v .bits) (r .len)))
     where
-      go : (ltb (g .p1) (r .len) ≡ true) ⊎ (ltb (g .p1) (r .len) ≡ false) → Rising (cond (ltb (g .p1) (r .len)) (grant (o .own2) (find (o .own2) 0) (slot (g .p1) (r .addr))) (o .own2))
-      go (inl e) = rw e (grant-rising (o .own2) (slot (g .p1) (r .addr)) up top2)
-      go (inr e) = rw e up
+      go : (ltb (v .bits) (r .len) ≡ true) ⊎ (ltb (v .bits) (r .len) ≡ false) → Rising (cond (ltb (v .bits) (r .len)) (grant own (find own 0) (v .serving (r .addr))) own)
+      go (inl e) = rw e (grant-rising own q (w .rising) (topmost e))
+      go (inr e) = rw e (w .rising)
 
-  pub top3 : Rising (o .own2) → ltb (g .p2) (r .len) ≡ true → (c x : ℕ) → getD (o .own3) c 0 ≡ suc x → x ≤ placeIn g o2 (r .addr)
-  top3 up h c x e =
-      let v = f .sized .valid in
-      let e′ = open3-stays g o2 (o .own3) r c x e in
-      let k = then .fits3 .lies c x (inside o3 c x e′) e′ in
-      let deeper : ltb (g .p1) (r .len) ≡ true = lt-ltb (g .p1) (r .len) (omega (arith, ltb-true (g .p2) (r .len) h)) in
-      let own-long : long xs′ (g .p1) (slot (g .p1) (r .addr)) ≡ true
-      = rw (insert-end r xs (good-below xs r ys (f .good))) at (long-own r xs fine (good-front xs (r ∷ ys) (f .good)) (g .p1) deeper) in
-      place-le o2 (bits2 g) (rise2 up) x (find o2 (suc (slot (g .p1) (r .addr)))) (slot (g .p1) (r .addr)) (slot (g .p2) (r .addr)) (k .1)
-      (chunk2-owner g v xs′ o2 (then .fits2) (r .addr) (fine .prefix .addr-ok) own-long) (slot-mid g v (r .addr))
-      (long-top r xs′ (g .p2) (at2 g o2 x) (fine .prefix .len-ok) upto (k .2))
+  pub climbs-below : (p : ℕ) (low : List ℕ) → Ready xs r (below v (chunksOf own′) p) low (find low 0) → Rising low → Climbs xs r (below v (chunksOf own′) p) low
+  climbs-below p low s up = record { ready = s; last = w .last; rises = λ x y. below-rises (insert r xs) v own′ p fits (w .rises) rise x y; rising = up }
 
-  rise3 : Rising (o .own2) → Rising (o .own3) → Rising o3
-  unfolding openAt3
-  rise3 up up3 = go (decided (ltb (g .p2) (r .len)))
-    where
-      go : (ltb (g .p2) (r .len) ≡ true) ⊎ (ltb (g .p2) (r .len) ≡ false) → Rising (cond (ltb (g .p2) (r .len)) (grant (o .own3) (find (o .own3) 0) (placeIn g o2 (r .addr))) (o .own3))
-      go (inl e) = rw e (grant-rising (o .own3) (placeIn g o2 (r .addr)) up3 (top3 up e))
-      go (inr e) = rw e up3
+  -- As a program that passes once over the records finds the owners. The route is no longer than the level: `open-short`. The chunk k, the
+  -- last one in use, hangs from its place:
+  pub step-had : v .bits < r .len → (k : ℕ) → getD own k 0 ≡ suc q → (own′ ≡ own) × (find own (suc q) ≡ k)
+  unfolding openAt
+  step-had h k e =
+      let b = lt-ltb (v .bits) (r .len) h in
+      (rw b (grant-had own _ q (chunk-found (chunksOf own) (suc q) k (inside own k q e) e)), last-had own q (w .rising) (topmost b) k e)
 
-  pub rises : Rising (o .own2) × Rising (o .own3) → Rising o2 × Rising o3
-  rises u = (rise2 (u .0), rise3 (u .0) (u .1))
+  -- the last one in use hangs elsewhere, or none is in use:
+  pub step-new : v .bits < r .len → ((k : ℕ) → find own 0 ≡ suc k → getD own k 0 ≢ suc q) → (find own 0 < length own) × (own′ ≡ set own (find own 0) (suc q)) × (find own′ (suc q) ≡ find own 0)
+  step-new h n =
+      let b = lt-ltb (v .bits) (r .len) h in
+      open-new xs r v own (find own 0) (w .ready) h (not-long xs r v own (find own 0) (w .ready) b (last-new own q (w .rising) (topmost b) n))
 
 pub zero-rising : (n : ℕ) → Rising (replicate n 0)
 zero-rising n c c′ l e = absurd (omega (arith, zeros n c′))

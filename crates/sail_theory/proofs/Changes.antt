@@ -1,37 +1,40 @@
 -- Announce and withdraw: what is left where they are accepted is sound, and its list holds the routes that then stand; and a chunk more is
 -- needed exactly where one has to be opened. Assumes nothing.
 use mathlib.Core.Path.{_≡_, refl, sym, _∙_, ap}
+use mathlib.Core.Logic.{_≢_}
 use mathlib.Core.Bool.{true, false}
 use mathlib.Core.List.{List}
-use Prim.Native.Nat.{ℕ, _*_, _^_, _≤_, _<_}
+use Prim.Native.Nat.{ℕ, _*_, _^_, _≤_}
 use native.Mathlib.Omega.{arith}
-use lib.Dec.{ltb}
-use lib.ListN.{getD, length}
+use lib.ListN.{length}
 use Rattle.bits.specs.Slot.{slot}
-use Rattle.routes.specs.Route.{keyOf, Good}
-use Rattle.standing.specs.Cells.{within, long}
+use Rattle.routes.specs.Route.{keyOf, Fine, Good}
+use Rattle.standing.specs.Cells.{within, long, need}
 use Rattle.standing.specs.Standing.{insert, remove}
 use Rattle.routes.specs.declared.Route.{Route}
 use Rattle.standing.proofs.Standing.{insert-good, remove-good, remove-length, remove-any}
+use Rattle.standing.proofs.Changed.{remove-long}
 use Rattle.routes.proofs.Rows.{length-written, length-routes}
 use Rattle.sail.specs.Geometry.{bits2, bits3, Valid}
 use Rattle.sail.specs.Lent.{Lent}
-use Rattle.sail.specs.Level.{entry}
+use Rattle.sail.specs.Level.{Level, chunksOf, level1, level2}
 use Rattle.sail.specs.Sizes.{Sized}
-use Rattle.sail.specs.Sound.{standing, used}
+use Rattle.sail.specs.Sound.{standing}
 use Rattle.sail.specs.declared.geometry.Geometry.{Geometry}
 use Rattle.sail.specs.declared.table.Table.{Table}
-use Rattle.sail.proofs.Sounds.{standing-good, chunks-need}
-use Rattle.sail_theory.specs.Render.{find, rendered, Fits2, Fits3, roomOf, Rendered}
-use Rattle.sail_theory.specs.Calls.{Owners, open2, open3, opened, keep2, keep3, kept, ownersOf, stateOf, lentOf}
+use Rattle.sail.proofs.Sounds.{standing-good}
+use Rattle.sail_theory.specs.Render.{find, Fits, roomOf, Rendered}
+use Rattle.sail_theory.specs.Calls.{Owners, opened, kept, ownersOf, stateOf, lentOf}
 use Rattle.sail_theory.specs.Facts.{SameSize, Holds, Welcome, Farewell}
 use Rattle.sail_theory.proofs.Chunks.{chunk-at, used-free}
-use Rattle.sail_theory.proofs.Cells.{shape-list}
 use Rattle.sail_theory.proofs.Rendered.{sound-rendered, render-standing, render-sized, render-sound}
-use Rattle.sail_theory.proofs.Stores.{length-keep}
+use Rattle.sail_theory.proofs.Stores.{length-keep, keep-closed, Losing}
 use Rattle.sail_theory.proofs.Needs.{need-more}
-use Rattle.sail_theory.proofs.Grown.{length-open2, length-open3, open-fits2, open-fits3}
-use Rattle.sail_theory.proofs.Shrunk.{keep-fits2, keep-fits3}
+use Rattle.sail_theory.proofs.Mids.{slot-down, long-down}
+use Rattle.sail_theory.proofs.Places.{Served, top-served, below-served, top-apart, below-apart}
+use Rattle.sail_theory.proofs.Owners.{fits-kept, below-kept}
+use Rattle.sail_theory.proofs.Grown.{Space, Ready, length-open, open-fits, ready-below}
+use Rattle.sail_theory.proofs.Wants.{Enough, seven, eight}
 
 -- what is rendered over arrays of these sizes holds its routes
 module _ (t : Table) (l : Lent) (z : Sized (t .geometry) l) (rs : List Route) (good : Good rs) (roomy : length rs ≤ roomOf l) (o : Owners)
@@ -49,7 +52,6 @@ module _ (t : Table) (l : Lent) (z : Sized (t .geometry) l) (rs : List Route) (g
   sized = render-sized (t .geometry) (z .valid) (roomOf l) few rs good roomy (o .own2) (o .own3) few2 few3
 
   size : SameSize l (lentOf t l rs o)
-  unfolding rendered
   size = record {
     list = omega (arith, length-written rs (roomOf l), z .whole);
     first = sized .cells1 ∙ sym (z .cells1);
@@ -59,21 +61,24 @@ module _ (t : Table) (l : Lent) (z : Sized (t .geometry) l) (rs : List Route) (g
     chunks3 = len3;
   }
 
-  pub render-holds : Fits2 (t .geometry) rs (o .own2) → Fits3 (t .geometry) rs (o .own2) (o .own3) → Holds t l rs (stateOf t rs) (lentOf t l rs o)
+  pub render-holds : Fits rs (level1 (t .geometry)) (chunksOf (o .own2)) → Fits rs (level2 (t .geometry) (chunksOf (o .own2))) (chunksOf (o .own3)) → Holds t l rs (stateOf t rs) (lentOf t l rs o)
   render-holds f2 f3 = record {
     sound = render-sound (t .geometry) (z .valid) (roomOf l) few rs good roomy (o .own2) (o .own3) few2 few3 f2 f3;
     routes = render-standing (t .geometry) (z .valid) (roomOf l) few rs good roomy (o .own2) (o .own3) few2 few3;
-    list = shape-list (t .geometry) (roomOf l) rs (o .own2) (o .own3);
+    list = refl;
     count = refl;
     geometry = refl;
     size = size;
   }
 
--- the lowest free chunk, where not all are in use
-free-pair : (own : List ℕ) → used own < length own → (find own 0 < length own) × (getD own (find own 0) 0 ≡ 0)
-free-pair own h = let k = used-free (entry own) (length own) h in (k, chunk-at (entry own) (length own) 0 k)
+-- where one chunk more is needed, one is free
+module _ (rs : List Route) (r : Route) (v : Level) (own : List ℕ) (w : Enough rs (v .bits) own) (fine : Fine r) where
+  pub enough-space : need (insert r rs) (v .bits) ≤ length own → Space rs r v own (find own 0)
+  enough-space n e f =
+      let h = used-free (chunksOf own) (omega (arith, w .counted, need-more r rs fine (w .good) (v .bits) (w .small) e f)) in
+      (h, chunk-at (chunksOf own) 0 h)
 
--- an announcement that is accepted
+-- an announcement that is accepted: it may be made at the first level, and after that at the second
 module _ (t : Table) (l : Lent) (r : Route) (w : Welcome t l r) where
   abbrev g : Geometry
   g = t .geometry
@@ -81,52 +86,90 @@ module _ (t : Table) (l : Lent) (r : Route) (w : Welcome t l r) where
   abbrev rs : List Route
   rs = standing t l
 
+  abbrev now : Owners
+  now = opened g (ownersOf l) r
+
   is : Rendered t l
   is = sound-rendered t l (w .sound)
-
-  good : Good rs
-  good = standing-good t l (w .sound)
 
   valid : Valid g
   valid = w .sound .sized .valid
 
-  -- where one chunk more is needed, one is free
-  pub space2 : ltb (g .p1) (r .len) ≡ true → long rs (g .p1) (slot (g .p1) (r .addr)) ≡ false → (find (l .own2) 0 < length (l .own2)) × (getD (l .own2) (find (l .own2) 0) 0 ≡ 0)
-  space2 e f = let v = valid in free-pair (l .own2) (omega (arith, w .enough2, chunks-need t l (w .sound) .0, need-more r rs (w .fine) good (g .p1) (omega arith) e f))
+  pub ready1 : Ready rs r (level1 g) (l .own2) (find (l .own2) 0)
+  ready1 =
+      let v = valid in
+      record {
+        fine = w .fine;
+        good = standing-good t l (w .sound);
+        fits = is .fits2;
+        apart = top-apart (g .p1);
+        served = λ e. top-served (g .p1) (r .addr) (omega arith) (w .fine .prefix .addr-ok);
+        space = enough-space rs r (level1 g) (l .own2) (seven t l (w .sound)) (w .fine) (w .enough2);
+      }
 
-  pub space3 : ltb (g .p2) (r .len) ≡ true → long rs (g .p2) (slot (g .p2) (r .addr)) ≡ false → (find (l .own3) 0 < length (l .own3)) × (getD (l .own3) (find (l .own3) 0) 0 ≡ 0)
-  space3 e f = let v = valid in free-pair (l .own3) (omega (arith, w .enough3, chunks-need t l (w .sound) .1, need-more r rs (w .fine) good (g .p2) (omega arith) e f))
+  pub ready2 : Ready rs r (level2 g (chunksOf (now .own2))) (l .own3) (find (l .own3) 0)
+  ready2 =
+      let v = valid in
+      ready-below rs r (level1 g) (l .own2) (find (l .own2) 0) ready1 (g .p2) (omega arith) (omega arith) (l .own3) (find (l .own3) 0) (is .fits3)
+      (enough-space rs r (level2 g (chunksOf (now .own2))) (l .own3) (eight t l (w .sound)) (w .fine) (w .enough3))
 
-  pub welcome-fits2 : Fits2 g (insert r rs) (open2 g (l .own2) r)
-  welcome-fits2 = open-fits2 g valid r rs (w .fine) good (l .own2) (l .own3) (find (l .own2) 0) (find (l .own3) 0) (is .fits2) (is .fits3) space2 space3
+  pub welcome-fits2 : Fits (insert r rs) (level1 g) (chunksOf (now .own2))
+  welcome-fits2 = open-fits rs r (level1 g) (l .own2) (find (l .own2) 0) ready1
 
-  pub welcome-fits3 : Fits3 g (insert r rs) (open2 g (l .own2) r) (open3 g (open2 g (l .own2) r) (l .own3) r)
-  welcome-fits3 = open-fits3 g valid r rs (w .fine) good (l .own2) (l .own3) (find (l .own2) 0) (find (l .own3) 0) (is .fits2) (is .fits3) space2 space3
+  pub welcome-fits3 : Fits (insert r rs) (level2 g (chunksOf (now .own2))) (chunksOf (now .own3))
+  welcome-fits3 = open-fits rs r (level2 g (chunksOf (now .own2))) (l .own3) (find (l .own3) 0) ready2
 
-  pub welcome-holds : Holds t l (insert r rs) (stateOf t (insert r rs)) (lentOf t l (insert r rs) (opened g (ownersOf l) r))
-  welcome-holds = render-holds t l (w .sound .sized) (insert r rs) (insert-good r rs (w .fine) good) (w .roomy) (opened g (ownersOf l) r)
-      (length-open2 g (l .own2) (find (l .own2) 0) r) (length-open3 g (open2 g (l .own2) r) (l .own3) (find (l .own3) 0) r) welcome-fits2 welcome-fits3
+  pub welcome-holds : Holds t l (insert r rs) (stateOf t (insert r rs)) (lentOf t l (insert r rs) now)
+  welcome-holds = render-holds t l (w .sound .sized) (insert r rs) (insert-good r rs (w .fine) (standing-good t l (w .sound))) (w .roomy) now
+      (length-open (level1 g) (l .own2) (find (l .own2) 0) r) (length-open (level2 g (chunksOf (now .own2))) (l .own3) (find (l .own3) 0) r) welcome-fits2 welcome-fits3
 
 -- a withdrawal that is accepted
 module _ (t : Table) (l : Lent) (a len : ℕ) (w : Farewell t l a len) where
   abbrev left : List Route
   left = remove (keyOf a len) (standing t l)
 
+  abbrev then : Owners
+  then = kept (t .geometry) left (ownersOf l)
+
   was : Rendered t l
   was = sound-rendered t l (w .sound)
 
-  less : (p i : ℕ) → long left p i ≡ true → long (standing t l) p i ≡ true
+  pub less : (p i : ℕ) → long left p i ≡ true → long (standing t l) p i ≡ true
   less p i e = remove-any (within p i) (keyOf a len) (standing t l) e
 
-  pub farewell-fits2 : Fits2 (t .geometry) left (keep2 (t .geometry) left (l .own2))
-  farewell-fits2 = keep-fits2 (t .geometry) (w .sound .sized .valid) (standing t l) left less (l .own2) (l .own3) (was .fits2) (was .fits3)
+  -- other cells are as they were
+  still : (p i : ℕ) → i ≢ slot p a → long left p i ≡ long (standing t l) p i
+  still p i h = sym (remove-long a len (standing t l) (w .prefix .len-ok) (standing-good t l (w .sound)) p i (λ _ e. h (sym e)))
 
-  pub farewell-fits3 : Fits3 (t .geometry) left (keep2 (t .geometry) left (l .own2)) (keep3 (t .geometry) left (l .own2) (l .own3))
-  farewell-fits3 = keep-fits3 (t .geometry) (w .sound .sized .valid) (standing t l) left less (l .own2) (l .own3) (was .fits2) (was .fits3)
+  serves1 : Served (level1 (t .geometry)) a
+  serves1 = let v = w .sound .sized .valid in top-served (t .geometry .p1) a (omega arith) (w .prefix .addr-ok)
+
+  pub losing1 : Losing (standing t l) left a (level1 (t .geometry)) (l .own2)
+  losing1 = record { fits = was .fits2; apart = top-apart (t .geometry .p1); others = still (t .geometry .p1); served = λ e. serves1 }
+
+  pub losing2 : Losing (standing t l) left a (level2 (t .geometry) (chunksOf (l .own2))) (l .own3)
+  losing2 =
+      let v = w .sound .sized .valid in
+      record {
+        fits = was .fits3;
+        apart = below-apart (standing t l) (level1 (t .geometry)) (chunksOf (l .own2)) (t .geometry .p2) (was .fits2) (top-apart (t .geometry .p1));
+        others = still (t .geometry .p2);
+        served = λ e. below-served (standing t l) (level1 (t .geometry)) (chunksOf (l .own2)) (was .fits2) (t .geometry .p2) a (omega arith) (omega arith) serves1
+            (rw (slot-down (t .geometry .p1) (t .geometry .p2) a (omega arith) (omega arith)) (long-down (standing t l) (t .geometry .p1) (t .geometry .p2) _ (omega arith) (omega arith) e));
+      }
+
+  pub farewell-fits2 : Fits left (level1 (t .geometry)) (chunksOf (then .own2))
+  farewell-fits2 = fits-kept (standing t l) left less (level1 (t .geometry)) (chunksOf (l .own2)) (chunksOf (then .own2)) (was .fits2) (keep-closed left (level1 (t .geometry)) (l .own2))
+
+  pub farewell-fits3 : Fits left (level2 (t .geometry) (chunksOf (then .own2))) (chunksOf (then .own3))
+  farewell-fits3 =
+      let v = w .sound .sized .valid in
+      below-kept (standing t l) left less (level1 (t .geometry)) (chunksOf (l .own2)) (chunksOf (then .own2)) (t .geometry .p2) (omega arith) (omega arith) (keep-closed left (level1 (t .geometry)) (l .own2))
+      (chunksOf (l .own3)) (chunksOf (then .own3)) (was .fits3) (keep-closed left (level2 (t .geometry) (chunksOf (l .own2))) (l .own3))
 
   fewer : length left ≤ roomOf l
   fewer = omega (arith, remove-length (keyOf a len) (standing t l), length-routes (l .list) (t .count), w .sound .listed .records .room)
 
-  pub farewell-holds : Holds t l left (stateOf t left) (lentOf t l left (kept (t .geometry) left (ownersOf l)))
-  farewell-holds = render-holds t l (w .sound .sized) left (remove-good (keyOf a len) (standing t l) (standing-good t l (w .sound))) fewer (kept (t .geometry) left (ownersOf l))
+  pub farewell-holds : Holds t l left (stateOf t left) (lentOf t l left then)
+  farewell-holds = render-holds t l (w .sound .sized) left (remove-good (keyOf a len) (standing t l) (standing-good t l (w .sound))) fewer then
       (length-keep _ _ (l .own2)) (length-keep _ _ (l .own3)) farewell-fits2 farewell-fits3

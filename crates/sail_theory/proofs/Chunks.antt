@@ -12,36 +12,36 @@ use borrow.Author.Tests.{eqb-true, eqb-false, eq-eqb, ne-eqb, lt-ltb, le-ltb}
 use Rattle.bits.specs.Count.{bit, count}
 use Rattle.bits.proofs.Searches.{firstOf-is, firstOf-le, firstOf-before, firstOf-at}
 use Rattle.bits.proofs.Tests.{below?, equal?}
-use Rattle.sail.specs.Level.{entry, inUse}
-use Rattle.sail_theory.specs.Render.{chunkFor, find}
+use Rattle.sail.specs.Level.{Chunks, chunkFor, inUse, chunksOf}
+use Rattle.sail_theory.specs.Render.{find}
 
-module _ (own : ℕ → ℕ) (m : ℕ) (o : ℕ) where
-  pub chunk-le : chunkFor own m o ≤ m
+module _ (k : Chunks) (o : ℕ) where
+  pub chunk-le : chunkFor k o ≤ k .many
   unfolding chunkFor
-  chunk-le = firstOf-le (λ c. eqb (own c) o) m
+  chunk-le = firstOf-le (λ c. eqb (k .own c) o) (k .many)
 
-  pub chunk-at : chunkFor own m o < m → own (chunkFor own m o) ≡ o
+  pub chunk-at : chunkFor k o < k .many → k .own (chunkFor k o) ≡ o
   unfolding chunkFor
-  chunk-at h = eqb-true _ _ (firstOf-at (λ c. eqb (own c) o) m h)
+  chunk-at h = eqb-true _ _ (firstOf-at (λ c. eqb (k .own c) o) (k .many) h)
 
-  pub chunk-before : (j : ℕ) → j < chunkFor own m o → own j ≢ o
+  pub chunk-before : (j : ℕ) → j < chunkFor k o → k .own j ≢ o
   unfolding chunkFor
-  chunk-before j h = eqb-false _ _ (firstOf-before (λ c. eqb (own c) o) m j h)
+  chunk-before j h = eqb-false _ _ (firstOf-before (λ c. eqb (k .own c) o) (k .many) j h)
 
   -- the first that is o
-  pub chunk-is : (c : ℕ) → c < m → own c ≡ o → ((j : ℕ) → j < c → own j ≢ o) → chunkFor own m o ≡ c
+  pub chunk-is : (c : ℕ) → c < k .many → k .own c ≡ o → ((j : ℕ) → j < c → k .own j ≢ o) → chunkFor k o ≡ c
   unfolding chunkFor
-  chunk-is c h e n = firstOf-is (λ c. eqb (own c) o) m c (omega arith) (λ j l. ne-eqb (own j) o (n j l)) (λ l. eq-eqb (own c) o e)
+  chunk-is c h e n = firstOf-is (λ c. eqb (k .own c) o) (k .many) c (omega arith) (λ j l. ne-eqb (k .own j) o (n j l)) (λ l. eq-eqb (k .own c) o e)
 
   -- none of the first m is
-  pub chunk-none : ((j : ℕ) → j < m → own j ≢ o) → chunkFor own m o ≡ m
+  pub chunk-none : ((j : ℕ) → j < k .many → k .own j ≢ o) → chunkFor k o ≡ k .many
   unfolding chunkFor
-  chunk-none n = firstOf-is (λ c. eqb (own c) o) m m (le-refl m) (λ j l. ne-eqb (own j) o (n j l)) (λ l. absurd (omega arith))
+  chunk-none n = firstOf-is (λ c. eqb (k .own c) o) (k .many) (k .many) (le-refl (k .many)) (λ j l. ne-eqb (k .own j) o (n j l)) (λ l. absurd (omega arith))
 
-  pub chunk-has : (c : ℕ) → own c ≡ o → chunkFor own m o ≤ c
-  chunk-has c e = go (below? c (chunkFor own m o))
+  pub chunk-has : (c : ℕ) → k .own c ≡ o → chunkFor k o ≤ c
+  chunk-has c e = go (below? c (chunkFor k o))
     where
-      go : (c < chunkFor own m o) ⊎ (chunkFor own m o ≤ c) → chunkFor own m o ≤ c
+      go : (c < chunkFor k o) ⊎ (chunkFor k o ≤ c) → chunkFor k o ≤ c
       go (inl l) = absurd (chunk-before c l e)
       go (inr l) = l
 
@@ -50,7 +50,7 @@ pub free-zero : (own : List ℕ) → getD own (find own 0) 0 ≡ 0
 free-zero own = go (below? (find own 0) (length own))
   where
     go : (find own 0 < length own) ⊎ (length own ≤ find own 0) → getD own (find own 0) 0 ≡ 0
-    go (inl h) = chunk-at (entry own) (length own) 0 h
+    go (inl h) = chunk-at (chunksOf own) 0 h
     go (inr h) = List·getD-eq-default own 0 h
 
 -- a chunk is free exactly where not all are in use
@@ -77,24 +77,24 @@ count-some p (suc n) j h e = go (equal? j n) (count-some p n j)
     go (inl q) ih = let z : p n ≡ false = rw q at e in omega (arith, ap bit z, count-le p n)
     go (inr q) ih = omega (arith, bit-le (p n), ih (omega arith) e)
 
-module _ (own : ℕ → ℕ) (m : ℕ) where
-  pub used-le : count (inUse own) m ≤ m
-  used-le = count-le (inUse own) m
+module _ (k : Chunks) where
+  pub used-le : count (inUse (k .own)) (k .many) ≤ k .many
+  used-le = count-le (inUse (k .own)) (k .many)
 
-  pub free-used : chunkFor own m 0 < m → count (inUse own) m < m
+  pub free-used : chunkFor k 0 < k .many → count (inUse (k .own)) (k .many) < k .many
   free-used h =
-      let e = chunk-at own m 0 h in
-      count-some (inUse own) m (chunkFor own m 0) h (le-ltb 0 (own (chunkFor own m 0)) (omega arith))
+      let e = chunk-at k 0 h in
+      count-some (inUse (k .own)) (k .many) (chunkFor k 0) h (le-ltb 0 (k .own (chunkFor k 0)) (omega arith))
 
-  pub used-free : count (inUse own) m < m → chunkFor own m 0 < m
-  used-free h = go (below? (chunkFor own m 0) m)
+  pub used-free : count (inUse (k .own)) (k .many) < k .many → chunkFor k 0 < k .many
+  used-free h = go (below? (chunkFor k 0) (k .many))
     where
-      go : (chunkFor own m 0 < m) ⊎ (m ≤ chunkFor own m 0) → chunkFor own m 0 < m
+      go : (chunkFor k 0 < k .many) ⊎ ((k .many) ≤ chunkFor k 0) → chunkFor k 0 < k .many
       go (inl l) = l
       go (inr l) =
           absurd (omega (
             arith,
-            count-all (inUse own) m (λ i k.
-                let z = chunk-before own m 0 i (omega arith) in
-                lt-ltb 0 (own i) (omega arith)),
+            count-all (inUse (k .own)) (k .many) (λ i b.
+                let z = chunk-before k 0 i (omega arith) in
+                lt-ltb 0 (k .own i) (omega arith)),
           ))

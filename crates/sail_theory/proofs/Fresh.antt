@@ -1,24 +1,23 @@
 -- Make: a fresh table is what is rendered for no routes and no owners. Assumes nothing.
 use mathlib.Core.Path.{_≡_, refl, sym, _∙_, ap, subst}
-use mathlib.Core.Bool.{Bool, true, false, false≢true}
+use mathlib.Core.Bool.{true, false, false≢true}
 use mathlib.Core.List.{List, []}
-use Prim.Native.Nat.{ℕ, zero, suc, _*_, _/_, _^_, _<_}
+use Prim.Native.Nat.{ℕ, zero, suc, _-_, _*_, _/_, _^_, _<_}
 use native.Mathlib.Omega.{arith}
 use lib.ListN.{getD, length, replicate, getD-replicate, length-replicate}
 use lib.Seq.{ext-getD}
 use Rattle.routes.specs.Route.{Good}
-use Rattle.standing.specs.Cells.{any, first, long, best}
+use Rattle.standing.specs.Cells.{any, first, best}
 use Rattle.routes.specs.Record.{written}
 use Rattle.routes.specs.Said.{Said, accepted, accepts}
 use Rattle.routes.proofs.Rows.{length-written, zero-written}
-use Rattle.sail.specs.Geometry.{bits2, bits3}
 use Rattle.sail.specs.Lent.{Lent}
-use Rattle.sail.specs.Level.{always, itself, nobody, liveIn, entry}
+use Rattle.sail.specs.Level.{Level, Chunks, chunksOf, noChunks, below, level1, level2}
 use Rattle.sail.specs.Sizes.{Sized}
 use Rattle.sail.specs.Sound.{freshTable, freshLent}
 use Rattle.sail.specs.declared.geometry.Geometry.{Geometry}
 use Rattle.sail.specs.declared.table.Table.{Table}
-use Rattle.sail_theory.specs.Render.{never, at2, at3, rendered, Fits, Fits2, Fits3, roomOf}
+use Rattle.sail_theory.specs.Render.{pool, Fits, roomOf}
 use Rattle.sail_theory.specs.Calls.{noOwners, makeSaid, Out, lentOf, made}
 use Rattle.sail_theory.specs.Facts.{Holds}
 use Rattle.sail_theory.proofs.Pools.{length-pool, pool-free, pool-leaf}
@@ -38,20 +37,13 @@ best-none zero i = refl
 best-none (suc p) i = best-none p (i / 2)
 
 -- no owners fit no routes
-no-fits : (p n m : ℕ) (live : ℕ → Bool) (at : ℕ → ℕ) → Fits (long [] p) n live at (length (replicate {A = ℕ} m 0)) (entry (replicate m 0))
+pub no-fits : (v : Level) (m : ℕ) → Fits [] v (chunksOf (replicate m 0))
 unfolding any
-no-fits p n m live at = record {
+no-fits v m = record {
   lies = λ c q l e. absurd (omega (arith, zeros m c));
   has = λ q l e d. absurd (false≢true d);
   once = λ c q l e. absurd (omega (arith, zeros m c));
 }
-
-module _ (g : Geometry) (l : Lent) where
-  pub none-fits2 : Fits2 g [] (noOwners l .own2)
-  none-fits2 = no-fits (g .p1) _ (length (l .own2)) _ _
-
-  pub none-fits3 : Fits3 g [] (noOwners l .own2) (noOwners l .own3)
-  none-fits3 = no-fits (g .p2) _ (length (l .own3)) _ _
 
 -- an array of one number
 constant : (v n : ℕ) (xs : List ℕ) → length xs ≡ n → ((i : ℕ) → i < n → getD xs i 0 ≡ v) → replicate n v ≡ xs
@@ -67,24 +59,23 @@ module _ (t : Table) (l : Lent) (z : Sized (t .geometry) l) where
   abbrev none3 : List ℕ
   none3 = noOwners l .own3
 
-  -- no chunk is in use
-  unused : (n d q : ℕ) → liveIn (entry (replicate n 0)) d q ≡ false
-  unused n d q = rw zeros
+  -- the cells of a level below chunks of which none is in use
+  free-pool : (v : Level) (m p : ℕ) (k : Chunks) (n : ℕ) → n ≡ m * 2 ^ (p - v .bits) → replicate n 0 ≡ pool [] (below v (chunksOf (replicate m 0)) p) k
+  free-pool v m p k n e =
+      let w : Level = below v (chunksOf (replicate m 0)) p in
+      let all : w .places ≡ n = ap (λ (x : ℕ). x * 2 ^ (p - v .bits)) (length-replicate m 0) ∙ sym e in
+      constant 0 n (pool [] w k) (length-pool [] w k ∙ all) (λ q h. pool-free [] w k q (rw all h) (rw zeros))
 
   pub fresh-rendered : freshLent l ≡ lentOf t l [] (noOwners l)
-  unfolding freshLent rendered any
+  unfolding freshLent any
   fresh-rendered =
       let w = length-written [] (roomOf l) in
       let m : length (l .list) ≡ roomOf l * 8 = omega (arith, z .whole) in
       let e1 = constant 0 (length (l .list)) (written [] (roomOf l)) (w ∙ sym m) (λ j h. zero-written [] (roomOf l) j (omega arith) (omega arith)) in
-      let e2 = constant 32768 (length (l .first)) (lentOf t l [] (noOwners l) .first) (length-pool (long [] (g .p1)) (best [] (g .p1)) (2 ^ g .p1) always itself (length none2) (entry none2) ∙ sym (z .cells1))
-      (λ q h. pool-leaf (long [] (g .p1)) (best [] (g .p1)) (2 ^ g .p1) always itself (length none2) (entry none2) q (rw (z .cells1) at h) refl refl ∙ rw best-none) in
-      let n2 : length none2 * 2 ^ bits2 g ≡ length (l .second) = ap (λ (n : ℕ). n * 2 ^ bits2 g) (length-replicate (length (l .own2)) 0) ∙ sym (z .cells2) in
-      let e3 = constant 0 (length (l .second)) (lentOf t l [] (noOwners l) .second) (length-pool (long [] (g .p2)) (best [] (g .p2)) (length none2 * 2 ^ bits2 g) (liveIn (entry none2) (bits2 g)) (at2 g none2) (length none3) (entry none3) ∙ n2)
-      (λ q h. pool-free (long [] (g .p2)) (best [] (g .p2)) (length none2 * 2 ^ bits2 g) (liveIn (entry none2) (bits2 g)) (at2 g none2) (length none3) (entry none3) q (rw n2 h) (unused (length (l .own2)) (bits2 g) q)) in
-      let n3 : length none3 * 2 ^ bits3 g ≡ length (l .third) = ap (λ (n : ℕ). n * 2 ^ bits3 g) (length-replicate (length (l .own3)) 0) ∙ sym (z .cells3) in
-      let e4 = constant 0 (length (l .third)) (lentOf t l [] (noOwners l) .third) (length-pool never (best [] 32) (length none3 * 2 ^ bits3 g) (liveIn (entry none3) (bits3 g)) (at3 g none2 none3) 0 nobody ∙ n3)
-      (λ q h. pool-free never (best [] 32) (length none3 * 2 ^ bits3 g) (liveIn (entry none3) (bits3 g)) (at3 g none2 none3) 0 nobody q (rw n3 h) (unused (length (l .own3)) (bits3 g) q)) in
+      let e2 = constant 32768 (length (l .first)) (lentOf t l [] (noOwners l) .first) (length-pool [] (level1 g) (chunksOf none2) ∙ sym (z .cells1))
+      (λ q h. pool-leaf [] (level1 g) (chunksOf none2) q (rw (z .cells1) at h) refl refl ∙ rw best-none) in
+      let e3 = free-pool (level1 g) (length (l .own2)) (g .p2) (chunksOf none3) (length (l .second)) (z .cells2) in
+      let e4 = free-pool (level2 g (chunksOf none2)) (length (l .own3)) 32 noChunks (length (l .third)) (z .cells3) in
       λ i. record { list = e1 i; first = e2 i; second = e3 i; third = e4 i; own2 = none2; own3 = none3 }
 
   pub make-is : made t l ≡ record { said = accepted []; table = freshTable (t .geometry); lent = freshLent l }
@@ -95,7 +86,7 @@ module _ (t : Table) (l : Lent) (z : Sized (t .geometry) l) where
   unfolding Good
   make-holds =
       subst (λ (o : Out). Holds t l [] (o .table) (o .lent)) (sym make-is)
-      (rw fresh-rendered (render-holds t l z [] tt (omega arith) (noOwners l) (length-replicate (length (l .own2)) 0) (length-replicate (length (l .own3)) 0) (none-fits2 (t .geometry) l) (none-fits3 (t .geometry) l)))
+      (rw fresh-rendered (render-holds t l z [] tt (omega arith) (noOwners l) (length-replicate (length (l .own2)) 0) (length-replicate (length (l .own3)) 0) (no-fits (level1 (t .geometry)) (length (l .own2))) (no-fits (level2 (t .geometry) (chunksOf none2)) (length (l .own3)))))
 
 pub make-said : (t : Table) (l : Lent) → made t l .said ≡ makeSaid t l
 unfolding made

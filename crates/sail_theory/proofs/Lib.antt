@@ -9,7 +9,6 @@ pub mod Owners
 pub mod Stores
 pub mod Needs
 pub mod Grown
-pub mod Shrunk
 pub mod Judged
 pub mod Only
 pub mod Changes
@@ -17,7 +16,6 @@ pub mod Wants
 pub mod Accepted
 pub mod Fresh
 pub mod Cells
-pub mod Opens
 pub mod Ends
 pub mod Sizes
 pub mod Loads

@@ -4,30 +4,29 @@ use mathlib.Core.Bool.{true, false, false≢true}
 use mathlib.Core.List.{List, [], _∷_, _++_, append-assoc, append-nil, List·Memᴰ}
 use Prim.Native.Nat.{ℕ, _/_, _≤_, _<_}
 use native.Mathlib.Omega.{arith}
-use lib.Dec.{ltb}
-use lib.ListN.{getD, length, length-append, length-replicate}
-use Rattle.bits.specs.Slot.{slot}
+use lib.ListN.{length, length-append, length-replicate}
 use Rattle.routes.specs.Route.{key, Fine, Good}
-use Rattle.standing.specs.Cells.{within, long, need}
+use Rattle.standing.specs.Cells.{within, need}
 use Rattle.routes.specs.Said.{Said, accepted, accepts}
 use Rattle.standing.specs.Standing.{insert}
 use Rattle.routes.specs.declared.Route.{Route}
 use Rattle.sail.specs.Lent.{Lent}
+use Rattle.sail.specs.Level.{chunksOf, level1, level2}
 use Rattle.sail.specs.Sizes.{Sized}
 use Rattle.sail.specs.declared.geometry.Geometry.{Geometry}
 use Rattle.sail.specs.declared.table.Table.{Table}
-use Rattle.sail_theory.specs.Render.{find, rendered, Fits2, Fits3, roomOf}
-use Rattle.sail_theory.specs.Calls.{Owners, open2, opened, settled, ownersOf, noOwners, route, inputRoutes, loadSaid, Out, stateOf, lentOf, made, announced, loaded}
+use Rattle.sail_theory.specs.Render.{find, Fits, roomOf}
+use Rattle.sail_theory.specs.Calls.{Owners, opened, settled, ownersOf, noOwners, route, inputRoutes, loadSaid, Out, stateOf, lentOf, made, announced, loaded}
 use Rattle.sail_theory.specs.Facts.{Holds, Welcome, Loadable}
 use Rattle.sail_theory.specs.Runs.{announceAll, AllAdded}
 use Rattle.sail_theory.proofs.Ends.{good-front, good-next, good-below, insert-end, none-stands, any-front}
 use Rattle.sail_theory.proofs.Needs.{need-mono}
-use Rattle.sail_theory.proofs.Grown.{length-open2, length-open3}
+use Rattle.sail_theory.proofs.Grown.{Ready, length-open}
 use Rattle.sail_theory.proofs.Judged.{Readable, Load, load-judged}
 use Rattle.sail_theory.proofs.Only.{load-only}
-use Rattle.sail_theory.proofs.Changes.{render-holds, space2, space3, welcome-fits2, welcome-fits3}
+use Rattle.sail_theory.proofs.Changes.{render-holds, ready1, ready2, welcome-fits2, welcome-fits3}
 use Rattle.sail_theory.proofs.Accepted.{announce-is, outcome-said, outcome-refused}
-use Rattle.sail_theory.proofs.Fresh.{none-fits2, none-fits3, fresh-rendered, make-is}
+use Rattle.sail_theory.proofs.Fresh.{no-fits, fresh-rendered, make-is}
 
 -- a route without spare is made of its parts
 route-parts : (r : Route) → r .spare ≡ 0 → route (r .addr) (r .len) (r .hop) ≡ r
@@ -40,8 +39,8 @@ pub record Fronts (t : Table) (l : Lent) (xs ys : List Route) (o : Owners) : Typ
   pub roomy : length (xs ++ ys) ≤ roomOf l
   pub len2 : length (o .own2) ≡ length (l .own2)
   pub len3 : length (o .own3) ≡ length (l .own3)
-  pub fits2 : Fits2 (t .geometry) xs (o .own2)
-  pub fits3 : Fits3 (t .geometry) xs (o .own2) (o .own3)
+  pub fits2 : Fits xs (level1 (t .geometry)) (chunksOf (o .own2))
+  pub fits3 : Fits xs (level2 (t .geometry) (chunksOf (o .own2))) (chunksOf (o .own3))
   pub enough2 : need (xs ++ ys) (t .geometry .p1) ≤ length (l .own2)
   pub enough3 : need (xs ++ ys) (t .geometry .p2) ≤ length (l .own3)
 
@@ -81,7 +80,6 @@ module _ (t : Table) (l : Lent) (xs : List Route) (r : Route) (ys : List Route) 
   same-room = ap (λ (n : ℕ). n / 8) (now .size .list)
 
   owners : ownersOf v ≡ o
-  unfolding rendered
   owners = refl
 
   welcome : Welcome u v r
@@ -95,31 +93,27 @@ module _ (t : Table) (l : Lent) (xs : List Route) (r : Route) (ys : List Route) 
         enough3 = rw (now .routes) (omega (arith, part (g .p2) (omega arith), f .enough3, now .size .chunks3));
       }
 
-  -- where a chunk has to be opened, one is free
-  pub fronts-space2 : ltb (g .p1) (r .len) ≡ true → long xs (g .p1) (slot (g .p1) (r .addr)) ≡ false → (find (o .own2) 0 < length (o .own2)) × (getD (o .own2) (find (o .own2) 0) 0 ≡ 0)
-  unfolding rendered
-  fronts-space2 e h = space2 u v r welcome e (rw (now .routes) h)
+  -- it may be announced at both levels
+  pub fronts-ready1 : Ready xs r (level1 g) (o .own2) (find (o .own2) 0)
+  fronts-ready1 = rw (now .routes) at (ready1 u v r welcome)
 
-  pub fronts-space3 : ltb (g .p2) (r .len) ≡ true → long xs (g .p2) (slot (g .p2) (r .addr)) ≡ false → (find (o .own3) 0 < length (o .own3)) × (getD (o .own3) (find (o .own3) 0) 0 ≡ 0)
-  unfolding rendered
-  fronts-space3 e h = space3 u v r welcome e (rw (now .routes) h)
+  pub fronts-ready2 : Ready xs r (level2 g (chunksOf (opened g o r .own2))) (o .own3) (find (o .own3) 0)
+  fronts-ready2 = rw (now .routes) at (ready2 u v r welcome)
 
   -- it is added, and its chunks opened
   next : announced u v (r .addr) (r .len) (r .hop) ≡ record { said = accepted (0 ∷ []); table = stateOf t xs′; lent = lentOf t l xs′ (opened g o r) }
-  unfolding rendered
   next =
       let whole = route-parts r (fine .spare-ok) in
       announce-is u v (r .addr) (r .len) (r .hop) (rw whole welcome)
       ∙ rw (whole, now .routes, none-stands (key r) xs below, ended, same-room)
 
   pub fronts-next : Fronts t l xs′ ys (opened g o r)
-  unfolding rendered
   fronts-next = record {
     sized = f .sized;
     good = rw regroup (f .good);
     roomy = rw regroup (f .roomy);
-    len2 = length-open2 g (o .own2) _ r ∙ f .len2;
-    len3 = length-open3 g (open2 g (o .own2) r) (o .own3) _ r ∙ f .len3;
+    len2 = length-open (level1 g) (o .own2) _ r ∙ f .len2;
+    len3 = length-open (level2 g (chunksOf (opened g o r .own2))) (o .own3) _ r ∙ f .len3;
     fits2 = rw (now .routes, ended) at (welcome-fits2 u v r welcome);
     fits3 = rw (now .routes, ended) at (welcome-fits3 u v r welcome);
     enough2 = rw regroup (f .enough2);
@@ -162,8 +156,8 @@ fronts-none t l rs w = record {
   roomy = w .roomy;
   len2 = length-replicate (length (l .own2)) 0;
   len3 = length-replicate (length (l .own3)) 0;
-  fits2 = none-fits2 (t .geometry) l;
-  fits3 = none-fits3 (t .geometry) l;
+  fits2 = no-fits (level1 (t .geometry)) (length (l .own2));
+  fits3 = no-fits (level2 (t .geometry) (chunksOf (noOwners l .own2))) (length (l .own3));
   enough2 = w .enough2;
   enough3 = w .enough3;
 }

@@ -1,8 +1,8 @@
--- The second level lies bits2 below the first, and the third bits3 below the second. Assumes nothing.
+-- From a level of p bits to one of p′ more bits or as many. Assumes nothing.
 use mathlib.Core.Path.{_≡_, sym, _∙_, ap}
 use mathlib.Core.Bool.{true, false}
 use mathlib.Core.List.{List}
-use Prim.Native.Nat.{ℕ, _+_, _*_, _/_, _^_}
+use Prim.Native.Nat.{ℕ, _+_, _-_, _*_, _/_, _^_, _≤_}
 use native.Mathlib.Omega.{arith}
 use lib.Pow.{pow-add}
 use Rattle.bits.specs.Slot.{slot}
@@ -11,32 +11,20 @@ use Rattle.bits.proofs.Tests.{fails}
 use Rattle.standing.specs.Cells.{long}
 use Rattle.routes.specs.declared.Route.{Route}
 use Rattle.standing.proofs.Levels.{long-up}
-use Rattle.sail.specs.Geometry.{bits2, bits3, Valid}
-use Rattle.sail.specs.declared.geometry.Geometry.{Geometry}
 
-module _ (g : Geometry) (v : Valid g) where
-  pub sum2 : g .p1 + bits2 g ≡ g .p2
-  sum2 = omega arith
+module _ (p p′ : ℕ) (h : p ≤ p′) where
+  sum : p + (p′ - p) ≡ p′
+  sum = omega arith
 
-  pub sum3 : g .p2 + bits3 g ≡ 32
-  sum3 = omega arith
+  pub pow-down : 2 ^ p * 2 ^ (p′ - p) ≡ 2 ^ p′
+  pow-down = sym (pow-add 2 p (p′ - p)) ∙ ap (λ (n : ℕ). 2 ^ n) sum
 
-  pub pow-mid : 2 ^ g .p1 * 2 ^ bits2 g ≡ 2 ^ g .p2
-  pow-mid = sym (pow-add 2 (g .p1) (bits2 g)) ∙ ap (λ (n : ℕ). 2 ^ n) sum2
+pub slot-down : (p p′ a : ℕ) → p ≤ p′ → p′ ≤ 32 → slot p a ≡ slot p′ a / 2 ^ (p′ - p)
+slot-down p p′ a h u = sym (slot-up p (p′ - p) a (omega arith)) ∙ ap (λ (n : ℕ). slot n a / 2 ^ (p′ - p)) (sum p p′ h)
 
-  pub pow-all : 2 ^ g .p2 * 2 ^ bits3 g ≡ 2 ^ 32
-  pow-all = sym (pow-add 2 (g .p2) (bits3 g)) ∙ ap (λ (n : ℕ). 2 ^ n) sum3
+-- a long cell lies in a long cell
+pub long-down : (rs : List Route) (p p′ j : ℕ) → p ≤ p′ → p′ ≤ 32 → long rs p′ j ≡ true → long rs p (j / 2 ^ (p′ - p)) ≡ true
+long-down rs p p′ j h u e = long-up rs p (p′ - p) j (omega arith) (rw (sum p p′ h) e)
 
-  -- the first cell of an address holds its second cell, and that holds the address
-  pub slot-mid : (a : ℕ) → slot (g .p1) a ≡ slot (g .p2) a / 2 ^ bits2 g
-  slot-mid a = sym (slot-up (g .p1) (bits2 g) a (omega arith)) ∙ ap (λ (n : ℕ). slot n a / 2 ^ bits2 g) sum2
-
-  pub slot-low : (a : ℕ) → slot (g .p2) a ≡ a / 2 ^ bits3 g
-  slot-low a = ap (λ (n : ℕ). a / 2 ^ n) (omega arith)
-
-  -- a long second cell lies in a long first cell
-  pub long-mid : (rs : List Route) (j : ℕ) → long rs (g .p2) j ≡ true → long rs (g .p1) (j / 2 ^ bits2 g) ≡ true
-  long-mid rs j e = long-up rs (g .p1) (bits2 g) j (omega arith) (rw sum2 e)
-
-  pub short-mid : (rs : List Route) (j : ℕ) → long rs (g .p1) (j / 2 ^ bits2 g) ≡ false → long rs (g .p2) j ≡ false
-  short-mid rs j e = fails (long rs (g .p2) j) (long rs (g .p1) (j / 2 ^ bits2 g)) (long-mid rs j) e
+pub short-down : (rs : List Route) (p p′ j : ℕ) → p ≤ p′ → p′ ≤ 32 → long rs p (j / 2 ^ (p′ - p)) ≡ false → long rs p′ j ≡ false
+short-down rs p p′ j h u e = fails (long rs p′ j) (long rs p (j / 2 ^ (p′ - p))) (long-down rs p p′ j h u) e

@@ -10,12 +10,15 @@ use lib.ListN.{getD, length, set, length-set, length-map}
 use lib.Seq.{getD-set-same, getD-set-other, ext-getD}
 use borrow.Author.Tests.{lt-ltb, le-ltb}
 use Rattle.bits.proofs.Tests.{decided, below?, equal?}
-use Rattle.sail.specs.Level.{entry}
+use Rattle.bits.specs.Slot.{slot}
+use Rattle.standing.specs.Cells.{long}
+use Rattle.routes.specs.declared.Route.{Route}
+use Rattle.sail.specs.Level.{Level, deep, entry, chunksOf}
 use Rattle.sail_theory.specs.Render.{find, Fits}
 use Rattle.sail_theory.specs.Calls.{grant, keep}
 use Rattle.sail_theory.proofs.Chunks.{chunk-at, free-zero}
-use Rattle.sail_theory.proofs.Places.{Apart}
-use Rattle.sail_theory.proofs.Owners.{fits-held, fits-hung}
+use Rattle.sail_theory.proofs.Places.{Apart, Served}
+use Rattle.sail_theory.proofs.Owners.{fits-held, fits-hung, Closed}
 
 -- a chunk that is had already, and one that is given
 pub grant-had : (own : List ℕ) (c q : ℕ) → find own (suc q) < length own → grant own c q ≡ own
@@ -54,15 +57,15 @@ grant-lowest own q c x was now = go (had? own q) (equal? c (find own 0))
     go (inr h) (inr y) = absurd (omega (arith, getD-set-other own (find own 0) c (suc q) 0 y, ap (λ (l : List ℕ). getD l c 0) (grant-new own (find own 0) q h)))
 
 -- one cell more is deep, and its place has a chunk
-module _ (deep deep′ : ℕ → Bool) (n : ℕ) (live : ℕ → Bool) (at : ℕ → ℕ) (own : List ℕ) (f : Fits deep n live at (length own) (entry own))
-    (q : ℕ) (ql : q < n) (lq : live q ≡ true) (now : deep′ (at q) ≡ true)
-    (others : (x : ℕ) → x < n → live x ≡ true → x ≢ q → deep′ (at x) ≡ deep (at x)) where
-  pub grant-fits : (c : ℕ) → (length own ≤ find own (suc q) → (c < length own) × (getD own c 0 ≡ 0)) → Fits deep′ n live at (length (grant own c q)) (entry (grant own c q))
-  grant-fits c space = rw length-grant (go (had? own q))
+module _ (rs rs′ : List Route) (v : Level) (own : List ℕ) (f : Fits rs v (chunksOf own))
+    (q : ℕ) (ql : q < v .places) (lq : v .live q ≡ true) (now : deep rs′ v q ≡ true)
+    (others : (x : ℕ) → x < v .places → v .live x ≡ true → x ≢ q → deep rs′ v x ≡ deep rs v x) where
+  pub grant-fits : (c : ℕ) → (length own ≤ find own (suc q) → (c < length own) × (getD own c 0 ≡ 0)) → Fits rs′ v (chunksOf (grant own c q))
+  grant-fits c space = go (had? own q)
     where
-      go : (find own (suc q) < length own) ⊎ (length own ≤ find own (suc q)) → Fits deep′ n live at (length own) (entry (grant own c q))
-      go (inl h) = rw (grant-had own c q h) (fits-held deep deep′ n live at (length own) (entry own) f q ql lq now others h)
-      go (inr h) = rw (grant-new own c q h) (fits-hung deep deep′ n live at (length own) (entry own) f q ql lq now others (entry (set own c (suc q))) h c (space h .0) (space h .1)
+      go : (find own (suc q) < length own) ⊎ (length own ≤ find own (suc q)) → Fits rs′ v (chunksOf (grant own c q))
+      go (inl h) = rw (grant-had own c q h) (fits-held rs rs′ v (chunksOf own) f q ql lq now others h)
+      go (inr h) = rw (grant-new own c q h) (fits-hung rs rs′ v (chunksOf own) f q ql lq now others (chunksOf (set own c (suc q))) (length-set own c (suc q)) h c (space h .0) (space h .1)
           (getD-set-same own c (suc q) 0 (space h .0)) (λ k y. getD-set-other own c k (suc q) 0 y))
 
 -- what is closed
@@ -70,95 +73,112 @@ either-zero : (b : Bool) → _≡_ {A = ℕ} (cond b 0 0) 0
 either-zero true = refl
 either-zero false = refl
 
-pub getD-keep : (deep : ℕ → Bool) (at : ℕ → ℕ) (own : List ℕ) (c : ℕ) → getD (keep deep at own) c 0 ≡ cond (deep (at (getD own c 0 - 1))) (getD own c 0) 0
+pub getD-keep : (rs : List Route) (v : Level) (own : List ℕ) (c : ℕ) → getD (keep rs v own) c 0 ≡ cond (deep rs v (getD own c 0 - 1)) (getD own c 0) 0
 unfolding keep
-getD-keep deep at [] c = sym (either-zero (deep (at (0 - 1))))
-getD-keep deep at (o ∷ own) zero = refl
-getD-keep deep at (o ∷ own) (suc c) = getD-keep deep at own c
+getD-keep rs v [] c = sym (either-zero (deep rs v (0 - 1)))
+getD-keep rs v (o ∷ own) zero = refl
+getD-keep rs v (o ∷ own) (suc c) = getD-keep rs v own c
 
-pub length-keep : (deep : ℕ → Bool) (at : ℕ → ℕ) (own : List ℕ) → length (keep deep at own) ≡ length own
+pub length-keep : (rs : List Route) (v : Level) (own : List ℕ) → length (keep rs v own) ≡ length own
 unfolding keep
-length-keep deep at own = length-map own _
+length-keep rs v own = length-map own _
 
-module _ (deep : ℕ → Bool) (at : ℕ → ℕ) (own : List ℕ) where
+module _ (rs : List Route) (v : Level) (own : List ℕ) where
   -- an owner that is left was there, and is deep; one that was there and is deep is left
-  pub kept-was : (c q : ℕ) → getD (keep deep at own) c 0 ≡ suc q → (getD own c 0 ≡ suc q) × (deep (at q) ≡ true)
-  kept-was c q e = go (deep (at (getD own c 0 - 1))) refl (sym (getD-keep deep at own c) ∙ e)
+  pub kept-was : (c q : ℕ) → getD (keep rs v own) c 0 ≡ suc q → (getD own c 0 ≡ suc q) × (deep rs v q ≡ true)
+  kept-was c q e = go (deep rs v (getD own c 0 - 1)) refl (sym (getD-keep rs v own c) ∙ e)
     where
-      go : (b : Bool) → deep (at (getD own c 0 - 1)) ≡ b → cond b (getD own c 0) 0 ≡ suc q → (getD own c 0 ≡ suc q) × (deep (at q) ≡ true)
-      go true d z = (z, sym (ap (λ (x : ℕ). deep (at x)) (let y : getD own c 0 - 1 ≡ q = omega arith in y)) ∙ d)
+      go : (b : Bool) → deep rs v (getD own c 0 - 1) ≡ b → cond b (getD own c 0) 0 ≡ suc q → (getD own c 0 ≡ suc q) × (deep rs v q ≡ true)
+      go true d z = (z, sym (ap (λ (x : ℕ). deep rs v x) (let y : getD own c 0 - 1 ≡ q = omega arith in y)) ∙ d)
       go false d z = absurd (omega arith)
 
-  pub kept-stays : (c q : ℕ) → getD own c 0 ≡ suc q → deep (at q) ≡ true → getD (keep deep at own) c 0 ≡ suc q
+  pub kept-stays : (c q : ℕ) → getD own c 0 ≡ suc q → deep rs v q ≡ true → getD (keep rs v own) c 0 ≡ suc q
   kept-stays c q e d =
       let y : getD own c 0 - 1 ≡ q = omega arith in
-      getD-keep deep at own c ∙ rw (y, d) e
+      getD-keep rs v own c ∙ rw (y, d) e
+
+-- so it is closed
+pub keep-closed : (rs : List Route) (v : Level) (own : List ℕ) → Closed rs v (chunksOf own) (chunksOf (keep rs v own))
+keep-closed rs v own = record { many = length-keep rs v own; was = kept-was rs v own; stays = kept-stays rs v own }
 
 -- nothing is closed where every chunk in use hangs from a cell that is deep
-pub keep-all : (deep : ℕ → Bool) (at : ℕ → ℕ) (own : List ℕ) → ((c x : ℕ) → c < length own → getD own c 0 ≡ suc x → deep (at x) ≡ true) → keep deep at own ≡ own
-keep-all deep at own h = ext-getD 0 (keep deep at own) own (length-keep deep at own) (λ c l. kept c (rw length-keep at l))
+pub keep-all : (rs : List Route) (v : Level) (own : List ℕ) → ((c x : ℕ) → c < length own → getD own c 0 ≡ suc x → deep rs v x ≡ true) → keep rs v own ≡ own
+keep-all rs v own h = ext-getD 0 (keep rs v own) own (length-keep rs v own) (λ c l. kept c (rw length-keep at l))
   where
-    kept : (c : ℕ) → c < length own → getD (keep deep at own) c 0 ≡ getD own c 0
-    kept c l = getD-keep deep at own c ∙ go (equal? (getD own c 0) 0)
+    kept : (c : ℕ) → c < length own → getD (keep rs v own) c 0 ≡ getD own c 0
+    kept c l = getD-keep rs v own c ∙ go (equal? (getD own c 0) 0)
       where
-        go : (getD own c 0 ≡ 0) ⊎ (getD own c 0 ≢ 0) → cond (deep (at (getD own c 0 - 1))) (getD own c 0) 0 ≡ getD own c 0
-        go (inl e) = rw e (either-zero (deep (at (0 - 1))))
+        go : (getD own c 0 ≡ 0) ⊎ (getD own c 0 ≢ 0) → cond (deep rs v (getD own c 0 - 1)) (getD own c 0) 0 ≡ getD own c 0
+        go (inl e) = rw e (either-zero (deep rs v (0 - 1)))
         go (inr e) = let o : getD own c 0 ≡ suc (getD own c 0 - 1) = omega arith in rw (h c (getD own c 0 - 1) l o)
 
--- One cell alone, i, may be deep no longer; its place, where it is deep, is q. Where it was deep and is no more, its chunk is closed, and no other.
-module _ (deep deep′ : ℕ → Bool) (n : ℕ) (live : ℕ → Bool) (at : ℕ → ℕ) (own : List ℕ) (f : Fits deep n live at (length own) (entry own)) (apart : Apart n live at) (i q : ℕ)
-    (others : (j : ℕ) → j ≢ i → deep′ j ≡ deep j) (here : deep i ≡ true → (q < n) × (live q ≡ true) × (at q ≡ i)) where
-  keep-same : (deep′ i ≡ true) ⊎ (deep i ≡ false) → keep deep′ at own ≡ own
-  keep-same w = keep-all deep′ at own (λ c x l e. is x (f .lies c x l e .2) (equal? (at x) i) w)
-    where
-      is : (x : ℕ) → deep (at x) ≡ true → (at x ≡ i) ⊎ (at x ≢ i) → (deep′ i ≡ true) ⊎ (deep i ≡ false) → deep′ (at x) ≡ true
-      is x k (inr y) w = others (at x) y ∙ k
-      is x k (inl y) (inl d) = ap deep′ y ∙ d
-      is x k (inl y) (inr d) = absurd (true≢false (sym k ∙ ap deep y ∙ d))
+-- The cell of one address alone, a, may be long no longer. Where it was long and is no more, its chunk is closed, and no other.
+pub record Losing (rs rs′ : List Route) (a : ℕ) (v : Level) (own : List ℕ) : Type 0 where
+  pub fits : Fits rs v (chunksOf own)
+  pub apart : Apart v
+  pub others : (j : ℕ) → j ≢ slot (v .bits) a → long rs′ (v .bits) j ≡ long rs (v .bits) j
+  pub served : long rs (v .bits) (slot (v .bits) a) ≡ true → Served v a
 
-  keep-but : deep i ≡ true → deep′ i ≡ false → keep deep′ at own ≡ set own (find own (suc q)) 0
-  keep-but d d′ =
-      ext-getD 0 (keep deep′ at own) (set own (find own (suc q)) 0) (length-keep deep′ at own ∙ sym (length-set own (find own (suc q)) 0)) (λ c l. go c (rw length-keep at l) (equal? c (find own (suc q))) (equal? (getD own c 0) 0))
+module _ (rs rs′ : List Route) (a : ℕ) (v : Level) (own : List ℕ) (w : Losing rs rs′ a v own) where
+  abbrev i : ℕ
+  i = slot (v .bits) a
+
+  abbrev q : ℕ
+  q = v .serving a
+
+  -- nothing is closed where its cell was not long, or is long still
+  pub keep-same : (long rs′ (v .bits) i ≡ true) ⊎ (long rs (v .bits) i ≡ false) → keep rs′ v own ≡ own
+  keep-same z = keep-all rs′ v own (λ c x l e. is x (w .fits .lies c x l e .2) (equal? (v .at x) i) z)
     where
-      on : (q < n) × (live q ≡ true) × (at q ≡ i)
-      on = here d
+      is : (x : ℕ) → deep rs v x ≡ true → (v .at x ≡ i) ⊎ (v .at x ≢ i) → (long rs′ (v .bits) i ≡ true) ⊎ (long rs (v .bits) i ≡ false) → deep rs′ v x ≡ true
+      is x k (inr y) _ = w .others (v .at x) y ∙ k
+      is x k (inl y) (inl d) = ap (long rs′ (v .bits)) y ∙ d
+      is x k (inl y) (inr d) = absurd (true≢false (sym k ∙ ap (long rs (v .bits)) y ∙ d))
+
+  -- else its chunk is, and no other
+  pub keep-but : long rs (v .bits) i ≡ true → long rs′ (v .bits) i ≡ false → keep rs′ v own ≡ set own (find own (suc q)) 0
+  keep-but d d′ =
+      ext-getD 0 (keep rs′ v own) (set own (find own (suc q)) 0) (length-keep rs′ v own ∙ sym (length-set own (find own (suc q)) 0)) (λ c l. go c (rw length-keep at l) (equal? c (find own (suc q))) (equal? (getD own c 0) 0))
+    where
+      on : Served v a
+      on = w .served d
 
       h : find own (suc q) < length own
-      h = f .has q (on .0) (on .1) (ap deep (on .2) ∙ d)
+      h = w .fits .has q (on .inside) (on .used) (ap (long rs (v .bits)) (on .stands) ∙ d)
 
-      go : (c : ℕ) → c < length own → (c ≡ find own (suc q)) ⊎ (c ≢ find own (suc q)) → (getD own c 0 ≡ 0) ⊎ (getD own c 0 ≢ 0) → getD (keep deep′ at own) c 0 ≡ getD (set own (find own (suc q)) 0) c 0
+      go : (c : ℕ) → c < length own → (c ≡ find own (suc q)) ⊎ (c ≢ find own (suc q)) → (getD own c 0 ≡ 0) ⊎ (getD own c 0 ≢ 0) → getD (keep rs′ v own) c 0 ≡ getD (set own (find own (suc q)) 0) c 0
       go c l (inl e) z =
-          let o : getD own c 0 ≡ suc q = rw e (chunk-at (entry own) (length own) (suc q) h) in
+          let o : getD own c 0 ≡ suc q = rw e (chunk-at (chunksOf own) (suc q) h) in
           let y : getD own c 0 - 1 ≡ q = omega arith in
-          getD-keep deep′ at own c ∙ rw (y, on .2, d′) (sym (rw e (getD-set-same own (find own (suc q)) 0 0 h)))
-      go c l (inr e) (inl z) = getD-keep deep′ at own c ∙ rw z (either-zero (deep′ (at (0 - 1)))) ∙ sym (getD-set-other own (find own (suc q)) c 0 0 e ∙ z)
+          getD-keep rs′ v own c ∙ rw (y, on .stands, d′) (sym (rw e (getD-set-same own (find own (suc q)) 0 0 h)))
+      go c l (inr e) (inl z) = getD-keep rs′ v own c ∙ rw z (either-zero (deep rs′ v (0 - 1))) ∙ sym (getD-set-other own (find own (suc q)) c 0 0 e ∙ z)
       go c l (inr e) (inr z) =
           let o : getD own c 0 ≡ suc (getD own c 0 - 1) = omega arith in
-          let k = f .lies c (getD own c 0 - 1) l o in
-          let away : at (getD own c 0 - 1) ≢ i = λ y. e (sym (f .once c (getD own c 0 - 1) l o) ∙ ap (λ (x : ℕ). find own (suc x)) (apart _ q (k .0) (on .0) (k .1) (on .1) (y ∙ sym (on .2)))) in
-          kept-stays deep′ at own c (getD own c 0 - 1) o (others _ away ∙ k .2) ∙ sym o ∙ sym (getD-set-other own (find own (suc q)) c 0 0 e)
+          let k = w .fits .lies c (getD own c 0 - 1) l o in
+          let away : v .at (getD own c 0 - 1) ≢ i = λ y. e (sym (w .fits .once c (getD own c 0 - 1) l o) ∙ ap (λ (x : ℕ). find own (suc x)) (w .apart _ q (k .0) (on .inside) (k .1) (on .used) (y ∙ sym (on .stands)))) in
+          kept-stays rs′ v own c (getD own c 0 - 1) o (w .others _ away ∙ k .2) ∙ sym o ∙ sym (getD-set-other own (find own (suc q)) c 0 0 e)
 
-  pub keep-stores : keep deep′ at own ≡ cond (deep i) (cond (deep′ i) own (set own (find own (suc q)) 0)) own
-  keep-stores = go (decided (deep i)) (decided (deep′ i))
+  pub keep-stores : keep rs′ v own ≡ cond (long rs (v .bits) i) (cond (long rs′ (v .bits) i) own (set own (find own (suc q)) 0)) own
+  keep-stores = go (decided (long rs (v .bits) i)) (decided (long rs′ (v .bits) i))
     where
-      go : (deep i ≡ true) ⊎ (deep i ≡ false) → (deep′ i ≡ true) ⊎ (deep′ i ≡ false) → keep deep′ at own ≡ cond (deep i) (cond (deep′ i) own (set own (find own (suc q)) 0)) own
+      go : (long rs (v .bits) i ≡ true) ⊎ (long rs (v .bits) i ≡ false) → (long rs′ (v .bits) i ≡ true) ⊎ (long rs′ (v .bits) i ≡ false) → keep rs′ v own ≡ cond (long rs (v .bits) i) (cond (long rs′ (v .bits) i) own (set own (find own (suc q)) 0)) own
       go (inr e) d = rw e (keep-same (inr e))
       go (inl e) (inl d) = rw (e, d) (keep-same (inl d))
       go (inl e) (inr d) = rw (e, d) (keep-but e d)
 
 -- no chunk hangs from a cell that is not deep
-pub unhung : (deep : ℕ → Bool) (n : ℕ) (live : ℕ → Bool) (at : ℕ → ℕ) (own : List ℕ) → Fits deep n live at (length own) (entry own) → (q : ℕ) → deep (at q) ≡ false → length own ≤ find own (suc q)
-unhung deep n live at own f q d = go (had? own q)
+pub unhung : (rs : List Route) (v : Level) (own : List ℕ) → Fits rs v (chunksOf own) → (q : ℕ) → deep rs v q ≡ false → length own ≤ find own (suc q)
+unhung rs v own f q d = go (had? own q)
   where
     go : (find own (suc q) < length own) ⊎ (length own ≤ find own (suc q)) → length own ≤ find own (suc q)
     go (inr h) = h
-    go (inl k) = absurd (true≢false (sym (f .lies (find own (suc q)) q k (chunk-at (entry own) (length own) (suc q) k) .2) ∙ d))
+    go (inl k) = absurd (true≢false (sym (f .lies (find own (suc q)) q k (chunk-at (chunksOf own) (suc q) k) .2) ∙ d))
 
 -- what is granted, by whether the cell was deep
-pub grant-deep : (deep : ℕ → Bool) (n : ℕ) (live : ℕ → Bool) (at : ℕ → ℕ) (own : List ℕ) → Fits deep n live at (length own) (entry own) → (c q : ℕ) → q < n → live q ≡ true
-    → grant own c q ≡ cond (deep (at q)) own (set own c (suc q))
-grant-deep deep n live at own f c q l e = go (decided (deep (at q)))
+pub grant-deep : (rs : List Route) (v : Level) (own : List ℕ) → Fits rs v (chunksOf own) → (c q : ℕ) → q < v .places → v .live q ≡ true
+    → grant own c q ≡ cond (deep rs v q) own (set own c (suc q))
+grant-deep rs v own f c q l e = go (decided (deep rs v q))
   where
-    go : (deep (at q) ≡ true) ⊎ (deep (at q) ≡ false) → grant own c q ≡ cond (deep (at q)) own (set own c (suc q))
+    go : (deep rs v q ≡ true) ⊎ (deep rs v q ≡ false) → grant own c q ≡ cond (deep rs v q) own (set own c (suc q))
     go (inl d) = rw d (grant-had own c q (f .has q l e d))
-    go (inr d) = rw d (grant-new own c q (unhung deep n live at own f q d))
+    go (inr d) = rw d (grant-new own c q (unhung rs v own f q d))

@@ -15,13 +15,15 @@ use Rattle.routes.specs.Route.{key}
 use Rattle.routes.specs.Record.{recordAt, Listed}
 use Rattle.routes.specs.Input.{routeFault, inOrder, faultAt}
 use Rattle.routes.proofs.Meaning.{RightRecord, RecordChecked, right, wrong, record-checked, fine-fault, right-records, records-right}
+use Rattle.routes.specs.declared.Route.{Route}
 use Rattle.sail.specs.Lent.{Lent}
+use Rattle.sail.specs.Level.{Level, Chunks, chunkFor, deep}
 use Rattle.sail.specs.Sizes.{sizesFault, Sized}
 use Rattle.sail.specs.Sound.{Sound}
 use Rattle.sail.specs.declared.geometry.Geometry.{Geometry}
 use Rattle.sail.specs.declared.table.Table.{Table}
 use Rattle.sail.proofs.Fitting.{Fault, none, limits, size, none-is, fault-is}
-use Rattle.sail_theory.specs.Render.{chunkFor, asAsked, Fits, Rendered}
+use Rattle.sail_theory.specs.Render.{asAsked, Fits, Rendered}
 use Rattle.sail_theory.specs.Test.{listed?, fits?, sound?}
 use Rattle.sail_theory.proofs.Rendered.{sound-rendered, rendered-sound}
 
@@ -75,55 +77,55 @@ listed-tells s n = (there, back)
         at j u (inl e) = rw e
         at j u (inr e) = rw e (eq-eqb (getD s j 0) 0 (h .zeros j (borrow.Author.Tests.ltb-false j (n * 8) e) u))
 
-module _ (deep : ℕ → Bool) (n : ℕ) (live : ℕ → Bool) (at : ℕ → ℕ) (m : ℕ) (own : ℕ → ℕ) where
+module _ (rs : List Route) (v : Level) (k : Chunks) where
   -- the test of one owner, and of one place
   abbrev owner? : ℕ → Bool
-  owner? c = eqb (own c) 0 || (ltb (own c - 1) n && (live (own c - 1) && (deep (at (own c - 1)) && eqb (chunkFor own m (own c)) c)))
+  owner? c = eqb (k .own c) 0 || (ltb (k .own c - 1) (v .places) && (v .live (k .own c - 1) && (deep rs v (k .own c - 1) && eqb (chunkFor k (k .own c)) c)))
 
   abbrev place? : ℕ → Bool
-  place? q = not (live q && deep (at q)) || ltb (chunkFor own m (suc q)) m
+  place? q = not (v .live q && deep rs v q) || ltb (chunkFor k (suc q)) (k .many)
 
-  owner-right : (c q : ℕ) → owner? c ≡ true → own c ≡ suc q → (q < n) × (live q ≡ true) × (deep (at q) ≡ true) × (chunkFor own m (suc q) ≡ c)
+  owner-right : (c q : ℕ) → owner? c ≡ true → k .own c ≡ suc q → (q < v .places) × (v .live q ≡ true) × (deep rs v q ≡ true) × (chunkFor k (suc q) ≡ c)
   owner-right c q e z = go (or-split _ _ e)
     where
-      go : (eqb (own c) 0 ≡ true) ⊎ ((ltb (own c - 1) n && (live (own c - 1) && (deep (at (own c - 1)) && eqb (chunkFor own m (own c)) c))) ≡ true)
-          → (q < n) × (live q ≡ true) × (deep (at q) ≡ true) × (chunkFor own m (suc q) ≡ c)
-      go (inl y) = absurd (omega (arith, eqb-true (own c) 0 y))
+      go : (eqb (k .own c) 0 ≡ true) ⊎ ((ltb (k .own c - 1) (v .places) && (v .live (k .own c - 1) && (deep rs v (k .own c - 1) && eqb (chunkFor k (k .own c)) c))) ≡ true)
+          → (q < v .places) × (v .live q ≡ true) × (deep rs v q ≡ true) × (chunkFor k (suc q) ≡ c)
+      go (inl y) = absurd (omega (arith, eqb-true (k .own c) 0 y))
       go (inr y) =
           let p : suc q - 1 ≡ q = omega arith in
           let y′ = rw (z, p) at y in
-          let a = and-split (ltb q n) (live q && (deep (at q) && eqb (chunkFor own m (suc q)) c)) y′ in
-          let b = and-split (live q) (deep (at q) && eqb (chunkFor own m (suc q)) c) (a .1) in
-          let d = and-split (deep (at q)) (eqb (chunkFor own m (suc q)) c) (b .1) in
-          (ltb-true q n (a .0), b .0, d .0, eqb-true _ _ (d .1))
+          let a = and-split (ltb q (v .places)) (v .live q && (deep rs v q && eqb (chunkFor k (suc q)) c)) y′ in
+          let b = and-split (v .live q) (deep rs v q && eqb (chunkFor k (suc q)) c) (a .1) in
+          let d = and-split (deep rs v q) (eqb (chunkFor k (suc q)) c) (b .1) in
+          (ltb-true q (v .places) (a .0), b .0, d .0, eqb-true _ _ (d .1))
 
-  pub fits-tells : Tells (fits? deep n live at m own) (Fits deep n live at m own)
+  pub fits-tells : Tells (fits? rs v k) (Fits rs v k)
   unfolding fits?
   fits-tells = (there, back)
     where
-      there : (every owner? m && every place? n) ≡ true → Fits deep n live at m own
+      there : (every owner? (k .many) && every place? (v .places)) ≡ true → Fits rs v k
       there e =
-          let s = and-split (every owner? m) (every place? n) e in
-          let on : (c q : ℕ) → c < m → own c ≡ suc q → (q < n) × (live q ≡ true) × (deep (at q) ≡ true) × (chunkFor own m (suc q) ≡ c)
-          = λ c q l z. owner-right c q (every-true owner? m (s .0) c l) z in
+          let s = and-split (every owner? (k .many)) (every place? (v .places)) e in
+          let on : (c q : ℕ) → c < k .many → k .own c ≡ suc q → (q < v .places) × (v .live q ≡ true) × (deep rs v q ≡ true) × (chunkFor k (suc q) ≡ c)
+          = λ c q l z. owner-right c q (every-true owner? (k .many) (s .0) c l) z in
           record {
             lies = λ c q l z. (on c q l z .0, on c q l z .1, on c q l z .2);
-            has = λ q l u d. ltb-true _ _ (simp (u, d) at (every-true place? n (s .1) q l));
+            has = λ q l u d. ltb-true _ _ (simp (u, d) at (every-true place? (v .places) (s .1) q l));
             once = λ c q l z. on c q l z .3;
           }
 
-      back : Fits deep n live at m own → (every owner? m && every place? n) ≡ true
-      back f = both (true-every owner? m (λ c l. on c l (decided (eqb (own c) 0)))) (true-every place? n (λ q l. has′ q l (decided (live q)) (decided (deep (at q)))))
+      back : Fits rs v k → (every owner? (k .many) && every place? (v .places)) ≡ true
+      back f = both (true-every owner? (k .many) (λ c l. on c l (decided (eqb (k .own c) 0)))) (true-every place? (v .places) (λ q l. has′ q l (decided (v .live q)) (decided (deep rs v q))))
         where
-          on : (c : ℕ) → c < m → (eqb (own c) 0 ≡ true) ⊎ (eqb (own c) 0 ≡ false) → owner? c ≡ true
+          on : (c : ℕ) → c < k .many → (eqb (k .own c) 0 ≡ true) ⊎ (eqb (k .own c) 0 ≡ false) → owner? c ≡ true
           on c l (inl e) = rw e
           on c l (inr e) =
-              let ne = eqb-false (own c) 0 e in
-              let z : own c ≡ suc (own c - 1) = omega arith in
-              let k = f .lies c (own c - 1) l z in
-              rw (e, lt-ltb _ _ (k .0), k .1, k .2) (eq-eqb _ _ (ap (chunkFor own m) z ∙ f .once c (own c - 1) l z))
+              let ne = eqb-false (k .own c) 0 e in
+              let z : k .own c ≡ suc (k .own c - 1) = omega arith in
+              let y = f .lies c (k .own c - 1) l z in
+              rw (e, lt-ltb _ _ (y .0), y .1, y .2) (eq-eqb _ _ (ap (chunkFor k) z ∙ f .once c (k .own c - 1) l z))
 
-          has′ : (q : ℕ) → q < n → (live q ≡ true) ⊎ (live q ≡ false) → (deep (at q) ≡ true) ⊎ (deep (at q) ≡ false) → place? q ≡ true
+          has′ : (q : ℕ) → q < v .places → (v .live q ≡ true) ⊎ (v .live q ≡ false) → (deep rs v q ≡ true) ⊎ (deep rs v q ≡ false) → place? q ≡ true
           has′ q l (inr e) d = rw e
           has′ q l (inl e) (inr d) = rw (e, d)
           has′ q l (inl e) (inl d) = rw (e, d) (lt-ltb _ _ (f .has q l e d))
@@ -143,15 +145,15 @@ module _ (t : Table) (l : Lent) where
   true-rendered e =
       let a = and-split (eqb (sizesFault (t .geometry) l) 0) _ e in
       let b = and-split (listed? (l .list) (t .count)) _ (a .1) in
-      let c = and-split (fits? _ _ _ _ _ _) _ (b .1) in
-      let d = and-split (fits? _ _ _ _ _ _) _ (c .1) in
+      let c = and-split (fits? _ _ _) _ (b .1) in
+      let d = and-split (fits? _ _ _) _ (c .1) in
       let x = and-split (same (l .first) (asAsked t l .first)) _ (d .1) in
       let y = and-split (same (l .second) (asAsked t l .second)) _ (x .1) in
       record {
         sized = sized-of (t .geometry) l (eqb-true _ _ (a .0));
         listed = listed-tells (l .list) (t .count) .0 (b .0);
-        fits2 = fits-tells _ _ _ _ _ _ .0 (c .0);
-        fits3 = fits-tells _ _ _ _ _ _ .0 (d .0);
+        fits2 = fits-tells _ _ _ .0 (c .0);
+        fits3 = fits-tells _ _ _ .0 (d .0);
         is-first = same-true _ _ (x .0);
         is-second = same-true _ _ (y .0);
         is-third = same-true _ _ (y .1);
@@ -162,8 +164,8 @@ module _ (t : Table) (l : Lent) where
   rendered-true w =
       both (eq-eqb _ _ (none-is (t .geometry) l (w .sized)))
       (both (listed-tells (l .list) (t .count) .1 (w .listed))
-      (both (fits-tells _ _ _ _ _ _ .1 (w .fits2))
-      (both (fits-tells _ _ _ _ _ _ .1 (w .fits3))
+      (both (fits-tells _ _ _ .1 (w .fits2))
+      (both (fits-tells _ _ _ .1 (w .fits3))
       (both (true-same _ _ (w .is-first)) (both (true-same _ _ (w .is-second)) (true-same _ _ (w .is-third)))))))
 
   pub sound-tells : Tells (sound? t l) (Sound t l)

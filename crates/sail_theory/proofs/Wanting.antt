@@ -20,7 +20,7 @@ use Rattle.standing.proofs.Standing.{remove-good, remove-any}
 use Rattle.standing.proofs.Changed.{insert-adds}
 use Rattle.routes.proofs.Meaning.{input-good}
 use Rattle.sail.specs.Lent.{Lent}
-use Rattle.sail.specs.Level.{entry}
+use Rattle.sail.specs.Level.{chunksOf}
 use Rattle.sail.specs.Sizes.{Sized}
 use Rattle.sail.specs.Sound.{Sound, standing}
 use Rattle.sail.specs.declared.table.Table.{Table}
@@ -77,8 +77,8 @@ module _ (t : Table) (l : Lent) (s : Sound t l) where
       let less : (p : ℕ) → p ≤ 32 → need (remove (keyOf a len) rs) p ≤ need rs p
       = λ p h. need-mono (remove (keyOf a len) rs) rs p h (remove-good (keyOf a len) rs good) good (λ i e. remove-any (within p i) (keyOf a len) rs e) in
       rw (withdraw-said t l a len ∙ farewell-said t l a len (record { prefix = f .0; sound = s; old = f .1 }))
-      (neither (omega (arith, n .0, used-le (entry (l .own2)) (length (l .own2)), less (t .geometry .p1) (omega arith)))
-      (omega (arith, n .1, used-le (entry (l .own3)) (length (l .own3)), less (t .geometry .p2) (omega arith))) [])
+      (neither (omega (arith, n .0, used-le (chunksOf (l .own2)), less (t .geometry .p1) (omega arith)))
+      (omega (arith, n .1, used-le (chunksOf (l .own3)), less (t .geometry .p2) (omega arith))) [])
 
   load-wants : (input : List ℕ) → Formed (load input) rs (roomOf l) → Wanting (termsOf t l) (inputRoutes input) (loaded t l input .said)
   load-wants input f =

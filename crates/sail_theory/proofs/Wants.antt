@@ -16,7 +16,7 @@ use Rattle.standing.specs.Cells.{long, need}
 use Rattle.standing.specs.Standing.{insert}
 use Rattle.routes.specs.declared.Route.{Route}
 use Rattle.sail.specs.Lent.{Lent}
-use Rattle.sail.specs.Level.{entry}
+use Rattle.sail.specs.Level.{chunksOf}
 use Rattle.sail.specs.Sound.{Sound, standing, used}
 use Rattle.sail.specs.declared.table.Table.{Table}
 use Rattle.sail.proofs.Sounds.{standing-good, chunks-need}
@@ -30,65 +30,50 @@ pub record Wants (rs : List Route) (r : Route) (p : ℕ) (own : List ℕ) : Type
   pub fresh : long rs p (slot p (r .addr)) ≡ false
   pub full : find own 0 ≡ length own
 
-module _ (rs : List Route) (good : Good rs) (r : Route) (fine : Fine r) (p : ℕ) (h : p ≤ 32) (own : List ℕ) (u : used own ≡ need rs p) where
+-- as many chunks are in use as the routes need
+pub record Enough (rs : List Route) (p : ℕ) (own : List ℕ) : Type 0 where
+  pub good : Good rs
+  pub small : p ≤ 32
+  pub counted : used own ≡ need rs p
+
+module _ (rs : List Route) (p : ℕ) (own : List ℕ) (w : Enough rs p own) (r : Route) (fine : Fine r) where
   -- there are enough chunks where none has to be opened, and where one is free
-  enough-short : r .len ≤ p → need (insert r rs) p ≤ length own
-  enough-short l = omega (arith, used-le (entry own) (length own), need-same r rs fine good p h (λ z. absurd (true≢false (sym z ∙ le-ltb p (r .len) l))))
+  pub enough-short : r .len ≤ p → need (insert r rs) p ≤ length own
+  enough-short l = omega (arith, w .counted, used-le (chunksOf own), need-same r rs fine (w .good) p (w .small) (λ z. absurd (true≢false (sym z ∙ le-ltb p (r .len) l))))
 
-  enough-had : long rs p (slot p (r .addr)) ≡ true → need (insert r rs) p ≤ length own
-  enough-had e = omega (arith, used-le (entry own) (length own), need-same r rs fine good p h (λ z. e))
+  pub enough-had : long rs p (slot p (r .addr)) ≡ true → need (insert r rs) p ≤ length own
+  enough-had e = omega (arith, w .counted, used-le (chunksOf own), need-same r rs fine (w .good) p (w .small) (λ z. e))
 
-  enough-free : find own 0 < length own → need (insert r rs) p ≤ length own
+  pub enough-free : find own 0 < length own → need (insert r rs) p ≤ length own
   enough-free f = go (below? p (r .len)) (decided (long rs p (slot p (r .addr))))
     where
       go : (p < r .len) ⊎ (r .len ≤ p) → (long rs p (slot p (r .addr)) ≡ true) ⊎ (long rs p (slot p (r .addr)) ≡ false) → need (insert r rs) p ≤ length own
       go (inr l) e = enough-short l
       go (inl l) (inl e) = enough-had e
-      go (inl l) (inr e) = omega (arith, free-used (entry own) (length own) f, need-more r rs fine good p h (lt-ltb p (r .len) l) e)
+      go (inl l) (inr e) = omega (arith, w .counted, free-used (chunksOf own) f, need-more r rs fine (w .good) p (w .small) (lt-ltb p (r .len) l) e)
 
   -- and not where one has to be and none is
   wanting : Wants rs r p own → length own < need (insert r rs) p
-  wanting w = go (below? (used own) (length own))
+  wanting z = go (below? (used own) (length own))
     where
       go : (used own < length own) ⊎ (length own ≤ used own) → length own < need (insert r rs) p
-      go (inl y) = absurd (omega (arith, used-free (entry own) (length own) y, w .full))
-      go (inr y) = omega (arith, need-more r rs fine good p h (lt-ltb p (r .len) (w .longer)) (w .fresh))
+      go (inl y) = absurd (omega (arith, w .counted, used-free (chunksOf own) y, z .full))
+      go (inr y) = omega (arith, w .counted, need-more r rs fine (w .good) p (w .small) (lt-ltb p (r .len) (z .longer)) (z .fresh))
 
-  want : Tells (ltb (length own) (need (insert r rs) p)) (Wants rs r p own)
-  want = ((λ e. there (ltb-true _ _ e) (below? p (r .len)) (decided (long rs p (slot p (r .addr)))) (below? (find own 0) (length own))), (λ w. lt-ltb _ _ (wanting w)))
+  pub want : Tells (ltb (length own) (need (insert r rs) p)) (Wants rs r p own)
+  want = ((λ e. there (ltb-true _ _ e) (below? p (r .len)) (decided (long rs p (slot p (r .addr)))) (below? (find own 0) (length own))), (λ z. lt-ltb _ _ (wanting z)))
     where
       there : length own < need (insert r rs) p → (p < r .len) ⊎ (r .len ≤ p) → (long rs p (slot p (r .addr)) ≡ true) ⊎ (long rs p (slot p (r .addr)) ≡ false)
           → (find own 0 < length own) ⊎ (length own ≤ find own 0) → Wants rs r p own
-      there k (inr l) e f = absurd (omega (arith, enough-short l))
-      there k (inl l) (inl e) f = absurd (omega (arith, enough-had e))
-      there k (inl l) (inr e) (inl f) = absurd (omega (arith, enough-free f))
-      there k (inl l) (inr e) (inr f) = record { longer = l; fresh = e; full = omega (arith, chunk-le (entry own) (length own) 0) }
+      there k (inr l) e f = absurd (omega (arith, w .counted, enough-short l))
+      there k (inl l) (inl e) f = absurd (omega (arith, w .counted, enough-had e))
+      there k (inl l) (inr e) (inl f) = absurd (omega (arith, w .counted, enough-free f))
+      there k (inl l) (inr e) (inr f) = record { longer = l; fresh = e; full = omega (arith, w .counted, chunk-le (chunksOf own) 0) }
 
 -- in a sound table: the second chunks by p1, and the third by p2
-module _ (t : Table) (l : Lent) (s : Sound t l) (r : Route) (fine : Fine r) where
-  abbrev rs : List Route
-  rs = standing t l
+module _ (t : Table) (l : Lent) (s : Sound t l) where
+  pub seven : Enough (standing t l) (t .geometry .p1) (l .own2)
+  seven = let v = s .sized .valid in record { good = standing-good t l s; small = omega arith; counted = chunks-need t l s .0 }
 
-  pub short-seven : r .len ≤ t .geometry .p1 → need (insert r rs) (t .geometry .p1) ≤ length (l .own2)
-  short-seven = let v = s .sized .valid in enough-short rs (standing-good t l s) r fine (t .geometry .p1) (omega arith) (l .own2) (chunks-need t l s .0)
-
-  pub had-seven : long rs (t .geometry .p1) (slot (t .geometry .p1) (r .addr)) ≡ true → need (insert r rs) (t .geometry .p1) ≤ length (l .own2)
-  had-seven = let v = s .sized .valid in enough-had rs (standing-good t l s) r fine (t .geometry .p1) (omega arith) (l .own2) (chunks-need t l s .0)
-
-  pub free-seven : find (l .own2) 0 < length (l .own2) → need (insert r rs) (t .geometry .p1) ≤ length (l .own2)
-  free-seven = let v = s .sized .valid in enough-free rs (standing-good t l s) r fine (t .geometry .p1) (omega arith) (l .own2) (chunks-need t l s .0)
-
-  pub want-seven : Tells (ltb (length (l .own2)) (need (insert r rs) (t .geometry .p1))) (Wants rs r (t .geometry .p1) (l .own2))
-  want-seven = let v = s .sized .valid in want rs (standing-good t l s) r fine (t .geometry .p1) (omega arith) (l .own2) (chunks-need t l s .0)
-
-  pub short-eight : r .len ≤ t .geometry .p2 → need (insert r rs) (t .geometry .p2) ≤ length (l .own3)
-  short-eight = let v = s .sized .valid in enough-short rs (standing-good t l s) r fine (t .geometry .p2) (omega arith) (l .own3) (chunks-need t l s .1)
-
-  pub had-eight : long rs (t .geometry .p2) (slot (t .geometry .p2) (r .addr)) ≡ true → need (insert r rs) (t .geometry .p2) ≤ length (l .own3)
-  had-eight = let v = s .sized .valid in enough-had rs (standing-good t l s) r fine (t .geometry .p2) (omega arith) (l .own3) (chunks-need t l s .1)
-
-  pub free-eight : find (l .own3) 0 < length (l .own3) → need (insert r rs) (t .geometry .p2) ≤ length (l .own3)
-  free-eight = let v = s .sized .valid in enough-free rs (standing-good t l s) r fine (t .geometry .p2) (omega arith) (l .own3) (chunks-need t l s .1)
-
-  pub want-eight : Tells (ltb (length (l .own3)) (need (insert r rs) (t .geometry .p2))) (Wants rs r (t .geometry .p2) (l .own3))
-  want-eight = let v = s .sized .valid in want rs (standing-good t l s) r fine (t .geometry .p2) (omega arith) (l .own3) (chunks-need t l s .1)
+  pub eight : Enough (standing t l) (t .geometry .p2) (l .own3)
+  eight = let v = s .sized .valid in record { good = standing-good t l s; small = omega arith; counted = chunks-need t l s .1 }

@@ -2,26 +2,24 @@
 -- at exit, for every state and every contents. Assumes nothing.
 use mathlib.Core.Bool.{Bool, not, cond}
 use mathlib.Core.List.{List, [], _∷_, map}
-use Prim.Native.Nat.{ℕ, zero, suc, _+_, _-_, _*_, _/_, _%_, _^_}
+use Prim.Native.Nat.{ℕ, zero, suc, _-_, _/_}
 use lib.Dec.{ltb, leb}
 use lib.ListN.{length, set, replicate}
-use Rattle.bits.specs.Slot.{slot}
 use Rattle.bits.specs.Count.{bit}
 use Rattle.routes.specs.Route.{keyOf}
-use Rattle.standing.specs.Cells.{long, need}
+use Rattle.standing.specs.Cells.{need}
 use Rattle.routes.specs.Record.{routesOf}
 use Rattle.routes.specs.Input.{properPrefix, hopFine, inputSaid}
 use Rattle.routes.specs.Said.{Said, accepted, refused, refusedAt, andThen}
 use Rattle.standing.specs.Standing.{stands, insert, remove}
 use Rattle.routes.specs.declared.Route.{Route}
-use Rattle.sail.specs.Geometry.{bits2}
 use Rattle.sail.specs.Lent.{Lent}
-use Rattle.sail.specs.Level.{itself}
+use Rattle.sail.specs.Level.{Level, deep, chunksOf, level1, level2}
 use Rattle.sail.specs.Sizes.{sizesFault}
 use Rattle.sail.specs.Sound.{standing, freshTable, freshLent}
 use Rattle.sail.specs.declared.geometry.Geometry.{Geometry}
 use Rattle.sail.specs.declared.table.Table.{Table}
-use Rattle.sail_theory.specs.Render.{find, at2, rendered, roomOf}
+use Rattle.sail_theory.specs.Render.{find, rendered, roomOf}
 use Rattle.sail_theory.specs.Test.{sound?}
 
 -- Owners.
@@ -34,27 +32,17 @@ pub record Owners : Type 0 where
 unfoldable pub grant : List ℕ → ℕ → ℕ → List ℕ
 grant own c q = cond (ltb (find own (suc q)) (length own)) own (set own c (suc q))
 
--- the place in the second pool that serves the address a
-abbrev pub placeIn : Geometry → List ℕ → ℕ → ℕ
-placeIn g own2 a = find own2 (suc (slot (g .p1) a)) * 2 ^ bits2 g + slot (g .p2) a % 2 ^ bits2 g
-
--- a route longer than p1 has a second chunk, one longer than p2 a third; if it had none, it is c
-unfoldable pub openAt2 : Geometry → List ℕ → ℕ → Route → List ℕ
-openAt2 g own2 c r = cond (ltb (g .p1) (r .len)) (grant own2 c (slot (g .p1) (r .addr))) own2
-
-unfoldable pub openAt3 : Geometry → List ℕ → List ℕ → ℕ → Route → List ℕ
-openAt3 g own2 own3 c r = cond (ltb (g .p2) (r .len)) (grant own3 c (placeIn g own2 (r .addr))) own3
+-- a route longer than the level has a chunk, which hangs from the place that serves its address; if it had none, it is c
+unfoldable pub openAt : Level → List ℕ → ℕ → Route → List ℕ
+openAt v own c r = cond (ltb (v .bits) (r .len)) (grant own c (v .serving (r .addr))) own
 
 -- "A newly opened chunk takes the lowest free number"
-abbrev pub open2 : Geometry → List ℕ → Route → List ℕ
-open2 g own2 r = openAt2 g own2 (find own2 0) r
-
-abbrev pub open3 : Geometry → List ℕ → List ℕ → Route → List ℕ
-open3 g own2 own3 r = openAt3 g own2 own3 (find own3 0) r
+abbrev pub opening : Level → List ℕ → Route → List ℕ
+opening v own r = openAt v own (find own 0) r
 
 -- the owners after r is announced
 abbrev pub opened : Geometry → Owners → Route → Owners
-opened g o r = record { own2 = open2 g (o .own2) r; own3 = open3 g (open2 g (o .own2) r) (o .own3) r }
+opened g o r = record { own2 = opening (level1 g) (o .own2) r; own3 = opening (level2 g (chunksOf (opening (level1 g) (o .own2) r))) (o .own3) r }
 
 -- after each of these is, in order
 unfoldable pub settled : Geometry → Owners → List Route → Owners
@@ -62,18 +50,12 @@ settled g o [] = o
 settled g o (r ∷ rs) = settled g (opened g o r) rs
 
 -- owners whose cell is no longer deep are 0
-unfoldable pub keep : (ℕ → Bool) → (ℕ → ℕ) → List ℕ → List ℕ
-keep deep at own = map (λ o. cond (deep (at (o - 1))) o 0) own
-
-abbrev pub keep2 : Geometry → List Route → List ℕ → List ℕ
-keep2 g rs own2 = keep (long rs (g .p1)) itself own2
-
-abbrev pub keep3 : Geometry → List Route → List ℕ → List ℕ → List ℕ
-keep3 g rs own2 own3 = keep (long rs (g .p2)) (at2 g own2) own3
+unfoldable pub keep : List Route → Level → List ℕ → List ℕ
+keep rs v own = map (λ o. cond (deep rs v (o - 1)) o 0) own
 
 -- "closes chunks that are no longer needed": the owners after a withdrawal that leaves these routes
 abbrev pub kept : Geometry → List Route → Owners → Owners
-kept g rs o = record { own2 = keep2 g rs (o .own2); own3 = keep3 g rs (o .own2) (o .own3) }
+kept g rs o = record { own2 = keep rs (level1 g) (o .own2); own3 = keep rs (level2 g (chunksOf (o .own2))) (o .own3) }
 
 abbrev pub ownersOf : Lent → Owners
 ownersOf l = record { own2 = l .own2; own3 = l .own3 }

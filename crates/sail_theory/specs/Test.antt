@@ -2,19 +2,18 @@
 -- way, and show that they tell the same. Assumes nothing.
 use mathlib.Core.Bool.{Bool, _&&_, _||_, not}
 use mathlib.Core.List.{List}
-use Prim.Native.Nat.{ℕ, suc, _-_, _*_, _%_, _^_}
+use Prim.Native.Nat.{ℕ, suc, _-_, _*_, _%_}
 use lib.Dec.{eqb, ltb, leb}
 use lib.ListN.{getD, length}
 use Rattle.bits.specs.Tab.{every, same}
-use Rattle.standing.specs.Cells.{long}
+use Rattle.routes.specs.declared.Route.{Route}
 use Rattle.routes.specs.Input.{faultAt}
-use Rattle.sail.specs.Geometry.{bits2}
 use Rattle.sail.specs.Lent.{Lent}
-use Rattle.sail.specs.Level.{always, itself, liveIn, entry}
+use Rattle.sail.specs.Level.{Level, Chunks, chunkFor, deep, chunksOf, level1, level2}
 use Rattle.sail.specs.Sizes.{sizesFault}
 use Rattle.sail.specs.Sound.{standing}
 use Rattle.sail.specs.declared.table.Table.{Table}
-use Rattle.sail_theory.specs.Render.{chunkFor, at2, asAsked}
+use Rattle.sail_theory.specs.Render.{asAsked}
 
 -- whole records, the first n of them good, and zero bytes after them
 unfoldable pub listed? : List ℕ → ℕ → Bool
@@ -25,18 +24,18 @@ listed? s n =
     && (every (λ k. eqb (faultAt s k) 0) n
     && every (λ j. ltb j (n * 8) || eqb (getD s j 0) 0) (length s))))
 
--- the owners fit
-unfoldable pub fits? : (ℕ → Bool) → ℕ → (ℕ → Bool) → (ℕ → ℕ) → ℕ → (ℕ → ℕ) → Bool
-fits? deep n live at m own =
-    every (λ c. eqb (own c) 0 || (ltb (own c - 1) n && (live (own c - 1) && (deep (at (own c - 1)) && eqb (chunkFor own m (own c)) c)))) m
-    && every (λ q. not (live q && deep (at q)) || ltb (chunkFor own m (suc q)) m) n
+-- the chunks fit the level
+unfoldable pub fits? : List Route → Level → Chunks → Bool
+fits? rs v k =
+    every (λ c. eqb (k .own c) 0 || (ltb (k .own c - 1) (v .places) && (v .live (k .own c - 1) && (deep rs v (k .own c - 1) && eqb (chunkFor k (k .own c)) c)))) (k .many)
+    && every (λ q. not (v .live q && deep rs v q) || ltb (chunkFor k (suc q)) (k .many)) (v .places)
 
 unfoldable pub sound? : Table → Lent → Bool
 sound? t l =
     eqb (sizesFault (t .geometry) l) 0
     && (listed? (l .list) (t .count)
-    && (fits? (long (standing t l) (t .geometry .p1)) (2 ^ t .geometry .p1) always itself (length (l .own2)) (entry (l .own2))
-    && (fits? (long (standing t l) (t .geometry .p2)) (length (l .own2) * 2 ^ bits2 (t .geometry)) (liveIn (entry (l .own2)) (bits2 (t .geometry))) (at2 (t .geometry) (l .own2)) (length (l .own3)) (entry (l .own3))
+    && (fits? (standing t l) (level1 (t .geometry)) (chunksOf (l .own2))
+    && (fits? (standing t l) (level2 (t .geometry) (chunksOf (l .own2))) (chunksOf (l .own3))
     && (same (l .first) (asAsked t l .first)
     && (same (l .second) (asAsked t l .second)
     && same (l .third) (asAsked t l .third))))))

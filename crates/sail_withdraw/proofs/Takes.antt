@@ -21,8 +21,9 @@ use Rattle.sail.specs.Lent.{Lent, lent}
 use Rattle.sail.specs.Sound.{standing}
 use Rattle.sail.specs.declared.geometry.Geometry.{Geometry}
 use Rattle.sail.specs.declared.table.Table.{Table}
-use Rattle.sail_theory.specs.Render.{find, rendered}
-use Rattle.sail_theory.specs.Calls.{placeIn, keep2, keep3, withdrawSaid, out, withdrawn}
+use Rattle.sail_theory.specs.Render.{find}
+use Rattle.sail_theory.specs.Calls.{keep, withdrawSaid, out, withdrawn}
+use Rattle.sail.specs.Level.{chunksOf, level1, level2}
 use Rattle.sail_theory.specs.Facts.{Farewell}
 use Rattle.sail_theory.proofs.Accepted.{count-removed, withdraw-is, withdraw-off}
 use Rattle.sail_paint.specs.Stale.{Repainted}
@@ -101,7 +102,7 @@ module _ (t : Table) (l : Lent) (a len : ℕ) (w : Farewell t l a len) where
       chunk2 : alone left (g .p1) a len ≡ true → v1 - 1 ≡ find (l .own2) (suc (slot (g .p1) a))
       chunk2 q = told-chunk _ v1 _ _ (k .first) (was-long t l a len w (g .p1) (alone-longer left (g .p1) a len q))
 
-      chunk3 : alone left (g .p2) a len ≡ true → v2 - 1 ≡ find (l .own3) (suc (placeIn g (l .own2) a))
+      chunk3 : alone left (g .p2) a len ≡ true → v2 - 1 ≡ find (l .own3) (suc (level2 g (chunksOf (l .own2)) .serving a))
       chunk3 q = told-chunk _ v2 _ _ (k .second) (was-long t l a len w (g .p2) (alone-longer left (g .p2) a len q))
 
       pub take-second : Closable s m (g .p1) a len v1 (bits2 g) (l .own2) (l .second)
@@ -125,16 +126,16 @@ module _ (t : Table) (l : Lent) (a len : ℕ) (w : Farewell t l a len) where
       module _ (own2 own3 second third : List ℕ)
           (o2 : own2 ≡ closed (alone (routesOf s m) (g .p1) a len) (v1 - 1) (l .own2)) (s2 : second ≡ blanked (alone (routesOf s m) (g .p1) a len) (v1 - 1) (bits2 g) (l .second))
           (o3 : own3 ≡ closed (alone (routesOf s m) (g .p2) a len) (v2 - 1) (l .own3)) (s3 : third ≡ blanked (alone (routesOf s m) (g .p2) a len) (v2 - 1) (bits3 g) (l .third)) where
-        own2-is : own2 ≡ keep2 g left (l .own2)
+        own2-is : own2 ≡ keep left (level1 g) (l .own2)
         own2-is = o2 ∙ rw (holds .routes) (same-closed _ _ _ chunk2 (l .own2) ∙ sym (keep2-closed t l a len w))
 
-        own3-is : own3 ≡ keep3 g left (l .own2) (l .own3)
+        own3-is : own3 ≡ keep left (level2 g (chunksOf (l .own2))) (l .own3)
         own3-is = o3 ∙ rw (holds .routes) (same-closed _ _ _ chunk3 (l .own3) ∙ sym (keep3-closed t l a len w))
 
         second-is : second ≡ blanked (alone left (g .p1) a len) (find (l .own2) (suc (slot (g .p1) a))) (bits2 g) (l .second)
         second-is = s2 ∙ rw (holds .routes) (same-blanked _ _ _ chunk2 (bits2 g) (l .second))
 
-        third-is : third ≡ blanked (alone left (g .p2) a len) (find (l .own3) (suc (placeIn g (l .own2) a))) (bits3 g) (l .third)
+        third-is : third ≡ blanked (alone left (g .p2) a len) (find (l .own3) (suc (level2 g (chunksOf (l .own2)) .serving a))) (bits3 g) (l .third)
         third-is = s3 ∙ rw (holds .routes) (same-blanked _ _ _ chunk3 (bits3 g) (l .third))
 
         pub take-pending : (x : ℕ) → x ≡ len → Pending g m a x (lent s (l .first) second third own2 own3)
@@ -145,7 +146,7 @@ module _ (t : Table) (l : Lent) (a len : ℕ) (w : Farewell t l a len) where
 
         module _ (first′ second′ third′ : List ℕ) (h : Repainted g (routesOf s m) (lent [] (l .first) second third own2 own3) first′ second′ third′) where
           pub take-done : out (saysWithdraw withdraw.Removed) (record { geometry = g; count = m }) (lent s first′ second′ third′ own2 own3) ≡ withdrawn t l a len
-          unfolding rendered saysWithdraw
+          unfolding saysWithdraw
           take-done =
               let h′ = rw (holds .routes) at h in
               rw (count-is, list-is, h′ .is-first, h′ .is-second, h′ .is-third, own2-is, own3-is) (sym (withdraw-is t l a len w))
