@@ -11,8 +11,8 @@ use borrow.Author.Tests.{leb-true, le-leb, lt-leb, eqb-true, eq-eqb, ne-eqb}
 use Rattle.bits.specs.Tab.{Tells}
 use Rattle.bits.proofs.Tests.{both, and-split, untrue, decided}
 use Rattle.sail.specs.Geometry.{bits2, bits3, validGeo, Valid}
-use Rattle.sail.specs.Lent.{Lent}
-use Rattle.sail.specs.Sizes.{sizesFit, lengthsFit, sizesFault, Sized, Checked}
+use Rattle.sail.specs.Lent.{Lent, cellsOf}
+use Rattle.sail.specs.Sizes.{sizesFit, lengthsFit, sizesFault, Sized, Celled, Checked}
 use Rattle.sail.specs.declared.geometry.Geometry.{Geometry}
 use Rattle.sail.proofs.Geos.{valid-is}
 
@@ -134,3 +134,7 @@ module _ (g : Geometry) (l : Lent) where
 
   pub checked-2 : (b : Bool) → Valid g → b ≡ lengthsFit g l → b ≡ false → Checked 2 g l
   checked-2 b v e n = record { number = sym (size-is v (λ s. true≢false (sym (fit s) ∙ sym e ∙ n))); facts = λ e. absurd (omega arith) }
+
+  -- the cells and owners of a table of the right sizes
+  pub celled-of : Sized g l → Celled g (cellsOf l)
+  celled-of s = record { valid = s .valid; cells1 = s .cells1; few2 = s .few2; cells2 = s .cells2; few3 = s .few3; cells3 = s .cells3 }

@@ -5,7 +5,7 @@ use Prim.Native.Nat.{ℕ, _*_, _%_, _^_, _≤_}
 use lib.Dec.{eqb, leb}
 use lib.ListN.{length}
 use Rattle.sail.specs.Geometry.{bits2, bits3, validGeo, Valid}
-use Rattle.sail.specs.Lent.{Lent}
+use Rattle.sail.specs.Lent.{Lent, Cells}
 use Rattle.sail.specs.declared.geometry.Geometry.{Geometry}
 
 -- "the list, 0 to 4,096 records of room; 2^p1 first cells; a second pool of 0 to 4,096 chunks of 2^(p2 - p1) cells; a third pool of
@@ -33,6 +33,15 @@ pub record Sized (g : Geometry) (l : Lent) : Type 0 where
   pub valid : Valid g
   pub whole : length (l .list) % 8 ≡ 0
   pub room : length (l .list) ≤ 4096 * 8
+  pub cells1 : length (l .first) ≡ 2 ^ g .p1
+  pub few2 : length (l .own2) ≤ 4096
+  pub cells2 : length (l .second) ≡ length (l .own2) * 2 ^ bits2 g
+  pub few3 : length (l .own3) ≤ 4096
+  pub cells3 : length (l .third) ≡ length (l .own3) * 2 ^ bits3 g
+
+-- of these, what painting and the test of the levels need
+pub record Celled (g : Geometry) (l : Cells) : Type 0 where
+  pub valid : Valid g
   pub cells1 : length (l .first) ≡ 2 ^ g .p1
   pub few2 : length (l .own2) ≤ 4096
   pub cells2 : length (l .second) ≡ length (l .own2) * 2 ^ bits2 g

@@ -15,7 +15,7 @@ use Rattle.standing.proofs.Changed.{insert-adds}
 use Rattle.lists.specs.Edit.{Insertable, Edited, edited, inserted, inserting, saysPut, countWith, Holds}
 use Rattle.lists.specs.declared.edit.Put.{Put}
 use Rattle.lists.proofs.EditHolds.{insert-count, insert-holds}
-use Rattle.sail.specs.Lent.{Lent, lent}
+use Rattle.sail.specs.Lent.{Lent, lent, cells}
 use Rattle.sail.specs.Sound.{standing}
 use Rattle.sail.specs.declared.geometry.Geometry.{Geometry}
 use Rattle.sail.specs.declared.table.Table.{Table}
@@ -26,8 +26,9 @@ use Rattle.sail_theory.specs.Facts.{Welcome}
 use Rattle.sail_theory.proofs.Accepted.{announce-is, announce-off}
 use Rattle.sail_paint.specs.Stale.{Repainted}
 use Rattle.sail_paint.specs.Pending.{Pending}
-use Rattle.sail_change.proofs.Opened.{welcome-underway}
-use Rattle.sail_change.proofs.Underway.{underway-stale}
+use Rattle.sail_change.specs.Opening.{Openable}
+use Rattle.sail_change.proofs.Opened.{openable, welcome-underway}
+use Rattle.sail_change.proofs.Underway.{underway-stale, underway-asked}
 use Rattle.sail_calls.specs.Judge.{Judged}
 use Rattle.sail_announce.specs.Answers.{saysAnnounce}
 use Rattle.sail_announce.specs.declared.answers.Announce.{Announce}
@@ -61,6 +62,9 @@ module _ (t : Table) (l : Lent) (a len hop : ℕ) (w : Welcome t l (route a len 
     room = λ e. omega (arith, w .roomy, insert-adds r rs e, length-routes (l .list) (t .count));
   }
 
+  pub add-openable : Openable g rs r (l .first) (l .second) (l .own2) (l .own3)
+  add-openable = openable t l r w
+
   pub add-few : t .count ≤ 4096
   add-few = w .sound .listed .records .few
 
@@ -88,8 +92,9 @@ module _ (t : Table) (l : Lent) (a len hop : ℕ) (w : Welcome t l (route a len 
         stale = λ ws par ready z. underway-stale g a len (insert r rs) l (lent s (l .first) (l .second) (l .third) own2′ own3′) (welcome-underway t l r w s) ws par ready (z ∙ holds .routes);
       })
 
-      module _ (first second third : List ℕ) (h : Repainted g (routesOf s m) (lent [] (l .first) (l .second) (l .third) own2 own3) first second third) (n : Announce) (q : saysAnnounce n ≡ accepted (bit (saysPut p) ∷ [])) where
+      module _ (first second third : List ℕ) (h : Repainted g (routesOf s m) (cells (l .first) (l .second) (l .third) own2 own3) first second third) (n : Announce) (q : saysAnnounce n ≡ accepted (bit (saysPut p) ∷ [])) where
         pub add-done : out (saysAnnounce n) (record { geometry = g; count = m }) (lent s first second third own2 own3) ≡ announced t l a len hop
         add-done =
-            let h′ = rw (holds .routes) at h in
+            let then : Lent = lent s (l .first) (l .second) (l .third) own2′ own3′ in
+            let h′ = underway-asked g a len (insert r rs) l then (welcome-underway t l r w s) first second third (rw (holds .routes, o2, o3) at h) in
             rw (q, stood, count-is, list-is, h′ .is-first, h′ .is-second, h′ .is-third, o2, o3) (sym (announce-is t l a len hop w))

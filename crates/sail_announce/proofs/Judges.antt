@@ -1,14 +1,15 @@
 -- What the judges of an announcement answer. Assumes nothing.
 use mathlib.Core.Path.{_≡_, refl, sym, _∙_}
+use mathlib.Core.Logic.{_⊎_, inl, inr}
 use mathlib.Core.Bool.{Bool, true, false, not, _&&_, true≢false}
 use mathlib.Core.List.{List}
 use Prim.Native.Nat.{ℕ, _/_, _≤_, _<_}
 use native.Mathlib.Omega.{arith}
-use lib.Dec.{ltb, eqb}
+use lib.Dec.{ltb, leb}
 use lib.ListN.{length}
-use borrow.Author.Tests.{ltb-true, ltb-false, lt-ltb, eqb-true, eq-eqb, not-true, not-false}
+use borrow.Author.Tests.{ltb-true, ltb-false, lt-ltb, le-ltb, lt-leb, le-leb, not-true, not-false}
 use Rattle.bits.specs.Slot.{slot}
-use Rattle.bits.proofs.Tests.{and-split, same}
+use Rattle.bits.proofs.Tests.{decided, below?}
 use Rattle.routes.specs.Route.{keyOf, Prefix, Fine}
 use Rattle.standing.specs.Cells.{long, need}
 use Rattle.routes.specs.Input.{properPrefix, hopFine}
@@ -20,15 +21,17 @@ use Rattle.routes.proofs.Rows.{length-routes}
 use Rattle.standing.proofs.Changed.{insert-adds}
 use Rattle.sail.specs.Lent.{Lent}
 use Rattle.sail.specs.Sizes.{Checked}
-use Rattle.sail.specs.Sound.{standing}
+use Rattle.sail.specs.Level.{chunksOf}
+use Rattle.sail.specs.Sound.{standing, used}
 use Rattle.sail.specs.declared.table.Table.{Table}
-use Rattle.sail_theory.specs.Render.{find}
 use Rattle.sail_theory.specs.Calls.{route, announceSaid}
 use Rattle.sail_theory.specs.Facts.{Welcome}
 use Rattle.sail_theory.proofs.Judged.{Proper, Roomy, Announce}
 use Rattle.sail_theory.proofs.Only.{announce-only}
 use Rattle.sail_theory.proofs.Accepted.{replaced-welcome}
-use Rattle.sail_theory.proofs.Wants.{Wants, want, seven as second-chunks, eight as third-chunks}
+use Rattle.sail_theory.proofs.Wants.{Enough, seven as second-chunks, eight as third-chunks}
+use Rattle.sail_theory.proofs.Chunks.{used-le}
+use Rattle.sail_theory.proofs.Needs.{need-more, need-same}
 use Rattle.sail_sound.specs.Test.{Tried}
 use Rattle.sail_change.specs.Chunks.{alone}
 use Rattle.sail_calls.specs.Judge.{Judged}
@@ -37,17 +40,20 @@ use Rattle.sail_change.specs.declared.opening.Opening.{Opening}
 use Rattle.sail_sound.proofs.Tries.{tried-sound}
 use Rattle.sail_calls.proofs.Judges.{judged-off, judged-on, or-said}
 
--- a chunk is to be opened, and none is free
-wants-is : (rs : List Route) (r : Route) (p : ℕ) (own : List ℕ) → (alone rs p (r .addr) (r .len) && eqb (find own 0) (length own)) ≡ true → Wants rs r p own
+-- a limit that the chunks in use keep is exceeded exactly where a chunk is to be opened and as many as the limit are in use
+over : (rs : List Route) (r : Route) (p : ℕ) (own : List ℕ) → Enough rs p own → Fine r → (limit : ℕ) → used own ≤ limit → (alone rs p (r .addr) (r .len) && leb limit (used own)) ≡ ltb limit (need (insert r rs) p)
 unfolding alone
-wants-is rs r p own e =
-    let k = and-split (alone rs p (r .addr) (r .len)) _ e in
-    let a = and-split (ltb p (r .len)) (not (long rs p (slot p (r .addr)))) (k .0) in
-    record { longer = ltb-true p (r .len) (a .0); fresh = not-true _ (a .1); full = eqb-true _ _ (k .1) }
+over rs r p own w fine limit h = go (decided (ltb p (r .len))) (decided (long rs p (slot p (r .addr)))) (below? (used own) limit)
+  where
+    same-need : (ltb p (r .len) ≡ true → long rs p (slot p (r .addr)) ≡ true) → false ≡ ltb limit (need (insert r rs) p)
+    same-need f = sym (le-ltb limit (need (insert r rs) p) (omega (arith, w .counted, need-same r rs fine (w .good) p (w .small) f)))
 
-is-wants : (rs : List Route) (r : Route) (p : ℕ) (own : List ℕ) → Wants rs r p own → (alone rs p (r .addr) (r .len) && eqb (find own 0) (length own)) ≡ true
-unfolding alone
-is-wants rs r p own w = rw (lt-ltb p (r .len) (w .longer), w .fresh) (eq-eqb (find own 0) (length own) (w .full))
+    go : (ltb p (r .len) ≡ true) ⊎ (ltb p (r .len) ≡ false) → (long rs p (slot p (r .addr)) ≡ true) ⊎ (long rs p (slot p (r .addr)) ≡ false) → (used own < limit) ⊎ (limit ≤ used own)
+        → ((ltb p (r .len) && not (long rs p (slot p (r .addr)))) && leb limit (used own)) ≡ ltb limit (need (insert r rs) p)
+    go (inr e) d z = rw e (same-need (λ y. absurd (true≢false (sym y ∙ e))))
+    go (inl e) (inl d) z = rw (e, d) (same-need (λ _. d))
+    go (inl e) (inr d) (inl z) = rw (e, d, lt-leb limit (used own) z) (sym (le-ltb limit (need (insert r rs) p) (omega (arith, w .counted, need-more r rs fine (w .good) p (w .small) e d))))
+    go (inl e) (inr d) (inr z) = rw (e, d, le-leb limit (used own) z) (sym (lt-ltb limit (need (insert r rs) p) (omega (arith, w .counted, need-more r rs fine (w .good) p (w .small) e d))))
 
 module _ (t : Table) (l : Lent) (a len hop : ℕ) where
   abbrev rs : List Route
@@ -73,31 +79,27 @@ module _ (t : Table) (l : Lent) (a len hop : ℕ) where
     pub room-full : b ≡ false → length (l .list) / 8 ≤ t .count → Told 6
     room-full h f = off 6 (omega arith) (Announce.full p (sym stands-is ∙ h) (rw length-routes f))
 
-    module _ (h : b ≡ false) (f : t .count < length (l .list) / 8) (o : Opening) (k : Opens t l a len o) where
+    module _ (h : b ≡ false) (f : t .count < length (l .list) / 8) (o : Opening) (k : Opens (t .geometry) rs (l .own2) a len o) where
       roomy : Roomy t l a len hop
       roomy = record { proper = p; new = sym stands-is ∙ h; room = rw length-routes f }
 
       -- the test of a pool tells whether the need exceeds it
-      seven : (c : Bool) → c ≡ (o .second && eqb (find (l .own2) 0) (length (l .own2))) → c ≡ ltb (length (l .own2)) (need (insert r rs) (t .geometry .p1))
-      seven c z = z ∙ rw (k .second) (same (alone rs (t .geometry .p1) a len && eqb (find (l .own2) 0) (length (l .own2))) _
-          (λ y. want rs (t .geometry .p1) (l .own2) (second-chunks t l (p .sound)) r (p .fine) .1 (wants-is rs r (t .geometry .p1) (l .own2) y))
-          (λ y. is-wants rs r (t .geometry .p1) (l .own2) (want rs (t .geometry .p1) (l .own2) (second-chunks t l (p .sound)) r (p .fine) .0 y)))
+      seven : (n : ℕ) → n ≡ used (l .own2) → (c : Bool) → c ≡ (o .second && leb (length (l .own2)) n) → c ≡ ltb (length (l .own2)) (need (insert r rs) (t .geometry .p1))
+      seven n e c z = z ∙ rw (k .second, e) (over rs r (t .geometry .p1) (l .own2) (second-chunks t l (p .sound)) (p .fine) (length (l .own2)) (used-le (chunksOf (l .own2))))
 
-      eight : (c : Bool) → c ≡ (o .third && eqb (find (l .own3) 0) (length (l .own3))) → c ≡ ltb (length (l .own3)) (need (insert r rs) (t .geometry .p2))
-      eight c z = z ∙ rw (k .third) (same (alone rs (t .geometry .p2) a len && eqb (find (l .own3) 0) (length (l .own3))) _
-          (λ y. want rs (t .geometry .p2) (l .own3) (third-chunks t l (p .sound)) r (p .fine) .1 (wants-is rs r (t .geometry .p2) (l .own3) y))
-          (λ y. is-wants rs r (t .geometry .p2) (l .own3) (want rs (t .geometry .p2) (l .own3) (third-chunks t l (p .sound)) r (p .fine) .0 y)))
+      eight : (n : ℕ) → n ≡ used (l .own3) → (c : Bool) → c ≡ (o .third && leb (length (l .own3)) n) → c ≡ ltb (length (l .own3)) (need (insert r rs) (t .geometry .p2))
+      eight n e c z = z ∙ rw (k .third, e) (over rs r (t .geometry .p2) (l .own3) (third-chunks t l (p .sound)) (p .fine) (length (l .own3)) (used-le (chunksOf (l .own3))))
 
-      module _ (c : Bool) (z : c ≡ (o .second && eqb (find (l .own2) 0) (length (l .own2)))) where
+      module _ (n : ℕ) (in2 : n ≡ used (l .own2)) (c : Bool) (z : c ≡ (o .second && leb (length (l .own2)) n)) where
         pub room-second : c ≡ true → Told 7
-        room-second y = off 7 (omega arith) (Announce.second roomy (ltb-true _ _ (sym (seven c z) ∙ y)))
+        room-second y = off 7 (omega arith) (Announce.second roomy (ltb-true _ _ (sym (seven n in2 c z) ∙ y)))
 
-        module _ (y : c ≡ false) (d : Bool) (u : d ≡ (o .third && eqb (find (l .own3) 0) (length (l .own3)))) where
+        module _ (y : c ≡ false) (m : ℕ) (in3 : m ≡ used (l .own3)) (d : Bool) (u : d ≡ (o .third && leb (length (l .own3)) m)) where
           enough : need (insert r rs) (t .geometry .p1) ≤ length (l .own2)
-          enough = ltb-false _ _ (sym (seven c z) ∙ y)
+          enough = ltb-false _ _ (sym (seven n in2 c z) ∙ y)
 
           pub room-third : d ≡ true → Told 8
-          room-third v = off 8 (omega arith) (Announce.third roomy enough (ltb-true _ _ (sym (eight d u) ∙ v)))
+          room-third v = off 8 (omega arith) (Announce.third roomy enough (ltb-true _ _ (sym (eight m in3 d u) ∙ v)))
 
           pub room-enough : d ≡ false → Told 0
           room-enough v = judged-on _ _ (record {
@@ -105,7 +107,7 @@ module _ (t : Table) (l : Lent) (a len hop : ℕ) where
             sound = p .sound;
             roomy = omega (arith, insert-adds r rs (roomy .new), roomy .room);
             enough2 = enough;
-            enough3 = ltb-false _ _ (sym (eight d u) ∙ v);
+            enough3 = ltb-false _ _ (sym (eight m in3 d u) ∙ v);
           })
 
   -- the steps before

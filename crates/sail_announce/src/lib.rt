@@ -28,6 +28,7 @@ use sail_calls::renew::renew;
 use sail_change::chunks::wanting;
 use sail_change::opening::open;
 use sail_change::opening::to_open;
+use sail_sound::report::in_use;
 use sail_sound::test::sound;
 
 // 6, 7 or 8, for a fine route and a sound table. A prefix that stands meets none of them.
@@ -55,11 +56,11 @@ fn judge_room(
     if list.len() / 8 <= n {
         return 6;
     }
-    let o = to_open(t, list, first, second, third, own2, own3, addr, len);
-    if wanting(o.second, own2) {
+    let o = to_open(t, list, first, second, own2, own3, addr, len);
+    if wanting(o.second, in_use(own2) as usize, own2.len()) {
         return 7;
     }
-    if wanting(o.third, own3) {
+    if wanting(o.third, in_use(own3) as usize, own3.len()) {
         return 8;
     }
     0
@@ -142,7 +143,7 @@ fn add(
         hop,
     };
     let n = t.count as usize;
-    open(t, r, list, first, second, third, own2, own3);
+    open(t, r, list, first, second, own2, own3);
     let p = edit::insert(list, n, r);
     let m = count_with(p, n);
     renew(

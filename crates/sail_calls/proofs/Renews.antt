@@ -8,12 +8,12 @@ use lib.Seq.{take-at}
 use Rattle.bits.specs.Tab.{Tells}
 use Rattle.routes.specs.Record.{routesOf, Listed}
 use Rattle.chain.specs.Words.{routesIn}
-use Rattle.sail.specs.Lent.{Lent}
+use Rattle.sail.specs.Lent.{Lent, cellsOf}
 use Rattle.sail.specs.declared.geometry.Geometry.{Geometry}
 use Rattle.sail_list.specs.List.{ChainRoom, Chained, Scratch}
 use Rattle.sail_list.proofs.Fronts as fronts
 use Rattle.sail_paint.specs.Stale.{Stale, Repainted}
-use Rattle.sail_paint.specs.Pending.{Pending, cellsOf}
+use Rattle.sail_paint.specs.Pending.{Pending}
 
 module _ (g : Geometry) (n a len : ℕ) (l : Lent) (w : Pending g n a len l) (ws par : List ℕ) (room : Scratch ws par) where
   told : Tells true (Listed (l .list) n)

@@ -1,7 +1,6 @@
 // The cells of a table whose list and owners have changed at a prefix.
-ghost use mathlib.Core.List.{[]};
 ghost use Rattle.routes.specs.Record.{routesOf};
-ghost use Rattle.sail.specs.Lent.{lent};
+ghost use Rattle.sail.specs.Lent.{lent, cells};
 ghost use Rattle.sail_paint.specs.Stale.{Repainted};
 ghost use Rattle.sail_list.specs.List.{Scratch};
 ghost use Rattle.sail_paint.specs.Pending.{Pending};
@@ -9,7 +8,7 @@ use sail::geometry::Geometry;
 use sail_list::chained;
 use sail_paint::repaint::repaint;
 
-// The cells become what the first n records of the list and the owners ask for. `addr` and `len` are the prefix at which
+// The live cells become what the first n records of the list and the owners ask for; the others stay. `addr` and `len` are the prefix at which
 // these have changed, and no cell that it does not touch is painted. `ws` and `par` are room for the words of the routes
 // and their chain.
 fn renew_with(
@@ -28,7 +27,7 @@ fn renew_with(
 )
     requires { ⌜ Pending g n addr len (lent (now list) (now first) (now second) (now third) (now own2) (now own3)) ⌝ }
     requires { ⌜ Scratch (now ws) (now par) ⌝ }
-    ensures { λ _. ⌜ Repainted g (routesOf (now (list .entry)) n) (lent [] (now (first .entry)) (now (second .entry)) (now (third .entry)) (now (own2 .entry)) (now (own3 .entry))) (now (first .exit)) (now (second .exit)) (now (third .exit)) ⌝ }
+    ensures { λ _. ⌜ Repainted g (routesOf (now (list .entry)) n) (cells (now (first .entry)) (now (second .entry)) (now (third .entry)) (now (own2 .entry)) (now (own3 .entry))) (now (first .exit)) (now (second .exit)) (now (third .exit)) ⌝ }
 {
     chained(list, &mut ws[..n], par);
     repaint(
@@ -59,7 +58,7 @@ pub fn renew(
     own3: &[u32],
 )
     requires { ⌜ Pending g n addr len (lent (now list) (now first) (now second) (now third) (now own2) (now own3)) ⌝ }
-    ensures { λ _. ⌜ Repainted g (routesOf (now (list .entry)) n) (lent [] (now (first .entry)) (now (second .entry)) (now (third .entry)) (now (own2 .entry)) (now (own3 .entry))) (now (first .exit)) (now (second .exit)) (now (third .exit)) ⌝ }
+    ensures { λ _. ⌜ Repainted g (routesOf (now (list .entry)) n) (cells (now (first .entry)) (now (second .entry)) (now (third .entry)) (now (own2 .entry)) (now (own3 .entry))) (now (first .exit)) (now (second .exit)) (now (third .exit)) ⌝ }
 {
     let mut ws = [0u64; 4096];
     let mut par = [0u16; 4353];

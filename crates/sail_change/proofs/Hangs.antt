@@ -1,4 +1,4 @@
--- A search for a free chunk, and a chunk hung or closed. Assumes nothing.
+-- A search for a chunk, and a chunk hung or closed. Assumes nothing.
 use mathlib.Core.Path.{_≡_, refl, sym, _∙_}
 use mathlib.Core.Logic.{_⊎_, inl, inr, _≢_}
 use mathlib.Core.Bool.{Bool, true, false, _&&_}
@@ -6,7 +6,7 @@ use mathlib.Core.List.{List}
 use Prim.Native.Nat.{ℕ, suc, _+_, _*_, _^_, _≤_, _<_}
 use native.Mathlib.Omega.{arith}
 use native.Mathlib.Nat.{mul-le-mul-right, suc-mul, one-mul}
-use lib.Dec.{eqb}
+use lib.Dec.{leb}
 use lib.ListN.{getD, length, set, length-set, List·getD-eq-default}
 use lib.Seq.{getD-set-same, getD-set-other}
 use Rattle.bits.proofs.Tests.{equal?, below?}
@@ -16,19 +16,22 @@ use Rattle.sail_theory.specs.Render.{find}
 use Rattle.sail_theory.proofs.Chunks.{chunk-is, chunk-none}
 use Rattle.sail_change.specs.Chunks.{hung, closed, blanked, Closing}
 
--- the owners before c are in use
-abbrev pub Used : List ℕ → ℕ → Type 0
-Used own c = (j : ℕ) → j < c → getD own j 0 ≢ 0
+-- no owner before c is o
+abbrev pub Others : List ℕ → ℕ → ℕ → Type 0
+Others own o c = (j : ℕ) → j < c → getD own j 0 ≢ o
 
-pub free-here : (own : List ℕ) (c : ℕ) → c < length own → Used own c → getD own c 0 ≡ 0 → (c ≡ find own 0) × (c ≤ length own)
-free-here own c l u e = (sym (chunk-is (chunksOf own) 0 c l e u), omega arith)
+pub named-here : (own : List ℕ) (o c : ℕ) → c < length own → Others own o c → getD own c 0 ≡ o → (c ≡ find own o) × (c ≤ length own)
+named-here own o c l u e = (sym (chunk-is (chunksOf own) o c l e u), omega arith)
 
-pub free-nowhere : (own : List ℕ) (c : ℕ) → c ≤ length own → length own ≤ c → Used own c → (c ≡ find own 0) × (c ≤ length own)
-free-nowhere own c l m u = let e : c ≡ length own = omega arith in (e ∙ sym (chunk-none (chunksOf own) 0 (λ j i. u j (omega arith))), l)
+pub named-nowhere : (own : List ℕ) (o c : ℕ) → c ≤ length own → length own ≤ c → Others own o c → (c ≡ find own o) × (c ≤ length own)
+named-nowhere own o c l m u = let e : c ≡ length own = omega arith in (e ∙ sym (chunk-none (chunksOf own) o (λ j i. u j (omega arith))), l)
 
 -- what `wanting` answers, where a chunk is to be opened
-pub wanting-on : (own : List ℕ) (b : Bool) (c : ℕ) → c ≡ find own 0 → b ≡ true → eqb c (length own) ≡ (b && eqb (find own 0) (length own))
-wanting-on own b c e h = rw (e, h)
+pub wanting-on : (b : Bool) (used limit : ℕ) → b ≡ true → leb limit used ≡ (b && leb limit used)
+wanting-on b used limit h = rw h
+
+pub wanting-off : (b : Bool) (used limit : ℕ) → b ≡ false → false ≡ (b && leb limit used)
+wanting-off b used limit h = rw h
 
 -- a chunk hung, or not
 pub hang-on : (own own′ : List ℕ) (b : Bool) (o c : ℕ) → c ≡ find own 0 → b ≡ true → own′ ≡ set own c o → own′ ≡ hung b o own

@@ -13,7 +13,7 @@ use Rattle.bits.proofs.Tests.{decided, below?, and-split}
 use Rattle.standing.specs.Cells.{long}
 use Rattle.standing.specs.Standing.{insert}
 use Rattle.routes.specs.declared.Route.{Route}
-use Rattle.sail.specs.Geometry.{bits2, bits3, Valid}
+use Rattle.sail.specs.Geometry.{bits2, bits3}
 use Rattle.sail.specs.Lent.{Lent, lent}
 use Rattle.sail.specs.Level.{Level, liveIn, entry, chunksOf, level1, level2}
 use Rattle.sail.specs.Sound.{standing}
@@ -31,7 +31,9 @@ use Rattle.sail_theory.proofs.Changes.{ready1, ready2, welcome-fits2, welcome-f
 use Rattle.sail_theory.proofs.Altered.{announce-frame}
 use Rattle.sail_paint.specs.Stale.{meets}
 use Rattle.sail_change.specs.Chunks.{hung, alone, Free}
+use Rattle.sail_change.specs.Opening.{Openable}
 use Rattle.sail_change.proofs.Hangs.{hung-was}
+use Rattle.sail_change.proofs.Trails.{serving-of}
 use Rattle.sail_change.proofs.Underway.{Held, Underway}
 
 -- the cell of a level that a longer prefix lies in meets it
@@ -58,6 +60,45 @@ open-hung rs r v own w = go (below? (v .bits) (r .len)) (decided (long rs (v .bi
     go (inl h) (inl d) = open-had rs r v own (find own 0) w d ∙ rw (lt-ltb (v .bits) (r .len) h, d)
     go (inl h) (inr d) = open-new rs r v own (find own 0) w h d .1 ∙ rw (lt-ltb (v .bits) (r .len) h, d)
 
+module _ (g : Geometry) (rs : List Route) (r : Route) (first second own2 own3 : List ℕ) (w : Openable g rs r first second own2 own3) where
+  abbrev next2 : List ℕ
+  next2 = opening (level1 g) own2 r
+
+  abbrev next3 : List ℕ
+  next3 = opening (level2 g (chunksOf next2)) own3 r
+
+  pub open2-hung : next2 ≡ hung (alone rs (g .p1) (r .addr) (r .len)) (suc (slot (g .p1) (r .addr))) own2
+  open2-hung = open-hung rs r (level1 g) own2 (w .ready2)
+
+  pub open3-hung : next3 ≡ hung (alone rs (g .p2) (r .addr) (r .len)) (suc (level2 g (chunksOf next2) .serving (r .addr))) own3
+  open3-hung = open-hung rs r (level2 g (chunksOf next2)) own3 (w .ready3)
+
+  -- where a chunk is to be opened, one is free
+  fresh : (p : ℕ) → alone rs p (r .addr) (r .len) ≡ true → (ltb p (r .len) ≡ true) × (long rs p (slot p (r .addr)) ≡ false)
+  unfolding alone
+  fresh p e = let k = and-split _ _ e in (k .0, not-true _ (k .1))
+
+  pub free2 : Free (alone rs (g .p1) (r .addr) (r .len)) own2
+  free2 = record { some = λ e. let k = fresh (g .p1) e in w .ready2 .space (k .0) (k .1) .0 }
+
+  pub free3 : Free (alone rs (g .p2) (r .addr) (r .len)) own3
+  free3 = record { some = λ e. let k = fresh (g .p2) e in w .ready3 .space (k .0) (k .1) .0 }
+
+  -- the second chunk that then serves the route: the new one, or the one that was there
+  pub chunk-next : g .p1 < r .len → cond (alone rs (g .p1) (r .addr) (r .len)) (find own2 0) (find own2 (suc (slot (g .p1) (r .addr)))) ≡ find next2 (suc (slot (g .p1) (r .addr)))
+  unfolding hung
+  chunk-next h = rw open2-hung (go (decided (alone rs (g .p1) (r .addr) (r .len))))
+    where
+      go : (alone rs (g .p1) (r .addr) (r .len) ≡ true) ⊎ (alone rs (g .p1) (r .addr) (r .len) ≡ false)
+          → cond (alone rs (g .p1) (r .addr) (r .len)) (find own2 0) (find own2 (suc (slot (g .p1) (r .addr))))
+          ≡ find (cond (alone rs (g .p1) (r .addr) (r .len)) (set own2 (find own2 0) (suc (slot (g .p1) (r .addr)))) own2) (suc (slot (g .p1) (r .addr)))
+      go (inr e) = rw e
+      go (inl e) = rw e (sym (find-hung own2 (find own2 0) (slot (g .p1) (r .addr)) (free2 .some e) (none (had? own2 (slot (g .p1) (r .addr))))))
+        where
+          none : (find own2 (suc (slot (g .p1) (r .addr))) < length own2) ⊎ (length own2 ≤ find own2 (suc (slot (g .p1) (r .addr)))) → length own2 ≤ find own2 (suc (slot (g .p1) (r .addr)))
+          none (inr z) = z
+          none (inl z) = absurd (true≢false (sym (w .ready2 .fits .lies _ (slot (g .p1) (r .addr)) z (chunk-at (chunksOf own2) _ z) .2) ∙ fresh (g .p1) e .1))
+
 module _ (t : Table) (l : Lent) (r : Route) (w : Welcome t l r) where
   abbrev g : Geometry
   g = t .geometry
@@ -74,20 +115,15 @@ module _ (t : Table) (l : Lent) (r : Route) (w : Welcome t l r) where
   is : Rendered t l
   is = sound-rendered t l (w .sound)
 
-  valid : Valid g
-  valid = w .sound .sized .valid
+  -- what `open` asks
+  pub openable : Openable g rs r (l .first) (l .second) (l .own2) (l .own3)
+  openable = record { serving = serving-of t l (w .sound); ready2 = ready1 t l r w; ready3 = ready2 t l r w }
 
-  ready-one : Ready rs r (level1 g) (l .own2) (find (l .own2) 0)
-  ready-one = ready1 t l r w
+  hung2 : own2′ ≡ hung (alone rs (g .p1) (r .addr) (r .len)) (suc (slot (g .p1) (r .addr))) (l .own2)
+  hung2 = open2-hung g rs r (l .first) (l .second) (l .own2) (l .own3) openable
 
-  ready-two : Ready rs r (level2 g (chunksOf own2′)) (l .own3) (find (l .own3) 0)
-  ready-two = ready2 t l r w
-
-  pub open2-hung : own2′ ≡ hung (alone rs (g .p1) (r .addr) (r .len)) (suc (slot (g .p1) (r .addr))) (l .own2)
-  open2-hung = open-hung rs r (level1 g) (l .own2) ready-one
-
-  pub open3-hung : own3′ ≡ hung (alone rs (g .p2) (r .addr) (r .len)) (suc (level2 g (chunksOf own2′) .serving (r .addr))) (l .own3)
-  open3-hung = open-hung rs r (level2 g (chunksOf own2′)) (l .own3) ready-two
+  hung3 : own3′ ≡ hung (alone rs (g .p2) (r .addr) (r .len)) (suc (level2 g (chunksOf own2′) .serving (r .addr))) (l .own3)
+  hung3 = open3-hung g rs r (l .first) (l .second) (l .own2) (l .own3) openable
 
   longer : (p : ℕ) → alone rs p (r .addr) (r .len) ≡ true → p < r .len
   unfolding alone
@@ -95,15 +131,15 @@ module _ (t : Table) (l : Lent) (r : Route) (w : Welcome t l r) where
 
   keeps2 : (c x : ℕ) → getD own2′ c 0 ≡ suc x → meets (r .addr) (r .len) (g .p1) x ≡ false → getD (l .own2) c 0 ≡ suc x
   keeps2 c x e m =
-      hung-was (l .own2) _ (slot (g .p1) (r .addr)) c x (rw open2-hung at e)
+      hung-was (l .own2) _ (slot (g .p1) (r .addr)) c x (rw hung2 at e)
       (λ b y. true≢false (sym (rw (← y) at (meets-own (r .addr) (r .len) (g .p1) (longer (g .p1) b))) ∙ m))
 
   at-place : g .p2 < r .len → level2 g (chunksOf own2′) .at (level2 g (chunksOf own2′) .serving (r .addr)) ≡ slot (g .p2) (r .addr)
-  at-place h = ready-two .served (lt-ltb (g .p2) (r .len) h) .stands
+  at-place h = openable .ready3 .served (lt-ltb (g .p2) (r .len) h) .stands
 
   keeps3 : (c x : ℕ) → c < length (l .own3) → getD own3′ c 0 ≡ suc x → meets (r .addr) (r .len) (g .p2) (level2 g (chunksOf own2′) .at x) ≡ false → (getD (l .own3) c 0 ≡ suc x) × (level2 g (chunksOf (l .own2)) .at x ≡ level2 g (chunksOf own2′) .at x)
   keeps3 c x h e m =
-      let k = hung-was (l .own3) _ (level2 g (chunksOf own2′) .serving (r .addr)) c x (rw open3-hung at e)
+      let k = hung-was (l .own3) _ (level2 g (chunksOf own2′) .serving (r .addr)) c x (rw hung3 at e)
       (λ b y. true≢false (sym (ap (meets (r .addr) (r .len) (g .p2)) (ap (level2 g (chunksOf own2′) .at) y ∙ at-place (longer (g .p2) b)) ∙ meets-own (r .addr) (r .len) (g .p2) (longer (g .p2) b)) ∙ m)) in
       let o = live-owner (level1 g) (chunksOf (l .own2)) (g .p2) x (is .fits3 .lies c x h k .1) in
       (k, ap (λ (y : ℕ). (y - 1) * 2 ^ bits2 g + x % 2 ^ bits2 g) (o ∙ sym (open-stays (level1 g) (l .own2) r _ _ o)))
@@ -125,29 +161,3 @@ module _ (t : Table) (l : Lent) (r : Route) (w : Welcome t l r) where
     keeps2 = λ c x _. keeps2 c x;
     keeps3 = keeps3;
   }
-
-  -- where a chunk is to be opened, one is free
-  fresh : (p : ℕ) → alone rs p (r .addr) (r .len) ≡ true → (ltb p (r .len) ≡ true) × (long rs p (slot p (r .addr)) ≡ false)
-  unfolding alone
-  fresh p e = let k = and-split _ _ e in (k .0, not-true _ (k .1))
-
-  pub free2 : Free (alone rs (g .p1) (r .addr) (r .len)) (l .own2)
-  free2 = record { some = λ e. let k = fresh (g .p1) e in ready-one .space (k .0) (k .1) .0 }
-
-  pub free3 : Free (alone rs (g .p2) (r .addr) (r .len)) (l .own3)
-  free3 = record { some = λ e. let k = fresh (g .p2) e in ready-two .space (k .0) (k .1) .0 }
-
-  -- the second chunk that then serves the route: the new one, or the one that was there
-  pub chunk-next : g .p1 < r .len → cond (alone rs (g .p1) (r .addr) (r .len)) (find (l .own2) 0) (find (l .own2) (suc (slot (g .p1) (r .addr)))) ≡ find own2′ (suc (slot (g .p1) (r .addr)))
-  unfolding hung
-  chunk-next h = rw open2-hung (go (decided (alone rs (g .p1) (r .addr) (r .len))))
-    where
-      go : (alone rs (g .p1) (r .addr) (r .len) ≡ true) ⊎ (alone rs (g .p1) (r .addr) (r .len) ≡ false)
-          → cond (alone rs (g .p1) (r .addr) (r .len)) (find (l .own2) 0) (find (l .own2) (suc (slot (g .p1) (r .addr))))
-          ≡ find (cond (alone rs (g .p1) (r .addr) (r .len)) (set (l .own2) (find (l .own2) 0) (suc (slot (g .p1) (r .addr)))) (l .own2)) (suc (slot (g .p1) (r .addr)))
-      go (inr e) = rw e
-      go (inl e) = rw e (sym (find-hung (l .own2) (find (l .own2) 0) (slot (g .p1) (r .addr)) (free2 .some e) (none (had? (l .own2) (slot (g .p1) (r .addr))))))
-        where
-          none : (find (l .own2) (suc (slot (g .p1) (r .addr))) < length (l .own2)) ⊎ (length (l .own2) ≤ find (l .own2) (suc (slot (g .p1) (r .addr)))) → length (l .own2) ≤ find (l .own2) (suc (slot (g .p1) (r .addr)))
-          none (inr z) = z
-          none (inl z) = absurd (true≢false (sym (is .fits2 .lies _ (slot (g .p1) (r .addr)) z (chunk-at (chunksOf (l .own2)) _ z) .2) ∙ fresh (g .p1) e .1))

@@ -16,18 +16,14 @@ use Rattle.bits.proofs.Tests.{below?, decided, and-split}
 use Rattle.standing.specs.Cells.{long}
 use Rattle.routes.specs.declared.Route.{Route}
 use Rattle.sail.specs.Geometry.{bits2, Valid}
-use Rattle.sail.specs.Lent.{Lent}
-use Rattle.sail.specs.Sound.{Sound, standing}
 use Rattle.sail.specs.declared.geometry.Geometry.{Geometry}
-use Rattle.sail.specs.declared.table.Table.{Table}
 use Rattle.sail_theory.specs.Render.{find}
 use Rattle.sail.specs.Level.{chunksOf, level1, level2}
 use Rattle.sail_theory.specs.Calls.{opening}
-use Rattle.sail_theory.specs.Facts.{Welcome}
 use Rattle.sail_change.specs.Chunks.{alone, hung, Free}
 use Rattle.sail_change.specs.Trail.{Told, Trailed}
 use Rattle.sail_change.proofs.Opened.{open2-hung, open3-hung, free2, free3, chunk-next}
-use Rattle.sail_change.specs.Opening.{Named, Opens}
+use Rattle.sail_change.specs.Opening.{Named, Openable, Opens}
 use Rattle.sail_change.specs.declared.opening.Opening.{Opening}
 
 -- the answers of `leaf_under` and `chunk_for`
@@ -37,11 +33,11 @@ leaf-longer v p len h = rw (lt-ltb p len h)
 pub leaf-shorter : (v p len : ℕ) → len ≤ p → false ≡ (ltb p len && leb 32768 v)
 leaf-shorter v p len h = rw (le-ltb p len h)
 
-pub chunk-free : (b : Bool) (v c : ℕ) (own : List ℕ) → Named v own → b ≡ true → c ≡ find own 0 → c ≤ length own → (c ≡ cond b (find own 0) (v - 1)) × (c < 65536)
+pub chunk-free : (b : Bool) (v c : ℕ) (own : List ℕ) → Named v own → b ≡ true → c ≡ find own 0 → c ≤ length own → (c ≡ cond b (find own 0) v) × (c < 65536)
 chunk-free b v c own n h e l = let f = n .few in (rw h e, omega arith)
 
-pub chunk-had : (b : Bool) (v : ℕ) (own : List ℕ) → v < 65536 → b ≡ false → (v - 1 ≡ cond b (find own 0) (v - 1)) × (v - 1 < 65536)
-chunk-had b v own s h = (rw h, omega arith)
+pub chunk-had : (b : Bool) (v : ℕ) (own : List ℕ) → Named v own → b ≡ false → (v ≡ cond b (find own 0) v) × (v < 65536)
+chunk-had b v own n h = (rw h, n .small)
 
 -- a cell of a sound level
 module _ (deep : Bool) (v : ℕ) (own : List ℕ) (q : ℕ) (k : Told deep v own q) where
@@ -78,57 +74,62 @@ is-alone : (rs : List Route) (p a len : ℕ) → p < len → long rs p (slot p a
 unfolding alone
 is-alone rs p a len h d = rw (lt-ltb p len h, d)
 
-module _ (t : Table) (l : Lent) (a len w v1 v2 : ℕ) (s : Sound t l) (is : w ≡ len) (k : Trailed t l a v1 v2) where
-  abbrev g : Geometry
-  g = t .geometry
+alone-had : (rs : List Route) (p a len : ℕ) → p < len → alone rs p a len ≡ false → long rs p (slot p a) ≡ true
+alone-had rs p a len h e = go (decided (long rs p (slot p a)))
+  where
+    go : (long rs p (slot p a) ≡ true) ⊎ (long rs p (slot p a) ≡ false) → long rs p (slot p a) ≡ true
+    go (inl d) = d
+    go (inr d) = absurd (true≢false (sym (is-alone rs p a len h d) ∙ e))
 
-  abbrev rs : List Route
-  rs = standing t l
-
-  pub named-first : Named v1 (l .own2)
-  named-first = record { some = told-one _ v1 _ _ (k .first); few = s .sized .few2 }
+module _ (g : Geometry) (rs : List Route) (own2 own3 : List ℕ) (a v1 v2 : ℕ) (k : Trailed g rs own2 own3 a v1 v2) where
+  pub named-first : 1 ≤ v1
+  named-first = told-one _ v1 _ _ (k .first)
 
   -- what `to_open` answers
-  pub opens-is : (two three : Bool) (c : ℕ) → two ≡ (ltb (g .p1) w && leb 32768 v1) → three ≡ (ltb (g .p2) w && leb 32768 v2) → c ≡ cond two (find (l .own2) 0) (v1 - 1) → c < 65536
-      → Opens t l a len (record { second = two; third = three; chunk = c })
-  opens-is two three c e f z b = record {
-    second = two-is;
+  pub opens-is : (len w : ℕ) → w ≡ len → v1 < 65536 → (two three : Bool) → two ≡ (ltb (g .p1) w && leb 32768 v1) → three ≡ (ltb (g .p2) w && leb 32768 v2)
+      → Opens g rs own2 a len (record { second = two; third = three; chunk = v1 - 1 })
+  opens-is len w is small two three e f = record {
+    second = e ∙ ap (λ (x : ℕ). ltb (g .p1) x && leb 32768 v1) is ∙ leaf-alone rs (g .p1) a len v1 _ _ (k .first);
     third = f ∙ ap (λ (x : ℕ). ltb (g .p2) x && leb 32768 v2) is ∙ leaf-alone rs (g .p2) a len v2 _ _ (k .second);
-    chunk = λ h. z ∙ rw two-is (go h (decided (long rs (g .p1) (slot (g .p1) a))));
-    few = b;
+    chunk = λ h d. told-chunk _ v1 _ _ (k .first) (alone-had rs (g .p1) a len h d);
+    few = omega arith;
   }
-    where
-      two-is : two ≡ alone rs (g .p1) a len
-      two-is = e ∙ ap (λ (x : ℕ). ltb (g .p1) x && leb 32768 v1) is ∙ leaf-alone rs (g .p1) a len v1 _ _ (k .first)
-
-      go : g .p1 < len → (long rs (g .p1) (slot (g .p1) a) ≡ true) ⊎ (long rs (g .p1) (slot (g .p1) a) ≡ false)
-          → cond (alone rs (g .p1) a len) (find (l .own2) 0) (v1 - 1) ≡ cond (alone rs (g .p1) a len) (find (l .own2) 0) (find (l .own2) (suc (slot (g .p1) a)))
-      go h (inl d) = rw (told-chunk _ v1 _ _ (k .first) d)
-      go h (inr d) = rw (is-alone rs (g .p1) a len h d)
 
 -- what `open` hands on, and what it leaves
-module _ (t : Table) (l : Lent) (r : Route) (o : Opening) (w : Welcome t l r) (k : Opens t l (r .addr) (r .len) o) where
-  pub hang-second : Free (o .second) (l .own2)
-  hang-second = rw (k .second) (free2 t l r w)
+module _ (g : Geometry) (rs : List Route) (r : Route) (first second own2 own3 : List ℕ) (w : Openable g rs r first second own2 own3) (o : Opening) (k : Opens g rs own2 (r .addr) (r .len) o) where
+  abbrev next2 : List ℕ
+  next2 = opening (level1 g) own2 r
 
-  pub hang-third : Free (o .third) (l .own3)
-  hang-third = rw (k .third) (free3 t l r w)
+  pub hang-second : Free (o .second) own2
+  hang-second = rw (k .second) (free2 g rs r first second own2 own3 w)
 
-  pub opened-second : (x : ℕ) (own : List ℕ) → x ≡ slot (t .geometry .p1) (r .addr) → own ≡ hung (o .second) (x + 1) (l .own2) → own ≡ opening (level1 (t .geometry)) (l .own2) r
-  opened-second x own e h = h ∙ rw (k .second, e, add-one) (sym (open2-hung t l r w))
+  pub hang-third : Free (o .third) own3
+  hang-third = rw (k .third) (free3 g rs r first second own2 own3 w)
 
-  pub opened-third : (q : ℕ) (own : List ℕ) → q ≡ o .chunk * 2 ^ bits2 (t .geometry) + slot (t .geometry .p2) (r .addr) % 2 ^ bits2 (t .geometry) → own ≡ hung (o .third) (q + 1) (l .own3)
-      → own ≡ opening (level2 (t .geometry) (chunksOf (opening (level1 (t .geometry)) (l .own2) r))) (l .own3) r
-  unfolding hung
-  opened-third q own e h = h ∙ go (decided (o .third)) ∙ rw (k .third) (sym (open3-hung t l r w))
+  pub opened-second : (x : ℕ) (own : List ℕ) → x ≡ slot (g .p1) (r .addr) → own ≡ hung (o .second) (x + 1) own2 → own ≡ next2
+  opened-second x own e h = h ∙ rw (k .second, e, add-one) (sym (open2-hung g rs r first second own2 own3 w))
+
+  -- the second chunk that then serves the route
+  served-by : (c : ℕ) → c ≡ cond (o .second) (find own2 0) (o .chunk) → g .p1 < r .len → c ≡ find next2 (suc (slot (g .p1) (r .addr)))
+  served-by c e h = e ∙ rw (k .second) (go (decided (alone rs (g .p1) (r .addr) (r .len)))) ∙ chunk-next g rs r first second own2 own3 w h
     where
-      go : (o .third ≡ true) ⊎ (o .third ≡ false) → hung (o .third) (q + 1) (l .own3) ≡ hung (o .third) (suc (level2 (t .geometry) (chunksOf (opening (level1 (t .geometry)) (l .own2) r)) .serving (r .addr))) (l .own3)
-      go (inr z) = rw z
-      go (inl z) =
-          let v = w .sound .sized .valid in
-          let u = alone-longer (standing t l) (t .geometry .p2) (r .addr) (r .len) (sym (k .third) ∙ z) in
-          let c : o .chunk ≡ find (opening (level1 (t .geometry)) (l .own2) r) (suc (slot (t .geometry .p1) (r .addr))) = k .chunk (omega arith) ∙ chunk-next t l r w (omega arith) in
-          ap (λ (x : ℕ). hung (o .third) x (l .own3)) (add-one q ∙ ap suc (e ∙ rw c))
+      go : (alone rs (g .p1) (r .addr) (r .len) ≡ true) ⊎ (alone rs (g .p1) (r .addr) (r .len) ≡ false)
+          → cond (alone rs (g .p1) (r .addr) (r .len)) (find own2 0) (o .chunk) ≡ cond (alone rs (g .p1) (r .addr) (r .len)) (find own2 0) (find own2 (suc (slot (g .p1) (r .addr))))
+      go (inl d) = rw d
+      go (inr d) = rw (k .chunk h d)
+
+  pub opened-third : (c : ℕ) → c ≡ cond (o .second) (find own2 0) (o .chunk) → (q : ℕ) (own : List ℕ) → q ≡ c * 2 ^ bits2 g + slot (g .p2) (r .addr) % 2 ^ bits2 g → own ≡ hung (o .third) (q + 1) own3
+      → own ≡ opening (level2 g (chunksOf next2)) own3 r
+  unfolding hung
+  opened-third c z q own e h = h ∙ go (decided (o .third)) ∙ rw (k .third) (sym (open3-hung g rs r first second own2 own3 w))
+    where
+      go : (o .third ≡ true) ⊎ (o .third ≡ false) → hung (o .third) (q + 1) own3 ≡ hung (o .third) (suc (level2 g (chunksOf next2) .serving (r .addr))) own3
+      go (inr y) = rw y
+      go (inl y) =
+          let v = w .serving .valid in
+          let u = alone-longer rs (g .p2) (r .addr) (r .len) (sym (k .third) ∙ y) in
+          let n : c ≡ find next2 (suc (slot (g .p1) (r .addr))) = served-by c z (omega arith) in
+          ap (λ (x : ℕ). hung (o .third) x own3) (add-one q ∙ ap suc (e ∙ rw n))
 
 -- the owner of a second chunk is small
 pub slot-small : (g : Geometry) (a x : ℕ) → Valid g → a < 2 ^ 32 → x ≡ slot (g .p1) a → x < 65536

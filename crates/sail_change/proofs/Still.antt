@@ -1,5 +1,5 @@
--- What a change at a prefix leaves right. A cell of a pool holds what the routes and owners then ask, unless its chunk is in use and hangs
--- from a cell that meets the prefix. Said of any level. Assumes nothing.
+-- What a change at a prefix leaves right. A live cell of a pool holds what the routes and owners then ask, unless its chunk hangs from a
+-- cell that meets the prefix. Said of any level. Assumes nothing.
 use mathlib.Core.Path.{_≡_, sym, _∙_, ap}
 use mathlib.Core.Logic.{_⊎_, inl, inr}
 use mathlib.Core.Bool.{true, false, _&&_}
@@ -37,18 +37,12 @@ none-below a len p d p′ i j k h l n x s e u = n x s (sym (slot-up p d x (omega
 module _ (a len p d p′ m : ℕ) (short : len ≤ 32) (sum : p + d ≡ p′) (top : p′ ≤ 32) (own own′ at at′ was is now : ℕ → ℕ)
     (keeps : (c x : ℕ) → c < m → own′ c ≡ suc x → meets a len p (at′ x) ≡ false → (own c ≡ suc x) × (at x ≡ at′ x))
     (frame : (q : ℕ) → q < m * 2 ^ d → own′ (q / 2 ^ d) ≡ own (q / 2 ^ d) → ((z : ℕ) → own (q / 2 ^ d) ≡ suc z → at′ z ≡ at z) → (liveIn own d q ≡ true → NoneUnder a len p′ (partOf own d at q)) → is q ≡ was q)
-    (free : (q : ℕ) → q < m * 2 ^ d → liveIn own′ d q ≡ false → is q ≡ 0)
-    (held : (q : ℕ) → q < m * 2 ^ d → liveIn own′ d q ≡ true → now q ≡ was q)
-    (blank : (q : ℕ) → q < m * 2 ^ d → liveIn own′ d q ≡ false → now q ≡ 0) where
-  pub still-right : (q : ℕ) → q < m * 2 ^ d → (liveIn own′ d q && meets a len p (at′ (own′ (q / 2 ^ d) - 1))) ≡ false → now q ≡ is q
-  still-right q l e = go (decided (liveIn own′ d q))
-    where
-      go : (liveIn own′ d q ≡ true) ⊎ (liveIn own′ d q ≡ false) → now q ≡ is q
-      go (inr u) = blank q l u ∙ sym (free q l u)
-      go (inl u) =
-          let o : own′ (q / 2 ^ d) ≡ suc (own′ (q / 2 ^ d) - 1) = omega (arith, ltb-true 0 (own′ (q / 2 ^ d)) u) in
-          let m′ : meets a len p (at′ (own′ (q / 2 ^ d) - 1)) ≡ false = rw u at e in
-          let k = keeps (q / 2 ^ d) (own′ (q / 2 ^ d) - 1) (chunk-lt d m q l) o m′ in
-          let same : own′ (q / 2 ^ d) ≡ own (q / 2 ^ d) = o ∙ sym (k .0) in
-          let n : NoneUnder a len p (at (own (q / 2 ^ d) - 1)) = rw (← same, k .1) (meets-none a len p _ short (omega arith) m′) in
-          held q l u ∙ sym (frame q l same (λ z e. let y : own′ (q / 2 ^ d) - 1 ≡ z = omega arith in rw y at (sym (k .1))) (λ _. none-below a len p d p′ _ _ sum top (mod-lt q (pow-pos d)) n))
+    (held : (q : ℕ) → q < m * 2 ^ d → liveIn own′ d q ≡ true → now q ≡ was q) where
+  pub still-right : (q : ℕ) → q < m * 2 ^ d → liveIn own′ d q ≡ true → (liveIn own′ d q && meets a len p (at′ (own′ (q / 2 ^ d) - 1))) ≡ false → now q ≡ is q
+  still-right q l u e =
+      let o : own′ (q / 2 ^ d) ≡ suc (own′ (q / 2 ^ d) - 1) = omega (arith, ltb-true 0 (own′ (q / 2 ^ d)) u) in
+      let m′ : meets a len p (at′ (own′ (q / 2 ^ d) - 1)) ≡ false = rw u at e in
+      let k = keeps (q / 2 ^ d) (own′ (q / 2 ^ d) - 1) (chunk-lt d m q l) o m′ in
+      let same : own′ (q / 2 ^ d) ≡ own (q / 2 ^ d) = o ∙ sym (k .0) in
+      let n : NoneUnder a len p (at (own (q / 2 ^ d) - 1)) = rw (← same, k .1) (meets-none a len p _ short (omega arith) m′) in
+      held q l u ∙ sym (frame q l same (λ z e. let y : own′ (q / 2 ^ d) - 1 ≡ z = omega arith in rw y at (sym (k .1))) (λ _. none-below a len p d p′ _ _ sum top (mod-lt q (pow-pos d)) n))

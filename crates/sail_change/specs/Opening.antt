@@ -1,25 +1,34 @@
 -- What an announcement opens. Assumes nothing.
-use mathlib.Core.Bool.{cond}
+use mathlib.Core.Bool.{false}
 use mathlib.Core.List.{List}
 use mathlib.Core.Path.{_≡_}
 use Prim.Native.Nat.{ℕ, suc, _≤_, _<_}
 use lib.ListN.{length}
 use Rattle.bits.specs.Slot.{slot}
-use Rattle.sail.specs.Lent.{Lent}
-use Rattle.sail.specs.Sound.{standing}
-use Rattle.sail.specs.declared.table.Table.{Table}
+use Rattle.routes.specs.declared.Route.{Route}
+use Rattle.sail.specs.Level.{chunksOf, level1, level2}
+use Rattle.sail.specs.declared.geometry.Geometry.{Geometry}
 use Rattle.sail_theory.specs.Render.{find}
+use Rattle.sail_theory.specs.Calls.{opening}
+use Rattle.sail_theory.proofs.Grown.{Ready}
 use Rattle.sail_change.specs.Chunks.{alone}
+use Rattle.sail_change.specs.Trail.{Serving}
 use Rattle.sail_change.specs.declared.opening.Opening.{Opening}
 
--- a cell of a sound table is not 0, and its pool has few chunks
-pub record Named (v : ℕ) (own : List ℕ) : Type 0 where
-  pub some : 1 ≤ v
+-- a chunk by a cell of 16 bits, and a pool of few chunks
+pub record Named (c : ℕ) (own : List ℕ) : Type 0 where
+  pub small : c < 65536
   pub few : length own ≤ 4096
 
--- a chunk is opened where the prefix alone needs it; the second chunk that then serves the prefix is that one, or the one that is there
-pub record Opens (t : Table) (l : Lent) (a len : ℕ) (o : Opening) : Type 0 where
-  pub second : o .second ≡ alone (standing t l) (t .geometry .p1) a len
-  pub third : o .third ≡ alone (standing t l) (t .geometry .p2) a len
-  pub chunk : t .geometry .p1 < len → o .chunk ≡ cond (alone (standing t l) (t .geometry .p1) a len) (find (l .own2) 0) (find (l .own2) (suc (slot (t .geometry .p1) a)))
+-- a chunk is opened where the prefix alone needs it; else the second chunk that serves the prefix is there
+pub record Opens (g : Geometry) (rs : List Route) (own2 : List ℕ) (a len : ℕ) (o : Opening) : Type 0 where
+  pub second : o .second ≡ alone rs (g .p1) a len
+  pub third : o .third ≡ alone rs (g .p2) a len
+  pub chunk : g .p1 < len → alone rs (g .p1) a len ≡ false → o .chunk ≡ find own2 (suc (slot (g .p1) a))
   pub few : o .chunk < 65536
+
+-- the first two levels serve the routes, and r may be announced to both: where a chunk has to be opened, one is free
+pub record Openable (g : Geometry) (rs : List Route) (r : Route) (first second own2 own3 : List ℕ) : Type 0 where
+  pub serving : Serving g rs first second own2 own3
+  pub ready2 : Ready rs r (level1 g) own2 (find own2 0)
+  pub ready3 : Ready rs r (level2 g (chunksOf (opening (level1 g) own2 r))) own3 (find own3 0)

@@ -2,20 +2,20 @@
 ghost use mathlib.Core.Path.{_≡_};
 ghost use mathlib.Core.Bool.{_&&_};
 ghost use Prim.Native.Nat.{_≤_, _<_};
-ghost use lib.Dec.{eqb};
+ghost use lib.Dec.{leb};
 ghost use lib.ListN.{length};
 ghost use Rattle.sail_theory.specs.Render.{find};
 ghost use Rattle.sail_change.specs.Chunks.{hung, closed, blanked, Free, Closing};
 use chain::place::shifted;
 use plan::paint::fill;
 
-// The lowest free chunk, counted from 0: the first whose owner is 0. As many as there are where none is free.
-pub fn lowest_free(own: &[u32]) -> usize
-    ensures { λ r. ⌜ (r ≡ find (now (own .entry)) 0) × (r ≤ length (now (own .entry))) ⌝ }
+// The first chunk whose owner is o, counted from 0; as many as there are where none has it. So 0 gives the lowest free one.
+pub fn chunk_named(own: &[u32], o: u32) -> usize
+    ensures { λ r. ⌜ (r ≡ find (now (own .entry)) o) × (r ≤ length (now (own .entry))) ⌝ }
 {
     let mut c = 0;
     while c < own.len() {
-        if own[c] == 0 {
+        if own[c] == o {
             return c;
         }
         c += 1;
@@ -23,12 +23,12 @@ pub fn lowest_free(own: &[u32]) -> usize
     c
 }
 
-// Whether a chunk is to be opened and none is free.
-pub fn wanting(opens: bool, own: &[u32]) -> bool
-    ensures { λ r. ⌜ r ≡ (opens && eqb (find (now (own .entry)) 0) (length (now (own .entry)))) ⌝ }
+// Whether a chunk is to be opened, and as many as the limit are in use.
+pub fn wanting(opens: bool, used: usize, limit: usize) -> bool
+    ensures { λ r. ⌜ r ≡ (opens && leb limit used) ⌝ }
 {
     if opens {
-        return lowest_free(own) == own.len();
+        return limit <= used;
     }
     false
 }
@@ -39,7 +39,7 @@ pub fn hang(own: &mut [u32], opens: bool, o: u32)
     ensures { λ _. ⌜ now (own .exit) ≡ hung opens o (now (own .entry)) ⌝ }
 {
     if opens {
-        let c = lowest_free(own);
+        let c = chunk_named(own, 0);
         own[c] = o;
     }
 }

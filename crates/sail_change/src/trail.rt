@@ -1,11 +1,10 @@
-// The cells that serve an address in a sound table, and the chunks that they name.
+// The cells that serve an address where the first two levels serve the routes, and the chunks that they name.
 ghost use mathlib.Core.Path.{_≡_};
 ghost use Prim.Native.Nat.{_+_, _*_, _%_, _^_, _<_};
 ghost use Rattle.bits.specs.Slot.{slot};
 ghost use Rattle.sail.specs.Geometry.{bits2};
-ghost use Rattle.sail.specs.Lent.{lent};
-ghost use Rattle.sail.specs.Sound.{Sound};
-ghost use Rattle.sail_change.specs.Trail.{Chunk, Trailed};
+ghost use Rattle.routes.specs.Record.{routesOf};
+ghost use Rattle.sail_change.specs.Trail.{Chunk, Serving, Trailed};
 use sail::geometry::Geometry;
 use sail::table::Table;
 
@@ -30,13 +29,12 @@ pub fn follow(
     list: &[u8],
     first: &[u16],
     second: &[u16],
-    third: &[u16],
     own2: &[u32],
     own3: &[u32],
     addr: u32,
 ) -> Trail
-    requires { ⌜ Sound t (lent (now list) (now first) (now second) (now third) (now own2) (now own3)) ⌝ }
-    ensures { λ r. ⌜ Trailed t (lent (now (list .entry)) (now (first .entry)) (now (second .entry)) (now (third .entry)) (now (own2 .entry)) (now (own3 .entry))) addr (r .first) (r .second) ⌝ }
+    requires { ⌜ Serving (t .geometry) (routesOf (now list) (t .count)) (now first) (now second) (now own2) (now own3) ⌝ }
+    ensures { λ r. ⌜ Trailed (t .geometry) (routesOf (now (list .entry)) (t .count)) (now (own2 .entry)) (now (own3 .entry)) addr (r .first) (r .second) ⌝ }
 {
     let g = t.geometry;
     let v = first[bits::slot(g.p1, addr) as usize];

@@ -19,18 +19,17 @@ use Rattle.routes.specs.Said.{accepted}
 use Rattle.routes.specs.declared.Route.{Route}
 use Rattle.routes.proofs.Goods.{good-fine}
 use Rattle.routes.proofs.Rows.{length-routes, records-good}
-use Rattle.chain.specs.Words.{routesIn}
 use Rattle.sail.specs.Geometry.{bits2, bits3}
-use Rattle.sail.specs.Lent.{Lent, lent}
-use Rattle.sail.specs.Level.{Level, chunksOf, noChunks, below, level1, level2, level3}
+use Rattle.sail.specs.Lent.{Lent, lent, cells}
+use Rattle.sail.specs.Level.{Level, chunksOf, below, level1, level2}
 use Rattle.sail.specs.declared.geometry.Geometry.{Geometry}
 use Rattle.sail.specs.declared.table.Table.{Table}
 use Rattle.sail_paint.specs.Stale.{meets, staleBelow, Repainted}
 use Rattle.sail_paint.specs.Pending.{Pending}
+use Rattle.sail_paint.proofs.Rights.{repainted-asked}
 use Rattle.sail_theory.specs.Render.{Fits, roomOf}
 use Rattle.sail_theory.specs.Calls.{Owners, settled, noOwners, inputRoutes}
 use Rattle.sail_theory.proofs.Places.{chunk-lt, live-owner}
-use Rattle.sail_theory.proofs.Pools.{pool-free}
 use Rattle.sail_theory.proofs.Ends.{any-some}
 use Rattle.sail_theory.proofs.Fresh.{zeros}
 use Rattle.sail_theory.proofs.Loads.{Fronts, fronts-none, settles}
@@ -62,26 +61,26 @@ not-live rs good v h own p f q l e = go (decided (below v (chunksOf own) p .live
         let long-here = f .lies _ _ (chunk-lt (p - v .bits) (length own) q l) (live-owner v (chunksOf own) p q x) .2 in
         absurd (true≢false (sym (all-meet (v .bits) _ (long-lt rs (v .bits) _ h good long-here)) ∙ rw x at e))
 
-module _ (g : Geometry) (input first second third own2 own3 : List ℕ) (b : Bare g input (lent [] first second third own2 own3)) where
+module _ (g : Geometry) (input first second third own2 own3 : List ℕ) (b : Bare g input (cells first second third own2 own3)) where
   good : Good (inputRoutes input)
   good = records-good input (length input / 8) (b .readable .records)
 
   -- all may be stale
   pub pending : Pending g (length input / 8) 0 0 (lent input first second third own2 own3)
   pending =
-      let v = b .sized .valid in
+      let v = b .celled .valid in
       let w = b .readable .whole in
       record {
         listed = record { records = b .readable .records; whole = omega arith; zeros = λ j h l. absurd (omega arith) };
         stale = λ ws par ready routes. record {
           ready = ready;
-          sized = b .sized;
+          celled = b .celled;
           prefix = record { len-ok = omega arith; addr-ok = omega arith; clear = cut-zero 0 0 (omega arith) refl };
           fits2 = rw routes (b .fits2);
           fits3 = rw routes (b .fits3);
-          right1 = λ q h e. absurd (true≢false (sym (all-meet (g .p1) q (rw (b .sized .cells1) at h)) ∙ e));
-          right2 = λ q h e. let k = rw (b .sized .cells2) at h in b .zero2 q ∙ sym (pool-free (routesIn ws) (level2 g (chunksOf own2)) (chunksOf own3) q k (not-live (inputRoutes input) good (level1 g) (omega arith) own2 (g .p2) (b .fits2) q k e));
-          right3 = λ q h e. let k = rw (b .sized .cells3) at h in b .zero3 q ∙ sym (pool-free (routesIn ws) (level3 g (chunksOf own2) (chunksOf own3)) noChunks q k (not-live (inputRoutes input) good (level2 g (chunksOf own2)) (omega arith) own3 32 (b .fits3) q k e));
+          right1 = record { right = λ q h u e. absurd (true≢false (sym (all-meet (g .p1) q h) ∙ e)) };
+          right2 = record { right = λ q h u e. absurd (true≢false (sym u ∙ not-live (inputRoutes input) good (level1 g) (omega arith) own2 (g .p2) (b .fits2) q h e)) };
+          right3 = record { right = λ q h u e. absurd (true≢false (sym u ∙ not-live (inputRoutes input) good (level2 g (chunksOf own2)) (omega arith) own3 32 (b .fits3) q h e)) };
         };
       }
 
@@ -127,15 +126,13 @@ module _ (t : Table) (l : Lent) (input : List ℕ) (w : Renewable t input l) whe
       owned : owners own2 own3 ≡ o
       owned = rw (e2, e3) at settles
 
-      bare-then : Bare g input (lent [] (l .first) second third (o .own2) (o .own3))
+      bare-then : Bare g input (cells (l .first) second third (o .own2) (o .own3))
       bare-then =
           let s = w .loadable .sized in
           record {
             readable = w .readable;
-            sized = record {
+            celled = record {
               valid = s .valid;
-              whole = refl;
-              room = omega arith;
               cells1 = s .cells1;
               few2 = omega (arith, ends .len2, s .few2);
               cells2 = ap length s2 ∙ length-replicate (length (l .second)) 0 ∙ s .cells2 ∙ ap (λ (n : ℕ). n * 2 ^ bits2 g) (sym (ends .len2));
@@ -148,8 +145,8 @@ module _ (t : Table) (l : Lent) (input : List ℕ) (w : Renewable t input l) whe
             zero3 = λ q. rw s3 (zeros (length (l .third)) q);
           }
 
-      pub bare : Bare g input (lent [] (l .first) second third own2 own3)
-      bare = subst (λ (x : Owners). Bare g input (lent [] (l .first) second third (x .own2) (x .own3))) (sym owned) bare-then
+      pub bare : Bare g input (cells (l .first) second third own2 own3)
+      bare = subst (λ (x : Owners). Bare g input (cells (l .first) second third (x .own2) (x .own3))) (sym owned) bare-then
 
       module _ (bytes : (j : ℕ) → getD input j 0 < 256) (list a b c : List ℕ) (put : list ≡ padded input (length (l .list))) where
         listed : list ≡ written rs (roomOf l)
@@ -157,8 +154,10 @@ module _ (t : Table) (l : Lent) (input : List ℕ) (w : Renewable t input l) whe
             let e : length (l .list) ≡ roomOf l * 8 = omega (arith, w .loadable .sized .whole) in
             put ∙ ap (padded input) e ∙ padded-written input bytes (w .readable) (roomOf l) (omega (arith, w .loadable .roomy, length-routes input (length input / 8)))
 
-        renews-then : Repainted g rs (lent [] (l .first) second third (o .own2) (o .own3)) a b c → lent list a b c (o .own2) (o .own3) ≡ anew t l input
-        renews-then p = λ i. record { list = listed i; first = p .is-first i; second = p .is-second i; third = p .is-third i; own2 = o .own2; own3 = o .own3 }
+        renews-then : Repainted g rs (cells (l .first) second third (o .own2) (o .own3)) a b c → lent list a b c (o .own2) (o .own3) ≡ anew t l input
+        renews-then p′ =
+            let p = repainted-asked g rs _ (bare-then .celled) (record { blank2 = λ q _ _. bare-then .zero2 q; blank3 = λ q _ _. bare-then .zero3 q }) a b c p′ in
+            λ i. record { list = listed i; first = p .is-first i; second = p .is-second i; third = p .is-third i; own2 = o .own2; own3 = o .own3 }
 
-        pub renews : Repainted g rs (lent [] (l .first) second third own2 own3) a b c → lent list a b c own2 own3 ≡ anew t l input
-        renews = subst (λ (x : Owners). Repainted g rs (lent [] (l .first) second third (x .own2) (x .own3)) a b c → lent list a b c (x .own2) (x .own3) ≡ anew t l input) (sym owned) renews-then
+        pub renews : Repainted g rs (cells (l .first) second third own2 own3) a b c → lent list a b c own2 own3 ≡ anew t l input
+        renews = subst (λ (x : Owners). Repainted g rs (cells (l .first) second third (x .own2) (x .own3)) a b c → lent list a b c (x .own2) (x .own3) ≡ anew t l input) (sym owned) renews-then

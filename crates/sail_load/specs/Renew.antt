@@ -4,8 +4,8 @@ use mathlib.Core.Path.{_≡_}
 use Prim.Native.Nat.{ℕ, _*_, _/_}
 use lib.ListN.{length, getD}
 use Rattle.routes.specs.Record.{Records}
-use Rattle.sail.specs.Lent.{Lent}
-use Rattle.sail.specs.Sizes.{Sized}
+use Rattle.sail.specs.Lent.{Lent, Cells}
+use Rattle.sail.specs.Sizes.{Celled}
 use Rattle.sail.specs.declared.geometry.Geometry.{Geometry}
 use Rattle.sail.specs.declared.table.Table.{Table}
 use Rattle.sail.specs.Level.{chunksOf, level1, level2}
@@ -19,9 +19,9 @@ pub record Readable (input : List ℕ) : Type 0 where
   pub records : Records input (length input / 8)
 
 -- owners that fit the input's routes, and pools of zeros
-pub record Bare (g : Geometry) (input : List ℕ) (l : Lent) : Type 0 where
+pub record Bare (g : Geometry) (input : List ℕ) (l : Cells) : Type 0 where
   pub readable : Readable input
-  pub sized : Sized g l
+  pub celled : Celled g l
   pub fits2 : Fits (inputRoutes input) (level1 g) (chunksOf (l .own2))
   pub fits3 : Fits (inputRoutes input) (level2 g (chunksOf (l .own2))) (chunksOf (l .own3))
   pub zero2 : (q : ℕ) → getD (l .second) q 0 ≡ 0

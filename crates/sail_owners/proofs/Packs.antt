@@ -1,58 +1,57 @@
--- Chunks in use come first: what hanging one more leaves. Assumes nothing.
-use mathlib.Core.Path.{_≡_, sym, _∙_, ap}
+-- What giving a chunk an owner leaves, and the chunks of a route. Assumes nothing.
+use mathlib.Core.Path.{_≡_, refl, sym, _∙_, ap}
 use mathlib.Core.Logic.{_⊎_, inl, inr, _≢_}
 use mathlib.Core.List.{List}
 use Prim.Native.Nat.{ℕ, suc, _+_, _-_, _*_, _%_, _^_, _≤_, _<_}
 use native.Mathlib.Omega.{arith}
+use native.Mathlib.Numerals.{add-one}
 use native.Mathlib.Nat.{mod-lt, mul-le-mul-right}
 use lib.ListN.{length, getD, set, length-set}
 use lib.Pow.{pow-mono}
 use lib.Seq.{getD-set-same, getD-set-other}
-use borrow.Author.Tests.{lt-ltb, le-ltb}
+use borrow.Author.Tests.{le-ltb}
 use Rattle.bits.specs.Slot.{slot}
 use Rattle.bits.proofs.Slots.{slot-lt}
-use Rattle.bits.proofs.Tests.{below?, equal?}
+use Rattle.bits.proofs.Tests.{equal?}
 use Rattle.routes.specs.declared.Route.{Route}
 use Rattle.sail.specs.Geometry.{bits2, Power}
 use Rattle.sail.specs.Level.{chunksOf, level1, level2}
 use Rattle.sail.specs.declared.geometry.Geometry.{Geometry}
 use Rattle.sail_theory.specs.Render.{find}
-use Rattle.sail_theory.specs.Calls.{grant, openAt, opening}
-use Rattle.sail_theory.proofs.Chunks.{chunk-is, chunk-none}
-use Rattle.sail_owners.specs.Owners.{Packed, LastIs, Hangs, Hung, Chunk, Opens, Opened}
-use Rattle.sail_owners.specs.declared.owners.InUse.{InUse}
+use Rattle.sail_theory.specs.Calls.{openAt, opening}
+use Rattle.sail_theory.proofs.Chunks.{chunk-is, chunk-none, chunk-before}
+use Rattle.sail_owners.specs.Owners.{Past, LastIs, Hangs, Moved, stays, goes, Hung, Chunk, placeFor, Opens, Step, none, hung, Opened}
+use Rattle.sail_owners.specs.declared.owners.Pass.{Pass}
+use Rattle.sail_owners.specs.declared.owners.Passes.{Passes}
 
--- the lowest free chunk comes after those in use
-pub packed-find : (own : List ℕ) (m : ℕ) → Packed own m → find own 0 ≡ m
-packed-find own m p = go (below? m (length own))
-  where
-    go : (m < length own) ⊎ (length own ≤ m) → find own 0 ≡ m
-    go (inl l) = chunk-is (chunksOf own) 0 m l (p .rest m (omega arith)) (λ j i e. absurd (omega (arith, p .front j i)))
-    go (inr l) = chunk-none (chunksOf own) 0 (λ j i e. absurd (omega (arith, p .front j (omega arith)))) ∙ omega (arith, p .few)
+-- the search for a free chunk
+module _ (own : List ℕ) (from : ℕ) (p : Past own from) where
+  pub free-here : (c : ℕ) → c < length own → ((j : ℕ) → j < c → getD own j 0 ≢ 0) → getD own c 0 ≡ 0 → (c ≡ find own 0) × (c ≤ length own)
+  free-here c l u e = (sym (chunk-is (chunksOf own) 0 c l e u), omega arith)
 
-module _ (own : List ℕ) (m q : ℕ) (h : Hangs own m q) where
-  more : q + 1 ≡ suc q
-  more = omega arith
+  pub free-nowhere : (c : ℕ) → c ≤ length own → length own ≤ c → ((j : ℕ) → j < c → getD own j 0 ≢ 0) → (c ≡ find own 0) × (c ≤ length own)
+  free-nowhere c l m u = let e : c ≡ length own = omega arith in (e ∙ sym (chunk-none (chunksOf own) 0 (λ j i. u j (omega arith))), l)
 
-  pub hung-had : LastIs own m (q + 1) → Hung own m q own m
-  hung-had e = let z = h .had (rw more at e) in record { is = sym (z .0); packed = h .packed; last = z .1 }
+-- a chunk that has the owner o
+module _ (own : List ℕ) (u : Pass) (o : ℕ) (h : Hangs own u o) where
+  pub hung-had : LastIs own (u .last) o → Hung own u o own u
+  hung-had e = record { moved = stays e refl refl; past = h .past; inside = h .inside; last = h .had e }
 
-  module _ (e : LastIs own m (q + 1) → ⊥) where
-    pub room : m < length own
-    room = h .new (rw more at e) .0
+  module _ (e : LastIs own (u .last) o → ⊥) (c : ℕ) (f : c ≡ find own 0) where
+    pub room : c < length own
+    room = rw f (h .new e .0)
 
-    front : (c : ℕ) → c < m + 1 → (c ≡ m) ⊎ (c ≢ m) → 1 ≤ getD (set own m (suc q)) c 0
-    front c i (inl y) = rw y (omega (arith, getD-set-same own m (suc q) 0 room))
-    front c i (inr y) = omega (arith, getD-set-other own m c (suc q) 0 y, h .packed .front c (omega arith))
+    used : (j : ℕ) → j < c + 1 → (j ≡ c) ⊎ (j ≢ c) → getD (set own c o) j 0 ≢ 0
+    used j i (inl y) z = omega (arith, z, ap (λ (x : ℕ). getD (set own c o) x 0) y, getD-set-same own c o 0 room, h .some)
+    used j i (inr y) z = chunk-before (chunksOf own) 0 j (omega arith) (sym (getD-set-other own c j o 0 y) ∙ z)
 
-    pub hung-new : Hung own m q (set own m (q + 1)) (m + 1)
-    hung-new =
-        let z = h .new (rw more at e) in
-        rw more (record {
-          is = sym (z .1);
-          packed = record { few = rw length-set (omega (arith, room)); front = λ c i. front c i (equal? c m); rest = λ c i. getD-set-other own m c (suc q) 0 (λ y. omega arith) ∙ h .packed .rest c (omega arith) };
-          last = omega (arith, z .2);
-        })
+    pub hung-new : Hung own u o (set own c o) (record { last = c + 1; free = c + 1 })
+    hung-new = record {
+      moved = goes e (h .new e .0) (rw f) (omega arith);
+      past = record { few = rw length-set (omega (arith, room)); used = λ j i. used j i (equal? j c) };
+      inside = rw length-set (omega (arith, room));
+      last = rw f (omega (arith, h .new e .1));
+    }
 
 -- the place of an address in a chunk of the second pool, where a chunk has d cells
 pub place-few : (g : Geometry) (c x d : ℕ) → Chunk g c → Power d (bits2 g) 1024 → (c - 1) * d + x % d < 4194304
@@ -63,54 +62,58 @@ pub place-at : (g : Geometry) (c x d a : ℕ) → x ≡ slot (g .p2) a → Power
 place-at g c x d a e w = rw (e, w .is)
 
 -- the chunks of a route, by its length
-module _ (g : Geometry) (r : Route) (u : InUse) (own2 own3 : List ℕ) (o : Opens g r u own2 own3) where
-  pub hangs-second : g .p1 < r .len → (q2 : ℕ) → q2 ≡ slot (g .p1) (r .addr) → Hangs own2 (u .second) q2 × (q2 < 4294967295)
-  hangs-second h q2 e =
-      let v = o .valid in
-      let most = pow-mono {i = g .p1} {j = 16} (v .p1-high) in
-      (rw e (o .hangs2 h), omega (arith, slot-lt (g .p1) (r .addr) (omega arith) (o .fine .prefix .addr-ok)))
+module _ (g : Geometry) (r : Route) (u : Passes) (own2 own3 : List ℕ) (o : Opens g r u own2 own3) where
+  pub slot-small : (q2 : ℕ) → q2 ≡ slot (g .p1) (r .addr) → q2 < 65536
+  slot-small q2 e = let v = o .valid in omega (arith, slot-lt (g .p1) (r .addr) (omega arith) (o .fine .prefix .addr-ok), pow-mono {i = g .p1} {j = 16} (v .p1-high))
 
-  pub opened-none : r .len ≤ g .p1 → Opened g r own2 own3 u own2 own3
+  pub hangs-second : g .p1 < r .len → (q2 : ℕ) → q2 ≡ slot (g .p1) (r .addr) → Hangs own2 (u .second) (q2 + 1)
+  hangs-second h q2 e = rw (e, add-one) (o .hangs2 h)
+
+  pub opened-none : r .len ≤ g .p1 → Opened g r own2 own3 u u own2 own3
   unfolding openAt
   opened-none h =
       let v = o .valid in
       record {
         is2 = rw (le-ltb (g .p1) (r .len) h);
         is3 = rw (le-ltb (g .p2) (r .len) (omega arith));
-        packed2 = o .packed2;
-        packed3 = o .packed3;
+        past2 = o .past2;
+        past3 = o .past3;
+        step2 = none refl refl;
+        step3 = none refl refl;
       }
 
-  module _ (h : g .p1 < r .len) (q2 : ℕ) (cell : q2 ≡ slot (g .p1) (r .addr)) (own2′ : List ℕ) (m2 : ℕ) (now : Hung own2 (u .second) q2 own2′ m2) where
-    hung2 : Hung own2 (u .second) (slot (g .p1) (r .addr)) own2′ m2
-    hung2 = rw cell at now
+  module _ (h : g .p1 < r .len) (q2 : ℕ) (cell : q2 ≡ slot (g .p1) (r .addr)) (own2′ : List ℕ) (s2 : Pass) (now : Hung own2 (u .second) (q2 + 1) own2′ s2) where
+    hung2 : Hung own2 (u .second) (suc (slot (g .p1) (r .addr))) own2′ s2
+    hung2 = rw (cell, add-one) at now
 
-    pub chunk-second : length own2′ ≡ length own2 → Chunk g m2
-    chunk-second e = record { valid = o .valid; one = omega (arith, now .last); few = omega (arith, now .packed .few, o .few2) }
+    pub chunk-second : length own2′ ≡ length own2 → Chunk g (s2 .last)
+    chunk-second e = record { valid = o .valid; one = omega (arith, now .last); few = omega (arith, now .inside, o .few2) }
 
     second : own2′ ≡ opening (level1 g) own2 r
-    unfolding openAt
-    second = rw (lt-ltb (g .p1) (r .len) h, packed-find own2 (u .second) (o .packed2)) (hung2 .is)
+    second = o .grants2 own2′ s2 h (hung2 .moved)
 
-    pub opened-second : r .len ≤ g .p2 → Opened g r own2 own3 (record { second = m2; third = u .third }) own2′ own3
+    pub opened-second : r .len ≤ g .p2 → Opened g r own2 own3 u (record { second = s2; third = u .third }) own2′ own3
     unfolding openAt
-    opened-second k = record { is2 = second; is3 = rw (le-ltb (g .p2) (r .len) k); packed2 = hung2 .packed; packed3 = o .packed3 }
+    opened-second k = record { is2 = second; is3 = rw (le-ltb (g .p2) (r .len) k); past2 = hung2 .past; past3 = o .past3; step2 = hung _ (hung2 .moved); step3 = none refl refl }
 
     -- where the third chunk hangs
-    module _ (k : g .p2 < r .len) (q3 : ℕ) (at : q3 ≡ (m2 - 1) * 2 ^ bits2 g + slot (g .p2) (r .addr) % 2 ^ bits2 g) where
-      place-is : q3 ≡ level2 g (chunksOf (opening (level1 g) own2 r)) .serving (r .addr)
+    module _ (k : g .p2 < r .len) (q3 : ℕ) (at : q3 ≡ (s2 .last - 1) * 2 ^ bits2 g + slot (g .p2) (r .addr) % 2 ^ bits2 g) where
+      place-is : q3 ≡ placeFor g r own2
       place-is =
-          let e : find own2′ (suc (slot (g .p1) (r .addr))) ≡ m2 - 1 = omega (arith, hung2 .last) in
+          let e : find own2′ (suc (slot (g .p1) (r .addr))) ≡ s2 .last - 1 = omega (arith, hung2 .last) in
           rw (← second, e) at
 
-      pub hangs-third : Hangs own3 (u .third) q3
-      hangs-third = rw place-is (o .hangs3 k)
+      pub hangs-third : Hangs own3 (u .third) (q3 + 1)
+      hangs-third = rw (place-is, add-one) (o .hangs3 k)
 
-      pub opened-third : (own3′ : List ℕ) (m3 : ℕ) → Hung own3 (u .third) q3 own3′ m3 → Opened g r own2 own3 (record { second = m2; third = m3 }) own2′ own3′
-      unfolding openAt
-      opened-third own3′ m3 hung3 = record {
-        is2 = second;
-        is3 = rw (lt-ltb (g .p2) (r .len) k, packed-find own3 (u .third) (o .packed3)) (hung3 .is ∙ ap (grant own3 (u .third)) place-is);
-        packed2 = hung2 .packed;
-        packed3 = hung3 .packed;
-      }
+      pub opened-third : (own3′ : List ℕ) (s3 : Pass) → Hung own3 (u .third) (q3 + 1) own3′ s3 → Opened g r own2 own3 u (record { second = s2; third = s3 }) own2′ own3′
+      opened-third own3′ s3 now3 =
+          let hung3 : Hung own3 (u .third) (suc (placeFor g r own2)) own3′ s3 = rw (place-is, add-one) at now3 in
+          record {
+            is2 = second;
+            is3 = o .grants3 own3′ s3 k (hung3 .moved);
+            past2 = hung2 .past;
+            past3 = hung3 .past;
+            step2 = hung _ (hung2 .moved);
+            step3 = hung _ (hung3 .moved);
+          }

@@ -1,6 +1,7 @@
 -- The owners of a load as they grow: what opening a chunk after all others asks and leaves. Assumes nothing.
 use mathlib.Core.List.{List}
 use mathlib.Core.Path.{_≡_}
+use mathlib.Core.Logic.{_≢_}
 use Prim.Native.Nat.{ℕ, suc, _-_, _/_, _≤_, _<_}
 use lib.ListN.{length, getD, set, replicate}
 use Rattle.bits.specs.Slot.{slot}
@@ -11,35 +12,43 @@ use Rattle.routes.specs.declared.Route.{Route}
 use Rattle.sail.specs.Geometry.{Valid}
 use Rattle.sail.specs.declared.geometry.Geometry.{Geometry}
 use Rattle.sail_theory.specs.Render.{find}
-use Rattle.sail_theory.specs.Calls.{Owners, grant, opening, inputRoutes}
+use Rattle.sail_theory.specs.Calls.{Owners, opening, inputRoutes}
 use Rattle.sail.specs.Level.{chunksOf, level1, level2}
-use Rattle.sail_owners.specs.declared.owners.InUse.{InUse}
+use Rattle.sail_owners.specs.declared.owners.Pass.{Pass}
+use Rattle.sail_owners.specs.declared.owners.Passes.{Passes}
 
 abbrev pub owners : List ℕ → List ℕ → Owners
 owners own2 own3 = record { own2 = own2; own3 = own3 }
 
--- the first m chunks are in use, and no others
-pub record Packed (own : List ℕ) (m : ℕ) : Type 0 where
-  pub few : m ≤ length own
-  pub front : (c : ℕ) → c < m → 1 ≤ getD own c 0
-  pub rest : (c : ℕ) → m ≤ c → getD own c 0 ≡ 0
+-- every chunk before c is in use
+pub record Past (own : List ℕ) (c : ℕ) : Type 0 where
+  pub few : c ≤ length own
+  pub used : (j : ℕ) → j < c → getD own j 0 ≢ 0
 
--- there is a last of the first m chunks, and o is its owner
+-- there is a last chunk, the m-th, and o is its owner
 pub record LastIs (own : List ℕ) (m o : ℕ) : Type 0 where
   pub some : 0 < m
   pub is : getD own (m - 1) 0 ≡ o
 
--- A chunk may be chunksOf from the place q. The last chunk in use decides: it hangs there; or none does, and the next chunk is free.
-pub record Hangs (own : List ℕ) (m q : ℕ) : Type 0 where
-  pub packed : Packed own m
-  pub had : LastIs own m (suc q) → (grant own m q ≡ own) × (suc (find own (suc q)) ≡ m)
-  pub new : (LastIs own m (suc q) → ⊥) → (m < length own) × (grant own m q ≡ set own m (suc q)) × (find (set own m (suc q)) (suc q) ≡ m)
+-- A chunk may get the owner o. The last chunk opened decides: it has this owner; or none has, and a chunk is free.
+pub record Hangs (own : List ℕ) (u : Pass) (o : ℕ) : Type 0 where
+  pub past : Past own (u .free)
+  pub inside : u .last ≤ length own
+  pub some : 1 ≤ o
+  pub had : LastIs own (u .last) o → suc (find own o) ≡ u .last
+  pub new : (LastIs own (u .last) o → ⊥) → (find own 0 < length own) × (find (set own (find own 0) o) o ≡ find own 0)
 
--- A chunk hangs from q, and is the last of the r that are then in use.
-pub record Hung (own : List ℕ) (m q : ℕ) (own′ : List ℕ) (r : ℕ) : Type 0 where
-  pub is : own′ ≡ grant own m q
-  pub packed : Packed own′ r
-  pub last : suc (find own′ (suc q)) ≡ r
+-- the owners stay, or the lowest free chunk gets the owner o
+pub data Moved (own : List ℕ) (u : Pass) (o : ℕ) (own′ : List ℕ) (r : Pass) : Type 0 where
+  stays : LastIs own (u .last) o → own′ ≡ own → r .last ≡ u .last → Moved own u o own′ r
+  goes : (LastIs own (u .last) o → ⊥) → find own 0 < length own → own′ ≡ set own (find own 0) o → r .last ≡ suc (find own 0) → Moved own u o own′ r
+
+-- A chunk has the owner o, and it is the last.
+pub record Hung (own : List ℕ) (u : Pass) (o : ℕ) (own′ : List ℕ) (r : Pass) : Type 0 where
+  pub moved : Moved own u o own′ r
+  pub past : Past own′ (r .free)
+  pub inside : r .last ≤ length own′
+  pub last : suc (find own′ o) ≡ r .last
 
 -- a chunk of the second pool, counted from 1
 pub record Chunk (g : Geometry) (c : ℕ) : Type 0 where
@@ -47,22 +56,35 @@ pub record Chunk (g : Geometry) (c : ℕ) : Type 0 where
   pub one : 1 ≤ c
   pub few : c ≤ 4096
 
+-- the place of the second pool that serves r once its second chunk is opened
+abbrev pub placeFor : Geometry → Route → List ℕ → ℕ
+placeFor g r own2 = level2 g (chunksOf (opening (level1 g) own2 r)) .serving (r .addr)
+
 -- The route r comes after all those that the owners serve.
-pub record Opens (g : Geometry) (r : Route) (u : InUse) (own2 own3 : List ℕ) : Type 0 where
+pub record Opens (g : Geometry) (r : Route) (u : Passes) (own2 own3 : List ℕ) : Type 0 where
   pub valid : Valid g
   pub fine : Fine r
   pub few2 : length own2 ≤ 4096
-  pub packed2 : Packed own2 (u .second)
-  pub packed3 : Packed own3 (u .third)
-  pub hangs2 : g .p1 < r .len → Hangs own2 (u .second) (slot (g .p1) (r .addr))
-  pub hangs3 : g .p2 < r .len → Hangs own3 (u .third) (level2 g (chunksOf (opening (level1 g) own2 r)) .serving (r .addr))
+  pub past2 : Past own2 (u .second .free)
+  pub past3 : Past own3 (u .third .free)
+  pub hangs2 : g .p1 < r .len → Hangs own2 (u .second) (suc (slot (g .p1) (r .addr)))
+  pub hangs3 : g .p2 < r .len → Hangs own3 (u .third) (suc (placeFor g r own2))
+  pub grants2 : (own′ : List ℕ) (s : Pass) → g .p1 < r .len → Moved own2 (u .second) (suc (slot (g .p1) (r .addr))) own′ s → own′ ≡ opening (level1 g) own2 r
+  pub grants3 : (own′ : List ℕ) (s : Pass) → g .p2 < r .len → Moved own3 (u .third) (suc (placeFor g r own2)) own′ s → own′ ≡ opening (level2 g (chunksOf (opening (level1 g) own2 r))) own3 r
+
+-- how a pool's owners and its pass moved: not at all, or as for a chunk that hangs from some place
+pub data Step (own : List ℕ) (u : Pass) (own′ : List ℕ) (r : Pass) : Type 0 where
+  none : own′ ≡ own → r ≡ u → Step own u own′ r
+  hung : (q : ℕ) → Moved own u (suc q) own′ r → Step own u own′ r
 
 -- its chunks are opened
-pub record Opened (g : Geometry) (r : Route) (own2 own3 : List ℕ) (u : InUse) (own2′ own3′ : List ℕ) : Type 0 where
+pub record Opened (g : Geometry) (r : Route) (own2 own3 : List ℕ) (u v : Passes) (own2′ own3′ : List ℕ) : Type 0 where
   pub is2 : own2′ ≡ opening (level1 g) own2 r
   pub is3 : own3′ ≡ opening (level2 g (chunksOf (opening (level1 g) own2 r))) own3 r
-  pub packed2 : Packed own2′ (u .second)
-  pub packed3 : Packed own3′ (u .third)
+  pub past2 : Past own2′ (v .second .free)
+  pub past3 : Past own3′ (v .third .free)
+  pub step2 : Step own2 (u .second) own2′ (v .second)
+  pub step3 : Step own3 (u .third) own3′ (v .third)
 
 -- good records, as many chunks as their routes need, and none in use
 pub record Ownable (g : Geometry) (input own2 own3 : List ℕ) : Type 0 where

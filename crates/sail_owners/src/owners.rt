@@ -1,26 +1,33 @@
-// The owners of a load, in one pass over its records. The routes ascend, and so do the places that chunks hang from: the
-// chunks in use come first, and a route's chunk is the last of them or a new one.
+// The owners of a load, in one pass over its records. The routes ascend, and so do the places that chunks hang from: a
+// route's chunk is the last one opened, or the next that is free.
 ghost use mathlib.Core.Path.{_≡_};
 ghost use Prim.Native.Nat.{_+_, _-_, _*_, _%_, _^_, _≤_, _<_};
 ghost use lib.ListN.{length};
 ghost use Rattle.bits.specs.Slot.{slot};
 ghost use Rattle.bits.specs.Tab.{Tells};
 ghost use Rattle.sail.specs.Geometry.{bits2};
+ghost use Rattle.sail_theory.specs.Render.{find};
 ghost use Rattle.sail_theory.specs.Calls.{inputRoutes, settled};
-ghost use Rattle.sail_owners.specs.Owners.{owners, LastIs, Hangs, Hung, Chunk, Opens, Opened, Ownable};
+ghost use Rattle.sail_owners.specs.Owners.{owners, Past, LastIs, Hangs, Hung, Chunk, Opens, Opened, Ownable};
 use bits::slot;
 use routes::Route;
 use routes::record::read_record;
 use routes::record::wide;
 use sail::geometry::Geometry;
 
-// How many chunks of each pool are in use.
-pub struct InUse {
-    pub second: usize,
-    pub third: usize,
+// How far the pass over a pool has come: the last chunk that it opened, from 1, or 0; and the first chunk, from 0, that may be
+// free.
+pub struct Pass {
+    pub last: usize,
+    pub free: usize,
 }
 
-// Whether some of the m first chunks are in use, and the last of them has the owner o.
+pub struct Passes {
+    pub second: Pass,
+    pub third: Pass,
+}
+
+// Whether there is a last chunk, the m-th, and its owner is o.
 fn last_is(own: &[u32], m: usize, o: u32) -> bool
     requires { ⌜ m ≤ length (now own) ⌝ }
     ensures { λ r. ⌜ Tells r (LastIs (now (own .entry)) m o) ⌝ }
@@ -31,18 +38,35 @@ fn last_is(own: &[u32], m: usize, o: u32) -> bool
     own[m - 1] == o
 }
 
-// A chunk hangs from the place q: the last in use, or a new one. Says how many are then in use.
-fn hang(own: &mut [u32], m: usize, q: u32) -> usize
-    requires { ⌜ Hangs (now own) m q ⌝ }
-    requires { ⌜ q < 4294967295 ⌝ }
-    ensures { λ r. ⌜ Hung (now (own .entry)) m q (now (own .exit)) r ⌝ }
+// The lowest free chunk, where none before `from` is.
+fn next_free(own: &[u32], from: usize) -> usize
+    requires { ⌜ Past (now own) from ⌝ }
+    ensures { λ r. ⌜ (r ≡ find (now (own .entry)) 0) × (r ≤ length (now (own .entry))) ⌝ }
 {
-    let o = q + 1;
-    if last_is(own, m, o) {
-        return m;
+    let mut c = from;
+    while c < own.len() {
+        if own[c] == 0 {
+            return c;
+        }
+        c += 1;
     }
-    own[m] = o;
-    m + 1
+    c
+}
+
+// A chunk has the owner o: the last one opened, or the next that is free.
+fn hang(own: &mut [u32], u: Pass, o: u32) -> Pass
+    requires { ⌜ Hangs (now own) u o ⌝ }
+    ensures { λ r. ⌜ Hung (now (own .entry)) u o (now (own .exit)) r ⌝ }
+{
+    if last_is(own, u.last, o) {
+        return u;
+    }
+    let c = next_free(own, u.free);
+    own[c] = o;
+    Pass {
+        last: c + 1,
+        free: c + 1,
+    }
 }
 
 // The place of the second pool that serves an address, in chunk c, counted from 1.
@@ -55,29 +79,25 @@ fn place(g: Geometry, c: usize, addr: u32) -> u32
 }
 
 // Opens the chunks of a route that comes after all those before it.
-fn open_for(g: Geometry, r: Route, used: InUse, own2: &mut [u32], own3: &mut [u32]) -> InUse
-    requires { ⌜ Opens g r used (now own2) (now own3) ⌝ }
-    ensures { λ u. ⌜ Opened g r (now (own2 .entry)) (now (own3 .entry)) u (now (own2 .exit)) (now (own3 .exit)) ⌝ }
+fn open_for(g: Geometry, r: Route, u: Passes, own2: &mut [u32], own3: &mut [u32]) -> Passes
+    requires { ⌜ Opens g r u (now own2) (now own3) ⌝ }
+    ensures { λ v. ⌜ Opened g r (now (own2 .entry)) (now (own3 .entry)) u v (now (own2 .exit)) (now (own3 .exit)) ⌝ }
 {
     let p1 = g.p1;
     let p2 = g.p2;
     let a = r.addr;
     let len = wide(r.len);
     if len <= p1 {
-        return used;
+        return u;
     }
-    let m2 = hang(own2, used.second, slot(p1, a));
+    let at2 = u.second;
+    let at3 = u.third;
+    let second = hang(own2, at2, slot(p1, a) + 1);
     if len <= p2 {
-        return InUse {
-            second: m2,
-            third: used.third,
-        };
+        return Passes { second, third: at3 };
     }
-    let m3 = hang(own3, used.third, place(g, m2, a));
-    InUse {
-        second: m2,
-        third: m3,
-    }
+    let third = hang(own3, at3, place(g, second.last, a) + 1);
+    Passes { second, third }
 }
 
 // The owners after each record of the input is announced in order, where none was before.
@@ -86,13 +106,14 @@ pub fn settle_owners(g: Geometry, input: &[u8], own2: &mut [u32], own3: &mut [u3
     ensures { λ _. ⌜ owners (now (own2 .exit)) (now (own3 .exit)) ≡ settled g (owners (now (own2 .entry)) (now (own3 .entry))) (inputRoutes (now (input .entry))) ⌝ }
 {
     let n = input.len() / 8;
-    let mut used = InUse {
-        second: 0,
-        third: 0,
+    let none = Pass { last: 0, free: 0 };
+    let mut u = Passes {
+        second: none,
+        third: none,
     };
     let mut k = 0;
     while k < n {
-        used = open_for(g, read_record(input, k), used, own2, own3);
+        u = open_for(g, read_record(input, k), u, own2, own3);
         k += 1;
     }
 }

@@ -1,7 +1,7 @@
--- Painting and stamping make a stale table right. Assumes nothing.
+-- Painting and stamping make a stale table right, and leave what is not live. Assumes nothing.
 use mathlib.Core.Path.{_≡_, refl, sym, ap, _∙_}
 use mathlib.Core.Logic.{_⊎_, inl, inr}
-use mathlib.Core.Bool.{Bool, true, false, cond}
+use mathlib.Core.Bool.{Bool, true, false, cond, true≢false}
 use mathlib.Core.List.{List}
 use Prim.Native.Nat.{ℕ, suc, _+_, _-_, _*_, _/_, _^_, _≤_, _<_}
 use native.Mathlib.Omega.{arith}
@@ -15,16 +15,17 @@ use Rattle.chain.specs.Words.{routesIn}
 use Rattle.chain.proofs.Decodes.{words-good}
 use Rattle.plan.specs.Plan.{plan}
 use Rattle.sail.specs.Geometry.{bits2, bits3}
-use Rattle.sail.specs.Lent.{Lent}
+use Rattle.sail.specs.Lent.{Cells}
+use Rattle.sail.specs.Sizes.{Celled}
 use Rattle.sail.specs.Level.{Level, Chunks, chunkFor, deep, itself, nobody, partOf, entry, chunksOf, noChunks, level1, level2, level3}
 use Rattle.sail.specs.declared.geometry.Geometry.{Geometry}
-use Rattle.sail_theory.specs.Render.{pool, rendered, Fits}
+use Rattle.sail_theory.specs.Render.{shown, laidOver, Fits}
 use Rattle.sail_theory.proofs.Chunks.{chunk-at}
 use Rattle.sail_theory.proofs.Places.{chunk-lt, live-owner}
 use Rattle.sail_theory.proofs.Rendered.{last-fits}
 use Rattle.sail_theory.proofs.Frames.{top-bounded, below-bounded}
-use Rattle.sail_theory.proofs.Pools.{length-pool, pool-leaf, pool-node}
-use Rattle.sail_paint.specs.Stale.{meets, staleBelow, Stale}
+use Rattle.sail_theory.proofs.Pools.{length-laid, laid-at, shown-leaf, shown-node, laid-rendered}
+use Rattle.sail_paint.specs.Stale.{meets, staleBelow, Right, Stale, Repainted, Blank, AsAsked}
 use Rattle.sail_paint.specs.Paint.{overpainted, stampedBy, stamped, standsFor, staleIn, Above, FirstCells, Pool, Stamps}
 use Rattle.sail_paint.proofs.Places.{stands-itself, stands-part}
 use Rattle.sail_paint.proofs.Overs.{length-over, over-at}
@@ -35,82 +36,90 @@ plan-leaf : (rs : List Route) (p i : ℕ) → long rs p i ≡ false → plan rs 
 unfolding plan
 plan-leaf rs p i e = rw e
 
--- A level whose chunks fit, and whose cells are right but for stale ones. These are painted, and the numbers of chunks stamped over all.
+-- A level whose chunks fit, and whose live cells are right but for stale ones. These are painted, and the numbers of chunks stamped over all.
 module _ (rs : List Route) (v : Level) (k : Chunks) (f : Fits rs v k) (stale : ℕ → Bool) (lives : (q : ℕ) → stale q ≡ true → v .live q ≡ true)
-    (cells : List ℕ) (size : length cells ≡ v .places) (right : (q : ℕ) → q < length cells → stale q ≡ false → getD cells q 0 ≡ getD (pool rs v k) q 0) where
+    (cells : List ℕ) (size : length cells ≡ v .places) (is : Right rs v k stale cells) where
   abbrev painted : List ℕ
   painted = overpainted rs (v .bits) stale (v .at) cells
 
+  -- what is then asked at place q
+  abbrev due : ℕ → ℕ
+  due q = cond (v .live q) (shown rs v k q) (getD cells q 0)
+
   -- a place from which a chunk hangs, and one from which none does
-  hangs : (q : ℕ) → chunkFor k (suc q) < k .many → suc (chunkFor k (suc q)) ≡ getD (pool rs v k) q 0
-  hangs q h = let z = f .lies (chunkFor k (suc q)) q h (chunk-at k (suc q) h) in sym (pool-node rs v k q (z .0) (z .1) (z .2))
+  hangs : (q : ℕ) → chunkFor k (suc q) < k .many → suc (chunkFor k (suc q)) ≡ due q
+  hangs q h = let z = f .lies (chunkFor k (suc q)) q h (chunk-at k (suc q) h) in rw (z .1) (sym (shown-node rs v k q (z .2)))
 
-  bare : (q : ℕ) → q < length cells → k .many ≤ chunkFor k (suc q) → cond (stale q) (plan rs (v .bits) (v .at q)) (getD cells q 0) ≡ getD (pool rs v k) q 0
-  bare q l h = go (decided (stale q)) (decided (deep rs v q))
+  bare : (q : ℕ) → q < length cells → k .many ≤ chunkFor k (suc q) → cond (stale q) (plan rs (v .bits) (v .at q)) (getD cells q 0) ≡ due q
+  bare q l h = go (decided (stale q)) (decided (v .live q)) (decided (deep rs v q))
     where
-      go : (stale q ≡ true) ⊎ (stale q ≡ false) → (deep rs v q ≡ true) ⊎ (deep rs v q ≡ false) → cond (stale q) (plan rs (v .bits) (v .at q)) (getD cells q 0) ≡ getD (pool rs v k) q 0
-      go (inr e) d = rw e (right q l e)
-      go (inl e) (inl d) = absurd (omega (arith, f .has q (rw size at l) (lives q e) d))
-      go (inl e) (inr d) = rw e (plan-leaf rs (v .bits) (v .at q) d ∙ sym (pool-leaf rs v k q (rw size at l) (lives q e) d))
+      go : (stale q ≡ true) ⊎ (stale q ≡ false) → (v .live q ≡ true) ⊎ (v .live q ≡ false) → (deep rs v q ≡ true) ⊎ (deep rs v q ≡ false)
+          → cond (stale q) (plan rs (v .bits) (v .at q)) (getD cells q 0) ≡ due q
+      go (inr e) (inl u) d = rw (e, u) (is .right q (rw size at l) u e)
+      go (inr e) (inr u) d = rw (e, u)
+      go (inl e) u (inl d) = absurd (omega (arith, f .has q (rw size at l) (lives q e) d))
+      go (inl e) u (inr d) = rw (e, lives q e) (plan-leaf rs (v .bits) (v .at q) d ∙ sym (shown-leaf rs v k q d))
 
-  level-right : stampedBy (k .many) (k .own) painted ≡ pool rs v k
+  level-right : stampedBy (k .many) (k .own) painted ≡ laidOver rs v k cells
   level-right =
-      ext-getD 0 _ _ (length-stamped (k .own) painted (k .many) ∙ length-over rs (v .bits) stale (v .at) cells ∙ size ∙ sym (length-pool rs v k))
+      ext-getD 0 _ _ (length-stamped (k .own) painted (k .many) ∙ length-over rs (v .bits) stale (v .at) cells ∙ sym (length-laid cells (v .live) (shown rs v k)))
       (λ q b. each q (let z = length-stamped (k .own) painted (k .many) in let y = length-over rs (v .bits) stale (v .at) cells in omega arith))
     where
-      each : (q : ℕ) → q < length cells → getD (stampedBy (k .many) (k .own) painted) q 0 ≡ getD (pool rs v k) q 0
-      each q l = stamped-at (k .own) painted (k .many) q (rw length-over l) ∙ ap (stampAt (k .own) (k .many) q) (over-at rs (v .bits) stale (v .at) cells q l) ∙ go (below? (chunkFor k (suc q)) (k .many))
+      each : (q : ℕ) → q < length cells → getD (stampedBy (k .many) (k .own) painted) q 0 ≡ getD (laidOver rs v k cells) q 0
+      each q l =
+          stamped-at (k .own) painted (k .many) q (rw length-over l) ∙ ap (stampAt (k .own) (k .many) q) (over-at rs (v .bits) stale (v .at) cells q l)
+          ∙ go (below? (chunkFor k (suc q)) (k .many)) ∙ sym (laid-at cells (v .live) (shown rs v k) q l)
         where
-          go : (chunkFor k (suc q) < k .many) ⊎ (k .many ≤ chunkFor k (suc q)) → stampAt (k .own) (k .many) q (cond (stale q) (plan rs (v .bits) (v .at q)) (getD cells q 0)) ≡ getD (pool rs v k) q 0
+          go : (chunkFor k (suc q) < k .many) ⊎ (k .many ≤ chunkFor k (suc q)) → stampAt (k .own) (k .many) q (cond (stale q) (plan rs (v .bits) (v .at q)) (getD cells q 0)) ≡ due q
           go (inl h) = rw (lt-ltb (chunkFor k (suc q)) (k .many) h) (hangs q h)
           go (inr h) = rw (le-ltb (chunkFor k (suc q)) (k .many) h) (bare q l h)
 
-module _ (g : Geometry) (ws par : List ℕ) (a len : ℕ) (l : Lent) (s : Stale g ws par a len l) where
+module _ (g : Geometry) (ws par : List ℕ) (a len : ℕ) (l : Cells) (s : Stale g ws par a len l) where
   abbrev rs : List Route
   rs = routesIn ws
 
   -- What is asked at each step.
   pub first-asks : FirstCells ws par (g .p1) a len (l .first)
-  first-asks = let v = s .sized .valid in record { ready = s .ready; prefix = s .prefix; low = omega arith; deep = omega arith; cells = s .sized .cells1 }
+  first-asks = let v = s .celled .valid in record { ready = s .ready; prefix = s .prefix; low = omega arith; deep = omega arith; cells = s .celled .cells1 }
 
   pub first-stamps : (now : List ℕ) → now ≡ overpainted rs (g .p1) (meets a len (g .p1)) itself (l .first) → Stamps (l .own2) now
   first-stamps now e = record {
-    few = s .sized .few2;
-    inside = λ c q k o. let z = length-over rs (g .p1) (meets a len (g .p1)) itself (l .first) in omega (arith, s .fits2 .lies c q k o .0, s .sized .cells1, ap length e);
+    few = s .celled .few2;
+    inside = λ c q k o. let z = length-over rs (g .p1) (meets a len (g .p1)) itself (l .first) in omega (arith, s .fits2 .lies c q k o .0, s .celled .cells1, ap length e);
     once = s .fits2 .once;
   }
 
   pub second-asks : Pool ws par len (g .p1) (g .p2) (l .own2) 0 (l .own2) (l .second)
   second-asks =
-      let v = s .sized .valid in
+      let v = s .celled .valid in
       record {
         levels = record { ready = s .ready; len-ok = s .prefix .len-ok; deeper = omega arith; deep = omega arith; small = v .near };
         hangs = λ c k. record {
           above = λ q o. record { small = omega arith; chunk = λ z. absurd (omega arith); owned = λ z. absurd (omega arith) };
           cell = λ q o. rw (← stands-itself 0 (l .own2) q refl) (s .fits2 .lies c q k o .0);
         };
-        few = s .sized .few2;
-        chunks = s .sized .cells2;
+        few = s .celled .few2;
+        chunks = s .celled .cells2;
       }
 
   pub second-stamps : (p : ℕ) (f : ℕ → Bool) (at : ℕ → ℕ) (now : List ℕ) → now ≡ overpainted rs p f at (l .second) → Stamps (l .own3) now
   second-stamps p f at now e = record {
-    few = s .sized .few3;
-    inside = λ c q k o. let z = length-over rs p f at (l .second) in omega (arith, s .fits3 .lies c q k o .0, s .sized .cells2, ap length e);
+    few = s .celled .few3;
+    inside = λ c q k o. let z = length-over rs p f at (l .second) in omega (arith, s .fits3 .lies c q k o .0, s .celled .cells2, ap length e);
     once = s .fits3 .once;
   }
 
   some2 : bits2 g ≡ 0 → ⊥
-  some2 z = let v = s .sized .valid in omega arith
+  some2 z = let v = s .celled .valid in omega arith
 
   pub third-asks : Pool ws par len (g .p2) 32 (l .own2) (bits2 g) (l .own3) (l .third)
   third-asks =
-      let v = s .sized .valid in
+      let v = s .celled .valid in
       record {
         levels = record { ready = s .ready; len-ok = s .prefix .len-ok; deeper = omega arith; deep = omega arith; small = omega arith };
         hangs = λ c k. record { above = λ q o. above c q k o; cell = λ q o. cell c q k o };
-        few = s .sized .few3;
-        chunks = s .sized .cells3;
+        few = s .celled .few3;
+        chunks = s .celled .cells3;
       }
     where
       owned : (c q : ℕ) → c < length (l .own3) → getD (l .own3) c 0 ≡ suc q → getD (l .own2) (q / 2 ^ bits2 g) 0 ≡ suc (getD (l .own2) (q / 2 ^ bits2 g) 0 - 1)
@@ -120,33 +129,41 @@ module _ (g : Geometry) (ws par : List ℕ) (a len : ℕ) (l : Lent) (s : Stale 
       chunk c q k o = chunk-lt (bits2 g) (length (l .own2)) q (s .fits3 .lies c q k o .0)
 
       above : (c q : ℕ) → c < length (l .own3) → getD (l .own3) c 0 ≡ suc q → Above (l .own2) (bits2 g) q
-      above c q k o = record { small = s .sized .valid .near; chunk = λ z. chunk c q k o; owned = λ z. omega (arith, owned c q k o) }
+      above c q k o = record { small = s .celled .valid .near; chunk = λ z. chunk c q k o; owned = λ z. omega (arith, owned c q k o) }
 
       cell : (c q : ℕ) → c < length (l .own3) → getD (l .own3) c 0 ≡ suc q → standsFor (bits2 g) (l .own2) q < 2 ^ g .p2
       cell c q k o =
-          let v = s .sized .valid in
+          let v = s .celled .valid in
           let z = s .fits3 .lies c q k o in
           rw (stands-part (bits2 g) (l .own2) q some2) (below-bounded rs (level1 g) (chunksOf (l .own2)) (g .p2) (omega arith) (s .fits2) (top-bounded (g .p1)) q (z .0) (z .1))
 
   -- And what they leave.
   pub first-is : (now after : List ℕ) → now ≡ overpainted rs (g .p1) (meets a len (g .p1)) itself (l .first) → after ≡ stamped (l .own2) now
-      → after ≡ rendered g 0 rs (l .own2) (l .own3) .first
+      → after ≡ laidOver rs (level1 g) (chunksOf (l .own2)) (l .first)
   first-is now after e e′ =
       e′ ∙ ap (stamped (l .own2)) e
-      ∙ level-right rs (level1 g) (chunksOf (l .own2)) (s .fits2) (meets a len (g .p1)) (λ q t. refl) (l .first) (s .sized .cells1) (s .right1)
+      ∙ level-right rs (level1 g) (chunksOf (l .own2)) (s .fits2) (meets a len (g .p1)) (λ q t. refl) (l .first) (s .celled .cells1) (s .right1)
 
   pub second-is : (now after : List ℕ)
       → now ≡ overpainted rs (g .p2) (staleIn a len (g .p1) (bits2 g) (standsFor 0 (l .own2)) (entry (l .own2))) (partOf (entry (l .own2)) (bits2 g) (standsFor 0 (l .own2))) (l .second)
-      → after ≡ stamped (l .own3) now → after ≡ rendered g 0 rs (l .own2) (l .own3) .second
+      → after ≡ stamped (l .own3) now → after ≡ laidOver rs (level2 g (chunksOf (l .own2))) (chunksOf (l .own3)) (l .second)
   second-is now after e e′ =
       e′ ∙ ap (stamped (l .own3)) (e ∙ ap (λ (h : ℕ → ℕ). overpainted rs (g .p2) (staleIn a len (g .p1) (bits2 g) h (entry (l .own2))) (partOf (entry (l .own2)) (bits2 g) h) (l .second)) (λ i q. sym (stands-itself 0 (l .own2) q refl) i))
-      ∙ level-right rs (level2 g (chunksOf (l .own2))) (chunksOf (l .own3)) (s .fits3) (staleBelow a len (level1 g) (chunksOf (l .own2)) (g .p2)) (λ q t. and-split (level2 g (chunksOf (l .own2)) .live q) _ t .0) (l .second) (s .sized .cells2) (s .right2)
+      ∙ level-right rs (level2 g (chunksOf (l .own2))) (chunksOf (l .own3)) (s .fits3) (staleBelow a len (level1 g) (chunksOf (l .own2)) (g .p2)) (λ q t. and-split (level2 g (chunksOf (l .own2)) .live q) _ t .0) (l .second) (s .celled .cells2) (s .right2)
 
   pub third-is : (after : List ℕ)
       → after ≡ overpainted rs 32 (staleIn a len (g .p2) (bits3 g) (standsFor (bits2 g) (l .own2)) (entry (l .own3))) (partOf (entry (l .own3)) (bits3 g) (standsFor (bits2 g) (l .own2))) (l .third)
-      → after ≡ rendered g 0 rs (l .own2) (l .own3) .third
+      → after ≡ laidOver rs (level3 g (chunksOf (l .own2)) (chunksOf (l .own3))) noChunks (l .third)
   third-is after e =
       e ∙ ap (λ (h : ℕ → ℕ). overpainted rs 32 (staleIn a len (g .p2) (bits3 g) h (entry (l .own3))) (partOf (entry (l .own3)) (bits3 g) h) (l .third)) (λ i q. stands-part (bits2 g) (l .own2) q some2 i)
       ∙ stamp-none nobody _
       ∙ level-right rs (level3 g (chunksOf (l .own2)) (chunksOf (l .own3))) noChunks (last-fits rs (words-good ws (s .ready .words)) (level2 g (chunksOf (l .own2))) (chunksOf (l .own3)))
-      (staleBelow a len (level2 g (chunksOf (l .own2))) (chunksOf (l .own3)) 32) (λ q t. and-split (level3 g (chunksOf (l .own2)) (chunksOf (l .own3)) .live q) _ t .0) (l .third) (s .sized .cells3) (s .right3)
+      (staleBelow a len (level2 g (chunksOf (l .own2))) (chunksOf (l .own3)) 32) (λ q t. and-split (level3 g (chunksOf (l .own2)) (chunksOf (l .own3)) .live q) _ t .0) (l .third) (s .celled .cells3) (s .right3)
+
+-- where the cells of free chunks are 0, repainting leaves what is asked
+pub repainted-asked : (g : Geometry) (rs : List Route) (l : Cells) → Celled g l → Blank g l → (first second third : List ℕ) → Repainted g rs l first second third → AsAsked g rs l first second third
+repainted-asked g rs l z b first second third r = record {
+  is-first = r .is-first ∙ laid-rendered rs (level1 g) (chunksOf (l .own2)) (l .first) (z .cells1) (λ q h e. absurd (true≢false e));
+  is-second = r .is-second ∙ laid-rendered rs (level2 g (chunksOf (l .own2))) (chunksOf (l .own3)) (l .second) (z .cells2) (b .blank2);
+  is-third = r .is-third ∙ laid-rendered rs (level3 g (chunksOf (l .own2)) (chunksOf (l .own3))) noChunks (l .third) (z .cells3) (b .blank3);
+}

@@ -1,19 +1,15 @@
 -- What is left to do once the list and the owners of a table are changed at a prefix. Assumes nothing.
-use mathlib.Core.List.{List, []}
+use mathlib.Core.List.{List}
 use mathlib.Core.Path.{_≡_}
 use Prim.Native.Nat.{ℕ}
 use Rattle.routes.specs.Record.{routesOf, Listed}
 use Rattle.chain.specs.Words.{routesIn}
 use Rattle.chain.specs.Cover.{Ready}
-use Rattle.sail.specs.Lent.{Lent, lent}
+use Rattle.sail.specs.Lent.{Lent, cellsOf}
 use Rattle.sail.specs.declared.geometry.Geometry.{Geometry}
 use Rattle.sail_paint.specs.Stale.{Stale}
 
--- a table's cells and owners, without its list
-abbrev pub cellsOf : Lent → Lent
-cellsOf l = lent [] (l .first) (l .second) (l .third) (l .own2) (l .own3)
-
--- the list holds n good records, and no cell is wrong but those that a change at the prefix made stale
+-- the list holds n good records, and no live cell is wrong but those that a change at the prefix made stale
 pub record Pending (g : Geometry) (n a len : ℕ) (l : Lent) : Type 0 where
   pub listed : Listed (l .list) n
   pub stale : (ws par : List ℕ) → Ready ws par → routesIn ws ≡ routesOf (l .list) n → Stale g ws par a len (cellsOf l)

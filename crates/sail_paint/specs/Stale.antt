@@ -1,9 +1,9 @@
 -- The cells that a change at a prefix may make stale: those that lie under the prefix or hold it, and the cells of chunks that hang from
--- such cells. All others hold already what the routes and owners ask. Assumes nothing.
-use mathlib.Core.Bool.{Bool, false, _&&_, cond}
+-- such cells. All others that are live hold already what the routes and owners ask. Assumes nothing.
+use mathlib.Core.Bool.{Bool, true, false, _&&_, cond}
 use mathlib.Core.List.{List}
 use mathlib.Core.Path.{_≡_}
-use Prim.Native.Nat.{ℕ, _-_, _/_, _^_, _<_}
+use Prim.Native.Nat.{ℕ, _-_, _*_, _/_, _^_, _<_}
 use lib.Dec.{eqb, leb}
 use lib.ListN.{getD, length}
 use Rattle.bits.specs.Slot.{slot}
@@ -11,11 +11,12 @@ use Rattle.routes.specs.Route.{Prefix}
 use Rattle.routes.specs.declared.Route.{Route}
 use Rattle.chain.specs.Words.{routesIn}
 use Rattle.chain.specs.Cover.{Ready}
-use Rattle.sail.specs.Lent.{Lent}
-use Rattle.sail.specs.Sizes.{Sized}
-use Rattle.sail.specs.Level.{Level, Chunks, chunksOf, below, level1, level2}
+use Rattle.sail.specs.Geometry.{bits2, bits3}
+use Rattle.sail.specs.Lent.{Lent, Cells}
+use Rattle.sail.specs.Sizes.{Celled}
+use Rattle.sail.specs.Level.{Level, Chunks, liveIn, entry, chunksOf, noChunks, below, level1, level2, level3}
 use Rattle.sail.specs.declared.geometry.Geometry.{Geometry}
-use Rattle.sail_theory.specs.Render.{rendered, Fits}
+use Rattle.sail_theory.specs.Render.{shown, laidOver, rendered, Fits}
 
 -- cell i of level p lies under the prefix of len bits of a, or holds it
 unfoldable pub meets : ℕ → ℕ → ℕ → ℕ → Bool
@@ -25,23 +26,39 @@ meets a len p i = cond (leb len p) (eqb (i / 2 ^ (p - len)) (slot len a)) (eqb (
 abbrev pub staleBelow : ℕ → ℕ → Level → Chunks → ℕ → ℕ → Bool
 staleBelow a len v k p q = below v k p .live q && meets a len (v .bits) (v .at (k .own (q / 2 ^ (p - v .bits)) - 1))
 
--- what these routes and the owners lent ask for
-abbrev pub asked : Geometry → List Route → Lent → Lent
+-- the live cells of a level that are not stale are right
+pub record Right (rs : List Route) (v : Level) (k : Chunks) (stale : ℕ → Bool) (cells : List ℕ) : Type 0 where
+  pub right : (q : ℕ) → q < v .places → v .live q ≡ true → stale q ≡ false → getD cells q 0 ≡ shown rs v k q
+
+-- what these routes and owners ask for
+abbrev pub asked : Geometry → List Route → Cells → Lent
 asked g rs l = rendered g 0 rs (l .own2) (l .own3)
 
--- what repainting asks: owners that fit the routes, and no cell wrong but those that the change made stale
-pub record Stale (g : Geometry) (ws par : List ℕ) (a len : ℕ) (l : Lent) : Type 0 where
+-- What repainting asks: owners that fit the routes, and no live cell wrong but those that the change made stale. Of cells that are not live
+-- nothing is asked.
+pub record Stale (g : Geometry) (ws par : List ℕ) (a len : ℕ) (l : Cells) : Type 0 where
   pub ready : Ready ws par
-  pub sized : Sized g l
+  pub celled : Celled g l
   pub prefix : Prefix a len
   pub fits2 : Fits (routesIn ws) (level1 g) (chunksOf (l .own2))
   pub fits3 : Fits (routesIn ws) (level2 g (chunksOf (l .own2))) (chunksOf (l .own3))
-  pub right1 : (q : ℕ) → q < length (l .first) → meets a len (g .p1) q ≡ false → getD (l .first) q 0 ≡ getD (asked g (routesIn ws) l .first) q 0
-  pub right2 : (q : ℕ) → q < length (l .second) → staleBelow a len (level1 g) (chunksOf (l .own2)) (g .p2) q ≡ false → getD (l .second) q 0 ≡ getD (asked g (routesIn ws) l .second) q 0
-  pub right3 : (q : ℕ) → q < length (l .third) → staleBelow a len (level2 g (chunksOf (l .own2))) (chunksOf (l .own3)) 32 q ≡ false → getD (l .third) q 0 ≡ getD (asked g (routesIn ws) l .third) q 0
+  pub right1 : Right (routesIn ws) (level1 g) (chunksOf (l .own2)) (meets a len (g .p1)) (l .first)
+  pub right2 : Right (routesIn ws) (level2 g (chunksOf (l .own2))) (chunksOf (l .own3)) (staleBelow a len (level1 g) (chunksOf (l .own2)) (g .p2)) (l .second)
+  pub right3 : Right (routesIn ws) (level3 g (chunksOf (l .own2)) (chunksOf (l .own3))) noChunks (staleBelow a len (level2 g (chunksOf (l .own2))) (chunksOf (l .own3)) 32) (l .third)
 
--- and what it leaves
-pub record Repainted (g : Geometry) (rs : List Route) (l : Lent) (first second third : List ℕ) : Type 0 where
+-- and what it leaves: live cells are as the routes ask, the others as they were
+pub record Repainted (g : Geometry) (rs : List Route) (l : Cells) (first second third : List ℕ) : Type 0 where
+  pub is-first : first ≡ laidOver rs (level1 g) (chunksOf (l .own2)) (l .first)
+  pub is-second : second ≡ laidOver rs (level2 g (chunksOf (l .own2))) (chunksOf (l .own3)) (l .second)
+  pub is-third : third ≡ laidOver rs (level3 g (chunksOf (l .own2)) (chunksOf (l .own3))) noChunks (l .third)
+
+-- where the cells of free chunks are 0
+pub record Blank (g : Geometry) (l : Cells) : Type 0 where
+  pub blank2 : (q : ℕ) → q < length (l .own2) * 2 ^ bits2 g → liveIn (entry (l .own2)) (bits2 g) q ≡ false → getD (l .second) q 0 ≡ 0
+  pub blank3 : (q : ℕ) → q < length (l .own3) * 2 ^ bits3 g → liveIn (entry (l .own3)) (bits3 g) q ≡ false → getD (l .third) q 0 ≡ 0
+
+-- it leaves what is asked
+pub record AsAsked (g : Geometry) (rs : List Route) (l : Cells) (first second third : List ℕ) : Type 0 where
   pub is-first : first ≡ asked g rs l .first
   pub is-second : second ≡ asked g rs l .second
   pub is-third : third ≡ asked g rs l .third

@@ -1,15 +1,14 @@
 // A table painted again, where the routes under a prefix have changed.
-ghost use mathlib.Core.List.{[]};
 ghost use Rattle.chain.specs.Words.{routesIn};
-ghost use Rattle.sail.specs.Lent.{lent};
+ghost use Rattle.sail.specs.Lent.{cells};
 ghost use Rattle.sail_paint.specs.Stale.{Stale, Repainted};
 use crate::part::paint_first;
 use crate::pool::paint_pool;
 use crate::pool::stamp;
 use sail::geometry::Geometry;
 
-// Makes the cells of all three levels what the routes and owners ask for, where no cell is wrong but those that a change
-// at the prefix of len bits of addr made stale. `par` is what `chain::cover::ready` makes of the words. The owners are
+// Makes the live cells of all three levels what the routes and owners ask for, where none is wrong but those that a change
+// at the prefix of len bits of addr made stale. Cells of free chunks are neither read nor written. `par` is what `chain::cover::ready` makes of the words. The owners are
 // gone through twice; of the cells, only stale ones are painted.
 pub fn repaint(
     ws: &[u64],
@@ -23,8 +22,8 @@ pub fn repaint(
     own2: &[u32],
     own3: &[u32],
 )
-    requires { ⌜ Stale g (now ws) (now par) addr len (lent [] (now first) (now second) (now third) (now own2) (now own3)) ⌝ }
-    ensures { λ _. ⌜ Repainted g (routesIn (now (ws .entry))) (lent [] (now (first .entry)) (now (second .entry)) (now (third .entry)) (now (own2 .entry)) (now (own3 .entry))) (now (first .exit)) (now (second .exit)) (now (third .exit)) ⌝ }
+    requires { ⌜ Stale g (now ws) (now par) addr len (cells (now first) (now second) (now third) (now own2) (now own3)) ⌝ }
+    ensures { λ _. ⌜ Repainted g (routesIn (now (ws .entry))) (cells (now (first .entry)) (now (second .entry)) (now (third .entry)) (now (own2 .entry)) (now (own3 .entry))) (now (first .exit)) (now (second .exit)) (now (third .exit)) ⌝ }
 {
     let p1 = g.p1;
     let p2 = g.p2;

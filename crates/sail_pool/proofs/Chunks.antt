@@ -1,4 +1,4 @@
--- A chunk, free or in use, as the code tests it. Assumes nothing.
+-- A chunk in use, and a free one, as the code tests them. Assumes nothing.
 use mathlib.Core.Path.{_≡_, sym, _∙_}
 use mathlib.Core.Bool.{Bool, true, false, true≢false}
 use mathlib.Core.List.{List}
@@ -12,10 +12,10 @@ use borrow.Author.Tests.{lt-ltb, le-ltb, ltb-true}
 use Rattle.bits.specs.Tab.{Tells}
 use Rattle.routes.specs.declared.Route.{Route}
 use Rattle.plan.specs.Part.{Right, Zero}
-use Rattle.plan.proofs.Tells.{is-no, tells-same}
+use Rattle.plan.proofs.Tells.{is-no, is-yes, tells-same}
 use Rattle.sail.specs.Geometry.{Power}
 use Rattle.sail.specs.Level.{itself, liveIn, partOf, entry}
-use Rattle.sail_pool.specs.Pool.{partAt, Hung, HookedChunk, Stands, Hooks, Hook, Hanging, Pooled}
+use Rattle.sail_pool.specs.Pool.{partAt, Hung, HookedChunk, Free, Chunked, Stands, Hooks, Hook, Hanging, Pooled}
 
 -- the answers of `hung_ok`
 module _ (rs : List Route) (p d : ℕ) (above cells below : List ℕ) (c o q i v : ℕ) where
@@ -62,9 +62,6 @@ module _ (ws par : List ℕ) (p d : ℕ) (up : List ℕ) (e : ℕ) (above cells 
     in-pool = omega (arith, chunk-room c (length own) (2 ^ d) l)
 
     module _ (a : ℕ) (s : (a ≡ c * 2 ^ d) × (a < 4194304)) where
-      pub free-room : (n : ℕ) → Power n d 1024 → a + n ≤ length cells
-      free-room n w = omega (arith, in-pool)
-
       -- the cell that a live place stands for is one of the level above
       cell-in : (q : ℕ) → liveIn (entry up) e q ≡ true → partOf (entry up) e itself q < 2 ^ (p - d)
       cell-in q v =
@@ -96,14 +93,10 @@ module _ (rs : List Route) (p d : ℕ) (up : List ℕ) (e : ℕ) (above cells be
   abbrev Whole : Type 0
   Whole = HookedChunk rs p d up e above cells below c x
 
-  module _ (a : ℕ) (s : (a ≡ c * 2 ^ d) × (a < 4194304)) where
-    pub free-tells : o ≡ 0 → (n : ℕ) → Power n d 1024 → (b : Bool) → Tells b (Zero (partAt cells a n)) → Tells b Whole
-    free-tells z n w b t =
-        let t′ = rw (s .0, w .is) at t in
-        tells-same
-        (λ f. record { free = λ k. f; lives = λ q k. absurd (omega arith); hangs = λ q k. absurd (omega arith) })
-        (λ k. k .free (omega arith)) t′
+  pub free-passes : o ≡ 0 → Tells true Whole
+  free-passes z = is-yes (record { lives = λ q k. absurd (omega arith); hangs = λ q k. absurd (omega arith) })
 
+  module _ (a : ℕ) (s : (a ≡ c * 2 ^ d) × (a < 4194304)) where
     module _ (used : o ≡ 0 → ⊥) (r : ℕ) (k : Hook up e (length above) (o - 1) r) where
       owner : x ≡ suc (o - 1)
       owner = omega (arith, used)
@@ -118,11 +111,22 @@ module _ (rs : List Route) (p d : ℕ) (up : List ℕ) (e : ℕ) (above cells be
           let t′ = rw (m, k .cell u) at t in
           tells-same
           (λ y. record {
-            free = λ z. absurd (used (omega arith));
             lives = λ q f. let g : q ≡ o - 1 = omega (arith, owner) in rw g (k .lives u);
             hangs = λ q f. let g : q ≡ o - 1 = omega (arith, owner) in rw g y;
           })
           (λ w. w .hangs (o - 1) owner) t′
+
+-- the answers of `free_chunk`
+module _ (d : ℕ) (own cells : List ℕ) (c : ℕ) where
+  pub used-free : (getD own c 0 ≡ 0 → ⊥) → Tells true (Free d cells c (getD own c 0))
+  used-free n = is-yes (record { zero = λ e. absurd (n e) })
+
+  module _ (a : ℕ) (s : (a ≡ c * 2 ^ d) × (a < 4194304)) (n : ℕ) (w : Power n d 1024) where
+    pub free-room : Chunked d own cells → c < length own → a + n ≤ length cells
+    free-room h l = omega (arith, chunk-room c (length own) (2 ^ d) l)
+
+    pub free-zero : getD own c 0 ≡ 0 → (b : Bool) → Tells b (Zero (partAt cells a n)) → Tells b (Free d cells c (getD own c 0))
+    free-zero e b t = let t′ = rw (s .0, w .is) at t in tells-same (λ z. record { zero = λ _. z }) (λ f. f .zero e) t′
 
 -- a pool, chunk by chunk
 module _ (ws par : List ℕ) (p d : ℕ) (up : List ℕ) (e : ℕ) (above cells own want : List ℕ) (h : Pooled ws par p d up e above cells own want) where

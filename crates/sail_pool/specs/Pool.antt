@@ -1,5 +1,5 @@
--- Pools of chunks, as the test goes through them: each chunk is free and zero, or hangs from a cell that names it and is as the routes
--- ask. Assumes nothing.
+-- Pools of chunks, as the test goes through them: a chunk in use hangs from a cell that names it and is as the routes ask; and, beside it, a
+-- free chunk is zero. Assumes nothing.
 use mathlib.Core.Path.{_≡_}
 use mathlib.Core.Bool.{Bool, true, false}
 use mathlib.Core.List.{List}
@@ -25,17 +25,22 @@ pub record Hung (rs : List Route) (p d : ℕ) (above cells below : List ℕ) (c 
   pub named : getD above q 0 ≡ suc c
   pub right : Right rs p (i * 2 ^ d) (chunkOf d cells c) below o (2 ^ d)
 
--- Chunk c, whose owner is o: free and zero, or it hangs from the live cell at place o - 1 of the pool above, which stands for the cell
--- `at (o - 1)`.
+-- Chunk c, whose owner is o: free, or it hangs from the live cell at place o - 1 of the pool above, which stands for the cell `at (o - 1)`.
 pub record ChunkOk (rs : List Route) (p d : ℕ) (above : List ℕ) (live : ℕ → Bool) (at : ℕ → ℕ) (cells below : List ℕ) (c o : ℕ) : Type 0 where
-  pub free : o ≡ 0 → Zero (chunkOf d cells c)
   pub lives : (q : ℕ) → o ≡ suc q → live q ≡ true
   pub hangs : (q : ℕ) → o ≡ suc q → Hung rs p d above cells below c (suc (c * 2 ^ d)) q (at q)
 
 pub record PoolOk (rs : List Route) (p d : ℕ) (above : List ℕ) (live : ℕ → Bool) (at : ℕ → ℕ) (own cells below : List ℕ) : Type 0 where
   pub each : (c : ℕ) → c < length own → ChunkOk rs p d above live at cells below c (getD own c 0)
 
--- the same where the cells of the pool above lie in chunks of 2 ^ e, whose owners are `up`
+-- chunk c, whose owner is o, is in use or zero
+pub record Free (d : ℕ) (cells : List ℕ) (c o : ℕ) : Type 0 where
+  pub zero : o ≡ 0 → Zero (chunkOf d cells c)
+
+pub record FreeAll (d : ℕ) (own cells : List ℕ) : Type 0 where
+  pub each : (c : ℕ) → c < length own → Free d cells c (getD own c 0)
+
+-- the first two where the cells of the pool above lie in chunks of 2 ^ e, whose owners are `up`
 abbrev pub HookedChunk : List Route → ℕ → ℕ → List ℕ → ℕ → List ℕ → List ℕ → List ℕ → ℕ → ℕ → Type 0
 HookedChunk rs p d up e above cells below c o = ChunkOk rs p d above (liveIn (entry up) e) (partOf (entry up) e itself) cells below c o
 
@@ -89,6 +94,12 @@ pub record Hooks (up : List ℕ) (e n : ℕ) : Type 0 where
   pub small : e ≤ 16
   pub owners : (c : ℕ) → getD up c 0 ≤ 65536
   pub places : n ≡ length up * 2 ^ e
+
+-- a pool of chunks of 2 ^ d cells
+pub record Chunked (d : ℕ) (own cells : List ℕ) : Type 0 where
+  pub small : d ≤ 10
+  pub few : length own ≤ 4096
+  pub chunks : length cells ≡ length own * 2 ^ d
 
 -- A pool of chunks of 2 ^ d cells of level p. The cells of the pool above lie in chunks of 2 ^ e, which hang from a level of `top` bits.
 pub record Pooled (ws par : List ℕ) (p d : ℕ) (up : List ℕ) (e : ℕ) (above cells own want : List ℕ) : Type 0 where

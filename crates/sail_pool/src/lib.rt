@@ -7,7 +7,7 @@ ghost use Rattle.bits.specs.Tab.{Tells};
 ghost use Rattle.chain.specs.Words.{routesIn};
 ghost use Rattle.plan.specs.Part.{Right, Zero};
 ghost use Rattle.sail.specs.Geometry.{Power};
-ghost use Rattle.sail_pool.specs.Pool.{partAt, Hung, HookedChunk, HookedPool, Blocked, FirstCells, Stands, Hooks, Hook, Hanging, Pooled};
+ghost use Rattle.sail_pool.specs.Pool.{partAt, Hung, HookedChunk, HookedPool, Free, FreeAll, Chunked, Blocked, FirstCells, Stands, Hooks, Hook, Hanging, Pooled};
 use chain::place::shifted;
 use plan::part::zero;
 use plan::under::right_under;
@@ -149,8 +149,8 @@ fn hook(up: &[u32], e: u32, n: usize, q: usize) -> u64
     1 + stands_for(x, q, e)
 }
 
-// Whether chunk c of a pool is free and zero, or hangs from the pool above and is right. The cells of the pool above lie in
-// chunks of 2^e, whose owners are `up`.
+// Whether chunk c of a pool is free, or hangs from the pool above and is right. The cells of the pool above lie in chunks of
+// 2^e, whose owners are `up`.
 fn chunk_ok(
     ws: &[u64],
     par: &[u16],
@@ -172,7 +172,7 @@ fn chunk_ok(
     let a = start(c, d);
     let o = wide_owner(own[c]);
     if o == 0 {
-        return free_ok(cells, a, size(d));
+        return true;
     }
     let q = o - 1;
     let i = hook(up, e, above.len(), q);
@@ -183,8 +183,8 @@ fn chunk_ok(
     hung_ok(ws, par, p, d, above, q, j, cells, c, 1 + a, below, want)
 }
 
-// Whether a whole pool is right.
-pub fn pool_ok(
+// Whether each chunk in use of a pool is right. The cells of free chunks are not read.
+pub fn hung_all(
     ws: &[u64],
     par: &[u16],
     p: u32,
@@ -203,6 +203,33 @@ pub fn pool_ok(
     let mut c = 0;
     while c < own.len() {
         if !chunk_ok(ws, par, p, d, up, e, above, cells, own, c, below, want) {
+            return false;
+        }
+        c += 1;
+    }
+    true
+}
+
+// Whether chunk c of a pool of chunks of 2^d cells is in use, or zero.
+fn free_chunk(d: u32, cells: &[u16], own: &[u32], c: usize) -> bool
+    requires { ⌜ Chunked d (now own) (now cells) ⌝ }
+    requires { ⌜ c < length (now own) ⌝ }
+    ensures { λ r. ⌜ Tells r (Free d (now (cells .entry)) c (getD (now (own .entry)) c 0)) ⌝ }
+{
+    if own[c] != 0 {
+        return true;
+    }
+    free_ok(cells, start(c, d), size(d))
+}
+
+// Whether each free chunk of a pool is zero. The cells of chunks in use are not read.
+pub fn free_all(d: u32, cells: &[u16], own: &[u32]) -> bool
+    requires { ⌜ Chunked d (now own) (now cells) ⌝ }
+    ensures { λ r. ⌜ Tells r (FreeAll d (now (own .entry)) (now (cells .entry))) ⌝ }
+{
+    let mut c = 0;
+    while c < own.len() {
+        if !free_chunk(d, cells, own, c) {
             return false;
         }
         c += 1;

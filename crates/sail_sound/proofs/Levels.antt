@@ -13,11 +13,11 @@ use Rattle.chain.specs.Cover.{Ready}
 use Rattle.plan.specs.Part.{Right}
 use Rattle.plan.proofs.Tells.{tells-same, refuted, passed}
 use Rattle.sail.specs.Geometry.{bits2, bits3}
-use Rattle.sail.specs.Lent.{lent}
-use Rattle.sail.specs.Sizes.{Sized}
+use Rattle.sail.specs.Lent.{cells}
+use Rattle.sail.specs.Sizes.{Celled}
 use Rattle.sail.specs.declared.geometry.Geometry.{Geometry}
-use Rattle.sail_pool.specs.Pool.{PoolOk, HookedPool, FirstCells, Pooled}
-use Rattle.sail_sound.specs.Test.{root, Passed}
+use Rattle.sail_pool.specs.Pool.{PoolOk, HookedPool, FreeAll, FirstCells, Chunked, Pooled}
+use Rattle.sail_sound.specs.Test.{root, Passed, PassedAll}
 
 -- no owner in a right pool names a place past the pool above
 pool-owners : (rs : List Route) (p d : ℕ) (above : List ℕ) (live : ℕ → Bool) (at : ℕ → ℕ) (own cells below : List ℕ) → PoolOk rs p d above live at own cells below → (c : ℕ) → getD own c 0 ≤ length above
@@ -32,7 +32,7 @@ root-owner : (c : ℕ) → getD root c 0 ≤ 2 ^ 0
 root-owner zero = omega arith
 root-owner (suc c) = omega arith
 
-module _ (ws par : List ℕ) (ready : Ready ws par) (g : Geometry) (first second third own2 own3 : List ℕ) (s : Sized g (lent [] first second third own2 own3)) (want : List ℕ) (room : length want ≡ 1024) where
+module _ (ws par : List ℕ) (ready : Ready ws par) (g : Geometry) (first second third own2 own3 : List ℕ) (s : Celled g (cells first second third own2 own3)) (want : List ℕ) (room : length want ≡ 1024) where
   pub first-cells : FirstCells ws par (g .p1) first 1 want
   first-cells =
       let v = s .valid in
@@ -76,14 +76,34 @@ module _ (ws par : List ℕ) (ready : Ready ws par) (g : Geometry) (first second
         room = room;
       }
 
--- the answers of `levels_ok`
-module _ (rs : List Route) (g : Geometry) (first second third own2 own3 : List ℕ) (b : Bool) (cells : Tells b (Right rs (g .p1) 0 first own2 1 (length first))) where
-  pub first-fails : not b ≡ true → Tells false (Passed rs g first second third own2 own3)
-  first-fails n = refuted cells n (λ h. h .cells1)
+-- the pools alone
+module _ (g : Geometry) (first second third own2 own3 : List ℕ) (s : Celled g (cells first second third own2 own3)) where
+  pub chunked2 : Chunked (bits2 g) own2 second
+  chunked2 = record { small = s .valid .near; few = s .few2; chunks = s .cells2 }
+
+  pub chunked3 : Chunked (bits3 g) own3 third
+  chunked3 = let v = s .valid in record { small = omega arith; few = s .few3; chunks = s .cells3 }
+
+-- the answers of `live_ok`
+module _ (rs : List Route) (g : Geometry) (first second third own2 own3 : List ℕ) (b : Bool) (right : Tells b (Right rs (g .p1) 0 first own2 1 (length first))) where
+  pub first-fails : not b ≡ true → Tells false (Passed rs g (cells first second third own2 own3))
+  first-fails n = refuted right n (λ h. h .cells1)
 
   module _ (c : Bool) (pool : Tells c (HookedPool rs (g .p2) (bits2 g) root (g .p1) first own2 second own3)) where
-    pub second-fails : not c ≡ true → Tells false (Passed rs g first second third own2 own3)
+    pub second-fails : not c ≡ true → Tells false (Passed rs g (cells first second third own2 own3))
     second-fails n = refuted pool n (λ h. h .pool2)
 
-    pub third-tells : not b ≡ false → not c ≡ false → (r : Bool) → Tells r (HookedPool rs 32 (bits3 g) own2 (bits2 g) second own3 third []) → Tells r (Passed rs g first second third own2 own3)
-    third-tells m n r = tells-same (λ k. record { cells1 = passed cells m; pool2 = passed pool n; pool3 = k }) (λ h. h .pool3)
+    pub third-tells : not b ≡ false → not c ≡ false → (r : Bool) → Tells r (HookedPool rs 32 (bits3 g) own2 (bits2 g) second own3 third []) → Tells r (Passed rs g (cells first second third own2 own3))
+    third-tells m n r = tells-same (λ k. record { cells1 = passed right m; pool2 = passed pool n; pool3 = k }) (λ h. h .pool3)
+
+-- and those of `levels_ok`
+module _ (rs : List Route) (g : Geometry) (first second third own2 own3 : List ℕ) (b : Bool) (live : Tells b (Passed rs g (cells first second third own2 own3))) where
+  pub live-fails : not b ≡ true → Tells false (PassedAll rs g (cells first second third own2 own3))
+  live-fails n = refuted live n (λ h. h .live)
+
+  module _ (c : Bool) (free : Tells c (FreeAll (bits2 g) own2 second)) where
+    pub free-fails : not c ≡ true → Tells false (PassedAll rs g (cells first second third own2 own3))
+    free-fails n = refuted free n (λ h. h .free2)
+
+    pub free-tells : not b ≡ false → not c ≡ false → (r : Bool) → Tells r (FreeAll (bits3 g) own3 third) → Tells r (PassedAll rs g (cells first second third own2 own3))
+    free-tells m n r = tells-same (λ k. record { live = passed live m; free2 = passed free n; free3 = k }) (λ h. h .free3)

@@ -16,15 +16,15 @@ use Rattle.routes.specs.declared.Route.{Route}
 use Rattle.routes.specs.Record.{Listed}
 use Rattle.plan.proofs.Tells.{tells-same}
 use Rattle.sail.specs.Geometry.{bits2, bits3}
-use Rattle.sail.specs.Lent.{Lent}
+use Rattle.sail.specs.Lent.{Lent, cellsOf}
 use Rattle.sail.specs.Level.{Level, Shows, Clear, deep, always, itself, liveIn, partOf, entry, chunksOf, below, level1, level2, level3}
 use Rattle.sail.specs.Sizes.{Sized}
 use Rattle.sail.specs.Sound.{Sound, standing}
 use Rattle.sail.specs.declared.geometry.Geometry.{Geometry}
 use Rattle.sail.specs.declared.table.Table.{Table}
 use Rattle.sail_theory.proofs.Places.{chunk-lt, live-owner, chunk-live, chunk-part}
-use Rattle.sail_pool.specs.Pool.{chunkOf, PoolOk}
-use Rattle.sail_sound.specs.Test.{root, Passed}
+use Rattle.sail_pool.specs.Pool.{chunkOf, PoolOk, FreeAll}
+use Rattle.sail_sound.specs.Test.{root, PassedAll}
 use Rattle.sail_pool.proofs.Cells.{Cell, cell-as, right-cell, cells-right, part-at}
 use Rattle.sail_pool.proofs.Chunks.{chunk-room}
 
@@ -84,19 +84,26 @@ module _ (rs : List Route) (v : Level) (p : ℕ) (above own cells low : List ℕ
     pub pool-named : Named v above own
     pool-named c q l e = let h = k .each c l in (rw all at (h .hangs q e .inside), h .lives q e, h .hangs q e .named)
 
-    pub pool-clear : Clear (length own) d (ltb 0) (entry own) (entry cells)
-    pool-clear = record {
-      unowned = λ c l e. free c e;
-      blank = λ c l e j u. sym (part-at cells (c * 2 ^ d) (2 ^ d) j u) ∙ k .each c l .free (free c e) .each j (rw (chunk-long c l) u);
-    }
-      where
-        free : (c : ℕ) → ltb 0 (getD own c 0) ≡ false → getD own c 0 ≡ 0
-        free c e = omega (arith, ltb-false 0 (getD own c 0) e)
+  -- its free chunks
+  pub free-clear : FreeAll d own cells → Clear (length own) d (ltb 0) (entry own) (entry cells)
+  free-clear k = record {
+    unowned = λ c l e. free c e;
+    blank = λ c l e j u. sym (part-at cells (c * 2 ^ d) (2 ^ d) j u) ∙ k .each c l .zero (free c e) .each j (rw (chunk-long c l) u);
+  }
+    where
+      free : (c : ℕ) → ltb 0 (getD own c 0) ≡ false → getD own c 0 ≡ 0
+      free c e = omega (arith, ltb-false 0 (getD own c 0) e)
 
-  pub pool-of : Asked rs (below v (chunksOf own) p) cells low → Named v above own → Clear (length own) d (ltb 0) (entry own) (entry cells) → PoolOk rs p d above (v .live) (v .at) own cells low
-  pool-of ok named clear = record {
+  pub clear-free : Clear (length own) d (ltb 0) (entry own) (entry cells) → FreeAll d own cells
+  clear-free clear = record {
     each = λ c l. record {
-      free = λ e. record { each = λ j u. let m : j < 2 ^ d = rw (chunk-long c l) at u in part-at cells (c * 2 ^ d) (2 ^ d) j m ∙ clear .blank c l (le-ltb 0 (getD own c 0) (omega arith)) j m };
+      zero = λ e. record { each = λ j u. let m : j < 2 ^ d = rw (chunk-long c l) at u in part-at cells (c * 2 ^ d) (2 ^ d) j m ∙ clear .blank c l (le-ltb 0 (getD own c 0) (omega arith)) j m };
+    };
+  }
+
+  pub pool-of : Asked rs (below v (chunksOf own) p) cells low → Named v above own → PoolOk rs p d above (v .live) (v .at) own cells low
+  pool-of ok named = record {
+    each = λ c l. record {
       lives = λ q e. named c q l e .1;
       hangs = λ q e. record { inside = rw all (named c q l e .0); named = named c q l e .2; right = cells-right rs p low _ _ _ _ (right c q l e) };
     };
@@ -112,7 +119,6 @@ pool-same : (rs : List Route) (p d : ℕ) (above : List ℕ) (live live′ : ℕ
     → PoolOk rs p d above live at own cells low → PoolOk rs p d above live′ at′ own cells low
 pool-same rs p d above live live′ at at′ own cells low u v k = record {
   each = λ c l. let h = k .each c l in record {
-    free = h .free;
     lives = λ q e. sym (u q (h .hangs q e .inside)) ∙ h .lives q e;
     hangs = λ q e. rw (v q (h .hangs q e .inside)) at (h .hangs q e);
   };
@@ -134,7 +140,7 @@ module _ (t : Table) (l : Lent) (s : Sized (t .geometry) l) (h : Listed (l .list
   rs = standing t l
 
   abbrev Test : Type 0
-  Test = Passed rs g (l .first) (l .second) (l .third) (l .own2) (l .own3)
+  Test = PassedAll rs g (cellsOf l)
 
   abbrev v2 : Level
   v2 = level2 g (chunksOf (l .own2))
@@ -156,31 +162,35 @@ module _ (t : Table) (l : Lent) (s : Sized (t .geometry) l) (h : Listed (l .list
 
   passed-sound : Test → Sound t l
   passed-sound k =
-      let pool2 = from-root (k .pool2) in
+      let pool2 = from-root (k .live .pool2) in
       record {
         sized = s;
         listed = h;
         serves = record {
           shows1 = shows-of rs (level1 g) (l .first) (l .own2) (s .few2)
-              (λ q u v. cell-as rs (g .p1) (l .own2) (omega arith) refl (omega arith) (right-cell rs (g .p1) (l .own2) 0 (l .first) 1 (length (l .first)) (k .cells1) q (rw (s .cells1) u)))
+              (λ q u v. cell-as rs (g .p1) (l .own2) (omega arith) refl (omega arith) (right-cell rs (g .p1) (l .own2) 0 (l .first) 1 (length (l .first)) (k .live .cells1) q (rw (s .cells1) u)))
               (pool-named rs (level1 g) (g .p2) (l .first) (l .own2) (l .second) (l .own3) (s .cells1) (s .cells2) pool2);
           shows2 = shows-of rs v2 (l .second) (l .own3) (s .few3)
               (pool-asked rs (level1 g) (g .p2) (l .first) (l .own2) (l .second) (l .own3) (s .cells1) (s .cells2) pool2)
-              (pool-named rs v2 32 (l .second) (l .own3) (l .third) [] (s .cells2) (s .cells3) (k .pool3));
-          shows3 = shows-of rs v3 (l .third) [] (omega arith) (pool-asked rs v2 32 (l .second) (l .own3) (l .third) [] (s .cells2) (s .cells3) (k .pool3)) (λ c q u e. absurd (not-suc-le-zero u));
+              (pool-named rs v2 32 (l .second) (l .own3) (l .third) [] (s .cells2) (s .cells3) (k .live .pool3));
+          shows3 = shows-of rs v3 (l .third) [] (omega arith) (pool-asked rs v2 32 (l .second) (l .own3) (l .third) [] (s .cells2) (s .cells3) (k .live .pool3)) (λ c q u e. absurd (not-suc-le-zero u));
         };
-        clear2 = pool-clear rs (level1 g) (g .p2) (l .first) (l .own2) (l .second) (l .own3) (s .cells1) (s .cells2) pool2;
-        clear3 = pool-clear rs v2 32 (l .second) (l .own3) (l .third) [] (s .cells2) (s .cells3) (k .pool3);
+        clear2 = free-clear rs (level1 g) (g .p2) (l .first) (l .own2) (l .second) (l .own3) (s .cells1) (s .cells2) (k .free2);
+        clear3 = free-clear rs v2 32 (l .second) (l .own3) (l .third) [] (s .cells2) (s .cells3) (k .free3);
       }
 
   sound-passed : Sound t l → Test
   sound-passed w = record {
-    cells1 = cells-right rs (g .p1) (l .own2) 0 (l .first) 1 (length (l .first)) (λ q u.
-        cell-as rs (g .p1) (l .own2) (omega arith) refl (omega arith) (shows-asked rs (level1 g) (l .first) (l .own2) (w .serves .shows1) q (inside q u) refl));
-    pool2 = to-root (pool-of rs (level1 g) (g .p2) (l .first) (l .own2) (l .second) (l .own3) (s .cells1) (s .cells2)
-        (shows-asked rs v2 (l .second) (l .own3) (w .serves .shows2)) (shows-named rs (level1 g) (l .first) (l .own2) (w .serves .shows1)) (w .clear2));
-    pool3 = pool-of rs v2 32 (l .second) (l .own3) (l .third) [] (s .cells2) (s .cells3)
-        (shows-asked rs v3 (l .third) [] (w .serves .shows3)) (shows-named rs v2 (l .second) (l .own3) (w .serves .shows2)) (w .clear3);
+    live = record {
+      cells1 = cells-right rs (g .p1) (l .own2) 0 (l .first) 1 (length (l .first)) (λ q u.
+          cell-as rs (g .p1) (l .own2) (omega arith) refl (omega arith) (shows-asked rs (level1 g) (l .first) (l .own2) (w .serves .shows1) q (inside q u) refl));
+      pool2 = to-root (pool-of rs (level1 g) (g .p2) (l .first) (l .own2) (l .second) (l .own3) (s .cells1) (s .cells2)
+          (shows-asked rs v2 (l .second) (l .own3) (w .serves .shows2)) (shows-named rs (level1 g) (l .first) (l .own2) (w .serves .shows1)));
+      pool3 = pool-of rs v2 32 (l .second) (l .own3) (l .third) [] (s .cells2) (s .cells3)
+          (shows-asked rs v3 (l .third) [] (w .serves .shows3)) (shows-named rs v2 (l .second) (l .own3) (w .serves .shows2));
+    };
+    free2 = clear-free rs (level1 g) (g .p2) (l .first) (l .own2) (l .second) (l .own3) (s .cells1) (s .cells2) (w .clear2);
+    free3 = clear-free rs v2 32 (l .second) (l .own3) (l .third) [] (s .cells2) (s .cells3) (w .clear3);
   }
 
   pub tells-sound : (b : Bool) → Tells b Test → Tells b (Sound t l)

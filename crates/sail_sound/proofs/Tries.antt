@@ -1,23 +1,21 @@
 -- The whole test as the code makes it, and what it answers. Assumes nothing.
 use mathlib.Core.Path.{_≡_}
 use mathlib.Core.Bool.{Bool, true, false, not}
-use mathlib.Core.List.{List, [], _++_}
+use mathlib.Core.List.{List, _++_}
 use Prim.Native.Nat.{ℕ}
-use native.Mathlib.Omega.{arith}
 use lib.ListN.{length, take, drop}
 use Rattle.bits.specs.Tab.{Tells}
 use Rattle.bits.proofs.Tests.{same}
 use Rattle.routes.specs.Record.{Listed}
 use Rattle.chain.specs.Words.{routesIn}
-use Rattle.sail.specs.Lent.{Lent, lent}
+use Rattle.sail.specs.Lent.{Lent, cellsOf}
 use Rattle.sail.specs.Sizes.{Sized}
 use Rattle.sail.specs.Sound.{Sound}
-use Rattle.sail.specs.declared.geometry.Geometry.{Geometry}
 use Rattle.sail.specs.declared.table.Table.{Table}
 use Rattle.sail_theory.specs.Test.{sound?}
 use Rattle.sail_theory.proofs.Tells.{sound-tells}
 use Rattle.sail_list.specs.List.{Chained, Scratch}
-use Rattle.sail_sound.specs.Test.{Passed, Tried}
+use Rattle.sail_sound.specs.Test.{PassedAll, Tried}
 use Rattle.plan.proofs.Tells.{refuted, passed}
 use Rattle.sail_list.proofs.Fronts.{front-routes}
 use Rattle.sail_sound.proofs.Sounds.{tells-sound}
@@ -29,19 +27,6 @@ tried t l b x = record { tells = x; is = same b (sound? t l) (λ e. sound-tells 
 pub no-list : (t : Table) (l : Lent) (b : Bool) → Tells b (Listed (l .list) (t .count)) → not b ≡ true → Tried false t l
 no-list t l b told e = tried t l false (refuted told e (λ w. w .listed))
 
--- the cells alone have the right sizes too
-pub sized-cells : (g : Geometry) (l : Lent) → Sized g l → Sized g (lent [] (l .first) (l .second) (l .third) (l .own2) (l .own3))
-sized-cells g l s = record {
-  valid = s .valid;
-  whole = omega arith;
-  room = omega arith;
-  cells1 = s .cells1;
-  few2 = s .few2;
-  cells2 = s .cells2;
-  few3 = s .few3;
-  cells3 = s .cells3;
-}
-
 -- past the test
 pub tried-sound : (t : Table) (l : Lent) (b : Bool) → Tried b t l → not b ≡ false → Sound t l
 tried-sound t l b k e = passed (k .tells) e
@@ -49,7 +34,7 @@ tried-sound t l b k e = passed (k .tells) e
 -- the levels beside the words of the list
 pub levels-tried : (t : Table) (l : Lent) (z : Sized (t .geometry) l) (b : Bool) (told : Tells b (Listed (l .list) (t .count))) (e : not b ≡ false) (ws par : List ℕ) (room : Scratch ws par)
     (words : List ℕ) (kept : length words ≡ length (take (t .count) ws)) (chain : List ℕ) (k : Chained (l .list) (length (take (t .count) ws)) words chain) (r : Bool)
-    → Tells r (Passed (routesIn (take (t .count) (words ++ drop (t .count) ws))) (t .geometry) (l .first) (l .second) (l .third) (l .own2) (l .own3)) → Tried r t l
+    → Tells r (PassedAll (routesIn (take (t .count) (words ++ drop (t .count) ws))) (t .geometry) (cellsOf l)) → Tried r t l
 levels-tried t l z b told e ws par room words kept chain k r x =
     let x′ = rw (front-routes (l .list) (t .count) b told e ws par room words kept chain k) at x in
     tried t l r (tells-sound t l z (passed told e) r x′)

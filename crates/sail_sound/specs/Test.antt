@@ -8,22 +8,28 @@ use Rattle.bits.specs.Tab.{Tells}
 use Rattle.routes.specs.declared.Route.{Route}
 use Rattle.plan.specs.Part.{Right}
 use Rattle.sail.specs.Geometry.{bits2, bits3}
-use Rattle.sail.specs.Lent.{Lent}
+use Rattle.sail.specs.Lent.{Lent, Cells}
 use Rattle.sail.specs.Sound.{Sound}
 use Rattle.sail.specs.declared.geometry.Geometry.{Geometry}
 use Rattle.sail.specs.declared.table.Table.{Table}
 use Rattle.sail_theory.specs.Test.{sound?}
-use Rattle.sail_pool.specs.Pool.{HookedPool}
+use Rattle.sail_pool.specs.Pool.{HookedPool, FreeAll}
 
 -- the first cells as one chunk, whose owner is 1
 abbrev pub root : List ℕ
 root = 1 ∷ []
 
--- the three levels, as the test goes through them
-pub record Passed (rs : List Route) (g : Geometry) (first second third own2 own3 : List ℕ) : Type 0 where
-  pub cells1 : Right rs (g .p1) 0 first own2 1 (length first)
-  pub pool2 : HookedPool rs (g .p2) (bits2 g) root (g .p1) first own2 second own3
-  pub pool3 : HookedPool rs 32 (bits3 g) own2 (bits2 g) second own3 third []
+-- the three levels, as the test goes through them: live cells alone
+pub record Passed (rs : List Route) (g : Geometry) (l : Cells) : Type 0 where
+  pub cells1 : Right rs (g .p1) 0 (l .first) (l .own2) 1 (length (l .first))
+  pub pool2 : HookedPool rs (g .p2) (bits2 g) root (g .p1) (l .first) (l .own2) (l .second) (l .own3)
+  pub pool3 : HookedPool rs 32 (bits3 g) (l .own2) (bits2 g) (l .second) (l .own3) (l .third) []
+
+-- and the free chunks of both pools
+pub record PassedAll (rs : List Route) (g : Geometry) (l : Cells) : Type 0 where
+  pub live : Passed rs g l
+  pub free2 : FreeAll (bits2 g) (l .own2) (l .second)
+  pub free3 : FreeAll (bits3 g) (l .own3) (l .third)
 
 -- the answer tells whether the table is sound, and is that of the test by which the calls are defined
 pub record Tried (r : Bool) (t : Table) (l : Lent) : Type 0 where

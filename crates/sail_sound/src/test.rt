@@ -1,22 +1,22 @@
 // The soundness test of a whole table: its list, then its three levels beside the routes of the list.
-ghost use mathlib.Core.List.{[]};
 ghost use Rattle.bits.specs.Tab.{Tells};
 ghost use Rattle.chain.specs.Words.{routesIn};
 ghost use Rattle.chain.specs.Cover.{Ready};
-ghost use Rattle.sail.specs.Lent.{lent};
-ghost use Rattle.sail.specs.Sizes.{Sized};
+ghost use Rattle.sail.specs.Lent.{lent, cells};
+ghost use Rattle.sail.specs.Sizes.{Sized, Celled};
 ghost use Rattle.sail_list.specs.List.{Scratch};
-ghost use Rattle.sail_sound.specs.Test.{Passed, Tried};
+ghost use Rattle.sail_sound.specs.Test.{Passed, PassedAll, Tried};
 use sail::geometry::Geometry;
 use sail::table::Table;
 use sail_list::chained;
 use sail_list::list_ok;
 use sail_pool::first_ok;
-use sail_pool::pool_ok;
+use sail_pool::free_all;
+use sail_pool::hung_all;
 
-// The three levels beside the routes of the words. The first cells are one chunk, whose owner is 1; a third cell names no
-// chunk.
-fn levels_ok(
+// The live cells of the three levels beside the routes of the words. The first cells are one chunk, whose owner is 1; a third
+// cell names no chunk.
+fn live_ok(
     ws: &[u64],
     par: &[u16],
     g: Geometry,
@@ -27,8 +27,8 @@ fn levels_ok(
     own3: &[u32],
 ) -> bool
     requires { ⌜ Ready (now ws) (now par) ⌝ }
-    requires { ⌜ Sized g (lent [] (now first) (now second) (now third) (now own2) (now own3)) ⌝ }
-    ensures { λ r. ⌜ Tells r (Passed (routesIn (now (ws .entry))) g (now (first .entry)) (now (second .entry)) (now (third .entry)) (now (own2 .entry)) (now (own3 .entry))) ⌝ }
+    requires { ⌜ Celled g (cells (now first) (now second) (now third) (now own2) (now own3)) ⌝ }
+    ensures { λ r. ⌜ Tells r (Passed (routesIn (now (ws .entry))) g (cells (now (first .entry)) (now (second .entry)) (now (third .entry)) (now (own2 .entry)) (now (own3 .entry)))) ⌝ }
 {
     let p1 = g.p1;
     let p2 = g.p2;
@@ -38,7 +38,7 @@ fn levels_ok(
         return false;
     }
     let root = [1u32; 1];
-    if !pool_ok(
+    if !hung_all(
         ws,
         par,
         p2,
@@ -54,7 +54,7 @@ fn levels_ok(
         return false;
     }
     let none = &own3[..0];
-    pool_ok(
+    hung_all(
         ws,
         par,
         32,
@@ -67,6 +67,30 @@ fn levels_ok(
         none,
         &mut want,
     )
+}
+
+// All three levels: the live cells, and that the free chunks of both pools are zero.
+fn levels_ok(
+    ws: &[u64],
+    par: &[u16],
+    g: Geometry,
+    first: &[u16],
+    second: &[u16],
+    third: &[u16],
+    own2: &[u32],
+    own3: &[u32],
+) -> bool
+    requires { ⌜ Ready (now ws) (now par) ⌝ }
+    requires { ⌜ Celled g (cells (now first) (now second) (now third) (now own2) (now own3)) ⌝ }
+    ensures { λ r. ⌜ Tells r (PassedAll (routesIn (now (ws .entry))) g (cells (now (first .entry)) (now (second .entry)) (now (third .entry)) (now (own2 .entry)) (now (own3 .entry)))) ⌝ }
+{
+    if !live_ok(ws, par, g, first, second, third, own2, own3) {
+        return false;
+    }
+    if !free_all(g.p2 - g.p1, second, own2) {
+        return false;
+    }
+    free_all(32 - g.p2, third, own3)
 }
 
 // Whether a table of the right sizes is sound; `ws` and `par` are room for the words of its routes and their chain.

@@ -7,13 +7,49 @@ use Prim.Native.Nat.{ℕ, suc, _+_, _-_, _<_}
 use native.Mathlib.Omega.{arith}
 use lib.ListN.{getD, length}
 use Rattle.bits.proofs.Tests.{decided}
-use Rattle.bits.proofs.Tabs.{length-tabulate, getD-tabulate, is-tabulate}
+use Rattle.bits.proofs.Tabs.{length-tabulate, getD-tabulate, is-tabulate, tabulate-ext}
 use Rattle.routes.specs.declared.Route.{Route}
 use Rattle.sail.specs.Level.{Level, Chunks, Shows, chunkFor, deep, leafAt, entry}
-use Rattle.sail_theory.specs.Render.{shown, block, pool, Fits}
+use Rattle.sail_theory.specs.Render.{shown, block, laid, pool, laidOver, Fits}
 use Rattle.sail_theory.proofs.Chunks.{chunk-at, chunk-is}
 
+-- an array laid over
+module _ (old : List ℕ) (live : ℕ → Bool) (value : ℕ → ℕ) where
+  pub length-laid : length (laid old live value) ≡ length old
+  unfolding laid
+  length-laid = length-tabulate (length old) _
+
+  pub laid-at : (q : ℕ) → q < length old → getD (laid old live value) q 0 ≡ cond (live q) (value q) (getD old q 0)
+  unfolding laid
+  laid-at q l = getD-tabulate (length old) _ q 0 l
+
+  -- where what is not live is 0, it is a block
+  pub laid-block : ((q : ℕ) → q < length old → live q ≡ false → getD old q 0 ≡ 0) → laid old live value ≡ block (length old) live value
+  unfolding laid block
+  laid-block h = tabulate-ext (length old) _ _ (λ q l. go q (decided (live q)) (h q l))
+    where
+      go : (q : ℕ) → (live q ≡ true) ⊎ (live q ≡ false) → (live q ≡ false → getD old q 0 ≡ 0) → cond (live q) (value q) (getD old q 0) ≡ cond (live q) (value q) 0
+      go q (inl e) w = rw e
+      go q (inr e) w = rw e (w e)
+
 module _ (rs : List Route) (v : Level) (k : Chunks) where
+  -- what a live cell shows: a leaf, or the number of a chunk
+  pub shown-leaf : (q : ℕ) → deep rs v q ≡ false → shown rs v k q ≡ leafAt rs v q
+  unfolding shown
+  shown-leaf q d = rw d
+
+  pub shown-node : (q : ℕ) → deep rs v q ≡ true → shown rs v k q ≡ suc (chunkFor k (suc q))
+  unfolding shown
+  shown-node q d = rw d
+
+  pub pool-shown : (q : ℕ) → q < v .places → v .live q ≡ true → getD (pool rs v k) q 0 ≡ shown rs v k q
+  unfolding block
+  pool-shown q l e = getD-tabulate (v .places) _ q 0 l ∙ rw e
+
+  -- a level laid over an array in which what is not live is 0
+  pub laid-rendered : (old : List ℕ) → length old ≡ v .places → ((q : ℕ) → q < v .places → v .live q ≡ false → getD old q 0 ≡ 0) → laidOver rs v k old ≡ pool rs v k
+  laid-rendered old s h = laid-block old (v .live) (shown rs v k) (λ q l e. h q (rw s at l) e) ∙ ap (λ (n : ℕ). block n (v .live) (shown rs v k)) s
+
   pub length-pool : length (pool rs v k) ≡ v .places
   unfolding block
   length-pool = length-tabulate (v .places) _

@@ -3,7 +3,7 @@ use mathlib.Core.Bool.{Bool, true, cond}
 use mathlib.Core.List.{List}
 use mathlib.Core.Path.{_≡_}
 use Prim.Native.Nat.{ℕ, suc, _/_, _<_}
-use lib.ListN.{length}
+use lib.ListN.{length, getD}
 use Rattle.bits.specs.Tab.{tabulate}
 use Rattle.routes.specs.Record.{written, Listed}
 use Rattle.routes.specs.declared.Route.{Route}
@@ -29,6 +29,14 @@ block n live value = tabulate n (λ q. cond (live q) (value q) 0)
 -- the cells of a level
 abbrev pub pool : List Route → Level → Chunks → List ℕ
 pool rs v k = block (v .places) (v .live) (shown rs v k)
+
+-- live places of an array hold their value, the others what they held
+unfoldable pub laid : List ℕ → (ℕ → Bool) → (ℕ → ℕ) → List ℕ
+laid old live value = tabulate (length old) (λ q. cond (live q) (value q) (getD old q 0))
+
+-- the cells of a level laid over what its array held
+abbrev pub laidOver : List Route → Level → Chunks → List ℕ → List ℕ
+laidOver rs v k old = laid old (v .live) (shown rs v k)
 
 -- the whole table of these routes and owners, with room for this many records
 abbrev pub rendered : Geometry → ℕ → List Route → List ℕ → List ℕ → Lent

@@ -17,7 +17,7 @@ use Rattle.lists.specs.Edit.{Edited, edited, removed, removing, countWithout, H
 use Rattle.lists.proofs.EditHolds.{remove-holds}
 use Rattle.plan.specs.Paint.{filled}
 use Rattle.sail.specs.Geometry.{bits2, bits3, Valid}
-use Rattle.sail.specs.Lent.{Lent, lent}
+use Rattle.sail.specs.Lent.{Lent, lent, cells}
 use Rattle.sail.specs.Sound.{standing}
 use Rattle.sail.specs.declared.geometry.Geometry.{Geometry}
 use Rattle.sail.specs.declared.table.Table.{Table}
@@ -29,9 +29,10 @@ use Rattle.sail_theory.proofs.Accepted.{count-removed, withdraw-is, withdraw-of
 use Rattle.sail_paint.specs.Stale.{Repainted}
 use Rattle.sail_change.specs.Chunks.{alone, closed, blanked, Closing, Closable}
 use Rattle.sail_paint.specs.Pending.{Pending}
-use Rattle.sail_change.specs.Trail.{Trailed}
+use Rattle.sail_change.specs.Trail.{Serving, Trailed}
 use Rattle.sail_change.proofs.Shrinks.{was-long, keep2-closed, keep3-closed, closing2, closing3, farewell-underway}
-use Rattle.sail_change.proofs.Underway.{underway-stale}
+use Rattle.sail_change.proofs.Trails.{serving-of}
+use Rattle.sail_change.proofs.Underway.{underway-stale, underway-asked}
 use Rattle.sail_calls.specs.Judge.{Judged}
 use Rattle.sail_withdraw.specs.Answers.{saysWithdraw}
 use Rattle.sail_withdraw.specs.declared.answers.Withdraw.the-variants as withdraw
@@ -74,6 +75,9 @@ module _ (t : Table) (l : Lent) (a len : ℕ) (w : Farewell t l a len) where
   abbrev left : List Route
   left = remove (keyOf a len) rs
 
+  pub take-serving : Serving g rs (l .first) (l .second) (l .own2) (l .own3)
+  take-serving = serving-of t l (w .sound)
+
   pub take-some : 1 ≤ t .count
   take-some = omega (arith, count-removed t l a len w)
 
@@ -94,7 +98,7 @@ module _ (t : Table) (l : Lent) (a len : ℕ) (w : Farewell t l a len) where
         let k : Holds (removed (l .list) (t .count) (keyOf a len)) (countWithout (stands (keyOf a len) rs) (t .count)) left = remove-holds (l .list) (t .count) few (keyOf a len) (w .sound .listed) in
         rw list-is (rw (w .old) at k)
 
-    module _ (v1 v2 : ℕ) (k : Trailed t l a v1 v2) where
+    module _ (v1 v2 : ℕ) (k : Trailed g rs (l .own2) (l .own3) a v1 v2) where
       valid : Valid g
       valid = w .sound .sized .valid
 
@@ -144,9 +148,9 @@ module _ (t : Table) (l : Lent) (a len : ℕ) (w : Farewell t l a len) where
           stale = λ ws par ready z. underway-stale g a len left l _ (farewell-underway t l a len w s) ws par ready (z ∙ holds .routes);
         })
 
-        module _ (first′ second′ third′ : List ℕ) (h : Repainted g (routesOf s m) (lent [] (l .first) second third own2 own3) first′ second′ third′) where
+        module _ (first′ second′ third′ : List ℕ) (h : Repainted g (routesOf s m) (cells (l .first) second third own2 own3) first′ second′ third′) where
           pub take-done : out (saysWithdraw withdraw.Removed) (record { geometry = g; count = m }) (lent s first′ second′ third′ own2 own3) ≡ withdrawn t l a len
           unfolding saysWithdraw
           take-done =
-              let h′ = rw (holds .routes) at h in
+              let h′ = underway-asked g a len left l _ (farewell-underway t l a len w s) first′ second′ third′ (rw (holds .routes, own2-is, own3-is, second-is, third-is) at h) in
               rw (count-is, list-is, h′ .is-first, h′ .is-second, h′ .is-third, own2-is, own3-is) (sym (withdraw-is t l a len w))

@@ -74,7 +74,7 @@ fn take(
     let p1 = g.p1;
     let p2 = g.p2;
     let n = t.count as usize;
-    let v = follow(t, list, first, second, third, own2, own3, addr);
+    let v = follow(t, list, first, second, own2, own3, addr);
     edit::remove(list, n, addr, len);
     let m = n - 1;
     close_alone(list, m, p1, addr, len, v.first, p2 - p1, own2, second);

@@ -1,5 +1,5 @@
 -- `sail_pool::chunk_ok` meets its contract. Assumes nothing.
-use Rattle.sail_pool.proofs.Chunks.{hooks, free-room, hangs, free-tells, nowhere, used-tells}
+use Rattle.sail_pool.proofs.Chunks.{hooks, hangs, free-passes, nowhere, used-tells}
 use borrow.Author.Needs.{needs}
 use Rattle.sail_pool.proofs.chunk_ok.Statement.{statement}
 use Rattle.sail_pool.proofs.chunk_ok.Tie as tie
@@ -12,9 +12,7 @@ chunk-ok-spec =
     (λ c. search needs)
     (λ c. search needs)
     (λ c κs. search needs)
-    (λ c κs. search needs)
-    (λ c κs. search free-room)
-    (λ c. search free-tells)
+    (λ c. search free-passes)
     (λ c. search needs)
     (λ c κs. search hooks)
     (λ c. nowhere _ _ _ _ _ _ _ _ _ _ _ (c .before .before .before .wide-owner .ensures) _ (c .before .before .before .before .before .start .ensures) (c .before .before .if1 .left) _ (c .before .hook .ensures) (c .if2 .taken))

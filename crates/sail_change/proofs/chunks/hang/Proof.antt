@@ -14,5 +14,5 @@ hang-spec =
     (λ c. search needs)
     (λ c. let d = c .before .before .before .before in omega (arith, d .pre .some (c .before .before .if1 .taken)))
     (λ c. search needs)
-    (λ c. hang-on _ _ _ _ _ (c .lowest-free .ensures .0) (c .before .before .if1 .taken) refl)
+    (λ c. hang-on _ _ _ _ _ (c .chunk-named .ensures .0) (c .before .before .if1 .taken) refl)
     (λ c. hang-off _ _ _ (c .if1 .left)))

@@ -1,8 +1,17 @@
 -- `sail_change::opening::to_open` meets its contract. Assumes nothing.
-use Rattle.sail_change.proofs.Openings.{named-first, opens-is}
+use native.Mathlib.Omega.{arith}
 use borrow.Author.Needs.{needs}
+use Rattle.sail_change.proofs.Openings.{named-first, opens-is}
 use Rattle.sail_change.proofs.opening.to_open.Statement.{statement}
 use Rattle.sail_change.proofs.opening.to_open.Tie as tie
+
+sub-t14 : tie.Need-sub-t14
+sub-t14 c = let followed = c .before .before .before in named-first _ _ _ _ _ _ _ (followed .follow .ensures)
+
+returns : tie.Need-returns
+returns c =
+    let followed = c .before .before .before in
+    opens-is _ _ _ _ _ _ _ (followed .follow .ensures) _ _ (followed .before .wide .ensures .0) (search needs) _ _ (c .before .before .leaf-under .ensures) (c .before .leaf-under2 .ensures)
 
 pub to-open-spec : {M : Type 1} → statement M
 to-open-spec =
@@ -12,5 +21,6 @@ to-open-spec =
     (λ c κs. search needs)
     (λ c κs. search needs)
     (λ c κs. search needs)
-    (λ c κs. let s = c .before .before .before .before .before .before .before .before .before .before .before in named-first _ _ _ _ _ _ _ (s .pre) (c .before .before .before .wide .ensures .0) (c .before .before .follow .ensures))
-    (λ c. let s = c .before .before .before .before .before .before .before .before .before .before .before .before in opens-is _ _ _ _ _ _ _ (s .pre) (c .before .before .before .before .wide .ensures .0) (c .before .before .before .follow .ensures) _ _ _ (c .before .before .leaf-under .ensures) (c .before .leaf-under2 .ensures) (c .chunk-for .ensures .0) (c .chunk-for .ensures .1)))
+    sub-t14
+    (λ c. search needs)
+    returns)

@@ -6,16 +6,30 @@ use Rattle.sail_owners.proofs.Packs.{room, hung-had, hung-new}
 use Rattle.sail_owners.proofs.owners.hang.Statement.{statement}
 use Rattle.sail_owners.proofs.owners.hang.Tie as tie
 
+returns : tie.Need-returns
+returns c = hung-had _ _ _ (c .before .before .before .before .pre) (c .before .last-is .ensures .0 (c .if1 .taken))
+
+slice-write-own : tie.Need-slice-write-own
+slice-write-own c =
+    let asked = c .before .before .before in
+    room _ _ _ (asked .before .before .before .pre) (λ e. true≢false (sym (asked .last-is .ensures .1 e) ∙ c .before .before .if1 .left)) _ (c .next-free .ensures .0)
+
+returns-2 : tie.Need-returns-2
+returns-2 c =
+    let asked = c .before .before .before in
+    hung-new _ _ _ (asked .before .before .before .pre) (λ e. true≢false (sym (asked .last-is .ensures .1 e) ∙ c .before .before .if1 .left)) _ (c .next-free .ensures .0)
+
 pub hang-spec : {M : Type 1} → statement M
 hang-spec =
     tie.close
     (tie.spec
-    (λ c. search needs)
     (λ c κs. search needs)
     (λ c. search needs)
-    (λ c. hung-had _ _ _ (c .before .before .before .before .pre .0) (c .before .last-is .ensures .0 (c .if1 .taken)))
+    returns
+    (λ c κs. search needs)
     (λ c. search needs)
-    (λ c. room _ _ _ (c .before .before .before .before .pre .0) (λ e. true≢false (sym (c .before .last-is .ensures .1 e) ∙ c .if1 .left)))
+    slice-write-own
     (λ c. search needs)
     (λ c. search needs)
-    (λ c. hung-new _ _ _ (c .before .before .before .before .pre .0) (λ e. true≢false (sym (c .before .last-is .ensures .1 e) ∙ c .if1 .left))))
+    (λ c. search needs)
+    returns-2)

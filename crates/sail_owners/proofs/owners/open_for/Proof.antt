@@ -1,22 +1,53 @@
 -- `sail_owners::owners::open_for` meets its contract. Assumes nothing.
 use native.Mathlib.Omega.{arith}
 use borrow.Author.Needs.{needs}
-use Rattle.sail_owners.proofs.Packs.{hangs-second, opened-none, chunk-second, opened-second, hangs-third, opened-third}
+use Rattle.sail_owners.proofs.Packs.{slot-small, hangs-second, opened-none, chunk-second, opened-second, hangs-third, opened-third}
 use Rattle.sail_owners.proofs.owners.open_for.Statement.{statement}
 use Rattle.sail_owners.proofs.owners.open_for.Tie as tie
+
+returns : tie.Need-returns
+returns c = opened-none _ _ _ _ _ (c .before .before .before .before .pre) (omega arith)
+
+add-hang : tie.Need-add-hang
+add-hang c = record { fits = omega (arith, slot-small _ _ _ _ _ (c .before .before .before .before .before .before .before .before .pre) _ (c .slot .ensures)) }
+
+hang-requires : tie.Need-hang-requires
+hang-requires c κs = hangs-second _ _ _ _ _ (c .before .before .before .before .before .before .before .before .pre) (omega arith) _ (c .slot .ensures)
+
+returns-2 : tie.Need-returns-2
+returns-2 c =
+    let first = c .before .before .before in
+    opened-second _ _ _ _ _ (first .before .before .before .before .before .before .before .before .before .pre) (omega arith) _ (first .before .slot .ensures) _ _ (first .hang .ensures) (omega arith)
+
+place-requires : tie.Need-place-requires
+place-requires c κs =
+    let first = c .before .before .before .before in
+    chunk-second _ _ _ _ _ (first .before .before .before .before .before .before .before .before .before .pre) (omega arith) _ (first .before .slot .ensures) _ _ (first .hang .ensures) (first .hang .kept .0)
+
+hang-requires-2 : tie.Need-hang-requires-2
+hang-requires-2 c κs =
+    let first = c .before .before .before .before .before in
+    hangs-third _ _ _ _ _ (first .before .before .before .before .before .before .before .before .before .pre) (omega arith) _ (first .before .slot .ensures) _ _ (first .hang .ensures) (omega arith) _ (c .place .ensures .0)
+
+returns-3 : tie.Need-returns-3
+returns-3 c =
+    let first = c .before .before .before .before .before .before .before .before in
+    opened-third _ _ _ _ _ (first .before .before .before .before .before .before .before .before .before .pre) (omega arith) _ (first .before .slot .ensures) _ _ (first .hang .ensures) (omega arith) _ (c .before .before .before .place .ensures .0) _ _ (c .before .before .hang2 .ensures)
 
 pub open-for-spec : {M : Type 1} → statement M
 open-for-spec =
     tie.close
     (tie.spec
     (λ c κs. search needs)
-    (λ c. opened-none _ _ _ _ _ (c .before .before .before .before .pre) (omega arith))
+    returns
     (λ c κs. search needs)
-    (λ c κs. hangs-second _ _ _ _ _ (c .before .before .before .before .before .before .pre) (omega arith) _ (c .slot .ensures))
+    add-hang
+    hang-requires
     (λ c. search needs)
-    (λ c. opened-second _ _ _ _ _ (c .before .before .before .before .before .before .before .before .before .before .pre) (omega arith) _ (c .before .before .before .before .slot .ensures) _ _ (c .before .before .before .hang .ensures) (omega arith))
-    (λ c κs. chunk-second _ _ _ _ _ (c .before .before .before .before .before .before .before .before .before .before .before .pre) (omega arith) _ (c .before .before .before .before .before .slot .ensures) _ _ (c .before .before .before .before .hang .ensures) (c .before .before .before .before .hang .kept .0))
-    (λ c κs. (hangs-third _ _ _ _ _ (c .before .before .before .before .before .before .before .before .before .before .before .before .pre) (omega arith) _ (c .before .before .before .before .before .before .slot .ensures) _ _ (c .before .before .before .before .before .hang .ensures) (omega arith) _ (c .place .ensures .0), omega (arith, c .place .ensures .1)))
+    returns-2
+    place-requires
+    (λ c. search needs)
+    hang-requires-2
     (λ c. search needs)
     (λ c. search needs)
-    (λ c. opened-third _ _ _ _ _ (c .before .before .before .before .before .before .before .before .before .before .before .before .before .before .before .pre) (omega arith) _ (c .before .before .before .before .before .before .before .before .before .slot .ensures) _ _ (c .before .before .before .before .before .before .before .before .hang .ensures) (omega arith) _ (c .before .before .before .place .ensures .0) _ _ (c .before .before .hang2 .ensures)))
+    returns-3)

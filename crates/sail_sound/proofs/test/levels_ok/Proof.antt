@@ -1,24 +1,43 @@
 -- `sail_sound::test::levels_ok` meets its contract. Assumes nothing.
-use Rattle.sail_sound.proofs.Levels.{first-cells, pooled2, pooled3, first-fails, second-fails, third-tells}
+use native.Mathlib.Omega.{arith}
 use borrow.Author.Needs.{needs}
+use Rattle.sail_sound.proofs.Levels.{chunked2, chunked3, live-fails, free-fails, free-tells}
 use Rattle.sail_sound.proofs.test.levels_ok.Statement.{statement}
 use Rattle.sail_sound.proofs.test.levels_ok.Tie as tie
+
+returns : tie.Need-returns
+returns c = live-fails _ _ _ _ _ _ _ _ (c .before .live-ok .ensures) (c .if1 .taken)
+
+free-all-requires : tie.Need-free-all-requires
+free-all-requires c κs =
+    let start = c .before .before .before .before .before .before .before .before .before .before in
+    chunked2 _ _ _ _ _ _ (start .pre .1)
+
+returns-2 : tie.Need-returns-2
+returns-2 c =
+    let live = c .before .before .before .before in
+    free-fails _ _ _ _ _ _ _ _ (live .live-ok .ensures) _ (c .before .free-all .ensures) (c .if2 .taken)
+
+free-all-requires-2 : tie.Need-free-all-requires-2
+free-all-requires-2 c κs =
+    let start = c .before .before .before .before .before .before .before .before .before .before .before .before .before in
+    chunked3 _ _ _ _ _ _ (start .pre .1)
+
+returns-3 : tie.Need-returns-3
+returns-3 c =
+    let second = c .before .before .before in
+    let live = second .before .before .before in
+    free-tells _ _ _ _ _ _ _ _ (live .live-ok .ensures) _ (second .free-all .ensures) (second .before .before .if1 .left) (c .before .before .if2 .left) _ (c .free-all2 .ensures)
 
 pub levels-ok-spec : {M : Type 1} → statement M
 levels-ok-spec =
     tie.close
     (tie.spec
+    (λ c κs. search needs)
+    returns
     (λ c. search needs)
+    free-all-requires
+    returns-2
     (λ c. search needs)
-    (λ c κs. search first-cells)
-    (λ c. search first-fails)
-    (λ c. search needs)
-    (λ c. search needs)
-    (λ c κs. search pooled2)
-    (λ c. search second-fails)
-    (λ c. search needs)
-    (λ c. search needs)
-    (λ c. search needs)
-    (λ c κs. let s = c .before .before .before .before .before .before .before .before .before .before .before .before .before .before .before .before .before .before in
-    pooled3 _ _ (s .pre .0) _ _ _ _ _ _ (s .pre .1) _ (search needs) _ _ (c .before .before .before .before .pool-ok .ensures) (c .before .before .if2 .left))
-    (λ c. search third-tells))
+    free-all-requires-2
+    returns-3)

@@ -1,6 +1,6 @@
 -- `sail_sound::test::sound_with` meets its contract. Assumes nothing.
 use Rattle.sail_list.proofs.Fronts.{count-in, count-room, chain-room, still-in, front-room, front-ready}
-use Rattle.sail_sound.proofs.Tries.{sized-cells, no-list, levels-tried}
+use Rattle.sail_sound.proofs.Tries.{no-list, levels-tried}
 use borrow.Author.Needs.{needs}
 use Rattle.sail_sound.proofs.test.sound_with.Statement.{statement}
 use Rattle.sail_sound.proofs.test.sound_with.Tie as tie
@@ -17,7 +17,7 @@ sound-with-spec =
     (λ c κs. search chain-room)
     (λ c. search still-in)
     (λ c. search front-room)
-    (λ c κs. (search front-ready, search sized-cells))
+    (λ c κs. (search front-ready, search needs))
     (λ c. search needs)
     (λ c. search needs)
     (λ c. search levels-tried))

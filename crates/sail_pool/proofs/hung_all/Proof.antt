@@ -1,4 +1,4 @@
--- `sail_pool::pool_ok` meets its contract. Assumes nothing.
+-- `sail_pool::hung_all` meets its contract. Assumes nothing.
 use Rattle.plan.proofs.Tells.{is-yes, refuted, passed}
 use Rattle.sail_pool.proofs.Chunks.{still-pooled}
 use mathlib.Core.Path.{_≡_}
@@ -9,8 +9,8 @@ use borrow.Author.Count.{below-none, below-more}
 use lib.ListN.{length, getD}
 use Rattle.chain.specs.Words.{routesIn}
 use Rattle.sail_pool.specs.Pool.{HookedChunk}
-use Rattle.sail_pool.proofs.pool_ok.Statement.{statement}
-use Rattle.sail_pool.proofs.pool_ok.Tie as tie
+use Rattle.sail_pool.proofs.hung_all.Statement.{statement}
+use Rattle.sail_pool.proofs.hung_all.Tie as tie
 
 abbrev Inv-loop : tie.InvT-loop
 Inv-loop ws par p d up e above cells own below want₀ c₀ want c = (c ≤ length own) × (length want ≡ 1024) × ((k : ℕ) → k < c → HookedChunk (routesIn ws) p d up e above cells below k (getD own k 0))
@@ -18,8 +18,8 @@ Inv-loop ws par p d up e above cells own below want₀ c₀ want c = (c ≤ leng
 abbrev μ-loop : tie.MeasureT-loop
 μ-loop ws par p d up e above cells own below want₀ c₀ want c = length own - c
 
-pub pool-ok-spec : {M : Type 1} → statement M
-pool-ok-spec =
+pub hung-all-spec : {M : Type 1} → statement M
+hung-all-spec =
     tie.close
     (tie.spec
     Inv-loop
