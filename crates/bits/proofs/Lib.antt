@@ -1,6 +1,7 @@
 -- Laws that everything above cites.
 pub mod Tests
 pub mod Slots
+pub mod Masks
 pub mod Ones
 pub mod Searches
 pub mod Tabs

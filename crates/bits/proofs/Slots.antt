@@ -1,7 +1,7 @@
 -- Laws of the first bits of an address. Callers of `cut` rest on these, and not on how it is computed. Assumes nothing.
 use mathlib.Core.Path.{_≡_, refl, sym, ap, _∙_}
 use Prim.Native.Nat.{ℕ, suc, _+_, _-_, _*_, _/_, _%_, _^_, _≤_, _<_}
-use native.Mathlib.Nat.{one-mul, add-mul, mul-assoc, zero-mul, mod-eq-of-lt, div-eq-of-lt, div-mul-le-self, lt-div-mul-add, lt-of-le-of-lt, div-eq-of-lt-le, mul-le-mul-right, div-div-eq-div-mul, pow-succ'}
+use native.Mathlib.Nat.{one-mul, add-mul, mul-assoc, zero-mul, mod-eq-of-lt, div-eq-of-lt, div-mul-le-self, lt-div-mul-add, div-eq-of-lt-le, mul-le-mul-right, div-div-eq-div-mul, pow-succ'}
 use native.Mathlib.Omega.{arith}
 use lib.Pow.{pow-lt, pow-mono, pow-pos, pow-add, shr-lt, shr-mono, shl-shr, shr-shr}
 use Rattle.bits.specs.Slot.{slot, cut}
@@ -9,10 +9,6 @@ use Rattle.bits.specs.Slot.{slot, cut}
 -- a one that is shifted left, not out
 pub shl-one : (w k : ℕ) → k < w → 1 * 2 ^ k % 2 ^ w ≡ 2 ^ k
 shl-one w k h = ap (λ (x : ℕ). x % 2 ^ w) (one-mul (2 ^ k)) ∙ mod-eq-of-lt (pow-lt h)
-
--- to the right and back
-pub shr-shl : (w s a : ℕ) → a < 2 ^ w → a / 2 ^ s * 2 ^ s % 2 ^ w ≡ a / 2 ^ s * 2 ^ s
-shr-shl w s a h = mod-eq-of-lt (lt-of-le-of-lt (div-mul-le-self a (2 ^ s)) h)
 
 pub slot-zero : (p a : ℕ) → a < 2 ^ 32 → p ≡ 0 → slot p a ≡ 0
 slot-zero p a h e = ap (λ (m : ℕ). a / 2 ^ (32 - m)) e ∙ div-eq-of-lt h

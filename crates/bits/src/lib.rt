@@ -3,7 +3,7 @@ ghost use mathlib.Core.Path.{_≡_};
 ghost use Prim.Native.Nat.{_%_, _^_, _≤_, _<_};
 ghost use lib.Count.{ones};
 ghost use lib.Dec.{eqb};
-ghost use Rattle.bits.specs.Slot.{slot, cut};
+ghost use Rattle.bits.specs.Slot.{slot, cut, mask};
 ghost use Rattle.bits.specs.Bit.{bitAt};
 
 // The first p bits of an address, as a number. Level 0 is set apart: no number is shifted by its whole width.
@@ -17,16 +17,24 @@ pub fn slot(p: u32, addr: u32) -> u32
     addr >> (32 - p)
 }
 
+// The mask of a length: so many ones from the top, and zeros after them. Length 0 is set apart: no number is shifted by
+// its whole width.
+pub fn mask(len: u32) -> u32
+    requires { ⌜ len ≤ 32 ⌝ }
+    ensures { λ r. ⌜ r ≡ mask len ⌝ }
+{
+    if len == 0 {
+        return 0;
+    }
+    0xFFFF_FFFF << (32 - len)
+}
+
 // An address with every bit after the first len zero.
 pub fn cut(len: u32, addr: u32) -> u32
     requires { ⌜ len ≤ 32 ⌝ }
     ensures { λ r. ⌜ r ≡ cut len addr ⌝ }
 {
-    if len == 0 {
-        return 0;
-    }
-    let s = 32 - len;
-    (addr >> s) << s
+    addr & mask(len)
 }
 
 // How many bits of a word below a bit are set.

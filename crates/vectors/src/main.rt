@@ -1,11 +1,13 @@
 // Runs worked cases, and prints what they give. The file stdout has what document 01 says of them.
 mod images;
 mod inputs;
+mod masks;
 mod parts;
 mod samples;
 mod tables;
 
 fn main() {
+    masks::run();
     inputs::run();
     inputs::refusals();
     inputs::most();
