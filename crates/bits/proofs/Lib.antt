@@ -6,3 +6,4 @@ pub mod Ones
 pub mod Searches
 pub mod Tabs
 pub mod Counts
+pub mod Packed

@@ -1,5 +1,7 @@
--- A bit of a number, and how many bits below a place are set. Assumes nothing.
-use Prim.Native.Nat.{ℕ, zero, suc, _+_, _/_, _%_, _^_}
+-- A bit of a number, how many bits below a place are set, and a number by its bits. Assumes nothing.
+use Prim.Native.Nat.{ℕ, zero, suc, _+_, _*_, _/_, _%_, _^_}
+use mathlib.Core.Bool.{Bool}
+use Rattle.bits.specs.Count.{bit}
 
 -- bit k of n, counted from the least significant
 abbrev pub bitAt : ℕ → ℕ → ℕ
@@ -9,3 +11,8 @@ bitAt n k = n / 2 ^ k % 2
 unfoldable pub rank : ℕ → ℕ → ℕ
 rank n zero = 0
 rank n (suc k) = rank n k + bitAt n k
+
+-- the number whose bit k is set exactly where k is below n and passes the test
+unfoldable pub packed : (ℕ → Bool) → ℕ → ℕ
+packed f zero = 0
+packed f (suc n) = bit (f n) * 2 ^ n + packed f n

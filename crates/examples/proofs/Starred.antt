@@ -33,7 +33,8 @@ use Rattle.sail_theory.specs.Calls.{Terms, termsOf, grant, openAt, settled, kee
 use Rattle.sail_theory.specs.Runs.{Call, after}
 use Rattle.sail_theory.proofs.Fresh.{make-is}
 use Rattle.sail_theory.proofs.Runs.{run-is, run-sound}
-use Rattle.tree.specs.Parts.{packed, picked, gather}
+use Rattle.bits.specs.Bit.{packed}
+use Rattle.tree.specs.Parts.{picked, gather}
 use Rattle.tree.specs.Image.{onPath, bitHop, setBit, word, kids, hopsOf, level, upTo, wordsFrom, words, imageBy}
 use Rattle.tree.specs.Image as ofImage
 use Rattle.tree.specs.Walk.{told}

@@ -16,11 +16,11 @@ use Rattle.bits.proofs.Tests.{and-split, both, untrue, decided}
 use Rattle.bits.proofs.Slots.{half-pow}
 
 -- what `first` finds
-data First (f : Route → Bool) (rs : List Route) : Type 0 where
+pub data First (f : Route → Bool) (rs : List Route) : Type 0 where
   nothing : first f rs ≡ 0 → ((r : Route) → List·Memᴰ r rs → f r ≡ false) → First f rs
   found : (r : Route) → List·Memᴰ r rs → f r ≡ true → first f rs ≡ suc (r .hop) → First f rs
 
-first-is : (f : Route → Bool) (rs : List Route) → First f rs
+pub first-is : (f : Route → Bool) (rs : List Route) → First f rs
 unfolding first
 first-is f [] = nothing refl (λ r m. absurd (List·Memᴰ·not-nil m))
 first-is f (x ∷ xs) = go (decided (f x)) (first-is f xs)
@@ -43,12 +43,12 @@ module _ (p i : ℕ) (r : Route) where
   cover-make : r .len ≤ p → slot (r .len) (r .addr) ≡ i / 2 ^ (p - r .len) → covers p i r ≡ true
   cover-make l c = both (le-leb (r .len) p l) (eq-eqb _ _ c)
 
-  here-parts : here p i r ≡ true → (r .len ≡ p) × (slot p (r .addr) ≡ i)
+  pub here-parts : here p i r ≡ true → (r .len ≡ p) × (slot p (r .addr) ≡ i)
   here-parts e =
       let s = and-split (eqb (r .len) p) (eqb (slot p (r .addr)) i) e in
       (eqb-true (r .len) p (s .0), eqb-true _ _ (s .1))
 
-  here-make : r .len ≡ p → slot p (r .addr) ≡ i → here p i r ≡ true
+  pub here-make : r .len ≡ p → slot p (r .addr) ≡ i → here p i r ≡ true
   here-make l c = both (eq-eqb (r .len) p l) (eq-eqb _ _ c)
 
   here-covers : here p i r ≡ true → covers p i r ≡ true

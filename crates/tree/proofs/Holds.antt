@@ -16,7 +16,7 @@ use Rattle.tree.specs.Node.{bitsOf, childOf, baseOf, childAt}
 use Rattle.tree.specs.Parts.{before, padded}
 use Rattle.tree.specs.Image.{Node, node, bitHop, child, inner, word, kids, hopsOf, nodes, words, hops}
 use Rattle.tree.proofs.Counts.{count-less}
-use Rattle.tree.proofs.Packed.{rank-count, upper-count}
+use Rattle.bits.proofs.Packed.{rank-count, upper-count}
 use Rattle.tree.proofs.Parts.{picked-length, picked-at, gather-at}
 use Rattle.tree.proofs.Nodes.{nodes-fix, words-length, words-at, inner-bit, clear-bit, child-bit}
 use Rattle.tree.proofs.Longest.{NodeOf, NoneBelow, Holds}

@@ -1,7 +1,6 @@
 -- Laws of images and of the walk.
 pub mod Walks
 pub mod Counts
-pub mod Packed
 pub mod Parts
 pub mod Nodes
 pub mod Longest

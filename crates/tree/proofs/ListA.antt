@@ -11,7 +11,8 @@ use Rattle.routes.specs.Said.{Said, accepted}
 use Rattle.routes.specs.declared.Route.{Route}
 use Rattle.tree.specs.Node.{sound, tryBit, deepestOf, betterOf}
 use Rattle.tree.specs.Walk.{told, fetchedFrom, walkFrom, treeSaid}
-use Rattle.tree.specs.Parts.{packed, picked, gather}
+use Rattle.tree.specs.Parts.{picked, gather}
+use Rattle.bits.specs.Bit.{packed}
 use Rattle.tree.specs.Image.{bitHop, setBit, word, kids, hopsOf, level, upTo, wordsFrom, words, hops, imageBy, imageOf, nodeNeed, onPath}
 
 route : ℕ → ℕ → ℕ → Route

@@ -17,7 +17,7 @@ use Rattle.bits.specs.Bit.{bitAt}
 use Rattle.bits.specs.Count.{bit}
 use Rattle.tree.specs.Parts.{picked, gather, before}
 use Rattle.tree.specs.Image.{Node, node, child, inner, setBit, word, kids, hopsOf, level, upTo, nodes, wordsFrom}
-use Rattle.tree.proofs.Packed.{packed-bit}
+use Rattle.bits.proofs.Packed.{packed-bit}
 use Rattle.tree.proofs.Parts.{picked-none, gather-append, before-take, before-mono}
 
 -- each node has the depth m

@@ -7,10 +7,11 @@ use Prim.Native.Nat.{ℕ, zero, suc, _+_, _-_, _*_, _^_}
 use lib.Dec.{ltb, leb, eqb}
 use lib.ListN.{length}
 use Rattle.bits.specs.Slot.{slot}
+use Rattle.bits.specs.Bit.{packed}
 use Rattle.bits.specs.Count.{count}
 use Rattle.standing.specs.Cells.{here, any, first, orElse}
 use Rattle.routes.specs.declared.Route.{Route}
-use Rattle.tree.specs.Parts.{packed, picked, gather, padded}
+use Rattle.tree.specs.Parts.{picked, gather, padded}
 
 -- a node: it stands for a path of 4 * depth bits
 pub record Node : Type 0 where

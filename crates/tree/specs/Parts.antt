@@ -1,14 +1,8 @@
--- Numbers by their bits, and lists by their parts. Assumes nothing.
+-- Lists by their parts. Assumes nothing.
 use mathlib.Core.Bool.{Bool, cond}
 use mathlib.Core.List.{List, [], _∷_, _++_}
-use Prim.Native.Nat.{ℕ, zero, suc, _+_, _-_, _*_, _^_}
+use Prim.Native.Nat.{ℕ, zero, suc, _+_, _-_}
 use lib.ListN.{length, replicate}
-use Rattle.bits.specs.Count.{bit}
-
--- the number whose bit k is set exactly where k is below n and passes the test
-unfoldable pub packed : (ℕ → Bool) → ℕ → ℕ
-packed f zero = 0
-packed f (suc n) = bit (f n) * 2 ^ n + packed f n
 
 -- g of each number below n that passes the test, in order
 unfoldable pub picked : {A : Type 0} → (ℕ → Bool) → (ℕ → A) → ℕ → List A

@@ -15,7 +15,7 @@ use Rattle.routes.specs.Record.{recordAt}
 use Rattle.routes.specs.declared.Route.{Route}
 use Rattle.tree.specs.Image.{bitHop, word}
 use Rattle.tree.proofs.Counts.{count-less}
-use Rattle.tree.proofs.Packed.{rank-count, upper-count}
+use Rattle.bits.proofs.Packed.{rank-count, upper-count}
 use Rattle.tree.proofs.Nodes.{inner-bit, child-bit}
 use Rattle.tree.proofs.Lies.{one-prefix, atBit, bitOf, bit-at}
 use Rattle.tree_build.specs.Run.{standsIn, hopIn, pathAt, nodeAt, placeOf, innerIn, childIn, wordIn}

@@ -10,12 +10,11 @@ use lib.Dec.{eqb}
 use lib.Bits.{bitAnd, bitOr, or-lt, or-shr, or-mod, or-zero-r, and-mask}
 use lib.Pow.{pow-pos, pow-add, pow-lt, pow-mono, shl-shr, mod-pow-add}
 use borrow.Author.Tests.{eq-eqb, ne-eqb, lt-ltb, le-ltb}
-use Rattle.bits.specs.Bit.{bitAt}
+use Rattle.bits.specs.Bit.{bitAt, packed}
 use Rattle.bits.specs.Count.{bit}
 use Rattle.bits.specs.Slot.{slot}
 use Rattle.bits.proofs.Slots.{shl-one}
 use Rattle.bits.proofs.Tests.{equal?, below?}
-use Rattle.tree.specs.Parts.{packed}
 use Rattle.tree_build.specs.Run.{placeOf, WithBit}
 
 -- a bit of a word that joins two, and of a power of 2

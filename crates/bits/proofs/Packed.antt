@@ -8,10 +8,9 @@ use native.Mathlib.Nat.{eq-or-lt-of-le, le-of-suc-le-suc, not-suc-le-zero, pow-s
 use native.Mathlib.Omega.{arith}
 use lib.Pow.{pow-pos, pow-add, high, low, shr-shr, split}
 use lib.Count.{ones}
-use Rattle.bits.specs.Bit.{bitAt, rank}
-use Rattle.bits.proofs.Ones.{ones-rank}
+use Rattle.bits.specs.Bit.{bitAt, rank, packed}
 use Rattle.bits.specs.Count.{bit, count}
-use Rattle.tree.specs.Parts.{packed}
+use Rattle.bits.proofs.Ones.{ones-rank}
 
 bit-lt : (b : Bool) → bit b < 2
 bit-lt true = omega arith
