@@ -10,4 +10,3 @@ pub mod Levels
 pub mod Needs
 pub mod Serves
 pub mod Ranks
-pub mod ListA
