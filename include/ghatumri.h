@@ -31,7 +31,7 @@
  *   gh_lookup        bits 8 to 15: cells read; 16 to 31: hop, 0 for no route
  *   gh_lookup_many   0; each word of out: the low 32 bits of what gh_lookup answers
  *   gh_build         bits 16 to 31: hops; 32 to 63: nodes
- *   gh_tree_lookup   bits 8 to 15: nodes read; 16 to 31: hop, 0 for no route
+ *   gh_tree_lookup   bits 8 to 15: nodes read, and one more where a hop is answered; 16 to 31: hop, 0 for no route
  *   gh_run           bits 16 to 31: first record of the run; 32 to 47: records in it
  *   gh_tally         0
  *   gh_route         bits 8 to 15: length; 16 to 31: hop; 32 to 63: address; no record of that index: all 0
@@ -76,7 +76,7 @@ extern "C" {
 #define GH_COUNT(a)        ((unsigned)((a) >> 16 & 0xffff))       /* make, load, announce, withdraw, report: routes */
 #define GH_NEED_SECOND(a)  ((unsigned)((a) >> 32 & 0xffff))       /* gh_report */
 #define GH_NEED_THIRD(a)   ((unsigned)((a) >> 48 & 0xffff))       /* gh_report */
-#define GH_READS(a)        ((unsigned)((a) >> 8 & 0xff))          /* both lookups: cells or nodes read */
+#define GH_READS(a)        ((unsigned)((a) >> 8 & 0xff))          /* gh_lookup: cells read; gh_tree_lookup: as above */
 #define GH_HOP(a)          ((unsigned)((a) >> 16 & 0xffff))       /* both lookups and gh_route: hop, 0 for none */
 #define GH_HOPS(a)         ((unsigned)((a) >> 16 & 0xffff))       /* gh_build */
 #define GH_NODES(a)        ((uint32_t)((a) >> 32))                /* gh_build */
@@ -167,7 +167,8 @@ uint64_t gh_build(const uint8_t *input, size_t input_len,
                   uint32_t *words, size_t words_len,
                   uint16_t *hops, size_t hops_len);
 
-/* Looks one address up in a tree image: at most 9 nodes are read, and then one hop. Refusals: 13. */
+/* Looks one address up in a tree image: at most 9 nodes are read, and then one hop. The count is 1 to 10, and at most
+ * 9 for no route. Refusals: 13. */
 uint64_t gh_tree_lookup(const uint32_t *words, size_t words_len,
                         const uint16_t *hops, size_t hops_len,
                         uint32_t addr);

@@ -1,8 +1,8 @@
 //! Proved IPv4 lookup over buffers that you own.
 //!
 //! A [`Table`] holds routes in SAIL form: it can be changed, and a lookup reads 1 to 3 cells. An [`Image`] is a tree
-//! bitmap built from a record input: small, and a lookup reads at most 9 nodes. [`run`], [`tally`] and [`route`] work
-//! on record inputs directly.
+//! bitmap built from a record input: small, and a lookup reads at most 9 nodes and one hop. [`run`], [`tally`] and
+//! [`route`] work on record inputs directly.
 //!
 //! Every call of the library underneath is proved for every content of the buffers, and none allocates or trusts them:
 //! a table that is damaged is refused with 5 and stays as it is. A call that is refused changes nothing.
@@ -84,7 +84,8 @@ fn answered(answer: u64) -> Result<u64, Refusal> {
 pub struct Found {
     /// The hop of the longest route that covers the address, or no route.
     pub hop: Option<u16>,
-    /// How many cells of the table, or nodes of the image, were read.
+    /// In a table, the cells read: 1 to 3. In an image, the nodes read, and one more where a hop is answered: 1 to 10,
+    /// and at most 9 for no route.
     pub reads: u8,
 }
 

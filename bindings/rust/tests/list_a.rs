@@ -77,13 +77,16 @@ fn an_image() {
     assert_eq!(image.words.len(), 7 * 3);
     assert_eq!(image.words[18..], [5, 7, 3]);
     assert_eq!(image.hops, [6, 20, 31, 44, 57]);
-    assert_eq!(image.lookup([10, 1, 2, 200]), Ok(Found { hop: Some(57), reads: 7 }));
-    assert_eq!(image.lookup([10, 1, 3, 1]), Ok(Found { hop: Some(31), reads: 6 }));
-    assert_eq!(image.lookup([192, 0, 2, 1]), Ok(Found { hop: Some(6), reads: 1 }));
+    assert_eq!(image.lookup([10, 1, 2, 200]), Ok(Found { hop: Some(57), reads: 8 }));
+    assert_eq!(image.lookup([10, 1, 3, 1]), Ok(Found { hop: Some(31), reads: 7 }));
+    assert_eq!(image.lookup([192, 0, 2, 1]), Ok(Found { hop: Some(6), reads: 2 }));
     assert_eq!(refused(Image::new(6, 5).build(&list_a())), (11, None));
     assert_eq!(refused(Image::new(7, 4).build(&list_a())), (12, None));
     assert_eq!(refused(Image::new(0, 0).lookup([1, 2, 3, 4])), (13, None));
-    assert!(Image::of(&[]).is_ok());
+    assert_eq!(Image::of(&[]).unwrap().lookup([192, 0, 2, 1]), Ok(Found { hop: None, reads: 1 }));
+    let host = Image::of(&Route::new([10, 1, 2, 200], 32, 57).record()).unwrap();
+    assert_eq!(host.lookup([10, 1, 2, 200]), Ok(Found { hop: Some(57), reads: 10 }));
+    assert_eq!(host.lookup([10, 1, 2, 201]), Ok(Found { hop: None, reads: 8 }));
 }
 
 #[test]

@@ -33,14 +33,14 @@ use Rattle.sail_theory.proofs.Accepted.{announce-said, announce-holds, withdraw
 use Rattle.sail_theory.proofs.Fresh.{make-said, make-holds, accepted-sized}
 use Rattle.sail_theory.proofs.Loads.{load-said, load-holds}
 use Rattle.tree.specs.Image.{nodeNeed}
+use Rattle.tree.specs.Reads.{TreeAnswer}
 use Rattle.tree.specs.Walk.{treeSaid}
-use Rattle.tree.specs.declared.Place.{Place}
 use Rattle.tree.proofs.Needs.{nodes-most}
+use Rattle.tree.proofs.ReadCounts.{tree-answers}
 use Rattle.tree_build.specs.Built.{routesIn, built}
 use Rattle.demands.proofs.Inputs.{check-only, BadInput, GoodInput, RunChecked, run-judged, RouteRead, route-judged}
 use Rattle.demands.proofs.Lookups.{v1, v2, v3, Lookup, lookup-judged}
 use Rattle.demands.proofs.Builds.{Build, build-judged}
-use Rattle.demands.proofs.Walks.{Fetched, Walked, tree-judged}
 use Rattle.packing.specs.Unpack.{Fits, FoundFits, ReportFits, BuiltFits, RunFits, RouteFits, AnnounceFits, DoneFits, Cells}
 
 -- 1 and 2
@@ -119,22 +119,14 @@ module _ (s : List ℕ) (short : length s < 2 ^ 35) where
           let z = nodes-most (routesIn s) (records-good s (length s / 8) (rw e at (w .1))) (omega arith) in
           Fits.values _ (BuiltFits.image (nodeNeed (routesIn s)) (length (routesIn s)) (omega arith) (omega arith))
 
--- Lookup in an image: at most 9 nodes, and a hop of 1 to 32,767.
-fetched-fits : {hs : List ℕ} {n : ℕ} {p : Place} {x : Said} → n < 2 ^ 8 → Fetched hs n p x → Fits 0 FoundFits x
-fetched-fits f Fetched.no-match = Fits.values _ (FoundFits.none _ f)
-fetched-fits f (Fetched.beyond h l) = Fits.number 13 (omega arith) (omega arith)
-fetched-fits f (Fetched.bad-hop h l b) = Fits.number 13 (omega arith) (omega arith)
-fetched-fits f (Fetched.match h l a b) = Fits.values _ (FoundFits.hop _ _ f a (omega arith))
-
-walked-fits : {ws hs : List ℕ} {a d i : ℕ} {best : Place} {x : Said} → Walked ws hs a d i best x → Fits 0 FoundFits x
-walked-fits (Walked.lost d i best l) = Fits.number 13 (omega arith) (omega arith)
-walked-fits (Walked.marked d i best l e) = Fits.number 13 (omega arith) (omega arith)
-walked-fits (Walked.deepest i best s r f) = fetched-fits (omega arith) f
-walked-fits (Walked.ends d i best s r e f) = fetched-fits (omega arith) f
-walked-fits (Walked.goes-on d i best s r e w) = walked-fits w
-
+-- Lookup in an image, of any words and hops: a count of at most 10, and a hop of 1 to 32,767.
 pub tree-fits : (ws hs : List ℕ) (a : ℕ) → Fits 0 FoundFits (treeSaid ws hs a)
-tree-fits ws hs a = walked-fits (tree-judged ws hs a)
+tree-fits ws hs a = go (tree-answers ws hs a)
+  where
+    go : {x : Said} → TreeAnswer x → Fits 0 FoundFits x
+    go (TreeAnswer.a-hop n h l u a b) = Fits.values _ (FoundFits.hop n h (omega arith) a (omega arith))
+    go (TreeAnswer.no-route n l u) = Fits.values _ (FoundFits.none n (omega arith))
+    go TreeAnswer.broken = Fits.number 13 (omega arith) (omega arith)
 
 -- Lookup in a table, of any cells: 1 to 3 cells, and a hop of at most 15 bits.
 leaf-fits : (n v : ℕ) → n < 2 ^ 8 → v < 2 ^ 16 → Fits 0 FoundFits (leafSaid n v)

@@ -35,8 +35,9 @@ use Rattle.sail_theory.proofs.Fresh.{make-is}
 use Rattle.sail_theory.proofs.Runs.{run-is, run-sound}
 use Rattle.bits.specs.Bit.{packed}
 use Rattle.tree.specs.Parts.{picked, gather}
-use Rattle.tree.specs.Image.{onPath, bitHop, setBit, word, kids, hopsOf, level, upTo, wordsFrom, words, imageBy}
+use Rattle.tree.specs.Image.{bitHop, setBit, word, kids, hopsOf, level, upTo, wordsFrom, words, imageBy}
 use Rattle.tree.specs.Image as ofImage
+use Rattle.tree.specs.Reads.{treeReads}
 use Rattle.tree.specs.Walk.{told}
 use Rattle.tree_build.specs.Built.{routesIn, madeOf, built}
 use Rattle.tree_build.proofs.Serves.{built-serves}
@@ -79,7 +80,7 @@ paper (input bytes) = inputSaid bytes
 paper build = image .said
 paper lastNode = accepted (drop 18 (image .words))
 paper hops = accepted (image .hops)
-paper (tree a) = hopSaid (onPath (routesIn listA) a) (best (routesIn listA) 32 a)
+paper (tree a) = hopSaid (treeReads (routesIn listA) a) (best (routesIn listA) 32 a)
 
 -- where they serve: addresses of 32 bits, cells that are there, and second cells of a chunk in use
 unfoldable serves : Asked → Bool

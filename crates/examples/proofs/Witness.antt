@@ -10,8 +10,10 @@ use lib.ListN.{getD, length, replicate, List·getD-map}
 use Rattle.bits.specs.Slot.{slot, cut}
 use Rattle.bits.specs.Search.{firstFrom, firstOf}
 use Rattle.bits.specs.Tab.{tabulate}
+use Rattle.bits.specs.Count.{count}
 use Rattle.routes.specs.Route.{Good}
-use Rattle.standing.specs.Cells.{any}
+use Rattle.standing.specs.Cells.{any, best}
+use Rattle.standing.specs.Cells as cells
 use Rattle.routes.specs.Record.{recordAt, routesOf, written}
 use Rattle.routes.specs.Input.{properPrefix, hopFine, routeFault, inOrder, faultAt, inputSaid}
 use Rattle.routes.specs.Said.{Said, accepted, refused, accepts}
@@ -51,10 +53,15 @@ use Rattle.sail_withdraw.specs.Answers.{saysWithdraw}
 use Rattle.sail_announce.specs.declared.answers.Announce.the-variants as ofAnnounce
 use Rattle.sail_withdraw.specs.declared.answers.Withdraw.the-variants as ofWithdraw
 use Rattle.tree.specs.Node.{sound}
+use Rattle.tree.specs.Parts.{picked, gather}
+use Rattle.tree.specs.Image.{kids, level, upTo, onPath}
+use Rattle.tree.specs.Walk as walk
 use Rattle.tree.specs.Walk.{walkFrom, treeSaid, saysTreeFound}
 use Rattle.tree.specs.declared.TreeFound.the-variants as treeFound
-use Rattle.tree_build.specs.Built.{saysBuilt, routesIn, built}
+use Rattle.tree_build.specs.Built as building
+use Rattle.tree_build.specs.Built.{saysBuilt, routesIn, madeOf, built}
 use Rattle.tree_build.specs.declared.Built.the-variants as ofBuild
+use Rattle.tree_build.proofs.Serves.{built-serves}
 use Rattle.demands.specs.Meets.{MeetsCheckInput, MeetsRouteAt, MeetsRunCheck, MeetsTally, MeetsLookup, MeetsReport, MeetsMake, MeetsLoad, MeetsAnnounce, MeetsWithdraw, MeetsTreeLookup, MeetsBuild}
 use Rattle.demands.proofs.Replies.{reply, stood, run-says, run-stood}
 use Rattle.demands.proofs.Wants.{ByNeed, ForChunks}
@@ -244,9 +251,28 @@ pub withdrawn-A : MeetsWithdraw (t loadedA) (l loadedA) 0 0 (record { answer = o
 unfolding starred answer after done saysWithdraw
 withdrawn-A = told (withdrawn (t loadedA) (l loadedA) 0 0) (accepted []) (line 9)
 
-pub tree-found-A : MeetsTreeLookup (image .words) (image .hops) (ip 10 1 2 200) (treeFound.Hop 57 7)
+pub tree-found-A : MeetsTreeLookup (image .words) (image .hops) (ip 10 1 2 200) (treeFound.Hop 57 8)
 unfolding starred answer saysTreeFound
 tree-found-A = sym (line 2)
+
+-- The largest count of an image is had: the image of one route of 32 bits, asked for that address, has 9 nodes on its path, and the hop.
+unfoldable pub host : List ℕ
+host = 10 ∷ 1 ∷ 2 ∷ 200 ∷ 32 ∷ 0 ∷ 0 ∷ 57 ∷ []
+
+abbrev pub hostImage : building.Out
+hostImage = built host (replicate 27 0) (replicate 1 0)
+
+host-built : hostImage .said ≡ accepted (9 ∷ 1 ∷ [])
+unfolding host built madeOf inputSaid firstOf firstFrom faultAt routeFault inOrder properPrefix hopFine recordAt cut routesOf tabulate any cells.first picked gather kids level upTo
+host-built = refl
+
+host-told : walk.told (best (routesIn host) 32 (ip 10 1 2 200)) (onPath (routesIn host) (ip 10 1 2 200)) ≡ accepted (10 ∷ 57 ∷ [])
+unfolding host walk.told best routesOf recordAt tabulate any cells.first count
+host-told = refl
+
+pub tree-found-ten : MeetsTreeLookup (hostImage .words) (hostImage .hops) (ip 10 1 2 200) (treeFound.Hop 57 10)
+unfolding saysTreeFound
+tree-found-ten = sym (built-serves host (replicate 27 0) (replicate 1 0) (9 ∷ 1 ∷ []) (ip 10 1 2 200) host-built (omega arith) ∙ host-told)
 
 pub tree-broken : (a : ℕ) → MeetsTreeLookup [] [] a treeFound.Broken
 unfolding saysTreeFound

@@ -114,17 +114,17 @@ q gives s = record { asked = q; expected = s }
 infix 5 _gives_
 unfoldable pub starred : List Line
 starred =
-    -- list A is loaded; "10.1.2.200: 57, 3 cells; tree 7 nodes", "10.1.2.5: 44, 3 cells", "10.1.3.1: 31, 2 cells; tree 6 nodes",
-    -- "10.2.0.1: 20, 1 cell", "192.0.2.1: 6, 1 cell; tree 1 node"
+    -- list A is loaded; "10.1.2.200: 57, 3 cells", "10.1.2.5: 44, 3 cells", "10.1.3.1: 31, 2 cells", "10.2.0.1: 20, 1 cell",
+    -- "192.0.2.1: 6, 1 cell"; in the tree, by document 02, c: "10.1.2.200 in list A is 8, 10.1.3.1 is 7, 192.0.2.1 is 2"
     (last loadedA gives accepted [])
     ∷ (lookup loadedA (ip 10 1 2 200) gives accepted (3 ∷ 57 ∷ []))
-    ∷ (tree (ip 10 1 2 200) gives accepted (7 ∷ 57 ∷ []))
+    ∷ (tree (ip 10 1 2 200) gives accepted (8 ∷ 57 ∷ []))
     ∷ (lookup loadedA (ip 10 1 2 5) gives accepted (3 ∷ 44 ∷ []))
     ∷ (lookup loadedA (ip 10 1 3 1) gives accepted (2 ∷ 31 ∷ []))
-    ∷ (tree (ip 10 1 3 1) gives accepted (6 ∷ 31 ∷ []))
+    ∷ (tree (ip 10 1 3 1) gives accepted (7 ∷ 31 ∷ []))
     ∷ (lookup loadedA (ip 10 2 0 1) gives accepted (1 ∷ 20 ∷ []))
     ∷ (lookup loadedA (ip 192 0 2 1) gives accepted (1 ∷ 6 ∷ []))
-    ∷ (tree (ip 192 0 2 1) gives accepted (1 ∷ 6 ∷ []))
+    ∷ (tree (ip 192 0 2 1) gives accepted (2 ∷ 6 ∷ []))
     -- "With /0 withdrawn: no route"
     ∷ (last without0 gives accepted [])
     ∷ (lookup without0 (ip 192 0 2 1) gives accepted (1 ∷ []))

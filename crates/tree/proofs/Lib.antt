@@ -9,5 +9,5 @@ pub mod Lies
 pub mod Levels
 pub mod Needs
 pub mod Serves
+pub mod ReadCounts
 pub mod Ranks
-pub mod ListA

@@ -1,4 +1,4 @@
-// Runs worked cases, and prints what they give. The file stdout has what document 01 says of them.
+// Runs worked cases, and prints what they give. The file stdout has what documents 01 and 02 say of them.
 mod images;
 mod inputs;
 mod masks;
@@ -14,6 +14,7 @@ fn main() {
     parts::run();
     parts::tallies();
     images::list_a();
+    images::host();
     images::sizes();
     images::broken();
     tables::list_a();

@@ -1,4 +1,5 @@
-//! A plain implementation of document 01, written from the document alone.
+//! A plain implementation of document 01, with what document 02's requests change in it, written from the documents
+//! alone.
 //!
 //! It is slow and simple on purpose: whole tables are checked and written again at each call. Each function answers
 //! with the packed number that the C boundary gives, and changes the arrays as the boundary does, so that the two can
@@ -29,6 +30,11 @@ fn accepted_routes(count: usize) -> u64 {
 
 fn accepted_lookup(reads: u64, hop: u16) -> u64 {
     reads << 8 | (hop as u64) << 16
+}
+
+/// Request c: "A tree lookup now counts its nodes and one more when it answers a hop; no route counts nodes only."
+fn accepted_tree_lookup(nodes: u64, hop: u16) -> u64 {
+    accepted_lookup(if hop == 0 { nodes } else { nodes + 1 }, hop)
 }
 
 // ---------------------------------------------------------------------------------------------------- routes
@@ -183,7 +189,7 @@ pub fn search_table(p1: u32, p2: u32, routes: &[Route], addr: u32) -> u64 {
 pub fn search_image(routes: &[Route], addr: u32) -> u64 {
     let stands =
         |m: &u32| *m == 0 || routes.iter().any(|r| r.len as u32 >= 4 * m && bits(r.addr, 4 * m) == bits(addr, 4 * m));
-    accepted_lookup((0..=8).filter(stands).count() as u64, search(routes, addr))
+    accepted_tree_lookup((0..=8).filter(stands).count() as u64, search(routes, addr))
 }
 
 // ---------------------------------------------------------------------------------------------------- the SAIL table
@@ -669,7 +675,7 @@ fn ones(word: u32, from: u32, to: u32) -> u64 {
 pub fn tree_lookup(words: &[u32], hops: &[u16], addr: u32) -> u64 {
     let mut at: u64 = 0;
     let mut deepest: Option<u64> = None;
-    let mut reads = 0;
+    let mut nodes = 0;
     for m in 0..=8u32 {
         // The root, or a child, is not whole within what is lent.
         if at >= words.len() as u64 / 3 {
@@ -678,7 +684,7 @@ pub fn tree_lookup(words: &[u32], hops: &[u16], addr: u32) -> u64 {
         let bitmap = words[3 * at as usize];
         let child_base = words[3 * at as usize + 1] as u64;
         let hop_base = words[3 * at as usize + 2] as u64;
-        reads += 1;
+        nodes += 1;
         if bitmap >> 15 & 1 == 1 {
             return refused(13);
         }
@@ -700,9 +706,9 @@ pub fn tree_lookup(words: &[u32], hops: &[u16], addr: u32) -> u64 {
         at = child_base + ones(bitmap, 16, 16 + next);
     }
     match deepest {
-        None => accepted_lookup(reads, 0),
+        None => accepted_tree_lookup(nodes, 0),
         Some(place) if place < hops.len() as u64 && hop_ok(hops[place as usize]) => {
-            accepted_lookup(reads, hops[place as usize])
+            accepted_tree_lookup(nodes, hops[place as usize])
         }
         Some(_) => refused(13),
     }

@@ -1,4 +1,5 @@
-//! The plain implementation against every example of document 01, and against its own definitions taken literally.
+//! The plain implementation against every example of document 01, with the counts of document 02, and against its own
+//! definitions taken literally.
 
 use differential::gen::{cut, edges, Field, Rng};
 use differential::plain::*;
@@ -99,11 +100,34 @@ fn image_of_list_a() {
     assert_eq!(words[18..], [5, 7, 3, 0, 0]);
     assert_eq!(hops, [6, 20, 31, 44, 57, 0]);
     let look = |a| tree_lookup(&words, &hops, a);
-    assert_eq!(look(ip(10, 1, 2, 200)), found(57, 7));
-    assert_eq!(look(ip(10, 1, 3, 1)), found(31, 6));
-    assert_eq!(look(ip(192, 0, 2, 1)), found(6, 1));
+    // The counts of request c: the nodes, and one more for the hop.
+    assert_eq!(look(ip(10, 1, 2, 200)), found(57, 8));
+    assert_eq!(look(ip(10, 1, 3, 1)), found(31, 7));
+    assert_eq!(look(ip(192, 0, 2, 1)), found(6, 2));
     // Bases count what stands before.
     assert_eq!(words[..6], [1 | 1 << 16, 1, 0, 1 << (16 + 10), 2, 1]);
+}
+
+/// Request c: "no route counts nodes only", and "the largest count is 10".
+#[test]
+fn counts_of_tree_lookups() {
+    let image = |routes: &[Route]| {
+        let (mut words, mut hops) = (vec![0; 3 * (1 + 8 * routes.len())], vec![0; routes.len()]);
+        assert_eq!(number(build(&records(routes), &mut words, &mut hops)), 0);
+        (words, hops)
+    };
+    let (words, hops) = image(&[]);
+    assert_eq!(tree_lookup(&words, &hops, ip(192, 0, 2, 1)), found(0, 1));
+    // A route of length 32: nine nodes and the hop for itself, eight nodes alone for its neighbour.
+    let (words, hops) = image(&[to(ip(10, 1, 2, 200), 32, 70)]);
+    assert_eq!(tree_lookup(&words, &hops, ip(10, 1, 2, 200)), found(70, 10));
+    assert_eq!(tree_lookup(&words, &hops, ip(10, 1, 2, 201)), found(0, 8));
+    // The hop of a short route is one fetch too, however deep the walk goes on.
+    let (words, hops) = image(&[to(ip(10, 0, 0, 0), 8, 20), to(ip(10, 1, 2, 200), 32, 70)]);
+    assert_eq!(tree_lookup(&words, &hops, ip(10, 1, 2, 201)), found(20, 9));
+    assert_eq!(tree_lookup(&words, &hops, ip(11, 0, 0, 0)), found(0, 2));
+    // 13 has no count.
+    assert_eq!(tree_lookup(&words, &[20, 32_768], ip(10, 1, 2, 200)), 13);
 }
 
 #[test]
@@ -121,12 +145,12 @@ fn refusals_of_images() {
     assert_eq!(tree_lookup(&[1, 1, 0], &[], 5), 13);
     assert_eq!(tree_lookup(&[1, 1, 0], &[0], 5), 13);
     assert_eq!(tree_lookup(&[1, 1, 0], &[32_768], 5), 13);
-    assert_eq!(tree_lookup(&[1, 1, 0], &[32_767], 5), found(32_767, 1));
+    assert_eq!(tree_lookup(&[1, 1, 0], &[32_767], 5), found(32_767, 2));
     assert_eq!(tree_lookup(&[1, 1, u32::MAX], &[5], 5), 13);
     // Nodes first: the child that is missing counts although a match was found before.
     assert_eq!(tree_lookup(&[1 | 1 << 16, u32::MAX, 0], &[5], 5), 13);
     // A node that is its own child is read at each depth; at depth 8 only bits 0 and 15 are looked at.
-    assert_eq!(tree_lookup(&[0xFFFF << 16 | 2, 0, 0], &[5], 0), found(5, 9));
+    assert_eq!(tree_lookup(&[0xFFFF << 16 | 2, 0, 0], &[5], 0), found(5, 10));
     let deep = [1 << 16, 0, 0];
     assert_eq!(tree_lookup(&deep, &[], 0), found(0, 9));
 }
