@@ -1,4 +1,4 @@
--- What the tests of the code say of the walk. Assumes nothing.
+-- What the tests of the code say of the walk: a law for each return and each step of the loop.
 use mathlib.Core.Path.{_≡_, refl, sym, ap, _∙_}
 use mathlib.Core.Bool.{Bool, true, false, cond, not}
 use mathlib.Core.List.{List}

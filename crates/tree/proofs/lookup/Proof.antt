@@ -1,4 +1,4 @@
--- `tree::lookup` meets its contract. Assumes nothing.
+-- The invariant: what the walk from the node at hand says, with d levels below it, is what the walk from the root says. d falls.
 use mathlib.Core.Path.{_≡_, refl}
 use Prim.Native.Nat.{_≤_}
 use native.Mathlib.Omega.{arith}
