@@ -4,9 +4,7 @@ use Rattle.cards.proofs.tables.gh_announce.Statement.{statement}
 use Rattle.cards.proofs.tables.gh_announce.Tie as tie
 
 returns : tie.Need-returns
-returns c =
-    let changed = c .before .before .before .before .before .before .before .before .before .before .before .before .before .before in
-    announce-card _ _ _ _ _ (changed .before .before .narrow8 .ensures) _ _ _ _ _ _ (changed .before .narrow16 .ensures) (changed .announce .ensures) (c .announced .ensures)
+returns c = search announce-card
 
 pub gh-announce-spec : {M : Type 1} → statement M
 gh-announce-spec =

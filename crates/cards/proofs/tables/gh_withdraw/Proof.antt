@@ -4,9 +4,7 @@ use Rattle.cards.proofs.tables.gh_withdraw.Statement.{statement}
 use Rattle.cards.proofs.tables.gh_withdraw.Tie as tie
 
 returns : tie.Need-returns
-returns c =
-    let changed = c .before .before .before .before .before .before .before .before .before .before .before .before .before .before in
-    withdraw-card _ _ _ _ _ (changed .before .narrow8 .ensures) _ _ _ _ (changed .withdraw .ensures) (c .withdrawn .ensures)
+returns c = search withdraw-card
 
 pub gh-withdraw-spec : {M : Type 1} → statement M
 gh-withdraw-spec =
