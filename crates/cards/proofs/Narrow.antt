@@ -1,6 +1,7 @@
 -- The calls at the boundary take numbers of 32 bits, and those inside narrower ones. What a call says and leaves is the same for every length
--- over 32, and for every hop over 32,767: it is refused by its order, whatever else the number is. So a number that does not fit may be taken
--- to the largest that does, and the exported calls are stated over the number itself.
+-- over 32, and for every hop over 32,767: such a number is refused, and nothing else is done with it. So a number that does not fit may be
+-- taken to the largest that does, and the exported calls are stated over the number itself. A further number wants one more law of the
+-- form `AlikeOver`, and one more step in `announced-narrow`.
 use mathlib.Core.Path.{_≡_, refl, sym, _∙_, ap}
 use mathlib.Core.Logic.{_⊎_, inl, inr}
 use mathlib.Core.Bool.{true, false}
@@ -23,12 +24,12 @@ abbrev pub AlikeOver : {A : Type 0} → ℕ → (ℕ → A) → Type 0
 AlikeOver limit f = (x y : ℕ) → limit < x → limit < y → f x ≡ f y
 
 -- then a number may be narrowed to a type that has room for one over the limit
-narrowed : {A : Type 0} (f : ℕ → A) (limit top : ℕ) → limit < top → AlikeOver limit f → (x : ℕ) → f (min x top) ≡ f x
-narrowed f limit top h alike x = go (below? top x)
+narrowed : {A : Type 0} (f : ℕ → A) (limit top : ℕ) → limit < top → AlikeOver limit f → (x n : ℕ) → n ≡ min x top → f n ≡ f x
+narrowed f limit top h alike x n e = go (below? top x)
   where
-    go : (top < x) ⊎ (x ≤ top) → f (min x top) ≡ f x
-    go (inl b) = alike (min x top) x (omega arith) (omega arith)
-    go (inr b) = let e : min x top ≡ x = omega arith in ap f e
+    go : (top < x) ⊎ (x ≤ top) → f n ≡ f x
+    go (inl b) = alike n x (omega arith) (omega arith)
+    go (inr b) = let q : n ≡ x = omega arith in ap f q
 
 long-prefix : (a len : ℕ) → 32 < len → properPrefix a len ≡ false
 unfolding properPrefix
@@ -40,27 +41,27 @@ high-hop hop h = rw (le-leb 1 hop (omega arith), lt-leb hop 32767 h)
 
 module _ (t : Table) (l : Lent) where
   -- 1 or 2 where the sizes ask for it, else this number
-  abbrev no : ℕ → Said
-  no m = orSay (sizesFault (t .geometry) l) (refused m)
+  abbrev refusal : ℕ → Said
+  refusal m = orSay (sizesFault (t .geometry) l) (refused m)
 
-  no-accepts : (m : ℕ) → accepts (no m) ≡ false
-  no-accepts m = go (sizesFault (t .geometry) l)
+  refusal-accepts : (m : ℕ) → accepts (refusal m) ≡ false
+  refusal-accepts m = go (sizesFault (t .geometry) l)
     where
       go : (n : ℕ) → accepts (orSay n (refused m)) ≡ false
       go zero = refl
       go (suc n) = refl
 
-  announced-three : (a len hop : ℕ) → properPrefix a len ≡ false → announced t l a len hop ≡ out (no 3) t l
+  announced-three : (a len hop : ℕ) → properPrefix a len ≡ false → announced t l a len hop ≡ out (refusal 3) t l
   unfolding announceSaid announceFault
-  announced-three a len hop e = announce-off t l a len hop (no 3) (rw e) (no-accepts 3)
+  announced-three a len hop e = announce-off t l a len hop (refusal 3) (rw e) (refusal-accepts 3)
 
-  announced-four : (a len hop : ℕ) → properPrefix a len ≡ true → 32767 < hop → announced t l a len hop ≡ out (no 4) t l
+  announced-four : (a len hop : ℕ) → properPrefix a len ≡ true → 32767 < hop → announced t l a len hop ≡ out (refusal 4) t l
   unfolding announceSaid announceFault
-  announced-four a len hop e h = announce-off t l a len hop (no 4) (rw (e, high-hop hop h)) (no-accepts 4)
+  announced-four a len hop e h = announce-off t l a len hop (refusal 4) (rw (e, high-hop hop h)) (refusal-accepts 4)
 
-  withdrawn-three : (a len : ℕ) → 32 < len → withdrawn t l a len ≡ out (no 3) t l
+  withdrawn-three : (a len : ℕ) → 32 < len → withdrawn t l a len ≡ out (refusal 3) t l
   unfolding withdrawSaid withdrawFault
-  withdrawn-three a len h = withdraw-off t l a len (no 3) (rw (long-prefix a len h)) (no-accepts 3)
+  withdrawn-three a len h = withdraw-off t l a len (refusal 3) (rw (long-prefix a len h)) (refusal-accepts 3)
 
   pub announced-long : (a hop : ℕ) → AlikeOver 32 (λ (len : ℕ). announced t l a len hop)
   announced-long a hop x y h k = announced-three a x hop (long-prefix a x h) ∙ sym (announced-three a y hop (long-prefix a y k))
@@ -78,12 +79,11 @@ module _ (t : Table) (l : Lent) where
   -- with every number narrowed
   pub announced-narrow : (a len hop n m : ℕ) → n ≡ min len 255 → m ≡ min hop 65535 → announced t l a n m ≡ announced t l a len hop
   announced-narrow a len hop n m e q =
-      ap (λ (x : ℕ). announced t l a x m) e ∙ narrowed (λ (x : ℕ). announced t l a x m) 32 255 (omega arith) (announced-long a m) len
-      ∙ (ap (λ (x : ℕ). announced t l a len x) q ∙ narrowed (λ (x : ℕ). announced t l a len x) 32767 65535 (omega arith) (announced-high a len) hop)
+      narrowed (λ (x : ℕ). announced t l a x m) 32 255 (omega arith) (announced-long a m) len n e
+      ∙ narrowed (λ (x : ℕ). announced t l a len x) 32767 65535 (omega arith) (announced-high a len) hop m q
 
   pub withdrawn-narrow : (a len n : ℕ) → n ≡ min len 255 → withdrawn t l a n ≡ withdrawn t l a len
-  withdrawn-narrow a len n e =
-      ap (λ (x : ℕ). withdrawn t l a x) e ∙ narrowed (λ (x : ℕ). withdrawn t l a x) 32 255 (omega arith) (withdrawn-long a) len
+  withdrawn-narrow a len n e = narrowed (λ (x : ℕ). withdrawn t l a x) 32 255 (omega arith) (withdrawn-long a) len n e
 
 module _ (s : List ℕ) (a : ℕ) where
   pub run-long : AlikeOver 32 (λ (len : ℕ). runSaid s a len)
@@ -91,4 +91,4 @@ module _ (s : List ℕ) (a : ℕ) where
   run-long x y h k = rw (long-prefix a x h, long-prefix a y k) refl
 
   pub run-narrow : (len n : ℕ) → n ≡ min len 255 → runSaid s a n ≡ runSaid s a len
-  run-narrow len n e = ap (λ (x : ℕ). runSaid s a x) e ∙ narrowed (λ (x : ℕ). runSaid s a x) 32 255 (omega arith) run-long len
+  run-narrow len n e = narrowed (λ (x : ℕ). runSaid s a x) 32 255 (omega arith) run-long len n e
