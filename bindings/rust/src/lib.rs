@@ -42,19 +42,19 @@ impl Refusal {
     pub fn meaning(&self) -> &'static str {
         match self.number {
             1 => "geometry outside the limits",
-            2 => "an array has another size than the geometry asks, or too many chunks or records of room",
+            2 => "a lent array has another size than it must, or too many chunks or records of room",
             3 => "length over 32, or a bit set after the length",
             4 => "hop not 1 to 32,767",
-            5 => "table not sound",
-            6 => "list room full, or more records than room or than 4,096",
+            5 => "table not sound; in lookup only: a chunk number is 0 or beyond its pool, or a third cell is no leaf",
+            6 => "announce: list room full; load: more records than room; any record input: over 4,096",
             7 => "need for second chunks exceeds those lent",
             8 => "need for third chunks exceeds those lent",
             9 => "withdrawn prefix doesn't stand",
             10 => "record input not a multiple of 8 bytes, spare not zero, or not ascending",
             11 => "too few whole nodes lent",
             12 => "too few hops lent",
-            13 => "image broken on this walk",
-            _ => "a number that document 01 does not have",
+            13 => "image broken on this walk: bit 15 set, child or hop beyond what is lent, no root, hop outside 1 to 32,767",
+            _ => "no number of a refusal",
         }
     }
 }
@@ -261,7 +261,7 @@ impl Table {
     /// Refusals: 1, 2, 3, 4, 5, 6, 7, 8; a replacement never meets 6 to 8.
     pub fn announce(&mut self, addr: impl Into<Ipv4Addr>, len: u8, hop: u16) -> Result<Announced, Refusal> {
         let addr = u32::from(addr.into());
-        let answer = answered(lend!(gh_announce, (self.count), mut self, (addr, len, hop)))?;
+        let answer = answered(lend!(gh_announce, (self.count), mut self, (addr, len.into(), hop.into())))?;
         self.count = counted(answer);
         Ok(if answer >> 8 & 1 == 1 { Announced::Replaced } else { Announced::Added })
     }
@@ -269,7 +269,7 @@ impl Table {
     /// Removes the route of a prefix. Refusals: 1, 2, 3, 5, 9.
     pub fn withdraw(&mut self, addr: impl Into<Ipv4Addr>, len: u8) -> Result<(), Refusal> {
         let addr = u32::from(addr.into());
-        let answer = answered(lend!(gh_withdraw, (self.count), mut self, (addr, len)))?;
+        let answer = answered(lend!(gh_withdraw, (self.count), mut self, (addr, len.into())))?;
         self.count = counted(answer);
         Ok(())
     }
@@ -366,7 +366,7 @@ impl Image {
 /// for the prefix.
 pub fn run(input: &[u8], addr: impl Into<Ipv4Addr>, len: u8) -> Result<&[u8], Refusal> {
     // The pointer is to a slice of that length, and the call writes nothing.
-    let answer = unsafe { sys::gh_run(input.as_ptr(), input.len(), u32::from(addr.into()), len) };
+    let answer = unsafe { sys::gh_run(input.as_ptr(), input.len(), u32::from(addr.into()), len.into()) };
     let answer = answered(answer)?;
     let start = (answer >> 16) as usize & 0xFFFF;
     let records = (answer >> 32) as usize & 0xFFFF;
