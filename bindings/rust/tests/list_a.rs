@@ -81,7 +81,7 @@ fn every_field() {
     assert_eq!(route(&input, 899), Ok(Some(Route::new([10, 3, 131, 0], 24, 900))));
     let mut image = Image::new(1000, 1000);
     assert_eq!(image.build(&input), Ok((965, 900)));
-    assert_eq!(image.lookup([10, 3, 4, 255]), Ok(Found { hop: Some(773), reads: 7 }));
+    assert_eq!(image.lookup([10, 3, 4, 255]), Ok(Found { hop: Some(773), reads: 8 }));
 
     let mut long = rows(70_000);
     assert_eq!(refused(route(&long, 0)), (6, None));
