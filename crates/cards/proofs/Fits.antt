@@ -52,7 +52,7 @@ sizing-fits (Sizing.size v h) = Fits.number 2 (omega arith) (omega arith)
 fault-low : {s : List ℕ} {k f : ℕ} → WrongRecord s k f → f < 2 ^ 8
 fault-low (WrongRecord.itself (WrongRoute.prefix h)) = omega arith
 fault-low (WrongRecord.itself (WrongRoute.hop p h)) = omega arith
-fault-low (WrongRecord.itself (WrongRoute.spare p a b h)) = omega arith
+fault-low (WrongRecord.itself (WrongRoute.mark p a b h)) = omega arith
 fault-low (WrongRecord.order g h l) = omega arith
 
 module _ (P : List ℕ → Type 0) (s : List ℕ) (short : length s < 2 ^ 35) where
@@ -101,7 +101,7 @@ module _ (s : List ℕ) (short : length s < 2 ^ 35) where
       go (RouteRead.there n g h) =
           let f = good-whole s n g .1 .each k h in
           let r = recordAt s k in
-          Fits.values _ (RouteFits.one (r .addr) (r .len) (r .spare) (r .hop) (f .prefix .addr-ok) (omega (arith, f .prefix .len-ok)) (f .spare-ok) (f .hop-one) (omega (arith, f .hop-ok)))
+          Fits.values _ (RouteFits.one (r .addr) (r .len) (r .mark) (r .hop) (f .prefix .addr-ok) (omega (arith, f .prefix .len-ok)) (f .mark-ok) (f .hop-one) (omega (arith, f .hop-ok)))
       go (RouteRead.past n g h) = Fits.values [] RouteFits.nothing
 
   pub built-fits : (ws hs : List ℕ) → Fits (2 ^ 32) BuiltFits (built s ws hs .said)

@@ -39,13 +39,13 @@ pub word-route : (s : List ℕ) (k : ℕ) → Ranged (recordAt s k) → routeOf 
 unfolding wordAt recordAt
 word-route s k f =
     let l = f .len-fits in
-    let p = f .spare-fits in
+    let p = f .mark-fits in
     let h = f .hop-fits in
     let w = wordAt s k in
     let r = recordAt s k in
     let ea : w / 4294967296 ≡ r .addr = omega arith in
     let el : w / 16777216 % 256 ≡ r .len = omega arith in
-    let es : w / 65536 % 256 ≡ r .spare = omega arith in
+    let es : w / 65536 % 256 ≡ r .mark = omega arith in
     let eh : w % 65536 ≡ r .hop = omega arith in
     rw (ea, el, es, eh)
 
@@ -53,9 +53,9 @@ fine-ranged : {r : Route} → Fine r → Ranged r
 fine-ranged f =
     let a = f .prefix .addr-ok in
     let l = f .prefix .len-ok in
-    let s = f .spare-ok in
+    let s = f .mark-ok in
     let h = f .hop-ok in
-    record { addr-fits = omega arith; len-fits = omega arith; spare-fits = omega arith; hop-fits = omega arith }
+    record { addr-fits = omega arith; len-fits = omega arith; mark-fits = omega arith; hop-fits = omega arith }
 
 module _ (s : List ℕ) (n : ℕ) (good : Records s n) where
   at-word : (k : ℕ) → k < n → routeOf (getD (wordsOf s n) k 0) ≡ recordAt s k

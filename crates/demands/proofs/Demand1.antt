@@ -78,7 +78,7 @@ refused-run = run-refused
 exactly : (P : Said → Type 0) (x y : Said) → x ≡ y → P y → ((s : Said) → P s → y ≡ s) → (s : Said) → (x ≡ s) ↔ P s
 exactly P x y q h only s = ((λ e. subst P (sym q ∙ e) h), (λ c. q ∙ only s c))
 
--- check_input, and with it the tally: the length (10), record by record 3, 4, spare, order (10), then 6
+-- check_input, and with it the tally: the length (10), record by record 3, 4, mark, order (10), then 6
 pub refused-number-check-input : (bytes : List ℕ) (s : Said) → (inputSaid bytes ≡ s) ↔ Checked bytes s
 refused-number-check-input bytes = exactly (Checked bytes) _ _ refl (input-checked bytes) (check-only bytes)
 

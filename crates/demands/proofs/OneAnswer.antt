@@ -49,7 +49,7 @@ one-answer-check-input bytes x y p q = input-injective x y (p ∙ sym q)
 -- a route that is read back is read from what is said
 readGot : Said → Got
 readGot (accepted []) = got.Nothing
-readGot (accepted (a ∷ vs)) = got.One (record { addr = a; len = getD vs 0 0; spare = getD vs 1 0; hop = getD vs 2 0 })
+readGot (accepted (a ∷ vs)) = got.One (record { addr = a; len = getD vs 0 0; mark = getD vs 1 0; hop = getD vs 2 0 })
 readGot (refused n) = got.TooMany
 readGot (refusedAt n k) = got.Refused n k
 

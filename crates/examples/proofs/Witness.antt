@@ -201,7 +201,7 @@ pub checked-A : MeetsCheckInput listA (ofInput.Good 5)
 unfolding saysInput
 checked-A = sym goodA
 
-pub route-A : MeetsRouteAt listA 4 (got.One (record { addr = ip 10 1 2 128; len = 25; spare = 0; hop = 57 }))
+pub route-A : MeetsRouteAt listA 4 (got.One (record { addr = ip 10 1 2 128; len = 25; mark = 0; hop = 57 }))
 unfolding saysGot routeSaid listA recordAt
 route-A = rw goodA
 

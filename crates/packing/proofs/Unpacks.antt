@@ -142,7 +142,7 @@ module _ (most : ℕ) (few : most ≤ 2 ^ 32) where
   route-read = said-read most few RouteFits _ routeValues go
     where
       go : (vs : List ℕ) → RouteFits vs → Reads routeValues (packRoute (accepted vs)) vs
-      go _ (RouteFits.one a len spare hop i j e k m) = rw e (route-values a len hop _ i j k m refl)
+      go _ (RouteFits.one a len mark hop i j e k m) = rw e (route-values a len hop _ i j k m refl)
       go _ RouteFits.nothing = record { none = refl; back = refl }
 
   pub announce-read : (count : ℕ) (s : Said) → Fits most (AnnounceFits count) s → unpackAnnounce (packChange count s) ≡ s

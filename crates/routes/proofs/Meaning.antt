@@ -46,7 +46,7 @@ false-prefix a l e p = true≢false (sym (true-prefix a l p) ∙ e)
 pub data WrongRoute (r : Route) : ℕ → Type 0 where
   prefix : (Prefix (r .addr) (r .len) → ⊥) → WrongRoute r 3
   hop : Prefix (r .addr) (r .len) → (1 ≤ r .hop → r .hop ≤ 32767 → ⊥) → WrongRoute r 4
-  spare : Prefix (r .addr) (r .len) → 1 ≤ r .hop → r .hop ≤ 32767 → r .spare ≢ 0 → WrongRoute r 10
+  mark : Prefix (r .addr) (r .len) → 1 ≤ r .hop → r .hop ≤ 32767 → r .mark ≢ 0 → WrongRoute r 10
 
 -- a route has no fault and is fine, or has the first fault in order
 pub data RouteChecked (r : Route) (f : ℕ) : Type 0 where
@@ -55,22 +55,22 @@ pub data RouteChecked (r : Route) (f : ℕ) : Type 0 where
 
 pub route-checked : (r : Route) → RouteChecked r (routeFault r)
 unfolding routeFault
-route-checked r = go (decided (properPrefix (r .addr) (r .len))) (decided (hopFine (r .hop))) (decided (eqb (r .spare) 0))
+route-checked r = go (decided (properPrefix (r .addr) (r .len))) (decided (hopFine (r .hop))) (decided (eqb (r .mark) 0))
   where
-    go : (properPrefix (r .addr) (r .len) ≡ true) ⊎ (properPrefix (r .addr) (r .len) ≡ false) → (hopFine (r .hop) ≡ true) ⊎ (hopFine (r .hop) ≡ false) → (eqb (r .spare) 0 ≡ true) ⊎ (eqb (r .spare) 0 ≡ false)
-        → RouteChecked r (cond (not (properPrefix (r .addr) (r .len))) 3 (cond (not (hopFine (r .hop))) 4 (cond (eqb (r .spare) 0) 0 10)))
+    go : (properPrefix (r .addr) (r .len) ≡ true) ⊎ (properPrefix (r .addr) (r .len) ≡ false) → (hopFine (r .hop) ≡ true) ⊎ (hopFine (r .hop) ≡ false) → (eqb (r .mark) 0 ≡ true) ⊎ (eqb (r .mark) 0 ≡ false)
+        → RouteChecked r (cond (not (properPrefix (r .addr) (r .len))) 3 (cond (not (hopFine (r .hop))) 4 (cond (eqb (r .mark) 0) 0 10)))
     go (inr p) h s = rw p (wrong (omega arith) (prefix (false-prefix (r .addr) (r .len) p)))
     go (inl p) (inr h) s = rw (p, h) (wrong (omega arith) (hop (prefix-true (r .addr) (r .len) p) (λ l u. true≢false (sym (true-hop (r .hop) l u) ∙ h))))
     go (inl p) (inl h) (inr s) =
         let b = hop-true (r .hop) h in
-        rw (p, h, s) (wrong (omega arith) (spare (prefix-true (r .addr) (r .len) p) (b .0) (b .1) (eqb-false (r .spare) 0 s)))
+        rw (p, h, s) (wrong (omega arith) (mark (prefix-true (r .addr) (r .len) p) (b .0) (b .1) (eqb-false (r .mark) 0 s)))
     go (inl p) (inl h) (inl s) =
         let b = hop-true (r .hop) h in
-        rw (p, h, s) (fine refl (record { prefix = prefix-true (r .addr) (r .len) p; hop-one = b .0; hop-ok = b .1; spare-ok = eqb-true (r .spare) 0 s }))
+        rw (p, h, s) (fine refl (record { prefix = prefix-true (r .addr) (r .len) p; hop-one = b .0; hop-ok = b .1; mark-ok = eqb-true (r .mark) 0 s }))
 
 pub fine-fault : (r : Route) → Fine r → routeFault r ≡ 0
 unfolding routeFault
-fine-fault r f = rw (true-prefix (r .addr) (r .len) (f .prefix), true-hop (r .hop) (f .hop-one) (f .hop-ok), eq-eqb (r .spare) 0 (f .spare-ok))
+fine-fault r f = rw (true-prefix (r .addr) (r .len) (f .prefix), true-hop (r .hop) (f .hop-one) (f .hop-ok), eq-eqb (r .mark) 0 (f .mark-ok))
 
 -- what is wrong with record k: by itself, or with its order
 pub data WrongRecord (s : List ℕ) (k : ℕ) : ℕ → Type 0 where

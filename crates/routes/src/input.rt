@@ -38,7 +38,7 @@ pub fn route_fault(r: Route) -> u8
     if !hop_ok(r.hop) {
         return 4;
     }
-    if r.spare == 0 {
+    if r.mark == 0 {
         return 0;
     }
     10

@@ -129,7 +129,7 @@ module _ (t : Table) (l : Lent) (a len hop : ℕ) where
 
         module _ (q : not c ≡ false) (d : Bool) (k : Tried d t l) where
           fine : Fine r
-          fine = let g = hop-true hop (sym f ∙ not-false c q) in record { prefix = prefix; hop-one = g .0; hop-ok = g .1; spare-ok = refl }
+          fine = let g = hop-true hop (sym f ∙ not-false c q) in record { prefix = prefix; hop-one = g .0; hop-ok = g .1; mark-ok = refl }
 
           pub judge-sound : not d ≡ true → Told 5
           judge-sound n = off 5 (omega arith) (Announce.unsound (check .facts h) fine (λ s. true≢false (sym (k .tells .1 s) ∙ not-true d n)))

@@ -139,7 +139,7 @@ fn add(
     let r = Route {
         addr,
         len,
-        spare: 0,
+        mark: 0,
         hop,
     };
     let n = t.count as usize;

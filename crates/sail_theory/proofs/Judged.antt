@@ -124,7 +124,7 @@ module _ (t : Table) (l : Lent) (a len hop : ℕ) where
           → Announce (orSay (announceFault (sound? t l) (termsOf t l) rs a len hop) (accepted (bit (stands (keyOf a len) rs) ∷ [])))
       go z (inr p) h = rw p (bad-prefix z (λ q. true≢false (sym (true-prefix a len q) ∙ p)))
       go z (inl p) (inr h) = rw (p, h) (bad-hop z (prefix-true a len p) (λ i j. true≢false (sym (true-hop hop i j) ∙ h)))
-      go z (inl p) (inl h) = let b = hop-true hop h in announce-fine (record { prefix = prefix-true a len p; hop-one = b .0; hop-ok = b .1; spare-ok = refl }) z
+      go z (inl p) (inl h) = let b = hop-true hop h in announce-fine (record { prefix = prefix-true a len p; hop-one = b .0; hop-ok = b .1; mark-ok = refl }) z
 
 -- withdraw: 1, 2, 3, 5, 9
 module _ (t : Table) (l : Lent) (a len : ℕ) where

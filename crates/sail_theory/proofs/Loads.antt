@@ -28,9 +28,9 @@ use Rattle.sail_theory.proofs.Changes.{render-holds, ready1, ready2, we
 use Rattle.sail_theory.proofs.Accepted.{announce-is, outcome-said, outcome-refused}
 use Rattle.sail_theory.proofs.Fresh.{no-fits, fresh-rendered, make-is}
 
--- a route without spare is made of its parts
-route-parts : (r : Route) → r .spare ≡ 0 → route (r .addr) (r .len) (r .hop) ≡ r
-route-parts r e = λ i. record { addr = r .addr; len = r .len; spare = sym e i; hop = r .hop }
+-- a route without mark is made of its parts
+route-parts : (r : Route) → r .mark ≡ 0 → route (r .addr) (r .len) (r .hop) ≡ r
+route-parts r e = λ i. record { addr = r .addr; len = r .len; mark = sym e i; hop = r .hop }
 
 -- Owners that fit a good list which is the front of one that may be loaded.
 pub record Fronts (t : Table) (l : Lent) (xs ys : List Route) (o : Owners) : Type 0 where
@@ -103,7 +103,7 @@ module _ (t : Table) (l : Lent) (xs : List Route) (r : Route) (ys : List Route) 
   -- it is added, and its chunks opened
   next : announced u v (r .addr) (r .len) (r .hop) ≡ record { said = accepted (0 ∷ []); table = stateOf t xs′; lent = lentOf t l xs′ (opened g o r) }
   next =
-      let whole = route-parts r (fine .spare-ok) in
+      let whole = route-parts r (fine .mark-ok) in
       announce-is u v (r .addr) (r .len) (r .hop) (rw whole welcome)
       ∙ rw (whole, now .routes, none-stands (key r) xs below, ended, same-room)
 

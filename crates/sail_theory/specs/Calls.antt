@@ -81,7 +81,7 @@ unfoldable pub chunksFault : Terms → List Route → ℕ
 chunksFault m rs = cond (ltb (m .most2) (need rs (m .geometry .p1))) 7 (cond (ltb (m .most3) (need rs (m .geometry .p2))) 8 0)
 
 abbrev pub route : ℕ → ℕ → ℕ → Route
-route a len hop = record { addr = a; len = len; spare = 0; hop = hop }
+route a len hop = record { addr = a; len = len; mark = 0; hop = hop }
 
 -- 3, 4, 5, 6, 7, 8; a replacement never meets 6 to 8. `ok` tells whether the table is sound
 unfoldable pub announceFault : Bool → Terms → List Route → ℕ → ℕ → ℕ → ℕ

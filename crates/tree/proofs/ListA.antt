@@ -16,7 +16,7 @@ use Rattle.bits.specs.Bit.{packed}
 use Rattle.tree.specs.Image.{bitHop, setBit, word, kids, hopsOf, level, upTo, wordsFrom, words, hops, imageBy, imageOf, nodeNeed, onPath}
 
 route : ℕ → ℕ → ℕ → Route
-route a l h = record { addr = a; len = l; spare = 0; hop = h }
+route a l h = record { addr = a; len = l; mark = 0; hop = h }
 
 listA : List Route
 listA = route 0 0 6 ∷ route 167772160 8 20 ∷ route 167837696 16 31 ∷ route 167838208 24 44 ∷ route 167838336 25 57 ∷ []

@@ -48,11 +48,11 @@ pub fn list_a() -> [u8; 40] {
     ]
 }
 
-pub fn route(addr: u32, len: u8, spare: u8, hop: u16) -> Route {
+pub fn route(addr: u32, len: u8, mark: u8, hop: u16) -> Route {
     Route {
         addr,
         len,
-        spare,
+        mark,
         hop,
     }
 }
