@@ -18,12 +18,12 @@ pub record Prefix (a l : ℕ) : Type 0 where
   pub addr-ok : a < 2 ^ 32
   pub clear : cut l a ≡ a
 
--- such a prefix, a hop of 1 to 32,767, and a mark of zero
+-- such a prefix, a hop of 1 to 32,767, and a mark of 0, or 1 for attached
 pub record Fine (r : Route) : Type 0 where
   pub prefix : Prefix (r .addr) (r .len)
   pub hop-one : 1 ≤ r .hop
   pub hop-ok : r .hop ≤ 32767
-  pub mark-ok : r .mark ≡ 0
+  pub mark-ok : r .mark ≤ 1
 
 -- a good list: each route is fine, and comes before all after it
 unfoldable pub Good : List Route → Type 0

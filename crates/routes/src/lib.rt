@@ -2,7 +2,8 @@
 pub mod input;
 pub mod record;
 
-// A route: the prefix of `len` bits of `addr`, and the hop that it leads to. `mark` is the record's sixth byte.
+// A route: the prefix of `len` bits of `addr`, and the hop that it leads to. `mark` is 1 for a network on our own port,
+// an attached one, and 0 for one behind a neighbour.
 pub struct Route {
     pub addr: u32,
     pub len: u8,
