@@ -12,6 +12,10 @@ keyOf a l = a * 256 + l
 abbrev pub key : Route → ℕ
 key r = keyOf (r .addr) (r .len)
 
+-- a route with its mark put aside
+abbrev pub plain : Route → Route
+plain r = record { addr = r .addr; len = r .len; mark = 0; hop = r .hop }
+
 -- an address of 32 bits, a length of at most 32, and no bit set after the length
 pub record Prefix (a l : ℕ) : Type 0 where
   pub len-ok : l ≤ 32

@@ -10,4 +10,5 @@ pub mod Levels
 pub mod Needs
 pub mod Serves
 pub mod Ranks
+pub mod Marks
 pub mod ListA
