@@ -12,7 +12,7 @@ use borrow.Author.Tests.{eqb-true, eqb-false, ltb-true, ltb-false, leb-true, leb
 use Rattle.bits.specs.Slot.{cut}
 use Rattle.bits.specs.Search.{firstOf}
 use Rattle.bits.proofs.Searches.{firstOf-le, firstOf-before, firstOf-at, firstOf-is}
-use Rattle.bits.proofs.Tests.{decided, below?, both, and-split}
+use Rattle.bits.proofs.Tests.{decided, below?, both, and-split, untrue}
 use Rattle.routes.specs.Route.{key, Prefix, Fine}
 use Rattle.routes.specs.Record.{recordAt, Records}
 use Rattle.routes.specs.Said.{Said, accepted, refused, refusedAt}
@@ -71,6 +71,18 @@ route-checked r = go (decided (properPrefix (r .addr) (r .len))) (decided (hopFi
 pub fine-fault : (r : Route) → Fine r → routeFault r ≡ 0
 unfolding routeFault
 fine-fault r f = rw (true-prefix (r .addr) (r .len) (f .prefix), true-hop (r .hop) (f .hop-one) (f .hop-ok), le-ltb 1 (r .mark) (f .mark-ok))
+
+-- what is wrong with a route is one thing, and that is its fault
+pub wrong-fine : {r : Route} {f : ℕ} → WrongRoute r f → Fine r → ⊥
+wrong-fine (prefix h) g = h (g .prefix)
+wrong-fine (hop p h) g = h (g .hop-one) (g .hop-ok)
+wrong-fine (mark p a b h) g = omega (arith, g .mark-ok)
+
+pub wrong-fault : (r : Route) (f : ℕ) → WrongRoute r f → routeFault r ≡ f
+unfolding routeFault
+wrong-fault r f (prefix h) = rw (untrue (properPrefix (r .addr) (r .len)) (λ e. h (prefix-true (r .addr) (r .len) e)))
+wrong-fault r f (hop p h) = rw (true-prefix (r .addr) (r .len) p, untrue (hopFine (r .hop)) (λ e. let b = hop-true (r .hop) e in h (b .0) (b .1)))
+wrong-fault r f (mark p a b h) = rw (true-prefix (r .addr) (r .len) p, true-hop (r .hop) a b, lt-ltb 1 (r .mark) h)
 
 -- what is wrong with record k: by itself, or with its order
 pub data WrongRecord (s : List ℕ) (k : ℕ) : ℕ → Type 0 where
