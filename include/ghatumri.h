@@ -18,6 +18,9 @@
  *   words   3 words for each node of a tree image
  *   hops    the hops of a tree image
  *
+ * NUMBERS. Every number goes in with 32 bits, whatever its limits, and none is cut: length 280 is refused with 3 as 33 is,
+ * hop 65,580 with 4 as 32,768 is.
+ *
  * GEOMETRY. p1 is 12 to 16, p2 is 22 to 26, p2 - p1 at most 10. Standard is (16, 24), small is (12, 22).
  *
  * ANSWERS. Bits 0 to 7 are the refusal's number, 0 when the call is accepted.
@@ -116,7 +119,7 @@ uint64_t gh_announce(uint32_t p1, uint32_t p2, uint32_t count,
                      uint16_t *third, size_t third_len,
                      uint32_t *own2, size_t own2_len,
                      uint32_t *own3, size_t own3_len,
-                     uint32_t addr, uint8_t len, uint16_t hop);
+                     uint32_t addr, uint32_t len, uint32_t hop);
 
 /* Removes the route of the prefix addr/len and closes the chunks that are no longer needed.
  * Refusals: 1, 2, 3, 5, 9. */
@@ -127,7 +130,7 @@ uint64_t gh_withdraw(uint32_t p1, uint32_t p2, uint32_t count,
                      uint16_t *third, size_t third_len,
                      uint32_t *own2, size_t own2_len,
                      uint32_t *own3, size_t own3_len,
-                     uint32_t addr, uint8_t len);
+                     uint32_t addr, uint32_t len);
 
 /* Tells the route count and both needs of a sound table. Refusals: 1, 2, 5. */
 uint64_t gh_report(uint32_t p1, uint32_t p2, uint32_t count,
@@ -175,7 +178,7 @@ uint64_t gh_tree_lookup(const uint32_t *words, size_t words_len,
 /* Tells the run under the prefix addr/len: the records of that length or longer inside it. An empty run stands
  * before the first record that isn't smaller than the prefix. Refusals: the input's, then 3 for the prefix (no
  * index). */
-uint64_t gh_run(const uint8_t *input, size_t input_len, uint32_t addr, uint8_t len);
+uint64_t gh_run(const uint8_t *input, size_t input_len, uint32_t addr, uint32_t len);
 
 /* Counts the routes of each length, 0 to 32, into the 33 words of out. Where the input is refused, out becomes 33
  * zeros. Refusals: 2 where out_len is not 33 (nothing is written), the input's. */

@@ -260,7 +260,7 @@ impl Table {
     /// Refusals: 1, 2, 3, 4, 5, 6, 7, 8; a replacement never meets 6 to 8.
     pub fn announce(&mut self, addr: impl Into<Ipv4Addr>, len: u8, hop: u16) -> Result<Announced, Refusal> {
         let addr = u32::from(addr.into());
-        let answer = answered(lend!(gh_announce, (self.count), mut self, (addr, len, hop)))?;
+        let answer = answered(lend!(gh_announce, (self.count), mut self, (addr, len.into(), hop.into())))?;
         self.count = counted(answer);
         Ok(if answer >> 8 & 1 == 1 { Announced::Replaced } else { Announced::Added })
     }
@@ -268,7 +268,7 @@ impl Table {
     /// Removes the route of a prefix. Refusals: 1, 2, 3, 5, 9.
     pub fn withdraw(&mut self, addr: impl Into<Ipv4Addr>, len: u8) -> Result<(), Refusal> {
         let addr = u32::from(addr.into());
-        let answer = answered(lend!(gh_withdraw, (self.count), mut self, (addr, len)))?;
+        let answer = answered(lend!(gh_withdraw, (self.count), mut self, (addr, len.into())))?;
         self.count = counted(answer);
         Ok(())
     }
@@ -365,7 +365,7 @@ impl Image {
 /// for the prefix.
 pub fn run(input: &[u8], addr: impl Into<Ipv4Addr>, len: u8) -> Result<&[u8], Refusal> {
     // The pointer is to a slice of that length, and the call writes nothing.
-    let answer = unsafe { sys::gh_run(input.as_ptr(), input.len(), u32::from(addr.into()), len) };
+    let answer = unsafe { sys::gh_run(input.as_ptr(), input.len(), u32::from(addr.into()), len.into()) };
     let answer = answered(answer)?;
     let start = (answer >> 16) as usize & 0xFFFF;
     let records = (answer >> 32) as usize & 0xFFFF;

@@ -2,4 +2,5 @@
 pub mod images;
 pub mod inputs;
 pub mod lookups;
+pub mod scalars;
 pub mod tables;

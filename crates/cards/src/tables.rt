@@ -4,6 +4,8 @@ ghost use Rattle.sail.specs.Lent.{lent};
 ghost use Rattle.sail_theory.specs.Calls.{made, loaded, announced, withdrawn, reported};
 ghost use Rattle.packing.specs.Pack.{packReport};
 ghost use Rattle.cards.specs.Cards.{tableOf, card, cardOf};
+use crate::scalars::narrow8;
+use crate::scalars::narrow16;
 use sail::geometry::Geometry;
 use sail::table::Table;
 
@@ -82,8 +84,8 @@ pub extern "C" fn gh_announce(
     own2: &mut [u32],
     own3: &mut [u32],
     addr: u32,
-    len: u8,
-    hop: u16,
+    len: u32,
+    hop: u32,
 ) -> u64
     ensures { λ r. ⌜ card r (lent (now (list .exit)) (now (first .exit)) (now (second .exit)) (now (third .exit)) (now (own2 .exit)) (now (own3 .exit))) ≡ cardOf (announced (tableOf p1 p2 count) (lent (now (list .entry)) (now (first .entry)) (now (second .entry)) (now (third .entry)) (now (own2 .entry)) (now (own3 .entry))) addr len hop) ⌝ }
 {
@@ -97,8 +99,8 @@ pub extern "C" fn gh_announce(
         own2,
         own3,
         addr,
-        len,
-        hop,
+        narrow8(len),
+        narrow16(hop),
     );
     let t = c.table;
     let n = t.count;
@@ -119,7 +121,7 @@ pub extern "C" fn gh_withdraw(
     own2: &mut [u32],
     own3: &mut [u32],
     addr: u32,
-    len: u8,
+    len: u32,
 ) -> u64
     ensures { λ r. ⌜ card r (lent (now (list .exit)) (now (first .exit)) (now (second .exit)) (now (third .exit)) (now (own2 .exit)) (now (own3 .exit))) ≡ cardOf (withdrawn (tableOf p1 p2 count) (lent (now (list .entry)) (now (first .entry)) (now (second .entry)) (now (third .entry)) (now (own2 .entry)) (now (own3 .entry))) addr len) ⌝ }
 {
@@ -133,7 +135,7 @@ pub extern "C" fn gh_withdraw(
         own2,
         own3,
         addr,
-        len,
+        narrow8(len),
     );
     let t = c.table;
     let n = t.count;

@@ -295,29 +295,40 @@ fn damage_input(rng: &mut Rng, input: &mut Vec<u8>) {
 }
 
 /// A prefix to ask an input or a table about: one that stands, a shorter or longer one near it, any, or a bad one.
-pub fn asked_prefix(rng: &mut Rng, field: &Field, routes: &[Route]) -> (u32, u8) {
+pub fn asked_prefix(rng: &mut Rng, field: &Field, routes: &[Route]) -> (u32, u32) {
     if rng.one_in(10) {
         return (field.addr(rng), *rng.pick(&[33, 40, 255, 24, 8, 31, 0]));
     }
     if routes.is_empty() || rng.one_in(6) {
         let r = field.route(rng);
-        return (r.addr, r.len);
+        return (r.addr, r.len as u32);
     }
     let r = *rng.pick(routes);
-    match rng.below(4) {
-        0 => (r.addr, r.len),
+    match rng.below(5) {
+        0 => (r.addr, r.len as u32),
         1 => {
             let len = rng.range(0, r.len as usize) as u32;
-            (cut(r.addr, len), len as u8)
+            (cut(r.addr, len), len)
         }
         2 => {
             let len = rng.range(r.len as usize, 32) as u32;
-            (cut(r.addr | (rng.word() & !cut(u32::MAX, r.len as u32)), len), len as u8)
+            (cut(r.addr | (rng.word() & !cut(u32::MAX, r.len as u32)), len), len)
         }
+        3 => (r.addr, wide(rng, r.len as u32, 8)),
         _ => {
             // The neighbour of the same length.
             let len = r.len as u32;
-            (if len == 0 { 0 } else { (bits(r.addr, len) ^ 1) << (32 - len) }, r.len)
+            (if len == 0 { 0 } else { (bits(r.addr, len) ^ 1) << (32 - len) }, len)
         }
     }
+}
+
+/// A number that does not fit the bits of its field, and whose low bits are `low`: cut off, it would pass.
+pub fn wide(rng: &mut Rng, low: u32, bits: u32) -> u32 {
+    let high = match rng.below(3) {
+        0 => 1,
+        1 => 1 << (31 - bits),
+        _ => 1 + (rng.word() >> (bits + 1)),
+    };
+    low | high << bits
 }

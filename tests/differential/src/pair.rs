@@ -10,8 +10,9 @@ use differential::plain::{self, number, records, Lent, Route};
 pub enum Call {
     Make,
     Load(Vec<u8>),
-    Announce(u32, u8, u16),
-    Withdraw(u32, u8),
+    /// Address, length and hop, as wide as the boundary takes them.
+    Announce(u32, u32, u32),
+    Withdraw(u32, u32),
     Report,
     /// The addresses, and the length of the array for the answers.
     LookupMany(Vec<u32>, usize),
@@ -115,6 +116,12 @@ impl Pair {
             }
         };
         run.answered(name, is, should, &|| self.tell(&format!("{call:?}")));
+        match (number(is), call) {
+            (3, Call::Announce(_, 256.., _)) => run.count("announce", "wide length"),
+            (4, Call::Announce(_, _, 65_536..)) => run.count("announce", "wide hop"),
+            (3, Call::Withdraw(_, 256..)) => run.count("withdraw", "wide length"),
+            _ => {}
+        }
         if let Some(what) = self.library.differs(&self.plain) {
             run.fault(&what, &|| self.tell(&format!("{call:?}")));
         }
@@ -143,10 +150,10 @@ impl Pair {
                 standing = plain::check_input(input).expect("an accepted input is good");
             }
             Call::Announce(addr, len, hop) => {
-                let route = Route { addr: *addr, len: *len, hop: *hop };
-                let replaced = match standing.iter_mut().find(|r| (r.addr, r.len) == (*addr, *len)) {
+                let route = Route { addr: *addr, len: *len as u8, hop: *hop as u16 };
+                let replaced = match standing.iter_mut().find(|r| (r.addr, r.len) == (*addr, route.len)) {
                     Some(r) => {
-                        r.hop = *hop;
+                        r.hop = route.hop;
                         true
                     }
                     None => {
@@ -164,8 +171,8 @@ impl Pair {
                 self.count_opened(run);
             }
             Call::Withdraw(addr, len) => {
-                standing.retain(|r| (r.addr, r.len) != (*addr, *len));
-                if standing.iter().any(|r| r.len < *len && r.covers(*addr)) {
+                standing.retain(|r| (r.addr, r.len as u32) != (*addr, *len));
+                if standing.iter().any(|r| (r.len as u32) < *len && r.covers(*addr)) {
                     run.count("withdraw", "under a cover");
                 }
                 let fewer = |now: &[u32], was: &[u32]| used(now) < used(was);

@@ -70,12 +70,12 @@ impl Route {
 }
 
 /// Length at most 32, and every bit after the length zero.
-pub fn prefix_ok(addr: u32, len: u8) -> bool {
-    len <= 32 && (addr as u64) % (1u64 << (32 - len as u32)) == 0
+pub fn prefix_ok(addr: u32, len: u32) -> bool {
+    len <= 32 && (addr as u64) % (1u64 << (32 - len)) == 0
 }
 
-pub fn hop_ok(hop: u16) -> bool {
-    hop >= 1 && hop <= HOP_MAX
+pub fn hop_ok(hop: u32) -> bool {
+    hop >= 1 && hop <= HOP_MAX as u32
 }
 
 /// Records end to end.
@@ -97,10 +97,10 @@ pub fn check_input(input: &[u8]) -> Result<Vec<Route>, u64> {
             len: b[4],
             hop: u16::from_be_bytes([b[6], b[7]]),
         };
-        if !prefix_ok(route.addr, route.len) {
+        if !prefix_ok(route.addr, route.len as u32) {
             return Err(refused_at(3, k));
         }
-        if !hop_ok(route.hop) {
+        if !hop_ok(route.hop as u32) {
             return Err(refused_at(4, k));
         }
         if b[5] != 0 {
@@ -120,7 +120,7 @@ pub fn check_input(input: &[u8]) -> Result<Vec<Route>, u64> {
 }
 
 /// The run under a prefix: every record of that length or longer inside it.
-pub fn run(input: &[u8], addr: u32, len: u8) -> u64 {
+pub fn run(input: &[u8], addr: u32, len: u32) -> u64 {
     let routes = match check_input(input) {
         Ok(routes) => routes,
         Err(answer) => return answer,
@@ -128,6 +128,7 @@ pub fn run(input: &[u8], addr: u32, len: u8) -> u64 {
     if !prefix_ok(addr, len) {
         return refused(3);
     }
+    let len = len as u8;
     let prefix = Route { addr, len, hop: 1 };
     let start = routes.iter().filter(|r| (r.addr, r.len) < (addr, len)).count();
     let inside: Vec<usize> =
@@ -496,7 +497,7 @@ pub fn load(p1: u32, p2: u32, input: &[u8], lent: &mut Lent) -> u64 {
     })())
 }
 
-pub fn announce(p1: u32, p2: u32, count: u32, lent: &mut Lent, addr: u32, len: u8, hop: u16) -> u64 {
+pub fn announce(p1: u32, p2: u32, count: u32, lent: &mut Lent, addr: u32, len: u32, hop: u32) -> u64 {
     either((|| {
         check_sizes(p1, p2, lent)?;
         if !prefix_ok(addr, len) {
@@ -506,10 +507,10 @@ pub fn announce(p1: u32, p2: u32, count: u32, lent: &mut Lent, addr: u32, len: u
             return Err(refused(4));
         }
         let mut routes = sound(p1, p2, count, lent).ok_or(refused(5))?;
-        let route = Route { addr, len, hop };
-        let standing = routes.iter().position(|r| (r.addr, r.len) == (addr, len));
+        let route = Route { addr, len: len as u8, hop: hop as u16 };
+        let standing = routes.iter().position(|r| (r.addr, r.len) == (addr, route.len));
         match standing {
-            Some(k) => routes[k].hop = hop,
+            Some(k) => routes[k].hop = route.hop,
             None => {
                 if routes.len() == lent.room() {
                     return Err(refused(6));
@@ -525,14 +526,14 @@ pub fn announce(p1: u32, p2: u32, count: u32, lent: &mut Lent, addr: u32, len: u
     })())
 }
 
-pub fn withdraw(p1: u32, p2: u32, count: u32, lent: &mut Lent, addr: u32, len: u8) -> u64 {
+pub fn withdraw(p1: u32, p2: u32, count: u32, lent: &mut Lent, addr: u32, len: u32) -> u64 {
     either((|| {
         check_sizes(p1, p2, lent)?;
         if !prefix_ok(addr, len) {
             return Err(refused(3));
         }
         let mut routes = sound(p1, p2, count, lent).ok_or(refused(5))?;
-        let k = routes.iter().position(|r| (r.addr, r.len) == (addr, len)).ok_or(refused(9))?;
+        let k = routes.iter().position(|r| (r.addr, r.len as u32) == (addr, len)).ok_or(refused(9))?;
         routes.remove(k);
         close_unneeded(p1, p2, &routes, lent);
         write_all(p1, p2, &routes, lent);
@@ -701,7 +702,7 @@ pub fn tree_lookup(words: &[u32], hops: &[u16], addr: u32) -> u64 {
     }
     match deepest {
         None => accepted_lookup(reads, 0),
-        Some(place) if place < hops.len() as u64 && hop_ok(hops[place as usize]) => {
+        Some(place) if place < hops.len() as u64 && hop_ok(hops[place as usize] as u32) => {
             accepted_lookup(reads, hops[place as usize])
         }
         Some(_) => refused(13),

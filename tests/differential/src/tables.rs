@@ -3,7 +3,7 @@
 use crate::damage::{renumber, Harm};
 use crate::pair::{used, Call, Pair};
 use crate::run::Run;
-use differential::gen::{asked_prefix, cut, damaged_input, spread, tidy, Field, Rng};
+use differential::gen::{asked_prefix, cut, damaged_input, spread, tidy, wide, Field, Rng};
 use differential::plain::{geometry_ok, need, number, records, size2, size3, Lent, Route};
 
 /// All geometries, the cheap and the named ones more often.
@@ -54,21 +54,26 @@ fn to_announce(rng: &mut Rng, field: &Field, standing: &[Route]) -> Call {
     let (addr, len) = match rng.below(12) {
         0 | 1 if !standing.is_empty() => {
             let r = rng.pick(standing);
-            (r.addr, r.len)
+            (r.addr, r.len as u32)
         }
         2 | 3 => asked_prefix(rng, field, standing),
         4 if !standing.is_empty() => {
             // A short route over standing ones, announced late.
             let r = *rng.pick(standing);
             let len = rng.below(r.len as usize + 1) as u32;
-            (cut(r.addr, len), len as u8)
+            (cut(r.addr, len), len)
         }
         _ => {
             let r = field.route(rng);
-            (r.addr, r.len)
+            (r.addr, r.len as u32)
         }
     };
-    let hop = if rng.one_in(20) { *rng.pick(&[0, 32_768, 65_535, 32_767]) } else { field.hop(rng) };
+    let hop = field.hop(rng) as u32;
+    let hop = match rng.below(24) {
+        0 => *rng.pick(&[0, 32_768, 65_535, 32_767]),
+        1 => wide(rng, hop, 16),
+        _ => hop,
+    };
     Call::Announce(addr, len, hop)
 }
 
@@ -78,7 +83,7 @@ fn to_withdraw(rng: &mut Rng, field: &Field, standing: &[Route]) -> Call {
         return Call::Withdraw(addr, len);
     }
     let r = rng.pick(standing);
-    Call::Withdraw(r.addr, r.len)
+    Call::Withdraw(r.addr, r.len as u32)
 }
 
 fn to_load(rng: &mut Rng, field: &Field, t: &Pair) -> Call {
@@ -149,7 +154,7 @@ pub fn episode(run: &mut Run, rng: &mut Rng) {
         t.step(run, &Call::Make);
         while !filling.is_empty() {
             let r = filling.swap_remove(rng.below(filling.len()));
-            t.step(run, &Call::Announce(r.addr, r.len, r.hop));
+            t.step(run, &Call::Announce(r.addr, r.len as u32, r.hop as u32));
         }
     }
     let mut growing = true;
@@ -200,11 +205,11 @@ fn one_step(run: &mut Run, rng: &mut Rng, field: &Field, t: &mut Pair, growing: 
         _ => {
             // A sure refusal in each of the orders that the document fixes.
             let r = field.route(rng);
-            let bad_len = *rng.pick(&[33, 64, 255]);
-            let bad_hop = *rng.pick(&[0, 32_768]);
+            let bad_len = *rng.pick(&[33, 64, 255, 256, 280, u32::MAX]);
+            let bad_hop = *rng.pick(&[0, 32_768, 65_536, 65_580, u32::MAX]);
             for call in [
                 Call::Announce(r.addr, bad_len, bad_hop),
-                Call::Announce(r.addr, r.len, bad_hop),
+                Call::Announce(r.addr, r.len as u32, bad_hop),
                 Call::Withdraw(r.addr, bad_len),
             ] {
                 t.step(run, &call);
@@ -425,7 +430,7 @@ pub fn large(run: &mut Run, rng: &mut Rng, kind: u64) {
             1 => to_withdraw(rng, &field, &standing),
             2 => {
                 let r = *rng.pick(&standing);
-                Call::Withdraw(r.addr, r.len)
+                Call::Withdraw(r.addr, r.len as u32)
             }
             _ => {
                 // Room and chunks were just freed.

@@ -243,6 +243,11 @@ fn prefixes_and_hops() {
     assert_eq!(announce(12, 22, 5, &mut t, 0, 0, 5), 5);
     assert_eq!(announce(12, 22, 0, &mut t, 0, 0, 5), 5);
     assert_eq!(withdraw(12, 22, 5, &mut t, 0, 33), 3);
+    // A number that does not fit its field is over its limit, whatever its low bits are.
+    assert_eq!(announce(12, 22, 0, &mut t, 0, 256, 5), 3);
+    assert_eq!(announce(12, 22, 0, &mut t, 0, 0, 65_541), 4);
+    assert_eq!(withdraw(12, 22, 0, &mut t, 0, 256), 3);
+    assert_eq!(run(&records(&list_a()), ip(10, 1, 0, 0), 272), 3);
 }
 
 #[test]
@@ -391,7 +396,7 @@ fn sound_as_the_document_says() {
         let mut count = 0;
         for _ in 0..16 {
             let r = field.route(&mut rng);
-            let answer = announce(p1, p2, count, &mut t, r.addr, r.len, r.hop);
+            let answer = announce(p1, p2, count, &mut t, r.addr, r.len as u32, r.hop as u32);
             if number(answer) == 0 {
                 count = (answer >> 16) as u32 & 0xFFFF;
             }
@@ -452,13 +457,13 @@ fn runs_of_calls() {
             let before = t.clone();
             let answer = if rng.one_in(3) && !standing.is_empty() {
                 let r = standing[rng.below(standing.len())];
-                let answer = withdraw(p1, p2, count, &mut t, r.addr, r.len);
+                let answer = withdraw(p1, p2, count, &mut t, r.addr, r.len as u32);
                 assert_eq!(number(answer), 0);
                 standing.retain(|s| (s.addr, s.len) != (r.addr, r.len));
                 answer
             } else {
                 let r = field.route(&mut rng);
-                let answer = announce(p1, p2, count, &mut t, r.addr, r.len, r.hop);
+                let answer = announce(p1, p2, count, &mut t, r.addr, r.len as u32, r.hop as u32);
                 if number(answer) == 0 {
                     standing.retain(|s| (s.addr, s.len) != (r.addr, r.len));
                     standing.push(r);
@@ -481,7 +486,7 @@ fn runs_of_calls() {
         let mut announced = Lent::new(p1, p2, room, second, third);
         make(p1, p2, &mut announced);
         for (k, r) in standing.iter().enumerate() {
-            announce(p1, p2, k as u32, &mut announced, r.addr, r.len, r.hop);
+            announce(p1, p2, k as u32, &mut announced, r.addr, r.len as u32, r.hop as u32);
         }
         assert_eq!(loaded, announced);
 
