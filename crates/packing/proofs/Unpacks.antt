@@ -98,10 +98,12 @@ route-values : (a len mark hop x : ℕ) → a < 2 ^ 32 → len < 2 ^ 7 → mark 
     → Reads routeValues x (a ∷ len ∷ mark ∷ hop ∷ [])
 unfolding packed routeValues
 route-values a len mark hop x i j n k m e =
-    let f : field 32 32 x ≡ a = omega arith in
-    let g : field 8 7 x ≡ len = omega arith in
-    let p : field 15 1 x ≡ mark = omega arith in
-    let h : field 16 16 x ≡ hop = omega arith in
+    let u : len % 128 ≡ len = mod-eq-of-lt j in
+    let v : mark % 2 ≡ mark = mod-eq-of-lt n in
+    let f : field 32 32 x ≡ a = field-is 32 32 (len * 256 + mark * 32768 + hop * 65536) a 0 x (omega arith) i (omega arith) in
+    let g : field 8 7 x ≡ len = field-is 8 7 0 len (mark + hop * 2 + a * 131072) x (omega arith) j (omega arith) in
+    let p : field 15 1 x ≡ mark = field-is 15 1 (len * 256) mark (hop + a * 65536) x (omega arith) n (omega arith) in
+    let h : field 16 16 x ≡ hop = field-is 16 16 (len * 256 + mark * 32768) hop a x (omega arith) m (omega arith) in
     record { none = omega arith; back = rw (f, g, p, h, ne-eqb hop 0 (λ z. omega arith)) }
 
 announce-values : (b n x : ℕ) → b < 2 → n < 2 ^ 16 → x ≡ packChange n (accepted (b ∷ [])) → Reads announceValues x (b ∷ [])

@@ -165,8 +165,8 @@ pub fn got(a: Got) -> u64
 {
     match a {
         Got::One(r) => {
-            byte(r.len) * 256
-                + byte(r.mark) * 32768
+            byte(r.len) % 128 * 256
+                + byte(r.mark) % 2 * 32768
                 + half(r.hop) * 65536
                 + word(r.addr) * 4294967296
         }
