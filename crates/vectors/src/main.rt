@@ -1,16 +1,20 @@
-// Runs worked cases, and prints what they give. The file stdout has what document 01 says of them.
+// Runs worked cases, and prints what they give. The file stdout has what the documents say of them.
 mod images;
 mod inputs;
+mod lines;
 mod parts;
 mod samples;
 mod tables;
 
 fn main() {
     inputs::run();
+    inputs::attached();
     inputs::refusals();
     inputs::most();
     parts::run();
     parts::tallies();
+    parts::attached();
+    lines::attached();
     images::list_a();
     images::sizes();
     images::broken();
