@@ -8,7 +8,8 @@
  * for its type, also where the length is 0. Arrays of one call do not overlap.
  *
  *   input   record input: records of 8 bytes end to end, strictly ascending by address and then length. A record is
- *           address (4 bytes, most significant first), length (1), spare (1, zero), hop (2, most significant first)
+ *           address (4 bytes, most significant first), length (1), mark (1), hop (2, most significant first). The
+ *           mark is 1 for an attached network, one on a port of ours, and 0 for one behind a neighbour
  *   list    8 bytes for each record of room, 0 to 4,096 records
  *   first   2^p1 cells
  *   second  a pool of 0 to 4,096 chunks of 2^(p2 - p1) cells
@@ -19,7 +20,7 @@
  *   hops    the hops of a tree image
  *
  * NUMBERS. Every number goes in with 32 bits, whatever its limits, and none is cut: length 280 is refused with 3 as 33 is,
- * hop 65,580 with 4 as 32,768 is.
+ * hop 65,580 with 4 as 32,768 is, mark 257 with 10 as 2 is.
  *
  * GEOMETRY. p1 is 12 to 16, p2 is 22 to 26, p2 - p1 at most 10. Standard is (16, 24), small is (12, 22).
  *
@@ -28,7 +29,7 @@
  *   refused          bit 8: an index is carried; bits 32 to 63: the index
  *   gh_make          bits 16 to 31: routes after the call, so 0
  *   gh_load          bits 16 to 31: routes after the call
- *   gh_announce      bit 8: the prefix stood and its hop was replaced; bits 16 to 31: routes after the call
+ *   gh_announce      bit 8: the prefix stood and its hop and mark were replaced; bits 16 to 31: routes after the call
  *   gh_withdraw      bits 16 to 31: routes after the call
  *   gh_report        bits 16 to 31: routes; 32 to 47: need for second chunks; 48 to 63: need for third chunks
  *   gh_lookup        bits 8 to 15: cells read; 16 to 31: hop, 0 for no route
@@ -37,7 +38,7 @@
  *   gh_tree_lookup   bits 8 to 15: nodes read; 16 to 31: hop, 0 for no route
  *   gh_run           bits 16 to 31: first record of the run; 32 to 47: records in it
  *   gh_tally         0
- *   gh_route         bits 8 to 15: length; 16 to 31: hop; 32 to 63: address; no record of that index: all 0
+ *   gh_route         bits 8 to 14: length; 15: mark; 16 to 31: hop; 32 to 63: address; no record of that index: all 0
  *
  * Bits that are not named are 0.
  *
@@ -52,13 +53,13 @@
  *    7  need for second chunks exceeds those lent
  *    8  need for third chunks exceeds those lent
  *    9  withdrawn prefix doesn't stand
- *   10  record input not a multiple of 8 bytes, spare not zero, or not ascending
+ *   10  record input not a multiple of 8 bytes, mark over 1, or not ascending; announce: mark over 1
  *   11  too few whole nodes lent
  *   12  too few hops lent
  *   13  image broken on this walk: bit 15 set, child or hop beyond what is lent, no root, hop outside 1 to 32,767
  *
  * The first that holds, in the order given with each call, is the answer. "The input's" are 10 for the length
- * (index: the number of whole records), then record by record 3, 4, 10 for spare, 10 for order (index: the
+ * (index: the number of whole records), then record by record 3, 4, 10 for the mark, 10 for order (index: the
  * record's, from 0), and after all records 6 (no index). No other refusal carries an index.
  */
 #ifndef GHATUMRI_H
@@ -85,7 +86,8 @@ extern "C" {
 #define GH_NODES(a)        ((uint32_t)((a) >> 32))                /* gh_build */
 #define GH_RUN_FIRST(a)    ((unsigned)((a) >> 16 & 0xffff))       /* gh_run */
 #define GH_RUN_RECORDS(a)  ((unsigned)((a) >> 32 & 0xffff))       /* gh_run */
-#define GH_ROUTE_LEN(a)    ((unsigned)((a) >> 8 & 0xff))          /* gh_route */
+#define GH_ROUTE_LEN(a)    ((unsigned)((a) >> 8 & 0x7f))          /* gh_route */
+#define GH_ROUTE_MARK(a)   ((unsigned)((a) >> 15 & 1))            /* gh_route: 1 for attached */
 #define GH_ROUTE_ADDR(a)   ((uint32_t)((a) >> 32))                /* gh_route */
 
 /* Makes a fresh table with no routes: leaves of hop 0, all else zero. Reads nothing of the arrays.
@@ -110,8 +112,9 @@ uint64_t gh_load(uint32_t p1, uint32_t p2,
                  uint32_t *own2, size_t own2_len,
                  uint32_t *own3, size_t own3_len);
 
-/* Adds the route addr/len to hop, or replaces the hop of that prefix where it stands. A chunk that is opened takes
- * the lowest free number. Refusals: 1, 2, 3, 4, 5, 6, 7, 8; a replacement never meets 6 to 8. */
+/* Adds the route addr/len to hop with its mark, or replaces hop and mark of that prefix where it stands. A chunk that
+ * is opened takes the lowest free number. Refusals: 1, 2, 3, 4, 10 for the mark, 5, 6, 7, 8; a replacement never meets
+ * 6 to 8. */
 uint64_t gh_announce(uint32_t p1, uint32_t p2, uint32_t count,
                      uint8_t *list, size_t list_len,
                      uint16_t *first, size_t first_len,
@@ -119,7 +122,7 @@ uint64_t gh_announce(uint32_t p1, uint32_t p2, uint32_t count,
                      uint16_t *third, size_t third_len,
                      uint32_t *own2, size_t own2_len,
                      uint32_t *own3, size_t own3_len,
-                     uint32_t addr, uint32_t len, uint32_t hop);
+                     uint32_t addr, uint32_t len, uint32_t hop, uint32_t mark);
 
 /* Removes the route of the prefix addr/len and closes the chunks that are no longer needed.
  * Refusals: 1, 2, 3, 5, 9. */

@@ -81,7 +81,7 @@ pub fn hop_ok(hop: u32) -> bool {
     hop >= 1 && hop <= HOP_MAX as u32
 }
 
-/// Request d: "The record's spare byte becomes 0, or 1 for attached."
+/// Request d: the sixth byte of a record is 0, or 1 for attached.
 pub fn mark_ok(mark: u32) -> bool {
     mark <= 1
 }

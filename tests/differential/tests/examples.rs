@@ -309,7 +309,7 @@ fn inputs() {
     assert_eq!(with(&[a, b], |x| x[6] = 0x80), Err(refused_at(4, 0)));
     assert_eq!(with(&[a, b], |x| x[6] = 0x7F), Ok(vec![to(a.addr, 8, 0x7F01), b]));
     assert_eq!(with(&[a, b], |x| x[5] = 2), Err(refused_at(10, 0)));
-    // In one record 3 comes before 4, and 4 before the spare byte and the order.
+    // In one record 3 comes before 4, and 4 before the mark and the order.
     assert_eq!(with(&[b, a], |x| (x[12], x[15], x[13]) = (33, 0, 2)), Err(refused_at(3, 1)));
     assert_eq!(with(&[b, a], |x| (x[15], x[13]) = (0, 2)), Err(refused_at(4, 1)));
     // The earlier record comes first, and the length before all records.

@@ -13,7 +13,7 @@ fn list_b() -> Vec<Route> {
     routes
 }
 
-/// "The record's spare byte becomes 0, or 1 for attached." Read back it is bit 15.
+/// The sixth byte of a record is 0, "or 1 for attached". Read back it is bit 15.
 #[test]
 fn records_carry_it() {
     let r = attached(ip(10, 1, 0, 0), 16, 31);
@@ -25,7 +25,7 @@ fn records_carry_it() {
     assert_eq!(route(&to(5, 32, 1).record(), 0), 32 << 8 | 1 << 16 | 5 << 32);
 }
 
-/// "10 is now for a spare byte over 1", at the place of the spare byte in the order.
+/// 10 is for a sixth byte over 1, after 3 and 4 and before the order.
 #[test]
 fn over_one_in_an_input() {
     let good = records(&list_a());
