@@ -76,7 +76,9 @@ fn every_field() {
 
     // 10.x.y.0/24, the k-th to hop k + 1. 10.2.0.0/15 has those from 512 on.
     let rows = |n: u32| -> Vec<u8> {
-        (0..n).flat_map(|k| Route::new(0x0A00_0000 + (k << 8), 24, 1 + (k % 32_767) as u16).record()).collect()
+        (0..n)
+            .flat_map(|k| Route::new(0x0A00_0000 + (k << 8), 24, 1 + (k % 32_767) as u16, Mark::Behind).record())
+            .collect()
     };
     let input = rows(900);
     assert_eq!(run(&input, [10, 2, 0, 0], 15), Ok(&input[8 * 512..]));
