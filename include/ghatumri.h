@@ -13,7 +13,8 @@
  * beside them, are `restrict`, so that a compiler can warn.
  *
  *   input   record input: records of 8 bytes end to end, strictly ascending by address and then length. A record is
- *           address (4 bytes, most significant first), length (1), spare (1, zero), hop (2, most significant first)
+ *           address (4 bytes, most significant first), length (1), mark (1), hop (2, most significant first). The
+ *           mark is GH_ATTACHED for a network on a port of ours, and GH_BEHIND for one behind a neighbour
  *   list    8 bytes for each record of room, 0 to 4,096 records
  *   first   2^p1 cells
  *   second  a pool of 0 to 4,096 chunks of 2^(p2 - p1) cells
@@ -24,7 +25,7 @@
  *   hops    the hops of a tree image
  *
  * NUMBERS. Every number goes in with 32 bits, whatever its limits, and none is cut: length 280 is refused with 3 as 33
- * is, hop 65,580 with 4 as 32,768 is.
+ * is, hop 65,580 with 4 as 32,768 is, mark 257 with 10 as 2 is.
  *
  * ADDRESSES are numbers in the order of the processor: 10.1.2.0 is 0x0A010200. What inet_addr answers, what stands in
  * struct in_addr and in a packet is in the order of the network: ntohl makes such a number of it. In a record the four
@@ -37,7 +38,7 @@
  *   refused          bit 8: an index is carried; bits 32 to 63: the index
  *   gh_make          bits 16 to 31: routes after the call, so 0
  *   gh_load          bits 16 to 31: routes after the call
- *   gh_announce      bit 8: the prefix stood and its hop was replaced; bits 16 to 31: routes after the call
+ *   gh_announce      bit 8: the prefix stood and its hop and mark were replaced; bits 16 to 31: routes after the call
  *   gh_withdraw      bits 16 to 31: routes after the call
  *   gh_report        bits 16 to 31: routes; 32 to 47: need for second chunks; 48 to 63: need for third chunks
  *   gh_lookup        bits 8 to 15: cells read; 16 to 31: hop, 0 for no route
@@ -46,12 +47,12 @@
  *   gh_tree_lookup   bits 8 to 15: nodes read, and one more where a hop is answered; 16 to 31: hop, 0 for no route
  *   gh_run           bits 16 to 31: first record of the run; 32 to 47: records in it
  *   gh_tally         0
- *   gh_route         bits 8 to 15: length; 16 to 31: hop; 32 to 63: address; no record of that index: all 0
+ *   gh_route         bits 8 to 14: length; 15: mark; 16 to 31: hop; 32 to 63: address; no record of that index: all 0
  *
  * Bits that are not named are 0. So the count of a refusal reads as 0, and the count of a lookup reads as its hop.
  *
  * REFUSALS. The first that holds, in the order given with each call, is the answer. What each number means: gh_meaning.
- * "The input's" are 10 for the length (index: the number of whole records), then record by record 3, 4, 10 for spare,
+ * "The input's" are 10 for the length (index: the number of whole records), then record by record 3, 4, 10 for the mark,
  * 10 for order (index: the record's, from 0), and after all records 6 (no index). No other refusal carries an index.
  *
  * THREADS. No call has memory of its own, so calls over different arrays may run at the same time, in threads and in
@@ -113,6 +114,8 @@ extern "C" {
 #define GH_MOST_CHUNKS     4096       /* of a pool */
 #define GH_MOST_LENGTH     32
 #define GH_MOST_HOP        32767      /* the least is 1 */
+#define GH_BEHIND          0          /* marks: a network behind a neighbour */
+#define GH_ATTACHED        1          /* and one on a port of ours */
 
 #define GH_STANDARD_P1     16         /* the named geometries */
 #define GH_STANDARD_P2     24
@@ -163,7 +166,7 @@ static inline const char *gh_meaning(unsigned number)
         /*  7 */ "need for second chunks exceeds those lent",
         /*  8 */ "need for third chunks exceeds those lent",
         /*  9 */ "withdrawn prefix doesn't stand",
-        /* 10 */ "record input not a multiple of 8 bytes, spare not zero, or not ascending",
+        /* 10 */ "record input not a multiple of 8 bytes, mark over 1, or not ascending; announce: mark over 1",
         /* 11 */ "too few whole nodes lent",
         /* 12 */ "too few hops lent",
         /* 13 */ "image broken on this walk: bit 15 set, child or hop beyond what is lent, no root, hop outside 1 to 32,767",
@@ -186,7 +189,8 @@ static inline const char *gh_meaning(unsigned number)
 #define GH_NODES(a)        ((uint32_t)((a) >> 32))                /* gh_build */
 #define GH_RUN_FIRST(a)    ((unsigned)((a) >> 16 & 0xffff))       /* gh_run */
 #define GH_RUN_RECORDS(a)  ((unsigned)((a) >> 32 & 0xffff))       /* gh_run */
-#define GH_ROUTE_LEN(a)    ((unsigned)((a) >> 8 & 0xff))          /* gh_route */
+#define GH_ROUTE_LEN(a)    ((unsigned)((a) >> 8 & 0x7f))          /* gh_route */
+#define GH_ROUTE_MARK(a)   ((unsigned)((a) >> 15 & 1))            /* gh_route */
 #define GH_ROUTE_ADDR(a)   ((uint32_t)((a) >> 32))                /* gh_route */
 
 /* ---- Calls on tables ------------------------------------------------------------------------------------------- */
@@ -215,8 +219,9 @@ uint64_t gh_load(uint32_t p1, uint32_t p2,
                  uint32_t *GH_RESTRICT own2, size_t own2_len,
                  uint32_t *GH_RESTRICT own3, size_t own3_len);
 
-/* Adds the route addr/len to hop, or replaces the hop of that prefix where it stands. A chunk that is opened takes
- * the lowest free number. Refusals: 1, 2, 3, 4, 5, 6, 7, 8; a replacement never meets 6 to 8. */
+/* Adds the route addr/len to hop with its mark, or replaces hop and mark of that prefix where it stands. A chunk that
+ * is opened takes the lowest free number. Refusals: 1, 2, 3, 4, 10 for the mark, 5, 6, 7, 8; a replacement never meets
+ * 6 to 8. */
 GH_CALL
 uint64_t gh_announce(uint32_t p1, uint32_t p2, uint32_t count,
                      uint8_t *GH_RESTRICT list, size_t list_len,
@@ -225,7 +230,7 @@ uint64_t gh_announce(uint32_t p1, uint32_t p2, uint32_t count,
                      uint16_t *GH_RESTRICT third, size_t third_len,
                      uint32_t *GH_RESTRICT own2, size_t own2_len,
                      uint32_t *GH_RESTRICT own3, size_t own3_len,
-                     uint32_t addr, uint32_t len, uint32_t hop);
+                     uint32_t addr, uint32_t len, uint32_t hop, uint32_t mark);
 
 /* Removes the route of the prefix addr/len and closes the chunks that are no longer needed.
  * Refusals: 1, 2, 3, 5, 9. */
@@ -370,9 +375,9 @@ static inline uint64_t gh_table_load(struct gh_table *t, const uint8_t *input, s
 }
 
 GH_CALL
-static inline uint64_t gh_table_announce(struct gh_table *t, uint32_t addr, uint32_t len, uint32_t hop)
+static inline uint64_t gh_table_announce(struct gh_table *t, uint32_t addr, uint32_t len, uint32_t hop, uint32_t mark)
 {
-    return gh_table_keep(t, gh_announce(t->p1, t->p2, t->count, GH_LENT(t), addr, len, hop));
+    return gh_table_keep(t, gh_announce(t->p1, t->p2, t->count, GH_LENT(t), addr, len, hop, mark));
 }
 
 GH_CALL

@@ -122,7 +122,7 @@ impl Table {
     }
 
     pub fn announce(&mut self, (addr, len, hop): (u32, u8, u16)) {
-        let answer = accepted("announce", change!(gh_announce, (self.count), self, (addr, len.into(), hop.into())));
+        let answer = accepted("announce", change!(gh_announce, (self.count), self, (addr, len.into(), hop.into(), 0)));
         self.count = (answer >> 16) as u32 & 0xFFFF;
     }
 

@@ -1,4 +1,4 @@
-/* A table of two routes, asked and changed. */
+/* A table of two routes, one of them attached, asked and changed. */
 #include <stdio.h>
 #include <ghatumri.h>
 
@@ -21,8 +21,8 @@ static int refused(const char *what, uint64_t answer)
 int main(void)
 {
     if (refused("make", gh_table_make(&table))
-        || refused("10.1.2.0/24", gh_table_announce(&table, 0x0A010200, 24, 44))
-        || refused("10.1.2.128/25", gh_table_announce(&table, 0x0A010280, 25, 57)))
+        || refused("10.1.2.0/24", gh_table_announce(&table, 0x0A010200, 24, 44, GH_BEHIND))
+        || refused("10.1.2.128/25", gh_table_announce(&table, 0x0A010280, 25, 57, GH_ATTACHED)))
         return 1;
     uint64_t found = gh_table_lookup(&table, 0x0A0102C8); /* 10.1.2.200 */
     if (refused("10.1.2.200", found))

@@ -67,13 +67,19 @@ static void tables(void)
     }
 
     /* 10.2.3.0/24 makes the need for second chunks 2, and that for third chunks stays 1. */
-    a = gh_announce(16, 24, 5, LENT, IP(10, 2, 3, 0), 24, 300);
+    a = gh_announce(16, 24, 5, LENT, IP(10, 2, 3, 0), 24, 300, GH_ATTACHED);
     CHECK(GH_NUMBER(a), 0);
     CHECK(GH_REPLACED(a), 0);
     CHECK(GH_COUNT(a), 6);
-    a = gh_announce(16, 24, 6, LENT, IP(10, 2, 3, 0), 24, 32767);
+    a = gh_route(list, 6 * GH_RECORD_BYTES, 5);
+    CHECK(GH_ROUTE_ADDR(a), IP(10, 2, 3, 0));
+    CHECK(GH_ROUTE_LEN(a), 24);
+    CHECK(GH_ROUTE_MARK(a), GH_ATTACHED);
+    CHECK(GH_HOP(a), 300);
+    a = gh_announce(16, 24, 6, LENT, IP(10, 2, 3, 0), 24, 32767, GH_BEHIND);
     CHECK(GH_REPLACED(a), 1);
     CHECK(GH_COUNT(a), 6);
+    CHECK(GH_ROUTE_MARK(gh_route(list, 6 * GH_RECORD_BYTES, 5)), GH_BEHIND);
     CHECK(GH_HOP(gh_lookup(16, 24, 6, LENT, IP(10, 2, 3, 9))), 32767);
     a = gh_report(16, 24, 6, LENT);
     CHECK(GH_COUNT(a), 6);
@@ -115,7 +121,7 @@ static void large_table(void)
     CHECK(GH_HOP(a), 1270);
     CHECK(GH_READS(a), 3);
     CHECK(GH_COUNT(gh_withdraw(12, 22, 300, GH_LENT(&t), 0, 32)), 299);
-    CHECK(GH_COUNT(gh_announce(12, 22, 299, GH_LENT(&t), 0, 0, 1)), 300);
+    CHECK(GH_COUNT(gh_announce(12, 22, 299, GH_LENT(&t), 0, 0, 1, GH_BEHIND)), 300);
 }
 
 static uint8_t rows[ROWS * GH_RECORD_BYTES];

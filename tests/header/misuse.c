@@ -15,7 +15,7 @@ uint64_t misused(struct gh_table *t, uint32_t *words, uint32_t *out, size_t n)
     return gh_table_make(t) | gh_table_lookup_many(t, words, out, n) | gh_run((const uint8_t *)gh_empty(), 0, 0, 0);
 #elif CASE == 1
     /* An answer that nobody looks at (GH_CALL). */
-    gh_table_announce(t, 0, 0, 1);
+    gh_table_announce(t, 0, 0, 1, GH_BEHIND);
     return words[0] | out[0] | n;
 #elif CASE == 2
     /* A null pointer (GH_CALL). */

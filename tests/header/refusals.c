@@ -54,7 +54,7 @@ static void geometry_and_sizes(void)
         t.list_len = 31;
         REFUSED(gh_table_make(&t), GH_REFUSED_GEOMETRY);
         REFUSED(gh_table_load(&t, list_a, 39), GH_REFUSED_GEOMETRY);
-        REFUSED(gh_table_announce(&t, 1, 33, 0), GH_REFUSED_GEOMETRY);
+        REFUSED(gh_table_announce(&t, 1, 33, 0, GH_BEHIND), GH_REFUSED_GEOMETRY);
         REFUSED(gh_table_withdraw(&t, 1, 33), GH_REFUSED_GEOMETRY);
         REFUSED(gh_table_report(&t), GH_REFUSED_GEOMETRY);
         REFUSED(gh_table_lookup(&t, 1), GH_REFUSED_GEOMETRY);
@@ -64,7 +64,7 @@ static void geometry_and_sizes(void)
     t.p2 = P2;
     REFUSED(gh_table_make(&t), GH_REFUSED_SIZE);
     REFUSED(gh_table_load(&t, list_a, 39), GH_REFUSED_SIZE);
-    REFUSED(gh_table_announce(&t, 1, 33, 0), GH_REFUSED_SIZE);
+    REFUSED(gh_table_announce(&t, 1, 33, 0, GH_BEHIND), GH_REFUSED_SIZE);
     REFUSED(gh_table_withdraw(&t, 1, 33), GH_REFUSED_SIZE);
     REFUSED(gh_table_report(&t), GH_REFUSED_SIZE);
     REFUSED(gh_table_lookup(&t, 1), GH_REFUSED_SIZE);
@@ -83,35 +83,38 @@ static void geometry_and_sizes(void)
     t.third_len++;
 }
 
-/* 3 to 9, with a number that does not fit its field beside those just over their limits. */
+/* 3 to 9, and 10 for the mark, with a number that does not fit its field beside those just over their limits. */
 static void changes(void)
 {
     static const uint32_t lens[] = { 33, 255, 256, 280, 65560, UINT32_MAX };
     static const uint32_t hops[] = { 0, 32768, 65535, 65536, 65580, UINT32_MAX };
+    static const uint32_t marks[] = { 2, 255, 256, 257, 65537, UINT32_MAX };
     CHECK(gh_table_make(&t), 0);
     for (unsigned k = 0; k < GH_ELEMENTS(lens); k++) {
-        REFUSED(gh_table_announce(&t, IP(10, 1, 2, 0), lens[k], 0), GH_REFUSED_PREFIX);
+        REFUSED(gh_table_announce(&t, IP(10, 1, 2, 0), lens[k], 0, GH_BEHIND), GH_REFUSED_PREFIX);
         REFUSED(gh_table_withdraw(&t, IP(10, 1, 2, 0), lens[k]), GH_REFUSED_PREFIX);
         REFUSED(gh_run(list_a, sizeof list_a, IP(10, 1, 0, 0), lens[k]), GH_REFUSED_PREFIX);
-        REFUSED(gh_table_announce(&t, IP(10, 1, 2, 0), 24, hops[k]), GH_REFUSED_HOP);
+        REFUSED(gh_table_announce(&t, IP(10, 1, 2, 0), 24, hops[k], marks[k]), GH_REFUSED_HOP);
+        REFUSED(gh_table_announce(&t, IP(10, 1, 2, 0), 24, 32767, marks[k]), GH_REFUSED_INPUT);
     }
-    REFUSED(gh_table_announce(&t, IP(10, 1, 2, 1), 24, 0), GH_REFUSED_PREFIX);
+    REFUSED(gh_table_announce(&t, IP(10, 1, 2, 1), 24, 0, GH_BEHIND), GH_REFUSED_PREFIX);
     REFUSED(gh_table_withdraw(&t, IP(10, 1, 2, 1), 24), GH_REFUSED_PREFIX);
     REFUSED(gh_run(list_a, sizeof list_a, IP(10, 1, 0, 0), 15), GH_REFUSED_PREFIX);
-    CHECK(GH_COUNT(gh_table_announce(&t, IP(10, 1, 2, 0), 24, 32767)), 1);
+    CHECK(GH_COUNT(gh_table_announce(&t, IP(10, 1, 2, 0), 24, 32767, GH_BEHIND)), 1);
     lent.first[0] = 0x8001;
-    REFUSED(gh_table_announce(&t, IP(10, 1, 2, 0), 24, 65580), GH_REFUSED_HOP);
-    REFUSED(gh_table_announce(&t, IP(10, 1, 2, 0), 24, 44), GH_REFUSED_UNSOUND);
+    REFUSED(gh_table_announce(&t, IP(10, 1, 2, 0), 24, 65580, GH_BEHIND), GH_REFUSED_HOP);
+    REFUSED(gh_table_announce(&t, IP(10, 1, 2, 0), 24, 44, 2), GH_REFUSED_INPUT);
+    REFUSED(gh_table_announce(&t, IP(10, 1, 2, 0), 24, 44, GH_ATTACHED), GH_REFUSED_UNSOUND);
     REFUSED(gh_table_withdraw(&t, IP(10, 1, 2, 0), 24), GH_REFUSED_UNSOUND);
     REFUSED(gh_table_report(&t), GH_REFUSED_UNSOUND);
     lent.first[0] = 0x8000;
-    REFUSED(gh_table_announce(&t, IP(11, 1, 2, 0), 24, 1), GH_REFUSED_SECOND);
-    CHECK(GH_COUNT(gh_table_announce(&t, IP(10, 1, 8, 0), 24, 2)), 2);
-    CHECK(GH_COUNT(gh_table_announce(&t, 0, 0, 3)), 3);
-    REFUSED(gh_table_announce(&t, IP(10, 1, 16, 0), 24, 4), GH_REFUSED_THIRD);
-    CHECK(GH_COUNT(gh_table_announce(&t, IP(10, 0, 0, 0), 8, 4)), 4);
-    REFUSED(gh_table_announce(&t, IP(11, 1, 2, 0), 24, 1), GH_REFUSED_ROOM);
-    CHECK(GH_REPLACED(gh_table_announce(&t, IP(10, 0, 0, 0), 8, 5)), 1);
+    REFUSED(gh_table_announce(&t, IP(11, 1, 2, 0), 24, 1, GH_BEHIND), GH_REFUSED_SECOND);
+    CHECK(GH_COUNT(gh_table_announce(&t, IP(10, 1, 8, 0), 24, 2, GH_BEHIND)), 2);
+    CHECK(GH_COUNT(gh_table_announce(&t, 0, 0, 3, GH_BEHIND)), 3);
+    REFUSED(gh_table_announce(&t, IP(10, 1, 16, 0), 24, 4, GH_BEHIND), GH_REFUSED_THIRD);
+    CHECK(GH_COUNT(gh_table_announce(&t, IP(10, 0, 0, 0), 8, 4, GH_BEHIND)), 4);
+    REFUSED(gh_table_announce(&t, IP(11, 1, 2, 0), 24, 1, GH_BEHIND), GH_REFUSED_ROOM);
+    CHECK(GH_REPLACED(gh_table_announce(&t, IP(10, 0, 0, 0), 8, 5, GH_BEHIND)), 1);
     REFUSED(gh_table_withdraw(&t, IP(10, 1, 16, 0), 24), GH_REFUSED_ABSENT);
     REFUSED(gh_table_load(&t, list_a, sizeof list_a), GH_REFUSED_ROOM);
 }

@@ -19,7 +19,7 @@ static const uint32_t here = IP(100, 16, 0, 77);
 static uint64_t nothing(void) { return 0; }
 static uint64_t make(void) { return gh_table_make(&t); }
 static uint64_t load(void) { return gh_table_load(&t, input, sizeof input); }
-static uint64_t announce(void) { return gh_table_announce(&t, here, 32, 5); }
+static uint64_t announce(void) { return gh_table_announce(&t, here, 32, 5, GH_BEHIND); }
 static uint64_t withdraw(void) { return gh_table_withdraw(&t, here, 32); }
 static uint64_t report(void) { return gh_table_report(&t); }
 static uint64_t lookup(void) { return gh_table_lookup(&t, here); }

@@ -37,14 +37,14 @@ static void runs(void)
     uint64_t a = gh_table_lookup(&t, IP(10, 1, 2, 200));
     CHECK(GH_HOP(a), 57);
     CHECK(t.count, 5);
-    a = gh_table_announce(&t, IP(10, 2, 3, 0), 24, 300);
+    a = gh_table_announce(&t, IP(10, 2, 3, 0), 24, 300, GH_BEHIND);
     CHECK(GH_NUMBER(a), 0);
     CHECK(GH_REPLACED(a), 0);
     CHECK(t.count, 6);
-    CHECK(GH_NUMBER(gh_table_announce(&t, IP(11, 0, 0, 0), 8, 1)), GH_REFUSED_ROOM);
+    CHECK(GH_NUMBER(gh_table_announce(&t, IP(11, 0, 0, 0), 8, 1, GH_BEHIND)), GH_REFUSED_ROOM);
     CHECK(GH_NUMBER(gh_table_load(&t, list_a, 39)), GH_REFUSED_INPUT);
     CHECK(t.count, 6);
-    a = gh_table_announce(&t, IP(10, 2, 3, 0), 24, 301);
+    a = gh_table_announce(&t, IP(10, 2, 3, 0), 24, 301, GH_BEHIND);
     CHECK(GH_REPLACED(a), 1);
     CHECK(t.count, 6);
     a = gh_table_report(&t);
@@ -84,8 +84,8 @@ static void without_pools(void)
     s.own2 = s.own3 = (uint32_t *)gh_empty();
     s.second_len = s.third_len = s.own2_len = s.own3_len = 0;
     CHECK(gh_table_make(&s), 0);
-    CHECK(GH_COUNT(gh_table_announce(&s, IP(10, 1, 0, 0), 16, 31)), 1);
-    CHECK(GH_NUMBER(gh_table_announce(&s, IP(10, 1, 0, 0), 17, 32)), GH_REFUSED_SECOND);
+    CHECK(GH_COUNT(gh_table_announce(&s, IP(10, 1, 0, 0), 16, 31, GH_BEHIND)), 1);
+    CHECK(GH_NUMBER(gh_table_announce(&s, IP(10, 1, 0, 0), 17, 32, GH_BEHIND)), GH_REFUSED_SECOND);
     CHECK(GH_HOP(gh_table_lookup(&s, IP(10, 1, 200, 9))), 31);
     CHECK(s.count, 1);
 }

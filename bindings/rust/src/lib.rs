@@ -8,12 +8,12 @@
 //! a table that is damaged is refused with 5 and stays as it is. A call that is refused changes nothing.
 //!
 //! ```
-//! use ghatumri::{Geometry, Refusal, Table};
+//! use ghatumri::{Geometry, Mark, Refusal, Table};
 //!
 //! # fn main() -> Result<(), Refusal> {
 //! let mut table = Table::new(Geometry::STANDARD, 64, 4, 4)?;
-//! table.announce([10, 1, 2, 0], 24, 44)?;
-//! table.announce([10, 1, 2, 128], 25, 57)?;
+//! table.announce([10, 1, 2, 0], 24, 44, Mark::Behind)?;
+//! table.announce([10, 1, 2, 128], 25, 57, Mark::Attached)?;
 //! let found = table.lookup([10, 1, 2, 200])?;
 //! assert_eq!((found.hop, found.reads), (Some(57), 3));
 //! table.withdraw([10, 1, 2, 128], 25)?;
@@ -50,7 +50,7 @@ impl Refusal {
             7 => "need for second chunks exceeds those lent",
             8 => "need for third chunks exceeds those lent",
             9 => "withdrawn prefix doesn't stand",
-            10 => "record input not a multiple of 8 bytes, spare not zero, or not ascending",
+            10 => "record input not a multiple of 8 bytes, mark over 1, or not ascending; announce: mark over 1",
             11 => "too few whole nodes lent",
             12 => "too few hops lent",
             13 => "image broken on this walk: bit 15 set, child or hop beyond what is lent, no root, hop outside 1 to 32,767",
@@ -96,31 +96,45 @@ pub fn found(word: u32) -> Result<Found, Refusal> {
     Ok(Found { hop: (hop != 0).then_some(hop), reads: (answer >> 8) as u8 })
 }
 
-/// A route: a prefix and a hop.
+/// Where a route's network is.
+#[derive(Clone, Copy, PartialEq, Eq, PartialOrd, Ord, Debug)]
+pub enum Mark {
+    /// Behind a neighbour: a record has 0 for it.
+    Behind,
+    /// On a port of our own: 1.
+    Attached,
+}
+
+/// A route: a prefix, a hop and a mark.
 #[derive(Clone, Copy, PartialEq, Eq, PartialOrd, Ord, Debug)]
 pub struct Route {
     pub addr: Ipv4Addr,
     pub len: u8,
     pub hop: u16,
+    pub mark: Mark,
 }
 
 impl Route {
-    pub fn new(addr: impl Into<Ipv4Addr>, len: u8, hop: u16) -> Route {
-        Route { addr: addr.into(), len, hop }
+    pub fn new(addr: impl Into<Ipv4Addr>, len: u8, hop: u16, mark: Mark) -> Route {
+        Route { addr: addr.into(), len, hop, mark }
     }
 
-    /// Its record of 8 bytes: address, length, zero, hop. A record input is records end to end, strictly ascending by
+    /// Its record of 8 bytes: address, length, mark, hop. A record input is records end to end, strictly ascending by
     /// address and then length.
     pub fn record(&self) -> [u8; 8] {
         let [a, b, c, d] = self.addr.octets();
         let [h, l] = self.hop.to_be_bytes();
-        [a, b, c, d, self.len, 0, h, l]
+        [a, b, c, d, self.len, self.mark as u8, h, l]
     }
 }
 
 impl fmt::Display for Route {
     fn fmt(&self, f: &mut fmt::Formatter) -> fmt::Result {
-        write!(f, "{}/{} {}", self.addr, self.len, self.hop)
+        write!(f, "{}/{} {}", self.addr, self.len, self.hop)?;
+        match self.mark {
+            Mark::Behind => Ok(()),
+            Mark::Attached => write!(f, " attached"),
+        }
     }
 }
 
@@ -140,7 +154,7 @@ impl Geometry {
 #[derive(Clone, Copy, PartialEq, Eq, Debug)]
 pub enum Announced {
     Added,
-    /// The prefix stood, and its hop was replaced.
+    /// The prefix stood, and its hop and mark were replaced.
     Replaced,
 }
 
@@ -257,11 +271,11 @@ impl Table {
         Ok(self.count as usize)
     }
 
-    /// Adds a route, or replaces the hop of a prefix that stands.
-    /// Refusals: 1, 2, 3, 4, 5, 6, 7, 8; a replacement never meets 6 to 8.
-    pub fn announce(&mut self, addr: impl Into<Ipv4Addr>, len: u8, hop: u16) -> Result<Announced, Refusal> {
+    /// Adds a route, or replaces hop and mark of a prefix that stands.
+    /// Refusals: 1, 2, 3, 4, 5, 6, 7, 8; a replacement never meets 6 to 8, and a [`Mark`] never 10.
+    pub fn announce(&mut self, addr: impl Into<Ipv4Addr>, len: u8, hop: u16, mark: Mark) -> Result<Announced, Refusal> {
         let addr = u32::from(addr.into());
-        let answer = answered(lend!(gh_announce, (self.count), mut self, (addr, len.into(), hop.into())))?;
+        let answer = answered(lend!(gh_announce, (self.count), mut self, (addr, len.into(), hop.into(), mark as u32)))?;
         self.count = counted(answer);
         Ok(if answer >> 8 & 1 == 1 { Announced::Replaced } else { Announced::Added })
     }
@@ -388,5 +402,6 @@ pub fn route(input: &[u8], index: u32) -> Result<Option<Route>, Refusal> {
     // The pointer is to a slice of that length, and the call writes nothing.
     let answer = answered(unsafe { sys::gh_route(input.as_ptr(), input.len(), index) })?;
     let hop = (answer >> 16) as u16;
-    Ok((hop != 0).then(|| Route::new((answer >> 32) as u32, (answer >> 8) as u8, hop)))
+    let mark = if answer >> 15 & 1 == 1 { Mark::Attached } else { Mark::Behind };
+    Ok((hop != 0).then(|| Route::new((answer >> 32) as u32, (answer >> 8) as u8 & 0x7F, hop, mark)))
 }

@@ -55,6 +55,7 @@ extern "C" {
         addr: u32,
         len: u32,
         hop: u32,
+        mark: u32,
     ) -> u64;
     pub fn gh_withdraw(
         p1: u32,

@@ -16,6 +16,7 @@ use Rattle.routes.specs.Record.{recordAt, Records}
 use Rattle.routes.specs.Input.{inputSaid}
 use Rattle.routes.specs.Answers.{routeSaid}
 use Rattle.routes.specs.Said.{Said, accepted, refused, accepts}
+use Rattle.routes.specs.declared.Route.{Route}
 use Rattle.routes.proofs.Meaning.{WrongRoute, WrongRecord, Checked, input-checked, input-good}
 use Rattle.routes.proofs.Rows.{length-routes, records-good}
 use Rattle.runs.specs.Run.{pastKey, runStart, runCount, runSaid}
@@ -48,11 +49,15 @@ sizing-fits : {most : ℕ} {P : List ℕ → Type 0} {t : Table} {l : Lent} {n :
 sizing-fits (Sizing.limits h) = Fits.number 1 (omega arith) (omega arith)
 sizing-fits (Sizing.size v h) = Fits.number 2 (omega arith) (omega arith)
 
+-- 3, 4 and 10
+route-low : {r : Route} {f : ℕ} → WrongRoute r f → (1 ≤ f) × (f < 2 ^ 8)
+route-low (WrongRoute.prefix h) = (omega arith, omega arith)
+route-low (WrongRoute.hop p h) = (omega arith, omega arith)
+route-low (WrongRoute.mark p a b h) = (omega arith, omega arith)
+
 -- The input's refusals.
 fault-low : {s : List ℕ} {k f : ℕ} → WrongRecord s k f → f < 2 ^ 8
-fault-low (WrongRecord.itself (WrongRoute.prefix h)) = omega arith
-fault-low (WrongRecord.itself (WrongRoute.hop p h)) = omega arith
-fault-low (WrongRecord.itself (WrongRoute.spare p a b h)) = omega arith
+fault-low (WrongRecord.itself w) = route-low w .1
 fault-low (WrongRecord.order g h l) = omega arith
 
 module _ (P : List ℕ → Type 0) (s : List ℕ) (short : length s < 2 ^ 35) where
@@ -101,7 +106,7 @@ module _ (s : List ℕ) (short : length s < 2 ^ 35) where
       go (RouteRead.there n g h) =
           let f = good-whole s n g .1 .each k h in
           let r = recordAt s k in
-          Fits.values _ (RouteFits.one (r .addr) (r .len) (r .spare) (r .hop) (f .prefix .addr-ok) (omega (arith, f .prefix .len-ok)) (f .spare-ok) (f .hop-one) (omega (arith, f .hop-ok)))
+          Fits.values _ (RouteFits.one (r .addr) (r .len) (r .mark) (r .hop) (f .prefix .addr-ok) (omega (arith, f .prefix .len-ok)) (omega (arith, f .mark-ok)) (f .hop-one) (omega (arith, f .hop-ok)))
       go (RouteRead.past n g h) = Fits.values [] RouteFits.nothing
 
   pub built-fits : (ws hs : List ℕ) → Fits (2 ^ 32) BuiltFits (built s ws hs .said)
@@ -194,16 +199,15 @@ module _ (t : Table) (l : Lent) where
       go (Load.third w r x y) few = Fits.number 8 (omega arith) (omega arith)
       go (Load.done w k) few = let f = few refl in Fits.values [] (DoneFits.done (omega arith))
 
-  pub announce-few : (a len hop : ℕ) → accepts (announced t l a len hop .said) ≡ true → announced t l a len hop .table .count ≤ 4096
-  announce-few a len hop e = announce-holds t l a len hop e .sound .listed .records .few
+  pub announce-few : (r : Route) → accepts (announced t l r .said) ≡ true → announced t l r .table .count ≤ 4096
+  announce-few r e = announce-holds t l r e .sound .listed .records .few
 
-  pub announce-fits : (a len hop : ℕ) → Fits 0 (AnnounceFits (announced t l a len hop .table .count)) (announced t l a len hop .said)
-  announce-fits a len hop = rw (announce-said t l a len hop) (go (announce-judged t l a len hop) (λ e. announce-few a len hop (ap accepts (announce-said t l a len hop) ∙ e)))
+  pub announce-fits : (r : Route) → Fits 0 (AnnounceFits (announced t l r .table .count)) (announced t l r .said)
+  announce-fits r = rw (announce-said t l r) (go (announce-judged t l r) (λ e. announce-few r (ap accepts (announce-said t l r) ∙ e)))
     where
-      go : {n : ℕ} {x : Said} → Announce t l a len hop x → (accepts x ≡ true → n ≤ 4096) → Fits 0 (AnnounceFits n) x
+      go : {n : ℕ} {x : Said} → Announce t l r x → (accepts x ≡ true → n ≤ 4096) → Fits 0 (AnnounceFits n) x
       go (Announce.sizing n h) few = sizing-fits h
-      go (Announce.bad-prefix z h) few = Fits.number 3 (omega arith) (omega arith)
-      go (Announce.bad-hop z p h) few = Fits.number 4 (omega arith) (omega arith)
+      go (Announce.wrong n z w) few = let b = route-low w in Fits.number n (b .0) (b .1)
       go (Announce.unsound z f h) few = Fits.number 5 (omega arith) (omega arith)
       go (Announce.replaced p h) few = let f = few refl in Fits.values _ (AnnounceFits.which 1 (omega arith) (omega arith))
       go (Announce.full p h k) few = Fits.number 6 (omega arith) (omega arith)

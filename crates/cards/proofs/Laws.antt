@@ -24,7 +24,7 @@ use Rattle.sail.specs.declared.table.Table.{Table}
 use Rattle.sail.proofs.Steps.{look-on, look-not}
 use Rattle.sail_many.specs.Words.{answerAt}
 use Rattle.sail_many.proofs.Answers.{answer-is}
-use Rattle.sail_theory.specs.Calls.{Out, out, announced, withdrawn}
+use Rattle.sail_theory.specs.Calls.{route, Out, out, announced, withdrawn}
 use Rattle.tree_build.specs.Built as tree
 use Rattle.sail.specs.Word.{packed, packFound, Word}
 use Rattle.packing.specs.Pack.{packChange, packBuilt, packNone}
@@ -37,8 +37,9 @@ card-is s t l o r e q = ap (λ (x : ℕ). card x l) q ∙ ap cardOf e
 
 -- the same of calls whose numbers were narrowed
 module _ (t : Table) (l : Lent) (a len n : ℕ) (e : n ≡ min len 255) (s : Said) (t′ : Table) (l′ : Lent) (r : ℕ) where
-  pub announce-card : (hop m : ℕ) → m ≡ min hop 65535 → out s t′ l′ ≡ announced t l a n m → r ≡ packChange (t′ .count) s → card r l′ ≡ cardOf (announced t l a len hop)
-  announce-card hop m q is = card-is s t′ l′ _ r (is ∙ announced-narrow t l a len hop n m e q)
+  pub announce-card : (hop m : ℕ) → m ≡ min hop 65535 → (mark k : ℕ) → k ≡ min mark 255 → out s t′ l′ ≡ announced t l (route a n m k)
+      → r ≡ packChange (t′ .count) s → card r l′ ≡ cardOf (announced t l (route a len hop mark))
+  announce-card hop m q mark k u is = card-is s t′ l′ _ r (is ∙ announced-narrow t l a len hop mark n m k e q u)
 
   pub withdraw-card : out s t′ l′ ≡ withdrawn t l a n → r ≡ packChange (t′ .count) s → card r l′ ≡ cardOf (withdrawn t l a len)
   withdraw-card is = card-is s t′ l′ _ r (is ∙ withdrawn-narrow t l a len n e)

@@ -135,8 +135,8 @@ no-route-image input ws hs vs e a h =
       (λ none. (_, served-once (routesIn input) g a _ (image-serves input ws hs vs e a h) (no-route none))),
     )
 
--- "Every route can be read back": route_at reads out of these bytes each of the routes rs, at its place, with its hop, and nothing past the
--- last. (A route's values are its address, length, spare byte and hop.)
+-- "Every route can be read back": route_at reads out of these bytes each of the routes rs, at its place, with its mark and hop, and nothing
+-- past the last. (A route's values are its address, length, mark and hop.)
 pub record ReadBack (bytes : List ℕ) (rs : List Route) : Type 0 where
   pub each : (r : Route) → List·Memᴰ r rs → (k : ℕ) × (k < length rs) × (routeSaid bytes k ≡ accepted (valuesOf r))
   pub in-order : (k : ℕ) → k < length rs → routeSaid bytes k ≡ accepted (valuesOf (getD rs k noRoute))

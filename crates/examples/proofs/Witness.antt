@@ -35,7 +35,7 @@ use Rattle.sail.specs.Walk.{lookupSaid, saysFound}
 use Rattle.sail.specs.declared.table.Table.{Table}
 use Rattle.sail.specs.declared.lookup.Found.the-variants as found
 use Rattle.sail.proofs.Fresh.{fresh-sound}
-use Rattle.sail_theory.specs.Calls.{termsOf, withdrawFault, Out, out, made, announced, withdrawn, loaded}
+use Rattle.sail_theory.specs.Calls.{route, termsOf, withdrawFault, Out, out, made, announced, withdrawn, loaded}
 use Rattle.sail_theory.specs.Runs.{Call, announce, withdraw, load, done, after, worked, would, Formed}
 use Rattle.sail_theory.specs.Render.{roomOf}
 use Rattle.sail_theory.proofs.Accepted.{announce-said, announce-off}
@@ -104,7 +104,7 @@ pub refused-load : accepts (loaded (t []) (l []) (1 ∷ []) .said) ≡ false
 unfolding after done reply inputSaid
 refused-load = ap accepts (first-says (load (1 ∷ [])))
 
-pub refused-announce : accepts (announced (t entered) (l entered) (ip 10 2 2 0) 24 45 .said) ≡ false
+pub refused-announce : accepts (announced (t entered) (l entered) (route (ip 10 2 2 0) 24 45 0) .said) ≡ false
 unfolding starred answer after done
 refused-announce = ap accepts (line 34)
 
@@ -176,11 +176,11 @@ pub wantedA : ForChunks (after table arrays other .said)
 unfolding starred answer
 wantedA = rw (line 34) (omega arith, omega arith)
 
-pub formed-announce : Formed (announce (ip 10 2 2 0) 24 45) (demand3.now table arrays sized entered) (roomOf arrays)
-formed-announce = demand3.want-formed table arrays sized entered (announce (ip 10 2 2 0) 24 45) wantedA
+pub formed-announce : Formed (announce (route (ip 10 2 2 0) 24 45 0)) (demand3.now table arrays sized entered) (roomOf arrays)
+formed-announce = demand3.want-formed table arrays sized entered (announce (route (ip 10 2 2 0) 24 45 0)) wantedA
 
-pub needed : ByNeed (termsOf table arrays) (would (announce (ip 10 2 2 0) 24 45) (demand3.now table arrays sized entered)) (after table arrays other .said)
-needed = demand3.want-of-chunks table arrays sized entered (announce (ip 10 2 2 0) 24 45) formed-announce
+pub needed : ByNeed (termsOf table arrays) (would (announce (route (ip 10 2 2 0) 24 45 0)) (demand3.now table arrays sized entered)) (after table arrays other .said)
+needed = demand3.want-of-chunks table arrays sized entered (announce (route (ip 10 2 2 0) 24 45 0)) formed-announce
 
 -- a withdrawal and a load that are well-formed,
 pub formed-withdraw : Formed (withdraw 0 0) (demand3.now table arrays sized loadedA) (roomOf arrays)
@@ -208,9 +208,13 @@ pub checked-A : MeetsCheckInput listA (ofInput.Good 5)
 unfolding saysInput
 checked-A = sym goodA
 
-pub route-A : MeetsRouteAt listA 4 (got.One (record { addr = ip 10 1 2 128; len = 25; spare = 0; hop = 57 }))
+pub route-A : MeetsRouteAt listA 4 (got.One (record { addr = ip 10 1 2 128; len = 25; mark = 0; hop = 57 }))
 unfolding saysGot routeSaid listA recordAt
 route-A = rw goodA
+
+pub route-attached : MeetsRouteAt (10 ∷ 1 ∷ 0 ∷ 0 ∷ 16 ∷ 1 ∷ 0 ∷ 31 ∷ []) 0 (got.One (route (ip 10 1 0 0) 16 31 1))
+unfolding starred answer saysGot routeSaid recordAt
+route-attached = rw (line 39)
 
 pub run-A : MeetsRunCheck listA (ip 10 1 0 0) 16 (runCheck.Run 2 3)
 unfolding saysRunCheck runSaid listA recordAt placeOf firstOf firstFrom properPrefix cut
@@ -239,13 +243,13 @@ pub loaded-A : MeetsLoad (t []) (l []) listA (record { answer = ofLoad.Done; tab
 unfolding starred answer after done saysLoaded
 loaded-A = told (loaded (t []) (l []) listA) (accepted []) (line 0)
 
-pub announced-first : MeetsAnnounce (t []) (l []) (ip 10 1 2 0) 24 44 (record { answer = ofAnnounce.Added; table = t entered }) (l entered)
+pub announced-first : MeetsAnnounce (t []) (l []) (ip 10 1 2 0) 24 44 0 (record { answer = ofAnnounce.Added; table = t entered }) (l entered)
 unfolding starred answer after done saysAnnounce
-announced-first = told (announced (t []) (l []) (ip 10 1 2 0) 24 44) (accepted (0 ∷ [])) (line 33)
+announced-first = told (announced (t []) (l []) (route (ip 10 1 2 0) 24 44 0)) (accepted (0 ∷ [])) (line 33)
 
-pub announced-other : MeetsAnnounce (t entered) (l entered) (ip 10 2 2 0) 24 45 (record { answer = ofAnnounce.Refused 7; table = t entered }) (l entered)
+pub announced-other : MeetsAnnounce (t entered) (l entered) (ip 10 2 2 0) 24 45 0 (record { answer = ofAnnounce.Refused 7; table = t entered }) (l entered)
 unfolding starred answer after done saysAnnounce
-announced-other = sym (announce-off (t entered) (l entered) (ip 10 2 2 0) 24 45 (refused 7) (sym (announce-said (t entered) (l entered) (ip 10 2 2 0) 24 45) ∙ line 34) refl)
+announced-other = sym (announce-off (t entered) (l entered) (route (ip 10 2 2 0) 24 45 0) (refused 7) (sym (announce-said (t entered) (l entered) (route (ip 10 2 2 0) 24 45 0)) ∙ line 34) refl)
 
 pub withdrawn-A : MeetsWithdraw (t loadedA) (l loadedA) 0 0 (record { answer = ofWithdraw.Removed; table = t without0 }) (l without0)
 unfolding starred answer after done saysWithdraw

@@ -12,3 +12,4 @@ pub mod Needs
 pub mod Serves
 pub mod ReadCounts
 pub mod Ranks
+pub mod Marks

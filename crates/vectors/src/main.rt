@@ -1,6 +1,7 @@
-// Runs worked cases, and prints what they give. The file stdout has what documents 01 and 02 say of them.
+// Runs worked cases, and prints what they give. The file stdout has what the documents say of them.
 mod images;
 mod inputs;
+mod lines;
 mod masks;
 mod parts;
 mod samples;
@@ -9,10 +10,13 @@ mod tables;
 fn main() {
     masks::run();
     inputs::run();
+    inputs::attached();
     inputs::refusals();
     inputs::most();
     parts::run();
     parts::tallies();
+    parts::attached();
+    lines::attached();
     images::list_a();
     images::host();
     images::sizes();

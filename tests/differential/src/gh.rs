@@ -168,8 +168,8 @@ pub fn load(p1: u32, p2: u32, input: &[u8], t: &mut Six) -> u64 {
     call!(gh_load, (p1, p2, input.as_ptr(), input.len()), mut t, ())
 }
 
-pub fn announce(p1: u32, p2: u32, count: u32, t: &mut Six, addr: u32, len: u32, hop: u32) -> u64 {
-    call!(gh_announce, (p1, p2, count), mut t, (addr, len, hop))
+pub fn announce(p1: u32, p2: u32, count: u32, t: &mut Six, addr: u32, len: u32, hop: u32, mark: u32) -> u64 {
+    call!(gh_announce, (p1, p2, count), mut t, (addr, len, hop, mark))
 }
 
 pub fn withdraw(p1: u32, p2: u32, count: u32, t: &mut Six, addr: u32, len: u32) -> u64 {

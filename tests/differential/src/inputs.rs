@@ -83,7 +83,12 @@ fn ask(run: &mut Run, rng: &mut Rng, field: &Field, routes: &[Route], input: &[u
             run.count("route", "none");
         } else if number(is) == 0 {
             // What is read back is the record itself.
-            let r = Route { addr: (is >> 32) as u32, len: (is >> 8) as u8, hop: (is >> 16) as u16 };
+            let r = Route {
+                addr: (is >> 32) as u32,
+                len: (is >> 8) as u8 & 0x7F,
+                hop: (is >> 16) as u16,
+                mark: (is >> 15) as u8 & 1,
+            };
             if r.record() != input[8 * index as usize..8 * index as usize + 8] {
                 run.fault("the route is not that of the record", &told);
             }

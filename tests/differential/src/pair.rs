@@ -10,8 +10,8 @@ use differential::plain::{self, number, records, Lent, Route};
 pub enum Call {
     Make,
     Load(Vec<u8>),
-    /// Address, length and hop, as wide as the boundary takes them.
-    Announce(u32, u32, u32),
+    /// Address, length, hop and mark, as wide as the boundary takes them.
+    Announce(u32, u32, u32, u32),
     Withdraw(u32, u32),
     Report,
     /// The addresses, and the length of the array for the answers.
@@ -63,7 +63,7 @@ impl Pair {
             Some(routes) => {
                 told += "standing:";
                 for r in routes.iter().take(64) {
-                    told += &format!(" {:08x}/{} to {};", r.addr, r.len, r.hop);
+                    told += &format!(" {:08x}/{} to {} mark {};", r.addr, r.len, r.hop, r.mark);
                 }
                 told += &format!(" {} in all", routes.len());
             }
@@ -90,9 +90,9 @@ impl Pair {
                 }
                 ("load", is, plain::load(p1, p2, input, &mut self.plain))
             }
-            Call::Announce(addr, len, hop) => {
-                let is = gh::announce(p1, p2, count, &mut self.library, *addr, *len, *hop);
-                ("announce", is, plain::announce(p1, p2, count, &mut self.plain, *addr, *len, *hop))
+            Call::Announce(addr, len, hop, mark) => {
+                let is = gh::announce(p1, p2, count, &mut self.library, *addr, *len, *hop, *mark);
+                ("announce", is, plain::announce(p1, p2, count, &mut self.plain, *addr, *len, *hop, *mark))
             }
             Call::Withdraw(addr, len) => {
                 let is = gh::withdraw(p1, p2, count, &mut self.library, *addr, *len);
@@ -117,8 +117,9 @@ impl Pair {
         };
         run.answered(name, is, should, &|| self.tell(&format!("{call:?}")));
         match (number(is), call) {
-            (3, Call::Announce(_, 256.., _)) => run.count("announce", "wide length"),
-            (4, Call::Announce(_, _, 65_536..)) => run.count("announce", "wide hop"),
+            (3, Call::Announce(_, 256.., _, _)) => run.count("announce", "wide length"),
+            (4, Call::Announce(_, _, 65_536.., _)) => run.count("announce", "wide hop"),
+            (10, Call::Announce(_, _, _, 256..)) => run.count("announce", "wide mark"),
             (3, Call::Withdraw(_, 256..)) => run.count("withdraw", "wide length"),
             _ => {}
         }
@@ -149,11 +150,14 @@ impl Pair {
             Call::Load(input) => {
                 standing = plain::check_input(input).expect("an accepted input is good");
             }
-            Call::Announce(addr, len, hop) => {
-                let route = Route { addr: *addr, len: *len as u8, hop: *hop as u16 };
+            Call::Announce(addr, len, hop, mark) => {
+                let route = Route { addr: *addr, len: *len as u8, hop: *hop as u16, mark: *mark as u8 };
                 let replaced = match standing.iter_mut().find(|r| (r.addr, r.len) == (*addr, route.len)) {
                     Some(r) => {
-                        r.hop = route.hop;
+                        if r.hop == route.hop && r.mark != route.mark {
+                            run.count("announce", "mark alone");
+                        }
+                        *r = route;
                         true
                     }
                     None => {

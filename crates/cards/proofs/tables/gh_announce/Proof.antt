@@ -1,4 +1,4 @@
--- `cards::tables::gh_announce`: its length and its hop are narrowed, which changes nothing that the call says or leaves.
+-- `cards::tables::gh_announce`: its length, its hop and its mark are narrowed, which changes nothing that the call says or leaves.
 use Rattle.cards.proofs.Laws.{announce-card}
 use Rattle.cards.proofs.tables.gh_announce.Statement.{statement}
 use Rattle.cards.proofs.tables.gh_announce.Tie as tie
@@ -10,6 +10,7 @@ pub gh-announce-spec : {M : Type 1} → statement M
 gh-announce-spec =
     tie.close
     (tie.spec
+    (λ c κs. tt)
     (λ c κs. tt)
     (λ c κs. tt)
     (λ c κs. tt)
