@@ -1,5 +1,5 @@
 -- A table on paper: its geometry, its routes and its owners. After a run they follow from the calls alone, and all that is asked of a sound
--- table follows from them. So no cell array is ever computed. Assumes nothing.
+-- table follows from them. So no cell array is ever computed.
 use mathlib.Core.Path.{_≡_, refl, sym, _∙_, ap}
 use mathlib.Core.Bool.{true, cond}
 use mathlib.Core.List.{List, [], _∷_}
@@ -59,10 +59,10 @@ module _ (t : Table) (l : Lent) (s : Sound t l) where
   report-on = report-only t l _ (Report.counts s) ∙ ap (λ (n : ℕ). accepted (n ∷ need (standing t l) (t .geometry .p1) ∷ need (standing t l) (t .geometry .p2) ∷ [])) (sym (length-routes (l .list) (t .count)))
 
   pub first-on : (q : ℕ) → q < 2 ^ t .geometry .p1 → getD (l .first) q 0 ≡ firstOn q (paperOf t l)
-  first-on q h = shows-shown (standing t l) (level1 (t .geometry)) (chunksOf (l .own2)) (entry (l .first)) (s .serves .shows1) q h refl
+  first-on q h = shows-shown (standing t l) (level1 (t .geometry)) (chunksOf (l .own2)) (entry (l .first)) (s .serves .first) q h refl
 
   pub second-on : (q : ℕ) → q < length (l .own2) * 2 ^ bits2 (t .geometry) → liveIn (entry (l .own2)) (bits2 (t .geometry)) q ≡ true → getD (l .second) q 0 ≡ secondOn q (paperOf t l)
-  second-on q h e = shows-shown (standing t l) (level2 (t .geometry) (chunksOf (l .own2))) (chunksOf (l .own3)) (entry (l .second)) (s .serves .shows2) q h e
+  second-on q h e = shows-shown (standing t l) (level2 (t .geometry) (chunksOf (l .own2))) (chunksOf (l .own3)) (entry (l .second)) (s .serves .second) q h e
 
 -- the owners after an accepted call, where the routes rs stand with the owners o; `none` are the owners of a fresh table
 abbrev owned : Geometry → Owners → Call → List Route → Owners → Owners

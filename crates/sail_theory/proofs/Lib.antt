@@ -15,7 +15,6 @@ pub mod Changes
 pub mod Wants
 pub mod Accepted
 pub mod Fresh
-pub mod Cells
 pub mod Marks
 pub mod Ends
 pub mod Sizes

@@ -1,4 +1,4 @@
--- Wrong versions of the calls, and the fact that refuses each. Assumes nothing.
+-- Wrong versions of the calls, and the fact that refuses each.
 use mathlib.Core.Path.{_≡_, refl, sym, _∙_}
 use mathlib.Core.Logic.{_≢_}
 use mathlib.Core.Bool.{false}
@@ -30,7 +30,7 @@ idle-refused t l r none w =
 -- a withdrawal that leaves no route where a shorter route covers is not sound
 pub blank-refused : (t : Table) (l : Lent) (q : ℕ) → q < 2 ^ t .geometry .p1 → long (standing t l) (t .geometry .p1) q ≡ false → best (standing t l) (t .geometry .p1) q ≢ 0
     → getD (l .first) q 0 ≡ 32768 → Sound t l → ⊥
-blank-refused t l q h e b w s = b (omega (arith, s .serves .shows1 .leaf q h refl e))
+blank-refused t l q h e b w s = b (omega (arith, s .serves .first .leaf q h refl e))
 
 -- a withdrawal that closes no chunk has more in use than are needed
 pub kept-refused : (t : Table) (l : Lent) → need (standing t l) (t .geometry .p1) < used (l .own2) → Sound t l → ⊥
