@@ -32,6 +32,11 @@ pub list-A : tableText listA (need listA 12) (need listA 22) ≡
 unfolding bytesA listA routesOf recordAt tabulate need any digitsIn digitsOf ascii labelled dotted routeLine routeLines headLine tableText
 list-A = refl
 
+-- list A's needs are equal, these are not: each stands at its own place
+pub head-line : headLine 3 2 1 ≡ ascii "routes 3 second 2 third 1\n"
+unfolding digitsIn digitsOf ascii labelled headLine
+head-line = refl
+
 pub refusals : (saidText (refusedAt 10 3) ≡ ascii "refused 10 at 3\n") × (saidText (refused 7) ≡ ascii "refused 7\n")
 unfolding digitsIn digitsOf ascii labelled saidText
 refusals = (refl, refl)
