@@ -5,22 +5,21 @@ use mathlib.Core.Bool.{true, false, true≢false, false≢true}
 use mathlib.Core.List.{List, [], _++_, append-assoc}
 use Prim.Native.Nat.{ℕ, _/_, _≤_, _<_}
 use native.Mathlib.Omega.{arith}
-use lib.ListN.{length, length-replicate}
+use lib.ListN.{length, take}
 use Rattle.bits.proofs.Tests.{decided, below?}
 use Rattle.standing.specs.Cells.{need}
 use Rattle.routes.specs.Said.{Said, accepted, refused, refusedAt, accepts}
 use Rattle.routes.specs.declared.Route.{Route}
 use Rattle.routes.proofs.Rows.{length-routes}
-use Rattle.routes.proofs.Meaning.{RightRecord, Checked, input-checked, records-right}
+use Rattle.routes.proofs.Meaning.{Checked, input-checked, records-right}
 use Rattle.sail.specs.Geometry.{smallGeo}
 use Rattle.sail.specs.Sizes.{Sized}
 use Rattle.sail_theory.specs.Calls.{inputRoutes, loadSaid, loaded}
-use Rattle.sail_theory.specs.Facts.{Loadable}
 use Rattle.sail_theory.proofs.Judged.{Sizing, Readable, Load, load-judged}
 use Rattle.sail_theory.proofs.Loads.{accepted-loadable, load-said, load-holds}
 use Rattle.text.specs.Digits.{digitsIn, digitsOf}
 use Rattle.text.specs.Text.{ascii, labelled, headLine, routeLines, tableText, saidText}
-use Rattle.text.specs.Wrote.{Wrote}
+use Rattle.text.proofs.Writes.{wrote-front}
 use Rattle.print.specs.Printed.{smallTable, smallLent, standingText, lineOr, outText, printedText, page, Printed}
 use Rattle.print.specs.Cases.{AllRight, Prints}
 
@@ -54,7 +53,8 @@ unfolding saidText
 fault-text input n k h = Prints.fault n k h
 
 -- the words of a table's first line, and its other lines
-words : (rs : List Route) (x y : ℕ) → tableText rs x y ≡ labelled "routes " (length rs) ++ labelled " second " x ++ labelled " third " y ++ ascii "\n" ++ routeLines rs
+words : (rs : List Route) (x y : ℕ)
+    → tableText rs x y ≡ labelled "routes " (length rs) ++ labelled " second " x ++ labelled " third " y ++ ascii "\n" ++ routeLines rs
 unfolding tableText headLine
 words rs x y = simp append-assoc
 
@@ -90,7 +90,8 @@ module _ (input : List ℕ) where
       go (Load.sizing n (Sizing.size v h)) e = absurd (h small-sized)
       go (Load.bad-input {s} z c h) e = bad (subst (Checked input) c (input-checked input)) e h
         where
-          bad : {s : Said} → Checked input s → loadSaid smallTable smallLent input ≡ s → ((ns : List ℕ) → s ≡ accepted ns → ⊥) → Prints input (printedText input)
+          bad : {s : Said} → Checked input s → loadSaid smallTable smallLent input ≡ s
+              → ((ns : List ℕ) → s ≡ accepted ns → ⊥) → Prints input (printedText input)
           bad (Checked.ragged w) e h = rw (said-text _ e refl) (fault-text input _ _ (Checked.ragged w))
           bad (Checked.stopped k f w i b x p) e h = rw (said-text _ e refl) (fault-text input f k (Checked.stopped k f w i b x p))
           bad (Checked.many w b m) e h = rw (said-text _ e refl, six-text) (Prints.six (record { whole = w; each = b }) (omega arith))
@@ -106,16 +107,22 @@ module _ (input : List ℕ) where
   pub long-refused : 512 < length input → accepts (loaded smallTable smallLent input .said) ≡ false
   long-refused h = go (decided (accepts (loaded smallTable smallLent input .said)))
     where
-      go : (accepts (loaded smallTable smallLent input .said) ≡ true) ⊎ (accepts (loaded smallTable smallLent input .said) ≡ false) → accepts (loaded smallTable smallLent input .said) ≡ false
+      go : (accepts (loaded smallTable smallLent input .said) ≡ true) ⊎ (accepts (loaded smallTable smallLent input .said) ≡ false)
+          → accepts (loaded smallTable smallLent input .said) ≡ false
       go (inr e) = e
       go (inl e) =
           let k = accepted-loadable smallTable smallLent input (sym (ap accepts (load-said smallTable smallLent input)) ∙ e) in
           absurd (omega (arith, k .0 .whole, rw length-routes at (k .1 .roomy)))
 
 -- Two answers that the statement of `printed` allows are the same, and leave the same buffer.
-pub one-answer-printed : {input before after after′ : List ℕ} {m n : ℕ} → Printed input before m after → Printed input before n after′ → (m ≡ n) × (after ≡ after′)
+pub one-answer-printed : {input before after after′ : List ℕ} {m n : ℕ}
+    → Printed input before m after → Printed input before n after′ → (m ≡ n) × (after ≡ after′)
 one-answer-printed {before = before} p q =
     ⊎-elim
     (λ (h : length before < page). (p .short h .0 ∙ sym (q .short h .0), p .short h .1 ∙ sym (q .short h .1)))
     (λ (h : page ≤ length before). (p .roomy h .ends ∙ sym (q .roomy h .ends), p .roomy h .holds ∙ sym (q .roomy h .holds)))
     (below? (length before) page)
+
+-- The bytes of a page before the answer are the text: what the program writes out.
+pub printed-front : {input before after : List ℕ} {n : ℕ} → page ≤ length before → Printed input before n after → take n after ≡ printedText input
+printed-front h p = wrote-front (p .roomy h)

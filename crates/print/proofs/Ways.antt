@@ -1,5 +1,5 @@
 -- What is written at each way through the load and the report.
-use mathlib.Core.Path.{_≡_, refl, sym, ap, _∙_, subst}
+use mathlib.Core.Path.{_≡_, sym, ap, _∙_, subst}
 use mathlib.Core.Bool.{true}
 use mathlib.Core.List.{List, [], _∷_}
 use Prim.Native.Nat.{ℕ, _*_, _≤_, _<_}
@@ -7,7 +7,7 @@ use native.Mathlib.Omega.{arith}
 use lib.ListN.{length}
 use Rattle.standing.specs.Cells.{need}
 use Rattle.routes.specs.Record.{routesOf}
-use Rattle.routes.specs.Said.{Said, accepted, refused, refusedAt, accepts}
+use Rattle.routes.specs.Said.{accepted, refused, refusedAt, accepts}
 use Rattle.sail.specs.Lent.{Lent}
 use Rattle.sail.specs.Sound.{Sound, standing}
 use Rattle.sail.specs.declared.table.Table.{Table}
@@ -23,7 +23,7 @@ use Rattle.sail_sound.specs.declared.report.Reported.{Reported}
 use Rattle.sail_sound.specs.declared.report.Reported.the-variants as reports
 use Rattle.text.specs.Text.{tableText, saidText}
 use Rattle.text.specs.Wrote.{Wrote, Printable}
-use Rattle.print.specs.Printed.{smallTable, smallLent, standingText, lineOr, outText, printedText, page, Ready}
+use Rattle.print.specs.Printed.{smallTable, smallLent, standingText, lineOr, outText, printedText, page}
 
 -- The report of a sound table gives its route count and both needs, and is not refused.
 module _ (t : Table) (l : Lent) (k : Sound t l) (r : Reported) (e : saysReported r ≡ reported t l) where
@@ -42,7 +42,8 @@ module _ (t : Table) (l : Lent) (k : Sound t l) (r : Reported) (e : saysReported
         let few : t .count * 8 ≤ length (l .list) = k .listed .records .room in
         record { records = rw c few; room = omega arith }
 
-    pub standing-wrote : {o o₁ : List ℕ} {m : ℕ} → Wrote o 0 (tableText (routesOf (l .list) n) two three) m o₁ → Wrote o 0 (standingText t l) m o₁
+    pub standing-wrote : {o o₁ : List ℕ} {m : ℕ} → Wrote o 0 (tableText (routesOf (l .list) n) two three) m o₁
+        → Wrote o 0 (standingText t l) m o₁
     unfolding standingText
     standing-wrote w =
         let a : n ≡ t .count = cc tells in
@@ -70,10 +71,12 @@ module _ (input : List ℕ) (a : Loaded) (u : Table) (v : Lent) (e : out (saysLo
   unfolding saysLoaded lineOr outText
   done-wrote q w = rw (← whole, q) w
 
-  pub refused-wrote : (n : ℕ) → a ≡ Refused n → {o o₁ : List ℕ} {m : ℕ} → Wrote o 0 (saidText (refused n)) m o₁ → Wrote o 0 (printedText input) m o₁
+  pub refused-wrote : (n : ℕ) → a ≡ Refused n → {o o₁ : List ℕ} {m : ℕ}
+      → Wrote o 0 (saidText (refused n)) m o₁ → Wrote o 0 (printedText input) m o₁
   unfolding saysLoaded lineOr outText
   refused-wrote n q w = rw (← whole, q) w
 
-  pub refused-at-wrote : (n k : ℕ) → a ≡ RefusedAt n k → {o o₁ : List ℕ} {m : ℕ} → Wrote o 0 (saidText (refusedAt n k)) m o₁ → Wrote o 0 (printedText input) m o₁
+  pub refused-at-wrote : (n k : ℕ) → a ≡ RefusedAt n k → {o o₁ : List ℕ} {m : ℕ}
+      → Wrote o 0 (saidText (refusedAt n k)) m o₁ → Wrote o 0 (printedText input) m o₁
   unfolding saysLoaded lineOr outText
   refused-at-wrote n k q w = rw (← whole, q) w

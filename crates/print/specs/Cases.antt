@@ -31,4 +31,5 @@ pub data Prints (input : List ℕ) : List ℕ → Type 0 where
   seven : AllRight input → records input ≤ 64 → 4 < second input → Prints input (ascii "refused 7\n")
   eight : AllRight input → records input ≤ 64 → second input ≤ 4 → 4 < third input → Prints input (ascii "refused 8\n")
   table : AllRight input → records input ≤ 64 → second input ≤ 4 → third input ≤ 4
-      → Prints input (labelled "routes " (records input) ++ labelled " second " (second input) ++ labelled " third " (third input) ++ ascii "\n" ++ routeLines (inputRoutes input))
+      → Prints input (labelled "routes " (records input) ++ labelled " second " (second input) ++ labelled " third " (third input) ++ ascii "\n"
+      ++ routeLines (inputRoutes input))

@@ -16,30 +16,40 @@ cast-table-text c = search needs
 
 table-text-requires : tie.Need-table-text-requires
 table-text-requires c κs =
-    let start = c .before .before .before .before .before .before .before .before .before .before .before .before .before in
-    standing-printable _ _ (start .pre .sound) _ (c .before .before .before .before .before .report .ensures) _ _ _ (c .before .before .before .routes .given .1) _ (omega arith) (start .pre .room)
+    let arm = c .before .before .before in
+    let report = arm .before .before in
+    let start = report .before .before .before .before .before .before .before .before in
+    standing-printable _ _ (start .pre .sound) _ (report .report .ensures) _ _ _ (arm .routes .given .1) _ (omega arith) (start .pre .room)
 
 enum-known-number : tie.Need-enum-known-number
 enum-known-number c = search needs
 
 refusal-text-requires : tie.Need-refusal-text-requires
-refusal-text-requires c κs = let start = c .before .before .before .before .before .before .before .before .before .before .before .before in omega (arith, start .pre .room)
+refusal-text-requires c κs =
+    let report = c .before .before .before .before in
+    let start = report .before .before .before .before .before .before .before .before in
+    omega (arith, start .pre .room)
 
 same-length : tie.Need-same-length
 same-length c = search needs
 
 returns : tie.Need-returns
 returns c =
-    let start = c .before .before .before .before .before .before .before .before .before .before .before .before .before .before .before .before in
-    standing-wrote _ _ (start .pre .sound) _ (c .before .before .before .before .before .before .before .before .report .ensures) _ _ _ (c .before .before .before .before .before .before .routes .given .1) (c .before .before .table-text .ensures)
+    let put = c .before .before in
+    let arm = put .before .before .before .before in
+    let report = arm .before .before in
+    let start = report .before .before .before .before .before .before .before .before in
+    standing-wrote _ _ (start .pre .sound) _ (report .report .ensures) _ _ _ (arm .routes .given .1) (put .table-text .ensures)
 
 same-length-2 : tie.Need-same-length-2
 same-length-2 c = search needs
 
 returns-2 : tie.Need-returns-2
 returns-2 c =
-    let start = c .before .before .before .before .before .before .before .before .before .before .before .before .before .before .before in
-    absurd (never-refused _ _ (start .pre .sound) _ (c .before .before .before .before .before .before .before .report .ensures) _ (c .before .before .before .before .before .number .given .1))
+    let arm = c .before .before .before .before .before in
+    let report = arm .before .before in
+    let start = report .before .before .before .before .before .before .before .before in
+    absurd (never-refused _ _ (start .pre .sound) _ (report .report .ensures) _ (arm .number .given .1))
 
 pub put-standing-spec : {M : Type 1} → statement M
 put-standing-spec =

@@ -1,5 +1,4 @@
 -- `show::main`: a page has room for what is printed, so the buffer holds as many bytes as are written out.
-use mathlib.Core.Path.{refl}
 use native.Mathlib.Omega.{arith}
 use borrow.Author.Needs.{needs}
 use Rattle.text.proofs.Writes.{wrote-count}
