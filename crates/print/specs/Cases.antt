@@ -24,7 +24,8 @@ second input = need (inputRoutes input) 12
 abbrev pub third : List ℕ → ℕ
 third input = need (inputRoutes input) 22
 
--- The cases exclude each other. `Checked` has what is wrong with the length of an input or with a record, with its number and its index.
+-- One of these holds of every input, and what is printed is its text (`printed-judged`). `Checked` has what is wrong with the length of an
+-- input or with a record, with its number and its index.
 pub data Prints (input : List ℕ) : List ℕ → Type 0 where
   fault : (n k : ℕ) → Checked input (refusedAt n k) → Prints input (labelled "refused " n ++ labelled " at " k ++ ascii "\n")
   six : AllRight input → 64 < records input → Prints input (ascii "refused 6\n")
