@@ -46,6 +46,11 @@ pub attached : tableText listB (need listB 12) (need listB 22) ≡
 unfolding bytesB listB routesOf recordAt tabulate need any digitsIn digitsOf ascii labelled dotted markText routeLine routeLines headLine tableText
 attached = refl
 
+-- list A's needs are equal, these are not: each stands at its own place
+pub head-line : headLine 3 2 1 ≡ ascii "routes 3 second 2 third 1\n"
+unfolding digitsIn digitsOf ascii labelled headLine
+head-line = refl
+
 pub refusals : (saidText (refusedAt 10 3) ≡ ascii "refused 10 at 3\n") × (saidText (refused 7) ≡ ascii "refused 7\n")
 unfolding digitsIn digitsOf ascii labelled saidText
 refusals = (refl, refl)
