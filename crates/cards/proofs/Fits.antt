@@ -12,7 +12,7 @@ use borrow.Author.Tests.{eqb-false}
 use Rattle.bits.proofs.Tests.{decided}
 use Rattle.routes.specs.Route.{keyOf}
 use Rattle.standing.specs.Cells.{need}
-use Rattle.routes.specs.Record.{recordAt, Records}
+use Rattle.routes.specs.Record.{recordAt, Records, routesIn}
 use Rattle.routes.specs.Input.{inputSaid}
 use Rattle.routes.specs.Answers.{routeSaid}
 use Rattle.routes.specs.Said.{Said, accepted, refused, accepts}
@@ -36,7 +36,7 @@ use Rattle.tree.specs.Image.{nodeNeed}
 use Rattle.tree.specs.Walk.{treeSaid}
 use Rattle.tree.specs.declared.Place.{Place}
 use Rattle.tree.proofs.Needs.{nodes-most}
-use Rattle.tree_build.specs.Built.{routesIn, built}
+use Rattle.tree_build.specs.Built.{built}
 use Rattle.demands.proofs.Inputs.{check-only, BadInput, GoodInput, RunChecked, run-judged, RouteRead, route-judged}
 use Rattle.demands.proofs.Lookups.{v1, v2, v3, Lookup, lookup-judged}
 use Rattle.demands.proofs.Builds.{Build, build-judged}

@@ -12,7 +12,7 @@ use Rattle.bits.specs.Search.{firstFrom, firstOf}
 use Rattle.bits.specs.Tab.{tabulate}
 use Rattle.routes.specs.Route.{Good}
 use Rattle.standing.specs.Cells.{any}
-use Rattle.routes.specs.Record.{recordAt, routesOf, written}
+use Rattle.routes.specs.Record.{recordAt, routesOf, written, routesIn}
 use Rattle.routes.specs.Input.{properPrefix, hopFine, routeFault, inOrder, faultAt, inputSaid}
 use Rattle.routes.specs.Said.{Said, accepted, refused, accepts}
 use Rattle.routes.specs.Answers.{saysInput, saysGot, routeSaid}
@@ -53,7 +53,7 @@ use Rattle.sail_withdraw.specs.declared.answers.Withdraw.the-variants as ofWith
 use Rattle.tree.specs.Node.{sound}
 use Rattle.tree.specs.Walk.{walkFrom, treeSaid, saysTreeFound}
 use Rattle.tree.specs.declared.TreeFound.the-variants as treeFound
-use Rattle.tree_build.specs.Built.{saysBuilt, routesIn, built}
+use Rattle.tree_build.specs.Built.{saysBuilt, built}
 use Rattle.tree_build.specs.declared.Built.the-variants as ofBuild
 use Rattle.demands.specs.Meets.{MeetsCheckInput, MeetsRouteAt, MeetsRunCheck, MeetsTally, MeetsLookup, MeetsReport, MeetsMake, MeetsLoad, MeetsAnnounce, MeetsWithdraw, MeetsTreeLookup, MeetsBuild}
 use Rattle.demands.proofs.Replies.{reply, stood, run-says, run-stood}

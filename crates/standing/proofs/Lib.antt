@@ -3,6 +3,8 @@ pub mod Levels
 pub mod Longest
 pub mod Paint
 pub mod Need
+pub mod Prefixes
+pub mod Downs
 pub mod Frame
 pub mod Only
 pub mod Standing
