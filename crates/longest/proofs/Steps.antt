@@ -114,8 +114,11 @@ module _ (s : List ℕ) (n a : ℕ) (ok : Records s n) where
             go : (recordAt s (k - 1) .len < recordAt s j .len) ⊎ (recordAt s j .len ≤ recordAt s (k - 1) .len) → recordAt s j .len ≤ recordAt s (k - 1) .len
             go (inr l) = l
             go (inl l) =
-                absurd (omega (arith, nested 32 a (recordAt s (k - 1)) (recordAt s j) (ok .each (k - 1) last) (ok .each j u) over c (omega arith),
-                ascends j (k - 1) (omega (arith, early j u c)) last))
+                absurd (omega (
+                  arith,
+                  nested 32 a (recordAt s (k - 1)) (recordAt s j) (ok .each (k - 1) last) (ok .each j u) over c (omega arith),
+                  ascends j (k - 1) (omega (arith, early j u c)) last,
+                ))
 
         pub found : low ≤ len → LongestRecord s n a low k
         found e = record {

@@ -1,0 +1,6 @@
+-- Laws of the maps, of the walk and of the calls.
+pub mod Places
+pub mod Walks
+pub mod Checks
+pub mod Answers
+pub mod Serves
