@@ -17,6 +17,8 @@
  *   own3    an owner for each chunk of the third pool
  *   words   3 words for each node of a tree image
  *   hops    the hops of a tree image
+ *   bits    the bits of bit maps: 16,384 bytes
+ *   cells   the hops of bit maps: 131,071 cells
  *
  * GEOMETRY. p1 is 12 to 16, p2 is 22 to 26, p2 - p1 at most 10. Standard is (16, 24), small is (12, 22).
  *
@@ -35,6 +37,9 @@
  *   gh_run           bits 16 to 31: first record of the run; 32 to 47: records in it
  *   gh_tally         0
  *   gh_route         bits 8 to 15: length; 16 to 31: hop; 32 to 63: address; no record of that index: all 0
+ *   gh_basic_build   0
+ *   gh_basic_lookup  bits 16 to 31: hop, 0 for no route
+ *   gh_basic_lookup_many   0; each word of out: the low 32 bits of what gh_basic_lookup answers
  *
  * Bits that are not named are 0.
  *
@@ -183,6 +188,34 @@ uint64_t gh_tally(const uint8_t *input, size_t input_len, uint32_t *out, size_t 
 
 /* Reads the record of that index, from 0, out of an input. Refusals: the input's. */
 uint64_t gh_route(const uint8_t *input, size_t input_len, uint32_t index);
+
+/* BIT MAPS, for cards without chunk memory: basic SAIL for lengths 0 to 16, and the record input itself for anything
+ * longer. The prefix of length l whose bits are the number v has place 2^l - 1 + v in both arrays. Its bit is bit
+ * i % 8, counted from the least significant, of byte i / 8, where i is the place; it is set where a route of the
+ * prefix stands. Its cell holds that route's hop, and 0 where none stands. The last bit, 131,071, is 0.
+ *
+ * Builds both from a record input, whatever they held. Refusals: the input's, 2. */
+uint64_t gh_basic_build(const uint8_t *input, size_t input_len,
+                        uint8_t *bits, size_t bits_len,
+                        uint16_t *cells, size_t cells_len);
+
+/* Looks one address up, down from the longest length: lengths 32 to 17 in the input, by halving, then 16 to 0 in the
+ * bits. The input is checked whole each time; for many addresses call gh_basic_lookup_many. Where bits and cells are
+ * those built from the input, the hop is that of the longest route that covers the address. Refusals: the input's, 2,
+ * then 13 where the first set bit met has a hop outside 1 to 32,767. */
+uint64_t gh_basic_lookup(const uint8_t *input, size_t input_len,
+                         const uint8_t *bits, size_t bits_len,
+                         const uint16_t *cells, size_t cells_len,
+                         uint32_t addr);
+
+/* Looks many addresses up: input and sizes are checked once, and out[k] becomes the low 32 bits of what
+ * gh_basic_lookup answers for addrs[k], a 13 among them too. Refusals: the input's, 2; also 2 where out_len is not
+ * addrs_len. */
+uint64_t gh_basic_lookup_many(const uint8_t *input, size_t input_len,
+                              const uint8_t *bits, size_t bits_len,
+                              const uint16_t *cells, size_t cells_len,
+                              const uint32_t *addrs, size_t addrs_len,
+                              uint32_t *out, size_t out_len);
 
 #ifdef __cplusplus
 }

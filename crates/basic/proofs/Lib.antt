@@ -4,3 +4,4 @@ pub mod Walks
 pub mod Checks
 pub mod Answers
 pub mod Serves
+pub mod Judged

@@ -18,7 +18,7 @@ use Rattle.basic_build.proofs.Answers.{built-accepts}
 
 module _ (s bs cs : List ℕ) (e : accepts (basicBuilt s bs cs .said) ≡ true) where
   pub built-good-routes : Good (routesIn s)
-  built-good-routes = records-good s (length s / 8) (built-accepts s bs cs e .good .records)
+  built-good-routes = records-good s (length s / 8) (built-accepts s bs cs e .ready .input .records)
 
   pub basic-built : MapsOf (routesIn s) (basicBuilt s bs cs .bits) (basicBuilt s bs cs .cells)
   basic-built = rw (built-accepts s bs cs e .arrays) (maps-of (routesIn s) built-good-routes)
@@ -28,5 +28,5 @@ module _ (s bs cs : List ℕ) (e : accepts (basicBuilt s bs cs .said) ≡ true) 
   unfolding basicSaid
   basic-serves a b =
       let m = built-accepts s bs cs e in
-      let ok = ready-is s _ _ (length s / 8) (m .good) (map-sizes (routesIn s)) in
+      let ok = ready-is s _ _ (length s / 8) (m .ready .input) (map-sizes (routesIn s)) in
       rw (m .arrays, ok) (maps-serve (routesIn s) built-good-routes a b)

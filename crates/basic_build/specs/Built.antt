@@ -11,6 +11,7 @@ use Rattle.routes.specs.Said.{Said, accepted, refused, refusedAt}
 use Rattle.routes.specs.declared.Route.{Route}
 use Rattle.basic.specs.Maps.{mapPlace, mapCells, mapBits}
 use Rattle.basic.specs.Calls.{readySaid}
+use Rattle.basic.specs.Meaning.{Unready, Prepared}
 
 -- what is told, and what the bits and the cells are at the end
 pub record MapsOut : Type 0 where
@@ -44,3 +45,8 @@ withRoute r cells = cond (leb (r .len) 16) (set cells (mapPlace (r .len) (slot (
 pub record Filled (rs : List Route) (bs cs : List ℕ) : Type 0 where
   pub bits : bs ≡ mapBits (mapCells rs)
   pub cells : cs ≡ mapCells rs
+
+-- what a build can say, in order, with all that then holds
+pub data BasicBuild (s bs cs : List ℕ) : Said → Type 0 where
+  unready : (x : Said) → Unready s (length bs) (length cs) x → BasicBuild s bs cs x
+  done : Prepared s (length bs) (length cs) → BasicBuild s bs cs (accepted [])

@@ -56,7 +56,7 @@ fault-low (WrongRecord.itself (WrongRoute.spare p a b h)) = omega arith
 fault-low (WrongRecord.order g h l) = omega arith
 
 module _ (P : List ℕ → Type 0) (s : List ℕ) (short : length s < 2 ^ 35) where
-  refused-fits : {x : Said} → Checked s x → accepts x ≡ false → Fits (2 ^ 32) P x
+  pub refused-fits : {x : Said} → Checked s x → accepts x ≡ false → Fits (2 ^ 32) P x
   refused-fits (Checked.ragged w) e = Fits.index 10 (length s / 8) (omega arith) (omega arith) (omega arith)
   refused-fits (Checked.stopped k f w l b x p) e = Fits.index f k (omega arith) (fault-low x) (omega arith)
   refused-fits (Checked.many w b m) e = Fits.number 6 (omega arith) (omega arith)

@@ -2,3 +2,4 @@
 mod Laws
 pub mod Fits
 pub mod Boundary
+pub mod Hops

@@ -2,4 +2,5 @@
 pub mod images;
 pub mod inputs;
 pub mod lookups;
+pub mod maps;
 pub mod tables;

@@ -9,7 +9,7 @@ shl-result : tie.Need-shl-result
 shl-result c = search needs
 
 sub-result : tie.Need-sub-result
-sub-result c = ones-fit (c .args .l) (c .pre)
+sub-result c = omega (arith, ones-fit (c .args .l) (c .pre))
 
 slot-requires : tie.Need-slot-requires
 slot-requires c κs = search needs
