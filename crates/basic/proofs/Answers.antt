@@ -14,7 +14,8 @@ use Rattle.routes.specs.Record.{GoodInput, routesIn}
 use Rattle.routes.specs.Said.{Said, accepted, refused, refusedAt, accepts, packed}
 use Rattle.basic.specs.Maps.{MapSizes}
 use Rattle.basic.specs.Walk.{basicWalk, metSaid}
-use Rattle.basic.specs.Calls.{readySaid, saysReady, basicSaid, saysBasicFound, saysBasicAnswer, packHop, hopWord, Many, many, manyOf, manyAfter, basicMany}
+use Rattle.basic.specs.Calls.{readySaid, saysReady, basicSaid, saysBasicFound, saysBasicAnswer}
+use Rattle.basic.specs.Calls.{hopWord, Many, many, manyOf, manyAfter, basicMany}
 use Rattle.basic.specs.declared.check.Ready.{Ready}
 use Rattle.basic.specs.declared.check.Ready.the-variants as ready
 use Rattle.basic.specs.declared.check.BasicAnswer.{BasicAnswer}
@@ -43,7 +44,8 @@ module _ (w : ℕ) (z : w ≡ 0 → ⊥) (h : ℕ) (e : h ≡ w - 1) where
 
 -- the arms of a lookup
 module _ (s bs cs : List ℕ) (a : ℕ) (x : Ready) (e : saysReady x ≡ readySaid s (length bs) (length cs)) where
-  pub look-good : (n : ℕ) → x ≡ ready.Good n → (y : BasicFound) (w : ℕ) → saysBasicFound y ≡ metSaid w → w ≡ basicWalk (routesIn s) bs cs a → saysBasicFound y ≡ basicSaid s bs cs a
+  pub look-good : (n : ℕ) → x ≡ ready.Good n → (y : BasicFound) (w : ℕ) → saysBasicFound y ≡ metSaid w → w ≡ basicWalk (routesIn s) bs cs a
+      → saysBasicFound y ≡ basicSaid s bs cs a
   unfolding basicSaid
   look-good n q y w p ew = p ∙ rw (said-good s (length bs) (length cs) x e n q, ew)
 
@@ -74,17 +76,18 @@ module _ (f : BasicFound) where
   word-number z x q e b = rw q (omega arith)
 
 -- many lookups
-pub each-word : (s bs cs : List ℕ) (n a w x : ℕ) (y : BasicFound) → GoodInput s n → MapSizes (length bs) (length cs) → w ≡ basicWalk (routesIn s) bs cs a → saysBasicFound y ≡ metSaid w → x ≡ hopWord (saysBasicFound y)
-    → x ≡ hopWord (basicSaid s bs cs a)
+pub each-word : (s bs cs : List ℕ) (n a w x : ℕ) (y : BasicFound) → GoodInput s n × MapSizes (length bs) (length cs)
+    → w ≡ basicWalk (routesIn s) bs cs a → saysBasicFound y ≡ metSaid w → x ≡ hopWord (saysBasicFound y) → x ≡ hopWord (basicSaid s bs cs a)
 unfolding basicSaid
-each-word s bs cs n a w x y ok z ew ey ex = ex ∙ ap hopWord ey ∙ rw (ready-is s (length bs) (length cs) n ok z, ew)
+each-word s bs cs n a w x y ok ew ey ex = ex ∙ ap hopWord ey ∙ rw (ready-is s (length bs) (length cs) n (ok .0) (ok .1), ew)
 
 module _ (s bs cs ads ws : List ℕ) where
   pub each-refused : (length ws ≡ length ads → ⊥) → many (saysBasicAnswer (answer.Refused 2)) ws ≡ manyOf s bs cs ads ws
   unfolding manyOf saysBasicAnswer
   each-refused h = rw (ne-eqb (length ws) (length ads) h)
 
-  pub each-done : (ys : List ℕ) (k : ℕ) → length ws ≡ length ads → length ys ≡ length ws → length ads ≤ k → ((j : ℕ) → j < k → getD ys j 0 ≡ hopWord (basicSaid s bs cs (getD ads j 0))) → many (saysBasicAnswer answer.Done) ys ≡ manyOf s bs cs ads ws
+  pub each-done : (ys : List ℕ) (k : ℕ) → length ws ≡ length ads → length ys ≡ length ws → length ads ≤ k
+      → ((j : ℕ) → j < k → getD ys j 0 ≡ hopWord (basicSaid s bs cs (getD ads j 0))) → many (saysBasicAnswer answer.Done) ys ≡ manyOf s bs cs ads ws
   unfolding manyOf saysBasicAnswer
   each-done ys k e q l h =
       rw (eq-eqb (length ws) (length ads) e)

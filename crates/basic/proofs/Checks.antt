@@ -63,21 +63,29 @@ module _ (s : List ℕ) (i : Input) (e : saysInput i ≡ inputSaid s) (b c : ℕ
   ready-many q = rw (told-many s i e q)
 
 -- accepted exactly where the input is good and the sizes are right
-pub ready-means : (s : List ℕ) (b c : ℕ) (vs : List ℕ) → readySaid s b c ≡ accepted vs → (vs ≡ length s / 8 ∷ []) × GoodInput s (length s / 8) × MapSizes b c
+pub record Ready-is (s : List ℕ) (b c : ℕ) (vs : List ℕ) : Type 0 where
+  pub told : vs ≡ length s / 8 ∷ []
+  pub input : GoodInput s (length s / 8)
+  pub sizes : MapSizes b c
+
+pub ready-means : (s : List ℕ) (b c : ℕ) (vs : List ℕ) → readySaid s b c ≡ accepted vs → Ready-is s b c vs
 unfolding readySaid
 ready-means s b c vs e = go (input-checked s) e
   where
-    go : {x : Said} → Checked s x → andThen x (cond (sizesFit b c) (accepted (length s / 8 ∷ [])) (refused 2)) ≡ accepted vs → (vs ≡ length s / 8 ∷ []) × GoodInput s (length s / 8) × MapSizes b c
+    sized : Said
+    sized = cond (sizesFit b c) (accepted (length s / 8 ∷ [])) (refused 2)
+
+    go : {x : Said} → Checked s x → andThen x sized ≡ accepted vs → Ready-is s b c vs
     go (Checked.ragged w) q = absurd (let z : _≡_ {A = ℕ} 0 1 = cc in omega arith)
     go (Checked.stopped k f w l p x y) q = absurd (let z : _≡_ {A = ℕ} 0 1 = cc in omega arith)
     go (Checked.many w a m) q = absurd (let z : _≡_ {A = ℕ} 0 1 = cc in omega arith)
     go (Checked.good m w r) q = at (decided (sizesFit b c)) q
       where
-        at : (sizesFit b c ≡ true) ⊎ (sizesFit b c ≡ false) → cond (sizesFit b c) (accepted (length s / 8 ∷ [])) (refused 2) ≡ accepted vs → (vs ≡ length s / 8 ∷ []) × GoodInput s (length s / 8) × MapSizes b c
+        at : (sizesFit b c ≡ true) ⊎ (sizesFit b c ≡ false) → sized ≡ accepted vs → Ready-is s b c vs
         at (inl t) q =
             let z : _≡_ {A = Said} (accepted (length s / 8 ∷ [])) (accepted vs) = rw t at q in
             let k : m ≡ length s / 8 = omega arith in
-            (cc, record { records = subst (Records s) k r; whole = w ∙ ap (λ (x : ℕ). x * 8) k }, fit-sizes b c t)
+            record { told = cc; input = record { records = subst (Records s) k r; whole = w ∙ ap (λ (x : ℕ). x * 8) k }; sizes = fit-sizes b c t }
         at (inr t) q = absurd (let y : _≡_ {A = Said} (refused 2) (accepted vs) = rw t at q in let z : _≡_ {A = ℕ} 0 1 = cc in omega arith)
 
 pub ready-is : (s : List ℕ) (b c n : ℕ) → GoodInput s n → MapSizes b c → readySaid s b c ≡ accepted (n ∷ [])
@@ -103,5 +111,5 @@ module _ (s : List ℕ) (b c : ℕ) (x : Ready) (e : saysReady x ≡ readySaid s
   pub good-told : (n : ℕ) → x ≡ ready.Good n → GoodInput s n × MapSizes b c
   good-told n q =
       let m = ready-means s b c (n ∷ []) (said-good n q) in
-      let k : length s / 8 ≡ n = cc (m .0) in
-      (subst (GoodInput s) k (m .1), m .2)
+      let k : length s / 8 ≡ n = cc (m .told) in
+      (subst (GoodInput s) k (m .input), m .sizes)

@@ -98,7 +98,8 @@ module _ (rs : List Route) (good : Good rs) (a : ℕ) (bound : a < 2 ^ 32) where
   down-hop zero h e = absurd (omega arith)
   down-hop (suc n) h e = go (listed rs a n) refl (down-hop n h) e
     where
-      go : (x : ℕ) → listed rs a n ≡ x → (down (listed rs a) n ≡ suc h → (1 ≤ h) × (h ≤ 32767)) → orNext x (down (listed rs a) n) ≡ suc h → (1 ≤ h) × (h ≤ 32767)
+      go : (x : ℕ) → listed rs a n ≡ x → (down (listed rs a) n ≡ suc h → (1 ≤ h) × (h ≤ 32767)) → orNext x (down (listed rs a) n) ≡ suc h
+          → (1 ≤ h) × (h ≤ 32767)
       go zero q ih e = ih e
       go (suc k) q ih e = found-hop (here n (slot n a)) rs good h (q ∙ e)
 

@@ -59,7 +59,9 @@ module _ (rs : List Route) (bs cs : List ℕ) (a : ℕ) where
 
   -- a longest route of more than 16 bits decides
   pub walk-list : Good rs → (h : ℕ) (w : Longest rs 32 a h) → 16 < w .route .len → basicWalk rs bs cs a ≡ suc h
-  walk-list good h w long = down-at (levelSays rs bs cs a) l 33 (omega (arith, short)) (λ q. omega (arith, says)) (λ k p q. level-long k (omega arith) ∙ silent k p (omega arith)) ∙ says
+  walk-list good h w long =
+      down-at (levelSays rs bs cs a) l 33 (omega (arith, short)) (λ q. omega (arith, says)) (λ k p q. level-long k (omega arith) ∙ silent k p (omega arith))
+      ∙ says
     where
       l : ℕ
       l = w .route .len
@@ -83,7 +85,8 @@ module _ (s : List ℕ) (n a : ℕ) (ok : GoodInput s n) (bs cs : List ℕ) (k :
   all : n ≡ length s / 8
   all = omega (arith, ok .whole)
 
-  pub walk-long : (r : Route) (h : ℕ) → (k ≡ 0 → ⊥) → r ≡ recordAt s (k - 1) → h ≡ r .hop → h < 65536 → (1 + h ≡ basicWalk (routesIn s) bs cs a) × (1 + h ≤ 65536)
+  pub walk-long : (r : Route) (h : ℕ) → (k ≡ 0 → ⊥) → r ≡ recordAt s (k - 1) → h ≡ r .hop → h < 65536
+      → (1 + h ≡ basicWalk (routesIn s) bs cs a) × (1 + h ≤ 65536)
   walk-long r h z er eh b = (omega (arith, walk-list (routesIn s) bs cs a good h longest (omega (arith, x .enough))), omega arith)
     where
       x : LongestAt s n a 17 (k - 1)

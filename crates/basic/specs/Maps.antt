@@ -5,6 +5,7 @@ use mathlib.Core.Path.{_≡_}
 use Prim.Native.Nat.{ℕ, suc, _+_, _-_, _*_, _/_, _%_, _^_}
 use lib.Dec.{ltb, eqb}
 use lib.ListN.{getD}
+use Rattle.bits.specs.Slot.{slot}
 use Rattle.bits.specs.Bit.{bitAt, packed}
 use Rattle.bits.specs.Search.{firstOf}
 use Rattle.bits.specs.Tab.{tabulate}
@@ -41,6 +42,13 @@ mapBits cells = tabulate 16384 (λ j. packed (λ b. hopThere cells (8 * j + b)) 
 -- bit i of the bytes, "lowest bit first": bit i % 8, counted from the least significant, of byte i / 8
 abbrev pub isSetAt : List ℕ → ℕ → Bool
 isSetAt bits i = eqb (bitAt (getD bits (i / 8) 0) (i % 8)) 1
+
+-- the bit, and the cell, of the first l bits of the address a
+abbrev pub bitFor : List ℕ → ℕ → ℕ → Bool
+bitFor bits a l = isSetAt bits (mapPlace l (slot l a))
+
+abbrev pub cellFor : List ℕ → ℕ → ℕ → ℕ
+cellFor cells a l = getD cells (mapPlace l (slot l a)) 0
 
 -- the sizes of the two arrays
 pub record MapSizes (bits cells : ℕ) : Type 0 where

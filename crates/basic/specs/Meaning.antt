@@ -10,7 +10,7 @@ use Rattle.routes.specs.Record.{GoodInput, routesIn}
 use Rattle.routes.specs.Said.{Said, accepted, refused, accepts}
 use Rattle.routes.specs.declared.Route.{Route}
 use Rattle.standing.specs.Cells.{here, covers, Longest}
-use Rattle.basic.specs.Maps.{mapPlace, isSetAt, MapSizes}
+use Rattle.basic.specs.Maps.{mapPlace, isSetAt, bitFor, cellFor, MapSizes}
 
 -- The two arrays are those of the routes rs. Every place but the last is the place of a prefix (`place-prefix`), so this says all of them
 pub record MapsOf (rs : List Route) (bits cells : List ℕ) : Type 0 where
@@ -34,14 +34,14 @@ pub data Serves (rs : List Route) (a : ℕ) : Said → Type 0 where
 -- What each call can say, in order, with all that then holds.
 
 -- "Refusals, in order: the record input's; 2 for another array size"
-pub data Unready (s : List ℕ) (bits cells : ℕ) : Said → Type 0 where
+pub data Unready (s bits cells : List ℕ) : Said → Type 0 where
   bad-input : (x : Said) → inputSaid s ≡ x → accepts x ≡ false → Unready s bits cells x
-  bad-size : (n : ℕ) → GoodInput s n → (MapSizes bits cells → ⊥) → Unready s bits cells (refused 2)
+  bad-size : (n : ℕ) → GoodInput s n → (MapSizes (length bits) (length cells) → ⊥) → Unready s bits cells (refused 2)
 
--- none of them
-pub record Prepared (s : List ℕ) (bits cells : ℕ) : Type 0 where
+-- neither
+pub record Prepared (s bits cells : List ℕ) : Type 0 where
   pub input : GoodInput s (length s / 8)
-  pub sizes : MapSizes bits cells
+  pub sizes : MapSizes (length bits) (length cells)
 
 -- no route longer than 16 bits covers the address
 abbrev pub NoLong : List Route → ℕ → Type 0
@@ -50,25 +50,25 @@ NoLong rs a = (r : Route) → List·Memᴰ r rs → 16 < r .len → covers 32 a 
 -- "the first set bit met on the way down": that of the first l bits, and none of more, up to 16, is set
 pub record FirstSet (bits : List ℕ) (a l : ℕ) : Type 0 where
   pub short : l ≤ 16
-  pub set : isSetAt bits (mapPlace l (slot l a)) ≡ true
-  pub none-longer : (k : ℕ) → l < k → k ≤ 16 → isSetAt bits (mapPlace k (slot k a)) ≡ false
+  pub set : bitFor bits a l ≡ true
+  pub none-longer : (k : ℕ) → l < k → k ≤ 16 → bitFor bits a k ≡ false
 
 -- one lookup
 pub data BasicLookup (s bits cells : List ℕ) (a : ℕ) : Said → Type 0 where
-  unready : (x : Said) → Unready s (length bits) (length cells) x → BasicLookup s bits cells a x
+  unready : (x : Said) → Unready s bits cells x → BasicLookup s bits cells a x
   -- "find anything longer in the record list": no bit is looked at
-  in-list : Prepared s (length bits) (length cells) → (h : ℕ) (w : Longest (routesIn s) 32 a h) → 16 < w .route .len → BasicLookup s bits cells a (accepted (h ∷ []))
+  in-list : Prepared s bits cells → (h : ℕ) (w : Longest (routesIn s) 32 a h) → 16 < w .route .len → BasicLookup s bits cells a (accepted (h ∷ []))
   -- the first set bit's hop
-  met : Prepared s (length bits) (length cells) → NoLong (routesIn s) a → (l : ℕ) → FirstSet bits a l
-      → 1 ≤ getD cells (mapPlace l (slot l a)) 0 → getD cells (mapPlace l (slot l a)) 0 ≤ 32767 → BasicLookup s bits cells a (accepted (getD cells (mapPlace l (slot l a)) 0 ∷ []))
+  met : Prepared s bits cells → NoLong (routesIn s) a → (l : ℕ) → FirstSet bits a l → 1 ≤ cellFor cells a l → cellFor cells a l ≤ 32767
+      → BasicLookup s bits cells a (accepted (cellFor cells a l ∷ []))
   -- "13 where the first set bit met on the way down has a hop outside 1 to 32,767"
-  broken : Prepared s (length bits) (length cells) → NoLong (routesIn s) a → (l : ℕ) → FirstSet bits a l
-      → (1 ≤ getD cells (mapPlace l (slot l a)) 0 → getD cells (mapPlace l (slot l a)) 0 ≤ 32767 → ⊥) → BasicLookup s bits cells a (refused 13)
-  -- no bit is set, level 0 among them
-  no-route : Prepared s (length bits) (length cells) → NoLong (routesIn s) a → ((l : ℕ) → l ≤ 16 → isSetAt bits (mapPlace l (slot l a)) ≡ false) → BasicLookup s bits cells a (accepted [])
+  broken : Prepared s bits cells → NoLong (routesIn s) a → (l : ℕ) → FirstSet bits a l → (1 ≤ cellFor cells a l → cellFor cells a l ≤ 32767 → ⊥)
+      → BasicLookup s bits cells a (refused 13)
+  -- no bit is set, that of level 0 among them
+  no-route : Prepared s bits cells → NoLong (routesIn s) a → ((l : ℕ) → l ≤ 16 → bitFor bits a l ≡ false) → BasicLookup s bits cells a (accepted [])
 
 -- many
 pub data BasicLookups (s bits cells addrs words : List ℕ) : Said → Type 0 where
-  unready : (x : Said) → Unready s (length bits) (length cells) x → BasicLookups s bits cells addrs words x
-  uneven : Prepared s (length bits) (length cells) → (length words ≡ length addrs → ⊥) → BasicLookups s bits cells addrs words (refused 2)
-  done : Prepared s (length bits) (length cells) → length words ≡ length addrs → BasicLookups s bits cells addrs words (accepted [])
+  unready : (x : Said) → Unready s bits cells x → BasicLookups s bits cells addrs words x
+  uneven : Prepared s bits cells → (length words ≡ length addrs → ⊥) → BasicLookups s bits cells addrs words (refused 2)
+  done : Prepared s bits cells → length words ≡ length addrs → BasicLookups s bits cells addrs words (accepted [])

@@ -3,18 +3,17 @@ use mathlib.Core.Bool.{cond}
 use mathlib.Core.List.{List, [], _∷_}
 use Prim.Native.Nat.{ℕ, zero, suc}
 use lib.Dec.{ltb}
-use lib.ListN.{getD}
 use Rattle.bits.specs.Slot.{slot}
 use Rattle.routes.specs.Said.{Said, accepted, refused}
 use Rattle.routes.specs.Input.{hopFine}
 use Rattle.routes.specs.declared.Route.{Route}
 use Rattle.standing.specs.Cells.{here, first}
 use Rattle.standing.specs.Down.{down}
-use Rattle.basic.specs.Maps.{mapPlace, isSetAt}
+use Rattle.basic.specs.Maps.{bitFor, cellFor}
 
 -- what the maps say of the first l bits of the address a: 1 + the hop in their cell where their bit is set, and 0 where it is not
 unfoldable pub mapped : List ℕ → List ℕ → ℕ → ℕ → ℕ
-mapped bits cells a l = cond (isSetAt bits (mapPlace l (slot l a))) (suc (getD cells (mapPlace l (slot l a)) 0)) 0
+mapped bits cells a l = cond (bitFor bits a l) (suc (cellFor cells a l)) 0
 
 -- what the records say: 1 + the hop of the route that they are the prefix of, and 0 where there is none
 abbrev pub listed : List Route → ℕ → ℕ → ℕ

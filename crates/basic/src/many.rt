@@ -35,7 +35,8 @@ fn each(
     out: &mut [u32],
 ) -> BasicAnswer
     requires { ⌜ GoodInput (now input) n × MapSizes (length (now bits)) (length (now cells)) ⌝ }
-    ensures { λ r. ⌜ many (saysBasicAnswer r) (now (out .exit)) ≡ manyOf (now (input .entry)) (now (bits .entry)) (now (cells .entry)) (now (addrs .entry)) (now (out .entry)) ⌝ }
+    ensures { λ r. ⌜ many (saysBasicAnswer r) (now (out .exit))
+        ≡ manyOf (now (input .entry)) (now (bits .entry)) (now (cells .entry)) (now (addrs .entry)) (now (out .entry)) ⌝ }
 {
     let m = addrs.len();
     if out.len() != m {
@@ -57,7 +58,8 @@ pub fn lookup_many(
     addrs: &[u32],
     out: &mut [u32],
 ) -> BasicAnswer
-    ensures { λ r. ⌜ many (saysBasicAnswer r) (now (out .exit)) ≡ basicMany (now (input .entry)) (now (bits .entry)) (now (cells .entry)) (now (addrs .entry)) (now (out .entry)) ⌝ }
+    ensures { λ r. ⌜ many (saysBasicAnswer r) (now (out .exit))
+        ≡ basicMany (now (input .entry)) (now (bits .entry)) (now (cells .entry)) (now (addrs .entry)) (now (out .entry)) ⌝ }
 {
     match check(input, bits.len(), cells.len()) {
         Ready::Good(n) => each(input, n, bits, cells, addrs, out),

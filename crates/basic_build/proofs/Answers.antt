@@ -16,7 +16,7 @@ use Rattle.basic.specs.declared.check.Ready.the-variants as ready
 use Rattle.basic.specs.declared.check.BasicAnswer.the-variants as answer
 use Rattle.basic.proofs.Checks.{ready-means, said-good, said-refused, said-number}
 use Rattle.basic.proofs.Judged.{unready-only, unready-refuses, prepared-only, ready-judged}
-use Rattle.basic_build.specs.Built.{mapsOut, mapsAfter, basicBuilt, Filled, BasicBuild}
+use Rattle.basic_build.specs.Built.{MapsOut, mapsOut, mapsAfter, basicBuilt, Filled, BasicBuild}
 
 pub filled-in : (s : List ℕ) (n : ℕ) → GoodInput s n → (ys zs : List ℕ) → zs ≡ mapCells (routesOf s n) → ys ≡ mapBits zs → Filled (routesIn s) ys zs
 filled-in s n ok ys zs e q =
@@ -26,7 +26,8 @@ filled-in s n ok ys zs e q =
 
 -- the arms of the check
 module _ (s bs cs : List ℕ) (x : Ready) (e : saysReady x ≡ readySaid s (length bs) (length cs)) where
-  pub built-good : (n : ℕ) → x ≡ ready.Good n → (ys zs : List ℕ) → Filled (routesIn s) ys zs → mapsOut (saysBasicAnswer answer.Done) ys zs ≡ basicBuilt s bs cs
+  pub built-good : (n : ℕ) → x ≡ ready.Good n → (ys zs : List ℕ) → Filled (routesIn s) ys zs
+      → mapsOut (saysBasicAnswer answer.Done) ys zs ≡ basicBuilt s bs cs
   unfolding basicBuilt saysBasicAnswer
   built-good n q ys zs f = rw (said-good s (length bs) (length cs) x e n q, f .bits, f .cells)
 
@@ -41,7 +42,7 @@ module _ (s bs cs : List ℕ) (x : Ready) (e : saysReady x ≡ readySaid s (leng
 module _ (s bs cs : List ℕ) where
   -- a build that is accepted: the input is good, the sizes are right, and the arrays are its maps
   pub record Accepted : Type 0 where
-    pub ready : Prepared s (length bs) (length cs)
+    pub ready : Prepared s bs cs
     pub arrays : basicBuilt s bs cs ≡ mapsOut (accepted []) (mapBits (mapCells (routesIn s))) (mapCells (routesIn s))
 
   pub built-accepts : accepts (basicBuilt s bs cs .said) ≡ true → Accepted
@@ -51,7 +52,7 @@ module _ (s bs cs : List ℕ) where
       go : (x : Said) → readySaid s (length bs) (length cs) ≡ x → accepts (mapsAfter x (routesIn s) bs cs .said) ≡ true → Accepted
       go (Said.accepted vs) q t =
           let p = ready-means s (length bs) (length cs) vs q in
-          record { ready = record { input = p .1; sizes = p .2 }; arrays = rw q refl }
+          record { ready = record { input = p .input; sizes = p .sizes }; arrays = rw q refl }
       go (Said.refused n) q t = absurd (false≢true t)
       go (Said.refusedAt n k) q t = absurd (false≢true t)
 
@@ -60,7 +61,10 @@ module _ (s bs cs : List ℕ) where
   unfolding basicBuilt
   refused-leaves e = go (readySaid s (length bs) (length cs)) e
     where
-      go : (x : Said) → accepts (mapsAfter x (routesIn s) bs cs .said) ≡ false → (mapsAfter x (routesIn s) bs cs .bits ≡ bs) × (mapsAfter x (routesIn s) bs cs .cells ≡ cs)
+      end : Said → MapsOut
+      end x = mapsAfter x (routesIn s) bs cs
+
+      go : (x : Said) → accepts (end x .said) ≡ false → (end x .bits ≡ bs) × (end x .cells ≡ cs)
       go (Said.accepted vs) t = absurd (true≢false t)
       go (Said.refused n) t = (refl, refl)
       go (Said.refusedAt n k) t = (refl, refl)
@@ -68,17 +72,16 @@ module _ (s bs cs : List ℕ) where
   -- it says exactly what stands beside the condition that holds
   pub build-only : (x : Said) → BasicBuild s bs cs x → basicBuilt s bs cs .said ≡ x
   unfolding basicBuilt
-  build-only _ (BasicBuild.unready x u) = off x (unready-only s (length bs) (length cs) x u) (unready-refuses u)
+  build-only _ (BasicBuild.unready x u) = rw (unready-only s bs cs x u) (off x (unready-refuses u))
     where
-      off : (x : Said) → readySaid s (length bs) (length cs) ≡ x → accepts x ≡ false → mapsAfter (readySaid s (length bs) (length cs)) (routesIn s) bs cs .said ≡ x
-      off (Said.accepted vs) e h = absurd (true≢false h)
-      off (Said.refused n) e h = rw e
-      off (Said.refusedAt n k) e h = rw e
-  build-only x (BasicBuild.done p) = rw (prepared-only s (length bs) (length cs) p)
+      off : (x : Said) → accepts x ≡ false → mapsAfter x (routesIn s) bs cs .said ≡ x
+      off (Said.accepted vs) h = absurd (true≢false h)
+      off (Said.refused n) h = refl
+      off (Said.refusedAt n k) h = refl
+  build-only x (BasicBuild.done p) = rw (prepared-only s bs cs p)
 
   pub build-judged : BasicBuild s bs cs (basicBuilt s bs cs .said)
-  build-judged =
-      ready-judged s (length bs) (length cs) (λ x. BasicBuild s bs cs (basicBuilt s bs cs .said)) (λ x u. told (BasicBuild.unready x u)) (λ p. told (BasicBuild.done p))
+  build-judged = ready-judged s bs cs (BasicBuild s bs cs (basicBuilt s bs cs .said)) (λ x u. told (BasicBuild.unready x u)) (λ p. told (BasicBuild.done p))
     where
       told : {x : Said} → BasicBuild s bs cs x → BasicBuild s bs cs (basicBuilt s bs cs .said)
       told c = rw (build-only _ c) c

@@ -171,6 +171,7 @@ byte-none f = refl
 pub byte-whole : (f : ℕ → Bool) (b x : ℕ) → b ≤ 8 → 8 ≤ b → x ≡ packed f b → x ≡ packed f 8
 byte-whole f b x h l e = e ∙ ap (packed f) (omega arith)
 
-pub bytes-all : (cs bs : List ℕ) (j : ℕ) → length bs ≡ 16384 → 16384 ≤ j → ((i : ℕ) → i < j → getD bs i 0 ≡ packed (λ b. hopThere cs (8 * i + b)) 8) → bs ≡ mapBits cs
+pub bytes-all : (cs bs : List ℕ) (j : ℕ) → length bs ≡ 16384 → 16384 ≤ j
+    → ((i : ℕ) → i < j → getD bs i 0 ≡ packed (λ b. hopThere cs (8 * i + b)) 8) → bs ≡ mapBits cs
 unfolding mapBits
 bytes-all cs bs j e l h = is-tabulate 0 bs 16384 (λ i. packed (λ b. hopThere cs (8 * i + b)) 8) e (λ i u. h i (omega arith))

@@ -48,5 +48,5 @@ pub record Filled (rs : List Route) (bs cs : List ℕ) : Type 0 where
 
 -- what a build can say, in order, with all that then holds
 pub data BasicBuild (s bs cs : List ℕ) : Said → Type 0 where
-  unready : (x : Said) → Unready s (length bs) (length cs) x → BasicBuild s bs cs x
-  done : Prepared s (length bs) (length cs) → BasicBuild s bs cs (accepted [])
+  unready : (x : Said) → Unready s bs cs x → BasicBuild s bs cs x
+  done : Prepared s bs cs → BasicBuild s bs cs (accepted [])

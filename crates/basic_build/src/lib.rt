@@ -102,7 +102,8 @@ fn fill(input: &[u8], n: usize, bits: &mut [u8], cells: &mut [u16])
 
 // The maps of a record input. A refusal leaves both arrays as they were.
 pub fn build(input: &[u8], bits: &mut [u8], cells: &mut [u16]) -> BasicAnswer
-    ensures { λ r. ⌜ mapsOut (saysBasicAnswer r) (now (bits .exit)) (now (cells .exit)) ≡ basicBuilt (now (input .entry)) (now (bits .entry)) (now (cells .entry)) ⌝ }
+    ensures { λ r. ⌜ mapsOut (saysBasicAnswer r) (now (bits .exit)) (now (cells .exit))
+        ≡ basicBuilt (now (input .entry)) (now (bits .entry)) (now (cells .entry)) ⌝ }
 {
     match check(input, bits.len(), cells.len()) {
         Ready::Good(n) => {

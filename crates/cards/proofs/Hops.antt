@@ -34,12 +34,13 @@ unfolding hopsCard
 hops-card-is s ws m r e q = ap (λ (x : ℕ). wordsCard x ws) q ∙ ap hopsCard e
 
 -- the refusals before every call
-unready-fits : (P : List ℕ → Type 0) (s : List ℕ) (b c : ℕ) → length s < 2 ^ 35 → {x : Said} → Unready s b c x → Fits (2 ^ 32) P x
-unready-fits P s b c short (Unready.bad-input x e h) = refused-fits P s short (subst (Checked s) e (input-checked s)) h
-unready-fits P s b c short (Unready.bad-size n g h) = Fits.number 2 (omega arith) (omega arith)
+unready-fits : (P : List ℕ → Type 0) (s bs cs : List ℕ) → length s < 2 ^ 35 → {x : Said} → Unready s bs cs x → Fits (2 ^ 32) P x
+unready-fits P s bs cs short (Unready.bad-input x e h) = refused-fits P s short (subst (Checked s) e (input-checked s)) h
+unready-fits P s bs cs short (Unready.bad-size n g h) = Fits.number 2 (omega arith) (omega arith)
 
 -- a lookup after them: a hop of 1 to 32,767, no route, or 13
-looked-fits : (most : ℕ) (s bs cs : List ℕ) (a : ℕ) → ({x : Said} → Unready s (length bs) (length cs) x → Fits most HopFits x) → {x : Said} → BasicLookup s bs cs a x → Fits most HopFits x
+looked-fits : (most : ℕ) (s bs cs : List ℕ) (a : ℕ) → ({x : Said} → Unready s bs cs x → Fits most HopFits x)
+    → {x : Said} → BasicLookup s bs cs a x → Fits most HopFits x
 looked-fits most s bs cs a off (BasicLookup.unready x u) = off u
 looked-fits most s bs cs a off (BasicLookup.in-list p h w l) =
     let f = good-fine (routesIn s) (records-good s (length s / 8) (p .input .records)) (w .route) (w .listed) in
@@ -70,14 +71,15 @@ module _ (s : List ℕ) (short : length s < 2 ^ 35) (bs cs : List ℕ) where
       go (BasicLookups.done p e) = Fits.values [] NoneFits.none
 
 -- each word of `out`: an input that is looked up in is good, so no index is told and 32 bits are all of the answer
-ready-word : (s bs cs : List ℕ) (a : ℕ) → Prepared s (length bs) (length cs) → unpackHop (hopWord (basicSaid s bs cs a)) ≡ basicSaid s bs cs a
-ready-word s bs cs a p = word-read _ (looked-fits 0 s bs cs a (λ u. absurd (not-both s (length bs) (length cs) u p)) (lookup-judged s bs cs a))
+ready-word : (s bs cs : List ℕ) (a : ℕ) → Prepared s bs cs → unpackHop (hopWord (basicSaid s bs cs a)) ≡ basicSaid s bs cs a
+ready-word s bs cs a p = word-read _ (looked-fits 0 s bs cs a (λ u. absurd (not-both s bs cs u p)) (lookup-judged s bs cs a))
 
 pub gh-basic-lookup-many-read : (s bs cs ads ws : List ℕ) → accepts (basicMany s bs cs ads ws .said) ≡ true → (k : ℕ) → k < length ads
     → unpackHop (getD (basicMany s bs cs ads ws .words) k 0) ≡ basicSaid s bs cs (getD ads k 0)
 gh-basic-lookup-many-read s bs cs ads ws e k u = ap unpackHop (many-words s bs cs ads ws e k u) ∙ go (many-judged s bs cs ads ws) e
   where
-    go : {x : Said} → BasicLookups s bs cs ads ws x → accepts x ≡ true → unpackHop (hopWord (basicSaid s bs cs (getD ads k 0))) ≡ basicSaid s bs cs (getD ads k 0)
+    go : {x : Said} → BasicLookups s bs cs ads ws x → accepts x ≡ true
+        → unpackHop (hopWord (basicSaid s bs cs (getD ads k 0))) ≡ basicSaid s bs cs (getD ads k 0)
     go (BasicLookups.unready x n) h = absurd (true≢false (sym h ∙ unready-refuses n))
     go (BasicLookups.uneven p n) h = absurd (false≢true h)
     go (BasicLookups.done p q) h = ready-word s bs cs (getD ads k 0) p

@@ -8,7 +8,8 @@ ghost use Rattle.cards.specs.Maps.{mapsCard, mapsCardOf, hopsCard};
 // The maps of the input's routes.
 #[no_mangle]
 pub extern "C" fn gh_basic_build(input: &[u8], bits: &mut [u8], cells: &mut [u16]) -> u64
-    ensures { λ r. ⌜ mapsCard r (now (bits .exit)) (now (cells .exit)) ≡ mapsCardOf (basicBuilt (now (input .entry)) (now (bits .entry)) (now (cells .entry))) ⌝ }
+    ensures { λ r. ⌜ mapsCard r (now (bits .exit)) (now (cells .exit))
+        ≡ mapsCardOf (basicBuilt (now (input .entry)) (now (bits .entry)) (now (cells .entry))) ⌝ }
 {
     packing::maps::answered(basic_build::build(input, bits, cells))
 }
@@ -30,7 +31,8 @@ pub extern "C" fn gh_basic_lookup_many(
     addrs: &[u32],
     out: &mut [u32],
 ) -> u64
-    ensures { λ r. ⌜ wordsCard r (now (out .exit)) ≡ hopsCard (basicMany (now (input .entry)) (now (bits .entry)) (now (cells .entry)) (now (addrs .entry)) (now (out .entry))) ⌝ }
+    ensures { λ r. ⌜ wordsCard r (now (out .exit))
+        ≡ hopsCard (basicMany (now (input .entry)) (now (bits .entry)) (now (cells .entry)) (now (addrs .entry)) (now (out .entry))) ⌝ }
 {
     packing::maps::answered(basic::many::lookup_many(input, bits, cells, addrs, out))
 }

@@ -35,7 +35,8 @@ use Rattle.demands.proofs.Demand1.{exactly}
 use Rattle.demands.proofs.Demand2.{uncounted}
 
 -- Demand 1. "A refusal is never a hop": the answer of a lookup that is refused is the number alone.
-pub refused-no-hop-basic : (input bits cells : List ℕ) (a : ℕ) (r : BasicFound) → saysBasicFound r ≡ basicSaid input bits cells a → (n : ℕ) → basicSaid input bits cells a ≡ refused n → r ≡ found.Refused n
+pub refused-no-hop-basic : (input bits cells : List ℕ) (a : ℕ) (r : BasicFound) → saysBasicFound r ≡ basicSaid input bits cells a
+    → (n : ℕ) → basicSaid input bits cells a ≡ refused n → r ≡ found.Refused n
 unfolding saysBasicFound
 refused-no-hop-basic input bits cells a r e n q = basic-found-injective r (found.Refused n) (e ∙ q)
 
@@ -50,20 +51,24 @@ module _ (input bits cells : List ℕ) where
   refused-number-basic-lookup a = exactly (BasicLookup input bits cells a) _ _ refl (lookup-judged input bits cells a) (lookup-only input bits cells a)
 
   -- many lookups: the input's, 2 for the maps, 2 for the two lengths
-  pub refused-number-basic-lookup-many : (addrs words : List ℕ) (s : Said) → (basicMany input bits cells addrs words .said ≡ s) ↔ BasicLookups input bits cells addrs words s
+  pub refused-number-basic-lookup-many : (addrs words : List ℕ) (s : Said)
+      → (basicMany input bits cells addrs words .said ≡ s) ↔ BasicLookups input bits cells addrs words s
   refused-number-basic-lookup-many addrs words =
       exactly (BasicLookups input bits cells addrs words) _ _ refl (many-judged input bits cells addrs words) (many-only input bits cells addrs words)
 
   -- "State and buffers stay exactly as they were"
-  pub refused-leaves-all-basic-build : accepts (basicBuilt input bits cells .said) ≡ false → (basicBuilt input bits cells .bits ≡ bits) × (basicBuilt input bits cells .cells ≡ cells)
+  pub refused-leaves-all-basic-build : accepts (basicBuilt input bits cells .said) ≡ false
+      → (basicBuilt input bits cells .bits ≡ bits) × (basicBuilt input bits cells .cells ≡ cells)
   refused-leaves-all-basic-build = refused-leaves input bits cells
 
-  pub refused-leaves-all-basic-lookup-many : (addrs words : List ℕ) → accepts (basicMany input bits cells addrs words .said) ≡ false → basicMany input bits cells addrs words .words ≡ words
+  pub refused-leaves-all-basic-lookup-many : (addrs words : List ℕ) → accepts (basicMany input bits cells addrs words .said) ≡ false
+      → basicMany input bits cells addrs words .words ≡ words
   refused-leaves-all-basic-lookup-many = refused-leaves-words input bits cells
 
 -- Demand 2. "For every good record input, the arrays built from it and every address, its hop equals that of the covering rule."
 module _ (input bits cells : List ℕ) (e : accepts (basicBuilt input bits cells .said) ≡ true) where
-  pub basic-serves : (a : ℕ) → a < 2 ^ 32 → Serves (routesIn input) a (basicSaid input (basicBuilt input bits cells .bits) (basicBuilt input bits cells .cells) a)
+  pub basic-serves : (a : ℕ) → a < 2 ^ 32
+      → Serves (routesIn input) a (basicSaid input (basicBuilt input bits cells .bits) (basicBuilt input bits cells .cells) a)
   basic-serves = worth.basic-serves input bits cells e
 
   -- the arrays, bit by bit and cell by cell
@@ -78,7 +83,8 @@ module _ (input bits cells : List ℕ) (e : accepts (basicBuilt input bits cells
 serves-best : (rs : List Route) → Good rs → (a n : ℕ) {s : Said} → Serves rs a s → s ≡ uncounted (hopSaid n (best rs 32 a))
 unfolding hopSaid
 serves-best rs g a n (Serves.hop h w) =
-    rw (best-only rs g 32 a (best rs 32 a) h (best-is rs 32 a) (Best.one w), ne-eqb h 0 (λ z. omega (arith, good-fine rs g (w .route) (w .listed) .hop-one, w .its-hop)))
+    let f = good-fine rs g (w .route) (w .listed) in
+    rw (best-only rs g 32 a (best rs 32 a) h (best-is rs 32 a) (Best.one w), ne-eqb h 0 (λ z. omega (arith, f .hop-one, w .its-hop)))
 serves-best rs g a n (Serves.none k) = rw (covers-none rs g 32 a k)
 
 pub basic-served-once : (rs : List Route) → Good rs → (a : ℕ) {s u : Said} → Serves rs a s → Serves rs a u → s ≡ u
@@ -90,7 +96,8 @@ no-hop rs a (Serves.none k) e = k
 
 module _ (input bits cells : List ℕ) (e : accepts (basicBuilt input bits cells .said) ≡ true) (a : ℕ) (h : a < 2 ^ 32) where
   -- "and no route exactly when none covers"
-  pub no-route-basic : (basicSaid input (basicBuilt input bits cells .bits) (basicBuilt input bits cells .cells) a ≡ accepted []) ↔ ((r : Route) → List·Memᴰ r (routesIn input) → covers 32 a r ≡ false)
+  pub no-route-basic : (basicSaid input (basicBuilt input bits cells .bits) (basicBuilt input bits cells .cells) a ≡ accepted [])
+      ↔ ((r : Route) → List·Memᴰ r (routesIn input) → covers 32 a r ≡ false)
   no-route-basic = (
     (λ q. no-hop (routesIn input) a (basic-serves input bits cells e a h) q),
     (λ none. basic-served-once (routesIn input) (worth.built-good-routes input bits cells e) a (basic-serves input bits cells e a h) (Serves.none none)),
@@ -120,7 +127,8 @@ module _ (input bits cells : List ℕ) where
   pub one-answer-basic-lookup : (addr : ℕ) (x y : BasicFound) → MeetsBasicLookup input bits cells addr x → MeetsBasicLookup input bits cells addr y → x ≡ y
   one-answer-basic-lookup addr x y p q = basic-found-injective x y (p ∙ sym q)
 
-  pub one-answer-basic-lookup-many : (addrs words : List ℕ) (x y : BasicManyEnd) → MeetsBasicMany input bits cells addrs words x → MeetsBasicMany input bits cells addrs words y → x ≡ y
+  pub one-answer-basic-lookup-many : (addrs words : List ℕ) (x y : BasicManyEnd)
+      → MeetsBasicMany input bits cells addrs words x → MeetsBasicMany input bits cells addrs words y → x ≡ y
   one-answer-basic-lookup-many addrs words x y p q =
       let e = p ∙ sym q in
       let a = basic-answer-injective (x .answer) (y .answer) (ap (λ (u : Many). u .said) e) in

@@ -19,11 +19,14 @@ module _ (a b : ℕ) (ha : a < 2 ^ 32) (hb : b < 2 ^ 32) where
       let t = leading-length 32 (bitXor a b) (xor-lt 32 a b ha hb) in
       record {
         most = omega (arith, t .1);
-        same = λ l h. no-difference (slot l a) (slot l b) (sym (xor-shr a b (32 - l)) ∙ div-eq-of-lt (omega (arith, t .2, pow-mono {i = t .0} {j = 32 - l} (omega (arith, t .1)))));
+        same = λ l h.
+            let below : bitXor a b < 2 ^ (32 - l) = omega (arith, t .2, pow-mono {i = t .0} {j = 32 - l} (omega (arith, t .1))) in
+            no-difference (slot l a) (slot l b) (sym (xor-shr a b (32 - l)) ∙ div-eq-of-lt below);
         more = λ l h u e. differ (t .0) l (t .1) (t .3) h u e;
       }
     where
-      differ : (m l : ℕ) → leadingZeros 32 (bitXor a b) + m ≡ 32 → 2 ^ m ≤ 2 * bitXor a b + 1 → leadingZeros 32 (bitXor a b) < l → l ≤ 32 → slot l a ≡ slot l b → ⊥
+      differ : (m l : ℕ) → leadingZeros 32 (bitXor a b) + m ≡ 32 → 2 ^ m ≤ 2 * bitXor a b + 1 → leadingZeros 32 (bitXor a b) < l → l ≤ 32
+          → slot l a ≡ slot l b → ⊥
       differ zero l s p h u e = omega arith
       differ (suc m) l s p h u e =
           let zero-there : bitXor a b / 2 ^ (32 - l) ≡ 0 = xor-shr a b (32 - l) ∙ ap (bitXor (slot l a)) (sym e) ∙ xor-self (slot l a) in

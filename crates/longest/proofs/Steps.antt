@@ -54,7 +54,8 @@ module _ (s : List ℕ) (n a : ℕ) (ok : Records s n) where
       go (inl e) = rw e (omega arith)
       go (inr l) = omega (arith, ok .rises j i l u)
 
-  module _ (m low : ℕ) (more : NoneFrom s n a m) (range : m ≤ 33) (some : low < m) (k : ℕ) (ek : (k ≡ placeOf s n (keyOf (cut (m - 1) a) (m - 1) + 1)) × (k ≤ n)) where
+  module _ (m low : ℕ) (more : NoneFrom s n a m) (range : m ≤ 33) (some : low < m) (k : ℕ)
+      (ek : (k ≡ placeOf s n (keyOf (cut (m - 1) a) (m - 1) + 1)) × (k ≤ n)) where
     -- the key after the first m - 1 bits
     abbrev to : ℕ
     to = keyOf (cut (m - 1) a) (m - 1) + 1
@@ -147,7 +148,9 @@ module _ (s : List ℕ) (n a : ℕ) (ok : Records s n) where
 
             go : covers 32 a (recordAt s j) ≡ true → (j ≡ k - 1) ⊎ (j ≢ k - 1) → ⊥
             go c (inl e) =
-                let q : slot len (r .addr) ≡ slot len a = rw (ap (λ (x : ℕ). recordAt s x .len) e ∙ its-len, ap (λ (x : ℕ). recordAt s x .addr) e ∙ its-addr) at (cover-parts 32 a (recordAt s j) c .1) in
+                let el = ap (λ (x : ℕ). recordAt s x .len) e ∙ its-len in
+                let ea = ap (λ (x : ℕ). recordAt s x .addr) e ∙ its-addr in
+                let q : slot len (r .addr) ≡ slot len a = rw (el, ea) at (cover-parts 32 a (recordAt s j) c .1) in
                 es .more len h short q
             go c (inr e) =
                 let w = ok .rises j (k - 1) (omega (arith, e, early j u c)) last in
@@ -163,17 +166,19 @@ module _ (s : List ℕ) (n a : ℕ) (ok : Records s n) where
                 = cut-is (m - 1) (r .addr) ∙ ap (λ (x : ℕ). x * 2 ^ (32 - (m - 1))) (es .same (m - 1) (omega arith)) ∙ sym (cut-is (m - 1) a) in
                 absurd (omega (arith, q, cut-le (m - 1) (r .addr), up-to, short))
 
--- two records that cover an address and are as long as one another are one
-same-record : (s : List ℕ) (n a i j : ℕ) → Records s n → i < n → j < n → covers 32 a (recordAt s i) ≡ true → covers 32 a (recordAt s j) ≡ true → recordAt s i .len ≡ recordAt s j .len → i ≡ j
-same-record s n a i j ok u v c d e = go (below? i j) (below? j i)
-  where
-    key-le : (i j : ℕ) → i < n → j < n → covers 32 a (recordAt s i) ≡ true → covers 32 a (recordAt s j) ≡ true → recordAt s i .len ≡ recordAt s j .len → key (recordAt s i) ≤ key (recordAt s j)
-    key-le i j u v c d e = omega (arith, e, nested 32 a (recordAt s i) (recordAt s j) (ok .each i u) (ok .each j v) c d (omega arith))
+-- of two records that cover an address and are as long as one another none comes first: they are one
+module _ (s : List ℕ) (n a : ℕ) (ok : Records s n) where
+  no-first : (i j : ℕ) → i < j → j < n → covers 32 a (recordAt s i) ≡ true → covers 32 a (recordAt s j) ≡ true → recordAt s j .len ≤ recordAt s i .len → ⊥
+  no-first i j l u c d h =
+      omega (arith, nested 32 a (recordAt s j) (recordAt s i) (ok .each j u) (ok .each i (omega arith)) d c h, ok .rises i j l u)
 
-    go : (i < j) ⊎ (j ≤ i) → (j < i) ⊎ (i ≤ j) → i ≡ j
-    go (inl x) y = absurd (omega (arith, key-le j i v u d c (sym e), ok .rises i j x v))
-    go (inr x) (inl y) = absurd (omega (arith, key-le i j u v c d e, ok .rises j i y u))
-    go (inr x) (inr y) = omega arith
+  same-record : {i j : ℕ} → i < n → j < n → LongestAt s n a 0 i → LongestAt s n a 0 j → i ≡ j
+  same-record {i} {j} u v x y = go (below? i j) (below? j i)
+    where
+      go : (i < j) ⊎ (j ≤ i) → (j < i) ⊎ (i ≤ j) → i ≡ j
+      go (inl l) k = absurd (no-first i j l v (x .covering) (y .covering) (x .longest j v (y .covering)))
+      go (inr l) (inl k) = absurd (no-first j i k u (y .covering) (x .covering) (y .longest i u (x .covering)))
+      go (inr l) (inr k) = omega arith
 
 -- no second answer meets the contract
 pub one-longest : (s : List ℕ) (n a low r q : ℕ) → Records s n → LongestRecord s n a low r → LongestRecord s n a low q → r ≡ q
@@ -184,14 +189,15 @@ one-longest s n a low r q ok x y = go (equal? r 0) (equal? q 0)
         let o = y .one (omega (arith, z)) in
         true≢false (sym (o .covering) ∙ x .none e (q - 1) (omega (arith, z, y .to)) (o .enough))
 
+    any-low : {k : ℕ} → LongestAt s n a low k → LongestAt s n a 0 k
+    any-low w = record { covering = w .covering; enough = omega arith; longest = w .longest }
+
     go : (r ≡ 0) ⊎ (r ≢ 0) → (q ≡ 0) ⊎ (q ≢ 0) → r ≡ q
     go (inl e) (inl z) = e ∙ sym z
     go (inl e) (inr z) = absurd (clash r q x y e z)
     go (inr e) (inl z) = absurd (clash q r y x z e)
     go (inr e) (inr z) =
-        let o = x .one (omega (arith, e)) in
-        let p = y .one (omega (arith, z)) in
-        let i : r - 1 < n = omega (arith, e, x .to) in
-        let j : q - 1 < n = omega (arith, z, y .to) in
-        let w : r - 1 ≡ q - 1 = same-record s n a (r - 1) (q - 1) ok i j (o .covering) (p .covering) (omega (arith, o .longest (q - 1) j (p .covering), p .longest (r - 1) i (o .covering))) in
-        omega (arith, e, z)
+        let o = any-low (x .one (omega (arith, e))) in
+        let p = any-low (y .one (omega (arith, z))) in
+        let w = same-record s n a ok (omega (arith, e, x .to)) (omega (arith, z, y .to)) o p in
+        omega (arith, e, z, w)

@@ -1,9 +1,9 @@
 // The answers of the calls on bit maps.
-use basic::check::BasicAnswer;
-use basic::lookup::BasicFound;
 use crate::byte;
 use crate::half;
 use crate::refused_at;
+use basic::check::BasicAnswer;
+use basic::lookup::BasicFound;
 ghost use mathlib.Core.Path.{_≡_};
 ghost use Rattle.basic.specs.Calls.{saysBasicFound, saysBasicAnswer, packHop};
 ghost use Rattle.packing.specs.Pack.{packNone};

@@ -1,9 +1,9 @@
 // Maps that a fault has changed.
+use crate::inputs;
+use crate::say;
 use basic::lookup::lookup;
 use basic::many::lookup_many;
 use basic_build::build;
-use crate::inputs;
-use crate::say;
 use words::print;
 
 // With the bit of 10.1.0.0/16 cleared its cell no longer counts.
@@ -51,7 +51,13 @@ pub fn many() {
     print::text(b"many");
     say::answered(build(&list, &mut bits, &mut cells));
     cells[0] = 0;
-    let addrs = [0x0A01_02C8u32, 0x0A01_0205, 0x0A01_0301, 0x0A02_0001, 0xC000_0201];
+    let addrs = [
+        0x0A01_02C8u32,
+        0x0A01_0205,
+        0x0A01_0301,
+        0x0A02_0001,
+        0xC000_0201,
+    ];
     let mut out = [9u32; 5];
     print::text(b"lookups");
     say::answered(lookup_many(&list, &bits, &cells, &addrs, &mut out));

@@ -1,8 +1,8 @@
 // Maps built into arrays that held other numbers, and lookups in them.
-use basic::lookup::lookup;
-use basic_build::build;
 use crate::inputs;
 use crate::say;
+use basic::lookup::lookup;
+use basic_build::build;
 use words::print;
 
 // The source's figure: each of its prefixes, and 001010, which it looks up.

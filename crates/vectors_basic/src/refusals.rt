@@ -1,9 +1,9 @@
 // Arrays of other sizes, and inputs that are refused. A refusal writes nothing.
+use crate::inputs;
+use crate::say;
 use basic::lookup::lookup;
 use basic::many::lookup_many;
 use basic_build::build;
-use crate::inputs;
-use crate::say;
 use words::print;
 
 // 16,383 and 16,385 bytes.

@@ -36,9 +36,11 @@ shl-byte c = omega arith
 
 add-byte : tie.Need-add-byte Inv-loop μ-loop
 add-byte c =
+    let lent = c .before .before .before .before .args in
+    let f : ℕ → Bool = λ k. hopThere (lent .cells .now) (8 * lent .j + k) in
     let at-loop = c .before .before .loop in
-    let f : ℕ → Bool = λ k. hopThere (c .before .before .before .before .args .cells .now) (8 * c .before .before .before .before .args .j + k) in
-    record { fits = omega (arith, byte-small f (at-loop .b) (at-loop .byte) (c .bit-of .result) (c .before .loop-test .taken) (at-loop .inv .1) (c .bit-of .ensures)) }
+    let small = byte-small f (at-loop .b) (at-loop .byte) (c .bit-of .result) (c .before .loop-test .taken) (at-loop .inv .1) (c .bit-of .ensures) in
+    record { fits = omega (arith, small) }
 
 add-b : tie.Need-add-b Inv-loop μ-loop
 add-b c = omega arith
@@ -48,9 +50,11 @@ loop-less c = omega arith
 
 loop-again : tie.Need-loop-again Inv-loop μ-loop
 loop-again c =
-    let at-loop = c .before .before .loop in
-    let f : ℕ → Bool = λ k. hopThere (c .before .before .before .before .args .cells .now) (8 * c .before .before .before .before .args .j + k) in
-    (omega arith, byte-more f _ _ _ (c .before .loop-test .taken) (at-loop .inv .1) (c .bit-of .ensures), byte-small f _ _ _ (c .before .loop-test .taken) (at-loop .inv .1) (c .bit-of .ensures))
+    let lent = c .before .before .before .before .args in
+    let f : ℕ → Bool = λ k. hopThere (lent .cells .now) (8 * lent .j + k) in
+    let so-far = c .before .before .loop .inv .1 in
+    let turn = c .before .loop-test .taken in
+    (omega arith, byte-more f _ _ _ turn so-far (c .bit-of .ensures), byte-small f _ _ _ turn so-far (c .bit-of .ensures))
 
 cast-result : tie.Need-cast-result Inv-loop μ-loop
 cast-result c = record { fits = c .before .loop .inv .2 }

@@ -30,7 +30,9 @@ loop-less : tie.Need-loop-less Inv-loop μ-loop
 loop-less c = search needs
 
 loop-again : tie.Need-loop-again Inv-loop μ-loop
-loop-again c = (simp length-set (omega arith), omega arith, stored-more (λ _. 0) (c .before .loop .cells) (c .before .loop .k) 0 (omega arith) (c .before .loop .inv .2) refl)
+loop-again c =
+    let at-loop = c .before .loop in
+    (simp length-set (omega arith), omega arith, stored-more (λ _. 0) (at-loop .cells) (at-loop .k) 0 (omega arith) (at-loop .inv .2) refl)
 
 same-length : tie.Need-same-length Inv-loop μ-loop
 same-length c = c .before .loop .inv .0

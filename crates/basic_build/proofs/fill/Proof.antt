@@ -17,7 +17,10 @@ same-length-2 : tie.Need-same-length-2
 same-length-2 c = search needs
 
 returns : tie.Need-returns
-returns c = filled-in _ _ (c .before .before .before .before .before .before .before .before .before .before .before .before .pre .0) _ _ (c .before .before .before .before .before .before .before .put-cells .ensures) (c .before .before .put-bits .ensures)
+returns c =
+    let input = c .before .before .before .before .before .before .before .before .before .before .before .before .pre .0 in
+    let cells = c .before .before .before .before .before .before .before .put-cells .ensures in
+    filled-in _ _ input _ _ cells (c .before .before .put-bits .ensures)
 
 pub fill-spec : {M : Type 1} → statement M
 fill-spec =

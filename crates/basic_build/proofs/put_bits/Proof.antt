@@ -34,7 +34,10 @@ loop-less c = omega arith
 loop-again : tie.Need-loop-again Inv-loop μ-loop
 loop-again c =
     let at-loop = c .before .before .loop in
-    (simp length-set (at-loop .inv .0), stored-more (λ i. packed (λ b. hopThere (c .before .before .before .before .before .args .cells .now) (8 * i + b)) 8) (at-loop .bits) (at-loop .j) _ (omega (arith, at-loop .inv .0)) (at-loop .inv .1) (c .byte-of .ensures))
+    let cells = c .before .before .before .before .before .args .cells .now in
+    let byte : ℕ → ℕ = λ i. packed (λ b. hopThere cells (8 * i + b)) 8 in
+    let done = stored-more byte (at-loop .bits) (at-loop .j) _ (omega (arith, at-loop .inv .0)) (at-loop .inv .1) (c .byte-of .ensures) in
+    (simp length-set (at-loop .inv .0), done)
 
 same-length : tie.Need-same-length Inv-loop μ-loop
 same-length c = omega (arith, c .before .loop .inv .0, c .before .before .before .before .pre .bytes)

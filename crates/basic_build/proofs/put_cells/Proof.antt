@@ -30,13 +30,19 @@ loop-less : tie.Need-loop-less Inv-loop μ-loop
 loop-less c = omega arith
 
 loop-again : tie.Need-loop-again Inv-loop μ-loop
-loop-again c = (omega arith, put-more _ _ (c .before .before .before .before .before .before .before .before .before .before .before .before .before .pre .0) _ _ _ _ (c .before .before .before .before .before .loop-test .taken) (c .before .before .before .read-record .ensures) (c .before .before .put .ensures) (c .before .before .before .before .before .before .loop .inv .1))
+loop-again c =
+    let records = c .before .before .before .before .before .before .before .before .before .before .before .before .before .pre .0 in
+    let at-loop = c .before .before .before .before .before .before .loop in
+    let turn = c .before .before .before .before .before .loop-test .taken in
+    (omega arith, put-more _ _ records _ _ _ _ turn (c .before .before .before .read-record .ensures) (c .before .before .put .ensures) (at-loop .inv .1))
 
 same-length : tie.Need-same-length Inv-loop μ-loop
 same-length c = omega (arith, c .before .loop .inv .1 .size, c .before .before .before .before .before .before .before .before .pre .1)
 
 returns : tie.Need-returns Inv-loop μ-loop
-returns c = put-all _ _ (c .before .before .before .before .before .before .before .before .pre .0) _ _ (c .before .loop .inv .0) (omega arith) (c .before .loop .inv .1)
+returns c =
+    let records = c .before .before .before .before .before .before .before .before .pre .0 in
+    put-all _ _ records _ _ (c .before .loop .inv .0) (omega arith) (c .before .loop .inv .1)
 
 pub put-cells-spec : {M : Type 1} → statement M
 put-cells-spec =

@@ -20,13 +20,18 @@ add-result : tie.Need-add-result
 add-result c = search needs
 
 returns : tie.Need-returns
-returns c = walk-long _ _ _ (c .before .before .before .before .before .before .before .pre .0) _ _ _ (c .before .before .before .longest-record .ensures) _ _ (c .before .before .if1 .taken) (c .before .read-record .ensures) (c .wide .ensures .0) (c .wide .ensures .1)
+returns c =
+    let input = c .before .before .before .before .before .before .before .pre .0 in
+    let far = c .before .before .before .longest-record .ensures in
+    walk-long _ _ _ input _ _ _ far _ _ (c .before .before .if1 .taken) (c .before .read-record .ensures) (c .wide .ensures .0) (c .wide .ensures .1)
 
 down-requires : tie.Need-down-requires
 down-requires c κs = search needs
 
 returns-2 : tie.Need-returns-2
-returns-2 c = walk-short _ _ _ (c .before .before .before .before .before .before .pre .0) _ _ _ (c .before .before .longest-record .ensures) _ (c .before .if1 .left) (c .down .ensures)
+returns-2 c =
+    let input = c .before .before .before .before .before .before .pre .0 in
+    walk-short _ _ _ input _ _ _ (c .before .before .longest-record .ensures) _ (c .before .if1 .left) (c .down .ensures)
 
 pub walk-spec : {M : Type 1} → statement M
 walk-spec =

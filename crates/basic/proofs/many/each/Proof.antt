@@ -11,7 +11,8 @@ use Rattle.basic.proofs.many.each.Statement.{statement}
 use Rattle.basic.proofs.many.each.Tie as tie
 
 abbrev Inv-loop : tie.InvT-loop
-Inv-loop input n bits cells addrs out₀ m k₀ out k = (k ≤ m) × (length out ≡ m) × ((j : ℕ) → j < k → getD out j 0 ≡ hopWord (basicSaid input bits cells (getD addrs j 0)))
+Inv-loop input n bits cells addrs out₀ m k₀ out k = (k ≤ m) × (length out ≡ m)
+    × ((j : ℕ) → j < k → getD out j 0 ≡ hopWord (basicSaid input bits cells (getD addrs j 0)))
 
 abbrev μ-loop : tie.MeasureT-loop
 μ-loop input n bits cells addrs out₀ m k₀ out k = m - k
@@ -53,9 +54,13 @@ loop-again : tie.Need-loop-again Inv-loop μ-loop
 loop-again c =
     let at-loop = c .before .before .before .before .before .loop in
     let top = c .before .before .before .before .before .before .before .before .before .before .before .before in
-    let said : ℕ → ℕ = λ j. hopWord (basicSaid (top .args .input .now) (top .args .bits .now) (top .args .cells .now) (getD (top .args .addrs .now) j 0)) in
-    let done = each-word _ _ _ _ _ _ _ _ (top .pre .0) (top .pre .1) (c .before .before .walk .ensures .0) (c .before .told .ensures) (c .word .ensures) in
-    (omega arith, simp length-set (at-loop .inv .1), stored-more said (at-loop .out) (at-loop .k) _ (omega (arith, at-loop .inv .1)) (at-loop .inv .2) done)
+    let lent = top .args in
+    let said : ℕ → ℕ = λ j. hopWord (basicSaid (lent .input .now) (lent .bits .now) (lent .cells .now) (getD (lent .addrs .now) j 0)) in
+    let done = each-word _ _ _ _ _ _ _ _ (top .pre) (c .before .before .walk .ensures .0) (c .before .told .ensures) (c .word .ensures) in (
+      omega arith,
+      simp length-set (at-loop .inv .1),
+      stored-more said (at-loop .out) (at-loop .k) _ (omega (arith, at-loop .inv .1)) (at-loop .inv .2) done,
+    )
 
 same-length : tie.Need-same-length Inv-loop μ-loop
 same-length c = omega (arith, c .before .loop .inv .1)

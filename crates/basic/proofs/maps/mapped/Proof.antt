@@ -23,7 +23,9 @@ add-result : tie.Need-add-result
 add-result c = search needs
 
 returns : tie.Need-returns
-returns c = mapped-set _ _ _ _ _ _ (c .before .before .before .before .place .ensures .0) (c .before .before .before .is-set .ensures) _ (c .before .before .if1 .taken) (c .wide .ensures)
+returns c =
+    let at = c .before .before .before .before .place .ensures .0 in
+    mapped-set _ _ _ _ _ _ at (c .before .before .before .is-set .ensures) _ (c .before .before .if1 .taken) (c .wide .ensures)
 
 returns-2 : tie.Need-returns-2
 returns-2 c = mapped-clear _ _ _ _ _ _ (c .before .before .place .ensures .0) (c .before .is-set .ensures) (c .if1 .left)
