@@ -24,7 +24,8 @@ fn list_a_in_maps() {
     assert_eq!((maps.bits[0], maps.bits[33], maps.bits[8512]), (0x01, 0x02, 0x01));
     assert_eq!((maps.cells[0], maps.cells[265], maps.cells[68_096]), (6, 20, 31));
     assert_eq!(maps.cells.iter().filter(|&&c| c != 0).count(), 3);
-    let asked = [([10, 1, 2, 200], 57), ([10, 1, 2, 5], 44), ([10, 1, 3, 1], 31), ([10, 2, 0, 1], 20), ([192, 0, 2, 1], 6)];
+    let asked =
+        [([10, 1, 2, 200], 57), ([10, 1, 2, 5], 44), ([10, 1, 3, 1], 31), ([10, 2, 0, 1], 20), ([192, 0, 2, 1], 6)];
     for (addr, hop) in asked {
         assert_eq!(maps.lookup(&input, addr), Ok(Some(hop)));
     }
