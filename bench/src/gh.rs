@@ -122,12 +122,12 @@ impl Table {
     }
 
     pub fn announce(&mut self, (addr, len, hop): (u32, u8, u16)) {
-        let answer = accepted("announce", change!(gh_announce, (self.count), self, (addr, len, hop)));
+        let answer = accepted("announce", change!(gh_announce, (self.count), self, (addr, len.into(), hop.into(), 0)));
         self.count = (answer >> 16) as u32 & 0xFFFF;
     }
 
     pub fn withdraw(&mut self, (addr, len, _): (u32, u8, u16)) {
-        let answer = accepted("withdraw", change!(gh_withdraw, (self.count), self, (addr, len)));
+        let answer = accepted("withdraw", change!(gh_withdraw, (self.count), self, (addr, len.into())));
         self.count = (answer >> 16) as u32 & 0xFFFF;
     }
 

@@ -154,6 +154,8 @@ pub unsafe extern "C" fn hand_tree_lookup(
         rest <<= 4;
     }
     let hop = if place == usize::MAX { 0 } else { *hops.get_unchecked(place) };
+    // The fetch of a hop that is answered counts one more.
+    let reads = reads + (hop != 0) as u64;
     reads << 8 | (hop as u64) << 16
 }
 

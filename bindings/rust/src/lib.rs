@@ -1,19 +1,19 @@
 //! Proved IPv4 lookup over buffers that you own.
 //!
 //! A [`Table`] holds routes in SAIL form: it can be changed, and a lookup reads 1 to 3 cells. An [`Image`] is a tree
-//! bitmap built from a record input: small, and a lookup reads at most 9 nodes. [`Maps`] are bits and hops for cards
-//! that have neither chunks nor nodes. [`run`], [`tally`] and [`route`] work on record inputs directly.
+//! bitmap built from a record input: small, and a lookup reads at most 9 nodes and one hop. [`Maps`] are bits and hops
+//! for cards that have neither chunks nor nodes. [`run`], [`tally`] and [`route`] work on record inputs directly.
 //!
 //! Every call of the library underneath is proved for every content of the buffers, and none allocates or trusts them:
 //! a table that is damaged is refused with 5 and stays as it is. A call that is refused changes nothing.
 //!
 //! ```
-//! use ghatumri::{Geometry, Refusal, Table};
+//! use ghatumri::{Geometry, Mark, Refusal, Table};
 //!
 //! # fn main() -> Result<(), Refusal> {
 //! let mut table = Table::new(Geometry::STANDARD, 64, 4, 4)?;
-//! table.announce([10, 1, 2, 0], 24, 44)?;
-//! table.announce([10, 1, 2, 128], 25, 57)?;
+//! table.announce([10, 1, 2, 0], 24, 44, Mark::Behind)?;
+//! table.announce([10, 1, 2, 128], 25, 57, Mark::Attached)?;
 //! let found = table.lookup([10, 1, 2, 200])?;
 //! assert_eq!((found.hop, found.reads), (Some(57), 3));
 //! table.withdraw([10, 1, 2, 128], 25)?;
@@ -45,19 +45,19 @@ impl Refusal {
     pub fn meaning(&self) -> &'static str {
         match self.number {
             1 => "geometry outside the limits",
-            2 => "an array has another size than the geometry asks, or too many chunks or records of room",
+            2 => "a lent array has another size than it must, or too many chunks or records of room",
             3 => "length over 32, or a bit set after the length",
             4 => "hop not 1 to 32,767",
-            5 => "table not sound",
-            6 => "list room full, or more records than room or than 4,096",
+            5 => "table not sound; in lookup only: a chunk number is 0 or beyond its pool, or a third cell is no leaf",
+            6 => "announce: list room full; load: more records than room; any record input: over 4,096",
             7 => "need for second chunks exceeds those lent",
             8 => "need for third chunks exceeds those lent",
             9 => "withdrawn prefix doesn't stand",
-            10 => "record input not a multiple of 8 bytes, spare not zero, or not ascending",
+            10 => "record input not a multiple of 8 bytes, mark over 1, or not ascending; announce: mark over 1",
             11 => "too few whole nodes lent",
             12 => "too few hops lent",
-            13 => "image broken on this walk",
-            _ => "a number that document 01 does not have",
+            13 => "image broken on this walk: bit 15 set, child or hop beyond what is lent, no root, hop outside 1 to 32,767",
+            _ => "no number of a refusal",
         }
     }
 }
@@ -87,7 +87,8 @@ fn answered(answer: u64) -> Result<u64, Refusal> {
 pub struct Found {
     /// The hop of the longest route that covers the address, or no route.
     pub hop: Option<u16>,
-    /// How many cells of the table, or nodes of the image, were read.
+    /// In a table, the cells read: 1 to 3. In an image, the nodes read, and one more where a hop is answered: 1 to 10,
+    /// and at most 9 for no route.
     pub reads: u8,
 }
 
@@ -98,31 +99,45 @@ pub fn found(word: u32) -> Result<Found, Refusal> {
     Ok(Found { hop: (hop != 0).then_some(hop), reads: (answer >> 8) as u8 })
 }
 
-/// A route: a prefix and a hop.
+/// Where a route's network is.
+#[derive(Clone, Copy, PartialEq, Eq, PartialOrd, Ord, Debug)]
+pub enum Mark {
+    /// Behind a neighbour: a record has 0 for it.
+    Behind,
+    /// On a port of our own: 1.
+    Attached,
+}
+
+/// A route: a prefix, a hop and a mark.
 #[derive(Clone, Copy, PartialEq, Eq, PartialOrd, Ord, Debug)]
 pub struct Route {
     pub addr: Ipv4Addr,
     pub len: u8,
     pub hop: u16,
+    pub mark: Mark,
 }
 
 impl Route {
-    pub fn new(addr: impl Into<Ipv4Addr>, len: u8, hop: u16) -> Route {
-        Route { addr: addr.into(), len, hop }
+    pub fn new(addr: impl Into<Ipv4Addr>, len: u8, hop: u16, mark: Mark) -> Route {
+        Route { addr: addr.into(), len, hop, mark }
     }
 
-    /// Its record of 8 bytes: address, length, zero, hop. A record input is records end to end, strictly ascending by
+    /// Its record of 8 bytes: address, length, mark, hop. A record input is records end to end, strictly ascending by
     /// address and then length.
     pub fn record(&self) -> [u8; 8] {
         let [a, b, c, d] = self.addr.octets();
         let [h, l] = self.hop.to_be_bytes();
-        [a, b, c, d, self.len, 0, h, l]
+        [a, b, c, d, self.len, self.mark as u8, h, l]
     }
 }
 
 impl fmt::Display for Route {
     fn fmt(&self, f: &mut fmt::Formatter) -> fmt::Result {
-        write!(f, "{}/{} {}", self.addr, self.len, self.hop)
+        write!(f, "{}/{} {}", self.addr, self.len, self.hop)?;
+        match self.mark {
+            Mark::Behind => Ok(()),
+            Mark::Attached => write!(f, " attached"),
+        }
     }
 }
 
@@ -142,7 +157,7 @@ impl Geometry {
 #[derive(Clone, Copy, PartialEq, Eq, Debug)]
 pub enum Announced {
     Added,
-    /// The prefix stood, and its hop was replaced.
+    /// The prefix stood, and its hop and mark were replaced.
     Replaced,
 }
 
@@ -259,11 +274,11 @@ impl Table {
         Ok(self.count as usize)
     }
 
-    /// Adds a route, or replaces the hop of a prefix that stands.
-    /// Refusals: 1, 2, 3, 4, 5, 6, 7, 8; a replacement never meets 6 to 8.
-    pub fn announce(&mut self, addr: impl Into<Ipv4Addr>, len: u8, hop: u16) -> Result<Announced, Refusal> {
+    /// Adds a route, or replaces hop and mark of a prefix that stands.
+    /// Refusals: 1, 2, 3, 4, 5, 6, 7, 8; a replacement never meets 6 to 8, and a [`Mark`] never 10.
+    pub fn announce(&mut self, addr: impl Into<Ipv4Addr>, len: u8, hop: u16, mark: Mark) -> Result<Announced, Refusal> {
         let addr = u32::from(addr.into());
-        let answer = answered(lend!(gh_announce, (self.count), mut self, (addr, len, hop)))?;
+        let answer = answered(lend!(gh_announce, (self.count), mut self, (addr, len.into(), hop.into(), mark as u32)))?;
         self.count = counted(answer);
         Ok(if answer >> 8 & 1 == 1 { Announced::Replaced } else { Announced::Added })
     }
@@ -271,7 +286,7 @@ impl Table {
     /// Removes the route of a prefix. Refusals: 1, 2, 3, 5, 9.
     pub fn withdraw(&mut self, addr: impl Into<Ipv4Addr>, len: u8) -> Result<(), Refusal> {
         let addr = u32::from(addr.into());
-        let answer = answered(lend!(gh_withdraw, (self.count), mut self, (addr, len)))?;
+        let answer = answered(lend!(gh_withdraw, (self.count), mut self, (addr, len.into())))?;
         self.count = counted(answer);
         Ok(())
     }
@@ -368,7 +383,7 @@ impl Image {
 /// for the prefix.
 pub fn run(input: &[u8], addr: impl Into<Ipv4Addr>, len: u8) -> Result<&[u8], Refusal> {
     // The pointer is to a slice of that length, and the call writes nothing.
-    let answer = unsafe { sys::gh_run(input.as_ptr(), input.len(), u32::from(addr.into()), len) };
+    let answer = unsafe { sys::gh_run(input.as_ptr(), input.len(), u32::from(addr.into()), len.into()) };
     let answer = answered(answer)?;
     let start = (answer >> 16) as usize & 0xFFFF;
     let records = (answer >> 32) as usize & 0xFFFF;
@@ -390,5 +405,6 @@ pub fn route(input: &[u8], index: u32) -> Result<Option<Route>, Refusal> {
     // The pointer is to a slice of that length, and the call writes nothing.
     let answer = answered(unsafe { sys::gh_route(input.as_ptr(), input.len(), index) })?;
     let hop = (answer >> 16) as u16;
-    Ok((hop != 0).then(|| Route::new((answer >> 32) as u32, (answer >> 8) as u8, hop)))
+    let mark = if answer >> 15 & 1 == 1 { Mark::Attached } else { Mark::Behind };
+    Ok((hop != 0).then(|| Route::new((answer >> 32) as u32, (answer >> 8) as u8 & 0x7F, hop, mark)))
 }

@@ -1,4 +1,4 @@
-//! The functions of `libcards.a`, as `include/ghatumri.h` declares them. The comparison and the measurements of this
+//! The functions of `libghatumri.a`, as `include/ghatumri.h` declares them. The comparison and the measurements of this
 //! repository use this file too.
 
 extern "C" {
@@ -53,8 +53,9 @@ extern "C" {
         own3: *mut u32,
         own3_len: usize,
         addr: u32,
-        len: u8,
-        hop: u16,
+        len: u32,
+        hop: u32,
+        mark: u32,
     ) -> u64;
     pub fn gh_withdraw(
         p1: u32,
@@ -73,7 +74,7 @@ extern "C" {
         own3: *mut u32,
         own3_len: usize,
         addr: u32,
-        len: u8,
+        len: u32,
     ) -> u64;
     pub fn gh_report(
         p1: u32,
@@ -140,7 +141,7 @@ extern "C" {
         hops_len: usize,
     ) -> u64;
     pub fn gh_tree_lookup(words: *const u32, words_len: usize, hops: *const u16, hops_len: usize, addr: u32) -> u64;
-    pub fn gh_run(input: *const u8, input_len: usize, addr: u32, len: u8) -> u64;
+    pub fn gh_run(input: *const u8, input_len: usize, addr: u32, len: u32) -> u64;
     pub fn gh_tally(input: *const u8, input_len: usize, out: *mut u32, out_len: usize) -> u64;
     pub fn gh_route(input: *const u8, input_len: usize, index: u32) -> u64;
     pub fn gh_basic_build(

@@ -14,6 +14,7 @@ use Rattle.bits.specs.Tab.{tabulate}
 use Rattle.routes.specs.Input.{inputSaid}
 use Rattle.routes.specs.Answers.{routeSaid}
 use Rattle.routes.specs.Said.{Said, accepted, refused, andThen, accepts}
+use Rattle.routes.specs.declared.Route.{Route}
 use Rattle.routes.proofs.Meaning.{Checked, input-checked}
 use Rattle.runs.specs.Run.{runSaid}
 use Rattle.runs.specs.Tally.{tallyOf}
@@ -55,9 +56,9 @@ module _ (t : Table) (l : Lent) where
   unfolding cardOf
   gh-load-read input short = done-read (2 ^ 32) (omega arith) _ _ (load-fits t l input short)
 
-  pub gh-announce-read : (a len hop : ℕ) → unpackAnnounce (cardOf (announced t l a len hop) .answer) ≡ announced t l a len hop .said
+  pub gh-announce-read : (r : Route) → unpackAnnounce (cardOf (announced t l r) .answer) ≡ announced t l r .said
   unfolding cardOf
-  gh-announce-read a len hop = announce-read 0 (omega arith) _ _ (announce-fits t l a len hop)
+  gh-announce-read r = announce-read 0 (omega arith) _ _ (announce-fits t l r)
 
   pub gh-withdraw-read : (a len : ℕ) → unpackDone (cardOf (withdrawn t l a len) .answer) ≡ withdrawn t l a len .said
   unfolding cardOf
@@ -73,10 +74,10 @@ module _ (t : Table) (l : Lent) where
   unfolding cardOf
   gh-load-count input short e = (done-count (2 ^ 32) _ _ (load-fits t l input short) e, load-few t l input e)
 
-  pub gh-announce-count : (a len hop : ℕ) → accepts (announced t l a len hop .said) ≡ true
-      → (countOf (cardOf (announced t l a len hop) .answer) ≡ announced t l a len hop .table .count) × (announced t l a len hop .table .count ≤ 4096)
+  pub gh-announce-count : (r : Route) → accepts (announced t l r .said) ≡ true
+      → (countOf (cardOf (announced t l r) .answer) ≡ announced t l r .table .count) × (announced t l r .table .count ≤ 4096)
   unfolding cardOf
-  gh-announce-count a len hop e = (announce-count 0 _ _ (announce-fits t l a len hop) e, announce-few t l a len hop e)
+  gh-announce-count r e = (announce-count 0 _ _ (announce-fits t l r) e, announce-few t l r e)
 
   pub gh-withdraw-count : (a len : ℕ) → accepts (withdrawn t l a len .said) ≡ true
       → (countOf (cardOf (withdrawn t l a len) .answer) ≡ withdrawn t l a len .table .count) × (withdrawn t l a len .table .count ≤ 4096)

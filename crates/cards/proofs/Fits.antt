@@ -16,6 +16,7 @@ use Rattle.routes.specs.Record.{recordAt, Records, routesIn}
 use Rattle.routes.specs.Input.{inputSaid}
 use Rattle.routes.specs.Answers.{routeSaid}
 use Rattle.routes.specs.Said.{Said, accepted, refused, accepts}
+use Rattle.routes.specs.declared.Route.{Route}
 use Rattle.routes.proofs.Meaning.{WrongRoute, WrongRecord, Checked, input-checked, input-good}
 use Rattle.routes.proofs.Rows.{length-routes, records-good}
 use Rattle.runs.specs.Run.{pastKey, runStart, runCount, runSaid}
@@ -33,14 +34,14 @@ use Rattle.sail_theory.proofs.Accepted.{announce-said, announce-holds, withdraw
 use Rattle.sail_theory.proofs.Fresh.{make-said, make-holds, accepted-sized}
 use Rattle.sail_theory.proofs.Loads.{load-said, load-holds}
 use Rattle.tree.specs.Image.{nodeNeed}
+use Rattle.tree.specs.Reads.{TreeAnswer}
 use Rattle.tree.specs.Walk.{treeSaid}
-use Rattle.tree.specs.declared.Place.{Place}
 use Rattle.tree.proofs.Needs.{nodes-most}
+use Rattle.tree.proofs.ReadCounts.{tree-answers}
 use Rattle.tree_build.specs.Built.{built}
 use Rattle.demands.proofs.Inputs.{check-only, BadInput, GoodInput, RunChecked, run-judged, RouteRead, route-judged}
 use Rattle.demands.proofs.Lookups.{v1, v2, v3, Lookup, lookup-judged}
 use Rattle.demands.proofs.Builds.{Build, build-judged}
-use Rattle.demands.proofs.Walks.{Fetched, Walked, tree-judged}
 use Rattle.packing.specs.Unpack.{Fits, FoundFits, ReportFits, BuiltFits, RunFits, RouteFits, AnnounceFits, DoneFits, Cells}
 
 -- 1 and 2
@@ -48,11 +49,15 @@ sizing-fits : {most : ℕ} {P : List ℕ → Type 0} {t : Table} {l : Lent} {n :
 sizing-fits (Sizing.limits h) = Fits.number 1 (omega arith) (omega arith)
 sizing-fits (Sizing.size v h) = Fits.number 2 (omega arith) (omega arith)
 
+-- 3, 4 and 10
+route-low : {r : Route} {f : ℕ} → WrongRoute r f → (1 ≤ f) × (f < 2 ^ 8)
+route-low (WrongRoute.prefix h) = (omega arith, omega arith)
+route-low (WrongRoute.hop p h) = (omega arith, omega arith)
+route-low (WrongRoute.mark p a b h) = (omega arith, omega arith)
+
 -- The input's refusals.
 fault-low : {s : List ℕ} {k f : ℕ} → WrongRecord s k f → f < 2 ^ 8
-fault-low (WrongRecord.itself (WrongRoute.prefix h)) = omega arith
-fault-low (WrongRecord.itself (WrongRoute.hop p h)) = omega arith
-fault-low (WrongRecord.itself (WrongRoute.spare p a b h)) = omega arith
+fault-low (WrongRecord.itself w) = route-low w .1
 fault-low (WrongRecord.order g h l) = omega arith
 
 module _ (P : List ℕ → Type 0) (s : List ℕ) (short : length s < 2 ^ 35) where
@@ -101,7 +106,7 @@ module _ (s : List ℕ) (short : length s < 2 ^ 35) where
       go (RouteRead.there n g h) =
           let f = good-whole s n g .1 .each k h in
           let r = recordAt s k in
-          Fits.values _ (RouteFits.one (r .addr) (r .len) (r .spare) (r .hop) (f .prefix .addr-ok) (omega (arith, f .prefix .len-ok)) (f .spare-ok) (f .hop-one) (omega (arith, f .hop-ok)))
+          Fits.values _ (RouteFits.one (r .addr) (r .len) (r .mark) (r .hop) (f .prefix .addr-ok) (omega (arith, f .prefix .len-ok)) (omega (arith, f .mark-ok)) (f .hop-one) (omega (arith, f .hop-ok)))
       go (RouteRead.past n g h) = Fits.values [] RouteFits.nothing
 
   pub built-fits : (ws hs : List ℕ) → Fits (2 ^ 32) BuiltFits (built s ws hs .said)
@@ -119,22 +124,14 @@ module _ (s : List ℕ) (short : length s < 2 ^ 35) where
           let z = nodes-most (routesIn s) (records-good s (length s / 8) (rw e at (w .1))) (omega arith) in
           Fits.values _ (BuiltFits.image (nodeNeed (routesIn s)) (length (routesIn s)) (omega arith) (omega arith))
 
--- Lookup in an image: at most 9 nodes, and a hop of 1 to 32,767.
-fetched-fits : {hs : List ℕ} {n : ℕ} {p : Place} {x : Said} → n < 2 ^ 8 → Fetched hs n p x → Fits 0 FoundFits x
-fetched-fits f Fetched.no-match = Fits.values _ (FoundFits.none _ f)
-fetched-fits f (Fetched.beyond h l) = Fits.number 13 (omega arith) (omega arith)
-fetched-fits f (Fetched.bad-hop h l b) = Fits.number 13 (omega arith) (omega arith)
-fetched-fits f (Fetched.match h l a b) = Fits.values _ (FoundFits.hop _ _ f a (omega arith))
-
-walked-fits : {ws hs : List ℕ} {a d i : ℕ} {best : Place} {x : Said} → Walked ws hs a d i best x → Fits 0 FoundFits x
-walked-fits (Walked.lost d i best l) = Fits.number 13 (omega arith) (omega arith)
-walked-fits (Walked.marked d i best l e) = Fits.number 13 (omega arith) (omega arith)
-walked-fits (Walked.deepest i best s r f) = fetched-fits (omega arith) f
-walked-fits (Walked.ends d i best s r e f) = fetched-fits (omega arith) f
-walked-fits (Walked.goes-on d i best s r e w) = walked-fits w
-
+-- Lookup in an image, of any words and hops: a count of at most 10, and a hop of 1 to 32,767.
 pub tree-fits : (ws hs : List ℕ) (a : ℕ) → Fits 0 FoundFits (treeSaid ws hs a)
-tree-fits ws hs a = walked-fits (tree-judged ws hs a)
+tree-fits ws hs a = go (tree-answers ws hs a)
+  where
+    go : {x : Said} → TreeAnswer x → Fits 0 FoundFits x
+    go (TreeAnswer.a-hop n h l u a b) = Fits.values _ (FoundFits.hop n h (omega arith) a (omega arith))
+    go (TreeAnswer.no-route n l u) = Fits.values _ (FoundFits.none n (omega arith))
+    go TreeAnswer.broken = Fits.number 13 (omega arith) (omega arith)
 
 -- Lookup in a table, of any cells: 1 to 3 cells, and a hop of at most 15 bits.
 leaf-fits : (n v : ℕ) → n < 2 ^ 8 → v < 2 ^ 16 → Fits 0 FoundFits (leafSaid n v)
@@ -202,16 +199,15 @@ module _ (t : Table) (l : Lent) where
       go (Load.third w r x y) few = Fits.number 8 (omega arith) (omega arith)
       go (Load.done w k) few = let f = few refl in Fits.values [] (DoneFits.done (omega arith))
 
-  pub announce-few : (a len hop : ℕ) → accepts (announced t l a len hop .said) ≡ true → announced t l a len hop .table .count ≤ 4096
-  announce-few a len hop e = announce-holds t l a len hop e .sound .listed .records .few
+  pub announce-few : (r : Route) → accepts (announced t l r .said) ≡ true → announced t l r .table .count ≤ 4096
+  announce-few r e = announce-holds t l r e .sound .listed .records .few
 
-  pub announce-fits : (a len hop : ℕ) → Fits 0 (AnnounceFits (announced t l a len hop .table .count)) (announced t l a len hop .said)
-  announce-fits a len hop = rw (announce-said t l a len hop) (go (announce-judged t l a len hop) (λ e. announce-few a len hop (ap accepts (announce-said t l a len hop) ∙ e)))
+  pub announce-fits : (r : Route) → Fits 0 (AnnounceFits (announced t l r .table .count)) (announced t l r .said)
+  announce-fits r = rw (announce-said t l r) (go (announce-judged t l r) (λ e. announce-few r (ap accepts (announce-said t l r) ∙ e)))
     where
-      go : {n : ℕ} {x : Said} → Announce t l a len hop x → (accepts x ≡ true → n ≤ 4096) → Fits 0 (AnnounceFits n) x
+      go : {n : ℕ} {x : Said} → Announce t l r x → (accepts x ≡ true → n ≤ 4096) → Fits 0 (AnnounceFits n) x
       go (Announce.sizing n h) few = sizing-fits h
-      go (Announce.bad-prefix z h) few = Fits.number 3 (omega arith) (omega arith)
-      go (Announce.bad-hop z p h) few = Fits.number 4 (omega arith) (omega arith)
+      go (Announce.wrong n z w) few = let b = route-low w in Fits.number n (b .0) (b .1)
       go (Announce.unsound z f h) few = Fits.number 5 (omega arith) (omega arith)
       go (Announce.replaced p h) few = let f = few refl in Fits.values _ (AnnounceFits.which 1 (omega arith) (omega arith))
       go (Announce.full p h k) few = Fits.number 6 (omega arith) (omega arith)

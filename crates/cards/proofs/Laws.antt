@@ -2,7 +2,7 @@
 use mathlib.Core.Bool.{Bool, true, false, cond}
 use mathlib.Core.Path.{_≡_, _∙_, refl, sym, ap}
 use mathlib.Core.List.{List}
-use Prim.Native.Nat.{ℕ, _+_, _*_, _/_, _%_, _^_, _<_}
+use Prim.Native.Nat.{ℕ, _+_, _*_, _/_, _%_, _^_, _<_, min}
 use native.Mathlib.Omega.{arith}
 use borrow.Author.Tests.{eq-eqb, ne-eqb}
 use lib.ListN.{length, getD, replicate}
@@ -23,15 +23,25 @@ use Rattle.sail.specs.declared.table.Table.{Table}
 use Rattle.sail.proofs.Steps.{look-on, look-not}
 use Rattle.sail_many.specs.Words.{answerAt}
 use Rattle.sail_many.proofs.Answers.{answer-is}
-use Rattle.sail_theory.specs.Calls.{Out, out}
+use Rattle.sail_theory.specs.Calls.{route, Out, out, announced, withdrawn}
 use Rattle.tree_build.specs.Built as tree
 use Rattle.sail.specs.Word.{packed, packFound, Word}
 use Rattle.packing.specs.Pack.{packChange, packBuilt, packNone}
+use Rattle.cards.proofs.Narrow.{announced-narrow, withdrawn-narrow}
 use Rattle.cards.specs.Cards.{card, cardOf, imageCard, imageCardOf, wordsCard, tallyCard, tableOf, manyCard}
 
 pub card-is : (s : Said) (t : Table) (l : Lent) (o : Out) (r : ℕ) → out s t l ≡ o → r ≡ packChange (t .count) s → card r l ≡ cardOf o
 unfolding cardOf
 card-is s t l o r e q = ap (λ (x : ℕ). card x l) q ∙ ap cardOf e
+
+-- the same of calls whose numbers were narrowed
+module _ (t : Table) (l : Lent) (a len n : ℕ) (e : n ≡ min len 255) (s : Said) (t′ : Table) (l′ : Lent) (r : ℕ) where
+  pub announce-card : (hop m : ℕ) → m ≡ min hop 65535 → (mark k : ℕ) → k ≡ min mark 255 → out s t′ l′ ≡ announced t l (route a n m k)
+      → r ≡ packChange (t′ .count) s → card r l′ ≡ cardOf (announced t l (route a len hop mark))
+  announce-card hop m q mark k u is = card-is s t′ l′ _ r (is ∙ announced-narrow t l a len hop mark n m k e q u)
+
+  pub withdraw-card : out s t′ l′ ≡ withdrawn t l a n → r ≡ packChange (t′ .count) s → card r l′ ≡ cardOf (withdrawn t l a len)
+  withdraw-card is = card-is s t′ l′ _ r (is ∙ withdrawn-narrow t l a len n e)
 
 pub image-card-is : (s : Said) (ws hs : List ℕ) (o : tree.Out) (r : ℕ) → tree.out s ws hs ≡ o → r ≡ packBuilt s → imageCard r ws hs ≡ imageCardOf o
 unfolding imageCardOf

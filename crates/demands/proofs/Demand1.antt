@@ -15,6 +15,7 @@ use lib.ListN.{replicate}
 use Rattle.routes.specs.Input.{inputSaid}
 use Rattle.routes.specs.Answers.{routeSaid}
 use Rattle.routes.specs.Said.{Said, accepted, refused, refusedAt, accepts}
+use Rattle.routes.specs.declared.Route.{Route}
 use Rattle.routes.proofs.Meaning.{Checked, input-checked}
 use Rattle.runs.specs.Run.{runSaid, runOf, runAt}
 use Rattle.runs.specs.Tally.{tallyOf}
@@ -78,7 +79,7 @@ refused-run = run-refused
 pub exactly : (P : Said → Type 0) (x y : Said) → x ≡ y → P y → ((s : Said) → P s → y ≡ s) → (s : Said) → (x ≡ s) ↔ P s
 exactly P x y q h only s = ((λ e. subst P (sym q ∙ e) h), (λ c. q ∙ only s c))
 
--- check_input, and with it the tally: the length (10), record by record 3, 4, spare, order (10), then 6
+-- check_input, and with it the tally: the length (10), record by record 3, 4, mark (10), order (10), then 6
 pub refused-number-check-input : (bytes : List ℕ) (s : Said) → (inputSaid bytes ≡ s) ↔ Checked bytes s
 refused-number-check-input bytes = exactly (Checked bytes) _ _ refl (input-checked bytes) (check-only bytes)
 
@@ -103,9 +104,9 @@ module _ (t : Table) (l : Lent) where
   pub refused-number-load : (input : List ℕ) (s : Said) → (loaded t l input .said ≡ s) ↔ Load t l input s
   refused-number-load input = exactly (Load t l input) _ _ (load-said t l input) (load-judged t l input) (load-only t l input)
 
-  -- announce: 1, 2, 3, 4, 5, 6, 7, 8; a replacement never meets 6 to 8
-  pub refused-number-announce : (a len hop : ℕ) (s : Said) → (announced t l a len hop .said ≡ s) ↔ Announce t l a len hop s
-  refused-number-announce a len hop = exactly (Announce t l a len hop) _ _ (announce-said t l a len hop) (announce-judged t l a len hop) (announce-only t l a len hop)
+  -- announce: 1, 2, 3, 4, 10, 5, 6, 7, 8; a replacement never meets 6 to 8
+  pub refused-number-announce : (r : Route) (s : Said) → (announced t l r .said ≡ s) ↔ Announce t l r s
+  refused-number-announce r = exactly (Announce t l r) _ _ (announce-said t l r) (announce-judged t l r) (announce-only t l r)
 
   -- withdraw: 1, 2, 3, 5, 9
   pub refused-number-withdraw : (a len : ℕ) (s : Said) → (withdrawn t l a len .said ≡ s) ↔ Withdraw t l a len s
@@ -134,8 +135,8 @@ module _ (t : Table) (l : Lent) where
   pub refused-leaves-all-load : (input : List ℕ) → accepts (loaded t l input .said) ≡ false → (loaded t l input .table ≡ t) × (loaded t l input .lent ≡ l)
   refused-leaves-all-load input e = parts _ _ t l (load-refused t l input e)
 
-  pub refused-leaves-all-announce : (a len hop : ℕ) → accepts (announced t l a len hop .said) ≡ false → (announced t l a len hop .table ≡ t) × (announced t l a len hop .lent ≡ l)
-  refused-leaves-all-announce a len hop e = parts _ _ t l (announce-refused t l a len hop e)
+  pub refused-leaves-all-announce : (r : Route) → accepts (announced t l r .said) ≡ false → (announced t l r .table ≡ t) × (announced t l r .lent ≡ l)
+  refused-leaves-all-announce r e = parts _ _ t l (announce-refused t l r e)
 
   pub refused-leaves-all-withdraw : (a len : ℕ) → accepts (withdrawn t l a len .said) ≡ false → (withdrawn t l a len .table ≡ t) × (withdrawn t l a len .lent ≡ l)
   refused-leaves-all-withdraw a len e = parts _ _ t l (withdraw-refused t l a len e)

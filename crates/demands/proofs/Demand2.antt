@@ -33,7 +33,9 @@ use Rattle.sail.specs.Walk.{hopSaid, lookupSaid}
 use Rattle.sail.specs.declared.table.Table.{Table}
 use Rattle.sail.proofs.Sounds as sounds
 use Rattle.tree.specs.Image.{onPath}
+use Rattle.tree.specs.Reads.{counted, treeReads}
 use Rattle.tree.specs.Walk.{told, treeSaid}
+use Rattle.tree.proofs.ReadCounts as reads
 use Rattle.tree_build.specs.Built.{built}
 use Rattle.tree_build.proofs.Serves.{built-accepts, built-serves}
 use Rattle.demands.proofs.Inputs.{GoodInput, RouteRead, route-only}
@@ -72,17 +74,23 @@ sail-serves t l s a h = rw (sounds.sail-serves t l s a h) (served (standing t l)
 pub sail-reads : (t : Table) (l : Lent) → Sound t l → (a : ℕ) → (1 ≤ cellsRead (t .geometry) (standing t l) a) × (cellsRead (t .geometry) (standing t l) a ≤ 3)
 sail-reads t l s a = sounds.reads-few t l s a
 
--- ".. and a built image": an image that a build leaves which is accepted, after the count of the nodes that stand on the address's path
-tree-said : (h n : ℕ) → told h n ≡ hopSaid n h
+-- ".. and a built image": an image that a build leaves which is accepted, after the count that the routes define: the nodes that stand on the
+-- address's path, and one more where a hop is answered
+tree-said : (h n : ℕ) → told h n ≡ hopSaid (counted h n) h
 unfolding told hopSaid
 tree-said h n = refl
 
 module _ (input ws hs vs : List ℕ) (e : built input ws hs .said ≡ accepted vs) (a : ℕ) (h : a < 2 ^ 32) where
-  image-said : treeSaid (built input ws hs .words) (built input ws hs .hops) a ≡ hopSaid (onPath (routesIn input) a) (best (routesIn input) 32 a)
+  image-said : treeSaid (built input ws hs .words) (built input ws hs .hops) a ≡ hopSaid (treeReads (routesIn input) a) (best (routesIn input) 32 a)
   image-said = built-serves input ws hs vs a e h ∙ tree-said _ _
 
-  pub image-serves : Served (routesIn input) a (onPath (routesIn input) a) (treeSaid (built input ws hs .words) (built input ws hs .hops) a)
+  pub image-serves : Served (routesIn input) a (treeReads (routesIn input) a) (treeSaid (built input ws hs .words) (built input ws hs .hops) a)
   image-serves = rw image-said (served (routesIn input) (built-accepts input ws hs vs e .good-routes) a _ _ (best-is (routesIn input) 32 a))
+
+-- which is at least 1 and at most 10, and where no route covers the address at most 9
+pub image-reads : (rs : List Route) → Good rs → (a : ℕ)
+    → (1 ≤ treeReads rs a) × (treeReads rs a ≤ 10) × (((r : Route) → List·Memᴰ r rs → covers 32 a r ≡ false) → (treeReads rs a ≡ onPath rs a) × (treeReads rs a ≤ 9))
+image-reads rs g a = (reads.tree-reads-few rs a .0, reads.tree-reads-few rs a .1, reads.tree-reads-none rs a g)
 
 -- A table and an image of the same routes give the same hop at every address, and no route alike: what they say differs in the count alone.
 abbrev pub uncounted : Said → Said
@@ -104,7 +112,7 @@ pub table-as-image : (t : Table) (l : Lent) → Sound t l → (input ws hs vs : 
 table-as-image t l s input ws hs vs e same a h =
     ap uncounted (sounds.sail-serves t l s a h)
     ∙ hop-alone _ _ (best (standing t l) 32 a)
-    ∙ ap (λ (rs : List Route). uncounted (hopSaid (onPath (routesIn input) a) (best rs 32 a))) (sym same)
+    ∙ ap (λ (rs : List Route). uncounted (hopSaid (treeReads (routesIn input) a) (best rs 32 a))) (sym same)
     ∙ ap uncounted (sym (image-said input ws hs vs e a h))
 
 -- "And no route exactly when none covers"
@@ -127,8 +135,8 @@ no-route-image input ws hs vs e a h =
       (λ none. (_, served-once (routesIn input) g a _ (image-serves input ws hs vs e a h) (no-route none))),
     )
 
--- "Every route can be read back": route_at reads out of these bytes each of the routes rs, at its place, with its hop, and nothing past the
--- last. (A route's values are its address, length, spare byte and hop.)
+-- "Every route can be read back": route_at reads out of these bytes each of the routes rs, at its place, with its mark and hop, and nothing
+-- past the last. (A route's values are its address, length, mark and hop.)
 pub record ReadBack (bytes : List ℕ) (rs : List Route) : Type 0 where
   pub each : (r : Route) → List·Memᴰ r rs → (k : ℕ) × (k < length rs) × (routeSaid bytes k ≡ accepted (valuesOf r))
   pub in-order : (k : ℕ) → k < length rs → routeSaid bytes k ≡ accepted (valuesOf (getD rs k noRoute))

@@ -53,7 +53,7 @@ module _ (t : Table) (l : Lent) (z : Sized (t .geometry) l) where
   run-sound = runs.run-sound t l z
 
   -- "Which routes stand after a run is worked out from its accepted calls alone": for each prefix, by its key, what stands is what the last
-  -- accepted call that speaks of it said.
+  -- accepted call that speaks of it said, its mark included.
   pub run-standing : (cs : List Call) (k : ℕ) → routeAt k (now cs) ≡ worked t l cs k
   run-standing = runs.run-standing t l z
 
@@ -70,7 +70,8 @@ module _ (t : Table) (l : Lent) (z : Sized (t .geometry) l) where
   run-says = replies.run-says t l z
 
   -- "A table serves every address as one freshly loaded: same hop, same reads, as many chunks": the fresh load is that of an input which holds
-  -- the standing routes, into any table of the same geometry and array sizes; it is accepted.
+  -- the standing routes, into any table of the same geometry and array sizes; it is accepted, and its list is the same to the byte, marks
+  -- included.
   pub run-as-fresh : (cs : List Call) (u : Table) (v : Lent) → u .geometry ≡ t .geometry → SameSize l v
       → (input : List ℕ) → Carries input (now cs) → anew.AsFresh (after t l cs .table) (after t l cs .lent) (loaded u v input)
   run-as-fresh = anew.run-as-fresh t l z
@@ -100,11 +101,11 @@ made-sized = accepted-sized
 alters-none : (g : Geometry) (a len : ℕ) (l u : Lent) → u ≡ l → Alters g a len l u
 alters-none g a len l u e = rw e (record { first = λ q h n. refl; second = λ q h n o. refl; third = λ q h n o. refl })
 
-pub change-frame-announce : (t : Table) (l : Lent) (a len hop : ℕ) → Alters (t .geometry) a len l (announced t l a len hop .lent)
-change-frame-announce t l a len hop =
-    ⊎-elim (announce-alters t l a len hop)
-    (λ (e : accepts (announced t l a len hop .said) ≡ false). alters-none (t .geometry) a len l _ (ap (λ (o : Out). o .lent) (announce-refused t l a len hop e)))
-    (decided (accepts (announced t l a len hop .said)))
+pub change-frame-announce : (t : Table) (l : Lent) (r : Route) → Alters (t .geometry) (r .addr) (r .len) l (announced t l r .lent)
+change-frame-announce t l r =
+    ⊎-elim (announce-alters t l r)
+    (λ (e : accepts (announced t l r .said) ≡ false). alters-none (t .geometry) (r .addr) (r .len) l _ (ap (λ (o : Out). o .lent) (announce-refused t l r e)))
+    (decided (accepts (announced t l r .said)))
 
 pub change-frame-withdraw : (t : Table) (l : Lent) (a len : ℕ) → Alters (t .geometry) a len l (withdrawn t l a len .lent)
 change-frame-withdraw t l a len =
@@ -113,9 +114,9 @@ change-frame-withdraw t l a len =
     (decided (accepts (withdrawn t l a len .said)))
 
 -- So the hop of no address outside the prefix changes. (Its count of cells can, where a chunk is opened or closed above it.)
-pub change-elsewhere-announce : (t : Table) (l : Lent) (a len hop x : ℕ) → x < 2 ^ 32 → slot len x ≢ slot len a
-    → uncounted (lookupSaid (announced t l a len hop .table) (announced t l a len hop .lent) x) ≡ uncounted (lookupSaid t l x)
-change-elsewhere-announce t l a len hop x h n = announce-elsewhere t l a len x h n hop
+pub change-elsewhere-announce : (t : Table) (l : Lent) (r : Route) (x : ℕ) → x < 2 ^ 32 → slot (r .len) x ≢ slot (r .len) (r .addr)
+    → uncounted (lookupSaid (announced t l r .table) (announced t l r .lent) x) ≡ uncounted (lookupSaid t l x)
+change-elsewhere-announce t l r x h n = announce-elsewhere t l (r .addr) (r .len) x h n (r .hop) (r .mark)
 
 pub change-elsewhere-withdraw : (t : Table) (l : Lent) (a len x : ℕ) → x < 2 ^ 32 → slot len x ≢ slot len a
     → uncounted (lookupSaid (withdrawn t l a len .table) (withdrawn t l a len .lent) x) ≡ uncounted (lookupSaid t l x)

@@ -41,14 +41,14 @@ module _ (t : Table) (l : Lent) (a len x : ℕ) (small : x < 2 ^ 32) (off : slot
   same : (o : Out) (s : Said) → o ≡ record { said = s; table = t; lent = l } → hopBy (o .table) (o .lent)
   same o s e = ap (λ (o : Out). uncounted (lookupSaid (o .table) (o .lent) x)) e
 
-  pub announce-elsewhere : (hop : ℕ) → hopBy (announced t l a len hop .table) (announced t l a len hop .lent)
-  announce-elsewhere hop =
+  pub announce-elsewhere : (hop mark : ℕ) → hopBy (announced t l (route a len hop mark) .table) (announced t l (route a len hop mark) .lent)
+  announce-elsewhere hop mark =
       ⊎-elim
-      (λ (e : accepts (announced t l a len hop .said) ≡ true).
-      let w = accepted-welcome t l a len hop (sym (ap accepts (announce-said t l a len hop)) ∙ e) in
-      changed (w .sound) _ _ _ (announce-holds t l a len hop e) (insert-but (route a len hop) (standing t l) (w .fine) (standing-good t l (w .sound))))
-      (λ (e : accepts (announced t l a len hop .said) ≡ false). same _ _ (announce-refused t l a len hop e))
-      (decided (accepts (announced t l a len hop .said)))
+      (λ (e : accepts (announced t l (route a len hop mark) .said) ≡ true).
+      let w = accepted-welcome t l (route a len hop mark) (sym (ap accepts (announce-said t l (route a len hop mark))) ∙ e) in
+      changed (w .sound) _ _ _ (announce-holds t l (route a len hop mark) e) (insert-but (route a len hop mark) (standing t l) (w .fine) (standing-good t l (w .sound))))
+      (λ (e : accepts (announced t l (route a len hop mark) .said) ≡ false). same _ _ (announce-refused t l (route a len hop mark) e))
+      (decided (accepts (announced t l (route a len hop mark) .said)))
 
   pub withdraw-elsewhere : hopBy (withdrawn t l a len .table) (withdrawn t l a len .lent)
   withdraw-elsewhere =

@@ -15,26 +15,13 @@ use Rattle.routes.specs.Input.{properPrefix, inputSaid}
 use Rattle.routes.specs.Answers.{valuesOf, routeSaid}
 use Rattle.routes.specs.Said.{Said, accepted, refused, refusedAt, accepts}
 use Rattle.routes.specs.declared.Route.{Route}
-use Rattle.routes.proofs.Meaning.{prefix-true, true-prefix, WrongRoute, WrongRecord, RightRecord, records-right, Checked, input-checked, input-good}
+use Rattle.routes.proofs.Meaning.{prefix-true, true-prefix, WrongRoute, wrong-fine, wrong-fault, WrongRecord, RightRecord, records-right, Checked, input-checked, input-good}
 use Rattle.runs.specs.Run.{runStart, runCount, runSaid}
 use Rattle.runs.proofs.Runs.{run-input-first, run-prefix-next, run-found}
 
 -- what is wrong with a route is one thing
-wrong-fine : {r : Route} {f : ℕ} → WrongRoute r f → Fine r → ⊥
-wrong-fine (WrongRoute.prefix h) g = h (g .prefix)
-wrong-fine (WrongRoute.hop p h) g = h (g .hop-one) (g .hop-ok)
-wrong-fine (WrongRoute.spare p a b h) g = h (g .spare-ok)
-
 one-fault : {r : Route} {f g : ℕ} → WrongRoute r f → WrongRoute r g → f ≡ g
-one-fault (WrongRoute.prefix h) (WrongRoute.prefix k) = refl
-one-fault (WrongRoute.prefix h) (WrongRoute.hop p k) = absurd (h p)
-one-fault (WrongRoute.prefix h) (WrongRoute.spare p a b k) = absurd (h p)
-one-fault (WrongRoute.hop p h) (WrongRoute.prefix k) = absurd (k p)
-one-fault (WrongRoute.hop p h) (WrongRoute.hop q k) = refl
-one-fault (WrongRoute.hop p h) (WrongRoute.spare q a b k) = absurd (h a b)
-one-fault (WrongRoute.spare p a b h) (WrongRoute.prefix k) = absurd (k p)
-one-fault (WrongRoute.spare p a b h) (WrongRoute.hop q k) = absurd (k a b)
-one-fault (WrongRoute.spare p a b h) (WrongRoute.spare q c d k) = refl
+one-fault {r} {f} {g} v w = sym (wrong-fault r f v) ∙ wrong-fault r g w
 
 -- and so with a record
 right-wrong : {s : List ℕ} {k f : ℕ} → RightRecord s k → WrongRecord s k f → ⊥

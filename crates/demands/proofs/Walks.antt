@@ -17,13 +17,13 @@ use Rattle.tree.specs.Walk.{told, fetchedFrom, lastMatch, innerMatch, walkFrom,
 use Rattle.tree.specs.declared.Place.{Place}
 use Rattle.tree.specs.declared.Place.the-variants.{Nowhere, At}
 
--- the one hop that is read after n nodes, at the place of the deepest match
+-- the one hop that is read after n nodes, at the place of the deepest match; where it is answered, the count is one more
 module _ (hs : List ℕ) (n : ℕ) where
   pub data Fetched : Place → Said → Type 0 where
     no-match : Fetched Nowhere (accepted (n ∷ []))
     beyond : (h : ℕ) → length hs ≤ h → Fetched (At h) (refused 13)
     bad-hop : (h : ℕ) → h < length hs → (1 ≤ getD hs h 0 → getD hs h 0 ≤ 32767 → ⊥) → Fetched (At h) (refused 13)
-    match : (h : ℕ) → h < length hs → 1 ≤ getD hs h 0 → getD hs h 0 ≤ 32767 → Fetched (At h) (accepted (n ∷ getD hs h 0 ∷ []))
+    match : (h : ℕ) → h < length hs → 1 ≤ getD hs h 0 → getD hs h 0 ≤ 32767 → Fetched (At h) (accepted ((n + 1) ∷ getD hs h 0 ∷ []))
 
   fetched-only : {p : Place} {s : Said} → Fetched p s → fetchedFrom hs n p ≡ s
   unfolding fetchedFrom told

@@ -11,12 +11,12 @@ use Rattle.routes.specs.Input.{inputSaid}
 use Rattle.routes.specs.Said.{Said, accepted, refused, refusedAt, accepts}
 use Rattle.routes.specs.declared.Route.{Route}
 use Rattle.standing.proofs.Changed.{insert-adds}
-use Rattle.routes.proofs.Meaning.{Checked, input-checked, good-input}
+use Rattle.routes.proofs.Meaning.{WrongRoute, Checked, input-checked, good-input}
 use Rattle.sail.specs.Lent.{Lent}
 use Rattle.sail.specs.Sound.{standing}
 use Rattle.sail.specs.declared.table.Table.{Table}
 use Rattle.sail_theory.specs.Render.{roomOf}
-use Rattle.sail_theory.specs.Calls.{route, Terms}
+use Rattle.sail_theory.specs.Calls.{Terms}
 use Rattle.sail_theory.specs.Runs.{Call, announce, withdraw, load, done, Formed}
 use Rattle.sail_theory.proofs.Judged.{Sizing, Announce, announce-judged, Withdraw, withdraw-judged, Readable, Load, load-judged}
 use Rattle.sail_theory.proofs.Accepted.{announce-said, withdraw-said}
@@ -57,6 +57,11 @@ small : {t : Table} {l : Lent} {n : ℕ} → Sizing t l n → (7 ≤ n) × (n �
 small (Sizing.limits h) w = omega (arith, w .0)
 small (Sizing.size v h) w = omega (arith, w .0)
 
+wrong-never : {r : Route} {n : ℕ} → WrongRoute r n → (7 ≤ n) × (n ≤ 8) → ⊥
+wrong-never (WrongRoute.prefix h) w = omega (arith, w .0)
+wrong-never (WrongRoute.hop p h) w = omega (arith, w .0)
+wrong-never (WrongRoute.mark p a b h) w = omega (arith, w .1)
+
 input-never : (s : List ℕ) (x : Said) → inputSaid s ≡ x → ForChunks x → ⊥
 input-never s x e w = go (rw e at (input-checked s)) w
   where
@@ -67,16 +72,15 @@ input-never s x e w = go (rw e at (input-checked s)) w
     go (Checked.good n z r) w = w
 
 module _ (t : Table) (l : Lent) where
-  announce-formed : (a len hop : ℕ) {s : Said} → Announce t l a len hop s → ForChunks s → Formed (announce a len hop) (standing t l) (roomOf l)
-  announce-formed a len hop (Announce.sizing n h) w = absurd (small h w)
-  announce-formed a len hop (Announce.bad-prefix z h) w = absurd (omega (arith, w .0))
-  announce-formed a len hop (Announce.bad-hop z p h) w = absurd (omega (arith, w .0))
-  announce-formed a len hop (Announce.unsound z f h) w = absurd (omega (arith, w .0))
-  announce-formed a len hop (Announce.replaced p h) w = absurd w
-  announce-formed a len hop (Announce.full p h k) w = absurd (omega (arith, w .0))
-  announce-formed a len hop (Announce.second r x) w = (r .proper .fine, omega (arith, insert-adds (route a len hop) (standing t l) (r .new), r .room))
-  announce-formed a len hop (Announce.third r x y) w = (r .proper .fine, omega (arith, insert-adds (route a len hop) (standing t l) (r .new), r .room))
-  announce-formed a len hop (Announce.added r x y) w = absurd w
+  announce-formed : (r : Route) {s : Said} → Announce t l r s → ForChunks s → Formed (announce r) (standing t l) (roomOf l)
+  announce-formed r (Announce.sizing n h) w = absurd (small h w)
+  announce-formed r (Announce.wrong n z h) w = absurd (wrong-never h w)
+  announce-formed r (Announce.unsound z f h) w = absurd (omega (arith, w .0))
+  announce-formed r (Announce.replaced p h) w = absurd w
+  announce-formed r (Announce.full p h k) w = absurd (omega (arith, w .0))
+  announce-formed r (Announce.second k x) w = (k .proper .fine, omega (arith, insert-adds r (standing t l) (k .new), k .room))
+  announce-formed r (Announce.third k x y) w = (k .proper .fine, omega (arith, insert-adds r (standing t l) (k .new), k .room))
+  announce-formed r (Announce.added k x y) w = absurd w
 
   withdraw-never : (a len : ℕ) {s : Said} → Withdraw t l a len s → ForChunks s → ⊥
   withdraw-never a len (Withdraw.sizing n h) w = small h w
@@ -99,6 +103,6 @@ module _ (t : Table) (l : Lent) where
   -- in any state
   pub chunks-formed : (c : Call) → ForChunks (done t l c .said) → Formed c (standing t l) (roomOf l)
   unfolding done
-  chunks-formed (announce a len hop) w = announce-formed a len hop (announce-judged t l a len hop) (rw (announce-said t l a len hop) at w)
+  chunks-formed (announce r) w = announce-formed r (announce-judged t l r) (rw (announce-said t l r) at w)
   chunks-formed (withdraw a len) w = absurd (withdraw-never a len (withdraw-judged t l a len) (rw (withdraw-said t l a len) at w))
   chunks-formed (load input) w = load-formed input (load-judged t l input) (rw (load-said t l input) at w)

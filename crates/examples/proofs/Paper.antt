@@ -21,7 +21,7 @@ use Rattle.sail.specs.declared.geometry.Geometry.{Geometry}
 use Rattle.sail.specs.declared.table.Table.{Table}
 use Rattle.sail.proofs.Sounds.{sail-serves}
 use Rattle.sail_theory.specs.Render.{shown}
-use Rattle.sail_theory.specs.Calls.{Owners, opened, settled, kept, ownersOf, noOwners, route, termsOf, announceSaid, withdrawSaid, loadSaid, inputRoutes, Out, leaving, announced, withdrawn, loaded, reported}
+use Rattle.sail_theory.specs.Calls.{Owners, opened, settled, kept, ownersOf, noOwners, termsOf, announceSaid, withdrawSaid, loadSaid, inputRoutes, Out, leaving, announced, withdrawn, loaded, reported}
 use Rattle.sail_theory.specs.Runs.{Call, announce, withdraw, load, done, after, would}
 use Rattle.sail_theory.proofs.Judged.{Report}
 use Rattle.sail_theory.proofs.Only.{report-only}
@@ -66,7 +66,7 @@ module _ (t : Table) (l : Lent) (s : Sound t l) where
 
 -- the owners after an accepted call, where the routes rs stand with the owners o; `none` are the owners of a fresh table
 abbrev owned : Geometry → Owners → Call → List Route → Owners → Owners
-owned g none (announce a len hop) rs o = opened g o (route a len hop)
+owned g none (announce r) rs o = opened g o r
 owned g none (withdraw a len) rs o = kept g (remove (keyOf a len) rs) o
 owned g none (load input) rs o = settled g none (inputRoutes input)
 
@@ -78,7 +78,7 @@ leaves-owners (refusedAt n k) t l rs o = refl
 
 done-owners : (t : Table) (l : Lent) (c : Call) → ownersOf (done t l c .lent) ≡ cond (accepts (done t l c .said)) (owned (t .geometry) (noOwners l) c (standing t l) (ownersOf l)) (ownersOf l)
 unfolding done announced withdrawn loaded
-done-owners t l (announce a len hop) = leaves-owners (announceSaid t l a len hop) t l (would (announce a len hop) (standing t l)) (owned (t .geometry) (noOwners l) (announce a len hop) (standing t l) (ownersOf l))
+done-owners t l (announce r) = leaves-owners (announceSaid t l r) t l (would (announce r) (standing t l)) (owned (t .geometry) (noOwners l) (announce r) (standing t l) (ownersOf l))
 done-owners t l (withdraw a len) = leaves-owners (withdrawSaid t l a len) t l (would (withdraw a len) (standing t l)) (owned (t .geometry) (noOwners l) (withdraw a len) (standing t l) (ownersOf l))
 done-owners t l (load input) = leaves-owners (loadSaid t l input) t l (would (load input) (standing t l)) (owned (t .geometry) (noOwners l) (load input) (standing t l) (ownersOf l))
 

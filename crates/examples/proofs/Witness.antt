@@ -10,8 +10,10 @@ use lib.ListN.{getD, length, replicate, List·getD-map}
 use Rattle.bits.specs.Slot.{slot, cut}
 use Rattle.bits.specs.Search.{firstFrom, firstOf}
 use Rattle.bits.specs.Tab.{tabulate}
+use Rattle.bits.specs.Count.{count}
 use Rattle.routes.specs.Route.{Good}
-use Rattle.standing.specs.Cells.{any}
+use Rattle.standing.specs.Cells.{any, best}
+use Rattle.standing.specs.Cells as cells
 use Rattle.routes.specs.Record.{recordAt, routesOf, written, routesIn}
 use Rattle.routes.specs.Input.{properPrefix, hopFine, routeFault, inOrder, faultAt, inputSaid}
 use Rattle.routes.specs.Said.{Said, accepted, refused, accepts}
@@ -33,7 +35,7 @@ use Rattle.sail.specs.Walk.{lookupSaid, saysFound}
 use Rattle.sail.specs.declared.table.Table.{Table}
 use Rattle.sail.specs.declared.lookup.Found.the-variants as found
 use Rattle.sail.proofs.Fresh.{fresh-sound}
-use Rattle.sail_theory.specs.Calls.{termsOf, withdrawFault, Out, out, made, announced, withdrawn, loaded}
+use Rattle.sail_theory.specs.Calls.{route, termsOf, withdrawFault, Out, out, made, announced, withdrawn, loaded}
 use Rattle.sail_theory.specs.Runs.{Call, announce, withdraw, load, done, after, worked, would, Formed}
 use Rattle.sail_theory.specs.Render.{roomOf}
 use Rattle.sail_theory.proofs.Accepted.{announce-said, announce-off}
@@ -51,10 +53,15 @@ use Rattle.sail_withdraw.specs.Answers.{saysWithdraw}
 use Rattle.sail_announce.specs.declared.answers.Announce.the-variants as ofAnnounce
 use Rattle.sail_withdraw.specs.declared.answers.Withdraw.the-variants as ofWithdraw
 use Rattle.tree.specs.Node.{sound}
+use Rattle.tree.specs.Parts.{picked, gather}
+use Rattle.tree.specs.Image.{kids, level, upTo, onPath}
+use Rattle.tree.specs.Walk as walk
 use Rattle.tree.specs.Walk.{walkFrom, treeSaid, saysTreeFound}
 use Rattle.tree.specs.declared.TreeFound.the-variants as treeFound
-use Rattle.tree_build.specs.Built.{saysBuilt, built}
+use Rattle.tree_build.specs.Built as building
+use Rattle.tree_build.specs.Built.{saysBuilt, madeOf, built}
 use Rattle.tree_build.specs.declared.Built.the-variants as ofBuild
+use Rattle.tree_build.proofs.Serves.{built-serves}
 use Rattle.demands.specs.Meets.{MeetsCheckInput, MeetsRouteAt, MeetsRunCheck, MeetsTally, MeetsLookup, MeetsReport, MeetsMake, MeetsLoad, MeetsAnnounce, MeetsWithdraw, MeetsTreeLookup, MeetsBuild}
 use Rattle.demands.proofs.Replies.{reply, stood, run-says, run-stood}
 use Rattle.demands.proofs.Wants.{ByNeed, ForChunks}
@@ -97,7 +104,7 @@ pub refused-load : accepts (loaded (t []) (l []) (1 ∷ []) .said) ≡ false
 unfolding after done reply inputSaid
 refused-load = ap accepts (first-says (load (1 ∷ [])))
 
-pub refused-announce : accepts (announced (t entered) (l entered) (ip 10 2 2 0) 24 45 .said) ≡ false
+pub refused-announce : accepts (announced (t entered) (l entered) (route (ip 10 2 2 0) 24 45 0) .said) ≡ false
 unfolding starred answer after done
 refused-announce = ap accepts (line 34)
 
@@ -169,11 +176,11 @@ pub wantedA : ForChunks (after table arrays other .said)
 unfolding starred answer
 wantedA = rw (line 34) (omega arith, omega arith)
 
-pub formed-announce : Formed (announce (ip 10 2 2 0) 24 45) (demand3.now table arrays sized entered) (roomOf arrays)
-formed-announce = demand3.want-formed table arrays sized entered (announce (ip 10 2 2 0) 24 45) wantedA
+pub formed-announce : Formed (announce (route (ip 10 2 2 0) 24 45 0)) (demand3.now table arrays sized entered) (roomOf arrays)
+formed-announce = demand3.want-formed table arrays sized entered (announce (route (ip 10 2 2 0) 24 45 0)) wantedA
 
-pub needed : ByNeed (termsOf table arrays) (would (announce (ip 10 2 2 0) 24 45) (demand3.now table arrays sized entered)) (after table arrays other .said)
-needed = demand3.want-of-chunks table arrays sized entered (announce (ip 10 2 2 0) 24 45) formed-announce
+pub needed : ByNeed (termsOf table arrays) (would (announce (route (ip 10 2 2 0) 24 45 0)) (demand3.now table arrays sized entered)) (after table arrays other .said)
+needed = demand3.want-of-chunks table arrays sized entered (announce (route (ip 10 2 2 0) 24 45 0)) formed-announce
 
 -- a withdrawal and a load that are well-formed,
 pub formed-withdraw : Formed (withdraw 0 0) (demand3.now table arrays sized loadedA) (roomOf arrays)
@@ -201,9 +208,13 @@ pub checked-A : MeetsCheckInput listA (ofInput.Good 5)
 unfolding saysInput
 checked-A = sym goodA
 
-pub route-A : MeetsRouteAt listA 4 (got.One (record { addr = ip 10 1 2 128; len = 25; spare = 0; hop = 57 }))
+pub route-A : MeetsRouteAt listA 4 (got.One (record { addr = ip 10 1 2 128; len = 25; mark = 0; hop = 57 }))
 unfolding saysGot routeSaid listA recordAt
 route-A = rw goodA
+
+pub route-attached : MeetsRouteAt (10 ∷ 1 ∷ 0 ∷ 0 ∷ 16 ∷ 1 ∷ 0 ∷ 31 ∷ []) 0 (got.One (route (ip 10 1 0 0) 16 31 1))
+unfolding starred answer saysGot routeSaid recordAt
+route-attached = rw (line 39)
 
 pub run-A : MeetsRunCheck listA (ip 10 1 0 0) 16 (runCheck.Run 2 3)
 unfolding saysRunCheck runSaid listA recordAt placeOf firstOf firstFrom properPrefix cut
@@ -232,21 +243,40 @@ pub loaded-A : MeetsLoad (t []) (l []) listA (record { answer = ofLoad.Done; tab
 unfolding starred answer after done saysLoaded
 loaded-A = told (loaded (t []) (l []) listA) (accepted []) (line 0)
 
-pub announced-first : MeetsAnnounce (t []) (l []) (ip 10 1 2 0) 24 44 (record { answer = ofAnnounce.Added; table = t entered }) (l entered)
+pub announced-first : MeetsAnnounce (t []) (l []) (ip 10 1 2 0) 24 44 0 (record { answer = ofAnnounce.Added; table = t entered }) (l entered)
 unfolding starred answer after done saysAnnounce
-announced-first = told (announced (t []) (l []) (ip 10 1 2 0) 24 44) (accepted (0 ∷ [])) (line 33)
+announced-first = told (announced (t []) (l []) (route (ip 10 1 2 0) 24 44 0)) (accepted (0 ∷ [])) (line 33)
 
-pub announced-other : MeetsAnnounce (t entered) (l entered) (ip 10 2 2 0) 24 45 (record { answer = ofAnnounce.Refused 7; table = t entered }) (l entered)
+pub announced-other : MeetsAnnounce (t entered) (l entered) (ip 10 2 2 0) 24 45 0 (record { answer = ofAnnounce.Refused 7; table = t entered }) (l entered)
 unfolding starred answer after done saysAnnounce
-announced-other = sym (announce-off (t entered) (l entered) (ip 10 2 2 0) 24 45 (refused 7) (sym (announce-said (t entered) (l entered) (ip 10 2 2 0) 24 45) ∙ line 34) refl)
+announced-other = sym (announce-off (t entered) (l entered) (route (ip 10 2 2 0) 24 45 0) (refused 7) (sym (announce-said (t entered) (l entered) (route (ip 10 2 2 0) 24 45 0)) ∙ line 34) refl)
 
 pub withdrawn-A : MeetsWithdraw (t loadedA) (l loadedA) 0 0 (record { answer = ofWithdraw.Removed; table = t without0 }) (l without0)
 unfolding starred answer after done saysWithdraw
 withdrawn-A = told (withdrawn (t loadedA) (l loadedA) 0 0) (accepted []) (line 9)
 
-pub tree-found-A : MeetsTreeLookup (image .words) (image .hops) (ip 10 1 2 200) (treeFound.Hop 57 7)
+pub tree-found-A : MeetsTreeLookup (image .words) (image .hops) (ip 10 1 2 200) (treeFound.Hop 57 8)
 unfolding starred answer saysTreeFound
 tree-found-A = sym (line 2)
+
+-- The largest count of an image is had: the image of one route of 32 bits, asked for that address, has 9 nodes on its path, and the hop.
+unfoldable pub host : List ℕ
+host = 10 ∷ 1 ∷ 2 ∷ 200 ∷ 32 ∷ 0 ∷ 0 ∷ 57 ∷ []
+
+abbrev pub hostImage : building.Out
+hostImage = built host (replicate 27 0) (replicate 1 0)
+
+host-built : hostImage .said ≡ accepted (9 ∷ 1 ∷ [])
+unfolding host built madeOf inputSaid firstOf firstFrom faultAt routeFault inOrder properPrefix hopFine recordAt cut routesOf tabulate any cells.first picked gather kids level upTo
+host-built = refl
+
+host-told : walk.told (best (routesIn host) 32 (ip 10 1 2 200)) (onPath (routesIn host) (ip 10 1 2 200)) ≡ accepted (10 ∷ 57 ∷ [])
+unfolding host walk.told best routesOf recordAt tabulate any cells.first count
+host-told = refl
+
+pub tree-found-ten : MeetsTreeLookup (hostImage .words) (hostImage .hops) (ip 10 1 2 200) (treeFound.Hop 57 10)
+unfolding saysTreeFound
+tree-found-ten = sym (built-serves host (replicate 27 0) (replicate 1 0) (9 ∷ 1 ∷ []) (ip 10 1 2 200) host-built (omega arith) ∙ host-told)
 
 pub tree-broken : (a : ℕ) → MeetsTreeLookup [] [] a treeFound.Broken
 unfolding saysTreeFound

@@ -1,17 +1,20 @@
--- Document 01's starred examples: what is asked, by the definitions that the contracts cite, and what the document answers. Assumes nothing.
+-- Document 01's starred examples, and document 02's mark: what is asked, by the definitions that the contracts cite, and what the documents
+-- answer.
 use mathlib.Core.Path.{_≡_}
 use mathlib.Core.List.{List, [], _∷_, map}
 use Prim.Native.Nat.{ℕ, _+_, _*_, _^_}
 use lib.ListN.{getD, drop, replicate}
+use Rattle.routes.specs.Record.{noRoute}
 use Rattle.routes.specs.Input.{inputSaid}
+use Rattle.routes.specs.Answers.{valuesOf}
 use Rattle.routes.specs.Said.{Said, accepted, refused, refusedAt}
 use Rattle.sail.specs.Geometry.{standardGeo}
 use Rattle.sail.specs.Lent.{Lent, lent}
-use Rattle.sail.specs.Sound.{freshTable}
+use Rattle.sail.specs.Sound.{standing, freshTable}
 use Rattle.sail.specs.Walk.{lookupSaid}
 use Rattle.sail.specs.declared.geometry.Geometry.{Geometry}
 use Rattle.sail.specs.declared.table.Table.{Table}
-use Rattle.sail_theory.specs.Calls.{makeSaid, reported}
+use Rattle.sail_theory.specs.Calls.{route, makeSaid, reported}
 use Rattle.sail_theory.specs.Runs.{Call, announce, withdraw, load, after}
 use Rattle.tree.specs.Walk.{treeSaid}
 use Rattle.tree_build.specs.Built as building
@@ -58,24 +61,29 @@ without0 = withdraw 0 0 ∷ loadedA
 abbrev pub without25 : List Call
 without25 = withdraw (ip 10 1 2 128) 25 ∷ loadedA
 
+-- only the mark of 10.1.0.0/16 is another
+abbrev pub attachedA : List Call
+attachedA = announce (route (ip 10 1 0 0) 16 31 1) ∷ loadedA
+
 abbrev pub entered : List Call
-entered = announce (ip 10 1 2 0) 24 44 ∷ []
+entered = announce (route (ip 10 1 2 0) 24 44 0) ∷ []
 
 abbrev pub other : List Call
-other = announce (ip 10 2 2 0) 24 45 ∷ entered
+other = announce (route (ip 10 2 2 0) 24 45 0) ∷ entered
 
 abbrev pub gone : List Call
 gone = withdraw (ip 10 1 2 0) 24 ∷ other
 
 abbrev pub again : List Call
-again = announce (ip 10 2 2 0) 24 45 ∷ gone
+again = announce (route (ip 10 2 2 0) 24 45 0) ∷ gone
 
--- What is asked: after a run, what its last call says, a lookup, the report, a cell, an owner; what make says of a geometry; what the check of an
+-- What is asked: after a run, what its last call says, a lookup, the report, a route of its list, a cell, an owner; what make says of a geometry; what the check of an
 -- input says; and of list A's image, what the build says, its last node, its hops, and a lookup in it.
 pub data Asked : Type 0 where
   last : List Call → Asked
   lookup : List Call → ℕ → Asked
   report : List Call → Asked
+  listed : List Call → ℕ → Asked
   first : List Call → ℕ → Asked
   second : List Call → ℕ → Asked
   owner2 : List Call → ℕ → Asked
@@ -92,6 +100,7 @@ unfoldable pub answer : Asked → Said
 answer (last cs) = after table arrays cs .said
 answer (lookup cs a) = lookupSaid (after table arrays cs .table) (after table arrays cs .lent) a
 answer (report cs) = reported (after table arrays cs .table) (after table arrays cs .lent)
+answer (listed cs k) = accepted (valuesOf (getD (standing (after table arrays cs .table) (after table arrays cs .lent)) k noRoute))
 answer (first cs q) = accepted (getD (after table arrays cs .lent .first) q 0 ∷ [])
 answer (second cs q) = accepted (getD (after table arrays cs .lent .second) q 0 ∷ [])
 answer (owner2 cs c) = accepted (getD (after table arrays cs .lent .own2) c 0 ∷ [])
@@ -114,17 +123,17 @@ q gives s = record { asked = q; expected = s }
 infix 5 _gives_
 unfoldable pub starred : List Line
 starred =
-    -- list A is loaded; "10.1.2.200: 57, 3 cells; tree 7 nodes", "10.1.2.5: 44, 3 cells", "10.1.3.1: 31, 2 cells; tree 6 nodes",
-    -- "10.2.0.1: 20, 1 cell", "192.0.2.1: 6, 1 cell; tree 1 node"
+    -- list A is loaded; "10.1.2.200: 57, 3 cells", "10.1.2.5: 44, 3 cells", "10.1.3.1: 31, 2 cells", "10.2.0.1: 20, 1 cell",
+    -- "192.0.2.1: 6, 1 cell"; in the tree, by document 02, c: "10.1.2.200 in list A is 8, 10.1.3.1 is 7, 192.0.2.1 is 2"
     (last loadedA gives accepted [])
     ∷ (lookup loadedA (ip 10 1 2 200) gives accepted (3 ∷ 57 ∷ []))
-    ∷ (tree (ip 10 1 2 200) gives accepted (7 ∷ 57 ∷ []))
+    ∷ (tree (ip 10 1 2 200) gives accepted (8 ∷ 57 ∷ []))
     ∷ (lookup loadedA (ip 10 1 2 5) gives accepted (3 ∷ 44 ∷ []))
     ∷ (lookup loadedA (ip 10 1 3 1) gives accepted (2 ∷ 31 ∷ []))
-    ∷ (tree (ip 10 1 3 1) gives accepted (6 ∷ 31 ∷ []))
+    ∷ (tree (ip 10 1 3 1) gives accepted (7 ∷ 31 ∷ []))
     ∷ (lookup loadedA (ip 10 2 0 1) gives accepted (1 ∷ 20 ∷ []))
     ∷ (lookup loadedA (ip 192 0 2 1) gives accepted (1 ∷ 6 ∷ []))
-    ∷ (tree (ip 192 0 2 1) gives accepted (1 ∷ 6 ∷ []))
+    ∷ (tree (ip 192 0 2 1) gives accepted (2 ∷ 6 ∷ []))
     -- "With /0 withdrawn: no route"
     ∷ (last without0 gives accepted [])
     ∷ (lookup without0 (ip 192 0 2 1) gives accepted (1 ∷ []))
@@ -149,9 +158,9 @@ starred =
     ∷ (make (geo 12 23) gives refused 1)
     ∷ (make (geo 11 22) gives refused 1)
     -- "Length 33 with hop 0: 3. Hop 32,767 passes, 32,768 gives 4": announced, and in an input
-    ∷ (last (announce (ip 10 0 0 0) 33 0 ∷ []) gives refused 3)
-    ∷ (last (announce (ip 10 0 0 0) 8 32767 ∷ []) gives accepted (0 ∷ []))
-    ∷ (last (announce (ip 10 0 0 0) 8 32768 ∷ []) gives refused 4)
+    ∷ (last (announce (route (ip 10 0 0 0) 33 0 0) ∷ []) gives refused 3)
+    ∷ (last (announce (route (ip 10 0 0 0) 8 32767 0) ∷ []) gives accepted (0 ∷ []))
+    ∷ (last (announce (route (ip 10 0 0 0) 8 32768 0) ∷ []) gives refused 4)
     ∷ (input (10 ∷ 0 ∷ 0 ∷ 0 ∷ 33 ∷ 0 ∷ 0 ∷ 0 ∷ []) gives refusedAt 3 0)
     ∷ (input (10 ∷ 0 ∷ 0 ∷ 0 ∷ 8 ∷ 0 ∷ 127 ∷ 255 ∷ []) gives accepted (1 ∷ []))
     ∷ (input (10 ∷ 0 ∷ 0 ∷ 0 ∷ 8 ∷ 0 ∷ 128 ∷ 0 ∷ []) gives refusedAt 4 0)
@@ -162,6 +171,17 @@ starred =
     ∷ (last again gives accepted (0 ∷ []))
     ∷ (first again 2562 gives accepted (1 ∷ []))
     ∷ (owner2 again 0 gives accepted (2563 ∷ []))
+    -- the mark is 0, or 1 for attached; one over 1 gives 10, in a record and in announce, after 3 and 4
+    ∷ (input (10 ∷ 1 ∷ 0 ∷ 0 ∷ 16 ∷ 1 ∷ 0 ∷ 31 ∷ []) gives accepted (1 ∷ []))
+    ∷ (input (10 ∷ 1 ∷ 0 ∷ 0 ∷ 16 ∷ 2 ∷ 0 ∷ 31 ∷ []) gives refusedAt 10 0)
+    ∷ (last (announce (route (ip 10 1 0 0) 16 31 2) ∷ []) gives refused 10)
+    ∷ (last (announce (route (ip 10 1 0 0) 16 0 2) ∷ []) gives refused 4)
+    ∷ (last (announce (route (ip 10 1 0 0) 33 31 2) ∷ []) gives refused 3)
+    -- a replacement replaces the mark with the hop; the route is read back with it, and cells and needs are as they were
+    ∷ (last attachedA gives accepted (1 ∷ []))
+    ∷ (listed attachedA 2 gives accepted (ip 10 1 0 0 ∷ 16 ∷ 1 ∷ 31 ∷ []))
+    ∷ (second attachedA 3 gives accepted (0x801F ∷ []))
+    ∷ (report attachedA gives accepted (5 ∷ 1 ∷ 1 ∷ []))
     ∷ []
 
 -- Every line holds.

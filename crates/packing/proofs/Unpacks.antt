@@ -94,13 +94,17 @@ run-values j n x a b e =
     let g : field 32 16 x ≡ n = omega arith in
     record { none = omega arith; back = rw (f, g) }
 
-route-values : (a len hop x : ℕ) → a < 2 ^ 32 → len < 2 ^ 8 → 1 ≤ hop → hop < 2 ^ 16 → x ≡ packRoute (accepted (a ∷ len ∷ 0 ∷ hop ∷ [])) → Reads routeValues x (a ∷ len ∷ 0 ∷ hop ∷ [])
+route-values : (a len mark hop x : ℕ) → a < 2 ^ 32 → len < 2 ^ 7 → mark < 2 → 1 ≤ hop → hop < 2 ^ 16 → x ≡ packRoute (accepted (a ∷ len ∷ mark ∷ hop ∷ []))
+    → Reads routeValues x (a ∷ len ∷ mark ∷ hop ∷ [])
 unfolding packed routeValues
-route-values a len hop x i j k m e =
-    let f : field 32 32 x ≡ a = omega arith in
-    let g : field 8 8 x ≡ len = omega arith in
-    let h : field 16 16 x ≡ hop = omega arith in
-    record { none = omega arith; back = rw (f, g, h, ne-eqb hop 0 (λ z. omega arith)) }
+route-values a len mark hop x i j n k m e =
+    let u : len % 128 ≡ len = mod-eq-of-lt j in
+    let v : mark % 2 ≡ mark = mod-eq-of-lt n in
+    let f : field 32 32 x ≡ a = field-is 32 32 (len * 256 + mark * 32768 + hop * 65536) a 0 x (omega arith) i (omega arith) in
+    let g : field 8 7 x ≡ len = field-is 8 7 0 len (mark + hop * 2 + a * 131072) x (omega arith) j (omega arith) in
+    let p : field 15 1 x ≡ mark = field-is 15 1 (len * 256) mark (hop + a * 65536) x (omega arith) n (omega arith) in
+    let h : field 16 16 x ≡ hop = field-is 16 16 (len * 256 + mark * 32768) hop a x (omega arith) m (omega arith) in
+    record { none = omega arith; back = rw (f, g, p, h, ne-eqb hop 0 (λ z. omega arith)) }
 
 announce-values : (b n x : ℕ) → b < 2 → n < 2 ^ 16 → x ≡ packChange n (accepted (b ∷ [])) → Reads announceValues x (b ∷ [])
 unfolding packed announceValues
@@ -142,7 +146,7 @@ module _ (most : ℕ) (few : most ≤ 2 ^ 32) where
   route-read = said-read most few RouteFits _ routeValues go
     where
       go : (vs : List ℕ) → RouteFits vs → Reads routeValues (packRoute (accepted vs)) vs
-      go _ (RouteFits.one a len spare hop i j e k m) = rw e (route-values a len hop _ i j k m refl)
+      go _ (RouteFits.one a len mark hop i j n k m) = route-values a len mark hop _ i j n k m refl
       go _ RouteFits.nothing = record { none = refl; back = refl }
 
   pub announce-read : (count : ℕ) (s : Said) → Fits most (AnnounceFits count) s → unpackAnnounce (packChange count s) ≡ s

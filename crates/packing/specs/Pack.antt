@@ -24,6 +24,6 @@ packRun = packed (λ vs. value 0 vs % 65536 * 65536 + value 1 vs % 65536 * 2 ^ 3
 abbrev pub packNone : Said → ℕ
 packNone = packed (λ vs. 0)
 
--- the length in bits 8 to 15, the hop in 16 to 31, the address in 32 to 63
+-- the length in bits 8 to 14, the mark in bit 15, the hop in 16 to 31, the address in 32 to 63
 abbrev pub packRoute : Said → ℕ
-packRoute = packed (λ vs. value 1 vs * 256 + value 3 vs * 65536 + value 0 vs * 2 ^ 32)
+packRoute = packed (λ vs. value 1 vs % 128 * 256 + value 2 vs % 2 * 32768 + value 3 vs * 65536 + value 0 vs * 2 ^ 32)

@@ -49,9 +49,9 @@ runValues x = field 16 16 x ∷ field 32 16 x ∷ []
 abbrev pub unpackRun : ℕ → Said
 unpackRun = unpacked runValues
 
--- route: address, length, a spare byte of 0, hop; hop 0 is no record of that index
+-- route: address, length, mark, hop; hop 0 is no record of that index
 unfoldable pub routeValues : ℕ → List ℕ
-routeValues x = cond (eqb (field 16 16 x) 0) [] (field 32 32 x ∷ field 8 8 x ∷ 0 ∷ field 16 16 x ∷ [])
+routeValues x = cond (eqb (field 16 16 x) 0) [] (field 32 32 x ∷ field 8 7 x ∷ field 15 1 x ∷ field 16 16 x ∷ [])
 
 abbrev pub unpackRoute : ℕ → Said
 unpackRoute = unpacked routeValues
@@ -100,7 +100,7 @@ pub data RunFits : List ℕ → Type 0 where
   run : (start count : ℕ) → start < 2 ^ 16 → count < 2 ^ 16 → RunFits (start ∷ count ∷ [])
 
 pub data RouteFits : List ℕ → Type 0 where
-  one : (a len spare h : ℕ) → a < 2 ^ 32 → len < 2 ^ 8 → spare ≡ 0 → 1 ≤ h → h < 2 ^ 16 → RouteFits (a ∷ len ∷ spare ∷ h ∷ [])
+  one : (a len mark h : ℕ) → a < 2 ^ 32 → len < 2 ^ 7 → mark < 2 → 1 ≤ h → h < 2 ^ 16 → RouteFits (a ∷ len ∷ mark ∷ h ∷ [])
   nothing : RouteFits []
 
 -- with the route count that the same answer carries

@@ -167,7 +167,12 @@ pub fn got(a: Got) -> u64
     ensures { λ r. ⌜ r ≡ packRoute (saysGot a) ⌝ }
 {
     match a {
-        Got::One(r) => byte(r.len) * 256 + half(r.hop) * 65536 + word(r.addr) * 4294967296,
+        Got::One(r) => {
+            byte(r.len) % 128 * 256
+                + byte(r.mark) % 2 * 32768
+                + half(r.hop) * 65536
+                + word(r.addr) * 4294967296
+        }
         Got::Nothing => 0,
         Got::Refused(z, k) => refused_at(z, k),
         Got::TooMany => 6,

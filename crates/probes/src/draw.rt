@@ -1,4 +1,4 @@
-// What a long run draws: numbers of a linear congruential generator, and prefixes, hops and addresses made of them.
+// What a long run draws: numbers of a linear congruential generator, and prefixes, hops, marks and addresses made of them.
 ghost use Prim.Native.Nat.{_<_};
 
 // The number after x. All are below 2^32.
@@ -58,6 +58,18 @@ pub fn any_prefix(x: u64) -> Prefix {
         addr: bits::cut(l, a),
         len: l as u8,
     }
+}
+
+// A mark: as often 0 as not, and one in eight is 2, which is none.
+pub fn mark(x: u64) -> u8 {
+    let k = pick(x, 8);
+    if k < 4 {
+        return 0;
+    }
+    if k < 7 {
+        return 1;
+    }
+    2
 }
 
 // A hop: 0, 800, 1,600 and so on up to 32,800. The first and the last are none.

@@ -88,7 +88,7 @@ pub fine-ranged : (r : Route) → Fine r → Ranged r
 fine-ranged r f = record {
   addr-fits = f .prefix .addr-ok;
   len-fits = omega (arith, f .prefix .len-ok);
-  spare-fits = omega (arith, f .spare-ok);
+  mark-fits = omega (arith, f .mark-ok);
   hop-fits = omega (arith, f .hop-ok);
 }
 

@@ -23,7 +23,7 @@ use Rattle.sail.specs.declared.geometry.Geometry.{Geometry}
 use Rattle.sail.specs.declared.table.Table.{Table}
 use Rattle.sail.proofs.Sounds.{standing-good}
 use Rattle.sail_theory.specs.Render.{find, Rendered}
-use Rattle.sail_theory.specs.Calls.{Owners, grant, openAt, opening, opened, kept, ownersOf, route, Out, lentOf, announced, withdrawn}
+use Rattle.sail_theory.specs.Calls.{Owners, grant, openAt, opening, opened, kept, ownersOf, Out, lentOf, announced, withdrawn}
 use Rattle.sail_theory.specs.Facts.{Welcome, Farewell}
 use Rattle.sail_theory.specs.Alters.{Alters, NoneUnder, Same, Frame}
 use Rattle.sail_theory.proofs.Chunks.{chunk-before}
@@ -158,10 +158,10 @@ module _ (t : Table) (l : Lent) (r : Route) (w : Welcome t l r) where
   welcome-alters : Alters g (r .addr) (r .len) l now
   welcome-alters = frame-alters t l (w .sound) (r .addr) (r .len) now announce-frame announce-kept
 
-pub announce-alters : (t : Table) (l : Lent) (a len hop : ℕ) → accepts (announced t l a len hop .said) ≡ true → Alters (t .geometry) a len l (announced t l a len hop .lent)
-announce-alters t l a len hop e =
-    let w = accepted-welcome t l a len hop (sym (ap accepts (announce-said t l a len hop)) ∙ e) in
-    subst (λ (o : Out). Alters (t .geometry) a len l (o .lent)) (sym (announce-is t l a len hop w)) (welcome-alters t l (route a len hop) w)
+pub announce-alters : (t : Table) (l : Lent) (r : Route) → accepts (announced t l r .said) ≡ true → Alters (t .geometry) (r .addr) (r .len) l (announced t l r .lent)
+announce-alters t l r e =
+    let w = accepted-welcome t l r (sym (ap accepts (announce-said t l r)) ∙ e) in
+    subst (λ (o : Out). Alters (t .geometry) (r .addr) (r .len) l (o .lent)) (sym (announce-is t l r w)) (welcome-alters t l r w)
 
 -- withdraw
 module _ (t : Table) (l : Lent) (a len : ℕ) (w : Farewell t l a len) where
@@ -236,12 +236,12 @@ opened-lowest v own r c x was now j h = go (ltb (v .bits) (r .len)) now
     go true z = let y = grant-lowest own _ c x was z in chunk-before (chunksOf own) 0 j (omega arith)
     go false z = absurd (omega arith)
 
-module _ (t : Table) (l : Lent) (a len hop : ℕ) (e : accepts (announced t l a len hop .said) ≡ true) where
-  after-is : announced t l a len hop .lent ≡ lentOf t l (insert (route a len hop) (standing t l)) (opened (t .geometry) (ownersOf l) (route a len hop))
-  after-is = ap (λ (o : Out). o .lent) (announce-is t l a len hop (accepted-welcome t l a len hop (sym (ap accepts (announce-said t l a len hop)) ∙ e)))
+module _ (t : Table) (l : Lent) (r : Route) (e : accepts (announced t l r .said) ≡ true) where
+  after-is : announced t l r .lent ≡ lentOf t l (insert r (standing t l)) (opened (t .geometry) (ownersOf l) r)
+  after-is = ap (λ (o : Out). o .lent) (announce-is t l r (accepted-welcome t l r (sym (ap accepts (announce-said t l r)) ∙ e)))
 
-  pub opened-lowest2 : (c x : ℕ) → getD (l .own2) c 0 ≡ 0 → getD (announced t l a len hop .lent .own2) c 0 ≡ suc x → (j : ℕ) → j < c → getD (l .own2) j 0 ≢ 0
-  opened-lowest2 c x was now = opened-lowest (level1 (t .geometry)) (l .own2) (route a len hop) c x was (sym (ap {B = ℕ} (λ (u : Lent). getD (u .own2) c 0) after-is) ∙ now)
+  pub opened-lowest2 : (c x : ℕ) → getD (l .own2) c 0 ≡ 0 → getD (announced t l r .lent .own2) c 0 ≡ suc x → (j : ℕ) → j < c → getD (l .own2) j 0 ≢ 0
+  opened-lowest2 c x was now = opened-lowest (level1 (t .geometry)) (l .own2) r c x was (sym (ap {B = ℕ} (λ (u : Lent). getD (u .own2) c 0) after-is) ∙ now)
 
-  pub opened-lowest3 : (c x : ℕ) → getD (l .own3) c 0 ≡ 0 → getD (announced t l a len hop .lent .own3) c 0 ≡ suc x → (j : ℕ) → j < c → getD (l .own3) j 0 ≢ 0
-  opened-lowest3 c x was now = opened-lowest (level2 (t .geometry) (chunksOf (opened (t .geometry) (ownersOf l) (route a len hop) .own2))) (l .own3) (route a len hop) c x was (sym (ap {B = ℕ} (λ (u : Lent). getD (u .own3) c 0) after-is) ∙ now)
+  pub opened-lowest3 : (c x : ℕ) → getD (l .own3) c 0 ≡ 0 → getD (announced t l r .lent .own3) c 0 ≡ suc x → (j : ℕ) → j < c → getD (l .own3) j 0 ≢ 0
+  opened-lowest3 c x was now = opened-lowest (level2 (t .geometry) (chunksOf (opened (t .geometry) (ownersOf l) r .own2))) (l .own3) r c x was (sym (ap {B = ℕ} (λ (u : Lent). getD (u .own3) c 0) after-is) ∙ now)

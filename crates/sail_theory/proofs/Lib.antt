@@ -16,6 +16,7 @@ pub mod Wants
 pub mod Accepted
 pub mod Fresh
 pub mod Cells
+pub mod Marks
 pub mod Ends
 pub mod Sizes
 pub mod Loads

@@ -16,7 +16,7 @@ use Rattle.sail.specs.Sizes.{Sized}
 use Rattle.sail.specs.declared.geometry.Geometry.{Geometry}
 use Rattle.sail.specs.declared.table.Table.{Table}
 use Rattle.sail_theory.specs.Render.{find, Fits, roomOf}
-use Rattle.sail_theory.specs.Calls.{Owners, opened, settled, ownersOf, noOwners, route, inputRoutes, loadSaid, Out, stateOf, lentOf, made, announced, loaded}
+use Rattle.sail_theory.specs.Calls.{Owners, opened, settled, ownersOf, noOwners, inputRoutes, loadSaid, Out, stateOf, lentOf, made, announced, loaded}
 use Rattle.sail_theory.specs.Facts.{Holds, Welcome, Loadable}
 use Rattle.sail_theory.specs.Runs.{announceAll, AllAdded}
 use Rattle.sail_theory.proofs.Ends.{good-front, good-next, good-below, insert-end, none-stands, any-front}
@@ -27,10 +27,6 @@ use Rattle.sail_theory.proofs.Only.{load-only}
 use Rattle.sail_theory.proofs.Changes.{render-holds, ready1, ready2, welcome-fits2, welcome-fits3}
 use Rattle.sail_theory.proofs.Accepted.{announce-is, outcome-said, outcome-refused}
 use Rattle.sail_theory.proofs.Fresh.{no-fits, fresh-rendered, make-is}
-
--- a route without spare is made of its parts
-route-parts : (r : Route) → r .spare ≡ 0 → route (r .addr) (r .len) (r .hop) ≡ r
-route-parts r e = λ i. record { addr = r .addr; len = r .len; spare = sym e i; hop = r .hop }
 
 -- Owners that fit a good list which is the front of one that may be loaded.
 pub record Fronts (t : Table) (l : Lent) (xs ys : List Route) (o : Owners) : Type 0 where
@@ -101,11 +97,8 @@ module _ (t : Table) (l : Lent) (xs : List Route) (r : Route) (ys : List Route) 
   fronts-ready2 = rw (now .routes) at (ready2 u v r welcome)
 
   -- it is added, and its chunks opened
-  next : announced u v (r .addr) (r .len) (r .hop) ≡ record { said = accepted (0 ∷ []); table = stateOf t xs′; lent = lentOf t l xs′ (opened g o r) }
-  next =
-      let whole = route-parts r (fine .spare-ok) in
-      announce-is u v (r .addr) (r .len) (r .hop) (rw whole welcome)
-      ∙ rw (whole, now .routes, none-stands (key r) xs below, ended, same-room)
+  next : announced u v r ≡ record { said = accepted (0 ∷ []); table = stateOf t xs′; lent = lentOf t l xs′ (opened g o r) }
+  next = announce-is u v r welcome ∙ rw (now .routes, none-stands (key r) xs below, ended, same-room)
 
   pub fronts-next : Fronts t l xs′ ys (opened g o r)
   fronts-next = record {

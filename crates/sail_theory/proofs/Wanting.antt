@@ -11,7 +11,7 @@ use lib.ListN.{length}
 use borrow.Author.Tests.{lt-ltb, le-ltb}
 use Rattle.bits.specs.Count.{bit}
 use Rattle.bits.proofs.Tests.{decided, below?}
-use Rattle.routes.specs.Route.{keyOf}
+use Rattle.routes.specs.Route.{keyOf, key}
 use Rattle.standing.specs.Cells.{within, need}
 use Rattle.routes.specs.Said.{Said, accepted, refused}
 use Rattle.standing.specs.Standing.{stands, insert, remove}
@@ -26,7 +26,7 @@ use Rattle.sail.specs.Sound.{Sound, standing}
 use Rattle.sail.specs.declared.table.Table.{Table}
 use Rattle.sail.proofs.Sounds.{standing-good, chunks-need}
 use Rattle.sail_theory.specs.Render.{roomOf}
-use Rattle.sail_theory.specs.Calls.{route, Terms, termsOf, chunksFault, inputRoutes, orSay, announced, withdrawn, loaded}
+use Rattle.sail_theory.specs.Calls.{Terms, termsOf, chunksFault, inputRoutes, orSay, announced, withdrawn, loaded}
 use Rattle.sail_theory.specs.Runs.{Call, announce, withdraw, load, done, after, would, Formed}
 use Rattle.sail_theory.proofs.Chunks.{used-le}
 use Rattle.sail_theory.proofs.Needs.{need-mono}
@@ -57,17 +57,17 @@ module _ (t : Table) (l : Lent) (s : Sound t l) where
   abbrev rs : List Route
   rs = standing t l
 
-  announce-wants : (a len hop : ℕ) → Formed (announce a len hop) rs (roomOf l) → Wanting (termsOf t l) (insert (route a len hop) rs) (announced t l a len hop .said)
-  announce-wants a len hop f = go (decided (stands (keyOf a len) rs))
+  announce-wants : (r : Route) → Formed (announce r) rs (roomOf l) → Wanting (termsOf t l) (insert r rs) (announced t l r .said)
+  announce-wants r f = go (decided (stands (key r) rs))
     where
-      proper : Proper t l a len hop
+      proper : Proper t l r
       proper = record { fine = f .0; sound = s }
 
-      go : (stands (keyOf a len) rs ≡ true) ⊎ (stands (keyOf a len) rs ≡ false) → Wanting (termsOf t l) (insert (route a len hop) rs) (announced t l a len hop .said)
+      go : (stands (key r) rs ≡ true) ⊎ (stands (key r) rs ≡ false) → Wanting (termsOf t l) (insert r rs) (announced t l r .said)
       go (inl e) =
-          let w = replaced-welcome t l a len hop proper e in
-          rw (announce-said t l a len hop ∙ welcome-said t l a len hop w) (neither (w .enough2) (w .enough3) (bit (stands (keyOf a len) rs) ∷ []))
-      go (inr e) = rw (announce-said t l a len hop ∙ roomy-said t l a len hop (record { proper = proper; new = e; room = omega (arith, insert-adds (route a len hop) rs e, f .1) })) (wanting (termsOf t l) (insert (route a len hop) rs) (0 ∷ []))
+          let w = replaced-welcome t l r proper e in
+          rw (announce-said t l r ∙ welcome-said t l r w) (neither (w .enough2) (w .enough3) (bit (stands (key r) rs) ∷ []))
+      go (inr e) = rw (announce-said t l r ∙ roomy-said t l r (record { proper = proper; new = e; room = omega (arith, insert-adds r rs e, f .1) })) (wanting (termsOf t l) (insert r rs) (0 ∷ []))
 
   withdraw-wants : (a len : ℕ) → Formed (withdraw a len) rs (roomOf l) → Wanting (termsOf t l) (remove (keyOf a len) rs) (withdrawn t l a len .said)
   withdraw-wants a len f =
@@ -89,7 +89,7 @@ module _ (t : Table) (l : Lent) (s : Sound t l) where
 
   pub change-wants : (c : Call) → Formed c rs (roomOf l) → Wanting (termsOf t l) (would c rs) (done t l c .said)
   unfolding done
-  change-wants (announce a len hop) f = announce-wants a len hop f
+  change-wants (announce r) f = announce-wants r f
   change-wants (withdraw a len) f = withdraw-wants a len f
   change-wants (load input) f = load-wants input f
 

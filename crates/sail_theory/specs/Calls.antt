@@ -6,10 +6,10 @@ use Prim.Native.Nat.{ℕ, zero, suc, _-_, _/_}
 use lib.Dec.{ltb, leb}
 use lib.ListN.{length, set, replicate}
 use Rattle.bits.specs.Count.{bit}
-use Rattle.routes.specs.Route.{keyOf}
+use Rattle.routes.specs.Route.{keyOf, key}
 use Rattle.standing.specs.Cells.{need}
 use Rattle.routes.specs.Record.{routesOf}
-use Rattle.routes.specs.Input.{properPrefix, hopFine, inputSaid}
+use Rattle.routes.specs.Input.{properPrefix, routeFault, inputSaid}
 use Rattle.routes.specs.Said.{Said, accepted, refused, refusedAt, andThen}
 use Rattle.standing.specs.Standing.{stands, insert, remove}
 use Rattle.routes.specs.declared.Route.{Route}
@@ -80,18 +80,17 @@ termsOf t l = record { geometry = t .geometry; room = roomOf l; most2 = length (
 unfoldable pub chunksFault : Terms → List Route → ℕ
 chunksFault m rs = cond (ltb (m .most2) (need rs (m .geometry .p1))) 7 (cond (ltb (m .most3) (need rs (m .geometry .p2))) 8 0)
 
-abbrev pub route : ℕ → ℕ → ℕ → Route
-route a len hop = record { addr = a; len = len; spare = 0; hop = hop }
+-- the route that an announcement asks for
+abbrev pub route : ℕ → ℕ → ℕ → ℕ → Route
+route a len hop mark = record { addr = a; len = len; mark = mark; hop = hop }
 
--- 3, 4, 5, 6, 7, 8; a replacement never meets 6 to 8. `ok` tells whether the table is sound
-unfoldable pub announceFault : Bool → Terms → List Route → ℕ → ℕ → ℕ → ℕ
-announceFault ok m rs a len hop =
-    cond (not (properPrefix a len)) 3
-    (cond (not (hopFine hop)) 4
-    (cond (not ok) 5
-    (cond (stands (keyOf a len) rs) 0
+-- 5, 6, 7, 8, after the route by itself is good; a replacement never meets 6 to 8. `ok` tells whether the table is sound
+unfoldable pub announceFault : Bool → Terms → List Route → Route → ℕ
+announceFault ok m rs r =
+    cond (not ok) 5
+    (cond (stands (key r) rs) 0
     (cond (leb (m .room) (length rs)) 6
-    (chunksFault m (insert (route a len hop) rs))))))
+    (chunksFault m (insert r rs))))
 
 -- 3, 5, 9
 unfoldable pub withdrawFault : Bool → List Route → ℕ → ℕ → ℕ
@@ -112,12 +111,13 @@ orSay (suc n) s = refused (suc n)
 unfoldable pub makeSaid : Table → Lent → Said
 makeSaid t l = orSay (sizesFault (t .geometry) l) (accepted [])
 
--- added says 0, replaced says 1
-unfoldable pub announceSaid : Table → Lent → ℕ → ℕ → ℕ → Said
-announceSaid t l a len hop =
+-- 1, 2; what is wrong with the route by itself (3, 4, 10); 5, 6, 7, 8. Added says 0, replaced says 1
+unfoldable pub announceSaid : Table → Lent → Route → Said
+announceSaid t l r =
     orSay (sizesFault (t .geometry) l)
-    (orSay (announceFault (sound? t l) (termsOf t l) (standing t l) a len hop)
-    (accepted (bit (stands (keyOf a len) (standing t l)) ∷ [])))
+    (orSay (routeFault r)
+    (orSay (announceFault (sound? t l) (termsOf t l) (standing t l) r)
+    (accepted (bit (stands (key r) (standing t l)) ∷ []))))
 
 unfoldable pub withdrawSaid : Table → Lent → ℕ → ℕ → Said
 withdrawSaid t l a len =
@@ -168,12 +168,12 @@ leaving s t l rs o = outcome s t l (stateOf t rs) (lentOf t l rs o)
 unfoldable pub made : Table → Lent → Out
 made t l = outcome (makeSaid t l) t l (freshTable (t .geometry)) (freshLent l)
 
--- "Announce adds, or replaces the hop of a standing prefix, and says which"
-unfoldable pub announced : Table → Lent → ℕ → ℕ → ℕ → Out
-announced t l a len hop =
-    leaving (announceSaid t l a len hop) t l
-    (insert (route a len hop) (standing t l))
-    (opened (t .geometry) (ownersOf l) (route a len hop))
+-- "Announce adds, or replaces the hop of a standing prefix, and says which"; the mark is replaced with the hop
+unfoldable pub announced : Table → Lent → Route → Out
+announced t l r =
+    leaving (announceSaid t l r) t l
+    (insert r (standing t l))
+    (opened (t .geometry) (ownersOf l) r)
 
 -- "Withdraw removes, and closes chunks that are no longer needed"
 unfoldable pub withdrawn : Table → Lent → ℕ → ℕ → Out

@@ -5,7 +5,7 @@ use mathlib.Core.Path.{_≡_}
 use Prim.Native.Nat.{ℕ, _*_, _≤_}
 use lib.Dec.{eqb}
 use lib.ListN.{length}
-use Rattle.routes.specs.Route.{keyOf, Prefix, Fine}
+use Rattle.routes.specs.Route.{keyOf, key, Prefix, Fine}
 use Rattle.routes.specs.Record.{routesOf, Records}
 use Rattle.routes.specs.Input.{inputSaid}
 use Rattle.routes.specs.Said.{accepted, accepts}
@@ -13,27 +13,27 @@ use Rattle.standing.specs.Standing.{stands, Held, absent, stood, routeAt, inser
 use Rattle.routes.specs.declared.Route.{Route}
 use Rattle.sail.specs.Lent.{Lent}
 use Rattle.sail.specs.declared.table.Table.{Table}
-use Rattle.sail_theory.specs.Calls.{route, inputRoutes, Out, made, announced, withdrawn, loaded}
+use Rattle.sail_theory.specs.Calls.{inputRoutes, Out, made, announced, withdrawn, loaded}
 
 -- what is left after announcing each of these in order
 unfoldable pub announceAll : Out → List Route → Out
 announceAll o [] = o
-announceAll o (r ∷ rs) = announceAll (announced (o .table) (o .lent) (r .addr) (r .len) (r .hop)) rs
+announceAll o (r ∷ rs) = announceAll (announced (o .table) (o .lent) r) rs
 
 -- each of these answers is that the route was added
 unfoldable pub AllAdded : Out → List Route → Type 0
 AllAdded o [] = Unit
 AllAdded o (r ∷ rs) =
-    (announced (o .table) (o .lent) (r .addr) (r .len) (r .hop) .said ≡ accepted (0 ∷ []))
-    × AllAdded (announced (o .table) (o .lent) (r .addr) (r .len) (r .hop)) rs
+    (announced (o .table) (o .lent) r .said ≡ accepted (0 ∷ []))
+    × AllAdded (announced (o .table) (o .lent) r) rs
 
 pub data Call : Type 0 where
-  announce : ℕ → ℕ → ℕ → Call
+  announce : Route → Call
   withdraw : ℕ → ℕ → Call
   load : List ℕ → Call
 
 unfoldable pub done : Table → Lent → Call → Out
-done t l (announce a len hop) = announced t l a len hop
+done t l (announce r) = announced t l r
 done t l (withdraw a len) = withdrawn t l a len
 done t l (load input) = loaded t l input
 
@@ -44,7 +44,7 @@ after t l (c ∷ cs) = done (after t l cs .table) (after t l cs .lent) c
 
 -- what stands for the prefix with key k after an accepted call, where `before` stood for it
 abbrev pub says : Call → ℕ → Held → Held
-says (announce a len hop) k before = cond (eqb (keyOf a len) k) (stood (route a len hop)) before
+says (announce r) k before = cond (eqb (key r) k) (stood r) before
 says (withdraw a len) k before = cond (eqb (keyOf a len) k) absent before
 says (load input) k before = routeAt k (inputRoutes input)
 
@@ -55,13 +55,13 @@ worked t l (c ∷ cs) k = cond (accepts (after t l (c ∷ cs) .said)) (says c k 
 
 -- the routes that would stand after the call, where rs stand
 abbrev pub would : Call → List Route → List Route
-would (announce a len hop) rs = insert (route a len hop) rs
+would (announce r) rs = insert r rs
 would (withdraw a len) rs = remove (keyOf a len) rs
 would (load input) rs = inputRoutes input
 
 -- a well-formed change for which a list of this room has room, where rs stand
 abbrev pub Formed : Call → List Route → ℕ → Type 0
-Formed (announce a len hop) rs room = Fine (route a len hop) × (length (insert (route a len hop) rs) ≤ room)
+Formed (announce r) rs room = Fine r × (length (insert r rs) ≤ room)
 Formed (withdraw a len) rs room = Prefix a len × (stands (keyOf a len) rs ≡ true)
 Formed (load input) rs room = (n : ℕ) × (inputSaid input ≡ accepted (n ∷ [])) × (n ≤ room)
 

@@ -25,7 +25,7 @@ fn table(list: &[u8; 512], n: usize, second: u32, third: u32) {
     if 64 < n {
         return;
     }
-    let mut out = [0u8; 2048];
+    let mut out = [0u8; 2304];
     let m = line::table_text(list, n, second, third, &mut out);
     io::write_all(libc::STDOUT_FILENO, &out[..m]);
 }

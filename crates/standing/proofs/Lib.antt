@@ -1,6 +1,7 @@
 -- The laws of what routes say of a cell, and of lists that change by one route.
 pub mod Levels
 pub mod Longest
+pub mod Marks
 pub mod Paint
 pub mod Need
 pub mod Prefixes

@@ -1,4 +1,4 @@
--- Document 01's list A as the printing program has it: its bytes, and the text that is printed of them. Assumes nothing.
+-- Document 01's list A as the printing program has it: its bytes, and the text that is printed of them; and a list with an attached route.
 use mathlib.Core.Path.{_≡_, refl}
 use mathlib.Core.List.{List, [], _∷_, _++_}
 use Prim.Native.Nat.{ℕ}
@@ -8,7 +8,7 @@ use Rattle.routes.specs.Record.{recordAt, routesOf}
 use Rattle.standing.specs.Cells.{need, any}
 use Rattle.routes.specs.Said.{refused, refusedAt}
 use Rattle.text.specs.Digits.{digitsIn, digitsOf}
-use Rattle.text.specs.Text.{ascii, labelled, dotted, routeLine, routeLines, headLine, tableText, saidText}
+use Rattle.text.specs.Text.{ascii, labelled, dotted, markText, routeLine, routeLines, headLine, tableText, saidText}
 
 bytesA : List ℕ
 bytesA =
@@ -29,8 +29,22 @@ pub list-A : tableText listA (need listA 12) (need listA 22) ≡
     ++ ascii "10.1.0.0/16 31\n"
     ++ ascii "10.1.2.0/24 44\n"
     ++ ascii "10.1.2.128/25 57\n"
-unfolding bytesA listA routesOf recordAt tabulate need any digitsIn digitsOf ascii labelled dotted routeLine routeLines headLine tableText
+unfolding bytesA listA routesOf recordAt tabulate need any digitsIn digitsOf ascii labelled dotted markText routeLine routeLines headLine tableText
 list-A = refl
+
+-- an attached network beside one behind a neighbour
+bytesB : List ℕ
+bytesB = (10 ∷ 1 ∷ 0 ∷ 0 ∷ 16 ∷ 1 ∷ 0 ∷ 31 ∷ []) ++ (10 ∷ 1 ∷ 2 ∷ 0 ∷ 24 ∷ 0 ∷ 0 ∷ 44 ∷ [])
+
+pub listB : List Route
+listB = routesOf bytesB 2
+
+pub attached : tableText listB (need listB 12) (need listB 22) ≡
+    ascii "routes 2 second 1 third 1\n"
+    ++ ascii "10.1.0.0/16 31 attached\n"
+    ++ ascii "10.1.2.0/24 44\n"
+unfolding bytesB listB routesOf recordAt tabulate need any digitsIn digitsOf ascii labelled dotted markText routeLine routeLines headLine tableText
+attached = refl
 
 pub refusals : (saidText (refusedAt 10 3) ≡ ascii "refused 10 at 3\n") × (saidText (refused 7) ≡ ascii "refused 7\n")
 unfolding digitsIn digitsOf ascii labelled saidText

@@ -1,5 +1,4 @@
--- What an image needs: one hop for each route, and at most 1 + 8 nodes for each, so 32,769 nodes for 4,096 routes.
--- Assumes nothing.
+-- What an image needs: one hop for each route; and the root with at most 8 nodes for each route, so 32,769 nodes for 4,096 routes.
 use mathlib.Core.Path.{_≡_, refl, sym, _∙_, ap, ap₂}
 use mathlib.Core.Logic.{_⊎_, inl, inr}
 use mathlib.Core.Bool.{Bool, true, false, cond, true≢false}

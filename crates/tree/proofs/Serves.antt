@@ -1,5 +1,5 @@
--- Looking an address up in the image of a good list gives the hop of the longest route that covers it, and the count of the nodes
--- that stand on its path. Assumes nothing.
+-- Looking an address up in the image of a good list gives the hop of the longest route that covers it, after the nodes that stand on its
+-- path have been read.
 use mathlib.Core.Path.{_≡_, refl, sym, _∙_, ap, ap₂}
 use mathlib.Core.Logic.{_⊎_, inl, inr}
 use mathlib.Core.Bool.{Bool, true, false, cond}
@@ -137,7 +137,7 @@ path-count rs a = reads-count (λ m. nodeStands rs (m + 1) (slot (4 * (m + 1)) a
             (eq-eqb (slot (4 * (i + 1)) (r .addr)) (slot (4 * (i + 1)) a) (sym (up (r .addr)) ∙ ap (λ (x : ℕ). x / 2 ^ 4) (eqb-true (slot (4 * (i + 1 + 1)) (r .addr)) (slot (4 * (i + 1 + 1)) a) (s .1)) ∙ up a))
 
 -- every address, on the image of a good list in arrays with room for it: the hop of the longest route that covers the address, or no
--- route where that is 0, and the count of the nodes that stand on its path
+-- route where that is 0, told after the nodes that stand on its path
 pub image-serves : (rs : List Route) (w h a : ℕ) → Good rs → a < 2 ^ 32 → 3 * nodeNeed rs ≤ w → length rs ≤ h
     → treeSaid (imageOf rs w h .words) (imageOf rs w h .hops) a ≡ told (best rs 32 a) (onPath rs a)
 unfolding imageBy

@@ -7,6 +7,7 @@ use lib.ListN.{length, getD}
 use Rattle.routes.specs.Said.{Said, accepted, refused}
 use Rattle.routes.specs.Input.{hopFine}
 use Rattle.tree.specs.Node.{bitsOf, childOf, baseOf, isSet, sound, nibbleOf, deepestOf, betterOf, tryBit, childAt}
+use Rattle.tree.specs.Reads.{counted}
 use Rattle.tree.specs.declared.Place.{Place}
 use Rattle.tree.specs.declared.Place.the-variants.{Nowhere, At}
 use Rattle.tree.specs.declared.TreeFound.{TreeFound}
@@ -17,10 +18,6 @@ unfoldable pub saysTreeFound : TreeFound → Said
 saysTreeFound (Hop h n) = accepted (n ∷ h ∷ [])
 saysTreeFound (NoRoute n) = accepted (n ∷ [])
 saysTreeFound Broken = refused 13
-
--- the count of a lookup that has read n nodes and answers the hop h, 0 for no route: the nodes alone
-abbrev pub counted : ℕ → ℕ → ℕ
-counted h n = n
 
 -- the answer with the hop h, 0 for no route, after n nodes
 unfoldable pub told : ℕ → ℕ → Said

@@ -59,7 +59,7 @@ built-accepts s ws hs vs e = go (input-checked s) e
         let d : n ≡ length s / 8 = omega arith in
         made-accepts (routesIn s) ws hs vs (good-list s (subst (Records s) d r)) f
 
--- every address, after an accepted build: the hop of the longest route that covers it, or no route, and the nodes on its path
+-- every address, after an accepted build: the hop of the longest route that covers it, or no route, told after the nodes on its path
 pub built-serves : (s ws hs vs : List ℕ) (a : ℕ) → built s ws hs .said ≡ accepted vs → a < 2 ^ 32
     → treeSaid (built s ws hs .words) (built s ws hs .hops) a ≡ told (best (routesIn s) 32 a) (onPath (routesIn s) a)
 built-serves s ws hs vs a e l =

@@ -32,6 +32,8 @@ fn route(r: Route) {
     print::value(r.addr as u64);
     print::value(r.len as u64);
     print::value(r.hop as u64);
+    print::text(b" mark");
+    print::value(r.mark as u64);
 }
 
 fn got(answer: Got) {
@@ -69,11 +71,23 @@ pub fn run() {
     got(input::route_at(b"nine byte", 0));
 }
 
+// An attached network: its record, and the route read back out of it.
+pub fn attached() {
+    let record = samples::one(samples::route(0x0A01_0000, 16, 1, 31));
+    print::text(b"record");
+    print::bytes(&record);
+    print::end();
+    got(input::route_at(&record, 0));
+}
+
 pub fn refusals() {
     let good = samples::route(0x0A00_0000, 8, 0, 20);
     said(input::check_input(&samples::two(good, samples::route(0x0B00_0000, 33, 0, 0))));
-    said(input::check_input(&samples::two(good, samples::route(0x0B00_0001, 24, 1, 0))));
-    said(input::check_input(&samples::two(good, samples::route(0x0B00_0000, 24, 1, 0))));
+    said(input::check_input(&samples::two(good, samples::route(0x0B00_0001, 24, 2, 0))));
+    said(input::check_input(&samples::two(good, samples::route(0x0B00_0000, 24, 2, 0))));
+    said(input::check_input(&samples::two(good, samples::route(0x0B00_0000, 24, 2, 32767))));
+    said(input::check_input(&samples::two(good, samples::route(0x0B00_0000, 24, 255, 32767))));
+    said(input::check_input(&samples::two(good, samples::route(0x0A00_0000, 8, 1, 20))));
     said(input::check_input(&samples::two(good, samples::route(0x0B00_0000, 24, 1, 32767))));
     said(input::check_input(&samples::two(good, samples::route(0x0B00_0000, 24, 0, 32767))));
     said(input::check_input(&samples::two(good, samples::route(0x0B00_0000, 24, 0, 32768))));

@@ -1,17 +1,24 @@
-// Runs worked cases, and prints what they give. The file stdout has what document 01 says of them.
+// Runs worked cases, and prints what they give. The file stdout has what the documents say of them.
 mod images;
 mod inputs;
+mod lines;
+mod masks;
 mod parts;
 mod samples;
 mod tables;
 
 fn main() {
+    masks::run();
     inputs::run();
+    inputs::attached();
     inputs::refusals();
     inputs::most();
     parts::run();
     parts::tallies();
+    parts::attached();
+    lines::attached();
     images::list_a();
+    images::host();
     images::sizes();
     images::broken();
     tables::list_a();

@@ -48,6 +48,13 @@ pub fn run() {
     one(b"nine byte", 0x0A01_0001, 16);
 }
 
+// The run carries the mark, and the tally does not look at it.
+pub fn attached() {
+    let a = samples::attached_a();
+    one(&a, 0x0A01_0000, 16);
+    counts(&a);
+}
+
 fn counts(list: &[u8]) {
     let t = tally::tally(list);
     let counts = t.counts;

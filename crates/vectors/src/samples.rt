@@ -48,11 +48,18 @@ pub fn list_a() -> [u8; 40] {
     ]
 }
 
-pub fn route(addr: u32, len: u8, spare: u8, hop: u16) -> Route {
+// List A with 10.1.0.0/16 attached: one byte is another.
+pub fn attached_a() -> [u8; 40] {
+    let mut list = list_a();
+    list[21] = 1;
+    list
+}
+
+pub fn route(addr: u32, len: u8, mark: u8, hop: u16) -> Route {
     Route {
         addr,
         len,
-        spare,
+        mark,
         hop,
     }
 }

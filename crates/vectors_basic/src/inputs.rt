@@ -9,7 +9,7 @@ fn put_figure(list: &mut [u8; 72], k: usize, addr: u32, len: u8, hop: u16)
     let r = Route {
         addr,
         len,
-        spare: 0,
+        mark: 0,
         hop,
     };
     record::write_record(list, k, r);
@@ -36,7 +36,7 @@ fn put(list: &mut [u8; 40], k: usize, addr: u32, len: u8, hop: u16)
     let r = Route {
         addr,
         len,
-        spare: 0,
+        mark: 0,
         hop,
     };
     record::write_record(list, k, r);

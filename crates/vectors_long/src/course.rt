@@ -9,12 +9,12 @@ use std::num;
 use words::print;
 
 // The state, the next drawn number, the lookups so far, and how often each answer came: a refusal at its number, and added,
-// replaced and removed at 10, 11 and 12.
+// replaced and removed at 11, 12 and 13.
 pub struct Course {
     pub table: Table,
     pub x: u64,
     pub sums: Sums,
-    pub tally: [u64; 13],
+    pub tally: [u64; 14],
 }
 
 pub fn start(table: Table, x: u64) -> Course {
@@ -23,40 +23,40 @@ pub fn start(table: Table, x: u64) -> Course {
         table,
         x,
         sums,
-        tally: [0u64; 13],
+        tally: [0u64; 14],
     }
 }
 
 pub fn of_announce(answer: Announce) -> u8 {
     match answer {
-        Announce::Added => 10,
-        Announce::Replaced => 11,
+        Announce::Added => 11,
+        Announce::Replaced => 12,
         Announce::Refused(f) => f,
     }
 }
 
 pub fn of_withdraw(answer: Withdraw) -> u8 {
     match answer {
-        Withdraw::Removed => 12,
+        Withdraw::Removed => 13,
         Withdraw::Refused(f) => f,
     }
 }
 
-fn count(tally: [u64; 13], k: usize) -> [u64; 13] {
+fn count(tally: [u64; 14], k: usize) -> [u64; 14] {
     let mut t = tally;
-    if k < 13 {
+    if k < 14 {
         let n = t[k];
         t[k] = num::wrapping_add_u64(n, 1);
     }
     t
 }
 
-// A change is made: the state after it, and its answer. It took four drawn numbers.
+// A change is made: the state after it, and its answer. It took five drawn numbers.
 pub fn changed(r: Course, table: Table, answer: u8) -> Course {
     let before = r.tally;
     let tally = count(before, answer as usize);
     let sums = r.sums;
-    let x = draw::next(draw::next(draw::next(draw::next(r.x))));
+    let x = draw::next(draw::next(draw::next(draw::next(draw::next(r.x)))));
     Course {
         table,
         x,
@@ -79,9 +79,9 @@ fn numbers(tally: &[u64], from: usize, to: usize) {
 
 fn counted(tally: &[u64]) {
     print::text(b"added, replaced, removed");
-    numbers(tally, 10, 13);
-    print::text(b"refused 1 to 9:");
-    numbers(tally, 1, 10);
+    numbers(tally, 11, 14);
+    print::text(b"refused 1 to 10:");
+    numbers(tally, 1, 11);
 }
 
 // How many lookups there were, and what they found.

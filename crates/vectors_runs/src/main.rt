@@ -1,5 +1,5 @@
-// Runs announce and withdraw on document 01's examples, and prints what they give. The file stdout has what document 01 says of
-// them.
+// Runs announce and withdraw on the documents' examples, and prints what they give. The file stdout has what the documents say
+// of them.
 mod play;
 mod said;
 mod same;
@@ -10,4 +10,5 @@ fn main() {
     scripts::list_a();
     scripts::one_chunk();
     scripts::refusals();
+    scripts::marks();
 }

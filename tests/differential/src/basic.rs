@@ -53,7 +53,7 @@ fn look(routes: &[Route], map: &[u8], cells: &[u16], addr: u32) -> u64 {
     for len in (0..=LEVELS).rev() {
         let at = place(addr, len);
         if map[at / 8] >> (at % 8) & 1 == 1 {
-            return if hop_ok(cells[at]) { (cells[at] as u64) << 16 } else { refused(13) };
+            return if hop_ok(cells[at] as u32) { (cells[at] as u64) << 16 } else { refused(13) };
         }
     }
     0

@@ -168,11 +168,11 @@ pub fn load(p1: u32, p2: u32, input: &[u8], t: &mut Six) -> u64 {
     call!(gh_load, (p1, p2, input.as_ptr(), input.len()), mut t, ())
 }
 
-pub fn announce(p1: u32, p2: u32, count: u32, t: &mut Six, addr: u32, len: u8, hop: u16) -> u64 {
-    call!(gh_announce, (p1, p2, count), mut t, (addr, len, hop))
+pub fn announce(p1: u32, p2: u32, count: u32, t: &mut Six, addr: u32, len: u32, hop: u32, mark: u32) -> u64 {
+    call!(gh_announce, (p1, p2, count), mut t, (addr, len, hop, mark))
 }
 
-pub fn withdraw(p1: u32, p2: u32, count: u32, t: &mut Six, addr: u32, len: u8) -> u64 {
+pub fn withdraw(p1: u32, p2: u32, count: u32, t: &mut Six, addr: u32, len: u32) -> u64 {
     call!(gh_withdraw, (p1, p2, count), mut t, (addr, len))
 }
 
@@ -196,7 +196,7 @@ pub fn tree_lookup(words: &[u32], hops: &[u16], addr: u32) -> u64 {
     unsafe { gh_tree_lookup(words.as_ptr(), words.len(), hops.as_ptr(), hops.len(), addr) }
 }
 
-pub fn run(input: &[u8], addr: u32, len: u8) -> u64 {
+pub fn run(input: &[u8], addr: u32, len: u32) -> u64 {
     unsafe { gh_run(input.as_ptr(), input.len(), addr, len) }
 }
 

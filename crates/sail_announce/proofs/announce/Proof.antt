@@ -15,7 +15,7 @@ announce-spec =
     (λ c. refl)
     (λ c. refl)
     (λ c. refl)
-    (λ c. announce-refused _ _ _ _ _ _ (c .before .judge-announce .ensures) (c .if1 .taken))
+    (λ c. announce-refused _ _ _ _ (c .before .judge-announce .ensures) (c .if1 .taken))
     (λ c κs. c .before .before .before .before .before .before .before .judge-announce .ensures .on (c .before .before .before .before .before .before .if1 .left))
     (λ c. c .before .before .before .before .before .before .before .before .before .before .before .before .add .kept .1 .0)
     (λ c. c .before .before .before .before .before .before .before .before .before .before .before .before .add .kept .1 .1 .0)
