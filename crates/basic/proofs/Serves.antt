@@ -3,8 +3,8 @@
 -- covers the address.
 use mathlib.Core.Path.{_≡_, refl, sym, ap, ap₂, _∙_, subst}
 use mathlib.Core.Logic.{_⊎_, inl, inr}
-use mathlib.Core.Bool.{Bool, true, false, cond}
-use mathlib.Core.List.{List, List·Memᴰ}
+use mathlib.Core.Bool.{Bool, true, cond}
+use mathlib.Core.List.{List}
 use Prim.Native.Nat.{ℕ, zero, suc, _+_, _-_, _*_, _/_, _^_, _≤_, _<_}
 use native.Mathlib.Omega.{arith}
 use lib.Dec.{ltb}
@@ -23,7 +23,7 @@ use Rattle.standing.specs.Down.{orNext, down}
 use Rattle.standing.proofs.Longest.{First, first-is, here-make, best-is}
 use Rattle.standing.proofs.Prefixes.{first-here, first-absent}
 use Rattle.standing.proofs.Downs.{down-same, down-best}
-use Rattle.basic.specs.Maps.{mapPlace, mapCell, mapCells, hopThere, mapBits, isSetAt, MapSizes}
+use Rattle.basic.specs.Maps.{mapPlace, mapCell, mapCells, mapBits, isSetAt, MapSizes}
 use Rattle.basic.specs.Walk.{mapped, listed, levelSays, basicWalk, metSaid}
 use Rattle.basic.specs.Meaning.{MapsOf, Serves}
 use Rattle.basic.proofs.Places.{place-bound, level-place, prefix-place, set-is}

@@ -7,7 +7,6 @@ use native.Mathlib.Omega.{arith}
 use lib.ListN.{length}
 use Rattle.routes.specs.Record.{routesOf, GoodInput, routesIn}
 use Rattle.routes.specs.Said.{Said, accepted, refused, refusedAt, accepts}
-use Rattle.routes.specs.declared.Route.{Route}
 use Rattle.basic.specs.Maps.{mapCells, mapBits}
 use Rattle.basic.specs.Meaning.{Prepared}
 use Rattle.basic.specs.Calls.{readySaid, saysReady, saysBasicAnswer}

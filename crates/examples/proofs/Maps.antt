@@ -16,7 +16,7 @@ use Rattle.routes.specs.Said.{accepted, refused, accepts}
 use Rattle.routes.proofs.Meaning.{input-good}
 use Rattle.sail.specs.Walk.{lookupSaid, saysFound}
 use Rattle.sail_theory.specs.Runs.{after}
-use Rattle.basic.specs.Maps.{mapPlace, bitFor, MapSizes}
+use Rattle.basic.specs.Maps.{mapPlace, bitFor}
 use Rattle.basic.specs.Calls.{saysBasicFound, saysBasicAnswer, basicSaid, basicMany}
 use Rattle.basic.specs.Meaning.{Prepared, FirstSet, BasicLookup, BasicLookups}
 use Rattle.basic.specs.declared.check.BasicAnswer.the-variants as answer

@@ -3,7 +3,7 @@ use mathlib.Core.Path.{_≡_, sym, ap, _∙_}
 use Prim.Native.Nat.{ℕ, zero, suc, _+_, _-_, _*_, _/_, _^_, _≤_, _<_}
 use native.Mathlib.Nat.{div-eq-of-lt, pow-suc, lt-div-mul-add}
 use native.Mathlib.Omega.{arith}
-use lib.Bits.{bitAnd, bitXor, xor-lt, xor-add-and, xor-self, xor-shr, and-le-l, and-le-r}
+use lib.Bits.{bitXor, xor-lt, xor-add-and, xor-self, xor-shr, and-le-l, and-le-r}
 use lib.Count.{leadingZeros, leading-length}
 use lib.Pow.{pow-pos, pow-mono}
 use Rattle.bits.specs.Slot.{slot}

@@ -1,7 +1,7 @@
 -- One step down: the last record up to the first m - 1 bits of an address, where no record of m bits or more covers it. All records that
 -- cover the address come before it or are it, since each starts no later and is no longer. And where it does not cover the address, one that
 -- does reaches over it to the address, so that it is no longer than the bits that the two share.
-use mathlib.Core.Path.{_≡_, refl, sym, ap, _∙_}
+use mathlib.Core.Path.{_≡_, sym, ap, _∙_}
 use mathlib.Core.Logic.{_⊎_, inl, inr, _≢_}
 use mathlib.Core.Bool.{true, false, true≢false}
 use mathlib.Core.List.{List}
