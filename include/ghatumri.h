@@ -23,6 +23,8 @@
  *   own3    an owner for each chunk of the third pool
  *   words   3 words for each node of a tree image
  *   hops    the hops of a tree image
+ *   bits    the bits of bit maps, GH_MAP_BYTES
+ *   cells   the hops of bit maps, GH_MAP_CELLS
  *
  * NUMBERS. Every number goes in with 32 bits, whatever its limits, and none is cut: length 280 is refused with 3 as 33
  * is, hop 65,580 with 4 as 32,768 is, mark 257 with 10 as 2 is.
@@ -48,6 +50,9 @@
  *   gh_run           bits 16 to 31: first record of the run; 32 to 47: records in it
  *   gh_tally         0
  *   gh_route         bits 8 to 14: length; 15: mark; 16 to 31: hop; 32 to 63: address; no record of that index: all 0
+ *   gh_basic_build   0
+ *   gh_basic_lookup  bits 16 to 31: hop, 0 for no route
+ *   gh_basic_lookup_many   0; each word of out: the low 32 bits of what gh_basic_lookup answers
  *
  * Bits that are not named are 0. So the count of a refusal reads as 0, and the count of a lookup reads as its hop.
  *
@@ -56,7 +61,7 @@
  * 10 for order (index: the record's, from 0), and after all records 6 (no index). No other refusal carries an index.
  *
  * THREADS. No call has memory of its own, so calls over different arrays may run at the same time, in threads and in
- * interrupts. Over the same arrays calls that only read them may run at the same time: both kinds of lookup, the report,
+ * interrupts. Over the same arrays calls that only read them may run at the same time: every lookup, the report,
  * the run, the tally, a route read back. A call that writes an array (make, load, announce, withdraw, build) runs alone:
  * no other call may use that array meanwhile, lookups neither. To change a table beside readers, keep two sets of arrays:
  * change the set that no reader uses, hand it to the readers (an atomic pointer to the struct), wait until no reader has
@@ -129,6 +134,8 @@ extern "C" {
 #define GH_NODES_FOR(n)              (1 + (size_t)8 * (n))            /* enough for the image of any n routes */
 #define GH_WORDS_FOR(n)              (3 * GH_NODES_FOR(n))            /* the words of so many nodes; its hops are n */
 #define GH_TALLY_WORDS     33
+#define GH_MAP_BYTES       16384      /* the bits of bit maps */
+#define GH_MAP_CELLS       131071     /* their cells */
 
 #define GH_STACK_TABLE     49152      /* bytes of stack: load, announce, withdraw, report */
 #define GH_STACK           1024       /* the other calls */
@@ -169,7 +176,8 @@ static inline const char *gh_meaning(unsigned number)
         /* 10 */ "record input not a multiple of 8 bytes, mark over 1, or not ascending; announce: mark over 1",
         /* 11 */ "too few whole nodes lent",
         /* 12 */ "too few hops lent",
-        /* 13 */ "image broken on this walk: bit 15 set, child or hop beyond what is lent, no root, hop outside 1 to 32,767",
+        /* 13 */ "image broken on this walk: bit 15 set, child or hop beyond what is lent, no root, hop outside 1 to 32,767;"
+               " bit maps: such a hop at the first set bit",
     };
     return number < sizeof texts / sizeof *texts ? texts[number] : "no number of a refusal";
 }
@@ -184,7 +192,7 @@ static inline const char *gh_meaning(unsigned number)
 #define GH_NEED_SECOND(a)  ((unsigned)((a) >> 32 & 0xffff))       /* gh_report */
 #define GH_NEED_THIRD(a)   ((unsigned)((a) >> 48 & 0xffff))       /* gh_report */
 #define GH_READS(a)        ((unsigned)((a) >> 8 & 0xff))          /* gh_lookup: cells read; gh_tree_lookup: as above */
-#define GH_HOP(a)          ((unsigned)((a) >> 16 & 0xffff))       /* both lookups and gh_route: hop, 0 for none */
+#define GH_HOP(a)          ((unsigned)((a) >> 16 & 0xffff))       /* lookups and gh_route: hop, 0 for none */
 #define GH_HOPS(a)         ((unsigned)((a) >> 16 & 0xffff))       /* gh_build */
 #define GH_NODES(a)        ((uint32_t)((a) >> 32))                /* gh_build */
 #define GH_RUN_FIRST(a)    ((unsigned)((a) >> 16 & 0xffff))       /* gh_run */
@@ -312,6 +320,39 @@ uint64_t gh_tally(const uint8_t *GH_RESTRICT input, size_t input_len,
 /* Reads the record of that index, from 0, out of an input. Refusals: the input's. */
 GH_CALL
 uint64_t gh_route(const uint8_t *input, size_t input_len, uint32_t index);
+
+/* ---- Calls on bit maps ----------------------------------------------------------------------------------------- */
+
+/* Bit maps are for cards without chunk memory: basic SAIL for lengths 0 to 16, and the record input itself for anything
+ * longer. The prefix of length l whose bits are the number v has place 2^l - 1 + v in both arrays. Its bit is bit
+ * i % 8, counted from the least significant, of byte i / 8, where i is the place; it is set where a route of the
+ * prefix stands. Its cell holds that route's hop, and 0 where none stands. The last bit, 131,071, is 0.
+ *
+ * Builds both from a record input, whatever they held. Refusals: the input's, 2. */
+GH_CALL
+uint64_t gh_basic_build(const uint8_t *GH_RESTRICT input, size_t input_len,
+                        uint8_t *GH_RESTRICT bits, size_t bits_len,
+                        uint16_t *GH_RESTRICT cells, size_t cells_len);
+
+/* Looks one address up, down from the longest length: lengths 32 to 17 in the input, by halving, then 16 to 0 in the
+ * bits. The input is checked whole each time; for many addresses call gh_basic_lookup_many. Where bits and cells are
+ * those built from the input, the hop is that of the longest route that covers the address. Refusals: the input's, 2,
+ * then 13 where the first set bit met has a hop outside 1 to 32,767. */
+GH_CALL
+uint64_t gh_basic_lookup(const uint8_t *input, size_t input_len,
+                         const uint8_t *bits, size_t bits_len,
+                         const uint16_t *cells, size_t cells_len,
+                         uint32_t addr);
+
+/* Looks many addresses up: input and sizes are checked once, and out[k] becomes the low 32 bits of what
+ * gh_basic_lookup answers for addrs[k], a 13 among them too. Refusals: the input's, 2; also 2 where out_len is not
+ * addrs_len. */
+GH_CALL
+uint64_t gh_basic_lookup_many(const uint8_t *GH_RESTRICT input, size_t input_len,
+                              const uint8_t *GH_RESTRICT bits, size_t bits_len,
+                              const uint16_t *GH_RESTRICT cells, size_t cells_len,
+                              const uint32_t *GH_RESTRICT addrs, size_t addrs_len,
+                              uint32_t *GH_RESTRICT out, size_t out_len);
 
 /* ---- A table as one struct ------------------------------------------------------------------------------------- */
 

@@ -40,7 +40,7 @@ pub struct Table {
 }
 
 /// An accepted answer; anything else ends the program.
-fn accepted(what: &str, answer: u64) -> u64 {
+pub fn accepted(what: &str, answer: u64) -> u64 {
     assert!(answer as u8 == 0, "{what} is refused: {answer:016x}");
     answer
 }

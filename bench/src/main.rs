@@ -7,12 +7,14 @@
 
 mod gh;
 mod hand;
+mod maps;
 #[allow(dead_code)]
 #[path = "../../bindings/rust/src/sys.rs"]
 mod sys;
 
 use gh::{Image, Table};
 use hand::Dir248;
+use maps::Maps;
 use std::cell::RefCell;
 use std::hint::black_box;
 use std::time::Instant;
@@ -302,6 +304,24 @@ fn lookups(rounds: usize, table: &Table, image: &Image, dir: &Dir248, rte: bool,
     ratio(&contenders, TREE, HAND_TREE, None);
 }
 
+/// Bit maps, beside a loop over the same arrays.
+fn map_lookups(rounds: usize, maps: &Maps, addrs: &[u32]) {
+    const MANY: &str = "gh_basic_lookup_many";
+    const HAND: &str = "unchecked Rust loop over the same maps";
+    let (mut one, mut other) = (vec![0; addrs.len()], vec![0; addrs.len()]);
+    maps.lookup_many(addrs, &mut one);
+    unsafe { maps.hand_many(addrs, &mut other) };
+    agree(HAND, &one, &other, 0, u32::MAX);
+    let out = RefCell::new(other);
+    let out = || out.borrow_mut();
+    let mut contenders = [
+        contender(MANY, || maps.lookup_many(addrs, black_box(&mut out()))),
+        contender(HAND, || unsafe { maps.hand_many(addrs, black_box(&mut out())) }),
+    ];
+    measure(rounds, addrs.len(), "ns", true, &mut contenders);
+    ratio(&contenders, MANY, HAND, None);
+}
+
 /// The calls that change or check a whole table, beside one plain read of what is lent.
 fn changes(rounds: usize, table: &mut Table, input: &[u8], fresh: &[Route]) {
     const READ: &str = "one plain read of what is lent";
@@ -370,10 +390,12 @@ fn main() {
         image.words.len() / 3,
         rounds
     );
+    let maps = Maps::of(&input);
     let rte = dpdk::start(&all);
     for (name, addrs) in [("random", random_traffic(&mut rng)), ("prefix-based", prefix_traffic(&mut rng, &all))] {
         println!("\n{name} traffic, {} addresses, time for one", addrs.len());
         lookups(rounds, &table, &image, &dir, rte, &addrs);
+        map_lookups(rounds, &maps, &addrs);
     }
 
     println!("\nchanges, time for one call");

@@ -1,8 +1,8 @@
 //! Proved IPv4 lookup over buffers that you own.
 //!
 //! A [`Table`] holds routes in SAIL form: it can be changed, and a lookup reads 1 to 3 cells. An [`Image`] is a tree
-//! bitmap built from a record input: small, and a lookup reads at most 9 nodes and one hop. [`run`], [`tally`] and
-//! [`route`] work on record inputs directly.
+//! bitmap built from a record input: small, and a lookup reads at most 9 nodes and one hop. [`Maps`] are bits and hops
+//! for cards that have neither chunks nor nodes. [`run`], [`tally`] and [`route`] work on record inputs directly.
 //!
 //! Every call of the library underneath is proved for every content of the buffers, and none allocates or trusts them:
 //! a table that is damaged is refused with 5 and stays as it is. A call that is refused changes nothing.
@@ -26,7 +26,10 @@
 use std::fmt;
 use std::net::Ipv4Addr;
 
+mod maps;
 mod sys;
+
+pub use maps::{hop, Maps};
 
 /// Why a call was refused: document 01's number, and for a fault in a record input the index that it carries.
 #[derive(Clone, Copy, PartialEq, Eq, Debug)]

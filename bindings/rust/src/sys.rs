@@ -144,4 +144,33 @@ extern "C" {
     pub fn gh_run(input: *const u8, input_len: usize, addr: u32, len: u32) -> u64;
     pub fn gh_tally(input: *const u8, input_len: usize, out: *mut u32, out_len: usize) -> u64;
     pub fn gh_route(input: *const u8, input_len: usize, index: u32) -> u64;
+    pub fn gh_basic_build(
+        input: *const u8,
+        input_len: usize,
+        bits: *mut u8,
+        bits_len: usize,
+        cells: *mut u16,
+        cells_len: usize,
+    ) -> u64;
+    pub fn gh_basic_lookup(
+        input: *const u8,
+        input_len: usize,
+        bits: *const u8,
+        bits_len: usize,
+        cells: *const u16,
+        cells_len: usize,
+        addr: u32,
+    ) -> u64;
+    pub fn gh_basic_lookup_many(
+        input: *const u8,
+        input_len: usize,
+        bits: *const u8,
+        bits_len: usize,
+        cells: *const u16,
+        cells_len: usize,
+        addrs: *const u32,
+        addrs_len: usize,
+        out: *mut u32,
+        out_len: usize,
+    ) -> u64;
 }

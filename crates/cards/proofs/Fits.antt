@@ -12,7 +12,7 @@ use borrow.Author.Tests.{eqb-false}
 use Rattle.bits.proofs.Tests.{decided}
 use Rattle.routes.specs.Route.{keyOf}
 use Rattle.standing.specs.Cells.{need}
-use Rattle.routes.specs.Record.{recordAt, Records}
+use Rattle.routes.specs.Record.{recordAt, Records, routesIn}
 use Rattle.routes.specs.Input.{inputSaid}
 use Rattle.routes.specs.Answers.{routeSaid}
 use Rattle.routes.specs.Said.{Said, accepted, refused, accepts}
@@ -38,7 +38,7 @@ use Rattle.tree.specs.Reads.{TreeAnswer}
 use Rattle.tree.specs.Walk.{treeSaid}
 use Rattle.tree.proofs.Needs.{nodes-most}
 use Rattle.tree.proofs.ReadCounts.{tree-answers}
-use Rattle.tree_build.specs.Built.{routesIn, built}
+use Rattle.tree_build.specs.Built.{built}
 use Rattle.demands.proofs.Inputs.{check-only, BadInput, GoodInput, RunChecked, run-judged, RouteRead, route-judged}
 use Rattle.demands.proofs.Lookups.{v1, v2, v3, Lookup, lookup-judged}
 use Rattle.demands.proofs.Builds.{Build, build-judged}
@@ -61,7 +61,7 @@ fault-low (WrongRecord.itself w) = route-low w .1
 fault-low (WrongRecord.order g h l) = omega arith
 
 module _ (P : List ℕ → Type 0) (s : List ℕ) (short : length s < 2 ^ 35) where
-  refused-fits : {x : Said} → Checked s x → accepts x ≡ false → Fits (2 ^ 32) P x
+  pub refused-fits : {x : Said} → Checked s x → accepts x ≡ false → Fits (2 ^ 32) P x
   refused-fits (Checked.ragged w) e = Fits.index 10 (length s / 8) (omega arith) (omega arith) (omega arith)
   refused-fits (Checked.stopped k f w l b x p) e = Fits.index f k (omega arith) (fault-low x) (omega arith)
   refused-fits (Checked.many w b m) e = Fits.number 6 (omega arith) (omega arith)

@@ -1,13 +1,12 @@
--- Packed answers beside what is lent, and a loop that stores one word a turn. Assumes nothing.
+-- Packed answers beside what is lent.
 use mathlib.Core.Bool.{Bool, true, false, cond}
 use mathlib.Core.Path.{_≡_, _∙_, refl, sym, ap}
 use mathlib.Core.List.{List}
 use Prim.Native.Nat.{ℕ, _+_, _*_, _/_, _%_, _^_, _<_, min}
 use native.Mathlib.Omega.{arith}
-use borrow.Author.Count.{below-more}
 use borrow.Author.Tests.{eq-eqb, ne-eqb}
-use lib.ListN.{length, getD, set, replicate}
-use lib.Seq.{getD-set-same, getD-set-other, ext-getD}
+use lib.ListN.{length, getD, replicate}
+use lib.Seq.{ext-getD}
 use Rattle.bits.proofs.Tabs.{is-tabulate, length-tabulate, getD-tabulate}
 use Rattle.bits.specs.Count.{count}
 use Rattle.bits.specs.Tab.{tabulate}
@@ -47,12 +46,6 @@ module _ (t : Table) (l : Lent) (a len n : ℕ) (e : n ≡ min len 255) (s : Sai
 pub image-card-is : (s : Said) (ws hs : List ℕ) (o : tree.Out) (r : ℕ) → tree.out s ws hs ≡ o → r ≡ packBuilt s → imageCard r ws hs ≡ imageCardOf o
 unfolding imageCardOf
 image-card-is s ws hs o r e q = ap (λ (x : ℕ). imageCard x ws hs) q ∙ ap imageCardOf e
-
--- what was stored before stands, and one more
-pub stored-more : (f : ℕ → ℕ) (out : List ℕ) (i v : ℕ) → i < length out → ((k : ℕ) → k < i → getD out k 0 ≡ f k) → v ≡ f i
-    → (k : ℕ) → k < i + 1 → getD (set out i v) k 0 ≡ f k
-stored-more f out i v l h e =
-    below-more (λ (k : ℕ). getD (set out i v) k 0 ≡ f k) i (λ k b. getD-set-other out i k v 0 (λ q. omega arith) ∙ h k b) (getD-set-same out i v 0 l ∙ e)
 
 -- the low 32 bits of the walk's answer
 abbrev pub lowWalk : Geometry → Lent → ℕ → ℕ

@@ -3,3 +3,4 @@ mod Laws
 pub mod Narrow
 pub mod Fits
 pub mod Boundary
+pub mod Hops

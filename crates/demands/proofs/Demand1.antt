@@ -76,7 +76,7 @@ refused-run = run-refused
 
 -- "Carries its number": a call says s exactly where the condition that stands beside s holds. The conditions are listed in document 01's
 -- order, each with the failure of those before it; so the number is that of the first that holds.
-exactly : (P : Said → Type 0) (x y : Said) → x ≡ y → P y → ((s : Said) → P s → y ≡ s) → (s : Said) → (x ≡ s) ↔ P s
+pub exactly : (P : Said → Type 0) (x y : Said) → x ≡ y → P y → ((s : Said) → P s → y ≡ s) → (s : Said) → (x ≡ s) ↔ P s
 exactly P x y q h only s = ((λ e. subst P (sym q ∙ e) h), (λ c. q ∙ only s c))
 
 -- check_input, and with it the tally: the length (10), record by record 3, 4, mark (10), order (10), then 6

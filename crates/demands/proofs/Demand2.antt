@@ -16,7 +16,7 @@ use borrow.Author.Tests.{ne-eqb}
 use Rattle.bits.proofs.Tabs.{tabulate-ext}
 use Rattle.routes.specs.Route.{Good}
 use Rattle.standing.specs.Cells.{covers, Longest, Best, best}
-use Rattle.routes.specs.Record.{recordAt, routesOf, noRoute}
+use Rattle.routes.specs.Record.{recordAt, routesOf, noRoute, routesIn}
 use Rattle.routes.specs.Input.{inputSaid}
 use Rattle.routes.specs.Answers.{valuesOf, routeSaid}
 use Rattle.routes.specs.Said.{Said, accepted, refused, refusedAt}
@@ -36,7 +36,7 @@ use Rattle.tree.specs.Image.{onPath}
 use Rattle.tree.specs.Reads.{counted, treeReads}
 use Rattle.tree.specs.Walk.{told, treeSaid}
 use Rattle.tree.proofs.ReadCounts as reads
-use Rattle.tree_build.specs.Built.{routesIn, built}
+use Rattle.tree_build.specs.Built.{built}
 use Rattle.tree_build.proofs.Serves.{built-accepts, built-serves}
 use Rattle.demands.proofs.Inputs.{GoodInput, RouteRead, route-only}
 

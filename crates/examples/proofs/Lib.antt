@@ -2,3 +2,4 @@
 pub mod Paper
 pub mod Starred
 pub mod Witness
+pub mod Maps

@@ -16,7 +16,7 @@ use Rattle.bits.specs.Count.{count}
 use Rattle.bits.proofs.Tests.{and-split}
 use Rattle.standing.specs.Cells.{any, best, need}
 use Rattle.standing.specs.Cells as cells
-use Rattle.routes.specs.Record.{recordAt, routesOf, noRoute}
+use Rattle.routes.specs.Record.{recordAt, routesOf, noRoute, routesIn}
 use Rattle.routes.specs.Input.{properPrefix, hopFine, routeFault, inOrder, faultAt, inputSaid}
 use Rattle.routes.specs.Answers.{valuesOf}
 use Rattle.routes.specs.Said.{Said, accepted, refused}
@@ -40,7 +40,7 @@ use Rattle.tree.specs.Image.{bitHop, setBit, word, kids, hopsOf, level, upTo, w
 use Rattle.tree.specs.Image as ofImage
 use Rattle.tree.specs.Reads.{treeReads}
 use Rattle.tree.specs.Walk.{told}
-use Rattle.tree_build.specs.Built.{routesIn, madeOf, built}
+use Rattle.tree_build.specs.Built.{madeOf, built}
 use Rattle.tree_build.proofs.Serves.{built-serves}
 use Rattle.demands.proofs.Replies.{reply, stood, run-says, run-stood}
 use Rattle.examples.specs.Starred.{table, arrays, bare, listA, image, Asked, last, lookup, report, listed, first, second, owner2, owner3, make, input, build, lastNode, hops, tree, answer, Line, starred, Holds}

@@ -14,7 +14,7 @@ use Rattle.bits.specs.Count.{count}
 use Rattle.routes.specs.Route.{Good}
 use Rattle.standing.specs.Cells.{any, best}
 use Rattle.standing.specs.Cells as cells
-use Rattle.routes.specs.Record.{recordAt, routesOf, written}
+use Rattle.routes.specs.Record.{recordAt, routesOf, written, routesIn}
 use Rattle.routes.specs.Input.{properPrefix, hopFine, routeFault, inOrder, faultAt, inputSaid}
 use Rattle.routes.specs.Said.{Said, accepted, refused, accepts}
 use Rattle.routes.specs.Answers.{saysInput, saysGot, routeSaid}
@@ -59,7 +59,7 @@ use Rattle.tree.specs.Walk as walk
 use Rattle.tree.specs.Walk.{walkFrom, treeSaid, saysTreeFound}
 use Rattle.tree.specs.declared.TreeFound.the-variants as treeFound
 use Rattle.tree_build.specs.Built as building
-use Rattle.tree_build.specs.Built.{saysBuilt, routesIn, madeOf, built}
+use Rattle.tree_build.specs.Built.{saysBuilt, madeOf, built}
 use Rattle.tree_build.specs.declared.Built.the-variants as ofBuild
 use Rattle.tree_build.proofs.Serves.{built-serves}
 use Rattle.demands.specs.Meets.{MeetsCheckInput, MeetsRouteAt, MeetsRunCheck, MeetsTally, MeetsLookup, MeetsReport, MeetsMake, MeetsLoad, MeetsAnnounce, MeetsWithdraw, MeetsTreeLookup, MeetsBuild}

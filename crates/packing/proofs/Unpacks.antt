@@ -37,14 +37,14 @@ module _ (layout : List ℕ → ℕ) (values : ℕ → List ℕ) where
       rw (f, g, h, ne-eqb n 0 (λ z. omega arith))
 
 -- x is read as accepted, with these values
-record Reads (values : ℕ → List ℕ) (x : ℕ) (vs : List ℕ) : Type 0 where
-  none : field 0 8 x ≡ 0
-  back : values x ≡ vs
+pub record Reads (values : ℕ → List ℕ) (x : ℕ) (vs : List ℕ) : Type 0 where
+  pub none : field 0 8 x ≡ 0
+  pub back : values x ≡ vs
 
 -- A layout whose values are read back packs every answer that fits so that it is read back
 module _ (most : ℕ) (few : most ≤ 2 ^ 32) (P : List ℕ → Type 0) (layout : List ℕ → ℕ) (values : ℕ → List ℕ)
     (reads : (vs : List ℕ) → P vs → Reads values (packed layout (accepted vs)) vs) where
-  said-read : (s : Said) → Fits most P s → unpacked values (packed layout s) ≡ s
+  pub said-read : (s : Said) → Fits most P s → unpacked values (packed layout s) ≡ s
   unfolding packed unpacked
   said-read _ (Fits.values vs p) = let r = reads vs p in rw (eq-eqb _ 0 (r .none)) (ap accepted (r .back))
   said-read _ (Fits.number n a b) = number-read layout values n _ a b refl

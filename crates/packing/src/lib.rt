@@ -12,6 +12,9 @@ ghost use Rattle.tree.specs.Walk.{saysTreeFound};
 ghost use Rattle.tree_build.specs.Built.{saysBuilt};
 ghost use Rattle.sail.specs.Word.{packFound};
 ghost use Rattle.packing.specs.Pack.{packReport, packChange, packBuilt, packRun, packNone, packRoute};
+
+pub mod maps;
+
 use routes::input::Got;
 use routes::input::Input;
 use runs::run::RunCheck;

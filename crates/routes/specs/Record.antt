@@ -72,3 +72,12 @@ pub record Listed (s : List ℕ) (n : ℕ) : Type 0 where
   pub records : Records s n
   pub whole : length s % 8 ≡ 0
   pub zeros : (j : ℕ) → n * 8 ≤ j → j < length s → getD s j 0 ≡ 0
+
+-- an input of n good records, and nothing after them
+pub record GoodInput (s : List ℕ) (n : ℕ) : Type 0 where
+  pub records : Records s n
+  pub whole : length s ≡ n * 8
+
+-- the routes of an input
+abbrev pub routesIn : List ℕ → List Route
+routesIn s = routesOf s (length s / 8)

@@ -4,6 +4,8 @@ pub mod Longest
 pub mod Marks
 pub mod Paint
 pub mod Need
+pub mod Prefixes
+pub mod Downs
 pub mod Frame
 pub mod Only
 pub mod Standing

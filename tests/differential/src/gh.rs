@@ -207,3 +207,32 @@ pub fn tally(input: &[u8], out: &mut [u32]) -> u64 {
 pub fn route(input: &[u8], index: u32) -> u64 {
     unsafe { gh_route(input.as_ptr(), input.len(), index) }
 }
+
+pub fn basic_build(input: &[u8], bits: &mut [u8], cells: &mut [u16]) -> u64 {
+    unsafe {
+        gh_basic_build(input.as_ptr(), input.len(), bits.as_mut_ptr(), bits.len(), cells.as_mut_ptr(), cells.len())
+    }
+}
+
+pub fn basic_lookup(input: &[u8], bits: &[u8], cells: &[u16], addr: u32) -> u64 {
+    unsafe {
+        gh_basic_lookup(input.as_ptr(), input.len(), bits.as_ptr(), bits.len(), cells.as_ptr(), cells.len(), addr)
+    }
+}
+
+pub fn basic_lookup_many(input: &[u8], bits: &[u8], cells: &[u16], addrs: &[u32], out: &mut [u32]) -> u64 {
+    unsafe {
+        gh_basic_lookup_many(
+            input.as_ptr(),
+            input.len(),
+            bits.as_ptr(),
+            bits.len(),
+            cells.as_ptr(),
+            cells.len(),
+            addrs.as_ptr(),
+            addrs.len(),
+            out.as_mut_ptr(),
+            out.len(),
+        )
+    }
+}

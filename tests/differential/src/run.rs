@@ -85,7 +85,7 @@ fn say(answer: u64) -> String {
 }
 
 /// What a run of full length meets. Numbers are refusals, 0 is accepted, `at` is with an index.
-const MUST_HAPPEN: [(&str, &str); 13] = [
+const MUST_HAPPEN: [(&str, &str); 16] = [
     ("make", "0, 1, 2"),
     ("load", "0, 1, 2, 3 at, 4 at, 6, 7, 8, 10 at"),
     ("announce", "0, 1, 2, 3, 4, 5, 6, 7, 8, 10, replaced, mark alone, room and chunks full, second opened, third opened, hole filled, wide length, wide hop, wide mark"),
@@ -103,5 +103,8 @@ const MUST_HAPPEN: [(&str, &str); 13] = [
     ("run", "0, 3, 3 at, 4 at, 6, 10 at, empty, some, wide length"),
     ("tally", "0, 2, 3 at, 4 at, 6, 10 at"),
     ("route", "0, 3 at, 4 at, 6, 10 at, none"),
+    ("basic_build", "0, 2, 3 at, 4 at, 6, 10 at"),
+    ("basic_lookup", "0, 2, 6, 10 at, 13, hop, no route, longer than 16"),
+    ("basic_lookup_many", "0, 2, 6, 10 at"),
     ("table", "damaged and not sound, chunks renumbered, 4096 second chunks, 4096 third chunks, 4096 routes"),
 ];

@@ -2,6 +2,7 @@
 
 use differential::plain::*;
 
+mod basic;
 mod mark;
 
 fn ip(a: u8, b: u8, c: u8, d: u8) -> u32 {
