@@ -1,4 +1,4 @@
-//! Says where `libcards.a` is, and compiles `src/dpdk.c` where pkg-config knows libdpdk.
+//! Says where `libghatumri.a` is, and compiles `src/dpdk.c` where pkg-config knows libdpdk.
 
 use std::path::PathBuf;
 use std::process::Command;
@@ -11,9 +11,9 @@ fn main() {
     println!("cargo:rerun-if-changed=src/dpdk.c");
     println!("cargo:rerun-if-env-changed=GHATUMRI_LIB");
     println!("cargo:rerun-if-env-changed=PKG_CONFIG_PATH");
-    println!("cargo:rerun-if-changed={}", folder.join("libcards.a").display());
+    println!("cargo:rerun-if-changed={}", folder.join("libghatumri.a").display());
     println!("cargo:rustc-link-search=native={}", folder.display());
-    println!("cargo:rustc-link-lib=static=cards");
+    println!("cargo:rustc-link-lib=static=ghatumri");
     if let (Some(flags), Some(libs)) = (pkg_config("--cflags"), pkg_config("--libs")) {
         dpdk(&flags, &libs);
     }

@@ -1,4 +1,4 @@
-//! Says where `libcards.a` is: in the folder that GHATUMRI_LIB names (a relative one counts from this package), or
+//! Says where `libghatumri.a` is: in the folder that GHATUMRI_LIB names (a relative one counts from this package), or
 //! else in target/native of the repository.
 
 use std::path::PathBuf;
@@ -8,7 +8,7 @@ fn main() {
     let folder = here.join(std::env::var_os("GHATUMRI_LIB").unwrap_or_else(|| "../../target/native".into()));
     println!("cargo:rerun-if-changed=build.rs");
     println!("cargo:rerun-if-env-changed=GHATUMRI_LIB");
-    println!("cargo:rerun-if-changed={}", folder.join("libcards.a").display());
+    println!("cargo:rerun-if-changed={}", folder.join("libghatumri.a").display());
     println!("cargo:rustc-link-search=native={}", folder.display());
-    println!("cargo:rustc-link-lib=static=cards");
+    println!("cargo:rustc-link-lib=static=ghatumri");
 }

@@ -1,4 +1,4 @@
-//! Says where `libcards.a` is, when the feature `library` asks for it.
+//! Says where `libghatumri.a` is, when the feature `library` asks for it.
 
 use std::path::PathBuf;
 
@@ -11,7 +11,7 @@ fn main() {
     let here = PathBuf::from(std::env::var_os("CARGO_MANIFEST_DIR").unwrap());
     // A relative folder counts from this package.
     let folder = here.join(std::env::var_os("GHATUMRI_LIB").unwrap_or_else(|| "../../target/native".into()));
-    println!("cargo:rerun-if-changed={}", folder.join("libcards.a").display());
+    println!("cargo:rerun-if-changed={}", folder.join("libghatumri.a").display());
     println!("cargo:rustc-link-search=native={}", folder.display());
-    println!("cargo:rustc-link-lib=static=cards");
+    println!("cargo:rustc-link-lib=static=ghatumri");
 }

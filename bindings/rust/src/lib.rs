@@ -42,19 +42,19 @@ impl Refusal {
     pub fn meaning(&self) -> &'static str {
         match self.number {
             1 => "geometry outside the limits",
-            2 => "an array has another size than the geometry asks, or too many chunks or records of room",
+            2 => "a lent array has another size than it must, or too many chunks or records of room",
             3 => "length over 32, or a bit set after the length",
             4 => "hop not 1 to 32,767",
-            5 => "table not sound",
-            6 => "list room full, or more records than room or than 4,096",
+            5 => "table not sound; in lookup only: a chunk number is 0 or beyond its pool, or a third cell is no leaf",
+            6 => "announce: list room full; load: more records than room; any record input: over 4,096",
             7 => "need for second chunks exceeds those lent",
             8 => "need for third chunks exceeds those lent",
             9 => "withdrawn prefix doesn't stand",
-            10 => "record input not a multiple of 8 bytes, mark over 1, or not ascending",
+            10 => "record input not a multiple of 8 bytes, mark over 1, or not ascending; announce: mark over 1",
             11 => "too few whole nodes lent",
             12 => "too few hops lent",
-            13 => "image broken on this walk",
-            _ => "a number that document 01 does not have",
+            13 => "image broken on this walk: bit 15 set, child or hop beyond what is lent, no root, hop outside 1 to 32,767",
+            _ => "no number of a refusal",
         }
     }
 }

@@ -1,4 +1,4 @@
-//! The functions of `libcards.a`, as `include/ghatumri.h` declares them. The comparison and the measurements of this
+//! The functions of `libghatumri.a`, as `include/ghatumri.h` declares them. The comparison and the measurements of this
 //! repository use this file too.
 
 extern "C" {

@@ -63,6 +63,39 @@ fn a_table() {
     assert_eq!(table.report(), Ok(Report { routes: 0, second: 0, third: 0 }));
 }
 
+/// Numbers that differ, and that do not fit 8 bits: two second chunks and one third, runs and counts over 255, an index
+/// over 16 bits.
+#[test]
+fn every_field() {
+    let mut table = Table::new(Geometry::STANDARD, 8, 2, 1).unwrap();
+    table.load(&list_a()).unwrap();
+    assert_eq!(table.announce([10, 2, 3, 0], 24, 300, Mark::Behind), Ok(Announced::Added));
+    assert_eq!(table.report(), Ok(Report { routes: 6, second: 2, third: 1 }));
+    assert_eq!(table.announce([10, 2, 3, 0], 24, 32_767, Mark::Behind), Ok(Announced::Replaced));
+    assert_eq!(table.lookup([10, 2, 3, 4]), Ok(Found { hop: Some(32_767), reads: 2 }));
+
+    // 10.x.y.0/24, the k-th to hop k + 1. 10.2.0.0/15 has those from 512 on.
+    let rows = |n: u32| -> Vec<u8> {
+        (0..n)
+            .flat_map(|k| Route::new(0x0A00_0000 + (k << 8), 24, 1 + (k % 32_767) as u16, Mark::Behind).record())
+            .collect()
+    };
+    let input = rows(900);
+    assert_eq!(run(&input, [10, 2, 0, 0], 15), Ok(&input[8 * 512..]));
+    assert_eq!(tally(&input).unwrap()[24], 900);
+    assert_eq!(route(&input, 899), Ok(Some(Route::new([10, 3, 131, 0], 24, 900, Mark::Behind))));
+    let mut image = Image::new(1000, 1000);
+    assert_eq!(image.build(&input), Ok((965, 900)));
+    assert_eq!(image.lookup([10, 3, 4, 255]), Ok(Found { hop: Some(773), reads: 7 }));
+
+    let mut long = rows(70_000);
+    assert_eq!(refused(route(&long, 0)), (6, None));
+    long[8 * 66_000 + 5] = 2;
+    assert_eq!(refused(tally(&long)), (10, Some(66_000)));
+    long.push(0);
+    assert_eq!(refused(run(&long, [0, 0, 0, 0], 0)), (10, Some(70_000)));
+}
+
 #[test]
 fn sizes_and_geometries() {
     assert!(Table::new(Geometry::SMALL, 0, 0, 0).is_ok());
@@ -112,6 +145,6 @@ fn inputs() {
     assert_eq!(refused(route(&bad, 0)), (10, Some(3)));
     assert_eq!(
         route(&bad, 0).unwrap_err().to_string(),
-        "refused 10 at 3: record input not a multiple of 8 bytes, mark over 1, or not ascending"
+        "refused 10 at 3: record input not a multiple of 8 bytes, mark over 1, or not ascending; announce: mark over 1"
     );
 }

@@ -1,6 +1,7 @@
 -- The calls at the boundary take numbers of 32 bits, and those inside narrower ones. What a call says and leaves is the same for every length
--- over 32, for every hop over 32,767 and for every mark over 1: it is refused by its order, whatever else the number is. So a number that does not fit may be taken
--- to the largest that does, and the exported calls are stated over the number itself.
+-- over 32, for every hop over 32,767 and for every mark over 1: such a number is refused, and nothing else is done with it. So a number that does
+-- not fit may be taken to the largest that does, and the exported calls are stated over the number itself. A further number wants one more law of
+-- the form `AlikeOver`, and one more step in `announced-narrow`.
 use mathlib.Core.Path.{_≡_, refl, sym, _∙_, ap}
 use mathlib.Core.Logic.{_⊎_, inl, inr}
 use mathlib.Core.Bool.{true, false, true≢false}
@@ -26,12 +27,12 @@ abbrev pub AlikeOver : {A : Type 0} → ℕ → (ℕ → A) → Type 0
 AlikeOver limit f = (x y : ℕ) → limit < x → limit < y → f x ≡ f y
 
 -- then a number may be narrowed to a type that has room for one over the limit
-narrowed : {A : Type 0} (f : ℕ → A) (limit top : ℕ) → limit < top → AlikeOver limit f → (x : ℕ) → f (min x top) ≡ f x
-narrowed f limit top h alike x = go (below? top x)
+narrowed : {A : Type 0} (f : ℕ → A) (limit top : ℕ) → limit < top → AlikeOver limit f → (x n : ℕ) → n ≡ min x top → f n ≡ f x
+narrowed f limit top h alike x n e = go (below? top x)
   where
-    go : (top < x) ⊎ (x ≤ top) → f (min x top) ≡ f x
-    go (inl b) = alike (min x top) x (omega arith) (omega arith)
-    go (inr b) = let e : min x top ≡ x = omega arith in ap f e
+    go : (top < x) ⊎ (x ≤ top) → f n ≡ f x
+    go (inl b) = alike n x (omega arith) (omega arith)
+    go (inr b) = let q : n ≡ x = omega arith in ap f q
 
 prefix? : (a len : ℕ) → Prefix a len ⊎ (Prefix a len → ⊥)
 prefix? a len = go (decided (properPrefix a len))
@@ -54,22 +55,22 @@ long-prefix a len h = rw (lt-leb len 32 h)
 
 module _ (t : Table) (l : Lent) where
   -- 1 or 2 where the sizes ask for it, else this number
-  abbrev no : ℕ → Said
-  no m = orSay (sizesFault (t .geometry) l) (refused m)
+  abbrev refusal : ℕ → Said
+  refusal m = orSay (sizesFault (t .geometry) l) (refused m)
 
-  no-accepts : (m : ℕ) → accepts (no m) ≡ false
-  no-accepts m = go (sizesFault (t .geometry) l)
+  refusal-accepts : (m : ℕ) → accepts (refusal m) ≡ false
+  refusal-accepts m = go (sizesFault (t .geometry) l)
     where
       go : (n : ℕ) → accepts (orSay n (refused m)) ≡ false
       go zero = refl
       go (suc n) = refl
 
   -- what is wrong with a route decides what its announcement says and leaves
-  announced-wrong : {r : Route} {n : ℕ} → WrongRoute r n → announced t l r ≡ out (no n) t l
+  announced-wrong : {r : Route} {n : ℕ} → WrongRoute r n → announced t l r ≡ out (refusal n) t l
   unfolding announceSaid
-  announced-wrong {r} {n} w = announce-off t l r (no n) (said w) (no-accepts n)
+  announced-wrong {r} {n} w = announce-off t l r (refusal n) (said w) (refusal-accepts n)
     where
-      said : {n : ℕ} → WrongRoute r n → announceSaid t l r ≡ no n
+      said : {n : ℕ} → WrongRoute r n → announceSaid t l r ≡ refusal n
       said (WrongRoute.prefix h) = rw (wrong-fault r 3 (WrongRoute.prefix h))
       said (WrongRoute.hop p h) = rw (wrong-fault r 4 (WrongRoute.hop p h))
       said (WrongRoute.mark p a b h) = rw (wrong-fault r 10 (WrongRoute.mark p a b h))
@@ -77,9 +78,9 @@ module _ (t : Table) (l : Lent) where
   wrong-alike : {r s : Route} {n : ℕ} → WrongRoute r n → WrongRoute s n → announced t l r ≡ announced t l s
   wrong-alike v w = announced-wrong v ∙ sym (announced-wrong w)
 
-  withdrawn-three : (a len : ℕ) → 32 < len → withdrawn t l a len ≡ out (no 3) t l
+  withdrawn-three : (a len : ℕ) → 32 < len → withdrawn t l a len ≡ out (refusal 3) t l
   unfolding withdrawSaid withdrawFault
-  withdrawn-three a len h = withdraw-off t l a len (no 3) (rw (long-prefix a len h)) (no-accepts 3)
+  withdrawn-three a len h = withdraw-off t l a len (refusal 3) (rw (long-prefix a len h)) (refusal-accepts 3)
 
   -- 3 for a length over 32; 4 for a hop over 32,767, or 3 where that comes first; 10 for a mark over 1, or 3 or 4 where that comes first
   pub announced-long : (a hop mark : ℕ) → AlikeOver 32 (λ (len : ℕ). announced t l (route a len hop mark))
@@ -95,7 +96,8 @@ module _ (t : Table) (l : Lent) where
   pub announced-marked : (a len hop : ℕ) → AlikeOver 1 (λ (mark : ℕ). announced t l (route a len hop mark))
   announced-marked a len hop x y h k = go (prefix? a len) (hop? hop)
     where
-      go : Prefix a len ⊎ (Prefix a len → ⊥) → ((1 ≤ hop) × (hop ≤ 32767)) ⊎ (1 ≤ hop → hop ≤ 32767 → ⊥) → announced t l (route a len hop x) ≡ announced t l (route a len hop y)
+      go : Prefix a len ⊎ (Prefix a len → ⊥) → ((1 ≤ hop) × (hop ≤ 32767)) ⊎ (1 ≤ hop → hop ≤ 32767 → ⊥)
+          → announced t l (route a len hop x) ≡ announced t l (route a len hop y)
       go (inl p) (inl b) = wrong-alike (WrongRoute.mark p (b .0) (b .1) h) (WrongRoute.mark p (b .0) (b .1) k)
       go (inl p) (inr e) = wrong-alike (WrongRoute.hop p e) (WrongRoute.hop p e)
       go (inr e) b = wrong-alike (WrongRoute.prefix e) (WrongRoute.prefix e)
@@ -107,13 +109,12 @@ module _ (t : Table) (l : Lent) where
   pub announced-narrow : (a len hop mark n m k : ℕ) → n ≡ min len 255 → m ≡ min hop 65535 → k ≡ min mark 255
       → announced t l (route a n m k) ≡ announced t l (route a len hop mark)
   announced-narrow a len hop mark n m k e q u =
-      ap (λ (x : ℕ). announced t l (route a x m k)) e ∙ narrowed (λ (x : ℕ). announced t l (route a x m k)) 32 255 (omega arith) (announced-long a m k) len
-      ∙ (ap (λ (x : ℕ). announced t l (route a len x k)) q ∙ narrowed (λ (x : ℕ). announced t l (route a len x k)) 32767 65535 (omega arith) (announced-high a len k) hop)
-      ∙ (ap (λ (x : ℕ). announced t l (route a len hop x)) u ∙ narrowed (λ (x : ℕ). announced t l (route a len hop x)) 1 255 (omega arith) (announced-marked a len hop) mark)
+      narrowed (λ (x : ℕ). announced t l (route a x m k)) 32 255 (omega arith) (announced-long a m k) len n e
+      ∙ narrowed (λ (x : ℕ). announced t l (route a len x k)) 32767 65535 (omega arith) (announced-high a len k) hop m q
+      ∙ narrowed (λ (x : ℕ). announced t l (route a len hop x)) 1 255 (omega arith) (announced-marked a len hop) mark k u
 
   pub withdrawn-narrow : (a len n : ℕ) → n ≡ min len 255 → withdrawn t l a n ≡ withdrawn t l a len
-  withdrawn-narrow a len n e =
-      ap (λ (x : ℕ). withdrawn t l a x) e ∙ narrowed (λ (x : ℕ). withdrawn t l a x) 32 255 (omega arith) (withdrawn-long a) len
+  withdrawn-narrow a len n e = narrowed (λ (x : ℕ). withdrawn t l a x) 32 255 (omega arith) (withdrawn-long a) len n e
 
 module _ (s : List ℕ) (a : ℕ) where
   pub run-long : AlikeOver 32 (λ (len : ℕ). runSaid s a len)
@@ -121,4 +122,4 @@ module _ (s : List ℕ) (a : ℕ) where
   run-long x y h k = rw (long-prefix a x h, long-prefix a y k) refl
 
   pub run-narrow : (len n : ℕ) → n ≡ min len 255 → runSaid s a n ≡ runSaid s a len
-  run-narrow len n e = ap (λ (x : ℕ). runSaid s a x) e ∙ narrowed (λ (x : ℕ). runSaid s a x) 32 255 (omega arith) run-long len
+  run-narrow len n e = narrowed (λ (x : ℕ). runSaid s a x) 32 255 (omega arith) run-long len n e

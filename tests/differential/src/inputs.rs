@@ -47,7 +47,7 @@ fn ask(run: &mut Run, rng: &mut Rng, field: &Field, routes: &[Route], input: &[u
         let told = || format!("call: run under {addr:08x}/{len} of {}", tell(input));
         run.calls += 1;
         run.answered("run", is, plain::run(input, addr, len), &told);
-        if number(is) == 3 && len > 255 {
+        if is == 3 && len > 255 {
             run.count("run", "wide length");
         }
         if number(is) == 0 {

@@ -1,4 +1,4 @@
--- `cards::inputs::gh_run` meets its contract. Assumes nothing.
+-- `cards::inputs::gh_run`: its length is narrowed, which changes nothing that the call says.
 use mathlib.Core.Path.{ap, _∙_}
 use Rattle.packing.specs.Pack.{packRun}
 use Rattle.cards.proofs.Narrow.{run-narrow}
