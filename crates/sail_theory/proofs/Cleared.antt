@@ -72,7 +72,13 @@ telling-off b (accepted vs) e = absurd (true≢false e)
 telling-off b (refused n) e = refl
 telling-off b (refusedAt n k) e = refl
 
--- it is told in one way
+-- both are told in one way
+pub bit-once : (b c : Bool) → bit b ≡ bit c → b ≡ c
+bit-once true true e = refl
+bit-once true false e = absurd (omega arith)
+bit-once false true e = absurd (omega arith)
+bit-once false false e = refl
+
 pub telling-once : (b : Bool) (s u : Said) → telling b s ≡ telling b u → s ≡ u
 telling-once b (accepted vs) (accepted ws) e = cc
 telling-once b (accepted vs) (refused n) e = cc
