@@ -188,15 +188,5 @@ pub fn announce(
             table: t,
         };
     }
-    add(
-        t,
-        list,
-        first,
-        second,
-        third,
-        own2,
-        own3,
-        r,
-        a != addr,
-    )
+    add(t, list, first, second, third, own2, own3, r, a != addr)
 }

@@ -132,14 +132,9 @@ module _ (t : Table) (l : Lent) (r : Route) where
   unfolding adding
   adding-off s q e = rw q (outcome-refused s t l _ _ e)
 
-  pub adding-refused : accepts (adding t l r .said) ≡ false → adding t l r ≡ record { said = announceSaid t l r; table = t; lent = l }
-  adding-refused e = adding-off (announceSaid t l r) refl (sym (ap accepts adding-said) ∙ e)
-
   -- Accepted: sound, and the list holds the routes with this one inserted
-  pub adding-holds : accepts (adding t l r .said) ≡ true → Holds t l (insert r rs) (adding t l r .table) (adding t l r .lent)
-  adding-holds e =
-      let w = accepted-welcome (sym (ap accepts adding-said) ∙ e) in
-      subst (λ (o : Out). Holds t l (insert r rs) (o .table) (o .lent)) (sym (adding-is w)) (welcome-holds t l r w)
+  pub adding-holds : Welcome t l r → Holds t l (insert r rs) (adding t l r .table) (adding t l r .lent)
+  adding-holds w = subst (λ (o : Out). Holds t l (insert r rs) (o .table) (o .lent)) (sym (adding-is w)) (welcome-holds t l r w)
 
 module _ (t : Table) (l : Lent) (a len : ℕ) where
   abbrev left : List Route
@@ -173,14 +168,9 @@ module _ (t : Table) (l : Lent) (a len : ℕ) where
   unfolding taking
   taking-off s q e = rw q (outcome-refused s t l _ _ e)
 
-  pub taking-refused : accepts (taking t l a len .said) ≡ false → taking t l a len ≡ record { said = withdrawSaid t l a len; table = t; lent = l }
-  taking-refused e = taking-off (withdrawSaid t l a len) refl (sym (ap accepts taking-said) ∙ e)
-
   -- Accepted: sound, and the list holds the routes with those of this prefix removed
-  pub taking-holds : accepts (taking t l a len .said) ≡ true → Holds t l left (taking t l a len .table) (taking t l a len .lent)
-  taking-holds e =
-      let w = accepted-farewell (sym (ap accepts taking-said) ∙ e) in
-      subst (λ (o : Out). Holds t l left (o .table) (o .lent)) (sym (taking-is w)) (farewell-holds t l a len w)
+  pub taking-holds : Farewell t l a len → Holds t l left (taking t l a len .table) (taking t l a len .lent)
+  taking-holds w = subst (λ (o : Out). Holds t l left (o .table) (o .lent)) (sym (taking-is w)) (farewell-holds t l a len w)
 
 -- the report of a sound table: its count, and how many chunks of each pool are in use
 pub report-is : (t : Table) (l : Lent) → Sound t l → reported t l ≡ accepted (t .count ∷ used (l .own2) ∷ used (l .own3) ∷ [])

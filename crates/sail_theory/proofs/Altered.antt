@@ -158,10 +158,8 @@ module _ (t : Table) (l : Lent) (r : Route) (w : Welcome t l r) where
   welcome-alters : Alters g (r .addr) (r .len) l now
   welcome-alters = frame-alters t l (w .sound) (r .addr) (r .len) now announce-frame announce-kept
 
-pub adding-alters : (t : Table) (l : Lent) (r : Route) → accepts (adding t l r .said) ≡ true → Alters (t .geometry) (r .addr) (r .len) l (adding t l r .lent)
-adding-alters t l r e =
-    let w = accepted-welcome t l r (sym (ap accepts (adding-said t l r)) ∙ e) in
-    subst (λ (o : Out). Alters (t .geometry) (r .addr) (r .len) l (o .lent)) (sym (adding-is t l r w)) (welcome-alters t l r w)
+pub adding-alters : (t : Table) (l : Lent) (r : Route) → Welcome t l r → Alters (t .geometry) (r .addr) (r .len) l (adding t l r .lent)
+adding-alters t l r w = subst (λ (o : Out). Alters (t .geometry) (r .addr) (r .len) l (o .lent)) (sym (adding-is t l r w)) (welcome-alters t l r w)
 
 -- withdraw
 module _ (t : Table) (l : Lent) (a len : ℕ) (w : Farewell t l a len) where
@@ -222,10 +220,8 @@ module _ (t : Table) (l : Lent) (a len : ℕ) (w : Farewell t l a len) where
   farewell-alters : Alters (t .geometry) a len l gone
   farewell-alters = frame-alters t l (w .sound) a len gone withdraw-frame withdraw-kept
 
-pub taking-alters : (t : Table) (l : Lent) (a len : ℕ) → accepts (taking t l a len .said) ≡ true → Alters (t .geometry) a len l (taking t l a len .lent)
-taking-alters t l a len e =
-    let w = accepted-farewell t l a len (sym (ap accepts (taking-said t l a len)) ∙ e) in
-    subst (λ (o : Out). Alters (t .geometry) a len l (o .lent)) (sym (taking-is t l a len w)) (farewell-alters t l a len w)
+pub taking-alters : (t : Table) (l : Lent) (a len : ℕ) → Farewell t l a len → Alters (t .geometry) a len l (taking t l a len .lent)
+taking-alters t l a len w = subst (λ (o : Out). Alters (t .geometry) a len l (o .lent)) (sym (taking-is t l a len w)) (farewell-alters t l a len w)
 
 -- "A newly opened chunk takes the lowest free number": c was free and is in use, so no chunk before it was free
 pub opened-lowest : (v : Level) (own : List ℕ) (r : Route) (c x : ℕ) → getD own c 0 ≡ 0 → getD (opening v own r) c 0 ≡ suc x → (j : ℕ) → j < c → getD own j 0 ≢ 0

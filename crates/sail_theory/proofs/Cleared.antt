@@ -4,13 +4,17 @@ use mathlib.Core.Path.{_≡_, refl, sym, _∙_, ap, ap₂}
 use mathlib.Core.Logic.{_⊎_, inl, inr, _↔_, _≢_}
 use mathlib.Core.Bool.{Bool, true, false, not, true≢false, false≢true}
 use mathlib.Core.List.{List, _∷_}
-use Prim.Native.Nat.{ℕ, suc, _-_, _*_, _/_, _^_, _≤_, _<_}
+use Prim.Native.Nat.{ℕ, zero, suc, _-_, _*_, _/_, _%_, _^_, _≤_, _<_}
+use native.Mathlib.Nat.{le-refl, le-step, zero-mul}
 use native.Mathlib.Omega.{arith}
 use lib.Dec.{eqb}
 use lib.ListN.{getD}
-use borrow.Author.Tests.{eq-eqb}
+use lib.Pow.{split, mod-pow-add}
+use borrow.Author.Tests.{eq-eqb, eqb-true, not-false, lt-leb}
+use Rattle.bits.specs.Bit.{bitAt}
 use Rattle.bits.specs.Count.{bit}
 use Rattle.bits.specs.Slot.{slot, cut}
+use Rattle.bits.proofs.Masks.{cut-bits}
 use Rattle.bits.proofs.Slots.{cut-le, cut-cut}
 use Rattle.bits.proofs.Tests.{below?}
 use Rattle.routes.specs.Route.{keyOf, Prefix, Fine}
@@ -52,14 +56,22 @@ cut-over l a h =
 
 -- where no bit is set after the length, none is cleared
 pub none-cleared : (l a : ℕ) → cut l a ≡ a → cleared l a ≡ false
-none-cleared l a e = ap not (eq-eqb (cut l a) a e)
+none-cleared l a e = rw (e, eq-eqb a a refl)
 
--- so none is cleared of an address whose length is 32
-pub host-kept : (a : ℕ) → cleared 32 a ≡ false
-host-kept a = none-cleared 32 a (cut-over 32 a (omega arith))
+-- a number whose bits below s are zero
+low-zero : (a s : ℕ) → ((k : ℕ) → k < s → bitAt a k ≡ 0) → a % 2 ^ s ≡ 0
+low-zero a zero h = omega arith
+low-zero a (suc s) h =
+    let here : a / 2 ^ s % 2 ≡ 0 = h s (le-refl (suc s)) in
+    ap (λ (x : ℕ). a % 2 ^ x) (omega arith) ∙ mod-pow-add a 1 s ∙ rw (here, low-zero a s (λ k l. h k (le-step l)), zero-mul)
 
-pub cut-fine : (r : Route) → Fine r → cutRoute r ≡ r
-cut-fine r f = ap (λ (x : ℕ). record { addr = x; len = r .len; mark = r .mark; hop = r .hop }) (f .prefix .clear)
+-- None is cleared exactly where every bit after the length is zero. So none ever is of an address whose length is 32.
+pub cleared-bits : (l a : ℕ) → (cleared l a ≡ false) ↔ ((k : ℕ) → k < 32 - l → bitAt a k ≡ 0)
+unfolding cut
+cleared-bits l a = (
+  (λ e k h. sym (ap (λ (x : ℕ). bitAt x k) (eqb-true (cut l a) a (not-false _ e))) ∙ cut-bits l a k ∙ rw (lt-leb (32 - l) k h)),
+  (λ h. none-cleared l a (omega (arith, split a (32 - l), low-zero a (32 - l) h))),
+)
 
 -- What is said, with whether bits were cleared.
 pub telling-accepts : (b : Bool) (s : Said) → accepts (telling b s) ≡ accepts s
@@ -112,12 +124,11 @@ module _ (t : Table) (l : Lent) (r : Route) where
   unfolding announced
   announce-said = ap (telling b) (adding-said t l c)
 
-  pub announce-accepts : accepts (announced t l r .said) ≡ accepts (adding t l c .said)
-  unfolding announced
-  announce-accepts = telling-accepts b (adding t l c .said)
+  pub announce-accepts : accepts (announced t l r .said) ≡ accepts (announceSaid t l c)
+  announce-accepts = ap accepts announce-said ∙ telling-accepts b (announceSaid t l c)
 
   pub announce-welcome : accepts (announced t l r .said) ≡ true → Welcome t l c
-  announce-welcome e = accepted-welcome t l c (sym (ap accepts announce-said ∙ telling-accepts b (announceSaid t l c)) ∙ e)
+  announce-welcome e = accepted-welcome t l c (sym announce-accepts ∙ e)
 
   -- Refused: the number alone, and all as it was. (The number is that of the first condition that holds: `announce-judged`.)
   pub announce-off : (s : Said) → announceSaid t l c ≡ s → accepts s ≡ false → announced t l r ≡ out s t l
@@ -125,16 +136,16 @@ module _ (t : Table) (l : Lent) (r : Route) where
   announce-off s q e = ap (told b) (adding-off t l c s q e) ∙ ap (λ (x : Said). out x t l) (telling-off b s e)
 
   pub announce-refused : accepts (announced t l r .said) ≡ false → announced t l r ≡ out (announceSaid t l c) t l
-  announce-refused e = announce-off (announceSaid t l c) refl (sym (ap accepts announce-said ∙ telling-accepts b (announceSaid t l c)) ∙ e)
+  announce-refused e = announce-off (announceSaid t l c) refl (sym announce-accepts ∙ e)
 
   -- Accepted: sound, and the list holds the routes with the cleared one inserted
   pub announce-holds : accepts (announced t l r .said) ≡ true → Holds t l (insert c rs) (announced t l r .table) (announced t l r .lent)
   unfolding announced
-  announce-holds e = adding-holds t l c (sym announce-accepts ∙ e)
+  announce-holds e = adding-holds t l c (announce-welcome e)
 
   pub announce-alters : accepts (announced t l r .said) ≡ true → Alters (t .geometry) (c .addr) (c .len) l (announced t l r .lent)
   unfolding announced
-  announce-alters e = adding-alters t l c (sym announce-accepts ∙ e)
+  announce-alters e = adding-alters t l c (announce-welcome e)
 
   -- "A newly opened chunk takes the lowest free number", in each pool
   module _ (e : accepts (announced t l r .said) ≡ true) where
@@ -148,16 +159,11 @@ module _ (t : Table) (l : Lent) (r : Route) where
     pub opened-lowest3 : (k x : ℕ) → getD (l .own3) k 0 ≡ 0 → getD (announced t l r .lent .own3) k 0 ≡ suc x → (j : ℕ) → j < k → getD (l .own3) j 0 ≢ 0
     opened-lowest3 k x was now = opened-lowest (level2 (t .geometry) (chunksOf (opened (t .geometry) (ownersOf l) c .own2))) (l .own3) c k x was (sym (ap {B = ℕ} (λ (u : Lent). getD (u .own3) k 0) after-is) ∙ now)
 
-  -- a fine route has no bit to clear
-  pub announce-fine : Fine r → announced t l r ≡ told false (adding t l r)
-  unfolding announced
-  announce-fine f = ap₂ (λ (x : Bool) (y : Route). told x (adding t l y)) (none-cleared (r .len) (r .addr) (f .prefix .clear)) (cut-fine r f)
-
   -- "3 is now only a length over 32"
   pub three-is-length-announce : r .addr < 2 ^ 32 → (announced t l r .said ≡ refused 3) ↔ (Sized (t .geometry) l × (32 < r .len))
   three-is-length-announce h = (
     (λ e. go (announce-judged t l c) (telling-once b _ (refused 3) (sym announce-said ∙ e))),
-    (λ w. announce-said ∙ ap (telling b) (announce-only t l c _ (Announce.wrong 3 (w .0) (WrongRoute.prefix (λ p. omega (arith, p .len-ok, w .1))))))
+    (λ w. announce-said ∙ ap (telling b) (announce-only t l c _ (Announce.wrong 3 (w .0) (WrongRoute.prefix (λ p. omega (arith, p .len-ok, w .1)))))),
   )
     where
       wrong : {n : ℕ} → WrongRoute c n → n ≡ 3 → 32 < r .len
@@ -175,6 +181,13 @@ module _ (t : Table) (l : Lent) (r : Route) where
       go (Announce.third w x y) e = absurd (omega (arith, number-is 8 e))
       go (Announce.added w x y) e = absurd (false≢true (sym (ap accepts e)))
 
+  -- a fine route has no bit to clear
+  pub announce-fine : Fine r → announced t l r ≡ told false (adding t l r)
+  unfolding announced
+  announce-fine f =
+      let same : c ≡ r = ap (λ (x : ℕ). record { addr = x; len = r .len; mark = r .mark; hop = r .hop }) (f .prefix .clear) in
+      ap₂ (λ (x : Bool) (y : Route). told x (adding t l y)) (none-cleared (r .len) (r .addr) (f .prefix .clear)) same
+
   -- A route and its cut are announced alike: one outcome, told with the flag and without
   pub clear-same-announce : (o : Out) × (announced t l r ≡ told b o) × (announced t l c ≡ told false o)
   unfolding announced
@@ -191,33 +204,32 @@ module _ (t : Table) (l : Lent) (a len : ℕ) where
   unfolding withdrawn
   withdraw-said = ap (telling (cleared len a)) (taking-said t l p len)
 
-  withdraw-accepts : accepts (withdrawn t l a len .said) ≡ accepts (taking t l p len .said)
-  unfolding withdrawn
-  withdraw-accepts = telling-accepts (cleared len a) (taking t l p len .said)
+  pub withdraw-accepts : accepts (withdrawn t l a len .said) ≡ accepts (withdrawSaid t l p len)
+  withdraw-accepts = ap accepts withdraw-said ∙ telling-accepts (cleared len a) (withdrawSaid t l p len)
 
   pub withdraw-farewell : accepts (withdrawn t l a len .said) ≡ true → Farewell t l p len
-  withdraw-farewell e = accepted-farewell t l p len (sym (ap accepts withdraw-said ∙ telling-accepts (cleared len a) (withdrawSaid t l p len)) ∙ e)
+  withdraw-farewell e = accepted-farewell t l p len (sym withdraw-accepts ∙ e)
 
   pub withdraw-off : (s : Said) → withdrawSaid t l p len ≡ s → accepts s ≡ false → withdrawn t l a len ≡ out s t l
   unfolding withdrawn
   withdraw-off s q e = ap (told (cleared len a)) (taking-off t l p len s q e) ∙ ap (λ (x : Said). out x t l) (telling-off (cleared len a) s e)
 
   pub withdraw-refused : accepts (withdrawn t l a len .said) ≡ false → withdrawn t l a len ≡ out (withdrawSaid t l p len) t l
-  withdraw-refused e = withdraw-off (withdrawSaid t l p len) refl (sym (ap accepts withdraw-said ∙ telling-accepts (cleared len a) (withdrawSaid t l p len)) ∙ e)
+  withdraw-refused e = withdraw-off (withdrawSaid t l p len) refl (sym withdraw-accepts ∙ e)
 
   -- Accepted: sound, and the list holds the routes with that of the cleared prefix removed
   pub withdraw-holds : accepts (withdrawn t l a len .said) ≡ true → Holds t l (remove (keyOf p len) (standing t l)) (withdrawn t l a len .table) (withdrawn t l a len .lent)
   unfolding withdrawn
-  withdraw-holds e = taking-holds t l p len (sym withdraw-accepts ∙ e)
+  withdraw-holds e = taking-holds t l p len (withdraw-farewell e)
 
   pub withdraw-alters : accepts (withdrawn t l a len .said) ≡ true → Alters (t .geometry) p len l (withdrawn t l a len .lent)
   unfolding withdrawn
-  withdraw-alters e = taking-alters t l p len (sym withdraw-accepts ∙ e)
+  withdraw-alters e = taking-alters t l p len (withdraw-farewell e)
 
   pub three-is-length-withdraw : a < 2 ^ 32 → (withdrawn t l a len .said ≡ refused 3) ↔ (Sized (t .geometry) l × (32 < len))
   three-is-length-withdraw h = (
     (λ e. go (withdraw-judged t l p len) (telling-once (cleared len a) _ (refused 3) (sym withdraw-said ∙ e))),
-    (λ w. withdraw-said ∙ ap (telling (cleared len a)) (withdraw-only t l p len _ (Withdraw.bad-prefix (w .0) (λ q. omega (arith, q .len-ok, w .1)))))
+    (λ w. withdraw-said ∙ ap (telling (cleared len a)) (withdraw-only t l p len _ (Withdraw.bad-prefix (w .0) (λ q. omega (arith, q .len-ok, w .1))))),
   )
     where
       go : {s : Said} → Withdraw t l p len s → s ≡ refused 3 → Sized (t .geometry) l × (32 < len)

@@ -127,16 +127,5 @@ pub fn withdraw(
             table: t,
         };
     }
-    take(
-        t,
-        list,
-        first,
-        second,
-        third,
-        own2,
-        own3,
-        a,
-        len,
-        a != addr,
-    )
+    take(t, list, first, second, third, own2, own3, a, len, a != addr)
 }
