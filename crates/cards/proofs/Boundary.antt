@@ -28,9 +28,9 @@ use Rattle.tree.specs.Walk.{treeSaid}
 use Rattle.tree_build.specs.Built.{built}
 use Rattle.sail.specs.Word.{packFound}
 use Rattle.packing.specs.Pack.{packReport, packRun, packNone, packRoute}
-use Rattle.packing.specs.Unpack.{refusalOf, unpacked, noValues, unpackFound, unpackReport, unpackBuilt, unpackRun, unpackRoute, unpackAnnounce, unpackDone, unpackNone, countOf, Cells}
+use Rattle.packing.specs.Unpack.{refusalOf, unpacked, noValues, unpackFound, unpackReport, unpackBuilt, unpackRun, unpackRoute, unpackAnnounce, unpackWithdraw, unpackDone, unpackNone, countOf, Cells}
 use Rattle.cards.specs.Cards.{cardOf, imageCardOf, wordsCard, tallyCard, lowFound, manyCard}
-use Rattle.packing.proofs.Unpacks.{found-read, report-read, built-read, run-read, route-read, announce-read, done-read, none-read, announce-count, done-count, found-low}
+use Rattle.packing.proofs.Unpacks.{found-read, report-read, built-read, run-read, route-read, announce-read, withdraw-read, done-read, none-read, announce-count, withdraw-count, done-count, found-low}
 use Rattle.cards.proofs.Fits.{input-fits, run-fits, route-fits, built-fits, tree-fits, lookup-fits, report-fits, make-few, make-fits, load-few, load-fits, announce-few, announce-fits, withdraw-few, withdraw-fits}
 
 -- Tables.
@@ -60,9 +60,9 @@ module _ (t : Table) (l : Lent) where
   unfolding cardOf
   gh-announce-read r = announce-read 0 (omega arith) _ _ (announce-fits t l r)
 
-  pub gh-withdraw-read : (a len : ℕ) → unpackDone (cardOf (withdrawn t l a len) .answer) ≡ withdrawn t l a len .said
+  pub gh-withdraw-read : (a len : ℕ) → unpackWithdraw (cardOf (withdrawn t l a len) .answer) ≡ withdrawn t l a len .said
   unfolding cardOf
-  gh-withdraw-read a len = done-read 0 (omega arith) _ _ (withdraw-fits t l a len)
+  gh-withdraw-read a len = withdraw-read 0 (omega arith) _ _ (withdraw-fits t l a len)
 
   -- and where a change is accepted, the count of the table that then stands, at most 4,096
   pub gh-make-count : accepts (made t l .said) ≡ true → (countOf (cardOf (made t l) .answer) ≡ made t l .table .count) × (made t l .table .count ≤ 4096)
@@ -82,7 +82,7 @@ module _ (t : Table) (l : Lent) where
   pub gh-withdraw-count : (a len : ℕ) → accepts (withdrawn t l a len .said) ≡ true
       → (countOf (cardOf (withdrawn t l a len) .answer) ≡ withdrawn t l a len .table .count) × (withdrawn t l a len .table .count ≤ 4096)
   unfolding cardOf
-  gh-withdraw-count a len e = (done-count 0 _ _ (withdraw-fits t l a len) e, withdraw-few t l a len e)
+  gh-withdraw-count a len e = (withdraw-count 0 _ _ (withdraw-fits t l a len) e, withdraw-few t l a len e)
 
   -- many lookups: 1, 2, or 2 for the two lengths
   pub gh-lookup-many-answer : (ads xs : List ℕ)

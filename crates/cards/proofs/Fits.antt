@@ -2,13 +2,15 @@
 -- for the index of a record an input shorter than 2^35 bytes, so that it has fewer than 2^32 records. Assumes nothing.
 use mathlib.Core.Path.{_≡_, refl, _∙_, ap, subst}
 use mathlib.Core.Logic.{_⊎_, inl, inr}
-use mathlib.Core.Bool.{true, false, cond, true≢false}
+use mathlib.Core.Bool.{Bool, true, false, cond, true≢false}
 use mathlib.Core.List.{List, [], _∷_}
 use Prim.Native.Nat.{ℕ, _-_, _*_, _/_, _^_, _≤_, _<_}
 use native.Mathlib.Omega.{arith}
 use lib.Dec.{eqb}
 use lib.ListN.{length}
 use borrow.Author.Tests.{eqb-false}
+use Rattle.bits.specs.Count.{bit}
+use Rattle.bits.specs.Slot.{cut}
 use Rattle.bits.proofs.Tests.{decided}
 use Rattle.routes.specs.Route.{keyOf}
 use Rattle.standing.specs.Cells.{need}
@@ -27,10 +29,10 @@ use Rattle.sail.specs.Sound.{standing}
 use Rattle.sail.specs.Walk.{leafSaid, hopSaid, lookupSaid}
 use Rattle.sail.specs.declared.table.Table.{Table}
 use Rattle.sail.proofs.Sounds.{chunks-need}
-use Rattle.sail_theory.specs.Calls.{made, loaded, announced, withdrawn, reported}
+use Rattle.sail_theory.specs.Calls.{made, loaded, cutRoute, cleared, telling, announced, withdrawn, reported}
 use Rattle.sail_theory.proofs.Chunks.{used-le}
 use Rattle.sail_theory.proofs.Judged.{Sizing, Make, make-judged, Announce, announce-judged, Withdraw, withdraw-judged, Load, load-judged, Report, report-judged}
-use Rattle.sail_theory.proofs.Accepted.{announce-said, announce-holds, withdraw-said, withdraw-holds}
+use Rattle.sail_theory.proofs.Cleared.{announce-said, announce-accepts, announce-holds, withdraw-said, withdraw-accepts, withdraw-holds}
 use Rattle.sail_theory.proofs.Fresh.{make-said, make-holds, accepted-sized}
 use Rattle.sail_theory.proofs.Loads.{load-said, load-holds}
 use Rattle.tree.specs.Image.{nodeNeed}
@@ -42,12 +44,17 @@ use Rattle.tree_build.specs.Built.{built}
 use Rattle.demands.proofs.Inputs.{check-only, BadInput, GoodInput, RunChecked, run-judged, RouteRead, route-judged}
 use Rattle.demands.proofs.Lookups.{v1, v2, v3, Lookup, lookup-judged}
 use Rattle.demands.proofs.Builds.{Build, build-judged}
-use Rattle.packing.specs.Unpack.{Fits, FoundFits, ReportFits, BuiltFits, RunFits, RouteFits, AnnounceFits, DoneFits, Cells}
+use Rattle.packing.specs.Unpack.{Fits, FoundFits, ReportFits, BuiltFits, RunFits, RouteFits, AnnounceFits, WithdrawFits, DoneFits, Cells}
 
 -- 1 and 2
 sizing-fits : {most : ℕ} {P : List ℕ → Type 0} {t : Table} {l : Lent} {n : ℕ} → Sizing t l n → Fits most P (refused n)
 sizing-fits (Sizing.limits h) = Fits.number 1 (omega arith) (omega arith)
 sizing-fits (Sizing.size v h) = Fits.number 2 (omega arith) (omega arith)
+
+-- a flag
+bit-low : (b : Bool) → bit b < 2
+bit-low true = omega arith
+bit-low false = omega arith
 
 -- 3, 4 and 10
 route-low : {r : Route} {f : ℕ} → WrongRoute r f → (1 ≤ f) × (f < 2 ^ 8)
@@ -203,27 +210,29 @@ module _ (t : Table) (l : Lent) where
   announce-few r e = announce-holds t l r e .sound .listed .records .few
 
   pub announce-fits : (r : Route) → Fits 0 (AnnounceFits (announced t l r .table .count)) (announced t l r .said)
-  announce-fits r = rw (announce-said t l r) (go (announce-judged t l r) (λ e. announce-few r (ap accepts (announce-said t l r) ∙ e)))
+  announce-fits r =
+      rw (announce-said t l r) (go (cleared (r .len) (r .addr)) (announce-judged t l (cutRoute r)) (λ e. announce-few r (announce-accepts t l r ∙ e)))
     where
-      go : {n : ℕ} {x : Said} → Announce t l r x → (accepts x ≡ true → n ≤ 4096) → Fits 0 (AnnounceFits n) x
-      go (Announce.sizing n h) few = sizing-fits h
-      go (Announce.wrong n z w) few = let b = route-low w in Fits.number n (b .0) (b .1)
-      go (Announce.unsound z f h) few = Fits.number 5 (omega arith) (omega arith)
-      go (Announce.replaced p h) few = let f = few refl in Fits.values _ (AnnounceFits.which 1 (omega arith) (omega arith))
-      go (Announce.full p h k) few = Fits.number 6 (omega arith) (omega arith)
-      go (Announce.second w x) few = Fits.number 7 (omega arith) (omega arith)
-      go (Announce.third w x y) few = Fits.number 8 (omega arith) (omega arith)
-      go (Announce.added w x y) few = let f = few refl in Fits.values _ (AnnounceFits.which 0 (omega arith) (omega arith))
+      go : (b : Bool) {n : ℕ} {x : Said} → Announce t l (cutRoute r) x → (accepts x ≡ true → n ≤ 4096) → Fits 0 (AnnounceFits n) (telling b x)
+      go b (Announce.sizing n h) few = sizing-fits h
+      go b (Announce.wrong n z w) few = let k = route-low w in Fits.number n (k .0) (k .1)
+      go b (Announce.unsound z f h) few = Fits.number 5 (omega arith) (omega arith)
+      go b (Announce.replaced p h) few = let f = few refl in Fits.values _ (AnnounceFits.which (bit b) 1 (bit-low b) (omega arith) (omega arith))
+      go b (Announce.full p h k) few = Fits.number 6 (omega arith) (omega arith)
+      go b (Announce.second w x) few = Fits.number 7 (omega arith) (omega arith)
+      go b (Announce.third w x y) few = Fits.number 8 (omega arith) (omega arith)
+      go b (Announce.added w x y) few = let f = few refl in Fits.values _ (AnnounceFits.which (bit b) 0 (bit-low b) (omega arith) (omega arith))
 
   pub withdraw-few : (a len : ℕ) → accepts (withdrawn t l a len .said) ≡ true → withdrawn t l a len .table .count ≤ 4096
   withdraw-few a len e = withdraw-holds t l a len e .sound .listed .records .few
 
-  pub withdraw-fits : (a len : ℕ) → Fits 0 (DoneFits (withdrawn t l a len .table .count)) (withdrawn t l a len .said)
-  withdraw-fits a len = rw (withdraw-said t l a len) (go (withdraw-judged t l a len) (λ e. withdraw-few a len (ap accepts (withdraw-said t l a len) ∙ e)))
+  pub withdraw-fits : (a len : ℕ) → Fits 0 (WithdrawFits (withdrawn t l a len .table .count)) (withdrawn t l a len .said)
+  withdraw-fits a len =
+      rw (withdraw-said t l a len) (go (cleared len a) (withdraw-judged t l (cut len a) len) (λ e. withdraw-few a len (withdraw-accepts t l a len ∙ e)))
     where
-      go : {n : ℕ} {x : Said} → Withdraw t l a len x → (accepts x ≡ true → n ≤ 4096) → Fits 0 (DoneFits n) x
-      go (Withdraw.sizing n h) few = sizing-fits h
-      go (Withdraw.bad-prefix z h) few = Fits.number 3 (omega arith) (omega arith)
-      go (Withdraw.unsound z p h) few = Fits.number 5 (omega arith) (omega arith)
-      go (Withdraw.absent p k h) few = Fits.number 9 (omega arith) (omega arith)
-      go (Withdraw.removed w) few = let f = few refl in Fits.values [] (DoneFits.done (omega arith))
+      go : (b : Bool) {n : ℕ} {x : Said} → Withdraw t l (cut len a) len x → (accepts x ≡ true → n ≤ 4096) → Fits 0 (WithdrawFits n) (telling b x)
+      go b (Withdraw.sizing n h) few = sizing-fits h
+      go b (Withdraw.bad-prefix z h) few = Fits.number 3 (omega arith) (omega arith)
+      go b (Withdraw.unsound z p h) few = Fits.number 5 (omega arith) (omega arith)
+      go b (Withdraw.absent p k h) few = Fits.number 9 (omega arith) (omega arith)
+      go b (Withdraw.removed w) few = let f = few refl in Fits.values _ (WithdrawFits.gone (bit b) (bit-low b) (omega arith))

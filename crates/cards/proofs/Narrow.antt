@@ -9,6 +9,7 @@ use mathlib.Core.List.{List}
 use Prim.Native.Nat.{ℕ, zero, suc, _<_, _≤_, min}
 use native.Mathlib.Omega.{arith}
 use borrow.Author.Tests.{lt-leb}
+use Rattle.bits.specs.Slot.{cut}
 use Rattle.bits.proofs.Tests.{decided, below?}
 use Rattle.routes.specs.Route.{Prefix}
 use Rattle.routes.specs.Input.{properPrefix}
@@ -19,8 +20,8 @@ use Rattle.runs.specs.Run.{runSaid}
 use Rattle.sail.specs.Lent.{Lent}
 use Rattle.sail.specs.Sizes.{sizesFault}
 use Rattle.sail.specs.declared.table.Table.{Table}
-use Rattle.sail_theory.specs.Calls.{route, out, orSay, announceSaid, announced, withdrawFault, withdrawSaid, withdrawn}
-use Rattle.sail_theory.proofs.Accepted.{announce-off, withdraw-off}
+use Rattle.sail_theory.specs.Calls.{route, out, orSay, announceSaid, withdrawFault, withdrawSaid, cutRoute, announced, withdrawn}
+use Rattle.sail_theory.proofs.Cleared.{announce-off, withdraw-off}
 
 -- f is the same of all numbers over the limit
 abbrev pub AlikeOver : {A : Type 0} → ℕ → (ℕ → A) → Type 0
@@ -65,42 +66,48 @@ module _ (t : Table) (l : Lent) where
       go zero = refl
       go (suc n) = refl
 
-  -- what is wrong with a route decides what its announcement says and leaves
-  announced-wrong : {r : Route} {n : ℕ} → WrongRoute r n → announced t l r ≡ out (refusal n) t l
+  -- what is wrong with the cleared route decides what an announcement says and leaves
+  announced-wrong : (r : Route) {n : ℕ} → WrongRoute (cutRoute r) n → announced t l r ≡ out (refusal n) t l
   unfolding announceSaid
-  announced-wrong {r} {n} w = announce-off t l r (refusal n) (said w) (refusal-accepts n)
+  announced-wrong r {n} w = announce-off t l r (refusal n) (said w) (refusal-accepts n)
     where
-      said : {n : ℕ} → WrongRoute r n → announceSaid t l r ≡ refusal n
-      said (WrongRoute.prefix h) = rw (wrong-fault r 3 (WrongRoute.prefix h))
-      said (WrongRoute.hop p h) = rw (wrong-fault r 4 (WrongRoute.hop p h))
-      said (WrongRoute.mark p a b h) = rw (wrong-fault r 10 (WrongRoute.mark p a b h))
+      said : {n : ℕ} → WrongRoute (cutRoute r) n → announceSaid t l (cutRoute r) ≡ refusal n
+      said (WrongRoute.prefix h) = rw (wrong-fault (cutRoute r) 3 (WrongRoute.prefix h))
+      said (WrongRoute.hop p h) = rw (wrong-fault (cutRoute r) 4 (WrongRoute.hop p h))
+      said (WrongRoute.mark p a b h) = rw (wrong-fault (cutRoute r) 10 (WrongRoute.mark p a b h))
 
-  wrong-alike : {r s : Route} {n : ℕ} → WrongRoute r n → WrongRoute s n → announced t l r ≡ announced t l s
-  wrong-alike v w = announced-wrong v ∙ sym (announced-wrong w)
+  wrong-alike : (r s : Route) {n : ℕ} → WrongRoute (cutRoute r) n → WrongRoute (cutRoute s) n → announced t l r ≡ announced t l s
+  wrong-alike r s v w = announced-wrong r v ∙ sym (announced-wrong s w)
 
   withdrawn-three : (a len : ℕ) → 32 < len → withdrawn t l a len ≡ out (refusal 3) t l
   unfolding withdrawSaid withdrawFault
-  withdrawn-three a len h = withdraw-off t l a len (refusal 3) (rw (long-prefix a len h)) (refusal-accepts 3)
+  withdrawn-three a len h = withdraw-off t l a len (refusal 3) (rw (long-prefix (cut len a) len h)) (refusal-accepts 3)
 
   -- 3 for a length over 32; 4 for a hop over 32,767, or 3 where that comes first; 10 for a mark over 1, or 3 or 4 where that comes first
   pub announced-long : (a hop mark : ℕ) → AlikeOver 32 (λ (len : ℕ). announced t l (route a len hop mark))
-  announced-long a hop mark x y h k = wrong-alike (WrongRoute.prefix (λ p. omega (arith, p .len-ok))) (WrongRoute.prefix (λ p. omega (arith, p .len-ok)))
+  announced-long a hop mark x y h k = wrong-alike (route a x hop mark) (route a y hop mark) (WrongRoute.prefix (λ p. omega (arith, p .len-ok))) (WrongRoute.prefix (λ p. omega (arith, p .len-ok)))
 
   pub announced-high : (a len mark : ℕ) → AlikeOver 32767 (λ (hop : ℕ). announced t l (route a len hop mark))
-  announced-high a len mark x y h k = go (prefix? a len)
+  announced-high a len mark x y h k = go (prefix? (cut len a) len)
     where
-      go : Prefix a len ⊎ (Prefix a len → ⊥) → announced t l (route a len x mark) ≡ announced t l (route a len y mark)
-      go (inl p) = wrong-alike (WrongRoute.hop p (λ _ u. omega arith)) (WrongRoute.hop p (λ _ u. omega arith))
-      go (inr e) = wrong-alike (WrongRoute.prefix e) (WrongRoute.prefix e)
+      alike : {n : ℕ} → WrongRoute (cutRoute (route a len x mark)) n → WrongRoute (cutRoute (route a len y mark)) n → announced t l (route a len x mark) ≡ announced t l (route a len y mark)
+      alike = wrong-alike (route a len x mark) (route a len y mark)
+
+      go : Prefix (cut len a) len ⊎ (Prefix (cut len a) len → ⊥) → announced t l (route a len x mark) ≡ announced t l (route a len y mark)
+      go (inl p) = alike (WrongRoute.hop p (λ _ u. omega arith)) (WrongRoute.hop p (λ _ u. omega arith))
+      go (inr e) = alike (WrongRoute.prefix e) (WrongRoute.prefix e)
 
   pub announced-marked : (a len hop : ℕ) → AlikeOver 1 (λ (mark : ℕ). announced t l (route a len hop mark))
-  announced-marked a len hop x y h k = go (prefix? a len) (hop? hop)
+  announced-marked a len hop x y h k = go (prefix? (cut len a) len) (hop? hop)
     where
-      go : Prefix a len ⊎ (Prefix a len → ⊥) → ((1 ≤ hop) × (hop ≤ 32767)) ⊎ (1 ≤ hop → hop ≤ 32767 → ⊥)
+      alike : {n : ℕ} → WrongRoute (cutRoute (route a len hop x)) n → WrongRoute (cutRoute (route a len hop y)) n → announced t l (route a len hop x) ≡ announced t l (route a len hop y)
+      alike = wrong-alike (route a len hop x) (route a len hop y)
+
+      go : Prefix (cut len a) len ⊎ (Prefix (cut len a) len → ⊥) → ((1 ≤ hop) × (hop ≤ 32767)) ⊎ (1 ≤ hop → hop ≤ 32767 → ⊥)
           → announced t l (route a len hop x) ≡ announced t l (route a len hop y)
-      go (inl p) (inl b) = wrong-alike (WrongRoute.mark p (b .0) (b .1) h) (WrongRoute.mark p (b .0) (b .1) k)
-      go (inl p) (inr e) = wrong-alike (WrongRoute.hop p e) (WrongRoute.hop p e)
-      go (inr e) b = wrong-alike (WrongRoute.prefix e) (WrongRoute.prefix e)
+      go (inl p) (inl b) = alike (WrongRoute.mark p (b .0) (b .1) h) (WrongRoute.mark p (b .0) (b .1) k)
+      go (inl p) (inr e) = alike (WrongRoute.hop p e) (WrongRoute.hop p e)
+      go (inr e) b = alike (WrongRoute.prefix e) (WrongRoute.prefix e)
 
   pub withdrawn-long : (a : ℕ) → AlikeOver 32 (λ (len : ℕ). withdrawn t l a len)
   withdrawn-long a x y h k = withdrawn-three a x h ∙ sym (withdrawn-three a y k)

@@ -7,11 +7,12 @@
 -- Assumes nothing.
 use mathlib.Core.Path.{_≡_, refl, sym, _∙_, ap, subst}
 use mathlib.Core.Logic.{_↔_}
-use mathlib.Core.Bool.{false, false≢true}
+use mathlib.Core.Bool.{Bool, false, false≢true}
 use mathlib.Core.List.{List, []}
 use Prim.Native.Nat.{ℕ}
 use native.Mathlib.Omega.{arith}
 use lib.ListN.{replicate}
+use Rattle.bits.specs.Slot.{cut}
 use Rattle.routes.specs.Input.{inputSaid}
 use Rattle.routes.specs.Answers.{routeSaid}
 use Rattle.routes.specs.Said.{Said, accepted, refused, refusedAt, accepts}
@@ -27,10 +28,10 @@ use Rattle.sail.specs.declared.table.Table.{Table}
 use Rattle.sail.specs.declared.lookup.Found.{Found}
 use Rattle.sail.specs.declared.lookup.Found.the-variants as found
 use Rattle.sail.proofs.Answers.{found-injective}
-use Rattle.sail_theory.specs.Calls.{Out, made, announced, withdrawn, loaded, reported}
+use Rattle.sail_theory.specs.Calls.{Out, made, cutRoute, cleared, telling, announced, withdrawn, loaded, reported}
 use Rattle.sail_theory.proofs.Judged.{Make, make-judged, Announce, announce-judged, Withdraw, withdraw-judged, Load, load-judged, Report, report-judged}
 use Rattle.sail_theory.proofs.Only.{make-only, announce-only, withdraw-only, load-only, report-only}
-use Rattle.sail_theory.proofs.Accepted.{announce-said, announce-refused, withdraw-said, withdraw-refused}
+use Rattle.sail_theory.proofs.Cleared.{telling-once, announce-said, announce-refused, withdraw-said, withdraw-refused}
 use Rattle.sail_theory.proofs.Fresh.{make-said, make-refused}
 use Rattle.sail_theory.proofs.Loads.{load-said, load-refused}
 use Rattle.tree.specs.Walk.{saysTreeFound, treeSaid}
@@ -79,6 +80,10 @@ refused-run = run-refused
 pub exactly : (P : Said → Type 0) (x y : Said) → x ≡ y → P y → ((s : Said) → P s → y ≡ s) → (s : Said) → (x ≡ s) ↔ P s
 exactly P x y q h only s = ((λ e. subst P (sym q ∙ e) h), (λ c. q ∙ only s c))
 
+-- the same of a call that tells beside s whether bits were cleared
+told-exactly : (b : Bool) (P : Said → Type 0) (x y : Said) → x ≡ telling b y → P y → ((s : Said) → P s → y ≡ s) → (s : Said) → (x ≡ telling b s) ↔ P s
+told-exactly b P x y q h only s = ((λ e. subst P (telling-once b y s (sym q ∙ e)) h), (λ c. q ∙ ap (telling b) (only s c)))
+
 -- check_input, and with it the tally: the length (10), record by record 3, 4, mark (10), order (10), then 6
 pub refused-number-check-input : (bytes : List ℕ) (s : Said) → (inputSaid bytes ≡ s) ↔ Checked bytes s
 refused-number-check-input bytes = exactly (Checked bytes) _ _ refl (input-checked bytes) (check-only bytes)
@@ -104,13 +109,14 @@ module _ (t : Table) (l : Lent) where
   pub refused-number-load : (input : List ℕ) (s : Said) → (loaded t l input .said ≡ s) ↔ Load t l input s
   refused-number-load input = exactly (Load t l input) _ _ (load-said t l input) (load-judged t l input) (load-only t l input)
 
-  -- announce: 1, 2, 3, 4, 10, 5, 6, 7, 8; a replacement never meets 6 to 8
-  pub refused-number-announce : (r : Route) (s : Said) → (announced t l r .said ≡ s) ↔ Announce t l r s
-  refused-number-announce r = exactly (Announce t l r) _ _ (announce-said t l r) (announce-judged t l r) (announce-only t l r)
+  -- announce: 1, 2, 3, 4, 10, 5, 6, 7, 8; a replacement never meets 6 to 8. The conditions are on the route with its bits after the length
+  -- cleared, and what is accepted says first whether any were
+  pub refused-number-announce : (r : Route) (s : Said) → (announced t l r .said ≡ telling (cleared (r .len) (r .addr)) s) ↔ Announce t l (cutRoute r) s
+  refused-number-announce r = told-exactly _ (Announce t l (cutRoute r)) _ _ (announce-said t l r) (announce-judged t l (cutRoute r)) (announce-only t l (cutRoute r))
 
-  -- withdraw: 1, 2, 3, 5, 9
-  pub refused-number-withdraw : (a len : ℕ) (s : Said) → (withdrawn t l a len .said ≡ s) ↔ Withdraw t l a len s
-  refused-number-withdraw a len = exactly (Withdraw t l a len) _ _ (withdraw-said t l a len) (withdraw-judged t l a len) (withdraw-only t l a len)
+  -- withdraw: 1, 2, 3, 5, 9, of the cleared prefix
+  pub refused-number-withdraw : (a len : ℕ) (s : Said) → (withdrawn t l a len .said ≡ telling (cleared len a) s) ↔ Withdraw t l (cut len a) len s
+  refused-number-withdraw a len = told-exactly _ (Withdraw t l (cut len a) len) _ _ (withdraw-said t l a len) (withdraw-judged t l (cut len a) len) (withdraw-only t l (cut len a) len)
 
   -- report: 1, 2, 5
   pub refused-number-report : (s : Said) → (reported t l ≡ s) ↔ Report t l s

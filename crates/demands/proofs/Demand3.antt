@@ -11,7 +11,7 @@ use mathlib.Core.Bool.{true, false}
 use mathlib.Core.List.{List, _∷_}
 use Prim.Native.Nat.{ℕ, _/_, _^_, _<_}
 use lib.ListN.{length}
-use Rattle.bits.specs.Slot.{slot}
+use Rattle.bits.specs.Slot.{slot, cut}
 use Rattle.bits.proofs.Tests.{decided}
 use Rattle.routes.specs.Route.{Good}
 use Rattle.routes.specs.Record.{written}
@@ -30,13 +30,12 @@ use Rattle.sail_theory.specs.Calls.{termsOf, inputRoutes, Out, made, announced,
 use Rattle.sail_theory.specs.Facts.{SameSize}
 use Rattle.sail_theory.specs.Runs.{announceAll, AllAdded, Call, after, worked, would, Formed, Carries}
 use Rattle.sail_theory.specs.Alters.{Alters}
-use Rattle.sail_theory.proofs.Accepted.{announce-refused, withdraw-refused}
+use Rattle.sail_theory.proofs.Cleared.{announce-refused, announce-alters, withdraw-refused, withdraw-alters}
 use Rattle.sail_theory.proofs.Fresh.{accepted-sized}
 use Rattle.sail_theory.proofs.Loads as loads
 use Rattle.sail_theory.proofs.Runs as runs
 use Rattle.sail_theory.proofs.Anew as anew
 use Rattle.sail_theory.proofs.Wanting as wanting
-use Rattle.sail_theory.proofs.Altered.{announce-alters, withdraw-alters}
 use Rattle.demands.proofs.Demand2.{uncounted}
 use Rattle.demands.proofs.Elsewhere.{announce-elsewhere, withdraw-elsewhere}
 use Rattle.demands.proofs.Replies.{reply}
@@ -97,33 +96,34 @@ pub made-sized : (t : Table) (l : Lent) → accepts (made t l .said) ≡ true �
 made-sized = accepted-sized
 
 -- "A change alters no cell but those under its prefix": those that serve an address under it, and those in chunks that it opens or closes. In
--- any state, and so after any run; what is refused alters nothing.
+-- any state, and so after any run; what is refused alters nothing. The prefix is the cleared one; the same addresses lie under it as begin with
+-- the bits that were given (`slot-cut`, crate bits, proofs/Slots.antt).
 alters-none : (g : Geometry) (a len : ℕ) (l u : Lent) → u ≡ l → Alters g a len l u
 alters-none g a len l u e = rw e (record { first = λ q h n. refl; second = λ q h n o. refl; third = λ q h n o. refl })
 
-pub change-frame-announce : (t : Table) (l : Lent) (r : Route) → Alters (t .geometry) (r .addr) (r .len) l (announced t l r .lent)
+pub change-frame-announce : (t : Table) (l : Lent) (r : Route) → Alters (t .geometry) (cut (r .len) (r .addr)) (r .len) l (announced t l r .lent)
 change-frame-announce t l r =
     ⊎-elim (announce-alters t l r)
-    (λ (e : accepts (announced t l r .said) ≡ false). alters-none (t .geometry) (r .addr) (r .len) l _ (ap (λ (o : Out). o .lent) (announce-refused t l r e)))
+    (λ (e : accepts (announced t l r .said) ≡ false). alters-none (t .geometry) (cut (r .len) (r .addr)) (r .len) l _ (ap (λ (o : Out). o .lent) (announce-refused t l r e)))
     (decided (accepts (announced t l r .said)))
 
-pub change-frame-withdraw : (t : Table) (l : Lent) (a len : ℕ) → Alters (t .geometry) a len l (withdrawn t l a len .lent)
+pub change-frame-withdraw : (t : Table) (l : Lent) (a len : ℕ) → Alters (t .geometry) (cut len a) len l (withdrawn t l a len .lent)
 change-frame-withdraw t l a len =
     ⊎-elim (withdraw-alters t l a len)
-    (λ (e : accepts (withdrawn t l a len .said) ≡ false). alters-none (t .geometry) a len l _ (ap (λ (o : Out). o .lent) (withdraw-refused t l a len e)))
+    (λ (e : accepts (withdrawn t l a len .said) ≡ false). alters-none (t .geometry) (cut len a) len l _ (ap (λ (o : Out). o .lent) (withdraw-refused t l a len e)))
     (decided (accepts (withdrawn t l a len .said)))
 
 -- So the hop of no address outside the prefix changes. (Its count of cells can, where a chunk is opened or closed above it.)
-pub change-elsewhere-announce : (t : Table) (l : Lent) (r : Route) (x : ℕ) → x < 2 ^ 32 → slot (r .len) x ≢ slot (r .len) (r .addr)
+pub change-elsewhere-announce : (t : Table) (l : Lent) (r : Route) (x : ℕ) → x < 2 ^ 32 → slot (r .len) x ≢ slot (r .len) (cut (r .len) (r .addr))
     → uncounted (lookupSaid (announced t l r .table) (announced t l r .lent) x) ≡ uncounted (lookupSaid t l x)
-change-elsewhere-announce t l r x h n = announce-elsewhere t l (r .addr) (r .len) x h n (r .hop) (r .mark)
+change-elsewhere-announce = announce-elsewhere
 
-pub change-elsewhere-withdraw : (t : Table) (l : Lent) (a len x : ℕ) → x < 2 ^ 32 → slot len x ≢ slot len a
+pub change-elsewhere-withdraw : (t : Table) (l : Lent) (a len x : ℕ) → x < 2 ^ 32 → slot len x ≢ slot len (cut len a)
     → uncounted (lookupSaid (withdrawn t l a len .table) (withdrawn t l a len .lent) x) ≡ uncounted (lookupSaid t l x)
 change-elsewhere-withdraw = withdraw-elsewhere
 
 -- "Load equals make and then announcing each record in order, where it is accepted": in the state and in all that is lent, and each of these
--- announcements adds its route.
+-- announcements clears nothing and adds its route.
 pub load-as-announces : (t : Table) (l : Lent) (input : List ℕ) → accepts (loaded t l input .said) ≡ true
     → (loaded t l input .table ≡ announceAll (made t l) (inputRoutes input) .table)
     × (loaded t l input .lent ≡ announceAll (made t l) (inputRoutes input) .lent)

@@ -1,11 +1,12 @@
 -- Refusals for want of chunks, 7 and 8: exactly when the routes that would stand need more, and of well-formed changes alone. Assumes nothing.
 use mathlib.Core.Path.{_≡_, refl}
 use mathlib.Core.Logic.{_↔_}
-use mathlib.Core.Bool.{true, false≢true}
+use mathlib.Core.Bool.{Bool, true, false≢true}
 use mathlib.Core.List.{List}
 use Prim.Native.Nat.{ℕ, _/_, _≤_, _<_}
 use native.Mathlib.Omega.{arith}
 use lib.ListN.{length}
+use Rattle.bits.specs.Slot.{cut}
 use Rattle.standing.specs.Cells.{need}
 use Rattle.routes.specs.Input.{inputSaid}
 use Rattle.routes.specs.Said.{Said, accepted, refused, refusedAt, accepts}
@@ -16,10 +17,10 @@ use Rattle.sail.specs.Lent.{Lent}
 use Rattle.sail.specs.Sound.{standing}
 use Rattle.sail.specs.declared.table.Table.{Table}
 use Rattle.sail_theory.specs.Render.{roomOf}
-use Rattle.sail_theory.specs.Calls.{Terms}
+use Rattle.sail_theory.specs.Calls.{Terms, cutRoute, telling}
 use Rattle.sail_theory.specs.Runs.{Call, announce, withdraw, load, done, Formed}
 use Rattle.sail_theory.proofs.Judged.{Sizing, Announce, announce-judged, Withdraw, withdraw-judged, Readable, Load, load-judged}
-use Rattle.sail_theory.proofs.Accepted.{announce-said, withdraw-said}
+use Rattle.sail_theory.proofs.Cleared.{announce-said, withdraw-said}
 use Rattle.sail_theory.proofs.Loads.{load-said}
 use Rattle.sail_theory.proofs.Wanting.{Wanting}
 
@@ -72,22 +73,23 @@ input-never s x e w = go (rw e at (input-checked s)) w
     go (Checked.good n z r) w = w
 
 module _ (t : Table) (l : Lent) where
-  announce-formed : (r : Route) {s : Said} → Announce t l r s → ForChunks s → Formed (announce r) (standing t l) (roomOf l)
-  announce-formed r (Announce.sizing n h) w = absurd (small h w)
-  announce-formed r (Announce.wrong n z h) w = absurd (wrong-never h w)
-  announce-formed r (Announce.unsound z f h) w = absurd (omega (arith, w .0))
-  announce-formed r (Announce.replaced p h) w = absurd w
-  announce-formed r (Announce.full p h k) w = absurd (omega (arith, w .0))
-  announce-formed r (Announce.second k x) w = (k .proper .fine, omega (arith, insert-adds r (standing t l) (k .new), k .room))
-  announce-formed r (Announce.third k x y) w = (k .proper .fine, omega (arith, insert-adds r (standing t l) (k .new), k .room))
-  announce-formed r (Announce.added k x y) w = absurd w
+  -- whether bits were cleared is told of what is accepted alone
+  announce-formed : (b : Bool) (r : Route) {s : Said} → Announce t l (cutRoute r) s → ForChunks (telling b s) → Formed (announce r) (standing t l) (roomOf l)
+  announce-formed b r (Announce.sizing n h) w = absurd (small h w)
+  announce-formed b r (Announce.wrong n z h) w = absurd (wrong-never h w)
+  announce-formed b r (Announce.unsound z f h) w = absurd (omega (arith, w .0))
+  announce-formed b r (Announce.replaced p h) w = absurd w
+  announce-formed b r (Announce.full p h k) w = absurd (omega (arith, w .0))
+  announce-formed b r (Announce.second k x) w = (k .proper .fine, omega (arith, insert-adds (cutRoute r) (standing t l) (k .new), k .room))
+  announce-formed b r (Announce.third k x y) w = (k .proper .fine, omega (arith, insert-adds (cutRoute r) (standing t l) (k .new), k .room))
+  announce-formed b r (Announce.added k x y) w = absurd w
 
-  withdraw-never : (a len : ℕ) {s : Said} → Withdraw t l a len s → ForChunks s → ⊥
-  withdraw-never a len (Withdraw.sizing n h) w = small h w
-  withdraw-never a len (Withdraw.bad-prefix z h) w = omega (arith, w .0)
-  withdraw-never a len (Withdraw.unsound z p h) w = omega (arith, w .0)
-  withdraw-never a len (Withdraw.absent p k h) w = omega (arith, w .1)
-  withdraw-never a len (Withdraw.removed k) w = w
+  withdraw-never : (b : Bool) (a len : ℕ) {s : Said} → Withdraw t l a len s → ForChunks (telling b s) → ⊥
+  withdraw-never b a len (Withdraw.sizing n h) w = small h w
+  withdraw-never b a len (Withdraw.bad-prefix z h) w = omega (arith, w .0)
+  withdraw-never b a len (Withdraw.unsound z p h) w = omega (arith, w .0)
+  withdraw-never b a len (Withdraw.absent p k h) w = omega (arith, w .1)
+  withdraw-never b a len (Withdraw.removed k) w = w
 
   readable-formed : (input : List ℕ) → Readable t l input → length input / 8 ≤ roomOf l → Formed (load input) (standing t l) (roomOf l)
   readable-formed input r k = (length input / 8, good-input input (length input / 8) (r .whole) (r .records), k)
@@ -103,6 +105,6 @@ module _ (t : Table) (l : Lent) where
   -- in any state
   pub chunks-formed : (c : Call) → ForChunks (done t l c .said) → Formed c (standing t l) (roomOf l)
   unfolding done
-  chunks-formed (announce r) w = announce-formed r (announce-judged t l r) (rw (announce-said t l r) at w)
-  chunks-formed (withdraw a len) w = absurd (withdraw-never a len (withdraw-judged t l a len) (rw (withdraw-said t l a len) at w))
+  chunks-formed (announce r) w = announce-formed _ r (announce-judged t l (cutRoute r)) (rw (announce-said t l r) at w)
+  chunks-formed (withdraw a len) w = absurd (withdraw-never _ (cut len a) len (withdraw-judged t l (cut len a) len) (rw (withdraw-said t l a len) at w))
   chunks-formed (load input) w = load-formed input (load-judged t l input) (rw (load-said t l input) at w)

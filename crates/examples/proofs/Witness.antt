@@ -38,7 +38,7 @@ use Rattle.sail.proofs.Fresh.{fresh-sound}
 use Rattle.sail_theory.specs.Calls.{route, termsOf, withdrawFault, Out, out, made, announced, withdrawn, loaded}
 use Rattle.sail_theory.specs.Runs.{Call, announce, withdraw, load, done, after, worked, would, Formed}
 use Rattle.sail_theory.specs.Render.{roomOf}
-use Rattle.sail_theory.proofs.Accepted.{announce-said, announce-off}
+use Rattle.sail_theory.proofs.Cleared.{telling-once, announce-said, announce-off}
 use Rattle.sail_theory.proofs.Anew as anew
 use Rattle.sail_theory.proofs.Fresh.{make-said, make-is}
 use Rattle.sail_theory.proofs.Sizes.{size-refl}
@@ -67,7 +67,7 @@ use Rattle.demands.proofs.Replies.{reply, stood, run-says, run-stood}
 use Rattle.demands.proofs.Wants.{ByNeed, ForChunks}
 use Rattle.demands.proofs.Demand2 as demand2
 use Rattle.demands.proofs.Demand3 as demand3
-use Rattle.examples.specs.Starred.{ip, geo, table, arrays, bare, listA, image, loadedA, without0, entered, other, last, answer, Line, _gives_, starred, Holds}
+use Rattle.examples.specs.Starred.{ip, geo, table, arrays, bare, listA, image, loadedA, without0, entered, other, loose, tight, away, last, answer, Line, _gives_, starred, Holds}
 use Rattle.examples.proofs.Starred.{sized, starred-hold}
 
 -- a line of the examples
@@ -192,7 +192,8 @@ unfolding arrays
 formed-load = (5, goodA, omega arith)
 
 -- an address outside a prefix,
-pub elsewhere : slot 25 (ip 10 2 0 1) ≢ slot 25 (ip 10 1 2 128)
+pub elsewhere : slot 25 (ip 10 2 0 1) ≢ slot 25 (cut 25 (ip 10 1 2 128))
+unfolding cut
 elsewhere e = omega (arith, e)
 
 -- and a load that is accepted.
@@ -243,17 +244,26 @@ pub loaded-A : MeetsLoad (t []) (l []) listA (record { answer = ofLoad.Done; tab
 unfolding starred answer after done saysLoaded
 loaded-A = told (loaded (t []) (l []) listA) (accepted []) (line 0)
 
-pub announced-first : MeetsAnnounce (t []) (l []) (ip 10 1 2 0) 24 44 0 (record { answer = ofAnnounce.Added; table = t entered }) (l entered)
+pub announced-first : MeetsAnnounce (t []) (l []) (ip 10 1 2 0) 24 44 0 (record { answer = ofAnnounce.Added false; table = t entered }) (l entered)
 unfolding starred answer after done saysAnnounce
-announced-first = told (announced (t []) (l []) (route (ip 10 1 2 0) 24 44 0)) (accepted (0 ∷ [])) (line 33)
+announced-first = told (announced (t []) (l []) (route (ip 10 1 2 0) 24 44 0)) (accepted (0 ∷ 0 ∷ [])) (line 33)
 
 pub announced-other : MeetsAnnounce (t entered) (l entered) (ip 10 2 2 0) 24 45 0 (record { answer = ofAnnounce.Refused 7; table = t entered }) (l entered)
 unfolding starred answer after done saysAnnounce
-announced-other = sym (announce-off (t entered) (l entered) (route (ip 10 2 2 0) 24 45 0) (refused 7) (sym (announce-said (t entered) (l entered) (route (ip 10 2 2 0) 24 45 0)) ∙ line 34) refl)
+announced-other = sym (announce-off (t entered) (l entered) (route (ip 10 2 2 0) 24 45 0) (refused 7) (telling-once _ _ (refused 7) (sym (announce-said (t entered) (l entered) (route (ip 10 2 2 0) 24 45 0)) ∙ line 34)) refl)
 
-pub withdrawn-A : MeetsWithdraw (t loadedA) (l loadedA) 0 0 (record { answer = ofWithdraw.Removed; table = t without0 }) (l without0)
+-- bits that were cleared are told
+pub announced-loose : MeetsAnnounce (t []) (l []) (ip 10 1 2 3) 24 44 0 (record { answer = ofAnnounce.Added true; table = t loose }) (l loose)
+unfolding starred answer after done saysAnnounce
+announced-loose = told (announced (t []) (l []) (route (ip 10 1 2 3) 24 44 0)) (accepted (1 ∷ 0 ∷ [])) (line 48)
+
+pub withdrawn-loose : MeetsWithdraw (t tight) (l tight) (ip 10 1 2 9) 24 (record { answer = ofWithdraw.Removed true; table = t away }) (l away)
 unfolding starred answer after done saysWithdraw
-withdrawn-A = told (withdrawn (t loadedA) (l loadedA) 0 0) (accepted []) (line 9)
+withdrawn-loose = told (withdrawn (t tight) (l tight) (ip 10 1 2 9) 24) (accepted (1 ∷ [])) (line 52)
+
+pub withdrawn-A : MeetsWithdraw (t loadedA) (l loadedA) 0 0 (record { answer = ofWithdraw.Removed false; table = t without0 }) (l without0)
+unfolding starred answer after done saysWithdraw
+withdrawn-A = told (withdrawn (t loadedA) (l loadedA) 0 0) (accepted (0 ∷ [])) (line 9)
 
 pub tree-found-A : MeetsTreeLookup (image .words) (image .hops) (ip 10 1 2 200) (treeFound.Hop 57 8)
 unfolding starred answer saysTreeFound

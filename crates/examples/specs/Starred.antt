@@ -1,4 +1,4 @@
--- Document 01's starred examples, and document 02's mark: what is asked, by the definitions that the contracts cite, and what the documents
+-- Document 01's starred examples, and document 02's mark and host bits: what is asked, by the definitions that the contracts cite, and what the documents
 -- answer.
 use mathlib.Core.Path.{_≡_}
 use mathlib.Core.List.{List, [], _∷_, map}
@@ -77,6 +77,16 @@ gone = withdraw (ip 10 1 2 0) 24 ∷ other
 abbrev pub again : List Call
 again = announce (route (ip 10 2 2 0) 24 45 0) ∷ gone
 
+-- host bits
+abbrev pub loose : List Call
+loose = announce (route (ip 10 1 2 3) 24 44 0) ∷ []
+
+abbrev pub tight : List Call
+tight = announce (route (ip 10 1 2 0) 24 45 0) ∷ loose
+
+abbrev pub away : List Call
+away = withdraw (ip 10 1 2 9) 24 ∷ tight
+
 -- What is asked: after a run, what its last call says, a lookup, the report, a route of its list, a cell, an owner; what make says of a geometry; what the check of an
 -- input says; and of list A's image, what the build says, its last node, its hops, and a lookup in it.
 pub data Asked : Type 0 where
@@ -135,7 +145,7 @@ starred =
     ∷ (lookup loadedA (ip 192 0 2 1) gives accepted (1 ∷ 6 ∷ []))
     ∷ (tree (ip 192 0 2 1) gives accepted (2 ∷ 6 ∷ []))
     -- "With /0 withdrawn: no route"
-    ∷ (last without0 gives accepted [])
+    ∷ (last without0 gives accepted (0 ∷ []))
     ∷ (lookup without0 (ip 192 0 2 1) gives accepted (1 ∷ []))
     -- "Both needs are 1. First cell 2561 holds 1 with owner 2562; second cell 2 holds 1 with owner 3; second cell 3 holds 801F hex"
     ∷ (report loadedA gives accepted (5 ∷ 1 ∷ 1 ∷ []))
@@ -149,7 +159,7 @@ starred =
     ∷ (lastNode gives accepted (5 ∷ 7 ∷ 3 ∷ []))
     ∷ (hops gives accepted (6 ∷ 20 ∷ 31 ∷ 44 ∷ 57 ∷ []))
     -- "/25 withdrawn: 10.1.2.200 gives 44 in 2 cells, needs 1 and 0"
-    ∷ (last without25 gives accepted [])
+    ∷ (last without25 gives accepted (0 ∷ []))
     ∷ (lookup without25 (ip 10 1 2 200) gives accepted (2 ∷ 44 ∷ []))
     ∷ (report without25 gives accepted (4 ∷ 1 ∷ 0 ∷ []))
     -- "Geometry (16, 26) passes; (16, 27), (12, 23) and (11, 22) give 1"
@@ -159,16 +169,16 @@ starred =
     ∷ (make (geo 11 22) gives refused 1)
     -- "Length 33 with hop 0: 3. Hop 32,767 passes, 32,768 gives 4": announced, and in an input
     ∷ (last (announce (route (ip 10 0 0 0) 33 0 0) ∷ []) gives refused 3)
-    ∷ (last (announce (route (ip 10 0 0 0) 8 32767 0) ∷ []) gives accepted (0 ∷ []))
+    ∷ (last (announce (route (ip 10 0 0 0) 8 32767 0) ∷ []) gives accepted (0 ∷ 0 ∷ []))
     ∷ (last (announce (route (ip 10 0 0 0) 8 32768 0) ∷ []) gives refused 4)
     ∷ (input (10 ∷ 0 ∷ 0 ∷ 0 ∷ 33 ∷ 0 ∷ 0 ∷ 0 ∷ []) gives refusedAt 3 0)
     ∷ (input (10 ∷ 0 ∷ 0 ∷ 0 ∷ 8 ∷ 0 ∷ 127 ∷ 255 ∷ []) gives accepted (1 ∷ []))
     ∷ (input (10 ∷ 0 ∷ 0 ∷ 0 ∷ 8 ∷ 0 ∷ 128 ∷ 0 ∷ []) gives refusedAt 4 0)
     -- "Second pool of one chunk: 10.1.2.0/24 enters, 10.2.2.0/24 gives 7; after the first is withdrawn the other enters as chunk 1"
-    ∷ (last entered gives accepted (0 ∷ []))
+    ∷ (last entered gives accepted (0 ∷ 0 ∷ []))
     ∷ (last other gives refused 7)
-    ∷ (last gone gives accepted [])
-    ∷ (last again gives accepted (0 ∷ []))
+    ∷ (last gone gives accepted (0 ∷ []))
+    ∷ (last again gives accepted (0 ∷ 0 ∷ []))
     ∷ (first again 2562 gives accepted (1 ∷ []))
     ∷ (owner2 again 0 gives accepted (2563 ∷ []))
     -- the mark is 0, or 1 for attached; one over 1 gives 10, in a record and in announce, after 3 and 4
@@ -178,10 +188,26 @@ starred =
     ∷ (last (announce (route (ip 10 1 0 0) 16 0 2) ∷ []) gives refused 4)
     ∷ (last (announce (route (ip 10 1 0 0) 33 31 2) ∷ []) gives refused 3)
     -- a replacement replaces the mark with the hop; the route is read back with it, and cells and needs are as they were
-    ∷ (last attachedA gives accepted (1 ∷ []))
+    ∷ (last attachedA gives accepted (0 ∷ 1 ∷ []))
     ∷ (listed attachedA 2 gives accepted (ip 10 1 0 0 ∷ 16 ∷ 1 ∷ 31 ∷ []))
     ∷ (second attachedA 3 gives accepted (0x801F ∷ []))
     ∷ (report attachedA gives accepted (5 ∷ 1 ∷ 1 ∷ []))
+    -- 10.1.2.3/24 means 10.1.2.0/24: it is added with bits cleared, 10.1.2.0/24 replaces it with none cleared, and 10.1.2.9/24 withdraws it, once
+    ∷ (last loose gives accepted (1 ∷ 0 ∷ []))
+    ∷ (listed loose 0 gives accepted (ip 10 1 2 0 ∷ 24 ∷ 0 ∷ 44 ∷ []))
+    ∷ (last tight gives accepted (0 ∷ 1 ∷ []))
+    ∷ (listed tight 0 gives accepted (ip 10 1 2 0 ∷ 24 ∷ 0 ∷ 45 ∷ []))
+    ∷ (last away gives accepted (1 ∷ []))
+    ∷ (last (withdraw (ip 10 1 2 9) 24 ∷ away) gives refused 9)
+    -- 10.1.2.3/0 is 0.0.0.0/0; of 10.1.2.3/32 nothing is cleared; of a length over 32 nothing is, and it gives 3
+    ∷ (last (announce (route (ip 10 1 2 3) 0 6 0) ∷ []) gives accepted (1 ∷ 0 ∷ []))
+    ∷ (listed (announce (route (ip 10 1 2 3) 0 6 0) ∷ []) 0 gives accepted (0 ∷ 0 ∷ 0 ∷ 6 ∷ []))
+    ∷ (last (announce (route (ip 10 1 2 3) 32 6 0) ∷ []) gives accepted (0 ∷ 0 ∷ []))
+    ∷ (last (announce (route (ip 10 1 2 3) 33 6 0) ∷ []) gives refused 3)
+    ∷ (last (withdraw (ip 10 1 2 3) 33 ∷ []) gives refused 3)
+    -- an input stays strict
+    ∷ (input (10 ∷ 1 ∷ 2 ∷ 3 ∷ 24 ∷ 0 ∷ 0 ∷ 44 ∷ []) gives refusedAt 3 0)
+    ∷ (last (load (10 ∷ 1 ∷ 2 ∷ 3 ∷ 24 ∷ 0 ∷ 0 ∷ 44 ∷ []) ∷ []) gives refusedAt 3 0)
     ∷ []
 
 -- Every line holds.

@@ -11,7 +11,7 @@ use borrow.Author.Tests.{eq-eqb, ne-eqb}
 use Rattle.routes.specs.Said.{Said, accepted, refused, refusedAt, andThen, accepts}
 use Rattle.sail.specs.Word.{packed, value, packFound}
 use Rattle.packing.specs.Pack.{packReport, packChange, packBuilt, packRun, packNone, packRoute}
-use Rattle.packing.specs.Unpack.{field, refusalOf, unpacked, foundValues, unpackFound, reportValues, unpackReport, builtValues, unpackBuilt, runValues, unpackRun, routeValues, unpackRoute, announceValues, unpackAnnounce, noValues, unpackDone, unpackNone, countOf, Fits, FoundFits, ReportFits, BuiltFits, RunFits, RouteFits, AnnounceFits, DoneFits}
+use Rattle.packing.specs.Unpack.{field, refusalOf, unpacked, foundValues, unpackFound, reportValues, unpackReport, builtValues, unpackBuilt, runValues, unpackRun, routeValues, unpackRoute, announceValues, unpackAnnounce, withdrawValues, unpackWithdraw, noValues, unpackDone, unpackNone, countOf, Fits, FoundFits, ReportFits, BuiltFits, RunFits, RouteFits, AnnounceFits, WithdrawFits, DoneFits}
 
 -- A field is read whatever stands below it and above it. (Most of those below `omega` does by itself; the highest fields it does not.)
 field-is : (low width below v above x : ℕ) → below < 2 ^ low → v < 2 ^ width → x ≡ (above * 2 ^ width + v) * 2 ^ low + below → field low width x ≡ v
@@ -106,9 +106,16 @@ route-values a len mark hop x i j n k m e =
     let h : field 16 16 x ≡ hop = field-is 16 16 (len * 256 + mark * 32768) hop a x (omega arith) m (omega arith) in
     record { none = omega arith; back = rw (f, g, p, h, ne-eqb hop 0 (λ z. omega arith)) }
 
-announce-values : (b n x : ℕ) → b < 2 → n < 2 ^ 16 → x ≡ packChange n (accepted (b ∷ [])) → Reads announceValues x (b ∷ [])
+announce-values : (c b n x : ℕ) → c < 2 → b < 2 → n < 2 ^ 16 → x ≡ packChange n (accepted (c ∷ b ∷ [])) → Reads announceValues x (c ∷ b ∷ [])
 unfolding packed announceValues
-announce-values b n x i j e = let f : field 8 1 x ≡ b = omega arith in record { none = omega arith; back = rw f }
+announce-values c b n x h i j e =
+    let f : field 9 1 x ≡ c = omega arith in
+    let g : field 8 1 x ≡ b = omega arith in
+    record { none = omega arith; back = rw (f, g) }
+
+withdraw-values : (c n x : ℕ) → c < 2 → n < 2 ^ 16 → x ≡ packChange n (accepted (c ∷ [])) → Reads withdrawValues x (c ∷ [])
+unfolding packed withdrawValues
+withdraw-values c n x i j e = let f : field 9 1 x ≡ c = omega arith in record { none = omega arith; back = rw f }
 
 -- The theorem, for each layout.
 module _ (most : ℕ) (few : most ≤ 2 ^ 32) where
@@ -154,7 +161,14 @@ module _ (most : ℕ) (few : most ≤ 2 ^ 32) where
   announce-read count = said-read most few (AnnounceFits count) _ announceValues go
     where
       go : (vs : List ℕ) → AnnounceFits count vs → Reads announceValues (packChange count (accepted vs)) vs
-      go _ (AnnounceFits.which b i j) = announce-values b count _ i j refl
+      go _ (AnnounceFits.which c b h i j) = announce-values c b count _ h i j refl
+
+  pub withdraw-read : (count : ℕ) (s : Said) → Fits most (WithdrawFits count) s → unpackWithdraw (packChange count s) ≡ s
+  unfolding packed
+  withdraw-read count = said-read most few (WithdrawFits count) _ withdrawValues go
+    where
+      go : (vs : List ℕ) → WithdrawFits count vs → Reads withdrawValues (packChange count (accepted vs)) vs
+      go _ (WithdrawFits.gone c i j) = withdraw-values c count _ i j refl
 
   pub done-read : (count : ℕ) (s : Said) → Fits most (DoneFits count) s → unpackDone (packChange count s) ≡ s
   unfolding packed noValues
@@ -171,23 +185,34 @@ module _ (most : ℕ) (few : most ≤ 2 ^ 32) where
   none-read P _ (Fits.index n k a b c) = index-read (λ vs. 0) noValues n k _ a b (omega arith) refl
 
 -- the route count after a change that was accepted
-change-count : (most count : ℕ) (P : List ℕ → Type 0) → ((vs : List ℕ) → P vs → (value 0 vs < 2) × (count < 2 ^ 16)) → (s : Said) → Fits most P s → accepts s ≡ true → countOf (packChange count s) ≡ count
+record Changed (count : ℕ) (vs : List ℕ) : Type 0 where
+  cleared : value 0 vs < 2
+  replaced : value 1 vs < 2
+  few : count < 2 ^ 16
+
+change-count : (most count : ℕ) (P : List ℕ → Type 0) → ((vs : List ℕ) → P vs → Changed count vs) → (s : Said) → Fits most P s → accepts s ≡ true → countOf (packChange count s) ≡ count
 unfolding packed
-change-count most count P small _ (Fits.values vs p) e = let h = small vs p in omega (arith, h .0, h .1)
+change-count most count P small _ (Fits.values vs p) e = let h = small vs p in omega (arith, h .cleared, h .replaced, h .few)
 change-count most count P small _ (Fits.number n a b) e = absurd (false≢true e)
 change-count most count P small _ (Fits.index n k a b c) e = absurd (false≢true e)
 
 pub announce-count : (most count : ℕ) (s : Said) → Fits most (AnnounceFits count) s → accepts s ≡ true → countOf (packChange count s) ≡ count
 announce-count most count = change-count most count (AnnounceFits count) go
   where
-    go : (vs : List ℕ) → AnnounceFits count vs → (value 0 vs < 2) × (count < 2 ^ 16)
-    go _ (AnnounceFits.which b i j) = (i, j)
+    go : (vs : List ℕ) → AnnounceFits count vs → Changed count vs
+    go _ (AnnounceFits.which c b h i j) = record { cleared = h; replaced = i; few = j }
+
+pub withdraw-count : (most count : ℕ) (s : Said) → Fits most (WithdrawFits count) s → accepts s ≡ true → countOf (packChange count s) ≡ count
+withdraw-count most count = change-count most count (WithdrawFits count) go
+  where
+    go : (vs : List ℕ) → WithdrawFits count vs → Changed count vs
+    go _ (WithdrawFits.gone c i j) = record { cleared = i; replaced = omega arith; few = j }
 
 pub done-count : (most count : ℕ) (s : Said) → Fits most (DoneFits count) s → accepts s ≡ true → countOf (packChange count s) ≡ count
 done-count most count = change-count most count (DoneFits count) go
   where
-    go : (vs : List ℕ) → DoneFits count vs → (value 0 vs < 2) × (count < 2 ^ 16)
-    go _ (DoneFits.done j) = (omega arith, j)
+    go : (vs : List ℕ) → DoneFits count vs → Changed count vs
+    go _ (DoneFits.done j) = record { cleared = omega arith; replaced = omega arith; few = j }
 
 -- what carries no index is packed into 32 bits
 pub found-low : (s : Said) → Fits 0 FoundFits s → packFound s < 2 ^ 32

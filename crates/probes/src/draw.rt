@@ -47,16 +47,11 @@ pub struct Prefix {
     pub len: u8,
 }
 
-// A prefix of one of the addresses. One length in 34 is 33, with the address as it is.
+// A length and one of the addresses, with the bits after the length as they are. One length in 34 is 33.
 pub fn any_prefix(x: u64) -> Prefix {
-    let l = pick(x, 34) as u32;
-    let a = base(pick(next(x), 8));
-    if 32 < l {
-        return Prefix { addr: a, len: 33 };
-    }
     Prefix {
-        addr: bits::cut(l, a),
-        len: l as u8,
+        addr: base(pick(next(x), 8)),
+        len: pick(x, 34) as u8,
     }
 }
 

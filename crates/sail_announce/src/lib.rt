@@ -6,7 +6,7 @@ ghost use Rattle.bits.specs.Count.{bit};
 ghost use Rattle.lists.specs.Edit.{countWith, saysPut};
 ghost use Rattle.routes.specs.Said.{accepted};
 ghost use Rattle.sail.specs.Lent.{lent};
-ghost use Rattle.sail_theory.specs.Calls.{route, announceSaid, out, announced};
+ghost use Rattle.sail_theory.specs.Calls.{route, announceSaid, out, adding, told, announced};
 ghost use Rattle.sail_theory.specs.Facts.{Welcome};
 ghost use Rattle.sail_theory.proofs.Judged.{Proper};
 ghost use Rattle.sail_calls.specs.Judge.{Judged};
@@ -24,6 +24,7 @@ use routes::input;
 use routes::record;
 use sail::table::Table;
 use sail::table::sizes;
+use sail_calls::clear::clear;
 use sail_calls::renew::renew;
 use sail_change::chunks::wanting;
 use sail_change::opening::open;
@@ -102,18 +103,18 @@ fn count_with(p: Put, n: usize) -> usize
     }
 }
 
-// What putting a route into the list answers for the table.
-fn answer_of(p: Put) -> Announce
-    ensures { λ r. ⌜ saysAnnounce r ≡ accepted (bit (saysPut p) ∷ []) ⌝ }
+// What putting a route into the list answers for the table, where bits were cleared or not.
+fn answer_of(p: Put, cleared: bool) -> Announce
+    ensures { λ r. ⌜ saysAnnounce r ≡ accepted (bit cleared ∷ bit (saysPut p) ∷ []) ⌝ }
 {
     match p {
-        Put::Added => Announce::Added,
-        Put::Replaced => Announce::Replaced,
+        Put::Added => Announce::Added(cleared),
+        Put::Replaced => Announce::Replaced(cleared),
     }
 }
 
 // The announcement, where nothing speaks against it: chunks are opened, the route is put into the list, and what it
-// touches is painted again.
+// touches is painted again. The answer tells whether bits were cleared.
 fn add(
     t: Table,
     list: &mut [u8],
@@ -123,9 +124,10 @@ fn add(
     own2: &mut [u32],
     own3: &mut [u32],
     r: Route,
+    cleared: bool,
 ) -> Announced
     requires { ⌜ Welcome t (lent (now list) (now first) (now second) (now third) (now own2) (now own3)) r ⌝ }
-    ensures { λ o. ⌜ out (saysAnnounce (o .answer)) (o .table) (lent (now (list .exit)) (now (first .exit)) (now (second .exit)) (now (third .exit)) (now (own2 .exit)) (now (own3 .exit))) ≡ announced t (lent (now (list .entry)) (now (first .entry)) (now (second .entry)) (now (third .entry)) (now (own2 .entry)) (now (own3 .entry))) r ⌝ }
+    ensures { λ o. ⌜ out (saysAnnounce (o .answer)) (o .table) (lent (now (list .exit)) (now (first .exit)) (now (second .exit)) (now (third .exit)) (now (own2 .exit)) (now (own3 .exit))) ≡ told cleared (adding t (lent (now (list .entry)) (now (first .entry)) (now (second .entry)) (now (third .entry)) (now (own2 .entry)) (now (own3 .entry))) r) ⌝ }
 {
     let g = t.geometry;
     let n = t.count as usize;
@@ -149,13 +151,14 @@ fn add(
         count: m as u32,
     };
     Announced {
-        answer: answer_of(p),
+        answer: answer_of(p, cleared),
         table: u,
     }
 }
 
-// Adds the route to the prefix of len bits of addr, or replaces its hop and mark where one stands, and says which. The
-// mark is 1 for an attached network. A refusal leaves the state and all that is lent as they were.
+// Adds the route to the prefix of len bits of addr, or replaces its hop and mark where one stands, and says which. Bits of
+// addr after the length are cleared first, and an accepted answer says whether any were. The mark is 1 for an attached
+// network. A refusal leaves the state and all that is lent as they were.
 pub fn announce(
     t: Table,
     list: &mut [u8],
@@ -171,8 +174,9 @@ pub fn announce(
 ) -> Announced
     ensures { λ r. ⌜ out (saysAnnounce (r .answer)) (r .table) (lent (now (list .exit)) (now (first .exit)) (now (second .exit)) (now (third .exit)) (now (own2 .exit)) (now (own3 .exit))) ≡ announced t (lent (now (list .entry)) (now (first .entry)) (now (second .entry)) (now (third .entry)) (now (own2 .entry)) (now (own3 .entry))) (route addr len hop mark) ⌝ }
 {
+    let a = clear(addr, len);
     let r = Route {
-        addr,
+        addr: a,
         len,
         mark,
         hop,
@@ -184,5 +188,5 @@ pub fn announce(
             table: t,
         };
     }
-    add(t, list, first, second, third, own2, own3, r)
+    add(t, list, first, second, third, own2, own3, r, a != addr)
 }

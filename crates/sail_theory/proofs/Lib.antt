@@ -26,6 +26,7 @@ pub mod Wanting
 pub mod Frames
 pub mod Read
 pub mod Altered
+pub mod Cleared
 pub mod Passing
 pub mod Counting
 pub mod Wrong

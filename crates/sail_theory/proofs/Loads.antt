@@ -16,7 +16,7 @@ use Rattle.sail.specs.Sizes.{Sized}
 use Rattle.sail.specs.declared.geometry.Geometry.{Geometry}
 use Rattle.sail.specs.declared.table.Table.{Table}
 use Rattle.sail_theory.specs.Render.{find, Fits, roomOf}
-use Rattle.sail_theory.specs.Calls.{Owners, opened, settled, ownersOf, noOwners, inputRoutes, loadSaid, Out, stateOf, lentOf, made, announced, loaded}
+use Rattle.sail_theory.specs.Calls.{Owners, opened, settled, ownersOf, noOwners, inputRoutes, loadSaid, Out, stateOf, lentOf, made, adding, told, announced, loaded}
 use Rattle.sail_theory.specs.Facts.{Holds, Welcome, Loadable}
 use Rattle.sail_theory.specs.Runs.{announceAll, AllAdded}
 use Rattle.sail_theory.proofs.Ends.{good-front, good-next, good-below, insert-end, none-stands, any-front}
@@ -25,7 +25,8 @@ use Rattle.sail_theory.proofs.Grown.{Ready, length-open}
 use Rattle.sail_theory.proofs.Judged.{Readable, Load, load-judged}
 use Rattle.sail_theory.proofs.Only.{load-only}
 use Rattle.sail_theory.proofs.Changes.{render-holds, ready1, ready2, welcome-fits2, welcome-fits3}
-use Rattle.sail_theory.proofs.Accepted.{announce-is, outcome-said, outcome-refused}
+use Rattle.sail_theory.proofs.Accepted.{adding-is, outcome-said, outcome-refused}
+use Rattle.sail_theory.proofs.Cleared.{announce-fine}
 use Rattle.sail_theory.proofs.Fresh.{no-fits, fresh-rendered, make-is}
 
 -- Owners that fit a good list which is the front of one that may be loaded.
@@ -97,8 +98,11 @@ module _ (t : Table) (l : Lent) (xs : List Route) (r : Route) (ys : List Route) 
   fronts-ready2 = rw (now .routes) at (ready2 u v r welcome)
 
   -- it is added, and its chunks opened
-  next : announced u v r ≡ record { said = accepted (0 ∷ []); table = stateOf t xs′; lent = lentOf t l xs′ (opened g o r) }
-  next = announce-is u v r welcome ∙ rw (now .routes, none-stands (key r) xs below, ended, same-room)
+  next : announced u v r ≡ record { said = accepted (0 ∷ 0 ∷ []); table = stateOf t xs′; lent = lentOf t l xs′ (opened g o r) }
+  next =
+      let is : adding u v r ≡ record { said = accepted (0 ∷ []); table = stateOf t xs′; lent = lentOf t l xs′ (opened g o r) }
+      = adding-is u v r welcome ∙ rw (now .routes, none-stands (key r) xs below, ended, same-room) in
+      announce-fine u v r fine ∙ ap (told false) is
 
   pub fronts-next : Fronts t l xs′ ys (opened g o r)
   fronts-next = record {
@@ -126,12 +130,12 @@ pub record Settles (s : Said) (t : Table) (l : Lent) (xs ys : List Route) (o : O
 pub settles : (s : Said) (t : Table) (l : Lent) (ys xs : List Route) (o : Owners) → Fronts t l xs ys o → Settles s t l xs ys o
 unfolding announceAll AllAdded settled
 settles s t l [] xs o f = record { table = rw append-nil; lent = rw append-nil; added = tt; ends = rw append-nil f }
-settles s t l (r ∷ ys) xs o f = go (settles (accepted (0 ∷ [])) t l ys (xs ++ (r ∷ [])) (opened (t .geometry) o r) (fronts-next t l xs r ys o f))
+settles s t l (r ∷ ys) xs o f = go (settles (accepted (0 ∷ 0 ∷ [])) t l ys (xs ++ (r ∷ [])) (opened (t .geometry) o r) (fronts-next t l xs r ys o f))
   where
     re : (xs ++ (r ∷ [])) ++ ys ≡ xs ++ r ∷ ys
     re = append-assoc xs (r ∷ []) ys
 
-    go : Settles (accepted (0 ∷ [])) t l (xs ++ (r ∷ [])) ys (opened (t .geometry) o r) → Settles s t l xs (r ∷ ys) o
+    go : Settles (accepted (0 ∷ 0 ∷ [])) t l (xs ++ (r ∷ [])) ys (opened (t .geometry) o r) → Settles s t l xs (r ∷ ys) o
     go k =
         let step = next t l xs r ys o f in
         record {

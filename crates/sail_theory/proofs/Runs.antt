@@ -5,6 +5,7 @@ use mathlib.Core.Logic.{_⊎_, inl, inr}
 use mathlib.Core.Bool.{true, false, cond}
 use mathlib.Core.List.{List, [], _∷_}
 use Prim.Native.Nat.{ℕ, _/_}
+use Rattle.bits.specs.Slot.{cut}
 use Rattle.bits.proofs.Tests.{decided}
 use Rattle.routes.specs.Said.{accepts}
 use Rattle.routes.specs.Route.{keyOf, Good}
@@ -18,10 +19,10 @@ use Rattle.sail.specs.Sound.{Sound, standing}
 use Rattle.sail.specs.declared.table.Table.{Table}
 use Rattle.sail.proofs.Sounds.{standing-good}
 use Rattle.sail_theory.specs.Render.{roomOf}
-use Rattle.sail_theory.specs.Calls.{Out, made, announced, withdrawn, loaded}
+use Rattle.sail_theory.specs.Calls.{Out, made, cutRoute, announced, withdrawn, loaded}
 use Rattle.sail_theory.specs.Facts.{SameSize, Holds}
 use Rattle.sail_theory.specs.Runs.{Call, announce, withdraw, load, done, after, says, worked, would}
-use Rattle.sail_theory.proofs.Accepted.{announce-refused, announce-holds, withdraw-refused, withdraw-holds}
+use Rattle.sail_theory.proofs.Cleared.{announce-refused, announce-holds, withdraw-refused, withdraw-holds}
 use Rattle.sail_theory.proofs.Fresh.{make-holds}
 use Rattle.sail_theory.proofs.Sizes.{size-refl, size-trans}
 use Rattle.sail_theory.proofs.Loads.{load-refused, load-holds}
@@ -55,7 +56,7 @@ module _ (t : Table) (l : Lent) (s : Sound t l) where
   announce-leaves r = go (decided (accepts (announced t l r .said)))
     where
       go : (accepts (announced t l r .said) ≡ true) ⊎ (accepts (announced t l r .said) ≡ false) → Leaves t l (announce r) (announced t l r)
-      go (inl e) = holds-leaves t l s (announce r) _ e (announce-holds t l r e) (λ k. insert-stands k r (standing t l))
+      go (inl e) = holds-leaves t l s (announce r) _ e (announce-holds t l r e) (λ k. insert-stands k (cutRoute r) (standing t l))
       go (inr e) =
           let q = announce-refused t l r e in
           refused-leaves t l s (announce r) _ e (ap (λ (x : Out). x .table) q) (ap (λ (x : Out). x .lent) q)
@@ -64,7 +65,7 @@ module _ (t : Table) (l : Lent) (s : Sound t l) where
   withdraw-leaves a len = go (decided (accepts (withdrawn t l a len .said)))
     where
       go : (accepts (withdrawn t l a len .said) ≡ true) ⊎ (accepts (withdrawn t l a len .said) ≡ false) → Leaves t l (withdraw a len) (withdrawn t l a len)
-      go (inl e) = holds-leaves t l s (withdraw a len) _ e (withdraw-holds t l a len e) (λ k. remove-stands (keyOf a len) k (standing t l))
+      go (inl e) = holds-leaves t l s (withdraw a len) _ e (withdraw-holds t l a len e) (λ k. remove-stands (keyOf (cut len a) len) k (standing t l))
       go (inr e) =
           let q = withdraw-refused t l a len e in
           refused-leaves t l s (withdraw a len) _ e (ap (λ (x : Out). x .table) q) (ap (λ (x : Out). x .lent) q)

@@ -16,14 +16,16 @@ use Rattle.sail.specs.Lent.{Lent}
 use Rattle.sail.specs.Sound.{Sound, standing, used}
 use Rattle.sail.specs.declared.table.Table.{Table}
 use Rattle.sail.proofs.Sounds.{chunks-need}
+use Rattle.sail_theory.specs.Calls.{cutRoute}
 use Rattle.sail_theory.specs.Runs.{announce}
 use Rattle.sail_theory.proofs.Runs.{Leaves}
 
 -- an announcement that changes nothing is sound, and within its frame: what it leaves standing refuses it
-pub idle-refused : (t : Table) (l : Lent) (r : Route) → routeAt (key r) (standing t l) ≡ absent
-    → Leaves t l (announce r) (record { said = accepted (0 ∷ []); table = t; lent = l }) → ⊥
+pub idle-refused : (t : Table) (l : Lent) (r : Route) → routeAt (key (cutRoute r)) (standing t l) ≡ absent
+    → Leaves t l (announce r) (record { said = accepted (0 ∷ 0 ∷ []); table = t; lent = l }) → ⊥
 idle-refused t l r none w =
-    let f : absent ≡ stood r = sym none ∙ w .says-so (key r) ∙ rw (eq-eqb (key r) (key r) refl) in
+    let k = key (cutRoute r) in
+    let f : absent ≡ stood (cutRoute r) = sym none ∙ w .says-so k ∙ rw (eq-eqb k k refl) in
     let z : _≡_ {A = ℕ} 0 1 = cc in
     omega arith
 

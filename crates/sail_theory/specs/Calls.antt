@@ -3,9 +3,10 @@
 use mathlib.Core.Bool.{Bool, not, cond}
 use mathlib.Core.List.{List, [], _∷_, map}
 use Prim.Native.Nat.{ℕ, zero, suc, _-_, _/_}
-use lib.Dec.{ltb, leb}
+use lib.Dec.{ltb, leb, eqb}
 use lib.ListN.{length, set, replicate}
 use Rattle.bits.specs.Count.{bit}
+use Rattle.bits.specs.Slot.{cut}
 use Rattle.routes.specs.Route.{keyOf, key}
 use Rattle.standing.specs.Cells.{need}
 use Rattle.routes.specs.Record.{routesOf}
@@ -111,7 +112,8 @@ orSay (suc n) s = refused (suc n)
 unfoldable pub makeSaid : Table → Lent → Said
 makeSaid t l = orSay (sizesFault (t .geometry) l) (accepted [])
 
--- 1, 2; what is wrong with the route by itself (3, 4, 10); 5, 6, 7, 8. Added says 0, replaced says 1
+-- 1, 2; what is wrong with the route by itself (3, 4, 10); 5, 6, 7, 8. Added says 0, replaced says 1. The route is the one that is meant: of an
+-- address that is cut to its length, 3 is a length over 32 and nothing else (`three-is-length-announce`)
 unfoldable pub announceSaid : Table → Lent → Route → Said
 announceSaid t l r =
     orSay (sizesFault (t .geometry) l)
@@ -168,19 +170,45 @@ leaving s t l rs o = outcome s t l (stateOf t rs) (lentOf t l rs o)
 unfoldable pub made : Table → Lent → Out
 made t l = outcome (makeSaid t l) t l (freshTable (t .geometry)) (freshLent l)
 
--- "Announce adds, or replaces the hop of a standing prefix, and says which"; the mark is replaced with the hop
-unfoldable pub announced : Table → Lent → Route → Out
-announced t l r =
+-- "Announce adds, or replaces the hop of a standing prefix, and says which"; the mark is replaced with the hop. This is of a route that has no
+-- bit set after its length
+unfoldable pub adding : Table → Lent → Route → Out
+adding t l r =
     leaving (announceSaid t l r) t l
     (insert r (standing t l))
     (opened (t .geometry) (ownersOf l) r)
 
--- "Withdraw removes, and closes chunks that are no longer needed"
-unfoldable pub withdrawn : Table → Lent → ℕ → ℕ → Out
-withdrawn t l a len =
+-- "Withdraw removes, and closes chunks that are no longer needed"; of such a prefix too
+unfoldable pub taking : Table → Lent → ℕ → ℕ → Out
+taking t l a len =
     leaving (withdrawSaid t l a len) t l
     (remove (keyOf a len) (standing t l))
     (kept (t .geometry) (remove (keyOf a len) (standing t l)) (ownersOf l))
+
+-- the route with its address cut to its length
+abbrev pub cutRoute : Route → Route
+cutRoute r = record { addr = cut (r .len) (r .addr); len = r .len; mark = r .mark; hop = r .hop }
+
+-- whether the cut clears any bit
+abbrev pub cleared : ℕ → ℕ → Bool
+cleared len a = not (eqb (cut len a) a)
+
+-- an accepted answer says first whether bits were cleared; a refusal does not say it
+abbrev pub telling : Bool → Said → Said
+telling b (accepted vs) = accepted (bit b ∷ vs)
+telling b (refused n) = refused n
+telling b (refusedAt n k) = refusedAt n k
+
+abbrev pub told : Bool → Out → Out
+told b o = record { said = telling b (o .said); table = o .table; lent = o .lent }
+
+-- "Announce and withdraw now clear the bits after the length and say in an accepted answer whether any were cleared; all else .. goes by the
+-- cleared prefix"
+unfoldable pub announced : Table → Lent → Route → Out
+announced t l r = told (cleared (r .len) (r .addr)) (adding t l (cutRoute r))
+
+unfoldable pub withdrawn : Table → Lent → ℕ → ℕ → Out
+withdrawn t l a len = told (cleared len a) (taking t l (cut len a) len)
 
 -- of the old table its geometry and its sizes alone
 unfoldable pub loaded : Table → Lent → List ℕ → Out

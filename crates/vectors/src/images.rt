@@ -125,3 +125,12 @@ pub fn broken() {
     found(tree::lookup(&root, &large, 0));
     found(tree::lookup(&root, &last, 0));
 }
+
+// Build stays strict, and leaves both arrays.
+pub fn host_bits() {
+    let mut ws = [9u32; 3];
+    let mut hs = [9u16; 1];
+    built(tree_build::build(&samples::loose(), &mut ws, &mut hs));
+    words(&ws);
+    hops(&hs);
+}

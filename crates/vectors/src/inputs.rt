@@ -96,6 +96,11 @@ pub fn refusals() {
     said(input::check_input(&samples::two(good, samples::route(0x0A00_0000, 9, 0, 21))));
 }
 
+// An input stays strict.
+pub fn host_bits() {
+    said(input::check_input(&samples::loose()));
+}
+
 // So many routes of 24 bits, one after the other.
 fn many(list: &mut [u8])
     requires { ⌜ length (now list) ≤ 65536 ⌝ }

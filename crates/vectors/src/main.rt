@@ -13,14 +13,17 @@ fn main() {
     inputs::attached();
     inputs::refusals();
     inputs::most();
+    inputs::host_bits();
     parts::run();
     parts::tallies();
     parts::attached();
+    parts::host_bits();
     lines::attached();
     images::list_a();
     images::host();
     images::sizes();
     images::broken();
+    images::host_bits();
     tables::list_a();
     tables::states();
     tables::damaged();

@@ -55,6 +55,12 @@ pub fn attached() {
     counts(&a);
 }
 
+// The run stays strict: none under 10.1.2.3/24.
+pub fn host_bits() {
+    let a = samples::list_a();
+    one(&a, 0x0A01_0203, 24);
+}
+
 fn counts(list: &[u8]) {
     let t = tally::tally(list);
     let counts = t.counts;

@@ -71,6 +71,11 @@ pub fn one(r: Route) -> [u8; 8] {
     out
 }
 
+// 10.1.2.3/24 to hop 44, whose last byte is past the length.
+pub fn loose() -> [u8; 8] {
+    one(route(0x0A01_0203, 24, 0, 44))
+}
+
 // Two records' bytes.
 pub fn two(a: Route, b: Route) -> [u8; 16] {
     let mut out = [0u8; 16];

@@ -5,10 +5,13 @@ mod said;
 mod same;
 mod scripts;
 mod steps;
+mod strict;
 
 fn main() {
     scripts::list_a();
     scripts::one_chunk();
     scripts::refusals();
     scripts::marks();
+    scripts::host_bits();
+    strict::load();
 }

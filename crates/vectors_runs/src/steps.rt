@@ -86,7 +86,7 @@ fn chunk(k: usize) -> Step {
     }
 }
 
-// 10.0.0.0/8 comes late: inside 10.1.2.0/24 the longer route's leaf stays. Hop 32,767 passes. Prefixes and hops that are none, and
+// 10.0.0.0/8 comes late: inside 10.1.2.0/24 the longer route's leaf stays. Hop 32,767 passes. Lengths and hops that are none, and
 // a prefix that does not stand.
 fn late_short(k: usize) -> Step {
     match k {
@@ -102,11 +102,10 @@ fn late_short(k: usize) -> Step {
         9 => Step::Announce(0x0B00_0000, 24, 32768, 0),
         10 => Step::Announce(0x0B00_0000, 24, 0, 0),
         11 => Step::Announce(0x0B00_0000, 33, 0, 0),
-        12 => Step::Announce(0x0B00_0001, 24, 1, 0),
-        13 => Step::Withdraw(0x0B00_0000, 33),
-        14 => Step::Withdraw(0x0B00_0000, 24),
-        15 => Step::Lookup(0x0B00_0001),
-        16 => Step::Report,
+        12 => Step::Withdraw(0x0B00_0000, 33),
+        13 => Step::Withdraw(0x0B00_0000, 24),
+        14 => Step::Lookup(0x0B00_0001),
+        15 => Step::Report,
         _ => Step::Rest,
     }
 }
@@ -167,6 +166,32 @@ fn marks(k: usize) -> Step {
     }
 }
 
+// 10.1.2.3/24 means 10.1.2.0/24, which replaces it; 10.1.2.9/24 withdraws it, and then it stands no more. 10.1.2.3/0 is 0.0.0.0/0. A
+// prefix with its bits cleared meets 7 for want of a chunk, and 9. Of a length over 32 nothing is cleared: it gives 3.
+fn host_bits(k: usize) -> Step {
+    match k {
+        0 => Step::Make,
+        1 => Step::Announce(0x0A01_0203, 24, 44, 0),
+        2 => Step::Record(0),
+        3 => Step::Lookup(0x0A01_02C8),
+        4 => Step::Announce(0x0A01_0200, 24, 45, 0),
+        5 => Step::Announce(0x0A02_0203, 24, 46, 0),
+        6 => Step::Announce(0x0A01_0207, 24, 47, 1),
+        7 => Step::Record(0),
+        8 => Step::Announce(0x0A01_0203, 0, 6, 0),
+        9 => Step::Record(0),
+        10 => Step::Report,
+        11 => Step::Withdraw(0x0A01_0209, 24),
+        12 => Step::Withdraw(0x0A01_0209, 24),
+        13 => Step::Lookup(0x0A01_02C8),
+        14 => Step::Withdraw(0xFFFF_FFFF, 0),
+        15 => Step::Announce(0x0A01_0203, 33, 6, 0),
+        16 => Step::Withdraw(0x0A01_0203, 33),
+        17 => Step::Report,
+        _ => Step::Rest,
+    }
+}
+
 pub const LIST_A: u8 = 0;
 
 pub const ONE_CHUNK: u8 = 1;
@@ -179,6 +204,8 @@ pub const STATES: u8 = 4;
 
 pub const MARKS: u8 = 5;
 
+pub const HOST_BITS: u8 = 6;
+
 // Step k of a script: none has more than 27.
 pub fn nth(script: u8, k: usize) -> Step {
     match script {
@@ -188,6 +215,7 @@ pub fn nth(script: u8, k: usize) -> Step {
         PLAIN => plain(k),
         STATES => states(k),
         MARKS => marks(k),
+        HOST_BITS => host_bits(k),
         _ => Step::Rest,
     }
 }

@@ -26,7 +26,7 @@ returns c =
     let put = painted .before .before .before .before .before .before .before .before .before .before .before in
     let opened = put .before .before .before .before .before .before in
     let start = opened .before .before .before .before .before .before .before .before .before .before .before .before .before .before in
-    add-done _ _ _ (start .pre) _ _ (put .insert .ensures) _ (painted .before .before .before .before .before .before .before .before .count-with .ensures .0) _ _ (opened .«open» .ensures .0) (opened .«open» .ensures .1) _ _ _ (painted .renew .ensures) _ (c .answer-of .ensures)
+    add-done _ _ _ (start .pre) _ _ (put .insert .ensures) _ (painted .before .before .before .before .before .before .before .before .count-with .ensures .0) _ _ (opened .«open» .ensures .0) (opened .«open» .ensures .1) _ _ _ (painted .renew .ensures) _ _ (c .answer-of .ensures)
 
 pub add-spec : {M : Type 1} → statement M
 add-spec =
