@@ -3,6 +3,7 @@ pub mod Geos
 pub mod Fitting
 pub mod Words
 pub mod Steps
+pub mod ReadCells
 pub mod Answers
 pub mod Places
 pub mod Walks
