@@ -11,7 +11,7 @@ use Rattle.routes.specs.Input.{inputSaid}
 use Rattle.routes.specs.Said.{Said, accepted, refused, refusedAt, accepts}
 use Rattle.tree.specs.Image.{nodeNeed}
 use Rattle.tree_build.specs.Built.{routesIn, madeOf, built}
-use Rattle.demands.proofs.Inputs.{check-only, BadInput, GoodInput, by-input}
+use Rattle.routes.proofs.Cases.{check-only, BadInput, GoodInput, by-input}
 
 -- build: the input's with its index, 6, 11, 12
 module _ (s ws hs : List ℕ) where

@@ -16,6 +16,7 @@ use Rattle.routes.specs.Input.{inputSaid}
 use Rattle.routes.specs.Answers.{routeSaid}
 use Rattle.routes.specs.Said.{Said, accepted, refused, refusedAt, accepts}
 use Rattle.routes.proofs.Meaning.{Checked, input-checked}
+use Rattle.routes.proofs.Cases.{check-only}
 use Rattle.runs.specs.Run.{runSaid, runOf, runAt}
 use Rattle.runs.specs.Tally.{tallyOf}
 use Rattle.runs.proofs.Runs.{run-refused}
@@ -37,7 +38,7 @@ use Rattle.tree.specs.declared.TreeFound.{TreeFound}
 use Rattle.tree.specs.declared.TreeFound.the-variants as treeFound
 use Rattle.tree_build.specs.Built.{built}
 use Rattle.tree_build.proofs.Serves.{refused-leaves}
-use Rattle.demands.proofs.Inputs.{check-only, RunChecked, run-judged, run-only, RouteRead, route-judged, route-only}
+use Rattle.demands.proofs.Inputs.{RunChecked, run-judged, run-only, RouteRead, route-judged, route-only}
 use Rattle.demands.proofs.Lookups.{Lookup, lookup-judged, lookup-only}
 use Rattle.demands.proofs.Builds.{Build, build-judged, build-only}
 use Rattle.demands.proofs.Walks.{TreeLookup, tree-judged, tree-only}

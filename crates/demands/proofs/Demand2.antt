@@ -24,6 +24,7 @@ use Rattle.routes.specs.declared.Route.{Route}
 use Rattle.routes.proofs.Goods.{good-fine}
 use Rattle.standing.proofs.Longest.{best-is}
 use Rattle.routes.proofs.Meaning.{input-checked}
+use Rattle.routes.proofs.Cases.{GoodInput}
 use Rattle.standing.proofs.Only.{best-only, covers-none}
 use Rattle.routes.proofs.Rows.{Place, listed-nth, length-routes, nth-route}
 use Rattle.runs.proofs.Runs.{part-record, part-good}
@@ -36,7 +37,7 @@ use Rattle.tree.specs.Image.{onPath}
 use Rattle.tree.specs.Walk.{told, treeSaid}
 use Rattle.tree_build.specs.Built.{routesIn, built}
 use Rattle.tree_build.proofs.Serves.{built-accepts, built-serves}
-use Rattle.demands.proofs.Inputs.{GoodInput, RouteRead, route-only}
+use Rattle.demands.proofs.Inputs.{RouteRead, route-only}
 
 -- What is said of the address a, after n reads, where the routes rs stand: the hop of a route that covers a, than which no route that covers a
 -- is longer; or no route, and then none covers.

@@ -29,3 +29,4 @@ pub mod Altered
 pub mod Passing
 pub mod Counting
 pub mod Wrong
+pub mod Outside
