@@ -1,6 +1,6 @@
 -- What the calls say has room in their answers. Nothing is supposed but what the boundary's types give: cells of 16 bits (`Cells`), and
 -- for the index of a record an input shorter than 2^35 bytes, so that it has fewer than 2^32 records. Assumes nothing.
-use mathlib.Core.Path.{_≡_, refl, _∙_, ap, subst}
+use mathlib.Core.Path.{_≡_, refl, _∙_, ap}
 use mathlib.Core.Logic.{_⊎_, inl, inr}
 use mathlib.Core.Bool.{true, false, cond, true≢false}
 use mathlib.Core.List.{List, [], _∷_}
@@ -12,11 +12,11 @@ use borrow.Author.Tests.{eqb-false}
 use Rattle.bits.proofs.Tests.{decided}
 use Rattle.routes.specs.Route.{keyOf}
 use Rattle.standing.specs.Cells.{need}
-use Rattle.routes.specs.Record.{recordAt, Records}
+use Rattle.routes.specs.Record.{recordAt}
 use Rattle.routes.specs.Input.{inputSaid}
 use Rattle.routes.specs.Answers.{routeSaid}
 use Rattle.routes.specs.Said.{Said, accepted, refused, accepts}
-use Rattle.routes.proofs.Meaning.{WrongRoute, WrongRecord, Checked, input-checked, input-good}
+use Rattle.routes.proofs.Meaning.{WrongRoute, WrongRecord, Checked, input-checked}
 use Rattle.routes.proofs.Rows.{length-routes, records-good}
 use Rattle.runs.specs.Run.{pastKey, runStart, runCount, runSaid}
 use Rattle.lists.proofs.Places.{place-le}

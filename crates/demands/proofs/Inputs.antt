@@ -1,6 +1,6 @@
 -- The calls on a record input. For each a type lists what it can say, in document 01's order, with all that then holds; the call says what
 -- stands beside the condition that holds, and nothing else. Assumes nothing.
-use mathlib.Core.Path.{_≡_, refl, sym, _∙_}
+use mathlib.Core.Path.{_≡_, sym, _∙_}
 use mathlib.Core.Logic.{_⊎_, inl, inr}
 use mathlib.Core.Bool.{true, false, true≢false}
 use mathlib.Core.List.{List, [], _∷_}
@@ -9,8 +9,8 @@ use native.Mathlib.Omega.{arith}
 use lib.ListN.{length}
 use borrow.Author.Tests.{lt-ltb, le-ltb}
 use Rattle.bits.proofs.Tests.{below?, decided}
-use Rattle.routes.specs.Route.{Prefix, Fine}
-use Rattle.routes.specs.Record.{recordAt, Records}
+use Rattle.routes.specs.Route.{Prefix}
+use Rattle.routes.specs.Record.{recordAt}
 use Rattle.routes.specs.Input.{properPrefix, inputSaid}
 use Rattle.routes.specs.Answers.{valuesOf, routeSaid}
 use Rattle.routes.specs.Said.{Said, accepted, refused, refusedAt, accepts}

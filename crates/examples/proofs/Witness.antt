@@ -60,13 +60,16 @@ use Rattle.demands.proofs.Replies.{reply, stood, run-says, run-stood}
 use Rattle.demands.proofs.Wants.{ByNeed, ForChunks}
 use Rattle.demands.proofs.Demand2 as demand2
 use Rattle.demands.proofs.Demand3 as demand3
-use Rattle.examples.specs.Starred.{ip, geo, table, arrays, bare, listA, image, loadedA, without0, entered, other, last, answer, Line, _gives_, starred, Holds}
+use Rattle.examples.specs.Lines.{ip, Line, _gives_, Hold}
+use Rattle.examples.specs.Blank.{geo}
+use Rattle.routes.specs.ListA.{listA}
+use Rattle.examples.specs.Starred.{table, arrays, bare, image, loadedA, without0, entered, other, Asked, last, answer, starred}
 use Rattle.examples.proofs.Starred.{sized, starred-hold}
 
 -- a line of the examples
-line : (k : ℕ) → answer (getD starred k (last [] gives accepted []) .asked) ≡ getD (map (λ (x : Line). x .expected) starred) k (answer (last []))
-unfolding Holds
-line k = sym (List·getD-map (λ (x : Line). answer (x .asked)) starred k (last [] gives accepted [])) ∙ ap (λ (ss : List Said). getD ss k (answer (last []))) starred-hold
+line : (k : ℕ) → answer (getD starred k (last [] gives accepted []) .asked) ≡ getD (map (λ (x : Line Asked). x .expected) starred) k (answer (last []))
+unfolding Hold
+line k = sym (List·getD-map (λ (x : Line Asked). answer (x .asked)) starred k (last [] gives accepted [])) ∙ ap (λ (ss : List Said). getD ss k (answer (last []))) starred-hold
 
 -- the table and the arrays after a run
 abbrev t : List Call → Table

@@ -9,4 +9,3 @@ pub mod Places
 pub mod Walks
 pub mod Sounds
 pub mod Fresh
-pub mod Examples

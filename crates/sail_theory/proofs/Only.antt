@@ -10,7 +10,7 @@ use Rattle.bits.specs.Count.{bit}
 use Rattle.bits.proofs.Tests.{untrue}
 use Rattle.routes.specs.Route.{keyOf, Prefix}
 use Rattle.routes.specs.Input.{properPrefix, hopFine}
-use Rattle.routes.specs.Said.{Said, accepted, refused, andThen}
+use Rattle.routes.specs.Said.{Said, accepted, refused}
 use Rattle.standing.specs.Standing.{stands, insert}
 use Rattle.routes.specs.declared.Route.{Route}
 use Rattle.routes.proofs.Meaning.{prefix-true, true-prefix, hop-true, true-hop, good-input}

@@ -1,52 +1,6 @@
-// Inputs that the document names, or that follow from its words.
+// Records and inputs of one and two records.
 use routes::Route;
 use routes::record;
-
-// Document 01's list A.
-pub fn list_a() -> [u8; 40] {
-    [
-        0,
-        0,
-        0,
-        0,
-        0,
-        0,
-        0,
-        6,
-        10,
-        0,
-        0,
-        0,
-        8,
-        0,
-        0,
-        20,
-        10,
-        1,
-        0,
-        0,
-        16,
-        0,
-        0,
-        31,
-        10,
-        1,
-        2,
-        0,
-        24,
-        0,
-        0,
-        44,
-        10,
-        1,
-        2,
-        128,
-        25,
-        0,
-        0,
-        57,
-    ]
-}
 
 pub fn route(addr: u32, len: u8, spare: u8, hop: u16) -> Route {
     Route {
