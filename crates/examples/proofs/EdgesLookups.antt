@@ -20,7 +20,7 @@ use Rattle.sail.specs.Sizes.{sizesFit, sizesFault}
 use Rattle.sail.specs.Walk.{place, cell2, cell3, hopSaid, stepSaid, oneOf, walkSaid, foundSaid, lookupSaid}
 use Rattle.sail.specs.declared.geometry.Geometry.{Geometry}
 use Rattle.examples.specs.Lines.{Hold}
-use Rattle.examples.specs.EdgesLookups.{Held, many2, many3, arrays, Asked, lookup, answer, edges}
+use Rattle.examples.specs.EdgesLookups.{Content, many2, many3, arrays, Asked, lookup, answer, edges}
 use Rattle.examples.proofs.Lines.{allServe, lines-hold}
 
 -- what a tabulated array holds at any place
@@ -53,7 +53,7 @@ module _ (g : Geometry) (t u : View) (a : ℕ)
   walk-same opens2 opens3 = cc (one (slot (g .p1) a), same2, same3)
 
 -- on paper
-abbrev view : Held → View
+abbrev view : Content → View
 view h = record {
   first = within (2 ^ h .geometry .p1) (h .first);
   second = within (many2 h) (h .second);
@@ -66,17 +66,17 @@ unfoldable paper : Asked → Said
 paper (lookup h a) = walkSaid (h .geometry) (oneOf (h .chunks2)) (oneOf (h .chunks3)) (view h) a
 
 -- where the sizes are right
-abbrev fault : Held → ℕ
+abbrev fault : Content → ℕ
 fault h = cond (validGeo (h .geometry)) (cond (sizesFit (h .geometry) 0 (2 ^ h .geometry .p1) (many2 h) (many3 h) (h .chunks2) (h .chunks3)) 0 2) 1
 
 unfoldable serves : Asked → Bool
 serves (lookup h a) = eqb (fault h) 0
 
-fault-of : (h : Held) → sizesFault (h .geometry) (arrays h) ≡ fault h
+fault-of : (h : Content) → sizesFault (h .geometry) (arrays h) ≡ fault h
 unfolding sizesFault arrays
 fault-of h = simp (length-tabulate, length-replicate)
 
-found-of : (h : Held) (a : ℕ) → foundSaid (h .geometry) (arrays h) a ≡ paper (lookup h a)
+found-of : (h : Content) (a : ℕ) → foundSaid (h .geometry) (arrays h) a ≡ paper (lookup h a)
 unfolding foundSaid paper arrays walkSaid
 found-of h a =
     simp length-replicate

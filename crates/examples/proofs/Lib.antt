@@ -9,6 +9,7 @@ pub mod EdgesInputs
 pub mod EdgesLookups
 pub mod EdgesChanges
 pub mod EdgesImages
+pub mod Edges
 pub mod Witness
 pub mod TableA
 pub mod NotSound

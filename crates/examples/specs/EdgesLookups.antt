@@ -14,7 +14,7 @@ use Rattle.sail.specs.declared.geometry.Geometry.{Geometry}
 use Rattle.examples.specs.Lines.{ip, Line, _gives_}
 
 -- a table by functions: what each cell holds, and how many chunks each pool has
-pub record Held : Type 0 where
+pub record Content : Type 0 where
   pub geometry : Geometry
   pub chunks2 : ℕ
   pub chunks3 : ℕ
@@ -22,19 +22,19 @@ pub record Held : Type 0 where
   pub second : ℕ → ℕ
   pub third : ℕ → ℕ
 
-abbrev pub many2 : Held → ℕ
+abbrev pub many2 : Content → ℕ
 many2 h = h .chunks2 * 2 ^ bits2 (h .geometry)
 
-abbrev pub many3 : Held → ℕ
+abbrev pub many3 : Content → ℕ
 many3 h = h .chunks3 * 2 ^ bits3 (h .geometry)
 
-unfoldable pub arrays : Held → Lent
+unfoldable pub arrays : Content → Lent
 arrays h =
     lent [] (tabulate (2 ^ h .geometry .p1) (h .first)) (tabulate (many2 h) (h .second)) (tabulate (many3 h) (h .third))
     (replicate (h .chunks2) 0) (replicate (h .chunks3) 0)
 
 pub data Asked : Type 0 where
-  lookup : Held → ℕ → Asked
+  lookup : Content → ℕ → Asked
 
 unfoldable pub answer : Asked → Said
 answer (lookup h a) = lookupSaid (freshTable (h .geometry)) (arrays h) a
@@ -49,24 +49,24 @@ placed q = 32768 + q % 32768
 
 -- 2 second chunks and 3 third chunks of the standard geometry. The first cell of 10.1.2.200 is 2561; of each chunk it reads cell 2, then
 -- cell 200
-abbrev firstHolds : ℕ → Held
+abbrev firstHolds : ℕ → Content
 firstHolds v = record { geometry = standardGeo; chunks2 = 2; chunks3 = 3; first = at 2561 v; second = placed; third = placed }
 
-abbrev secondHolds : ℕ → Held
+abbrev secondHolds : ℕ → Content
 secondHolds v = record { geometry = standardGeo; chunks2 = 2; chunks3 = 3; first = at 2561 1; second = at 2 v; third = placed }
 
-abbrev thirdHolds : ℕ → Held
+abbrev thirdHolds : ℕ → Content
 thirdHolds v = record { geometry = standardGeo; chunks2 = 2; chunks3 = 3; first = at 2561 1; second = at 2 1; third = at 200 v }
 
 -- the largest pools, and none
-abbrev largest : ℕ → ℕ → Held
+abbrev largest : ℕ → ℕ → Content
 largest v w = record { geometry = standardGeo; chunks2 = 4096; chunks3 = 4096; first = at 2561 v; second = at (4095 * 256 + 2) w; third = placed }
 
-abbrev bare : ℕ → Held
+abbrev bare : ℕ → Content
 bare v = record { geometry = standardGeo; chunks2 = 0; chunks3 = 0; first = at 2561 v; second = placed; third = placed }
 
 -- the small geometry: 10.1.2.200 reads first cell 160, cell 64 of its second chunk and cell 712 of its third
-abbrev smallHolds : ℕ → ℕ → Held
+abbrev smallHolds : ℕ → ℕ → Content
 smallHolds v w = record { geometry = smallGeo; chunks2 = 2; chunks3 = 2; first = at 160 v; second = at (1024 + 64) w; third = placed }
 
 unfoldable pub edges : List (Line Asked)
