@@ -1,6 +1,6 @@
 -- What the calls say has room in their answers. Nothing is supposed but what the boundary's types give: cells of 16 bits (`Cells`), and
 -- for the index of a record an input shorter than 2^35 bytes, so that it has fewer than 2^32 records. Assumes nothing.
-use mathlib.Core.Path.{_≡_, refl, _∙_, ap, subst}
+use mathlib.Core.Path.{_≡_, refl, _∙_, ap}
 use mathlib.Core.Logic.{_⊎_, inl, inr}
 use mathlib.Core.Bool.{Bool, true, false, cond, true≢false}
 use mathlib.Core.List.{List, [], _∷_}
@@ -14,12 +14,12 @@ use Rattle.bits.specs.Slot.{cut}
 use Rattle.bits.proofs.Tests.{decided}
 use Rattle.routes.specs.Route.{keyOf}
 use Rattle.standing.specs.Cells.{need}
-use Rattle.routes.specs.Record.{recordAt, Records, routesIn}
+use Rattle.routes.specs.Record.{recordAt, routesIn}
 use Rattle.routes.specs.Input.{inputSaid}
 use Rattle.routes.specs.Answers.{routeSaid}
 use Rattle.routes.specs.Said.{Said, accepted, refused, accepts}
 use Rattle.routes.specs.declared.Route.{Route}
-use Rattle.routes.proofs.Meaning.{WrongRoute, WrongRecord, Checked, input-checked, input-good}
+use Rattle.routes.proofs.Meaning.{WrongRoute, WrongRecord, Checked, input-checked}
 use Rattle.routes.proofs.Rows.{length-routes, records-good}
 use Rattle.runs.specs.Run.{pastKey, runStart, runCount, runSaid}
 use Rattle.lists.proofs.Places.{place-le}
@@ -41,7 +41,8 @@ use Rattle.tree.specs.Walk.{treeSaid}
 use Rattle.tree.proofs.Needs.{nodes-most}
 use Rattle.tree.proofs.ReadCounts.{tree-answers}
 use Rattle.tree_build.specs.Built.{built}
-use Rattle.demands.proofs.Inputs.{check-only, BadInput, GoodInput, RunChecked, run-judged, RouteRead, route-judged}
+use Rattle.routes.proofs.Cases.{BadInput, good-whole}
+use Rattle.demands.proofs.Inputs.{RunChecked, run-judged, RouteRead, route-judged}
 use Rattle.demands.proofs.Lookups.{v1, v2, v3, Lookup, lookup-judged}
 use Rattle.demands.proofs.Builds.{Build, build-judged}
 use Rattle.packing.specs.Unpack.{Fits, FoundFits, ReportFits, BuiltFits, RunFits, RouteFits, AnnounceFits, WithdrawFits, DoneFits, Cells}
@@ -76,10 +77,6 @@ module _ (P : List ℕ → Type 0) (s : List ℕ) (short : length s < 2 ^ 35) wh
 
   bad-fits : (x : Said) → BadInput s x → Fits (2 ^ 32) P x
   bad-fits x b = refused-fits (b .checked) (b .not-accepted)
-
--- a good input has n records, at most 4,096
-good-whole : (s : List ℕ) (n : ℕ) → GoodInput s n → (length s ≡ n * 8) × Records s n
-good-whole s n g = input-good s n (check-only s _ g)
 
 -- The calls on record inputs.
 pub input-fits : (s : List ℕ) → length s < 2 ^ 35 → Fits (2 ^ 32) (λ vs. vs ≡ length s / 8 ∷ []) (inputSaid s)
@@ -193,14 +190,9 @@ module _ (t : Table) (l : Lent) where
   pub load-fits : (input : List ℕ) → length input < 2 ^ 35 → Fits (2 ^ 32) (DoneFits (loaded t l input .table .count)) (loaded t l input .said)
   load-fits input short = rw (load-said t l input) (go (load-judged t l input) (λ e. load-few input (ap accepts (load-said t l input) ∙ e)))
     where
-      off : (x : Said) → ((ns : List ℕ) → x ≡ accepted ns → ⊥) → accepts x ≡ false
-      off (Said.accepted ns) h = absurd (h ns refl)
-      off (Said.refused n) h = refl
-      off (Said.refusedAt n k) h = refl
-
       go : {n : ℕ} {x : Said} → Load t l input x → (accepts x ≡ true → n ≤ 4096) → Fits (2 ^ 32) (DoneFits n) x
       go (Load.sizing n h) few = sizing-fits h
-      go (Load.bad-input {s} z e h) few = refused-fits _ input short (subst (Checked input) e (input-checked input)) (off s h)
+      go (Load.bad-input x z b) few = bad-fits _ input short x b
       go (Load.full w r) few = Fits.number 6 (omega arith) (omega arith)
       go (Load.second w r x) few = Fits.number 7 (omega arith) (omega arith)
       go (Load.third w r x y) few = Fits.number 8 (omega arith) (omega arith)

@@ -15,6 +15,7 @@ use Rattle.routes.specs.Input.{inputSaid}
 use Rattle.routes.specs.Answers.{saysInput}
 use Rattle.runs.specs.Tally.{IsTally, tallyOf, lengthsOf, hasLength}
 use Rattle.runs.specs.declared.tally.Tallied.{Tallied}
+use Rattle.sail.specs.Geometry.{standardGeo}
 use Rattle.sail.specs.Lent.{Lent}
 use Rattle.sail.specs.Sizes.{sizesFault, Checked}
 use Rattle.sail.specs.Walk.{foundSaid, lookupSaid}
@@ -88,12 +89,12 @@ module _ (t : Table) (l : Lent) (a r : ℕ) (told : Checked r (t .geometry) l) w
   look-is e w z found q = q ∙ look-on t l a r told w e found .packs
 
 -- the standard geometry, told by its two levels
-module _ (p1 p2 n : ℕ) (e1 : p1 ≡ 16) (e2 : p2 ≡ 24) where
-  standard-table : tableOf 16 24 n ≡ tableOf p1 p2 n
-  standard-table = rw (e1, e2)
+module _ (p1 p2 n : ℕ) (e1 : p1 ≡ standardGeo .p1) (e2 : p2 ≡ standardGeo .p2) where
+  abbrev standard : Table
+  standard = tableOf (standardGeo .p1) (standardGeo .p2) n
 
-  pub look-standard : (l : Lent) (a r : ℕ) → r ≡ packFound (lookupSaid (tableOf 16 24 n) l a) → r ≡ packFound (lookupSaid (tableOf p1 p2 n) l a)
-  look-standard l a r q = q ∙ ap (λ (t : Table). packFound (lookupSaid t l a)) standard-table
+  pub look-standard : (l : Lent) (a r : ℕ) → r ≡ packFound (lookupSaid standard l a) → r ≡ packFound (lookupSaid (tableOf p1 p2 n) l a)
+  look-standard l a r q = rw (e1, e2) q
 
 -- the tally
 module _ (s xs : List ℕ) where

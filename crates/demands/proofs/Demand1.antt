@@ -1,5 +1,5 @@
--- Demand 1. "Every call answers for every input and ends; a refusal is never a hop, carries its number, and state and buffers stay exactly
--- as they were."
+-- Demand 1. "Every call answers for every input, damaged tables and files included, and ends. A refusal is never a hop. It carries its number,
+-- and the caller's state and buffers stay exactly as they were."
 --
 -- That every call answers for every input and ends is the language's own promise: a crate is built only where each of its functions is shown
 -- to end, and a call on offer has no `requires`. What it answers is its contract's equation; the theorems below say what the equations mean.
@@ -18,6 +18,7 @@ use Rattle.routes.specs.Answers.{routeSaid}
 use Rattle.routes.specs.Said.{Said, accepted, refused, refusedAt, accepts}
 use Rattle.routes.specs.declared.Route.{Route}
 use Rattle.routes.proofs.Meaning.{Checked, input-checked}
+use Rattle.routes.proofs.Cases.{check-only}
 use Rattle.runs.specs.Run.{runSaid, runOf, runAt}
 use Rattle.runs.specs.Tally.{tallyOf}
 use Rattle.runs.proofs.Runs.{run-refused}
@@ -39,7 +40,7 @@ use Rattle.tree.specs.declared.TreeFound.{TreeFound}
 use Rattle.tree.specs.declared.TreeFound.the-variants as treeFound
 use Rattle.tree_build.specs.Built.{built}
 use Rattle.tree_build.proofs.Serves.{refused-leaves}
-use Rattle.demands.proofs.Inputs.{check-only, RunChecked, run-judged, run-only, RouteRead, route-judged, route-only}
+use Rattle.demands.proofs.Inputs.{RunChecked, run-judged, run-only, RouteRead, route-judged, route-only}
 use Rattle.demands.proofs.Lookups.{Lookup, lookup-judged, lookup-only}
 use Rattle.demands.proofs.Builds.{Build, build-judged, build-only}
 use Rattle.demands.proofs.Walks.{TreeLookup, tree-judged, tree-only}
@@ -75,7 +76,7 @@ refused-tally = tally-refused
 pub refused-run : (bytes : List ℕ) (a len : ℕ) → accepts (runSaid bytes a len) ≡ false → (runOf bytes a len ≡ []) × (runAt bytes a len ≡ 0)
 refused-run = run-refused
 
--- "Carries its number": a call says s exactly where the condition that stands beside s holds. The conditions are listed in document 01's
+-- "It carries its number": a call says s exactly where the condition that stands beside s holds. The conditions are listed in document 01's
 -- order, each with the failure of those before it; so the number is that of the first that holds.
 pub exactly : (P : Said → Type 0) (x y : Said) → x ≡ y → P y → ((s : Said) → P s → y ≡ s) → (s : Said) → (x ≡ s) ↔ P s
 exactly P x y q h only s = ((λ e. subst P (sym q ∙ e) h), (λ c. q ∙ only s c))
@@ -130,7 +131,7 @@ module _ (t : Table) (l : Lent) where
 pub refused-number-tree-lookup : (words hops : List ℕ) (a : ℕ) (s : Said) → (treeSaid words hops a ≡ s) ↔ TreeLookup words hops a s
 refused-number-tree-lookup words hops a = exactly (TreeLookup words hops a) _ _ refl (tree-judged words hops a) (tree-only words hops a)
 
--- "State and buffers stay exactly as they were."
+-- "The caller's state and buffers stay exactly as they were."
 parts : (o : Out) (s : Said) (t : Table) (l : Lent) → o ≡ record { said = s; table = t; lent = l } → (o .table ≡ t) × (o .lent ≡ l)
 parts o s t l e = (ap (λ (x : Out). x .table) e, ap (λ (x : Out). x .lent) e)
 

@@ -1,8 +1,8 @@
--- Demand 2. "For every address a sound table and a built image give the hop of the longest standing route, and no route exactly when none
--- covers; every route can be read back."
+-- Demand 2. "For every address, a sound table and a built image give the hop of the longest standing route that covers it, and no route exactly
+-- when none does. Each route in a list can be read back out, with its hop."
 --
 -- An address is a number below 2 ^ 32. A route covers it when the first bits, as many as the route's length, agree (`covers-address` in crate
--- routes, proofs/Only.antt). Assumes nothing.
+-- standing, proofs/Only.antt). Assumes nothing.
 use mathlib.Core.Path.{_≡_, refl, sym, _∙_, ap, subst}
 use mathlib.Core.Logic.{_↔_}
 use mathlib.Core.Bool.{Bool, true, false, cond}
@@ -24,6 +24,7 @@ use Rattle.routes.specs.declared.Route.{Route}
 use Rattle.routes.proofs.Goods.{good-fine}
 use Rattle.standing.proofs.Longest.{best-is}
 use Rattle.routes.proofs.Meaning.{input-checked}
+use Rattle.routes.proofs.Cases.{Passes}
 use Rattle.standing.proofs.Only.{best-only, covers-none}
 use Rattle.routes.proofs.Rows.{Place, listed-nth, length-routes, nth-route}
 use Rattle.runs.proofs.Runs.{part-record, part-good}
@@ -38,7 +39,7 @@ use Rattle.tree.specs.Walk.{told, treeSaid}
 use Rattle.tree.proofs.ReadCounts as reads
 use Rattle.tree_build.specs.Built.{built}
 use Rattle.tree_build.proofs.Serves.{built-accepts, built-serves}
-use Rattle.demands.proofs.Inputs.{GoodInput, RouteRead, route-only}
+use Rattle.demands.proofs.Inputs.{RouteRead, route-only}
 
 -- What is said of the address a, after n reads, where the routes rs stand: the hop of a route that covers a, than which no route that covers a
 -- is longer; or no route, and then none covers.
@@ -66,7 +67,7 @@ said-best rs g a n (Served.no-route z) = rw (covers-none rs g 32 a z, none-hop n
 pub served-once : (rs : List Route) → Good rs → (a n : ℕ) {s u : Said} → Served rs a n s → Served rs a n u → s ≡ u
 served-once rs g a n v w = said-best rs g a n v ∙ sym (said-best rs g a n w)
 
--- "For every address a sound table .. gives the hop of the longest standing route": after the count of cells that the routes define
+-- "For every address, a sound table .. give the hop of the longest standing route that covers it": after the count of cells that the routes define
 pub sail-serves : (t : Table) (l : Lent) → Sound t l → (a : ℕ) → a < 2 ^ 32 → Served (standing t l) a (cellsRead (t .geometry) (standing t l) a) (lookupSaid t l a)
 sail-serves t l s a h = rw (sounds.sail-serves t l s a h) (served (standing t l) (sounds.standing-good t l s) a _ _ (best-is (standing t l) 32 a))
 
@@ -74,7 +75,7 @@ sail-serves t l s a h = rw (sounds.sail-serves t l s a h) (served (standing t l)
 pub sail-reads : (t : Table) (l : Lent) → Sound t l → (a : ℕ) → (1 ≤ cellsRead (t .geometry) (standing t l) a) × (cellsRead (t .geometry) (standing t l) a ≤ 3)
 sail-reads t l s a = sounds.reads-few t l s a
 
--- ".. and a built image": an image that a build leaves which is accepted, after the count that the routes define: the nodes that stand on the
+-- "And a built image": an image that a build leaves which is accepted, after the count that the routes define: the nodes that stand on the
 -- address's path, and one more where a hop is answered
 tree-said : (h n : ℕ) → told h n ≡ hopSaid (counted h n) h
 unfolding told hopSaid
@@ -115,7 +116,7 @@ table-as-image t l s input ws hs vs e same a h =
     ∙ ap (λ (rs : List Route). uncounted (hopSaid (treeReads (routesIn input) a) (best rs 32 a))) (sym same)
     ∙ ap uncounted (sym (image-said input ws hs vs e a h))
 
--- "And no route exactly when none covers"
+-- "And no route exactly when none does"
 no-hop : (rs : List Route) → Good rs → (a n m : ℕ) {s : Said} → Served rs a n s → (s ≡ accepted (m ∷ [])) → (r : Route) → List·Memᴰ r rs → covers 32 a r ≡ false
 no-hop rs g a n m (Served.hop h v) e = absurd (let z : _≡_ {A = ℕ} 0 1 = cc in omega arith)
 no-hop rs g a n m (Served.no-route z) e = z
@@ -135,8 +136,8 @@ no-route-image input ws hs vs e a h =
       (λ none. (_, served-once (routesIn input) g a _ (image-serves input ws hs vs e a h) (no-route none))),
     )
 
--- "Every route can be read back": route_at reads out of these bytes each of the routes rs, at its place, with its mark and hop, and nothing
--- past the last. (A route's values are its address, length, mark and hop.)
+-- "Each route in a list can be read back out, with its hop": route_at reads out of these bytes each of the routes rs, at its place, with its
+-- mark and hop, and nothing past the last. (A route's values are its address, length, mark and hop.)
 pub record ReadBack (bytes : List ℕ) (rs : List Route) : Type 0 where
   pub each : (r : Route) → List·Memᴰ r rs → (k : ℕ) × (k < length rs) × (routeSaid bytes k ≡ accepted (valuesOf r))
   pub in-order : (k : ℕ) → k < length rs → routeSaid bytes k ≡ accepted (valuesOf (getD rs k noRoute))
@@ -150,7 +151,7 @@ read-back-input bytes n e = record {
   no-more = λ k l. route-only bytes k _ (RouteRead.past n good (rw length-routes at l));
 }
   where
-    good : GoodInput bytes n
+    good : Passes bytes n
     good = rw e at (input-checked bytes)
 
     reads : (k : ℕ) → k < n → routeSaid bytes k ≡ accepted (valuesOf (getD (routesOf bytes n) k noRoute))

@@ -1,6 +1,8 @@
--- Demand 3. "After any run of announcements, withdrawals and loads, refused ones among them, a table serves every address as one freshly
--- loaded: same hop, same reads, as many chunks; refusals for want of chunks come exactly when the routes need more; a change alters no cell but
--- those under its prefix."
+-- Demand 3. "Start from a fresh table and make any run of announcements, withdrawals and loads, refused ones among them, state and buffers
+-- untouched between calls. Every address is then served as by a table freshly loaded with the standing routes: same hop, same count of cells
+-- read, as many chunks in use. A well-formed change for which the list has room is refused for want of chunks exactly when the routes that would
+-- then stand need more than were lent. An announcement or withdrawal alters no cell but those that serve an address under its prefix and those
+-- in chunks that it opens or closes."
 --
 -- A run is a list of calls from a fresh table, the last call first: `after t l cs` is what the last call says, and the state and all that is
 -- lent then. The fresh table has t's geometry, in arrays of l's sizes; make accepts these exactly where they are right (`Sized`).
@@ -47,7 +49,7 @@ module _ (t : Table) (l : Lent) (z : Sized (t .geometry) l) where
   abbrev pub now : List Call → List Route
   now cs = standing (after t l cs .table) (after t l cs .lent)
 
-  -- "After any run .., refused ones among them": the table is sound.
+  -- After "any run of announcements, withdrawals and loads, refused ones among them": the table is sound.
   pub run-sound : (cs : List Call) → Sound (after t l cs .table) (after t l cs .lent)
   run-sound = runs.run-sound t l z
 
@@ -68,9 +70,9 @@ module _ (t : Table) (l : Lent) (z : Sized (t .geometry) l) where
   pub run-says : (c : Call) (cs : List Call) → after t l (c ∷ cs) .said ≡ reply (termsOf t l) (now cs) c
   run-says = replies.run-says t l z
 
-  -- "A table serves every address as one freshly loaded: same hop, same reads, as many chunks": the fresh load is that of an input which holds
-  -- the standing routes, into any table of the same geometry and array sizes; it is accepted, and its list is the same to the byte, marks
-  -- included.
+  -- "Every address is then served as by a table freshly loaded with the standing routes: same hop, same count of cells read, as many chunks in
+  -- use": the fresh load is that of an input which holds the standing routes, into any table of the same geometry and array sizes; it is
+  -- accepted, and its list is the same to the byte, marks included.
   pub run-as-fresh : (cs : List Call) (u : Table) (v : Lent) → u .geometry ≡ t .geometry → SameSize l v
       → (input : List ℕ) → Carries input (now cs) → anew.AsFresh (after t l cs .table) (after t l cs .lent) (loaded u v input)
   run-as-fresh = anew.run-as-fresh t l z
@@ -79,8 +81,8 @@ module _ (t : Table) (l : Lent) (z : Sized (t .geometry) l) where
   pub run-input : (cs : List Call) → Carries (written (now cs) (length (now cs))) (now cs)
   run-input = anew.run-carried t l z
 
-  -- "Refusals for want of chunks come exactly when the routes need more": a well-formed change for which the list has room is refused with 7
-  -- or 8 by the needs of the routes that would then stand, and is else accepted
+  -- "A well-formed change for which the list has room is refused for want of chunks exactly when the routes that would then stand need more than
+  -- were lent": with 7 or 8, by these needs, and else it is accepted
   pub want-of-chunks : (cs : List Call) (c : Call) → Formed c (now cs) (roomOf l) → ByNeed (termsOf t l) (would c (now cs)) (after t l (c ∷ cs) .said)
   want-of-chunks cs c f = wanting-exact (wanting.want-of-chunks t l z cs c f)
 
@@ -95,7 +97,7 @@ module _ (t : Table) (l : Lent) (z : Sized (t .geometry) l) where
 pub made-sized : (t : Table) (l : Lent) → accepts (made t l .said) ≡ true → Sized (t .geometry) l
 made-sized = accepted-sized
 
--- "A change alters no cell but those under its prefix": those that serve an address under it, and those in chunks that it opens or closes. In
+-- "An announcement or withdrawal alters no cell but those that serve an address under its prefix and those in chunks that it opens or closes": in
 -- any state, and so after any run; what is refused alters nothing. The prefix is the cleared one; the same addresses lie under it as begin with
 -- the bits that were given (`slot-cut`, crate bits, proofs/Slots.antt).
 alters-none : (g : Geometry) (a len : ℕ) (l u : Lent) → u ≡ l → Alters g a len l u

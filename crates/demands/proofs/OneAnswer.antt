@@ -1,4 +1,4 @@
--- "A call's statement determines its answer and the final contents of everything lent. Show that no second answer would satisfy it."
+-- "A call's statement determines its answer and the final contents of everything lent. Show that no second answer would satisfy it"
 --
 -- For each call on offer: two outcomes that meet its statement are equal. The statements are those of specs/Meets.antt. Assumes nothing.
 use mathlib.Core.Path.{_≡_, refl, sym, _∙_, ap}

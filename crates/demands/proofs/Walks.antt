@@ -1,4 +1,4 @@
--- Lookup in an image, whatever it holds: what it can say, with all that then holds. 13 is said where "bit 15 [is] set, child or hop beyond what
+-- Lookup in an image, whatever it holds: what it can say, with all that then holds. 13 is said for "bit 15 set, child or hop beyond what
 -- is lent, no root, hop outside 1 to 32,767", of what this walk reads. Assumes nothing.
 use mathlib.Core.Path.{_≡_, refl, sym, _∙_}
 use mathlib.Core.Logic.{_⊎_, inl, inr}

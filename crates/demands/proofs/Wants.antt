@@ -8,11 +8,10 @@ use native.Mathlib.Omega.{arith}
 use lib.ListN.{length}
 use Rattle.bits.specs.Slot.{cut}
 use Rattle.standing.specs.Cells.{need}
-use Rattle.routes.specs.Input.{inputSaid}
 use Rattle.routes.specs.Said.{Said, accepted, refused, refusedAt, accepts}
 use Rattle.routes.specs.declared.Route.{Route}
 use Rattle.standing.proofs.Changed.{insert-adds}
-use Rattle.routes.proofs.Meaning.{WrongRoute, Checked, input-checked, good-input}
+use Rattle.routes.proofs.Meaning.{WrongRoute, Checked, good-input}
 use Rattle.sail.specs.Lent.{Lent}
 use Rattle.sail.specs.Sound.{standing}
 use Rattle.sail.specs.declared.table.Table.{Table}
@@ -63,14 +62,11 @@ wrong-never (WrongRoute.prefix h) w = omega (arith, w .0)
 wrong-never (WrongRoute.hop p h) w = omega (arith, w .0)
 wrong-never (WrongRoute.mark p a b h) w = omega (arith, w .1)
 
-input-never : (s : List ℕ) (x : Said) → inputSaid s ≡ x → ForChunks x → ⊥
-input-never s x e w = go (rw e at (input-checked s)) w
-  where
-    go : {x : Said} → Checked s x → ForChunks x → ⊥
-    go (Checked.ragged z) w = w
-    go (Checked.stopped k f z l b v p) w = w
-    go (Checked.many z b m) w = omega (arith, w .0)
-    go (Checked.good n z r) w = w
+input-never : (s : List ℕ) (x : Said) → Checked s x → ForChunks x → ⊥
+input-never s _ (Checked.ragged z) w = w
+input-never s _ (Checked.stopped k f z l b v p) w = w
+input-never s _ (Checked.many z b m) w = omega (arith, w .0)
+input-never s _ (Checked.good n z r) w = w
 
 module _ (t : Table) (l : Lent) where
   -- whether bits were cleared is told of what is accepted alone
@@ -96,7 +92,7 @@ module _ (t : Table) (l : Lent) where
 
   load-formed : (input : List ℕ) {s : Said} → Load t l input s → ForChunks s → Formed (load input) (standing t l) (roomOf l)
   load-formed input (Load.sizing n h) w = absurd (small h w)
-  load-formed input (Load.bad-input {s} z e h) w = absurd (input-never input s e w)
+  load-formed input (Load.bad-input s z b) w = absurd (input-never input s (b .checked) w)
   load-formed input (Load.full r k) w = absurd (omega (arith, w .0))
   load-formed input (Load.second r k x) w = readable-formed input r k
   load-formed input (Load.third r k x y) w = readable-formed input r k

@@ -27,8 +27,11 @@ use Rattle.basic_build.proofs.Answers.{build-only}
 use Rattle.demands.specs.MeetsBasic.{MeetsBasicBuild, MeetsBasicLookup, MeetsBasicMany}
 use Rattle.demands.proofs.Demand2.{uncounted}
 use Rattle.demands.proofs.Basic.{table-as-maps}
-use Rattle.examples.specs.Starred.{ip, table, arrays, listA, loadedA}
-use Rattle.examples.proofs.Witness.{goodA, soundA, same-routes, found-A}
+use Rattle.routes.specs.ListA.{listA}
+use Rattle.examples.specs.Lines.{ip}
+use Rattle.examples.specs.Starred.{table, arrays, loadedA}
+use Rattle.examples.proofs.TableA.{goodA}
+use Rattle.examples.proofs.Witness.{soundA, same-routes, found-A}
 
 -- arrays of the right sizes
 abbrev noBits : List ℕ

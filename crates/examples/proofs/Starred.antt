@@ -1,8 +1,8 @@
 -- The starred examples hold: the definitions give what the documents say. What is asked of a run is worked out on paper, and the rest is
 -- computed. Assumes nothing.
-use mathlib.Core.Path.{_≡_, refl, _∙_, ap, ap₂}
+use mathlib.Core.Path.{_≡_, refl, _∙_, ap}
 use mathlib.Core.Bool.{Bool, true, false, cond, _&&_}
-use mathlib.Core.List.{List, [], _∷_, map}
+use mathlib.Core.List.{List, [], _∷_}
 use Prim.Native.Nat.{ℕ, _^_}
 use native.Mathlib.Nat.{zero-mul}
 use native.Mathlib.Omega.{arith}
@@ -43,7 +43,10 @@ use Rattle.tree.specs.Walk.{told}
 use Rattle.tree_build.specs.Built.{madeOf, built}
 use Rattle.tree_build.proofs.Serves.{built-serves}
 use Rattle.demands.proofs.Replies.{reply, stood, run-says, run-stood}
-use Rattle.examples.specs.Starred.{table, arrays, bare, listA, image, Asked, last, lookup, report, listed, first, second, owner2, owner3, make, input, build, lastNode, hops, tree, answer, Line, starred, Holds}
+use Rattle.routes.specs.ListA.{listA}
+use Rattle.examples.specs.Starred.{table, arrays, bare, image, Asked, last, lookup, report, listed, first, second, owner2, owner3, make, input, build, lastNode, hops, tree, answer, starred}
+use Rattle.examples.specs.Lines.{Hold}
+use Rattle.examples.proofs.Lines.{allServe, lines-hold}
 use Rattle.examples.proofs.Paper.{Paper, paperOf, lookupOn, reportOn, firstOn, secondOn, lookup-on, report-on, first-on, second-on, ownedBy, onPaper, run-paper}
 
 -- what is lent has the right sizes
@@ -187,23 +190,13 @@ agrees lastNode e = refl
 agrees hops e = refl
 agrees (tree a) e = tree-agrees a e
 
--- every line of a table
-abbrev allServe : List Line → Bool
-allServe [] = true
-allServe (x ∷ xs) = serves (x .asked) && allServe xs
-
-all-agree : (xs : List Line) → allServe xs ≡ true → map (λ (x : Line). answer (x .asked)) xs ≡ map (λ (x : Line). paper (x .asked)) xs
-all-agree [] e = refl
-all-agree (x ∷ xs) e = let s = and-split (serves (x .asked)) (allServe xs) e in ap₂ _∷_ (agrees (x .asked) (s .0)) (all-agree xs (s .1))
-
-serve-all : allServe starred ≡ true
-unfolding serves starred onPaper ownedBy stood reply inputSaid listA firstOf firstFrom faultAt routeFault inOrder properPrefix hopFine recordAt cut announceFault loadFault chunksFault arrays table routesOf tabulate need any insert settled openAt grant chunkFor
+serve-all : allServe answer paper serves agrees starred ≡ true
+unfolding allServe serves starred onPaper ownedBy stood reply inputSaid listA firstOf firstFrom faultAt routeFault inOrder properPrefix hopFine recordAt cut announceFault loadFault chunksFault arrays table routesOf tabulate need any insert settled openAt grant chunkFor
 serve-all = refl
 
-on-paper : map (λ (x : Line). paper (x .asked)) starred ≡ map (λ (x : Line). x .expected) starred
-unfolding starred paper onPaper ownedBy stood reply inputSaid listA firstOf firstFrom faultAt routeFault inOrder properPrefix hopFine recordAt cut announceFault withdrawFault loadFault chunksFault arrays table routesOf tabulate need any best cells.first insert remove settled openAt grant keep chunkFor shown hopSaid validGeo image built madeOf count packed picked gather bitHop setBit word kids hopsOf level upTo wordsFrom words ofImage.hops imageBy
+on-paper : Hold paper starred
+unfolding Hold starred paper onPaper ownedBy stood reply inputSaid listA firstOf firstFrom faultAt routeFault inOrder properPrefix hopFine recordAt cut announceFault withdrawFault loadFault chunksFault arrays table routesOf tabulate need any best cells.first insert remove settled openAt grant keep chunkFor shown hopSaid validGeo image built madeOf count packed picked gather bitHop setBit word kids hopsOf level upTo wordsFrom words ofImage.hops imageBy
 on-paper = refl
 
-pub starred-hold : Holds
-unfolding Holds
-starred-hold = all-agree starred serve-all ∙ on-paper
+pub starred-hold : Hold answer starred
+starred-hold = lines-hold answer paper serves agrees starred serve-all on-paper

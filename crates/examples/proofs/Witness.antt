@@ -6,7 +6,8 @@ use mathlib.Core.Bool.{true, false, cond}
 use mathlib.Core.List.{List, [], _∷_, map}
 use Prim.Native.Nat.{ℕ, _^_, _<_}
 use native.Mathlib.Omega.{arith}
-use lib.ListN.{getD, length, replicate, List·getD-map}
+use lib.ListN.{getD, length, drop, replicate, List·getD-map}
+use denote.Ref.{RefT}
 use Rattle.bits.specs.Slot.{slot, cut}
 use Rattle.bits.specs.Search.{firstFrom, firstOf}
 use Rattle.bits.specs.Tab.{tabulate}
@@ -24,8 +25,8 @@ use Rattle.routes.specs.declared.input.Got.the-variants as got
 use Rattle.routes.specs.declared.Route.{Route}
 use Rattle.routes.proofs.Meaning.{prefix-true}
 use Rattle.lists.specs.Place.{placeOf}
-use Rattle.runs.specs.Run.{runSaid, saysRunCheck}
-use Rattle.runs.specs.Tally.{tallyOf}
+use Rattle.runs.specs.Run.{runSaid, saysRunCheck, runOf, runAt}
+use Rattle.runs.specs.Tally.{lengthsOf, tallyOf}
 use Rattle.runs.specs.declared.run.RunCheck.the-variants as runCheck
 use Rattle.sail.specs.Geometry.{standardGeo, validGeo}
 use Rattle.sail.specs.Lent.{Lent}
@@ -35,7 +36,7 @@ use Rattle.sail.specs.Walk.{lookupSaid, saysFound}
 use Rattle.sail.specs.declared.table.Table.{Table}
 use Rattle.sail.specs.declared.lookup.Found.the-variants as found
 use Rattle.sail.proofs.Fresh.{fresh-sound}
-use Rattle.sail_theory.specs.Calls.{route, termsOf, withdrawFault, Out, out, made, announced, withdrawn, loaded}
+use Rattle.sail_theory.specs.Calls.{route, termsOf, withdrawFault, Out, out, made, announced, withdrawn, loaded, reported}
 use Rattle.sail_theory.specs.Runs.{Call, announce, withdraw, load, done, after, worked, would, Formed}
 use Rattle.sail_theory.specs.Render.{roomOf}
 use Rattle.sail_theory.proofs.Cleared.{telling-once, announce-said, announce-off}
@@ -62,18 +63,22 @@ use Rattle.tree_build.specs.Built as building
 use Rattle.tree_build.specs.Built.{saysBuilt, madeOf, built}
 use Rattle.tree_build.specs.declared.Built.the-variants as ofBuild
 use Rattle.tree_build.proofs.Serves.{built-serves}
-use Rattle.demands.specs.Meets.{MeetsCheckInput, MeetsRouteAt, MeetsRunCheck, MeetsTally, MeetsLookup, MeetsReport, MeetsMake, MeetsLoad, MeetsAnnounce, MeetsWithdraw, MeetsTreeLookup, MeetsBuild}
+use Rattle.demands.specs.Meets.{MeetsCheckInput, MeetsRouteAt, MeetsRun, MeetsRunCheck, MeetsTally, MeetsLookup, MeetsReport, MeetsMake, MeetsLoad, MeetsAnnounce, MeetsWithdraw, MeetsTreeLookup, MeetsBuild}
 use Rattle.demands.proofs.Replies.{reply, stood, run-says, run-stood}
 use Rattle.demands.proofs.Wants.{ByNeed, ForChunks}
 use Rattle.demands.proofs.Demand2 as demand2
 use Rattle.demands.proofs.Demand3 as demand3
-use Rattle.examples.specs.Starred.{ip, geo, table, arrays, bare, listA, image, loadedA, without0, entered, other, loose, tight, away, last, answer, Line, _gives_, starred, Holds}
+use Rattle.examples.specs.Lines.{ip, Line, _gives_, Hold}
+use Rattle.examples.specs.Blank.{geo}
+use Rattle.routes.specs.ListA.{listA}
+use Rattle.examples.specs.Starred.{table, arrays, bare, image, loadedA, without0, entered, other, loose, tight, away, Asked, last, answer, starred}
 use Rattle.examples.proofs.Starred.{sized, starred-hold}
+use Rattle.examples.proofs.TableA.{goodA}
 
 -- a line of the examples
-line : (k : ℕ) → answer (getD starred k (last [] gives accepted []) .asked) ≡ getD (map (λ (x : Line). x .expected) starred) k (answer (last []))
-unfolding Holds
-line k = sym (List·getD-map (λ (x : Line). answer (x .asked)) starred k (last [] gives accepted [])) ∙ ap (λ (ss : List Said). getD ss k (answer (last []))) starred-hold
+line : (k : ℕ) → answer (getD starred k (last [] gives accepted []) .asked) ≡ getD (map (λ (x : Line Asked). x .expected) starred) k (answer (last []))
+unfolding Hold
+line k = sym (List·getD-map (λ (x : Line Asked). answer (x .asked)) starred k (last [] gives accepted [])) ∙ ap (λ (ss : List Said). getD ss k (answer (last []))) starred-hold
 
 -- the table and the arrays after a run
 abbrev t : List Call → Table
@@ -91,6 +96,10 @@ first-says c = run-says table arrays sized c [] ∙ ap (λ (rs : List Route). re
 pub refused-input : accepts (inputSaid (1 ∷ [])) ≡ false
 unfolding inputSaid
 refused-input = refl
+
+pub refused-route : (k : ℕ) → accepts (routeSaid (1 ∷ []) k) ≡ false
+unfolding routeSaid inputSaid
+refused-route k = refl
 
 pub refused-run : accepts (runSaid (1 ∷ []) 0 0) ≡ false
 unfolding runSaid inputSaid
@@ -116,6 +125,10 @@ pub refused-build : accepts (built (1 ∷ []) [] [] .said) ≡ false
 unfolding built inputSaid
 refused-build = refl
 
+pub refused-report : reported (freshTable (geo 16 27)) (bare (geo 16 27)) ≡ refused 1
+unfolding reported sizesFault validGeo
+refused-report = refl
+
 -- and a lookup that is: its answer is the number
 pub refused-lookup : (a : ℕ) → lookupSaid (freshTable (geo 16 27)) (bare (geo 16 27)) a ≡ refused 1
 unfolding lookupSaid sizesFault validGeo
@@ -133,11 +146,7 @@ fresh = fresh-sound standardGeo arrays sized
 pub soundA : Sound (t loadedA) (l loadedA)
 soundA = demand3.run-sound table arrays sized loadedA
 
--- list A is a good input, and its image is built
-pub goodA : inputSaid listA ≡ accepted (5 ∷ [])
-unfolding listA inputSaid firstOf firstFrom faultAt routeFault inOrder properPrefix hopFine recordAt cut
-goodA = refl
-
+-- list A is a good input (`goodA`), and its image is built
 pub builtA : built listA (replicate 21 0) (replicate 5 0) .said ≡ accepted (7 ∷ 5 ∷ [])
 unfolding starred answer image
 builtA = line 17
@@ -217,11 +226,38 @@ pub route-attached : MeetsRouteAt (10 ∷ 1 ∷ 0 ∷ 0 ∷ 16 ∷ 1 ∷ 0 ∷ 3
 unfolding starred answer saysGot routeSaid recordAt
 route-attached = rw (line 39)
 
+pub route-refused : (k : ℕ) → MeetsRouteAt (1 ∷ []) k (got.Refused 10 0)
+unfolding saysGot routeSaid inputSaid
+route-refused k = refl
+
+-- list A lies somewhere in memory; its run under 10.1.0.0/16 is its part from byte 16 on, there
+inMemory : List ℕ → RefT (List ℕ)
+inMemory bytes = record { ptr = (3, 4096); name = 0; now = bytes }
+
+pub run-part : MeetsRun (inMemory listA) (ip 10 1 0 0) 16 (record { ptr = (3, 4112); name = 1; now = drop 16 listA })
+unfolding inMemory runOf runAt runSaid inputSaid listA recordAt placeOf firstOf firstFrom faultAt routeFault inOrder properPrefix hopFine cut
+run-part = record { holds = refl; stands = refl }
+
+pub run-refused : MeetsRun (inMemory (1 ∷ [])) (ip 10 1 0 0) 16 (record { ptr = (3, 4096); name = 1; now = [] })
+unfolding inMemory runOf runAt runSaid inputSaid
+run-refused = record { holds = refl; stands = refl }
+
 pub run-A : MeetsRunCheck listA (ip 10 1 0 0) 16 (runCheck.Run 2 3)
 unfolding saysRunCheck runSaid listA recordAt placeOf firstOf firstFrom properPrefix cut
 run-A = rw goodA
 
-pub tally-A : MeetsTally listA (record { answer = ofInput.Good 5; counts = tallyOf listA })
+-- one route of each of the lengths 0, 8, 16, 24 and 25
+abbrev countsA : List ℕ
+countsA =
+    1 ∷ 0 ∷ 0 ∷ 0 ∷ 0 ∷ 0 ∷ 0 ∷ 0
+    ∷ 1 ∷ 0 ∷ 0 ∷ 0 ∷ 0 ∷ 0 ∷ 0 ∷ 0
+    ∷ 1 ∷ 0 ∷ 0 ∷ 0 ∷ 0 ∷ 0 ∷ 0 ∷ 0
+    ∷ 1 ∷ 1 ∷ 0 ∷ 0 ∷ 0 ∷ 0 ∷ 0 ∷ 0
+    ∷ 0
+    ∷ []
+
+pub tally-A : MeetsTally listA (record { answer = ofInput.Good 5; counts = countsA })
+unfolding tallyOf lengthsOf listA inputSaid firstOf firstFrom faultAt routeFault inOrder properPrefix hopFine recordAt cut tabulate count
 tally-A = record { answered = checked-A; counted = refl }
 
 pub found-A : MeetsLookup (t loadedA) (l loadedA) (ip 10 1 2 200) (found.Hop 57 3)
@@ -231,6 +267,10 @@ found-A = sym (line 1)
 pub found-refused : (a : ℕ) → MeetsLookup (freshTable (geo 16 27)) (bare (geo 16 27)) a (found.Refused 1)
 unfolding saysFound
 found-refused a = sym (refused-lookup a)
+
+pub reported-refused : MeetsReport (freshTable (geo 16 27)) (bare (geo 16 27)) (ofReport.Refused 1)
+unfolding saysReported
+reported-refused = sym refused-report
 
 pub reported-A : MeetsReport (t loadedA) (l loadedA) (ofReport.Standing 5 1 1)
 unfolding starred answer saysReported

@@ -1,9 +1,9 @@
--- Document 01's starred examples, and document 02's mark and host bits: what is asked, by the definitions that the contracts cite, and what the documents
--- answer.
-use mathlib.Core.Path.{_≡_}
-use mathlib.Core.List.{List, [], _∷_, map}
-use Prim.Native.Nat.{ℕ, _+_, _*_, _^_}
+-- Document 01's starred examples, and document 02's mark and host bits: what is asked, by the definitions that the contracts cite, and what the
+-- documents answer.
+use mathlib.Core.List.{List, [], _∷_}
+use Prim.Native.Nat.{ℕ, _^_}
 use lib.ListN.{getD, drop, replicate}
+use Rattle.routes.specs.ListA.{listA}
 use Rattle.routes.specs.Record.{noRoute}
 use Rattle.routes.specs.Input.{inputSaid}
 use Rattle.routes.specs.Answers.{valuesOf}
@@ -18,10 +18,8 @@ use Rattle.sail_theory.specs.Calls.{route, makeSaid, reported}
 use Rattle.sail_theory.specs.Runs.{Call, announce, withdraw, load, after}
 use Rattle.tree.specs.Walk.{treeSaid}
 use Rattle.tree_build.specs.Built as building
-
--- an address by its four bytes
-abbrev pub ip : ℕ → ℕ → ℕ → ℕ → ℕ
-ip a b c d = ((a * 256 + b) * 256 + c) * 256 + d
+use Rattle.examples.specs.Lines.{ip, Line, _gives_}
+use Rattle.examples.specs.Blank.{geo}
 
 -- what is lent: the standard geometry, room for 8 records, and one chunk in each pool
 unfoldable pub table : Table
@@ -34,20 +32,7 @@ arrays = lent (replicate 64 0) (replicate 65536 0) (replicate 256 0) (replicate 
 unfoldable pub bare : Geometry → Lent
 bare g = lent [] (replicate (2 ^ g .p1) 0) [] [] [] []
 
-abbrev pub geo : ℕ → ℕ → Geometry
-geo p1 p2 = record { p1 = p1; p2 = p2 }
-
--- List A
-unfoldable pub listA : List ℕ
-listA =
-    0 ∷ 0 ∷ 0 ∷ 0 ∷ 0 ∷ 0 ∷ 0 ∷ 6
-    ∷ 10 ∷ 0 ∷ 0 ∷ 0 ∷ 8 ∷ 0 ∷ 0 ∷ 20
-    ∷ 10 ∷ 1 ∷ 0 ∷ 0 ∷ 16 ∷ 0 ∷ 0 ∷ 31
-    ∷ 10 ∷ 1 ∷ 2 ∷ 0 ∷ 24 ∷ 0 ∷ 0 ∷ 44
-    ∷ 10 ∷ 1 ∷ 2 ∷ 128 ∷ 25 ∷ 0 ∷ 0 ∷ 57
-    ∷ []
-
--- its image, in as much as it needs
+-- list A's image, in as much as it needs
 unfoldable pub image : building.Out
 image = building.built listA (replicate 21 0) (replicate 5 0)
 
@@ -122,16 +107,8 @@ answer lastNode = accepted (drop 18 (image .words))
 answer hops = accepted (image .hops)
 answer (tree a) = treeSaid (image .words) (image .hops) a
 
--- A line of the table. A lookup says its count and then the hop; the count alone is no route.
-pub record Line : Type 0 where
-  pub asked : Asked
-  pub expected : Said
-
-abbrev pub _gives_ : Asked → Said → Line
-q gives s = record { asked = q; expected = s }
-
-infix 5 _gives_
-unfoldable pub starred : List Line
+-- The table. A lookup says its count and then the hop; the count alone is no route.
+unfoldable pub starred : List (Line Asked)
 starred =
     -- list A is loaded; "10.1.2.200: 57, 3 cells", "10.1.2.5: 44, 3 cells", "10.1.3.1: 31, 2 cells", "10.2.0.1: 20, 1 cell",
     -- "192.0.2.1: 6, 1 cell"; in the tree, by document 02, c: "10.1.2.200 in list A is 8, 10.1.3.1 is 7, 192.0.2.1 is 2"
@@ -209,7 +186,3 @@ starred =
     ∷ (input (10 ∷ 1 ∷ 2 ∷ 3 ∷ 24 ∷ 0 ∷ 0 ∷ 44 ∷ []) gives refusedAt 3 0)
     ∷ (last (load (10 ∷ 1 ∷ 2 ∷ 3 ∷ 24 ∷ 0 ∷ 0 ∷ 44 ∷ []) ∷ []) gives refusedAt 3 0)
     ∷ []
-
--- Every line holds.
-unfoldable pub Holds : Type 0
-Holds = map (λ (x : Line). answer (x .asked)) starred ≡ map (λ (x : Line). x .expected) starred

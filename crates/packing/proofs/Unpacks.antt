@@ -14,7 +14,7 @@ use Rattle.packing.specs.Pack.{packReport, packChange, packBuilt, packRu
 use Rattle.packing.specs.Unpack.{field, refusalOf, unpacked, foundValues, unpackFound, reportValues, unpackReport, builtValues, unpackBuilt, runValues, unpackRun, routeValues, unpackRoute, announceValues, unpackAnnounce, withdrawValues, unpackWithdraw, noValues, unpackDone, unpackNone, countOf, Fits, FoundFits, ReportFits, BuiltFits, RunFits, RouteFits, AnnounceFits, WithdrawFits, DoneFits}
 
 -- A field is read whatever stands below it and above it. (Most of those below `omega` does by itself; the highest fields it does not.)
-field-is : (low width below v above x : ℕ) → below < 2 ^ low → v < 2 ^ width → x ≡ (above * 2 ^ width + v) * 2 ^ low + below → field low width x ≡ v
+pub field-is : (low width below v above x : ℕ) → below < 2 ^ low → v < 2 ^ width → x ≡ (above * 2 ^ width + v) * 2 ^ low + below → field low width x ≡ v
 field-is low width below v above x b c e =
     ap (field low width) e ∙ ap (λ (y : ℕ). y % 2 ^ width) (digits-div (above * 2 ^ width + v) b) ∙ digits-mod above c
 

@@ -2,3 +2,4 @@
 pub mod Pack
 pub mod Unpack
 pub mod Hops
+pub mod Parts

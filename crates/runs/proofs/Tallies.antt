@@ -134,8 +134,8 @@ module _ (s : List ℕ) (n : ℕ) (r : Records s n) where
   sums (suc m) h =
       omega (arith, sum-add (λ l. bit (hasLength s l m)) (λ l. count (hasLength s l) m) 33, sum-bit (recordAt s m .len) 33 (omega (arith, r .each m h .prefix .len-ok)), sums m (omega arith))
 
--- count l is that of the records of length l
-pub tally-count : (s : List ℕ) (n l : ℕ) → inputSaid s ≡ accepted (n ∷ []) → l < 33 → getD (tallyOf s) l 0 ≡ count (hasLength s l) n
+-- "a count for each of the 33 lengths": count l is that of the records whose length byte is l
+pub tally-count : (s : List ℕ) (n l : ℕ) → inputSaid s ≡ accepted (n ∷ []) → l < 33 → getD (tallyOf s) l 0 ≡ count (λ k. eqb (recordAt s k .len) l) n
 tally-count s n l e h = rw (tally-good s n e) (length-count s n l h)
 
 -- and together they are all records

@@ -38,23 +38,6 @@ module _ (g : Geometry) (t : View) (a : ℕ) where
   abbrev pub cell3 : ℕ
   cell3 = t .third place3
 
--- v is the number of one of m chunks
-pub record Leads (v m : ℕ) : Type 0 where
-  pub low : v < 32768
-  pub one : 1 ≤ v
-  pub last : v ≤ m
-
--- "A cell serves an address when that address's lookup reads it": the second cell where the first leads on, the third where both do.
--- (The first cell that a lookup reads is that of the address's first p1 bits.)
-pub record ReadsSecond (g : Geometry) (t : View) (a q : ℕ) : Type 0 where
-  pub goes : Leads (cell1 g t a) (t .chunks2 .many)
-  pub there : place2 g t a ≡ q
-
-pub record ReadsThird (g : Geometry) (t : View) (a q : ℕ) : Type 0 where
-  pub goes : Leads (cell1 g t a) (t .chunks2 .many)
-  pub on : Leads (cell2 g t a) (t .chunks3 .many)
-  pub there : place3 g t a ≡ q
-
 -- the cell at which the walk ends
 unfoldable pub lastCell : Geometry → View → ℕ → ℕ
 lastCell g t a =

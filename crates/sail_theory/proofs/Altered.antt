@@ -62,9 +62,9 @@ module _ (g : Geometry) (l u : Lent) (o : Kept g l u) where
 frame-alters : (t : Table) (l : Lent) → Sound t l → (a len : ℕ) (u : Lent) → Frame (t .geometry) a len l u → Kept (t .geometry) l u → Alters (t .geometry) a len l u
 unfolding NoneUnder
 frame-alters t l s a len u f o = record {
-  first = λ q h n. f .first .stays q (rw (s .sized .cells1) at h) (record { live = refl; at = λ _. refl }) (λ _ x b c d. n x b d c);
+  first = λ q h n. f .first .stays q (rw (s .sized .cells1) at h) (record { live = refl; at = λ _. refl }) (λ _ x b c d. n x b d (record { there = c }));
   second = λ q h n e. let i = rw (s .sized .cells2) at h in f .second .stays q i (kept-same2 (t .geometry) l u o q (o .same2 _ e)) (λ y x b c d. n x b d (reads-second t l s x b q i y (sym c)));
-  third = λ q h n e. let i = rw (s .sized .cells3) at h in f .third .stays q i (kept-same3 (t .geometry) l u o q i (o .same3 _ e)) (λ y x b c d. n x b d (reads-third t l s x b q i y (sym c)));
+  third = λ q h n e. let i = rw (s .sized .cells3) at h in cc (f .third .stays q i (kept-same3 (t .geometry) l u o q i (o .same3 _ e)) (λ y x b c d. n x b d (reads-third t l s x b q i y (sym c))));
 }
 
 -- Two lists of good routes that differ at one prefix, and the chunks of the two levels: the frame of the table.

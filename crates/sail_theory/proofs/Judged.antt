@@ -14,12 +14,13 @@ use Rattle.bits.proofs.Tests.{decided, below?}
 use Rattle.routes.specs.Route.{keyOf, key, Prefix, Fine}
 use Rattle.standing.specs.Cells.{need}
 use Rattle.routes.specs.Record.{Records}
-use Rattle.routes.specs.Input.{properPrefix, routeFault, inputSaid}
+use Rattle.routes.specs.Input.{properPrefix, routeFault}
 use Rattle.routes.specs.Said.{Said, accepted, refused, andThen}
 use Rattle.standing.specs.Standing.{stands, insert}
 use Rattle.routes.specs.declared.Route.{Route}
 use Rattle.routes.proofs.Rows.{length-routes, records-good}
-use Rattle.routes.proofs.Meaning.{prefix-true, true-prefix, WrongRoute, RouteChecked, route-checked, Checked, input-checked}
+use Rattle.routes.proofs.Meaning.{prefix-true, true-prefix, WrongRoute, RouteChecked, route-checked}
+use Rattle.routes.proofs.Cases.{BadInput, Passes, good-whole, bad-stops, by-input}
 use Rattle.sail.specs.Geometry.{Valid}
 use Rattle.sail.specs.Lent.{Lent}
 use Rattle.sail.specs.Sizes.{sizesFault, Sized}
@@ -145,7 +146,7 @@ module _ (t : Table) (l : Lent) (a len : ℕ) where
 
 -- load: 1, 2, the input's with its index, 6, 7, 8
 module _ (t : Table) (l : Lent) (input : List ℕ) where
-  -- right sizes and a good input; what is wrong with one that is not good is in crate routes, proofs/Meaning.antt
+  -- right sizes and a good input; what is wrong with one that is not good is `BadInput`, in crate routes, proofs/Cases.antt
   pub record Readable : Type 0 where
     pub sized : Sized (t .geometry) l
     pub whole : length input ≡ length input / 8 * 8
@@ -153,7 +154,7 @@ module _ (t : Table) (l : Lent) (input : List ℕ) where
 
   pub data Load : Said → Type 0 where
     sizing : (n : ℕ) → Sizing t l n → Load (refused n)
-    bad-input : {s : Said} → Sized (t .geometry) l → inputSaid input ≡ s → ((ns : List ℕ) → s ≡ accepted ns → ⊥) → Load s
+    bad-input : (s : Said) → Sized (t .geometry) l → BadInput input s → Load s
     full : Readable → roomOf l < length input / 8 → Load (refused 6)
     second : Readable → length input / 8 ≤ roomOf l → length (l .own2) < need (inputRoutes input) (t .geometry .p1) → Load (refused 7)
     third : Readable → length input / 8 ≤ roomOf l → need (inputRoutes input) (t .geometry .p1) ≤ length (l .own2) → length (l .own3) < need (inputRoutes input) (t .geometry .p2) → Load (refused 8)
@@ -180,15 +181,16 @@ module _ (t : Table) (l : Lent) (input : List ℕ) where
 
   pub load-judged : Load (loadSaid t l input)
   unfolding loadSaid
-  load-judged = after-sizes t l Load _ sizing (λ z. go z (input-checked input) refl)
+  load-judged = after-sizes t l Load _ sizing (λ z. by-input input (λ s. Load (andThen s next)) (λ s b. rw (bad-stops s next (b .not-accepted)) (bad-input s z b)) (readable z))
     where
-      go : Sized (t .geometry) l → {s : Said} → Checked input s → inputSaid input ≡ s → Load (andThen s (orSay (loadFault (termsOf t l) (inputRoutes input)) (accepted [])))
-      go z (Checked.ragged w) e = bad-input z e (λ ns q. absurd (let y : _≡_ {A = ℕ} 0 1 = cc in omega arith))
-      go z (Checked.stopped k f w i b x p) e = bad-input z e (λ ns q. absurd (let y : _≡_ {A = ℕ} 0 1 = cc in omega arith))
-      go z (Checked.many w b m) e = bad-input z e (λ ns q. absurd (let y : _≡_ {A = ℕ} 0 1 = cc in omega arith))
-      go z (Checked.good n w r) e =
-          let q : n ≡ length input / 8 = omega arith in
-          load-read (record { sized = z; whole = omega arith; records = rw q at r })
+      next : Said
+      next = orSay (loadFault (termsOf t l) (inputRoutes input)) (accepted [])
+
+      readable : Sized (t .geometry) l → (n : ℕ) → Passes input n → Load next
+      readable z n g =
+          let w = good-whole input n g in
+          let q : n ≡ length input / 8 = omega (arith, w .0) in
+          load-read (record { sized = z; whole = omega (arith, w .0); records = rw q at (w .1) })
 
 -- report: 1, 2, 5
 module _ (t : Table) (l : Lent) where

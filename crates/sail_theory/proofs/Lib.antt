@@ -30,3 +30,4 @@ pub mod Cleared
 pub mod Passing
 pub mod Counting
 pub mod Wrong
+pub mod Outside

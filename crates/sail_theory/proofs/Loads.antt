@@ -183,12 +183,7 @@ module _ (t : Table) (l : Lent) (input : List ℕ) where
     where
       go : {s : Said} → Load t l input s → accepts s ≡ true → Readable t l input × Loadable t l rs
       go (Load.sizing n h) e = absurd (false≢true e)
-      go (Load.bad-input {s} z c h) e = absurd (off s h e)
-        where
-          off : (s : Said) → ((ns : List ℕ) → s ≡ accepted ns → ⊥) → accepts s ≡ true → ⊥
-          off (Said.accepted ns) h e = h ns refl
-          off (Said.refused n) h e = false≢true e
-          off (Said.refusedAt n k) h e = false≢true e
+      go (Load.bad-input s z b) e = absurd (false≢true (sym (b .not-accepted) ∙ e))
       go (Load.full w r) e = absurd (false≢true e)
       go (Load.second w r x) e = absurd (false≢true e)
       go (Load.third w r x y) e = absurd (false≢true e)

@@ -10,10 +10,11 @@ use Rattle.bits.specs.Count.{bit}
 use Rattle.bits.proofs.Tests.{untrue}
 use Rattle.routes.specs.Route.{keyOf, key, Prefix}
 use Rattle.routes.specs.Input.{properPrefix, routeFault}
-use Rattle.routes.specs.Said.{Said, accepted, refused, andThen}
+use Rattle.routes.specs.Said.{Said, accepted, refused}
 use Rattle.standing.specs.Standing.{stands, insert}
 use Rattle.routes.specs.declared.Route.{Route}
 use Rattle.routes.proofs.Meaning.{prefix-true, true-prefix, WrongRoute, wrong-fault, fine-fault, good-input}
+use Rattle.routes.proofs.Cases.{check-only, bad-stops}
 use Rattle.routes.proofs.Rows.{length-routes}
 use Rattle.sail.specs.Lent.{Lent}
 use Rattle.sail.specs.Sizes.{sizesFault}
@@ -106,12 +107,7 @@ module _ (t : Table) (l : Lent) (input : List ℕ) where
   pub load-only : (s : Said) → Load t l input s → loadSaid t l input ≡ s
   unfolding loadSaid chunksFault
   load-only s (Load.sizing n h) = sizing-said t l n _ h
-  load-only s (Load.bad-input z c h) = rw (none-is (t .geometry) l z, c) (go s h)
-    where
-      go : (s : Said) → ((ns : List ℕ) → s ≡ accepted ns → ⊥) → andThen s (orSay (loadFault (termsOf t l) (inputRoutes input)) (accepted [])) ≡ s
-      go (Said.accepted ns) h = absurd (h ns refl)
-      go (Said.refused n) h = refl
-      go (Said.refusedAt n k) h = refl
+  load-only _ (Load.bad-input s z b) = rw (none-is (t .geometry) l z, check-only input s (b .checked)) (bad-stops s _ (b .not-accepted))
   load-only s (Load.full w r) = read-said w ∙ rw (lt-ltb _ _ r)
   load-only s (Load.second w r x) = read-said w ∙ rw (le-ltb _ _ r, lt-ltb _ _ x)
   load-only s (Load.third w r x y) = read-said w ∙ rw (le-ltb _ _ r, le-ltb _ _ x, lt-ltb _ _ y)

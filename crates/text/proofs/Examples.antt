@@ -1,35 +1,27 @@
--- Document 01's list A as the printing program has it: its bytes, and the text that is printed of them; and a list with an attached route.
+-- The text that is printed of document 01's list A, of a list with an attached route, and of refusals.
 use mathlib.Core.Path.{_≡_, refl}
-use mathlib.Core.List.{List, [], _∷_, _++_}
-use Prim.Native.Nat.{ℕ}
+use mathlib.Core.List.{List, _++_}
 use Rattle.bits.specs.Tab.{tabulate}
 use Rattle.routes.specs.declared.Route.{Route}
 use Rattle.routes.specs.Record.{recordAt, routesOf}
+use Rattle.routes.specs.ListA.{listA}
 use Rattle.standing.specs.Cells.{need, any}
 use Rattle.routes.specs.Said.{refused, refusedAt}
 use Rattle.text.specs.Digits.{digitsIn, digitsOf}
 use Rattle.text.specs.Text.{ascii, labelled, dotted, markText, routeLine, routeLines, headLine, tableText, saidText}
 
-bytesA : List ℕ
-bytesA =
-    (0 ∷ 0 ∷ 0 ∷ 0 ∷ 0 ∷ 0 ∷ 0 ∷ 6 ∷ [])
-    ++ (10 ∷ 0 ∷ 0 ∷ 0 ∷ 8 ∷ 0 ∷ 0 ∷ 20 ∷ [])
-    ++ (10 ∷ 1 ∷ 0 ∷ 0 ∷ 16 ∷ 0 ∷ 0 ∷ 31 ∷ [])
-    ++ (10 ∷ 1 ∷ 2 ∷ 0 ∷ 24 ∷ 0 ∷ 0 ∷ 44 ∷ [])
-    ++ (10 ∷ 1 ∷ 2 ∷ 128 ∷ 25 ∷ 0 ∷ 0 ∷ 57 ∷ [])
-
-pub listA : List Route
-listA = routesOf bytesA 5
+abbrev pub routesA : List Route
+routesA = routesOf listA 5
 
 -- all of what is printed in the small geometry, with its needs
-pub list-A : tableText listA (need listA 12) (need listA 22) ≡
+pub list-A : tableText routesA (need routesA 12) (need routesA 22) ≡
     ascii "routes 5 second 1 third 1\n"
     ++ ascii "0.0.0.0/0 6\n"
     ++ ascii "10.0.0.0/8 20\n"
     ++ ascii "10.1.0.0/16 31\n"
     ++ ascii "10.1.2.0/24 44\n"
     ++ ascii "10.1.2.128/25 57\n"
-unfolding bytesA listA routesOf recordAt tabulate need any digitsIn digitsOf ascii labelled dotted markText routeLine routeLines headLine tableText
+unfolding listA routesOf recordAt tabulate need any digitsIn digitsOf ascii labelled dotted markText routeLine routeLines headLine tableText
 list-A = refl
 
 -- an attached network beside one behind a neighbour

@@ -4,6 +4,7 @@ use routes::Route;
 use routes::input;
 use routes::input::Got;
 use routes::input::Input;
+use words::list;
 use words::print;
 ghost use Prim.Native.Nat.{_≤_};
 ghost use lib.ListN.{length};
@@ -62,7 +63,7 @@ pub fn run() {
     print::text(b"record");
     print::bytes(&samples::one(samples::route(0x0A01_0280, 25, 0, 57)));
     print::end();
-    let a = samples::list_a();
+    let a = list::list_a();
     said(input::check_input(&a));
     said(input::check_input(b""));
     said(input::check_input(b"nine byte"));

@@ -1,58 +1,13 @@
-// Inputs that the document names, or that follow from its words.
+// Records, inputs of one and two records, and list A with a route attached.
 use routes::Route;
 use routes::record;
-
-// Document 01's list A.
-pub fn list_a() -> [u8; 40] {
-    [
-        0,
-        0,
-        0,
-        0,
-        0,
-        0,
-        0,
-        6,
-        10,
-        0,
-        0,
-        0,
-        8,
-        0,
-        0,
-        20,
-        10,
-        1,
-        0,
-        0,
-        16,
-        0,
-        0,
-        31,
-        10,
-        1,
-        2,
-        0,
-        24,
-        0,
-        0,
-        44,
-        10,
-        1,
-        2,
-        128,
-        25,
-        0,
-        0,
-        57,
-    ]
-}
+use words::list;
 
 // List A with 10.1.0.0/16 attached: one byte is another.
 pub fn attached_a() -> [u8; 40] {
-    let mut list = list_a();
-    list[21] = 1;
-    list
+    let mut a = list::list_a();
+    a[21] = 1;
+    a
 }
 
 pub fn route(addr: u32, len: u8, mark: u8, hop: u16) -> Route {

@@ -1,4 +1,7 @@
 // The documents' examples of announce and withdraw, as scripts: steps that are played one after the other on a table.
+ghost use Prim.Native.Nat.{_<_};
+use routes::record;
+use words::list;
 
 // A step: a call; another state (its second level and its count); a lookup or the report; a record of the list; a first or a
 // second cell, and the owner of the first chunk of the pool below it; whether the table is that of 10.1.2.0/24 alone; or nothing.
@@ -16,15 +19,24 @@ pub enum Step {
     Rest,
 }
 
+// Record k of list A is announced.
+fn announce_a(k: usize) -> Step
+    requires { ⌜ k < 5 ⌝ }
+{
+    let a = list::list_a();
+    let r = record::read_record(&a, k);
+    Step::Announce(r.addr, r.len, r.hop, r.mark)
+}
+
 // List A is announced, and served. First cell 2561 and second cell 2 name the chunks; second cell 3 is a leaf.
 fn enter_a(k: usize) -> Step {
     match k {
         0 => Step::Make,
-        1 => Step::Announce(0, 0, 6, 0),
-        2 => Step::Announce(0x0A00_0000, 8, 20, 0),
-        3 => Step::Announce(0x0A01_0000, 16, 31, 0),
-        4 => Step::Announce(0x0A01_0200, 24, 44, 0),
-        5 => Step::Announce(0x0A01_0280, 25, 57, 0),
+        1 => announce_a(0),
+        2 => announce_a(1),
+        3 => announce_a(2),
+        4 => announce_a(3),
+        5 => announce_a(4),
         6 => Step::Lookup(0x0A01_02C8),
         7 => Step::Lookup(0x0A01_0205),
         8 => Step::Lookup(0x0A01_0301),
