@@ -50,25 +50,34 @@ looked-fits most s bs cs a off (BasicLookup.broken p n l f h) = Fits.number 13 (
 looked-fits most s bs cs a off (BasicLookup.no-route p n h) = Fits.values [] HopFits.none
 
 module _ (s : List ℕ) (short : length s < 2 ^ 35) (bs cs : List ℕ) where
-  pub gh-basic-build-read : unpackNone (mapsCardOf (basicBuilt s bs cs) .answer) ≡ basicBuilt s bs cs .said
-  unfolding mapsCardOf
-  gh-basic-build-read = nothing-read (2 ^ 32) (omega arith) _ (go (build-judged s bs cs))
+  pub maps-fits : Fits (2 ^ 32) NoneFits (basicBuilt s bs cs .said)
+  maps-fits = go (build-judged s bs cs)
     where
       go : {x : Said} → BasicBuild s bs cs x → Fits (2 ^ 32) NoneFits x
       go (BasicBuild.unready x u) = unready-fits NoneFits s _ _ short u
       go (BasicBuild.done p) = Fits.values [] NoneFits.none
 
-  pub gh-basic-lookup-read : (a : ℕ) → unpackHop (packHop (basicSaid s bs cs a)) ≡ basicSaid s bs cs a
-  gh-basic-lookup-read a = hop-read (2 ^ 32) (omega arith) _ (looked-fits (2 ^ 32) s bs cs a (unready-fits HopFits s _ _ short) (lookup-judged s bs cs a))
+  pub hop-fits : (a : ℕ) → Fits (2 ^ 32) HopFits (basicSaid s bs cs a)
+  hop-fits a = looked-fits (2 ^ 32) s bs cs a (unready-fits HopFits s _ _ short) (lookup-judged s bs cs a)
 
-  pub gh-basic-lookup-many-answer : (ads ws : List ℕ) → unpackNone (hopsCard (basicMany s bs cs ads ws) .answer) ≡ basicMany s bs cs ads ws .said
-  unfolding hopsCard
-  gh-basic-lookup-many-answer ads ws = nothing-read (2 ^ 32) (omega arith) _ (go (many-judged s bs cs ads ws))
+  pub many-fits : (ads ws : List ℕ) → Fits (2 ^ 32) NoneFits (basicMany s bs cs ads ws .said)
+  many-fits ads ws = go (many-judged s bs cs ads ws)
     where
       go : {x : Said} → BasicLookups s bs cs ads ws x → Fits (2 ^ 32) NoneFits x
       go (BasicLookups.unready x u) = unready-fits NoneFits s _ _ short u
       go (BasicLookups.uneven p n) = Fits.number 2 (omega arith) (omega arith)
       go (BasicLookups.done p e) = Fits.values [] NoneFits.none
+
+  pub gh-basic-build-read : unpackNone (mapsCardOf (basicBuilt s bs cs) .answer) ≡ basicBuilt s bs cs .said
+  unfolding mapsCardOf
+  gh-basic-build-read = nothing-read (2 ^ 32) (omega arith) _ maps-fits
+
+  pub gh-basic-lookup-read : (a : ℕ) → unpackHop (packHop (basicSaid s bs cs a)) ≡ basicSaid s bs cs a
+  gh-basic-lookup-read a = hop-read (2 ^ 32) (omega arith) _ (hop-fits a)
+
+  pub gh-basic-lookup-many-answer : (ads ws : List ℕ) → unpackNone (hopsCard (basicMany s bs cs ads ws) .answer) ≡ basicMany s bs cs ads ws .said
+  unfolding hopsCard
+  gh-basic-lookup-many-answer ads ws = nothing-read (2 ^ 32) (omega arith) _ (many-fits ads ws)
 
 -- each word of `out`: an input that is looked up in is good, so no index is told and 32 bits are all of the answer
 ready-word : (s bs cs : List ℕ) (a : ℕ) → Prepared s bs cs → unpackHop (hopWord (basicSaid s bs cs a)) ≡ basicSaid s bs cs a

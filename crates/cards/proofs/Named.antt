@@ -9,6 +9,7 @@ use lib.ListN.{length, getD}
 use Rattle.bits.specs.Tab.{tabulate}
 use Rattle.routes.specs.Input.{inputSaid}
 use Rattle.routes.specs.Answers.{routeSaid}
+use Rattle.routes.specs.declared.Route.{Route}
 use Rattle.runs.specs.Run.{runSaid}
 use Rattle.runs.specs.Tally.{tallyOf}
 use Rattle.sail.specs.Lent.{Lent}
@@ -19,13 +20,17 @@ use Rattle.sail.proofs.Fitting.{Fault, fault-is}
 use Rattle.sail_theory.specs.Calls.{made, loaded, announced, withdrawn, reported}
 use Rattle.tree.specs.Walk.{treeSaid}
 use Rattle.tree_build.specs.Built.{built}
+use Rattle.basic.specs.Calls.{basicSaid, packHop, basicMany}
+use Rattle.basic_build.specs.Built.{basicBuilt}
 use Rattle.packing.specs.Pack.{packReport, packRun, packNone, packRoute}
 use Rattle.packing.specs.Unpack.{Cells}
-use Rattle.packing.specs.Parts.{refusalParts, parts, foundParts, reportParts, builtParts, runParts, routeParts, announceParts, doneParts, noParts}
-use Rattle.packing.proofs.Parts.{found-parts, report-parts, built-parts, run-parts, route-parts, announce-parts, done-parts, none-parts}
+use Rattle.packing.specs.Parts.{refusalParts, parts, foundParts, reportParts, builtParts, runParts, routeParts, announceParts, withdrawParts, doneParts, hopParts, noParts}
+use Rattle.packing.proofs.Parts.{found-parts, report-parts, built-parts, run-parts, route-parts, announce-parts, withdraw-parts, done-parts, hop-parts, none-parts}
 use Rattle.cards.specs.Cards.{cardOf, imageCardOf, wordsCard, tallyCard, lowFound, manyCard}
+use Rattle.cards.specs.Maps.{mapsCardOf, hopsCard}
 use Rattle.cards.proofs.Fits.{input-fits, run-fits, route-fits, built-fits, tree-fits, lookup-fits, report-fits}
 use Rattle.cards.proofs.Fits.{make-fits, load-fits, announce-fits, withdraw-fits}
+use Rattle.cards.proofs.Hops.{maps-fits, hop-fits, many-fits}
 
 -- Tables.
 module _ (t : Table) (l : Lent) where
@@ -43,13 +48,13 @@ module _ (t : Table) (l : Lent) where
   unfolding cardOf
   gh-load-named input short = done-parts (2 ^ 32) (omega arith) _ _ (load-fits t l input short)
 
-  pub gh-announce-named : (a len hop : ℕ) → cardOf (announced t l a len hop) .answer ≡ parts announceParts (cardOf (announced t l a len hop) .answer)
+  pub gh-announce-named : (r : Route) → cardOf (announced t l r) .answer ≡ parts announceParts (cardOf (announced t l r) .answer)
   unfolding cardOf
-  gh-announce-named a len hop = announce-parts 0 (omega arith) _ _ (announce-fits t l a len hop)
+  gh-announce-named r = announce-parts 0 (omega arith) _ _ (announce-fits t l r)
 
-  pub gh-withdraw-named : (a len : ℕ) → cardOf (withdrawn t l a len) .answer ≡ parts doneParts (cardOf (withdrawn t l a len) .answer)
+  pub gh-withdraw-named : (a len : ℕ) → cardOf (withdrawn t l a len) .answer ≡ parts withdrawParts (cardOf (withdrawn t l a len) .answer)
   unfolding cardOf
-  gh-withdraw-named a len = done-parts 0 (omega arith) _ _ (withdraw-fits t l a len)
+  gh-withdraw-named a len = withdraw-parts 0 (omega arith) _ _ (withdraw-fits t l a len)
 
   pub gh-lookup-many-named : (ads xs : List ℕ) → manyCard t l ads xs .answer ≡ parts noParts (manyCard t l ads xs .answer)
   unfolding manyCard parts refusalParts noParts
@@ -72,6 +77,19 @@ module _ (s : List ℕ) (short : length s < 2 ^ 35) where
   pub gh-build-named : (ws hs : List ℕ) → imageCardOf (built s ws hs) .answer ≡ parts builtParts (imageCardOf (built s ws hs) .answer)
   unfolding imageCardOf
   gh-build-named ws hs = built-parts (2 ^ 32) (omega arith) _ (built-fits s short ws hs)
+
+  -- Bit maps.
+  pub gh-basic-build-named : (bs cs : List ℕ) → mapsCardOf (basicBuilt s bs cs) .answer ≡ parts noParts (mapsCardOf (basicBuilt s bs cs) .answer)
+  unfolding mapsCardOf
+  gh-basic-build-named bs cs = none-parts (2 ^ 32) (omega arith) _ _ (maps-fits s short bs cs)
+
+  pub gh-basic-lookup-named : (bs cs : List ℕ) (a : ℕ) → packHop (basicSaid s bs cs a) ≡ parts hopParts (packHop (basicSaid s bs cs a))
+  gh-basic-lookup-named bs cs a = hop-parts (2 ^ 32) (omega arith) _ (hop-fits s short bs cs a)
+
+  pub gh-basic-lookup-many-named : (bs cs ads ws : List ℕ)
+      → hopsCard (basicMany s bs cs ads ws) .answer ≡ parts noParts (hopsCard (basicMany s bs cs ads ws) .answer)
+  unfolding hopsCard
+  gh-basic-lookup-many-named bs cs ads ws = none-parts (2 ^ 32) (omega arith) _ _ (many-fits s short bs cs ads ws)
 
   -- Record inputs.
   pub gh-run-named : (a len : ℕ) → packRun (runSaid s a len) ≡ parts runParts (packRun (runSaid s a len))

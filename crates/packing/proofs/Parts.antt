@@ -8,9 +8,11 @@ use native.Mathlib.Omega.{arith}
 use borrow.Author.Tests.{eq-eqb, ne-eqb}
 use Rattle.routes.specs.Said.{Said, accepted, refused, refusedAt}
 use Rattle.sail.specs.Word.{packed, packFound}
+use Rattle.basic.specs.Calls.{packHop}
 use Rattle.packing.specs.Pack.{packReport, packChange, packBuilt, packRun, packNone, packRoute}
-use Rattle.packing.specs.Unpack.{field, Fits, FoundFits, ReportFits, BuiltFits, RunFits, RouteFits, AnnounceFits, DoneFits}
-use Rattle.packing.specs.Parts.{refusalParts, parts, foundParts, reportParts, builtParts, runParts, routeParts, announceParts, doneParts, noParts}
+use Rattle.packing.specs.Unpack.{field, Fits, FoundFits, ReportFits, BuiltFits, RunFits, RouteFits, AnnounceFits, WithdrawFits, DoneFits}
+use Rattle.packing.specs.Hops.{HopFits}
+use Rattle.packing.specs.Parts.{refusalParts, parts, foundParts, reportParts, builtParts, runParts, routeParts, announceParts, withdrawParts, doneParts, hopParts, noParts}
 use Rattle.packing.proofs.Unpacks.{field-is}
 
 -- Refusals, the same in all layouts.
@@ -68,17 +70,32 @@ run-sum : (j n x : ℕ) → j < 2 ^ 16 → n < 2 ^ 16 → x ≡ packRun (accepte
 unfolding packed runParts
 run-sum j n x a b e = record { none = omega arith; sum = omega arith }
 
-route-sum : (a len hop x : ℕ) → a < 2 ^ 32 → len < 2 ^ 8 → hop < 2 ^ 16 → x ≡ len * 256 + hop * 65536 + a * 2 ^ 32 → Sums routeParts x
-unfolding routeParts
-route-sum a len hop x i j k e = record { none = omega arith; sum = omega arith }
+route-sum : (a len mark hop x : ℕ) → a < 2 ^ 32 → len < 2 ^ 7 → mark < 2 → hop < 2 ^ 16 → x ≡ packRoute (accepted (a ∷ len ∷ mark ∷ hop ∷ [])) → Sums routeParts x
+unfolding packed routeParts
+route-sum a len mark hop x i j n m e =
+    let u : len % 128 ≡ len = mod-eq-of-lt j in
+    let v : mark % 2 ≡ mark = mod-eq-of-lt n in
+    let f : field 32 32 x ≡ a = field-is 32 32 (len * 256 + mark * 32768 + hop * 65536) a 0 x (omega arith) i (omega arith) in
+    let g : field 8 7 x ≡ len = field-is 8 7 0 len (mark + hop * 2 + a * 131072) x (omega arith) j (omega arith) in
+    let p : field 15 1 x ≡ mark = field-is 15 1 (len * 256) mark (hop + a * 65536) x (omega arith) n (omega arith) in
+    let h : field 16 16 x ≡ hop = field-is 16 16 (len * 256 + mark * 32768) hop a x (omega arith) m (omega arith) in
+    record { none = omega arith; sum = rw (f, g, p, h) (omega arith) }
 
-change-sum : (b n x : ℕ) → b < 2 → n < 2 ^ 16 → x ≡ b * 256 + n * 65536 → Sums announceParts x
-unfolding announceParts
-change-sum b n x i j e = record { none = omega arith; sum = omega arith }
+announce-sum : (c b n x : ℕ) → c < 2 → b < 2 → n < 2 ^ 16 → x ≡ packChange n (accepted (c ∷ b ∷ [])) → Sums announceParts x
+unfolding packed announceParts
+announce-sum c b n x h i j e = record { none = omega arith; sum = omega arith }
+
+withdraw-sum : (c n x : ℕ) → c < 2 → n < 2 ^ 16 → x ≡ packChange n (accepted (c ∷ [])) → Sums withdrawParts x
+unfolding packed withdrawParts
+withdraw-sum c n x i j e = record { none = omega arith; sum = omega arith }
 
 done-sum : (n x : ℕ) → n < 2 ^ 16 → x ≡ n * 65536 → Sums doneParts x
 unfolding doneParts
 done-sum n x j e = record { none = omega arith; sum = omega arith }
+
+hop-sum : (h x : ℕ) → h < 2 ^ 16 → x ≡ h * 65536 → Sums hopParts x
+unfolding hopParts
+hop-sum h x b e = record { none = omega arith; sum = omega arith }
 
 -- The theorem, for each layout.
 module _ (most : ℕ) (few : most ≤ 2 ^ 32) where
@@ -116,15 +133,22 @@ module _ (most : ℕ) (few : most ≤ 2 ^ 32) where
   route-parts = said-parts most few RouteFits _ routeParts go
     where
       go : (vs : List ℕ) → RouteFits vs → Sums routeParts (packRoute (accepted vs))
-      go _ (RouteFits.one a len spare hop i j e k m) = route-sum a len hop _ i j m refl
-      go _ RouteFits.nothing = route-sum 0 0 0 _ (omega arith) (omega arith) (omega arith) refl
+      go _ (RouteFits.one a len mark hop i j n k m) = route-sum a len mark hop _ i j n m refl
+      go _ RouteFits.nothing = route-sum 0 0 0 0 _ (omega arith) (omega arith) (omega arith) (omega arith) refl
 
   pub announce-parts : (count : ℕ) (s : Said) → Fits most (AnnounceFits count) s → packChange count s ≡ parts announceParts (packChange count s)
   unfolding packed
   announce-parts count = said-parts most few (AnnounceFits count) _ announceParts go
     where
       go : (vs : List ℕ) → AnnounceFits count vs → Sums announceParts (packChange count (accepted vs))
-      go _ (AnnounceFits.which b i j) = change-sum b count _ i j refl
+      go _ (AnnounceFits.which c b h i j) = announce-sum c b count _ h i j refl
+
+  pub withdraw-parts : (count : ℕ) (s : Said) → Fits most (WithdrawFits count) s → packChange count s ≡ parts withdrawParts (packChange count s)
+  unfolding packed
+  withdraw-parts count = said-parts most few (WithdrawFits count) _ withdrawParts go
+    where
+      go : (vs : List ℕ) → WithdrawFits count vs → Sums withdrawParts (packChange count (accepted vs))
+      go _ (WithdrawFits.gone c i j) = withdraw-sum c count _ i j refl
 
   pub done-parts : (count : ℕ) (s : Said) → Fits most (DoneFits count) s → packChange count s ≡ parts doneParts (packChange count s)
   unfolding packed
@@ -132,6 +156,14 @@ module _ (most : ℕ) (few : most ≤ 2 ^ 32) where
     where
       go : (vs : List ℕ) → DoneFits count vs → Sums doneParts (packChange count (accepted vs))
       go _ (DoneFits.done j) = done-sum count _ j (omega arith)
+
+  pub hop-parts : (s : Said) → Fits most HopFits s → packHop s ≡ parts hopParts (packHop s)
+  unfolding packed
+  hop-parts = said-parts most few HopFits _ hopParts go
+    where
+      go : (vs : List ℕ) → HopFits vs → Sums hopParts (packHop (accepted vs))
+      go _ (HopFits.hop h a b) = hop-sum h _ b refl
+      go _ HopFits.none = hop-sum 0 _ (omega arith) refl
 
   pub none-parts : (P : List ℕ → Type 0) (s : Said) → Fits most P s → packNone s ≡ parts noParts (packNone s)
   unfolding packed

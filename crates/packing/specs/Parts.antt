@@ -29,18 +29,26 @@ builtParts x = field 16 16 x * 2 ^ 16 + field 32 32 x * 2 ^ 32
 unfoldable pub runParts : ℕ → ℕ
 runParts x = field 16 16 x * 2 ^ 16 + field 32 16 x * 2 ^ 32
 
--- route: length, hop, address
+-- route: length, mark, hop, address
 unfoldable pub routeParts : ℕ → ℕ
-routeParts x = field 8 8 x * 2 ^ 8 + field 16 16 x * 2 ^ 16 + field 32 32 x * 2 ^ 32
+routeParts x = field 8 7 x * 2 ^ 8 + field 15 1 x * 2 ^ 15 + field 16 16 x * 2 ^ 16 + field 32 32 x * 2 ^ 32
 
--- announce: replaced, routes
+-- announce: replaced, cleared, routes
 unfoldable pub announceParts : ℕ → ℕ
-announceParts x = field 8 1 x * 2 ^ 8 + field 16 16 x * 2 ^ 16
+announceParts x = field 8 1 x * 2 ^ 8 + field 9 1 x * 2 ^ 9 + field 16 16 x * 2 ^ 16
 
--- make, load and withdraw: routes
+-- withdraw: cleared, routes
+unfoldable pub withdrawParts : ℕ → ℕ
+withdrawParts x = field 9 1 x * 2 ^ 9 + field 16 16 x * 2 ^ 16
+
+-- make and load: routes
 unfoldable pub doneParts : ℕ → ℕ
 doneParts x = field 16 16 x * 2 ^ 16
 
--- many lookups and the tally: nothing
+-- a lookup in bit maps: the hop
+unfoldable pub hopParts : ℕ → ℕ
+hopParts x = field 16 16 x * 2 ^ 16
+
+-- many lookups, the tally and the build of bit maps: nothing
 unfoldable pub noParts : ℕ → ℕ
 noParts x = 0
