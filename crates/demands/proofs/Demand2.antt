@@ -19,7 +19,7 @@ use Rattle.standing.specs.Cells.{covers, Longest, Best, best}
 use Rattle.routes.specs.Record.{recordAt, routesOf, noRoute, routesIn}
 use Rattle.routes.specs.Input.{inputSaid}
 use Rattle.routes.specs.Answers.{valuesOf, routeSaid}
-use Rattle.routes.specs.Said.{Said, accepted, refused, refusedAt}
+use Rattle.routes.specs.Said.{Said, accepted, refused, refusedAt, hopAfter, noRouteAfter}
 use Rattle.routes.specs.declared.Route.{Route}
 use Rattle.routes.proofs.Goods.{good-fine}
 use Rattle.standing.proofs.Longest.{best-is}
@@ -44,14 +44,14 @@ use Rattle.demands.proofs.Inputs.{RouteRead, route-only}
 -- What is said of the address a, after n reads, where the routes rs stand: the hop of a route that covers a, than which no route that covers a
 -- is longer; or no route, and then none covers.
 pub data Served (rs : List Route) (a n : ℕ) : Said → Type 0 where
-  hop : (h : ℕ) → Longest rs 32 a h → Served rs a n (accepted (n ∷ h ∷ []))
-  no-route : ((r : Route) → List·Memᴰ r rs → covers 32 a r ≡ false) → Served rs a n (accepted (n ∷ []))
+  hop : (h : ℕ) → Longest rs 32 a h → Served rs a n (hopAfter n h)
+  no-route : ((r : Route) → List·Memᴰ r rs → covers 32 a r ≡ false) → Served rs a n (noRouteAfter n)
 
-some-hop : (n h : ℕ) → 1 ≤ h → hopSaid n h ≡ accepted (n ∷ h ∷ [])
+some-hop : (n h : ℕ) → 1 ≤ h → hopSaid n h ≡ hopAfter n h
 unfolding hopSaid
 some-hop n h l = rw (ne-eqb h 0 (λ z. omega arith))
 
-none-hop : (n : ℕ) → hopSaid n 0 ≡ accepted (n ∷ [])
+none-hop : (n : ℕ) → hopSaid n 0 ≡ noRouteAfter n
 unfolding hopSaid
 none-hop n = refl
 
@@ -104,7 +104,7 @@ pub hop-alone : (n m h : ℕ) → uncounted (hopSaid n h) ≡ uncounted (hopSaid
 unfolding hopSaid
 hop-alone n m h = go (eqb h 0)
   where
-    go : (b : Bool) → uncounted (cond b (accepted (n ∷ [])) (accepted (n ∷ h ∷ []))) ≡ uncounted (cond b (accepted (m ∷ [])) (accepted (m ∷ h ∷ [])))
+    go : (b : Bool) → uncounted (cond b (noRouteAfter n) (hopAfter n h)) ≡ uncounted (cond b (noRouteAfter m) (hopAfter m h))
     go true = refl
     go false = refl
 
@@ -117,19 +117,19 @@ table-as-image t l s input ws hs vs e same a h =
     ∙ ap uncounted (sym (image-said input ws hs vs e a h))
 
 -- "And no route exactly when none does"
-no-hop : (rs : List Route) → Good rs → (a n m : ℕ) {s : Said} → Served rs a n s → (s ≡ accepted (m ∷ [])) → (r : Route) → List·Memᴰ r rs → covers 32 a r ≡ false
+no-hop : (rs : List Route) → Good rs → (a n m : ℕ) {s : Said} → Served rs a n s → (s ≡ noRouteAfter m) → (r : Route) → List·Memᴰ r rs → covers 32 a r ≡ false
 no-hop rs g a n m (Served.hop h v) e = absurd (let z : _≡_ {A = ℕ} 0 1 = cc in omega arith)
 no-hop rs g a n m (Served.no-route z) e = z
 
 pub no-route-table : (t : Table) (l : Lent) → Sound t l → (a : ℕ) → a < 2 ^ 32
-    → ((n : ℕ) × (lookupSaid t l a ≡ accepted (n ∷ []))) ↔ ((r : Route) → List·Memᴰ r (standing t l) → covers 32 a r ≡ false)
+    → ((n : ℕ) × (lookupSaid t l a ≡ noRouteAfter n)) ↔ ((r : Route) → List·Memᴰ r (standing t l) → covers 32 a r ≡ false)
 no-route-table t l s a h = (
   (λ x. no-hop (standing t l) (sounds.standing-good t l s) a _ (x .0) (sail-serves t l s a h) (x .1)),
   (λ none. (_, served-once (standing t l) (sounds.standing-good t l s) a _ (sail-serves t l s a h) (no-route none))),
 )
 
 pub no-route-image : (input ws hs vs : List ℕ) → built input ws hs .said ≡ accepted vs → (a : ℕ) → a < 2 ^ 32
-    → ((n : ℕ) × (treeSaid (built input ws hs .words) (built input ws hs .hops) a ≡ accepted (n ∷ []))) ↔ ((r : Route) → List·Memᴰ r (routesIn input) → covers 32 a r ≡ false)
+    → ((n : ℕ) × (treeSaid (built input ws hs .words) (built input ws hs .hops) a ≡ noRouteAfter n)) ↔ ((r : Route) → List·Memᴰ r (routesIn input) → covers 32 a r ≡ false)
 no-route-image input ws hs vs e a h =
     let g = built-accepts input ws hs vs e .good-routes in (
       (λ x. no-hop (routesIn input) g a _ (x .0) (image-serves input ws hs vs e a h) (x .1)),

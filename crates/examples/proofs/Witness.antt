@@ -173,11 +173,11 @@ pub makes : accepts (made table arrays .said) ≡ true
 makes = ap (λ (o : Out). accepts (o .said)) (make-is table arrays sized)
 
 -- what stands after each run is a list as `run-only` speaks of,
-pub stands-in-order : (cs : List Call) → Good (demand3.now table arrays sized cs) × ((k : ℕ) → routeAt k (demand3.now table arrays sized cs) ≡ worked table arrays cs k)
+pub stands-in-order : (cs : List Call) → Good (demand3.standingAfter table arrays sized cs) × ((k : ℕ) → routeAt k (demand3.standingAfter table arrays sized cs) ≡ worked table arrays cs k)
 stands-in-order cs = (demand3.run-in-order table arrays sized cs, demand3.run-standing table arrays sized cs)
 
 -- after each run there is a fresh load to compare with, into the arrays themselves,
-pub freshly : (cs : List Call) → anew.AsFresh (t cs) (l cs) (loaded table arrays (written (demand3.now table arrays sized cs) (length (demand3.now table arrays sized cs))))
+pub freshly : (cs : List Call) → anew.AsFresh (t cs) (l cs) (loaded table arrays (written (demand3.standingAfter table arrays sized cs) (length (demand3.standingAfter table arrays sized cs))))
 freshly cs = demand3.run-as-fresh table arrays sized cs table arrays refl (size-refl arrays) _ (demand3.run-input table arrays sized cs)
 
 -- a change that is refused for want of chunks, and so is well-formed, and wants a chunk,
@@ -185,18 +185,18 @@ pub wantedA : ForChunks (after table arrays other .said)
 unfolding starred answer
 wantedA = rw (line 34) (omega arith, omega arith)
 
-pub formed-announce : Formed (announce (route (ip 10 2 2 0) 24 45 0)) (demand3.now table arrays sized entered) (roomOf arrays)
+pub formed-announce : Formed (announce (route (ip 10 2 2 0) 24 45 0)) (demand3.standingAfter table arrays sized entered) (roomOf arrays)
 formed-announce = demand3.want-formed table arrays sized entered (announce (route (ip 10 2 2 0) 24 45 0)) wantedA
 
-pub needed : ByNeed (termsOf table arrays) (would (announce (route (ip 10 2 2 0) 24 45 0)) (demand3.now table arrays sized entered)) (after table arrays other .said)
+pub needed : ByNeed (termsOf table arrays) (would (announce (route (ip 10 2 2 0) 24 45 0)) (demand3.standingAfter table arrays sized entered)) (after table arrays other .said)
 needed = demand3.want-of-chunks table arrays sized entered (announce (route (ip 10 2 2 0) 24 45 0)) formed-announce
 
 -- a withdrawal and a load that are well-formed,
-pub formed-withdraw : Formed (withdraw 0 0) (demand3.now table arrays sized loadedA) (roomOf arrays)
+pub formed-withdraw : Formed (withdraw 0 0) (demand3.standingAfter table arrays sized loadedA) (roomOf arrays)
 unfolding listA properPrefix cut any routesOf tabulate recordAt
 formed-withdraw = (prefix-true 0 0 refl, rw (← same-routes))
 
-pub formed-load : Formed (load listA) (demand3.now table arrays sized []) (roomOf arrays)
+pub formed-load : Formed (load listA) (demand3.standingAfter table arrays sized []) (roomOf arrays)
 unfolding arrays
 formed-load = (5, goodA, omega arith)
 

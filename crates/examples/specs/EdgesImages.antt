@@ -1,7 +1,7 @@
 -- Lookups in images of any content, each way a walk can end, and builds at the limits of what is lent.
 use mathlib.Core.List.{List, [], _∷_, _++_}
 use Prim.Native.Nat.{ℕ, _+_, _^_}
-use Rattle.routes.specs.Said.{Said, accepted, refused, refusedAt}
+use Rattle.routes.specs.Said.{Said, accepted, refused, refusedAt, hopAfter, noRouteAfter}
 use Rattle.tree.specs.Walk.{treeSaid}
 use Rattle.tree_build.specs.Built.{built}
 use Rattle.examples.specs.Lines.{ip, Line, _gives_}
@@ -29,40 +29,40 @@ edges =
     -- 13 where no root is lent whole; the count is that of the nodes read, and one more where a hop is answered (document 02, c)
     (tree [] [] 0 gives refused 13)
     ∷ (tree (0 ∷ 0 ∷ []) [] 0 gives refused 13)
-    ∷ (tree (0 ∷ 0 ∷ 0 ∷ []) [] 0 gives accepted (1 ∷ []))
+    ∷ (tree (0 ∷ 0 ∷ 0 ∷ []) [] 0 gives noRouteAfter 1)
     -- bit 15
     ∷ (tree (32768 ∷ 0 ∷ 0 ∷ []) [] 0 gives refused 13)
-    ∷ (tree (16384 ∷ 0 ∷ 0 ∷ []) [] 0 gives accepted (1 ∷ []))
+    ∷ (tree (16384 ∷ 0 ∷ 0 ∷ []) [] 0 gives noRouteAfter 1)
     -- a child beyond what is lent, and the last that is
     ∷ (tree (65536 ∷ 1 ∷ 0 ∷ []) [] 0 gives refused 13)
-    ∷ (tree (65536 ∷ 1 ∷ 0 ∷ 0 ∷ 0 ∷ 0 ∷ []) [] 0 gives accepted (2 ∷ []))
+    ∷ (tree (65536 ∷ 1 ∷ 0 ∷ 0 ∷ 0 ∷ 0 ∷ []) [] 0 gives noRouteAfter 2)
     ∷ (tree (65536 ∷ 2 ∷ 0 ∷ 0 ∷ 0 ∷ 0 ∷ []) [] 0 gives refused 13)
     -- "at the child base plus the number of ones below its extending bit": 192.0.2.1 begins with 12
-    ∷ (tree ((65536 + 2 ^ 28) ∷ 1 ∷ 0 ∷ 0 ∷ 0 ∷ 0 ∷ 1 ∷ 0 ∷ 0 ∷ []) (7 ∷ []) (ip 192 0 2 1) gives accepted (3 ∷ 7 ∷ []))
-    ∷ (tree ((65536 + 2 ^ 28) ∷ 1 ∷ 0 ∷ 0 ∷ 0 ∷ 0 ∷ 1 ∷ 0 ∷ 0 ∷ []) (7 ∷ []) (ip 10 0 2 1) gives accepted (2 ∷ []))
+    ∷ (tree ((65536 + 2 ^ 28) ∷ 1 ∷ 0 ∷ 0 ∷ 0 ∷ 0 ∷ 1 ∷ 0 ∷ 0 ∷ []) (7 ∷ []) (ip 192 0 2 1) gives hopAfter 3 7)
+    ∷ (tree ((65536 + 2 ^ 28) ∷ 1 ∷ 0 ∷ 0 ∷ 0 ∷ 0 ∷ 1 ∷ 0 ∷ 0 ∷ []) (7 ∷ []) (ip 10 0 2 1) gives noRouteAfter 2)
     -- "Its bit is 2^j - 1 + v", the longest first; "hops likewise"
-    ∷ (tree (1 ∷ 0 ∷ 0 ∷ []) (7 ∷ []) (ip 192 0 2 1) gives accepted (2 ∷ 7 ∷ []))
-    ∷ (tree ((1 + 2 ^ 2) ∷ 0 ∷ 0 ∷ []) (7 ∷ 8 ∷ []) (ip 192 0 2 1) gives accepted (2 ∷ 8 ∷ []))
-    ∷ (tree ((1 + 2 ^ 2 + 2 ^ 6) ∷ 0 ∷ 0 ∷ []) (7 ∷ 8 ∷ 9 ∷ []) (ip 192 0 2 1) gives accepted (2 ∷ 9 ∷ []))
-    ∷ (tree ((1 + 2 ^ 2 + 2 ^ 6 + 2 ^ 13) ∷ 0 ∷ 0 ∷ []) (7 ∷ 8 ∷ 9 ∷ 10 ∷ []) (ip 192 0 2 1) gives accepted (2 ∷ 10 ∷ []))
-    ∷ (tree ((1 + 2 ^ 1 + 2 ^ 5 + 2 ^ 12) ∷ 0 ∷ 0 ∷ []) (7 ∷ 8 ∷ 9 ∷ 10 ∷ []) (ip 192 0 2 1) gives accepted (2 ∷ 7 ∷ []))
+    ∷ (tree (1 ∷ 0 ∷ 0 ∷ []) (7 ∷ []) (ip 192 0 2 1) gives hopAfter 2 7)
+    ∷ (tree ((1 + 2 ^ 2) ∷ 0 ∷ 0 ∷ []) (7 ∷ 8 ∷ []) (ip 192 0 2 1) gives hopAfter 2 8)
+    ∷ (tree ((1 + 2 ^ 2 + 2 ^ 6) ∷ 0 ∷ 0 ∷ []) (7 ∷ 8 ∷ 9 ∷ []) (ip 192 0 2 1) gives hopAfter 2 9)
+    ∷ (tree ((1 + 2 ^ 2 + 2 ^ 6 + 2 ^ 13) ∷ 0 ∷ 0 ∷ []) (7 ∷ 8 ∷ 9 ∷ 10 ∷ []) (ip 192 0 2 1) gives hopAfter 2 10)
+    ∷ (tree ((1 + 2 ^ 1 + 2 ^ 5 + 2 ^ 12) ∷ 0 ∷ 0 ∷ []) (7 ∷ 8 ∷ 9 ∷ 10 ∷ []) (ip 192 0 2 1) gives hopAfter 2 7)
     -- a hop beyond what is lent, and the last that is; hops of 1 to 32,767; only that of the deepest match is read
     ∷ (tree (1 ∷ 0 ∷ 0 ∷ []) [] 0 gives refused 13)
     ∷ (tree (1 ∷ 0 ∷ 1 ∷ []) (7 ∷ []) 0 gives refused 13)
-    ∷ (tree (1 ∷ 0 ∷ 1 ∷ []) (7 ∷ 8 ∷ []) 0 gives accepted (2 ∷ 8 ∷ []))
+    ∷ (tree (1 ∷ 0 ∷ 1 ∷ []) (7 ∷ 8 ∷ []) 0 gives hopAfter 2 8)
     ∷ (tree (1 ∷ 0 ∷ 0 ∷ []) (0 ∷ []) 0 gives refused 13)
-    ∷ (tree (1 ∷ 0 ∷ 0 ∷ []) (1 ∷ []) 0 gives accepted (2 ∷ 1 ∷ []))
-    ∷ (tree (1 ∷ 0 ∷ 0 ∷ []) (32767 ∷ []) 0 gives accepted (2 ∷ 32767 ∷ []))
+    ∷ (tree (1 ∷ 0 ∷ 0 ∷ []) (1 ∷ []) 0 gives hopAfter 2 1)
+    ∷ (tree (1 ∷ 0 ∷ 0 ∷ []) (32767 ∷ []) 0 gives hopAfter 2 32767)
     ∷ (tree (1 ∷ 0 ∷ 0 ∷ []) (32768 ∷ []) 0 gives refused 13)
-    ∷ (tree (3 ∷ 0 ∷ 0 ∷ []) (0 ∷ 7 ∷ []) 0 gives accepted (2 ∷ 7 ∷ []))
+    ∷ (tree (3 ∷ 0 ∷ 0 ∷ []) (0 ∷ 7 ∷ []) 0 gives hopAfter 2 7)
     -- "all nodes are read first": a broken child, though a hop is there above it
     ∷ (tree (65537 ∷ 1 ∷ 0 ∷ 32768 ∷ 0 ∷ 0 ∷ []) (7 ∷ []) 0 gives refused 13)
-    ∷ (tree (65537 ∷ 1 ∷ 0 ∷ 0 ∷ 0 ∷ 0 ∷ []) (7 ∷ []) 0 gives accepted (3 ∷ 7 ∷ []))
+    ∷ (tree (65537 ∷ 1 ∷ 0 ∷ 0 ∷ 0 ∷ 0 ∷ []) (7 ∷ []) 0 gives hopAfter 3 7)
     -- "At depth 8 only internal bit 0 and bit 15 are looked at": 9 nodes
-    ∷ (tree (path (1 ∷ 0 ∷ 0 ∷ [])) (7 ∷ []) 0 gives accepted (10 ∷ 7 ∷ []))
-    ∷ (tree (path (65537 ∷ 0 ∷ 0 ∷ [])) (7 ∷ []) 0 gives accepted (10 ∷ 7 ∷ []))
+    ∷ (tree (path (1 ∷ 0 ∷ 0 ∷ [])) (7 ∷ []) 0 gives hopAfter 10 7)
+    ∷ (tree (path (65537 ∷ 0 ∷ 0 ∷ [])) (7 ∷ []) 0 gives hopAfter 10 7)
     ∷ (tree (path ((2 ^ 15 + 1) ∷ 0 ∷ 0 ∷ [])) (7 ∷ []) 0 gives refused 13)
-    ∷ (tree (path ((2 + 2 ^ 3 + 2 ^ 7) ∷ 0 ∷ 0 ∷ [])) (7 ∷ []) 0 gives accepted (9 ∷ []))
+    ∷ (tree (path ((2 + 2 ^ 3 + 2 ^ 7) ∷ 0 ∷ 0 ∷ [])) (7 ∷ []) 0 gives noRouteAfter 9)
     ∷ (tree (path []) (7 ∷ []) 0 gives refused 13)
     -- 11: "too few whole nodes lent". The bare root; and 10.0.0.0/8, whose nodes are three
     ∷ (build [] (0 ∷ 0 ∷ []) [] gives refused 11)

@@ -5,7 +5,7 @@ use Prim.Native.Nat.{ℕ, _+_, _*_, _%_, _^_}
 use lib.Dec.{eqb}
 use lib.ListN.{replicate}
 use Rattle.bits.specs.Tab.{tabulate}
-use Rattle.routes.specs.Said.{Said, accepted, refused}
+use Rattle.routes.specs.Said.{Said, refused, hopAfter, noRouteAfter}
 use Rattle.sail.specs.Geometry.{standardGeo, smallGeo, bits2, bits3}
 use Rattle.sail.specs.Lent.{Lent, lent}
 use Rattle.sail.specs.Sound.{freshTable}
@@ -72,44 +72,44 @@ smallHolds v w = record { geometry = smallGeo; chunks2 = 2; chunks3 = 2; first =
 unfoldable pub edges : List (Line Asked)
 edges =
     -- "A cell with its top bit set is a leaf: the low 15 bits are the hop, 0 for no route"; 5: "a chunk number is 0 or beyond its pool"
-    (lookup (firstHolds 32768) (ip 10 1 2 200) gives accepted (1 ∷ []))
-    ∷ (lookup (firstHolds 32769) (ip 10 1 2 200) gives accepted (1 ∷ 1 ∷ []))
-    ∷ (lookup (firstHolds 65535) (ip 10 1 2 200) gives accepted (1 ∷ 32767 ∷ []))
+    (lookup (firstHolds 32768) (ip 10 1 2 200) gives noRouteAfter 1)
+    ∷ (lookup (firstHolds 32769) (ip 10 1 2 200) gives hopAfter 1 1)
+    ∷ (lookup (firstHolds 65535) (ip 10 1 2 200) gives hopAfter 1 32767)
     ∷ (lookup (firstHolds 0) (ip 10 1 2 200) gives refused 5)
     ∷ (lookup (firstHolds 3) (ip 10 1 2 200) gives refused 5)
     ∷ (lookup (firstHolds 32767) (ip 10 1 2 200) gives refused 5)
     -- "Chunk c begins at cell (c - 1) times the chunk size"
-    ∷ (lookup (firstHolds 1) (ip 10 1 2 200) gives accepted (2 ∷ 2 ∷ []))
-    ∷ (lookup (firstHolds 2) (ip 10 1 2 200) gives accepted (2 ∷ 258 ∷ []))
+    ∷ (lookup (firstHolds 1) (ip 10 1 2 200) gives hopAfter 2 2)
+    ∷ (lookup (firstHolds 2) (ip 10 1 2 200) gives hopAfter 2 258)
     -- the addresses at both ends, and one whose first cell holds something else
-    ∷ (lookup (firstHolds 0) (ip 0 0 0 0) gives accepted (1 ∷ 9 ∷ []))
-    ∷ (lookup (firstHolds 0) (ip 255 255 255 255) gives accepted (1 ∷ 9 ∷ []))
-    ∷ (lookup (firstHolds 2) (ip 10 1 255 255) gives accepted (2 ∷ 511 ∷ []))
+    ∷ (lookup (firstHolds 0) (ip 0 0 0 0) gives hopAfter 1 9)
+    ∷ (lookup (firstHolds 0) (ip 255 255 255 255) gives hopAfter 1 9)
+    ∷ (lookup (firstHolds 2) (ip 10 1 255 255) gives hopAfter 2 511)
     -- second cells
-    ∷ (lookup (secondHolds 32768) (ip 10 1 2 200) gives accepted (2 ∷ []))
-    ∷ (lookup (secondHolds 65535) (ip 10 1 2 200) gives accepted (2 ∷ 32767 ∷ []))
+    ∷ (lookup (secondHolds 32768) (ip 10 1 2 200) gives noRouteAfter 2)
+    ∷ (lookup (secondHolds 65535) (ip 10 1 2 200) gives hopAfter 2 32767)
     ∷ (lookup (secondHolds 0) (ip 10 1 2 200) gives refused 5)
     ∷ (lookup (secondHolds 4) (ip 10 1 2 200) gives refused 5)
     ∷ (lookup (secondHolds 32767) (ip 10 1 2 200) gives refused 5)
-    ∷ (lookup (secondHolds 1) (ip 10 1 2 200) gives accepted (3 ∷ 200 ∷ []))
-    ∷ (lookup (secondHolds 3) (ip 10 1 2 200) gives accepted (3 ∷ 712 ∷ []))
+    ∷ (lookup (secondHolds 1) (ip 10 1 2 200) gives hopAfter 3 200)
+    ∷ (lookup (secondHolds 3) (ip 10 1 2 200) gives hopAfter 3 712)
     -- third cells; 5: "a third cell is no leaf"
-    ∷ (lookup (thirdHolds 32768) (ip 10 1 2 200) gives accepted (3 ∷ []))
-    ∷ (lookup (thirdHolds 65535) (ip 10 1 2 200) gives accepted (3 ∷ 32767 ∷ []))
+    ∷ (lookup (thirdHolds 32768) (ip 10 1 2 200) gives noRouteAfter 3)
+    ∷ (lookup (thirdHolds 65535) (ip 10 1 2 200) gives hopAfter 3 32767)
     ∷ (lookup (thirdHolds 0) (ip 10 1 2 200) gives refused 5)
     ∷ (lookup (thirdHolds 1) (ip 10 1 2 200) gives refused 5)
     ∷ (lookup (thirdHolds 32767) (ip 10 1 2 200) gives refused 5)
     -- the last of 4,096 chunks, and one beyond; no chunks at all
-    ∷ (lookup (largest 4096 (32768 + 57)) (ip 10 1 2 200) gives accepted (2 ∷ 57 ∷ []))
+    ∷ (lookup (largest 4096 (32768 + 57)) (ip 10 1 2 200) gives hopAfter 2 57)
     ∷ (lookup (largest 4097 (32768 + 57)) (ip 10 1 2 200) gives refused 5)
-    ∷ (lookup (largest 4096 4096) (ip 10 1 2 200) gives accepted (3 ∷ 32712 ∷ []))
+    ∷ (lookup (largest 4096 4096) (ip 10 1 2 200) gives hopAfter 3 32712)
     ∷ (lookup (largest 4096 4097) (ip 10 1 2 200) gives refused 5)
-    ∷ (lookup (bare 32788) (ip 10 1 2 200) gives accepted (1 ∷ 20 ∷ []))
+    ∷ (lookup (bare 32788) (ip 10 1 2 200) gives hopAfter 1 20)
     ∷ (lookup (bare 1) (ip 10 1 2 200) gives refused 5)
     -- the small geometry
-    ∷ (lookup (smallHolds 32788 0) (ip 10 1 2 200) gives accepted (1 ∷ 20 ∷ []))
-    ∷ (lookup (smallHolds 2 32799) (ip 10 1 2 200) gives accepted (2 ∷ 31 ∷ []))
-    ∷ (lookup (smallHolds 2 2) (ip 10 1 2 200) gives accepted (3 ∷ 1736 ∷ []))
+    ∷ (lookup (smallHolds 32788 0) (ip 10 1 2 200) gives hopAfter 1 20)
+    ∷ (lookup (smallHolds 2 32799) (ip 10 1 2 200) gives hopAfter 2 31)
+    ∷ (lookup (smallHolds 2 2) (ip 10 1 2 200) gives hopAfter 3 1736)
     ∷ (lookup (smallHolds 3 2) (ip 10 1 2 200) gives refused 5)
     ∷ (lookup (smallHolds 2 3) (ip 10 1 2 200) gives refused 5)
     ∷ []

@@ -7,7 +7,7 @@ use Rattle.routes.specs.ListA.{listA}
 use Rattle.routes.specs.Record.{noRoute}
 use Rattle.routes.specs.Input.{inputSaid}
 use Rattle.routes.specs.Answers.{valuesOf}
-use Rattle.routes.specs.Said.{Said, accepted, refused, refusedAt}
+use Rattle.routes.specs.Said.{Said, accepted, refused, refusedAt, hopAfter, noRouteAfter}
 use Rattle.sail.specs.Geometry.{standardGeo}
 use Rattle.sail.specs.Lent.{Lent, lent}
 use Rattle.sail.specs.Sound.{standing, freshTable}
@@ -107,23 +107,23 @@ answer lastNode = accepted (drop 18 (image .words))
 answer hops = accepted (image .hops)
 answer (tree a) = treeSaid (image .words) (image .hops) a
 
--- The table. A lookup says its count and then the hop; the count alone is no route.
+-- The table
 unfoldable pub starred : List (Line Asked)
 starred =
     -- list A is loaded; "10.1.2.200: 57, 3 cells", "10.1.2.5: 44, 3 cells", "10.1.3.1: 31, 2 cells", "10.2.0.1: 20, 1 cell",
     -- "192.0.2.1: 6, 1 cell"; in the tree, by document 02, c: "10.1.2.200 in list A is 8, 10.1.3.1 is 7, 192.0.2.1 is 2"
     (last loadedA gives accepted [])
-    ∷ (lookup loadedA (ip 10 1 2 200) gives accepted (3 ∷ 57 ∷ []))
-    ∷ (tree (ip 10 1 2 200) gives accepted (8 ∷ 57 ∷ []))
-    ∷ (lookup loadedA (ip 10 1 2 5) gives accepted (3 ∷ 44 ∷ []))
-    ∷ (lookup loadedA (ip 10 1 3 1) gives accepted (2 ∷ 31 ∷ []))
-    ∷ (tree (ip 10 1 3 1) gives accepted (7 ∷ 31 ∷ []))
-    ∷ (lookup loadedA (ip 10 2 0 1) gives accepted (1 ∷ 20 ∷ []))
-    ∷ (lookup loadedA (ip 192 0 2 1) gives accepted (1 ∷ 6 ∷ []))
-    ∷ (tree (ip 192 0 2 1) gives accepted (2 ∷ 6 ∷ []))
+    ∷ (lookup loadedA (ip 10 1 2 200) gives hopAfter 3 57)
+    ∷ (tree (ip 10 1 2 200) gives hopAfter 8 57)
+    ∷ (lookup loadedA (ip 10 1 2 5) gives hopAfter 3 44)
+    ∷ (lookup loadedA (ip 10 1 3 1) gives hopAfter 2 31)
+    ∷ (tree (ip 10 1 3 1) gives hopAfter 7 31)
+    ∷ (lookup loadedA (ip 10 2 0 1) gives hopAfter 1 20)
+    ∷ (lookup loadedA (ip 192 0 2 1) gives hopAfter 1 6)
+    ∷ (tree (ip 192 0 2 1) gives hopAfter 2 6)
     -- "With /0 withdrawn: no route"
     ∷ (last without0 gives accepted (0 ∷ []))
-    ∷ (lookup without0 (ip 192 0 2 1) gives accepted (1 ∷ []))
+    ∷ (lookup without0 (ip 192 0 2 1) gives noRouteAfter 1)
     -- "Both needs are 1. First cell 2561 holds 1 with owner 2562; second cell 2 holds 1 with owner 3; second cell 3 holds 801F hex"
     ∷ (report loadedA gives accepted (5 ∷ 1 ∷ 1 ∷ []))
     ∷ (first loadedA 2561 gives accepted (1 ∷ []))
@@ -137,7 +137,7 @@ starred =
     ∷ (hops gives accepted (6 ∷ 20 ∷ 31 ∷ 44 ∷ 57 ∷ []))
     -- "/25 withdrawn: 10.1.2.200 gives 44 in 2 cells, needs 1 and 0"
     ∷ (last without25 gives accepted (0 ∷ []))
-    ∷ (lookup without25 (ip 10 1 2 200) gives accepted (2 ∷ 44 ∷ []))
+    ∷ (lookup without25 (ip 10 1 2 200) gives hopAfter 2 44)
     ∷ (report without25 gives accepted (4 ∷ 1 ∷ 0 ∷ []))
     -- "Geometry (16, 26) passes; (16, 27), (12, 23) and (11, 22) give 1"
     ∷ (make (geo 16 26) gives accepted [])

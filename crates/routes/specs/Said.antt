@@ -1,6 +1,6 @@
 -- What a call says, in document 01's terms: every answer of a call is told by one of these. And how it is packed into one number.
 use mathlib.Core.Bool.{Bool, true, false}
-use mathlib.Core.List.{List}
+use mathlib.Core.List.{List, [], _∷_}
 use Prim.Native.Nat.{ℕ, _+_, _*_, _%_, _^_}
 use lib.ListN.{getD}
 
@@ -11,6 +11,13 @@ pub data Said : Type 0 where
   refused : ℕ → Said
   -- refused, with its number and the index of a record
   refusedAt : ℕ → ℕ → Said
+
+-- What a lookup says that counts its reads: so many reads, and then the hop; so many reads alone, and no route.
+abbrev pub hopAfter : ℕ → ℕ → Said
+hopAfter reads hop = accepted (reads ∷ hop ∷ [])
+
+abbrev pub noRouteAfter : ℕ → Said
+noRouteAfter reads = accepted (reads ∷ [])
 
 -- what a later step says, where the one before it refused nothing
 abbrev pub andThen : Said → Said → Said

@@ -85,7 +85,8 @@ chunksFault m rs = cond (ltb (m .most2) (need rs (m .geometry .p1))) 7 (cond (lt
 abbrev pub route : ℕ → ℕ → ℕ → ℕ → Route
 route a len hop mark = record { addr = a; len = len; mark = mark; hop = hop }
 
--- 5, 6, 7, 8, after the route by itself is good; a replacement never meets 6 to 8. `ok` tells whether the table is sound
+-- 5, 6, 7, 8, after the route by itself is good; a replacement never meets 6 to 8. `ok` tells whether the table is sound: it is `sound?`, which is
+-- true exactly where `Sound` holds (`sound-tells`, proofs/Tells.antt)
 unfoldable pub announceFault : Bool → Terms → List Route → Route → ℕ
 announceFault ok m rs r =
     cond (not ok) 5
