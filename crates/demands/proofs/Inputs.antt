@@ -4,7 +4,7 @@ use mathlib.Core.Path.{_≡_, sym, _∙_}
 use mathlib.Core.Logic.{_⊎_, inl, inr}
 use mathlib.Core.Bool.{true, false, true≢false}
 use mathlib.Core.List.{List, [], _∷_}
-use Prim.Native.Nat.{ℕ, _*_, _/_, _≤_, _<_}
+use Prim.Native.Nat.{ℕ, _/_, _≤_, _<_}
 use native.Mathlib.Omega.{arith}
 use lib.ListN.{length}
 use borrow.Author.Tests.{lt-ltb, le-ltb}
@@ -14,7 +14,6 @@ use Rattle.routes.specs.Record.{recordAt}
 use Rattle.routes.specs.Input.{properPrefix, inputSaid}
 use Rattle.routes.specs.Answers.{valuesOf, routeSaid}
 use Rattle.routes.specs.Said.{Said, accepted, refused, refusedAt, accepts}
-use Rattle.routes.specs.declared.Route.{Route}
 use Rattle.routes.proofs.Meaning.{prefix-true, true-prefix}
 use Rattle.routes.proofs.Cases.{check-only, BadInput, Passes, good-whole, by-input}
 use Rattle.runs.specs.Run.{runStart, runCount, runSaid}

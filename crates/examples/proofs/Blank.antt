@@ -1,11 +1,11 @@
 -- What the calls say of zero bytes, worked out from the lengths alone: no array is computed.
 use mathlib.Core.Path.{_≡_, refl, sym, _∙_, ap}
-use mathlib.Core.Bool.{true, false, cond}
+use mathlib.Core.Bool.{false, cond}
 use mathlib.Core.Logic.{inl}
 use mathlib.Core.List.{List, [], _∷_}
-use Prim.Native.Nat.{ℕ, zero, suc, _/_, _≤_, _<_}
+use Prim.Native.Nat.{ℕ, zero, suc, _/_}
 use native.Mathlib.Omega.{arith}
-use lib.ListN.{getD, length, replicate, length-replicate}
+use lib.ListN.{getD, replicate, length-replicate}
 use lib.Pow.{pow-pos}
 use Rattle.bits.specs.Slot.{slot, cut}
 use Rattle.bits.specs.Tab.{tabulate}

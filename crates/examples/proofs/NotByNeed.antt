@@ -1,12 +1,11 @@
 -- What is not said by need. List A needs a chunk of either pool. Where one is lent, it is neither refused with 7 nor with 8 nor with anything
 -- else; where none is, it is not accepted, and the second pool speaks first.
-use mathlib.Core.Path.{_≡_, refl}
+use mathlib.Core.Path.{refl}
 use mathlib.Core.Bool.{true, false≢true}
-use mathlib.Core.List.{[], _∷_}
+use mathlib.Core.List.{[]}
 use Prim.Native.Nat.{ℕ}
 use native.Mathlib.Omega.{arith}
 use Rattle.routes.specs.Said.{accepted, refused}
-use Rattle.standing.specs.Cells.{need}
 use Rattle.sail.specs.Geometry.{standardGeo}
 use Rattle.sail_theory.specs.Calls.{Terms}
 use Rattle.demands.proofs.Wants.{ByNeed}

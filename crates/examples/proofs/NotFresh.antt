@@ -3,18 +3,18 @@
 use mathlib.Core.Path.{_≡_, sym, _∙_, ap}
 use mathlib.Core.Bool.{false≢true}
 use mathlib.Core.List.{List, [], _∷_}
-use Prim.Native.Nat.{ℕ, _-_, _<_}
+use Prim.Native.Nat.{ℕ, _-_}
 use native.Mathlib.Omega.{arith}
 use lib.ListN.{length-set}
 use Rattle.bits.specs.Tab.{tabulate}
 use Rattle.bits.specs.Count.{count}
 use Rattle.routes.specs.Record.{recordAt, routesOf}
-use Rattle.routes.specs.Said.{Said, accepted, refused}
+use Rattle.routes.specs.Said.{accepted, refused}
 use Rattle.routes.specs.declared.Route.{Route}
 use Rattle.standing.specs.Cells.{any, first, best}
 use Rattle.sail.specs.Geometry.{standardGeo}
 use Rattle.sail.specs.Sizes.{Sized}
-use Rattle.sail.specs.Sound.{standing, used, cellsRead}
+use Rattle.sail.specs.Sound.{cellsRead}
 use Rattle.sail.specs.Walk.{hopSaid, lookupSaid}
 use Rattle.sail.proofs.Sounds.{sail-serves}
 use Rattle.sail_theory.specs.Calls.{out}

@@ -1,8 +1,8 @@
 -- What is not the answer for an address where list A stands: another hop, another count, no route or a refusal at a covered address, and a
 -- hop where no route covers.
 use mathlib.Core.Path.{_≡_, refl, _∙_}
-use mathlib.Core.List.{List, [], _∷_}
-use Prim.Native.Nat.{ℕ, _≤_}
+use mathlib.Core.List.{List, []}
+use Prim.Native.Nat.{ℕ}
 use native.Mathlib.Omega.{arith}
 use Rattle.bits.specs.Tab.{tabulate}
 use Rattle.routes.specs.Route.{Good}
