@@ -9,7 +9,6 @@ use native.Mathlib.Omega.{arith}
 use lib.Dec.{ltb}
 use lib.ListN.{getD, length}
 use borrow.Author.Tests.{ltb-false}
-use Rattle.routes.specs.Said.{accepts}
 use Rattle.routes.specs.Route.{keyOf, Good}
 use Rattle.standing.specs.Standing.{insert, remove}
 use Rattle.routes.specs.declared.Route.{Route}
@@ -33,7 +32,7 @@ use Rattle.sail_theory.proofs.Owners.{kept-over}
 use Rattle.sail_theory.proofs.Stores.{length-keep, kept-was, kept-stays, keep-closed, grant-lowest}
 use Rattle.sail_theory.proofs.Grown.{length-open, open-stays}
 use Rattle.sail_theory.proofs.Changes.{welcome-fits2, welcome-fits3, farewell-fits2, farewell-fits3, less}
-use Rattle.sail_theory.proofs.Accepted.{adding-said, accepted-welcome, adding-is, taking-said, accepted-farewell, taking-is}
+use Rattle.sail_theory.proofs.Accepted.{adding-is, taking-is}
 use Rattle.sail_theory.proofs.Frames.{Moved, framed, top-bounded, below-bounded, below-same}
 use Rattle.sail_theory.proofs.Read.{reads-second, reads-third}
 

@@ -1,6 +1,6 @@
 -- What each call says is decided by the first condition, in document 01's order, that holds. For each call a type lists what it can say,
 -- with all that then holds: the cases exclude each other, and the call says what one of them has. Assumes nothing.
-use mathlib.Core.Path.{_≡_, refl, sym, _∙_}
+use mathlib.Core.Path.{_≡_, sym, _∙_}
 use mathlib.Core.Logic.{_⊎_, inl, inr}
 use mathlib.Core.Bool.{true, false, not, cond, true≢false}
 use mathlib.Core.List.{List, [], _∷_}
