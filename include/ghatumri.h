@@ -40,8 +40,9 @@
  *   refused          bit 8: an index is carried; bits 32 to 63: the index
  *   gh_make          bits 16 to 31: routes after the call, so 0
  *   gh_load          bits 16 to 31: routes after the call
- *   gh_announce      bit 8: the prefix stood and its hop and mark were replaced; bits 16 to 31: routes after the call
- *   gh_withdraw      bits 16 to 31: routes after the call
+ *   gh_announce      bit 8: the prefix stood and its hop and mark were replaced; bit 9: bits after the length were
+ *                    cleared; bits 16 to 31: routes after the call
+ *   gh_withdraw      bit 9: bits after the length were cleared; bits 16 to 31: routes after the call
  *   gh_report        bits 16 to 31: routes; 32 to 47: need for second chunks; 48 to 63: need for third chunks
  *   gh_lookup        bits 8 to 15: cells read; 16 to 31: hop, 0 for no route
  *   gh_lookup_many   0; each word of out: the low 32 bits of what gh_lookup answers
@@ -166,7 +167,7 @@ static inline const char *gh_meaning(unsigned number)
         /*  0 */ "accepted",
         /*  1 */ "geometry outside the limits",
         /*  2 */ "a lent array has another size than it must, or too many chunks or records of room",
-        /*  3 */ "length over 32, or a bit set after the length",
+        /*  3 */ "length over 32, or a bit set after the length; announce and withdraw: length over 32 alone",
         /*  4 */ "hop not 1 to 32,767",
         /*  5 */ "table not sound; in lookup only: a chunk number is 0 or beyond its pool, or a third cell is no leaf",
         /*  6 */ "announce: list room full; load: more records than room; any record input: over 4,096",
@@ -188,6 +189,7 @@ static inline const char *gh_meaning(unsigned number)
 #define GH_HAS_INDEX(a)    ((unsigned)((a) >> 8 & 1))             /* refused: an index is carried */
 #define GH_INDEX(a)        ((uint32_t)((a) >> 32))                /* refused: that index */
 #define GH_REPLACED(a)     ((unsigned)((a) >> 8 & 1))             /* gh_announce */
+#define GH_CLEARED(a)      ((unsigned)((a) >> 9 & 1))             /* accepted gh_announce and gh_withdraw */
 #define GH_COUNT(a)        ((unsigned)((a) >> 16 & 0xffff))       /* make, load, announce, withdraw, report: routes */
 #define GH_NEED_SECOND(a)  ((unsigned)((a) >> 32 & 0xffff))       /* gh_report */
 #define GH_NEED_THIRD(a)   ((unsigned)((a) >> 48 & 0xffff))       /* gh_report */
@@ -227,9 +229,10 @@ uint64_t gh_load(uint32_t p1, uint32_t p2,
                  uint32_t *GH_RESTRICT own2, size_t own2_len,
                  uint32_t *GH_RESTRICT own3, size_t own3_len);
 
-/* Adds the route addr/len to hop with its mark, or replaces hop and mark of that prefix where it stands. A chunk that
- * is opened takes the lowest free number. Refusals: 1, 2, 3, 4, 10 for the mark, 5, 6, 7, 8; a replacement never meets
- * 6 to 8. */
+/* Adds the route addr/len to hop with its mark, or replaces hop and mark of that prefix where it stands. Bits of addr
+ * after the length are cleared first, and an accepted answer tells whether any were: 10.1.2.3/24 means 10.1.2.0/24. A
+ * chunk that is opened takes the lowest free number. Refusals: 1, 2, 3 for a length over 32, 4, 10 for the mark, 5, 6, 7,
+ * 8; a replacement never meets 6 to 8. */
 GH_CALL
 uint64_t gh_announce(uint32_t p1, uint32_t p2, uint32_t count,
                      uint8_t *GH_RESTRICT list, size_t list_len,
@@ -240,8 +243,8 @@ uint64_t gh_announce(uint32_t p1, uint32_t p2, uint32_t count,
                      uint32_t *GH_RESTRICT own3, size_t own3_len,
                      uint32_t addr, uint32_t len, uint32_t hop, uint32_t mark);
 
-/* Removes the route of the prefix addr/len and closes the chunks that are no longer needed.
- * Refusals: 1, 2, 3, 5, 9. */
+/* Removes the route of the prefix addr/len and closes the chunks that are no longer needed. Bits of addr after the length
+ * are cleared first, as by gh_announce. Refusals: 1, 2, 3 for a length over 32, 5, 9. */
 GH_CALL
 uint64_t gh_withdraw(uint32_t p1, uint32_t p2, uint32_t count,
                      uint8_t *GH_RESTRICT list, size_t list_len,

@@ -78,6 +78,7 @@ static void tables(void)
     CHECK(GH_HOP(a), 300);
     a = gh_announce(16, 24, 6, LENT, IP(10, 2, 3, 0), 24, 32767, GH_BEHIND);
     CHECK(GH_REPLACED(a), 1);
+    CHECK(GH_CLEARED(a), 0);
     CHECK(GH_COUNT(a), 6);
     CHECK(GH_ROUTE_MARK(gh_route(list, 6 * GH_RECORD_BYTES, 5)), GH_BEHIND);
     CHECK(GH_HOP(gh_lookup(16, 24, 6, LENT, IP(10, 2, 3, 9))), 32767);
@@ -85,8 +86,20 @@ static void tables(void)
     CHECK(GH_COUNT(a), 6);
     CHECK(GH_NEED_SECOND(a), 2);
     CHECK(GH_NEED_THIRD(a), 1);
+    /* Bits after the length are cleared, and that is told. */
+    a = gh_announce(16, 24, 6, LENT, IP(10, 2, 3, 7), 24, 301, GH_ATTACHED);
+    CHECK(a, (uint64_t)6 << 16 | 1 << 9 | 1 << 8);
+    CHECK(GH_CLEARED(a), 1);
+    CHECK(GH_REPLACED(a), 1);
+    CHECK(GH_ROUTE_ADDR(gh_route(list, 6 * GH_RECORD_BYTES, 5)), IP(10, 2, 3, 0));
+    a = gh_withdraw(16, 24, 6, LENT, IP(10, 1, 2, 200), 25);
+    CHECK(a, (uint64_t)5 << 16 | 1 << 9);
+    CHECK(GH_CLEARED(a), 1);
+    a = gh_announce(16, 24, 5, LENT, IP(10, 1, 2, 129), 25, 57, GH_BEHIND);
+    CHECK(a, (uint64_t)6 << 16 | 1 << 9);
     a = gh_withdraw(16, 24, 6, LENT, IP(10, 1, 2, 128), 25);
     CHECK(GH_NUMBER(a), 0);
+    CHECK(GH_CLEARED(a), 0);
     CHECK(GH_COUNT(a), 5);
     a = gh_lookup(16, 24, 5, LENT, IP(10, 1, 2, 200));
     CHECK(GH_HOP(a), 44);

@@ -97,8 +97,9 @@ static void changes(void)
         REFUSED(gh_table_announce(&t, IP(10, 1, 2, 0), 24, hops[k], marks[k]), GH_REFUSED_HOP);
         REFUSED(gh_table_announce(&t, IP(10, 1, 2, 0), 24, 32767, marks[k]), GH_REFUSED_INPUT);
     }
-    REFUSED(gh_table_announce(&t, IP(10, 1, 2, 1), 24, 0, GH_BEHIND), GH_REFUSED_PREFIX);
-    REFUSED(gh_table_withdraw(&t, IP(10, 1, 2, 1), 24), GH_REFUSED_PREFIX);
+    /* A bit after the length is no fault of a change, and what comes after 3 is told. It is one of the run. */
+    REFUSED(gh_table_announce(&t, IP(10, 1, 2, 1), 24, 0, GH_BEHIND), GH_REFUSED_HOP);
+    REFUSED(gh_table_withdraw(&t, IP(10, 1, 2, 1), 24), GH_REFUSED_ABSENT);
     REFUSED(gh_run(list_a, sizeof list_a, IP(10, 1, 0, 0), 15), GH_REFUSED_PREFIX);
     CHECK(GH_COUNT(gh_table_announce(&t, IP(10, 1, 2, 0), 24, 32767, GH_BEHIND)), 1);
     lent.first[0] = 0x8001;

@@ -46,7 +46,7 @@ impl Refusal {
         match self.number {
             1 => "geometry outside the limits",
             2 => "a lent array has another size than it must, or too many chunks or records of room",
-            3 => "length over 32, or a bit set after the length",
+            3 => "length over 32, or a bit set after the length; announce and withdraw: length over 32 alone",
             4 => "hop not 1 to 32,767",
             5 => "table not sound; in lookup only: a chunk number is 0 or beyond its pool, or a third cell is no leaf",
             6 => "announce: list room full; load: more records than room; any record input: over 4,096",
@@ -153,12 +153,22 @@ impl Geometry {
     pub const SMALL: Geometry = Geometry { p1: 12, p2: 22 };
 }
 
-/// What an accepted announcement did.
+/// What an accepted announcement did, and whether bits of the address after the length were cleared.
 #[derive(Clone, Copy, PartialEq, Eq, Debug)]
 pub enum Announced {
-    Added,
+    Added {
+        cleared: bool,
+    },
     /// The prefix stood, and its hop and mark were replaced.
-    Replaced,
+    Replaced {
+        cleared: bool,
+    },
+}
+
+/// An accepted withdrawal, and whether bits of the address after the length were cleared.
+#[derive(Clone, Copy, PartialEq, Eq, Debug)]
+pub struct Withdrawn {
+    pub cleared: bool,
 }
 
 /// What a table holds.
@@ -274,21 +284,24 @@ impl Table {
         Ok(self.count as usize)
     }
 
-    /// Adds a route, or replaces hop and mark of a prefix that stands.
-    /// Refusals: 1, 2, 3, 4, 5, 6, 7, 8; a replacement never meets 6 to 8, and a [`Mark`] never 10.
+    /// Adds a route, or replaces hop and mark of a prefix that stands. Bits of the address after the length are cleared
+    /// first: 10.1.2.3/24 means 10.1.2.0/24. Refusals: 1, 2, 3 for a length over 32, 4, 5, 6, 7, 8; a replacement never
+    /// meets 6 to 8, and a [`Mark`] never 10.
     pub fn announce(&mut self, addr: impl Into<Ipv4Addr>, len: u8, hop: u16, mark: Mark) -> Result<Announced, Refusal> {
         let addr = u32::from(addr.into());
         let answer = answered(lend!(gh_announce, (self.count), mut self, (addr, len.into(), hop.into(), mark as u32)))?;
         self.count = counted(answer);
-        Ok(if answer >> 8 & 1 == 1 { Announced::Replaced } else { Announced::Added })
+        let cleared = cleared(answer);
+        Ok(if answer >> 8 & 1 == 1 { Announced::Replaced { cleared } } else { Announced::Added { cleared } })
     }
 
-    /// Removes the route of a prefix. Refusals: 1, 2, 3, 5, 9.
-    pub fn withdraw(&mut self, addr: impl Into<Ipv4Addr>, len: u8) -> Result<(), Refusal> {
+    /// Removes the route of a prefix. Bits of the address after the length are cleared first, as by [`Table::announce`].
+    /// Refusals: 1, 2, 3 for a length over 32, 5, 9.
+    pub fn withdraw(&mut self, addr: impl Into<Ipv4Addr>, len: u8) -> Result<Withdrawn, Refusal> {
         let addr = u32::from(addr.into());
         let answer = answered(lend!(gh_withdraw, (self.count), mut self, (addr, len.into())))?;
         self.count = counted(answer);
-        Ok(())
+        Ok(Withdrawn { cleared: cleared(answer) })
     }
 
     /// The route count and both needs of a sound table. Refusals: 1, 2, 5.
@@ -321,6 +334,10 @@ impl Table {
 
 fn counted(answer: u64) -> u32 {
     (answer >> 16) as u32 & 0xFFFF
+}
+
+fn cleared(answer: u64) -> bool {
+    answer >> 9 & 1 == 1
 }
 
 /// A tree bitmap image: three words for each node, and the hops.

@@ -16,6 +16,9 @@ fn list_a() -> Vec<u8> {
     .collect()
 }
 
+const ADDED: Announced = Announced::Added { cleared: false };
+const REPLACED: Announced = Announced::Replaced { cleared: false };
+
 fn refused<T: std::fmt::Debug>(r: Result<T, Refusal>) -> (u8, Option<u32>) {
     let refusal = r.unwrap_err();
     (refusal.number, refusal.index)
@@ -41,15 +44,15 @@ fn a_table() {
     assert_eq!(found(out[1]), Ok(Found { hop: Some(6), reads: 1 }));
     assert_eq!(refused(table.lookup_many(&addrs, &mut [0; 3])), (2, None));
 
-    assert_eq!(table.announce([10, 1, 0, 0], 16, 32, Mark::Behind), Ok(Announced::Replaced));
-    assert_eq!(table.announce([11, 0, 0, 0], 8, 7, Mark::Attached), Ok(Announced::Added));
+    assert_eq!(table.announce([10, 1, 0, 0], 16, 32, Mark::Behind), Ok(REPLACED));
+    assert_eq!(table.announce([11, 0, 0, 0], 8, 7, Mark::Attached), Ok(ADDED));
     assert_eq!(table.count, 6);
     assert_eq!(route(table.records(), 5), Ok(Some(Route::new([11, 0, 0, 0], 8, 7, Mark::Attached))));
-    assert_eq!(table.announce([11, 0, 0, 0], 8, 7, Mark::Behind), Ok(Announced::Replaced));
+    assert_eq!(table.announce([11, 0, 0, 0], 8, 7, Mark::Behind), Ok(REPLACED));
     assert_eq!(route(table.records(), 5).unwrap().unwrap().mark, Mark::Behind);
     assert_eq!(refused(table.announce([10, 2, 0, 0], 17, 7, Mark::Behind)), (7, None));
-    assert_eq!(refused(table.announce([10, 1, 0, 0], 15, 0, Mark::Behind)), (3, None));
-    table.withdraw([0, 0, 0, 0], 0).unwrap();
+    assert_eq!(refused(table.announce([10, 1, 0, 0], 33, 0, Mark::Behind)), (3, None));
+    assert_eq!(table.withdraw([0, 0, 0, 0], 0), Ok(Withdrawn { cleared: false }));
     assert_eq!(hop(&table, [192, 0, 2, 1]), Ok((None, 1)));
     assert_eq!(refused(table.withdraw([0, 0, 0, 0], 0)), (9, None));
 
@@ -63,15 +66,33 @@ fn a_table() {
     assert_eq!(table.report(), Ok(Report { routes: 0, second: 0, third: 0 }));
 }
 
+/// 10.1.2.3/24 means 10.1.2.0/24, in announce and withdraw and nowhere else.
+#[test]
+fn host_bits() {
+    let mut table = Table::new(Geometry::STANDARD, 8, 1, 1).unwrap();
+    assert_eq!(table.announce([10, 1, 2, 3], 24, 44, Mark::Behind), Ok(Announced::Added { cleared: true }));
+    assert_eq!(table.records(), [0x0A, 0x01, 0x02, 0x00, 0x18, 0x00, 0x00, 0x2C]);
+    assert_eq!(table.announce([10, 1, 2, 0], 24, 45, Mark::Behind), Ok(REPLACED));
+    assert_eq!(table.announce([10, 1, 2, 7], 24, 46, Mark::Attached), Ok(Announced::Replaced { cleared: true }));
+    assert_eq!(table.count, 1);
+    assert_eq!(table.withdraw([10, 1, 2, 9], 24), Ok(Withdrawn { cleared: true }));
+    assert_eq!(refused(table.withdraw([10, 1, 2, 9], 24)), (9, None));
+    assert_eq!(refused(table.announce([10, 1, 2, 3], 33, 44, Mark::Behind)), (3, None));
+    let loose = Route::new([10, 1, 2, 3], 24, 44, Mark::Behind).record();
+    assert_eq!(refused(table.load(&loose)), (3, Some(0)));
+    assert_eq!(refused(Image::of(&loose)), (3, Some(0)));
+    assert_eq!(refused(run(&list_a(), [10, 1, 2, 3], 24)), (3, None));
+}
+
 /// Numbers that differ, and that do not fit 8 bits: two second chunks and one third, runs and counts over 255, an index
 /// over 16 bits.
 #[test]
 fn every_field() {
     let mut table = Table::new(Geometry::STANDARD, 8, 2, 1).unwrap();
     table.load(&list_a()).unwrap();
-    assert_eq!(table.announce([10, 2, 3, 0], 24, 300, Mark::Behind), Ok(Announced::Added));
+    assert_eq!(table.announce([10, 2, 3, 0], 24, 300, Mark::Behind), Ok(ADDED));
     assert_eq!(table.report(), Ok(Report { routes: 6, second: 2, third: 1 }));
-    assert_eq!(table.announce([10, 2, 3, 0], 24, 32_767, Mark::Behind), Ok(Announced::Replaced));
+    assert_eq!(table.announce([10, 2, 3, 0], 24, 32_767, Mark::Behind), Ok(REPLACED));
     assert_eq!(table.lookup([10, 2, 3, 4]), Ok(Found { hop: Some(32_767), reads: 2 }));
 
     // 10.x.y.0/24, the k-th to hop k + 1. 10.2.0.0/15 has those from 512 on.

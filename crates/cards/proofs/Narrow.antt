@@ -85,12 +85,14 @@ module _ (t : Table) (l : Lent) where
 
   -- 3 for a length over 32; 4 for a hop over 32,767, or 3 where that comes first; 10 for a mark over 1, or 3 or 4 where that comes first
   pub announced-long : (a hop mark : ℕ) → AlikeOver 32 (λ (len : ℕ). announced t l (route a len hop mark))
-  announced-long a hop mark x y h k = wrong-alike (route a x hop mark) (route a y hop mark) (WrongRoute.prefix (λ p. omega (arith, p .len-ok))) (WrongRoute.prefix (λ p. omega (arith, p .len-ok)))
+  announced-long a hop mark x y h k =
+      wrong-alike (route a x hop mark) (route a y hop mark) (WrongRoute.prefix (λ p. omega (arith, p .len-ok))) (WrongRoute.prefix (λ p. omega (arith, p .len-ok)))
 
   pub announced-high : (a len mark : ℕ) → AlikeOver 32767 (λ (hop : ℕ). announced t l (route a len hop mark))
   announced-high a len mark x y h k = go (prefix? (cut len a) len)
     where
-      alike : {n : ℕ} → WrongRoute (cutRoute (route a len x mark)) n → WrongRoute (cutRoute (route a len y mark)) n → announced t l (route a len x mark) ≡ announced t l (route a len y mark)
+      alike : {n : ℕ} → WrongRoute (cutRoute (route a len x mark)) n → WrongRoute (cutRoute (route a len y mark)) n
+          → announced t l (route a len x mark) ≡ announced t l (route a len y mark)
       alike = wrong-alike (route a len x mark) (route a len y mark)
 
       go : Prefix (cut len a) len ⊎ (Prefix (cut len a) len → ⊥) → announced t l (route a len x mark) ≡ announced t l (route a len y mark)
@@ -100,7 +102,8 @@ module _ (t : Table) (l : Lent) where
   pub announced-marked : (a len hop : ℕ) → AlikeOver 1 (λ (mark : ℕ). announced t l (route a len hop mark))
   announced-marked a len hop x y h k = go (prefix? (cut len a) len) (hop? hop)
     where
-      alike : {n : ℕ} → WrongRoute (cutRoute (route a len hop x)) n → WrongRoute (cutRoute (route a len hop y)) n → announced t l (route a len hop x) ≡ announced t l (route a len hop y)
+      alike : {n : ℕ} → WrongRoute (cutRoute (route a len hop x)) n → WrongRoute (cutRoute (route a len hop y)) n
+          → announced t l (route a len hop x) ≡ announced t l (route a len hop y)
       alike = wrong-alike (route a len hop x) (route a len hop y)
 
       go : Prefix (cut len a) len ⊎ (Prefix (cut len a) len → ⊥) → ((1 ≤ hop) × (hop ≤ 32767)) ⊎ (1 ≤ hop → hop ≤ 32767 → ⊥)

@@ -113,11 +113,13 @@ module _ (t : Table) (l : Lent) where
   -- announce: 1, 2, 3, 4, 10, 5, 6, 7, 8; a replacement never meets 6 to 8. The conditions are on the route with its bits after the length
   -- cleared, and what is accepted says first whether any were
   pub refused-number-announce : (r : Route) (s : Said) → (announced t l r .said ≡ telling (cleared (r .len) (r .addr)) s) ↔ Announce t l (cutRoute r) s
-  refused-number-announce r = told-exactly _ (Announce t l (cutRoute r)) _ _ (announce-said t l r) (announce-judged t l (cutRoute r)) (announce-only t l (cutRoute r))
+  refused-number-announce r =
+      told-exactly _ (Announce t l (cutRoute r)) _ _ (announce-said t l r) (announce-judged t l (cutRoute r)) (announce-only t l (cutRoute r))
 
   -- withdraw: 1, 2, 3, 5, 9, of the cleared prefix
   pub refused-number-withdraw : (a len : ℕ) (s : Said) → (withdrawn t l a len .said ≡ telling (cleared len a) s) ↔ Withdraw t l (cut len a) len s
-  refused-number-withdraw a len = told-exactly _ (Withdraw t l (cut len a) len) _ _ (withdraw-said t l a len) (withdraw-judged t l (cut len a) len) (withdraw-only t l (cut len a) len)
+  refused-number-withdraw a len =
+      told-exactly _ (Withdraw t l (cut len a) len) _ _ (withdraw-said t l a len) (withdraw-judged t l (cut len a) len) (withdraw-only t l (cut len a) len)
 
   -- report: 1, 2, 5
   pub refused-number-report : (s : Said) → (reported t l ≡ s) ↔ Report t l s

@@ -106,13 +106,15 @@ alters-none g a len l u e = rw e (record { first = λ q h n. refl; second = λ q
 pub change-frame-announce : (t : Table) (l : Lent) (r : Route) → Alters (t .geometry) (cut (r .len) (r .addr)) (r .len) l (announced t l r .lent)
 change-frame-announce t l r =
     ⊎-elim (announce-alters t l r)
-    (λ (e : accepts (announced t l r .said) ≡ false). alters-none (t .geometry) (cut (r .len) (r .addr)) (r .len) l _ (ap (λ (o : Out). o .lent) (announce-refused t l r e)))
+    (λ (e : accepts (announced t l r .said) ≡ false).
+    alters-none (t .geometry) (cut (r .len) (r .addr)) (r .len) l _ (ap (λ (o : Out). o .lent) (announce-refused t l r e)))
     (decided (accepts (announced t l r .said)))
 
 pub change-frame-withdraw : (t : Table) (l : Lent) (a len : ℕ) → Alters (t .geometry) (cut len a) len l (withdrawn t l a len .lent)
 change-frame-withdraw t l a len =
     ⊎-elim (withdraw-alters t l a len)
-    (λ (e : accepts (withdrawn t l a len .said) ≡ false). alters-none (t .geometry) (cut len a) len l _ (ap (λ (o : Out). o .lent) (withdraw-refused t l a len e)))
+    (λ (e : accepts (withdrawn t l a len .said) ≡ false).
+    alters-none (t .geometry) (cut len a) len l _ (ap (λ (o : Out). o .lent) (withdraw-refused t l a len e)))
     (decided (accepts (withdrawn t l a len .said)))
 
 -- So the hop of no address outside the prefix changes. (Its count of cells can, where a chunk is opened or closed above it.)

@@ -48,15 +48,18 @@ announce-elsewhere t l r x small off =
     ⊎-elim
     (λ (e : accepts (announced t l r .said) ≡ true).
     let w = announce-welcome t l r e in
-    changed t l _ (r .len) x small off (w .sound) _ _ _ (announce-holds t l r e) (insert-but (cutRoute r) (standing t l) (w .fine) (standing-good t l (w .sound))))
+    let but = insert-but (cutRoute r) (standing t l) (w .fine) (standing-good t l (w .sound)) in
+    changed t l _ (r .len) x small off (w .sound) _ _ _ (announce-holds t l r e) but)
     (λ (e : accepts (announced t l r .said) ≡ false). same t l x _ _ (announce-refused t l r e))
     (decided (accepts (announced t l r .said)))
 
-pub withdraw-elsewhere : (t : Table) (l : Lent) (a len x : ℕ) → x < 2 ^ 32 → slot len x ≢ slot len (cut len a) → hopBy t l x (withdrawn t l a len .table) (withdrawn t l a len .lent)
+pub withdraw-elsewhere : (t : Table) (l : Lent) (a len x : ℕ) → x < 2 ^ 32 → slot len x ≢ slot len (cut len a)
+    → hopBy t l x (withdrawn t l a len .table) (withdrawn t l a len .lent)
 withdraw-elsewhere t l a len x small off =
     ⊎-elim
     (λ (e : accepts (withdrawn t l a len .said) ≡ true).
     let w = withdraw-farewell t l a len e in
-    changed t l (cut len a) len x small off (w .sound) _ _ _ (withdraw-holds t l a len e) (remove-but (cut len a) len (standing t l) (w .prefix .len-ok) (standing-good t l (w .sound))))
+    let but = remove-but (cut len a) len (standing t l) (w .prefix .len-ok) (standing-good t l (w .sound)) in
+    changed t l (cut len a) len x small off (w .sound) _ _ _ (withdraw-holds t l a len e) but)
     (λ (e : accepts (withdrawn t l a len .said) ≡ false). same t l x _ _ (withdraw-refused t l a len e))
     (decided (accepts (withdrawn t l a len .said)))

@@ -79,15 +79,18 @@ leaves-owners (refused n) t l rs o = refl
 leaves-owners (refusedAt n k) t l rs o = refl
 
 -- whether bits were cleared is told beside it
-told-owners : (b : Bool) (s : Said) (t : Table) (l : Lent) (rs : List Route) (o : Owners) → ownersOf (leaving s t l rs o .lent) ≡ cond (accepts (told b (leaving s t l rs o) .said)) o (ownersOf l)
+told-owners : (b : Bool) (s : Said) (t : Table) (l : Lent) (rs : List Route) (o : Owners)
+    → ownersOf (leaving s t l rs o .lent) ≡ cond (accepts (told b (leaving s t l rs o) .said)) o (ownersOf l)
 told-owners b s t l rs o = leaves-owners s t l rs o ∙ ap (λ (c : Bool). cond c o (ownersOf l)) (sym (telling-accepts b (leaving s t l rs o .said)))
 
 done-owners : (t : Table) (l : Lent) (c : Call) → ownersOf (done t l c .lent) ≡ cond (accepts (done t l c .said)) (owned (t .geometry) (noOwners l) c (standing t l) (ownersOf l)) (ownersOf l)
 unfolding done announced adding withdrawn taking loaded
 done-owners t l (announce r) =
-    told-owners (cleared (r .len) (r .addr)) (announceSaid t l (cutRoute r)) t l (would (announce r) (standing t l)) (owned (t .geometry) (noOwners l) (announce r) (standing t l) (ownersOf l))
+    told-owners (cleared (r .len) (r .addr)) (announceSaid t l (cutRoute r)) t l (would (announce r) (standing t l))
+    (owned (t .geometry) (noOwners l) (announce r) (standing t l) (ownersOf l))
 done-owners t l (withdraw a len) =
-    told-owners (cleared len a) (withdrawSaid t l (cut len a) len) t l (would (withdraw a len) (standing t l)) (owned (t .geometry) (noOwners l) (withdraw a len) (standing t l) (ownersOf l))
+    told-owners (cleared len a) (withdrawSaid t l (cut len a) len) t l (would (withdraw a len) (standing t l))
+    (owned (t .geometry) (noOwners l) (withdraw a len) (standing t l) (ownersOf l))
 done-owners t l (load input) = leaves-owners (loadSaid t l input) t l (would (load input) (standing t l)) (owned (t .geometry) (noOwners l) (load input) (standing t l) (ownersOf l))
 
 module _ (t : Table) (l : Lent) (z : Sized (t .geometry) l) where

@@ -290,7 +290,9 @@ announced-first = told (announced (t []) (l []) (route (ip 10 1 2 0) 24 44 0)) (
 
 pub announced-other : MeetsAnnounce (t entered) (l entered) (ip 10 2 2 0) 24 45 0 (record { answer = ofAnnounce.Refused 7; table = t entered }) (l entered)
 unfolding starred answer after done saysAnnounce
-announced-other = sym (announce-off (t entered) (l entered) (route (ip 10 2 2 0) 24 45 0) (refused 7) (telling-once _ _ (refused 7) (sym (announce-said (t entered) (l entered) (route (ip 10 2 2 0) 24 45 0)) ∙ line 34)) refl)
+announced-other =
+    let said = announce-said (t entered) (l entered) (route (ip 10 2 2 0) 24 45 0) in
+    sym (announce-off (t entered) (l entered) (route (ip 10 2 2 0) 24 45 0) (refused 7) (telling-once _ _ (refused 7) (sym said ∙ line 34)) refl)
 
 -- bits that were cleared are told
 pub announced-loose : MeetsAnnounce (t []) (l []) (ip 10 1 2 3) 24 44 0 (record { answer = ofAnnounce.Added true; table = t loose }) (l loose)

@@ -190,7 +190,8 @@ record Changed (count : ℕ) (vs : List ℕ) : Type 0 where
   replaced : value 1 vs < 2
   few : count < 2 ^ 16
 
-change-count : (most count : ℕ) (P : List ℕ → Type 0) → ((vs : List ℕ) → P vs → Changed count vs) → (s : Said) → Fits most P s → accepts s ≡ true → countOf (packChange count s) ≡ count
+change-count : (most count : ℕ) (P : List ℕ → Type 0) → ((vs : List ℕ) → P vs → Changed count vs)
+    → (s : Said) → Fits most P s → accepts s ≡ true → countOf (packChange count s) ≡ count
 unfolding packed
 change-count most count P small _ (Fits.values vs p) e = let h = small vs p in omega (arith, h .cleared, h .replaced, h .few)
 change-count most count P small _ (Fits.number n a b) e = absurd (false≢true e)

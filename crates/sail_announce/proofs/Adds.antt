@@ -101,7 +101,8 @@ module _ (t : Table) (l : Lent) (r : Route) (w : Welcome t l r) where
         stale = λ ws par ready z. underway-stale g (r .addr) (r .len) (insert r rs) l (lent s (l .first) (l .second) (l .third) own2′ own3′) (welcome-underway t l r w s) ws par ready (z ∙ holds .routes);
       })
 
-      module _ (first second third : List ℕ) (h : Repainted g (routesOf s m) (cells (l .first) (l .second) (l .third) own2 own3) first second third) (n : Announce) (c : Bool) (q : saysAnnounce n ≡ accepted (bit c ∷ bit (saysPut p) ∷ [])) where
+      module _ (first second third : List ℕ) (h : Repainted g (routesOf s m) (cells (l .first) (l .second) (l .third) own2 own3) first second third)
+          (n : Announce) (c : Bool) (q : saysAnnounce n ≡ accepted (bit c ∷ bit (saysPut p) ∷ [])) where
         pub add-done : out (saysAnnounce n) (record { geometry = g; count = m }) (lent s first second third own2 own3) ≡ told c (adding t l r)
         add-done =
             let then : Lent = lent s (l .first) (l .second) (l .third) own2′ own3′ in

@@ -112,7 +112,8 @@ module _ (t : Table) (l : Lent) (r : Route) where
           }) (w .enough2) (w .enough3)))
 
   -- what is then left
-  pub adding-is : Welcome t l r → adding t l r ≡ record { said = accepted (bit (stands (key r) rs) ∷ []); table = stateOf t (insert r rs); lent = lentOf t l (insert r rs) (opened (t .geometry) (ownersOf l) r) }
+  pub adding-is : Welcome t l r → adding t l r
+      ≡ record { said = accepted (bit (stands (key r) rs) ∷ []); table = stateOf t (insert r rs); lent = lentOf t l (insert r rs) (opened (t .geometry) (ownersOf l) r) }
   unfolding adding
   adding-is w = rw (welcome-said w)
 
@@ -153,7 +154,8 @@ module _ (t : Table) (l : Lent) (a len : ℕ) where
   pub farewell-said : Farewell t l a len → withdrawSaid t l a len ≡ accepted []
   farewell-said w = withdraw-only t l a len _ (Withdraw.removed w)
 
-  pub taking-is : Farewell t l a len → taking t l a len ≡ record { said = accepted []; table = stateOf t left; lent = lentOf t l left (kept (t .geometry) left (ownersOf l)) }
+  pub taking-is : Farewell t l a len → taking t l a len
+      ≡ record { said = accepted []; table = stateOf t left; lent = lentOf t l left (kept (t .geometry) left (ownersOf l)) }
   unfolding taking
   taking-is w = rw (farewell-said w)
 

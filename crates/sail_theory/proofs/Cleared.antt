@@ -65,7 +65,8 @@ low-zero a (suc s) h =
     let here : a / 2 ^ s % 2 ≡ 0 = h s (le-refl (suc s)) in
     ap (λ (x : ℕ). a % 2 ^ x) (omega arith) ∙ mod-pow-add a 1 s ∙ rw (here, low-zero a s (λ k l. h k (le-step l)), zero-mul)
 
--- None is cleared exactly where every bit after the length is zero. So none ever is of an address whose length is 32.
+-- None is cleared exactly where every bit after the length is zero: the cut has zeros there (`cut-bits`), and an address with zeros there is its
+-- own cut. So none ever is of an address whose length is 32.
 pub cleared-bits : (l a : ℕ) → (cleared l a ≡ false) ↔ ((k : ℕ) → k < 32 - l → bitAt a k ≡ 0)
 unfolding cut
 cleared-bits l a = (
@@ -157,9 +158,11 @@ module _ (t : Table) (l : Lent) (r : Route) where
     opened-lowest2 k x was now = opened-lowest (level1 (t .geometry)) (l .own2) c k x was (sym (ap {B = ℕ} (λ (u : Lent). getD (u .own2) k 0) after-is) ∙ now)
 
     pub opened-lowest3 : (k x : ℕ) → getD (l .own3) k 0 ≡ 0 → getD (announced t l r .lent .own3) k 0 ≡ suc x → (j : ℕ) → j < k → getD (l .own3) j 0 ≢ 0
-    opened-lowest3 k x was now = opened-lowest (level2 (t .geometry) (chunksOf (opened (t .geometry) (ownersOf l) c .own2))) (l .own3) c k x was (sym (ap {B = ℕ} (λ (u : Lent). getD (u .own3) k 0) after-is) ∙ now)
+    opened-lowest3 k x was now =
+        opened-lowest (level2 (t .geometry) (chunksOf (opened (t .geometry) (ownersOf l) c .own2))) (l .own3) c k x was
+        (sym (ap {B = ℕ} (λ (u : Lent). getD (u .own3) k 0) after-is) ∙ now)
 
-  -- "3 is now only a length over 32"
+  -- "3 is now only a length over 32": 3 comes after 1 and 2, and says that the cut is no prefix, which only its length can cause
   pub three-is-length-announce : r .addr < 2 ^ 32 → (announced t l r .said ≡ refused 3) ↔ (Sized (t .geometry) l × (32 < r .len))
   three-is-length-announce h = (
     (λ e. go (announce-judged t l c) (telling-once b _ (refused 3) (sym announce-said ∙ e))),
@@ -188,14 +191,15 @@ module _ (t : Table) (l : Lent) (r : Route) where
       let same : c ≡ r = ap (λ (x : ℕ). record { addr = x; len = r .len; mark = r .mark; hop = r .hop }) (f .prefix .clear) in
       ap₂ (λ (x : Bool) (y : Route). told x (adding t l y)) (none-cleared (r .len) (r .addr) (f .prefix .clear)) same
 
-  -- A route and its cut are announced alike: one outcome, told with the flag and without
+  -- A route and its cut are announced alike: one outcome, told with the flag and without. A cut address is its own cut
   pub clear-same-announce : (o : Out) × (announced t l r ≡ told b o) × (announced t l c ≡ told false o)
   unfolding announced
   clear-same-announce =
       let e = cut-cut (r .len) (r .addr) in
-      (adding t l c, refl, ap₂ (λ (x : Bool) (a : ℕ). told x (adding t l (record { addr = a; len = r .len; mark = r .mark; hop = r .hop }))) (none-cleared (r .len) (cut (r .len) (r .addr)) e) e)
+      let at : ℕ → Route = λ a. record { addr = a; len = r .len; mark = r .mark; hop = r .hop } in
+      (adding t l c, refl, ap₂ (λ (x : Bool) (a : ℕ). told x (adding t l (at a))) (none-cleared (r .len) (c .addr) e) e)
 
--- withdraw
+-- withdraw, in the same way
 module _ (t : Table) (l : Lent) (a len : ℕ) where
   abbrev p : ℕ
   p = cut len a
@@ -218,7 +222,8 @@ module _ (t : Table) (l : Lent) (a len : ℕ) where
   withdraw-refused e = withdraw-off (withdrawSaid t l p len) refl (sym withdraw-accepts ∙ e)
 
   -- Accepted: sound, and the list holds the routes with that of the cleared prefix removed
-  pub withdraw-holds : accepts (withdrawn t l a len .said) ≡ true → Holds t l (remove (keyOf p len) (standing t l)) (withdrawn t l a len .table) (withdrawn t l a len .lent)
+  pub withdraw-holds : accepts (withdrawn t l a len .said) ≡ true
+      → Holds t l (remove (keyOf p len) (standing t l)) (withdrawn t l a len .table) (withdrawn t l a len .lent)
   unfolding withdrawn
   withdraw-holds e = taking-holds t l p len (withdraw-farewell e)
 

@@ -78,7 +78,9 @@ module _ (t : Table) (l : Lent) (s : Sound t l) where
       go (inl e) =
           let w = replaced-welcome t l c proper e in
           rw (welcome-said t l c w) (neither (w .enough2) (w .enough3) (bit (stands (key c) rs) ∷ []))
-      go (inr e) = rw (roomy-said t l c (record { proper = proper; new = e; room = omega (arith, insert-adds c rs e, f .1) })) (wanting (termsOf t l) (insert c rs) (0 ∷ []))
+      go (inr e) =
+          let roomy = roomy-said t l c (record { proper = proper; new = e; room = omega (arith, insert-adds c rs e, f .1) }) in
+          rw roomy (wanting (termsOf t l) (insert c rs) (0 ∷ []))
 
   withdraw-wants : (a len : ℕ) → Formed (withdraw a len) rs (roomOf l) → Wanting (termsOf t l) (remove (keyOf (cut len a) len) rs) (withdrawn t l a len .said)
   withdraw-wants a len f =

@@ -171,15 +171,15 @@ leaving s t l rs o = outcome s t l (stateOf t rs) (lentOf t l rs o)
 unfoldable pub made : Table → Lent → Out
 made t l = outcome (makeSaid t l) t l (freshTable (t .geometry)) (freshLent l)
 
--- "Announce adds, or replaces the hop of a standing prefix, and says which"; the mark is replaced with the hop. This is of a route that has no
--- bit set after its length
+-- Announce and withdraw, of a prefix with no bit set after its length. "Announce adds, or replaces the hop of a standing prefix, and says
+-- which"; the mark is replaced with the hop
 unfoldable pub adding : Table → Lent → Route → Out
 adding t l r =
     leaving (announceSaid t l r) t l
     (insert r (standing t l))
     (opened (t .geometry) (ownersOf l) r)
 
--- "Withdraw removes, and closes chunks that are no longer needed"; of such a prefix too
+-- "Withdraw removes, and closes chunks that are no longer needed"
 unfoldable pub taking : Table → Lent → ℕ → ℕ → Out
 taking t l a len =
     leaving (withdrawSaid t l a len) t l
@@ -190,7 +190,7 @@ taking t l a len =
 abbrev pub cutRoute : Route → Route
 cutRoute r = record { addr = cut (r .len) (r .addr); len = r .len; mark = r .mark; hop = r .hop }
 
--- whether the cut clears any bit
+-- whether the cut clears any bit: exactly where one is set after the length (`cleared-bits`)
 abbrev pub cleared : ℕ → ℕ → Bool
 cleared len a = not (eqb (cut len a) a)
 
@@ -203,8 +203,8 @@ telling b (refusedAt n k) = refusedAt n k
 abbrev pub told : Bool → Out → Out
 told b o = record { said = telling b (o .said); table = o .table; lent = o .lent }
 
--- "Announce and withdraw now clear the bits after the length and say in an accepted answer whether any were cleared; all else .. goes by the
--- cleared prefix"
+-- The calls. "Announce and withdraw now clear the bits after the length and say in an accepted answer whether any were cleared; all else ..
+-- goes by the cleared prefix"
 unfoldable pub announced : Table → Lent → Route → Out
 announced t l r = told (cleared (r .len) (r .addr)) (adding t l (cutRoute r))
 

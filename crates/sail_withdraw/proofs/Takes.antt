@@ -46,7 +46,8 @@ use Rattle.sail_withdraw.specs.declared.answers.Withdraw.the-variants as
 -- The address x is cut to the length before the prefix is judged.
 module _ (t : Table) (l : Lent) (a len x : ℕ) (e : x ≡ cut len a) where
   -- a refusal leaves all as it was
-  pub withdraw-refused : (z : ℕ) → Judged z (withdrawSaid t l x len) (Farewell t l x len) → (z ≡ 0 → ⊥) → out (saysWithdraw (withdraw.Refused z)) t l ≡ withdrawn t l a len
+  pub withdraw-refused : (z : ℕ) → Judged z (withdrawSaid t l x len) (Farewell t l x len) → (z ≡ 0 → ⊥)
+      → out (saysWithdraw (withdraw.Refused z)) t l ≡ withdrawn t l a len
   unfolding saysWithdraw
   withdraw-refused z k h = sym (withdraw-off t l a len (refused z) (rw e at (k .off h)) refl)
 
@@ -168,7 +169,8 @@ module _ (t : Table) (l : Lent) (a len : ℕ) (w : Farewell t l a len) where
         })
 
         module _ (first′ second′ third′ : List ℕ) (h : Repainted g (routesOf s m) (cells (l .first) second third own2 own3) first′ second′ third′) where
-          pub take-done : (c : Bool) → out (saysWithdraw (withdraw.Removed c)) (record { geometry = g; count = m }) (lent s first′ second′ third′ own2 own3) ≡ told c (taking t l a len)
+          pub take-done : (c : Bool)
+              → out (saysWithdraw (withdraw.Removed c)) (record { geometry = g; count = m }) (lent s first′ second′ third′ own2 own3) ≡ told c (taking t l a len)
           unfolding saysWithdraw
           take-done c =
               let h′ = underway-asked g a len left l _ (farewell-underway t l a len w s) first′ second′ third′ (rw (holds .routes, own2-is, own3-is, second-is, third-is) at h) in

@@ -329,6 +329,27 @@ pub fn asked_prefix(rng: &mut Rng, field: &Field, routes: &[Route]) -> (u32, u32
     }
 }
 
+/// The address with bits after the length set, as some feeds leave them: none, one, all, or some.
+pub fn loose(rng: &mut Rng, addr: u32, len: u32) -> u32 {
+    if len >= 32 {
+        return addr;
+    }
+    let after = !cut(u32::MAX, len);
+    addr | match rng.below(6) {
+        0 => 1,
+        1 => 1 << (31 - len),
+        2 => after,
+        3 => rng.word() & after,
+        _ => 0,
+    }
+}
+
+/// A prefix to announce or to withdraw: as `asked_prefix`, with loose bits.
+pub fn asked_loose_prefix(rng: &mut Rng, field: &Field, routes: &[Route]) -> (u32, u32) {
+    let (addr, len) = asked_prefix(rng, field, routes);
+    (loose(rng, addr, len), len)
+}
+
 /// A hop to announce: mostly a good one, and bad ones of which 65,536 and 65,580 would be others in 16 bits.
 pub fn asked_hop(rng: &mut Rng, field: &Field) -> u32 {
     if rng.one_in(20) {

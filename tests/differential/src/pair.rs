@@ -150,9 +150,10 @@ impl Pair {
             Call::Load(input) => {
                 standing = plain::check_input(input).expect("an accepted input is good");
             }
-            Call::Announce(addr, len, hop, mark) => {
-                let route = Route { addr: *addr, len: *len as u8, hop: *hop as u16, mark: *mark as u8 };
-                let replaced = match standing.iter_mut().find(|r| (r.addr, r.len) == (*addr, route.len)) {
+            Call::Announce(given, len, hop, mark) => {
+                let addr = plain::cleared(*given, *len);
+                let route = Route { addr, len: *len as u8, hop: *hop as u16, mark: *mark as u8 };
+                let replaced = match standing.iter_mut().find(|r| (r.addr, r.len) == (addr, route.len)) {
                     Some(r) => {
                         if r.hop == route.hop && r.mark != route.mark {
                             run.count("announce", "mark alone");
@@ -172,11 +173,20 @@ impl Pair {
                 if replaced {
                     run.count("announce", "replaced");
                 }
+                self.told_cleared(run, call, answer, *given != addr);
+                if *given != addr {
+                    run.count("announce", if replaced { "replaced and cleared" } else { "added and cleared" });
+                }
                 self.count_opened(run);
             }
-            Call::Withdraw(addr, len) => {
-                standing.retain(|r| (r.addr, r.len as u32) != (*addr, *len));
-                if standing.iter().any(|r| (r.len as u32) < *len && r.covers(*addr)) {
+            Call::Withdraw(given, len) => {
+                let addr = plain::cleared(*given, *len);
+                standing.retain(|r| (r.addr, r.len as u32) != (addr, *len));
+                self.told_cleared(run, call, answer, *given != addr);
+                if *given != addr {
+                    run.count("withdraw", "cleared");
+                }
+                if standing.iter().any(|r| (r.len as u32) < *len && r.covers(addr)) {
                     run.count("withdraw", "under a cover");
                 }
                 let fewer = |now: &[u32], was: &[u32]| used(now) < used(was);
@@ -198,6 +208,13 @@ impl Pair {
         }
         if self.count as usize != self.standing.as_ref().unwrap().len() {
             run.fault("the count is not that of the standing routes", &|| self.tell(&told));
+        }
+    }
+
+    /// Bit 9 of an accepted change tells whether bits after the length were cleared.
+    fn told_cleared(&self, run: &mut Run, call: &Call, answer: u64, cleared: bool) {
+        if (answer >> 9 & 1 == 1) != cleared {
+            run.fault("cleared is told wrongly", &|| self.tell(&format!("{call:?}")));
         }
     }
 

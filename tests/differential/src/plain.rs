@@ -83,6 +83,11 @@ pub fn prefix_ok(addr: u32, len: u32) -> bool {
     len <= 32 && (addr as u64) % (1u64 << (32 - len)) == 0
 }
 
+/// The address with all bits after the length zero. The length is at most 32.
+pub fn cleared(addr: u32, len: u32) -> u32 {
+    (addr as u64 - addr as u64 % (1u64 << (32 - len))) as u32
+}
+
 pub fn hop_ok(hop: u32) -> bool {
     hop >= 1 && hop <= HOP_MAX as u32
 }
@@ -512,18 +517,30 @@ pub fn load(p1: u32, p2: u32, input: &[u8], lent: &mut Lent) -> u64 {
     })())
 }
 
-/// Refusals 3, 4 and request d's: "announce meets 10 for a mark over 1, after 4 and before 5".
-fn check_route(addr: u32, len: u32, hop: u32, mark: u32) -> Result<Route, u64> {
-    if !prefix_ok(addr, len) {
+/// Request b: "Announce and withdraw now clear the bits after the length"; "for announce and withdraw, 3 is now only a
+/// length over 32". Answers the cleared address and the length.
+fn check_prefix(addr: u32, len: u32) -> Result<(u32, u8), u64> {
+    if len > 32 {
         return Err(refused(3));
     }
+    Ok((cleared(addr, len), len as u8))
+}
+
+/// Bit 9 of an accepted answer: they "say in an accepted answer whether any were cleared".
+fn told_cleared(given: u32, prefix: u32) -> u64 {
+    ((given != prefix) as u64) << 9
+}
+
+/// Refusals 3, 4 and request d's: "announce meets 10 for a mark over 1, after 4 and before 5".
+fn check_route(addr: u32, len: u32, hop: u32, mark: u32) -> Result<Route, u64> {
+    let (addr, len) = check_prefix(addr, len)?;
     if !hop_ok(hop) {
         return Err(refused(4));
     }
     if !mark_ok(mark) {
         return Err(refused(10));
     }
-    Ok(Route { addr, len: len as u8, hop: hop as u16, mark: mark as u8 })
+    Ok(Route { addr, len, hop: hop as u16, mark: mark as u8 })
 }
 
 /// Request d: "Announce takes the mark and a replacement replaces it with the hop."
@@ -546,22 +563,20 @@ pub fn announce(p1: u32, p2: u32, count: u32, lent: &mut Lent, addr: u32, len: u
             }
         }
         write_all(p1, p2, &routes, lent);
-        Ok(accepted_routes(routes.len()) | (standing.is_some() as u64) << 8)
+        Ok(accepted_routes(routes.len()) | (standing.is_some() as u64) << 8 | told_cleared(addr, route.addr))
     })())
 }
 
 pub fn withdraw(p1: u32, p2: u32, count: u32, lent: &mut Lent, addr: u32, len: u32) -> u64 {
     either((|| {
         check_sizes(p1, p2, lent)?;
-        if !prefix_ok(addr, len) {
-            return Err(refused(3));
-        }
+        let (prefix, len) = check_prefix(addr, len)?;
         let mut routes = sound(p1, p2, count, lent).ok_or(refused(5))?;
-        let k = routes.iter().position(|r| (r.addr, r.len as u32) == (addr, len)).ok_or(refused(9))?;
+        let k = routes.iter().position(|r| (r.addr, r.len) == (prefix, len)).ok_or(refused(9))?;
         routes.remove(k);
         close_unneeded(p1, p2, &routes, lent);
         write_all(p1, p2, &routes, lent);
-        Ok(accepted_routes(routes.len()))
+        Ok(accepted_routes(routes.len()) | told_cleared(addr, prefix))
     })())
 }
 

@@ -4,7 +4,7 @@ use crate::damage::{renumber, Harm};
 use crate::pair::{used, Call, Pair};
 use crate::run::Run;
 use differential::gen::{
-    asked_hop, asked_mark, asked_prefix, cut, damaged_input, mark, spread, tidy, wide, Field, Rng,
+    asked_hop, asked_loose_prefix, asked_mark, cut, damaged_input, loose, mark, spread, tidy, wide, Field, Rng,
 };
 use differential::plain::{geometry_ok, need, number, records, size2, size3, Lent, Route};
 
@@ -52,7 +52,7 @@ fn litter(rng: &mut Rng, t: &mut Lent) {
 }
 
 /// A route to announce: a new one, a standing one with another hop, or with another mark alone, one that nests with a
-/// standing one, a bad one.
+/// standing one, a bad one. One in three has loose bits after its length.
 fn to_announce(rng: &mut Rng, field: &Field, standing: &[Route]) -> Call {
     if !standing.is_empty() && rng.one_in(16) {
         let r = rng.pick(standing);
@@ -63,7 +63,7 @@ fn to_announce(rng: &mut Rng, field: &Field, standing: &[Route]) -> Call {
             let r = rng.pick(standing);
             (r.addr, r.len as u32)
         }
-        2 | 3 => asked_prefix(rng, field, standing),
+        2 | 3 => asked_loose_prefix(rng, field, standing),
         4 if !standing.is_empty() => {
             // A short route over standing ones, announced late.
             let r = *rng.pick(standing);
@@ -75,6 +75,7 @@ fn to_announce(rng: &mut Rng, field: &Field, standing: &[Route]) -> Call {
             (r.addr, r.len as u32)
         }
     };
+    let addr = if rng.one_in(3) { loose(rng, addr, len) } else { addr };
     let (hop, mark) = (asked_hop(rng, field), asked_mark(rng));
     let hop = if rng.one_in(24) { wide(rng, hop & 0x7FFF, 16) } else { hop };
     let mark = if rng.one_in(24) { wide(rng, mark & 1, 8) } else { mark };
@@ -83,11 +84,12 @@ fn to_announce(rng: &mut Rng, field: &Field, standing: &[Route]) -> Call {
 
 fn to_withdraw(rng: &mut Rng, field: &Field, standing: &[Route]) -> Call {
     if standing.is_empty() || rng.one_in(6) {
-        let (addr, len) = asked_prefix(rng, field, standing);
+        let (addr, len) = asked_loose_prefix(rng, field, standing);
         return Call::Withdraw(addr, len);
     }
     let r = rng.pick(standing);
-    Call::Withdraw(r.addr, r.len as u32)
+    let addr = if rng.one_in(3) { loose(rng, r.addr, r.len as u32) } else { r.addr };
+    Call::Withdraw(addr, r.len as u32)
 }
 
 fn to_load(rng: &mut Rng, field: &Field, t: &Pair) -> Call {

@@ -257,7 +257,8 @@ fn prefixes_and_hops() {
     let mut t = Lent::new(12, 22, 4, 1, 1);
     make(12, 22, &mut t);
     assert_eq!(announce(12, 22, 0, &mut t, 0, 33, 0, 0), 3);
-    assert_eq!(announce(12, 22, 0, &mut t, 1, 31, 0, 0), 3);
+    // A bit after the length is cleared (request b), so the hop is judged.
+    assert_eq!(announce(12, 22, 0, &mut t, 1, 31, 0, 0), 4);
     assert_eq!(announce(12, 22, 0, &mut t, 0, 0, 0, 0), 4);
     assert_eq!(announce(12, 22, 0, &mut t, 0, 0, 32_768, 0), 4);
     assert_eq!(announce(12, 22, 0, &mut t, 0, 0, 32_767, 0), routes_after(1));

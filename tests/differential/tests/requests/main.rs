@@ -3,6 +3,7 @@
 use differential::plain::*;
 
 mod basic;
+mod host_bits;
 mod mark;
 
 fn ip(a: u8, b: u8, c: u8, d: u8) -> u32 {
@@ -34,6 +35,7 @@ fn routes_after(count: u64) -> u64 {
 }
 
 const REPLACED: u64 = 1 << 8;
+const CLEARED: u64 = 1 << 9;
 
 /// A table of the routes in the standard geometry, with room for eight records and as many chunks as named.
 fn table(routes: &[Route], second: usize, third: usize) -> Lent {
