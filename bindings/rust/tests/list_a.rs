@@ -120,7 +120,7 @@ fn an_image() {
     assert_eq!(refused(Image::new(7, 4).build(&list_a())), (12, None));
     assert_eq!(refused(Image::new(0, 0).lookup([1, 2, 3, 4])), (13, None));
     assert_eq!(Image::of(&[]).unwrap().lookup([192, 0, 2, 1]), Ok(Found { hop: None, reads: 1 }));
-    let host = Image::of(&Route::new([10, 1, 2, 200], 32, 57).record()).unwrap();
+    let host = Image::of(&Route::new([10, 1, 2, 200], 32, 57, Mark::Behind).record()).unwrap();
     assert_eq!(host.lookup([10, 1, 2, 200]), Ok(Found { hop: Some(57), reads: 10 }));
     assert_eq!(host.lookup([10, 1, 2, 201]), Ok(Found { hop: None, reads: 8 }));
 }
