@@ -1,6 +1,6 @@
 //! A table of three routes, asked and changed.
 
-use ghatumri::{Geometry, Mark, Refusal, Table};
+use ghatumri::{Geometry, Mark, Reason, Refusal, Table};
 use std::net::Ipv4Addr;
 
 fn main() -> Result<(), Refusal> {
@@ -12,6 +12,12 @@ fn main() -> Result<(), Refusal> {
     println!("hop {:?} in {} cells", found.hop, found.reads);
     table.withdraw([10, 1, 2, 128], 25)?;
     println!("hop {:?}, {:?}", table.lookup([10, 1, 2, 200])?.hop, table.report()?);
-    println!("{}", table.announce([10, 1, 2, 1], 24, 44, Mark::Behind).unwrap_err());
+    match table.withdraw([10, 1, 2, 128], 25) {
+        Err(refusal) if refusal.reason == Reason::Absent => println!("{refusal}"),
+        other => other?,
+    }
+    for route in table.routes()? {
+        println!("{route}");
+    }
     Ok(())
 }

@@ -1,62 +1,109 @@
-//! Tree bitmap images.
+//! Tree bitmap images over buffers that are lent.
 
-use crate::found::{found, Found};
+use crate::found::{Answer, Found};
+use crate::raw;
 use crate::refusal::{answered, Refusal};
-use crate::sys;
-use crate::table::MOST;
-use std::net::Ipv4Addr;
+use core::fmt;
+use core::net::Ipv4Addr;
 
-/// A tree bitmap image: three words for each node, and the hops.
-///
-/// The fields are open, as those of [`Table`]: a walk that meets something broken is refused with 13.
-#[derive(Clone, PartialEq, Eq, Debug)]
-pub struct Image {
-    pub words: Vec<u32>,
-    pub hops: Vec<u16>,
+/// Words that are enough for the image of any so many routes. Its hops are as many as the routes.
+#[must_use]
+pub const fn words_for(routes: usize) -> usize {
+    // A route adds at most 8 nodes to the root, and a node has three words.
+    3 * (1 + 8 * routes)
 }
 
-impl Image {
-    /// Room for so many nodes and hops, all zero.
-    pub fn new(nodes: usize, hops: usize) -> Image {
-        Image { words: vec![0; 3 * nodes], hops: vec![0; hops] }
-    }
+/// How much of its arrays an image uses. The rest is zero.
+#[derive(Clone, Copy, PartialEq, Eq, Hash, Debug)]
+pub struct Built {
+    /// Nodes, of three words each.
+    pub nodes: usize,
+    pub hops: usize,
+}
 
-    /// The image of a record input, in arrays that are large enough for any input of as many records.
-    /// Refusals: the input's (10, 3, 4, 10, 6).
-    pub fn of(input: &[u8]) -> Result<Image, Refusal> {
-        // A route adds at most 8 nodes to the root. Over 4,096 records are refused whatever the room.
-        let records = (input.len() / 8).min(MOST);
-        let mut image = Image::new(1 + 8 * records, records);
-        let (nodes, hops) = image.build(input)?;
-        image.words.truncate(3 * nodes);
-        image.hops.truncate(hops);
-        Ok(image)
-    }
+/// An image in buffers that are only read. It is copied freely, and many threads may use it at once.
+#[derive(Clone, Copy, PartialEq, Eq)]
+pub struct ImageRef<'a> {
+    /// Three words for each node.
+    pub words: &'a [u32],
+    pub hops: &'a [u16],
+}
 
-    /// Builds the image of a record input into these arrays, and answers how many nodes and hops it has.
-    /// Refusals: the input's (10, 3, 4, 10, 6), 11, 12.
-    pub fn build(&mut self, input: &[u8]) -> Result<(usize, usize), Refusal> {
-        // Each pointer is to a slice of that length, and the three do not overlap.
-        let answer = unsafe {
-            sys::gh_build(
-                input.as_ptr(),
-                input.len(),
-                self.words.as_mut_ptr(),
-                self.words.len(),
-                self.hops.as_mut_ptr(),
-                self.hops.len(),
-            )
-        };
-        let answer = answered(answer)?;
-        Ok(((answer >> 32) as usize, (answer >> 16) as usize & 0xFFFF))
-    }
-
-    /// Looks one address up. Refusals: 13.
+impl ImageRef<'_> {
+    /// Looks one address up.
+    ///
+    /// # Errors
+    ///
+    /// 13 where the walk meets something broken.
+    #[inline]
     pub fn lookup(&self, addr: impl Into<Ipv4Addr>) -> Result<Found, Refusal> {
-        let addr = u32::from(addr.into());
-        let (words, hops) = (&self.words, &self.hops);
-        // Each pointer is to a vector of that length, and the call writes nothing.
-        let answer = unsafe { sys::gh_tree_lookup(words.as_ptr(), words.len(), hops.as_ptr(), hops.len(), addr) };
-        found(answered(answer)? as u32)
+        Answer::new(raw::tree_lookup(self.words, self.hops, u32::from(addr.into()))).found()
+    }
+}
+
+/// An image in buffers that may be changed. Both are lent by the caller, and nothing is allocated.
+///
+/// ```
+/// use ghatumri::{words_for, Built, ImageMut};
+///
+/// let input = [10, 0, 0, 0, 8, 0, 0, 20, 10, 1, 0, 0, 16, 1, 0, 31];
+/// let mut image = ImageMut { words: &mut [0; words_for(2)], hops: &mut [0; 2] };
+/// assert_eq!(image.build(&input)?, Built { nodes: 5, hops: 2 });
+/// assert_eq!(image.lookup([10, 1, 2, 3])?.hop, Some(31));
+/// # Ok::<(), ghatumri::Refusal>(())
+/// ```
+#[derive(PartialEq, Eq)]
+pub struct ImageMut<'a> {
+    /// Three words for each node.
+    pub words: &'a mut [u32],
+    pub hops: &'a mut [u16],
+}
+
+impl ImageMut<'_> {
+    /// The same image, only to be read.
+    #[inline]
+    #[must_use]
+    pub fn view(&self) -> ImageRef<'_> {
+        ImageRef { words: self.words, hops: self.hops }
+    }
+
+    /// As [`ImageRef::lookup`].
+    ///
+    /// # Errors
+    ///
+    /// 13.
+    #[inline]
+    pub fn lookup(&self, addr: impl Into<Ipv4Addr>) -> Result<Found, Refusal> {
+        self.view().lookup(addr)
+    }
+
+    /// Builds the image of a record input, whatever was in the buffers.
+    ///
+    /// # Errors
+    ///
+    /// The input's (10 for its length; record by record 3, 4, 10; 6), 11, 12.
+    pub fn build(&mut self, input: &[u8]) -> Result<Built, Refusal> {
+        let answer = answered(raw::build(input, self.words, self.hops))?;
+        Ok(Built { nodes: (answer >> 32) as usize, hops: (answer >> 16) as usize & 0xFFFF })
+    }
+}
+
+/// The sizes, and none of the words.
+pub(crate) fn debug(name: &str, image: ImageRef, f: &mut fmt::Formatter) -> fmt::Result {
+    f.debug_struct(name)
+        .field("nodes", &(image.words.len() / 3))
+        .field("hops", &image.hops.len())
+        .finish_non_exhaustive()
+}
+
+impl fmt::Debug for ImageRef<'_> {
+    fn fmt(&self, f: &mut fmt::Formatter) -> fmt::Result {
+        debug("ImageRef", *self, f)
+    }
+}
+
+impl fmt::Debug for ImageMut<'_> {
+    fn fmt(&self, f: &mut fmt::Formatter) -> fmt::Result {
+        debug("ImageMut", self.view(), f)
     }
 }

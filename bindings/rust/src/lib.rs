@@ -1,14 +1,20 @@
-//! Proved IPv4 lookup over buffers that you own.
+//! Proved IPv4 lookup over buffers that you lend or own.
 //!
-//! A [`Table`] holds routes in SAIL form: it can be changed, and a lookup reads 1 to 3 cells. An [`Image`] is a tree
-//! bitmap built from a record input: small, and a lookup reads at most 9 nodes and one hop. [`run`], [`tally`] and
-//! [`route`] work on record inputs directly.
+//! A table holds routes in SAIL form: it can be changed, and a lookup reads 1 to 3 cells. An image is a tree bitmap built
+//! from a record input: small, and a lookup reads at most 9 nodes and one hop. [`routes`], [`run`] and [`tally`] work on
+//! record inputs directly.
 //!
 //! Every call of the library underneath is proved for every content of the buffers, and none allocates or trusts them:
 //! a table that is damaged is refused with 5 and stays as it is. A call that is refused changes nothing.
 //!
-//! ```
-//! use ghatumri::{Geometry, Mark, Refusal, Table};
+//! - [`TableMut`] and [`ImageMut`] are over buffers that you lend, and [`TableRef`] and [`ImageRef`] only read them.
+//! - [`Table`] and [`Image`] own their buffers. They need the feature `alloc`, which is on by default. Without it the
+//!   crate needs no allocator; in no case does it need `std`.
+//! - [`raw`] has every call as it crosses the boundary, with its packed answer.
+//!
+#![cfg_attr(feature = "alloc", doc = "```")]
+#![cfg_attr(not(feature = "alloc"), doc = "```ignore")]
+//! use ghatumri::{Geometry, Mark, Reason, Refusal, Table};
 //!
 //! # fn main() -> Result<(), Refusal> {
 //! let mut table = Table::new(Geometry::STANDARD, 64, 4, 4)?;
@@ -18,23 +24,40 @@
 //! assert_eq!((found.hop, found.reads), (Some(57), 3));
 //! table.withdraw([10, 1, 2, 128], 25)?;
 //! assert_eq!(table.lookup([10, 1, 2, 200])?.hop, Some(44));
-//! assert_eq!(table.withdraw([10, 1, 2, 128], 25).unwrap_err().number, 9);
+//! let refusal = table.withdraw([10, 1, 2, 128], 25).unwrap_err();
+//! assert_eq!((refusal.reason, refusal.number()), (Reason::Absent, 9));
 //! # Ok(())
 //! # }
 //! ```
+//!
+//! An error section lists the refusals of a call in the order in which they are judged; [`Reason`] says what each means.
+//! What the header says of threads is held by borrowing: a table that is changed has no readers. To change one beside
+//! readers, change a copy and hand that to them, an [`Arc`](https://doc.rust-lang.org/std/sync/struct.Arc.html) for one.
+#![no_std]
+#![warn(missing_debug_implementations, clippy::missing_errors_doc, clippy::must_use_candidate)]
+#![cfg_attr(not(feature = "alloc"), allow(rustdoc::broken_intra_doc_links))]
+
+#[cfg(feature = "alloc")]
+extern crate alloc;
 
 mod found;
+mod geometry;
 mod image;
 mod input;
+#[cfg(feature = "alloc")]
+mod owned;
+pub mod raw;
 mod refusal;
 mod route;
-mod sys;
+pub mod sys;
 mod table;
 
-pub use found::{found, Found};
-pub use image::Image;
-pub use input::{route, run, tally};
-pub(crate) use refusal::answered;
-pub use refusal::Refusal;
-pub use route::{Mark, Route};
-pub use table::{Announced, Geometry, Report, Table};
+pub use found::{Answer, Found};
+pub use geometry::{Geometry, MOST_CHUNKS, MOST_RECORDS};
+pub use image::{words_for, Built, ImageMut, ImageRef};
+pub use input::{route, routes, run, tally, Routes};
+#[cfg(feature = "alloc")]
+pub use owned::{Image, Table};
+pub use refusal::{Reason, Refusal};
+pub use route::{Mark, ParseRouteError, Route};
+pub use table::{Announced, Report, TableMut, TableRef};

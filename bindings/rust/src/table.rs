@@ -1,25 +1,16 @@
-//! SAIL tables.
+//! SAIL tables over buffers that are lent.
 
-use crate::found::{found, Found};
+use crate::found::{Answer, Found};
+use crate::geometry::Geometry;
+use crate::input::{routes, Routes};
+use crate::raw;
 use crate::refusal::{answered, Refusal};
 use crate::route::Mark;
-use crate::sys;
-use std::net::Ipv4Addr;
-
-/// The two levels of a table: `p1` is 12 to 16, `p2` is 22 to 26, `p2 - p1` at most 10.
-#[derive(Clone, Copy, PartialEq, Eq, Debug)]
-pub struct Geometry {
-    pub p1: u32,
-    pub p2: u32,
-}
-
-impl Geometry {
-    pub const STANDARD: Geometry = Geometry { p1: 16, p2: 24 };
-    pub const SMALL: Geometry = Geometry { p1: 12, p2: 22 };
-}
+use core::fmt;
+use core::net::Ipv4Addr;
 
 /// What an accepted announcement did.
-#[derive(Clone, Copy, PartialEq, Eq, Debug)]
+#[derive(Clone, Copy, PartialEq, Eq, Hash, Debug)]
 pub enum Announced {
     Added,
     /// The prefix stood, and its hop and mark were replaced.
@@ -27,7 +18,7 @@ pub enum Announced {
 }
 
 /// What a table holds.
-#[derive(Clone, Copy, PartialEq, Eq, Debug)]
+#[derive(Clone, Copy, PartialEq, Eq, Hash, Debug)]
 pub struct Report {
     pub routes: u16,
     /// The need for second chunks.
@@ -36,154 +27,268 @@ pub struct Report {
     pub third: u16,
 }
 
-/// A SAIL table: its state, and the six arrays that every call is lent.
-///
-/// The fields are open, since no content of them can do harm: a table that is not sound is refused with 5, and
-/// [`Table::load`] makes it sound again.
-#[derive(Clone, PartialEq, Eq, Debug)]
-pub struct Table {
+/// A table over buffers that are only read: its state, and the six arrays that every call is lent. It is copied
+/// freely, and many threads may use it at once.
+#[derive(Clone, Copy, PartialEq, Eq)]
+pub struct TableRef<'a> {
     pub geometry: Geometry,
     /// The route count.
     pub count: u32,
     /// Records of 8 bytes, as many as there is room for; those past the count are zero.
-    pub list: Vec<u8>,
-    pub first: Vec<u16>,
-    pub second: Vec<u16>,
-    pub third: Vec<u16>,
+    pub list: &'a [u8],
+    pub first: &'a [u16],
+    /// The second pool: chunks of [`Geometry::second_chunk`] cells.
+    pub second: &'a [u16],
+    /// The third pool: chunks of [`Geometry::third_chunk`] cells.
+    pub third: &'a [u16],
     /// An owner for each chunk of the second pool.
-    pub own2: Vec<u32>,
+    pub own2: &'a [u32],
     /// An owner for each chunk of the third pool.
-    pub own3: Vec<u32>,
+    pub own3: &'a [u32],
 }
 
-/// The most records of room, and the most chunks of a pool.
-pub(crate) const MOST: usize = 4096;
-
-/// Calls a function that takes the six arrays of a table: what comes before them, and what comes after. Each pointer
-/// is to a vector of that length, and the vectors do not overlap.
-macro_rules! lend {
-    ($gh:ident, ($($before:expr),*), mut $t:ident, ($($after:expr),*)) => {
-        unsafe {
-            sys::$gh(
-                $t.geometry.p1, $t.geometry.p2, $($before,)*
-                $t.list.as_mut_ptr(), $t.list.len(),
-                $t.first.as_mut_ptr(), $t.first.len(),
-                $t.second.as_mut_ptr(), $t.second.len(),
-                $t.third.as_mut_ptr(), $t.third.len(),
-                $t.own2.as_mut_ptr(), $t.own2.len(),
-                $t.own3.as_mut_ptr(), $t.own3.len(),
-                $($after),*
-            )
-        }
-    };
-    ($gh:ident, $t:ident, ($($after:expr),*)) => {
-        unsafe {
-            sys::$gh(
-                $t.geometry.p1, $t.geometry.p2, $t.count,
-                $t.list.as_ptr(), $t.list.len(),
-                $t.first.as_ptr(), $t.first.len(),
-                $t.second.as_ptr(), $t.second.len(),
-                $t.third.as_ptr(), $t.third.len(),
-                $t.own2.as_ptr(), $t.own2.len(),
-                $t.own3.as_ptr(), $t.own3.len(),
-                $($after),*
-            )
-        }
-    };
-}
-
-impl Table {
-    /// A fresh table with no routes: room for so many records, and pools of so many chunks, each at most 4,096.
-    /// Refusals: 1, 2.
-    pub fn new(geometry: Geometry, room: usize, second: usize, third: usize) -> Result<Table, Refusal> {
-        let mut table = Table {
-            geometry,
-            count: 0,
-            list: Vec::new(),
-            first: Vec::new(),
-            second: Vec::new(),
-            third: Vec::new(),
-            own2: Vec::new(),
-            own3: Vec::new(),
-        };
-        // With no arrays at all the library refuses: 1 for the geometry, and otherwise 2.
-        if let Err(refusal) = table.make() {
-            if refusal.number == 1 {
-                return Err(refusal);
-            }
-        }
-        // One more than the most is refused as well as any number above.
-        let within = |n: usize| n.min(MOST + 1);
-        table.list = vec![0; 8 * within(room)];
-        table.first = vec![0; 1 << geometry.p1];
-        table.own2 = vec![0; within(second)];
-        table.own3 = vec![0; within(third)];
-        table.second = vec![0; within(second) << (geometry.p2 - geometry.p1)];
-        table.third = vec![0; within(third) << (32 - geometry.p2)];
-        table.make()?;
-        Ok(table)
+impl<'a> TableRef<'a> {
+    /// The route count and both needs of a sound table.
+    ///
+    /// # Errors
+    ///
+    /// 1, 2, 5.
+    pub fn report(&self) -> Result<Report, Refusal> {
+        let answer = answered(raw::report(self))?;
+        Ok(Report { routes: (answer >> 16) as u16, second: (answer >> 32) as u16, third: (answer >> 48) as u16 })
     }
 
-    /// Empties the table, whatever is in it. Refusals: 1, 2.
+    /// Looks one address up. The table need not be sound.
+    ///
+    /// # Errors
+    ///
+    /// 1, 2, and 5 where the walk meets a chunk number or a third cell that no sound table has.
+    #[inline]
+    pub fn lookup(&self, addr: impl Into<Ipv4Addr>) -> Result<Found, Refusal> {
+        Answer::new(raw::lookup(self, u32::from(addr.into()))).found()
+    }
+
+    /// Looks many addresses up, which is several times quicker than one by one. Each answer is what
+    /// [`lookup`](TableRef::lookup) gives for its address, a 5 among them too.
+    ///
+    /// # Errors
+    ///
+    /// 1, 2; also 2 where `addrs` and `out` differ in length. Nothing is then written.
+    pub fn lookup_many<A: Copy + Into<Ipv4Addr>>(&self, addrs: &[A], out: &mut [Answer]) -> Result<(), Refusal> {
+        // The table is judged first, with no address, and beside it lengths that differ. Nothing is refused after that.
+        let uneven = usize::from(addrs.len() != out.len());
+        answered(raw::lookup_many(self, &[], &mut [0][..uneven]))?;
+        let mut numbers = [0; 512];
+        for (addrs, out) in addrs.chunks(numbers.len()).zip(out.chunks_mut(numbers.len())) {
+            for (number, &addr) in numbers.iter_mut().zip(addrs) {
+                *number = u32::from(addr.into());
+            }
+            answered(raw::lookup_many(self, &numbers[..addrs.len()], Answer::words(out)))?;
+        }
+        Ok(())
+    }
+
+    /// The standing routes as a record input, to be handed to [`run`](crate::run), [`tally`](crate::tally) or an image.
+    #[must_use]
+    pub fn records(&self) -> &'a [u8] {
+        let end = self.list.len().min(8 * self.count as usize);
+        &self.list[..end]
+    }
+
+    /// The standing routes, in order.
+    ///
+    /// # Errors
+    ///
+    /// Where the list is damaged, as a record input is refused: 10, 3, 4, 6.
+    pub fn routes(&self) -> Result<Routes<'a>, Refusal> {
+        routes(self.records())
+    }
+}
+
+/// The calls of [`TableRef`], for a type that has a `view` of itself as one.
+macro_rules! reads {
+    () => {
+        /// As [`TableRef::report`].
+        ///
+        /// # Errors
+        ///
+        /// 1, 2, 5.
+        pub fn report(&self) -> Result<Report, Refusal> {
+            self.view().report()
+        }
+
+        /// As [`TableRef::lookup`].
+        ///
+        /// # Errors
+        ///
+        /// 1, 2, 5.
+        #[inline]
+        pub fn lookup(&self, addr: impl Into<Ipv4Addr>) -> Result<Found, Refusal> {
+            self.view().lookup(addr)
+        }
+
+        /// As [`TableRef::lookup_many`].
+        ///
+        /// # Errors
+        ///
+        /// 1, 2.
+        pub fn lookup_many<A: Copy + Into<Ipv4Addr>>(&self, addrs: &[A], out: &mut [Answer]) -> Result<(), Refusal> {
+            self.view().lookup_many(addrs, out)
+        }
+
+        /// As [`TableRef::records`].
+        #[must_use]
+        pub fn records(&self) -> &[u8] {
+            self.view().records()
+        }
+
+        /// As [`TableRef::routes`].
+        ///
+        /// # Errors
+        ///
+        /// 10, 3, 4, 6.
+        pub fn routes(&self) -> Result<Routes<'_>, Refusal> {
+            self.view().routes()
+        }
+    };
+}
+#[cfg(feature = "alloc")]
+pub(crate) use reads;
+
+/// A table over buffers that may be changed. All six are lent by the caller, and nothing is allocated.
+///
+/// It is written with its fields by name, since arrays of both pools have one type. The buffers may hold anything:
+/// [`make`](TableMut::make) or [`load`](TableMut::load) makes a table of them.
+///
+/// ```
+/// use ghatumri::{Geometry, Mark, TableMut};
+///
+/// const SMALL: Geometry = Geometry::SMALL;
+/// let mut table = TableMut {
+///     geometry: SMALL,
+///     count: 0,
+///     list: &mut [0; 8 * 64],
+///     first: &mut [0; SMALL.first_cells()],
+///     second: &mut [0; 4 * SMALL.second_chunk()],
+///     third: &mut [0; 4 * SMALL.third_chunk()],
+///     own2: &mut [0; 4],
+///     own3: &mut [0; 4],
+/// };
+/// table.make()?;
+/// table.announce([10, 1, 2, 0], 24, 44, Mark::Behind)?;
+/// assert_eq!(table.lookup([10, 1, 2, 5])?.hop, Some(44));
+/// # Ok::<(), ghatumri::Refusal>(())
+/// ```
+///
+/// No content of the fields does harm: a table that is not sound is refused with 5, and load makes it sound again.
+#[derive(PartialEq, Eq)]
+pub struct TableMut<'a> {
+    pub geometry: Geometry,
+    /// The route count. An accepted change sets it, and a refusal leaves it.
+    pub count: u32,
+    /// Records of 8 bytes, as many as there is room for; those past the count are zero.
+    pub list: &'a mut [u8],
+    pub first: &'a mut [u16],
+    /// The second pool: chunks of [`Geometry::second_chunk`] cells.
+    pub second: &'a mut [u16],
+    /// The third pool: chunks of [`Geometry::third_chunk`] cells.
+    pub third: &'a mut [u16],
+    /// An owner for each chunk of the second pool.
+    pub own2: &'a mut [u32],
+    /// An owner for each chunk of the third pool.
+    pub own3: &'a mut [u32],
+}
+
+impl TableMut<'_> {
+    /// The same table, only to be read.
+    #[inline]
+    #[must_use]
+    pub fn view(&self) -> TableRef<'_> {
+        TableRef {
+            geometry: self.geometry,
+            count: self.count,
+            list: self.list,
+            first: self.first,
+            second: self.second,
+            third: self.third,
+            own2: self.own2,
+            own3: self.own3,
+        }
+    }
+
+    reads!();
+
+    /// Takes the count over from the answer of a change, where it was accepted.
+    fn keep(&mut self, answer: u64) -> Result<u64, Refusal> {
+        let answer = answered(answer)?;
+        self.count = (answer >> 16) as u32 & 0xFFFF;
+        Ok(answer)
+    }
+
+    /// Empties the table, whatever is in it.
+    ///
+    /// # Errors
+    ///
+    /// 1, 2.
     pub fn make(&mut self) -> Result<(), Refusal> {
-        answered(lend!(gh_make, (), mut self, ()))?;
-        self.count = 0;
+        let answer = raw::make(self);
+        self.keep(answer)?;
         Ok(())
     }
 
     /// Makes the table of a record input, whatever was in it, and answers the number of routes.
-    /// Refusals: 1, 2, the input's (10, 3, 4, 10, 6), 6, 7, 8.
+    ///
+    /// # Errors
+    ///
+    /// 1, 2, the input's (10 for its length; record by record 3, 4, 10; 6), 6 for the room, 7, 8.
     pub fn load(&mut self, input: &[u8]) -> Result<usize, Refusal> {
-        let answer = answered(lend!(gh_load, (input.as_ptr(), input.len()), mut self, ()))?;
-        self.count = counted(answer);
+        let answer = raw::load(self, input);
+        self.keep(answer)?;
         Ok(self.count as usize)
     }
 
     /// Adds a route, or replaces hop and mark of a prefix that stands.
-    /// Refusals: 1, 2, 3, 4, 5, 6, 7, 8; a replacement never meets 6 to 8, and a [`Mark`] never 10.
+    ///
+    /// # Errors
+    ///
+    /// 1, 2, 3, 4, 5, 6, 7, 8; a replacement never meets 6 to 8, and a [`Mark`] never 10.
     pub fn announce(&mut self, addr: impl Into<Ipv4Addr>, len: u8, hop: u16, mark: Mark) -> Result<Announced, Refusal> {
-        let addr = u32::from(addr.into());
-        let answer = answered(lend!(gh_announce, (self.count), mut self, (addr, len.into(), hop.into(), mark as u32)))?;
-        self.count = counted(answer);
+        let answer = raw::announce(self, u32::from(addr.into()), len.into(), hop.into(), mark as u32);
+        let answer = self.keep(answer)?;
         Ok(if answer >> 8 & 1 == 1 { Announced::Replaced } else { Announced::Added })
     }
 
-    /// Removes the route of a prefix. Refusals: 1, 2, 3, 5, 9.
+    /// Removes the route of a prefix.
+    ///
+    /// # Errors
+    ///
+    /// 1, 2, 3, 5, 9.
     pub fn withdraw(&mut self, addr: impl Into<Ipv4Addr>, len: u8) -> Result<(), Refusal> {
-        let addr = u32::from(addr.into());
-        let answer = answered(lend!(gh_withdraw, (self.count), mut self, (addr, len.into())))?;
-        self.count = counted(answer);
+        let answer = raw::withdraw(self, u32::from(addr.into()), len.into());
+        self.keep(answer)?;
         Ok(())
-    }
-
-    /// The route count and both needs of a sound table. Refusals: 1, 2, 5.
-    pub fn report(&self) -> Result<Report, Refusal> {
-        let answer = answered(lend!(gh_report, self, ()))?;
-        Ok(Report { routes: (answer >> 16) as u16, second: (answer >> 32) as u16, third: (answer >> 48) as u16 })
-    }
-
-    /// Looks one address up. Refusals: 1, 2, and 5 where the walk meets a chunk number or a third cell that no sound
-    /// table has.
-    pub fn lookup(&self, addr: impl Into<Ipv4Addr>) -> Result<Found, Refusal> {
-        let addr = u32::from(addr.into());
-        found(answered(lend!(gh_lookup, self, (addr)))? as u32)
-    }
-
-    /// Looks many addresses up, with the checks of geometry and sizes once for all. Each word of `out` is then to be
-    /// read with [`found`]. Refusals: 1, 2; also 2 where `addrs` and `out` differ in length.
-    pub fn lookup_many(&self, addrs: &[u32], out: &mut [u32]) -> Result<(), Refusal> {
-        let many = (addrs.as_ptr(), addrs.len(), out.as_mut_ptr(), out.len());
-        answered(lend!(gh_lookup_many, self, (many.0, many.1, many.2, many.3)))?;
-        Ok(())
-    }
-
-    /// The standing routes as a record input, to be handed to [`run`], [`tally`], [`route`] or [`Image::of`].
-    pub fn records(&self) -> &[u8] {
-        let end = self.list.len().min(8 * self.count as usize);
-        &self.list[..end]
     }
 }
 
-fn counted(answer: u64) -> u32 {
-    (answer >> 16) as u32 & 0xFFFF
+/// Geometry, count and sizes, and none of the cells.
+pub(crate) fn debug(name: &str, t: TableRef, f: &mut fmt::Formatter) -> fmt::Result {
+    f.debug_struct(name)
+        .field("geometry", &(t.geometry.p1, t.geometry.p2))
+        .field("count", &t.count)
+        .field("room", &(t.list.len() / 8))
+        .field("second_chunks", &t.own2.len())
+        .field("third_chunks", &t.own3.len())
+        .finish_non_exhaustive()
+}
+
+impl fmt::Debug for TableRef<'_> {
+    fn fmt(&self, f: &mut fmt::Formatter) -> fmt::Result {
+        debug("TableRef", *self, f)
+    }
+}
+
+impl fmt::Debug for TableMut<'_> {
+    fn fmt(&self, f: &mut fmt::Formatter) -> fmt::Result {
+        debug("TableMut", self.view(), f)
+    }
 }
