@@ -1,3 +1,4 @@
+/* SPDX-License-Identifier: Apache-2.0 OR MIT */
 /* ghatumri.h: the C boundary of Ghatumri, proved IPv4 lookup. For C from C99 on and C++ from C++11 on.
  *
  * Link with libghatumri (pkg-config --cflags --libs ghatumri). No call keeps a pointer, allocates, or holds state: a

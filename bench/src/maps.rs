@@ -1,7 +1,6 @@
 //! Bit maps: the library's many lookups, and a loop with no checks over the same arrays, by the same steps.
 
-use crate::gh::accepted;
-use crate::sys;
+use ghatumri::raw;
 
 pub struct Maps {
     input: Vec<u8>,
@@ -11,42 +10,17 @@ pub struct Maps {
 
 impl Maps {
     pub fn of(input: &[u8]) -> Maps {
-        let mut maps = Maps { input: input.to_vec(), bits: vec![0; 16_384], cells: vec![0; 131_071] };
-        accepted("basic_build", maps.build());
-        maps
+        let ghatumri::Maps { bits, cells } = ghatumri::Maps::of(input).unwrap();
+        Maps { input: input.to_vec(), bits, cells }
     }
 
     pub fn build(&mut self) -> u64 {
-        let Maps { input, bits, cells } = self;
-        unsafe {
-            sys::gh_basic_build(
-                input.as_ptr(),
-                input.len(),
-                bits.as_mut_ptr(),
-                bits.len(),
-                cells.as_mut_ptr(),
-                cells.len(),
-            )
-        }
+        raw::basic_build(&self.input, &mut self.bits, &mut self.cells)
     }
 
     pub fn lookup_many(&self, addrs: &[u32], out: &mut [u32]) {
-        let Maps { input, bits, cells } = self;
-        let answer = unsafe {
-            sys::gh_basic_lookup_many(
-                input.as_ptr(),
-                input.len(),
-                bits.as_ptr(),
-                bits.len(),
-                cells.as_ptr(),
-                cells.len(),
-                addrs.as_ptr(),
-                addrs.len(),
-                out.as_mut_ptr(),
-                out.len(),
-            )
-        };
-        accepted("basic_lookup_many", answer);
+        let answer = raw::basic_lookup_many(&self.input, &self.bits, &self.cells, addrs, out);
+        assert!(answer == 0, "gh_basic_lookup_many is refused: {answer:016x}");
     }
 
     /// Writes what the library writes.

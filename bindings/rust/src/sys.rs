@@ -1,5 +1,5 @@
-//! The functions of `libghatumri.a`, as `include/ghatumri.h` declares them. The comparison and the measurements of this
-//! repository use this file too.
+//! The functions of `libghatumri.a`, as `include/ghatumri.h` declares them: a pointer and a length for each array. What
+//! holds of them stands there. [`raw`](crate::raw) has them over slices.
 
 extern "C" {
     pub fn gh_make(

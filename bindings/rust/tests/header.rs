@@ -1,6 +1,7 @@
 //! The exported functions are declared three times: as they are proved (`crates/cards/src`), in the C header, and in
 //! `sys.rs`. Names, order and types of the arguments agree, and no function is left out.
 
+use ghatumri::{Geometry, Mark, Reason, Refusal, MOST_CHUNKS, MOST_RECORDS};
 use std::collections::BTreeMap;
 use std::fs;
 use std::path::{Path, PathBuf};
@@ -22,7 +23,7 @@ fn spaced(text: &str) -> String {
 }
 
 /// The text between `from` and the next `to` after it, for each place where `from` stands.
-fn between<'a>(text: &'a str, from: &'a str, to: &'a str) -> impl Iterator<Item = &'a str> {
+fn between<'a>(text: &'a str, from: &'a str, to: &'a str) -> impl Iterator<Item = &'a str> + 'a {
     text.split(from).skip(1).map(move |rest| rest.split(to).next().unwrap())
 }
 
@@ -134,17 +135,38 @@ fn as_read() {
     assert_eq!((count("gh_make"), count("gh_lookup_many"), count("gh_route")), (14, 19, 3));
 }
 
+/// Each refusal has one number, one name and one meaning: `GH_REFUSED_ABSENT = 9` is `Reason::Absent`.
 #[test]
 fn one_meaning() {
     let header = read(&repository().join("include/ghatumri.h"));
     let texts = between(&header, "texts[] = {", "};").next().unwrap();
     let texts: Vec<&str> = texts.split('"').skip(1).step_by(2).collect();
-    let refused = |number: u8| ghatumri::Refusal { number, index: None };
-    for number in 1..=u8::MAX {
-        let none = "no number of a refusal";
-        assert_eq!(refused(number).meaning(), *texts.get(number as usize).unwrap_or(&none));
+    let names = between(&header, "enum gh_refusal {", "}").next().unwrap();
+    let names: Vec<String> = between(names, "GH_REFUSED_", ",").map(spaced).collect();
+    assert_eq!(names.len(), Reason::ALL.len());
+    for (name, &reason) in names.iter().zip(Reason::ALL) {
+        assert_eq!(*name, format!("{reason:?}").to_uppercase() + &format!(" = {}", reason.number()));
+        assert_eq!(reason.meaning(), texts[reason.number() as usize]);
+        assert_eq!(Reason::from_number(reason.number()), Some(reason));
     }
-    assert!(texts.len() >= 14);
+    let numbers = (0..=u8::MAX).filter(|&number| Reason::from_number(number).is_some());
+    assert_eq!(numbers.count(), Reason::ALL.len());
+    assert_eq!(Refusal { reason: Reason::Absent, index: None }.to_string(), format!("refused 9: {}", texts[9]));
+}
+
+/// Limits and named geometries.
+#[test]
+fn one_limit() {
+    let header = read(&repository().join("include/ghatumri.h"));
+    let define = |name: &str| -> usize {
+        let line = between(&header, &format!("#define {name} "), "\n").next().unwrap().to_string();
+        line.split_whitespace().next().unwrap().parse().unwrap()
+    };
+    assert_eq!((define("GH_MOST_RECORDS"), define("GH_MOST_CHUNKS")), (MOST_RECORDS, MOST_CHUNKS));
+    let named = |p1, p2| Geometry { p1: define(p1) as u32, p2: define(p2) as u32 };
+    assert_eq!(named("GH_STANDARD_P1", "GH_STANDARD_P2"), Geometry::STANDARD);
+    assert_eq!(named("GH_SMALL_P1", "GH_SMALL_P2"), Geometry::SMALL);
+    assert_eq!((define("GH_BEHIND"), define("GH_ATTACHED")), (Mark::Behind as usize, Mark::Attached as usize));
 }
 
 #[test]

@@ -1,4 +1,5 @@
-//! List A of document 01, and the refusals, through the safe functions.
+//! List A of document 01, and the refusals, in tables and images that own their buffers.
+#![cfg(feature = "alloc")]
 
 use ghatumri::*;
 use std::net::Ipv4Addr;
@@ -21,7 +22,7 @@ const REPLACED: Announced = Announced::Replaced { cleared: false };
 
 fn refused<T: std::fmt::Debug>(r: Result<T, Refusal>) -> (u8, Option<u32>) {
     let refusal = r.unwrap_err();
-    (refusal.number, refusal.index)
+    (refusal.number(), refusal.index)
 }
 
 #[test]
@@ -37,12 +38,12 @@ fn a_table() {
     assert_eq!(table.report(), Ok(Report { routes: 5, second: 1, third: 1 }));
     assert_eq!((table.first[2561], table.own2[0], table.second[2], table.own3[0]), (1, 2562, 1, 3));
 
-    let addrs = [u32::from(Ipv4Addr::new(10, 1, 2, 200)), 0];
-    let mut out = [0; 2];
+    let addrs = [Ipv4Addr::new(10, 1, 2, 200), Ipv4Addr::new(0, 0, 0, 0)];
+    let mut out = [Answer::default(); 2];
     table.lookup_many(&addrs, &mut out).unwrap();
-    assert_eq!(found(out[0]), Ok(Found { hop: Some(57), reads: 3 }));
-    assert_eq!(found(out[1]), Ok(Found { hop: Some(6), reads: 1 }));
-    assert_eq!(refused(table.lookup_many(&addrs, &mut [0; 3])), (2, None));
+    assert_eq!(out[0].found(), Ok(Found { hop: Some(57), reads: 3 }));
+    assert_eq!(out[1].found(), Ok(Found { hop: Some(6), reads: 1 }));
+    assert_eq!(refused(table.lookup_many(&addrs, &mut [Answer::default(); 3])), (2, None));
 
     assert_eq!(table.announce([10, 1, 0, 0], 16, 32, Mark::Behind), Ok(REPLACED));
     assert_eq!(table.announce([11, 0, 0, 0], 8, 7, Mark::Attached), Ok(ADDED));
@@ -106,7 +107,7 @@ fn every_field() {
     assert_eq!(tally(&input).unwrap()[24], 900);
     assert_eq!(route(&input, 899), Ok(Some(Route::new([10, 3, 131, 0], 24, 900, Mark::Behind))));
     let mut image = Image::new(1000, 1000);
-    assert_eq!(image.build(&input), Ok((965, 900)));
+    assert_eq!(image.build(&input), Ok(Built { nodes: 965, hops: 900 }));
     assert_eq!(image.lookup([10, 3, 4, 255]), Ok(Found { hop: Some(773), reads: 8 }));
 
     let mut long = rows(70_000);
@@ -141,7 +142,7 @@ fn an_image() {
     assert_eq!(refused(Image::new(7, 4).build(&list_a())), (12, None));
     assert_eq!(refused(Image::new(0, 0).lookup([1, 2, 3, 4])), (13, None));
     assert_eq!(Image::of(&[]).unwrap().lookup([192, 0, 2, 1]), Ok(Found { hop: None, reads: 1 }));
-    let host = Image::of(&Route::new([10, 1, 2, 200], 32, 57).record()).unwrap();
+    let host = Image::of(&Route::new([10, 1, 2, 200], 32, 57, Mark::Behind).record()).unwrap();
     assert_eq!(host.lookup([10, 1, 2, 200]), Ok(Found { hop: Some(57), reads: 10 }));
     assert_eq!(host.lookup([10, 1, 2, 201]), Ok(Found { hop: None, reads: 8 }));
 }

@@ -4,7 +4,7 @@ use ghatumri::*;
 use std::net::Ipv4Addr;
 
 fn records(routes: &[([u8; 4], u8, u16)]) -> Vec<u8> {
-    routes.iter().flat_map(|&(addr, len, hop)| Route::new(addr, len, hop).record()).collect()
+    routes.iter().flat_map(|&(addr, len, hop)| Route::new(addr, len, hop, Mark::Behind).record()).collect()
 }
 
 fn list_a() -> Vec<u8> {
@@ -36,11 +36,11 @@ fn list_a_in_maps() {
 
     // A broken cell is met by its own addresses alone.
     maps.cells[265] = 32_768;
-    assert_eq!(maps.lookup(&input, [10, 2, 0, 1]).unwrap_err().number, 13);
+    assert_eq!(maps.lookup(&input, [10, 2, 0, 1]).unwrap_err().number(), 13);
     assert_eq!(maps.lookup(&input, [10, 1, 3, 1]), Ok(Some(31)));
     assert_eq!(maps.lookup(&input, [10, 1, 2, 200]), Ok(Some(57)));
     maps.lookup_many(&input, &addrs, &mut out).unwrap();
-    assert_eq!((hop(out[3]).unwrap_err().number, hop(out[4])), (13, Ok(Some(6))));
+    assert_eq!((hop(out[3]).unwrap_err().number(), hop(out[4])), (13, Ok(Some(6))));
 }
 
 #[test]
@@ -71,12 +71,12 @@ fn refusals() {
     assert_eq!(maps.lookup(&[], [1, 2, 3, 4]), Ok(None));
     assert_eq!(maps.build(&input[..39]).unwrap_err(), Refusal { number: 10, index: Some(4) });
     assert_eq!(maps, Maps::new());
-    assert_eq!(maps.lookup_many(&input, &[0, 1], &mut [0; 3]).unwrap_err().number, 2);
+    assert_eq!(maps.lookup_many(&input, &[0, 1], &mut [0; 3]).unwrap_err().number(), 2);
     for (bytes, cells) in [(16_383, 131_071), (16_385, 131_071), (16_384, 131_070), (16_384, 131_072)] {
         let mut maps = Maps { bits: vec![9; bytes], cells: vec![9; cells] };
         assert_eq!(maps.build(&input).unwrap_err(), Refusal { number: 2, index: None });
-        assert_eq!(maps.lookup(&input, [1, 2, 3, 4]).unwrap_err().number, 2);
-        assert_eq!(maps.build(&input[..8 * 5 - 1]).unwrap_err().number, 10);
+        assert_eq!(maps.lookup(&input, [1, 2, 3, 4]).unwrap_err().number(), 2);
+        assert_eq!(maps.build(&input[..8 * 5 - 1]).unwrap_err().number(), 10);
         assert!(maps.bits.iter().all(|&b| b == 9) && maps.cells.iter().all(|&c| c == 9));
     }
 }
