@@ -14,10 +14,6 @@ impl Maps {
         Maps { input: input.to_vec(), bits, cells }
     }
 
-    pub fn build(&mut self) -> u64 {
-        raw::basic_build(&self.input, &mut self.bits, &mut self.cells)
-    }
-
     pub fn lookup_many(&self, addrs: &[u32], out: &mut [u32]) {
         let answer = raw::basic_lookup_many(&self.input, &self.bits, &self.cells, addrs, out);
         assert!(answer == 0, "gh_basic_lookup_many is refused: {answer:016x}");

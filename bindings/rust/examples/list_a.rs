@@ -11,7 +11,7 @@ fn main() -> Result<(), Refusal> {
     println!("hop {:?} in {} cells", found.hop, found.reads);
     match table.withdraw([10, 1, 3, 0], 24) {
         Err(refusal) if refusal.reason == Reason::Absent => println!("{refusal}"),
-        other => other?,
+        other => drop(other?),
     }
     for route in table.routes()? {
         println!("{route}");

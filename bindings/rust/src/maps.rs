@@ -86,10 +86,7 @@ pub fn hop(word: u32) -> Result<Option<u16>, Refusal> {
 
 /// The sizes, and none of the bits.
 pub(crate) fn debug(name: &str, maps: MapsRef, f: &mut fmt::Formatter) -> fmt::Result {
-    f.debug_struct(name)
-        .field("bytes", &maps.bits.len())
-        .field("cells", &maps.cells.len())
-        .finish_non_exhaustive()
+    f.debug_struct(name).field("bytes", &maps.bits.len()).field("cells", &maps.cells.len()).finish_non_exhaustive()
 }
 
 impl fmt::Debug for MapsRef<'_> {

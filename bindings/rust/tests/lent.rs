@@ -66,7 +66,10 @@ fn a_table_and_its_count() {
     assert_eq!(table.report().unwrap_err().reason, Reason::Unsound);
     table.make().unwrap();
     for route in listed() {
-        assert_eq!(table.announce(route.addr, route.len, route.hop, route.mark), Ok(Announced::Added { cleared: false }));
+        assert_eq!(
+            table.announce(route.addr, route.len, route.hop, route.mark),
+            Ok(Announced::Added { cleared: false })
+        );
     }
     assert_eq!(table.count, 6);
     assert_eq!(table.report(), Ok(Report { routes: 6, second: 2, third: 1 }));

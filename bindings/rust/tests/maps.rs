@@ -69,12 +69,12 @@ fn refusals() {
     let input = list_a();
     let mut maps = Maps::new();
     assert_eq!(maps.lookup(&[], [1, 2, 3, 4]), Ok(None));
-    assert_eq!(maps.build(&input[..39]).unwrap_err(), Refusal { number: 10, index: Some(4) });
+    assert_eq!(maps.build(&input[..39]).unwrap_err(), Refusal { reason: Reason::Input, index: Some(4) });
     assert_eq!(maps, Maps::new());
     assert_eq!(maps.lookup_many(&input, &[0, 1], &mut [0; 3]).unwrap_err().number(), 2);
     for (bytes, cells) in [(16_383, 131_071), (16_385, 131_071), (16_384, 131_070), (16_384, 131_072)] {
         let mut maps = Maps { bits: vec![9; bytes], cells: vec![9; cells] };
-        assert_eq!(maps.build(&input).unwrap_err(), Refusal { number: 2, index: None });
+        assert_eq!(maps.build(&input).unwrap_err(), Refusal { reason: Reason::Size, index: None });
         assert_eq!(maps.lookup(&input, [1, 2, 3, 4]).unwrap_err().number(), 2);
         assert_eq!(maps.build(&input[..8 * 5 - 1]).unwrap_err().number(), 10);
         assert!(maps.bits.iter().all(|&b| b == 9) && maps.cells.iter().all(|&c| c == 9));
