@@ -39,9 +39,9 @@ unready-fits P s bs cs short (Unready.bad-input x e h) = refused-fits P s short 
 unready-fits P s bs cs short (Unready.bad-size n g h) = Fits.number 2 (omega arith) (omega arith)
 
 -- a lookup after them: a hop of 1 to 32,767, no route, or 13
-looked-fits : (most : ℕ) (s bs cs : List ℕ) (a : ℕ) → ({x : Said} → Unready s bs cs x → Fits most HopFits x)
+looked-fits : (most : ℕ) (s bs cs : List ℕ) (a : ℕ) → ((x : Said) → Unready s bs cs x → Fits most HopFits x)
     → {x : Said} → BasicLookup s bs cs a x → Fits most HopFits x
-looked-fits most s bs cs a off (BasicLookup.unready x u) = off u
+looked-fits most s bs cs a off (BasicLookup.unready x u) = off x u
 looked-fits most s bs cs a off (BasicLookup.in-list p h w l) =
     let f = good-fine (routesIn s) (records-good s (length s / 8) (p .input .records)) (w .route) (w .listed) in
     Fits.values _ (HopFits.hop h (omega (arith, w .its-hop, f .hop-one)) (omega (arith, w .its-hop, f .hop-ok)))
@@ -58,7 +58,7 @@ module _ (s : List ℕ) (short : length s < 2 ^ 35) (bs cs : List ℕ) where
       go (BasicBuild.done p) = Fits.values [] NoneFits.none
 
   pub hop-fits : (a : ℕ) → Fits (2 ^ 32) HopFits (basicSaid s bs cs a)
-  hop-fits a = looked-fits (2 ^ 32) s bs cs a (unready-fits HopFits s _ _ short) (lookup-judged s bs cs a)
+  hop-fits a = looked-fits (2 ^ 32) s bs cs a (λ x u. unready-fits HopFits s bs cs short u) (lookup-judged s bs cs a)
 
   pub many-fits : (ads ws : List ℕ) → Fits (2 ^ 32) NoneFits (basicMany s bs cs ads ws .said)
   many-fits ads ws = go (many-judged s bs cs ads ws)
@@ -81,7 +81,7 @@ module _ (s : List ℕ) (short : length s < 2 ^ 35) (bs cs : List ℕ) where
 
 -- each word of `out`: an input that is looked up in is good, so no index is told and 32 bits are all of the answer
 ready-word : (s bs cs : List ℕ) (a : ℕ) → Prepared s bs cs → unpackHop (hopWord (basicSaid s bs cs a)) ≡ basicSaid s bs cs a
-ready-word s bs cs a p = word-read _ (looked-fits 0 s bs cs a (λ u. absurd (not-both s bs cs u p)) (lookup-judged s bs cs a))
+ready-word s bs cs a p = word-read _ (looked-fits 0 s bs cs a (λ x u. absurd (not-both s bs cs u p)) (lookup-judged s bs cs a))
 
 pub gh-basic-lookup-many-read : (s bs cs ads ws : List ℕ) → accepts (basicMany s bs cs ads ws .said) ≡ true → (k : ℕ) → k < length ads
     → unpackHop (getD (basicMany s bs cs ads ws .words) k 0) ≡ basicSaid s bs cs (getD ads k 0)

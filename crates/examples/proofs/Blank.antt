@@ -73,7 +73,7 @@ module _ (g : Geometry) (n : Lengths) where
   -- a first cell of 0 is no leaf
   unsound : Sound (freshTable g) (zeros n) → ⊥
   unfolding zeros routesOf tabulate any
-  unsound s = omega (arith, zero-at (n .first) 0, s .serves .shows1 .leaf 0 (pow-pos (g .p1)) refl refl)
+  unsound s = omega (arith, zero-at (n .first) 0, s .serves .first .leaf 0 (pow-pos (g .p1)) refl refl)
 
   test-fails : sound? (freshTable g) (zeros n) ≡ false
   test-fails = untrue (sound? (freshTable g) (zeros n)) (λ e. unsound (sound-tells (freshTable g) (zeros n) .0 e))

@@ -121,7 +121,7 @@ long-1 = refl
 first-leaf : (v : ℕ) → Sound stateA (firstIs 2562 v) → v ≡ 32768 + 20
 first-leaf v s =
     sym (at-first 2562 v (omega arith))
-    ∙ s .serves .shows1 .leaf 2562 (omega arith) refl (asks-long 16 2562 ∙ short-1)
+    ∙ s .serves .first .leaf 2562 (omega arith) refl (asks-long 16 2562 ∙ short-1)
     ∙ ap (λ (h : ℕ). 32768 + h) (asks-best 16 2562 ∙ hop-1)
 
 pub first-other-hop : Sound stateA (firstIs 2562 32789) → ⊥
@@ -131,7 +131,7 @@ pub first-names : Sound stateA (firstIs 2562 1) → ⊥
 first-names s = omega (arith, first-leaf 1 s)
 
 pub first-names-not : Sound stateA (firstIs 2561 32799) → ⊥
-first-names-not s = omega (arith, at-first 2561 32799 (omega arith), s .serves .shows1 .node 2561 (omega arith) refl (asks-long 16 2561 ∙ long-1) .1)
+first-names-not s = omega (arith, at-first 2561 32799 (omega arith), s .serves .first .node 2561 (omega arith) refl (asks-long 16 2561 ∙ long-1) .last)
 
 -- "A second cell of a chunk in use does the same with p2": cell 3 is a leaf of hop 31, cell 2 names chunk 1
 short-2 : long routesA 24 655619 ≡ false
@@ -149,7 +149,7 @@ long-2 = refl
 second-leaf : (v : ℕ) → Sound stateA (secondIs 3 v) → v ≡ 32768 + 31
 second-leaf v s =
     sym (at-second 3 v (omega arith))
-    ∙ s .serves .shows2 .leaf 3 (omega arith) refl (asks-long 24 655619 ∙ short-2)
+    ∙ s .serves .second .leaf 3 (omega arith) refl (asks-long 24 655619 ∙ short-2)
     ∙ ap (λ (h : ℕ). 32768 + h) (asks-best 24 655619 ∙ hop-2)
 
 pub second-other-hop : Sound stateA (secondIs 3 32800) → ⊥
@@ -159,13 +159,9 @@ pub second-names : Sound stateA (secondIs 3 1) → ⊥
 second-names s = omega (arith, second-leaf 1 s)
 
 pub second-names-not : Sound stateA (secondIs 2 32812) → ⊥
-second-names-not s = omega (arith, at-second 2 32812 (omega arith), s .serves .shows2 .node 2 (omega arith) refl (asks-long 24 655618 ∙ long-2) .1)
+second-names-not s = omega (arith, at-second 2 32812 (omega arith), s .serves .second .node 2 (omega arith) refl (asks-long 24 655618 ∙ long-2) .last)
 
 -- "A third cell of a chunk in use is always a leaf: the hop of the longest route that covers its one address": cell 200 has hop 57
-short-3 : long routesA 32 (ip 10 1 2 200) ≡ false
-unfolding listA routesOf tabulate recordAt any
-short-3 = refl
-
 hop-3 : best routesA 32 (ip 10 1 2 200) ≡ 57
 unfolding listA routesOf tabulate recordAt best first
 hop-3 = refl
@@ -173,7 +169,7 @@ hop-3 = refl
 third-leaf : (v : ℕ) → Sound stateA (thirdIs 200 v) → v ≡ 32768 + 57
 third-leaf v s =
     sym (at-third 200 v (omega arith))
-    ∙ s .serves .shows3 .leaf 200 (omega arith) refl (asks-long 32 (ip 10 1 2 200) ∙ short-3)
+    ∙ s .serves .third .leaf 200 (omega arith) refl
     ∙ ap (λ (h : ℕ). 32768 + h) (asks-best 32 (ip 10 1 2 200) ∙ hop-3)
 
 pub third-other-hop : Sound stateA (thirdIs 200 32812) → ⊥
@@ -184,24 +180,24 @@ third-no-leaf s = omega (arith, third-leaf 1 s)
 
 -- "An owner is 1 plus the index of the cell that names the chunk, the index counted over the whole of that lent cell array"
 pub other-owner2 : Sound stateA (own2Is (2563 ∷ 0 ∷ [])) → ⊥
-other-owner2 s = true≢false (sym (s .serves .shows1 .owned 0 2562 (omega arith) refl .2) ∙ asks-long 16 2562 ∙ short-1)
+other-owner2 s = true≢false (sym (s .serves .first .owned 0 2562 (omega arith) refl .2) ∙ asks-long 16 2562 ∙ short-1)
 
 pub other-owner3 : Sound stateA (own3Is (4 ∷ 0 ∷ [])) → ⊥
-other-owner3 s = true≢false (sym (s .serves .shows2 .owned 0 3 (omega arith) refl .2) ∙ asks-long 24 655619 ∙ short-2)
+other-owner3 s = true≢false (sym (s .serves .second .owned 0 3 (omega arith) refl .2) ∙ asks-long 24 655619 ∙ short-2)
 
 -- two chunks that one cell would name
 pub owned-twice : Sound stateA (own2Is (2562 ∷ 2562 ∷ [])) → ⊥
-owned-twice s = omega (arith, s .serves .shows1 .owned 0 2561 (omega arith) refl .3, s .serves .shows1 .owned 1 2561 (omega arith) refl .3)
+owned-twice s = omega (arith, s .serves .first .owned 0 2561 (omega arith) refl .3, s .serves .first .owned 1 2561 (omega arith) refl .3)
 
 -- "A free chunk has owner 0 and all cells 0": chunk 2 of either pool is free
 pub free-owned2 : Sound stateA (own2Is (2562 ∷ 2563 ∷ [])) → ⊥
-free-owned2 s = true≢false (sym (s .serves .shows1 .owned 1 2562 (omega arith) refl .2) ∙ asks-long 16 2562 ∙ short-1)
+free-owned2 s = true≢false (sym (s .serves .first .owned 1 2562 (omega arith) refl .2) ∙ asks-long 16 2562 ∙ short-1)
 
 pub free-owned3 : Sound stateA (own3Is (3 ∷ 4 ∷ [])) → ⊥
-free-owned3 s = true≢false (sym (s .serves .shows2 .owned 1 3 (omega arith) refl .2) ∙ asks-long 24 655619 ∙ short-2)
+free-owned3 s = true≢false (sym (s .serves .second .owned 1 3 (omega arith) refl .2) ∙ asks-long 24 655619 ∙ short-2)
 
 pub free-cell2 : Sound stateA (secondIs 300 1) → ⊥
-free-cell2 s = omega (arith, at-second 300 1 (omega arith), s .clear2 .blank 1 (omega arith) refl 44 (omega arith))
+free-cell2 s = omega (arith, at-second 300 1 (omega arith), s .clear2 .blank 300 (omega arith) refl)
 
 pub free-cell3 : Sound stateA (thirdIs 300 1) → ⊥
-free-cell3 s = omega (arith, at-third 300 1 (omega arith), s .clear3 .blank 1 (omega arith) refl 44 (omega arith))
+free-cell3 s = omega (arith, at-third 300 1 (omega arith), s .clear3 .blank 300 (omega arith) refl)

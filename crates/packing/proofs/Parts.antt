@@ -60,15 +60,26 @@ report-sum n y z x a b c e =
 
 found-sum : (n h x : ℕ) → n < 2 ^ 8 → h < 2 ^ 16 → x ≡ n * 256 + h * 65536 → Sums foundParts x
 unfolding foundParts
-found-sum n h x a b e = record { none = omega arith; sum = omega arith }
+found-sum n h x a b e =
+    let f : field 8 8 x ≡ n = omega arith in
+    let g : field 16 16 x ≡ h = omega arith in
+    record { none = omega arith; sum = rw (f, g) e }
 
 built-sum : (n h x : ℕ) → n < 2 ^ 32 → h < 2 ^ 16 → x ≡ packBuilt (accepted (n ∷ h ∷ [])) → Sums builtParts x
 unfolding packed builtParts
-built-sum n h x a b e = record { none = omega arith; sum = omega arith }
+built-sum n h x a b e =
+    let f : field 32 32 x ≡ n = omega arith in
+    let g : field 16 16 x ≡ h = omega arith in
+    record { none = omega arith; sum = rw (f, g) (omega arith) }
 
 run-sum : (j n x : ℕ) → j < 2 ^ 16 → n < 2 ^ 16 → x ≡ packRun (accepted (j ∷ n ∷ [])) → Sums runParts x
 unfolding packed runParts
-run-sum j n x a b e = record { none = omega arith; sum = omega arith }
+run-sum j n x a b e =
+    let f : field 16 16 x ≡ j = omega arith in
+    let g : field 32 16 x ≡ n = omega arith in
+    let p : j % 65536 ≡ j = mod-eq-of-lt a in
+    let q : n % 65536 ≡ n = mod-eq-of-lt b in
+    record { none = omega arith; sum = rw (f, g) (omega arith) }
 
 route-sum : (a len mark hop x : ℕ) → a < 2 ^ 32 → len < 2 ^ 7 → mark < 2 → hop < 2 ^ 16 → x ≡ packRoute (accepted (a ∷ len ∷ mark ∷ hop ∷ [])) → Sums routeParts x
 unfolding packed routeParts
@@ -83,11 +94,18 @@ route-sum a len mark hop x i j n m e =
 
 announce-sum : (c b n x : ℕ) → c < 2 → b < 2 → n < 2 ^ 16 → x ≡ packChange n (accepted (c ∷ b ∷ [])) → Sums announceParts x
 unfolding packed announceParts
-announce-sum c b n x h i j e = record { none = omega arith; sum = omega arith }
+announce-sum c b n x h i j e =
+    let f : field 9 1 x ≡ c = omega arith in
+    let g : field 8 1 x ≡ b = omega arith in
+    let r : field 16 16 x ≡ n = field-is 16 16 (c * 512 + b * 256) n 0 x (omega arith) j (omega arith) in
+    record { none = omega arith; sum = rw (f, g, r) (omega arith) }
 
 withdraw-sum : (c n x : ℕ) → c < 2 → n < 2 ^ 16 → x ≡ packChange n (accepted (c ∷ [])) → Sums withdrawParts x
 unfolding packed withdrawParts
-withdraw-sum c n x i j e = record { none = omega arith; sum = omega arith }
+withdraw-sum c n x i j e =
+    let f : field 9 1 x ≡ c = omega arith in
+    let r : field 16 16 x ≡ n = field-is 16 16 (c * 512) n 0 x (omega arith) j (omega arith) in
+    record { none = omega arith; sum = rw (f, r) (omega arith) }
 
 done-sum : (n x : ℕ) → n < 2 ^ 16 → x ≡ n * 65536 → Sums doneParts x
 unfolding doneParts
@@ -166,5 +184,5 @@ module _ (most : ℕ) (few : most ≤ 2 ^ 32) where
       go _ HopFits.none = hop-sum 0 _ (omega arith) refl
 
   pub none-parts : (P : List ℕ → Type 0) (s : Said) → Fits most P s → packNone s ≡ parts noParts (packNone s)
-  unfolding packed
+  unfolding packed noParts
   none-parts P = said-parts most few P _ noParts (λ vs p. record { none = refl; sum = refl })

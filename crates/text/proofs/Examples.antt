@@ -1,6 +1,7 @@
 -- The text that is printed of document 01's list A, of a list with an attached route, and of refusals.
 use mathlib.Core.Path.{_≡_, refl}
-use mathlib.Core.List.{List, _++_}
+use mathlib.Core.List.{List, [], _∷_, _++_}
+use Prim.Native.Nat.{ℕ}
 use Rattle.bits.specs.Tab.{tabulate}
 use Rattle.routes.specs.declared.Route.{Route}
 use Rattle.routes.specs.Record.{recordAt, routesOf}
