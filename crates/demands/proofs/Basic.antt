@@ -16,7 +16,7 @@ use Rattle.standing.specs.Cells.{covers, Best, best}
 use Rattle.standing.proofs.Longest.{best-is}
 use Rattle.standing.proofs.Only.{best-only, covers-none}
 use Rattle.sail.specs.Lent.{Lent}
-use Rattle.sail.specs.Sound.{Sound, standing}
+use Rattle.sail.specs.Sound.{Sound, standing, cellsRead}
 use Rattle.sail.specs.Walk.{hopSaid, lookupSaid}
 use Rattle.sail.specs.declared.table.Table.{Table}
 use Rattle.sail.proofs.Sounds as sounds
@@ -40,7 +40,7 @@ pub refused-no-hop-basic : (input bits cells : List ℕ) (a : ℕ) (r : BasicFou
 unfolding saysBasicFound
 refused-no-hop-basic input bits cells a r e n q = basic-found-injective r (found.Refused n) (e ∙ q)
 
--- "Carries its number": in order, with the failure of those before
+-- "It carries its number": in order, with the failure of those before
 module _ (input bits cells : List ℕ) where
   -- build: the input's, then 2
   pub refused-number-basic-build : (s : Said) → (basicBuilt input bits cells .said ≡ s) ↔ BasicBuild input bits cells s
@@ -56,7 +56,7 @@ module _ (input bits cells : List ℕ) where
   refused-number-basic-lookup-many addrs words =
       exactly (BasicLookups input bits cells addrs words) _ _ refl (many-judged input bits cells addrs words) (many-only input bits cells addrs words)
 
-  -- "State and buffers stay exactly as they were"
+  -- "The caller's state and buffers stay exactly as they were"
   pub refused-leaves-all-basic-build : accepts (basicBuilt input bits cells .said) ≡ false
       → (basicBuilt input bits cells .bits ≡ bits) × (basicBuilt input bits cells .cells ≡ cells)
   refused-leaves-all-basic-build = refused-leaves input bits cells
@@ -108,7 +108,7 @@ module _ (input bits cells : List ℕ) (e : accepts (basicBuilt input bits cells
       → uncounted (lookupSaid t l a) ≡ basicSaid input (basicBuilt input bits cells .bits) (basicBuilt input bits cells .cells) a
   table-as-maps t l s same =
       ap uncounted (sounds.sail-serves t l s a h)
-      ∙ ap (λ (rs : List Route). uncounted (hopSaid _ (best rs 32 a))) (sym same)
+      ∙ ap (λ (rs : List Route). uncounted (hopSaid (cellsRead (t .geometry) (standing t l) a) (best rs 32 a))) (sym same)
       ∙ sym (serves-best (routesIn input) (worth.built-good-routes input bits cells e) a _ (basic-serves input bits cells e a h))
 
 -- each word of many lookups is what one lookup answers

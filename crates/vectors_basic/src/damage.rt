@@ -1,14 +1,14 @@
 // Maps that a fault has changed.
+use crate::inputs;
 use crate::say;
 use basic::lookup::lookup;
 use basic::many::lookup_many;
 use basic_build::build;
-use words::list;
 use words::print;
 
 // With the bit of 10.1.0.0/16 cleared its cell no longer counts.
 pub fn bit_cleared() {
-    let list = list::list_a();
+    let list = inputs::list_a();
     let mut bits = [0u8; 16384];
     let mut cells = [0u16; 131071];
     print::text(b"bit cleared");
@@ -30,7 +30,7 @@ fn three(list: &[u8; 40], bits: &[u8; 16384], cells: &[u16; 131071]) {
 
 // The cell of 10.0.0.0/8 made 0, 32,768 and 32,767.
 pub fn cells() {
-    let list = list::list_a();
+    let list = inputs::list_a();
     let mut bits = [0u8; 16384];
     let mut cells = [0u16; 131071];
     print::text(b"cells damaged");
@@ -45,7 +45,7 @@ pub fn cells() {
 
 // Many at once: a word for each is what its lookup answers.
 pub fn many() {
-    let list = list::list_a();
+    let list = inputs::list_a();
     let mut bits = [0u8; 16384];
     let mut cells = [0u16; 131071];
     print::text(b"many");

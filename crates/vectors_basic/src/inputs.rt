@@ -31,9 +31,14 @@ pub fn figure() -> [u8; 72] {
     list
 }
 
+// Document 01's list A.
+pub fn list_a() -> [u8; 40] {
+    list::list_a()
+}
+
 // List A with a hop of 0 in its last record.
 pub fn bad_record() -> [u8; 40] {
-    let mut list = list::list_a();
+    let mut list = list_a();
     list[39] = 0;
     list
 }

@@ -3,7 +3,6 @@ use crate::inputs;
 use crate::say;
 use basic::lookup::lookup;
 use basic_build::build;
-use words::list;
 use words::print;
 
 // The source's figure: each of its prefixes, and 001010, which it looks up.
@@ -28,7 +27,7 @@ pub fn figure() {
 
 // List A: two routes are found in the list alone.
 pub fn list_a() {
-    let list = list::list_a();
+    let list = inputs::list_a();
     let mut bits = [9u8; 16384];
     let mut cells = [9u16; 131071];
     print::text(b"list a");
@@ -44,7 +43,7 @@ pub fn list_a() {
 
 // List A without its default route.
 pub fn no_default() {
-    let list = list::list_a();
+    let list = inputs::list_a();
     let mut bits = [9u8; 16384];
     let mut cells = [9u16; 131071];
     print::text(b"no default");

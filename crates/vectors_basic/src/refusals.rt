@@ -4,12 +4,11 @@ use crate::say;
 use basic::lookup::lookup;
 use basic::many::lookup_many;
 use basic_build::build;
-use words::list;
 use words::print;
 
 // 16,383 and 16,385 bytes.
 pub fn bits() {
-    let list = list::list_a();
+    let list = inputs::list_a();
     let mut bits = [9u8; 16385];
     let mut cells = [9u16; 131071];
     print::text(b"16383 bytes");
@@ -26,7 +25,7 @@ pub fn bits() {
 
 // 131,070 and 131,072 cells.
 pub fn cells() {
-    let list = list::list_a();
+    let list = inputs::list_a();
     let mut bits = [9u8; 16384];
     let mut cells = [9u16; 131072];
     print::text(b"131070 cells");
@@ -57,7 +56,7 @@ pub fn order() {
 
 // One word for each address, after the input and the sizes.
 pub fn many() {
-    let list = list::list_a();
+    let list = inputs::list_a();
     let bits = [0u8; 16384];
     let cells = [0u16; 131071];
     let addrs = [0x0A01_02C8u32, 0xC000_0201];
