@@ -1,5 +1,5 @@
 -- What is printed, in document 01's words, and that a statement leaves one answer.
-use mathlib.Core.Path.{_≡_, refl, sym, ap, _∙_, subst}
+use mathlib.Core.Path.{_≡_, refl, sym, ap, _∙_}
 use mathlib.Core.Logic.{_⊎_, inl, inr, ⊎-elim}
 use mathlib.Core.Bool.{true, false, true≢false, false≢true}
 use mathlib.Core.List.{List, [], _++_, append-assoc}
@@ -11,7 +11,7 @@ use Rattle.standing.specs.Cells.{need}
 use Rattle.routes.specs.Said.{Said, accepted, refused, refusedAt, accepts}
 use Rattle.routes.specs.declared.Route.{Route}
 use Rattle.routes.proofs.Rows.{length-routes}
-use Rattle.routes.proofs.Meaning.{Checked, input-checked, records-right}
+use Rattle.routes.proofs.Meaning.{Checked, records-right}
 use Rattle.sail.specs.Geometry.{smallGeo}
 use Rattle.sail.specs.Sizes.{Sized}
 use Rattle.sail_theory.specs.Calls.{inputRoutes, loadSaid, loaded}
@@ -88,14 +88,14 @@ module _ (input : List ℕ) where
       go : {s : Said} → Load smallTable smallLent input s → loadSaid smallTable smallLent input ≡ s → Prints input (printedText input)
       go (Load.sizing n (Sizing.limits h)) e = absurd (h (small-sized .valid))
       go (Load.sizing n (Sizing.size v h)) e = absurd (h small-sized)
-      go (Load.bad-input {s} z c h) e = bad (subst (Checked input) c (input-checked input)) e h
+      go (Load.bad-input s z b) e = bad (b .checked) e (b .not-accepted)
         where
           bad : {s : Said} → Checked input s → loadSaid smallTable smallLent input ≡ s
-              → ((ns : List ℕ) → s ≡ accepted ns → ⊥) → Prints input (printedText input)
+              → accepts s ≡ false → Prints input (printedText input)
           bad (Checked.ragged w) e h = rw (said-text _ e refl) (fault-text input _ _ (Checked.ragged w))
           bad (Checked.stopped k f w i b x p) e h = rw (said-text _ e refl) (fault-text input f k (Checked.stopped k f w i b x p))
           bad (Checked.many w b m) e h = rw (said-text _ e refl, six-text) (Prints.six (record { whole = w; each = b }) (omega arith))
-          bad (Checked.good n w r) e h = absurd (h _ refl)
+          bad (Checked.good n w r) e h = absurd (true≢false h)
       go (Load.full w r) e = rw (said-text _ e refl, six-text) (Prints.six (right w) r)
       go (Load.second w r x) e = rw (said-text _ e refl, seven-text) (Prints.seven (right w) r x)
       go (Load.third w r x y) e = rw (said-text _ e refl, eight-text) (Prints.eight (right w) r x y)
