@@ -46,7 +46,7 @@ goodInputA = let g = input-good listA 5 goodA in record { records = g .1; whole 
 
 prepared-A : Prepared listA noBits noCells
 unfolding listA
-prepared-A = record { input = goodInputA; sizes = record { bytes = length-replicate 16384 0; hops = length-replicate 131071 0 } }
+prepared-A = record { input = goodInputA; sizes = record { bytes = length-replicate {A = ℕ} 16384 0; hops = length-replicate {A = ℕ} 131071 0 } }
 
 pub builds-A : basicBuilt listA noBits noCells .said ≡ accepted []
 builds-A = build-only listA noBits noCells (accepted []) (BasicBuild.done prepared-A)
@@ -69,7 +69,7 @@ unfolding inputSaid firstOf firstFrom
 no-input = let g = input-good [] 0 refl in record { records = g .1; whole = g .0 }
 
 prepared-none : Prepared [] oneBit noCells
-prepared-none = record { input = no-input; sizes = record { bytes = ap suc (length-replicate 16383 0); hops = length-replicate 131071 0 } }
+prepared-none = record { input = no-input; sizes = record { bytes = ap suc (length-replicate {A = ℕ} 16383 0); hops = length-replicate {A = ℕ} 131071 0 } }
 
 clear-above : every (λ k. not (bitFor oneBit 0 (suc k))) 16 ≡ true
 unfolding every mapPlace

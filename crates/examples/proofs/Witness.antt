@@ -231,7 +231,7 @@ unfolding saysGot routeSaid inputSaid
 route-refused k = refl
 
 -- list A lies somewhere in memory; its run under 10.1.0.0/16 is its part from byte 16 on, there
-inMemory : List ℕ → RefT (List ℕ)
+unfoldable pub inMemory : List ℕ → RefT (List ℕ)
 inMemory bytes = record { ptr = (3, 4096); name = 0; now = bytes }
 
 pub run-part : MeetsRun (inMemory listA) (ip 10 1 0 0) 16 (record { ptr = (3, 4112); name = 1; now = drop 16 listA })
