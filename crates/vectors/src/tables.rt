@@ -1,5 +1,4 @@
 // SAIL tables: list A's table at the standard geometry, written out by hand from document 01, looked up, reported and damaged.
-use routes::record;
 use sail::geometry::Geometry;
 use sail::lookup;
 use sail::table::Table;
@@ -73,13 +72,11 @@ fn third_cells(v: u16, w: u16) -> [u16; 1024] {
 
 // List A's records with room for eight; the last byte is b.
 fn records(b: u8) -> [u8; 64] {
-    let mut list = [0u8; 64];
     let a = list::list_a();
-    record::write_record(&mut list, 0, record::read_record(&a, 0));
-    record::write_record(&mut list, 1, record::read_record(&a, 1));
-    record::write_record(&mut list, 2, record::read_record(&a, 2));
-    record::write_record(&mut list, 3, record::read_record(&a, 3));
-    record::write_record(&mut list, 4, record::read_record(&a, 4));
+    let mut list = [0u8; 64];
+    for k in 0..40 {
+        list[k] = a[k];
+    }
     list[63] = b;
     list
 }
