@@ -1,4 +1,5 @@
 //! Bit maps: list A of document 01, the figure of source document 000, damage and refusals, through the safe functions.
+#![cfg(feature = "alloc")]
 
 use ghatumri::*;
 use std::net::Ipv4Addr;
