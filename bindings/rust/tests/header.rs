@@ -140,18 +140,25 @@ fn as_read() {
 fn one_meaning() {
     let header = read(&repository().join("include/ghatumri.h"));
     let texts = between(&header, "texts[] = {", "};").next().unwrap();
-    let texts: Vec<&str> = texts.split('"').skip(1).step_by(2).collect();
+    // An entry is `/* NUMBER */ "TEXT"`, its text perhaps in parts. Numbers that are nobody's have none.
+    let entry = |entry: &str| {
+        let (number, text) = entry.split_once("*/").unwrap();
+        let text: String = text.split('"').skip(1).step_by(2).collect();
+        (!text.is_empty()).then(|| (number.trim().parse::<u8>().unwrap(), text))
+    };
+    let texts: BTreeMap<u8, String> = texts.split("/*").skip(1).filter_map(entry).collect();
+    assert_eq!(texts.len(), Reason::ALL.len() + 1);
     let names = between(&header, "enum gh_refusal {", "}").next().unwrap();
     let names: Vec<String> = between(names, "GH_REFUSED_", ",").map(spaced).collect();
     assert_eq!(names.len(), Reason::ALL.len());
     for (name, &reason) in names.iter().zip(Reason::ALL) {
         assert_eq!(*name, format!("{reason:?}").to_uppercase() + &format!(" = {}", reason.number()));
-        assert_eq!(reason.meaning(), texts[reason.number() as usize]);
+        assert_eq!(reason.meaning(), texts[&reason.number()]);
         assert_eq!(Reason::from_number(reason.number()), Some(reason));
     }
     let numbers = (0..=u8::MAX).filter(|&number| Reason::from_number(number).is_some());
     assert_eq!(numbers.count(), Reason::ALL.len());
-    assert_eq!(Refusal { reason: Reason::Absent, index: None }.to_string(), format!("refused 9: {}", texts[9]));
+    assert_eq!(Refusal { reason: Reason::Absent, index: None }.to_string(), format!("refused 9: {}", texts[&9]));
 }
 
 /// Limits and named geometries.

@@ -1,4 +1,4 @@
-//! Record inputs, good and damaged: the run, the tally, routes read back, build.
+//! Record inputs, good and damaged: the run, the tally, routes read back, broadcasts, build.
 
 use crate::gh::{self, Fenced};
 use crate::run::Run;
@@ -95,6 +95,7 @@ fn ask(run: &mut Run, rng: &mut Rng, field: &Field, routes: &[Route], input: &[u
         }
     }
 
+    crate::broadcasts::ask(run, rng, routes, &lent);
     crate::images::build(run, rng, input);
     if let Some(what) = lent.differs("input", input) {
         run.fault(&what, &|| format!("over {}", tell(input)));

@@ -6,6 +6,7 @@
 //! CALLS is how many calls to make at least (single lookups are counted apart). SEED fixes the run. With EPISODE only
 //! that part of the run is made, the way to look at a fault again.
 
+mod broadcasts;
 mod damage;
 mod gh;
 mod images;
