@@ -182,8 +182,7 @@ static inline const char *gh_meaning(unsigned number)
         /* 10 */ "record input not a multiple of 8 bytes, mark over 1, or not ascending; announce: mark over 1",
         /* 11 */ "too few whole nodes lent",
         /* 12 */ "too few hops lent",
-        /* 13 */ "image broken on this walk: bit 15 set, child or hop beyond what is lent, no root, hop outside 1 to 32,767;"
-               " bit maps: such a hop at the first set bit",
+        /* 13 */ "image broken on this walk: bit 15 set, child or hop beyond what is lent, no root, hop outside 1 to 32,767; bit maps: such a hop at the first set bit",
         /* 14 to 22 */ 0, 0, 0, 0, 0, 0, 0, 0, 0,
         /* 23 */ "version neither 1 nor 2",
     };

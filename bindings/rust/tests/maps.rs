@@ -1,4 +1,5 @@
 //! Bit maps: list A of document 01, the figure of source document 000, damage and refusals, through the safe functions.
+#![cfg(feature = "alloc")]
 
 use ghatumri::*;
 use std::net::Ipv4Addr;
@@ -41,6 +42,14 @@ fn list_a_in_maps() {
     assert_eq!(maps.lookup(&input, [10, 1, 2, 200]), Ok(Some(57)));
     maps.lookup_many(&input, &addrs, &mut out).unwrap();
     assert_eq!((hop(out[3]).unwrap_err().number(), hop(out[4])), (13, Ok(Some(6))));
+    maps.cells[265] = 0;
+    assert_eq!(maps.lookup(&input, [10, 2, 0, 1]).unwrap_err().number(), 13);
+
+    // Where the bit of 10.1.0.0/16 is cleared, that of 10.0.0.0/8 is met.
+    maps.cells[265] = 20;
+    maps.bits[8512] = 0;
+    assert_eq!(maps.lookup(&input, [10, 1, 3, 1]), Ok(Some(20)));
+    assert_eq!(maps.lookup(&input, [10, 1, 2, 200]), Ok(Some(57)));
 }
 
 #[test]
@@ -77,6 +86,11 @@ fn refusals() {
         assert_eq!(maps.build(&input).unwrap_err(), Refusal { reason: Reason::Size, index: None });
         assert_eq!(maps.lookup(&input, [1, 2, 3, 4]).unwrap_err().number(), 2);
         assert_eq!(maps.build(&input[..8 * 5 - 1]).unwrap_err().number(), 10);
+        // A record that is wrong is told before a size that is.
+        let mut wrong = input.clone();
+        wrong[8 + 4] = 33;
+        assert_eq!(maps.build(&wrong).unwrap_err(), Refusal { reason: Reason::Prefix, index: Some(1) });
+        assert_eq!(maps.lookup(&wrong, [1, 2, 3, 4]).unwrap_err().number(), 3);
         assert!(maps.bits.iter().all(|&b| b == 9) && maps.cells.iter().all(|&c| c == 9));
     }
 }
