@@ -65,11 +65,11 @@
  *
  * THREADS. No call has memory of its own, so calls over different arrays may run at the same time, in threads and in
  * interrupts. Over the same arrays calls that only read them may run at the same time: every lookup, the report,
- * the run, the tally, a route read back, a broadcast. A call that writes an array (make, load, announce, withdraw, build) runs alone:
- * no other call may use that array meanwhile, lookups neither. To change a table beside readers, keep two sets of arrays:
- * change the set that no reader uses, hand it to the readers (an atomic pointer to the struct), wait until no reader has
- * the old one, and copy arrays and count over or make the same change there. There is no pointer in the arrays, so a
- * copy of them with geometry and count is the same table.
+ * the run, the tally, a route read back, a broadcast. A call that writes an array (make, load, announce, withdraw,
+ * build) runs alone: no other call may use that array meanwhile, lookups neither. To change a table beside readers,
+ * keep two sets of arrays: change the set that no reader uses, hand it to the readers (an atomic pointer to the struct),
+ * wait until no reader has the old one, and copy arrays and count over or make the same change there. There is no
+ * pointer in the arrays, so a copy of them with geometry and count is the same table.
  *
  * STACK. gh_load, gh_announce, gh_withdraw and gh_report take at most GH_STACK_TABLE bytes of stack, the others
  * GH_STACK. Measured for x86-64 it is 44 KB for announce, withdraw and the report, 42 KB for load, and under 200 bytes

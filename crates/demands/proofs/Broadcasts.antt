@@ -18,5 +18,6 @@ refused-number-broadcast version input addr =
     exactly (Casting version input addr) _ _ refl (cast-judged version input addr) (cast-only version input addr)
 
 -- "Show that no second answer would satisfy it."
-pub one-answer-broadcast : (version : ℕ) (input : List ℕ) (addr : ℕ) (x y : Cast) → MeetsBroadcast version input addr x → MeetsBroadcast version input addr y → x ≡ y
+pub one-answer-broadcast : (version : ℕ) (input : List ℕ) (addr : ℕ) (x y : Cast) → MeetsBroadcast version input addr x
+    → MeetsBroadcast version input addr y → x ≡ y
 one-answer-broadcast version input addr x y p q = cast-injective x y (p ∙ sym q)
