@@ -77,8 +77,9 @@ int main(void)
         { "report", report, GH_STACK_TABLE, 0 }, { "lookup", lookup, GH_STACK, 0 },
         { "lookup_many", lookup_many, GH_STACK, 0 }, { "build", build, GH_STACK, 0 },
         { "tree_lookup", tree_lookup, GH_STACK, 0 }, { "run", run, GH_STACK, 0 }, { "tally", tally, GH_STACK, 0 },
-        { "route", route, GH_STACK, 0 }, { "broadcast", broadcast, GH_STACK, 0 }, { "basic_build", basic_build, GH_STACK, 0 },
-        { "basic_lookup", basic_lookup, GH_STACK, 0 }, { "basic_lookup_many", basic_lookup_many, GH_STACK, 0 },
+        { "route", route, GH_STACK, 0 }, { "broadcast", broadcast, GH_STACK, 0 },
+        { "basic_build", basic_build, GH_STACK, 0 }, { "basic_lookup", basic_lookup, GH_STACK, 0 },
+        { "basic_lookup_many", basic_lookup_many, GH_STACK, 0 },
     };
     for (uint32_t k = 0; k < N; k++)
         put_record(input + GH_RECORD_BYTES * k, k << 20 | 77, 32, 9);
