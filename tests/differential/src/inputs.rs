@@ -16,6 +16,7 @@ pub fn episode(run: &mut Run, rng: &mut Rng) {
         let input = damaged_input(rng, &routes);
         ask(run, rng, &field, &routes, &input);
     }
+    crate::broadcasts::links(run, rng, &field, &routes);
 }
 
 /// Inputs of 4,096 records and of more, good and with something wrong late.

@@ -7,9 +7,9 @@ pub struct Run {
     pub seed: u64,
     /// The part of the run that is going on. Each part can be run alone.
     pub episode: u64,
-    /// Calls of the library, single lookups not among them.
+    /// Calls of the library, those for one address not among them.
     pub calls: u64,
-    /// Single lookups, in tables and in images.
+    /// Calls for one address: single lookups, in tables, images and maps, and broadcasts.
     pub lookups: u64,
     /// How often each call gave each answer. A label is a refusal's number, or a name for something else worth counting.
     pub seen: BTreeMap<(&'static str, String), u64>,
