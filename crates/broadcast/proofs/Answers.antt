@@ -6,8 +6,6 @@ use Prim.Native.Nat.{ℕ, _-_, _≤_, _<_}
 use native.Mathlib.Omega.{arith}
 use lib.Dec.{eqb}
 use borrow.Author.Tests.{eq-eqb, ne-eqb, le-leb, lt-leb, not-true, not-false}
-use Rattle.bits.specs.Count.{bit}
-use Rattle.longest.specs.Best.{bestRoute}
 use Rattle.longest.specs.Longest.{LongestRecord}
 use Rattle.longest.proofs.Bests.{no-best-record, best-record}
 use Rattle.routes.specs.Answers.{saysInput}

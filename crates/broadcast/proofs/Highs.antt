@@ -1,18 +1,16 @@
 -- The highest address of a route is the last that it covers: the addresses that it covers are those with its first bits, and their other bits
 -- go from all zeros to all ones.
 use mathlib.Core.Path.{_≡_, sym, ap, _∙_}
-use mathlib.Core.Bool.{true}
 use Prim.Native.Nat.{ℕ, _+_, _-_, _*_, _^_, _≤_, _<_}
 use native.Mathlib.Nat.{add-mul, one-mul, mul-le-mul-right}
 use native.Mathlib.Omega.{arith}
 use lib.Pow.{pow-pos, pow-mono, pow-add}
 use borrow.Author.Tests.{le-leb, eq-eqb}
-use Rattle.bits.specs.Slot.{slot, cut, mask}
+use Rattle.bits.specs.Slot.{slot, mask}
 use Rattle.bits.proofs.Slots.{slot-lt, cut-is, cut-gt, cut-in, cut-slot, slot-of}
 use Rattle.bits.proofs.Tests.{both}
 use Rattle.routes.specs.Route.{Prefix}
 use Rattle.routes.specs.declared.Route.{Route}
-use Rattle.standing.specs.Cells.{covers}
 use Rattle.standing.proofs.Longest.{cover-parts}
 use Rattle.broadcast.specs.Cast.{highest}
 use Rattle.broadcast.specs.Meaning.{Highest}

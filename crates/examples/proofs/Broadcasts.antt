@@ -1,19 +1,18 @@
 -- Inputs that meet what the theorems on broadcasts suppose, and answers that meet the statement: a broadcast, none, a version that is none, a
 -- refused input.
-use mathlib.Core.Path.{_≡_, refl, sym, ap, _∙_, subst}
+use mathlib.Core.Path.{_≡_, refl, sym, _∙_, subst}
 use mathlib.Core.Logic.{_≢_}
 use mathlib.Core.List.{List, [], _∷_}
 use Prim.Native.Nat.{ℕ}
 use native.Mathlib.Omega.{arith}
-use lib.ListN.{length}
 use Rattle.bits.specs.Slot.{cut}
 use Rattle.bits.specs.Search.{firstFrom, firstOf}
 use Rattle.bits.specs.Tab.{tabulate}
 use Rattle.routes.specs.Input.{properPrefix, hopFine, routeFault, inOrder, faultAt, inputSaid}
 use Rattle.routes.specs.Record.{recordAt, routesOf, GoodInput, routesIn}
-use Rattle.routes.specs.Said.{accepted, refused, refusedAt}
+use Rattle.routes.specs.Said.{accepted}
 use Rattle.routes.specs.declared.Route.{Route}
-use Rattle.standing.specs.Standing.{Held, stood}
+use Rattle.standing.specs.Standing.{stood}
 use Rattle.longest.specs.Best.{bestRoute, LongestRoute, BestRoute}
 use Rattle.longest.proofs.Bests.{best-route-is}
 use Rattle.sail_theory.specs.Calls.{route}

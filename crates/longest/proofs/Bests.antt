@@ -4,10 +4,9 @@ use mathlib.Core.Path.{_≡_, refl, sym, ap, _∙_, subst}
 use mathlib.Core.Logic.{_⊎_, inl, inr}
 use mathlib.Core.Bool.{Bool, true, false, cond, true≢false}
 use mathlib.Core.List.{List, [], _∷_, List·Memᴰ, List·Memᴰ·head, List·Memᴰ·tail, List·Memᴰ·cases-cons, List·Memᴰ·not-nil}
-use Prim.Native.Nat.{ℕ, _-_, _/_, _≤_, _<_, zero-le}
+use Prim.Native.Nat.{ℕ, _-_, _≤_, _<_, zero-le}
 use native.Mathlib.Omega.{arith}
 use lib.Dec.{ltb}
-use lib.ListN.{length}
 use borrow.Author.Tests.{ltb-true, ltb-false}
 use Rattle.bits.specs.Slot.{slot}
 use Rattle.bits.proofs.Tests.{decided}
@@ -16,7 +15,7 @@ use Rattle.routes.specs.Record.{recordAt, routesOf, GoodInput, routesIn}
 use Rattle.routes.specs.declared.Route.{Route}
 use Rattle.routes.proofs.Goods.{good-fine}
 use Rattle.routes.proofs.Rows.{record-listed, listed-record, records-good}
-use Rattle.standing.specs.Cells.{here, covers, best, Longest, Best}
+use Rattle.standing.specs.Cells.{here, covers, best, Best}
 use Rattle.standing.specs.Standing.{Held, absent, stood}
 use Rattle.standing.proofs.Longest.{best-is}
 use Rattle.standing.proofs.Paint.{same-route}
