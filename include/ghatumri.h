@@ -52,6 +52,7 @@
  *   gh_run           bits 16 to 31: first record of the run; 32 to 47: records in it
  *   gh_tally         0
  *   gh_route         bits 8 to 14: length; 15: mark; 16 to 31: hop; 32 to 63: address; no record of that index: all 0
+ *   gh_broadcast     bit 8: the address is a directed broadcast
  *   gh_basic_build   0
  *   gh_basic_lookup  bits 16 to 31: hop, 0 for no route
  *   gh_basic_lookup_many   0; each word of out: the low 32 bits of what gh_basic_lookup answers
@@ -64,11 +65,11 @@
  *
  * THREADS. No call has memory of its own, so calls over different arrays may run at the same time, in threads and in
  * interrupts. Over the same arrays calls that only read them may run at the same time: every lookup, the report,
- * the run, the tally, a route read back. A call that writes an array (make, load, announce, withdraw, build) runs alone:
- * no other call may use that array meanwhile, lookups neither. To change a table beside readers, keep two sets of arrays:
- * change the set that no reader uses, hand it to the readers (an atomic pointer to the struct), wait until no reader has
- * the old one, and copy arrays and count over or make the same change there. There is no pointer in the arrays, so a
- * copy of them with geometry and count is the same table.
+ * the run, the tally, a route read back, a broadcast. A call that writes an array (make, load, announce, withdraw,
+ * build) runs alone: no other call may use that array meanwhile, lookups neither. To change a table beside readers,
+ * keep two sets of arrays: change the set that no reader uses, hand it to the readers (an atomic pointer to the struct),
+ * wait until no reader has the old one, and copy arrays and count over or make the same change there. There is no
+ * pointer in the arrays, so a copy of them with geometry and count is the same table.
  *
  * STACK. gh_load, gh_announce, gh_withdraw and gh_report take at most GH_STACK_TABLE bytes of stack, the others
  * GH_STACK. Measured for x86-64 it is 44 KB for announce, withdraw and the report, 42 KB for load, and under 200 bytes
@@ -123,6 +124,8 @@ extern "C" {
 #define GH_MOST_HOP        32767      /* the least is 1 */
 #define GH_BEHIND          0          /* marks: a network behind a neighbour */
 #define GH_ATTACHED        1          /* and one on a port of ours */
+#define GH_OLDER_RULE      1          /* versions of gh_broadcast: networks of 0 to 31 bits have a broadcast */
+#define GH_NEWER_RULE      2          /* of 0 to 30 bits; a link of 31 bits has two hosts and none (RFC 3021) */
 
 #define GH_STANDARD_P1     16         /* the named geometries */
 #define GH_STANDARD_P2     24
@@ -158,7 +161,8 @@ enum gh_refusal {
     GH_REFUSED_INPUT = 10,
     GH_REFUSED_NODES = 11,
     GH_REFUSED_HOPS = 12,
-    GH_REFUSED_IMAGE = 13
+    GH_REFUSED_IMAGE = 13,
+    GH_REFUSED_VERSION = 23
 };
 
 /* What a number means. */
@@ -179,8 +183,10 @@ static inline const char *gh_meaning(unsigned number)
         /* 11 */ "too few whole nodes lent",
         /* 12 */ "too few hops lent",
         /* 13 */ "image broken on this walk: bit 15 set, child or hop beyond what is lent, no root, hop outside 1 to 32,767; bit maps: such a hop at the first set bit",
+        /* 14 to 22 */ 0, 0, 0, 0, 0, 0, 0, 0, 0,
+        /* 23 */ "version neither 1 nor 2",
     };
-    return number < sizeof texts / sizeof *texts ? texts[number] : "no number of a refusal";
+    return number < sizeof texts / sizeof *texts && texts[number] ? texts[number] : "no number of a refusal";
 }
 
 /* ---- Reading an answer ----------------------------------------------------------------------------------------- */
@@ -202,6 +208,7 @@ static inline const char *gh_meaning(unsigned number)
 #define GH_ROUTE_LEN(a)    ((unsigned)((a) >> 8 & 0x7f))          /* gh_route */
 #define GH_ROUTE_MARK(a)   ((unsigned)((a) >> 15 & 1))            /* gh_route */
 #define GH_ROUTE_ADDR(a)   ((uint32_t)((a) >> 32))                /* gh_route */
+#define GH_BROADCAST(a)    ((unsigned)((a) >> 8 & 1))             /* gh_broadcast */
 
 /* ---- Calls on tables ------------------------------------------------------------------------------------------- */
 
@@ -323,6 +330,12 @@ uint64_t gh_tally(const uint8_t *GH_RESTRICT input, size_t input_len,
 /* Reads the record of that index, from 0, out of an input. Refusals: the input's. */
 GH_CALL
 uint64_t gh_route(const uint8_t *input, size_t input_len, uint32_t index);
+
+/* Tells whether an address is a directed broadcast: the longest route that covers it is attached, the address is the
+ * highest one of that route, and the route has at most 31 bits where version is GH_OLDER_RULE, at most 30 where it is
+ * GH_NEWER_RULE. Refusals: 23 for any other version, whatever the input, then the input's. */
+GH_CALL
+uint64_t gh_broadcast(uint32_t version, const uint8_t *input, size_t input_len, uint32_t addr);
 
 /* ---- Calls on bit maps ----------------------------------------------------------------------------------------- */
 

@@ -139,7 +139,7 @@ static void walks(void)
     CHECK(gh_table_make(&t), 0);
 }
 
-/* What a record input is refused for, by one of the five calls that take one. */
+/* What a record input is refused for, by one of the calls that take one. */
 static uint64_t with_input(int call, const uint8_t *input, size_t len)
 {
     static uint32_t words[GH_WORDS_FOR(5)], counts[GH_TALLY_WORDS];
@@ -160,14 +160,16 @@ static uint64_t with_input(int call, const uint8_t *input, size_t len)
         answer = gh_tally(input, len, counts, GH_TALLY_WORDS);
         CHECK(counts[0] == 0 && counts[32] == 0, 1);
         return answer;
-    default:
+    case 4:
         return gh_route(input, len, 0);
+    default:
+        return gh_broadcast(GH_OLDER_RULE, input, len, 0);
     }
 }
 
 static void record_inputs(void)
 {
-    for (int call = 0; call < 5; call++) {
+    for (int call = 0; call < 6; call++) {
         uint8_t bad[sizeof list_a];
         REFUSED_AT(with_input(call, list_a, 39), GH_REFUSED_INPUT, 4);
         memcpy(bad, list_a, sizeof bad);
@@ -231,9 +233,13 @@ static void meanings(void)
     enum gh_refusal accepted = GH_ACCEPTED;
     CHECK(accepted, 0);
     CHECK(strcmp(gh_meaning(accepted), "accepted"), 0);
-    for (unsigned number = GH_REFUSED_GEOMETRY; number <= GH_REFUSED_IMAGE; number++)
-        printf("| %u | %s |\n", number, gh_meaning(number));
-    CHECK(strcmp(gh_meaning(GH_REFUSED_IMAGE + 1), gh_meaning(UINT32_MAX)), 0);
+    const char *none = gh_meaning(UINT32_MAX);
+    for (unsigned number = GH_REFUSED_GEOMETRY; number <= GH_REFUSED_VERSION; number++)
+        if (strcmp(gh_meaning(number), none) != 0)
+            printf("| %u | %s |\n", number, gh_meaning(number));
+    for (unsigned number = GH_REFUSED_IMAGE + 1; number < GH_REFUSED_VERSION; number++)
+        CHECK(strcmp(gh_meaning(number), none), 0);
+    CHECK(strcmp(gh_meaning(GH_REFUSED_VERSION + 1), none), 0);
 }
 
 int main(void)

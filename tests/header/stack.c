@@ -32,6 +32,7 @@ static uint64_t tree_lookup(void) { return gh_tree_lookup(words, GH_ELEMENTS(wor
 static uint64_t run(void) { return gh_run(input, sizeof input, IP(100, 0, 0, 0), 8); }
 static uint64_t tally(void) { return gh_tally(input, sizeof input, counts, GH_TALLY_WORDS); }
 static uint64_t route(void) { return gh_route(input, sizeof input, 7); }
+static uint64_t broadcast(void) { return gh_broadcast(GH_NEWER_RULE, input, sizeof input, here); }
 static uint64_t basic_build(void) { return gh_basic_build(MAPS); }
 static uint64_t basic_lookup(void) { return gh_basic_lookup(MAPS, here); }
 static uint64_t basic_lookup_many(void) { return gh_basic_lookup_many(MAPS, addrs, 1000, out, 1000); }
@@ -76,8 +77,9 @@ int main(void)
         { "report", report, GH_STACK_TABLE, 0 }, { "lookup", lookup, GH_STACK, 0 },
         { "lookup_many", lookup_many, GH_STACK, 0 }, { "build", build, GH_STACK, 0 },
         { "tree_lookup", tree_lookup, GH_STACK, 0 }, { "run", run, GH_STACK, 0 }, { "tally", tally, GH_STACK, 0 },
-        { "route", route, GH_STACK, 0 }, { "basic_build", basic_build, GH_STACK, 0 },
-        { "basic_lookup", basic_lookup, GH_STACK, 0 }, { "basic_lookup_many", basic_lookup_many, GH_STACK, 0 },
+        { "route", route, GH_STACK, 0 }, { "broadcast", broadcast, GH_STACK, 0 },
+        { "basic_build", basic_build, GH_STACK, 0 }, { "basic_lookup", basic_lookup, GH_STACK, 0 },
+        { "basic_lookup_many", basic_lookup_many, GH_STACK, 0 },
     };
     for (uint32_t k = 0; k < N; k++)
         put_record(input + GH_RECORD_BYTES * k, k << 20 | 77, 32, 9);

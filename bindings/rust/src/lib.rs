@@ -2,7 +2,7 @@
 //!
 //! A table holds routes in SAIL form: it can be changed, and a lookup reads 1 to 3 cells. An image is a tree bitmap built
 //! from a record input: small, and a lookup reads at most 9 nodes and one hop. Maps are bits and hops for cards that have
-//! neither chunks nor nodes. [`routes`], [`run`] and [`tally`] work on record inputs directly.
+//! neither chunks nor nodes. [`routes`], [`run`], [`tally`] and [`is_broadcast`] work on record inputs directly.
 //!
 //! Every call of the library underneath is proved for every content of the buffers, and none allocates or trusts them:
 //! a table that is damaged is refused with 5 and stays as it is. A call that is refused changes nothing.
@@ -40,6 +40,7 @@
 #[cfg(feature = "alloc")]
 extern crate alloc;
 
+mod broadcast;
 mod found;
 mod geometry;
 mod image;
@@ -53,6 +54,7 @@ mod route;
 pub mod sys;
 mod table;
 
+pub use broadcast::{is_broadcast, Rule};
 pub use found::{Answer, Found};
 pub use geometry::{Geometry, MOST_CHUNKS, MOST_RECORDS};
 pub use image::{words_for, Built, ImageMut, ImageRef};

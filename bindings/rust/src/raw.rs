@@ -147,6 +147,11 @@ pub fn route(input: &[u8], index: u32) -> u64 {
 }
 
 #[must_use]
+pub fn broadcast(version: u32, input: &[u8], addr: u32) -> u64 {
+    unsafe { sys::gh_broadcast(version, input.as_ptr(), input.len(), addr) }
+}
+
+#[must_use]
 pub fn basic_build(input: &[u8], bits: &mut [u8], cells: &mut [u16]) -> u64 {
     let (b, c) = (bits.len(), cells.len());
     unsafe { sys::gh_basic_build(input.as_ptr(), input.len(), bits.as_mut_ptr(), b, cells.as_mut_ptr(), c) }

@@ -1,7 +1,7 @@
 //! The exported functions are declared three times: as they are proved (`crates/cards/src`), in the C header, and in
 //! `sys.rs`. Names, order and types of the arguments agree, and no function is left out.
 
-use ghatumri::{Geometry, Mark, Reason, Refusal, MOST_CHUNKS, MOST_RECORDS};
+use ghatumri::{Geometry, Mark, Reason, Refusal, Rule, MOST_CHUNKS, MOST_RECORDS};
 use std::collections::BTreeMap;
 use std::fs;
 use std::path::{Path, PathBuf};
@@ -140,18 +140,27 @@ fn as_read() {
 fn one_meaning() {
     let header = read(&repository().join("include/ghatumri.h"));
     let texts = between(&header, "texts[] = {", "};").next().unwrap();
-    let texts: Vec<&str> = texts.split('"').skip(1).step_by(2).collect();
+    // An entry is `/* NUMBER */ "TEXT"`, of one string. Numbers that are nobody's have none.
+    let entry = |entry: &'_ str| {
+        let (number, text) = entry.split_once("*/").unwrap();
+        let mut parts = text.split('"').skip(1).step_by(2);
+        let text = parts.next()?.to_string();
+        assert_eq!(parts.next(), None, "{text}");
+        Some((number.trim().parse::<u8>().unwrap(), text))
+    };
+    let texts: BTreeMap<u8, String> = texts.split("/*").skip(1).filter_map(entry).collect();
+    assert_eq!(texts.len(), Reason::ALL.len() + 1);
     let names = between(&header, "enum gh_refusal {", "}").next().unwrap();
     let names: Vec<String> = between(names, "GH_REFUSED_", ",").map(spaced).collect();
     assert_eq!(names.len(), Reason::ALL.len());
     for (name, &reason) in names.iter().zip(Reason::ALL) {
         assert_eq!(*name, format!("{reason:?}").to_uppercase() + &format!(" = {}", reason.number()));
-        assert_eq!(reason.meaning(), texts[reason.number() as usize]);
+        assert_eq!(reason.meaning(), texts[&reason.number()]);
         assert_eq!(Reason::from_number(reason.number()), Some(reason));
     }
     let numbers = (0..=u8::MAX).filter(|&number| Reason::from_number(number).is_some());
     assert_eq!(numbers.count(), Reason::ALL.len());
-    assert_eq!(Refusal { reason: Reason::Absent, index: None }.to_string(), format!("refused 9: {}", texts[9]));
+    assert_eq!(Refusal { reason: Reason::Absent, index: None }.to_string(), format!("refused 9: {}", texts[&9]));
 }
 
 /// Limits and named geometries.
@@ -167,6 +176,7 @@ fn one_limit() {
     assert_eq!(named("GH_STANDARD_P1", "GH_STANDARD_P2"), Geometry::STANDARD);
     assert_eq!(named("GH_SMALL_P1", "GH_SMALL_P2"), Geometry::SMALL);
     assert_eq!((define("GH_BEHIND"), define("GH_ATTACHED")), (Mark::Behind as usize, Mark::Attached as usize));
+    assert_eq!((define("GH_OLDER_RULE"), define("GH_NEWER_RULE")), (Rule::Older as usize, Rule::Newer as usize));
 }
 
 #[test]

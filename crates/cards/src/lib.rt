@@ -1,4 +1,5 @@
 // The calls as C sees them: slices as pointer and length, and each answer packed into one number.
+pub mod broadcasts;
 pub mod images;
 pub mod inputs;
 pub mod lookups;

@@ -19,3 +19,4 @@ pub mod NotServed
 pub mod NotFresh
 pub mod NotByNeed
 pub mod NotHeld
+pub mod Broadcasts

@@ -1,3 +1,4 @@
 -- Laws of the longest record.
 pub mod Shares
 pub mod Steps
+pub mod Bests

@@ -1,2 +1,3 @@
 -- What the crate's contracts speak of.
 pub mod Longest
+pub mod Best

@@ -3,3 +3,4 @@ pub mod Pack
 pub mod Unpack
 pub mod Hops
 pub mod Parts
+pub mod Casts

@@ -1,4 +1,4 @@
-//! Record inputs, good and damaged: the run, the tally, routes read back, build.
+//! Record inputs, good and damaged: the run, the tally, routes read back, broadcasts, build.
 
 use crate::gh::{self, Fenced};
 use crate::run::Run;
@@ -16,6 +16,7 @@ pub fn episode(run: &mut Run, rng: &mut Rng) {
         let input = damaged_input(rng, &routes);
         ask(run, rng, &field, &routes, &input);
     }
+    crate::broadcasts::links(run, rng, &field, &routes);
 }
 
 /// Inputs of 4,096 records and of more, good and with something wrong late.
@@ -95,6 +96,7 @@ fn ask(run: &mut Run, rng: &mut Rng, field: &Field, routes: &[Route], input: &[u
         }
     }
 
+    crate::broadcasts::ask(run, rng, routes, &lent);
     crate::images::build(run, rng, input);
     if let Some(what) = lent.differs("input", input) {
         run.fault(&what, &|| format!("over {}", tell(input)));

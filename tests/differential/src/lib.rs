@@ -1,5 +1,6 @@
 //! The plain implementation of documents 01 and 02, and the random routes, inputs and damage that it is compared over.
 
 pub mod basic;
+pub mod broadcast;
 pub mod gen;
 pub mod plain;

@@ -3,9 +3,10 @@
 //!
 //!     differential [CALLS [SEED [EPISODE]]]
 //!
-//! CALLS is how many calls to make at least (single lookups are counted apart). SEED fixes the run. With EPISODE only
-//! that part of the run is made, the way to look at a fault again.
+//! CALLS is how many calls to make at least (those for one address are counted apart, as lookups). SEED fixes the run.
+//! With EPISODE only that part of the run is made, the way to look at a fault again.
 
+mod broadcasts;
 mod damage;
 mod gh;
 mod images;

@@ -7,9 +7,9 @@ pub struct Run {
     pub seed: u64,
     /// The part of the run that is going on. Each part can be run alone.
     pub episode: u64,
-    /// Calls of the library, single lookups not among them.
+    /// Calls of the library, those for one address not among them.
     pub calls: u64,
-    /// Single lookups, in tables and in images.
+    /// Calls for one address: single lookups, in tables, images and maps, and broadcasts.
     pub lookups: u64,
     /// How often each call gave each answer. A label is a refusal's number, or a name for something else worth counting.
     pub seen: BTreeMap<(&'static str, String), u64>,
@@ -85,7 +85,7 @@ fn say(answer: u64) -> String {
 }
 
 /// What a run of full length meets. Numbers are refusals, 0 is accepted, `at` is with an index.
-const MUST_HAPPEN: [(&str, &str); 16] = [
+const MUST_HAPPEN: [(&str, &str); 17] = [
     ("make", "0, 1, 2"),
     ("load", "0, 1, 2, 3 at, 4 at, 6, 7, 8, 10 at"),
     ("announce", "0, 1, 2, 3, 4, 5, 6, 7, 8, 10, replaced, added and cleared, replaced and cleared, mark alone, room and chunks full, second opened, third opened, hole filled, wide length, wide hop, wide mark"),
@@ -103,6 +103,7 @@ const MUST_HAPPEN: [(&str, &str); 16] = [
     ("run", "0, 3, 3 at, 4 at, 6, 10 at, empty, some, wide length"),
     ("tally", "0, 2, 3 at, 4 at, 6, 10 at"),
     ("route", "0, 3 at, 4 at, 6, 10 at, none"),
+    ("broadcast", "0, 3 at, 4 at, 6, 10 at, 23, yes, no, older alone"),
     ("basic_build", "0, 2, 3 at, 4 at, 6, 10 at"),
     ("basic_lookup", "0, 2, 6, 10 at, 13, hop, no route, longer than 16"),
     ("basic_lookup_many", "0, 2, 6, 10 at"),

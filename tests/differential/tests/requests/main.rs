@@ -3,6 +3,7 @@
 use differential::plain::*;
 
 mod basic;
+mod broadcast;
 mod host_bits;
 mod mark;
 
