@@ -45,18 +45,13 @@ impl Run {
         std::process::exit(1)
     }
 
-    /// Stops when something did not happen at all in a run of full length: then the run shows less than it should.
-    pub fn all_happened(&self) -> bool {
-        let mut all = true;
-        for (call, labels) in MUST_HAPPEN {
-            for label in labels.split(", ") {
-                if !self.seen.contains_key(&(call, label.to_string())) {
-                    println!("never happened: {call}: {label}");
-                    all = false;
-                }
-            }
-        }
-        all
+    /// What a run of full length must meet and this one has not: then it shows less than it should.
+    pub fn missing(&self) -> Vec<String> {
+        let asked = MUST_HAPPEN.iter().flat_map(|(call, labels)| labels.split(", ").map(move |label| (*call, label)));
+        asked
+            .filter(|(call, label)| !self.seen.contains_key(&(call, label.to_string())))
+            .map(|(call, label)| format!("{call}: {label}"))
+            .collect()
     }
 
     pub fn print(&self) {
