@@ -13,21 +13,14 @@ use Rattle.routes.specs.Record.{Records, routesIn}
 use Rattle.routes.specs.Input.{inputSaid}
 use Rattle.routes.specs.Said.{Said, accepted, refused, refusedAt}
 use Rattle.routes.specs.declared.Route.{Route}
-use Rattle.routes.proofs.Meaning.{Checked, ragged, stopped, many, good, input-checked}
+use Rattle.routes.specs.Cases.{Checked, ragged, stopped, many, good}
+use Rattle.routes.proofs.Meaning.{input-checked}
 use Rattle.tree.specs.Image.{imageOf, nodeNeed, onPath}
 use Rattle.tree.specs.Walk.{told, treeSaid}
 use Rattle.tree.proofs.Serves.{image-serves}
-use Rattle.tree_build.specs.Built.{Out, madeOf, afterInput, built}
+use Rattle.tree_build.specs.Built.{madeOf, afterInput, built}
+use Rattle.tree_build.specs.Cases.{Accepted}
 use Rattle.tree_build.proofs.Runs.{good-list}
-
--- an accepted build of these routes: they are good, there is room, and the arrays hold their image
-pub record Accepted (rs : List Route) (ws hs vs : List ℕ) (o : Out) : Type 0 where
-  pub good-routes : Good rs
-  pub values : vs ≡ nodeNeed rs ∷ length rs ∷ []
-  pub nodes-room : 3 * nodeNeed rs ≤ length ws
-  pub hops-room : length rs ≤ length hs
-  pub words : o .words ≡ imageOf rs (length ws) (length hs) .words
-  pub hops : o .hops ≡ imageOf rs (length ws) (length hs) .hops
 
 made-accepts : (rs : List Route) (ws hs vs : List ℕ) → Good rs → madeOf rs ws hs .said ≡ accepted vs → Accepted rs ws hs vs (madeOf rs ws hs)
 unfolding madeOf
