@@ -13,7 +13,7 @@ use Rattle.tree.specs.Image.{nodeNeed}
 use Rattle.routes.specs.Record.{routesIn}
 use Rattle.tree_build.specs.Built.{madeOf, built}
 use Rattle.tree_build.specs.Cases.{Build}
-use Rattle.routes.specs.Cases.{BadInput, Passes}
+use Rattle.routes.specs.Cases.{Passes}
 use Rattle.routes.proofs.Cases.{check-only, by-input}
 
 -- build: the input's with its index, 6, 11, 12

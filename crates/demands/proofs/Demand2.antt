@@ -15,11 +15,11 @@ use lib.Dec.{eqb}
 use borrow.Author.Tests.{ne-eqb}
 use Rattle.bits.proofs.Tabs.{tabulate-ext}
 use Rattle.routes.specs.Route.{Good}
-use Rattle.standing.specs.Cells.{covers, Longest, Best, best}
+use Rattle.standing.specs.Cells.{covers, Best, best}
 use Rattle.routes.specs.Record.{recordAt, routesOf, noRoute, routesIn}
 use Rattle.routes.specs.Input.{inputSaid}
 use Rattle.routes.specs.Answers.{valuesOf, routeSaid}
-use Rattle.routes.specs.Said.{Said, accepted, refused, refusedAt, hopAfter, noRouteAfter}
+use Rattle.routes.specs.Said.{Said, accepted, hopAfter, noRouteAfter}
 use Rattle.routes.specs.declared.Route.{Route}
 use Rattle.routes.proofs.Goods.{good-fine}
 use Rattle.standing.proofs.Longest.{best-is}

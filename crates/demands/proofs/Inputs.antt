@@ -10,15 +10,14 @@ use lib.ListN.{length}
 use borrow.Author.Tests.{lt-ltb, le-ltb}
 use Rattle.bits.proofs.Tests.{below?, decided}
 use Rattle.routes.specs.Route.{Prefix}
-use Rattle.routes.specs.Record.{recordAt}
 use Rattle.routes.specs.Input.{properPrefix, inputSaid}
-use Rattle.routes.specs.Answers.{valuesOf, routeSaid}
+use Rattle.routes.specs.Answers.{routeSaid}
 use Rattle.routes.specs.Said.{Said, accepted, refused, refusedAt, accepts}
 use Rattle.routes.proofs.Meaning.{prefix-true, true-prefix}
-use Rattle.routes.specs.Cases.{BadInput, Passes, RouteRead}
+use Rattle.routes.specs.Cases.{Passes, RouteRead}
 use Rattle.runs.specs.Cases.{RunChecked}
 use Rattle.routes.proofs.Cases.{check-only, good-whole, by-input}
-use Rattle.runs.specs.Run.{runStart, runCount, runSaid}
+use Rattle.runs.specs.Run.{runSaid}
 use Rattle.runs.proofs.Runs.{run-input-first, run-prefix-next, run-found}
 
 -- run_check: the input's, then 3

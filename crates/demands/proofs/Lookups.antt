@@ -9,9 +9,8 @@ use borrow.Author.Tests.{le-leb, lt-leb, eq-eqb}
 use Rattle.bits.proofs.Tests.{below?}
 use Rattle.routes.specs.Said.{Said, refused}
 use Rattle.sail.specs.Lent.{Lent}
-use Rattle.sail.specs.Level.{whole}
 use Rattle.sail.specs.Sizes.{sizesFault, Sized}
-use Rattle.sail.specs.Walk.{cell1, cell2, cell3, leafSaid, stepSaid, oneOf, shut, walkSaid, foundSaid, lookupSaid}
+use Rattle.sail.specs.Walk.{leafSaid, stepSaid, oneOf, shut, walkSaid, foundSaid, lookupSaid}
 use Rattle.sail.specs.Reads.{Leads}
 use Rattle.sail.specs.declared.geometry.Geometry.{Geometry}
 use Rattle.sail.specs.declared.table.Table.{Table}

@@ -1,23 +1,16 @@
 -- Runs by the routes alone. What a call of a run says, and which routes then stand, follows from the calls, the geometry, the room of the
 -- list and the chunks lent: no cell and no owner is asked. Assumes nothing.
 use mathlib.Core.Path.{_≡_, _∙_, ap}
-use mathlib.Core.Bool.{true, cond}
 use mathlib.Core.List.{List, [], _∷_}
-use Rattle.bits.specs.Count.{bit}
-use Rattle.bits.specs.Slot.{cut}
-use Rattle.routes.specs.Route.{key}
-use Rattle.routes.specs.Input.{routeFault, inputSaid}
-use Rattle.routes.specs.Said.{Said, accepted, andThen, accepts}
-use Rattle.standing.specs.Standing.{stands}
-use Rattle.routes.specs.declared.Route.{Route}
+use Rattle.routes.specs.Said.{Said}
 use Rattle.sail.specs.Lent.{Lent}
 use Rattle.sail.specs.Sizes.{Sized}
 use Rattle.sail.specs.Sound.{Sound, standing}
 use Rattle.sail.specs.declared.table.Table.{Table}
 use Rattle.sail.proofs.Fitting.{none-is}
-use Rattle.sail_theory.specs.Calls.{Terms, termsOf, announceFault, withdrawFault, loadFault, orSay, announceSaid, withdrawSaid, loadSaid, inputRoutes, cutRoute, cleared, telling}
+use Rattle.sail_theory.specs.Calls.{Terms, termsOf, announceSaid, withdrawSaid, loadSaid}
 use Rattle.demands.specs.Replies.{reply, stood}
-use Rattle.sail_theory.specs.Runs.{Call, announce, withdraw, load, done, after, would}
+use Rattle.sail_theory.specs.Runs.{Call, announce, withdraw, load, done, after}
 use Rattle.sail_theory.proofs.Tells.{sound-tells}
 use Rattle.sail_theory.proofs.Cleared.{announce-said, withdraw-said}
 use Rattle.sail_theory.proofs.Fresh.{make-holds}

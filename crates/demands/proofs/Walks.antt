@@ -10,10 +10,10 @@ use lib.ListN.{length, getD}
 use borrow.Author.Tests.{lt-ltb, le-ltb, ne-eqb}
 use Rattle.bits.proofs.Tests.{decided, below?, untrue}
 use Rattle.routes.specs.Input.{hopFine}
-use Rattle.routes.specs.Said.{Said, refused, hopAfter, noRouteAfter}
+use Rattle.routes.specs.Said.{Said, refused}
 use Rattle.routes.proofs.Meaning.{hop-true, true-hop}
 use Rattle.tree.specs.Node.{bitsOf, childOf, isSet, sound, nibbleOf, childAt}
-use Rattle.tree.specs.Cases.{Fetched, Right, Walked, TreeLookup}
+use Rattle.tree.specs.Cases.{Fetched, RightNode, Walked, TreeLookup}
 use Rattle.tree.specs.Walk.{told, fetchedFrom, lastMatch, innerMatch, walkFrom, treeSaid}
 use Rattle.tree.specs.declared.Place.{Place}
 use Rattle.tree.specs.declared.Place.the-variants.{Nowhere, At}
@@ -45,7 +45,7 @@ module _ (ws hs : List ℕ) (a : ℕ) where
   abbrev down : ℕ → ℕ → ℕ
   down d i = childAt (bitsOf ws i) (childOf ws i) (nibbleOf a d)
 
-  right-sound : (i : ℕ) → Right ws hs a i → sound ws i ≡ true
+  right-sound : (i : ℕ) → RightNode ws hs a i → sound ws i ≡ true
   unfolding sound
   right-sound i r = rw (lt-ltb i (length ws / 3) (r .lent), r .clear)
 
@@ -71,7 +71,7 @@ module _ (ws hs : List ℕ) (a : ℕ) where
   walked-only (Walked.goes-on d i best s r e w) = rw (right-sound i r, e) (walked-only w)
 
   -- one of the three holds of a node
-  by-node : (i : ℕ) (P : Type 0) → (length ws / 3 ≤ i → P) → (i < length ws / 3 → isSet (bitsOf ws i) 15 ≡ true → P) → (Right ws hs a i → P) → P
+  by-node : (i : ℕ) (P : Type 0) → (length ws / 3 ≤ i → P) → (i < length ws / 3 → isSet (bitsOf ws i) 15 ≡ true → P) → (RightNode ws hs a i → P) → P
   by-node i P off on ok = go (below? i (length ws / 3)) (decided (isSet (bitsOf ws i) 15))
     where
       go : (i < length ws / 3) ⊎ (length ws / 3 ≤ i) → (isSet (bitsOf ws i) 15 ≡ true) ⊎ (isSet (bitsOf ws i) 15 ≡ false) → P
@@ -92,7 +92,7 @@ module _ (ws hs : List ℕ) (a : ℕ) where
       told′ : {s : Said} → Walked ws hs a (suc d) i best s → Walked ws hs a (suc d) i best (walkFrom (suc d) ws hs a i best)
       told′ c = rw (walked-only c) c
 
-      next : Right ws hs a i → Walked ws hs a d (down d i) (innerMatch ws i (nibbleOf a d) best) (walkFrom d ws hs a (down d i) (innerMatch ws i (nibbleOf a d) best))
+      next : RightNode ws hs a i → Walked ws hs a d (down d i) (innerMatch ws i (nibbleOf a d) best) (walkFrom d ws hs a (down d i) (innerMatch ws i (nibbleOf a d) best))
           → (isSet (bitsOf ws i) (16 + nibbleOf a d) ≡ true) ⊎ (isSet (bitsOf ws i) (16 + nibbleOf a d) ≡ false) → Walked ws hs a (suc d) i best (walkFrom (suc d) ws hs a i best)
       next r w (inl e) = told′ (Walked.goes-on d i best _ r e w)
       next r w (inr e) = told′ (Walked.ends d i best _ r e (fetched-judged hs (8 - d) (innerMatch ws i (nibbleOf a d) best)))

@@ -8,8 +8,7 @@ use Prim.Native.Nat.{ℕ, _/_, _≤_, _<_}
 use native.Mathlib.Omega.{arith}
 use lib.ListN.{length}
 use Rattle.bits.specs.Slot.{cut}
-use Rattle.standing.specs.Cells.{need}
-use Rattle.routes.specs.Said.{Said, accepted, refused, refusedAt, accepts}
+use Rattle.routes.specs.Said.{Said}
 use Rattle.routes.specs.declared.Route.{Route}
 use Rattle.standing.proofs.Changed.{insert-adds}
 use Rattle.routes.specs.Cases.{WrongRoute, Checked}

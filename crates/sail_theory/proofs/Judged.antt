@@ -13,20 +13,18 @@ use Rattle.bits.specs.Count.{bit}
 use Rattle.bits.proofs.Tests.{decided, below?}
 use Rattle.routes.specs.Route.{keyOf, key, Prefix, Fine}
 use Rattle.standing.specs.Cells.{need}
-use Rattle.routes.specs.Record.{Records}
 use Rattle.routes.specs.Input.{properPrefix, routeFault}
 use Rattle.routes.specs.Said.{Said, accepted, refused, andThen}
 use Rattle.standing.specs.Standing.{stands, insert}
 use Rattle.routes.specs.declared.Route.{Route}
 use Rattle.routes.proofs.Rows.{length-routes, records-good}
-use Rattle.routes.specs.Cases.{WrongRoute, BadInput, Passes}
+use Rattle.routes.specs.Cases.{Passes}
 use Rattle.routes.proofs.Meaning.{prefix-true, true-prefix, RouteChecked, route-checked}
 use Rattle.routes.proofs.Cases.{good-whole, bad-stops, by-input}
-use Rattle.sail.specs.Geometry.{Valid}
 use Rattle.sail.specs.Cases.{Sizing}
 use Rattle.sail.specs.Lent.{Lent}
 use Rattle.sail.specs.Sizes.{sizesFault, Sized}
-use Rattle.sail.specs.Sound.{Sound, standing}
+use Rattle.sail.specs.Sound.{standing}
 use Rattle.sail.specs.declared.table.Table.{Table}
 use Rattle.sail.proofs.Fitting.{Fault, fault-is}
 use Rattle.sail_theory.specs.Render.{roomOf}

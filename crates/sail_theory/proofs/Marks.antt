@@ -6,7 +6,6 @@ use Prim.Native.Nat.{ℕ, suc, _+_}
 use Rattle.routes.specs.Route.{plain}
 use Rattle.routes.specs.declared.Route.{Route}
 use Rattle.standing.proofs.Marks.{long-plain, best-plain}
-use Rattle.sail.specs.Lent.{Lent}
 use Rattle.sail.specs.Level.{Level, Chunks, chunkFor, chunksOf, noChunks, level1, level2, level3}
 use Rattle.sail.specs.declared.geometry.Geometry.{Geometry}
 use Rattle.sail_theory.specs.Render.{shown, block, pool, rendered}

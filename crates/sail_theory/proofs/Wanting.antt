@@ -14,7 +14,7 @@ use Rattle.bits.specs.Slot.{cut}
 use Rattle.bits.proofs.Tests.{decided, below?}
 use Rattle.routes.specs.Route.{keyOf, key}
 use Rattle.standing.specs.Cells.{within, need}
-use Rattle.routes.specs.Said.{Said, accepted, refused}
+use Rattle.routes.specs.Said.{Said, accepted}
 use Rattle.standing.specs.Standing.{stands, insert, remove}
 use Rattle.routes.specs.declared.Route.{Route}
 use Rattle.standing.proofs.Standing.{remove-good, remove-any}

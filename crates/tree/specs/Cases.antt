@@ -21,7 +21,7 @@ pub data Fetched (hs : List ℕ) (n : ℕ) : Place → Said → Type 0 where
 -- the walk from node i on, with d levels of nodes below it and the deepest match so far
 module _ (ws hs : List ℕ) (a : ℕ) where
   -- the node is lent whole, and its bit 15 is zero
-  pub record Right (i : ℕ) : Type 0 where
+  pub record RightNode (i : ℕ) : Type 0 where
     pub lent : i < length ws / 3
     pub clear : isSet (bitsOf ws i) 15 ≡ false
 
@@ -34,9 +34,9 @@ module _ (ws hs : List ℕ) (a : ℕ) where
     lost : (d i : ℕ) (best : Place) → length ws / 3 ≤ i → Walked d i best (refused 13)
     marked : (d i : ℕ) (best : Place) → i < length ws / 3 → isSet (bitsOf ws i) 15 ≡ true → Walked d i best (refused 13)
     -- at depth 8, and where no child stands, the hop is read
-    deepest : (i : ℕ) (best : Place) (s : Said) → Right i → Fetched hs 9 (lastMatch ws i best) s → Walked zero i best s
-    ends : (d i : ℕ) (best : Place) (s : Said) → Right i → isSet (bitsOf ws i) (16 + nibbleOf a d) ≡ false → Fetched hs (8 - d) (innerMatch ws i (nibbleOf a d) best) s → Walked (suc d) i best s
-    goes-on : (d i : ℕ) (best : Place) (s : Said) → Right i → isSet (bitsOf ws i) (16 + nibbleOf a d) ≡ true → Walked d (down d i) (innerMatch ws i (nibbleOf a d) best) s → Walked (suc d) i best s
+    deepest : (i : ℕ) (best : Place) (s : Said) → RightNode i → Fetched hs 9 (lastMatch ws i best) s → Walked zero i best s
+    ends : (d i : ℕ) (best : Place) (s : Said) → RightNode i → isSet (bitsOf ws i) (16 + nibbleOf a d) ≡ false → Fetched hs (8 - d) (innerMatch ws i (nibbleOf a d) best) s → Walked (suc d) i best s
+    goes-on : (d i : ℕ) (best : Place) (s : Said) → RightNode i → isSet (bitsOf ws i) (16 + nibbleOf a d) ≡ true → Walked d (down d i) (innerMatch ws i (nibbleOf a d) best) s → Walked (suc d) i best s
 
   -- from the root
   abbrev pub TreeLookup : Said → Type 0
