@@ -1,6 +1,6 @@
 -- What does not serve as a fresh load does, beside list A's table: a load that is refused, a table with another mark in its list, one with another
 -- hop at one address, and one with another number of chunks in use. Each breaks one clause alone.
-use mathlib.Core.Path.{_≡_, sym, _∙_, ap}
+use mathlib.Core.Path.{_≡_, refl, sym, _∙_, ap}
 use mathlib.Core.Bool.{false≢true}
 use mathlib.Core.List.{List, [], _∷_}
 use Prim.Native.Nat.{ℕ, _-_}
