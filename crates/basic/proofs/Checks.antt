@@ -16,7 +16,8 @@ use Rattle.routes.specs.Said.{Said, accepted, refused, refusedAt, andThen}
 use Rattle.routes.specs.declared.input.Input.{Input}
 use Rattle.routes.specs.declared.input.Input.the-variants as input
 use Rattle.routes.proofs.Inputs.{told-good, told-refused, told-many}
-use Rattle.routes.proofs.Meaning.{Checked, input-checked, input-good, good-input}
+use Rattle.routes.specs.Cases.{Checked}
+use Rattle.routes.proofs.Meaning.{input-checked, input-good, good-input}
 use Rattle.basic.specs.Maps.{MapSizes}
 use Rattle.basic.specs.Calls.{sizesFit, readySaid, saysReady}
 use Rattle.basic.specs.declared.check.Ready.{Ready}

@@ -14,12 +14,14 @@ use Rattle.bits.specs.Tab.{tabulate}
 use Rattle.bits.proofs.Tabs.{getD-tabulate}
 use Rattle.bits.proofs.Tests.{decided, equal?, and-split, both, untrue}
 use Rattle.routes.specs.Route.{Good}
-use Rattle.routes.specs.Input.{hopFine, inputSaid}
+use Rattle.routes.specs.Input.{hopFine}
 use Rattle.routes.specs.Record.{GoodInput, routesIn}
 use Rattle.routes.specs.Said.{Said, accepted, refused, refusedAt, andThen, accepts}
 use Rattle.routes.specs.declared.Route.{Route}
 use Rattle.routes.proofs.Goods.{good-fine}
-use Rattle.routes.proofs.Meaning.{hop-true, true-hop, good-input, Checked, input-checked}
+use Rattle.routes.specs.Cases.{Passes}
+use Rattle.routes.proofs.Meaning.{hop-true, true-hop, good-input}
+use Rattle.routes.proofs.Cases.{check-only, good-whole, bad-stops, by-input}
 use Rattle.routes.proofs.Rows.{records-good}
 use Rattle.standing.specs.Cells.{covers, Best}
 use Rattle.standing.specs.Down.{down}
@@ -32,14 +34,8 @@ use Rattle.basic.specs.Meaning.{Unready, Prepared, NoLong, FirstSet, Bas
 use Rattle.basic.proofs.Checks.{fit-sizes, sizes-fit, ready-is}
 use Rattle.basic.proofs.Walks.{walk-maps, walk-list}
 
--- a later step is reached only where the check refuses nothing
-after : (x next : Said) → accepts x ≡ false → andThen x next ≡ x
-after (Said.accepted vs) next h = absurd (true≢false h)
-after (Said.refused n) next h = refl
-after (Said.refusedAt n k) next h = refl
-
 pub unready-refuses : {s bs cs : List ℕ} {x : Said} → Unready s bs cs x → accepts x ≡ false
-unready-refuses (Unready.bad-input x e h) = h
+unready-refuses (Unready.bad-input x b) = b .not-accepted
 unready-refuses (Unready.bad-size n g h) = refl
 
 -- the check before every call
@@ -49,7 +45,7 @@ module _ (s bs cs : List ℕ) where
 
   pub unready-only : (x : Said) → Unready s bs cs x → readySaid s (length bs) (length cs) ≡ x
   unfolding readySaid
-  unready-only _ (Unready.bad-input x e h) = rw e (after x _ h)
+  unready-only _ (Unready.bad-input x b) = rw (check-only s x (b .checked)) (bad-stops x _ (b .not-accepted))
   unready-only x (Unready.bad-size n g h) =
       rw (good-input s n (g .whole) (g .records), untrue (sizesFit (length bs) (length cs)) (λ t. h (fit-sizes (length bs) (length cs) t)))
 
@@ -61,7 +57,7 @@ module _ (s bs cs : List ℕ) where
 
   -- one of the two
   pub ready-judged : (P : Type 0) → ((x : Said) → Unready s bs cs x → P) → (Prepared s bs cs → P) → P
-  ready-judged P off on = go refl (input-checked s)
+  ready-judged P off on = by-input s (λ x. P) (λ x b. off x (Unready.bad-input x b)) passed
     where
       sized : (n : ℕ) → GoodInput s n → (fits ≡ true) ⊎ (fits ≡ false) → P
       sized n g (inl t) =
@@ -69,11 +65,8 @@ module _ (s bs cs : List ℕ) where
           on (record { input = subst (GoodInput s) k g; sizes = fit-sizes (length bs) (length cs) t })
       sized n g (inr t) = off (refused 2) (Unready.bad-size n g (λ z. true≢false (sym (sizes-fit (length bs) (length cs) z) ∙ t)))
 
-      go : {x : Said} → inputSaid s ≡ x → Checked s x → P
-      go e (Checked.ragged w) = off _ (Unready.bad-input _ e refl)
-      go e (Checked.stopped k f w l p x y) = off _ (Unready.bad-input _ e refl)
-      go e (Checked.many w a m) = off _ (Unready.bad-input _ e refl)
-      go e (Checked.good n w r) = sized n (record { records = r; whole = w }) (decided fits)
+      passed : (n : ℕ) → Passes s n → P
+      passed n g = let w = good-whole s n g in sized n (record { records = w .1; whole = w .0 }) (decided fits)
 
 -- one level of the maps
 module _ (bs cs : List ℕ) (a : ℕ) where
@@ -135,7 +128,7 @@ module _ (s bs cs : List ℕ) (a : ℕ) where
   unfolding basicSaid metSaid
   lookup-only _ (BasicLookup.unready x u) =
       let e = unready-only s bs cs x u in
-      ap (λ (y : Said). andThen y (metSaid (basicWalk (routesIn s) bs cs a))) e ∙ after x _ (unready-refuses u)
+      ap (λ (y : Said). andThen y (metSaid (basicWalk (routesIn s) bs cs a))) e ∙ bad-stops x _ (unready-refuses u)
   lookup-only _ (BasicLookup.in-list p h w l) =
       let f = good-fine (routesIn s) (good p) (w .route) (w .listed) in
       prepared-walk (suc h) p (walk-list (routesIn s) bs cs a (good p) h w l)

@@ -3,5 +3,6 @@ pub mod Places
 pub mod Walks
 pub mod Checks
 pub mod Answers
+pub mod OneAnswer
 pub mod Serves
 pub mod Judged

@@ -2,4 +2,5 @@
 pub mod Maps
 pub mod Walk
 pub mod Calls
+pub mod Contract
 pub mod Meaning

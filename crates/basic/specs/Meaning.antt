@@ -5,9 +5,9 @@ use mathlib.Core.Path.{_≡_}
 use Prim.Native.Nat.{ℕ, _/_, _^_, _≤_, _<_}
 use lib.ListN.{length, getD}
 use Rattle.bits.specs.Slot.{slot}
-use Rattle.routes.specs.Input.{inputSaid}
+use Rattle.routes.specs.Cases.{BadInput}
 use Rattle.routes.specs.Record.{GoodInput, routesIn}
-use Rattle.routes.specs.Said.{Said, accepted, refused, accepts}
+use Rattle.routes.specs.Said.{Said, accepted, refused}
 use Rattle.routes.specs.declared.Route.{Route}
 use Rattle.standing.specs.Cells.{here, covers, Longest}
 use Rattle.basic.specs.Maps.{mapPlace, isSetAt, bitFor, cellFor, MapSizes}
@@ -35,7 +35,7 @@ pub data Serves (rs : List Route) (a : ℕ) : Said → Type 0 where
 
 -- "Refusals, in order: the record input's; 2 for another array size"
 pub data Unready (s bits cells : List ℕ) : Said → Type 0 where
-  bad-input : (x : Said) → inputSaid s ≡ x → accepts x ≡ false → Unready s bits cells x
+  bad-input : (x : Said) → BadInput s x → Unready s bits cells x
   bad-size : (n : ℕ) → GoodInput s n → (MapSizes (length bits) (length cells) → ⊥) → Unready s bits cells (refused 2)
 
 -- neither

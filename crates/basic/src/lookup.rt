@@ -13,7 +13,8 @@ ghost use Rattle.routes.specs.Record.{GoodInput, routesIn};
 ghost use Rattle.standing.specs.Down.{down};
 ghost use Rattle.basic.specs.Maps.{MapSizes};
 ghost use Rattle.basic.specs.Walk.{mapped, basicWalk, metSaid};
-ghost use Rattle.basic.specs.Calls.{basicSaid, saysBasicFound};
+ghost use Rattle.basic.specs.Calls.{saysBasicFound};
+ghost use Rattle.basic.specs.Contract.{MeetsBasicLookup};
 
 // What a lookup finds: a hop, no route, or a refusal.
 pub enum BasicFound {
@@ -69,7 +70,7 @@ pub fn told(w: u32) -> BasicFound
 
 // The hop of the longest route that covers the address.
 pub fn lookup(input: &[u8], bits: &[u8], cells: &[u16], addr: u32) -> BasicFound
-    ensures { λ r. ⌜ saysBasicFound r ≡ basicSaid (now (input .entry)) (now (bits .entry)) (now (cells .entry)) addr ⌝ }
+    ensures { λ r. ⌜ MeetsBasicLookup (now (input .entry)) (now (bits .entry)) (now (cells .entry)) addr r ⌝ }
 {
     match check(input, bits.len(), cells.len()) {
         Ready::Good(n) => told(walk(input, n, bits, cells, addr)),

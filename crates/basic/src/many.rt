@@ -11,7 +11,8 @@ ghost use mathlib.Core.Path.{_≡_};
 ghost use lib.ListN.{length};
 ghost use Rattle.routes.specs.Record.{GoodInput};
 ghost use Rattle.basic.specs.Maps.{MapSizes};
-ghost use Rattle.basic.specs.Calls.{saysBasicFound, saysBasicAnswer, hopWord, many, manyOf, basicMany};
+ghost use Rattle.basic.specs.Calls.{saysBasicFound, saysBasicAnswer, hopWord, many, manyOf};
+ghost use Rattle.basic.specs.Contract.{MeetsBasicMany};
 
 // An answer as a word: the hop in bits 16 to 31, or the refusal's number in bits 0 to 7, with bit 8 set where it has an index.
 fn word(f: BasicFound) -> u32
@@ -58,8 +59,8 @@ pub fn lookup_many(
     addrs: &[u32],
     out: &mut [u32],
 ) -> BasicAnswer
-    ensures { λ r. ⌜ many (saysBasicAnswer r) (now (out .exit))
-        ≡ basicMany (now (input .entry)) (now (bits .entry)) (now (cells .entry)) (now (addrs .entry)) (now (out .entry)) ⌝ }
+    ensures { λ r. ⌜ MeetsBasicMany (now (input .entry)) (now (bits .entry)) (now (cells .entry)) (now (addrs .entry)) (now (out .entry))
+        r (now (out .exit)) ⌝ }
 {
     match check(input, bits.len(), cells.len()) {
         Ready::Good(n) => each(input, n, bits, cells, addrs, out),

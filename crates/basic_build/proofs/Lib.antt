@@ -1,4 +1,5 @@
 -- Laws of the build, and what it is worth.
 pub mod Fills
 pub mod Answers
+pub mod OneAnswer
 pub mod Serves

@@ -1,2 +1,3 @@
 -- What a build answers and leaves.
 pub mod Built
+pub mod Contract

@@ -12,8 +12,8 @@ ghost use Rattle.bits.specs.Bit.{packed};
 ghost use Rattle.bits.specs.Count.{bit};
 ghost use Rattle.routes.specs.Record.{Records, routesOf, GoodInput, routesIn};
 ghost use Rattle.basic.specs.Maps.{MapSizes, hopThere, mapCells, mapBits};
-ghost use Rattle.basic.specs.Calls.{saysBasicAnswer};
-ghost use Rattle.basic_build.specs.Built.{Blank, withRoute, Filled, mapsOut, basicBuilt};
+ghost use Rattle.basic_build.specs.Built.{Blank, withRoute, Filled};
+ghost use Rattle.basic_build.specs.Contract.{MeetsBasicBuild};
 
 // Every cell is set to 0.
 fn clear(cells: &mut [u16])
@@ -102,8 +102,8 @@ fn fill(input: &[u8], n: usize, bits: &mut [u8], cells: &mut [u16])
 
 // The maps of a record input. A refusal leaves both arrays as they were.
 pub fn build(input: &[u8], bits: &mut [u8], cells: &mut [u16]) -> BasicAnswer
-    ensures { λ r. ⌜ mapsOut (saysBasicAnswer r) (now (bits .exit)) (now (cells .exit))
-        ≡ basicBuilt (now (input .entry)) (now (bits .entry)) (now (cells .entry)) ⌝ }
+    ensures { λ r. ⌜ MeetsBasicBuild (now (input .entry)) (now (bits .entry)) (now (cells .entry))
+        r (now (bits .exit)) (now (cells .exit)) ⌝ }
 {
     match check(input, bits.len(), cells.len()) {
         Ready::Good(n) => {

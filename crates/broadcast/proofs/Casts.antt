@@ -19,7 +19,8 @@ use Rattle.routes.specs.Route.{Good}
 use Rattle.routes.specs.Said.{Said, accepted, andThen, accepts}
 use Rattle.routes.specs.declared.Route.{Route}
 use Rattle.routes.proofs.Goods.{good-fine}
-use Rattle.routes.proofs.Meaning.{Checked, input-checked, good-input}
+use Rattle.routes.proofs.Meaning.{input-checked, good-input}
+use Rattle.routes.specs.Cases.{Checked}
 use Rattle.routes.proofs.Rows.{records-good}
 use Rattle.standing.specs.Standing.{Held, stood}
 use Rattle.broadcast.specs.Cast.{versionFine, lastLen, highest, castOf, isBroadcast, castSaid}

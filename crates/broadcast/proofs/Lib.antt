@@ -2,3 +2,4 @@
 pub mod Highs
 pub mod Casts
 pub mod Answers
+pub mod OneAnswer

@@ -8,7 +8,8 @@ use routes::record;
 ghost use mathlib.Core.Path.{_≡_};
 ghost use Rattle.routes.specs.Record.{GoodInput, routesIn};
 ghost use Rattle.routes.specs.Route.{Prefix};
-ghost use Rattle.broadcast.specs.Cast.{versionFine, lastLen, highest, isBroadcast, castSaid, saysCast};
+ghost use Rattle.broadcast.specs.Cast.{versionFine, lastLen, highest, isBroadcast};
+ghost use Rattle.broadcast.specs.Contract.{MeetsBroadcast};
 
 // What is told of an address: it is a broadcast, or not; a version that is neither 1 nor 2 (23); the input's refusals.
 pub enum Cast {
@@ -68,7 +69,7 @@ fn is_broadcast(version: u32, input: &[u8], n: usize, addr: u32) -> bool
 
 // Whether an address is a directed broadcast under a version's rule. The version is judged first, whatever the input.
 pub fn broadcast(version: u32, input: &[u8], addr: u32) -> Cast
-    ensures { λ r. ⌜ saysCast r ≡ castSaid version (now (input .entry)) addr ⌝ }
+    ensures { λ r. ⌜ MeetsBroadcast version (now (input .entry)) addr r ⌝ }
 {
     if !version_ok(version) {
         return Cast::NoVersion;

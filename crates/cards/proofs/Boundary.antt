@@ -15,7 +15,8 @@ use Rattle.routes.specs.Input.{inputSaid}
 use Rattle.routes.specs.Answers.{routeSaid}
 use Rattle.routes.specs.Said.{Said, accepted, refused, andThen, accepts}
 use Rattle.routes.specs.declared.Route.{Route}
-use Rattle.routes.proofs.Meaning.{Checked, input-checked}
+use Rattle.routes.specs.Cases.{Checked}
+use Rattle.routes.proofs.Meaning.{input-checked}
 use Rattle.runs.specs.Run.{runSaid}
 use Rattle.runs.specs.Tally.{tallyOf}
 use Rattle.sail.specs.Lent.{Lent}

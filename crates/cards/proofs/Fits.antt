@@ -19,7 +19,8 @@ use Rattle.routes.specs.Input.{inputSaid}
 use Rattle.routes.specs.Answers.{routeSaid}
 use Rattle.routes.specs.Said.{Said, accepted, refused, accepts}
 use Rattle.routes.specs.declared.Route.{Route}
-use Rattle.routes.proofs.Meaning.{WrongRoute, WrongRecord, Checked, input-checked}
+use Rattle.routes.specs.Cases.{WrongRoute, WrongRecord, Checked, BadInput, RouteRead}
+use Rattle.routes.proofs.Meaning.{input-checked}
 use Rattle.routes.proofs.Rows.{length-routes, records-good}
 use Rattle.runs.specs.Run.{pastKey, runStart, runCount, runSaid}
 use Rattle.lists.proofs.Places.{place-le}
@@ -31,7 +32,9 @@ use Rattle.sail.specs.declared.table.Table.{Table}
 use Rattle.sail.proofs.Sounds.{chunks-need}
 use Rattle.sail_theory.specs.Calls.{made, loaded, cutRoute, cleared, telling, announced, withdrawn, reported}
 use Rattle.sail_theory.proofs.Chunks.{used-le}
-use Rattle.sail_theory.proofs.Judged.{Sizing, Make, make-judged, Announce, announce-judged, Withdraw, withdraw-judged, Load, load-judged, Report, report-judged}
+use Rattle.sail.specs.Cases.{Sizing, v1, v2, v3, Lookup}
+use Rattle.sail_theory.specs.Cases.{Make, Announce, Withdraw, Load, Report}
+use Rattle.sail_theory.proofs.Judged.{make-judged, announce-judged, withdraw-judged, load-judged, report-judged}
 use Rattle.sail_theory.proofs.Cleared.{announce-said, announce-accepts, announce-holds, withdraw-said, withdraw-accepts, withdraw-holds}
 use Rattle.sail_theory.proofs.Fresh.{make-said, make-holds, accepted-sized}
 use Rattle.sail_theory.proofs.Loads.{load-said, load-holds}
@@ -41,10 +44,12 @@ use Rattle.tree.specs.Walk.{treeSaid}
 use Rattle.tree.proofs.Needs.{nodes-most}
 use Rattle.tree.proofs.ReadCounts.{tree-answers}
 use Rattle.tree_build.specs.Built.{built}
-use Rattle.routes.proofs.Cases.{BadInput, good-whole}
-use Rattle.demands.proofs.Inputs.{RunChecked, run-judged, RouteRead, route-judged}
-use Rattle.demands.proofs.Lookups.{v1, v2, v3, Lookup, lookup-judged}
-use Rattle.demands.proofs.Builds.{Build, build-judged}
+use Rattle.routes.proofs.Cases.{good-whole}
+use Rattle.runs.specs.Cases.{RunChecked}
+use Rattle.demands.proofs.Inputs.{run-judged, route-judged}
+use Rattle.demands.proofs.Lookups.{lookup-judged}
+use Rattle.tree_build.specs.Cases.{Build}
+use Rattle.demands.proofs.Builds.{build-judged}
 use Rattle.packing.specs.Unpack.{Fits, FoundFits, ReportFits, BuiltFits, RunFits, RouteFits, AnnounceFits, WithdrawFits, DoneFits, Cells}
 
 -- 1 and 2

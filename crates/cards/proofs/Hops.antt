@@ -1,6 +1,6 @@
 -- The calls on bit maps: what they say has room in their answers, and a caller that reads an answer by the header's fields has exactly what the
 -- call inside says. Supposed is an input shorter than 2^35 bytes, so that the index of a record has 32 bits.
-use mathlib.Core.Path.{_≡_, sym, ap, _∙_, subst}
+use mathlib.Core.Path.{_≡_, sym, ap, _∙_}
 use mathlib.Core.Bool.{true, true≢false, false≢true}
 use mathlib.Core.List.{List, []}
 use Prim.Native.Nat.{ℕ, _/_, _^_, _<_}
@@ -9,7 +9,6 @@ use lib.ListN.{length, getD}
 use Rattle.routes.specs.Record.{routesIn}
 use Rattle.routes.specs.Said.{Said, accepts}
 use Rattle.routes.proofs.Goods.{good-fine}
-use Rattle.routes.proofs.Meaning.{Checked, input-checked}
 use Rattle.routes.proofs.Rows.{records-good}
 use Rattle.basic.specs.Calls.{basicSaid, packHop, hopWord, Many, many, basicMany}
 use Rattle.basic.specs.Meaning.{Unready, Prepared, BasicLookup, BasicLookups}
@@ -35,7 +34,7 @@ hops-card-is s ws m r e q = ap (λ (x : ℕ). wordsCard x ws) q ∙ ap hopsCard 
 
 -- the refusals before every call
 unready-fits : (P : List ℕ → Type 0) (s bs cs : List ℕ) → length s < 2 ^ 35 → {x : Said} → Unready s bs cs x → Fits (2 ^ 32) P x
-unready-fits P s bs cs short (Unready.bad-input x e h) = refused-fits P s short (subst (Checked s) e (input-checked s)) h
+unready-fits P s bs cs short (Unready.bad-input x b) = refused-fits P s short (b .checked) (b .not-accepted)
 unready-fits P s bs cs short (Unready.bad-size n g h) = Fits.number 2 (omega arith) (omega arith)
 
 -- a lookup after them: a hop of 1 to 32,767, no route, or 13

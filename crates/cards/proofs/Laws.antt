@@ -17,7 +17,7 @@ use Rattle.runs.specs.Tally.{IsTally, tallyOf, lengthsOf, hasLength}
 use Rattle.runs.specs.declared.tally.Tallied.{Tallied}
 use Rattle.sail.specs.Geometry.{standardGeo}
 use Rattle.sail.specs.Lent.{Lent}
-use Rattle.sail.specs.Sizes.{sizesFault, Checked}
+use Rattle.sail.specs.Sizes.{sizesFault, SizesTold}
 use Rattle.sail.specs.Walk.{foundSaid, lookupSaid}
 use Rattle.sail.specs.declared.geometry.Geometry.{Geometry}
 use Rattle.sail.specs.declared.table.Table.{Table}
@@ -55,7 +55,7 @@ lowWalk g l a = packFound (foundSaid g l a) % 2 ^ 32
 pub word-low : (w : ℕ) (s : Said) → Word w s → w < 2 ^ 32 → w ≡ packFound s % 2 ^ 32
 word-low w s h b = omega (arith, h .packs)
 
-module _ (t : Table) (l : Lent) (ads xs : List ℕ) (r : ℕ) (told : Checked r (t .geometry) l) where
+module _ (t : Table) (l : Lent) (ads xs : List ℕ) (r : ℕ) (told : SizesTold r (t .geometry) l) where
   pub many-not : (r ≡ 0 → ⊥) → wordsCard r xs ≡ manyCard t l ads xs
   unfolding manyCard
   many-not n = rw (← told .number, ne-eqb r 0 n)
@@ -80,7 +80,7 @@ module _ (t : Table) (l : Lent) (ads xs : List ℕ) (r : ℕ) (told : Checked r 
       ∙ (let w = answer-is (t .geometry) l (getD ads k 0) (told .facts e) b1 b2 b3 in word-low _ _ (w .is) (w .fits)))
 
 -- one address, after the check of the sizes
-module _ (t : Table) (l : Lent) (a r : ℕ) (told : Checked r (t .geometry) l) where
+module _ (t : Table) (l : Lent) (a r : ℕ) (told : SizesTold r (t .geometry) l) where
   pub look-off : (z : ℕ) → z ≡ r → (r ≡ 0 → ⊥) → z ≡ packFound (lookupSaid t l a)
   unfolding packed
   look-off z e n = e ∙ ap packFound (look-not t l a r told n)

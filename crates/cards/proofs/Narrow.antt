@@ -15,19 +15,17 @@ use Rattle.routes.specs.Route.{Prefix}
 use Rattle.routes.specs.Input.{properPrefix}
 use Rattle.routes.specs.Said.{Said, refused, accepts}
 use Rattle.routes.specs.declared.Route.{Route}
-use Rattle.routes.proofs.Meaning.{prefix-true, true-prefix, WrongRoute, wrong-fault}
+use Rattle.routes.specs.Cases.{WrongRoute}
+use Rattle.routes.proofs.Meaning.{prefix-true, true-prefix, wrong-fault}
 use Rattle.runs.specs.Run.{runSaid}
 use Rattle.sail.specs.Lent.{Lent}
 use Rattle.sail.specs.Sizes.{sizesFault}
 use Rattle.sail.specs.declared.table.Table.{Table}
 use Rattle.sail_theory.specs.Calls.{route, out, orSay, announceSaid, withdrawFault, withdrawSaid, cutRoute, announced, withdrawn}
 use Rattle.sail_theory.proofs.Cleared.{announce-off, withdraw-off}
+use Rattle.cards.specs.Narrow.{AlikeOver}
 
--- f is the same of all numbers over the limit
-abbrev pub AlikeOver : {A : Type 0} → ℕ → (ℕ → A) → Type 0
-AlikeOver limit f = (x y : ℕ) → limit < x → limit < y → f x ≡ f y
-
--- then a number may be narrowed to a type that has room for one over the limit
+-- where it is the same over a limit, a number may be narrowed to a type that has room for one over the limit
 narrowed : {A : Type 0} (f : ℕ → A) (limit top : ℕ) → limit < top → AlikeOver limit f → (x n : ℕ) → n ≡ min x top → f n ≡ f x
 narrowed f limit top h alike x n e = go (below? top x)
   where

@@ -21,18 +21,22 @@ use Rattle.sail.specs.Walk.{hopSaid, lookupSaid}
 use Rattle.sail.specs.declared.table.Table.{Table}
 use Rattle.sail.proofs.Sounds as sounds
 use Rattle.basic.specs.Maps.{isSetAt}
-use Rattle.basic.specs.Calls.{saysBasicFound, basicSaid, hopWord, Many, basicMany}
+use Rattle.basic.specs.Calls.{saysBasicFound, basicSaid, hopWord, basicMany}
+use Rattle.basic.specs.Contract.{MeetsBasicLookup, MeetsBasicMany}
 use Rattle.basic.specs.Meaning.{MapsOf, Serves, BasicLookup, BasicLookups}
+use Rattle.basic.specs.declared.check.BasicAnswer.{BasicAnswer}
 use Rattle.basic.specs.declared.lookup.BasicFound.{BasicFound}
 use Rattle.basic.specs.declared.lookup.BasicFound.the-variants as found
-use Rattle.basic.proofs.Answers.{refused-leaves-words, basic-found-injective, basic-answer-injective}
+use Rattle.basic.proofs.Answers.{refused-leaves-words, basic-found-injective}
+use Rattle.basic.proofs.OneAnswer as lookup
 use Rattle.basic.proofs.Judged.{lookup-only, lookup-judged, many-only, many-judged, many-words}
-use Rattle.basic_build.specs.Built.{MapsOut, basicBuilt, BasicBuild}
+use Rattle.basic_build.specs.Built.{basicBuilt, BasicBuild}
+use Rattle.basic_build.specs.Contract.{MeetsBasicBuild}
 use Rattle.basic_build.proofs.Answers.{refused-leaves, build-only, build-judged}
+use Rattle.basic_build.proofs.OneAnswer as build
 use Rattle.basic_build.proofs.Serves as worth
-use Rattle.demands.specs.MeetsBasic.{BasicBuildEnd, MeetsBasicBuild, MeetsBasicLookup, BasicManyEnd, MeetsBasicMany}
 use Rattle.demands.proofs.Demand1.{exactly}
-use Rattle.demands.proofs.Demand2.{uncounted}
+use Rattle.demands.specs.Served.{uncounted}
 
 -- Demand 1. "A refusal is never a hop": the answer of a lookup that is refused is the number alone.
 pub refused-no-hop-basic : (input bits cells : List ℕ) (a : ℕ) (r : BasicFound) → saysBasicFound r ≡ basicSaid input bits cells a
@@ -95,7 +99,7 @@ no-hop rs a (Serves.hop h w) e = absurd (let z : _≡_ {A = ℕ} 0 1 = cc in ome
 no-hop rs a (Serves.none k) e = k
 
 module _ (input bits cells : List ℕ) (e : accepts (basicBuilt input bits cells .said) ≡ true) (a : ℕ) (h : a < 2 ^ 32) where
-  -- "and no route exactly when none covers"
+  -- "and no route exactly when none does"
   pub no-route-basic : (basicSaid input (basicBuilt input bits cells .bits) (basicBuilt input bits cells .cells) a ≡ accepted [])
       ↔ ((r : Route) → List·Memᴰ r (routesIn input) → covers 32 a r ≡ false)
   no-route-basic = (
@@ -118,18 +122,13 @@ basic-many-words = many-words
 
 -- "Show that no second answer would satisfy it."
 module _ (input bits cells : List ℕ) where
-  pub one-answer-basic-build : (x y : BasicBuildEnd) → MeetsBasicBuild input bits cells x → MeetsBasicBuild input bits cells y → x ≡ y
-  one-answer-basic-build x y p q =
-      let e = p ∙ sym q in
-      let a = basic-answer-injective (x .answer) (y .answer) (ap (λ (u : MapsOut). u .said) e) in
-      λ i. record { answer = a i; bits = e i .bits; cells = e i .cells }
+  pub one-answer-basic-build : (x y : BasicAnswer) (bs bs′ cs cs′ : List ℕ)
+      → MeetsBasicBuild input bits cells x bs cs → MeetsBasicBuild input bits cells y bs′ cs′ → (x ≡ y) × (bs ≡ bs′) × (cs ≡ cs′)
+  one-answer-basic-build = build.one-answer-basic-build input bits cells
 
   pub one-answer-basic-lookup : (addr : ℕ) (x y : BasicFound) → MeetsBasicLookup input bits cells addr x → MeetsBasicLookup input bits cells addr y → x ≡ y
-  one-answer-basic-lookup addr x y p q = basic-found-injective x y (p ∙ sym q)
+  one-answer-basic-lookup = lookup.one-answer-basic-lookup input bits cells
 
-  pub one-answer-basic-lookup-many : (addrs words : List ℕ) (x y : BasicManyEnd)
-      → MeetsBasicMany input bits cells addrs words x → MeetsBasicMany input bits cells addrs words y → x ≡ y
-  one-answer-basic-lookup-many addrs words x y p q =
-      let e = p ∙ sym q in
-      let a = basic-answer-injective (x .answer) (y .answer) (ap (λ (u : Many). u .said) e) in
-      λ i. record { answer = a i; words = e i .words }
+  pub one-answer-basic-lookup-many : (addrs words : List ℕ) (x y : BasicAnswer) (ws ws′ : List ℕ)
+      → MeetsBasicMany input bits cells addrs words x ws → MeetsBasicMany input bits cells addrs words y ws′ → (x ≡ y) × (ws ≡ ws′)
+  one-answer-basic-lookup-many = lookup.one-answer-basic-lookup-many input bits cells

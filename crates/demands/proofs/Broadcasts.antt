@@ -1,15 +1,15 @@
 -- The demands of a broadcast. It changes nothing: what it is lent it takes by `&`.
-use mathlib.Core.Path.{_≡_, refl, sym, _∙_}
+use mathlib.Core.Path.{_≡_, refl}
 use mathlib.Core.Logic.{_↔_}
 use mathlib.Core.List.{List}
 use Prim.Native.Nat.{ℕ}
 use Rattle.routes.specs.Said.{Said}
 use Rattle.broadcast.specs.Cast.{castSaid}
+use Rattle.broadcast.specs.Contract.{MeetsBroadcast}
 use Rattle.broadcast.specs.Meaning.{Casting}
 use Rattle.broadcast.specs.declared.Cast.{Cast}
 use Rattle.broadcast.proofs.Casts.{cast-only, cast-judged}
-use Rattle.broadcast.proofs.Answers.{cast-injective}
-use Rattle.demands.specs.MeetsBroadcast.{MeetsBroadcast}
+use Rattle.broadcast.proofs.OneAnswer as broadcast
 use Rattle.demands.proofs.Demand1.{exactly}
 
 -- Demand 1. "Carries its number": 23, then the input's; and after them a broadcast is told exactly where the address is one
@@ -20,4 +20,4 @@ refused-number-broadcast version input addr =
 -- "Show that no second answer would satisfy it."
 pub one-answer-broadcast : (version : ℕ) (input : List ℕ) (addr : ℕ) (x y : Cast) → MeetsBroadcast version input addr x
     → MeetsBroadcast version input addr y → x ≡ y
-one-answer-broadcast version input addr x y p q = cast-injective x y (p ∙ sym q)
+one-answer-broadcast = broadcast.one-answer-broadcast

@@ -1,4 +1,4 @@
--- Build of an image: what it can say, in document 01's order, with all that then holds. Assumes nothing.
+-- Build of an image says what stands beside the case that holds (`Build` in crate tree_build, specs/Cases.antt), and nothing else. Assumes nothing.
 use mathlib.Core.Path.{_≡_, _∙_}
 use mathlib.Core.Logic.{_⊎_, inl, inr}
 use mathlib.Core.Bool.{false, true≢false}
@@ -12,16 +12,12 @@ use Rattle.routes.specs.Said.{Said, accepted, refused, refusedAt, accepts}
 use Rattle.tree.specs.Image.{nodeNeed}
 use Rattle.routes.specs.Record.{routesIn}
 use Rattle.tree_build.specs.Built.{madeOf, built}
-use Rattle.routes.proofs.Cases.{check-only, BadInput, Passes, by-input}
+use Rattle.tree_build.specs.Cases.{Build}
+use Rattle.routes.specs.Cases.{Passes}
+use Rattle.routes.proofs.Cases.{check-only, by-input}
 
 -- build: the input's with its index, 6, 11, 12
 module _ (s ws hs : List ℕ) where
-  pub data Build : Said → Type 0 where
-    bad-input : (x : Said) → BadInput s x → Build x
-    few-nodes : (n : ℕ) → Passes s n → length ws / 3 < nodeNeed (routesIn s) → Build (refused 11)
-    few-hops : (n : ℕ) → Passes s n → nodeNeed (routesIn s) ≤ length ws / 3 → length hs < length (routesIn s) → Build (refused 12)
-    done : (n : ℕ) → Passes s n → nodeNeed (routesIn s) ≤ length ws / 3 → length (routesIn s) ≤ length hs → Build (accepted (nodeNeed (routesIn s) ∷ length (routesIn s) ∷ []))
-
   good-built : (n : ℕ) → Passes s n → built s ws hs .said ≡ madeOf (routesIn s) ws hs .said
   unfolding built
   good-built n g = rw (check-only s _ g)
@@ -32,20 +28,20 @@ module _ (s ws hs : List ℕ) where
   bad-built (Said.refused n) e h = rw e
   bad-built (Said.refusedAt n k) e h = rw e
 
-  pub build-only : (x : Said) → Build x → built s ws hs .said ≡ x
+  pub build-only : (x : Said) → Build s ws hs x → built s ws hs .said ≡ x
   unfolding madeOf
   build-only _ (Build.bad-input x b) = bad-built x (check-only s x (b .checked)) (b .not-accepted)
   build-only x (Build.few-nodes n g h) = good-built n g ∙ rw (lt-ltb _ _ h)
   build-only x (Build.few-hops n g h k) = good-built n g ∙ rw (le-ltb _ _ h, lt-ltb _ _ k)
   build-only x (Build.done n g h k) = good-built n g ∙ rw (le-ltb _ _ h, le-ltb _ _ k)
 
-  pub build-judged : Build (built s ws hs .said)
-  build-judged = by-input s (λ x. Build (built s ws hs .said)) (λ x b. told (bad-input x b)) (λ n g. at n g (below? (length ws / 3) (nodeNeed (routesIn s))) (below? (length hs) (length (routesIn s))))
+  pub build-judged : Build s ws hs (built s ws hs .said)
+  build-judged = by-input s (λ x. Build s ws hs (built s ws hs .said)) (λ x b. told (Build.bad-input x b)) (λ n g. at n g (below? (length ws / 3) (nodeNeed (routesIn s))) (below? (length hs) (length (routesIn s))))
     where
-      told : {x : Said} → Build x → Build (built s ws hs .said)
+      told : {x : Said} → Build s ws hs x → Build s ws hs (built s ws hs .said)
       told c = rw (build-only _ c) c
 
-      at : (n : ℕ) → Passes s n → (length ws / 3 < nodeNeed (routesIn s)) ⊎ (nodeNeed (routesIn s) ≤ length ws / 3) → (length hs < length (routesIn s)) ⊎ (length (routesIn s) ≤ length hs) → Build (built s ws hs .said)
-      at n g (inl h) k = told (few-nodes n g h)
-      at n g (inr h) (inl k) = told (few-hops n g h k)
-      at n g (inr h) (inr k) = told (done n g h k)
+      at : (n : ℕ) → Passes s n → (length ws / 3 < nodeNeed (routesIn s)) ⊎ (nodeNeed (routesIn s) ≤ length ws / 3) → (length hs < length (routesIn s)) ⊎ (length (routesIn s) ≤ length hs) → Build s ws hs (built s ws hs .said)
+      at n g (inl h) k = told (Build.few-nodes n g h)
+      at n g (inr h) (inl k) = told (Build.few-hops n g h k)
+      at n g (inr h) (inr k) = told (Build.done n g h k)

@@ -17,7 +17,8 @@ use Rattle.routes.specs.Input.{inputSaid}
 use Rattle.routes.specs.Answers.{routeSaid}
 use Rattle.routes.specs.Said.{Said, accepted, refused, refusedAt, accepts}
 use Rattle.routes.specs.declared.Route.{Route}
-use Rattle.routes.proofs.Meaning.{Checked, input-checked}
+use Rattle.routes.specs.Cases.{Checked, RouteRead}
+use Rattle.routes.proofs.Meaning.{input-checked}
 use Rattle.routes.proofs.Cases.{check-only}
 use Rattle.runs.specs.Run.{runSaid, runOf, runAt}
 use Rattle.runs.specs.Tally.{tallyOf}
@@ -30,7 +31,8 @@ use Rattle.sail.specs.declared.lookup.Found.{Found}
 use Rattle.sail.specs.declared.lookup.Found.the-variants as found
 use Rattle.sail.proofs.Answers.{found-injective}
 use Rattle.sail_theory.specs.Calls.{Out, made, cutRoute, cleared, telling, announced, withdrawn, loaded, reported}
-use Rattle.sail_theory.proofs.Judged.{Make, make-judged, Announce, announce-judged, Withdraw, withdraw-judged, Load, load-judged, Report, report-judged}
+use Rattle.sail_theory.specs.Cases.{Make, Announce, Withdraw, Load, Report}
+use Rattle.sail_theory.proofs.Judged.{make-judged, announce-judged, withdraw-judged, load-judged, report-judged}
 use Rattle.sail_theory.proofs.Only.{make-only, announce-only, withdraw-only, load-only, report-only}
 use Rattle.sail_theory.proofs.Cleared.{telling-once, announce-said, announce-refused, withdraw-said, withdraw-refused}
 use Rattle.sail_theory.proofs.Fresh.{make-said, make-refused}
@@ -40,10 +42,14 @@ use Rattle.tree.specs.declared.TreeFound.{TreeFound}
 use Rattle.tree.specs.declared.TreeFound.the-variants as treeFound
 use Rattle.tree_build.specs.Built.{built}
 use Rattle.tree_build.proofs.Serves.{refused-leaves}
-use Rattle.demands.proofs.Inputs.{RunChecked, run-judged, run-only, RouteRead, route-judged, route-only}
-use Rattle.demands.proofs.Lookups.{Lookup, lookup-judged, lookup-only}
-use Rattle.demands.proofs.Builds.{Build, build-judged, build-only}
-use Rattle.demands.proofs.Walks.{TreeLookup, tree-judged, tree-only}
+use Rattle.runs.specs.Cases.{RunChecked}
+use Rattle.demands.proofs.Inputs.{run-judged, run-only, route-judged, route-only}
+use Rattle.sail.specs.Cases.{Lookup}
+use Rattle.demands.proofs.Lookups.{lookup-judged, lookup-only}
+use Rattle.tree_build.specs.Cases.{Build}
+use Rattle.demands.proofs.Builds.{build-judged, build-only}
+use Rattle.tree.specs.Cases.{TreeLookup}
+use Rattle.demands.proofs.Walks.{tree-judged, tree-only}
 
 -- "A refusal is never a hop."
 

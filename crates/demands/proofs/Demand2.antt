@@ -15,16 +15,16 @@ use lib.Dec.{eqb}
 use borrow.Author.Tests.{ne-eqb}
 use Rattle.bits.proofs.Tabs.{tabulate-ext}
 use Rattle.routes.specs.Route.{Good}
-use Rattle.standing.specs.Cells.{covers, Longest, Best, best}
+use Rattle.standing.specs.Cells.{covers, Best, best}
 use Rattle.routes.specs.Record.{recordAt, routesOf, noRoute, routesIn}
 use Rattle.routes.specs.Input.{inputSaid}
 use Rattle.routes.specs.Answers.{valuesOf, routeSaid}
-use Rattle.routes.specs.Said.{Said, accepted, refused, refusedAt, hopAfter, noRouteAfter}
+use Rattle.routes.specs.Said.{Said, accepted, hopAfter, noRouteAfter}
 use Rattle.routes.specs.declared.Route.{Route}
 use Rattle.routes.proofs.Goods.{good-fine}
 use Rattle.standing.proofs.Longest.{best-is}
 use Rattle.routes.proofs.Meaning.{input-checked}
-use Rattle.routes.proofs.Cases.{Passes}
+use Rattle.routes.specs.Cases.{Passes, RouteRead}
 use Rattle.standing.proofs.Only.{best-only, covers-none}
 use Rattle.routes.proofs.Rows.{Place, listed-nth, length-routes, nth-route}
 use Rattle.runs.proofs.Runs.{part-record, part-good}
@@ -39,13 +39,8 @@ use Rattle.tree.specs.Walk.{told, treeSaid}
 use Rattle.tree.proofs.ReadCounts as reads
 use Rattle.tree_build.specs.Built.{built}
 use Rattle.tree_build.proofs.Serves.{built-accepts, built-serves}
-use Rattle.demands.proofs.Inputs.{RouteRead, route-only}
-
--- What is said of the address a, after n reads, where the routes rs stand: the hop of a route that covers a, than which no route that covers a
--- is longer; or no route, and then none covers.
-pub data Served (rs : List Route) (a n : ℕ) : Said → Type 0 where
-  hop : (h : ℕ) → Longest rs 32 a h → Served rs a n (hopAfter n h)
-  no-route : ((r : Route) → List·Memᴰ r rs → covers 32 a r ≡ false) → Served rs a n (noRouteAfter n)
+use Rattle.demands.specs.Served.{Served, uncounted, ReadBack}
+use Rattle.demands.proofs.Inputs.{route-only}
 
 some-hop : (n h : ℕ) → 1 ≤ h → hopSaid n h ≡ hopAfter n h
 unfolding hopSaid
@@ -56,8 +51,8 @@ unfolding hopSaid
 none-hop n = refl
 
 served : (rs : List Route) → Good rs → (a n h : ℕ) → Best rs 32 a h → Served rs a n (hopSaid n h)
-served rs g a n h (Best.none z none) = rw (z, none-hop n) (no-route none)
-served rs g a n h (Best.one w) = rw (some-hop n h (omega (arith, good-fine rs g (w .route) (w .listed) .hop-one, w .its-hop))) (hop h w)
+served rs g a n h (Best.none z none) = rw (z, none-hop n) (Served.no-route none)
+served rs g a n h (Best.one w) = rw (some-hop n h (omega (arith, good-fine rs g (w .route) (w .listed) .hop-one, w .its-hop))) (Served.hop h w)
 
 -- Of each address one thing is said.
 said-best : (rs : List Route) → Good rs → (a n : ℕ) {s : Said} → Served rs a n s → s ≡ hopSaid n (best rs 32 a)
@@ -94,12 +89,6 @@ pub image-reads : (rs : List Route) → Good rs → (a : ℕ)
 image-reads rs g a = (reads.tree-reads-few rs a .0, reads.tree-reads-few rs a .1, reads.tree-reads-none rs a g)
 
 -- A table and an image of the same routes give the same hop at every address, and no route alike: what they say differs in the count alone.
-abbrev pub uncounted : Said → Said
-uncounted (accepted []) = accepted []
-uncounted (accepted (n ∷ vs)) = accepted vs
-uncounted (refused k) = refused k
-uncounted (refusedAt k i) = refusedAt k i
-
 pub hop-alone : (n m h : ℕ) → uncounted (hopSaid n h) ≡ uncounted (hopSaid m h)
 unfolding hopSaid
 hop-alone n m h = go (eqb h 0)
@@ -125,7 +114,7 @@ pub no-route-table : (t : Table) (l : Lent) → Sound t l → (a : ℕ) → a < 
     → ((n : ℕ) × (lookupSaid t l a ≡ noRouteAfter n)) ↔ ((r : Route) → List·Memᴰ r (standing t l) → covers 32 a r ≡ false)
 no-route-table t l s a h = (
   (λ x. no-hop (standing t l) (sounds.standing-good t l s) a _ (x .0) (sail-serves t l s a h) (x .1)),
-  (λ none. (_, served-once (standing t l) (sounds.standing-good t l s) a _ (sail-serves t l s a h) (no-route none))),
+  (λ none. (_, served-once (standing t l) (sounds.standing-good t l s) a _ (sail-serves t l s a h) (Served.no-route none))),
 )
 
 pub no-route-image : (input ws hs vs : List ℕ) → built input ws hs .said ≡ accepted vs → (a : ℕ) → a < 2 ^ 32
@@ -133,17 +122,10 @@ pub no-route-image : (input ws hs vs : List ℕ) → built input ws hs .said ≡
 no-route-image input ws hs vs e a h =
     let g = built-accepts input ws hs vs e .good-routes in (
       (λ x. no-hop (routesIn input) g a _ (x .0) (image-serves input ws hs vs e a h) (x .1)),
-      (λ none. (_, served-once (routesIn input) g a _ (image-serves input ws hs vs e a h) (no-route none))),
+      (λ none. (_, served-once (routesIn input) g a _ (image-serves input ws hs vs e a h) (Served.no-route none))),
     )
 
--- "Each route in a list can be read back out, with its hop": route_at reads out of these bytes each of the routes rs, at its place, with its
--- mark and hop, and nothing past the last. (A route's values are its address, length, mark and hop.)
-pub record ReadBack (bytes : List ℕ) (rs : List Route) : Type 0 where
-  pub each : (r : Route) → List·Memᴰ r rs → (k : ℕ) × (k < length rs) × (routeSaid bytes k ≡ accepted (valuesOf r))
-  pub in-order : (k : ℕ) → k < length rs → routeSaid bytes k ≡ accepted (valuesOf (getD rs k noRoute))
-  pub no-more : (k : ℕ) → length rs ≤ k → routeSaid bytes k ≡ accepted []
-
--- out of a good input
+-- "Each route in a list can be read back out, with its hop" (`ReadBack`): out of a good input
 pub read-back-input : (bytes : List ℕ) (n : ℕ) → inputSaid bytes ≡ accepted (n ∷ []) → ReadBack bytes (routesOf bytes n)
 read-back-input bytes n e = record {
   each = λ r m. at r (listed-nth (routesOf bytes n) r m);

@@ -30,7 +30,7 @@ use Rattle.sail.proofs.Sounds.{standing-good}
 use Rattle.sail_theory.specs.Render.{roomOf}
 use Rattle.sail_theory.specs.Calls.{termsOf, inputRoutes, Out, made, announced, withdrawn, loaded}
 use Rattle.sail_theory.specs.Facts.{SameSize}
-use Rattle.sail_theory.specs.Runs.{announceAll, AllAdded, Call, after, worked, would, Formed, Carries}
+use Rattle.sail_theory.specs.Runs.{announceAll, AllAdded, Call, after, worked, would, Formed, Carries, standingAfter, AsFresh}
 use Rattle.sail_theory.specs.Alters.{Alters}
 use Rattle.sail_theory.proofs.Cleared.{announce-refused, announce-alters, withdraw-refused, withdraw-alters}
 use Rattle.sail_theory.proofs.Fresh.{accepted-sized}
@@ -38,56 +38,53 @@ use Rattle.sail_theory.proofs.Loads as loads
 use Rattle.sail_theory.proofs.Runs as runs
 use Rattle.sail_theory.proofs.Anew as anew
 use Rattle.sail_theory.proofs.Wanting as wanting
-use Rattle.demands.proofs.Demand2.{uncounted}
+use Rattle.demands.specs.Served.{uncounted}
 use Rattle.demands.proofs.Elsewhere.{announce-elsewhere, withdraw-elsewhere}
-use Rattle.demands.proofs.Replies.{reply}
+use Rattle.demands.specs.Replies.{reply}
 use Rattle.demands.proofs.Replies as replies
-use Rattle.demands.proofs.Wants.{ByNeed, wanting-exact, ForChunks, chunks-formed}
+use Rattle.sail_theory.specs.Wants.{ByNeed, ForChunks}
+use Rattle.demands.proofs.Wants.{wanting-exact, chunks-formed}
 
 module _ (t : Table) (l : Lent) (z : Sized (t .geometry) l) where
-  -- what stands after a run
-  abbrev pub standingAfter : List Call → List Route
-  standingAfter cs = standing (after t l cs .table) (after t l cs .lent)
-
   -- After "any run of announcements, withdrawals and loads, refused ones among them": the table is sound.
   pub run-sound : (cs : List Call) → Sound (after t l cs .table) (after t l cs .lent)
   run-sound = runs.run-sound t l z
 
   -- "Which routes stand after a run is worked out from its accepted calls alone": for each prefix, by its key, what stands is what the last
   -- accepted call that speaks of it said, its mark included.
-  pub run-standing : (cs : List Call) (k : ℕ) → routeAt k (standingAfter cs) ≡ worked t l cs k
+  pub run-standing : (cs : List Call) (k : ℕ) → routeAt k (standingAfter t l cs) ≡ worked t l cs k
   run-standing = runs.run-standing t l z
 
   -- "And the list then holds exactly those, in order": it ascends, and is the only ascending list that holds them.
-  pub run-in-order : (cs : List Call) → Good (standingAfter cs)
+  pub run-in-order : (cs : List Call) → Good (standingAfter t l cs)
   run-in-order cs = standing-good (after t l cs .table) (after t l cs .lent) (run-sound cs)
 
-  pub run-only : (cs : List Call) (rs : List Route) → Good rs → ((k : ℕ) → routeAt k rs ≡ worked t l cs k) → standingAfter cs ≡ rs
+  pub run-only : (cs : List Call) (rs : List Route) → Good rs → ((k : ℕ) → routeAt k rs ≡ worked t l cs k) → standingAfter t l cs ≡ rs
   run-only = runs.run-only t l z
 
   -- What each call of a run says, "refused ones among them", follows from the routes that stand, the geometry, the room of the list and the
   -- chunks lent: no cell is asked.
-  pub run-says : (c : Call) (cs : List Call) → after t l (c ∷ cs) .said ≡ reply (termsOf t l) (standingAfter cs) c
+  pub run-says : (c : Call) (cs : List Call) → after t l (c ∷ cs) .said ≡ reply (termsOf t l) (standingAfter t l cs) c
   run-says = replies.run-says t l z
 
   -- "Every address is then served as by a table freshly loaded with the standing routes: same hop, same count of cells read, as many chunks in
   -- use": the fresh load is that of an input which holds the standing routes, into any table of the same geometry and array sizes; it is
   -- accepted, and its list is the same to the byte, marks included.
   pub run-as-fresh : (cs : List Call) (u : Table) (v : Lent) → u .geometry ≡ t .geometry → SameSize l v
-      → (input : List ℕ) → Carries input (standingAfter cs) → anew.AsFresh (after t l cs .table) (after t l cs .lent) (loaded u v input)
+      → (input : List ℕ) → Carries input (standingAfter t l cs) → AsFresh (after t l cs .table) (after t l cs .lent) (loaded u v input)
   run-as-fresh = anew.run-as-fresh t l z
 
   -- There is such an input.
-  pub run-input : (cs : List Call) → Carries (written (standingAfter cs) (length (standingAfter cs))) (standingAfter cs)
+  pub run-input : (cs : List Call) → Carries (written (standingAfter t l cs) (length (standingAfter t l cs))) (standingAfter t l cs)
   run-input = anew.run-carried t l z
 
   -- "A well-formed change for which the list has room is refused for want of chunks exactly when the routes that would then stand need more than
   -- were lent": with 7 or 8, by these needs, and else it is accepted
-  pub want-of-chunks : (cs : List Call) (c : Call) → Formed c (standingAfter cs) (roomOf l) → ByNeed (termsOf t l) (would c (standingAfter cs)) (after t l (c ∷ cs) .said)
+  pub want-of-chunks : (cs : List Call) (c : Call) → Formed c (standingAfter t l cs) (roomOf l) → ByNeed (termsOf t l) (would c (standingAfter t l cs)) (after t l (c ∷ cs) .said)
   want-of-chunks cs c f = wanting-exact (wanting.want-of-chunks t l z cs c f)
 
   -- and no other call is refused with 7 or 8.
-  pub want-formed : (cs : List Call) (c : Call) → ForChunks (after t l (c ∷ cs) .said) → Formed c (standingAfter cs) (roomOf l)
+  pub want-formed : (cs : List Call) (c : Call) → ForChunks (after t l (c ∷ cs) .said) → Formed c (standingAfter t l cs) (roomOf l)
   unfolding after
   want-formed cs c w =
       let room : roomOf (after t l cs .lent) ≡ roomOf l = ap (λ (n : ℕ). n / 8) (runs.run-is t l z cs .size .list) in

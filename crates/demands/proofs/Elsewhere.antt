@@ -20,7 +20,8 @@ use Rattle.sail.proofs.Sounds.{standing-good, sail-serves}
 use Rattle.sail_theory.specs.Calls.{Out, cutRoute, announced, withdrawn}
 use Rattle.sail_theory.specs.Facts.{Holds}
 use Rattle.sail_theory.proofs.Cleared.{announce-welcome, announce-refused, announce-holds, withdraw-farewell, withdraw-refused, withdraw-holds}
-use Rattle.demands.proofs.Demand2.{uncounted, hop-alone}
+use Rattle.demands.specs.Served.{uncounted}
+use Rattle.demands.proofs.Demand2.{hop-alone}
 
 -- what serves x, by its hop, as it was
 abbrev pub hopBy : Table → Lent → ℕ → Table → Lent → Type 0

@@ -1,4 +1,5 @@
--- Refusals for want of chunks, 7 and 8: exactly when the routes that would stand need more, and of well-formed changes alone. Assumes nothing.
+-- Refusals for want of chunks, 7 and 8 (`ByNeed`, `ForChunks` in crate sail_theory, specs/Wants.antt): exactly when the routes that would stand need
+-- more, and of well-formed changes alone. Assumes nothing.
 use mathlib.Core.Path.{_≡_, refl}
 use mathlib.Core.Logic.{_↔_}
 use mathlib.Core.Bool.{Bool, true, false≢true}
@@ -7,28 +8,23 @@ use Prim.Native.Nat.{ℕ, _/_, _≤_, _<_}
 use native.Mathlib.Omega.{arith}
 use lib.ListN.{length}
 use Rattle.bits.specs.Slot.{cut}
-use Rattle.standing.specs.Cells.{need}
-use Rattle.routes.specs.Said.{Said, accepted, refused, refusedAt, accepts}
+use Rattle.routes.specs.Said.{Said}
 use Rattle.routes.specs.declared.Route.{Route}
 use Rattle.standing.proofs.Changed.{insert-adds}
-use Rattle.routes.proofs.Meaning.{WrongRoute, Checked, good-input}
+use Rattle.routes.specs.Cases.{WrongRoute, Checked}
+use Rattle.routes.proofs.Meaning.{good-input}
 use Rattle.sail.specs.Lent.{Lent}
 use Rattle.sail.specs.Sound.{standing}
 use Rattle.sail.specs.declared.table.Table.{Table}
 use Rattle.sail_theory.specs.Render.{roomOf}
 use Rattle.sail_theory.specs.Calls.{Terms, cutRoute, telling}
 use Rattle.sail_theory.specs.Runs.{Call, announce, withdraw, load, done, Formed}
-use Rattle.sail_theory.proofs.Judged.{Sizing, Announce, announce-judged, Withdraw, withdraw-judged, Readable, Load, load-judged}
+use Rattle.sail.specs.Cases.{Sizing}
+use Rattle.sail_theory.specs.Cases.{Announce, Withdraw, Readable, Load}
+use Rattle.sail_theory.proofs.Judged.{announce-judged, withdraw-judged, load-judged}
 use Rattle.sail_theory.proofs.Cleared.{announce-said, withdraw-said}
 use Rattle.sail_theory.proofs.Loads.{load-said}
-use Rattle.sail_theory.proofs.Wanting.{Wanting}
-
--- What is said of a change after which the routes rs would stand, on the terms m: 7 exactly when they need more second chunks than there are,
--- 8 exactly when they need more third chunks alone, and accepted exactly when they need no more of either.
-pub record ByNeed (m : Terms) (rs : List Route) (s : Said) : Type 0 where
-  pub seven : (s ≡ refused 7) ↔ (m .most2 < need rs (m .geometry .p1))
-  pub eight : (s ≡ refused 8) ↔ ((need rs (m .geometry .p1) ≤ m .most2) × (m .most3 < need rs (m .geometry .p2)))
-  pub taken : (accepts s ≡ true) ↔ ((need rs (m .geometry .p1) ≤ m .most2) × (need rs (m .geometry .p2) ≤ m .most3))
+use Rattle.sail_theory.specs.Wants.{Wanting, ByNeed, ForChunks}
 
 pub wanting-exact : {m : Terms} {rs : List Route} {s : Said} → Wanting m rs s → ByNeed m rs s
 wanting-exact (Wanting.second x) = record {
@@ -46,12 +42,6 @@ wanting-exact (Wanting.neither x y vs) = record {
   eight = ((λ e. absurd (let z : _≡_ {A = ℕ} 0 1 = cc in omega arith)), (λ z. absurd (omega (arith, z .1))));
   taken = ((λ e. (x, y)), (λ z. refl));
 }
-
--- 7 or 8
-abbrev pub ForChunks : Said → Type 0
-ForChunks (accepted vs) = ⊥
-ForChunks (refused n) = (7 ≤ n) × (n ≤ 8)
-ForChunks (refusedAt n k) = ⊥
 
 small : {t : Table} {l : Lent} {n : ℕ} → Sizing t l n → (7 ≤ n) × (n ≤ 8) → ⊥
 small (Sizing.limits h) w = omega (arith, w .0)

@@ -1,4 +1,3 @@
--- The statements of the calls, as predicates on what they answer and leave.
-pub mod Meets
-pub mod MeetsBasic
-pub mod MeetsBroadcast
+-- What the demands speak of beyond the crates below: an address served, routes read back, and what a run says by its routes alone.
+pub mod Served
+pub mod Replies

@@ -25,12 +25,12 @@ use Rattle.sail.proofs.Fitting.{Fault, fault-is}
 use Rattle.sail_theory.specs.Test.{sound?}
 use Rattle.sail_theory.specs.Calls.{Terms, termsOf, announceFault, withdrawFault, loadFault, orSay, inputRoutes, cutRoute, cleared, telling}
 use Rattle.sail_theory.specs.Calls.{makeSaid, announceSaid, withdrawSaid, loadSaid, reported}
-use Rattle.sail_theory.proofs.Judged.{Sizing}
+use Rattle.sail.specs.Cases.{Sizing, Lookup}
 use Rattle.sail_theory.proofs.Tells.{sound-tells}
 use Rattle.sail_theory.proofs.Cleared.{announce-said, withdraw-said}
 use Rattle.sail_theory.proofs.Fresh.{make-said}
 use Rattle.sail_theory.proofs.Loads.{load-said}
-use Rattle.demands.proofs.Lookups.{Lookup, lookup-only}
+use Rattle.demands.proofs.Lookups.{lookup-only}
 use Rattle.examples.specs.Blank.{Lengths, zeros, Asked, make, load, announce, withdraw, report, lookup, answer}
 
 -- 1, 2 or 0, by the lengths

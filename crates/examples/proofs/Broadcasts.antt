@@ -20,7 +20,7 @@ use Rattle.broadcast.specs.Cast.{versionFine, lastLen, highest, castOf, isBroad
 use Rattle.broadcast.specs.Meaning.{UpperOfTwo}
 use Rattle.broadcast.specs.declared.Cast.the-variants as cast
 use Rattle.broadcast.proofs.Casts.{rules-differ}
-use Rattle.demands.specs.MeetsBroadcast.{MeetsBroadcast}
+use Rattle.broadcast.specs.Contract.{MeetsBroadcast}
 use Rattle.examples.specs.Lines.{ip}
 
 -- RFC 3021's link of two hosts, attached: 192.0.2.0/31

@@ -26,7 +26,8 @@ use Rattle.sail_theory.specs.Calls.{Terms, Out, announceFault, withdrawFault, l
 use Rattle.sail_theory.specs.Runs.{Call, after}
 use Rattle.sail_theory.proofs.Fresh.{make-is}
 use Rattle.sail_theory.proofs.Runs.{run-is, run-sound}
-use Rattle.demands.proofs.Replies.{reply, stood, run-says, run-stood}
+use Rattle.demands.specs.Replies.{reply, stood}
+use Rattle.demands.proofs.Replies.{run-says, run-stood}
 use Rattle.examples.specs.Lines.{Hold}
 use Rattle.examples.specs.Blank as blank
 use Rattle.examples.specs.Blank.{Lengths, zeros}

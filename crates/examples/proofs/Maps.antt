@@ -18,14 +18,15 @@ use Rattle.sail.specs.Walk.{lookupSaid, saysFound}
 use Rattle.sail_theory.specs.Runs.{after}
 use Rattle.basic.specs.Maps.{mapPlace, bitFor}
 use Rattle.basic.specs.Calls.{saysBasicFound, saysBasicAnswer, basicSaid, basicMany}
+use Rattle.basic.specs.Contract.{MeetsBasicLookup, MeetsBasicMany}
 use Rattle.basic.specs.Meaning.{Prepared, FirstSet, BasicLookup, BasicLookups}
 use Rattle.basic.specs.declared.check.BasicAnswer.the-variants as answer
 use Rattle.basic.specs.declared.lookup.BasicFound.the-variants as found
 use Rattle.basic.proofs.Judged.{lookup-only, many-only}
 use Rattle.basic_build.specs.Built.{basicBuilt, BasicBuild}
+use Rattle.basic_build.specs.Contract.{MeetsBasicBuild}
 use Rattle.basic_build.proofs.Answers.{build-only}
-use Rattle.demands.specs.MeetsBasic.{MeetsBasicBuild, MeetsBasicLookup, MeetsBasicMany}
-use Rattle.demands.proofs.Demand2.{uncounted}
+use Rattle.demands.specs.Served.{uncounted}
 use Rattle.demands.proofs.Basic.{table-as-maps}
 use Rattle.routes.specs.ListA.{listA}
 use Rattle.examples.specs.Lines.{ip}
@@ -88,7 +89,7 @@ unfolding mapPlace routesOf tabulate
 refused-maps = lookup-only [] oneBit noCells 0 (refused 13) (BasicLookup.broken prepared-none (λ r m l. absurd (List·Memᴰ·not-nil m)) 0 level-0 (λ l u. omega arith))
 
 -- One answer: outcomes that meet the statements.
-pub maps-A : MeetsBasicBuild listA noBits noCells (record { answer = answer.Done; bits = basicBuilt listA noBits noCells .bits; cells = basicBuilt listA noBits noCells .cells })
+pub maps-A : MeetsBasicBuild listA noBits noCells answer.Done (basicBuilt listA noBits noCells .bits) (basicBuilt listA noBits noCells .cells)
 unfolding saysBasicAnswer
 maps-A i = record { said = sym builds-A i; bits = basicBuilt listA noBits noCells .bits; cells = basicBuilt listA noBits noCells .cells }
 
@@ -103,6 +104,6 @@ broken-maps = sym refused-maps
 many-none : basicMany [] oneBit noCells [] [] .said ≡ accepted []
 many-none = many-only [] oneBit noCells [] [] (accepted []) (BasicLookups.done prepared-none refl)
 
-pub many-in-maps : MeetsBasicMany [] oneBit noCells [] [] (record { answer = answer.Done; words = basicMany [] oneBit noCells [] [] .words })
+pub many-in-maps : MeetsBasicMany [] oneBit noCells [] [] answer.Done (basicMany [] oneBit noCells [] [] .words)
 unfolding saysBasicAnswer
 many-in-maps i = record { said = sym many-none i; words = basicMany [] oneBit noCells [] [] .words }

@@ -1,14 +1,15 @@
--- What does not serve as a fresh load does, beside list A's table: a load that is refused, one table with another hop at one address, and one
--- with another number of chunks in use. Each breaks one clause alone.
-use mathlib.Core.Path.{_≡_, sym, _∙_, ap}
+-- What does not serve as a fresh load does, beside list A's table: a load that is refused, a table with another mark in its list, one with another
+-- hop at one address, and one with another number of chunks in use. Each breaks one clause alone.
+use mathlib.Core.Path.{_≡_, refl, sym, _∙_, ap}
 use mathlib.Core.Bool.{false≢true}
 use mathlib.Core.List.{List, [], _∷_}
 use Prim.Native.Nat.{ℕ, _-_}
 use native.Mathlib.Omega.{arith}
-use lib.ListN.{length-set}
+use lib.ListN.{getD, set, length-set}
+use lib.Seq.{getD-set-same}
 use Rattle.bits.specs.Tab.{tabulate}
 use Rattle.bits.specs.Count.{count}
-use Rattle.routes.specs.Record.{recordAt, routesOf}
+use Rattle.routes.specs.Record.{recordAt, bytesOf, routesOf, written}
 use Rattle.routes.specs.Said.{accepted, refused}
 use Rattle.routes.specs.declared.Route.{Route}
 use Rattle.standing.specs.Cells.{any, first, best}
@@ -18,16 +19,28 @@ use Rattle.sail.specs.Sound.{cellsRead}
 use Rattle.sail.specs.Walk.{hopSaid, lookupSaid}
 use Rattle.sail.proofs.Sounds.{sail-serves}
 use Rattle.sail_theory.specs.Calls.{out}
-use Rattle.sail_theory.proofs.Anew.{AsFresh}
-use Rattle.demands.proofs.Lookups.{Lookup, lookup-only}
+use Rattle.sail_theory.specs.Runs.{AsFresh}
+use Rattle.sail.specs.Cases.{Lookup}
+use Rattle.demands.proofs.Lookups.{lookup-only}
 use Rattle.examples.specs.Lines.{ip}
 use Rattle.routes.specs.ListA.{listA}
 use Rattle.examples.proofs.TableA.{stateA, lentA, sound-A, standing-A}
-use Rattle.examples.proofs.NotSound.{firstIs, own2Is, own3Is, at-first}
+use Rattle.examples.proofs.NotSound.{listIs, firstIs, own2Is, own3Is, in-list, at-first}
 
 -- refused
 pub load-refused : (n : ℕ) → AsFresh stateA lentA (out (refused n) stateA lentA) → ⊥
 load-refused n f = false≢true (f .accepted-too)
+
+-- the route of 10.1.0.0/16 attached: the mark is byte 5 of record 2, and no address is served otherwise
+unmarked : getD (lentA .list) 21 0 ≡ 0
+unfolding listA routesOf tabulate recordAt bytesOf written
+unmarked = refl
+
+pub other-mark : AsFresh stateA lentA (out (accepted []) stateA (listIs (set (lentA .list) 21 1))) → ⊥
+other-mark f =
+    let e : getD (set (lentA .list) 21 1) 21 0 ≡ 1 = getD-set-same (lentA .list) 21 1 0 (rw in-list (omega arith)) in
+    let g = ap (λ (xs : List ℕ). getD xs 21 0) (f .lists) in
+    omega (arith, unmarked, e, g)
 
 -- 192.0.2.1 gets hop 6, and hop 7 where its first cell says so
 six : lookupSaid stateA lentA (ip 192 0 2 1) ≡ accepted (1 ∷ 6 ∷ [])

@@ -1,4 +1,4 @@
--- What stands for a prefix is one thing: nothing is no route, and a route is told with its hop. In list A nothing else stands for a prefix
+-- What stands for a prefix is one thing: nothing is no route, and a route is told with its hop and its mark. In list A nothing else stands for a prefix
 -- than its own route.
 use mathlib.Core.Path.{_≡_, refl, sym, _∙_, ap}
 use Prim.Native.Nat.{ℕ}
@@ -24,16 +24,27 @@ pub one-hop : (a len m h k : ℕ) → stood (route a len h m) ≡ stood (route a
 unfolding hopOf
 one-hop a len m h k e = ap hopOf e
 
+markOf : Held → ℕ
+markOf absent = 0
+markOf (stood r) = r .mark
+
+pub one-mark : (a len h m k : ℕ) → stood (route a len h m) ≡ stood (route a len h k) → m ≡ k
+unfolding markOf
+one-mark a len h m k e = ap markOf e
+
 held : routeAt (keyOf (ip 10 1 2 0) 24) routesA ≡ stood (route (ip 10 1 2 0) 24 44 0)
 unfolding listA routesOf tabulate recordAt routeAt
 held = refl
 
--- not absent, not with another hop
+-- not absent, not with another hop or mark
 pub held-absent : routeAt (keyOf (ip 10 1 2 0) 24) routesA ≡ absent → ⊥
 held-absent e = not-absent _ (sym e ∙ held)
 
 pub held-other : routeAt (keyOf (ip 10 1 2 0) 24) routesA ≡ stood (route (ip 10 1 2 0) 24 45 0) → ⊥
 held-other e = omega (arith, one-hop (ip 10 1 2 0) 24 0 44 45 (sym held ∙ e))
+
+pub held-marked : routeAt (keyOf (ip 10 1 2 0) 24) routesA ≡ stood (route (ip 10 1 2 0) 24 44 1) → ⊥
+held-marked e = omega (arith, one-mark (ip 10 1 2 0) 24 44 0 1 (sym held ∙ e))
 
 -- and for a prefix of the same address and another length nothing stands
 other-length : routeAt (keyOf (ip 10 1 2 0) 25) routesA ≡ absent

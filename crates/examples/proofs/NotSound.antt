@@ -22,7 +22,7 @@ use Rattle.routes.specs.ListA.{listA}
 use Rattle.examples.proofs.TableA.{routesA, stateA, lentA, sound-A, standing-A}
 
 -- list A's table with another list, a first, second or third cell that holds another value, or other owners
-abbrev listIs : List ℕ → Lent
+abbrev pub listIs : List ℕ → Lent
 listIs xs = lent xs (lentA .first) (lentA .second) (lentA .third) (lentA .own2) (lentA .own3)
 
 abbrev pub firstIs : ℕ → ℕ → Lent
@@ -41,7 +41,7 @@ abbrev pub own3Is : List ℕ → Lent
 own3Is own = lent (lentA .list) (lentA .first) (lentA .second) (lentA .third) (lentA .own2) own
 
 -- the value is then there
-in-list : length (lentA .list) ≡ 64
+pub in-list : length (lentA .list) ≡ 64
 in-list = length-written routesA 8
 
 in-first : length (lentA .first) ≡ 65536

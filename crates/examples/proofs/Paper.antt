@@ -24,13 +24,14 @@ use Rattle.sail.proofs.Sounds.{sail-serves}
 use Rattle.sail_theory.specs.Render.{shown}
 use Rattle.sail_theory.specs.Calls.{Owners, opened, settled, kept, ownersOf, noOwners, termsOf, announceSaid, withdrawSaid, loadSaid, inputRoutes, Out, leaving, adding, taking, cutRoute, cleared, told, announced, withdrawn, loaded, reported}
 use Rattle.sail_theory.specs.Runs.{Call, announce, withdraw, load, done, after, would}
-use Rattle.sail_theory.proofs.Judged.{Report}
+use Rattle.sail_theory.specs.Cases.{Report}
 use Rattle.sail_theory.proofs.Only.{report-only}
 use Rattle.sail_theory.proofs.Fresh.{make-is}
 use Rattle.sail_theory.proofs.Pools.{shows-shown}
 use Rattle.sail_theory.proofs.Cleared.{telling-accepts}
 use Rattle.sail_theory.proofs.Runs.{run-is}
-use Rattle.demands.proofs.Replies.{reply, stood, run-says, run-stood}
+use Rattle.demands.specs.Replies.{reply, stood}
+use Rattle.demands.proofs.Replies.{run-says, run-stood}
 
 pub record Paper : Type 0 where
   pub geometry : Geometry

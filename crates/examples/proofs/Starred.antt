@@ -42,7 +42,8 @@ use Rattle.tree.specs.Reads.{treeReads}
 use Rattle.tree.specs.Walk.{told}
 use Rattle.tree_build.specs.Built.{madeOf, built}
 use Rattle.tree_build.proofs.Serves.{built-serves}
-use Rattle.demands.proofs.Replies.{reply, stood, run-says, run-stood}
+use Rattle.demands.specs.Replies.{reply, stood}
+use Rattle.demands.proofs.Replies.{run-says, run-stood}
 use Rattle.routes.specs.ListA.{listA}
 use Rattle.examples.specs.Starred.{table, arrays, bare, image, Asked, last, lookup, report, listed, first, second, owner2, owner3, make, input, build, lastNode, hops, tree, answer, starred}
 use Rattle.examples.specs.Lines.{Hold}

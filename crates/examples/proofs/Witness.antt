@@ -19,38 +19,45 @@ use Rattle.routes.specs.Record.{recordAt, routesOf, written, routesIn}
 use Rattle.routes.specs.Input.{properPrefix, hopFine, routeFault, inOrder, faultAt, inputSaid}
 use Rattle.routes.specs.Said.{Said, accepted, refused, accepts}
 use Rattle.routes.specs.Answers.{saysInput, saysGot, routeSaid}
+use Rattle.routes.specs.Contract.{MeetsCheckInput, MeetsRouteAt}
 use Rattle.standing.specs.Standing.{routeAt}
 use Rattle.routes.specs.declared.input.Input.the-variants as ofInput
 use Rattle.routes.specs.declared.input.Got.the-variants as got
 use Rattle.routes.specs.declared.Route.{Route}
 use Rattle.routes.proofs.Meaning.{prefix-true}
 use Rattle.lists.specs.Place.{placeOf}
-use Rattle.runs.specs.Run.{runSaid, saysRunCheck, runOf, runAt}
-use Rattle.runs.specs.Tally.{lengthsOf, tallyOf}
+use Rattle.runs.specs.Run.{runSaid, saysRunCheck, runOf, runAt, IsRun}
+use Rattle.runs.specs.Tally.{lengthsOf, tallyOf, IsTally}
+use Rattle.runs.specs.Contract.{MeetsRunCheck}
 use Rattle.runs.specs.declared.run.RunCheck.the-variants as runCheck
 use Rattle.sail.specs.Geometry.{standardGeo, validGeo}
 use Rattle.sail.specs.Lent.{Lent}
 use Rattle.sail.specs.Sizes.{sizesFault}
 use Rattle.sail.specs.Sound.{Sound, standing, freshTable, freshLent}
 use Rattle.sail.specs.Walk.{lookupSaid, saysFound}
+use Rattle.sail.specs.Contract.{MeetsLookup}
 use Rattle.sail.specs.declared.table.Table.{Table}
 use Rattle.sail.specs.declared.lookup.Found.the-variants as found
 use Rattle.sail.proofs.Fresh.{fresh-sound}
 use Rattle.sail_theory.specs.Calls.{route, termsOf, withdrawFault, Out, out, made, announced, withdrawn, loaded, reported}
-use Rattle.sail_theory.specs.Runs.{Call, announce, withdraw, load, done, after, worked, would, Formed}
+use Rattle.sail_theory.specs.Runs.{Call, announce, withdraw, load, done, after, worked, would, Formed, standingAfter, AsFresh}
 use Rattle.sail_theory.specs.Render.{roomOf}
 use Rattle.sail_theory.proofs.Cleared.{telling-once, announce-said, announce-off}
-use Rattle.sail_theory.proofs.Anew as anew
 use Rattle.sail_theory.proofs.Fresh.{make-said, make-is}
 use Rattle.sail_theory.proofs.Sizes.{size-refl}
 use Rattle.sail_sound.specs.Report.{saysReported}
+use Rattle.sail_sound.specs.Contract.{MeetsReport}
 use Rattle.sail_sound.specs.declared.report.Reported.the-variants as ofReport
 use Rattle.sail_make.specs.Answers.{saysMade}
+use Rattle.sail_make.specs.Contract.{MeetsMake}
 use Rattle.sail_load.specs.Answers.{saysLoaded}
+use Rattle.sail_load.specs.Contract.{MeetsLoad}
 use Rattle.sail_make.specs.declared.Made.the-variants as ofMake
 use Rattle.sail_load.specs.declared.load.Loaded.the-variants as ofLoad
 use Rattle.sail_announce.specs.Answers.{saysAnnounce}
+use Rattle.sail_announce.specs.Contract.{MeetsAnnounce}
 use Rattle.sail_withdraw.specs.Answers.{saysWithdraw}
+use Rattle.sail_withdraw.specs.Contract.{MeetsWithdraw}
 use Rattle.sail_announce.specs.declared.answers.Announce.the-variants as ofAnnounce
 use Rattle.sail_withdraw.specs.declared.answers.Withdraw.the-variants as ofWithdraw
 use Rattle.tree.specs.Node.{sound}
@@ -58,14 +65,17 @@ use Rattle.tree.specs.Parts.{picked, gather}
 use Rattle.tree.specs.Image.{kids, level, upTo, onPath}
 use Rattle.tree.specs.Walk as walk
 use Rattle.tree.specs.Walk.{walkFrom, treeSaid, saysTreeFound}
+use Rattle.tree.specs.Contract.{MeetsTreeLookup}
 use Rattle.tree.specs.declared.TreeFound.the-variants as treeFound
 use Rattle.tree_build.specs.Built as building
 use Rattle.tree_build.specs.Built.{saysBuilt, madeOf, built}
+use Rattle.tree_build.specs.Contract.{MeetsBuild}
 use Rattle.tree_build.specs.declared.Built.the-variants as ofBuild
 use Rattle.tree_build.proofs.Serves.{built-serves}
-use Rattle.demands.specs.Meets.{MeetsCheckInput, MeetsRouteAt, MeetsRun, MeetsRunCheck, MeetsTally, MeetsLookup, MeetsReport, MeetsMake, MeetsLoad, MeetsAnnounce, MeetsWithdraw, MeetsTreeLookup, MeetsBuild}
-use Rattle.demands.proofs.Replies.{reply, stood, run-says, run-stood}
-use Rattle.demands.proofs.Wants.{ByNeed, ForChunks}
+use Rattle.demands.specs.Replies.{reply, stood}
+use Rattle.demands.proofs.Replies.{run-says, run-stood}
+use Rattle.sail_theory.specs.Wants.{ByNeed, ForChunks}
+use Rattle.demands.specs.Served.{uncounted, ReadBack}
 use Rattle.demands.proofs.Demand2 as demand2
 use Rattle.demands.proofs.Demand3 as demand3
 use Rattle.examples.specs.Lines.{ip, Line, _gives_, Hold}
@@ -160,12 +170,12 @@ pub same-routes : routesIn listA ≡ standing (t loadedA) (l loadedA)
 unfolding starred answer
 same-routes = sym (run-stood table arrays sized loadedA ∙ stood-A ∙ ap (λ (s : Said). cond (accepts s) (routesIn listA) []) (line 0))
 
-pub same-hops : (a : ℕ) → a < 2 ^ 32 → demand2.uncounted (lookupSaid (t loadedA) (l loadedA) a)
-    ≡ demand2.uncounted (treeSaid (built listA (replicate 21 0) (replicate 5 0) .words) (built listA (replicate 21 0) (replicate 5 0) .hops) a)
+pub same-hops : (a : ℕ) → a < 2 ^ 32 → uncounted (lookupSaid (t loadedA) (l loadedA) a)
+    ≡ uncounted (treeSaid (built listA (replicate 21 0) (replicate 5 0) .words) (built listA (replicate 21 0) (replicate 5 0) .hops) a)
 same-hops = demand2.table-as-image (t loadedA) (l loadedA) soundA listA (replicate 21 0) (replicate 5 0) (7 ∷ 5 ∷ []) builtA same-routes
 
 -- its five routes are read back
-pub readA : demand2.ReadBack listA (routesOf listA 5)
+pub readA : ReadBack listA (routesOf listA 5)
 readA = demand2.read-back-input listA 5 goodA
 
 -- Demand 3: make accepts the arrays,
@@ -173,11 +183,11 @@ pub makes : accepts (made table arrays .said) ≡ true
 makes = ap (λ (o : Out). accepts (o .said)) (make-is table arrays sized)
 
 -- what stands after each run is a list as `run-only` speaks of,
-pub stands-in-order : (cs : List Call) → Good (demand3.standingAfter table arrays sized cs) × ((k : ℕ) → routeAt k (demand3.standingAfter table arrays sized cs) ≡ worked table arrays cs k)
+pub stands-in-order : (cs : List Call) → Good (standingAfter table arrays cs) × ((k : ℕ) → routeAt k (standingAfter table arrays cs) ≡ worked table arrays cs k)
 stands-in-order cs = (demand3.run-in-order table arrays sized cs, demand3.run-standing table arrays sized cs)
 
 -- after each run there is a fresh load to compare with, into the arrays themselves,
-pub freshly : (cs : List Call) → anew.AsFresh (t cs) (l cs) (loaded table arrays (written (demand3.standingAfter table arrays sized cs) (length (demand3.standingAfter table arrays sized cs))))
+pub freshly : (cs : List Call) → AsFresh (t cs) (l cs) (loaded table arrays (written (standingAfter table arrays cs) (length (standingAfter table arrays cs))))
 freshly cs = demand3.run-as-fresh table arrays sized cs table arrays refl (size-refl arrays) _ (demand3.run-input table arrays sized cs)
 
 -- a change that is refused for want of chunks, and so is well-formed, and wants a chunk,
@@ -185,18 +195,18 @@ pub wantedA : ForChunks (after table arrays other .said)
 unfolding starred answer
 wantedA = rw (line 34) (omega arith, omega arith)
 
-pub formed-announce : Formed (announce (route (ip 10 2 2 0) 24 45 0)) (demand3.standingAfter table arrays sized entered) (roomOf arrays)
+pub formed-announce : Formed (announce (route (ip 10 2 2 0) 24 45 0)) (standingAfter table arrays entered) (roomOf arrays)
 formed-announce = demand3.want-formed table arrays sized entered (announce (route (ip 10 2 2 0) 24 45 0)) wantedA
 
-pub needed : ByNeed (termsOf table arrays) (would (announce (route (ip 10 2 2 0) 24 45 0)) (demand3.standingAfter table arrays sized entered)) (after table arrays other .said)
+pub needed : ByNeed (termsOf table arrays) (would (announce (route (ip 10 2 2 0) 24 45 0)) (standingAfter table arrays entered)) (after table arrays other .said)
 needed = demand3.want-of-chunks table arrays sized entered (announce (route (ip 10 2 2 0) 24 45 0)) formed-announce
 
 -- a withdrawal and a load that are well-formed,
-pub formed-withdraw : Formed (withdraw 0 0) (demand3.standingAfter table arrays sized loadedA) (roomOf arrays)
+pub formed-withdraw : Formed (withdraw 0 0) (standingAfter table arrays loadedA) (roomOf arrays)
 unfolding listA properPrefix cut any routesOf tabulate recordAt
 formed-withdraw = (prefix-true 0 0 refl, rw (← same-routes))
 
-pub formed-load : Formed (load listA) (demand3.standingAfter table arrays sized []) (roomOf arrays)
+pub formed-load : Formed (load listA) (standingAfter table arrays []) (roomOf arrays)
 unfolding arrays
 formed-load = (5, goodA, omega arith)
 
@@ -234,11 +244,11 @@ route-refused k = refl
 unfoldable pub inMemory : List ℕ → RefT (List ℕ)
 inMemory bytes = record { ptr = (3, 4096); name = 0; now = bytes }
 
-pub run-part : MeetsRun (inMemory listA) (ip 10 1 0 0) 16 (record { ptr = (3, 4112); name = 1; now = drop 16 listA })
+pub run-part : IsRun (inMemory listA) (record { ptr = (3, 4112); name = 1; now = drop 16 listA }) (ip 10 1 0 0) 16
 unfolding inMemory runOf runAt runSaid inputSaid listA recordAt placeOf firstOf firstFrom faultAt routeFault inOrder properPrefix hopFine cut
 run-part = record { holds = refl; stands = refl }
 
-pub run-refused : MeetsRun (inMemory (1 ∷ [])) (ip 10 1 0 0) 16 (record { ptr = (3, 4096); name = 1; now = [] })
+pub run-refused : IsRun (inMemory (1 ∷ [])) (record { ptr = (3, 4096); name = 1; now = [] }) (ip 10 1 0 0) 16
 unfolding inMemory runOf runAt runSaid inputSaid
 run-refused = record { holds = refl; stands = refl }
 
@@ -256,7 +266,7 @@ countsA =
     ∷ 0
     ∷ []
 
-pub tally-A : MeetsTally listA (record { answer = ofInput.Good 5; counts = countsA })
+pub tally-A : IsTally listA (record { answer = ofInput.Good 5; counts = countsA })
 unfolding tallyOf lengthsOf listA inputSaid firstOf firstFrom faultAt routeFault inOrder properPrefix hopFine recordAt cut tabulate count
 tally-A = record { answered = checked-A; counted = refl }
 
@@ -334,6 +344,6 @@ pub tree-broken : (a : ℕ) → MeetsTreeLookup [] [] a treeFound.Broken
 unfolding saysTreeFound
 tree-broken a = sym (refused-tree a)
 
-pub built-A : MeetsBuild listA (replicate 21 0) (replicate 5 0) (record { answer = ofBuild.Made 7 5; words = image .words; hops = image .hops })
+pub built-A : MeetsBuild listA (replicate 21 0) (replicate 5 0) (ofBuild.Made 7 5) (image .words) (image .hops)
 unfolding image saysBuilt
 built-A i = record { said = sym builtA i; words = built listA (replicate 21 0) (replicate 5 0) .words; hops = built listA (replicate 21 0) (replicate 5 0) .hops }

@@ -11,11 +11,14 @@ use Rattle.standing.specs.Cells.{need}
 use Rattle.routes.specs.Said.{Said, accepted, refused, refusedAt, accepts}
 use Rattle.routes.specs.declared.Route.{Route}
 use Rattle.routes.proofs.Rows.{length-routes}
-use Rattle.routes.proofs.Meaning.{Checked, records-right}
+use Rattle.routes.specs.Cases.{Checked}
+use Rattle.routes.proofs.Meaning.{records-right}
 use Rattle.sail.specs.Geometry.{smallGeo}
 use Rattle.sail.specs.Sizes.{Sized}
 use Rattle.sail_theory.specs.Calls.{inputRoutes, loadSaid, loaded}
-use Rattle.sail_theory.proofs.Judged.{Sizing, Readable, Load, load-judged}
+use Rattle.sail.specs.Cases.{Sizing}
+use Rattle.sail_theory.specs.Cases.{Readable, Load}
+use Rattle.sail_theory.proofs.Judged.{load-judged}
 use Rattle.sail_theory.proofs.Loads.{accepted-loadable, load-said, load-holds}
 use Rattle.text.specs.Digits.{digitsIn, digitsOf}
 use Rattle.text.specs.Text.{ascii, labelled, headLine, routeLines, tableText, saidText}

@@ -12,7 +12,7 @@ use Rattle.sail.specs.Lent.{Lent}
 use Rattle.sail.specs.Sound.{Sound, standing}
 use Rattle.sail.specs.declared.table.Table.{Table}
 use Rattle.sail_theory.specs.Calls.{Out, out, loaded, reported}
-use Rattle.sail_theory.proofs.Judged.{Report}
+use Rattle.sail_theory.specs.Cases.{Report}
 use Rattle.sail_theory.proofs.Only.{report-only}
 use Rattle.sail_theory.proofs.Loads.{load-holds}
 use Rattle.sail_load.specs.Answers.{saysLoaded}

@@ -5,7 +5,7 @@ use Prim.Native.Nat.{ℕ, _/_, _%_, _≤_, _<_}
 use lib.ListN.{length}
 use Rattle.standing.specs.Cells.{need}
 use Rattle.routes.specs.Said.{refusedAt}
-use Rattle.routes.proofs.Meaning.{RightRecord, Checked}
+use Rattle.routes.specs.Cases.{RightRecord, Checked}
 use Rattle.sail_theory.specs.Calls.{inputRoutes}
 use Rattle.text.specs.Text.{ascii, labelled, routeLines}
 

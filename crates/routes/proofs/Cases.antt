@@ -10,9 +10,10 @@ use lib.ListN.{length}
 use Rattle.bits.proofs.Tests.{below?}
 use Rattle.routes.specs.Record.{Records}
 use Rattle.routes.specs.Input.{inputSaid}
+use Rattle.routes.specs.Cases.{WrongRoute, WrongRecord, RightRecord, Checked, BadInput, Passes}
 use Rattle.routes.specs.Said.{Said, accepted, refused, refusedAt, andThen, accepts}
 use Rattle.routes.specs.declared.Route.{Route}
-use Rattle.routes.proofs.Meaning.{WrongRoute, wrong-fine, wrong-fault, WrongRecord, RightRecord, records-right, Checked, input-checked, input-good}
+use Rattle.routes.proofs.Meaning.{wrong-fine, wrong-fault, records-right, input-checked, input-good}
 
 -- what is wrong with a route is one thing
 one-fault : {r : Route} {f g : ℕ} → WrongRoute r f → WrongRoute r g → f ≡ g
@@ -66,16 +67,7 @@ one-check (Checked.good n e r) (Checked.good k d v) = let q : n ≡ k = omega ar
 pub check-only : (s : List ℕ) (x : Said) → Checked s x → inputSaid s ≡ x
 check-only s x c = one-check (input-checked s) c
 
--- An input that is refused: what its check says, which accepts nothing.
-pub record BadInput (s : List ℕ) (x : Said) : Type 0 where
-  pub checked : Checked s x
-  pub not-accepted : accepts x ≡ false
-
--- and one that passes, with n records
-abbrev pub Passes : List ℕ → ℕ → Type 0
-Passes s n = Checked s (accepted (n ∷ []))
-
--- so it has n records
+-- an input that passes with n records has them
 pub good-whole : (s : List ℕ) (n : ℕ) → Passes s n → (length s ≡ n * 8) × Records s n
 good-whole s n g = input-good s n (check-only s _ g)
 

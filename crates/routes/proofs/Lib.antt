@@ -7,3 +7,4 @@ pub mod Inputs
 pub mod Puts
 pub mod Rows
 pub mod Inverse
+pub mod OneAnswer

@@ -16,6 +16,7 @@ use Rattle.bits.proofs.Tests.{decided, below?, both, and-split, untrue}
 use Rattle.routes.specs.Route.{key, Prefix, Fine}
 use Rattle.routes.specs.Record.{recordAt, Records}
 use Rattle.routes.specs.Said.{Said, accepted, refused, refusedAt}
+use Rattle.routes.specs.Cases.{WrongRoute, WrongRecord, RightRecord, Checked}
 use Rattle.routes.specs.Input.{properPrefix, hopFine, routeFault, inOrder, faultAt, isBad, firstBad, inputSaid}
 use Rattle.routes.specs.declared.Route.{Route}
 
@@ -42,12 +43,6 @@ true-hop h l u = both (le-leb 1 h l) (le-leb h 32767 u)
 false-prefix : (a l : ℕ) → properPrefix a l ≡ false → Prefix a l → ⊥
 false-prefix a l e p = true≢false (sym (true-prefix a l p) ∙ e)
 
--- what is wrong with a route by itself
-pub data WrongRoute (r : Route) : ℕ → Type 0 where
-  prefix : (Prefix (r .addr) (r .len) → ⊥) → WrongRoute r 3
-  hop : Prefix (r .addr) (r .len) → (1 ≤ r .hop → r .hop ≤ 32767 → ⊥) → WrongRoute r 4
-  mark : Prefix (r .addr) (r .len) → 1 ≤ r .hop → r .hop ≤ 32767 → 1 < r .mark → WrongRoute r 10
-
 -- a route has no fault and is fine, or has the first fault in order
 pub data RouteChecked (r : Route) (f : ℕ) : Type 0 where
   fine : f ≡ 0 → Fine r → RouteChecked r f
@@ -59,11 +54,11 @@ route-checked r = go (decided (properPrefix (r .addr) (r .len))) (decided (hopFi
   where
     go : (properPrefix (r .addr) (r .len) ≡ true) ⊎ (properPrefix (r .addr) (r .len) ≡ false) → (hopFine (r .hop) ≡ true) ⊎ (hopFine (r .hop) ≡ false) → (1 < r .mark) ⊎ (r .mark ≤ 1)
         → RouteChecked r (cond (not (properPrefix (r .addr) (r .len))) 3 (cond (not (hopFine (r .hop))) 4 (cond (ltb 1 (r .mark)) 10 0)))
-    go (inr p) h s = rw p (wrong (omega arith) (prefix (false-prefix (r .addr) (r .len) p)))
-    go (inl p) (inr h) s = rw (p, h) (wrong (omega arith) (hop (prefix-true (r .addr) (r .len) p) (λ l u. true≢false (sym (true-hop (r .hop) l u) ∙ h))))
+    go (inr p) h s = rw p (wrong (omega arith) (WrongRoute.prefix (false-prefix (r .addr) (r .len) p)))
+    go (inl p) (inr h) s = rw (p, h) (wrong (omega arith) (WrongRoute.hop (prefix-true (r .addr) (r .len) p) (λ l u. true≢false (sym (true-hop (r .hop) l u) ∙ h))))
     go (inl p) (inl h) (inl s) =
         let b = hop-true (r .hop) h in
-        rw (p, h, lt-ltb 1 (r .mark) s) (wrong (omega arith) (mark (prefix-true (r .addr) (r .len) p) (b .0) (b .1) s))
+        rw (p, h, lt-ltb 1 (r .mark) s) (wrong (omega arith) (WrongRoute.mark (prefix-true (r .addr) (r .len) p) (b .0) (b .1) s))
     go (inl p) (inl h) (inr s) =
         let b = hop-true (r .hop) h in
         rw (p, h, le-ltb 1 (r .mark) s) (fine refl (record { prefix = prefix-true (r .addr) (r .len) p; hop-one = b .0; hop-ok = b .1; mark-ok = s }))
@@ -74,25 +69,15 @@ fine-fault r f = rw (true-prefix (r .addr) (r .len) (f .prefix), true-hop (r .ho
 
 -- what is wrong with a route is one thing, and that is its fault
 pub wrong-fine : {r : Route} {f : ℕ} → WrongRoute r f → Fine r → ⊥
-wrong-fine (prefix h) g = h (g .prefix)
-wrong-fine (hop p h) g = h (g .hop-one) (g .hop-ok)
-wrong-fine (mark p a b h) g = omega (arith, g .mark-ok)
+wrong-fine (WrongRoute.prefix h) g = h (g .prefix)
+wrong-fine (WrongRoute.hop p h) g = h (g .hop-one) (g .hop-ok)
+wrong-fine (WrongRoute.mark p a b h) g = omega (arith, g .mark-ok)
 
 pub wrong-fault : (r : Route) (f : ℕ) → WrongRoute r f → routeFault r ≡ f
 unfolding routeFault
-wrong-fault r f (prefix h) = rw (untrue (properPrefix (r .addr) (r .len)) (λ e. h (prefix-true (r .addr) (r .len) e)))
-wrong-fault r f (hop p h) = rw (true-prefix (r .addr) (r .len) p, untrue (hopFine (r .hop)) (λ e. let b = hop-true (r .hop) e in h (b .0) (b .1)))
-wrong-fault r f (mark p a b h) = rw (true-prefix (r .addr) (r .len) p, true-hop (r .hop) a b, lt-ltb 1 (r .mark) h)
-
--- what is wrong with record k: by itself, or with its order
-pub data WrongRecord (s : List ℕ) (k : ℕ) : ℕ → Type 0 where
-  itself : {f : ℕ} → WrongRoute (recordAt s k) f → WrongRecord s k f
-  order : Fine (recordAt s k) → 0 < k → key (recordAt s k) ≤ key (recordAt s (k - 1)) → WrongRecord s k 10
-
--- record k is fine and comes after the one before it
-pub record RightRecord (s : List ℕ) (k : ℕ) : Type 0 where
-  pub fine : Fine (recordAt s k)
-  pub after : 0 < k → key (recordAt s (k - 1)) < key (recordAt s k)
+wrong-fault r f (WrongRoute.prefix h) = rw (untrue (properPrefix (r .addr) (r .len)) (λ e. h (prefix-true (r .addr) (r .len) e)))
+wrong-fault r f (WrongRoute.hop p h) = rw (true-prefix (r .addr) (r .len) p, untrue (hopFine (r .hop)) (λ e. let b = hop-true (r .hop) e in h (b .0) (b .1)))
+wrong-fault r f (WrongRoute.mark p a b h) = rw (true-prefix (r .addr) (r .len) p, true-hop (r .hop) a b, lt-ltb 1 (r .mark) h)
 
 pub data RecordChecked (s : List ℕ) (k f : ℕ) : Type 0 where
   right : f ≡ 0 → RightRecord s k → RecordChecked s k f
@@ -118,11 +103,11 @@ unfolding faultAt
 record-checked s k = go (route-checked (recordAt s k)) (decided (inOrder s k))
   where
     go : {f : ℕ} → RouteChecked (recordAt s k) f → (inOrder s k ≡ true) ⊎ (inOrder s k ≡ false) → RecordChecked s k (cond (eqb f 0) (cond (inOrder s k) 0 10) f)
-    go {f} (RouteChecked.wrong p w) o = rw (ne-eqb f 0 (λ z. omega arith)) (RecordChecked.wrong p (itself w))
+    go {f} (RouteChecked.wrong p w) o = rw (ne-eqb f 0 (λ z. omega arith)) (RecordChecked.wrong p (WrongRecord.itself w))
     go (RouteChecked.fine z g) (inl o) = rw (eq-eqb _ 0 z, o) (right refl (record { fine = g; after = order-at s k o }))
     go (RouteChecked.fine z g) (inr o) =
         let n = not-order s k o in
-        rw (eq-eqb _ 0 z, o) (RecordChecked.wrong (omega arith) (order g (n .0) (n .1)))
+        rw (eq-eqb _ 0 z, o) (RecordChecked.wrong (omega arith) (WrongRecord.order g (n .0) (n .1)))
 
 right-fault : (s : List ℕ) (k : ℕ) → RightRecord s k → faultAt s k ≡ 0
 unfolding faultAt
@@ -138,13 +123,6 @@ fault-right s k e = go (record-checked s k)
     go : RecordChecked s k (faultAt s k) → RightRecord s k
     go (right z r) = r
     go (RecordChecked.wrong p w) = absurd (omega arith)
-
--- the answer of the check, in order: the length of the input; the first record at which something is wrong; too many records; good
-pub data Checked (s : List ℕ) : Said → Type 0 where
-  ragged : length s % 8 ≢ 0 → Checked s (refusedAt 10 (length s / 8))
-  stopped : (k f : ℕ) → length s % 8 ≡ 0 → k < length s / 8 → ((j : ℕ) → j < k → RightRecord s j) → WrongRecord s k f → 0 < f → Checked s (refusedAt f k)
-  many : length s % 8 ≡ 0 → ((j : ℕ) → j < length s / 8 → RightRecord s j) → 4096 < length s / 8 → Checked s (refused 6)
-  good : (n : ℕ) → length s ≡ n * 8 → Records s n → Checked s (accepted (n ∷ []))
 
 module _ (s : List ℕ) (n : ℕ) (fine : (k : ℕ) → k < n → RightRecord s k) where
   rising : (i j : ℕ) → i < j → j < n → key (recordAt s i) < key (recordAt s j)
@@ -181,7 +159,7 @@ input-checked s = go (decided (eqb (length s % 8) 0)) (decided (ltb k n)) (decid
 
     go : (eqb (length s % 8) 0 ≡ true) ⊎ (eqb (length s % 8) 0 ≡ false) → (ltb k n ≡ true) ⊎ (ltb k n ≡ false) → (ltb 4096 n ≡ true) ⊎ (ltb 4096 n ≡ false)
         → Checked s (cond (not (eqb (length s % 8) 0)) (refusedAt 10 n) (cond (ltb k n) (refusedAt (faultAt s k) k) (cond (ltb 4096 n) (refused 6) (accepted (n ∷ [])))))
-    go (inr w) b m = rw w (ragged (eqb-false (length s % 8) 0 w))
+    go (inr w) b m = rw w (Checked.ragged (eqb-false (length s % 8) 0 w))
     go (inl w) (inl b) m = rw (w, b) (at (record-checked s k))
       where
         l : k < n
@@ -189,27 +167,27 @@ input-checked s = go (decided (eqb (length s % 8) 0)) (decided (ltb k n)) (decid
 
         at : RecordChecked s k (faultAt s k) → Checked s (refusedAt (faultAt s k) k)
         at (right z r) = absurd (is-bad s k (firstOf-at (isBad s) n l) z)
-        at (RecordChecked.wrong p x) = stopped k (faultAt s k) (eqb-true (length s % 8) 0 w) l before x p
+        at (RecordChecked.wrong p x) = Checked.stopped k (faultAt s k) (eqb-true (length s % 8) 0 w) l before x p
     go (inl w) (inr b) m = rw (w, b) (at m)
       where
         all : (j : ℕ) → j < n → RightRecord s j
         all j l = before j (omega (arith, ltb-false k n b))
 
         at : (ltb 4096 n ≡ true) ⊎ (ltb 4096 n ≡ false) → Checked s (cond (ltb 4096 n) (refused 6) (accepted (n ∷ [])))
-        at (inl e) = rw e (many (eqb-true (length s % 8) 0 w) all (ltb-true 4096 n e))
+        at (inl e) = rw e (Checked.many (eqb-true (length s % 8) 0 w) all (ltb-true 4096 n e))
         at (inr e) =
             let z = eqb-true (length s % 8) 0 w in
-            rw e (good n (omega arith) (right-records s n all (omega arith) (ltb-false 4096 n e)))
+            rw e (Checked.good n (omega arith) (right-records s n all (omega arith) (ltb-false 4096 n e)))
 
 -- told good exactly when it is
 pub input-good : (s : List ℕ) (n : ℕ) → inputSaid s ≡ accepted (n ∷ []) → (length s ≡ n * 8) × Records s n
 input-good s n e = go (subst (Checked s) e (input-checked s)) refl
   where
     go : {x : Said} → Checked s x → x ≡ accepted (n ∷ []) → (length s ≡ n * 8) × Records s n
-    go (ragged w) q = absurd (let z : _≡_ {A = ℕ} 0 1 = cc in omega arith)
-    go (stopped k f w l b x p) q = absurd (let z : _≡_ {A = ℕ} 0 1 = cc in omega arith)
-    go (many w a m) q = absurd (let z : _≡_ {A = ℕ} 0 1 = cc in omega arith)
-    go (good m w r) q = let z : m ≡ n = cc in (rw z at w, rw z at r)
+    go (Checked.ragged w) q = absurd (let z : _≡_ {A = ℕ} 0 1 = cc in omega arith)
+    go (Checked.stopped k f w l b x p) q = absurd (let z : _≡_ {A = ℕ} 0 1 = cc in omega arith)
+    go (Checked.many w a m) q = absurd (let z : _≡_ {A = ℕ} 0 1 = cc in omega arith)
+    go (Checked.good m w r) q = let z : m ≡ n = cc in (rw z at w, rw z at r)
 
 pub good-input : (s : List ℕ) (n : ℕ) → length s ≡ n * 8 → Records s n → inputSaid s ≡ accepted (n ∷ [])
 unfolding inputSaid

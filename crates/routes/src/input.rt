@@ -4,8 +4,8 @@ use crate::record;
 ghost use mathlib.Core.Path.{_≡_};
 ghost use Prim.Native.Nat.{_+_, _*_, _≤_, _<_};
 ghost use lib.ListN.{length};
-ghost use Rattle.routes.specs.Input.{properPrefix, hopFine, routeFault, faultAt, inputSaid};
-ghost use Rattle.routes.specs.Answers.{saysInput, routeSaid, saysGot};
+ghost use Rattle.routes.specs.Input.{properPrefix, hopFine, routeFault, faultAt};
+ghost use Rattle.routes.specs.Contract.{MeetsCheckInput, MeetsRouteAt};
 
 // Whether a prefix has at most 32 bits, and no bit set after them.
 pub fn prefix_ok(addr: u32, len: u8) -> bool
@@ -70,7 +70,7 @@ pub enum Input {
 }
 
 pub fn check_input(bytes: &[u8]) -> Input
-    ensures { λ r. ⌜ saysInput r ≡ inputSaid (now (bytes .entry)) ⌝ }
+    ensures { λ r. ⌜ MeetsCheckInput (now (bytes .entry)) r ⌝ }
 {
     let n = bytes.len() / 8;
     if bytes.len() % 8 != 0 {
@@ -99,7 +99,7 @@ pub enum Got {
 }
 
 pub fn route_at(bytes: &[u8], index: usize) -> Got
-    ensures { λ r. ⌜ saysGot r ≡ routeSaid (now (bytes .entry)) index ⌝ }
+    ensures { λ r. ⌜ MeetsRouteAt (now (bytes .entry)) index r ⌝ }
 {
     match check_input(bytes) {
         Input::Good(n) => {

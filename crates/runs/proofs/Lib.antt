@@ -1,3 +1,4 @@
 -- The laws of runs and tallies, and what joins the code to them.
 pub mod Runs
 pub mod Tallies
+pub mod OneAnswer

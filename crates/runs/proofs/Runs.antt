@@ -19,7 +19,8 @@ use Rattle.routes.specs.Route.{key, keyOf, Prefix}
 use Rattle.routes.specs.Record.{recordAt, Records}
 use Rattle.routes.specs.Said.{Said, accepted, refused, refusedAt, andThen, accepts}
 use Rattle.routes.specs.Input.{properPrefix, inputSaid}
-use Rattle.routes.proofs.Meaning.{prefix-true, true-prefix, input-good, good-input, Checked, ragged, stopped, many, good, input-checked}
+use Rattle.routes.specs.Cases.{Checked, ragged, stopped, many, good}
+use Rattle.routes.proofs.Meaning.{prefix-true, true-prefix, input-good, good-input, input-checked}
 use Rattle.lists.specs.Place.{placeOf}
 use Rattle.runs.specs.Run.{part, pastKey, runStart, runEnd, runCount, runSaid, saysRunCheck, runOf, runAt, IsRun}
 use Rattle.runs.specs.declared.run.RunCheck.{RunCheck}
@@ -248,7 +249,3 @@ read-run check.NoPrefix = refl
 -- two answers that are told the same are the same
 pub run-check-injective : (x y : RunCheck) → saysRunCheck x ≡ saysRunCheck y → x ≡ y
 run-check-injective x y e = sym (read-run x) ∙ ap readRun e ∙ read-run y
-
--- two runs of a list hold the same and stand at the same place
-pub run-one : (list r t : RefT (List ℕ)) (a l : ℕ) → IsRun list r a l → IsRun list t a l → (now r ≡ now t) × (ptr r ≡ ptr t)
-run-one list r t a l x y = (x .holds ∙ sym (y .holds), x .stands ∙ sym (y .stands))

@@ -24,9 +24,8 @@ use Rattle.routes.specs.declared.Route.{Route}
 use Rattle.routes.specs.declared.input.Input.{Input}
 use Rattle.routes.specs.declared.input.Input.the-variants as input
 use Rattle.routes.proofs.Meaning.{input-good}
-use Rattle.routes.proofs.Inputs.{told-good, input-injective}
+use Rattle.routes.proofs.Inputs.{told-good}
 use Rattle.runs.specs.Tally.{hasLength, lengthsOf, tallyOf, IsTally, sumBelow}
-use Rattle.runs.specs.declared.tally.Tallied.{Tallied}
 
 count-le : (f : ℕ → Bool) (n : ℕ) → count f n ≤ n
 unfolding count
@@ -91,13 +90,6 @@ module _ (s : List ℕ) where
 
   pub no-tally : (i : Input) → saysInput i ≡ inputSaid s → accepts (saysInput i) ≡ false → IsTally s (record { answer = i; counts = replicate 33 0 })
   no-tally i e q = record { answered = e; counted = sym (tally-refused (ap accepts (sym e) ∙ q)) }
-
-  -- one answer: whatever meets the statement is the same
-  pub tally-one : (t u : Tallied) → IsTally s t → IsTally s u → t ≡ u
-  tally-one t u x y =
-      let a = input-injective (t .answer) (u .answer) (x .answered ∙ sym (y .answered)) in
-      let c = x .counted ∙ sym (y .counted) in
-      λ i. record { answer = a i; counts = c i }
 
 -- sums
 sum-ext : (f g : ℕ → ℕ) (n : ℕ) → ((i : ℕ) → i < n → f i ≡ g i) → sumBelow f n ≡ sumBelow g n

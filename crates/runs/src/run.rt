@@ -5,7 +5,8 @@ use routes::input::Input;
 use routes::record;
 ghost use mathlib.Core.Path.{_≡_};
 ghost use Prim.Native.Nat.{_≤_};
-ghost use Rattle.runs.specs.Run.{pastKey, runSaid, saysRunCheck, IsRun};
+ghost use Rattle.runs.specs.Run.{pastKey, IsRun};
+ghost use Rattle.runs.specs.Contract.{MeetsRunCheck};
 
 // The key of the first address after a prefix. Every record inside the prefix is before it, and every later one is not.
 fn past_key(addr: u32, len: u8) -> u64
@@ -25,7 +26,7 @@ pub enum RunCheck {
 }
 
 pub fn run_check(list: &[u8], addr: u32, len: u8) -> RunCheck
-    ensures { λ r. ⌜ saysRunCheck r ≡ runSaid (now (list .entry)) addr len ⌝ }
+    ensures { λ r. ⌜ MeetsRunCheck (now (list .entry)) addr len r ⌝ }
 {
     match input::check_input(list) {
         Input::Good(n) => {

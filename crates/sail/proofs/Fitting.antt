@@ -12,7 +12,7 @@ use Rattle.bits.specs.Tab.{Tells}
 use Rattle.bits.proofs.Tests.{both, and-split, untrue, decided}
 use Rattle.sail.specs.Geometry.{bits2, bits3, validGeo, Valid}
 use Rattle.sail.specs.Lent.{Lent, cellsOf}
-use Rattle.sail.specs.Sizes.{sizesFit, lengthsFit, sizesFault, Sized, Celled, Checked}
+use Rattle.sail.specs.Sizes.{sizesFit, lengthsFit, sizesFault, Sized, Celled, SizesTold}
 use Rattle.sail.specs.declared.geometry.Geometry.{Geometry}
 use Rattle.sail.proofs.Geos.{valid-is}
 
@@ -126,13 +126,13 @@ module _ (g : Geometry) (l : Lent) where
       geometry (inl e) (inr f) = let v = valid-is g .0 e in let n : Sized g l → ⊥ = λ s. true≢false (sym (fit s) ∙ f) in rw (size-is v n) (size v n)
 
   -- the three answers of the check
-  pub checked-0 : (b : Bool) → Valid g → b ≡ lengthsFit g l → b ≡ true → Checked 0 g l
+  pub checked-0 : (b : Bool) → Valid g → b ≡ lengthsFit g l → b ≡ true → SizesTold 0 g l
   checked-0 b v e h = let s = fitting v (sym e ∙ h) in record { number = sym (none-is s); facts = λ e. s }
 
-  pub checked-1 : (b : Bool) → Tells b (Valid g) → b ≡ false → Checked 1 g l
+  pub checked-1 : (b : Bool) → Tells b (Valid g) → b ≡ false → SizesTold 1 g l
   checked-1 b t n = record { number = sym (limits-is (λ v. true≢false (sym (t .1 v) ∙ n))); facts = λ e. absurd (omega arith) }
 
-  pub checked-2 : (b : Bool) → Valid g → b ≡ lengthsFit g l → b ≡ false → Checked 2 g l
+  pub checked-2 : (b : Bool) → Valid g → b ≡ lengthsFit g l → b ≡ false → SizesTold 2 g l
   checked-2 b v e n = record { number = sym (size-is v (λ s. true≢false (sym (fit s) ∙ sym e ∙ n))); facts = λ e. absurd (omega arith) }
 
   -- the cells and owners of a table of the right sizes

@@ -5,6 +5,7 @@ pub mod Words
 pub mod Steps
 pub mod ReadCells
 pub mod Answers
+pub mod OneAnswer
 pub mod Places
 pub mod Walks
 pub mod Sounds

@@ -17,7 +17,7 @@ use Rattle.routes.specs.Said.{Said, refused}
 use Rattle.sail.specs.Geometry.{bits2, bits3}
 use Rattle.sail.specs.Lent.{Lent}
 use Rattle.sail.specs.Level.{whole}
-use Rattle.sail.specs.Sizes.{sizesFault, Sized, Checked}
+use Rattle.sail.specs.Sizes.{sizesFault, Sized, SizesTold}
 use Rattle.sail.specs.Pool.{Inside, Chunk}
 use Rattle.sail.specs.Walk.{place, cell2, cell3, leafSaid, stepSaid, oneOf, shut, walkSaid, foundSaid, lookupSaid}
 use Rattle.sail.specs.Word.{Word, saidOf}
@@ -138,7 +138,7 @@ module _ (g : Geometry) (l : Lent) (a : ℕ) (sized : Sized g l) where
             off3 h = word-five _ (step-off 3 shut v3 _ h refl ∙ down2)
 
 -- with the sizes checked first
-module _ (t : Table) (l : Lent) (a r : ℕ) (told : Checked r (t .geometry) l) where
+module _ (t : Table) (l : Lent) (a r : ℕ) (told : SizesTold r (t .geometry) l) where
   pub look-on : (w : ℕ) → r ≡ 0 → Word w (foundSaid (t .geometry) l a) → Word w (lookupSaid t l a)
   unfolding lookupSaid
   look-on w e = word-of w _ _ (rw (eq-eqb (sizesFault (t .geometry) l) 0 (sym (told .number) ∙ e)))

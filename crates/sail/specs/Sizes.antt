@@ -49,6 +49,6 @@ pub record Celled (g : Geometry) (l : Cells) : Type 0 where
   pub cells3 : length (l .third) ≡ length (l .own3) * 2 ^ bits3 g
 
 -- what the check of the sizes answers: the number, and where it is 0, the facts
-pub record Checked (r : ℕ) (g : Geometry) (l : Lent) : Type 0 where
+pub record SizesTold (r : ℕ) (g : Geometry) (l : Lent) : Type 0 where
   pub number : r ≡ sizesFault g l
   pub facts : r ≡ 0 → Sized g l

@@ -5,7 +5,8 @@ ghost use lib.ListN.{length, getD};
 ghost use Rattle.sail.specs.Lent.{lent};
 ghost use Rattle.sail.specs.Sizes.{Sized};
 ghost use Rattle.sail.specs.Pool.{Inside, Chunk};
-ghost use Rattle.sail.specs.Walk.{place, oneOf, leafSaid, foundSaid, lookupSaid, saysFound};
+ghost use Rattle.sail.specs.Walk.{place, oneOf, leafSaid, foundSaid, saysFound};
+ghost use Rattle.sail.specs.Contract.{MeetsLookup};
 ghost use Rattle.sail.specs.Word.{Word, saidOf};
 use crate::geometry::Geometry;
 use crate::table::Table;
@@ -111,7 +112,7 @@ pub fn lookup(
     own3: &[u32],
     addr: u32,
 ) -> Found
-    ensures { λ r. ⌜ saysFound r ≡ lookupSaid t (lent (now (list .entry)) (now (first .entry)) (now (second .entry)) (now (third .entry)) (now (own2 .entry)) (now (own3 .entry))) addr ⌝ }
+    ensures { λ r. ⌜ MeetsLookup t (lent (now (list .entry)) (now (first .entry)) (now (second .entry)) (now (third .entry)) (now (own2 .entry)) (now (own3 .entry))) addr r ⌝ }
 {
     let s = crate::table::sizes(t, list, first, second, third, own2, own3);
     if s == 0 {

@@ -2,7 +2,7 @@
 ghost use mathlib.Core.Path.{_≡_};
 ghost use Rattle.sail.specs.Geometry.{Valid};
 ghost use Rattle.sail.specs.Lent.{lent};
-ghost use Rattle.sail.specs.Sizes.{sizesFit, Checked};
+ghost use Rattle.sail.specs.Sizes.{sizesFit, SizesTold};
 use crate::geometry::Geometry;
 
 // The state: the geometry, and how many routes the list holds.
@@ -55,7 +55,7 @@ pub fn sizes(
     own2: &[u32],
     own3: &[u32],
 ) -> u8
-    ensures { λ r. ⌜ Checked r (t .geometry) (lent (now (list .entry)) (now (first .entry)) (now (second .entry)) (now (third .entry)) (now (own2 .entry)) (now (own3 .entry))) ⌝ }
+    ensures { λ r. ⌜ SizesTold r (t .geometry) (lent (now (list .entry)) (now (first .entry)) (now (second .entry)) (now (third .entry)) (now (own2 .entry)) (now (own3 .entry))) ⌝ }
 {
     let g = t.geometry;
     if g.valid() {

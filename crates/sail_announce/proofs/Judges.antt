@@ -17,17 +17,18 @@ use Rattle.routes.specs.Input.{routeFault}
 use Rattle.routes.specs.Said.{refused}
 use Rattle.standing.specs.Standing.{stands, insert}
 use Rattle.routes.specs.declared.Route.{Route}
-use Rattle.routes.proofs.Meaning.{WrongRoute, RouteChecked, route-checked}
+use Rattle.routes.specs.Cases.{WrongRoute}
+use Rattle.routes.proofs.Meaning.{RouteChecked, route-checked}
 use Rattle.routes.proofs.Rows.{length-routes}
 use Rattle.standing.proofs.Changed.{insert-adds}
 use Rattle.sail.specs.Lent.{Lent}
-use Rattle.sail.specs.Sizes.{Checked}
+use Rattle.sail.specs.Sizes.{SizesTold}
 use Rattle.sail.specs.Level.{chunksOf}
 use Rattle.sail.specs.Sound.{standing, used}
 use Rattle.sail.specs.declared.table.Table.{Table}
 use Rattle.sail_theory.specs.Calls.{announceSaid}
 use Rattle.sail_theory.specs.Facts.{Welcome}
-use Rattle.sail_theory.proofs.Judged.{Proper, Roomy, Announce}
+use Rattle.sail_theory.specs.Cases.{Proper, Roomy, Announce}
 use Rattle.sail_theory.proofs.Only.{announce-only}
 use Rattle.sail_theory.proofs.Accepted.{replaced-welcome}
 use Rattle.sail_theory.proofs.Wants.{Enough, seven as second-chunks, eight as third-chunks}
@@ -109,7 +110,7 @@ module _ (t : Table) (l : Lent) (r : Route) where
           })
 
   -- the steps before
-  module _ (z : ℕ) (check : Checked z (t .geometry) l) where
+  module _ (z : ℕ) (check : SizesTold z (t .geometry) l) where
     pub judge-sizes : (z ≡ 0 → ⊥) → Told z
     unfolding announceSaid
     judge-sizes h = record { off = λ _. or-said _ z _ (check .number) h; on = λ e. absurd (h e) }

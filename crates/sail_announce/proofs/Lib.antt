@@ -2,3 +2,4 @@
 pub mod Judges
 pub mod Adds
 pub mod Injective
+pub mod OneAnswer

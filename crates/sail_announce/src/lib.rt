@@ -6,11 +6,12 @@ ghost use Rattle.bits.specs.Count.{bit};
 ghost use Rattle.lists.specs.Edit.{countWith, saysPut};
 ghost use Rattle.routes.specs.Said.{accepted};
 ghost use Rattle.sail.specs.Lent.{lent};
-ghost use Rattle.sail_theory.specs.Calls.{route, announceSaid, out, adding, told, announced};
+ghost use Rattle.sail_theory.specs.Calls.{announceSaid, out, adding, told};
 ghost use Rattle.sail_theory.specs.Facts.{Welcome};
-ghost use Rattle.sail_theory.proofs.Judged.{Proper};
+ghost use Rattle.sail_theory.specs.Cases.{Proper};
 ghost use Rattle.sail_calls.specs.Judge.{Judged};
 ghost use Rattle.sail_announce.specs.Answers.{saysAnnounce};
+ghost use Rattle.sail_announce.specs.Contract.{MeetsAnnounce};
 
 pub mod answers;
 
@@ -172,7 +173,7 @@ pub fn announce(
     hop: u16,
     mark: u8,
 ) -> Announced
-    ensures { λ r. ⌜ out (saysAnnounce (r .answer)) (r .table) (lent (now (list .exit)) (now (first .exit)) (now (second .exit)) (now (third .exit)) (now (own2 .exit)) (now (own3 .exit))) ≡ announced t (lent (now (list .entry)) (now (first .entry)) (now (second .entry)) (now (third .entry)) (now (own2 .entry)) (now (own3 .entry))) (route addr len hop mark) ⌝ }
+    ensures { λ r. ⌜ MeetsAnnounce t (lent (now (list .entry)) (now (first .entry)) (now (second .entry)) (now (third .entry)) (now (own2 .entry)) (now (own3 .entry))) addr len hop mark r (lent (now (list .exit)) (now (first .exit)) (now (second .exit)) (now (third .exit)) (now (own2 .exit)) (now (own3 .exit))) ⌝ }
 {
     let a = clear(addr, len);
     let r = Route {

@@ -18,7 +18,7 @@ use Rattle.sail.specs.declared.geometry.Geometry.{Geometry}
 use Rattle.sail.specs.declared.table.Table.{Table}
 use Rattle.sail.proofs.Places.{names-exactly}
 use Rattle.sail_theory.proofs.Mids.{slot-down, short-down}
-use Rattle.sail_theory.proofs.Places.{Served, top-served, below-served}
+use Rattle.sail_theory.proofs.Places.{LiveFor, top-served, below-served}
 use Rattle.sail_theory.proofs.Pools.{shown-node, shows-fits, shows-shown}
 use Rattle.sail_change.specs.Trail.{Told, Serving, Trailed}
 
@@ -36,7 +36,7 @@ serving-of t l s =
     record { valid = z .valid; cells1 = z .cells1; few2 = z .few2; cells2 = z .cells2; few3 = z .few3; shows1 = s .serves .first; shows2 = s .serves .second }
 
 -- the cell at the place that serves an address, in a level whose cells are right
-told : (rs : List Route) (v : Level) (cells : ℕ → ℕ) (own : List ℕ) → length own ≤ 4096 → Shows rs v (chunksOf own) cells → (a : ℕ) → Served v a
+told : (rs : List Route) (v : Level) (cells : ℕ → ℕ) (own : List ℕ) → length own ≤ 4096 → Shows rs v (chunksOf own) cells → (a : ℕ) → LiveFor v a
     → Told rs v own a (cells (v .serving a))
 told rs v cells own few s a p = record {
   leaf = names-exactly rs v (chunksOf own) cells s (omega arith) (v .serving a) (p .inside) (p .used) ∙ ap (λ (i : ℕ). not (long rs (v .bits) i)) (p .stands);
@@ -44,7 +44,7 @@ told rs v cells own few s a p = record {
 }
 
 module _ (g : Geometry) (rs : List Route) (first second own2 own3 : List ℕ) (s : Serving g rs first second own2 own3) (a : ℕ) (small : a < 2 ^ 32) where
-  served1 : Served (level1 g) a
+  served1 : LiveFor (level1 g) a
   served1 = let v = s .valid in top-served (g .p1) a (omega arith) small
 
   pub first-there : (i : ℕ) → i ≡ slot (g .p1) a → i < length first
@@ -79,7 +79,7 @@ module _ (g : Geometry) (rs : List Route) (first second own2 own3 : List ℕ) (s
         is-place : q ≡ level2 g (chunksOf own2) .serving a
         is-place = let n = first-told .node deeper in p ∙ ap (λ (y : ℕ). y * 2 ^ bits2 g + slot (g .p2) a % 2 ^ bits2 g) (omega arith)
 
-        served2 : Served (level2 g (chunksOf own2)) a
+        served2 : LiveFor (level2 g (chunksOf own2)) a
         served2 =
             let v = s .valid in
             below-served rs (level1 g) (chunksOf own2) (shows-fits rs (level1 g) (chunksOf own2) (entry first) (s .shows1)) (g .p2) a (omega arith) (omega arith) served1 deeper

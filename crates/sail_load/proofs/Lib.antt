@@ -2,3 +2,4 @@
 pub mod Lists
 pub mod Renews
 pub mod Loads
+pub mod OneAnswer

@@ -14,7 +14,7 @@ use Rattle.routes.specs.Input.{inputSaid}
 use Rattle.routes.proofs.Rows.{length-routes}
 use Rattle.routes.proofs.Meaning.{input-good}
 use Rattle.sail.specs.Lent.{Lent}
-use Rattle.sail.specs.Sizes.{sizesFault, Checked}
+use Rattle.sail.specs.Sizes.{sizesFault, SizesTold}
 use Rattle.sail.specs.declared.geometry.Geometry.{Geometry}
 use Rattle.sail.specs.declared.table.Table.{Table}
 use Rattle.sail_theory.specs.Render.{roomOf}
@@ -51,7 +51,7 @@ module _ (g : Geometry) (s : List ℕ) (n room most2 most3 : ℕ) where
       weigh-none b = rw (length-routes s n, le-ltb room n h, ← first, le-ltb most2 m a, ← second, le-ltb most3 k b)
 
 -- what each way through the judgement says
-module _ (t : Table) (l : Lent) (input : List ℕ) (z : ℕ) (check : Checked z (t .geometry) l) where
+module _ (t : Table) (l : Lent) (input : List ℕ) (z : ℕ) (check : SizesTold z (t .geometry) l) where
   pub says-sizes : (z ≡ 0 → ⊥) → saysLoaded (Refused z) ≡ loadSaid t l input
   unfolding saysLoaded loadSaid
   says-sizes h = rw (← check .number) (sym (or-refused z _ h))

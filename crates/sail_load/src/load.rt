@@ -3,8 +3,9 @@ ghost use mathlib.Core.Path.{_≡_};
 ghost use Rattle.routes.specs.Record.{routesOf};
 ghost use Rattle.routes.specs.Said.{accepts};
 ghost use Rattle.sail.specs.Lent.{lent};
-ghost use Rattle.sail_theory.specs.Calls.{loadFault, loadSaid, out, loaded};
+ghost use Rattle.sail_theory.specs.Calls.{loadFault, loadSaid};
 ghost use Rattle.sail_load.specs.Answers.{saysLoaded};
+ghost use Rattle.sail_load.specs.Contract.{MeetsLoad};
 ghost use Rattle.sail_load.specs.Weigh.{terms, Weighs};
 use crate::renew::renew;
 use routes::input::Input;
@@ -95,7 +96,7 @@ pub fn load(
     own2: &mut [u32],
     own3: &mut [u32],
 ) -> Changed
-    ensures { λ r. ⌜ out (saysLoaded (r .answer)) (r .table) (lent (now (list .exit)) (now (first .exit)) (now (second .exit)) (now (third .exit)) (now (own2 .exit)) (now (own3 .exit))) ≡ loaded t (lent (now (list .entry)) (now (first .entry)) (now (second .entry)) (now (third .entry)) (now (own2 .entry)) (now (own3 .entry))) (now (input .entry)) ⌝ }
+    ensures { λ r. ⌜ MeetsLoad t (lent (now (list .entry)) (now (first .entry)) (now (second .entry)) (now (third .entry)) (now (own2 .entry)) (now (own3 .entry))) (now (input .entry)) r (lent (now (list .exit)) (now (first .exit)) (now (second .exit)) (now (third .exit)) (now (own2 .exit)) (now (own3 .exit))) ⌝ }
 {
     let answer = judge(t, input, list, first, second, third, own2, own3);
     if accepts(answer) {

@@ -5,7 +5,7 @@ use Prim.Native.Nat.{ℕ, zero, suc}
 use lib.ListN.{length, replicate}
 use Rattle.routes.specs.Said.{Said, accepted, refused}
 use Rattle.sail.specs.Lent.{Lent, lent}
-use Rattle.sail.specs.Sizes.{Checked}
+use Rattle.sail.specs.Sizes.{SizesTold}
 use Rattle.sail.specs.Sound.{freshTable, freshLent}
 use Rattle.sail.specs.declared.table.Table.{Table}
 use Rattle.plan.specs.Paint.{filled}
@@ -30,7 +30,7 @@ blanked l list first second third own2 own3 a b c d e f =
     let z = a ∙ filled-whole (l .list) (length (l .list)) 0 refl in
     λ i. record { list = z i; first = b i; second = c i; third = d i; own2 = e i; own3 = f i }
 
-module _ (t : Table) (l : Lent) (z : ℕ) (check : Checked z (t .geometry) l) where
+module _ (t : Table) (l : Lent) (z : ℕ) (check : SizesTold z (t .geometry) l) where
   pub make-refuses : (z ≡ 0 → ⊥) → out (saysMade (Refused z)) t l ≡ made t l
   unfolding saysMade makeSaid
   make-refuses h = sym (make-off t l (refused z) (rw (← check .number) (or-refused z (accepted []) h)) refl)

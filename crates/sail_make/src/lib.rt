@@ -2,8 +2,7 @@
 ghost use mathlib.Core.Path.{_≡_};
 ghost use Rattle.sail.specs.Lent.{lent};
 ghost use Rattle.sail.specs.Sound.{freshLent};
-ghost use Rattle.sail_theory.specs.Calls.{out, made};
-ghost use Rattle.sail_make.specs.Answers.{saysMade};
+ghost use Rattle.sail_make.specs.Contract.{MeetsMake};
 
 pub mod fill;
 
@@ -54,7 +53,7 @@ pub fn make(
     own2: &mut [u32],
     own3: &mut [u32],
 ) -> Fresh
-    ensures { λ r. ⌜ out (saysMade (r .answer)) (r .table) (lent (now (list .exit)) (now (first .exit)) (now (second .exit)) (now (third .exit)) (now (own2 .exit)) (now (own3 .exit))) ≡ made t (lent (now (list .entry)) (now (first .entry)) (now (second .entry)) (now (third .entry)) (now (own2 .entry)) (now (own3 .entry))) ⌝ }
+    ensures { λ r. ⌜ MeetsMake t (lent (now (list .entry)) (now (first .entry)) (now (second .entry)) (now (third .entry)) (now (own2 .entry)) (now (own3 .entry))) r (lent (now (list .exit)) (now (first .exit)) (now (second .exit)) (now (third .exit)) (now (own2 .exit)) (now (own3 .exit))) ⌝ }
 {
     let z = sizes(t, list, first, second, third, own2, own3);
     if z != 0 {

@@ -3,3 +3,4 @@ pub mod Levels
 pub mod Sounds
 pub mod Tries
 pub mod Reports
+pub mod OneAnswer

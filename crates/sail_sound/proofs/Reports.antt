@@ -13,7 +13,7 @@ use Rattle.standing.specs.Cells.{need}
 use Rattle.routes.specs.Said.{Said, accepted, refused}
 use Rattle.sail.specs.Lent.{Lent}
 use Rattle.sail.specs.Level.{inUse, entry}
-use Rattle.sail.specs.Sizes.{sizesFault, Checked}
+use Rattle.sail.specs.Sizes.{sizesFault, SizesTold}
 use Rattle.sail.specs.Sound.{standing, used}
 use Rattle.sail.specs.declared.table.Table.{Table}
 use Rattle.sail.proofs.Sounds.{chunks-need}
@@ -33,7 +33,7 @@ reported-injective (Refused j) (Standing m c d) e = cc
 reported-injective (Refused j) (Refused k) e = cc
 
 -- the answers of `judged`
-module _ (t : Table) (l : Lent) (r : ℕ) (told : Checked r (t .geometry) l) where
+module _ (t : Table) (l : Lent) (r : ℕ) (told : SizesTold r (t .geometry) l) where
   pub judged-sizes : (r ≡ 0 → ⊥) → Judged r t l
   unfolding tableFault
   judged-sizes n = record { number = rw (← told .number, ne-eqb r 0 n); facts = λ z. absurd (n z) }

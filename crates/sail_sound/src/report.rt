@@ -5,8 +5,8 @@ ghost use Prim.Native.Nat.{_≤_};
 ghost use lib.ListN.{length};
 ghost use Rattle.sail.specs.Lent.{lent};
 ghost use Rattle.sail.specs.Sound.{used};
-ghost use Rattle.sail_theory.specs.Calls.{reported};
-ghost use Rattle.sail_sound.specs.Report.{Judged, saysReported};
+ghost use Rattle.sail_sound.specs.Report.{Judged};
+ghost use Rattle.sail_sound.specs.Contract.{MeetsReport};
 use crate::test::sound;
 use sail::table::Table;
 use sail::table::sizes;
@@ -69,7 +69,7 @@ pub fn report(
     own2: &[u32],
     own3: &[u32],
 ) -> Reported
-    ensures { λ r. ⌜ saysReported r ≡ reported t (lent (now (list .entry)) (now (first .entry)) (now (second .entry)) (now (third .entry)) (now (own2 .entry)) (now (own3 .entry))) ⌝ }
+    ensures { λ r. ⌜ MeetsReport t (lent (now (list .entry)) (now (first .entry)) (now (second .entry)) (now (third .entry)) (now (own2 .entry)) (now (own3 .entry))) r ⌝ }
 {
     let f = judged(t, list, first, second, third, own2, own3);
     if f != 0 {

@@ -26,7 +26,8 @@ use Rattle.sail_theory.specs.Calls.{opened, kept, ownersOf, announceSaid
 use Rattle.sail_theory.specs.Facts.{Holds, Welcome, Farewell}
 use Rattle.sail_theory.proofs.Chunks.{used-le}
 use Rattle.sail_theory.proofs.Needs.{need-same, stands-long}
-use Rattle.sail_theory.proofs.Judged.{Proper, Announce, announce-judged, Withdraw, withdraw-judged, Report}
+use Rattle.sail_theory.specs.Cases.{Proper, Announce, Withdraw, Report}
+use Rattle.sail_theory.proofs.Judged.{announce-judged, withdraw-judged}
 use Rattle.sail_theory.proofs.Only.{announce-only, withdraw-only, report-only}
 use Rattle.sail_theory.proofs.Changes.{welcome-holds, farewell-holds}
 

@@ -23,9 +23,9 @@ use Rattle.sail.proofs.Sounds.{standing-good, sail-serves, chunks-need}
 use Rattle.sail_theory.specs.Render.{roomOf}
 use Rattle.sail_theory.specs.Calls.{inputRoutes, Out, loaded}
 use Rattle.sail_theory.specs.Facts.{SameSize, Holds, Loadable}
-use Rattle.sail_theory.specs.Runs.{Call, after, Carries}
+use Rattle.sail_theory.specs.Runs.{Call, after, Carries, AsFresh}
 use Rattle.sail_theory.proofs.Chunks.{used-le}
-use Rattle.sail_theory.proofs.Judged.{Readable}
+use Rattle.sail_theory.specs.Cases.{Readable}
 use Rattle.sail_theory.proofs.Sizes.{size-sym, size-trans, sized-same}
 use Rattle.sail_theory.proofs.Loads.{load-is, loadable-holds}
 use Rattle.sail_theory.proofs.Runs.{run-is}
@@ -96,13 +96,6 @@ module _ (t : Table) (l : Lent) (s : Sound t l) (u : Table) (v : Lent) (geo : u 
 
 -- Demand 3: after a run from a fresh table of t's geometry over arrays of l's sizes, a load of the standing routes into any (u, v) of that
 -- geometry and these sizes is accepted, has the same list to the byte, looks the same, and uses as many chunks.
-pub record AsFresh (t : Table) (l : Lent) (o : Out) : Type 0 where
-  pub accepted-too : accepts (o .said) ≡ true
-  pub lists : l .list ≡ o .lent .list
-  pub lookups : (a : ℕ) → a < 2 ^ 32 → lookupSaid t l a ≡ lookupSaid (o .table) (o .lent) a
-  pub chunks2 : used (l .own2) ≡ used (o .lent .own2)
-  pub chunks3 : used (l .own3) ≡ used (o .lent .own3)
-
 pub run-as-fresh : (t : Table) (l : Lent) → Sized (t .geometry) l → (cs : List Call) (u : Table) (v : Lent) → u .geometry ≡ t .geometry → SameSize l v
     → (input : List ℕ) → Carries input (standing (after t l cs .table) (after t l cs .lent)) → AsFresh (after t l cs .table) (after t l cs .lent) (loaded u v input)
 run-as-fresh t l z cs u v geo size input c =

@@ -31,7 +31,7 @@ use Rattle.sail_theory.proofs.Rendered.{sound-rendered, render-standing
 use Rattle.sail_theory.proofs.Stores.{length-keep, keep-closed, Losing}
 use Rattle.sail_theory.proofs.Needs.{need-more}
 use Rattle.sail_theory.proofs.Mids.{slot-down, long-down}
-use Rattle.sail_theory.proofs.Places.{Served, top-served, below-served, top-apart, below-apart}
+use Rattle.sail_theory.proofs.Places.{LiveFor, top-served, below-served, top-apart, below-apart}
 use Rattle.sail_theory.proofs.Owners.{fits-kept, below-kept}
 use Rattle.sail_theory.proofs.Grown.{Space, Ready, length-open, open-fits, ready-below}
 use Rattle.sail_theory.proofs.Wants.{Enough, seven, eight}
@@ -141,7 +141,7 @@ module _ (t : Table) (l : Lent) (a len : ℕ) (w : Farewell t l a len) where
   still : (p i : ℕ) → i ≢ slot p a → long left p i ≡ long (standing t l) p i
   still p i h = sym (remove-long a len (standing t l) (w .prefix .len-ok) (standing-good t l (w .sound)) p i (λ _ e. h (sym e)))
 
-  serves1 : Served (level1 (t .geometry)) a
+  serves1 : LiveFor (level1 (t .geometry)) a
   serves1 = let v = w .sound .sized .valid in top-served (t .geometry .p1) a (omega arith) (w .prefix .addr-ok)
 
   pub losing1 : Losing (standing t l) left a (level1 (t .geometry)) (l .own2)

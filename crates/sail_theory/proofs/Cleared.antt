@@ -20,7 +20,7 @@ use Rattle.bits.proofs.Tests.{below?}
 use Rattle.routes.specs.Route.{keyOf, Prefix, Fine}
 use Rattle.routes.specs.Said.{Said, accepted, refused, refusedAt, accepts}
 use Rattle.routes.specs.declared.Route.{Route}
-use Rattle.routes.proofs.Meaning.{WrongRoute}
+use Rattle.routes.specs.Cases.{WrongRoute}
 use Rattle.standing.specs.Standing.{insert, remove}
 use Rattle.sail.specs.Lent.{Lent}
 use Rattle.sail.specs.Level.{chunksOf, level1, level2}
@@ -30,7 +30,9 @@ use Rattle.sail.specs.declared.table.Table.{Table}
 use Rattle.sail_theory.specs.Alters.{Alters}
 use Rattle.sail_theory.specs.Calls.{opened, ownersOf, announceSaid, withdrawSaid, Out, out, lentOf, adding, taking, cutRoute, cleared, telling, told, announced, withdrawn}
 use Rattle.sail_theory.specs.Facts.{Holds, Welcome, Farewell}
-use Rattle.sail_theory.proofs.Judged.{Sizing, Announce, announce-judged, Withdraw, withdraw-judged}
+use Rattle.sail.specs.Cases.{Sizing}
+use Rattle.sail_theory.specs.Cases.{Announce, Withdraw}
+use Rattle.sail_theory.proofs.Judged.{announce-judged, withdraw-judged}
 use Rattle.sail_theory.proofs.Only.{announce-only, withdraw-only}
 use Rattle.sail_theory.proofs.Accepted.{adding-said, adding-is, adding-off, adding-holds, accepted-welcome, taking-said, taking-off, taking-holds, accepted-farewell}
 use Rattle.sail_theory.proofs.Altered.{adding-alters, taking-alters, opened-lowest}

@@ -22,7 +22,8 @@ use Rattle.sail_theory.specs.Render.{pool, Fits, roomOf}
 use Rattle.sail_theory.specs.Calls.{noOwners, makeSaid, Out, lentOf, made}
 use Rattle.sail_theory.specs.Facts.{Holds}
 use Rattle.sail_theory.proofs.Pools.{length-pool, pool-clear, pool-leaf}
-use Rattle.sail_theory.proofs.Judged.{Make, make-judged}
+use Rattle.sail_theory.specs.Cases.{Make}
+use Rattle.sail_theory.proofs.Judged.{make-judged}
 use Rattle.sail_theory.proofs.Only.{make-only}
 use Rattle.sail_theory.proofs.Changes.{render-holds}
 use Rattle.sail_theory.proofs.Accepted.{outcome-said, outcome-refused}

@@ -19,7 +19,7 @@ use Rattle.sail.specs.Level.{Level, chunksOf, below}
 use Rattle.sail_theory.specs.Render.{find, Fits}
 use Rattle.sail_theory.specs.Calls.{grant, openAt, opening}
 use Rattle.sail_theory.proofs.Chunks.{chunk-is, chunk-before}
-use Rattle.sail_theory.proofs.Places.{Served, below-served, Apart, below-apart}
+use Rattle.sail_theory.proofs.Places.{LiveFor, below-served, Apart, below-apart}
 use Rattle.sail_theory.proofs.Owners.{fits-ext, Grew, stayed, came, fits-shift}
 use Rattle.sail_theory.proofs.Stores.{grant-had, grant-new, grant-stays, length-grant, had?, grant-fits, grant-deep, unhung}
 use Rattle.sail_theory.proofs.Needs.{long-own, long-other, long-short}
@@ -58,7 +58,7 @@ pub record Ready (rs : List Route) (r : Route) (v : Level) (own : List ℕ) (c :
   pub good : Good rs
   pub fits : Fits rs v (chunksOf own)
   pub apart : Apart v
-  pub served : ltb (v .bits) (r .len) ≡ true → Served v (r .addr)
+  pub served : ltb (v .bits) (r .len) ≡ true → LiveFor v (r .addr)
   pub space : Space rs r v own c
 
 module _ (rs : List Route) (r : Route) (v : Level) (own : List ℕ) (c : ℕ) (w : Ready rs r v own c) where

@@ -31,3 +31,4 @@ pub mod Passing
 pub mod Counting
 pub mod Wrong
 pub mod Outside
+pub mod OneEnd

@@ -22,7 +22,8 @@ use Rattle.sail_theory.specs.Runs.{announceAll, AllAdded}
 use Rattle.sail_theory.proofs.Ends.{good-front, good-next, good-below, insert-end, none-stands, any-front}
 use Rattle.sail_theory.proofs.Needs.{need-mono}
 use Rattle.sail_theory.proofs.Grown.{Ready, length-open}
-use Rattle.sail_theory.proofs.Judged.{Readable, Load, load-judged}
+use Rattle.sail_theory.specs.Cases.{Readable, Load}
+use Rattle.sail_theory.proofs.Judged.{load-judged}
 use Rattle.sail_theory.proofs.Only.{load-only}
 use Rattle.sail_theory.proofs.Changes.{render-holds, ready1, ready2, welcome-fits2, welcome-fits3}
 use Rattle.sail_theory.proofs.Accepted.{adding-is, outcome-said, outcome-refused}

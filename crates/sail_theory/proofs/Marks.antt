@@ -6,11 +6,11 @@ use Prim.Native.Nat.{ℕ, suc, _+_}
 use Rattle.routes.specs.Route.{plain}
 use Rattle.routes.specs.declared.Route.{Route}
 use Rattle.standing.proofs.Marks.{long-plain, best-plain}
-use Rattle.sail.specs.Lent.{Lent}
 use Rattle.sail.specs.Level.{Level, Chunks, chunkFor, chunksOf, noChunks, level1, level2, level3}
 use Rattle.sail.specs.declared.geometry.Geometry.{Geometry}
 use Rattle.sail_theory.specs.Render.{shown, block, pool, rendered}
 use Rattle.sail_theory.specs.Calls.{Owners, openAt, opened, settled}
+use Rattle.sail_theory.specs.Facts.{SameCells}
 
 module _ (rs : List Route) (v : Level) (k : Chunks) where
   shown-plain : (q : ℕ) → shown (map plain rs) v k q ≡ shown rs v k q
@@ -19,12 +19,6 @@ module _ (rs : List Route) (v : Level) (k : Chunks) where
 
   pool-plain : pool (map plain rs) v k ≡ pool rs v k
   pool-plain = ap (block (v .places) (v .live)) (λ i q. shown-plain q i)
-
--- the three arrays of cells
-pub record SameCells (l u : Lent) : Type 0 where
-  pub first : l .first ≡ u .first
-  pub second : l .second ≡ u .second
-  pub third : l .third ≡ u .third
 
 pub cells-unmarked : (g : Geometry) (room : ℕ) (rs : List Route) (own2 own3 : List ℕ) → SameCells (rendered g room (map plain rs) own2 own3) (rendered g room rs own2 own3)
 cells-unmarked g room rs own2 own3 = record {

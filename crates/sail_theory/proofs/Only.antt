@@ -13,7 +13,8 @@ use Rattle.routes.specs.Input.{properPrefix, routeFault}
 use Rattle.routes.specs.Said.{Said, accepted, refused}
 use Rattle.standing.specs.Standing.{stands, insert}
 use Rattle.routes.specs.declared.Route.{Route}
-use Rattle.routes.proofs.Meaning.{prefix-true, true-prefix, WrongRoute, wrong-fault, fine-fault, good-input}
+use Rattle.routes.specs.Cases.{WrongRoute}
+use Rattle.routes.proofs.Meaning.{prefix-true, true-prefix, wrong-fault, fine-fault, good-input}
 use Rattle.routes.proofs.Cases.{check-only, bad-stops}
 use Rattle.routes.proofs.Rows.{length-routes}
 use Rattle.sail.specs.Lent.{Lent}
@@ -25,7 +26,8 @@ use Rattle.sail_theory.specs.Render.{roomOf}
 use Rattle.sail_theory.specs.Test.{sound?}
 use Rattle.sail_theory.specs.Calls.{termsOf, chunksFault, announceFault, withdrawFault, loadFault, orSay, makeSaid, announceSaid, withdrawSaid, loadSaid, inputRoutes, reported}
 use Rattle.sail_theory.proofs.Tells.{sound-tells}
-use Rattle.sail_theory.proofs.Judged.{Sizing, Make, Proper, Roomy, Announce, Withdraw, Readable, Load, Report}
+use Rattle.sail.specs.Cases.{Sizing}
+use Rattle.sail_theory.specs.Cases.{Make, Proper, Roomy, Announce, Withdraw, Readable, Load, Report}
 
 sizing-is : (t : Table) (l : Lent) (n : ℕ) → Sizing t l n → sizesFault (t .geometry) l ≡ n
 sizing-is t l n h = go (fault-is (t .geometry) l) h

@@ -47,23 +47,23 @@ module _ (v : Level) (k : Chunks) (p : ℕ) where
         ap₂ (λ (x y : ℕ). v .at x * 2 ^ d + y) e (digits-mod c h)
 
 -- The place that serves an address is live, and stands for the address's cell.
-pub record Served (v : Level) (a : ℕ) : Type 0 where
+pub record LiveFor (v : Level) (a : ℕ) : Type 0 where
   pub inside : v .serving a < v .places
   pub used : v .live (v .serving a) ≡ true
   pub stands : v .at (v .serving a) ≡ slot (v .bits) a
 
-pub top-served : (p a : ℕ) → p ≤ 32 → a < 2 ^ 32 → Served (top p) a
+pub top-served : (p a : ℕ) → p ≤ 32 → a < 2 ^ 32 → LiveFor (top p) a
 top-served p a h s = record { inside = slot-lt p a h s; used = refl; stands = refl }
 
 -- so it is below a place that serves the address and has a chunk
-module _ (rs : List Route) (v : Level) (k : Chunks) (f : Fits rs v k) (p a : ℕ) (h : v .bits ≤ p) (u : p ≤ 32) (s : Served v a) (e : long rs (v .bits) (slot (v .bits) a) ≡ true) where
+module _ (rs : List Route) (v : Level) (k : Chunks) (f : Fits rs v k) (p a : ℕ) (h : v .bits ≤ p) (u : p ≤ 32) (s : LiveFor v a) (e : long rs (v .bits) (slot (v .bits) a) ≡ true) where
   has-chunk : chunkFor k (suc (v .serving a)) < k .many
   has-chunk = f .has (v .serving a) (s .inside) (s .used) (rw (s .stands) e)
 
   pub serving-owner : k .own (chunkFor k (suc (v .serving a))) ≡ suc (v .serving a)
   serving-owner = chunk-at k (suc (v .serving a)) has-chunk
 
-  pub below-served : Served (below v k p) a
+  pub below-served : LiveFor (below v k p) a
   below-served =
       let lt : slot p a % 2 ^ (p - v .bits) < 2 ^ (p - v .bits) = mod-lt (slot p a) (pow-pos (p - v .bits)) in
       record {

@@ -17,7 +17,7 @@ use Rattle.sail.specs.Level.{Level, deep, entry, chunksOf}
 use Rattle.sail_theory.specs.Render.{find, Fits}
 use Rattle.sail_theory.specs.Calls.{grant, keep}
 use Rattle.sail_theory.proofs.Chunks.{chunk-at, free-zero}
-use Rattle.sail_theory.proofs.Places.{Apart, Served}
+use Rattle.sail_theory.proofs.Places.{Apart, LiveFor}
 use Rattle.sail_theory.proofs.Owners.{fits-held, fits-hung, Closed}
 
 -- a chunk that is had already, and one that is given
@@ -117,7 +117,7 @@ pub record Losing (rs rs′ : List Route) (a : ℕ) (v : Level) (own : List ℕ)
   pub fits : Fits rs v (chunksOf own)
   pub apart : Apart v
   pub others : (j : ℕ) → j ≢ slot (v .bits) a → long rs′ (v .bits) j ≡ long rs (v .bits) j
-  pub served : long rs (v .bits) (slot (v .bits) a) ≡ true → Served v a
+  pub served : long rs (v .bits) (slot (v .bits) a) ≡ true → LiveFor v a
 
 module _ (rs rs′ : List Route) (a : ℕ) (v : Level) (own : List ℕ) (w : Losing rs rs′ a v own) where
   abbrev i : ℕ
@@ -140,7 +140,7 @@ module _ (rs rs′ : List Route) (a : ℕ) (v : Level) (own : List ℕ) (w : Los
   keep-but d d′ =
       ext-getD 0 (keep rs′ v own) (set own (find own (suc q)) 0) (length-keep rs′ v own ∙ sym (length-set own (find own (suc q)) 0)) (λ c l. go c (rw length-keep at l) (equal? c (find own (suc q))) (equal? (getD own c 0) 0))
     where
-      on : Served v a
+      on : LiveFor v a
       on = w .served d
 
       h : find own (suc q) < length own

@@ -14,7 +14,8 @@ use Rattle.bits.proofs.Tabs.{every-true, true-every, same-true, true-same}
 use Rattle.routes.specs.Route.{key}
 use Rattle.routes.specs.Record.{recordAt, Listed}
 use Rattle.routes.specs.Input.{routeFault, inOrder, faultAt}
-use Rattle.routes.proofs.Meaning.{RightRecord, RecordChecked, right, wrong, record-checked, fine-fault, right-records, records-right}
+use Rattle.routes.specs.Cases.{RightRecord}
+use Rattle.routes.proofs.Meaning.{RecordChecked, right, wrong, record-checked, fine-fault, right-records, records-right}
 use Rattle.routes.specs.declared.Route.{Route}
 use Rattle.sail.specs.Lent.{Lent}
 use Rattle.sail.specs.Level.{Level, Chunks, chunkFor, deep}

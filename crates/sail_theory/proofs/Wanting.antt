@@ -14,7 +14,7 @@ use Rattle.bits.specs.Slot.{cut}
 use Rattle.bits.proofs.Tests.{decided, below?}
 use Rattle.routes.specs.Route.{keyOf, key}
 use Rattle.standing.specs.Cells.{within, need}
-use Rattle.routes.specs.Said.{Said, accepted, refused}
+use Rattle.routes.specs.Said.{Said, accepted}
 use Rattle.standing.specs.Standing.{stands, insert, remove}
 use Rattle.routes.specs.declared.Route.{Route}
 use Rattle.standing.proofs.Standing.{remove-good, remove-any}
@@ -28,10 +28,11 @@ use Rattle.sail.specs.declared.table.Table.{Table}
 use Rattle.sail.proofs.Sounds.{standing-good, chunks-need}
 use Rattle.sail_theory.specs.Render.{roomOf}
 use Rattle.sail_theory.specs.Calls.{Terms, termsOf, chunksFault, inputRoutes, orSay, announceSaid, cutRoute, cleared, telling, announced, withdrawn, loaded}
+use Rattle.sail_theory.specs.Wants.{Wanting}
 use Rattle.sail_theory.specs.Runs.{Call, announce, withdraw, load, done, after, would, Formed}
 use Rattle.sail_theory.proofs.Chunks.{used-le}
 use Rattle.sail_theory.proofs.Needs.{need-mono}
-use Rattle.sail_theory.proofs.Judged.{Proper}
+use Rattle.sail_theory.specs.Cases.{Proper}
 use Rattle.sail_theory.proofs.Only.{roomy-said, read-said}
 use Rattle.sail_theory.proofs.Accepted.{replaced-welcome, welcome-said, farewell-said}
 use Rattle.sail_theory.proofs.Cleared.{announce-said, withdraw-said}
@@ -39,27 +40,21 @@ use Rattle.sail_theory.proofs.Sizes.{terms-same}
 use Rattle.sail_theory.proofs.Loads.{load-said}
 use Rattle.sail_theory.proofs.Runs.{run-is}
 
--- What the change says: 7 exactly when second chunks are wanting, 8 exactly when third chunks alone are, and else that it is accepted.
-pub data Wanting (m : Terms) (rs : List Route) : Said → Type 0 where
-  second : m .most2 < need rs (m .geometry .p1) → Wanting m rs (refused 7)
-  third : need rs (m .geometry .p1) ≤ m .most2 → m .most3 < need rs (m .geometry .p2) → Wanting m rs (refused 8)
-  neither : need rs (m .geometry .p1) ≤ m .most2 → need rs (m .geometry .p2) ≤ m .most3 → (vs : List ℕ) → Wanting m rs (accepted vs)
-
 wanting : (m : Terms) (rs : List Route) (vs : List ℕ) → Wanting m rs (orSay (chunksFault m rs) (accepted vs))
 unfolding chunksFault
 wanting m rs vs = go (below? (m .most2) (need rs (m .geometry .p1))) (below? (m .most3) (need rs (m .geometry .p2)))
   where
     go : (m .most2 < need rs (m .geometry .p1)) ⊎ (need rs (m .geometry .p1) ≤ m .most2) → (m .most3 < need rs (m .geometry .p2)) ⊎ (need rs (m .geometry .p2) ≤ m .most3)
         → Wanting m rs (orSay (cond (ltb (m .most2) (need rs (m .geometry .p1))) 7 (cond (ltb (m .most3) (need rs (m .geometry .p2))) 8 0)) (accepted vs))
-    go (inl x) y = rw (lt-ltb _ _ x) (second x)
-    go (inr x) (inl y) = rw (le-ltb _ _ x, lt-ltb _ _ y) (third x y)
-    go (inr x) (inr y) = rw (le-ltb _ _ x, le-ltb _ _ y) (neither x y vs)
+    go (inl x) y = rw (lt-ltb _ _ x) (Wanting.second x)
+    go (inr x) (inl y) = rw (le-ltb _ _ x, lt-ltb _ _ y) (Wanting.third x y)
+    go (inr x) (inr y) = rw (le-ltb _ _ x, le-ltb _ _ y) (Wanting.neither x y vs)
 
 -- whether bits were cleared is told beside it
 wanting-told : {m : Terms} {rs : List Route} {s : Said} (b : Bool) → Wanting m rs s → Wanting m rs (telling b s)
-wanting-told b (second x) = second x
-wanting-told b (third x y) = third x y
-wanting-told b (neither x y vs) = neither x y (bit b ∷ vs)
+wanting-told b (Wanting.second x) = Wanting.second x
+wanting-told b (Wanting.third x y) = Wanting.third x y
+wanting-told b (Wanting.neither x y vs) = Wanting.neither x y (bit b ∷ vs)
 
 module _ (t : Table) (l : Lent) (s : Sound t l) where
   abbrev rs : List Route
@@ -77,7 +72,7 @@ module _ (t : Table) (l : Lent) (s : Sound t l) where
       go : (stands (key c) rs ≡ true) ⊎ (stands (key c) rs ≡ false) → Wanting (termsOf t l) (insert c rs) (announceSaid t l c)
       go (inl e) =
           let w = replaced-welcome t l c proper e in
-          rw (welcome-said t l c w) (neither (w .enough2) (w .enough3) (bit (stands (key c) rs) ∷ []))
+          rw (welcome-said t l c w) (Wanting.neither (w .enough2) (w .enough3) (bit (stands (key c) rs) ∷ []))
       go (inr e) =
           let roomy = roomy-said t l c (record { proper = proper; new = e; room = omega (arith, insert-adds c rs e, f .1) }) in
           rw roomy (wanting (termsOf t l) (insert c rs) (0 ∷ []))
@@ -91,7 +86,7 @@ module _ (t : Table) (l : Lent) (s : Sound t l) where
       let less : (p : ℕ) → p ≤ 32 → need (remove k rs) p ≤ need rs p
       = λ p h. need-mono (remove k rs) rs p h (remove-good k rs good) good (λ i e. remove-any (within p i) k rs e) in
       rw (withdraw-said t l a len, farewell-said t l (cut len a) len (record { prefix = f .0; sound = s; old = f .1 }))
-      (neither (omega (arith, n .0, used-le (chunksOf (l .own2)), less (t .geometry .p1) (omega arith)))
+      (Wanting.neither (omega (arith, n .0, used-le (chunksOf (l .own2)), less (t .geometry .p1) (omega arith)))
       (omega (arith, n .1, used-le (chunksOf (l .own3)), less (t .geometry .p2) (omega arith))) (bit (cleared len a) ∷ []))
 
   load-wants : (input : List ℕ) → Formed (load input) rs (roomOf l) → Wanting (termsOf t l) (inputRoutes input) (loaded t l input .said)

@@ -2,6 +2,7 @@
 -- at exit, for every state and every contents. Assumes nothing.
 use mathlib.Core.Bool.{Bool, not, cond}
 use mathlib.Core.List.{List, [], _∷_, map}
+use mathlib.Core.Path.{_≡_}
 use Prim.Native.Nat.{ℕ, zero, suc, _-_, _/_}
 use lib.Dec.{ltb, leb, eqb}
 use lib.ListN.{length, set, replicate}
@@ -149,6 +150,11 @@ pub record Out : Type 0 where
 -- what is said, the state and all that is lent, as a call's contract puts them together
 abbrev pub out : Said → Table → Lent → Out
 out s t l = record { said = s; table = t; lent = l }
+
+-- How a call that changes a table ends: it says so, and the state and all that is lent are then these, as the outcome o has them. This is the form of
+-- the calls' statements, and leaves one answer (`one-end`)
+abbrev pub Ends : Said → Table → Lent → Out → Type 0
+Ends said t l o = out said t l ≡ o
 
 -- a refusal leaves all as it was
 abbrev pub outcome : Said → Table → Lent → Table → Lent → Out

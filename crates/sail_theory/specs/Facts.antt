@@ -25,6 +25,12 @@ pub record SameSize (l u : Lent) : Type 0 where
   pub chunks2 : length (u .own2) ≡ length (l .own2)
   pub chunks3 : length (u .own3) ≡ length (l .own3)
 
+-- the same in the three arrays of cells
+pub record SameCells (l u : Lent) : Type 0 where
+  pub first : l .first ≡ u .first
+  pub second : l .second ≡ u .second
+  pub third : l .third ≡ u .third
+
 -- a sound table of the same geometry and sizes, whose list holds these routes, in order, and zero bytes after them
 pub record Holds (t : Table) (l : Lent) (rs : List Route) (u : Table) (v : Lent) : Type 0 where
   pub sound : Sound u v

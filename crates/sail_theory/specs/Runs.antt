@@ -2,7 +2,7 @@
 use mathlib.Core.Bool.{true, cond}
 use mathlib.Core.List.{List, [], _∷_}
 use mathlib.Core.Path.{_≡_}
-use Prim.Native.Nat.{ℕ, _*_, _≤_}
+use Prim.Native.Nat.{ℕ, _*_, _^_, _≤_, _<_}
 use lib.Dec.{eqb}
 use lib.ListN.{length}
 use Rattle.bits.specs.Slot.{cut}
@@ -13,6 +13,8 @@ use Rattle.routes.specs.Said.{accepted, accepts}
 use Rattle.standing.specs.Standing.{stands, Held, absent, stood, routeAt, insert, remove}
 use Rattle.routes.specs.declared.Route.{Route}
 use Rattle.sail.specs.Lent.{Lent}
+use Rattle.sail.specs.Sound.{standing, used}
+use Rattle.sail.specs.Walk.{lookupSaid}
 use Rattle.sail.specs.declared.table.Table.{Table}
 use Rattle.sail_theory.specs.Calls.{inputRoutes, Out, made, cutRoute, announced, withdrawn, loaded}
 
@@ -72,3 +74,16 @@ pub record Carries (input : List ℕ) (rs : List Route) : Type 0 where
   pub whole : length input ≡ length rs * 8
   pub records : Records input (length rs)
   pub routes : routesOf input (length rs) ≡ rs
+
+-- the routes that stand after a run
+abbrev pub standingAfter : Table → Lent → List Call → List Route
+standingAfter t l cs = standing (after t l cs .table) (after t l cs .lent)
+
+-- The table t in l is as good as a fresh load with the outcome o: that load is accepted, its list is the same to the byte, every address gets
+-- the same hop and count of cells, and as many chunks are in use.
+pub record AsFresh (t : Table) (l : Lent) (o : Out) : Type 0 where
+  pub accepted-too : accepts (o .said) ≡ true
+  pub lists : l .list ≡ o .lent .list
+  pub lookups : (a : ℕ) → a < 2 ^ 32 → lookupSaid t l a ≡ lookupSaid (o .table) (o .lent) a
+  pub chunks2 : used (l .own2) ≡ used (o .lent .own2)
+  pub chunks3 : used (l .own3) ≡ used (o .lent .own3)

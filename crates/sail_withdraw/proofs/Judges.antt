@@ -10,12 +10,12 @@ use Rattle.routes.specs.Said.{refused}
 use Rattle.standing.specs.Standing.{stands}
 use Rattle.routes.proofs.Meaning.{prefix-true, true-prefix}
 use Rattle.sail.specs.Lent.{Lent}
-use Rattle.sail.specs.Sizes.{Checked}
+use Rattle.sail.specs.Sizes.{SizesTold}
 use Rattle.sail.specs.Sound.{Sound, standing}
 use Rattle.sail.specs.declared.table.Table.{Table}
 use Rattle.sail_theory.specs.Calls.{withdrawSaid}
 use Rattle.sail_theory.specs.Facts.{Farewell}
-use Rattle.sail_theory.proofs.Judged.{Withdraw}
+use Rattle.sail_theory.specs.Cases.{Withdraw}
 use Rattle.sail_theory.proofs.Only.{withdraw-only}
 use Rattle.sail_sound.specs.Test.{Tried}
 use Rattle.sail_calls.specs.Judge.{Judged}
@@ -29,7 +29,7 @@ module _ (t : Table) (l : Lent) (a len : ℕ) where
   no : (n : ℕ) → 1 ≤ n → Withdraw t l a len (refused n) → Left n
   no n h x = judged-off n _ _ h (withdraw-only t l a len (refused n) x)
 
-  module _ (z : ℕ) (check : Checked z (t .geometry) l) where
+  module _ (z : ℕ) (check : SizesTold z (t .geometry) l) where
     pub leave-sizes : (z ≡ 0 → ⊥) → Left z
     unfolding withdrawSaid
     leave-sizes h = record { off = λ _. or-said _ z _ (check .number) h; on = λ e. absurd (h e) }

@@ -2,3 +2,4 @@
 pub mod Judges
 pub mod Takes
 pub mod Injective
+pub mod OneAnswer

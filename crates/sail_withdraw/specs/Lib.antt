@@ -1,2 +1,3 @@
 -- What withdraw answers.
 pub mod Answers
+pub mod Contract

@@ -1,10 +1,11 @@
 // Withdraw: a route is taken out of a table.
 ghost use mathlib.Core.Path.{_≡_};
 ghost use Rattle.sail.specs.Lent.{lent};
-ghost use Rattle.sail_theory.specs.Calls.{withdrawSaid, out, taking, told, withdrawn};
+ghost use Rattle.sail_theory.specs.Calls.{withdrawSaid, out, taking, told};
 ghost use Rattle.sail_theory.specs.Facts.{Farewell};
 ghost use Rattle.sail_calls.specs.Judge.{Judged};
 ghost use Rattle.sail_withdraw.specs.Answers.{saysWithdraw};
+ghost use Rattle.sail_withdraw.specs.Contract.{MeetsWithdraw};
 
 pub mod answers;
 
@@ -117,7 +118,7 @@ pub fn withdraw(
     addr: u32,
     len: u8,
 ) -> Withdrawn
-    ensures { λ r. ⌜ out (saysWithdraw (r .answer)) (r .table) (lent (now (list .exit)) (now (first .exit)) (now (second .exit)) (now (third .exit)) (now (own2 .exit)) (now (own3 .exit))) ≡ withdrawn t (lent (now (list .entry)) (now (first .entry)) (now (second .entry)) (now (third .entry)) (now (own2 .entry)) (now (own3 .entry))) addr len ⌝ }
+    ensures { λ r. ⌜ MeetsWithdraw t (lent (now (list .entry)) (now (first .entry)) (now (second .entry)) (now (third .entry)) (now (own2 .entry)) (now (own3 .entry))) addr len r (lent (now (list .exit)) (now (first .exit)) (now (second .exit)) (now (third .exit)) (now (own2 .exit)) (now (own3 .exit))) ⌝ }
 {
     let a = clear(addr, len);
     let z = judge_withdraw(t, list, first, second, third, own2, own3, a, len);

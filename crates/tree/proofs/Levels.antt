@@ -15,6 +15,7 @@ use Rattle.tree.specs.Parts.{gather, before}
 use Rattle.routes.specs.Route.{Good}
 use Rattle.routes.specs.declared.Route.{Route}
 use Rattle.routes.proofs.Goods.{good-fine}
+use Rattle.tree.specs.Levels.{LevelOf}
 use Rattle.tree.specs.Image.{Node, node, child, kids, level, through, nodeStands}
 use Rattle.tree.proofs.Counts.{count-less, count-hit, count-order}
 use Rattle.tree.proofs.Parts.{picked-length, picked-at, gather-at, gather-split, before-next, before-mono}
@@ -114,15 +115,6 @@ module _ (st : ℕ → ℕ → Bool) where
         g .0,
         g .1 ∙ rw (w .2) (picked-at (child st n) (λ c. node (m + 1) (p / 16 * 16 + c)) 16 (p % 16) (node 0 0) (omega arith) o ∙ ap₂ node s (sym q)),
       )
-
--- what document 01 says of the nodes of depth m: the root alone, or the different values of the first 4 * m bits of the routes
--- that have as many, ascending
-pub record LevelOf (rs : List Route) (m : ℕ) (ns : List Node) : Type 0 where
-  pub root : m ≡ 0 → ns ≡ node 0 0 ∷ []
-  pub deep : (i : ℕ) → i < length ns → getD ns i (node 0 0) .depth ≡ m
-  pub rises : (i j : ℕ) → i < j → j < length ns → getD ns i (node 0 0) .path < getD ns j (node 0 0) .path
-  pub stand : (i : ℕ) → 0 < m → i < length ns → nodeStands rs m (getD ns i (node 0 0) .path) ≡ true
-  pub all : (p : ℕ) → nodeStands rs m p ≡ true → (i : ℕ) × (i < length ns) × (getD ns i (node 0 0) ≡ node m p)
 
 module _ (rs : List Route) (g : Good rs) where
   -- every address begins with no bits

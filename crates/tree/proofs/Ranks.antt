@@ -22,11 +22,12 @@ use Rattle.routes.specs.declared.Route.{Route}
 use Rattle.tree.specs.Node.{bitsOf, childOf, baseOf, childAt}
 use Rattle.tree.specs.Parts.{before}
 use Rattle.tree.specs.Image.{Node, node, inner, hopsOf, level, upTo, nodes, hops, imageBy, imageOf, nodeStands, hopFor, nodeNeed}
+use Rattle.tree.specs.Levels.{LevelOf}
 use Rattle.tree.proofs.Counts.{count-all}
 use Rattle.bits.proofs.Packed.{rank-count}
 use Rattle.tree.proofs.Nodes.{inner-bit}
 use Rattle.tree.proofs.Holds.{node-words, child-found}
-use Rattle.tree.proofs.Levels.{LevelOf, level-is}
+use Rattle.tree.proofs.Levels.{level-is}
 use Rattle.tree.proofs.Needs.{hops-need}
 use Rattle.tree.proofs.Serves.{agree}
 

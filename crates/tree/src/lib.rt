@@ -3,7 +3,8 @@ ghost use mathlib.Core.Path.{_≡_};
 ghost use Prim.Native.Nat.{_+_, _%_, _^_, _≤_, _<_};
 ghost use lib.Count.{ones};
 ghost use Rattle.tree.specs.Node.{nibbleOf, tryBit, deepestOf, betterOf, childAt};
-ghost use Rattle.tree.specs.Walk.{saysTreeFound, fetchedFrom, treeSaid};
+ghost use Rattle.tree.specs.Walk.{saysTreeFound, fetchedFrom};
+ghost use Rattle.tree.specs.Contract.{MeetsTreeLookup};
 
 // Where the hop of the deepest match stands among the hops.
 pub enum Place {
@@ -108,7 +109,7 @@ fn fetch(hops: &[u16], best: Place, read: u32) -> TreeFound
 
 // Looks an address up, whatever the two arrays hold. There are d levels of nodes below the node at hand.
 pub fn lookup(words: &[u32], hops: &[u16], addr: u32) -> TreeFound
-    ensures { λ r. ⌜ saysTreeFound r ≡ treeSaid (now (words .entry)) (now (hops .entry)) addr ⌝ }
+    ensures { λ r. ⌜ MeetsTreeLookup (now (words .entry)) (now (hops .entry)) addr r ⌝ }
 {
     let nodes = words.len() / 3;
     let mut d: u32 = 8;

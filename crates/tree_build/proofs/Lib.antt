@@ -10,4 +10,5 @@ pub mod Steps
 pub mod Ends
 pub mod Levels
 pub mod Answers
+pub mod OneAnswer
 pub mod Serves

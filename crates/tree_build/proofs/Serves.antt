@@ -13,27 +13,20 @@ use Rattle.routes.specs.Record.{Records, routesIn}
 use Rattle.routes.specs.Input.{inputSaid}
 use Rattle.routes.specs.Said.{Said, accepted, refused, refusedAt}
 use Rattle.routes.specs.declared.Route.{Route}
-use Rattle.routes.proofs.Meaning.{Checked, ragged, stopped, many, good, input-checked}
-use Rattle.tree.specs.Image.{imageOf, nodeNeed, onPath}
+use Rattle.routes.specs.Cases.{Checked, ragged, stopped, many, good}
+use Rattle.routes.proofs.Meaning.{input-checked}
+use Rattle.tree.specs.Image.{nodeNeed, onPath}
 use Rattle.tree.specs.Walk.{told, treeSaid}
 use Rattle.tree.proofs.Serves.{image-serves}
-use Rattle.tree_build.specs.Built.{Out, madeOf, afterInput, built}
+use Rattle.tree_build.specs.Built.{madeOf, afterInput, built}
+use Rattle.tree_build.specs.Cases.{AcceptedBuild}
 use Rattle.tree_build.proofs.Runs.{good-list}
 
--- an accepted build of these routes: they are good, there is room, and the arrays hold their image
-pub record Accepted (rs : List Route) (ws hs vs : List ℕ) (o : Out) : Type 0 where
-  pub good-routes : Good rs
-  pub values : vs ≡ nodeNeed rs ∷ length rs ∷ []
-  pub nodes-room : 3 * nodeNeed rs ≤ length ws
-  pub hops-room : length rs ≤ length hs
-  pub words : o .words ≡ imageOf rs (length ws) (length hs) .words
-  pub hops : o .hops ≡ imageOf rs (length ws) (length hs) .hops
-
-made-accepts : (rs : List Route) (ws hs vs : List ℕ) → Good rs → madeOf rs ws hs .said ≡ accepted vs → Accepted rs ws hs vs (madeOf rs ws hs)
+made-accepts : (rs : List Route) (ws hs vs : List ℕ) → Good rs → madeOf rs ws hs .said ≡ accepted vs → AcceptedBuild rs ws hs vs (madeOf rs ws hs)
 unfolding madeOf
 made-accepts rs ws hs vs g e = go (below? (length ws / 3) (nodeNeed rs)) (below? (length hs) (length rs))
   where
-    go : (length ws / 3 < nodeNeed rs) ⊎ (nodeNeed rs ≤ length ws / 3) → (length hs < length rs) ⊎ (length rs ≤ length hs) → Accepted rs ws hs vs (madeOf rs ws hs)
+    go : (length ws / 3 < nodeNeed rs) ⊎ (nodeNeed rs ≤ length ws / 3) → (length hs < length rs) ⊎ (length rs ≤ length hs) → AcceptedBuild rs ws hs vs (madeOf rs ws hs)
     go (inl l) v = absurd (let f : refused 11 ≡ accepted vs = rw (lt-ltb (length ws / 3) (nodeNeed rs) l) at e in let z : _≡_ {A = ℕ} 0 1 = cc in omega arith)
     go (inr l) (inl v) = absurd (let f : refused 12 ≡ accepted vs = rw (le-ltb (length ws / 3) (nodeNeed rs) l, lt-ltb (length hs) (length rs) v) at e in let z : _≡_ {A = ℕ} 0 1 = cc in omega arith)
     go (inr l) (inr v) =
@@ -47,11 +40,11 @@ made-accepts rs ws hs vs g e = go (below? (length ws / 3) (nodeNeed rs)) (below?
           hops = rw (le-ltb (length ws / 3) (nodeNeed rs) l, le-ltb (length hs) (length rs) v);
         }
 
-pub built-accepts : (s ws hs vs : List ℕ) → built s ws hs .said ≡ accepted vs → Accepted (routesIn s) ws hs vs (built s ws hs)
+pub built-accepts : (s ws hs vs : List ℕ) → built s ws hs .said ≡ accepted vs → AcceptedBuild (routesIn s) ws hs vs (built s ws hs)
 unfolding built
 built-accepts s ws hs vs e = go (input-checked s) e
   where
-    go : {x : Said} → Checked s x → afterInput x s ws hs .said ≡ accepted vs → Accepted (routesIn s) ws hs vs (afterInput x s ws hs)
+    go : {x : Said} → Checked s x → afterInput x s ws hs .said ≡ accepted vs → AcceptedBuild (routesIn s) ws hs vs (afterInput x s ws hs)
     go (ragged w) f = absurd (let z : _≡_ {A = ℕ} 0 1 = cc in omega arith)
     go (stopped k n w l b x p) f = absurd (let z : _≡_ {A = ℕ} 0 1 = cc in omega arith)
     go (many w a m) f = absurd (let z : _≡_ {A = ℕ} 0 1 = cc in omega arith)

@@ -1,5 +1,7 @@
 -- What a build answers and leaves, and what holds while it works.
 pub mod Built
+pub mod Cases
+pub mod Contract
 pub mod Run
 pub mod Count
 pub mod Queue

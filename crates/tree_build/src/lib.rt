@@ -7,7 +7,8 @@ use routes::input;
 use routes::input::Input;
 ghost use mathlib.Core.Path.{_≡_};
 ghost use Rattle.routes.specs.Record.{GoodInput, routesIn};
-ghost use Rattle.tree_build.specs.Built.{saysBuilt, out, madeOf, built};
+ghost use Rattle.tree_build.specs.Built.{saysBuilt, out, madeOf};
+ghost use Rattle.tree_build.specs.Contract.{MeetsBuild};
 
 // What a build answers: the nodes and the hops used; a refusal with the index of a record; or a refusal by its number alone.
 pub enum Built {
@@ -34,7 +35,7 @@ fn make(list: &[u8], n: usize, words: &mut [u32], hops: &mut [u16]) -> Built
 
 // Builds the image of a record input. A refusal leaves both arrays as they were.
 pub fn build(input: &[u8], words: &mut [u32], hops: &mut [u16]) -> Built
-    ensures { λ r. ⌜ out (saysBuilt r) (now (words .exit)) (now (hops .exit)) ≡ built (now (input .entry)) (now (words .entry)) (now (hops .entry)) ⌝ }
+    ensures { λ r. ⌜ MeetsBuild (now (input .entry)) (now (words .entry)) (now (hops .entry)) r (now (words .exit)) (now (hops .exit)) ⌝ }
 {
     match input::check_input(input) {
         Input::Good(n) => make(input, n, words, hops),
