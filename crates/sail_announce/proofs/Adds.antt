@@ -1,4 +1,4 @@
--- An announcement step by step: what each step asks, and what they leave. Assumes nothing.
+-- An announcement step by step: what each step asks, and what they leave.
 use mathlib.Core.Path.{_≡_, refl, sym, _∙_, ap}
 use mathlib.Core.List.{List, [], _∷_}
 use Prim.Native.Nat.{ℕ, _/_, _≤_}
@@ -86,7 +86,7 @@ module _ (t : Table) (l : Lent) (a len hop : ℕ) (w : Welcome t l (route a len 
         rw (list-is, c) (insert-holds (l .list) (t .count) few r add-insertable)
 
     module _ (own2 own3 : List ℕ) (o2 : own2 ≡ own2′) (o3 : own3 ≡ own3′) where
-      pub add-pending : (x : ℕ) → x ≡ len → Pending g m a x (lent s (l .first) (l .second) (l .third) own2 own3)
+      pub add-pending : (x : ℕ) → x ≡ len → Pending g m a x s (cells (l .first) (l .second) (l .third) own2 own3)
       add-pending x q = rw (q, o2, o3) (record {
         listed = holds .listed;
         stale = λ ws par ready z. underway-stale g a len (insert r rs) l (lent s (l .first) (l .second) (l .third) own2′ own3′) (welcome-underway t l r w s) ws par ready (z ∙ holds .routes);
