@@ -21,7 +21,8 @@ use Rattle.standing.proofs.Levels.{best-slot}
 use Rattle.sail.specs.Geometry.{bits2, bits3, Valid}
 use Rattle.sail.specs.Level.{View, always, itself, inUse, level1, level2, level3}
 use Rattle.sail.specs.Sound.{Serves}
-use Rattle.sail.specs.Walk.{place, cell1, place2, cell2, place3, cell3, Leads, ReadsSecond, ReadsThird, lastCell, hopSaid, stepSaid, shut, walkSaid}
+use Rattle.sail.specs.Walk.{place, cell1, place2, cell2, place3, cell3, lastCell, hopSaid, stepSaid, shut, walkSaid}
+use Rattle.sail.specs.Reads.{Leads, ReadsSecond, ReadsThird}
 use Rattle.sail.proofs.Steps.{step-leaf, step-on}
 use Rattle.sail.specs.declared.geometry.Geometry.{Geometry}
 use Rattle.sail.proofs.Places.{Reached, top-reached, below-reached, used-need, read-leaf, read-node}
@@ -179,7 +180,7 @@ module _ (rs : List Route) (g : Geometry) (t : View) (valid : Valid g) (good : G
       let h : a < 2 ^ 32 = rw sum at (shl-lt (g .p2) (bits3 g) (j .0)) in
       let is : slot (g .p2) a ≡ i = shl-shr i (bits3 g) in
       let f : long rs (g .p1) (slot (g .p1) a) ≡ true = rw (up2 a h) at (rw (← is) at (j .1)) in
-      (a, h, record { goes = leads few (node1 a h f); there = sym (place2-is a h) ∙ ap find2 is ∙ j .2 })
+      (a, h, record { goes = leads few (node1 a h f); there = cc (sym (place2-is a h) ∙ ap find2 is ∙ j .2) })
 
   pub third-read : t .chunks2 .many < 32768 → t .chunks3 .many < 32768 → (q : ℕ) → q < level3 g (t .chunks2) (t .chunks3) .places
       → level3 g (t .chunks2) (t .chunks3) .live q ≡ true
@@ -190,4 +191,4 @@ module _ (rs : List Route) (g : Geometry) (t : View) (valid : Valid g) (good : G
       let a : ℕ = level3 g (t .chunks2) (t .chunks3) .at q in
       let h : a < 2 ^ 32 = j .0 in
       let f : long rs (g .p2) (slot (g .p2) a) ≡ true = j .1 in
-      (a, h, record { goes = leads few2 (node1 a h (long2-long1 a h f)); on = leads few3 (node2 a h f); there = sym (place3-is a h) ∙ j .2 })
+      (a, h, record { goes = leads few2 (node1 a h (long2-long1 a h f)); on = leads few3 (node2 a h f); there = cc (sym (place3-is a h) ∙ j .2) })

@@ -69,7 +69,7 @@ module _ (t : Table) (l : Lent) (a len : ℕ) (w : Farewell t l a len) where
   -- a prefix that stands has its cells long
   pub was-long : (p : ℕ) → p < len → long rs p (slot p a) ≡ true
   was-long p h =
-      stands-long (route a len 1) rs (record { prefix = w .prefix; hop-one = omega arith; hop-ok = omega arith; spare-ok = refl }) (standing-good t l (w .sound)) (w .old) p (lt-ltb p len h)
+      stands-long (route a len 1 0) rs (record { prefix = w .prefix; hop-one = omega arith; hop-ok = omega arith; mark-ok = omega arith }) (standing-good t l (w .sound)) (w .old) p (lt-ltb p len h)
 
   -- and a level that is as long as the prefix keeps them
   same-long : (p : ℕ) → ltb p len ≡ false → long left p (slot p a) ≡ long rs p (slot p a)

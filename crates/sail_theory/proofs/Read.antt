@@ -13,7 +13,8 @@ use Rattle.sail.specs.Geometry.{bits2, bits3, Valid}
 use Rattle.sail.specs.Lent.{Lent}
 use Rattle.sail.specs.Level.{Level, Chunks, entry, chunksOf, whole, below, level1, level2, level3}
 use Rattle.sail.specs.Sound.{Shows, Sound, standing}
-use Rattle.sail.specs.Walk.{place, cell2, Leads, ReadsSecond, ReadsThird}
+use Rattle.sail.specs.Walk.{place, cell2}
+use Rattle.sail.specs.Reads.{Leads, ReadsSecond, ReadsThird}
 use Rattle.sail.specs.declared.geometry.Geometry.{Geometry}
 use Rattle.sail.specs.declared.table.Table.{Table}
 use Rattle.sail_theory.proofs.Mids.{slot-down}

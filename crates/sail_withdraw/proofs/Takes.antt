@@ -1,11 +1,13 @@
 -- A withdrawal step by step: what each step asks, and what they leave.
 use mathlib.Core.Path.{_≡_, refl, sym, _∙_, ap}
 use mathlib.Core.Logic.{_⊎_, inl, inr}
-use mathlib.Core.Bool.{Bool, true, false, cond}
+use mathlib.Core.Bool.{Bool, true, false, not, cond}
 use mathlib.Core.List.{List, []}
 use Prim.Native.Nat.{ℕ, suc, _+_, _-_, _*_, _/_, _^_, _≤_}
 use native.Mathlib.Omega.{arith}
+use lib.Dec.{eqb}
 use lib.ListN.{length, set}
+use Rattle.bits.specs.Slot.{cut}
 use Rattle.bits.proofs.Tests.{decided}
 use Rattle.routes.specs.Route.{keyOf}
 use Rattle.routes.specs.Record.{routesOf}
@@ -21,12 +23,13 @@ use Rattle.sail.specs.Sound.{standing}
 use Rattle.sail.specs.declared.geometry.Geometry.{Geometry}
 use Rattle.sail.specs.declared.table.Table.{Table}
 use Rattle.sail_theory.specs.Render.{find}
-use Rattle.sail_theory.specs.Calls.{keep, withdrawSaid, out, withdrawn}
+use Rattle.sail_theory.specs.Calls.{keep, withdrawSaid, Out, out, taking, told, withdrawn}
 use Rattle.sail.specs.Level.{Level, chunksOf, below, level1, level2}
 use Rattle.sail_theory.specs.Facts.{Farewell}
 use Rattle.sail_theory.proofs.Stores.{Losing}
 use Rattle.sail_theory.proofs.Changes.{losing1, losing2}
-use Rattle.sail_theory.proofs.Accepted.{count-removed, withdraw-is, withdraw-off}
+use Rattle.sail_theory.proofs.Accepted.{count-removed, taking-is}
+use Rattle.sail_theory.proofs.Cleared.{withdraw-off}
 use Rattle.sail_paint.specs.Stale.{Repainted}
 use Rattle.sail_change.specs.Chunks.{alone, closed, blanked, Closing, Closable}
 use Rattle.sail_paint.specs.Pending.{Pending}
@@ -40,11 +43,18 @@ use Rattle.sail_calls.specs.Judge.{Judged}
 use Rattle.sail_withdraw.specs.Answers.{saysWithdraw}
 use Rattle.sail_withdraw.specs.declared.answers.Withdraw.the-variants as withdraw
 
--- a refusal leaves all as it was
-pub withdraw-refused : (t : Table) (l : Lent) (a len z : ℕ) → Judged z (withdrawSaid t l a len) (Farewell t l a len) → (z ≡ 0 → ⊥)
-    → out (saysWithdraw (withdraw.Refused z)) t l ≡ withdrawn t l a len
-unfolding saysWithdraw
-withdraw-refused t l a len z k h = sym (withdraw-off t l a len (refused z) (k .off h) refl)
+-- The address x is cut to the length before the prefix is judged.
+module _ (t : Table) (l : Lent) (a len x : ℕ) (e : x ≡ cut len a) where
+  -- a refusal leaves all as it was
+  pub withdraw-refused : (z : ℕ) → Judged z (withdrawSaid t l x len) (Farewell t l x len) → (z ≡ 0 → ⊥)
+      → out (saysWithdraw (withdraw.Refused z)) t l ≡ withdrawn t l a len
+  unfolding saysWithdraw
+  withdraw-refused z k h = sym (withdraw-off t l a len (refused z) (rw e at (k .off h)) refl)
+
+  -- what is taken is the cleared prefix, and bits were cleared where the address is another
+  pub withdraw-cleared : (c : Bool) → c ≡ not (eqb x a) → (o : Out) → o ≡ told c (taking t l x len) → o ≡ withdrawn t l a len
+  unfolding withdrawn
+  withdraw-cleared c f o q = q ∙ rw (f, e)
 
 -- which chunk is closed matters only where one is
 module _ (b : Bool) (c c′ : ℕ) (h : b ≡ true → c ≡ c′) where
@@ -163,10 +173,9 @@ module _ (t : Table) (l : Lent) (a len : ℕ) (w : Farewell t l a len) where
         })
 
         module _ (first′ second′ third′ : List ℕ) (h : Repainted g (routesOf s m) (cells (l .first) second third own2 own3) first′ second′ third′) where
-          pub take-done : out (saysWithdraw withdraw.Removed) (record { geometry = g; count = m }) (lent s first′ second′ third′ own2 own3)
-              ≡ withdrawn t l a len
+          pub take-done : (c : Bool)
+              → out (saysWithdraw (withdraw.Removed c)) (record { geometry = g; count = m }) (lent s first′ second′ third′ own2 own3) ≡ told c (taking t l a len)
           unfolding saysWithdraw
-          take-done =
-              let h′ = rw (holds .routes, own2-is, own3-is, second-is, third-is) at h in
-              let is = underway-asked g a len left l _ (farewell-underway t l a len w s) first′ second′ third′ h′ in
-              rw (count-is, list-is, is .is-first, is .is-second, is .is-third, own2-is, own3-is) (sym (withdraw-is t l a len w))
+          take-done c =
+              let h′ = underway-asked g a len left l _ (farewell-underway t l a len w s) first′ second′ third′ (rw (holds .routes, own2-is, own3-is, second-is, third-is) at h) in
+              rw (count-is, list-is, h′ .is-first, h′ .is-second, h′ .is-third, own2-is, own3-is) (sym (ap (told c) (taking-is t l a len w)))

@@ -1,5 +1,6 @@
 -- Laws of images and of the walk.
 pub mod Walks
+pub mod Matches
 pub mod Counts
 pub mod Parts
 pub mod Nodes
@@ -9,5 +10,6 @@ pub mod Lies
 pub mod Levels
 pub mod Needs
 pub mod Serves
+pub mod ReadCounts
 pub mod Ranks
-pub mod ListA
+pub mod Marks

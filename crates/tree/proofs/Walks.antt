@@ -1,4 +1,4 @@
--- What the tests of the code say of the walk. Assumes nothing.
+-- What the tests of the code say of the walk: a law for each return and each step of the loop.
 use mathlib.Core.Path.{_≡_, refl, sym, ap, _∙_}
 use mathlib.Core.Bool.{Bool, true, false, cond, not}
 use mathlib.Core.List.{List}
@@ -70,7 +70,7 @@ module _ (hs : List ℕ) (n : ℕ) (best : Place) where
       unfolding saysTreeFound fetchedFrom hopFine
       fetch-big b = rw (e, lt-ltb h (length hs) p, le-leb 1 (getD hs h 0) (omega arith), lt-leb (getD hs h 0) 32767 b)
 
-      pub fetch-hop : (getD hs h 0 ≡ 0 → ⊥) → getD hs h 0 ≤ 32767 → saysTreeFound (Hop (getD hs h 0) n) ≡ fetchedFrom hs n best
+      pub fetch-hop : (getD hs h 0 ≡ 0 → ⊥) → getD hs h 0 ≤ 32767 → saysTreeFound (Hop (getD hs h 0) (n + 1)) ≡ fetchedFrom hs n best
       unfolding saysTreeFound fetchedFrom hopFine told
       fetch-hop z b = rw (e, lt-ltb h (length hs) p, le-leb 1 (getD hs h 0) (omega arith), le-leb (getD hs h 0) 32767 b, ne-eqb (getD hs h 0) 0 z)
 

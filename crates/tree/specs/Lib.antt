@@ -3,3 +3,4 @@ pub mod Node
 pub mod Walk
 pub mod Parts
 pub mod Image
+pub mod Reads

@@ -1,6 +1,7 @@
 -- A node of an image: its three words, and what they say of the next four bits of an address. Assumes nothing.
-use Prim.Native.Nat.{ℕ, _+_, _*_, _/_, _%_, _^_}
-use mathlib.Core.Bool.{Bool, cond, not, _&&_}
+use mathlib.Core.Path.{_≡_}
+use Prim.Native.Nat.{ℕ, _+_, _-_, _*_, _/_, _%_, _^_, _<_}
+use mathlib.Core.Bool.{Bool, true, false, cond, not, _&&_}
 use mathlib.Core.List.{List}
 use lib.Dec.{eqb, ltb}
 use lib.ListN.{length, getD}
@@ -35,7 +36,17 @@ nibbleOf a d = a / 2 ^ (4 * d) % 16
 unfoldable pub tryBit : ℕ → ℕ → ℕ → ℕ
 tryBit w b rest = cond (isSet w b) b rest
 
--- the bit of the longest inner length that matches the four bits v; 15, which is no internal bit, where none does
+-- the internal bit for the inner length j: 2 ^ j - 1 and the value of the first j of the four bits v
+abbrev pub bitFor : ℕ → ℕ → ℕ
+bitFor j v = 2 ^ j - 1 + v / 2 ^ (4 - j)
+
+-- What the deepest match of a node is: the bit of the longest inner length, of 3 down to 0, whose bit is set; 15, which is no internal bit, where
+-- none is.
+pub data Deepest (w v : ℕ) : ℕ → Type 0 where
+  match : (j : ℕ) → j < 4 → isSet w (bitFor j v) ≡ true → ((k : ℕ) → j < k → k < 4 → isSet w (bitFor k v) ≡ false) → Deepest w v (bitFor j v)
+  none : ((k : ℕ) → k < 4 → isSet w (bitFor k v) ≡ false) → Deepest w v 15
+
+-- it is worked out bit by bit (`deepest-longest` in proofs/Matches.antt)
 unfoldable pub deepestOf : ℕ → ℕ → ℕ
 deepestOf w v = tryBit w (7 + v / 2) (tryBit w (3 + v / 4) (tryBit w (1 + v / 8) (tryBit w 0 15)))
 

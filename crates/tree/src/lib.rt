@@ -11,7 +11,8 @@ pub enum Place {
     At(usize),
 }
 
-// What a lookup finds: a hop, or no route, with the count of nodes read; or the image is broken on this walk.
+// What a lookup finds: a hop, with the count of nodes read and one more for the fetch of the hop; no route, with the count of nodes read;
+// or the image is broken on this walk.
 pub enum TreeFound {
     Hop(u16, u32),
     NoRoute(u32),
@@ -81,10 +82,12 @@ fn child(word: u32, base: u32, v: u32) -> usize
     wide(base) + wide(bits::ones_below(word >> 16, v))
 }
 
-// The one hop that is read, after all nodes.
+// The one hop that is read, after all nodes. Where it is answered, its fetch counts one more.
 fn fetch(hops: &[u16], best: Place, read: u32) -> TreeFound
+    requires { ⌜ read ≤ 9 ⌝ }
     ensures { λ r. ⌜ saysTreeFound r ≡ fetchedFrom (now (hops .entry)) read best ⌝ }
 {
+    let with_fetch = read + 1;
     match best {
         Place::Nowhere => TreeFound::NoRoute(read),
         Place::At(h) => {
@@ -98,7 +101,7 @@ fn fetch(hops: &[u16], best: Place, read: u32) -> TreeFound
             if hop > 32767 {
                 return TreeFound::Broken;
             }
-            TreeFound::Hop(hop, read)
+            TreeFound::Hop(hop, with_fetch)
         }
     }
 }

@@ -2,6 +2,7 @@
 use crate::samples;
 use tree::TreeFound;
 use tree_build::Built;
+use words::list;
 use words::print;
 
 fn built(answer: Built) {
@@ -33,11 +34,11 @@ fn found(answer: TreeFound) {
         TreeFound::Hop(h, n) => {
             print::text(b" hop");
             print::value(h as u64);
-            print::text(b" nodes");
+            print::text(b" reads");
             print::value(n as u64);
         }
         TreeFound::NoRoute(n) => {
-            print::text(b" no route nodes");
+            print::text(b" no route reads");
             print::value(n as u64);
         }
         TreeFound::Broken => {
@@ -69,7 +70,7 @@ fn hops(list: &[u16]) {
 
 // List A's image in arrays that held other numbers, and lookups in it.
 pub fn list_a() {
-    let a = samples::list_a();
+    let a = list::list_a();
     let mut ws = [9u32; 23];
     let mut hs = [9u16; 6];
     built(tree_build::build(&a, &mut ws, &mut hs));
@@ -80,9 +81,21 @@ pub fn list_a() {
     found(tree::lookup(&ws, &hs, 0xC000_0201));
 }
 
+// The largest counts. The image of 10.1.2.200/32 alone: that address reads 9 nodes and the hop, the next one 8 nodes. Where bit 0 of the last
+// node is lost, 9 nodes are read and no hop.
+pub fn host() {
+    let mut ws = [9u32; 27];
+    let mut hs = [9u16; 1];
+    built(tree_build::build(b"\x0A\x01\x02\xC8\x20\x00\x00\x39", &mut ws, &mut hs));
+    found(tree::lookup(&ws, &hs, 0x0A01_02C8));
+    found(tree::lookup(&ws, &hs, 0x0A01_02C9));
+    ws[24] = 0;
+    found(tree::lookup(&ws, &hs, 0x0A01_02C8));
+}
+
 // The image of no routes, and arrays that are too small: they stay as they were.
 pub fn sizes() {
-    let a = samples::list_a();
+    let a = list::list_a();
     let mut ws = [9u32; 20];
     let mut hs = [9u16; 4];
     built(tree_build::build(&a, &mut ws, &mut hs));
@@ -112,4 +125,13 @@ pub fn broken() {
     found(tree::lookup(&root, &zero, 0));
     found(tree::lookup(&root, &large, 0));
     found(tree::lookup(&root, &last, 0));
+}
+
+// Build stays strict, and leaves both arrays.
+pub fn host_bits() {
+    let mut ws = [9u32; 3];
+    let mut hs = [9u16; 1];
+    built(tree_build::build(&samples::loose(), &mut ws, &mut hs));
+    words(&ws);
+    hops(&hs);
 }

@@ -52,10 +52,8 @@ fn look(run: &mut Run, words: &Fenced<u32>, hops: &Fenced<u16>, addr: u32) -> u6
     };
     run.answered("tree_lookup", is, plain::tree_lookup(words, hops, addr), &told);
     if number(is) == 0 {
-        run.count("tree_lookup", &format!("nodes {}", is >> 8 & 0xFF));
-        if is >> 16 == 0 {
-            run.count("tree_lookup", "no route");
-        }
+        let found = if is >> 16 == 0 { "no route" } else { "hop" };
+        run.count("tree_lookup", &format!("{found} in {}", is >> 8 & 0xFF));
     }
     is
 }

@@ -83,7 +83,7 @@ returns c =
     let f = followed m in
     take-done _ _ _ _ (start f .pre) _ _ (m .remove .ensures) _ _ (f .follow .ensures) _ _ _ _
     (second .close-alone .ensures .0) (second .close-alone .ensures .1) (third .close-alone2 .ensures .0) (third .close-alone2 .ensures .1)
-    _ _ _ (painted .renew .ensures)
+    _ _ _ (painted .renew .ensures) _
 
 pub take-spec : {M : Type 1} → statement M
 take-spec =

@@ -1,4 +1,4 @@
--- `tree::better` meets its contract. Assumes nothing.
+-- No bit keeps the place found before; a bit gives the hop base and the ones below it.
 use mathlib.Core.Path.{_∙_}
 use Rattle.tree.proofs.Walks.{better-none, better-at}
 use borrow.Author.Needs.{needs}

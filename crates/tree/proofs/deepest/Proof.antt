@@ -1,4 +1,4 @@
--- `tree::deepest` meets its contract. Assumes nothing.
+-- The four tests of the code are those of `deepestOf`, in its order: each return follows the misses before it.
 use native.Mathlib.Omega.{arith}
 use Rattle.tree.proofs.Walks.{try-hit, try-miss, deepest-is}
 use borrow.Author.Needs.{needs}

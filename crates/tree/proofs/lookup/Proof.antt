@@ -1,4 +1,4 @@
--- `tree::lookup` meets its contract. Assumes nothing.
+-- The invariant: what the walk from the node at hand says, with d levels below it, is what the walk from the root says. d falls.
 use mathlib.Core.Path.{_≡_, refl}
 use Prim.Native.Nat.{_≤_}
 use native.Mathlib.Omega.{arith}
@@ -32,7 +32,7 @@ lookup-spec =
     (λ c. search walk-broken)
     (λ c κs. tt)
     (λ c κs. omega arith)
-    (λ c κs. tt)
+    (λ c κs. omega arith)
     (λ c. search walk-last)
     (λ c. omega arith)
     (λ c κs. omega arith)
@@ -41,7 +41,7 @@ lookup-spec =
     (λ c. omega arith)
     (λ c κs. omega arith)
     (λ c. omega arith)
-    (λ c κs. tt)
+    (λ c κs. omega arith)
     (λ c. search walk-stop)
     (λ c. omega arith)
     (λ c. omega arith)

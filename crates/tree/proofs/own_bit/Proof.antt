@@ -1,4 +1,4 @@
--- `tree::own_bit` meets its contract. Assumes nothing.
+-- The one test of the code is that of `tryBit`.
 use mathlib.Core.Path.{refl}
 use native.Mathlib.Omega.{arith}
 use Rattle.tree.proofs.Walks.{try-hit, try-miss}
