@@ -30,7 +30,8 @@ none-live : (v : Level) (k : Chunks) (p : ℕ) → ((c : ℕ) → k .own c ≡ 0
 none-live v k p h q e = omega (arith, ltb-true 0 (k .own (q / 2 ^ (p - v .bits))) e, h (q / 2 ^ (p - v .bits)))
 
 -- first cells that are leaves of hop 0 serve no routes where no chunk is one's own
-pub none-serves : (g : Geometry) (t : View) → ((q : ℕ) → q < 2 ^ g .p1 → t .first q ≡ 32768) → ((c : ℕ) → t .chunks2 .own c ≡ 0) → ((c : ℕ) → t .chunks3 .own c ≡ 0) → Serves [] g t
+pub none-serves : (g : Geometry) (t : View) → ((q : ℕ) → q < 2 ^ g .p1 → t .first q ≡ 32768) → ((c : ℕ) → t .chunks2 .own c ≡ 0)
+    → ((c : ℕ) → t .chunks3 .own c ≡ 0) → Serves [] g t
 unfolding any
 none-serves g t f o2 o3 = record {
   first = record {
@@ -71,7 +72,8 @@ unfolding freshLent routesOf tabulate
 fresh-sound g l s = record {
   sized = fresh-sized g l s;
   listed = fresh-listed (length (l .list)) (s .whole);
-  serves = none-serves g _ (λ q h. getD-replicate {A = ℕ} (length (l .first)) q 32768 0 (rw (s .cells1) h)) (zeros (length (l .own2))) (zeros (length (l .own3)));
+  serves = none-serves g _ (λ q h. getD-replicate {A = ℕ} (length (l .first)) q 32768 0 (rw (s .cells1) h)) (zeros (length (l .own2)))
+      (zeros (length (l .own3)));
   clear2 = record { blank = λ q h e. zeros (length (l .second)) q };
   clear3 = record { blank = λ q h e. zeros (length (l .third)) q };
 }

@@ -56,7 +56,8 @@ pub record Reached (rs : List Route) (v : Level) (reach : ℕ → Bool) (find : 
 pub top-reached : (rs : List Route) (p : ℕ) → p ≤ 32 → Reached rs (top p) always itself
 top-reached rs p h = record { few = h; match = record { there = λ x l e. (l, refl, refl); back = λ x l e. (l, refl, refl) }; up = λ i e. refl }
 
-module _ (rs : List Route) (v : Level) (k : Chunks) (cells : ℕ → ℕ) (s : Shows rs v k cells) (reach : ℕ → Bool) (find : ℕ → ℕ) (m : Reached rs v reach find) where
+module _ (rs : List Route) (v : Level) (k : Chunks) (cells : ℕ → ℕ) (s : Shows rs v k cells) (reach : ℕ → Bool) (find : ℕ → ℕ)
+    (m : Reached rs v reach find) where
   -- the chunks in use match the deep cells
   chunks : Matched (inUse (k .own)) (long rs (v .bits)) (λ c. v .at (k .own c - 1)) (λ i. cells (find i) - 1) (k .many) (2 ^ v .bits)
   chunks = record {
@@ -75,7 +76,9 @@ module _ (rs : List Route) (v : Level) (k : Chunks) (cells : ℕ → ℕ) (s : S
 
   -- so as many chunks are in use as are needed
   pub used-need : Good rs → count (inUse (k .own)) (k .many) ≡ need rs (v .bits)
-  used-need good = count-matched (inUse (k .own)) (long rs (v .bits)) (λ c. v .at (k .own c - 1)) (λ i. cells (find i) - 1) (k .many) (2 ^ v .bits) chunks ∙ sym (need-count rs (v .bits) (m .few) good)
+  used-need good =
+      count-matched (inUse (k .own)) (long rs (v .bits)) (λ c. v .at (k .own c - 1)) (λ i. cells (find i) - 1) (k .many) (2 ^ v .bits) chunks
+      ∙ sym (need-count rs (v .bits) (m .few) good)
 
   -- and the level below is reached where the level is deep
   pub below-reached : (p : ℕ) → v .bits ≤ p → p ≤ 32
@@ -85,7 +88,9 @@ module _ (rs : List Route) (v : Level) (k : Chunks) (cells : ℕ → ℕ) (s : S
       let all : 2 ^ v .bits * 2 ^ (p - v .bits) ≡ 2 ^ p = sym (pow-add 2 (v .bits) (p - v .bits)) ∙ ap (λ (n : ℕ). 2 ^ n) sum in
       record {
         few = l;
-        match = rw all at (spread (inUse (k .own)) (long rs (v .bits)) (λ c. v .at (k .own c - 1)) (λ i. cells (find i) - 1) (k .many) (2 ^ v .bits) (2 ^ (p - v .bits)) (pow-pos (p - v .bits)) chunks);
+        match =
+            rw all at (spread (inUse (k .own)) (long rs (v .bits)) (λ c. v .at (k .own c - 1)) (λ i. cells (find i) - 1) (k .many) (2 ^ v .bits)
+            (2 ^ (p - v .bits)) (pow-pos (p - v .bits)) chunks);
         up = λ i e. long-up rs (v .bits) (p - v .bits) i (omega arith) (rw sum e);
       }
 

@@ -89,10 +89,15 @@ module _ (rs : List Route) (g : Geometry) (t : View) (valid : Valid g) (good : G
 
     pub leaf2 : long rs (g .p1) (slot (g .p1) a) ≡ true → long rs (g .p2) (slot (g .p2) a) ≡ false → cell2 g t a ≡ 32768 + best rs (g .p2) (slot (g .p2) a)
     unfolding reach2
-    leaf2 e f = sym v2-is ∙ read-leaf rs (level2 g (t .chunks2)) (t .chunks3) (t .second) (s .second) reach2 find2 reached2 (slot (g .p2) a) (slot-lt (g .p2) a (omega arith) small) (rw up2 e) f
+    leaf2 e f =
+        sym v2-is
+        ∙ read-leaf rs (level2 g (t .chunks2)) (t .chunks3) (t .second) (s .second) reach2 find2 reached2 (slot (g .p2) a)
+        (slot-lt (g .p2) a (omega arith) small) (rw up2 e) f
 
     pub node2 : long rs (g .p2) (slot (g .p2) a) ≡ true → (1 ≤ cell2 g t a) × (cell2 g t a ≤ t .chunks3 .many) × (0 < t .chunks3 .own (cell2 g t a - 1))
-    node2 e = rw (← v2-is) (read-node rs (level2 g (t .chunks2)) (t .chunks3) (t .second) (s .second) reach2 find2 reached2 (slot (g .p2) a) (slot-lt (g .p2) a (omega arith) small) e)
+    node2 e =
+        let small2 = slot-lt (g .p2) a (omega arith) small in
+        rw (← v2-is) (read-node rs (level2 g (t .chunks2)) (t .chunks3) (t .second) (s .second) reach2 find2 reached2 (slot (g .p2) a) small2 e)
 
     pub leaf3 : long rs (g .p2) (slot (g .p2) a) ≡ true → cell3 g t a ≡ 32768 + best rs 32 a
     unfolding reach3
@@ -107,7 +112,8 @@ module _ (rs : List Route) (g : Geometry) (t : View) (valid : Valid g) (good : G
 
     -- the walk: where each chunk of one's own opens, it ends at the best hop, after one cell more for each level that has a longer route there
     pub walk-best : t .chunks2 .many < 32768 → t .chunks3 .many < 32768 → (opens2 opens3 : ℕ → Bool)
-        → ((v : ℕ) → 1 ≤ v → v ≤ t .chunks2 .many → 0 < t .chunks2 .own (v - 1) → opens2 v ≡ true) → ((v : ℕ) → 1 ≤ v → v ≤ t .chunks3 .many → 0 < t .chunks3 .own (v - 1) → opens3 v ≡ true)
+        → ((v : ℕ) → 1 ≤ v → v ≤ t .chunks2 .many → 0 < t .chunks2 .own (v - 1) → opens2 v ≡ true)
+        → ((v : ℕ) → 1 ≤ v → v ≤ t .chunks3 .many → 0 < t .chunks3 .own (v - 1) → opens3 v ≡ true)
         → walkSaid g opens2 opens3 t a ≡ hopSaid (1 + bit (long rs (g .p1) (slot (g .p1) a)) + bit (long rs (g .p2) (slot (g .p2) a))) (best rs 32 a)
     unfolding walkSaid
     walk-best few2 few3 opens2 opens3 free2 free3 = cases (decided (long rs (g .p1) (slot (g .p1) a))) (decided (long rs (g .p2) (slot (g .p2) a)))
@@ -130,7 +136,8 @@ module _ (rs : List Route) (g : Geometry) (t : View) (valid : Valid g) (good : G
         leaf : (n : ℕ) (opens : ℕ → Bool) (v : ℕ) (on : Said) → v ≡ 32768 + best rs 32 a → stepSaid n opens v on ≡ hopSaid n (best rs 32 a)
         leaf n opens v on e = sym (step-leaf n opens v on (omega arith)) ∙ ap (hopSaid n) (omega arith)
 
-        cases : (long rs (g .p1) (slot (g .p1) a) ≡ true) ⊎ (long rs (g .p1) (slot (g .p1) a) ≡ false) → (long rs (g .p2) (slot (g .p2) a) ≡ true) ⊎ (long rs (g .p2) (slot (g .p2) a) ≡ false)
+        cases : (long rs (g .p1) (slot (g .p1) a) ≡ true) ⊎ (long rs (g .p1) (slot (g .p1) a) ≡ false)
+            → (long rs (g .p2) (slot (g .p2) a) ≡ true) ⊎ (long rs (g .p2) (slot (g .p2) a) ≡ false)
             → stepSaid 1 opens2 v1 (stepSaid 2 opens3 v2 (stepSaid 3 shut v3 (refused 5)))
             ≡ hopSaid (1 + bit (long rs (g .p1) (slot (g .p1) a)) + bit (long rs (g .p2) (slot (g .p2) a))) (best rs 32 a)
         cases (inr e) (inl f) = absurd (true≢false (sym (long2-long1 f) ∙ e))
@@ -152,14 +159,18 @@ module _ (rs : List Route) (g : Geometry) (t : View) (valid : Valid g) (good : G
         v3 : ℕ
         v3 = cell3 g t a
 
-        cases : (long rs (g .p1) (slot (g .p1) a) ≡ true) ⊎ (long rs (g .p1) (slot (g .p1) a) ≡ false) → (long rs (g .p2) (slot (g .p2) a) ≡ true) ⊎ (long rs (g .p2) (slot (g .p2) a) ≡ false)
+        cases : (long rs (g .p1) (slot (g .p1) a) ≡ true) ⊎ (long rs (g .p1) (slot (g .p1) a) ≡ false)
+            → (long rs (g .p2) (slot (g .p2) a) ≡ true) ⊎ (long rs (g .p2) (slot (g .p2) a) ≡ false)
             → cond (leb 32768 v1) v1 (cond (leb 32768 v2) v2 v3) ≡ 32768 + best rs 32 a
         cases (inr e) f = let k = leaf1 e in rw (le-leb 32768 v1 (omega arith)) (omega (arith, best-slot rs (g .p1) a (omega arith) e))
-        cases (inl e) (inr f) = let k = leaf2 e f in rw (lt-leb 32768 v1 (omega (arith, node1 e .1)), le-leb 32768 v2 (omega arith)) (omega (arith, best-slot rs (g .p2) a (omega arith) f))
+        cases (inl e) (inr f) =
+            let k = leaf2 e f in
+            rw (lt-leb 32768 v1 (omega (arith, node1 e .1)), le-leb 32768 v2 (omega arith)) (omega (arith, best-slot rs (g .p2) a (omega arith) f))
         cases (inl e) (inl f) = rw (lt-leb 32768 v1 (omega (arith, node1 e .1)), lt-leb 32768 v2 (omega (arith, node2 f .1))) (leaf3 f)
 
   -- every cell in use serves an address
-  pub second-read : t .chunks2 .many < 32768 → (q : ℕ) → q < level2 g (t .chunks2) .places → level2 g (t .chunks2) .live q ≡ true → (a : ℕ) × (a < 2 ^ 32) × ReadsSecond g t a q
+  pub second-read : t .chunks2 .many < 32768 → (q : ℕ) → q < level2 g (t .chunks2) .places → level2 g (t .chunks2) .live q ≡ true
+      → (a : ℕ) × (a < 2 ^ 32) × ReadsSecond g t a q
   unfolding reach2
   second-read few q l e =
       let j = reached2 .match .there q l e in
@@ -171,7 +182,8 @@ module _ (rs : List Route) (g : Geometry) (t : View) (valid : Valid g) (good : G
       let f : long rs (g .p1) (slot (g .p1) a) ≡ true = rw (up2 a h) at (rw (← is) at (j .1)) in
       (a, h, record { goes = leads few (node1 a h f); there = cc (sym (place2-is a h) ∙ ap find2 is ∙ j .2) })
 
-  pub third-read : t .chunks2 .many < 32768 → t .chunks3 .many < 32768 → (q : ℕ) → q < level3 g (t .chunks2) (t .chunks3) .places → level3 g (t .chunks2) (t .chunks3) .live q ≡ true
+  pub third-read : t .chunks2 .many < 32768 → t .chunks3 .many < 32768 → (q : ℕ) → q < level3 g (t .chunks2) (t .chunks3) .places
+      → level3 g (t .chunks2) (t .chunks3) .live q ≡ true
       → (a : ℕ) × (a < 2 ^ 32) × ReadsThird g t a q
   unfolding reach3
   third-read few2 few3 q l e =

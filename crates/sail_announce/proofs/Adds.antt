@@ -1,4 +1,4 @@
--- An announcement step by step: what each step asks, and what they leave. Assumes nothing.
+-- An announcement step by step: what each step asks, and what they leave.
 use mathlib.Core.Path.{_≡_, refl, sym, _∙_, ap}
 use mathlib.Core.Bool.{Bool, not}
 use mathlib.Core.List.{List, [], _∷_}
@@ -95,7 +95,7 @@ module _ (t : Table) (l : Lent) (r : Route) (w : Welcome t l r) where
         rw (list-is, c) (insert-holds (l .list) (t .count) few r add-insertable)
 
     module _ (own2 own3 : List ℕ) (o2 : own2 ≡ own2′) (o3 : own3 ≡ own3′) where
-      pub add-pending : (x : ℕ) → x ≡ r .len → Pending g m (r .addr) x (lent s (l .first) (l .second) (l .third) own2 own3)
+      pub add-pending : (x : ℕ) → x ≡ r .len → Pending g m (r .addr) x s (cells (l .first) (l .second) (l .third) own2 own3)
       add-pending x q = rw (q, o2, o3) (record {
         listed = holds .listed;
         stale = λ ws par ready z. underway-stale g (r .addr) (r .len) (insert r rs) l (lent s (l .first) (l .second) (l .third) own2′ own3′) (welcome-underway t l r w s) ws par ready (z ∙ holds .routes);

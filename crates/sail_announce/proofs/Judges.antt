@@ -1,4 +1,4 @@
--- What the judges of an announcement answer. Assumes nothing.
+-- What the judges of an announcement answer.
 use mathlib.Core.Path.{_≡_, refl, sym, _∙_}
 use mathlib.Core.Logic.{_⊎_, inl, inr}
 use mathlib.Core.Bool.{Bool, true, false, not, _&&_, true≢false}
@@ -83,22 +83,22 @@ module _ (t : Table) (l : Lent) (r : Route) where
       roomy = record { proper = p; new = sym stands-is ∙ h; room = rw length-routes f }
 
       -- the test of a pool tells whether the need exceeds it
-      seven : (n : ℕ) → n ≡ used (l .own2) → (c : Bool) → c ≡ (o .second && leb (length (l .own2)) n) → c ≡ ltb (length (l .own2)) (need (insert r rs) (t .geometry .p1))
-      seven n e c z = z ∙ rw (k .second, e) (over rs r (t .geometry .p1) (l .own2) (second-chunks t l (p .sound)) (p .fine) (length (l .own2)) (used-le (chunksOf (l .own2))))
+      seven : (c : Bool) → c ≡ (o .second && leb (length (l .own2)) (used (l .own2))) → c ≡ ltb (length (l .own2)) (need (insert r rs) (t .geometry .p1))
+      seven c z = z ∙ rw (k .second) (over rs r (t .geometry .p1) (l .own2) (second-chunks t l (p .sound)) (p .fine) (length (l .own2)) (used-le (chunksOf (l .own2))))
 
-      eight : (n : ℕ) → n ≡ used (l .own3) → (c : Bool) → c ≡ (o .third && leb (length (l .own3)) n) → c ≡ ltb (length (l .own3)) (need (insert r rs) (t .geometry .p2))
-      eight n e c z = z ∙ rw (k .third, e) (over rs r (t .geometry .p2) (l .own3) (third-chunks t l (p .sound)) (p .fine) (length (l .own3)) (used-le (chunksOf (l .own3))))
+      eight : (c : Bool) → c ≡ (o .third && leb (length (l .own3)) (used (l .own3))) → c ≡ ltb (length (l .own3)) (need (insert r rs) (t .geometry .p2))
+      eight c z = z ∙ rw (k .third) (over rs r (t .geometry .p2) (l .own3) (third-chunks t l (p .sound)) (p .fine) (length (l .own3)) (used-le (chunksOf (l .own3))))
 
-      module _ (n : ℕ) (in2 : n ≡ used (l .own2)) (c : Bool) (z : c ≡ (o .second && leb (length (l .own2)) n)) where
+      module _ (c : Bool) (z : c ≡ (o .second && leb (length (l .own2)) (used (l .own2)))) where
         pub room-second : c ≡ true → Told 7
-        room-second y = off 7 (omega arith) (Announce.second roomy (ltb-true _ _ (sym (seven n in2 c z) ∙ y)))
+        room-second y = off 7 (omega arith) (Announce.second roomy (ltb-true _ _ (sym (seven c z) ∙ y)))
 
-        module _ (y : c ≡ false) (m : ℕ) (in3 : m ≡ used (l .own3)) (d : Bool) (u : d ≡ (o .third && leb (length (l .own3)) m)) where
+        module _ (y : c ≡ false) (d : Bool) (u : d ≡ (o .third && leb (length (l .own3)) (used (l .own3)))) where
           enough : need (insert r rs) (t .geometry .p1) ≤ length (l .own2)
-          enough = ltb-false _ _ (sym (seven n in2 c z) ∙ y)
+          enough = ltb-false _ _ (sym (seven c z) ∙ y)
 
           pub room-third : d ≡ true → Told 8
-          room-third v = off 8 (omega arith) (Announce.third roomy enough (ltb-true _ _ (sym (eight m in3 d u) ∙ v)))
+          room-third v = off 8 (omega arith) (Announce.third roomy enough (ltb-true _ _ (sym (eight d u) ∙ v)))
 
           pub room-enough : d ≡ false → Told 0
           room-enough v = judged-on _ _ (record {
@@ -106,7 +106,7 @@ module _ (t : Table) (l : Lent) (r : Route) where
             sound = p .sound;
             roomy = omega (arith, insert-adds r rs (roomy .new), roomy .room);
             enough2 = enough;
-            enough3 = ltb-false _ _ (sym (eight m in3 d u) ∙ v);
+            enough3 = ltb-false _ _ (sym (eight d u) ∙ v);
           })
 
   -- the steps before

@@ -1,11 +1,15 @@
 // Announce: a route is added to a table, or replaces the one of its prefix.
+ghost use mathlib.Core.Bool.{_&&_};
 ghost use mathlib.Core.List.{[], _∷_};
 ghost use mathlib.Core.Path.{_≡_};
 ghost use Prim.Native.Nat.{_≤_};
+ghost use lib.Dec.{leb};
+ghost use lib.ListN.{length};
 ghost use Rattle.bits.specs.Count.{bit};
 ghost use Rattle.lists.specs.Edit.{countWith, saysPut};
 ghost use Rattle.routes.specs.Said.{accepted};
 ghost use Rattle.sail.specs.Lent.{lent};
+ghost use Rattle.sail.specs.Sound.{used};
 ghost use Rattle.sail_theory.specs.Calls.{announceSaid, out, adding, told};
 ghost use Rattle.sail_theory.specs.Facts.{Welcome};
 ghost use Rattle.sail_theory.specs.Cases.{Proper};
@@ -27,11 +31,21 @@ use sail::table::Table;
 use sail::table::sizes;
 use sail_calls::clear::clear;
 use sail_calls::renew::renew;
-use sail_change::chunks::wanting;
 use sail_change::opening::open;
 use sail_change::opening::to_open;
 use sail_sound::report::in_use;
 use sail_sound::test::sound;
+
+// Whether a chunk is to be opened, and as many as the limit are in use. They are counted only where one is to be opened.
+fn wanting(opens: bool, own: &[u32], limit: usize) -> bool
+    requires { ⌜ length (now own) ≤ 4096 ⌝ }
+    ensures { λ r. ⌜ r ≡ (opens && leb limit (used (now (own .entry)))) ⌝ }
+{
+    if opens {
+        return limit <= in_use(own) as usize;
+    }
+    false
+}
 
 // 6, 7 or 8, for a fine route and a sound table. A prefix that stands meets none of them.
 fn judge_room(
@@ -57,10 +71,10 @@ fn judge_room(
         return 6;
     }
     let o = to_open(t, list, first, second, own2, own3, r.addr, r.len);
-    if wanting(o.second, in_use(own2) as usize, own2.len()) {
+    if wanting(o.second, own2, own2.len()) {
         return 7;
     }
-    if wanting(o.third, in_use(own3) as usize, own3.len()) {
+    if wanting(o.third, own3, own3.len()) {
         return 8;
     }
     0

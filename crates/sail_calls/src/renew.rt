@@ -1,6 +1,6 @@
 // The cells of a table whose list and owners have changed at a prefix.
 ghost use Rattle.routes.specs.Record.{routesOf};
-ghost use Rattle.sail.specs.Lent.{lent, cells};
+ghost use Rattle.sail.specs.Lent.{cells};
 ghost use Rattle.sail_paint.specs.Stale.{Repainted};
 ghost use Rattle.sail_list.specs.List.{Scratch};
 ghost use Rattle.sail_paint.specs.Pending.{Pending};
@@ -8,9 +8,9 @@ use sail::geometry::Geometry;
 use sail_list::chained;
 use sail_paint::repaint::repaint;
 
-// The live cells become what the first n records of the list and the owners ask for; the others stay. `addr` and `len` are the prefix at which
-// these have changed, and no cell that it does not touch is painted. `ws` and `par` are room for the words of the routes
-// and their chain.
+// The live cells become what the first n records of the list and the owners ask for; the others stay. `addr` and `len` are
+// the prefix at which these have changed, and no cell that it does not touch is painted. `ws` and `par` are room for the
+// words of the routes and their chain.
 fn renew_with(
     g: Geometry,
     list: &[u8],
@@ -25,7 +25,7 @@ fn renew_with(
     ws: &mut [u64],
     par: &mut [u16],
 )
-    requires { ⌜ Pending g n addr len (lent (now list) (now first) (now second) (now third) (now own2) (now own3)) ⌝ }
+    requires { ⌜ Pending g n addr len (now list) (cells (now first) (now second) (now third) (now own2) (now own3)) ⌝ }
     requires { ⌜ Scratch (now ws) (now par) ⌝ }
     ensures { λ _. ⌜ Repainted g (routesOf (now (list .entry)) n) (cells (now (first .entry)) (now (second .entry)) (now (third .entry)) (now (own2 .entry)) (now (own3 .entry))) (now (first .exit)) (now (second .exit)) (now (third .exit)) ⌝ }
 {
@@ -57,7 +57,7 @@ pub fn renew(
     own2: &[u32],
     own3: &[u32],
 )
-    requires { ⌜ Pending g n addr len (lent (now list) (now first) (now second) (now third) (now own2) (now own3)) ⌝ }
+    requires { ⌜ Pending g n addr len (now list) (cells (now first) (now second) (now third) (now own2) (now own3)) ⌝ }
     ensures { λ _. ⌜ Repainted g (routesOf (now (list .entry)) n) (cells (now (first .entry)) (now (second .entry)) (now (third .entry)) (now (own2 .entry)) (now (own3 .entry))) (now (first .exit)) (now (second .exit)) (now (third .exit)) ⌝ }
 {
     let mut ws = [0u64; 4096];

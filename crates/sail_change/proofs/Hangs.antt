@@ -1,12 +1,12 @@
 -- A search for a chunk, a prefix that alone needs one, and a chunk hung or closed.
 use mathlib.Core.Path.{_≡_, refl, sym, _∙_}
 use mathlib.Core.Logic.{_⊎_, inl, inr, _≢_}
-use mathlib.Core.Bool.{Bool, true, false, not, _&&_, true≢false}
+use mathlib.Core.Bool.{Bool, true, false, not, true≢false}
 use mathlib.Core.List.{List}
 use Prim.Native.Nat.{ℕ, suc, _+_, _*_, _^_, _≤_, _<_}
 use native.Mathlib.Omega.{arith}
 use native.Mathlib.Nat.{mul-le-mul-right, suc-mul, one-mul}
-use lib.Dec.{ltb, leb}
+use lib.Dec.{ltb}
 use lib.ListN.{getD, length, set, length-set, List·getD-eq-default}
 use lib.Seq.{getD-set-same, getD-set-other}
 use borrow.Author.Tests.{ltb-true, lt-ltb, not-true}
@@ -49,13 +49,6 @@ module _ (rs : List Route) (p a len : ℕ) where
       go : (long rs p (slot p a) ≡ true) ⊎ (long rs p (slot p a) ≡ false) → long rs p (slot p a) ≡ true
       go (inl d) = d
       go (inr d) = absurd (true≢false (sym (is-alone (lt-ltb p len h) d) ∙ e))
-
--- what `wanting` answers, where a chunk is to be opened
-pub wanting-on : (b : Bool) (used limit : ℕ) → b ≡ true → leb limit used ≡ (b && leb limit used)
-wanting-on b used limit h = rw h
-
-pub wanting-off : (b : Bool) (used limit : ℕ) → b ≡ false → false ≡ (b && leb limit used)
-wanting-off b used limit h = rw h
 
 -- a chunk hung, or not
 pub hang-on : (own own′ : List ℕ) (b : Bool) (o c : ℕ) → c ≡ find own 0 → b ≡ true → own′ ≡ set own c o → own′ ≡ hung b o own

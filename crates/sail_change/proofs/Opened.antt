@@ -63,14 +63,17 @@ module _ (rs : List Route) (r : Route) (v′ : Level) (own : List ℕ) (w : Read
   unfolding hung alone
   open-hung = go (below? (v′ .bits) (r .len)) (decided (long rs (v′ .bits) (slot (v′ .bits) (r .addr))))
     where
-      go : (v′ .bits < r .len) ⊎ (r .len ≤ v′ .bits) → (long rs (v′ .bits) (slot (v′ .bits) (r .addr)) ≡ true) ⊎ (long rs (v′ .bits) (slot (v′ .bits) (r .addr)) ≡ false)
-          → own′ ≡ cond (ltb (v′ .bits) (r .len) && not (long rs (v′ .bits) (slot (v′ .bits) (r .addr)))) (set own (find own 0) (suc (v′ .serving (r .addr)))) own
+      go : (v′ .bits < r .len) ⊎ (r .len ≤ v′ .bits)
+          → (long rs (v′ .bits) (slot (v′ .bits) (r .addr)) ≡ true) ⊎ (long rs (v′ .bits) (slot (v′ .bits) (r .addr)) ≡ false)
+          → own′
+          ≡ cond (ltb (v′ .bits) (r .len) && not (long rs (v′ .bits) (slot (v′ .bits) (r .addr)))) (set own (find own 0) (suc (v′ .serving (r .addr)))) own
       go (inr h) d = open-short rs r v′ own (find own 0) w h ∙ rw (le-ltb (v′ .bits) (r .len) h)
       go (inl h) (inl d) = open-had rs r v′ own (find own 0) w d ∙ rw (lt-ltb (v′ .bits) (r .len) h, d)
       go (inl h) (inr d) = open-new rs r v′ own (find own 0) w h d .1 ∙ rw (lt-ltb (v′ .bits) (r .len) h, d)
 
   -- the chunk that then serves the route: the new one, or the one that was there
-  pub chunk-next : v′ .bits < r .len → cond (alone rs (v′ .bits) (r .addr) (r .len)) (find own 0) (find own (suc (v′ .serving (r .addr)))) ≡ find own′ (suc (v′ .serving (r .addr)))
+  pub chunk-next : v′ .bits < r .len
+      → cond (alone rs (v′ .bits) (r .addr) (r .len)) (find own 0) (find own (suc (v′ .serving (r .addr)))) ≡ find own′ (suc (v′ .serving (r .addr)))
   unfolding hung
   chunk-next h = rw open-hung (go (decided (alone rs (v′ .bits) (r .addr) (r .len))))
     where
@@ -78,16 +81,19 @@ module _ (rs : List Route) (r : Route) (v′ : Level) (own : List ℕ) (w : Read
       q = v′ .serving (r .addr)
 
       go : (alone rs (v′ .bits) (r .addr) (r .len) ≡ true) ⊎ (alone rs (v′ .bits) (r .addr) (r .len) ≡ false)
-          → cond (alone rs (v′ .bits) (r .addr) (r .len)) (find own 0) (find own (suc q)) ≡ find (cond (alone rs (v′ .bits) (r .addr) (r .len)) (set own (find own 0) (suc q)) own) (suc q)
+          → cond (alone rs (v′ .bits) (r .addr) (r .len)) (find own 0) (find own (suc q))
+          ≡ find (cond (alone rs (v′ .bits) (r .addr) (r .len)) (set own (find own 0) (suc q)) own) (suc q)
       go (inr e) = rw e
       go (inl e) =
           let k = alone-parts rs (v′ .bits) (r .addr) (r .len) e in
           let bare : long rs (v′ .bits) (v′ .at q) ≡ false = rw (w .served (k .0) .stands) (k .1) in
           rw e (sym (find-hung own (find own 0) q (w .space (k .0) (k .1) .0) (unhung rs v′ own (w .fits) q bare)))
 
-  module _ (v : Level) (bits : v′ .bits ≡ v .bits) (was : Fits rs v (chunksOf own)) (over : (x : ℕ) → v .live x ≡ true → v .at x ≡ v′ .at x) (p : ℕ) (cells : List ℕ) (clear : Clear (below v (chunksOf own) p) (entry cells)) where
+  module _ (v : Level) (bits : v′ .bits ≡ v .bits) (was : Fits rs v (chunksOf own)) (over : (x : ℕ) → v .live x ≡ true → v .at x ≡ v′ .at x) (p : ℕ)
+      (cells : List ℕ) (clear : Clear (below v (chunksOf own) p) (entry cells)) where
     -- a chunk whose cell does not meet the route's prefix is not the new one
-    keeps : (c x : ℕ) → c < length own → getD own′ c 0 ≡ suc x → meets (r .addr) (r .len) (v′ .bits) (v′ .at x) ≡ false → (getD own c 0 ≡ suc x) × (v .at x ≡ v′ .at x)
+    keeps : (c x : ℕ) → c < length own → getD own′ c 0 ≡ suc x → meets (r .addr) (r .len) (v′ .bits) (v′ .at x) ≡ false
+        → (getD own c 0 ≡ suc x) × (v .at x ≡ v′ .at x)
     keeps c x h e m =
         let k = hung-was own (alone rs (v′ .bits) (r .addr) (r .len)) (v′ .serving (r .addr)) c x (rw open-hung at e) new in
         (k, over x (was .lies c x h k .1))
@@ -95,7 +101,8 @@ module _ (rs : List Route) (r : Route) (v′ : Level) (own : List ℕ) (w : Read
         new : needed → (x ≡ v′ .serving (r .addr)) → ⊥
         new b y =
             let here = ap (v′ .at) y ∙ w .served (alone-parts rs (v′ .bits) (r .addr) (r .len) b .0) .stands in
-            true≢false (sym (ap (meets (r .addr) (r .len) (v′ .bits)) here ∙ meets-own (r .addr) (r .len) (v′ .bits) (alone-longer rs (v′ .bits) (r .addr) (r .len) b)) ∙ m)
+            let met = meets-own (r .addr) (r .len) (v′ .bits) (alone-longer rs (v′ .bits) (r .addr) (r .len) b) in
+            true≢false (sym (ap (meets (r .addr) (r .len) (v′ .bits)) here ∙ met) ∙ m)
 
     -- a chunk that is free now was free
     free : (q : ℕ) → below v′ (chunksOf own′) p .live q ≡ false → below v (chunksOf own) p .live q ≡ false
@@ -133,7 +140,8 @@ module _ (g : Geometry) (rs : List Route) (r : Route) (first second own2 own3 : 
   second-ready =
       let v = w .serving .valid in
       ready-below rs r (level1 g) own2 (find own2 0) first-ready (g .p2) (omega arith) (omega arith) own3 (find own3 0)
-      (shows-fits rs (level2 g (chunksOf own2)) (chunksOf own3) (entry second) (w .serving .shows2)) (free-space rs r (level2 g (chunksOf (opening (level1 g) own2 r))) own3 (w .free3))
+      (shows-fits rs (level2 g (chunksOf own2)) (chunksOf own3) (entry second) (w .serving .shows2))
+      (free-space rs r (level2 g (chunksOf (opening (level1 g) own2 r))) own3 (w .free3))
 
 module _ (t : Table) (l : Lent) (r : Route) (w : Welcome t l r) where
   abbrev g : Geometry
@@ -162,7 +170,8 @@ module _ (t : Table) (l : Lent) (r : Route) (w : Welcome t l r) where
   over : (x : ℕ) → level2 g (chunksOf (l .own2)) .live x ≡ true → level2 g (chunksOf (l .own2)) .at x ≡ level2 g (chunksOf own2′) .at x
   over x e =
       let o = live-owner (level1 g) (chunksOf (l .own2)) (g .p2) x e in
-      sym (below-same (level1 g) (level1 g) (chunksOf (l .own2)) (chunksOf own2′) (g .p2) x refl (open-stays (level1 g) (l .own2) r _ _ o ∙ sym o) (λ z _. refl) .at e)
+      let stays = open-stays (level1 g) (l .own2) r _ _ o in
+      sym (below-same (level1 g) (level1 g) (chunksOf (l .own2)) (chunksOf own2′) (g .p2) x refl (stays ∙ sym o) (λ z _. refl) .at e)
 
   -- whatever the list then is
   pub welcome-underway : (s : List ℕ) → Underway g (r .addr) (r .len) (insert r rs) l (lent s (l .first) (l .second) (l .third) own2′ own3′)
@@ -174,7 +183,9 @@ module _ (t : Table) (l : Lent) (r : Route) (w : Welcome t l r) where
         room = roomOf l;
         frame = announce-frame t l r w;
         first = refl;
-        second = opening-held rs r (level1 g) (l .own2) (ready1 t l r w) (level1 g) refl (shows-fits rs (level1 g) (chunksOf (l .own2)) (entry (l .first)) (z .shows1)) (λ x _. refl)
+        second =
+            opening-held rs r (level1 g) (l .own2) (ready1 t l r w) (level1 g) refl
+            (shows-fits rs (level1 g) (chunksOf (l .own2)) (entry (l .first)) (z .shows1)) (λ x _. refl)
             (g .p2) (l .second) (w .sound .clear2);
         third = opening-held rs r (level2 g (chunksOf own2′)) (l .own3) (ready2 t l r w) (level2 g (chunksOf (l .own2))) refl
             (shows-fits rs (level2 g (chunksOf (l .own2))) (chunksOf (l .own3)) (entry (l .second)) (z .shows2)) over 32 (l .third) (w .sound .clear3);

@@ -72,7 +72,8 @@ module _ (g : Geometry) (rs : List Route) (own2 own3 : List ℕ) (a x1 x2 : ℕ)
   }
 
 -- what `open` hands on, and what it leaves
-module _ (g : Geometry) (rs : List Route) (r : Route) (first second own2 own3 : List ℕ) (w : Openable g rs r first second own2 own3) (o : Opening) (k : Opens g rs own2 (r .addr) (r .len) o) where
+module _ (g : Geometry) (rs : List Route) (r : Route) (first second own2 own3 : List ℕ) (w : Openable g rs r first second own2 own3) (o : Opening)
+    (k : Opens g rs own2 (r .addr) (r .len) o) where
   abbrev next2 : List ℕ
   next2 = opening (level1 g) own2 r
 
@@ -87,17 +88,21 @@ module _ (g : Geometry) (rs : List Route) (r : Route) (first second own2 own3 : 
 
   -- the second chunk that then serves the route
   served-by : (c : ℕ) → c ≡ cond (o .second) (find own2 0) (o .chunk) → g .p1 < r .len → c ≡ find next2 (suc (slot (g .p1) (r .addr)))
-  served-by c e h = e ∙ rw (k .second) (go (decided (alone rs (g .p1) (r .addr) (r .len)))) ∙ chunk-next rs r (level1 g) own2 (first-ready g rs r first second own2 own3 w) h
+  served-by c e h =
+      e ∙ rw (k .second) (go (decided (alone rs (g .p1) (r .addr) (r .len)))) ∙ chunk-next rs r (level1 g) own2 (first-ready g rs r first second own2 own3 w) h
     where
       go : (alone rs (g .p1) (r .addr) (r .len) ≡ true) ⊎ (alone rs (g .p1) (r .addr) (r .len) ≡ false)
-          → cond (alone rs (g .p1) (r .addr) (r .len)) (find own2 0) (o .chunk) ≡ cond (alone rs (g .p1) (r .addr) (r .len)) (find own2 0) (find own2 (suc (slot (g .p1) (r .addr))))
+          → cond (alone rs (g .p1) (r .addr) (r .len)) (find own2 0) (o .chunk)
+          ≡ cond (alone rs (g .p1) (r .addr) (r .len)) (find own2 0) (find own2 (suc (slot (g .p1) (r .addr))))
       go (inl d) = rw d
       go (inr d) = rw (k .chunk h d)
 
-  pub opened-third : (c : ℕ) → c ≡ cond (o .second) (find own2 0) (o .chunk) → (q : ℕ) (own : List ℕ) → q ≡ c * 2 ^ bits2 g + slot (g .p2) (r .addr) % 2 ^ bits2 g → own ≡ hung (o .third) (q + 1) own3
+  pub opened-third : (c : ℕ) → c ≡ cond (o .second) (find own2 0) (o .chunk) → (q : ℕ) (own : List ℕ)
+      → q ≡ c * 2 ^ bits2 g + slot (g .p2) (r .addr) % 2 ^ bits2 g → own ≡ hung (o .third) (q + 1) own3
       → own ≡ opening (level2 g (chunksOf next2)) own3 r
   unfolding hung
-  opened-third c z q own e h = h ∙ go (decided (o .third)) ∙ rw (k .third) (sym (open-hung rs r (level2 g (chunksOf next2)) own3 (second-ready g rs r first second own2 own3 w)))
+  opened-third c z q own e h =
+      h ∙ go (decided (o .third)) ∙ rw (k .third) (sym (open-hung rs r (level2 g (chunksOf next2)) own3 (second-ready g rs r first second own2 own3 w)))
     where
       go : (o .third ≡ true) ⊎ (o .third ≡ false) → hung (o .third) (q + 1) own3 ≡ hung (o .third) (suc (level2 g (chunksOf next2) .serving (r .addr))) own3
       go (inr y) = rw y

@@ -38,7 +38,8 @@ use Rattle.sail_change.proofs.Still.{Held}
 use Rattle.sail_change.proofs.Underway.{Underway}
 
 -- x: the cell was long; y: it is long still; z: the prefix is longer than the level
-closes-is : (x y z : Bool) (c : ℕ) (own : List ℕ) → (z ≡ true → x ≡ true) → (z ≡ false → y ≡ x) → cond x (cond y own (set own c 0)) own ≡ closed (z && not y) c own
+closes-is : (x y z : Bool) (c : ℕ) (own : List ℕ) → (z ≡ true → x ≡ true) → (z ≡ false → y ≡ x)
+    → cond x (cond y own (set own c 0)) own ≡ closed (z && not y) c own
 unfolding closed
 closes-is true true z c own f h = go z
   where
@@ -72,7 +73,8 @@ module _ (t : Table) (l : Lent) (a len : ℕ) (w : Farewell t l a len) where
 
   -- and a level that is as long as the prefix keeps them
   same-long : (p : ℕ) → ltb p len ≡ false → long left p (slot p a) ≡ long rs p (slot p a)
-  same-long p e = sym (remove-long a len rs (w .prefix .len-ok) (standing-good t l (w .sound)) p (slot p a) (λ h _. absurd (true≢false (sym (lt-ltb p len h) ∙ e))))
+  same-long p e =
+      sym (remove-long a len rs (w .prefix .len-ok) (standing-good t l (w .sound)) p (slot p a) (λ h _. absurd (true≢false (sym (lt-ltb p len h) ∙ e))))
 
   -- A level at which nothing but the cell of the prefix may be long no longer, and the pool of p bits below it.
   module _ (v : Level) (own : List ℕ) (z : Losing rs left a v own) (p : ℕ) (cells : List ℕ) (size : length cells ≡ below v (chunksOf own) p .places) where
@@ -87,7 +89,8 @@ module _ (t : Table) (l : Lent) (a len : ℕ) (w : Farewell t l a len) where
     unfolding alone
     keep-closes =
         keep-stores rs left a v own z
-        ∙ closes-is (long rs (v .bits) (slot (v .bits) a)) (long left (v .bits) (slot (v .bits) a)) (ltb (v .bits) len) chunk own (λ e. was-long (v .bits) (ltb-true _ _ e)) (same-long (v .bits))
+        ∙ closes-is (long rs (v .bits) (slot (v .bits) a)) (long left (v .bits) (slot (v .bits) a)) (ltb (v .bits) len) chunk own
+        (λ e. was-long (v .bits) (ltb-true _ _ e)) (same-long (v .bits))
 
     -- it is there
     one : closes ≡ true → chunk < length own
@@ -101,7 +104,8 @@ module _ (t : Table) (l : Lent) (a len : ℕ) (w : Farewell t l a len) where
     closing few small = record { one = one; few = few; size = small; whole = size }
 
     -- and what it leaves, where the places are then v′
-    module _ (v′ : Level) (bits : v′ .bits ≡ v .bits) (fits : Fits left v′ (chunksOf (keep left v own))) (clear : Clear (below v (chunksOf own) p) (entry cells))
+    module _ (v′ : Level) (bits : v′ .bits ≡ v .bits) (fits : Fits left v′ (chunksOf (keep left v own)))
+        (clear : Clear (below v (chunksOf own) p) (entry cells))
         (over : (c x : ℕ) → c < length own → getD own c 0 ≡ suc x → deep left v x ≡ true → v .at x ≡ v′ .at x) where
       pub closing-held : Held left a len v v′ p own (keep left v own) cells (blanked closes chunk (p - v .bits) cells)
       closing-held = record {
@@ -111,7 +115,10 @@ module _ (t : Table) (l : Lent) (a len : ℕ) (w : Farewell t l a len) where
         fits = fits;
         keeps = λ c x h e _. let k = kept-was left v own c x e in (k .0, over c x h (k .0) (k .1));
         held = λ q l u. closed-held closes own cells chunk (p - v .bits) one q (inside q l) (rw (bits, keep-closes) at u);
-        clear = record { blank = λ q l u. closed-blank closes own cells chunk (p - v .bits) one q (inside q l) (λ e. clear .blank q (rw (bits, length-keep) at l) e) (rw (bits, keep-closes) at u) };
+        clear = record {
+          blank = λ q l u.
+              closed-blank closes own cells chunk (p - v .bits) one q (inside q l) (λ e. clear .blank q (rw (bits, length-keep) at l) e) (rw (bits, keep-closes) at u);
+        };
       }
         where
           inside : (q : ℕ) → q < below v′ (chunksOf (keep left v own)) p .places → q < length cells
@@ -131,7 +138,8 @@ module _ (t : Table) (l : Lent) (a len : ℕ) (w : Farewell t l a len) where
   over c x h e d =
       let v = w .sound .sized .valid in
       let lives = losing2 t l a len w .fits .lies c x h e .1 in
-      let o = kept-over rs left (less t l a len w) (level1 g) (chunksOf (l .own2)) (chunksOf own2′) (g .p2) (omega arith) (omega arith) (keep-closed left (level1 g) (l .own2)) x lives d in
+      let shut = keep-closed left (level1 g) (l .own2) in
+      let o = kept-over rs left (less t l a len w) (level1 g) (chunksOf (l .own2)) (chunksOf own2′) (g .p2) (omega arith) (omega arith) shut x lives d in
       sym (below-same (level1 g) (level1 g) (chunksOf (l .own2)) (chunksOf own2′) (g .p2) x refl o (λ y _. refl) .at lives)
 
   -- whatever the list then is
@@ -144,6 +152,10 @@ module _ (t : Table) (l : Lent) (a len : ℕ) (w : Farewell t l a len) where
     room = roomOf l;
     frame = withdraw-frame t l a len w;
     first = refl;
-    second = closing-held (level1 g) (l .own2) (losing1 t l a len w) (g .p2) (l .second) (w .sound .sized .cells2) (level1 g) refl (farewell-fits2 t l a len w) (w .sound .clear2) (λ c x h e d. refl);
-    third = closing-held v2 (l .own3) (losing2 t l a len w) 32 (l .third) (w .sound .sized .cells3) (level2 g (chunksOf own2′)) refl (farewell-fits3 t l a len w) (w .sound .clear3) over;
+    second = closing-held (level1 g) (l .own2) (losing1 t l a len w) (g .p2) (l .second) (w .sound .sized .cells2) (level1 g) refl
+        (farewell-fits2 t l a len w)
+        (w .sound .clear2) (λ c x h e d. refl);
+    third = closing-held v2 (l .own3) (losing2 t l a len w) 32 (l .third) (w .sound .sized .cells3) (level2 g (chunksOf own2′)) refl
+        (farewell-fits3 t l a len w)
+        (w .sound .clear3) over;
   }

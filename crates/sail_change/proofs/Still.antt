@@ -36,7 +36,8 @@ meets-none a len p i h k m = go (decided (leb len p))
 
 none-below : (a len p d p′ i j : ℕ) → p + d ≡ p′ → p′ ≤ 32 → j < 2 ^ d → NoneUnder a len p i → NoneUnder a len p′ (i * 2 ^ d + j)
 unfolding NoneUnder
-none-below a len p d p′ i j k h l n x s e u = n x s (sym (slot-up p d x (omega arith)) ∙ ap (λ (y : ℕ). slot y x / 2 ^ d) k ∙ ap (λ (y : ℕ). y / 2 ^ d) e ∙ digits-div i l) u
+none-below a len p d p′ i j k h l n x s e u =
+    n x s (sym (slot-up p d x (omega arith)) ∙ ap (λ (y : ℕ). slot y x / 2 ^ d) k ∙ ap (λ (y : ℕ). y / 2 ^ d) e ∙ digits-div i l) u
 
 -- The chunks that hang from a level and their cells, of p bits, while a change at the prefix is under way. Before it the level is v, the owners
 -- are `own` and the cells `was`; now it is v′, with `own′` and `now`, and rs are the routes that then stand.
@@ -53,9 +54,11 @@ pub record Held (rs : List Route) (a len : ℕ) (v v′ : Level) (p : ℕ) (own 
 
 -- So a cell is right that is live and not stale: its chunk has kept its owner, no address under the prefix lies in it, and the frame of the
 -- change says that it asks what it asked.
-module _ (rs : List Route) (a len : ℕ) (short : len ≤ 32) (v v′ : Level) (p : ℕ) (low : v .bits ≤ p) (top : p ≤ 32) (own own′ was now : List ℕ) (w : Held rs a len v v′ p own own′ was now)
+module _ (rs : List Route) (a len : ℕ) (short : len ≤ 32) (v v′ : Level) (p : ℕ) (low : v .bits ≤ p) (top : p ≤ 32) (own own′ was now : List ℕ)
+    (w : Held rs a len v v′ p own own′ was now)
     (j : Chunks) (frame : Framed a len (below v (chunksOf own) p) (below v′ (chunksOf own′) p) was (pool rs (below v′ (chunksOf own′) p) j)) where
-  module _ (q : ℕ) (l : q < below v′ (chunksOf own′) p .places) (u : below v′ (chunksOf own′) p .live q ≡ true) (n : staleBelow a len v′ (chunksOf own′) p q ≡ false) where
+  module _ (q : ℕ) (l : q < below v′ (chunksOf own′) p .places) (u : below v′ (chunksOf own′) p .live q ≡ true)
+      (n : staleBelow a len v′ (chunksOf own′) p q ≡ false) where
     -- its chunk, and the place that the chunk hangs from
     abbrev c : ℕ
     c = q / 2 ^ (p - v .bits)

@@ -82,10 +82,14 @@ module _ (g : Geometry) (rs : List Route) (first second own2 own3 : List ℕ) (s
         served2 : LiveFor (level2 g (chunksOf own2)) a
         served2 =
             let v = s .valid in
-            below-served rs (level1 g) (chunksOf own2) (shows-fits rs (level1 g) (chunksOf own2) (entry first) (s .shows1)) (g .p2) a (omega arith) (omega arith) served1 deeper
+            below-served rs (level1 g) (chunksOf own2) (shows-fits rs (level1 g) (chunksOf own2) (entry first) (s .shows1)) (g .p2) a (omega arith)
+            (omega arith) served1 deeper
 
         pub second-there : q < length second
         second-there = rw (is-place, s .cells2) (served2 .inside)
 
         pub trail-long : Trailed g rs own2 own3 a x (getD second q 0)
-        trail-long = record { first = first-told; second = rw is-place (told rs (level2 g (chunksOf own2)) (entry second) own3 (s .few3) (s .shows2) a served2) }
+        trail-long = record {
+          first = first-told;
+          second = rw is-place (told rs (level2 g (chunksOf own2)) (entry second) own3 (s .few3) (s .shows2) a served2);
+        }

@@ -73,7 +73,9 @@ module _ (s : List ℕ) (n p i k : ℕ) (good : Levelled s n p) (at : k ≡ plac
         where
           later : (k ≡ j) ⊎ (k ≢ j) → k ≤ j → recordAt s k .addr ≤ recordAt s j .addr
           later (inl q) h = rw q (omega arith)
-          later (inr q) h = omega (arith, good .records .rises k j (omega arith) l, good .records .each k (omega arith) .prefix .len-ok, good .records .each j l .prefix .len-ok)
+          later (inr q) h =
+              omega
+              (arith, good .records .rises k j (omega arith) l, good .records .each k (omega arith) .prefix .len-ok, good .records .each j l .prefix .len-ok)
 
   long-nowhere : (k < n → slot p (recordAt s k .addr) ≢ i) → long (routesOf s n) p i ≡ false
   long-nowhere h = any-none (within p i) (routesOf s n) (λ j u.

@@ -53,7 +53,8 @@ module _ (g : Geometry) (a len : ℕ) (rs : List Route) (l u : Lent) (w : Underw
   right1 = record {
     right = λ q i e m.
         let v = w .sized .valid in
-        ap (λ (x : List ℕ). getD x q 0) (w .first) ∙ sym (w .frame .first .stays q i (record { live = refl; at = λ _. refl }) (λ _. meets-none a len (g .p1) q (w .prefix .len-ok) (omega arith) m))
+        let none = meets-none a len (g .p1) q (w .prefix .len-ok) (omega arith) m in
+        ap (λ (x : List ℕ). getD x q 0) (w .first) ∙ sym (w .frame .first .stays q i (record { live = refl; at = λ _. refl }) (λ _. none))
         ∙ pool-shown rs (level1 g) k2 q i e;
   }
 
@@ -65,7 +66,8 @@ module _ (g : Geometry) (a len : ℕ) (rs : List Route) (l u : Lent) (w : Underw
   right3 : Right rs (level3 g k2 k3) noChunks (staleBelow a len (level2 g k2) k3 32) (u .third)
   right3 =
       let v = w .sized .valid in
-      held-right rs a len (w .prefix .len-ok) (level2 g (chunksOf (l .own2))) (level2 g k2) 32 (omega arith) (omega arith) _ _ _ _ (w .third) noChunks (w .frame .third)
+      held-right rs a len (w .prefix .len-ok) (level2 g (chunksOf (l .own2))) (level2 g k2) 32 (omega arith) (omega arith) _ _ _ _ (w .third) noChunks
+      (w .frame .third)
 
   -- the routes of the words are those that then stand
   pub underway-stale : (ws par : List ℕ) → Ready ws par → routesIn ws ≡ rs → Stale g ws par a len (cellsOf u)

@@ -1,8 +1,6 @@
 // Chunks taken and given back: the owners of a pool, and the cells of a chunk that is closed.
 ghost use mathlib.Core.Path.{_≡_};
-ghost use mathlib.Core.Bool.{_&&_};
-ghost use Prim.Native.Nat.{_≤_, _<_};
-ghost use lib.Dec.{leb};
+ghost use Prim.Native.Nat.{_≤_};
 ghost use lib.ListN.{length};
 ghost use Rattle.sail_theory.specs.Render.{find};
 ghost use Rattle.sail_change.specs.Chunks.{hung, closed, blanked, Free, Closing};
@@ -21,16 +19,6 @@ pub fn chunk_named(own: &[u32], o: u32) -> usize
         c += 1;
     }
     c
-}
-
-// Whether a chunk is to be opened, and as many as the limit are in use.
-pub fn wanting(opens: bool, used: usize, limit: usize) -> bool
-    ensures { λ r. ⌜ r ≡ (opens && leb limit used) ⌝ }
-{
-    if opens {
-        return limit <= used;
-    }
-    false
 }
 
 // The lowest free chunk gets the owner o, where one is to be opened.

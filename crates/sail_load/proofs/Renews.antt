@@ -1,7 +1,6 @@
 -- All that is lent, written anew: what repainting the whole table asks, and what a load leaves.
 use mathlib.Core.Path.{_≡_, refl, sym, _∙_, ap, subst}
-use mathlib.Core.Logic.{_⊎_, inl, inr}
-use mathlib.Core.Bool.{true, false, true≢false}
+use mathlib.Core.Bool.{true, true≢false}
 use mathlib.Core.List.{List, []}
 use Prim.Native.Nat.{ℕ, _-_, _*_, _/_, _^_, _≤_, _<_, zero-le}
 use native.Mathlib.Omega.{arith}
@@ -11,7 +10,7 @@ use lib.ListN.{length, getD, replicate, length-replicate}
 use borrow.Author.Tests.{le-leb, eqb-true}
 use Rattle.bits.specs.Slot.{slot}
 use Rattle.bits.proofs.Slots.{slot-lt, cut-zero}
-use Rattle.bits.proofs.Tests.{decided, and-split}
+use Rattle.bits.proofs.Tests.{and-split}
 use Rattle.routes.specs.Route.{Good}
 use Rattle.standing.specs.Cells.{within, long}
 use Rattle.routes.specs.Record.{written}
@@ -21,10 +20,10 @@ use Rattle.routes.proofs.Goods.{good-fine}
 use Rattle.routes.proofs.Rows.{length-routes, records-good}
 use Rattle.sail.specs.Geometry.{bits2, bits3}
 use Rattle.sail.specs.Lent.{Lent, lent, cells}
-use Rattle.sail.specs.Level.{Level, chunksOf, below, level1, level2}
+use Rattle.sail.specs.Level.{Level, Chunks, chunksOf, noChunks, below, level1, level2}
 use Rattle.sail.specs.declared.geometry.Geometry.{Geometry}
 use Rattle.sail.specs.declared.table.Table.{Table}
-use Rattle.sail_paint.specs.Stale.{meets, staleBelow, Repainted}
+use Rattle.sail_paint.specs.Stale.{meets, staleBelow, Right, Repainted}
 use Rattle.sail_paint.specs.Pending.{Pending}
 use Rattle.sail_paint.proofs.Rights.{repainted-asked}
 use Rattle.sail_theory.specs.Render.{Fits, roomOf}
@@ -51,22 +50,21 @@ long-lt rs p i h good e = any-some (within p i) rs (i < 2 ^ p) e (λ r m t.
     let c = eqb-true (slot p (r .addr)) i (and-split (ltb p (r .len)) (eqb (slot p (r .addr)) i) t .1) in
     omega (arith, c, slot-lt p (r .addr) h (good-fine rs good r m .prefix .addr-ok)))
 
--- so a place of the level below that is not stale is in no chunk in use
-not-live : (rs : List Route) → Good rs → (v : Level) → v .bits ≤ 32 → (own : List ℕ) (p : ℕ) → Fits rs v (chunksOf own) → (q : ℕ) → q < below v (chunksOf own) p .places → staleBelow 0 0 v (chunksOf own) p q ≡ false → below v (chunksOf own) p .live q ≡ false
-not-live rs good v h own p f q l e = go (decided (below v (chunksOf own) p .live q))
-  where
-    go : (below v (chunksOf own) p .live q ≡ true) ⊎ (below v (chunksOf own) p .live q ≡ false) → below v (chunksOf own) p .live q ≡ false
-    go (inr x) = x
-    go (inl x) =
-        let long-here = f .lies _ _ (chunk-lt (p - v .bits) (length own) q l) (live-owner v (chunksOf own) p q x) .2 in
-        absurd (true≢false (sym (all-meet (v .bits) _ (long-lt rs (v .bits) _ h good long-here)) ∙ rw x at e))
+-- so a live place of the level below is stale: nothing is asked of the cells of a pool
+all-stale : (rs : List Route) → Good rs → (v : Level) → v .bits ≤ 32 → (own : List ℕ) (p : ℕ) → Fits rs v (chunksOf own) → (k : Chunks) (cells : List ℕ)
+    → Right rs (below v (chunksOf own) p) k (staleBelow 0 0 v (chunksOf own) p) cells
+all-stale rs good v h own p f k cells = record {
+  right = λ q l u e.
+      let here = f .lies _ _ (chunk-lt (p - v .bits) (length own) q l) (live-owner v (chunksOf own) p q u) .2 in
+      absurd (true≢false (sym (all-meet (v .bits) _ (long-lt rs (v .bits) _ h good here)) ∙ rw u at e));
+}
 
 module _ (g : Geometry) (input first second third own2 own3 : List ℕ) (b : Bare g input (cells first second third own2 own3)) where
   good : Good (inputRoutes input)
   good = records-good input (length input / 8) (b .readable .records)
 
   -- all may be stale
-  pub pending : Pending g (length input / 8) 0 0 (lent input first second third own2 own3)
+  pub pending : Pending g (length input / 8) 0 0 input (cells first second third own2 own3)
   pending =
       let v = b .celled .valid in
       let w = b .readable .whole in
@@ -79,8 +77,8 @@ module _ (g : Geometry) (input first second third own2 own3 : List ℕ) (b : Bar
           fits2 = rw routes (b .fits2);
           fits3 = rw routes (b .fits3);
           right1 = record { right = λ q h u e. absurd (true≢false (sym (all-meet (g .p1) q h) ∙ e)) };
-          right2 = record { right = λ q h u e. absurd (true≢false (sym u ∙ not-live (inputRoutes input) good (level1 g) (omega arith) own2 (g .p2) (b .fits2) q h e)) };
-          right3 = record { right = λ q h u e. absurd (true≢false (sym u ∙ not-live (inputRoutes input) good (level2 g (chunksOf own2)) (omega arith) own3 32 (b .fits3) q h e)) };
+          right2 = rw routes (all-stale (inputRoutes input) good (level1 g) (omega arith) own2 (g .p2) (b .fits2) (chunksOf own3) second);
+          right3 = rw routes (all-stale (inputRoutes input) good (level2 g (chunksOf own2)) (omega arith) own3 32 (b .fits3) noChunks third);
         };
       }
 
@@ -122,7 +120,8 @@ module _ (t : Table) (l : Lent) (input : List ℕ) (w : Renewable t input l) whe
           none3 = n3 .1;
         }
 
-    module _ (second third own2 own3 : List ℕ) (s2 : second ≡ replicate (length (l .second)) 0) (s3 : third ≡ replicate (length (l .third)) 0) (settles : owners own2 own3 ≡ settled g (owners z2 z3) rs) where
+    module _ (second third own2 own3 : List ℕ) (s2 : second ≡ replicate (length (l .second)) 0) (s3 : third ≡ replicate (length (l .third)) 0)
+        (settles : owners own2 own3 ≡ settled g (owners z2 z3) rs) where
       owned : owners own2 own3 ≡ o
       owned = rw (e2, e3) at settles
 
@@ -152,12 +151,17 @@ module _ (t : Table) (l : Lent) (input : List ℕ) (w : Renewable t input l) whe
         listed : list ≡ written rs (roomOf l)
         listed =
             let e : length (l .list) ≡ roomOf l * 8 = omega (arith, w .loadable .sized .whole) in
-            put ∙ ap (padded input) e ∙ padded-written input bytes (w .readable) (roomOf l) (omega (arith, w .loadable .roomy, length-routes input (length input / 8)))
+            put ∙ ap (padded input) e ∙ padded-written input bytes (w .readable) (roomOf l)
+            (omega (arith, w .loadable .roomy, length-routes input (length input / 8)))
 
         renews-then : Repainted g rs (cells (l .first) second third (o .own2) (o .own3)) a b c → lent list a b c (o .own2) (o .own3) ≡ anew t l input
         renews-then p′ =
-            let p = repainted-asked g rs _ (bare-then .celled) (record { blank = λ q _ _. bare-then .zero2 q }) (record { blank = λ q _ _. bare-then .zero3 q }) a b c p′ in
+            let p = repainted-asked g rs _ (bare-then .celled)
+            (record { blank = λ q _ _. bare-then .zero2 q }) (record { blank = λ q _ _. bare-then .zero3 q }) a b c p′ in
             λ i. record { list = listed i; first = p .is-first i; second = p .is-second i; third = p .is-third i; own2 = o .own2; own3 = o .own3 }
 
         pub renews : Repainted g rs (cells (l .first) second third own2 own3) a b c → lent list a b c own2 own3 ≡ anew t l input
-        renews = subst (λ (x : Owners). Repainted g rs (cells (l .first) second third (x .own2) (x .own3)) a b c → lent list a b c (x .own2) (x .own3) ≡ anew t l input) (sym owned) renews-then
+        renews =
+            subst
+            (λ (x : Owners). Repainted g rs (cells (l .first) second third (x .own2) (x .own3)) a b c → lent list a b c (x .own2) (x .own3) ≡ anew t l input)
+            (sym owned) renews-then

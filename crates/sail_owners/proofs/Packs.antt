@@ -58,7 +58,8 @@ pub place-few : (g : Geometry) (c x d : ℕ) → Chunk g c → Power d (bits2 g)
 place-few g c x d k w =
     omega (arith, mod-lt x (w .some), k .one, w .few, k .few, mul-le-mul-right {m = c - 1} {n = 4095} d (omega (arith, k .few)))
 
-pub place-at : (g : Geometry) (c x d a : ℕ) → x ≡ slot (g .p2) a → Power d (bits2 g) 1024 → (c - 1) * d + x % d ≡ (c - 1) * 2 ^ bits2 g + slot (g .p2) a % 2 ^ bits2 g
+pub place-at : (g : Geometry) (c x d a : ℕ) → x ≡ slot (g .p2) a → Power d (bits2 g) 1024
+    → (c - 1) * d + x % d ≡ (c - 1) * 2 ^ bits2 g + slot (g .p2) a % 2 ^ bits2 g
 place-at g c x d a e w = rw (e, w .is)
 
 -- The chunk of a route at one level. A route that is no longer than the level opens none.
@@ -81,7 +82,9 @@ module _ (v : Level) (r : Route) (u : Pass) (own : List ℕ) (n : Next v r u own
 -- the chunks of a route, by its length
 module _ (g : Geometry) (r : Route) (u : Passes) (own2 own3 : List ℕ) (o : Opens g r u own2 own3) where
   pub slot-small : (q2 : ℕ) → q2 ≡ slot (g .p1) (r .addr) → q2 < 65536
-  slot-small q2 e = let v = o .valid in omega (arith, slot-lt (g .p1) (r .addr) (omega arith) (o .fine .prefix .addr-ok), pow-mono {i = g .p1} {j = 16} (v .p1-high))
+  slot-small q2 e =
+      let v = o .valid in
+      omega (arith, slot-lt (g .p1) (r .addr) (omega arith) (o .fine .prefix .addr-ok), pow-mono {i = g .p1} {j = 16} (v .p1-high))
 
   no-third : r .len ≤ g .p2 → Taken (secondFor g r own2) r own3 (u .third) (u .third) own3
   no-third = taken-none (secondFor g r own2) r (u .third) own3 (o .third)
@@ -107,11 +110,16 @@ module _ (g : Geometry) (r : Route) (u : Passes) (own2 own3 : List ℕ) (o : Ope
       module _ (k : g .p2 < r .len) (q3 : ℕ) (at : q3 ≡ (s2 .last - 1) * 2 ^ bits2 g + slot (g .p2) (r .addr) % 2 ^ bits2 g) where
         place-is : q3 ≡ secondFor g r own2 .serving (r .addr)
         place-is =
-            let e : find own2′ (suc (slot (g .p1) (r .addr))) ≡ s2 .last - 1 = omega (arith, here (level1 g) r (u .second) own2 (o .second) h q2 cell own2′ s2 now .last) in
+            let last = here (level1 g) r (u .second) own2 (o .second) h q2 cell own2′ s2 now .last in
+            let e : find own2′ (suc (slot (g .p1) (r .addr))) ≡ s2 .last - 1 = omega arith in
             rw (← second .is, e) at
 
         pub hangs-third : Hangs own3 (u .third) (q3 + 1)
         hangs-third = may-hang (secondFor g r own2) r (u .third) own3 (o .third) k q3 place-is
 
-        pub opened-third : (own3′ : List ℕ) (s3 : Pass) → Hung own3 (u .third) (q3 + 1) own3′ s3 → Opened g r own2 own3 u (record { second = s2; third = s3 }) own2′ own3′
-        opened-third own3′ s3 now3 = record { second = second; third = taken-hung (secondFor g r own2) r (u .third) own3 (o .third) k q3 place-is own3′ s3 now3 }
+        pub opened-third : (own3′ : List ℕ) (s3 : Pass) → Hung own3 (u .third) (q3 + 1) own3′ s3
+            → Opened g r own2 own3 u (record { second = s2; third = s3 }) own2′ own3′
+        opened-third own3′ s3 now3 = record {
+          second = second;
+          third = taken-hung (secondFor g r own2) r (u .third) own3 (o .third) k q3 place-is own3′ s3 now3;
+        }

@@ -34,7 +34,9 @@ abbrev state : Geometry → Table
 state g = record { geometry = g; count = 0 }
 
 abbrev shape : Geometry → List ℕ → List ℕ → List ℕ → Lent
-shape g input own2 own3 = lent (replicate (length input / 8 * 8) 0) (replicate (2 ^ g .p1) 0) (replicate (length own2 * 2 ^ bits2 g) 0) (replicate (length own3 * 2 ^ bits3 g) 0) own2 own3
+shape g input own2 own3 =
+    lent (replicate (length input / 8 * 8) 0) (replicate (2 ^ g .p1) 0) (replicate (length own2 * 2 ^ bits2 g) 0) (replicate (length own3 * 2 ^ bits3 g) 0)
+    own2 own3
 
 -- how far the pass over a pool has come: chunks before `free` are in use, and the last chunk opened is the last in use
 pub record Reached (own : List ℕ) (u : Pass) : Type 0 where
@@ -55,7 +57,8 @@ module _ (xs : List Route) (r : Route) (v : Level) (own : List ℕ) (w : Climbs 
   had : v .bits < r .len → LastIs own (u .last) (suc q) → (opening v own r ≡ own) × (find own (suc q) ≡ u .last - 1)
   had h e = step-had xs r v own w h (u .last - 1) (e .is)
 
-  new : v .bits < r .len → (LastIs own (u .last) (suc q) → ⊥) → (find own 0 < length own) × (opening v own r ≡ set own (find own 0) (suc q)) × (find (opening v own r) (suc q) ≡ find own 0)
+  new : v .bits < r .len → (LastIs own (u .last) (suc q) → ⊥)
+      → (find own 0 < length own) × (opening v own r ≡ set own (find own 0) (suc q)) × (find (opening v own r) (suc q) ≡ find own 0)
   new h e = step-new xs r v own w h (λ k a b.
       let x : u .last - 1 ≡ k = omega (arith, p .last) in
       e (record { some = omega (arith, p .last); is = rw x b }))

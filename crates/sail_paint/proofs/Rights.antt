@@ -14,7 +14,7 @@ use Rattle.routes.specs.declared.Route.{Route}
 use Rattle.chain.specs.Words.{routesIn}
 use Rattle.chain.proofs.Decodes.{words-good}
 use Rattle.plan.specs.Plan.{plan}
-use Rattle.sail.specs.Geometry.{bits2, bits3}
+use Rattle.sail.specs.Geometry.{bits2}
 use Rattle.sail.specs.Lent.{Cells}
 use Rattle.sail.specs.Sizes.{Celled}
 use Rattle.sail.specs.Level.{Level, Chunks, chunkFor, deep, itself, partOf, entry, chunksOf, noChunks, level1, level2, level3}
@@ -63,7 +63,8 @@ module _ (rs : List Route) (v : Level) (k : Chunks) (f : Fits rs v k) (stale : �
 
   level-right : stampedBy (k .many) (k .own) painted ≡ laidOver rs v k cells
   level-right =
-      ext-getD 0 _ _ (length-stamped (k .own) painted (k .many) ∙ length-over rs (v .bits) stale (v .at) cells ∙ sym (length-laid cells (v .live) (shown rs v k)))
+      ext-getD 0 _ _
+      (length-stamped (k .own) painted (k .many) ∙ length-over rs (v .bits) stale (v .at) cells ∙ sym (length-laid cells (v .live) (shown rs v k)))
       (λ q b. each q (let z = length-stamped (k .own) painted (k .many) in let y = length-over rs (v .bits) stale (v .at) cells in omega arith))
     where
       each : (q : ℕ) → q < length cells → getD (stampedBy (k .many) (k .own) painted) q 0 ≡ getD (laidOver rs v k cells) q 0
@@ -71,24 +72,46 @@ module _ (rs : List Route) (v : Level) (k : Chunks) (f : Fits rs v k) (stale : �
           stamped-at (k .own) painted (k .many) q (rw length-over l) ∙ ap (stampAt (k .own) (k .many) q) (over-at rs (v .bits) stale (v .at) cells q l)
           ∙ go (below? (chunkFor k (suc q)) (k .many)) ∙ sym (laid-at cells (v .live) (shown rs v k) q l)
         where
-          go : (chunkFor k (suc q) < k .many) ⊎ (k .many ≤ chunkFor k (suc q)) → stampAt (k .own) (k .many) q (cond (stale q) (plan rs (v .bits) (v .at q)) (getD cells q 0)) ≡ due q
+          go : (chunkFor k (suc q) < k .many) ⊎ (k .many ≤ chunkFor k (suc q))
+              → stampAt (k .own) (k .many) q (cond (stale q) (plan rs (v .bits) (v .at q)) (getD cells q 0)) ≡ due q
           go (inl h) = rw (lt-ltb (chunkFor k (suc q)) (k .many) h) (hangs q h)
           go (inr h) = rw (le-ltb (chunkFor k (suc q)) (k .many) h) (bare q l h)
+
+-- what `paint_pool` leaves of the pool of p bits below a level of l bits, whose places stand for the cells `at`
+abbrev poolPainted : List Route → ℕ → ℕ → ℕ → ℕ → (ℕ → ℕ) → List ℕ → List ℕ → List ℕ
+poolPainted rs a len l p at own cells = overpainted rs p (staleIn a len l (p - l) at (entry own)) (partOf (entry own) (p - l) at) cells
+
+pool-as : (rs : List Route) (a len l p : ℕ) (at at′ : ℕ → ℕ) (own cells : List ℕ) → ((q : ℕ) → at q ≡ at′ q)
+    → poolPainted rs a len l p at own cells ≡ poolPainted rs a len l p at′ own cells
+pool-as rs a len l p at at′ own cells h = ap (λ (f : ℕ → ℕ). poolPainted rs a len l p f own cells) (λ i q. h q i)
+
+-- chunks that fit a level may be stamped into cells of as many places
+level-stamps : (rs : List Route) (v : Level) (own : List ℕ) → length own ≤ 4096 → Fits rs v (chunksOf own) → (now : List ℕ) → length now ≡ v .places
+    → Stamps own now
+level-stamps rs v own few f now size = record { few = few; inside = λ c q k o. rw size (f .lies c q k o .0); once = f .once }
 
 module _ (g : Geometry) (ws par : List ℕ) (a len : ℕ) (l : Cells) (s : Stale g ws par a len l) where
   abbrev rs : List Route
   rs = routesIn ws
 
+  abbrev k2 : Chunks
+  k2 = chunksOf (l .own2)
+
+  abbrev k3 : Chunks
+  k3 = chunksOf (l .own3)
+
+  abbrev v2 : Level
+  v2 = level2 g k2
+
+  abbrev v3 : Level
+  v3 = level3 g k2 k3
+
   -- What is asked at each step.
   pub first-asks : FirstCells ws par (g .p1) a len (l .first)
   first-asks = let v = s .celled .valid in record { ready = s .ready; prefix = s .prefix; low = omega arith; deep = omega arith; cells = s .celled .cells1 }
 
-  pub first-stamps : (now : List ℕ) → now ≡ overpainted rs (g .p1) (meets a len (g .p1)) itself (l .first) → Stamps (l .own2) now
-  first-stamps now e = record {
-    few = s .celled .few2;
-    inside = λ c q k o. let z = length-over rs (g .p1) (meets a len (g .p1)) itself (l .first) in omega (arith, s .fits2 .lies c q k o .0, s .celled .cells1, ap length e);
-    once = s .fits2 .once;
-  }
+  pub first-stamps : (now : List ℕ) → length now ≡ length (l .first) → Stamps (l .own2) now
+  first-stamps now e = level-stamps rs (level1 g) (l .own2) (s .celled .few2) (s .fits2) now (e ∙ s .celled .cells1)
 
   pub second-asks : Pool ws par len (g .p1) (g .p2) (l .own2) 0 (l .own2) (l .second)
   second-asks =
@@ -103,12 +126,8 @@ module _ (g : Geometry) (ws par : List ℕ) (a len : ℕ) (l : Cells) (s : Stale
         chunks = s .celled .cells2;
       }
 
-  pub second-stamps : (p : ℕ) (f : ℕ → Bool) (at : ℕ → ℕ) (now : List ℕ) → now ≡ overpainted rs p f at (l .second) → Stamps (l .own3) now
-  second-stamps p f at now e = record {
-    few = s .celled .few3;
-    inside = λ c q k o. let z = length-over rs p f at (l .second) in omega (arith, s .fits3 .lies c q k o .0, s .celled .cells2, ap length e);
-    once = s .fits3 .once;
-  }
+  pub second-stamps : (now : List ℕ) → length now ≡ length (l .second) → Stamps (l .own3) now
+  second-stamps now e = level-stamps rs v2 (l .own3) (s .celled .few3) (s .fits3) now (e ∙ s .celled .cells2)
 
   some2 : bits2 g ≡ 0 → ⊥
   some2 z = let v = s .celled .valid in omega arith
@@ -124,7 +143,7 @@ module _ (g : Geometry) (ws par : List ℕ) (a len : ℕ) (l : Cells) (s : Stale
       }
     where
       owned : (c q : ℕ) → c < length (l .own3) → getD (l .own3) c 0 ≡ suc q → getD (l .own2) (q / 2 ^ bits2 g) 0 ≡ suc (getD (l .own2) (q / 2 ^ bits2 g) 0 - 1)
-      owned c q k o = live-owner (level1 g) (chunksOf (l .own2)) (g .p2) q (s .fits3 .lies c q k o .1)
+      owned c q k o = live-owner (level1 g) k2 (g .p2) q (s .fits3 .lies c q k o .1)
 
       chunk : (c q : ℕ) → c < length (l .own3) → getD (l .own3) c 0 ≡ suc q → q / 2 ^ bits2 g < length (l .own2)
       chunk c q k o = chunk-lt (bits2 g) (length (l .own2)) q (s .fits3 .lies c q k o .0)
@@ -136,30 +155,27 @@ module _ (g : Geometry) (ws par : List ℕ) (a len : ℕ) (l : Cells) (s : Stale
       cell c q k o =
           let v = s .celled .valid in
           let z = s .fits3 .lies c q k o in
-          rw (stands-part (bits2 g) (l .own2) q some2) (below-bounded rs (level1 g) (chunksOf (l .own2)) (g .p2) (omega arith) (s .fits2) (top-bounded (g .p1)) q (z .0) (z .1))
+          rw (stands-part (bits2 g) (l .own2) q some2) (below-bounded rs (level1 g) k2 (g .p2) (omega arith) (s .fits2) (top-bounded (g .p1)) q (z .0) (z .1))
 
   -- And what they leave.
   pub first-is : (now after : List ℕ) → now ≡ overpainted rs (g .p1) (meets a len (g .p1)) itself (l .first) → after ≡ stamped (l .own2) now
-      → after ≡ laidOver rs (level1 g) (chunksOf (l .own2)) (l .first)
+      → after ≡ laidOver rs (level1 g) k2 (l .first)
   first-is now after e e′ =
       e′ ∙ ap (stamped (l .own2)) e
-      ∙ level-right rs (level1 g) (chunksOf (l .own2)) (s .fits2) (meets a len (g .p1)) (λ q t. refl) (l .first) (s .celled .cells1) (s .right1)
+      ∙ level-right rs (level1 g) k2 (s .fits2) (meets a len (g .p1)) (λ q t. refl) (l .first) (s .celled .cells1) (s .right1)
 
-  pub second-is : (now after : List ℕ)
-      → now ≡ overpainted rs (g .p2) (staleIn a len (g .p1) (bits2 g) (standsFor 0 (l .own2)) (entry (l .own2))) (partOf (entry (l .own2)) (bits2 g) (standsFor 0 (l .own2))) (l .second)
-      → after ≡ stamped (l .own3) now → after ≡ laidOver rs (level2 g (chunksOf (l .own2))) (chunksOf (l .own3)) (l .second)
+  pub second-is : (now after : List ℕ) → now ≡ poolPainted rs a len (g .p1) (g .p2) (standsFor 0 (l .own2)) (l .own2) (l .second) → after ≡ stamped (l .own3) now
+      → after ≡ laidOver rs v2 k3 (l .second)
   second-is now after e e′ =
-      e′ ∙ ap (stamped (l .own3)) (e ∙ ap (λ (h : ℕ → ℕ). overpainted rs (g .p2) (staleIn a len (g .p1) (bits2 g) h (entry (l .own2))) (partOf (entry (l .own2)) (bits2 g) h) (l .second)) (λ i q. sym (stands-itself 0 (l .own2) q refl) i))
-      ∙ level-right rs (level2 g (chunksOf (l .own2))) (chunksOf (l .own3)) (s .fits3) (staleBelow a len (level1 g) (chunksOf (l .own2)) (g .p2)) (λ q t. and-split (level2 g (chunksOf (l .own2)) .live q) _ t .0) (l .second) (s .celled .cells2) (s .right2)
+      e′ ∙ ap (stamped (l .own3)) (e ∙ pool-as rs a len (g .p1) (g .p2) (standsFor 0 (l .own2)) itself (l .own2) (l .second) (λ q. sym (stands-itself 0 (l .own2) q refl)))
+      ∙ level-right rs v2 k3 (s .fits3) (staleBelow a len (level1 g) k2 (g .p2)) (λ q t. and-split (v2 .live q) _ t .0) (l .second) (s .celled .cells2) (s .right2)
 
-  pub third-is : (after : List ℕ)
-      → after ≡ overpainted rs 32 (staleIn a len (g .p2) (bits3 g) (standsFor (bits2 g) (l .own2)) (entry (l .own3))) (partOf (entry (l .own3)) (bits3 g) (standsFor (bits2 g) (l .own2))) (l .third)
-      → after ≡ laidOver rs (level3 g (chunksOf (l .own2)) (chunksOf (l .own3))) noChunks (l .third)
+  pub third-is : (after : List ℕ) → after ≡ poolPainted rs a len (g .p2) 32 (standsFor (bits2 g) (l .own2)) (l .own3) (l .third) → after ≡ laidOver rs v3 noChunks (l .third)
   third-is after e =
-      e ∙ ap (λ (h : ℕ → ℕ). overpainted rs 32 (staleIn a len (g .p2) (bits3 g) h (entry (l .own3))) (partOf (entry (l .own3)) (bits3 g) h) (l .third)) (λ i q. stands-part (bits2 g) (l .own2) q some2 i)
+      e ∙ pool-as rs a len (g .p2) 32 (standsFor (bits2 g) (l .own2)) (v2 .at) (l .own3) (l .third) (λ q. stands-part (bits2 g) (l .own2) q some2)
       ∙ stamp-none (noChunks .own) _
-      ∙ level-right rs (level3 g (chunksOf (l .own2)) (chunksOf (l .own3))) noChunks (last-fits rs (words-good ws (s .ready .words)) (level2 g (chunksOf (l .own2))) (chunksOf (l .own3)))
-      (staleBelow a len (level2 g (chunksOf (l .own2))) (chunksOf (l .own3)) 32) (λ q t. and-split (level3 g (chunksOf (l .own2)) (chunksOf (l .own3)) .live q) _ t .0) (l .third) (s .celled .cells3) (s .right3)
+      ∙ level-right rs v3 noChunks (last-fits rs (words-good ws (s .ready .words)) v2 k3) (staleBelow a len v2 k3 32) (λ q t. and-split (v3 .live q) _ t .0)
+      (l .third) (s .celled .cells3) (s .right3)
 
 -- where the cells of free chunks are 0, repainting leaves what is asked
 pub repainted-asked : (g : Geometry) (rs : List Route) (l : Cells) → Celled g l

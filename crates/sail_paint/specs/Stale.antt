@@ -43,7 +43,8 @@ pub record Stale (g : Geometry) (ws par : List ℕ) (a len : ℕ) (l : Cells) : 
   pub fits3 : Fits (routesIn ws) (level2 g (chunksOf (l .own2))) (chunksOf (l .own3))
   pub right1 : Right (routesIn ws) (level1 g) (chunksOf (l .own2)) (meets a len (g .p1)) (l .first)
   pub right2 : Right (routesIn ws) (level2 g (chunksOf (l .own2))) (chunksOf (l .own3)) (staleBelow a len (level1 g) (chunksOf (l .own2)) (g .p2)) (l .second)
-  pub right3 : Right (routesIn ws) (level3 g (chunksOf (l .own2)) (chunksOf (l .own3))) noChunks (staleBelow a len (level2 g (chunksOf (l .own2))) (chunksOf (l .own3)) 32) (l .third)
+  pub right3 : Right (routesIn ws) (level3 g (chunksOf (l .own2)) (chunksOf (l .own3))) noChunks
+      (staleBelow a len (level2 g (chunksOf (l .own2))) (chunksOf (l .own3)) 32) (l .third)
 
 -- and what it leaves: live cells are as the routes ask, the others as they were
 pub record Repainted (g : Geometry) (rs : List Route) (l : Cells) (first second third : List ℕ) : Type 0 where

@@ -61,7 +61,8 @@ module _ (rs : List Route) (v : Level) (cells low : List ℕ) where
   shows-named s c q l e = let k = s .owned c q l e in (k .0, k .1, k .3)
 
 -- the pool of the level of p bits below v, whose cells are `above`
-module _ (rs : List Route) (v : Level) (p : ℕ) (above own cells low : List ℕ) (all : length above ≡ v .places) (size : length cells ≡ length own * 2 ^ (p - v .bits)) where
+module _ (rs : List Route) (v : Level) (p : ℕ) (above own cells low : List ℕ) (all : length above ≡ v .places)
+    (size : length cells ≡ length own * 2 ^ (p - v .bits)) where
   abbrev d : ℕ
   d = p - v .bits
 
@@ -93,7 +94,8 @@ module _ (rs : List Route) (v : Level) (p : ℕ) (above own cells low : List ℕ
         let c = chunk-lt d (length own) q l in
         let j = mod-lt q (pow-pos d) in
         let free : getD own (q / 2 ^ d) 0 ≡ 0 = omega (arith, ltb-false 0 (getD own (q / 2 ^ d) 0) e) in
-        ap (entry cells) (sym (div-add-mod' q (2 ^ d))) ∙ sym (part-at cells (q / 2 ^ d * 2 ^ d) (2 ^ d) (q % 2 ^ d) j) ∙ k .each (q / 2 ^ d) c .zero free .each (q % 2 ^ d) (rw (chunk-long (q / 2 ^ d) c) j);
+        ap (entry cells) (sym (div-add-mod' q (2 ^ d))) ∙ sym (part-at cells (q / 2 ^ d * 2 ^ d) (2 ^ d) (q % 2 ^ d) j) ∙ k .each (q / 2 ^ d) c .zero
+        free .each (q % 2 ^ d) (rw (chunk-long (q / 2 ^ d) c) j);
   }
 
   pub clear-free : Clear (below v (chunksOf own) p) (entry cells) → FreeAll d own cells
@@ -102,7 +104,8 @@ module _ (rs : List Route) (v : Level) (p : ℕ) (above own cells low : List ℕ
       zero = λ e. record {
         each = λ j u.
             let m : j < 2 ^ d = rw (chunk-long c l) at u in
-            part-at cells (c * 2 ^ d) (2 ^ d) j m ∙ clear .blank (c * 2 ^ d + j) (digits-lt l m) (le-ltb 0 (getD own ((c * 2 ^ d + j) / 2 ^ d) 0) (omega (arith, e, ap (entry own) (digits-div c m))));
+            part-at cells (c * 2 ^ d) (2 ^ d) j m ∙ clear .blank (c * 2 ^ d + j) (digits-lt l m)
+            (le-ltb 0 (getD own ((c * 2 ^ d + j) / 2 ^ d) 0) (omega (arith, e, ap (entry own) (digits-div c m))));
       };
     };
   }
@@ -115,13 +118,15 @@ module _ (rs : List Route) (v : Level) (p : ℕ) (above own cells low : List ℕ
     };
   }
     where
-      right : (c q : ℕ) → c < length own → getD own c 0 ≡ suc q → (j : ℕ) → j < 2 ^ d → Cell rs p (v .at q * 2 ^ d + j) (getD (chunkOf d cells c) j 0) low (suc (c * 2 ^ d) + j)
+      right : (c q : ℕ) → c < length own → getD own c 0 ≡ suc q → (j : ℕ) → j < 2 ^ d
+          → Cell rs p (v .at q * 2 ^ d + j) (getD (chunkOf d cells c) j 0) low (suc (c * 2 ^ d) + j)
       right c q l e j u =
           cell-as rs p low (chunk-part v (chunksOf own) p c j u q e) (sym (part-at cells (c * 2 ^ d) (2 ^ d) j u)) (omega arith)
           (ok (c * 2 ^ d + j) (digits-lt l u) (chunk-live v (chunksOf own) p c j u q e))
 
 -- what holds of the pool above where chunks hang is all that counts
-pool-same : (rs : List Route) (p d : ℕ) (above : List ℕ) (live live′ : ℕ → Bool) (at at′ : ℕ → ℕ) (own cells low : List ℕ) → ((q : ℕ) → q < length above → live q ≡ live′ q) → ((q : ℕ) → q < length above → at q ≡ at′ q)
+pool-same : (rs : List Route) (p d : ℕ) (above : List ℕ) (live live′ : ℕ → Bool) (at at′ : ℕ → ℕ) (own cells low : List ℕ)
+    → ((q : ℕ) → q < length above → live q ≡ live′ q) → ((q : ℕ) → q < length above → at q ≡ at′ q)
     → PoolOk rs p d above live at own cells low → PoolOk rs p d above live′ at′ own cells low
 pool-same rs p d above live live′ at at′ own cells low u v k = record {
   each = λ c l. let h = k .each c l in record {
@@ -164,10 +169,12 @@ module _ (t : Table) (l : Lent) (s : Sized (t .geometry) l) (h : Listed (l .list
   Pool2 live at = PoolOk rs (g .p2) (bits2 g) (l .first) live at (l .own2) (l .second) (l .own3)
 
   from-root : Pool2 (liveIn (entry root) (g .p1)) (partOf (entry root) (g .p1) itself) → Pool2 always itself
-  from-root = pool-same rs (g .p2) (bits2 g) (l .first) _ always _ itself (l .own2) (l .second) (l .own3) (λ q u. root-live (g .p1) q (inside q u)) (λ q u. root-at (g .p1) q (inside q u))
+  from-root = pool-same rs (g .p2) (bits2 g) (l .first) _ always _ itself (l .own2) (l .second) (l .own3) (λ q u. root-live (g .p1) q (inside q u))
+      (λ q u. root-at (g .p1) q (inside q u))
 
   to-root : Pool2 always itself → Pool2 (liveIn (entry root) (g .p1)) (partOf (entry root) (g .p1) itself)
-  to-root = pool-same rs (g .p2) (bits2 g) (l .first) always _ itself _ (l .own2) (l .second) (l .own3) (λ q u. sym (root-live (g .p1) q (inside q u))) (λ q u. sym (root-at (g .p1) q (inside q u)))
+  to-root = pool-same rs (g .p2) (bits2 g) (l .first) always _ itself _ (l .own2) (l .second) (l .own3) (λ q u. sym (root-live (g .p1) q (inside q u)))
+      (λ q u. sym (root-at (g .p1) q (inside q u)))
 
   passed-sound : Test → Sound t l
   passed-sound k =
@@ -177,12 +184,15 @@ module _ (t : Table) (l : Lent) (s : Sized (t .geometry) l) (h : Listed (l .list
         listed = h;
         serves = record {
           first = shows-of rs (level1 g) (l .first) (l .own2) (s .few2)
-              (λ q u v. cell-as rs (g .p1) (l .own2) (omega arith) refl (omega arith) (right-cell rs (g .p1) (l .own2) 0 (l .first) 1 (length (l .first)) (k .live .cells1) q (rw (s .cells1) u)))
+              (λ q u v. cell-as rs (g .p1) (l .own2) (omega arith) refl (omega arith)
+              (right-cell rs (g .p1) (l .own2) 0 (l .first) 1 (length (l .first)) (k .live .cells1) q (rw (s .cells1) u)))
               (pool-named rs (level1 g) (g .p2) (l .first) (l .own2) (l .second) (l .own3) (s .cells1) (s .cells2) pool2);
           second = shows-of rs v2 (l .second) (l .own3) (s .few3)
               (pool-asked rs (level1 g) (g .p2) (l .first) (l .own2) (l .second) (l .own3) (s .cells1) (s .cells2) pool2)
               (pool-named rs v2 32 (l .second) (l .own3) (l .third) [] (s .cells2) (s .cells3) (k .live .pool3));
-          third = record { leaf = λ q i u. pool-asked rs v2 32 (l .second) (l .own3) (l .third) [] (s .cells2) (s .cells3) (k .live .pool3) q i u .leaf (none-longer rs _ good) };
+          third = record {
+            leaf = λ q i u. pool-asked rs v2 32 (l .second) (l .own3) (l .third) [] (s .cells2) (s .cells3) (k .live .pool3) q i u .leaf (none-longer rs _ good);
+          };
         };
         clear2 = free-clear rs (level1 g) (g .p2) (l .first) (l .own2) (l .second) (l .own3) (s .cells1) (s .cells2) (k .free2);
         clear3 = free-clear rs v2 32 (l .second) (l .own3) (l .third) [] (s .cells2) (s .cells3) (k .free3);
@@ -192,11 +202,12 @@ module _ (t : Table) (l : Lent) (s : Sized (t .geometry) l) (h : Listed (l .list
   sound-passed w = record {
     live = record {
       cells1 = cells-right rs (g .p1) (l .own2) 0 (l .first) 1 (length (l .first)) (λ q u.
-          cell-as rs (g .p1) (l .own2) (omega arith) refl (omega arith) (shows-asked rs (level1 g) (l .first) (l .own2) (w .serves .first) q (inside q u) refl));
+          cell-as rs (g .p1) (l .own2) (omega arith) refl (omega arith)
+          (shows-asked rs (level1 g) (l .first) (l .own2) (w .serves .first) q (inside q u) refl));
       pool2 = to-root (pool-of rs (level1 g) (g .p2) (l .first) (l .own2) (l .second) (l .own3) (s .cells1) (s .cells2)
           (shows-asked rs v2 (l .second) (l .own3) (w .serves .second)) (shows-named rs (level1 g) (l .first) (l .own2) (w .serves .first)));
-      pool3 = pool-of rs v2 32 (l .second) (l .own3) (l .third) [] (s .cells2) (s .cells3)
-          third-asked (shows-named rs v2 (l .second) (l .own3) (w .serves .second));
+      pool3 = pool-of rs v2 32 (l .second) (l .own3) (l .third) [] (s .cells2) (s .cells3) third-asked
+          (shows-named rs v2 (l .second) (l .own3) (w .serves .second));
     };
     free2 = clear-free rs (level1 g) (g .p2) (l .first) (l .own2) (l .second) (l .own3) (s .cells1) (s .cells2) (w .clear2);
     free3 = clear-free rs v2 32 (l .second) (l .own3) (l .third) [] (s .cells2) (s .cells3) (w .clear3);

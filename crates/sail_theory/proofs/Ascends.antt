@@ -74,7 +74,8 @@ module _ (own : List ℕ) (q : ℕ) (up : Rising own) (top : (c x : ℕ) → get
   grant-rising : Rising (grant own (find own 0) q)
   grant-rising = go (had? own q) (below? (find own 0) (length own))
     where
-      go : (find own (suc q) < length own) ⊎ (length own ≤ find own (suc q)) → (find own 0 < length own) ⊎ (length own ≤ find own 0) → Rising (grant own (find own 0) q)
+      go : (find own (suc q) < length own) ⊎ (length own ≤ find own (suc q)) → (find own 0 < length own) ⊎ (length own ≤ find own 0)
+          → Rising (grant own (find own 0) q)
       go (inl h) f = rw (grant-had own (find own 0) q h) up
       go (inr h) (inl f) = rw (grant-new own (find own 0) q h) (set-rising h f)
       go (inr h) (inr f) = rw (grant-new own (find own 0) q h, set-out own (find own 0) (suc q) f) up
@@ -117,7 +118,8 @@ module _ (own : List ℕ) (q : ℕ) (up : Rising own) (top : (c x : ℕ) → get
               low (inr z) = omega (arith, l, free-zero own, up (find own 0) c (let w = l in omega arith) (omega (arith, is)) .0)
 
 -- a long cell of routes up to r is no later than r's
-pub long-top : (r : Route) (rs : List Route) (p i : ℕ) → r .len ≤ 32 → ((s : Route) → List·Memᴰ s rs → (key s ≤ key r) × (s .len ≤ 32)) → long rs p i ≡ true → i ≤ slot p (r .addr)
+pub long-top : (r : Route) (rs : List Route) (p i : ℕ) → r .len ≤ 32 → ((s : Route) → List·Memᴰ s rs → (key s ≤ key r) × (s .len ≤ 32)) → long rs p i ≡ true
+    → i ≤ slot p (r .addr)
 long-top r rs p i w h e = any-some (within p i) rs (i ≤ slot p (r .addr)) e (λ s m t.
     let c = eqb-true (slot p (s .addr)) i (and-split (ltb p (s .len)) (eqb (slot p (s .addr)) i) t .1) in
     let k = h s m in
@@ -132,8 +134,10 @@ pub top-rises : (p : ℕ) → Rises (top p)
 top-rises p x y _ _ _ _ e = e
 
 -- so they do below, where the owners rise
-module _ (rs : List Route) (v : Level) (own : List ℕ) (p : ℕ) (f : Fits rs v (chunksOf own)) (rises : Rises v) (up : Rising own) (x y : ℕ) (lx : x < below v (chunksOf own) p .places) (ly : y < below v (chunksOf own) p .places)
-    (ex : below v (chunksOf own) p .live x ≡ true) (ey : below v (chunksOf own) p .live y ≡ true) (le : below v (chunksOf own) p .at x ≤ below v (chunksOf own) p .at y) where
+module _ (rs : List Route) (v : Level) (own : List ℕ) (p : ℕ) (f : Fits rs v (chunksOf own)) (rises : Rises v) (up : Rising own) (x y : ℕ)
+    (lx : x < below v (chunksOf own) p .places) (ly : y < below v (chunksOf own) p .places)
+    (ex : below v (chunksOf own) p .live x ≡ true) (ey : below v (chunksOf own) p .live y ≡ true)
+    (le : below v (chunksOf own) p .at x ≤ below v (chunksOf own) p .at y) where
   abbrev d : ℕ
   d = p - v .bits
 
@@ -200,7 +204,8 @@ module _ (xs : List Route) (r : Route) (v : Level) (own : List ℕ) (w : Climbs 
   unfolding openAt
   rise = go (decided (ltb (v .bits) (r .len)))
     where
-      go : (ltb (v .bits) (r .len) ≡ true) ⊎ (ltb (v .bits) (r .len) ≡ false) → Rising (cond (ltb (v .bits) (r .len)) (grant own (find own 0) (v .serving (r .addr))) own)
+      go : (ltb (v .bits) (r .len) ≡ true) ⊎ (ltb (v .bits) (r .len) ≡ false)
+          → Rising (cond (ltb (v .bits) (r .len)) (grant own (find own 0) (v .serving (r .addr))) own)
       go (inl e) = rw e (grant-rising own q (w .rising) (topmost e))
       go (inr e) = rw e (w .rising)
 
@@ -216,7 +221,8 @@ module _ (xs : List Route) (r : Route) (v : Level) (own : List ℕ) (w : Climbs 
       (rw b (grant-had own _ q (chunk-found (chunksOf own) (suc q) k (inside own k q e) e)), last-had own q (w .rising) (topmost b) k e)
 
   -- the last one in use hangs elsewhere, or none is in use:
-  pub step-new : v .bits < r .len → ((k : ℕ) → find own 0 ≡ suc k → getD own k 0 ≢ suc q) → (find own 0 < length own) × (own′ ≡ set own (find own 0) (suc q)) × (find own′ (suc q) ≡ find own 0)
+  pub step-new : v .bits < r .len → ((k : ℕ) → find own 0 ≡ suc k → getD own k 0 ≢ suc q)
+      → (find own 0 < length own) × (own′ ≡ set own (find own 0) (suc q)) × (find own′ (suc q) ≡ find own 0)
   step-new h n =
       let b = lt-ltb (v .bits) (r .len) h in
       open-new xs r v own (find own 0) (w .ready) h (not-long xs r v own (find own 0) (w .ready) b (last-new own q (w .rising) (topmost b) n))

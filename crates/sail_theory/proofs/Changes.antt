@@ -61,7 +61,8 @@ module _ (t : Table) (l : Lent) (z : Sized (t .geometry) l) (rs : List Route) (g
     chunks3 = len3;
   }
 
-  pub render-holds : Fits rs (level1 (t .geometry)) (chunksOf (o .own2)) → Fits rs (level2 (t .geometry) (chunksOf (o .own2))) (chunksOf (o .own3)) → Holds t l rs (stateOf t rs) (lentOf t l rs o)
+  pub render-holds : Fits rs (level1 (t .geometry)) (chunksOf (o .own2)) → Fits rs (level2 (t .geometry) (chunksOf (o .own2))) (chunksOf (o .own3))
+      → Holds t l rs (stateOf t rs) (lentOf t l rs o)
   render-holds f2 f3 = record {
     sound = render-sound (t .geometry) (z .valid) (roomOf l) few rs good roomy (o .own2) (o .own3) few2 few3 f2 f3;
     routes = render-standing (t .geometry) (z .valid) (roomOf l) few rs good roomy (o .own2) (o .own3) few2 few3;
@@ -159,12 +160,15 @@ module _ (t : Table) (l : Lent) (a len : ℕ) (w : Farewell t l a len) where
       }
 
   pub farewell-fits2 : Fits left (level1 (t .geometry)) (chunksOf (then .own2))
-  farewell-fits2 = fits-kept (standing t l) left less (level1 (t .geometry)) (chunksOf (l .own2)) (chunksOf (then .own2)) (was .fits2) (keep-closed left (level1 (t .geometry)) (l .own2))
+  farewell-fits2 =
+      fits-kept (standing t l) left less (level1 (t .geometry)) (chunksOf (l .own2)) (chunksOf (then .own2)) (was .fits2)
+      (keep-closed left (level1 (t .geometry)) (l .own2))
 
   pub farewell-fits3 : Fits left (level2 (t .geometry) (chunksOf (then .own2))) (chunksOf (then .own3))
   farewell-fits3 =
       let v = w .sound .sized .valid in
-      below-kept (standing t l) left less (level1 (t .geometry)) (chunksOf (l .own2)) (chunksOf (then .own2)) (t .geometry .p2) (omega arith) (omega arith) (keep-closed left (level1 (t .geometry)) (l .own2))
+      below-kept (standing t l) left less (level1 (t .geometry)) (chunksOf (l .own2)) (chunksOf (then .own2)) (t .geometry .p2) (omega arith) (omega arith)
+      (keep-closed left (level1 (t .geometry)) (l .own2))
       (chunksOf (l .own3)) (chunksOf (then .own3)) (was .fits3) (keep-closed left (level2 (t .geometry) (chunksOf (l .own2))) (l .own3))
 
   fewer : length left ≤ roomOf l

@@ -3,15 +3,15 @@ use mathlib.Core.Path.{_≡_, refl, ap}
 use mathlib.Core.Logic.{_⊎_, inl, inr, _≢_}
 use mathlib.Core.Bool.{Bool, true, false}
 use mathlib.Core.List.{List}
-use Prim.Native.Nat.{ℕ, zero, suc, _+_, _≤_, _<_}
+use Prim.Native.Nat.{ℕ, zero, suc, _≤_, _<_}
 use native.Mathlib.Omega.{arith}
 use native.Mathlib.Nat.{le-step, le-refl}
 use lib.Dec.{eqb}
 use lib.ListN.{getD, length, List·getD-eq-default}
-use borrow.Author.Tests.{eqb-true, eqb-false, eq-eqb, ne-eqb, lt-ltb, le-ltb}
+use borrow.Author.Tests.{eqb-true, eqb-false, eq-eqb, ne-eqb, lt-ltb}
 use Rattle.bits.specs.Count.{bit, count}
 use Rattle.bits.proofs.Searches.{firstOf-is, firstOf-le, firstOf-before, firstOf-at}
-use Rattle.bits.proofs.Tests.{below?, equal?}
+use Rattle.bits.proofs.Tests.{below?}
 use Rattle.sail.specs.Level.{Chunks, chunkFor, inUse, chunksOf}
 use Rattle.sail_theory.specs.Render.{find}
 
@@ -68,23 +68,9 @@ unfolding count
 count-le p zero = le-refl 0
 count-le p (suc n) = omega (arith, bit-le (p n), count-le p n)
 
-count-some : (p : ℕ → Bool) (n j : ℕ) → j < n → p j ≡ false → count p n < n
-unfolding count
-count-some p zero j h e = absurd (omega arith)
-count-some p (suc n) j h e = go (equal? j n) (count-some p n j)
-  where
-    go : (j ≡ n) ⊎ (j ≢ n) → (j < n → p j ≡ false → count p n < n) → bit (p n) + count p n < suc n
-    go (inl q) ih = let z : p n ≡ false = rw q at e in omega (arith, ap bit z, count-le p n)
-    go (inr q) ih = omega (arith, bit-le (p n), ih (omega arith) e)
-
 module _ (k : Chunks) where
   pub used-le : count (inUse (k .own)) (k .many) ≤ k .many
   used-le = count-le (inUse (k .own)) (k .many)
-
-  pub free-used : chunkFor k 0 < k .many → count (inUse (k .own)) (k .many) < k .many
-  free-used h =
-      let e = chunk-at k 0 h in
-      count-some (inUse (k .own)) (k .many) (chunkFor k 0) h (le-ltb 0 (k .own (chunkFor k 0)) (omega arith))
 
   pub used-free : count (inUse (k .own)) (k .many) < k .many → chunkFor k 0 < k .many
   used-free h = go (below? (chunkFor k 0) (k .many))

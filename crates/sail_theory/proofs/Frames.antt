@@ -39,7 +39,8 @@ module _ (a len p i : ℕ) (h : p ≤ 32) (k : i < 2 ^ p) (n : NoneUnder a len p
       x-slot = digits-div i (pow-pos (32 - p))
 
       x-lt : x < 2 ^ 32
-      x-lt = subst (λ (j : ℕ). x < j) (sym (pow-add 2 p (32 - p)) ∙ ap (λ (j : ℕ). 2 ^ j) (let z : p + (32 - p) ≡ 32 = omega arith in z)) (digits-lt k (pow-pos (32 - p)))
+      x-lt =
+          subst (λ (j : ℕ). x < j) (sym (pow-add 2 p (32 - p)) ∙ ap (λ (j : ℕ). 2 ^ j) (let z : p + (32 - p) ≡ 32 = omega arith in z)) (digits-lt k (pow-pos (32 - p)))
 
 -- as a program knows it: a cell outside the block of cells under a short prefix, and a cell that is not a long prefix's own
 pub none-outside : (a len p i k : ℕ) → p ≤ 32 → len + k ≡ p → i / 2 ^ k ≢ slot len a → NoneUnder a len p i
@@ -49,7 +50,8 @@ none-outside a len p i k h e n x s c u = n (sym (ap (λ (j : ℕ). j / 2 ^ k) (a
 pub none-other : (a len p i k : ℕ) → len ≤ 32 → p + k ≡ len → i ≢ slot p a → NoneUnder a len p i
 unfolding NoneUnder
 none-other a len p i k h e n x s c u =
-    n (sym c ∙ sym (slot-up p k x (omega arith)) ∙ ap (λ (j : ℕ). j / 2 ^ k) (ap (λ (j : ℕ). slot j x) e ∙ u ∙ ap (λ (j : ℕ). slot j a) (sym e)) ∙ slot-up p k a (omega arith))
+    n
+    (sym c ∙ sym (slot-up p k x (omega arith)) ∙ ap (λ (j : ℕ). j / 2 ^ k) (ap (λ (j : ℕ). slot j x) e ∙ u ∙ ap (λ (j : ℕ). slot j a) (sym e)) ∙ slot-up p k a (omega arith))
 
 -- the cell of a live place is a cell of its level
 abbrev pub Bounded : Level → Type 0
@@ -100,8 +102,10 @@ module _ (rs rs′ : List Route) (v v′ : Level) (k k′ : Chunks) (m : Moved r
       same-best : (q : ℕ) → q < v .places → v .live q ≡ true → NoneUnder a len (v .bits) (v .at q) → best rs′ (v .bits) (v .at q) ≡ best rs (v .bits) (v .at q)
       same-best q l e n = sym (frame-best a len rs rs′ but (v .bits) (v .at q) (under a len (v .bits) (v .at q) (m .few) (m .bounded q l e) n))
 
-      go : (q : ℕ) → q < v .places → Same v v′ q → (v .live q ≡ true → NoneUnder a len (v .bits) (v .at q)) → (v .live q ≡ true) ⊎ (v .live q ≡ false) → (deep rs v q ≡ true) ⊎ (deep rs v q ≡ false)
-          → cond (v′ .live q) (cond (deep rs′ v′ q) (suc (chunkFor k′ (suc q))) (leafAt rs′ v′ q)) 0 ≡ cond (v .live q) (cond (deep rs v q) (suc (chunkFor k (suc q))) (leafAt rs v q)) 0
+      go : (q : ℕ) → q < v .places → Same v v′ q → (v .live q ≡ true → NoneUnder a len (v .bits) (v .at q)) → (v .live q ≡ true) ⊎ (v .live q ≡ false)
+          → (deep rs v q ≡ true) ⊎ (deep rs v q ≡ false)
+          → cond (v′ .live q) (cond (deep rs′ v′ q) (suc (chunkFor k′ (suc q))) (leafAt rs′ v′ q)) 0
+          ≡ cond (v .live q) (cond (deep rs v q) (suc (chunkFor k (suc q))) (leafAt rs v q)) 0
       go q l s n (inr x) y = rw (s .live, x)
       go q l s n (inl x) (inl y) = let d = same-long q l x (n x) in rw (s .live, x, m .bits, s .at x, d, y, chunk-stays q l x y (d ∙ y))
       go q l s n (inl x) (inr y) = rw (s .live, x, m .bits, s .at x, same-long q l x (n x), y, same-best q l x (n x))

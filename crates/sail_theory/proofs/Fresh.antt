@@ -39,7 +39,8 @@ no-fits v m = record {
 
 -- an array of one number
 constant : (v n : ℕ) (xs : List ℕ) → length xs ≡ n → ((i : ℕ) → i < n → getD xs i 0 ≡ v) → replicate n v ≡ xs
-constant v n xs e h = ext-getD 0 (replicate n v) xs (length-replicate n v ∙ sym e) (λ i l. let k : i < n = rw length-replicate at l in getD-replicate {A = ℕ} n i v 0 k ∙ sym (h i k))
+constant v n xs e h =
+    ext-getD 0 (replicate n v) xs (length-replicate n v ∙ sym e) (λ i l. let k : i < n = rw length-replicate at l in getD-replicate {A = ℕ} n i v 0 k ∙ sym (h i k))
 
 module _ (t : Table) (l : Lent) (z : Sized (t .geometry) l) where
   abbrev g : Geometry

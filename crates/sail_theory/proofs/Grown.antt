@@ -91,13 +91,16 @@ module _ (rs : List Route) (r : Route) (v : Level) (own : List ℕ) (c : ℕ) (w
       go (inl e) = let s = w .served e in subst (λ (o : List ℕ). Fits (insert r rs) v (chunksOf o)) (sym (grants e))
           (grant-fits rs (insert r rs) v own (w .fits) q (s .inside) (s .used) (rw (s .stands) (long-own r rs (w .fine) (w .good) (v .bits) e))
           (λ x l u h. long-other r rs (w .fine) (w .good) (v .bits) (v .at x) (λ z. h (w .apart x q l (s .inside) u (s .used) (z ∙ sym (s .stands))))) c (λ h. w .space e (not-long e h)))
-      go (inr e) = subst (λ (o : List ℕ). Fits (insert r rs) v (chunksOf o)) (sym (short e)) (fits-ext rs (insert r rs) v (chunksOf own) (λ x l u. long-short r rs (w .fine) (w .good) (v .bits) (v .at x) e) (w .fits))
+      go (inr e) =
+          subst (λ (o : List ℕ). Fits (insert r rs) v (chunksOf o)) (sym (short e))
+          (fits-ext rs (insert r rs) v (chunksOf own) (λ x l u. long-short r rs (w .fine) (w .good) (v .bits) (v .at x) e) (w .fits))
 
   -- an owner stays; one that is new hangs from the route's place, whose cell was not long
   grew : (j : ℕ) → Grew rs v (chunksOf own) (chunksOf own′) j
   grew j = go (decided (ltb (v .bits) (r .len))) (had? own q)
     where
-      go : (ltb (v .bits) (r .len) ≡ true) ⊎ (ltb (v .bits) (r .len) ≡ false) → (find own (suc q) < length own) ⊎ (length own ≤ find own (suc q)) → Grew rs v (chunksOf own) (chunksOf own′) j
+      go : (ltb (v .bits) (r .len) ≡ true) ⊎ (ltb (v .bits) (r .len) ≡ false) → (find own (suc q) < length own) ⊎ (length own ≤ find own (suc q))
+          → Grew rs v (chunksOf own) (chunksOf own′) j
       go (inr e) h = stayed (ap (λ (l : List ℕ). getD l j 0) (short e))
       go (inl e) (inl h) = stayed (ap (λ (l : List ℕ). getD l j 0) (grants e ∙ grant-had own c q h))
       go (inl e) (inr h) = at (equal? j c)
@@ -109,11 +112,14 @@ module _ (rs : List Route) (r : Route) (v : Level) (own : List ℕ) (c : ℕ) (w
           is = grants e ∙ grant-new own c q h
 
           at : (j ≡ c) ⊎ (j ≢ c) → Grew rs v (chunksOf own) (chunksOf own′) j
-          at (inl y) = came q (rw y (free .1)) (ap (λ (l : List ℕ). getD l j 0) is ∙ rw y (getD-set-same own c (suc q) 0 (free .0))) (ap (long rs (v .bits)) (w .served e .stands) ∙ not-long e h)
+          at (inl y) =
+              came q (rw y (free .1)) (ap (λ (l : List ℕ). getD l j 0) is ∙ rw y (getD-set-same own c (suc q) 0 (free .0)))
+              (ap (long rs (v .bits)) (w .served e .stands) ∙ not-long e h)
           at (inr y) = stayed (ap (λ (l : List ℕ). getD l j 0) is ∙ getD-set-other own c j (suc q) 0 y)
 
   -- then r may be announced at the level below
-  pub ready-below : (p : ℕ) → v .bits ≤ p → p ≤ 32 → (low : List ℕ) (b : ℕ) → Fits rs (below v (chunksOf own) p) (chunksOf low) → Space rs r (below v (chunksOf own′) p) low b → Ready rs r (below v (chunksOf own′) p) low b
+  pub ready-below : (p : ℕ) → v .bits ≤ p → p ≤ 32 → (low : List ℕ) (b : ℕ) → Fits rs (below v (chunksOf own) p) (chunksOf low)
+      → Space rs r (below v (chunksOf own′) p) low b → Ready rs r (below v (chunksOf own′) p) low b
   ready-below p h u low b f s = record {
     fine = w .fine;
     good = w .good;

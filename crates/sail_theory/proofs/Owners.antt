@@ -22,7 +22,8 @@ pub chunk-found : (k : Chunks) (o c : ℕ) → c < k .many → k .own c ≡ o �
 chunk-found k o c l e = let h = chunk-has k o c e in omega arith
 
 -- the same cells are deep
-pub fits-ext : (rs rs′ : List Route) (v : Level) (k : Chunks) → ((q : ℕ) → q < v .places → v .live q ≡ true → deep rs′ v q ≡ deep rs v q) → Fits rs v k → Fits rs′ v k
+pub fits-ext : (rs rs′ : List Route) (v : Level) (k : Chunks) → ((q : ℕ) → q < v .places → v .live q ≡ true → deep rs′ v q ≡ deep rs v q) → Fits rs v k
+    → Fits rs′ v k
 fits-ext rs rs′ v k h f = record {
   lies = λ c q l e. let j = f .lies c q l e in (j .0, j .1, h q (j .0) (j .1) ∙ j .2);
   has = λ q l e d. f .has q l e (sym (h q l e) ∙ d);
@@ -35,7 +36,8 @@ pub data Grew (rs : List Route) (v : Level) (k k′ : Chunks) (c : ℕ) : Type 0
   came : (q : ℕ) → k .own c ≡ 0 → k′ .own c ≡ suc q → deep rs v q ≡ false → Grew rs v k k′ c
 
 -- then what fits the level below still does
-module _ (rs : List Route) (v : Level) (k k′ : Chunks) (p : ℕ) (h : v .bits ≤ p) (u : p ≤ 32) (same : k′ .many ≡ k .many) (grew : (c : ℕ) → Grew rs v k k′ c) where
+module _ (rs : List Route) (v : Level) (k k′ : Chunks) (p : ℕ) (h : v .bits ≤ p) (u : p ≤ 32) (same : k′ .many ≡ k .many)
+    (grew : (c : ℕ) → Grew rs v k k′ c) where
   abbrev d : ℕ
   d = p - v .bits
 
@@ -82,7 +84,8 @@ module _ (rs rs′ : List Route) (v : Level) (k : Chunks) (f : Fits rs v k)
       has′ x l e d (inr s) = f .has x l e (sym (others x l e s) ∙ d)
 
   -- or a free chunk c is hung there
-  module _ (k′ : Chunks) (same : k′ .many ≡ k .many) (none : k .many ≤ chunkFor k (suc q)) (c : ℕ) (cl : c < k .many) (free : k .own c ≡ 0) (here : k′ .own c ≡ suc q) (left : (j : ℕ) → j ≢ c → k′ .own j ≡ k .own j) where
+  module _ (k′ : Chunks) (same : k′ .many ≡ k .many) (none : k .many ≤ chunkFor k (suc q)) (c : ℕ) (cl : c < k .many) (free : k .own c ≡ 0)
+      (here : k′ .own c ≡ suc q) (left : (j : ℕ) → j ≢ c → k′ .own j ≡ k .own j) where
     gone : (j : ℕ) → j < k .many → k .own j ≢ suc q
     gone j l e = let z = chunk-has k (suc q) j e in omega arith
 
@@ -114,7 +117,8 @@ module _ (rs rs′ : List Route) (v : Level) (k : Chunks) (f : Fits rs v k)
             chunk-found k′ (suc x) (chunkFor k (suc x)) (rw same u) (left _ away ∙ at-u)
 
         once′ : (j x : ℕ) → j < k .many → k′ .own j ≡ suc x → (j ≡ c) ⊎ (j ≢ c) → chunkFor k′ (suc x) ≡ j
-        once′ j x l e (inl h) = rw (is-q j x h e, h) (chunk-is k′ (suc q) c (rw same cl) here (λ i b z. gone i (omega arith) (sym (left i (λ y. omega arith)) ∙ z)))
+        once′ j x l e (inl h) =
+            rw (is-q j x h e, h) (chunk-is k′ (suc q) c (rw same cl) here (λ i b z. gone i (omega arith) (sym (left i (λ y. omega arith)) ∙ z)))
         once′ j x l e (inr h) = chunk-is k′ (suc x) j (rw same l) e (λ i b z. before i b z (equal? i c))
           where
             before : (i : ℕ) → i < j → k′ .own i ≡ suc x → (i ≡ c) ⊎ (i ≢ c) → ⊥
@@ -169,7 +173,9 @@ module _ (rs rs′ : List Route) (less : (p i : ℕ) → long rs′ p i ≡ true
         z .stays (q / 2 ^ (p - v .bits)) _ o (sym (ap (long rs′ (v .bits)) (part-up v k p q)) ∙ long-down rs′ (v .bits) p _ h u b) ∙ sym o
 
     pub below-kept : (j j′ : Chunks) → Fits rs (below v k p) j → Closed rs′ (below v k p) j j′ → Fits rs′ (below v k′ p) j′
-    below-kept j j′ f y = closed-fits (below v k p) (below v k′ p) j j′ f refl (ap (λ (n : ℕ). n * 2 ^ (p - v .bits)) (z .many)) y (λ q e b. ap (ltb 0) (kept-over q e b) ∙ e) back
+    below-kept j j′ f y =
+        closed-fits (below v k p) (below v k′ p) j j′ f refl (ap (λ (n : ℕ). n * 2 ^ (p - v .bits)) (z .many)) y (λ q e b. ap (ltb 0) (kept-over q e b) ∙ e)
+        back
       where
         back : (q : ℕ) → below v k′ p .live q ≡ true → (below v k p .live q ≡ true) × (below v k′ p .at q ≡ below v k p .at q)
         back q e =

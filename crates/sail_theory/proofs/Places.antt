@@ -56,7 +56,8 @@ pub top-served : (p a : ℕ) → p ≤ 32 → a < 2 ^ 32 → LiveFor (top p) a
 top-served p a h s = record { inside = slot-lt p a h s; used = refl; stands = refl }
 
 -- so it is below a place that serves the address and has a chunk
-module _ (rs : List Route) (v : Level) (k : Chunks) (f : Fits rs v k) (p a : ℕ) (h : v .bits ≤ p) (u : p ≤ 32) (s : LiveFor v a) (e : long rs (v .bits) (slot (v .bits) a) ≡ true) where
+module _ (rs : List Route) (v : Level) (k : Chunks) (f : Fits rs v k) (p a : ℕ) (h : v .bits ≤ p) (u : p ≤ 32) (s : LiveFor v a)
+    (e : long rs (v .bits) (slot (v .bits) a) ≡ true) where
   has-chunk : chunkFor k (suc (v .serving a)) < k .many
   has-chunk = f .has (v .serving a) (s .inside) (s .used) (rw (s .stands) e)
 
@@ -69,7 +70,10 @@ module _ (rs : List Route) (v : Level) (k : Chunks) (f : Fits rs v k) (p a : ℕ
       record {
         inside = digits-lt has-chunk lt;
         used = chunk-live v k p _ _ lt (v .serving a) serving-owner;
-        stands = chunk-part v k p _ _ lt (v .serving a) serving-owner ∙ ap (λ (x : ℕ). x * 2 ^ (p - v .bits) + slot p a % 2 ^ (p - v .bits)) (s .stands ∙ slot-down (v .bits) p a h u) ∙ div-add-mod' (slot p a) (2 ^ (p - v .bits));
+        stands =
+            chunk-part v k p _ _ lt (v .serving a) serving-owner
+            ∙ ap (λ (x : ℕ). x * 2 ^ (p - v .bits) + slot p a % 2 ^ (p - v .bits)) (s .stands ∙ slot-down (v .bits) p a h u)
+            ∙ div-add-mod' (slot p a) (2 ^ (p - v .bits));
       }
 
 -- no two live places stand for one cell

@@ -29,7 +29,8 @@ module _ (old : List ℕ) (live : ℕ → Bool) (value : ℕ → ℕ) where
   unfolding laid block
   laid-block h = tabulate-ext (length old) _ _ (λ q l. go q (decided (live q)) (h q l))
     where
-      go : (q : ℕ) → (live q ≡ true) ⊎ (live q ≡ false) → (live q ≡ false → getD old q 0 ≡ 0) → cond (live q) (value q) (getD old q 0) ≡ cond (live q) (value q) 0
+      go : (q : ℕ) → (live q ≡ true) ⊎ (live q ≡ false) → (live q ≡ false → getD old q 0 ≡ 0)
+          → cond (live q) (value q) (getD old q 0) ≡ cond (live q) (value q) 0
       go q (inl e) w = rw e
       go q (inr e) w = rw e (w e)
 

@@ -31,7 +31,8 @@ module _ (rs : List Route) (v : Level) (k : Chunks) (cells : ℕ → ℕ) (s : S
   owner-stands : v .at (k .own (q / 2 ^ d) - 1) ≡ slot (v .bits) x
   owner-stands = sym (part-up v k p q) ∙ ap (λ (j : ℕ). j / 2 ^ d) is ∙ sym (slot-down (v .bits) p x h u)
 
-  stands-named : (z : ℕ) → z < v .places → v .live z ≡ true → v .at z ≡ slot (v .bits) x → (cells z ≡ suc (q / 2 ^ d)) × (cells z ≤ k .many) × (place d (cells z) (slot p x) ≡ q)
+  stands-named : (z : ℕ) → z < v .places → v .live z ≡ true → v .at z ≡ slot (v .bits) x
+      → (cells z ≡ suc (q / 2 ^ d)) × (cells z ≤ k .many) × (place d (cells z) (slot p x) ≡ q)
   stands-named z zl lz above =
       let c = chunk-lt d (k .many) q l in
       let o = s .owned (q / 2 ^ d) (k .own (q / 2 ^ d) - 1) c (live-owner v k p q e) in
@@ -59,7 +60,8 @@ module _ (t : Table) (l : Lent) (s : Sound t l) (x : ℕ) (small : x < 2 ^ 32) w
       → (getD (l .first) (slot (g .p1) x) 0 ≡ suc (q / 2 ^ bits2 g)) × (getD (l .first) (slot (g .p1) x) 0 ≤ length (l .own2)) × (place (bits2 g) (getD (l .first) (slot (g .p1) x) 0) (slot (g .p2) x) ≡ q)
   named2 q h e p =
       let v = valid in
-      stands-named (standing t l) (level1 g) (chunksOf (l .own2)) (entry (l .first)) (s .serves .first) (top-apart (g .p1)) (g .p2) x (omega arith) (omega arith) q h e p
+      stands-named (standing t l) (level1 g) (chunksOf (l .own2)) (entry (l .first)) (s .serves .first) (top-apart (g .p1)) (g .p2) x (omega arith)
+      (omega arith) q h e p
       (slot (g .p1) x) (slot-lt (g .p1) x (omega arith) small) refl refl
 
   pub reads-second : (q : ℕ) → q < v2 .places → v2 .live q ≡ true → v2 .at q ≡ slot (g .p2) x → ReadsSecond g (whole l) x q

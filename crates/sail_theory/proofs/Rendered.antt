@@ -79,7 +79,9 @@ module _ (t : Table) (l : Lent) where
     fits3 = shows-fits rs v2 (chunksOf own3) (entry (l .second)) (s .serves .second);
     is-first = shows-pool rs v1 (chunksOf own2) (l .first) (s .serves .first) (s .sized .cells1) (top-clear (g .p1) (entry (l .first)));
     is-second = shows-pool rs v2 (chunksOf own3) (l .second) (s .serves .second) (s .sized .cells2) (s .clear2);
-    is-third = shows-pool rs v3 noChunks (l .third) (last-shows rs (listed-good (s .listed)) v2 (chunksOf own3) (entry (l .third)) (s .serves .third)) (s .sized .cells3) (s .clear3);
+    is-third =
+        shows-pool rs v3 noChunks (l .third) (last-shows rs (listed-good (s .listed)) v2 (chunksOf own3) (entry (l .third)) (s .serves .third))
+        (s .sized .cells3) (s .clear3);
   }
 
   pub rendered-sound : Rendered t l → Sound t l

@@ -70,7 +70,8 @@ module _ (b : Bool) (c c′ : ℕ) (h : b ≡ true → c ≡ c′) where
   unfolding blanked
   same-blanked d cells = go (decided b)
     where
-      go : (b ≡ true) ⊎ (b ≡ false) → cond b (filled cells (c * 2 ^ d) (c * 2 ^ d + 2 ^ d) 0) cells ≡ cond b (filled cells (c′ * 2 ^ d) (c′ * 2 ^ d + 2 ^ d) 0) cells
+      go : (b ≡ true) ⊎ (b ≡ false)
+          → cond b (filled cells (c * 2 ^ d) (c * 2 ^ d + 2 ^ d) 0) cells ≡ cond b (filled cells (c′ * 2 ^ d) (c′ * 2 ^ d + 2 ^ d) 0) cells
       go (inl e) = rw (h e)
       go (inr e) = rw e
 
@@ -108,11 +109,13 @@ module _ (t : Table) (l : Lent) (a len : ℕ) (w : Farewell t l a len) where
     holds : Holds s m left
     holds =
         let few : length (l .list) / 8 ≤ 4096 = omega (arith, w .sound .sized .room) in
-        let k : Holds (removed (l .list) (t .count) (keyOf a len)) (countWithout (stands (keyOf a len) rs) (t .count)) left = remove-holds (l .list) (t .count) few (keyOf a len) (w .sound .listed) in
+        let k : Holds (removed (l .list) (t .count) (keyOf a len)) (countWithout (stands (keyOf a len) rs) (t .count)) left
+        = remove-holds (l .list) (t .count) few (keyOf a len) (w .sound .listed) in
         rw list-is (rw (w .old) at k)
 
     -- A level that the withdrawal may close a chunk at, and the pool of p bits below it: the cell x of the address names the chunk.
-    module _ (v : Level) (own cells : List ℕ) (z : Losing rs left a v own) (p : ℕ) (size : length cells ≡ below v (chunksOf own) p .places) (x : ℕ) (k : Told rs v own a x) where
+    module _ (v : Level) (own cells : List ℕ) (z : Losing rs left a v own) (p : ℕ) (size : length cells ≡ below v (chunksOf own) p .places) (x : ℕ)
+        (k : Told rs v own a x) where
       names : alone left (v .bits) a len ≡ true → x - 1 ≡ find own (suc (v .serving a))
       names q = told-chunk rs v own a x k (was-long t l a len w (v .bits) (alone-longer left (v .bits) a len q))
 
@@ -135,21 +138,22 @@ module _ (t : Table) (l : Lent) (a len : ℕ) (w : Farewell t l a len) where
       abbrev v2 : Level
       v2 = level2 g (chunksOf (l .own2))
 
+      small : (g .p1 ≤ 32) × (g .p2 ≤ 32) × (bits3 g ≤ 10)
+      small = let v = w .sound .sized .valid in (omega arith, omega arith, omega arith)
+
       pub take-second : Closable s m (g .p1) a len x1 (bits2 g) (l .own2) (l .second)
-      take-second =
-          let z = w .sound .sized in
-          let v = z .valid in
-          closable (level1 g) (l .own2) (l .second) (losing1 t l a len w) (g .p2) (z .cells2) x1 (k .first) (omega arith) (z .few2) (v .near)
+      take-second = closable (level1 g) (l .own2) (l .second) (losing1 t l a len w) (g .p2) (w .sound .sized .cells2) x1 (k .first)
+          (small .0) (w .sound .sized .few2) (w .sound .sized .valid .near)
 
       pub take-third : Closable s m (g .p2) a len x2 (bits3 g) (l .own3) (l .third)
-      take-third =
-          let z = w .sound .sized in
-          let v = z .valid in
-          closable v2 (l .own3) (l .third) (losing2 t l a len w) 32 (z .cells3) x2 (k .second) (omega arith) (z .few3) (omega arith)
+      take-third = closable v2 (l .own3) (l .third) (losing2 t l a len w) 32 (w .sound .sized .cells3) x2 (k .second)
+          (small .1) (w .sound .sized .few3) (small .2)
 
       module _ (own2 own3 second third : List ℕ)
-          (o2 : own2 ≡ closed (alone (routesOf s m) (g .p1) a len) (x1 - 1) (l .own2)) (s2 : second ≡ blanked (alone (routesOf s m) (g .p1) a len) (x1 - 1) (bits2 g) (l .second))
-          (o3 : own3 ≡ closed (alone (routesOf s m) (g .p2) a len) (x2 - 1) (l .own3)) (s3 : third ≡ blanked (alone (routesOf s m) (g .p2) a len) (x2 - 1) (bits3 g) (l .third)) where
+          (o2 : own2 ≡ closed (alone (routesOf s m) (g .p1) a len) (x1 - 1) (l .own2))
+          (s2 : second ≡ blanked (alone (routesOf s m) (g .p1) a len) (x1 - 1) (bits2 g) (l .second))
+          (o3 : own3 ≡ closed (alone (routesOf s m) (g .p2) a len) (x2 - 1) (l .own3))
+          (s3 : third ≡ blanked (alone (routesOf s m) (g .p2) a len) (x2 - 1) (bits3 g) (l .third)) where
         own2-is : own2 ≡ keep left (level1 g) (l .own2)
         own2-is = own-is (level1 g) (l .own2) (l .second) (losing1 t l a len w) (g .p2) (w .sound .sized .cells2) x1 (k .first) own2 o2
 
@@ -162,7 +166,7 @@ module _ (t : Table) (l : Lent) (a len : ℕ) (w : Farewell t l a len) where
         third-is : third ≡ blanked (alone left (g .p2) a len) (find (l .own3) (suc (v2 .serving a))) (bits3 g) (l .third)
         third-is = cells-are v2 (l .own3) (l .third) (losing2 t l a len w) 32 (w .sound .sized .cells3) x2 (k .second) third s3
 
-        pub take-pending : (x : ℕ) → x ≡ len → Pending g m a x (lent s (l .first) second third own2 own3)
+        pub take-pending : (x : ℕ) → x ≡ len → Pending g m a x s (cells (l .first) second third own2 own3)
         take-pending x q = rw (q, own2-is, own3-is, second-is, third-is) (record {
           listed = holds .listed;
           stale = λ ws par ready z. underway-stale g a len left l _ (farewell-underway t l a len w s) ws par ready (z ∙ holds .routes);

@@ -1,4 +1,5 @@
--- `sail_withdraw::take` meets its contract. Assumes nothing.
+-- `sail_withdraw::take`. The cells of the address are read before the list changes; they name the chunks that are closed, where the prefix alone
+-- needed them. What is then stale is painted.
 use mathlib.Core.Path.{_∙_}
 use native.Mathlib.Omega.{arith}
 use Rattle.sail_withdraw.proofs.Takes.{take-serving, take-some, take-second, take-third, take-pending, take-done}
@@ -6,27 +7,106 @@ use borrow.Author.Needs.{needs}
 use Rattle.sail_withdraw.proofs.take.Statement.{statement}
 use Rattle.sail_withdraw.proofs.take.Tie as tie
 
+-- Places, each seen from the next one: where it starts; after the cells are read; after the record is removed; after the second chunk is closed,
+-- and the third; and the last of these, seen from after the cells are painted.
+abbrev start : tie.After-follow → tie.Start
+start c = c .before .before .before .before .before .before .before .before .before .before .before .before .before .before
+
+abbrev followed : tie.After-remove → tie.After-follow
+followed c = c .before .before
+
+abbrev removed : tie.After-close-alone → tie.After-remove
+removed c = c .before .before .before .before .before .before
+
+abbrev second-closed : tie.After-close-alone2 → tie.After-close-alone
+second-closed c = c .before .before .before .before .before .before .before .before
+
+abbrev third-closed : tie.After-renew → tie.After-close-alone2
+third-closed c = c .before .before .before .before .before .before .before .before .before .before .before .before
+
+follow-requires : tie.Need-follow-requires
+follow-requires c κs =
+    let s = c .before .before .before .before .before .before .before .before .before .before .before .before .before in
+    take-serving _ _ _ _ (s .pre)
+
+close-alone-requires : tie.Need-close-alone-requires
+close-alone-requires c κs =
+    let m = c .before .before .before .before .before in
+    let f = followed m in
+    take-second _ _ _ _ (start f .pre) _ _ (m .remove .ensures) _ _ (f .follow .ensures)
+
+close-alone-requires-2 : tie.Need-close-alone-requires-2
+close-alone-requires-2 c κs =
+    let m = removed (c .before .before .before .before .before .before .before) in
+    let f = followed m in
+    take-third _ _ _ _ (start f .pre) _ _ (m .remove .ensures) _ _ (f .follow .ensures)
+
+renew-requires : tie.Need-renew-requires
+renew-requires c κs =
+    let w = c .before .before .before .before .before in
+    let third = w .before .before .before .before .before .before in
+    let second = second-closed third in
+    let m = removed second in
+    let f = followed m in
+    take-pending _ _ _ _ (start f .pre) _ _ (m .remove .ensures) _ _ (f .follow .ensures) _ _ _ _
+    (second .close-alone .ensures .0) (second .close-alone .ensures .1) (third .close-alone2 .ensures .0) (third .close-alone2 .ensures .1)
+    _ (w .wide .ensures .0)
+
+same-list : tie.Need-same-length
+same-list c = removed (second-closed (third-closed (c .before .before .before .before .before .before))) .remove .kept .0
+
+same-first : tie.Need-same-length-2
+same-first c = let painted = c .before .before .before .before .before .before in painted .renew .kept .1 .1 .1 .1 .1 .0
+
+same-second : tie.Need-same-length-3
+same-second c =
+    let painted = c .before .before .before .before .before .before in
+    painted .renew .kept .1 .1 .1 .1 .1 .1 .0 ∙ second-closed (third-closed painted) .close-alone .kept .1 .1 .1 .1 .1 .1 .1 .1 .0
+
+same-third : tie.Need-same-length-4
+same-third c =
+    let painted = c .before .before .before .before .before .before in
+    painted .renew .kept .1 .1 .1 .1 .1 .1 .1 .0 ∙ third-closed painted .close-alone2 .kept .1 .1 .1 .1 .1 .1 .1 .1 .0
+
+same-own2 : tie.Need-same-length-5
+same-own2 c = second-closed (third-closed (c .before .before .before .before .before .before)) .close-alone .kept .1 .1 .1 .1 .1 .1 .1 .0
+
+same-own3 : tie.Need-same-length-6
+same-own3 c = third-closed (c .before .before .before .before .before .before) .close-alone2 .kept .1 .1 .1 .1 .1 .1 .1 .0
+
+returns : tie.Need-returns
+returns c =
+    let painted = c .before .before .before .before .before .before in
+    let third = third-closed painted in
+    let second = second-closed third in
+    let m = removed second in
+    let f = followed m in
+    take-done _ _ _ _ (start f .pre) _ _ (m .remove .ensures) _ _ (f .follow .ensures) _ _ _ _
+    (second .close-alone .ensures .0) (second .close-alone .ensures .1) (third .close-alone2 .ensures .0) (third .close-alone2 .ensures .1)
+    _ _ _ (painted .renew .ensures) _
+
 pub take-spec : {M : Type 1} → statement M
 take-spec =
     tie.close
     (tie.spec
     (λ c. search needs)
-    (λ c κs. take-serving _ _ _ _ (c .before .before .before .before .before .before .before .before .before .before .before .before .before .pre))
+    follow-requires
     (λ c κs. search needs)
     (λ c. search take-some)
-    (λ c. let s = c .before .before .before .before .before .before .before .before .before .before .before .before .before .before .before .before .before .before .before in let v = s .pre .sound .sized .valid in omega arith)
-    (λ c κs. let m = c .before .before .before .before .before in let f = m .before .before in let s = f .before .before .before .before .before .before .before .before .before .before .before .before .before .before in take-second _ _ _ _ (s .pre) _ _ (m .remove .ensures) _ _ (f .follow .ensures))
-    (λ c. let s = c .before .before .before .before .before .before .before .before .before .before .before .before .before .before .before .before .before .before .before .before .before .before .before .before .before .before .before in let v = s .pre .sound .sized .valid in omega arith)
-    (λ c κs. let m = c .before .before .before .before .before .before .before .before .before .before .before .before .before in let f = m .before .before in let s = f .before .before .before .before .before .before .before .before .before .before .before .before .before .before in take-third _ _ _ _ (s .pre) _ _ (m .remove .ensures) _ _ (f .follow .ensures))
+    (λ c. let v = start (followed (c .before .before .before)) .pre .sound .sized .valid in omega arith)
+    close-alone-requires
+    (λ c. let v = start (followed (removed (c .before .before .before .before .before))) .pre .sound .sized .valid in omega arith)
+    close-alone-requires-2
     (λ c κs. tt)
-    (λ c κs. let w = c .before .before .before .before .before in let y = w .before .before .before .before .before .before in let x = y .before .before .before .before .before .before .before .before in let m = x .before .before .before .before .before .before in let f = m .before .before in let s = f .before .before .before .before .before .before .before .before .before .before .before .before .before .before in
-    take-pending _ _ _ _ (s .pre) _ _ (m .remove .ensures) _ _ (f .follow .ensures) _ _ _ _ (x .close-alone .ensures .0) (x .close-alone .ensures .1) (y .close-alone2 .ensures .0) (y .close-alone2 .ensures .1) _ (w .wide .ensures .0))
-    (λ c. let s = c .before .before .before .before .before .before .before .before .before .before .before .before .before .before .before .before .before .before .before .before .before .before .before .before .before .before .before .before .before .before .before .before .before .before .before .before .before .before .before .before .before .before .before .before .before .before .before .before in let few = s .pre .sound .listed .records .few in omega arith)
-    (λ c. let m = c .before .before .before .before .before .before .before .before .before .before .before .before .before .before .before .before .before .before .before .before .before .before .before .before .before .before .before .before .before .before .before .before in m .remove .kept .0)
-    (λ c. c .before .before .before .before .before .before .renew .kept .1 .1 .1 .1 .1 .0)
-    (λ c. let r = c .before .before .before .before .before .before in r .renew .kept .1 .1 .1 .1 .1 .1 .0 ∙ r .before .before .before .before .before .before .before .before .before .before .before .before .before .before .before .before .before .before .before .before .close-alone .kept .1 .1 .1 .1 .1 .1 .1 .1 .0)
-    (λ c. let r = c .before .before .before .before .before .before in r .renew .kept .1 .1 .1 .1 .1 .1 .1 .0 ∙ r .before .before .before .before .before .before .before .before .before .before .before .before .close-alone2 .kept .1 .1 .1 .1 .1 .1 .1 .1 .0)
-    (λ c. c .before .before .before .before .before .before .before .before .before .before .before .before .before .before .before .before .before .before .before .before .before .before .before .before .before .before .close-alone .kept .1 .1 .1 .1 .1 .1 .1 .0)
-    (λ c. c .before .before .before .before .before .before .before .before .before .before .before .before .before .before .before .before .before .before .close-alone2 .kept .1 .1 .1 .1 .1 .1 .1 .0)
-    (λ c. let r = c .before .before .before .before .before .before in let y = r .before .before .before .before .before .before .before .before .before .before .before .before in let x = y .before .before .before .before .before .before .before .before in let m = x .before .before .before .before .before .before in let f = m .before .before in let s = f .before .before .before .before .before .before .before .before .before .before .before .before .before .before in
-    take-done _ _ _ _ (s .pre) _ _ (m .remove .ensures) _ _ (f .follow .ensures) _ _ _ _ (x .close-alone .ensures .0) (x .close-alone .ensures .1) (y .close-alone2 .ensures .0) (y .close-alone2 .ensures .1) _ _ _ (r .renew .ensures) _))
+    renew-requires
+    (λ c.
+    let begun = start (followed (removed (second-closed (third-closed (c .before .before .before .before .before .before))))) in
+    let few = begun .pre .sound .listed .records .few in
+    omega arith)
+    same-list
+    same-first
+    same-second
+    same-third
+    same-own2
+    same-own3
+    returns)

@@ -1,9 +1,36 @@
--- `sail_load::load::load` meets its contract. Assumes nothing.
+-- `sail_load::load::load`. Where the judge refuses, nothing is written; where it accepts, all that is lent is written anew.
 use mathlib.Core.Path.{refl}
 use native.Mathlib.Omega.{arith}
 use Rattle.sail_load.proofs.Loads.{load-refuses, renewable, few, load-loads}
 use Rattle.sail_load.proofs.load.load.Statement.{statement}
 use Rattle.sail_load.proofs.load.load.Tie as tie
+
+-- Places: after the judge, seen from the branch on which it accepts; that branch, seen from after `renew`; and these two, seen from the end.
+abbrev judged : tie.Then1 → tie.After-judge
+judged c = c .before .before
+
+abbrev accepted : tie.After-renew → tie.Then1
+accepted c = c .before .before .before .before .before .before .before
+
+abbrev renewed : tie.After-g → tie.After-renew
+renewed c = c .before .before .before .before .before .before .before .before .before .before .before .before .before
+
+abbrev branch : tie.After-g → tie.Then1
+branch c = accepted (renewed c)
+
+renew-requires : tie.Need-renew-requires
+renew-requires c κs =
+    renewable _ _ _ _ _ (judged (c .before .before .before .before .before .before) .judge .ensures)
+    (c .before .before .before .before .before .before .before .accepts .ensures) (c .before .before .before .before .before .before .if1 .taken)
+
+cast-count : tie.Need-cast-count
+cast-count c = record { fits = omega (arith, few _ _ _ _ _ (judged (branch c) .judge .ensures) (branch c .before .accepts .ensures) (branch c .if1 .taken)) }
+
+returns : tie.Need-returns
+returns c = load-loads _ _ _ _ _ (judged (branch c) .judge .ensures) (branch c .before .accepts .ensures) (branch c .if1 .taken) _ (renewed c .renew .ensures)
+
+returns-2 : tie.Need-returns-2
+returns-2 c = load-refuses _ _ _ _ _ (c .before .before .judge .ensures) (c .before .accepts .ensures) (c .if1 .left)
 
 pub load-spec : {M : Type 1} → statement M
 load-spec =
@@ -11,19 +38,19 @@ load-spec =
     (tie.spec
     (λ c κs. tt)
     (λ c κs. tt)
-    (λ c κs. renewable _ _ _ _ _ (c .before .before .before .before .before .before .before .before .judge .ensures) (c .before .before .before .before .before .before .before .accepts .ensures) (c .before .before .before .before .before .before .if1 .taken))
-    (λ c. record { fits = omega (arith, few _ _ _ _ _ (c .before .before .before .before .before .before .before .before .before .before .before .before .before .before .before .before .before .before .before .before .before .before .judge .ensures) (c .before .before .before .before .before .before .before .before .before .before .before .before .before .before .before .before .before .before .before .before .before .accepts .ensures) (c .before .before .before .before .before .before .before .before .before .before .before .before .before .before .before .before .before .before .before .before .if1 .taken)) })
-    (λ c. c .before .before .before .before .before .before .before .before .before .before .before .before .before .renew .kept .1 .1 .0)
-    (λ c. c .before .before .before .before .before .before .before .before .before .before .before .before .before .renew .kept .1 .1 .1 .0)
-    (λ c. c .before .before .before .before .before .before .before .before .before .before .before .before .before .renew .kept .1 .1 .1 .1 .0)
-    (λ c. c .before .before .before .before .before .before .before .before .before .before .before .before .before .renew .kept .1 .1 .1 .1 .1 .0)
-    (λ c. c .before .before .before .before .before .before .before .before .before .before .before .before .before .renew .kept .1 .1 .1 .1 .1 .1 .0)
-    (λ c. c .before .before .before .before .before .before .before .before .before .before .before .before .before .renew .kept .1 .1 .1 .1 .1 .1 .1 .0)
-    (λ c. load-loads _ _ _ _ _ (c .before .before .before .before .before .before .before .before .before .before .before .before .before .before .before .before .before .before .before .before .before .before .judge .ensures) (c .before .before .before .before .before .before .before .before .before .before .before .before .before .before .before .before .before .before .before .before .before .accepts .ensures) (c .before .before .before .before .before .before .before .before .before .before .before .before .before .before .before .before .before .before .before .before .if1 .taken) _ (c .before .before .before .before .before .before .before .before .before .before .before .before .before .renew .ensures))
+    renew-requires
+    cast-count
+    (λ c. renewed c .renew .kept .1 .1 .0)
+    (λ c. renewed c .renew .kept .1 .1 .1 .0)
+    (λ c. renewed c .renew .kept .1 .1 .1 .1 .0)
+    (λ c. renewed c .renew .kept .1 .1 .1 .1 .1 .0)
+    (λ c. renewed c .renew .kept .1 .1 .1 .1 .1 .1 .0)
+    (λ c. renewed c .renew .kept .1 .1 .1 .1 .1 .1 .1 .0)
+    returns
     (λ c. refl)
     (λ c. refl)
     (λ c. refl)
     (λ c. refl)
     (λ c. refl)
     (λ c. refl)
-    (λ c. load-refuses _ _ _ _ _ (c .before .before .judge .ensures) (c .before .accepts .ensures) (c .if1 .left)))
+    returns-2)

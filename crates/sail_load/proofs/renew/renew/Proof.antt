@@ -1,25 +1,115 @@
--- `sail_load::renew::renew` meets its contract. Assumes nothing.
+-- `sail_load::renew::renew`. The list is put in place, the pools and the owners are emptied, and the owners are filled. Then every cell may be
+-- stale, and what is painted is what a load leaves.
 use mathlib.Core.Path.{_∙_}
 use native.Mathlib.Omega.{arith}
 use Rattle.sail_load.proofs.Renews.{fits-list, ownable, bare, pending, renews}
 use Rattle.sail_load.proofs.renew.renew.Statement.{statement}
 use Rattle.sail_load.proofs.renew.renew.Tie as tie
 
+-- Places, each seen from the next one: where it starts; after the list is put; after the second pool, the third, the owners of the second and
+-- those of the third are emptied; after the owners are filled; and after the cells are painted, seen from the end.
+abbrev start : tie.After-put-list → tie.Start
+start c = c .before .before .before .before .before .before .before .before .before .before
+
+abbrev listed : tie.After-fill16 → tie.After-put-list
+listed c = c .before .before .before .before
+
+abbrev second-empty : tie.After-fill162 → tie.After-fill16
+second-empty c = c .before .before .before .before
+
+abbrev third-empty : tie.After-zero32 → tie.After-fill162
+third-empty c = c .before .before .before .before
+
+abbrev own2-empty : tie.After-zero322 → tie.After-zero32
+own2-empty c = c .before .before .before .before
+
+abbrev own3-empty : tie.After-settle-owners → tie.After-zero322
+own3-empty c = c .before .before .before .before .before
+
+abbrev owned : tie.After-renew → tie.After-settle-owners
+owned c = c .before .before .before .before .before .before .before .before .before .before
+
+abbrev painted : tie.After-slice-known16 → tie.After-renew
+painted c = c .before .before .before .before .before .before
+
+put-list-requires : tie.Need-put-list-requires
+put-list-requires c κs = let s = c .before .before .before .before .before .before .before .before .before in fits-list _ _ _ (s .pre)
+
+settle-owners-requires : tie.Need-settle-owners-requires
+settle-owners-requires c κs =
+    let o3 = c .before .before .before .before in
+    let o2 = own2-empty o3 in
+    let s = start (listed (second-empty (third-empty o2))) in
+    ownable _ _ _ (s .pre) _ _ (o2 .zero32 .ensures) (o3 .zero322 .ensures)
+
+renew-requires : tie.Need-renew-requires
+renew-requires c κs =
+    let o = c .before .before .before .before .before .before .before .before .before in
+    let o3 = own3-empty o in
+    let o2 = own2-empty o3 in
+    let third = third-empty o2 in
+    let second = second-empty third in
+    let s = start (listed second) in
+    pending _ _ _ _ _ _ _
+    (bare _ _ _ (s .pre) _ _ (o2 .zero32 .ensures) (o3 .zero322 .ensures)
+    _ _ _ _ (second .fill16 .ensures) (third .fill162 .ensures) (o .settle-owners .ensures))
+
+same-list : tie.Need-same-length
+same-list c = listed (second-empty (third-empty (own2-empty (own3-empty (owned (painted c)))))) .put-list .kept .0
+
+same-first : tie.Need-same-length-2
+same-first c = painted c .renew .kept .1 .1 .1 .1 .1 .0
+
+same-second : tie.Need-same-length-3
+same-second c =
+    let p = painted c in
+    p .renew .kept .1 .1 .1 .1 .1 .1 .0 ∙ second-empty (third-empty (own2-empty (own3-empty (owned p)))) .fill16 .kept .0
+
+same-third : tie.Need-same-length-4
+same-third c =
+    let p = painted c in
+    p .renew .kept .1 .1 .1 .1 .1 .1 .1 .0 ∙ third-empty (own2-empty (own3-empty (owned p))) .fill162 .kept .0
+
+same-own2 : tie.Need-same-length-5
+same-own2 c =
+    let o = owned (painted c) in
+    o .settle-owners .kept .1 .1 .0 ∙ own2-empty (own3-empty o) .zero32 .kept .0
+
+same-own3 : tie.Need-same-length-6
+same-own3 c =
+    let o = owned (painted c) in
+    o .settle-owners .kept .1 .1 .1 .0 ∙ own3-empty o .zero322 .kept .0
+
+returns : tie.Need-returns
+returns c =
+    let p = painted c in
+    let o = owned p in
+    let o3 = own3-empty o in
+    let o2 = own2-empty o3 in
+    let third = third-empty o2 in
+    let second = second-empty third in
+    let list = listed second in
+    let s = start list in
+    let input = list .before .before .before .before .before .before .before .before .before in
+    renews _ _ _ (s .pre) _ _ (o2 .zero32 .ensures) (o3 .zero322 .ensures) _ _ _ _ (second .fill16 .ensures) (third .fill162 .ensures)
+    (o .settle-owners .ensures)
+    (λ j. omega (arith, input .shared-slice-known .given j)) _ _ _ _ (list .put-list .ensures) (p .renew .ensures)
+
 pub renew-spec : {M : Type 1} → statement M
 renew-spec =
     tie.close
     (tie.spec
-    (λ c κs. fits-list _ _ _ (c .before .before .before .before .before .before .before .before .before .pre))
+    put-list-requires
     (λ c κs. tt)
     (λ c κs. tt)
     (λ c κs. tt)
     (λ c κs. tt)
-    (λ c κs. ownable _ _ _ (c .before .before .before .before .before .before .before .before .before .before .before .before .before .before .before .before .before .before .before .before .before .before .before .before .before .before .before .before .before .before .pre) _ _ (c .before .before .before .before .before .before .before .before .zero32 .ensures) (c .before .before .before .before .zero322 .ensures))
-    (λ c κs. pending _ _ _ _ _ _ _ (bare _ _ _ (c .before .before .before .before .before .before .before .before .before .before .before .before .before .before .before .before .before .before .before .before .before .before .before .before .before .before .before .before .before .before .before .before .before .before .before .before .before .before .before .before .pre) _ _ (c .before .before .before .before .before .before .before .before .before .before .before .before .before .before .before .before .before .before .zero32 .ensures) (c .before .before .before .before .before .before .before .before .before .before .before .before .before .before .zero322 .ensures) _ _ _ _ (c .before .before .before .before .before .before .before .before .before .before .before .before .before .before .before .before .before .before .before .before .before .before .before .before .before .before .fill16 .ensures) (c .before .before .before .before .before .before .before .before .before .before .before .before .before .before .before .before .before .before .before .before .before .before .fill162 .ensures) (c .before .before .before .before .before .before .before .before .before .settle-owners .ensures)))
-    (λ c. c .before .before .before .before .before .before .before .before .before .before .before .before .before .before .before .before .before .before .before .before .before .before .before .before .before .before .before .before .before .before .before .before .before .before .before .before .before .put-list .kept .0)
-    (λ c. c .before .before .before .before .before .before .renew .kept .1 .1 .1 .1 .1 .0)
-    (λ c. let p = c .before .before .before .before .before .before in p .renew .kept .1 .1 .1 .1 .1 .1 .0 ∙ p .before .before .before .before .before .before .before .before .before .before .before .before .before .before .before .before .before .before .before .before .before .before .before .before .before .before .before .fill16 .kept .0)
-    (λ c. let p = c .before .before .before .before .before .before in p .renew .kept .1 .1 .1 .1 .1 .1 .1 .0 ∙ p .before .before .before .before .before .before .before .before .before .before .before .before .before .before .before .before .before .before .before .before .before .before .before .fill162 .kept .0)
-    (λ c. let s = c .before .before .before .before .before .before .before .before .before .before .before .before .before .before .before .before in s .settle-owners .kept .1 .1 .0 ∙ s .before .before .before .before .before .before .before .before .before .zero32 .kept .0)
-    (λ c. let s = c .before .before .before .before .before .before .before .before .before .before .before .before .before .before .before .before in s .settle-owners .kept .1 .1 .1 .0 ∙ s .before .before .before .before .before .zero322 .kept .0)
-    (λ c. renews _ _ _ (c .before .before .before .before .before .before .before .before .before .before .before .before .before .before .before .before .before .before .before .before .before .before .before .before .before .before .before .before .before .before .before .before .before .before .before .before .before .before .before .before .before .before .before .before .before .before .before .pre) _ _ (c .before .before .before .before .before .before .before .before .before .before .before .before .before .before .before .before .before .before .before .before .before .before .before .before .before .zero32 .ensures) (c .before .before .before .before .before .before .before .before .before .before .before .before .before .before .before .before .before .before .before .before .before .zero322 .ensures) _ _ _ _ (c .before .before .before .before .before .before .before .before .before .before .before .before .before .before .before .before .before .before .before .before .before .before .before .before .before .before .before .before .before .before .before .before .before .fill16 .ensures) (c .before .before .before .before .before .before .before .before .before .before .before .before .before .before .before .before .before .before .before .before .before .before .before .before .before .before .before .before .before .fill162 .ensures) (c .before .before .before .before .before .before .before .before .before .before .before .before .before .before .before .before .settle-owners .ensures) (λ j. omega (arith, c .before .before .before .before .before .before .before .before .before .before .before .before .before .before .before .before .before .before .before .before .before .before .before .before .before .before .before .before .before .before .before .before .before .before .before .before .before .before .before .before .before .before .before .before .before .before .shared-slice-known .given j)) _ _ _ _ (c .before .before .before .before .before .before .before .before .before .before .before .before .before .before .before .before .before .before .before .before .before .before .before .before .before .before .before .before .before .before .before .before .before .before .before .before .before .put-list .ensures) (c .before .before .before .before .before .before .renew .ensures)))
+    settle-owners-requires
+    renew-requires
+    same-list
+    same-first
+    same-second
+    same-third
+    same-own2
+    same-own3
+    returns)

@@ -1,4 +1,4 @@
--- `sail_owners::owners::settle_owners` meets its contract. The invariant: the owners of the records passed. Assumes nothing.
+-- `sail_owners::owners::settle_owners`. The invariant: the owners are those of announcing the records passed, in order.
 use Prim.Native.Nat.{_-_, _≤_}
 use native.Mathlib.Omega.{arith}
 use Rattle.sail_owners.proofs.Passes.{Passed, passed-none, passed-lengths, passed-all, passed-opens, passed-more}
@@ -11,18 +11,50 @@ Inv-loop g input own2₀ own3₀ n used₀ k₀ own2 own3 used k = (k ≤ n) × 
 abbrev μ-loop : tie.MeasureT-loop
 μ-loop g input own2₀ own3₀ n used₀ k₀ own2 own3 used k = n - k
 
+loop-holds : tie.Need-loop-holds Inv-loop μ-loop
+loop-holds c = let s = c .before .before .before in (omega arith, passed-none _ _ _ _ (s .pre))
+
+open-for-requires : tie.Need-open-for-requires Inv-loop μ-loop
+open-for-requires c κs =
+    let read = c .before .before in
+    let turn = read .before .before in
+    let s = turn .before .before .before .before in
+    passed-opens _ _ _ _ (s .pre) _ _ _ _ (turn .loop .inv .1) (omega arith) _ (read .read-record .ensures)
+
+add-k : tie.Need-add-k Inv-loop μ-loop
+add-k c =
+    let s = c .before .before .before .before .before .before .before .before .before .before .before .before .before in
+    omega (arith, s .pre .records .few)
+
+loop-again : tie.Need-loop-again Inv-loop μ-loop
+loop-again c =
+    let opened = c .before .before .before .before in
+    let read = opened .before .before .before in
+    let turn = read .before .before in
+    let s = turn .before .before .before .before in
+    (omega arith, passed-more _ _ _ _ (s .pre) _ _ _ _ (turn .loop .inv .1) (omega arith) _ (read .read-record .ensures) _ _ _ (opened .open-for .ensures))
+
+same-second : tie.Need-same-length Inv-loop μ-loop
+same-second c = let turn = c .before in let s = turn .before .before .before .before in passed-lengths _ _ _ _ (s .pre) _ _ _ _ (turn .loop .inv .1) .0
+
+same-third : tie.Need-same-length-2 Inv-loop μ-loop
+same-third c = let turn = c .before in let s = turn .before .before .before .before in passed-lengths _ _ _ _ (s .pre) _ _ _ _ (turn .loop .inv .1) .1
+
+returns : tie.Need-returns Inv-loop μ-loop
+returns c = let turn = c .before in let s = turn .before .before .before .before in passed-all _ _ _ _ (s .pre) _ _ _ _ (turn .loop .inv .1) (omega arith)
+
 pub settle-owners-spec : {M : Type 1} → statement M
 settle-owners-spec =
     tie.close
     (tie.spec
     Inv-loop
     μ-loop
-    (λ c. (omega arith, passed-none _ _ _ _ (c .before .before .before .pre)))
+    loop-holds
     (λ c κs. omega arith)
-    (λ c κs. passed-opens _ _ _ _ (c .before .before .before .before .before .before .before .before .pre) _ _ _ _ (c .before .before .before .before .loop .inv .1) (omega arith) _ (c .before .before .read-record .ensures))
-    (λ c. omega (arith, c .before .before .before .before .before .before .before .before .before .before .before .before .before .pre .records .few))
+    open-for-requires
+    add-k
     (λ c. omega arith)
-    (λ c. (omega arith, passed-more _ _ _ _ (c .before .before .before .before .before .before .before .before .before .before .before .before .before .pre) _ _ _ _ (c .before .before .before .before .before .before .before .before .before .loop .inv .1) (omega arith) _ (c .before .before .before .before .before .before .before .read-record .ensures) _ _ _ (c .before .before .before .before .open-for .ensures)))
-    (λ c. passed-lengths _ _ _ _ (c .before .before .before .before .before .pre) _ _ _ _ (c .before .loop .inv .1) .0)
-    (λ c. passed-lengths _ _ _ _ (c .before .before .before .before .before .pre) _ _ _ _ (c .before .loop .inv .1) .1)
-    (λ c. passed-all _ _ _ _ (c .before .before .before .before .before .pre) _ _ _ _ (c .before .loop .inv .1) (omega arith)))
+    loop-again
+    same-second
+    same-third
+    returns)

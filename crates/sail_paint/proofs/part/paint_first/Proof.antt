@@ -1,4 +1,4 @@
--- `sail_paint::part::paint_first` meets its contract. Assumes nothing.
+-- `sail_paint::part::paint_first`. The invariant: the cells from the first that meets the prefix up to `lo` are painted.
 use mathlib.Core.Path.{_≡_, ap, _∙_}
 use Prim.Native.Nat.{_-_, _≤_}
 use native.Mathlib.Omega.{arith}
@@ -20,6 +20,39 @@ Inv-loop ws par p addr len first₀ from end lo₀ first lo = (from ≤ lo) × (
 abbrev μ-loop : tie.MeasureT-loop
 μ-loop ws par p addr len first₀ from end lo₀ first lo = end - lo
 
+range-end-requires : tie.Need-range-end-requires Inv-loop μ-loop
+range-end-requires c κs =
+    let s = c .before .before .before .before in
+    (s .pre .deep, omega (arith, c .slot .ensures, s .pre .prefix .addr-ok, shr-le (s .args .addr) (32 - s .args .p)))
+
+loop-holds : tie.Need-loop-holds Inv-loop μ-loop
+loop-holds c = (search needs, search needs, search first-none)
+
+paint-part-requires : tie.Need-paint-part-requires Inv-loop μ-loop
+paint-part-requires c κs =
+    let ended = c .before in
+    let turn = ended .before .before in
+    let ranged = turn .before in
+    let s = ranged .before .before .before .before .before in
+    first-part _ _ _ _ _ _ (s .pre) _ _ _ _ _ _ _ (ranged .before .slot .ensures) (ranged .range-end .ensures) (turn .loop .inv .2) (ended .block-end .ensures)
+
+loop-again : tie.Need-loop-again Inv-loop μ-loop
+loop-again c =
+    let painted = c .before .before in
+    let turn = painted .before .before .before .before in
+    (search needs, search needs, first-more _ _ _ _ _ _ _ _ (turn .loop .inv .0) (omega arith) (turn .loop .inv .2) (painted .paint-part .ensures))
+
+same-length : tie.Need-same-length Inv-loop μ-loop
+same-length c = ap length (c .before .loop .inv .2) ∙ length-over _ _ _ _ _
+
+returns : tie.Need-returns Inv-loop μ-loop
+returns c =
+    let turn = c .before in
+    let ranged = turn .before in
+    let s = ranged .before .before .before .before .before in
+    first-all _ _ _ _ _ _ (s .pre) _ _ _ _ _ (ranged .before .slot .ensures) (ranged .range-end .ensures) (turn .loop .inv .1) (c .loop-test .left)
+    (turn .loop .inv .2)
+
 pub paint-first-spec : {M : Type 1} → statement M
 paint-first-spec =
     tie.close
@@ -28,13 +61,12 @@ paint-first-spec =
     μ-loop
     (λ c κs. search needs)
     (λ c. search needs)
-    (λ c κs. let s = c .before .before .before .before in
-    (s .pre .deep, omega (arith, c .slot .ensures, s .pre .prefix .addr-ok, shr-le (s .args .addr) (32 - s .args .p))))
-    (λ c. (search needs, search needs, search first-none))
+    range-end-requires
+    loop-holds
     (λ c κs. search needs)
     (λ c. search needs)
-    (λ c κs. first-part _ _ _ _ _ _ (c .before .before .before .before .before .before .before .before .before .pre) _ _ _ _ _ _ _ (c .before .before .before .before .before .slot .ensures) (c .before .before .before .before .range-end .ensures) (c .before .before .before .loop .inv .2) (c .before .block-end .ensures))
+    paint-part-requires
     (λ c. search needs)
-    (λ c. (search needs, search needs, first-more _ _ _ _ _ _ _ _ (c .before .before .before .before .before .before .loop .inv .0) (omega arith) (c .before .before .before .before .before .before .loop .inv .2) (c .before .before .paint-part .ensures)))
-    (λ c. ap length (c .before .loop .inv .2) ∙ length-over _ _ _ _ _)
-    (λ c. first-all _ _ _ _ _ _ (c .before .before .before .before .before .before .before .pre) _ _ _ _ _ (c .before .before .before .slot .ensures) (c .before .before .range-end .ensures) (c .before .loop .inv .1) (c .loop-test .left) (c .before .loop .inv .2)))
+    loop-again
+    same-length
+    returns)

@@ -1,9 +1,18 @@
--- `sail_paint::part::paint_part` meets its contract. Assumes nothing.
+-- `sail_paint::part::paint_part`. The part is planned in place, and the cells before and after it stay.
 use borrow.Rule.Slice.PartMut.{mid-len}
 use Rattle.sail_paint.proofs.Overs.{part-over}
 use borrow.Author.Needs.{needs}
 use Rattle.sail_paint.proofs.part.paint_part.Statement.{statement}
 use Rattle.sail_paint.proofs.part.paint_part.Tie as tie
+
+plan-under-requires : tie.Need-plan-under-requires
+plan-under-requires c κs = let s = c .before .before .before .before in rw (mid-len _ _ _ (s .pre .inside)) (s .pre .block)
+
+returns : tie.Need-returns
+returns c =
+    let planned = c .before .before in
+    let s = planned .before .before .before .before .before in
+    part-over _ _ _ _ _ _ _ (s .pre .rises) (s .pre .inside) (planned .plan-under .ensures)
 
 pub paint-part-spec : {M : Type 1} → statement M
 paint-part-spec =
@@ -13,6 +22,6 @@ paint-part-spec =
     (λ c. search needs)
     (λ c. search needs)
     (λ c. search needs)
-    (λ c κs. let s = c .before .before .before .before .pre in rw (mid-len _ _ _ (s .inside)) (s .block))
+    plan-under-requires
     (λ c. search needs)
-    (λ c. let s = c .before .before .before .before .before .before .before .pre in part-over _ _ _ _ _ _ _ (s .rises) (s .inside) (c .before .before .plan-under .ensures)))
+    returns)

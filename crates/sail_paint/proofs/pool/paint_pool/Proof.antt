@@ -1,4 +1,4 @@
--- `sail_paint::pool::paint_pool` meets its contract. Assumes nothing.
+-- `sail_paint::pool::paint_pool`. The invariant: the chunks before `c` are painted.
 use Prim.Native.Nat.{_-_, _≤_}
 use native.Mathlib.Omega.{arith}
 use lib.ListN.{length}
@@ -14,18 +14,43 @@ Inv-loop ws par addr len l p up e own cells₀ n c₀ cells c = (c ≤ length ow
 abbrev μ-loop : tie.MeasureT-loop
 μ-loop ws par addr len l p up e own cells₀ n c₀ cells c = length own - c
 
+loop-holds : tie.Need-loop-holds Inv-loop μ-loop
+loop-holds c = (omega arith, pool-none _ _ _ _ _ _ _ _ _ _)
+
+paint-chunk-requires : tie.Need-paint-chunk-requires Inv-loop μ-loop
+paint-chunk-requires c κs =
+    let read = c .before in
+    let turn = read .before .before in
+    let s = turn .before .before .before .before .before .before in
+    pool-chunk _ _ _ _ _ _ _ _ _ _ _ _ (s .pre) (length-pooled _ _ _ _ _ _ _ _ _ _ _ _ (turn .loop .inv .1)) (read .before .loop-test .taken)
+    (read .seen .ensures)
+
+loop-again : tie.Need-loop-again Inv-loop μ-loop
+loop-again c =
+    let painted = c .before .before in
+    let read = painted .before .before in
+    (search needs, pool-more _ _ _ _ _ _ _ _ _ _ _ _ _ _ (read .seen .ensures) (read .before .before .loop .inv .1) (painted .paint-chunk .ensures))
+
+same-length : tie.Need-same-length Inv-loop μ-loop
+same-length c = length-pooled _ _ _ _ _ _ _ _ _ _ _ _ (c .before .loop .inv .1)
+
+returns : tie.Need-returns Inv-loop μ-loop
+returns c =
+    let turn = c .before in
+    let s = turn .before .before .before .before .before .before in
+    pool-all _ _ _ _ _ _ _ _ _ _ _ _ (c .loop-test .left) (s .pre .chunks) (turn .loop .inv .1)
+
 pub paint-pool-spec : {M : Type 1} → statement M
 paint-pool-spec =
     tie.close
     (tie.spec
     Inv-loop
     μ-loop
-    (λ c. (omega arith, pool-none _ _ _ _ _ _ _ _ _ _))
+    loop-holds
     (λ c κs. search needs)
-    (λ c κs. let l = c .before .before .before .loop in
-    pool-chunk _ _ _ _ _ _ _ _ _ _ _ _ (c .before .before .before .before .before .before .before .before .before .pre) (length-pooled _ _ _ _ _ _ _ _ _ _ _ _ (l .inv .1)) (c .before .before .loop-test .taken) (c .before .seen .ensures))
+    paint-chunk-requires
     (λ c. search needs)
     (λ c. search needs)
-    (λ c. (search needs, pool-more _ _ _ _ _ _ _ _ _ _ _ _ _ _ (c .before .before .before .before .seen .ensures) (c .before .before .before .before .before .before .loop .inv .1) (c .before .before .paint-chunk .ensures)))
-    (λ c. length-pooled _ _ _ _ _ _ _ _ _ _ _ _ (c .before .loop .inv .1))
-    (λ c. pool-all _ _ _ _ _ _ _ _ _ _ _ _ (c .loop-test .left) (c .before .before .before .before .before .before .before .pre .chunks) (c .before .loop .inv .1)))
+    loop-again
+    same-length
+    returns)

@@ -26,7 +26,8 @@ returns-3 : tie.Need-returns-3
 returns-3 c =
     let second = c .before .before .before in
     let live = second .before .before .before in
-    free-tells _ _ _ _ _ _ _ _ (live .live-ok .ensures) _ (second .free-all .ensures) (second .before .before .if1 .left) (c .before .before .if2 .left) _ (c .free-all2 .ensures)
+    free-tells _ _ _ _ _ _ _ _ (live .live-ok .ensures) _ (second .free-all .ensures) (second .before .before .if1 .left) (c .before .before .if2 .left) _
+    (c .free-all2 .ensures)
 
 pub levels-ok-spec : {M : Type 1} → statement M
 levels-ok-spec =
