@@ -89,7 +89,8 @@ module _ (input ws hs vs : List ℕ) (e : built input ws hs .said ≡ accepted v
 
 -- which is at least 1 and at most 10, and where no route covers the address at most 9
 pub image-reads : (rs : List Route) → Good rs → (a : ℕ)
-    → (1 ≤ treeReads rs a) × (treeReads rs a ≤ 10) × (((r : Route) → List·Memᴰ r rs → covers 32 a r ≡ false) → (treeReads rs a ≡ onPath rs a) × (treeReads rs a ≤ 9))
+    → (1 ≤ treeReads rs a) × (treeReads rs a ≤ 10)
+    × (((r : Route) → List·Memᴰ r rs → covers 32 a r ≡ false) → (treeReads rs a ≡ onPath rs a) × (treeReads rs a ≤ 9))
 image-reads rs g a = (reads.tree-reads-few rs a .0, reads.tree-reads-few rs a .1, reads.tree-reads-none rs a g)
 
 -- A table and an image of the same routes give the same hop at every address, and no route alike: what they say differs in the count alone.

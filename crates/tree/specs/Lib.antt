@@ -4,3 +4,4 @@ pub mod Walk
 pub mod Parts
 pub mod Image
 pub mod Reads
+pub mod Done

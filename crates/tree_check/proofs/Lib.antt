@@ -1,0 +1,8 @@
+-- Laws of the test, and that it passes exactly what a build leaves.
+pub mod Orders
+pub mod Meaning
+pub mod Builds
+pub mod Held
+pub mod Exact
+pub mod Steps
+pub mod Answers
