@@ -5,13 +5,12 @@ use mathlib.Core.List.{List}
 use Prim.Native.Nat.{ℕ, _+_, _*_, _/_, _%_, _≤_, _<_}
 use native.Mathlib.Omega.{arith}
 use lib.ListN.{length, getD, replicate, length-replicate, List·getD-eq-default}
-use lib.Seq.{take-length}
 use Rattle.bits.proofs.Tests.{below?}
 use Rattle.routes.specs.Record.{recordAt, Records}
-use Rattle.tree.specs.Parts.{gather, padded}
+use Rattle.tree.specs.Parts.{padded}
 use Rattle.tree.specs.Image.{Node, node, kids, hopsOf, words, hops, imageBy}
 use Rattle.tree.specs.Done.{AllDone}
-use Rattle.tree.proofs.Parts.{before-zero, before-take}
+use Rattle.tree.proofs.Parts.{before-zero, before-all}
 use Rattle.tree.proofs.Nodes.{up-next, ahead}
 use Rattle.tree.proofs.Holds.{zeros}
 use Rattle.tree.proofs.Filled.{all-filled}
@@ -78,9 +77,7 @@ module _ (s ws hs : List ℕ) (i t h : ℕ) (now : State s ws hs i t h) (l : t �
   -- all hops are put
   all-put : h ≡ length (hops (standsIn s) (hopIn s))
   unfolding hops
-  all-put =
-      now .hop ∙ ap (hopsBefore s) all-done ∙ sym (before-take (hopsOf (hopIn s)) (nodesIn s) (length (nodesIn s)))
-      ∙ ap (λ (ns : List Node). length (gather (hopsOf (hopIn s)) ns)) (take-length (nodesIn s))
+  all-put = now .hop ∙ ap (hopsBefore s) all-done ∙ before-all (hopsOf (hopIn s)) (nodesIn s)
 
   complete : AllDone (standsIn s) (hopIn s) ws hs
   complete = record {

@@ -11,7 +11,6 @@ use native.Mathlib.Omega.{arith}
 use lib.Pow.{shr-mod}
 use lib.Count.{ones}
 use lib.ListN.{length, getD}
-use lib.Seq.{take-length}
 use Rattle.bits.specs.Count.{count}
 use Rattle.bits.proofs.Tests.{below?}
 use Rattle.tree.specs.Node.{bitsOf, childOf, baseOf}
@@ -19,7 +18,7 @@ use Rattle.tree.specs.Parts.{gather, before}
 use Rattle.tree.specs.Image.{Node, node, inner, bitHop, child, setBit, word, kids, hopsOf, nodes}
 use Rattle.tree.proofs.Counts.{count-hit}
 use Rattle.bits.proofs.Packed.{packed-lt, rank-count, upper-count}
-use Rattle.tree.proofs.Parts.{picked-length, picked-at, gather-at, gather-split, before-zero, before-next, before-take}
+use Rattle.tree.proofs.Parts.{picked-length, picked-at, gather-at, gather-split, before-zero, before-next, before-all}
 use Rattle.tree.proofs.Nodes.{nodes-fix, up-next, ahead, inner-bit, child-bit}
 use Rattle.tree_same.specs.Read.{reached}
 use Rattle.tree_same.specs.Order.{exts, ints, Order, standsAt}
@@ -61,13 +60,7 @@ module _ (st : ℕ → ℕ → Bool) (hop : ℕ → ℕ → ℕ) where
 
     -- all children of all nodes: every node but the root
     pub all-kids : ((p : ℕ) → st 9 p ≡ false) → 1 + before (kids st) (nodes st) (length (nodes st)) ≡ length (nodes st)
-    all-kids nine =
-        omega (
-          arith,
-          before-take (kids st) (nodes st) (length (nodes st)),
-          ap (λ (ns : List Node). length (gather (kids st) ns)) (take-length (nodes st)),
-          ap length (nodes-fix st nine),
-        )
+    all-kids nine = omega (arith, before-all (kids st) (nodes st), ap length (nodes-fix st nine))
 
     -- the first n nodes stand in the fixed order, and the nodes that paths lead to have the bits of the routes
     module _ (nine : (p : ℕ) → st 9 p ≡ false) (n : ℕ) (order : Order ws n)

@@ -1,26 +1,28 @@
--- Arrays that hold the routes of (st, hop) are their image, and the path of each node that stands leads to its place in the fixed order.
-use mathlib.Core.Path.{_≡_, sym, _∙_, ap, subst}
+-- Arrays hold the routes of (st, hop) exactly when they are their image (`holds-image`, `image-holding`), and the path of each node that stands then
+-- leads to its place in the fixed order.
+use mathlib.Core.Path.{_≡_, refl, sym, _∙_, ap, subst}
 use mathlib.Core.Bool.{Bool, true, false}
 use mathlib.Core.List.{List}
-use Prim.Native.Nat.{ℕ, _+_, _%_, _^_, _<_}
+use Prim.Native.Nat.{ℕ, _+_, _*_, _%_, _^_, _≤_, _<_}
+use native.Mathlib.Nat.{le-refl}
 use native.Mathlib.Omega.{arith}
 use lib.Count.{ones}
 use lib.ListN.{length, getD}
-use lib.Seq.{take-length}
 use Rattle.bits.specs.Count.{count}
 use Rattle.bits.proofs.Packed.{rank-count}
 use Rattle.tree.specs.Node.{bitsOf, childOf, baseOf}
-use Rattle.tree.specs.Parts.{gather, before}
-use Rattle.tree.specs.Image.{Node, node, inner, bitHop, word, kids, hopsOf, nodes, hops, imageBy}
+use Rattle.tree.specs.Parts.{before, padded}
+use Rattle.tree.specs.Image.{node, inner, bitHop, word, kids, hopsOf, nodes, wordsFrom, words, hops, imageBy}
 use Rattle.tree.specs.Done.{nodeNo, Done, AllDone}
-use Rattle.tree.proofs.Parts.{before-take}
-use Rattle.tree.proofs.Nodes.{inner-bit}
+use Rattle.tree.proofs.Parts.{before-all}
+use Rattle.tree.proofs.Nodes.{words-length, ahead, inner-bit}
+use Rattle.tree.proofs.Holds.{pad-length, pad-past, node-words, hop-found}
 use Rattle.tree.proofs.Filled.{all-filled}
 use Rattle.tree_same.specs.Read.{reached}
-use Rattle.tree_same.specs.Order.{ints, standsAt}
+use Rattle.tree_same.specs.Order.{ints, Order, standsAt}
 use Rattle.tree_same.specs.Holding.{Holding}
 use Rattle.tree_same.proofs.Back.{Shaped, leads-is}
-use Rattle.tree_same.proofs.Canonical.{path-leads, all-nodes, canonical, ints-before}
+use Rattle.tree_same.proofs.Canonical.{path-leads, all-nodes, all-kids, canonical, exts-before, ints-before}
 
 module _ (st : ℕ → ℕ → Bool) (hop : ℕ → ℕ → ℕ) (ws hs : List ℕ) (n : ℕ) (nine : (p : ℕ) → st 9 p ≡ false) (h : Holding st hop ws hs n) where
   pub nodes-are : n ≡ length (nodes st)
@@ -34,9 +36,7 @@ module _ (st : ℕ → ℕ → Bool) (hop : ℕ → ℕ → ℕ) (ws hs : List �
   unfolding hops
   hops-are =
       ints-before st hop ws n (omega (arith, nodes-are)) (λ z l. node-is z l .0)
-      ∙ ap (before (hopsOf hop) (nodes st)) nodes-are
-      ∙ sym (before-take (hopsOf hop) (nodes st) (length (nodes st)))
-      ∙ ap (λ (ns : List Node). length (gather (hopsOf hop) ns)) (take-length (nodes st))
+      ∙ ap (before (hopsOf hop) (nodes st)) nodes-are ∙ before-all (hopsOf hop) (nodes st)
 
   put-at : (x b : ℕ) → x < n → b < 15 → inner hop (nodeNo st x) b ≡ true
       → getD hs (before (hopsOf hop) (nodes st) x + count (inner hop (nodeNo st x)) b) 0 ≡ bitHop hop (nodeNo st x) b
@@ -74,3 +74,48 @@ stands-found st hop ws hs n f h m p e =
     let r = leads-is st hop f (length ws) (length hs) (k .words-room) (k .hops-room) m p .1 e in
     let q = subst (λ (v : List ℕ). (reached v m p < length (nodes st)) × (nodeNo st (reached v m p) ≡ node m p)) (sym (i .0)) r in
     (omega (arith, q .0, nodes-are st hop ws hs n (f .agree .nine) h), q .1)
+
+-- the image holds its routes
+module _ (st : ℕ → ℕ → Bool) (hop : ℕ → ℕ → ℕ) (ok : Shaped st hop) (w h : ℕ) (room : 3 * length (nodes st) ≤ w) (space : length (hops st hop) ≤ h) where
+  abbrev ws : List ℕ
+  ws = padded w (words st hop)
+
+  abbrev hs : List ℕ
+  hs = padded h (hops st hop)
+
+  bits-at : (x : ℕ) → x < length (nodes st) → bitsOf ws x ≡ word st hop (nodeNo st x)
+  bits-at x l = node-words st hop (ok .agree) w h room space x (nodeNo st x) l refl .0
+
+  ints-all : ints ws (length (nodes st)) ≡ length (hops st hop)
+  unfolding hops
+  ints-all = ints-before st hop ws (length (nodes st)) (le-refl _) bits-at ∙ before-all (hopsOf hop) (nodes st)
+
+  image-order : Order ws (length (nodes st))
+  unfolding words
+  image-order = record {
+    lent = omega (arith, pad-length w (words st hop) (omega (arith, size)), size);
+    whole = omega (arith, exts-before st hop ws (length (nodes st)) (le-refl _) bits-at, all-kids st hop ws (ok .agree .nine));
+    fewest = λ i l. omega (arith, ahead st 9 i (omega arith) l, exts-before st hop ws i (omega arith) (λ z u. bits-at z (omega arith)));
+    child = λ i l.
+        node-words st hop (ok .agree) w h room space i (nodeNo st i) l refl .1
+        ∙ ap (λ (y : ℕ). 1 + y) (sym (exts-before st hop ws i (omega arith) (λ z u. bits-at z (omega arith))));
+    base = λ i l.
+        node-words st hop (ok .agree) w h room space i (nodeNo st i) l refl .2
+        ∙ sym (ints-before st hop ws i (omega arith) (λ z u. bits-at z (omega arith)));
+  }
+    where
+      size : length (wordsFrom st hop (nodes st) 1 0) ≡ 3 * length (nodes st)
+      size = words-length st hop (nodes st) 1 0
+
+  pub image-holding : Holding st hop ws hs (length (nodes st))
+  unfolding words
+  image-holding = record {
+    order = image-order;
+    right = λ m p e. let f = leads-is st hop ok w h room space m p .1 e in bits-at (reached ws m p) (f .0) ∙ ap (word st hop) (f .1);
+    put = λ m p b e l o.
+        let f = leads-is st hop ok w h room space m p .1 e in
+        hop-found st hop (ok .agree) w h room space (reached ws m p) (node m p) b (f .0) (f .1) l o .1;
+    room = omega (arith, ints-all, pad-length h (hops st hop) space);
+    rest = λ j l. pad-past w (words st hop) j (omega (arith, words-length st hop (nodes st) 1 0));
+    blank = λ j l. pad-past h (hops st hop) j (omega (arith, ints-all));
+  }
