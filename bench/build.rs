@@ -1,19 +1,12 @@
-//! Says where `libcards.a` is, and compiles `src/dpdk.c` where pkg-config knows libdpdk.
+//! Compiles `src/dpdk.c` where pkg-config knows libdpdk.
 
 use std::path::PathBuf;
 use std::process::Command;
 
 fn main() {
-    let here = PathBuf::from(std::env::var_os("CARGO_MANIFEST_DIR").unwrap());
-    // A relative folder counts from this package.
-    let folder = here.join(std::env::var_os("GHATUMRI_LIB").unwrap_or_else(|| "../target/native".into()));
     println!("cargo:rerun-if-changed=build.rs");
     println!("cargo:rerun-if-changed=src/dpdk.c");
-    println!("cargo:rerun-if-env-changed=GHATUMRI_LIB");
     println!("cargo:rerun-if-env-changed=PKG_CONFIG_PATH");
-    println!("cargo:rerun-if-changed={}", folder.join("libcards.a").display());
-    println!("cargo:rustc-link-search=native={}", folder.display());
-    println!("cargo:rustc-link-lib=static=cards");
     if let (Some(flags), Some(libs)) = (pkg_config("--cflags"), pkg_config("--libs")) {
         dpdk(&flags, &libs);
     }

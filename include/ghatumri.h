@@ -1,14 +1,21 @@
-/* ghatumri.h: the C boundary of Ghatumri, proved IPv4 lookup.
+/* SPDX-License-Identifier: Apache-2.0 OR MIT */
+/* ghatumri.h: the C boundary of Ghatumri, proved IPv4 lookup. For C from C99 on and C++ from C++11 on.
  *
- * Link with libcards.a. No call keeps a pointer, allocates, or holds state: a table is its geometry (p1, p2), its
- * route count and six arrays, and all of them belong to the caller. Every call answers for every content of the
- * arrays. A call that is refused leaves all of them as they were (gh_tally alone then writes 33 zeros).
+ * Link with libghatumri (pkg-config --cflags --libs ghatumri). No call keeps a pointer, allocates, or holds state: a
+ * table is its geometry (p1, p2), its route count and six arrays, and all of them belong to the caller. Every call
+ * answers for every content of the arrays. A call that is refused leaves all of them as they were (gh_tally alone then
+ * writes 33 zeros).
+ *
+ * Start with struct gh_table and the functions over it, at the end of this file: they keep the route count.
  *
  * ARRAYS. An array is a pointer and then its length, counted in elements. A pointer is never null and is aligned
- * for its type, also where the length is 0. Arrays of one call do not overlap.
+ * for its type, also where the length is 0 (gh_empty() is such a pointer). An array that a call writes overlaps no
+ * other array of that call: gh_lookup_many cannot answer in place. Pointers to arrays that are written, and to those
+ * beside them, are `restrict`, so that a compiler can warn.
  *
  *   input   record input: records of 8 bytes end to end, strictly ascending by address and then length. A record is
- *           address (4 bytes, most significant first), length (1), spare (1, zero), hop (2, most significant first)
+ *           address (4 bytes, most significant first), length (1), mark (1), hop (2, most significant first). The
+ *           mark is GH_ATTACHED for a network on a port of ours, and GH_BEHIND for one behind a neighbour
  *   list    8 bytes for each record of room, 0 to 4,096 records
  *   first   2^p1 cells
  *   second  a pool of 0 to 4,096 chunks of 2^(p2 - p1) cells
@@ -17,6 +24,15 @@
  *   own3    an owner for each chunk of the third pool
  *   words   3 words for each node of a tree image
  *   hops    the hops of a tree image
+ *   bits    the bits of bit maps, GH_MAP_BYTES
+ *   cells   the hops of bit maps, GH_MAP_CELLS
+ *
+ * NUMBERS. Every number goes in with 32 bits, whatever its limits, and none is cut: length 280 is refused with 3 as 33
+ * is, hop 65,580 with 4 as 32,768 is, mark 257 with 10 as 2 is.
+ *
+ * ADDRESSES are numbers in the order of the processor: 10.1.2.0 is 0x0A010200. What inet_addr answers, what stands in
+ * struct in_addr and in a packet is in the order of the network: ntohl makes such a number of it. In a record the four
+ * bytes stand as in a packet.
  *
  * GEOMETRY. p1 is 12 to 16, p2 is 22 to 26, p2 - p1 at most 10. Standard is (16, 24), small is (12, 22).
  *
@@ -25,8 +41,9 @@
  *   refused          bit 8: an index is carried; bits 32 to 63: the index
  *   gh_make          bits 16 to 31: routes after the call, so 0
  *   gh_load          bits 16 to 31: routes after the call
- *   gh_announce      bit 8: the prefix stood and its hop was replaced; bits 16 to 31: routes after the call
- *   gh_withdraw      bits 16 to 31: routes after the call
+ *   gh_announce      bit 8: the prefix stood and its hop and mark were replaced; bit 9: bits after the length were
+ *                    cleared; bits 16 to 31: routes after the call
+ *   gh_withdraw      bit 9: bits after the length were cleared; bits 16 to 31: routes after the call
  *   gh_report        bits 16 to 31: routes; 32 to 47: need for second chunks; 48 to 63: need for third chunks
  *   gh_lookup        bits 8 to 15: cells read; 16 to 31: hop, 0 for no route
  *   gh_lookup_many   0; each word of out: the low 32 bits of what gh_lookup answers
@@ -34,29 +51,30 @@
  *   gh_tree_lookup   bits 8 to 15: nodes read, and one more where a hop is answered; 16 to 31: hop, 0 for no route
  *   gh_run           bits 16 to 31: first record of the run; 32 to 47: records in it
  *   gh_tally         0
- *   gh_route         bits 8 to 15: length; 16 to 31: hop; 32 to 63: address; no record of that index: all 0
+ *   gh_route         bits 8 to 14: length; 15: mark; 16 to 31: hop; 32 to 63: address; no record of that index: all 0
+ *   gh_basic_build   0
+ *   gh_basic_lookup  bits 16 to 31: hop, 0 for no route
+ *   gh_basic_lookup_many   0; each word of out: the low 32 bits of what gh_basic_lookup answers
  *
- * Bits that are not named are 0.
+ * Bits that are not named are 0. So the count of a refusal reads as 0, and the count of a lookup reads as its hop.
  *
- * REFUSALS.
+ * REFUSALS. The first that holds, in the order given with each call, is the answer. What each number means: gh_meaning.
+ * "The input's" are 10 for the length (index: the number of whole records), then record by record 3, 4, 10 for the mark,
+ * 10 for order (index: the record's, from 0), and after all records 6 (no index). No other refusal carries an index.
  *
- *    1  geometry outside the limits
- *    2  a lent array has another size than above, or too many chunks or records of room
- *    3  length over 32, or a bit set after the length
- *    4  hop not 1 to 32,767
- *    5  table not sound; in a lookup only: a chunk number is 0 or beyond its pool, or a third cell is no leaf
- *    6  announce: list room full; load: more records than room; any record input: over 4,096
- *    7  need for second chunks exceeds those lent
- *    8  need for third chunks exceeds those lent
- *    9  withdrawn prefix doesn't stand
- *   10  record input not a multiple of 8 bytes, spare not zero, or not ascending
- *   11  too few whole nodes lent
- *   12  too few hops lent
- *   13  image broken on this walk: bit 15 set, child or hop beyond what is lent, no root, hop outside 1 to 32,767
+ * THREADS. No call has memory of its own, so calls over different arrays may run at the same time, in threads and in
+ * interrupts. Over the same arrays calls that only read them may run at the same time: every lookup, the report,
+ * the run, the tally, a route read back. A call that writes an array (make, load, announce, withdraw, build) runs alone:
+ * no other call may use that array meanwhile, lookups neither. To change a table beside readers, keep two sets of arrays:
+ * change the set that no reader uses, hand it to the readers (an atomic pointer to the struct), wait until no reader has
+ * the old one, and copy arrays and count over or make the same change there. There is no pointer in the arrays, so a
+ * copy of them with geometry and count is the same table.
  *
- * The first that holds, in the order given with each call, is the answer. "The input's" are 10 for the length
- * (index: the number of whole records), then record by record 3, 4, 10 for spare, 10 for order (index: the
- * record's, from 0), and after all records 6 (no index). No other refusal carries an index.
+ * STACK. gh_load, gh_announce, gh_withdraw and gh_report take at most GH_STACK_TABLE bytes of stack, the others
+ * GH_STACK. Measured for x86-64 it is 44 KB for announce, withdraw and the report, 42 KB for load, and under 200 bytes
+ * for each of the others. None is recursive.
+ *
+ * WHAT THE LIBRARY NEEDS: memcpy and memset, and nothing else of a C library.
  */
 #ifndef GHATUMRI_H
 #define GHATUMRI_H
@@ -64,72 +82,181 @@
 #include <stddef.h>
 #include <stdint.h>
 
+/* ---- Platform and compiler ------------------------------------------------------------------------------------- */
+
+#if SIZE_MAX != UINT64_MAX
+#error "ghatumri.h: the library is for platforms of 64 bits: pointers and size_t have 8 bytes"
+#endif
+
+/* An array that overlaps no other array of the call. */
+#if !defined(__cplusplus)
+#define GH_RESTRICT restrict
+#elif defined(__GNUC__) || defined(__clang__) || defined(_MSC_VER)
+#define GH_RESTRICT __restrict
+#else
+#define GH_RESTRICT
+#endif
+
+/* A call: its answer must be looked at, since it may be a refusal, and no pointer that it takes is null. */
+#if defined(__GNUC__) || defined(__clang__)
+#define GH_CALL __attribute__((warn_unused_result, nonnull))
+#elif defined(__cplusplus) && __cplusplus >= 201703L
+#define GH_CALL [[nodiscard]]
+#else
+#define GH_CALL
+#endif
+
 #ifdef __cplusplus
 extern "C" {
 #endif
 
-/* Reading an answer. */
+/* ---- Version --------------------------------------------------------------------------------------------------- */
+
+#define GH_VERSION         10100      /* 10,000 for each major, 100 for each minor version */
+#define GH_VERSION_TEXT    "1.1.0"
+
+/* ---- Limits and sizes ------------------------------------------------------------------------------------------ */
+
+#define GH_MOST_RECORDS    4096       /* of a record input, and of room in a list */
+#define GH_MOST_CHUNKS     4096       /* of a pool */
+#define GH_MOST_LENGTH     32
+#define GH_MOST_HOP        32767      /* the least is 1 */
+#define GH_BEHIND          0          /* marks: a network behind a neighbour */
+#define GH_ATTACHED        1          /* and one on a port of ours */
+
+#define GH_STANDARD_P1     16         /* the named geometries */
+#define GH_STANDARD_P2     24
+#define GH_SMALL_P1        12
+#define GH_SMALL_P2        22
+
+#define GH_RECORD_BYTES    8
+#define GH_FIRST_CELLS(p1)           ((size_t)1 << (p1))
+#define GH_SECOND_CHUNK(p1, p2)      ((size_t)1 << ((p2) - (p1)))     /* cells of a chunk of the second pool */
+#define GH_THIRD_CHUNK(p2)           ((size_t)1 << (32 - (p2)))       /* cells of a chunk of the third pool */
+#define GH_NODES_FOR(n)              (1 + (size_t)8 * (n))            /* enough for the image of any n routes */
+#define GH_WORDS_FOR(n)              (3 * GH_NODES_FOR(n))            /* the words of so many nodes; its hops are n */
+#define GH_TALLY_WORDS     33
+#define GH_MAP_BYTES       16384      /* the bits of bit maps */
+#define GH_MAP_CELLS       131071     /* their cells */
+
+#define GH_STACK_TABLE     49152      /* bytes of stack: load, announce, withdraw, report */
+#define GH_STACK           1024       /* the other calls */
+
+/* ---- Refusals -------------------------------------------------------------------------------------------------- */
+
+enum gh_refusal {
+    GH_ACCEPTED = 0,
+    GH_REFUSED_GEOMETRY = 1,
+    GH_REFUSED_SIZE = 2,
+    GH_REFUSED_PREFIX = 3,
+    GH_REFUSED_HOP = 4,
+    GH_REFUSED_UNSOUND = 5,
+    GH_REFUSED_ROOM = 6,
+    GH_REFUSED_SECOND = 7,
+    GH_REFUSED_THIRD = 8,
+    GH_REFUSED_ABSENT = 9,
+    GH_REFUSED_INPUT = 10,
+    GH_REFUSED_NODES = 11,
+    GH_REFUSED_HOPS = 12,
+    GH_REFUSED_IMAGE = 13
+};
+
+/* What a number means. */
+static inline const char *gh_meaning(unsigned number)
+{
+    static const char *const texts[] = {
+        /*  0 */ "accepted",
+        /*  1 */ "geometry outside the limits",
+        /*  2 */ "a lent array has another size than it must, or too many chunks or records of room",
+        /*  3 */ "length over 32, or a bit set after the length; announce and withdraw: length over 32 alone",
+        /*  4 */ "hop not 1 to 32,767",
+        /*  5 */ "table not sound; in lookup only: a chunk number is 0 or beyond its pool, or a third cell is no leaf",
+        /*  6 */ "announce: list room full; load: more records than room; any record input: over 4,096",
+        /*  7 */ "need for second chunks exceeds those lent",
+        /*  8 */ "need for third chunks exceeds those lent",
+        /*  9 */ "withdrawn prefix doesn't stand",
+        /* 10 */ "record input not a multiple of 8 bytes, mark over 1, or not ascending; announce: mark over 1",
+        /* 11 */ "too few whole nodes lent",
+        /* 12 */ "too few hops lent",
+        /* 13 */ "image broken on this walk: bit 15 set, child or hop beyond what is lent, no root, hop outside 1 to 32,767; bit maps: such a hop at the first set bit",
+    };
+    return number < sizeof texts / sizeof *texts ? texts[number] : "no number of a refusal";
+}
+
+/* ---- Reading an answer ----------------------------------------------------------------------------------------- */
+
 #define GH_NUMBER(a)       ((unsigned)((a) & 0xff))               /* the refusal's number, 0: accepted */
 #define GH_HAS_INDEX(a)    ((unsigned)((a) >> 8 & 1))             /* refused: an index is carried */
 #define GH_INDEX(a)        ((uint32_t)((a) >> 32))                /* refused: that index */
 #define GH_REPLACED(a)     ((unsigned)((a) >> 8 & 1))             /* gh_announce */
+#define GH_CLEARED(a)      ((unsigned)((a) >> 9 & 1))             /* accepted gh_announce and gh_withdraw */
 #define GH_COUNT(a)        ((unsigned)((a) >> 16 & 0xffff))       /* make, load, announce, withdraw, report: routes */
 #define GH_NEED_SECOND(a)  ((unsigned)((a) >> 32 & 0xffff))       /* gh_report */
 #define GH_NEED_THIRD(a)   ((unsigned)((a) >> 48 & 0xffff))       /* gh_report */
 #define GH_READS(a)        ((unsigned)((a) >> 8 & 0xff))          /* gh_lookup: cells read; gh_tree_lookup: as above */
-#define GH_HOP(a)          ((unsigned)((a) >> 16 & 0xffff))       /* both lookups and gh_route: hop, 0 for none */
+#define GH_HOP(a)          ((unsigned)((a) >> 16 & 0xffff))       /* lookups and gh_route: hop, 0 for none */
 #define GH_HOPS(a)         ((unsigned)((a) >> 16 & 0xffff))       /* gh_build */
 #define GH_NODES(a)        ((uint32_t)((a) >> 32))                /* gh_build */
 #define GH_RUN_FIRST(a)    ((unsigned)((a) >> 16 & 0xffff))       /* gh_run */
 #define GH_RUN_RECORDS(a)  ((unsigned)((a) >> 32 & 0xffff))       /* gh_run */
-#define GH_ROUTE_LEN(a)    ((unsigned)((a) >> 8 & 0xff))          /* gh_route */
+#define GH_ROUTE_LEN(a)    ((unsigned)((a) >> 8 & 0x7f))          /* gh_route */
+#define GH_ROUTE_MARK(a)   ((unsigned)((a) >> 15 & 1))            /* gh_route */
 #define GH_ROUTE_ADDR(a)   ((uint32_t)((a) >> 32))                /* gh_route */
+
+/* ---- Calls on tables ------------------------------------------------------------------------------------------- */
 
 /* Makes a fresh table with no routes: leaves of hop 0, all else zero. Reads nothing of the arrays.
  * Refusals: 1, 2. */
+GH_CALL
 uint64_t gh_make(uint32_t p1, uint32_t p2,
-                 uint8_t *list, size_t list_len,
-                 uint16_t *first, size_t first_len,
-                 uint16_t *second, size_t second_len,
-                 uint16_t *third, size_t third_len,
-                 uint32_t *own2, size_t own2_len,
-                 uint32_t *own3, size_t own3_len);
+                 uint8_t *GH_RESTRICT list, size_t list_len,
+                 uint16_t *GH_RESTRICT first, size_t first_len,
+                 uint16_t *GH_RESTRICT second, size_t second_len,
+                 uint16_t *GH_RESTRICT third, size_t third_len,
+                 uint32_t *GH_RESTRICT own2, size_t own2_len,
+                 uint32_t *GH_RESTRICT own3, size_t own3_len);
 
 /* Makes the table of a record input, as gh_make and then announcing each record in order would. Reads nothing of
  * the old table. Refusals: 1, 2, the input's, 6 where there are more records than room, 7, 8 on the needs of the
  * whole input. */
+GH_CALL
 uint64_t gh_load(uint32_t p1, uint32_t p2,
-                 const uint8_t *input, size_t input_len,
-                 uint8_t *list, size_t list_len,
-                 uint16_t *first, size_t first_len,
-                 uint16_t *second, size_t second_len,
-                 uint16_t *third, size_t third_len,
-                 uint32_t *own2, size_t own2_len,
-                 uint32_t *own3, size_t own3_len);
+                 const uint8_t *GH_RESTRICT input, size_t input_len,
+                 uint8_t *GH_RESTRICT list, size_t list_len,
+                 uint16_t *GH_RESTRICT first, size_t first_len,
+                 uint16_t *GH_RESTRICT second, size_t second_len,
+                 uint16_t *GH_RESTRICT third, size_t third_len,
+                 uint32_t *GH_RESTRICT own2, size_t own2_len,
+                 uint32_t *GH_RESTRICT own3, size_t own3_len);
 
-/* Adds the route addr/len to hop, or replaces the hop of that prefix where it stands. A chunk that is opened takes
- * the lowest free number. Refusals: 1, 2, 3, 4, 5, 6, 7, 8; a replacement never meets 6 to 8. */
+/* Adds the route addr/len to hop with its mark, or replaces hop and mark of that prefix where it stands. Bits of addr
+ * after the length are cleared first, and an accepted answer tells whether any were: 10.1.2.3/24 means 10.1.2.0/24. A
+ * chunk that is opened takes the lowest free number. Refusals: 1, 2, 3 for a length over 32, 4, 10 for the mark, 5, 6, 7,
+ * 8; a replacement never meets 6 to 8. */
+GH_CALL
 uint64_t gh_announce(uint32_t p1, uint32_t p2, uint32_t count,
-                     uint8_t *list, size_t list_len,
-                     uint16_t *first, size_t first_len,
-                     uint16_t *second, size_t second_len,
-                     uint16_t *third, size_t third_len,
-                     uint32_t *own2, size_t own2_len,
-                     uint32_t *own3, size_t own3_len,
-                     uint32_t addr, uint8_t len, uint16_t hop);
+                     uint8_t *GH_RESTRICT list, size_t list_len,
+                     uint16_t *GH_RESTRICT first, size_t first_len,
+                     uint16_t *GH_RESTRICT second, size_t second_len,
+                     uint16_t *GH_RESTRICT third, size_t third_len,
+                     uint32_t *GH_RESTRICT own2, size_t own2_len,
+                     uint32_t *GH_RESTRICT own3, size_t own3_len,
+                     uint32_t addr, uint32_t len, uint32_t hop, uint32_t mark);
 
-/* Removes the route of the prefix addr/len and closes the chunks that are no longer needed.
- * Refusals: 1, 2, 3, 5, 9. */
+/* Removes the route of the prefix addr/len and closes the chunks that are no longer needed. Bits of addr after the length
+ * are cleared first, as by gh_announce. Refusals: 1, 2, 3 for a length over 32, 5, 9. */
+GH_CALL
 uint64_t gh_withdraw(uint32_t p1, uint32_t p2, uint32_t count,
-                     uint8_t *list, size_t list_len,
-                     uint16_t *first, size_t first_len,
-                     uint16_t *second, size_t second_len,
-                     uint16_t *third, size_t third_len,
-                     uint32_t *own2, size_t own2_len,
-                     uint32_t *own3, size_t own3_len,
-                     uint32_t addr, uint8_t len);
+                     uint8_t *GH_RESTRICT list, size_t list_len,
+                     uint16_t *GH_RESTRICT first, size_t first_len,
+                     uint16_t *GH_RESTRICT second, size_t second_len,
+                     uint16_t *GH_RESTRICT third, size_t third_len,
+                     uint32_t *GH_RESTRICT own2, size_t own2_len,
+                     uint32_t *GH_RESTRICT own3, size_t own3_len,
+                     uint32_t addr, uint32_t len);
 
 /* Tells the route count and both needs of a sound table. Refusals: 1, 2, 5. */
+GH_CALL
 uint64_t gh_report(uint32_t p1, uint32_t p2, uint32_t count,
                    const uint8_t *list, size_t list_len,
                    const uint16_t *first, size_t first_len,
@@ -140,6 +267,7 @@ uint64_t gh_report(uint32_t p1, uint32_t p2, uint32_t count,
 
 /* Looks one address up: 1 to 3 cells are read. The table need not be sound, and count is not looked at.
  * Refusals: 1, 2, 5 in the form for lookups. */
+GH_CALL
 uint64_t gh_lookup(uint32_t p1, uint32_t p2, uint32_t count,
                    const uint8_t *list, size_t list_len,
                    const uint16_t *first, size_t first_len,
@@ -151,39 +279,176 @@ uint64_t gh_lookup(uint32_t p1, uint32_t p2, uint32_t count,
 
 /* Looks many addresses up: geometry and sizes are checked once, and out[k] becomes the low 32 bits of what
  * gh_lookup answers for addrs[k], a 5 among them too. Refusals: 1, 2; also 2 where out_len is not addrs_len. */
+GH_CALL
 uint64_t gh_lookup_many(uint32_t p1, uint32_t p2, uint32_t count,
-                        const uint8_t *list, size_t list_len,
-                        const uint16_t *first, size_t first_len,
-                        const uint16_t *second, size_t second_len,
-                        const uint16_t *third, size_t third_len,
-                        const uint32_t *own2, size_t own2_len,
-                        const uint32_t *own3, size_t own3_len,
-                        const uint32_t *addrs, size_t addrs_len,
-                        uint32_t *out, size_t out_len);
+                        const uint8_t *GH_RESTRICT list, size_t list_len,
+                        const uint16_t *GH_RESTRICT first, size_t first_len,
+                        const uint16_t *GH_RESTRICT second, size_t second_len,
+                        const uint16_t *GH_RESTRICT third, size_t third_len,
+                        const uint32_t *GH_RESTRICT own2, size_t own2_len,
+                        const uint32_t *GH_RESTRICT own3, size_t own3_len,
+                        const uint32_t *GH_RESTRICT addrs, size_t addrs_len,
+                        uint32_t *GH_RESTRICT out, size_t out_len);
+
+/* ---- Calls on tree images -------------------------------------------------------------------------------------- */
 
 /* Builds the tree image of a record input. Words and hops after the last used become zero.
  * Refusals: the input's, 11, 12. */
-uint64_t gh_build(const uint8_t *input, size_t input_len,
-                  uint32_t *words, size_t words_len,
-                  uint16_t *hops, size_t hops_len);
+GH_CALL
+uint64_t gh_build(const uint8_t *GH_RESTRICT input, size_t input_len,
+                  uint32_t *GH_RESTRICT words, size_t words_len,
+                  uint16_t *GH_RESTRICT hops, size_t hops_len);
 
 /* Looks one address up in a tree image: at most 9 nodes are read, and then one hop. The count is 1 to 10, and at most
  * 9 for no route. Refusals: 13. */
+GH_CALL
 uint64_t gh_tree_lookup(const uint32_t *words, size_t words_len,
                         const uint16_t *hops, size_t hops_len,
                         uint32_t addr);
 
+/* ---- Calls on record inputs ------------------------------------------------------------------------------------ */
+
 /* Tells the run under the prefix addr/len: the records of that length or longer inside it. An empty run stands
  * before the first record that isn't smaller than the prefix. Refusals: the input's, then 3 for the prefix (no
  * index). */
-uint64_t gh_run(const uint8_t *input, size_t input_len, uint32_t addr, uint8_t len);
+GH_CALL
+uint64_t gh_run(const uint8_t *input, size_t input_len, uint32_t addr, uint32_t len);
 
 /* Counts the routes of each length, 0 to 32, into the 33 words of out. Where the input is refused, out becomes 33
  * zeros. Refusals: 2 where out_len is not 33 (nothing is written), the input's. */
-uint64_t gh_tally(const uint8_t *input, size_t input_len, uint32_t *out, size_t out_len);
+GH_CALL
+uint64_t gh_tally(const uint8_t *GH_RESTRICT input, size_t input_len,
+                  uint32_t *GH_RESTRICT out, size_t out_len);
 
 /* Reads the record of that index, from 0, out of an input. Refusals: the input's. */
+GH_CALL
 uint64_t gh_route(const uint8_t *input, size_t input_len, uint32_t index);
+
+/* ---- Calls on bit maps ----------------------------------------------------------------------------------------- */
+
+/* Bit maps are for cards without chunk memory: basic SAIL for lengths 0 to 16, and the record input itself for anything
+ * longer. The prefix of length l whose bits are the number v has place 2^l - 1 + v in both arrays. Its bit is bit
+ * i % 8, counted from the least significant, of byte i / 8, where i is the place; it is set where a route of the
+ * prefix stands. Its cell holds that route's hop, and 0 where none stands. The last bit, 131,071, is 0.
+ *
+ * Builds both from a record input, whatever they held. Refusals: the input's, 2. */
+GH_CALL
+uint64_t gh_basic_build(const uint8_t *GH_RESTRICT input, size_t input_len,
+                        uint8_t *GH_RESTRICT bits, size_t bits_len,
+                        uint16_t *GH_RESTRICT cells, size_t cells_len);
+
+/* Looks one address up, down from the longest length: lengths 32 to 17 in the input, by halving, then 16 to 0 in the
+ * bits. The input is checked whole each time; for many addresses call gh_basic_lookup_many. Where bits and cells are
+ * those built from the input, the hop is that of the longest route that covers the address. Refusals: the input's, 2,
+ * then 13 where the first set bit met has a hop outside 1 to 32,767. */
+GH_CALL
+uint64_t gh_basic_lookup(const uint8_t *input, size_t input_len,
+                         const uint8_t *bits, size_t bits_len,
+                         const uint16_t *cells, size_t cells_len,
+                         uint32_t addr);
+
+/* Looks many addresses up: input and sizes are checked once, and out[k] becomes the low 32 bits of what
+ * gh_basic_lookup answers for addrs[k], a 13 among them too. Refusals: the input's, 2; also 2 where out_len is not
+ * addrs_len. */
+GH_CALL
+uint64_t gh_basic_lookup_many(const uint8_t *GH_RESTRICT input, size_t input_len,
+                              const uint8_t *GH_RESTRICT bits, size_t bits_len,
+                              const uint16_t *GH_RESTRICT cells, size_t cells_len,
+                              const uint32_t *GH_RESTRICT addrs, size_t addrs_len,
+                              uint32_t *GH_RESTRICT out, size_t out_len);
+
+/* ---- A table as one struct ------------------------------------------------------------------------------------- */
+
+/* All of a table. The caller sets everything once; gh_table_make or gh_table_load then makes it a table. After that only
+ * the functions below write here, and only the count: an accepted change sets it, and a refusal leaves it. */
+struct gh_table {
+    uint32_t p1, p2;      /* the geometry */
+    uint32_t count;       /* the route count */
+    uint8_t *list;        /* the six arrays, each with its length in elements */
+    size_t list_len;
+    uint16_t *first;
+    size_t first_len;
+    uint16_t *second;
+    size_t second_len;
+    uint16_t *third;
+    size_t third_len;
+    uint32_t *own2;
+    size_t own2_len;
+    uint32_t *own3;
+    size_t own3_len;
+};
+
+/* The initial value of a struct gh_table over six arrays of the caller (arrays, and no pointers to them):
+ *   struct gh_table t = GH_TABLE(16, 24, list, first, second, third, own2, own3); */
+#define GH_TABLE(p1, p2, list, first, second, third, own2, own3) \
+    { (p1), (p2), 0, (list), GH_ELEMENTS(list), (first), GH_ELEMENTS(first), (second), GH_ELEMENTS(second), \
+      (third), GH_ELEMENTS(third), (own2), GH_ELEMENTS(own2), (own3), GH_ELEMENTS(own3) }
+#define GH_ELEMENTS(array) (sizeof(array) / sizeof *(array))
+
+/* The six arrays as the calls above take them: gh_report(t->p1, t->p2, t->count, GH_LENT(t)). */
+#define GH_LENT(t) \
+    (t)->list, (t)->list_len, (t)->first, (t)->first_len, (t)->second, (t)->second_len, \
+    (t)->third, (t)->third_len, (t)->own2, (t)->own2_len, (t)->own3, (t)->own3_len
+
+/* A pointer for an array of no elements, which must not be null. */
+static inline void *gh_empty(void)
+{
+    static uint64_t nothing;
+    return &nothing;
+}
+
+/* Takes the count over from the answer of a change, where it was accepted. */
+static inline uint64_t gh_table_keep(struct gh_table *t, uint64_t answer)
+{
+    if (GH_NUMBER(answer) == GH_ACCEPTED)
+        t->count = GH_COUNT(answer);
+    return answer;
+}
+
+/* As gh_make, gh_load, gh_announce, gh_withdraw, gh_report, gh_lookup: the same answers. */
+GH_CALL
+static inline uint64_t gh_table_make(struct gh_table *t)
+{
+    return gh_table_keep(t, gh_make(t->p1, t->p2, GH_LENT(t)));
+}
+
+GH_CALL
+static inline uint64_t gh_table_load(struct gh_table *t, const uint8_t *input, size_t input_len)
+{
+    return gh_table_keep(t, gh_load(t->p1, t->p2, input, input_len, GH_LENT(t)));
+}
+
+GH_CALL
+static inline uint64_t gh_table_announce(struct gh_table *t, uint32_t addr, uint32_t len, uint32_t hop, uint32_t mark)
+{
+    return gh_table_keep(t, gh_announce(t->p1, t->p2, t->count, GH_LENT(t), addr, len, hop, mark));
+}
+
+GH_CALL
+static inline uint64_t gh_table_withdraw(struct gh_table *t, uint32_t addr, uint32_t len)
+{
+    return gh_table_keep(t, gh_withdraw(t->p1, t->p2, t->count, GH_LENT(t), addr, len));
+}
+
+GH_CALL
+static inline uint64_t gh_table_report(const struct gh_table *t)
+{
+    return gh_report(t->p1, t->p2, t->count, GH_LENT(t));
+}
+
+GH_CALL
+static inline uint64_t gh_table_lookup(const struct gh_table *t, uint32_t addr)
+{
+    return gh_lookup(t->p1, t->p2, t->count, GH_LENT(t), addr);
+}
+
+/* As gh_lookup_many, for n addresses into n words. */
+GH_CALL
+static inline uint64_t gh_table_lookup_many(const struct gh_table *t, const uint32_t *GH_RESTRICT addrs,
+                                            uint32_t *GH_RESTRICT out, size_t n)
+{
+    return gh_lookup_many(t->p1, t->p2, t->count, GH_LENT(t), addrs, n, out, n);
+}
 
 #ifdef __cplusplus
 }

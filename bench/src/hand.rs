@@ -1,17 +1,6 @@
 //! Lookups written by hand, with no checks: what the proved ones are measured beside.
 
-/// The six arrays and the rest of what a table call is lent, as plain slices.
-#[derive(Clone, Copy)]
-pub struct Lent<'a> {
-    pub p1: u32,
-    pub p2: u32,
-    pub list: &'a [u8],
-    pub first: &'a [u16],
-    pub second: &'a [u16],
-    pub third: &'a [u16],
-    pub own2: &'a [u32],
-    pub own3: &'a [u32],
-}
+use ghatumri::TableRef;
 
 /// One walk through a SAIL table that is sound. The answer is packed as gh_lookup packs it.
 #[inline(always)]
@@ -64,9 +53,10 @@ pub unsafe extern "C" fn hand_lookup(
 /// # Safety
 /// The table is sound, and `out` is as long as `addrs`.
 #[inline(never)]
-pub unsafe fn lookup_many(t: Lent, addrs: &[u32], out: &mut [u32]) {
+pub unsafe fn lookup_many(t: TableRef, addrs: &[u32], out: &mut [u32]) {
+    let (p1, p2) = (t.geometry.p1, t.geometry.p2);
     for k in 0..addrs.len() {
-        let answer = walk(t.p1, t.p2, t.first, t.second, t.third, *addrs.get_unchecked(k));
+        let answer = walk(p1, p2, t.first, t.second, t.third, *addrs.get_unchecked(k));
         *out.get_unchecked_mut(k) = answer as u32;
     }
 }
@@ -161,7 +151,7 @@ pub unsafe extern "C" fn hand_tree_lookup(
 
 /// One plain read of all that a table call is lent.
 #[inline(never)]
-pub fn read_all(t: Lent) -> u64 {
+pub fn read_all(t: TableRef) -> u64 {
     let list: u64 = t.list.iter().map(|&x| x as u64).sum();
     let cells = |cells: &[u16]| cells.iter().fold(0u32, |s, &x| s.wrapping_add(x as u32)) as u64;
     let owners = |own: &[u32]| own.iter().fold(0u32, |s, &x| s.wrapping_add(x)) as u64;

@@ -7,14 +7,14 @@
 
 mod gh;
 mod hand;
-#[allow(dead_code)]
-#[path = "../../bindings/rust/src/sys.rs"]
-mod sys;
+mod maps;
 
-use gh::{Image, Table};
+use ghatumri::{sys, Answer, Image, Mark, Table};
 use hand::Dir248;
+use maps::Maps;
 use std::cell::RefCell;
 use std::hint::black_box;
+use std::net::Ipv4Addr;
 use std::time::Instant;
 
 type Route = (u32, u8, u16);
@@ -243,6 +243,7 @@ mod dpdk {
 // ---------------------------------------------------------------------------------------------------- the measurements
 
 const MANY: &str = "gh_lookup_many";
+const RUST_MANY: &str = "Table::lookup_many of the Rust binding";
 const HAND_MANY: &str = "unchecked Rust loop";
 const EACH: &str = "gh_lookup";
 const HAND_EACH: &str = "unchecked Rust call, same arguments";
@@ -255,12 +256,12 @@ fn lookups(rounds: usize, table: &Table, image: &Image, dir: &Dir248, rte: bool,
         let mut out = vec![vec![0; addrs.len()]; 3];
         let (first, rest) = out.split_at_mut(1);
         let first = &mut first[0];
-        table.lookup_many(addrs, first);
-        table.each(sys::gh_lookup, addrs, &mut rest[0]);
+        gh::many(table.view(), addrs, first);
+        gh::each(table.view(), sys::gh_lookup, addrs, &mut rest[0]);
         agree(EACH, first, &rest[0], 0, u32::MAX);
-        unsafe { hand::lookup_many(table.lent(), addrs, &mut rest[0]) };
+        unsafe { hand::lookup_many(table.view(), addrs, &mut rest[0]) };
         agree(HAND_MANY, first, &rest[0], 0, u32::MAX);
-        table.each(hand::hand_lookup, addrs, &mut rest[0]);
+        gh::each(table.view(), hand::hand_lookup, addrs, &mut rest[0]);
         agree(HAND_EACH, first, &rest[0], 0, u32::MAX);
         unsafe { dir.lookup_many(addrs, &mut rest[0]) };
         agree(DIR, first, &rest[0], 16, 0xFFFF);
@@ -270,22 +271,26 @@ fn lookups(rounds: usize, table: &Table, image: &Image, dir: &Dir248, rte: bool,
                 agree(name, first, &rest[0], 16, 0xFFFF);
             }
         }
-        image.each(sys::gh_tree_lookup, addrs, &mut rest[0]);
+        gh::tree_each(image.view(), sys::gh_tree_lookup, addrs, &mut rest[0]);
         agree(TREE, first, &rest[0].iter().map(|x| x >> 16).collect::<Vec<_>>(), 16, 0xFFFF);
-        image.each(hand::hand_tree_lookup, addrs, &mut rest[1]);
+        gh::tree_each(image.view(), hand::hand_tree_lookup, addrs, &mut rest[1]);
         agree(HAND_TREE, &rest[0], &rest[1], 0, u32::MAX);
     }
-    // All write to one array: where an array lies in memory shows in the times.
+    // All write to one array, since where an array lies in memory shows in the times. The binding's has a type of its own.
     let out = RefCell::new(vec![0; addrs.len()]);
     let out = || out.borrow_mut();
+    let named: Vec<Ipv4Addr> = addrs.iter().map(|&addr| addr.into()).collect();
+    let mut answers = vec![Answer::default(); addrs.len()];
+    let (t, image) = (table.view(), image.view());
     let mut contenders = vec![
-        contender(MANY, || table.lookup_many(addrs, black_box(&mut out()))),
-        contender(HAND_MANY, || unsafe { hand::lookup_many(table.lent(), addrs, black_box(&mut out())) }),
-        contender(EACH, || table.each(sys::gh_lookup, addrs, black_box(&mut out()))),
-        contender(HAND_EACH, || table.each(hand::hand_lookup, addrs, black_box(&mut out()))),
+        contender(MANY, || gh::many(t, addrs, black_box(&mut out()))),
+        contender(RUST_MANY, || t.lookup_many(&named, black_box(&mut answers)).unwrap()),
+        contender(HAND_MANY, || unsafe { hand::lookup_many(t, addrs, black_box(&mut out())) }),
+        contender(EACH, || gh::each(t, sys::gh_lookup, addrs, black_box(&mut out()))),
+        contender(HAND_EACH, || gh::each(t, hand::hand_lookup, addrs, black_box(&mut out()))),
         contender(DIR, || unsafe { dir.lookup_many(addrs, black_box(&mut out())) }),
-        contender(TREE, || image.each(sys::gh_tree_lookup, addrs, black_box(&mut out()))),
-        contender(HAND_TREE, || image.each(hand::hand_tree_lookup, addrs, black_box(&mut out()))),
+        contender(TREE, || gh::tree_each(image, sys::gh_tree_lookup, addrs, black_box(&mut out()))),
+        contender(HAND_TREE, || gh::tree_each(image, hand::hand_tree_lookup, addrs, black_box(&mut out()))),
     ];
     if rte {
         for (name, look) in dpdk::LOOKS {
@@ -294,12 +299,35 @@ fn lookups(rounds: usize, table: &Table, image: &Image, dir: &Dir248, rte: bool,
     }
     measure(rounds, addrs.len(), "ns", true, &mut contenders);
     ratio(&contenders, MANY, HAND_MANY, Some(1.15));
+    ratio(&contenders, RUST_MANY, MANY, None);
     ratio(&contenders, EACH, HAND_EACH, Some(1.5));
     ratio(&contenders, MANY, DIR, None);
     for (name, _) in dpdk::LOOKS {
         ratio(&contenders, MANY, name, Some(0.6));
     }
     ratio(&contenders, TREE, HAND_TREE, None);
+}
+
+/// Bit maps, beside a loop over the same arrays.
+fn map_lookups(rounds: usize, maps: &Maps, addrs: &[u32]) {
+    const MANY: &str = "gh_basic_lookup_many";
+    const HAND: &str = "unchecked Rust loop over the same maps";
+    let (mut one, mut other) = (vec![0; addrs.len()], vec![0; addrs.len()]);
+    maps.lookup_many(addrs, &mut one);
+    unsafe { maps.hand_many(addrs, &mut other) };
+    agree(HAND, &one, &other, 0, u32::MAX);
+    let out = RefCell::new(other);
+    let out = || out.borrow_mut();
+    let mut contenders = [
+        contender(MANY, || maps.lookup_many(addrs, black_box(&mut out()))),
+        contender(HAND, || unsafe { maps.hand_many(addrs, black_box(&mut out())) }),
+    ];
+    measure(rounds, addrs.len(), "ns", true, &mut contenders);
+    ratio(&contenders, MANY, HAND, None);
+}
+
+fn announce(table: &mut Table, (addr, len, hop): Route) {
+    table.announce(addr, len, hop, Mark::Behind).unwrap();
 }
 
 /// The calls that change or check a whole table, beside one plain read of what is lent.
@@ -315,26 +343,29 @@ fn changes(rounds: usize, table: &mut Table, input: &[u8], fresh: &[Route]) {
     let route = |turn: usize| fresh[turn % fresh.len()];
     let mut contenders = [
         contender(READ, || {
-            black_box(hand::read_all(black_box(shared.borrow().0.lent())));
+            black_box(hand::read_all(black_box(shared.borrow().0.view())));
         }),
         contender(REPORT, || {
-            black_box(shared.borrow().0.report());
+            black_box(shared.borrow().0.report().unwrap());
         }),
         contender(ANNOUNCE, || {
             let (table, turn) = &mut *shared.borrow_mut();
-            table.announce(route(**turn));
+            announce(table, route(**turn));
         }),
         contender(REPLACE, || {
             let (table, turn) = &mut *shared.borrow_mut();
             let (addr, len, hop) = route(**turn);
-            table.announce((addr, len, hop + 1));
+            announce(table, (addr, len, hop + 1));
         }),
         contender(WITHDRAW, || {
             let (table, turn) = &mut *shared.borrow_mut();
-            table.withdraw(route(**turn));
+            let (addr, len, _) = route(**turn);
+            table.withdraw(addr, len).unwrap();
             **turn += 1;
         }),
-        contender(LOAD, || shared.borrow_mut().0.load(black_box(input))),
+        contender(LOAD, || {
+            shared.borrow_mut().0.load(black_box(input)).unwrap();
+        }),
     ];
     measure(rounds, 1, "us", false, &mut contenders);
     for (one, limit) in [(REPORT, 4.0), (ANNOUNCE, 6.0), (REPLACE, 6.0), (WITHDRAW, 6.0), (LOAD, 10.0)] {
@@ -354,32 +385,33 @@ fn main() {
     let mut rng = Rng(20_240_601);
     let all = routes(&mut rng);
     let input = records(&all);
-    let mut table = Table::new(16, 24, ROUTES, 4096, 256);
-    table.load(&input);
-    let report = table.report();
+    let table = gh::table(&input, ROUTES, 4096, 256);
+    let report = table.report().unwrap();
     let mut by_length = all.clone();
     by_length.sort_by_key(|r| r.1);
     let dir = Dir248::new(&by_length);
-    let image = Image::of(&input);
+    let image = Image::of(&input).unwrap();
     println!(
         "{} routes, standard geometry, needs {} and {}, {} bytes lent; image of {} nodes; {} rounds",
         all.len(),
-        report >> 32 & 0xFFFF,
-        report >> 48,
-        table.bytes(),
+        report.second,
+        report.third,
+        gh::bytes(table.view()),
         image.words.len() / 3,
         rounds
     );
+    let maps = Maps::of(&input);
     let rte = dpdk::start(&all);
     for (name, addrs) in [("random", random_traffic(&mut rng)), ("prefix-based", prefix_traffic(&mut rng, &all))] {
         println!("\n{name} traffic, {} addresses, time for one", addrs.len());
         lookups(rounds, &table, &image, &dir, rte, &addrs);
+        map_lookups(rounds, &maps, &addrs);
     }
 
     println!("\nchanges, time for one call");
     change_table(rounds, &all, 4096, 256);
     println!("\nchanges, pools of just the need");
-    change_table(rounds, &all, (report >> 32 & 0xFFFF) as usize, (report >> 48) as usize);
+    change_table(rounds, &all, report.second.into(), report.third.into());
     println!("\nchanges, the largest table, all chunks in use");
     change_table(rounds, &scattered(&mut rng), 4096, 4096);
 }
@@ -391,8 +423,7 @@ fn change_table(rounds: usize, all: &[Route], second: usize, third: usize) {
         if k % 64 == 5 { &mut fresh } else { &mut standing }.push(r);
     }
     let input = records(&standing);
-    let mut table = Table::new(16, 24, ROUTES, second, third);
-    table.load(&input);
-    println!("{} routes and one more, {} bytes lent", standing.len(), table.bytes());
+    let mut table = gh::table(&input, ROUTES, second, third);
+    println!("{} routes and one more, {} bytes lent", standing.len(), gh::bytes(table.view()));
     changes(4 * rounds, &mut table, &input, &fresh);
 }

@@ -1,22 +1,34 @@
-/* A table of two routes, asked and changed.
- *   cc -Iinclude bindings/c/list_a.c target/native/libcards.a -o target/list_a && target/list_a */
+/* A table of two routes, one of them attached, asked and changed. */
 #include <stdio.h>
-#include "ghatumri.h"
+#include <ghatumri.h>
 
-static uint8_t list[8 * 64];
-static uint16_t first[1 << 16], second[4 * 256], third[4 * 256];
+static uint8_t list[64 * GH_RECORD_BYTES]; /* room for 64 routes */
+static uint16_t first[GH_FIRST_CELLS(16)];
+static uint16_t second[4 * GH_SECOND_CHUNK(16, 24)]; /* 4 chunks in each pool */
+static uint16_t third[4 * GH_THIRD_CHUNK(24)];
 static uint32_t own2[4], own3[4];
-#define LENT list, sizeof list, first, 1 << 16, second, 4 * 256, third, 4 * 256, own2, 4, own3, 4
+static struct gh_table table = GH_TABLE(16, 24, list, first, second, third, own2, own3);
+
+/* Tells whether an answer is a refusal, and prints it where it is one. */
+static int refused(const char *what, uint64_t answer)
+{
+    unsigned number = GH_NUMBER(answer);
+    if (number != GH_ACCEPTED)
+        printf("%s: refused %u, %s\n", what, number, gh_meaning(number));
+    return number != GH_ACCEPTED;
+}
 
 int main(void)
 {
-    uint64_t a = gh_make(16, 24, LENT);
-    a = gh_announce(16, 24, GH_COUNT(a), LENT, 0x0A010200, 24, 44);   /* 10.1.2.0/24 to hop 44 */
-    a = gh_announce(16, 24, GH_COUNT(a), LENT, 0x0A010280, 25, 57);   /* 10.1.2.128/25 to hop 57 */
-    unsigned count = GH_COUNT(a);
-    a = gh_lookup(16, 24, count, LENT, 0x0A0102C8);                   /* 10.1.2.200 */
-    printf("hop %u in %u cells\n", GH_HOP(a), GH_READS(a));
-    a = gh_withdraw(16, 24, count, LENT, 0x0A010300, 24);
-    printf("refused %u\n", GH_NUMBER(a));
+    if (refused("make", gh_table_make(&table))
+        || refused("10.1.2.0/24", gh_table_announce(&table, 0x0A010200, 24, 44, GH_BEHIND))
+        || refused("10.1.2.128/25", gh_table_announce(&table, 0x0A010280, 25, 57, GH_ATTACHED)))
+        return 1;
+    uint64_t found = gh_table_lookup(&table, 0x0A0102C8); /* 10.1.2.200 */
+    if (refused("10.1.2.200", found))
+        return 1;
+    printf("hop %u in %u cells\n", GH_HOP(found), GH_READS(found));
+    refused("10.1.3.0/24", gh_table_withdraw(&table, 0x0A010300, 24));
+    printf("%u routes\n", table.count);
     return 0;
 }

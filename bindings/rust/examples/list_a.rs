@@ -1,17 +1,20 @@
-//! A table of three routes, asked and changed.
+//! A table of two routes, one of them attached, asked and changed.
 
-use ghatumri::{Geometry, Refusal, Table};
-use std::net::Ipv4Addr;
+use ghatumri::{Geometry, Mark, Reason, Refusal, Table};
 
 fn main() -> Result<(), Refusal> {
+    // Room for 64 routes, and 4 chunks in each pool.
     let mut table = Table::new(Geometry::STANDARD, 64, 4, 4)?;
-    table.announce([0, 0, 0, 0], 0, 6)?;
-    table.announce([10, 1, 2, 0], 24, 44)?;
-    table.announce([10, 1, 2, 128], 25, 57)?;
-    let found = table.lookup(Ipv4Addr::new(10, 1, 2, 200))?;
+    table.announce([10, 1, 2, 0], 24, 44, Mark::Behind)?;
+    table.announce([10, 1, 2, 128], 25, 57, Mark::Attached)?;
+    let found = table.lookup([10, 1, 2, 200])?;
     println!("hop {:?} in {} cells", found.hop, found.reads);
-    table.withdraw([10, 1, 2, 128], 25)?;
-    println!("hop {:?}, {:?}", table.lookup([10, 1, 2, 200])?.hop, table.report()?);
-    println!("{}", table.announce([10, 1, 2, 1], 24, 44).unwrap_err());
+    match table.withdraw([10, 1, 3, 0], 24) {
+        Err(refusal) if refusal.reason == Reason::Absent => println!("{refusal}"),
+        other => drop(other?),
+    }
+    for route in table.routes()? {
+        println!("{route}");
+    }
     Ok(())
 }

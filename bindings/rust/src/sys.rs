@@ -1,5 +1,5 @@
-//! The functions of `libcards.a`, as `include/ghatumri.h` declares them. The comparison and the measurements of this
-//! repository use this file too.
+//! The functions of `libghatumri.a`, as `include/ghatumri.h` declares them: a pointer and a length for each array. What
+//! holds of them stands there. [`raw`](crate::raw) has them over slices.
 
 extern "C" {
     pub fn gh_make(
@@ -53,8 +53,9 @@ extern "C" {
         own3: *mut u32,
         own3_len: usize,
         addr: u32,
-        len: u8,
-        hop: u16,
+        len: u32,
+        hop: u32,
+        mark: u32,
     ) -> u64;
     pub fn gh_withdraw(
         p1: u32,
@@ -73,7 +74,7 @@ extern "C" {
         own3: *mut u32,
         own3_len: usize,
         addr: u32,
-        len: u8,
+        len: u32,
     ) -> u64;
     pub fn gh_report(
         p1: u32,
@@ -140,7 +141,36 @@ extern "C" {
         hops_len: usize,
     ) -> u64;
     pub fn gh_tree_lookup(words: *const u32, words_len: usize, hops: *const u16, hops_len: usize, addr: u32) -> u64;
-    pub fn gh_run(input: *const u8, input_len: usize, addr: u32, len: u8) -> u64;
+    pub fn gh_run(input: *const u8, input_len: usize, addr: u32, len: u32) -> u64;
     pub fn gh_tally(input: *const u8, input_len: usize, out: *mut u32, out_len: usize) -> u64;
     pub fn gh_route(input: *const u8, input_len: usize, index: u32) -> u64;
+    pub fn gh_basic_build(
+        input: *const u8,
+        input_len: usize,
+        bits: *mut u8,
+        bits_len: usize,
+        cells: *mut u16,
+        cells_len: usize,
+    ) -> u64;
+    pub fn gh_basic_lookup(
+        input: *const u8,
+        input_len: usize,
+        bits: *const u8,
+        bits_len: usize,
+        cells: *const u16,
+        cells_len: usize,
+        addr: u32,
+    ) -> u64;
+    pub fn gh_basic_lookup_many(
+        input: *const u8,
+        input_len: usize,
+        bits: *const u8,
+        bits_len: usize,
+        cells: *const u16,
+        cells_len: usize,
+        addrs: *const u32,
+        addrs_len: usize,
+        out: *mut u32,
+        out_len: usize,
+    ) -> u64;
 }

@@ -5,9 +5,11 @@ use mathlib.Core.Bool.{Bool, true, false, _&&_, cond, false≢true}
 use mathlib.Core.List.{List, [], _∷_, _++_}
 use Prim.Native.Nat.{ℕ, zero, suc, _+_, _<_, _≤_, suc-le-suc, zero-le}
 use native.Mathlib.Nat.{not-suc-le-zero, le-of-suc-le-suc, zero-add, suc-add, suc-ne-zero, suc-inj, le-step, le-refl, eq-or-lt-of-le}
+use native.Mathlib.Omega.{arith}
 use lib.Dec.{eqb}
 use lib.ListN.{length, getD, set, take, drop, length-set}
 use lib.Seq.{take-at, drop-at, ext-getD, getD-set-same, getD-set-other}
+use borrow.Author.Count.{below-more}
 use borrow.Author.Tests.{eqb-true, eqb-false, eq-eqb}
 use Rattle.bits.specs.Tab.{tabulate, every, same}
 use Rattle.bits.proofs.Tests.{decided, both, and-split}
@@ -73,6 +75,12 @@ module _ {ℓ} {A : Type ℓ} where
 
       other : (i : ℕ) → i < n → eqb i k ≡ false → getD (set (tabulate n f) k v) i v ≡ cond (eqb i k) v (f i)
       other i h e = rw (e, getD-set-other (tabulate n f) k i v v (eqb-false i k e)) (getD-tabulate n f i v h)
+
+-- a loop that stores one number a turn: what was stored before stands, and one more
+pub stored-more : (f : ℕ → ℕ) (out : List ℕ) (i v : ℕ) → i < length out → ((k : ℕ) → k < i → getD out k 0 ≡ f k) → v ≡ f i
+    → (k : ℕ) → k < i + 1 → getD (set out i v) k 0 ≡ f k
+stored-more f out i v l h e =
+    below-more (λ (k : ℕ). getD (set out i v) k 0 ≡ f k) i (λ k b. getD-set-other out i k v 0 (λ q. omega arith) ∙ h k b) (getD-set-same out i v 0 l ∙ e)
 
 -- tests
 pub every-true : (p : ℕ → Bool) (n : ℕ) → every p n ≡ true → (i : ℕ) → i < n → p i ≡ true

@@ -1,4 +1,4 @@
--- The first and the last number below n that passes a test. Assumes nothing.
+-- The first number that passes a test, of so many from k on, and of those below n.
 use Prim.Native.Nat.{ℕ, zero, suc}
 use mathlib.Core.Bool.{Bool, cond}
 

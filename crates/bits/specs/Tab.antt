@@ -1,4 +1,4 @@
--- Lists by their elements. Assumes nothing.
+-- Lists by their elements; tests of every number below n, and of two lists for being equal; and when an answer tells whether a fact holds.
 use Prim.Native.Nat.{ℕ, zero, suc}
 use mathlib.Core.Path.{_≡_}
 use mathlib.Core.Bool.{Bool, true, false, _&&_}

@@ -14,6 +14,7 @@ use Rattle.bits.specs.Tab.{tabulate}
 use Rattle.routes.specs.Input.{inputSaid}
 use Rattle.routes.specs.Answers.{routeSaid}
 use Rattle.routes.specs.Said.{Said, accepted, refused, andThen, accepts}
+use Rattle.routes.specs.declared.Route.{Route}
 use Rattle.routes.proofs.Meaning.{Checked, input-checked}
 use Rattle.runs.specs.Run.{runSaid}
 use Rattle.runs.specs.Tally.{tallyOf}
@@ -27,9 +28,9 @@ use Rattle.tree.specs.Walk.{treeSaid}
 use Rattle.tree_build.specs.Built.{built}
 use Rattle.sail.specs.Word.{packFound}
 use Rattle.packing.specs.Pack.{packReport, packRun, packNone, packRoute}
-use Rattle.packing.specs.Unpack.{refusalOf, unpacked, noValues, unpackFound, unpackReport, unpackBuilt, unpackRun, unpackRoute, unpackAnnounce, unpackDone, unpackNone, countOf, Cells}
+use Rattle.packing.specs.Unpack.{refusalOf, unpacked, noValues, unpackFound, unpackReport, unpackBuilt, unpackRun, unpackRoute, unpackAnnounce, unpackWithdraw, unpackDone, unpackNone, countOf, Cells}
 use Rattle.cards.specs.Cards.{cardOf, imageCardOf, wordsCard, tallyCard, lowFound, manyCard}
-use Rattle.packing.proofs.Unpacks.{found-read, report-read, built-read, run-read, route-read, announce-read, done-read, none-read, announce-count, done-count, found-low}
+use Rattle.packing.proofs.Unpacks.{found-read, report-read, built-read, run-read, route-read, announce-read, withdraw-read, done-read, none-read, announce-count, withdraw-count, done-count, found-low}
 use Rattle.cards.proofs.Fits.{input-fits, run-fits, route-fits, built-fits, tree-fits, lookup-fits, report-fits, make-few, make-fits, load-few, load-fits, announce-few, announce-fits, withdraw-few, withdraw-fits}
 
 -- Tables.
@@ -55,13 +56,13 @@ module _ (t : Table) (l : Lent) where
   unfolding cardOf
   gh-load-read input short = done-read (2 ^ 32) (omega arith) _ _ (load-fits t l input short)
 
-  pub gh-announce-read : (a len hop : ℕ) → unpackAnnounce (cardOf (announced t l a len hop) .answer) ≡ announced t l a len hop .said
+  pub gh-announce-read : (r : Route) → unpackAnnounce (cardOf (announced t l r) .answer) ≡ announced t l r .said
   unfolding cardOf
-  gh-announce-read a len hop = announce-read 0 (omega arith) _ _ (announce-fits t l a len hop)
+  gh-announce-read r = announce-read 0 (omega arith) _ _ (announce-fits t l r)
 
-  pub gh-withdraw-read : (a len : ℕ) → unpackDone (cardOf (withdrawn t l a len) .answer) ≡ withdrawn t l a len .said
+  pub gh-withdraw-read : (a len : ℕ) → unpackWithdraw (cardOf (withdrawn t l a len) .answer) ≡ withdrawn t l a len .said
   unfolding cardOf
-  gh-withdraw-read a len = done-read 0 (omega arith) _ _ (withdraw-fits t l a len)
+  gh-withdraw-read a len = withdraw-read 0 (omega arith) _ _ (withdraw-fits t l a len)
 
   -- and where a change is accepted, the count of the table that then stands, at most 4,096
   pub gh-make-count : accepts (made t l .said) ≡ true → (countOf (cardOf (made t l) .answer) ≡ made t l .table .count) × (made t l .table .count ≤ 4096)
@@ -73,15 +74,15 @@ module _ (t : Table) (l : Lent) where
   unfolding cardOf
   gh-load-count input short e = (done-count (2 ^ 32) _ _ (load-fits t l input short) e, load-few t l input e)
 
-  pub gh-announce-count : (a len hop : ℕ) → accepts (announced t l a len hop .said) ≡ true
-      → (countOf (cardOf (announced t l a len hop) .answer) ≡ announced t l a len hop .table .count) × (announced t l a len hop .table .count ≤ 4096)
+  pub gh-announce-count : (r : Route) → accepts (announced t l r .said) ≡ true
+      → (countOf (cardOf (announced t l r) .answer) ≡ announced t l r .table .count) × (announced t l r .table .count ≤ 4096)
   unfolding cardOf
-  gh-announce-count a len hop e = (announce-count 0 _ _ (announce-fits t l a len hop) e, announce-few t l a len hop e)
+  gh-announce-count r e = (announce-count 0 _ _ (announce-fits t l r) e, announce-few t l r e)
 
   pub gh-withdraw-count : (a len : ℕ) → accepts (withdrawn t l a len .said) ≡ true
       → (countOf (cardOf (withdrawn t l a len) .answer) ≡ withdrawn t l a len .table .count) × (withdrawn t l a len .table .count ≤ 4096)
   unfolding cardOf
-  gh-withdraw-count a len e = (done-count 0 _ _ (withdraw-fits t l a len) e, withdraw-few t l a len e)
+  gh-withdraw-count a len e = (withdraw-count 0 _ _ (withdraw-fits t l a len) e, withdraw-few t l a len e)
 
   -- many lookups: 1, 2, or 2 for the two lengths
   pub gh-lookup-many-answer : (ads xs : List ℕ)

@@ -1,22 +1,25 @@
 -- What the calls say has room in their answers. Nothing is supposed but what the boundary's types give: cells of 16 bits (`Cells`), and
 -- for the index of a record an input shorter than 2^35 bytes, so that it has fewer than 2^32 records. Assumes nothing.
-use mathlib.Core.Path.{_≡_, refl, _∙_, ap, subst}
+use mathlib.Core.Path.{_≡_, refl, _∙_, ap}
 use mathlib.Core.Logic.{_⊎_, inl, inr}
-use mathlib.Core.Bool.{true, false, cond, true≢false}
+use mathlib.Core.Bool.{Bool, true, false, cond, true≢false}
 use mathlib.Core.List.{List, [], _∷_}
-use Prim.Native.Nat.{ℕ, _-_, _*_, _/_, _^_, _≤_, _<_}
+use Prim.Native.Nat.{ℕ, _-_, _/_, _^_, _≤_, _<_}
 use native.Mathlib.Omega.{arith}
 use lib.Dec.{eqb}
 use lib.ListN.{length}
 use borrow.Author.Tests.{eqb-false}
+use Rattle.bits.specs.Count.{bit}
+use Rattle.bits.specs.Slot.{cut}
 use Rattle.bits.proofs.Tests.{decided}
 use Rattle.routes.specs.Route.{keyOf}
 use Rattle.standing.specs.Cells.{need}
-use Rattle.routes.specs.Record.{recordAt, Records}
+use Rattle.routes.specs.Record.{recordAt, routesIn}
 use Rattle.routes.specs.Input.{inputSaid}
 use Rattle.routes.specs.Answers.{routeSaid}
 use Rattle.routes.specs.Said.{Said, accepted, refused, accepts}
-use Rattle.routes.proofs.Meaning.{WrongRoute, WrongRecord, Checked, input-checked, input-good}
+use Rattle.routes.specs.declared.Route.{Route}
+use Rattle.routes.proofs.Meaning.{WrongRoute, WrongRecord, Checked, input-checked}
 use Rattle.routes.proofs.Rows.{length-routes, records-good}
 use Rattle.runs.specs.Run.{pastKey, runStart, runCount, runSaid}
 use Rattle.lists.proofs.Places.{place-le}
@@ -26,10 +29,10 @@ use Rattle.sail.specs.Sound.{standing}
 use Rattle.sail.specs.Walk.{leafSaid, hopSaid, lookupSaid}
 use Rattle.sail.specs.declared.table.Table.{Table}
 use Rattle.sail.proofs.Sounds.{chunks-need}
-use Rattle.sail_theory.specs.Calls.{made, loaded, announced, withdrawn, reported}
+use Rattle.sail_theory.specs.Calls.{made, loaded, cutRoute, cleared, telling, announced, withdrawn, reported}
 use Rattle.sail_theory.proofs.Chunks.{used-le}
 use Rattle.sail_theory.proofs.Judged.{Sizing, Make, make-judged, Announce, announce-judged, Withdraw, withdraw-judged, Load, load-judged, Report, report-judged}
-use Rattle.sail_theory.proofs.Accepted.{announce-said, announce-holds, withdraw-said, withdraw-holds}
+use Rattle.sail_theory.proofs.Cleared.{announce-said, announce-accepts, announce-holds, withdraw-said, withdraw-accepts, withdraw-holds}
 use Rattle.sail_theory.proofs.Fresh.{make-said, make-holds, accepted-sized}
 use Rattle.sail_theory.proofs.Loads.{load-said, load-holds}
 use Rattle.tree.specs.Image.{nodeNeed}
@@ -37,26 +40,36 @@ use Rattle.tree.specs.Reads.{TreeAnswer}
 use Rattle.tree.specs.Walk.{treeSaid}
 use Rattle.tree.proofs.Needs.{nodes-most}
 use Rattle.tree.proofs.ReadCounts.{tree-answers}
-use Rattle.tree_build.specs.Built.{routesIn, built}
-use Rattle.demands.proofs.Inputs.{check-only, BadInput, GoodInput, RunChecked, run-judged, RouteRead, route-judged}
+use Rattle.tree_build.specs.Built.{built}
+use Rattle.routes.proofs.Cases.{BadInput, good-whole}
+use Rattle.demands.proofs.Inputs.{RunChecked, run-judged, RouteRead, route-judged}
 use Rattle.demands.proofs.Lookups.{v1, v2, v3, Lookup, lookup-judged}
 use Rattle.demands.proofs.Builds.{Build, build-judged}
-use Rattle.packing.specs.Unpack.{Fits, FoundFits, ReportFits, BuiltFits, RunFits, RouteFits, AnnounceFits, DoneFits, Cells}
+use Rattle.packing.specs.Unpack.{Fits, FoundFits, ReportFits, BuiltFits, RunFits, RouteFits, AnnounceFits, WithdrawFits, DoneFits, Cells}
 
 -- 1 and 2
 sizing-fits : {most : ℕ} {P : List ℕ → Type 0} {t : Table} {l : Lent} {n : ℕ} → Sizing t l n → Fits most P (refused n)
 sizing-fits (Sizing.limits h) = Fits.number 1 (omega arith) (omega arith)
 sizing-fits (Sizing.size v h) = Fits.number 2 (omega arith) (omega arith)
 
+-- a flag
+bit-low : (b : Bool) → bit b < 2
+bit-low true = omega arith
+bit-low false = omega arith
+
+-- 3, 4 and 10
+route-low : {r : Route} {f : ℕ} → WrongRoute r f → (1 ≤ f) × (f < 2 ^ 8)
+route-low (WrongRoute.prefix h) = (omega arith, omega arith)
+route-low (WrongRoute.hop p h) = (omega arith, omega arith)
+route-low (WrongRoute.mark p a b h) = (omega arith, omega arith)
+
 -- The input's refusals.
 fault-low : {s : List ℕ} {k f : ℕ} → WrongRecord s k f → f < 2 ^ 8
-fault-low (WrongRecord.itself (WrongRoute.prefix h)) = omega arith
-fault-low (WrongRecord.itself (WrongRoute.hop p h)) = omega arith
-fault-low (WrongRecord.itself (WrongRoute.spare p a b h)) = omega arith
+fault-low (WrongRecord.itself w) = route-low w .1
 fault-low (WrongRecord.order g h l) = omega arith
 
 module _ (P : List ℕ → Type 0) (s : List ℕ) (short : length s < 2 ^ 35) where
-  refused-fits : {x : Said} → Checked s x → accepts x ≡ false → Fits (2 ^ 32) P x
+  pub refused-fits : {x : Said} → Checked s x → accepts x ≡ false → Fits (2 ^ 32) P x
   refused-fits (Checked.ragged w) e = Fits.index 10 (length s / 8) (omega arith) (omega arith) (omega arith)
   refused-fits (Checked.stopped k f w l b x p) e = Fits.index f k (omega arith) (fault-low x) (omega arith)
   refused-fits (Checked.many w b m) e = Fits.number 6 (omega arith) (omega arith)
@@ -64,10 +77,6 @@ module _ (P : List ℕ → Type 0) (s : List ℕ) (short : length s < 2 ^ 35) wh
 
   bad-fits : (x : Said) → BadInput s x → Fits (2 ^ 32) P x
   bad-fits x b = refused-fits (b .checked) (b .not-accepted)
-
--- a good input has n records, at most 4,096
-good-whole : (s : List ℕ) (n : ℕ) → GoodInput s n → (length s ≡ n * 8) × Records s n
-good-whole s n g = input-good s n (check-only s _ g)
 
 -- The calls on record inputs.
 pub input-fits : (s : List ℕ) → length s < 2 ^ 35 → Fits (2 ^ 32) (λ vs. vs ≡ length s / 8 ∷ []) (inputSaid s)
@@ -101,7 +110,7 @@ module _ (s : List ℕ) (short : length s < 2 ^ 35) where
       go (RouteRead.there n g h) =
           let f = good-whole s n g .1 .each k h in
           let r = recordAt s k in
-          Fits.values _ (RouteFits.one (r .addr) (r .len) (r .spare) (r .hop) (f .prefix .addr-ok) (omega (arith, f .prefix .len-ok)) (f .spare-ok) (f .hop-one) (omega (arith, f .hop-ok)))
+          Fits.values _ (RouteFits.one (r .addr) (r .len) (r .mark) (r .hop) (f .prefix .addr-ok) (omega (arith, f .prefix .len-ok)) (omega (arith, f .mark-ok)) (f .hop-one) (omega (arith, f .hop-ok)))
       go (RouteRead.past n g h) = Fits.values [] RouteFits.nothing
 
   pub built-fits : (ws hs : List ℕ) → Fits (2 ^ 32) BuiltFits (built s ws hs .said)
@@ -181,45 +190,41 @@ module _ (t : Table) (l : Lent) where
   pub load-fits : (input : List ℕ) → length input < 2 ^ 35 → Fits (2 ^ 32) (DoneFits (loaded t l input .table .count)) (loaded t l input .said)
   load-fits input short = rw (load-said t l input) (go (load-judged t l input) (λ e. load-few input (ap accepts (load-said t l input) ∙ e)))
     where
-      off : (x : Said) → ((ns : List ℕ) → x ≡ accepted ns → ⊥) → accepts x ≡ false
-      off (Said.accepted ns) h = absurd (h ns refl)
-      off (Said.refused n) h = refl
-      off (Said.refusedAt n k) h = refl
-
       go : {n : ℕ} {x : Said} → Load t l input x → (accepts x ≡ true → n ≤ 4096) → Fits (2 ^ 32) (DoneFits n) x
       go (Load.sizing n h) few = sizing-fits h
-      go (Load.bad-input {s} z e h) few = refused-fits _ input short (subst (Checked input) e (input-checked input)) (off s h)
+      go (Load.bad-input x z b) few = bad-fits _ input short x b
       go (Load.full w r) few = Fits.number 6 (omega arith) (omega arith)
       go (Load.second w r x) few = Fits.number 7 (omega arith) (omega arith)
       go (Load.third w r x y) few = Fits.number 8 (omega arith) (omega arith)
       go (Load.done w k) few = let f = few refl in Fits.values [] (DoneFits.done (omega arith))
 
-  pub announce-few : (a len hop : ℕ) → accepts (announced t l a len hop .said) ≡ true → announced t l a len hop .table .count ≤ 4096
-  announce-few a len hop e = announce-holds t l a len hop e .sound .listed .records .few
+  pub announce-few : (r : Route) → accepts (announced t l r .said) ≡ true → announced t l r .table .count ≤ 4096
+  announce-few r e = announce-holds t l r e .sound .listed .records .few
 
-  pub announce-fits : (a len hop : ℕ) → Fits 0 (AnnounceFits (announced t l a len hop .table .count)) (announced t l a len hop .said)
-  announce-fits a len hop = rw (announce-said t l a len hop) (go (announce-judged t l a len hop) (λ e. announce-few a len hop (ap accepts (announce-said t l a len hop) ∙ e)))
+  pub announce-fits : (r : Route) → Fits 0 (AnnounceFits (announced t l r .table .count)) (announced t l r .said)
+  announce-fits r =
+      rw (announce-said t l r) (go (cleared (r .len) (r .addr)) (announce-judged t l (cutRoute r)) (λ e. announce-few r (announce-accepts t l r ∙ e)))
     where
-      go : {n : ℕ} {x : Said} → Announce t l a len hop x → (accepts x ≡ true → n ≤ 4096) → Fits 0 (AnnounceFits n) x
-      go (Announce.sizing n h) few = sizing-fits h
-      go (Announce.bad-prefix z h) few = Fits.number 3 (omega arith) (omega arith)
-      go (Announce.bad-hop z p h) few = Fits.number 4 (omega arith) (omega arith)
-      go (Announce.unsound z f h) few = Fits.number 5 (omega arith) (omega arith)
-      go (Announce.replaced p h) few = let f = few refl in Fits.values _ (AnnounceFits.which 1 (omega arith) (omega arith))
-      go (Announce.full p h k) few = Fits.number 6 (omega arith) (omega arith)
-      go (Announce.second w x) few = Fits.number 7 (omega arith) (omega arith)
-      go (Announce.third w x y) few = Fits.number 8 (omega arith) (omega arith)
-      go (Announce.added w x y) few = let f = few refl in Fits.values _ (AnnounceFits.which 0 (omega arith) (omega arith))
+      go : (b : Bool) {n : ℕ} {x : Said} → Announce t l (cutRoute r) x → (accepts x ≡ true → n ≤ 4096) → Fits 0 (AnnounceFits n) (telling b x)
+      go b (Announce.sizing n h) few = sizing-fits h
+      go b (Announce.wrong n z w) few = let k = route-low w in Fits.number n (k .0) (k .1)
+      go b (Announce.unsound z f h) few = Fits.number 5 (omega arith) (omega arith)
+      go b (Announce.replaced p h) few = let f = few refl in Fits.values _ (AnnounceFits.which (bit b) 1 (bit-low b) (omega arith) (omega arith))
+      go b (Announce.full p h k) few = Fits.number 6 (omega arith) (omega arith)
+      go b (Announce.second w x) few = Fits.number 7 (omega arith) (omega arith)
+      go b (Announce.third w x y) few = Fits.number 8 (omega arith) (omega arith)
+      go b (Announce.added w x y) few = let f = few refl in Fits.values _ (AnnounceFits.which (bit b) 0 (bit-low b) (omega arith) (omega arith))
 
   pub withdraw-few : (a len : ℕ) → accepts (withdrawn t l a len .said) ≡ true → withdrawn t l a len .table .count ≤ 4096
   withdraw-few a len e = withdraw-holds t l a len e .sound .listed .records .few
 
-  pub withdraw-fits : (a len : ℕ) → Fits 0 (DoneFits (withdrawn t l a len .table .count)) (withdrawn t l a len .said)
-  withdraw-fits a len = rw (withdraw-said t l a len) (go (withdraw-judged t l a len) (λ e. withdraw-few a len (ap accepts (withdraw-said t l a len) ∙ e)))
+  pub withdraw-fits : (a len : ℕ) → Fits 0 (WithdrawFits (withdrawn t l a len .table .count)) (withdrawn t l a len .said)
+  withdraw-fits a len =
+      rw (withdraw-said t l a len) (go (cleared len a) (withdraw-judged t l (cut len a) len) (λ e. withdraw-few a len (withdraw-accepts t l a len ∙ e)))
     where
-      go : {n : ℕ} {x : Said} → Withdraw t l a len x → (accepts x ≡ true → n ≤ 4096) → Fits 0 (DoneFits n) x
-      go (Withdraw.sizing n h) few = sizing-fits h
-      go (Withdraw.bad-prefix z h) few = Fits.number 3 (omega arith) (omega arith)
-      go (Withdraw.unsound z p h) few = Fits.number 5 (omega arith) (omega arith)
-      go (Withdraw.absent p k h) few = Fits.number 9 (omega arith) (omega arith)
-      go (Withdraw.removed w) few = let f = few refl in Fits.values [] (DoneFits.done (omega arith))
+      go : (b : Bool) {n : ℕ} {x : Said} → Withdraw t l (cut len a) len x → (accepts x ≡ true → n ≤ 4096) → Fits 0 (WithdrawFits n) (telling b x)
+      go b (Withdraw.sizing n h) few = sizing-fits h
+      go b (Withdraw.bad-prefix z h) few = Fits.number 3 (omega arith) (omega arith)
+      go b (Withdraw.unsound z p h) few = Fits.number 5 (omega arith) (omega arith)
+      go b (Withdraw.absent p k h) few = Fits.number 9 (omega arith) (omega arith)
+      go b (Withdraw.removed w) few = let f = few refl in Fits.values _ (WithdrawFits.gone (bit b) (bit-low b) (omega arith))

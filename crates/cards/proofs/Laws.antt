@@ -1,13 +1,12 @@
--- Packed answers beside what is lent, and a loop that stores one word a turn. Assumes nothing.
+-- Packed answers beside what is lent.
 use mathlib.Core.Bool.{Bool, true, false, cond}
 use mathlib.Core.Path.{_≡_, _∙_, refl, sym, ap}
 use mathlib.Core.List.{List}
-use Prim.Native.Nat.{ℕ, _+_, _*_, _/_, _%_, _^_, _<_}
+use Prim.Native.Nat.{ℕ, _+_, _*_, _/_, _%_, _^_, _<_, min}
 use native.Mathlib.Omega.{arith}
-use borrow.Author.Count.{below-more}
 use borrow.Author.Tests.{eq-eqb, ne-eqb}
-use lib.ListN.{length, getD, set, replicate}
-use lib.Seq.{getD-set-same, getD-set-other, ext-getD}
+use lib.ListN.{length, getD, replicate}
+use lib.Seq.{ext-getD}
 use Rattle.bits.proofs.Tabs.{is-tabulate, length-tabulate, getD-tabulate}
 use Rattle.bits.specs.Count.{count}
 use Rattle.bits.specs.Tab.{tabulate}
@@ -16,6 +15,7 @@ use Rattle.routes.specs.Input.{inputSaid}
 use Rattle.routes.specs.Answers.{saysInput}
 use Rattle.runs.specs.Tally.{IsTally, tallyOf, lengthsOf, hasLength}
 use Rattle.runs.specs.declared.tally.Tallied.{Tallied}
+use Rattle.sail.specs.Geometry.{standardGeo}
 use Rattle.sail.specs.Lent.{Lent}
 use Rattle.sail.specs.Sizes.{sizesFault, Checked}
 use Rattle.sail.specs.Walk.{foundSaid, lookupSaid}
@@ -24,25 +24,29 @@ use Rattle.sail.specs.declared.table.Table.{Table}
 use Rattle.sail.proofs.Steps.{look-on, look-not}
 use Rattle.sail_many.specs.Words.{answerAt}
 use Rattle.sail_many.proofs.Answers.{answer-is}
-use Rattle.sail_theory.specs.Calls.{Out, out}
+use Rattle.sail_theory.specs.Calls.{route, Out, out, announced, withdrawn}
 use Rattle.tree_build.specs.Built as tree
 use Rattle.sail.specs.Word.{packed, packFound, Word}
 use Rattle.packing.specs.Pack.{packChange, packBuilt, packNone}
+use Rattle.cards.proofs.Narrow.{announced-narrow, withdrawn-narrow}
 use Rattle.cards.specs.Cards.{card, cardOf, imageCard, imageCardOf, wordsCard, tallyCard, tableOf, manyCard}
 
 pub card-is : (s : Said) (t : Table) (l : Lent) (o : Out) (r : ℕ) → out s t l ≡ o → r ≡ packChange (t .count) s → card r l ≡ cardOf o
 unfolding cardOf
 card-is s t l o r e q = ap (λ (x : ℕ). card x l) q ∙ ap cardOf e
 
+-- the same of calls whose numbers were narrowed
+module _ (t : Table) (l : Lent) (a len n : ℕ) (e : n ≡ min len 255) (s : Said) (t′ : Table) (l′ : Lent) (r : ℕ) where
+  pub announce-card : (hop m : ℕ) → m ≡ min hop 65535 → (mark k : ℕ) → k ≡ min mark 255 → out s t′ l′ ≡ announced t l (route a n m k)
+      → r ≡ packChange (t′ .count) s → card r l′ ≡ cardOf (announced t l (route a len hop mark))
+  announce-card hop m q mark k u is = card-is s t′ l′ _ r (is ∙ announced-narrow t l a len hop mark n m k e q u)
+
+  pub withdraw-card : out s t′ l′ ≡ withdrawn t l a n → r ≡ packChange (t′ .count) s → card r l′ ≡ cardOf (withdrawn t l a len)
+  withdraw-card is = card-is s t′ l′ _ r (is ∙ withdrawn-narrow t l a len n e)
+
 pub image-card-is : (s : Said) (ws hs : List ℕ) (o : tree.Out) (r : ℕ) → tree.out s ws hs ≡ o → r ≡ packBuilt s → imageCard r ws hs ≡ imageCardOf o
 unfolding imageCardOf
 image-card-is s ws hs o r e q = ap (λ (x : ℕ). imageCard x ws hs) q ∙ ap imageCardOf e
-
--- what was stored before stands, and one more
-pub stored-more : (f : ℕ → ℕ) (out : List ℕ) (i v : ℕ) → i < length out → ((k : ℕ) → k < i → getD out k 0 ≡ f k) → v ≡ f i
-    → (k : ℕ) → k < i + 1 → getD (set out i v) k 0 ≡ f k
-stored-more f out i v l h e =
-    below-more (λ (k : ℕ). getD (set out i v) k 0 ≡ f k) i (λ k b. getD-set-other out i k v 0 (λ q. omega arith) ∙ h k b) (getD-set-same out i v 0 l ∙ e)
 
 -- the low 32 bits of the walk's answer
 abbrev pub lowWalk : Geometry → Lent → ℕ → ℕ
@@ -85,12 +89,12 @@ module _ (t : Table) (l : Lent) (a r : ℕ) (told : Checked r (t .geometry) l) w
   look-is e w z found q = q ∙ look-on t l a r told w e found .packs
 
 -- the standard geometry, told by its two levels
-module _ (p1 p2 n : ℕ) (e1 : p1 ≡ 16) (e2 : p2 ≡ 24) where
-  standard-table : tableOf 16 24 n ≡ tableOf p1 p2 n
-  standard-table = rw (e1, e2)
+module _ (p1 p2 n : ℕ) (e1 : p1 ≡ standardGeo .p1) (e2 : p2 ≡ standardGeo .p2) where
+  abbrev standard : Table
+  standard = tableOf (standardGeo .p1) (standardGeo .p2) n
 
-  pub look-standard : (l : Lent) (a r : ℕ) → r ≡ packFound (lookupSaid (tableOf 16 24 n) l a) → r ≡ packFound (lookupSaid (tableOf p1 p2 n) l a)
-  look-standard l a r q = q ∙ ap (λ (t : Table). packFound (lookupSaid t l a)) standard-table
+  pub look-standard : (l : Lent) (a r : ℕ) → r ≡ packFound (lookupSaid standard l a) → r ≡ packFound (lookupSaid (tableOf p1 p2 n) l a)
+  look-standard l a r q = rw (e1, e2) q
 
 -- the tally
 module _ (s xs : List ℕ) where

@@ -1,4 +1,8 @@
--- Laws of the exported calls; what they say fits their numbers, and is read back.
+-- Laws of the exported calls; what they say fits their numbers, is read back, and nothing else is in them; what they leave in `out`.
 mod Laws
+pub mod Narrow
 pub mod Fits
 pub mod Boundary
+pub mod Hops
+pub mod Outs
+pub mod Named

@@ -1,2 +1,3 @@
 -- What each exported call answers and leaves.
 pub mod Cards
+pub mod Maps

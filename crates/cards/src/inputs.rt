@@ -4,13 +4,14 @@ ghost use Rattle.routes.specs.Answers.{routeSaid};
 ghost use Rattle.runs.specs.Run.{runSaid};
 ghost use Rattle.packing.specs.Pack.{packRun, packRoute};
 ghost use Rattle.cards.specs.Cards.{wordsCard, tallyCard};
+use crate::scalars::narrow8;
 
 // The run under a prefix, as its first record and its number of records.
 #[no_mangle]
-pub extern "C" fn gh_run(input: &[u8], addr: u32, len: u8) -> u64
+pub extern "C" fn gh_run(input: &[u8], addr: u32, len: u32) -> u64
     ensures { λ r. ⌜ r ≡ packRun (runSaid (now (input .entry)) addr len) ⌝ }
 {
-    packing::run(runs::run::run_check(input, addr, len))
+    packing::run(runs::run::run_check(input, addr, narrow8(len)))
 }
 
 // One route of the input, read back.

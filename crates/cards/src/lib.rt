@@ -2,4 +2,6 @@
 pub mod images;
 pub mod inputs;
 pub mod lookups;
+pub mod maps;
+pub mod scalars;
 pub mod tables;

@@ -1,5 +1,6 @@
 // Lookups. The walk answers with the number itself, so nothing is packed after it.
 ghost use mathlib.Core.Path.{_≡_};
+ghost use Rattle.sail.specs.Geometry.{standardGeo};
 ghost use Rattle.sail.specs.Lent.{lent};
 ghost use Rattle.sail.specs.Walk.{lookupSaid};
 ghost use Rattle.sail.specs.Word.{packFound};
@@ -41,9 +42,9 @@ fn look_standard(
     own3: &[u32],
     addr: u32,
 ) -> u64
-    ensures { λ r. ⌜ r ≡ packFound (lookupSaid (tableOf 16 24 count) (lent (now (list .entry)) (now (first .entry)) (now (second .entry)) (now (third .entry)) (now (own2 .entry)) (now (own3 .entry))) addr) ⌝ }
+    ensures { λ r. ⌜ r ≡ packFound (lookupSaid (tableOf (standardGeo .p1) (standardGeo .p2) count) (lent (now (list .entry)) (now (first .entry)) (now (second .entry)) (now (third .entry)) (now (own2 .entry)) (now (own3 .entry))) addr) ⌝ }
 {
-    let geometry = Geometry { p1: 16, p2: 24 };
+    let geometry = Geometry::STANDARD;
     let z = sizes(
         Table { geometry, count },
         list,
@@ -75,8 +76,9 @@ pub extern "C" fn gh_lookup(
 ) -> u64
     ensures { λ r. ⌜ r ≡ packFound (lookupSaid (tableOf p1 p2 count) (lent (now (list .entry)) (now (first .entry)) (now (second .entry)) (now (third .entry)) (now (own2 .entry)) (now (own3 .entry))) addr) ⌝ }
 {
-    if p1 == 16 {
-        if p2 == 24 {
+    let standard = Geometry::STANDARD;
+    if p1 == standard.p1 {
+        if p2 == standard.p2 {
             return look_standard(count, list, first, second, third, own2, own3, addr);
         }
     }

@@ -1,9 +1,11 @@
 // The calls on SAIL tables. The state is three numbers: both levels of the geometry and the route count.
 ghost use mathlib.Core.Path.{_≡_};
 ghost use Rattle.sail.specs.Lent.{lent};
-ghost use Rattle.sail_theory.specs.Calls.{made, loaded, announced, withdrawn, reported};
+ghost use Rattle.sail_theory.specs.Calls.{route, made, loaded, announced, withdrawn, reported};
 ghost use Rattle.packing.specs.Pack.{packReport};
 ghost use Rattle.cards.specs.Cards.{tableOf, card, cardOf};
+use crate::scalars::narrow8;
+use crate::scalars::narrow16;
 use sail::geometry::Geometry;
 use sail::table::Table;
 
@@ -69,7 +71,7 @@ pub extern "C" fn gh_load(
     packing::loaded(a, n)
 }
 
-// A route is added to the table, or replaces the hop of its prefix.
+// A route is added to the table, or replaces the hop and the mark of its prefix.
 #[no_mangle]
 pub extern "C" fn gh_announce(
     p1: u32,
@@ -82,10 +84,11 @@ pub extern "C" fn gh_announce(
     own2: &mut [u32],
     own3: &mut [u32],
     addr: u32,
-    len: u8,
-    hop: u16,
+    len: u32,
+    hop: u32,
+    mark: u32,
 ) -> u64
-    ensures { λ r. ⌜ card r (lent (now (list .exit)) (now (first .exit)) (now (second .exit)) (now (third .exit)) (now (own2 .exit)) (now (own3 .exit))) ≡ cardOf (announced (tableOf p1 p2 count) (lent (now (list .entry)) (now (first .entry)) (now (second .entry)) (now (third .entry)) (now (own2 .entry)) (now (own3 .entry))) addr len hop) ⌝ }
+    ensures { λ r. ⌜ card r (lent (now (list .exit)) (now (first .exit)) (now (second .exit)) (now (third .exit)) (now (own2 .exit)) (now (own3 .exit))) ≡ cardOf (announced (tableOf p1 p2 count) (lent (now (list .entry)) (now (first .entry)) (now (second .entry)) (now (third .entry)) (now (own2 .entry)) (now (own3 .entry))) (route addr len hop mark)) ⌝ }
 {
     let geometry = Geometry { p1, p2 };
     let c = sail_announce::announce(
@@ -97,8 +100,9 @@ pub extern "C" fn gh_announce(
         own2,
         own3,
         addr,
-        len,
-        hop,
+        narrow8(len),
+        narrow16(hop),
+        narrow8(mark),
     );
     let t = c.table;
     let n = t.count;
@@ -119,7 +123,7 @@ pub extern "C" fn gh_withdraw(
     own2: &mut [u32],
     own3: &mut [u32],
     addr: u32,
-    len: u8,
+    len: u32,
 ) -> u64
     ensures { λ r. ⌜ card r (lent (now (list .exit)) (now (first .exit)) (now (second .exit)) (now (third .exit)) (now (own2 .exit)) (now (own3 .exit))) ≡ cardOf (withdrawn (tableOf p1 p2 count) (lent (now (list .entry)) (now (first .entry)) (now (second .entry)) (now (third .entry)) (now (own2 .entry)) (now (own3 .entry))) addr len) ⌝ }
 {
@@ -133,7 +137,7 @@ pub extern "C" fn gh_withdraw(
         own2,
         own3,
         addr,
-        len,
+        narrow8(len),
     );
     let t = c.table;
     let n = t.count;

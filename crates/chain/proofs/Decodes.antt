@@ -10,9 +10,10 @@ use lib.ListN.{length, getD, set, take, drop, length-map, List·getD-map}
 use lib.Seq.{getD-set-same, getD-set-other, getD-take, getD-drop}
 use borrow.Rule.Slice.PartMut.{mid-len}
 use Rattle.bits.proofs.Tabs.{length-tabulate, getD-tabulate, is-tabulate}
-use Rattle.routes.specs.Route.{key, Fine, Good}
+use Rattle.routes.specs.Route.{key, Good}
 use Rattle.routes.specs.Record.{recordAt, routesOf, noRoute, Ranged, Records}
 use Rattle.routes.specs.declared.Route.{Route}
+use Rattle.routes.proofs.Rows.{fine-ranged}
 use Rattle.chain.specs.Words.{wordAt, wordsOf, routeOf, keyIn, routesIn, Words}
 
 -- the first k of a list are those of f
@@ -39,28 +40,20 @@ pub word-route : (s : List ℕ) (k : ℕ) → Ranged (recordAt s k) → routeOf 
 unfolding wordAt recordAt
 word-route s k f =
     let l = f .len-fits in
-    let p = f .spare-fits in
+    let m = f .mark-fits in
     let h = f .hop-fits in
     let w = wordAt s k in
     let r = recordAt s k in
     let ea : w / 4294967296 ≡ r .addr = omega arith in
     let el : w / 16777216 % 256 ≡ r .len = omega arith in
-    let es : w / 65536 % 256 ≡ r .spare = omega arith in
+    let em : w / 65536 % 256 ≡ r .mark = omega arith in
     let eh : w % 65536 ≡ r .hop = omega arith in
-    rw (ea, el, es, eh)
-
-fine-ranged : {r : Route} → Fine r → Ranged r
-fine-ranged f =
-    let a = f .prefix .addr-ok in
-    let l = f .prefix .len-ok in
-    let s = f .spare-ok in
-    let h = f .hop-ok in
-    record { addr-fits = omega arith; len-fits = omega arith; spare-fits = omega arith; hop-fits = omega arith }
+    rw (ea, el, em, eh)
 
 module _ (s : List ℕ) (n : ℕ) (good : Records s n) where
   at-word : (k : ℕ) → k < n → routeOf (getD (wordsOf s n) k 0) ≡ recordAt s k
   unfolding wordsOf
-  at-word k l = rw (getD-tabulate {A = ℕ} n (wordAt s) k 0 l) (word-route s k (fine-ranged (good .each k l)))
+  at-word k l = rw (getD-tabulate {A = ℕ} n (wordAt s) k 0 l) (word-route s k (fine-ranged _ (good .each k l)))
 
   long-words : length (wordsOf s n) ≡ n
   unfolding wordsOf

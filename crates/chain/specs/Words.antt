@@ -18,7 +18,7 @@ wordsOf s n = tabulate n (wordAt s)
 
 -- the route of a word
 abbrev pub routeOf : ℕ → Route
-routeOf w = record { addr = w / 4294967296; len = w / 16777216 % 256; spare = w / 65536 % 256; hop = w % 65536 }
+routeOf w = record { addr = w / 4294967296; len = w / 16777216 % 256; mark = w / 65536 % 256; hop = w % 65536 }
 
 -- the key of a word's route
 abbrev pub keyIn : ℕ → ℕ

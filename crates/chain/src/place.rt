@@ -1,4 +1,5 @@
-// Places among words, by their keys, and the run of words under a cell.
+// Places among words, by their keys: by halving, and by going on from an earlier place; the end of the run of words under a cell; and the
+// least key of a route under it.
 ghost use mathlib.Core.Path.{_≡_};
 ghost use Prim.Native.Nat.{_+_, _*_, _^_, _<_, _≤_};
 ghost use lib.ListN.{length};

@@ -10,18 +10,19 @@ use Rattle.bits.proofs.Tests.{below?}
 use Rattle.routes.specs.Input.{inputSaid}
 use Rattle.routes.specs.Said.{Said, accepted, refused, refusedAt, accepts}
 use Rattle.tree.specs.Image.{nodeNeed}
-use Rattle.tree_build.specs.Built.{routesIn, madeOf, built}
-use Rattle.demands.proofs.Inputs.{check-only, BadInput, GoodInput, by-input}
+use Rattle.routes.specs.Record.{routesIn}
+use Rattle.tree_build.specs.Built.{madeOf, built}
+use Rattle.routes.proofs.Cases.{check-only, BadInput, Passes, by-input}
 
 -- build: the input's with its index, 6, 11, 12
 module _ (s ws hs : List ℕ) where
   pub data Build : Said → Type 0 where
     bad-input : (x : Said) → BadInput s x → Build x
-    few-nodes : (n : ℕ) → GoodInput s n → length ws / 3 < nodeNeed (routesIn s) → Build (refused 11)
-    few-hops : (n : ℕ) → GoodInput s n → nodeNeed (routesIn s) ≤ length ws / 3 → length hs < length (routesIn s) → Build (refused 12)
-    done : (n : ℕ) → GoodInput s n → nodeNeed (routesIn s) ≤ length ws / 3 → length (routesIn s) ≤ length hs → Build (accepted (nodeNeed (routesIn s) ∷ length (routesIn s) ∷ []))
+    few-nodes : (n : ℕ) → Passes s n → length ws / 3 < nodeNeed (routesIn s) → Build (refused 11)
+    few-hops : (n : ℕ) → Passes s n → nodeNeed (routesIn s) ≤ length ws / 3 → length hs < length (routesIn s) → Build (refused 12)
+    done : (n : ℕ) → Passes s n → nodeNeed (routesIn s) ≤ length ws / 3 → length (routesIn s) ≤ length hs → Build (accepted (nodeNeed (routesIn s) ∷ length (routesIn s) ∷ []))
 
-  good-built : (n : ℕ) → GoodInput s n → built s ws hs .said ≡ madeOf (routesIn s) ws hs .said
+  good-built : (n : ℕ) → Passes s n → built s ws hs .said ≡ madeOf (routesIn s) ws hs .said
   unfolding built
   good-built n g = rw (check-only s _ g)
 
@@ -44,7 +45,7 @@ module _ (s ws hs : List ℕ) where
       told : {x : Said} → Build x → Build (built s ws hs .said)
       told c = rw (build-only _ c) c
 
-      at : (n : ℕ) → GoodInput s n → (length ws / 3 < nodeNeed (routesIn s)) ⊎ (nodeNeed (routesIn s) ≤ length ws / 3) → (length hs < length (routesIn s)) ⊎ (length (routesIn s) ≤ length hs) → Build (built s ws hs .said)
+      at : (n : ℕ) → Passes s n → (length ws / 3 < nodeNeed (routesIn s)) ⊎ (nodeNeed (routesIn s) ≤ length ws / 3) → (length hs < length (routesIn s)) ⊎ (length (routesIn s) ≤ length hs) → Build (built s ws hs .said)
       at n g (inl h) k = told (few-nodes n g h)
       at n g (inr h) (inl k) = told (few-hops n g h k)
       at n g (inr h) (inr k) = told (done n g h k)

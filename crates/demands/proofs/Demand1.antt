@@ -1,5 +1,5 @@
--- Demand 1. "Every call answers for every input and ends; a refusal is never a hop, carries its number, and state and buffers stay exactly
--- as they were."
+-- Demand 1. "Every call answers for every input, damaged tables and files included, and ends. A refusal is never a hop. It carries its number,
+-- and the caller's state and buffers stay exactly as they were."
 --
 -- That every call answers for every input and ends is the language's own promise: a crate is built only where each of its functions is shown
 -- to end, and a call on offer has no `requires`. What it answers is its contract's equation; the theorems below say what the equations mean.
@@ -7,15 +7,18 @@
 -- Assumes nothing.
 use mathlib.Core.Path.{_≡_, refl, sym, _∙_, ap, subst}
 use mathlib.Core.Logic.{_↔_}
-use mathlib.Core.Bool.{false, false≢true}
+use mathlib.Core.Bool.{Bool, false, false≢true}
 use mathlib.Core.List.{List, []}
 use Prim.Native.Nat.{ℕ}
 use native.Mathlib.Omega.{arith}
 use lib.ListN.{replicate}
+use Rattle.bits.specs.Slot.{cut}
 use Rattle.routes.specs.Input.{inputSaid}
 use Rattle.routes.specs.Answers.{routeSaid}
 use Rattle.routes.specs.Said.{Said, accepted, refused, refusedAt, accepts}
+use Rattle.routes.specs.declared.Route.{Route}
 use Rattle.routes.proofs.Meaning.{Checked, input-checked}
+use Rattle.routes.proofs.Cases.{check-only}
 use Rattle.runs.specs.Run.{runSaid, runOf, runAt}
 use Rattle.runs.specs.Tally.{tallyOf}
 use Rattle.runs.proofs.Runs.{run-refused}
@@ -26,10 +29,10 @@ use Rattle.sail.specs.declared.table.Table.{Table}
 use Rattle.sail.specs.declared.lookup.Found.{Found}
 use Rattle.sail.specs.declared.lookup.Found.the-variants as found
 use Rattle.sail.proofs.Answers.{found-injective}
-use Rattle.sail_theory.specs.Calls.{Out, made, announced, withdrawn, loaded, reported}
+use Rattle.sail_theory.specs.Calls.{Out, made, cutRoute, cleared, telling, announced, withdrawn, loaded, reported}
 use Rattle.sail_theory.proofs.Judged.{Make, make-judged, Announce, announce-judged, Withdraw, withdraw-judged, Load, load-judged, Report, report-judged}
 use Rattle.sail_theory.proofs.Only.{make-only, announce-only, withdraw-only, load-only, report-only}
-use Rattle.sail_theory.proofs.Accepted.{announce-said, announce-refused, withdraw-said, withdraw-refused}
+use Rattle.sail_theory.proofs.Cleared.{telling-once, announce-said, announce-refused, withdraw-said, withdraw-refused}
 use Rattle.sail_theory.proofs.Fresh.{make-said, make-refused}
 use Rattle.sail_theory.proofs.Loads.{load-said, load-refused}
 use Rattle.tree.specs.Walk.{saysTreeFound, treeSaid}
@@ -37,7 +40,7 @@ use Rattle.tree.specs.declared.TreeFound.{TreeFound}
 use Rattle.tree.specs.declared.TreeFound.the-variants as treeFound
 use Rattle.tree_build.specs.Built.{built}
 use Rattle.tree_build.proofs.Serves.{refused-leaves}
-use Rattle.demands.proofs.Inputs.{check-only, RunChecked, run-judged, run-only, RouteRead, route-judged, route-only}
+use Rattle.demands.proofs.Inputs.{RunChecked, run-judged, run-only, RouteRead, route-judged, route-only}
 use Rattle.demands.proofs.Lookups.{Lookup, lookup-judged, lookup-only}
 use Rattle.demands.proofs.Builds.{Build, build-judged, build-only}
 use Rattle.demands.proofs.Walks.{TreeLookup, tree-judged, tree-only}
@@ -73,12 +76,16 @@ refused-tally = tally-refused
 pub refused-run : (bytes : List ℕ) (a len : ℕ) → accepts (runSaid bytes a len) ≡ false → (runOf bytes a len ≡ []) × (runAt bytes a len ≡ 0)
 refused-run = run-refused
 
--- "Carries its number": a call says s exactly where the condition that stands beside s holds. The conditions are listed in document 01's
+-- "It carries its number": a call says s exactly where the condition that stands beside s holds. The conditions are listed in document 01's
 -- order, each with the failure of those before it; so the number is that of the first that holds.
-exactly : (P : Said → Type 0) (x y : Said) → x ≡ y → P y → ((s : Said) → P s → y ≡ s) → (s : Said) → (x ≡ s) ↔ P s
+pub exactly : (P : Said → Type 0) (x y : Said) → x ≡ y → P y → ((s : Said) → P s → y ≡ s) → (s : Said) → (x ≡ s) ↔ P s
 exactly P x y q h only s = ((λ e. subst P (sym q ∙ e) h), (λ c. q ∙ only s c))
 
--- check_input, and with it the tally: the length (10), record by record 3, 4, spare, order (10), then 6
+-- the same of a call that tells beside s whether bits were cleared
+told-exactly : (b : Bool) (P : Said → Type 0) (x y : Said) → x ≡ telling b y → P y → ((s : Said) → P s → y ≡ s) → (s : Said) → (x ≡ telling b s) ↔ P s
+told-exactly b P x y q h only s = ((λ e. subst P (telling-once b y s (sym q ∙ e)) h), (λ c. q ∙ ap (telling b) (only s c)))
+
+-- check_input, and with it the tally: the length (10), record by record 3, 4, mark (10), order (10), then 6
 pub refused-number-check-input : (bytes : List ℕ) (s : Said) → (inputSaid bytes ≡ s) ↔ Checked bytes s
 refused-number-check-input bytes = exactly (Checked bytes) _ _ refl (input-checked bytes) (check-only bytes)
 
@@ -103,13 +110,16 @@ module _ (t : Table) (l : Lent) where
   pub refused-number-load : (input : List ℕ) (s : Said) → (loaded t l input .said ≡ s) ↔ Load t l input s
   refused-number-load input = exactly (Load t l input) _ _ (load-said t l input) (load-judged t l input) (load-only t l input)
 
-  -- announce: 1, 2, 3, 4, 5, 6, 7, 8; a replacement never meets 6 to 8
-  pub refused-number-announce : (a len hop : ℕ) (s : Said) → (announced t l a len hop .said ≡ s) ↔ Announce t l a len hop s
-  refused-number-announce a len hop = exactly (Announce t l a len hop) _ _ (announce-said t l a len hop) (announce-judged t l a len hop) (announce-only t l a len hop)
+  -- announce: 1, 2, 3, 4, 10, 5, 6, 7, 8; a replacement never meets 6 to 8. The conditions are on the route with its bits after the length
+  -- cleared, and what is accepted says first whether any were
+  pub refused-number-announce : (r : Route) (s : Said) → (announced t l r .said ≡ telling (cleared (r .len) (r .addr)) s) ↔ Announce t l (cutRoute r) s
+  refused-number-announce r =
+      told-exactly _ (Announce t l (cutRoute r)) _ _ (announce-said t l r) (announce-judged t l (cutRoute r)) (announce-only t l (cutRoute r))
 
-  -- withdraw: 1, 2, 3, 5, 9
-  pub refused-number-withdraw : (a len : ℕ) (s : Said) → (withdrawn t l a len .said ≡ s) ↔ Withdraw t l a len s
-  refused-number-withdraw a len = exactly (Withdraw t l a len) _ _ (withdraw-said t l a len) (withdraw-judged t l a len) (withdraw-only t l a len)
+  -- withdraw: 1, 2, 3, 5, 9, of the cleared prefix
+  pub refused-number-withdraw : (a len : ℕ) (s : Said) → (withdrawn t l a len .said ≡ telling (cleared len a) s) ↔ Withdraw t l (cut len a) len s
+  refused-number-withdraw a len =
+      told-exactly _ (Withdraw t l (cut len a) len) _ _ (withdraw-said t l a len) (withdraw-judged t l (cut len a) len) (withdraw-only t l (cut len a) len)
 
   -- report: 1, 2, 5
   pub refused-number-report : (s : Said) → (reported t l ≡ s) ↔ Report t l s
@@ -123,7 +133,7 @@ module _ (t : Table) (l : Lent) where
 pub refused-number-tree-lookup : (words hops : List ℕ) (a : ℕ) (s : Said) → (treeSaid words hops a ≡ s) ↔ TreeLookup words hops a s
 refused-number-tree-lookup words hops a = exactly (TreeLookup words hops a) _ _ refl (tree-judged words hops a) (tree-only words hops a)
 
--- "State and buffers stay exactly as they were."
+-- "The caller's state and buffers stay exactly as they were."
 parts : (o : Out) (s : Said) (t : Table) (l : Lent) → o ≡ record { said = s; table = t; lent = l } → (o .table ≡ t) × (o .lent ≡ l)
 parts o s t l e = (ap (λ (x : Out). x .table) e, ap (λ (x : Out). x .lent) e)
 
@@ -134,8 +144,8 @@ module _ (t : Table) (l : Lent) where
   pub refused-leaves-all-load : (input : List ℕ) → accepts (loaded t l input .said) ≡ false → (loaded t l input .table ≡ t) × (loaded t l input .lent ≡ l)
   refused-leaves-all-load input e = parts _ _ t l (load-refused t l input e)
 
-  pub refused-leaves-all-announce : (a len hop : ℕ) → accepts (announced t l a len hop .said) ≡ false → (announced t l a len hop .table ≡ t) × (announced t l a len hop .lent ≡ l)
-  refused-leaves-all-announce a len hop e = parts _ _ t l (announce-refused t l a len hop e)
+  pub refused-leaves-all-announce : (r : Route) → accepts (announced t l r .said) ≡ false → (announced t l r .table ≡ t) × (announced t l r .lent ≡ l)
+  refused-leaves-all-announce r e = parts _ _ t l (announce-refused t l r e)
 
   pub refused-leaves-all-withdraw : (a len : ℕ) → accepts (withdrawn t l a len .said) ≡ false → (withdrawn t l a len .table ≡ t) × (withdrawn t l a len .lent ≡ l)
   refused-leaves-all-withdraw a len e = parts _ _ t l (withdraw-refused t l a len e)

@@ -1,8 +1,8 @@
--- Demand 2. "For every address a sound table and a built image give the hop of the longest standing route, and no route exactly when none
--- covers; every route can be read back."
+-- Demand 2. "For every address, a sound table and a built image give the hop of the longest standing route that covers it, and no route exactly
+-- when none does. Each route in a list can be read back out, with its hop."
 --
 -- An address is a number below 2 ^ 32. A route covers it when the first bits, as many as the route's length, agree (`covers-address` in crate
--- routes, proofs/Only.antt). Assumes nothing.
+-- standing, proofs/Only.antt). Assumes nothing.
 use mathlib.Core.Path.{_≡_, refl, sym, _∙_, ap, subst}
 use mathlib.Core.Logic.{_↔_}
 use mathlib.Core.Bool.{Bool, true, false, cond}
@@ -16,14 +16,15 @@ use borrow.Author.Tests.{ne-eqb}
 use Rattle.bits.proofs.Tabs.{tabulate-ext}
 use Rattle.routes.specs.Route.{Good}
 use Rattle.standing.specs.Cells.{covers, Longest, Best, best}
-use Rattle.routes.specs.Record.{recordAt, routesOf, noRoute}
+use Rattle.routes.specs.Record.{recordAt, routesOf, noRoute, routesIn}
 use Rattle.routes.specs.Input.{inputSaid}
 use Rattle.routes.specs.Answers.{valuesOf, routeSaid}
-use Rattle.routes.specs.Said.{Said, accepted, refused, refusedAt}
+use Rattle.routes.specs.Said.{Said, accepted, refused, refusedAt, hopAfter, noRouteAfter}
 use Rattle.routes.specs.declared.Route.{Route}
 use Rattle.routes.proofs.Goods.{good-fine}
 use Rattle.standing.proofs.Longest.{best-is}
 use Rattle.routes.proofs.Meaning.{input-checked}
+use Rattle.routes.proofs.Cases.{Passes}
 use Rattle.standing.proofs.Only.{best-only, covers-none}
 use Rattle.routes.proofs.Rows.{Place, listed-nth, length-routes, nth-route}
 use Rattle.runs.proofs.Runs.{part-record, part-good}
@@ -36,21 +37,21 @@ use Rattle.tree.specs.Image.{onPath}
 use Rattle.tree.specs.Reads.{counted, treeReads}
 use Rattle.tree.specs.Walk.{told, treeSaid}
 use Rattle.tree.proofs.ReadCounts as reads
-use Rattle.tree_build.specs.Built.{routesIn, built}
+use Rattle.tree_build.specs.Built.{built}
 use Rattle.tree_build.proofs.Serves.{built-accepts, built-serves}
-use Rattle.demands.proofs.Inputs.{GoodInput, RouteRead, route-only}
+use Rattle.demands.proofs.Inputs.{RouteRead, route-only}
 
 -- What is said of the address a, after n reads, where the routes rs stand: the hop of a route that covers a, than which no route that covers a
 -- is longer; or no route, and then none covers.
 pub data Served (rs : List Route) (a n : ℕ) : Said → Type 0 where
-  hop : (h : ℕ) → Longest rs 32 a h → Served rs a n (accepted (n ∷ h ∷ []))
-  no-route : ((r : Route) → List·Memᴰ r rs → covers 32 a r ≡ false) → Served rs a n (accepted (n ∷ []))
+  hop : (h : ℕ) → Longest rs 32 a h → Served rs a n (hopAfter n h)
+  no-route : ((r : Route) → List·Memᴰ r rs → covers 32 a r ≡ false) → Served rs a n (noRouteAfter n)
 
-some-hop : (n h : ℕ) → 1 ≤ h → hopSaid n h ≡ accepted (n ∷ h ∷ [])
+some-hop : (n h : ℕ) → 1 ≤ h → hopSaid n h ≡ hopAfter n h
 unfolding hopSaid
 some-hop n h l = rw (ne-eqb h 0 (λ z. omega arith))
 
-none-hop : (n : ℕ) → hopSaid n 0 ≡ accepted (n ∷ [])
+none-hop : (n : ℕ) → hopSaid n 0 ≡ noRouteAfter n
 unfolding hopSaid
 none-hop n = refl
 
@@ -66,7 +67,7 @@ said-best rs g a n (Served.no-route z) = rw (covers-none rs g 32 a z, none-hop n
 pub served-once : (rs : List Route) → Good rs → (a n : ℕ) {s u : Said} → Served rs a n s → Served rs a n u → s ≡ u
 served-once rs g a n v w = said-best rs g a n v ∙ sym (said-best rs g a n w)
 
--- "For every address a sound table .. gives the hop of the longest standing route": after the count of cells that the routes define
+-- "For every address, a sound table .. give the hop of the longest standing route that covers it": after the count of cells that the routes define
 pub sail-serves : (t : Table) (l : Lent) → Sound t l → (a : ℕ) → a < 2 ^ 32 → Served (standing t l) a (cellsRead (t .geometry) (standing t l) a) (lookupSaid t l a)
 sail-serves t l s a h = rw (sounds.sail-serves t l s a h) (served (standing t l) (sounds.standing-good t l s) a _ _ (best-is (standing t l) 32 a))
 
@@ -74,7 +75,7 @@ sail-serves t l s a h = rw (sounds.sail-serves t l s a h) (served (standing t l)
 pub sail-reads : (t : Table) (l : Lent) → Sound t l → (a : ℕ) → (1 ≤ cellsRead (t .geometry) (standing t l) a) × (cellsRead (t .geometry) (standing t l) a ≤ 3)
 sail-reads t l s a = sounds.reads-few t l s a
 
--- ".. and a built image": an image that a build leaves which is accepted, after the count that the routes define: the nodes that stand on the
+-- "And a built image": an image that a build leaves which is accepted, after the count that the routes define: the nodes that stand on the
 -- address's path, and one more where a hop is answered
 tree-said : (h n : ℕ) → told h n ≡ hopSaid (counted h n) h
 unfolding told hopSaid
@@ -104,7 +105,7 @@ pub hop-alone : (n m h : ℕ) → uncounted (hopSaid n h) ≡ uncounted (hopSaid
 unfolding hopSaid
 hop-alone n m h = go (eqb h 0)
   where
-    go : (b : Bool) → uncounted (cond b (accepted (n ∷ [])) (accepted (n ∷ h ∷ []))) ≡ uncounted (cond b (accepted (m ∷ [])) (accepted (m ∷ h ∷ [])))
+    go : (b : Bool) → uncounted (cond b (noRouteAfter n) (hopAfter n h)) ≡ uncounted (cond b (noRouteAfter m) (hopAfter m h))
     go true = refl
     go false = refl
 
@@ -116,28 +117,28 @@ table-as-image t l s input ws hs vs e same a h =
     ∙ ap (λ (rs : List Route). uncounted (hopSaid (treeReads (routesIn input) a) (best rs 32 a))) (sym same)
     ∙ ap uncounted (sym (image-said input ws hs vs e a h))
 
--- "And no route exactly when none covers"
-no-hop : (rs : List Route) → Good rs → (a n m : ℕ) {s : Said} → Served rs a n s → (s ≡ accepted (m ∷ [])) → (r : Route) → List·Memᴰ r rs → covers 32 a r ≡ false
+-- "And no route exactly when none does"
+no-hop : (rs : List Route) → Good rs → (a n m : ℕ) {s : Said} → Served rs a n s → (s ≡ noRouteAfter m) → (r : Route) → List·Memᴰ r rs → covers 32 a r ≡ false
 no-hop rs g a n m (Served.hop h v) e = absurd (let z : _≡_ {A = ℕ} 0 1 = cc in omega arith)
 no-hop rs g a n m (Served.no-route z) e = z
 
 pub no-route-table : (t : Table) (l : Lent) → Sound t l → (a : ℕ) → a < 2 ^ 32
-    → ((n : ℕ) × (lookupSaid t l a ≡ accepted (n ∷ []))) ↔ ((r : Route) → List·Memᴰ r (standing t l) → covers 32 a r ≡ false)
+    → ((n : ℕ) × (lookupSaid t l a ≡ noRouteAfter n)) ↔ ((r : Route) → List·Memᴰ r (standing t l) → covers 32 a r ≡ false)
 no-route-table t l s a h = (
   (λ x. no-hop (standing t l) (sounds.standing-good t l s) a _ (x .0) (sail-serves t l s a h) (x .1)),
   (λ none. (_, served-once (standing t l) (sounds.standing-good t l s) a _ (sail-serves t l s a h) (no-route none))),
 )
 
 pub no-route-image : (input ws hs vs : List ℕ) → built input ws hs .said ≡ accepted vs → (a : ℕ) → a < 2 ^ 32
-    → ((n : ℕ) × (treeSaid (built input ws hs .words) (built input ws hs .hops) a ≡ accepted (n ∷ []))) ↔ ((r : Route) → List·Memᴰ r (routesIn input) → covers 32 a r ≡ false)
+    → ((n : ℕ) × (treeSaid (built input ws hs .words) (built input ws hs .hops) a ≡ noRouteAfter n)) ↔ ((r : Route) → List·Memᴰ r (routesIn input) → covers 32 a r ≡ false)
 no-route-image input ws hs vs e a h =
     let g = built-accepts input ws hs vs e .good-routes in (
       (λ x. no-hop (routesIn input) g a _ (x .0) (image-serves input ws hs vs e a h) (x .1)),
       (λ none. (_, served-once (routesIn input) g a _ (image-serves input ws hs vs e a h) (no-route none))),
     )
 
--- "Every route can be read back": route_at reads out of these bytes each of the routes rs, at its place, with its hop, and nothing past the
--- last. (A route's values are its address, length, spare byte and hop.)
+-- "Each route in a list can be read back out, with its hop": route_at reads out of these bytes each of the routes rs, at its place, with its
+-- mark and hop, and nothing past the last. (A route's values are its address, length, mark and hop.)
 pub record ReadBack (bytes : List ℕ) (rs : List Route) : Type 0 where
   pub each : (r : Route) → List·Memᴰ r rs → (k : ℕ) × (k < length rs) × (routeSaid bytes k ≡ accepted (valuesOf r))
   pub in-order : (k : ℕ) → k < length rs → routeSaid bytes k ≡ accepted (valuesOf (getD rs k noRoute))
@@ -151,7 +152,7 @@ read-back-input bytes n e = record {
   no-more = λ k l. route-only bytes k _ (RouteRead.past n good (rw length-routes at l));
 }
   where
-    good : GoodInput bytes n
+    good : Passes bytes n
     good = rw e at (input-checked bytes)
 
     reads : (k : ℕ) → k < n → routeSaid bytes k ≡ accepted (valuesOf (getD (routesOf bytes n) k noRoute))

@@ -1,6 +1,8 @@
--- Demand 3. "After any run of announcements, withdrawals and loads, refused ones among them, a table serves every address as one freshly
--- loaded: same hop, same reads, as many chunks; refusals for want of chunks come exactly when the routes need more; a change alters no cell but
--- those under its prefix."
+-- Demand 3. "Start from a fresh table and make any run of announcements, withdrawals and loads, refused ones among them, state and buffers
+-- untouched between calls. Every address is then served as by a table freshly loaded with the standing routes: same hop, same count of cells
+-- read, as many chunks in use. A well-formed change for which the list has room is refused for want of chunks exactly when the routes that would
+-- then stand need more than were lent. An announcement or withdrawal alters no cell but those that serve an address under its prefix and those
+-- in chunks that it opens or closes."
 --
 -- A run is a list of calls from a fresh table, the last call first: `after t l cs` is what the last call says, and the state and all that is
 -- lent then. The fresh table has t's geometry, in arrays of l's sizes; make accepts these exactly where they are right (`Sized`).
@@ -11,7 +13,7 @@ use mathlib.Core.Bool.{true, false}
 use mathlib.Core.List.{List, _∷_}
 use Prim.Native.Nat.{ℕ, _/_, _^_, _<_}
 use lib.ListN.{length}
-use Rattle.bits.specs.Slot.{slot}
+use Rattle.bits.specs.Slot.{slot, cut}
 use Rattle.bits.proofs.Tests.{decided}
 use Rattle.routes.specs.Route.{Good}
 use Rattle.routes.specs.Record.{written}
@@ -30,13 +32,12 @@ use Rattle.sail_theory.specs.Calls.{termsOf, inputRoutes, Out, made, announced,
 use Rattle.sail_theory.specs.Facts.{SameSize}
 use Rattle.sail_theory.specs.Runs.{announceAll, AllAdded, Call, after, worked, would, Formed, Carries}
 use Rattle.sail_theory.specs.Alters.{Alters}
-use Rattle.sail_theory.proofs.Accepted.{announce-refused, withdraw-refused}
+use Rattle.sail_theory.proofs.Cleared.{announce-refused, announce-alters, withdraw-refused, withdraw-alters}
 use Rattle.sail_theory.proofs.Fresh.{accepted-sized}
 use Rattle.sail_theory.proofs.Loads as loads
 use Rattle.sail_theory.proofs.Runs as runs
 use Rattle.sail_theory.proofs.Anew as anew
 use Rattle.sail_theory.proofs.Wanting as wanting
-use Rattle.sail_theory.proofs.Altered.{announce-alters, withdraw-alters}
 use Rattle.demands.proofs.Demand2.{uncounted}
 use Rattle.demands.proofs.Elsewhere.{announce-elsewhere, withdraw-elsewhere}
 use Rattle.demands.proofs.Replies.{reply}
@@ -45,47 +46,48 @@ use Rattle.demands.proofs.Wants.{ByNeed, wanting-exact, ForChunks, chun
 
 module _ (t : Table) (l : Lent) (z : Sized (t .geometry) l) where
   -- what stands after a run
-  abbrev pub now : List Call → List Route
-  now cs = standing (after t l cs .table) (after t l cs .lent)
+  abbrev pub standingAfter : List Call → List Route
+  standingAfter cs = standing (after t l cs .table) (after t l cs .lent)
 
-  -- "After any run .., refused ones among them": the table is sound.
+  -- After "any run of announcements, withdrawals and loads, refused ones among them": the table is sound.
   pub run-sound : (cs : List Call) → Sound (after t l cs .table) (after t l cs .lent)
   run-sound = runs.run-sound t l z
 
   -- "Which routes stand after a run is worked out from its accepted calls alone": for each prefix, by its key, what stands is what the last
-  -- accepted call that speaks of it said.
-  pub run-standing : (cs : List Call) (k : ℕ) → routeAt k (now cs) ≡ worked t l cs k
+  -- accepted call that speaks of it said, its mark included.
+  pub run-standing : (cs : List Call) (k : ℕ) → routeAt k (standingAfter cs) ≡ worked t l cs k
   run-standing = runs.run-standing t l z
 
   -- "And the list then holds exactly those, in order": it ascends, and is the only ascending list that holds them.
-  pub run-in-order : (cs : List Call) → Good (now cs)
+  pub run-in-order : (cs : List Call) → Good (standingAfter cs)
   run-in-order cs = standing-good (after t l cs .table) (after t l cs .lent) (run-sound cs)
 
-  pub run-only : (cs : List Call) (rs : List Route) → Good rs → ((k : ℕ) → routeAt k rs ≡ worked t l cs k) → now cs ≡ rs
+  pub run-only : (cs : List Call) (rs : List Route) → Good rs → ((k : ℕ) → routeAt k rs ≡ worked t l cs k) → standingAfter cs ≡ rs
   run-only = runs.run-only t l z
 
   -- What each call of a run says, "refused ones among them", follows from the routes that stand, the geometry, the room of the list and the
   -- chunks lent: no cell is asked.
-  pub run-says : (c : Call) (cs : List Call) → after t l (c ∷ cs) .said ≡ reply (termsOf t l) (now cs) c
+  pub run-says : (c : Call) (cs : List Call) → after t l (c ∷ cs) .said ≡ reply (termsOf t l) (standingAfter cs) c
   run-says = replies.run-says t l z
 
-  -- "A table serves every address as one freshly loaded: same hop, same reads, as many chunks": the fresh load is that of an input which holds
-  -- the standing routes, into any table of the same geometry and array sizes; it is accepted.
+  -- "Every address is then served as by a table freshly loaded with the standing routes: same hop, same count of cells read, as many chunks in
+  -- use": the fresh load is that of an input which holds the standing routes, into any table of the same geometry and array sizes; it is
+  -- accepted, and its list is the same to the byte, marks included.
   pub run-as-fresh : (cs : List Call) (u : Table) (v : Lent) → u .geometry ≡ t .geometry → SameSize l v
-      → (input : List ℕ) → Carries input (now cs) → anew.AsFresh (after t l cs .table) (after t l cs .lent) (loaded u v input)
+      → (input : List ℕ) → Carries input (standingAfter cs) → anew.AsFresh (after t l cs .table) (after t l cs .lent) (loaded u v input)
   run-as-fresh = anew.run-as-fresh t l z
 
   -- There is such an input.
-  pub run-input : (cs : List Call) → Carries (written (now cs) (length (now cs))) (now cs)
+  pub run-input : (cs : List Call) → Carries (written (standingAfter cs) (length (standingAfter cs))) (standingAfter cs)
   run-input = anew.run-carried t l z
 
-  -- "Refusals for want of chunks come exactly when the routes need more": a well-formed change for which the list has room is refused with 7
-  -- or 8 by the needs of the routes that would then stand, and is else accepted
-  pub want-of-chunks : (cs : List Call) (c : Call) → Formed c (now cs) (roomOf l) → ByNeed (termsOf t l) (would c (now cs)) (after t l (c ∷ cs) .said)
+  -- "A well-formed change for which the list has room is refused for want of chunks exactly when the routes that would then stand need more than
+  -- were lent": with 7 or 8, by these needs, and else it is accepted
+  pub want-of-chunks : (cs : List Call) (c : Call) → Formed c (standingAfter cs) (roomOf l) → ByNeed (termsOf t l) (would c (standingAfter cs)) (after t l (c ∷ cs) .said)
   want-of-chunks cs c f = wanting-exact (wanting.want-of-chunks t l z cs c f)
 
   -- and no other call is refused with 7 or 8.
-  pub want-formed : (cs : List Call) (c : Call) → ForChunks (after t l (c ∷ cs) .said) → Formed c (now cs) (roomOf l)
+  pub want-formed : (cs : List Call) (c : Call) → ForChunks (after t l (c ∷ cs) .said) → Formed c (standingAfter cs) (roomOf l)
   unfolding after
   want-formed cs c w =
       let room : roomOf (after t l cs .lent) ≡ roomOf l = ap (λ (n : ℕ). n / 8) (runs.run-is t l z cs .size .list) in
@@ -95,34 +97,37 @@ module _ (t : Table) (l : Lent) (z : Sized (t .geometry) l) where
 pub made-sized : (t : Table) (l : Lent) → accepts (made t l .said) ≡ true → Sized (t .geometry) l
 made-sized = accepted-sized
 
--- "A change alters no cell but those under its prefix": those that serve an address under it, and those in chunks that it opens or closes. In
--- any state, and so after any run; what is refused alters nothing.
+-- "An announcement or withdrawal alters no cell but those that serve an address under its prefix and those in chunks that it opens or closes": in
+-- any state, and so after any run; what is refused alters nothing. The prefix is the cleared one; the same addresses lie under it as begin with
+-- the bits that were given (`slot-cut`, crate bits, proofs/Slots.antt).
 alters-none : (g : Geometry) (a len : ℕ) (l u : Lent) → u ≡ l → Alters g a len l u
 alters-none g a len l u e = rw e (record { first = λ q h n. refl; second = λ q h n o. refl; third = λ q h n o. refl })
 
-pub change-frame-announce : (t : Table) (l : Lent) (a len hop : ℕ) → Alters (t .geometry) a len l (announced t l a len hop .lent)
-change-frame-announce t l a len hop =
-    ⊎-elim (announce-alters t l a len hop)
-    (λ (e : accepts (announced t l a len hop .said) ≡ false). alters-none (t .geometry) a len l _ (ap (λ (o : Out). o .lent) (announce-refused t l a len hop e)))
-    (decided (accepts (announced t l a len hop .said)))
+pub change-frame-announce : (t : Table) (l : Lent) (r : Route) → Alters (t .geometry) (cut (r .len) (r .addr)) (r .len) l (announced t l r .lent)
+change-frame-announce t l r =
+    ⊎-elim (announce-alters t l r)
+    (λ (e : accepts (announced t l r .said) ≡ false).
+    alters-none (t .geometry) (cut (r .len) (r .addr)) (r .len) l _ (ap (λ (o : Out). o .lent) (announce-refused t l r e)))
+    (decided (accepts (announced t l r .said)))
 
-pub change-frame-withdraw : (t : Table) (l : Lent) (a len : ℕ) → Alters (t .geometry) a len l (withdrawn t l a len .lent)
+pub change-frame-withdraw : (t : Table) (l : Lent) (a len : ℕ) → Alters (t .geometry) (cut len a) len l (withdrawn t l a len .lent)
 change-frame-withdraw t l a len =
     ⊎-elim (withdraw-alters t l a len)
-    (λ (e : accepts (withdrawn t l a len .said) ≡ false). alters-none (t .geometry) a len l _ (ap (λ (o : Out). o .lent) (withdraw-refused t l a len e)))
+    (λ (e : accepts (withdrawn t l a len .said) ≡ false).
+    alters-none (t .geometry) (cut len a) len l _ (ap (λ (o : Out). o .lent) (withdraw-refused t l a len e)))
     (decided (accepts (withdrawn t l a len .said)))
 
 -- So the hop of no address outside the prefix changes. (Its count of cells can, where a chunk is opened or closed above it.)
-pub change-elsewhere-announce : (t : Table) (l : Lent) (a len hop x : ℕ) → x < 2 ^ 32 → slot len x ≢ slot len a
-    → uncounted (lookupSaid (announced t l a len hop .table) (announced t l a len hop .lent) x) ≡ uncounted (lookupSaid t l x)
-change-elsewhere-announce t l a len hop x h n = announce-elsewhere t l a len x h n hop
+pub change-elsewhere-announce : (t : Table) (l : Lent) (r : Route) (x : ℕ) → x < 2 ^ 32 → slot (r .len) x ≢ slot (r .len) (cut (r .len) (r .addr))
+    → uncounted (lookupSaid (announced t l r .table) (announced t l r .lent) x) ≡ uncounted (lookupSaid t l x)
+change-elsewhere-announce = announce-elsewhere
 
-pub change-elsewhere-withdraw : (t : Table) (l : Lent) (a len x : ℕ) → x < 2 ^ 32 → slot len x ≢ slot len a
+pub change-elsewhere-withdraw : (t : Table) (l : Lent) (a len x : ℕ) → x < 2 ^ 32 → slot len x ≢ slot len (cut len a)
     → uncounted (lookupSaid (withdrawn t l a len .table) (withdrawn t l a len .lent) x) ≡ uncounted (lookupSaid t l x)
 change-elsewhere-withdraw = withdraw-elsewhere
 
 -- "Load equals make and then announcing each record in order, where it is accepted": in the state and in all that is lent, and each of these
--- announcements adds its route.
+-- announcements clears nothing and adds its route.
 pub load-as-announces : (t : Table) (l : Lent) (input : List ℕ) → accepts (loaded t l input .said) ≡ true
     → (loaded t l input .table ≡ announceAll (made t l) (inputRoutes input) .table)
     × (loaded t l input .lent ≡ announceAll (made t l) (inputRoutes input) .lent)

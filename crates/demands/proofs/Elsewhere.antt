@@ -5,7 +5,7 @@ use mathlib.Core.Bool.{true, false}
 use mathlib.Core.List.{List}
 use Prim.Native.Nat.{ℕ, _/_, _^_, _<_}
 use native.Mathlib.Omega.{arith}
-use Rattle.bits.specs.Slot.{slot}
+use Rattle.bits.specs.Slot.{slot, cut}
 use Rattle.bits.proofs.Tests.{decided}
 use Rattle.standing.specs.Cells.{best}
 use Rattle.routes.specs.Said.{Said, accepts}
@@ -17,44 +17,49 @@ use Rattle.sail.specs.Sound.{Sound, standing, cellsRead}
 use Rattle.sail.specs.Walk.{hopSaid, lookupSaid}
 use Rattle.sail.specs.declared.table.Table.{Table}
 use Rattle.sail.proofs.Sounds.{standing-good, sail-serves}
-use Rattle.sail_theory.specs.Calls.{route, Out, announced, withdrawn}
+use Rattle.sail_theory.specs.Calls.{Out, cutRoute, announced, withdrawn}
 use Rattle.sail_theory.specs.Facts.{Holds}
-use Rattle.sail_theory.proofs.Accepted.{accepted-welcome, announce-said, announce-refused, announce-holds, accepted-farewell, withdraw-said, withdraw-refused, withdraw-holds}
+use Rattle.sail_theory.proofs.Cleared.{announce-welcome, announce-refused, announce-holds, withdraw-farewell, withdraw-refused, withdraw-holds}
 use Rattle.demands.proofs.Demand2.{uncounted, hop-alone}
 
-module _ (t : Table) (l : Lent) (a len x : ℕ) (small : x < 2 ^ 32) (off : slot len x ≢ slot len a) where
-  -- what serves x, by its hop
-  abbrev hopBy : Table → Lent → Type 0
-  hopBy u v = uncounted (lookupSaid u v x) ≡ uncounted (lookupSaid t l x)
+-- what serves x, by its hop, as it was
+abbrev pub hopBy : Table → Lent → ℕ → Table → Lent → Type 0
+hopBy t l x u v = uncounted (lookupSaid u v x) ≡ uncounted (lookupSaid t l x)
 
+module _ (t : Table) (l : Lent) (a len x : ℕ) (small : x < 2 ^ 32) (off : slot len x ≢ slot len a) where
   same-best : (rs rs′ : List Route) → SameBut a len rs rs′ → best rs 32 x ≡ best rs′ 32 x
   same-best rs rs′ b = frame-best a len rs rs′ b 32 x (λ k e c. off (ap (λ (n : ℕ). x / 2 ^ n) (omega arith) ∙ c))
 
-  changed : Sound t l → (rs : List Route) (u : Table) (v : Lent) → Holds t l rs u v → SameBut a len (standing t l) rs → hopBy u v
+  changed : Sound t l → (rs : List Route) (u : Table) (v : Lent) → Holds t l rs u v → SameBut a len (standing t l) rs → hopBy t l x u v
   changed s rs u v h b =
       ap uncounted (sail-serves u v (h .sound) x small)
       ∙ hop-alone _ (cellsRead (t .geometry) (standing t l) x) (best (standing u v) 32 x)
       ∙ ap (λ (n : ℕ). uncounted (hopSaid (cellsRead (t .geometry) (standing t l) x) n)) (ap (λ (r : List Route). best r 32 x) (h .routes) ∙ sym (same-best (standing t l) rs b))
       ∙ ap uncounted (sym (sail-serves t l s x small))
 
-  -- where it is refused, nothing changes
-  same : (o : Out) (s : Said) → o ≡ record { said = s; table = t; lent = l } → hopBy (o .table) (o .lent)
-  same o s e = ap (λ (o : Out). uncounted (lookupSaid (o .table) (o .lent) x)) e
+-- where it is refused, nothing changes
+same : (t : Table) (l : Lent) (x : ℕ) (o : Out) (s : Said) → o ≡ record { said = s; table = t; lent = l } → hopBy t l x (o .table) (o .lent)
+same t l x o s e = ap (λ (o : Out). uncounted (lookupSaid (o .table) (o .lent) x)) e
 
-  pub announce-elsewhere : (hop : ℕ) → hopBy (announced t l a len hop .table) (announced t l a len hop .lent)
-  announce-elsewhere hop =
-      ⊎-elim
-      (λ (e : accepts (announced t l a len hop .said) ≡ true).
-      let w = accepted-welcome t l a len hop (sym (ap accepts (announce-said t l a len hop)) ∙ e) in
-      changed (w .sound) _ _ _ (announce-holds t l a len hop e) (insert-but (route a len hop) (standing t l) (w .fine) (standing-good t l (w .sound))))
-      (λ (e : accepts (announced t l a len hop .said) ≡ false). same _ _ (announce-refused t l a len hop e))
-      (decided (accepts (announced t l a len hop .said)))
+-- the prefix is the cleared one
+pub announce-elsewhere : (t : Table) (l : Lent) (r : Route) (x : ℕ) → x < 2 ^ 32 → slot (r .len) x ≢ slot (r .len) (cut (r .len) (r .addr))
+    → hopBy t l x (announced t l r .table) (announced t l r .lent)
+announce-elsewhere t l r x small off =
+    ⊎-elim
+    (λ (e : accepts (announced t l r .said) ≡ true).
+    let w = announce-welcome t l r e in
+    let but = insert-but (cutRoute r) (standing t l) (w .fine) (standing-good t l (w .sound)) in
+    changed t l _ (r .len) x small off (w .sound) _ _ _ (announce-holds t l r e) but)
+    (λ (e : accepts (announced t l r .said) ≡ false). same t l x _ _ (announce-refused t l r e))
+    (decided (accepts (announced t l r .said)))
 
-  pub withdraw-elsewhere : hopBy (withdrawn t l a len .table) (withdrawn t l a len .lent)
-  withdraw-elsewhere =
-      ⊎-elim
-      (λ (e : accepts (withdrawn t l a len .said) ≡ true).
-      let w = accepted-farewell t l a len (sym (ap accepts (withdraw-said t l a len)) ∙ e) in
-      changed (w .sound) _ _ _ (withdraw-holds t l a len e) (remove-but a len (standing t l) (w .prefix .len-ok) (standing-good t l (w .sound))))
-      (λ (e : accepts (withdrawn t l a len .said) ≡ false). same _ _ (withdraw-refused t l a len e))
-      (decided (accepts (withdrawn t l a len .said)))
+pub withdraw-elsewhere : (t : Table) (l : Lent) (a len x : ℕ) → x < 2 ^ 32 → slot len x ≢ slot len (cut len a)
+    → hopBy t l x (withdrawn t l a len .table) (withdrawn t l a len .lent)
+withdraw-elsewhere t l a len x small off =
+    ⊎-elim
+    (λ (e : accepts (withdrawn t l a len .said) ≡ true).
+    let w = withdraw-farewell t l a len e in
+    let but = remove-but (cut len a) len (standing t l) (w .prefix .len-ok) (standing-good t l (w .sound)) in
+    changed t l (cut len a) len x small off (w .sound) _ _ _ (withdraw-holds t l a len e) but)
+    (λ (e : accepts (withdrawn t l a len .said) ≡ false). same t l x _ _ (withdraw-refused t l a len e))
+    (decided (accepts (withdrawn t l a len .said)))

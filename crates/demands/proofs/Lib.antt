@@ -10,3 +10,4 @@ pub mod Wants
 pub mod Elsewhere
 pub mod Demand3
 pub mod OneAnswer
+pub mod Basic

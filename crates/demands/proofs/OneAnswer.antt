@@ -1,4 +1,4 @@
--- "A call's statement determines its answer and the final contents of everything lent. Show that no second answer would satisfy it."
+-- "A call's statement determines its answer and the final contents of everything lent. Show that no second answer would satisfy it"
 --
 -- For each call on offer: two outcomes that meet its statement are equal. The statements are those of specs/Meets.antt. Assumes nothing.
 use mathlib.Core.Path.{_≡_, refl, sym, _∙_, ap}
@@ -49,7 +49,7 @@ one-answer-check-input bytes x y p q = input-injective x y (p ∙ sym q)
 -- a route that is read back is read from what is said
 readGot : Said → Got
 readGot (accepted []) = got.Nothing
-readGot (accepted (a ∷ vs)) = got.One (record { addr = a; len = getD vs 0 0; spare = getD vs 1 0; hop = getD vs 2 0 })
+readGot (accepted (a ∷ vs)) = got.One (record { addr = a; len = getD vs 0 0; mark = getD vs 1 0; hop = getD vs 2 0 })
 readGot (refused n) = got.TooMany
 readGot (refusedAt n k) = got.Refused n k
 
@@ -96,8 +96,8 @@ module _ (t : Table) (l : Lent) where
   pub one-answer-load : (input : List ℕ) (x y : Changed) (u v : Lent) → MeetsLoad t l input x u → MeetsLoad t l input y v → (x ≡ y) × (u ≡ v)
   one-answer-load input x y u v = one-end saysLoaded loaded-injective (λ a s. record { answer = a; table = s }) (x .answer) (y .answer) (x .table) (y .table) u v _
 
-  pub one-answer-announce : (addr len hop : ℕ) (x y : Announced) (u v : Lent) → MeetsAnnounce t l addr len hop x u → MeetsAnnounce t l addr len hop y v → (x ≡ y) × (u ≡ v)
-  one-answer-announce addr len hop x y u v = one-end saysAnnounce announce-injective (λ a s. record { answer = a; table = s }) (x .answer) (y .answer) (x .table) (y .table) u v _
+  pub one-answer-announce : (addr len hop mark : ℕ) (x y : Announced) (u v : Lent) → MeetsAnnounce t l addr len hop mark x u → MeetsAnnounce t l addr len hop mark y v → (x ≡ y) × (u ≡ v)
+  one-answer-announce addr len hop mark x y u v = one-end saysAnnounce announce-injective (λ a s. record { answer = a; table = s }) (x .answer) (y .answer) (x .table) (y .table) u v _
 
   pub one-answer-withdraw : (addr len : ℕ) (x y : Withdrawn) (u v : Lent) → MeetsWithdraw t l addr len x u → MeetsWithdraw t l addr len y v → (x ≡ y) × (u ≡ v)
   one-answer-withdraw addr len x y u v = one-end saysWithdraw withdraw-injective (λ a s. record { answer = a; table = s }) (x .answer) (y .answer) (x .table) (y .table) u v _

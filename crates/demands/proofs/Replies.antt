@@ -4,8 +4,9 @@ use mathlib.Core.Path.{_≡_, _∙_, ap}
 use mathlib.Core.Bool.{true, cond}
 use mathlib.Core.List.{List, [], _∷_}
 use Rattle.bits.specs.Count.{bit}
-use Rattle.routes.specs.Route.{keyOf}
-use Rattle.routes.specs.Input.{inputSaid}
+use Rattle.bits.specs.Slot.{cut}
+use Rattle.routes.specs.Route.{key}
+use Rattle.routes.specs.Input.{routeFault, inputSaid}
 use Rattle.routes.specs.Said.{Said, accepted, andThen, accepts}
 use Rattle.standing.specs.Standing.{stands}
 use Rattle.routes.specs.declared.Route.{Route}
@@ -14,10 +15,10 @@ use Rattle.sail.specs.Sizes.{Sized}
 use Rattle.sail.specs.Sound.{Sound, standing}
 use Rattle.sail.specs.declared.table.Table.{Table}
 use Rattle.sail.proofs.Fitting.{none-is}
-use Rattle.sail_theory.specs.Calls.{Terms, termsOf, announceFault, withdrawFault, loadFault, orSay, announceSaid, withdrawSaid, loadSaid, inputRoutes}
+use Rattle.sail_theory.specs.Calls.{Terms, termsOf, announceFault, withdrawFault, loadFault, orSay, announceSaid, withdrawSaid, loadSaid, inputRoutes, cutRoute, cleared, telling}
 use Rattle.sail_theory.specs.Runs.{Call, announce, withdraw, load, done, after, would}
 use Rattle.sail_theory.proofs.Tells.{sound-tells}
-use Rattle.sail_theory.proofs.Accepted.{announce-said, withdraw-said}
+use Rattle.sail_theory.proofs.Cleared.{announce-said, withdraw-said}
 use Rattle.sail_theory.proofs.Fresh.{make-holds}
 use Rattle.sail_theory.proofs.Sizes.{terms-same}
 use Rattle.sail_theory.proofs.Loads.{load-said}
@@ -25,8 +26,12 @@ use Rattle.sail_theory.proofs.Runs.{run-is, run-list}
 
 -- what a call says where the routes rs stand, on these terms
 unfoldable pub reply : Terms → List Route → Call → Said
-reply m rs (announce a len hop) = orSay (announceFault true m rs a len hop) (accepted (bit (stands (keyOf a len) rs) ∷ []))
-reply m rs (withdraw a len) = orSay (withdrawFault true rs a len) (accepted [])
+reply m rs (announce r) =
+    telling (cleared (r .len) (r .addr))
+    (orSay (routeFault (cutRoute r))
+    (orSay (announceFault true m rs (cutRoute r))
+    (accepted (bit (stands (key (cutRoute r)) rs) ∷ []))))
+reply m rs (withdraw a len) = telling (cleared len a) (orSay (withdrawFault true rs (cut len a) len) (accepted []))
 reply m rs (load input) = andThen (inputSaid input) (orSay (loadFault m (inputRoutes input)) (accepted []))
 
 -- the routes that stand after a run; the last call stands first
@@ -37,7 +42,7 @@ stood m (c ∷ cs) = cond (accepts (reply m (stood m cs) c)) (would c (stood m c
 -- a call on a sound table
 pub done-says : (t : Table) (l : Lent) → Sound t l → (c : Call) → done t l c .said ≡ reply (termsOf t l) (standing t l) c
 unfolding done reply announceSaid withdrawSaid loadSaid
-done-says t l s (announce a len hop) = announce-said t l a len hop ∙ rw (none-is (t .geometry) l (s .sized), sound-tells t l .1 s)
+done-says t l s (announce r) = announce-said t l r ∙ rw (none-is (t .geometry) l (s .sized), sound-tells t l .1 s)
 done-says t l s (withdraw a len) = withdraw-said t l a len ∙ rw (none-is (t .geometry) l (s .sized), sound-tells t l .1 s)
 done-says t l s (load input) = load-said t l input ∙ rw (none-is (t .geometry) l (s .sized))
 

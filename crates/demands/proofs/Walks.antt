@@ -1,16 +1,16 @@
--- Lookup in an image, whatever it holds: what it can say, with all that then holds. 13 is said where "bit 15 [is] set, child or hop beyond what
+-- Lookup in an image, whatever it holds: what it can say, with all that then holds. 13 is said for "bit 15 set, child or hop beyond what
 -- is lent, no root, hop outside 1 to 32,767", of what this walk reads. Assumes nothing.
 use mathlib.Core.Path.{_≡_, refl, sym, _∙_}
 use mathlib.Core.Logic.{_⊎_, inl, inr}
 use mathlib.Core.Bool.{true, false, true≢false}
-use mathlib.Core.List.{List, [], _∷_}
+use mathlib.Core.List.{List}
 use Prim.Native.Nat.{ℕ, zero, suc, _+_, _-_, _/_, _≤_, _<_}
 use native.Mathlib.Omega.{arith}
 use lib.ListN.{length, getD}
 use borrow.Author.Tests.{lt-ltb, le-ltb, ne-eqb}
 use Rattle.bits.proofs.Tests.{decided, below?, untrue}
 use Rattle.routes.specs.Input.{hopFine}
-use Rattle.routes.specs.Said.{Said, accepted, refused}
+use Rattle.routes.specs.Said.{Said, refused, hopAfter, noRouteAfter}
 use Rattle.routes.proofs.Meaning.{hop-true, true-hop}
 use Rattle.tree.specs.Node.{bitsOf, childOf, isSet, sound, nibbleOf, childAt}
 use Rattle.tree.specs.Walk.{told, fetchedFrom, lastMatch, innerMatch, walkFrom, treeSaid}
@@ -20,10 +20,10 @@ use Rattle.tree.specs.declared.Place.the-variants.{Nowhere, At}
 -- the one hop that is read after n nodes, at the place of the deepest match; where it is answered, the count is one more
 module _ (hs : List ℕ) (n : ℕ) where
   pub data Fetched : Place → Said → Type 0 where
-    no-match : Fetched Nowhere (accepted (n ∷ []))
+    no-match : Fetched Nowhere (noRouteAfter n)
     beyond : (h : ℕ) → length hs ≤ h → Fetched (At h) (refused 13)
     bad-hop : (h : ℕ) → h < length hs → (1 ≤ getD hs h 0 → getD hs h 0 ≤ 32767 → ⊥) → Fetched (At h) (refused 13)
-    match : (h : ℕ) → h < length hs → 1 ≤ getD hs h 0 → getD hs h 0 ≤ 32767 → Fetched (At h) (accepted ((n + 1) ∷ getD hs h 0 ∷ []))
+    match : (h : ℕ) → h < length hs → 1 ≤ getD hs h 0 → getD hs h 0 ≤ 32767 → Fetched (At h) (hopAfter (n + 1) (getD hs h 0))
 
   fetched-only : {p : Place} {s : Said} → Fetched p s → fetchedFrom hs n p ≡ s
   unfolding fetchedFrom told

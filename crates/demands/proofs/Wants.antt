@@ -1,25 +1,25 @@
 -- Refusals for want of chunks, 7 and 8: exactly when the routes that would stand need more, and of well-formed changes alone. Assumes nothing.
 use mathlib.Core.Path.{_≡_, refl}
 use mathlib.Core.Logic.{_↔_}
-use mathlib.Core.Bool.{true, false≢true}
+use mathlib.Core.Bool.{Bool, true, false≢true}
 use mathlib.Core.List.{List}
 use Prim.Native.Nat.{ℕ, _/_, _≤_, _<_}
 use native.Mathlib.Omega.{arith}
 use lib.ListN.{length}
+use Rattle.bits.specs.Slot.{cut}
 use Rattle.standing.specs.Cells.{need}
-use Rattle.routes.specs.Input.{inputSaid}
 use Rattle.routes.specs.Said.{Said, accepted, refused, refusedAt, accepts}
 use Rattle.routes.specs.declared.Route.{Route}
 use Rattle.standing.proofs.Changed.{insert-adds}
-use Rattle.routes.proofs.Meaning.{Checked, input-checked, good-input}
+use Rattle.routes.proofs.Meaning.{WrongRoute, Checked, good-input}
 use Rattle.sail.specs.Lent.{Lent}
 use Rattle.sail.specs.Sound.{standing}
 use Rattle.sail.specs.declared.table.Table.{Table}
 use Rattle.sail_theory.specs.Render.{roomOf}
-use Rattle.sail_theory.specs.Calls.{route, Terms}
+use Rattle.sail_theory.specs.Calls.{Terms, cutRoute, telling}
 use Rattle.sail_theory.specs.Runs.{Call, announce, withdraw, load, done, Formed}
 use Rattle.sail_theory.proofs.Judged.{Sizing, Announce, announce-judged, Withdraw, withdraw-judged, Readable, Load, load-judged}
-use Rattle.sail_theory.proofs.Accepted.{announce-said, withdraw-said}
+use Rattle.sail_theory.proofs.Cleared.{announce-said, withdraw-said}
 use Rattle.sail_theory.proofs.Loads.{load-said}
 use Rattle.sail_theory.proofs.Wanting.{Wanting}
 
@@ -57,40 +57,42 @@ small : {t : Table} {l : Lent} {n : ℕ} → Sizing t l n → (7 ≤ n) × (n �
 small (Sizing.limits h) w = omega (arith, w .0)
 small (Sizing.size v h) w = omega (arith, w .0)
 
-input-never : (s : List ℕ) (x : Said) → inputSaid s ≡ x → ForChunks x → ⊥
-input-never s x e w = go (rw e at (input-checked s)) w
-  where
-    go : {x : Said} → Checked s x → ForChunks x → ⊥
-    go (Checked.ragged z) w = w
-    go (Checked.stopped k f z l b v p) w = w
-    go (Checked.many z b m) w = omega (arith, w .0)
-    go (Checked.good n z r) w = w
+wrong-never : {r : Route} {n : ℕ} → WrongRoute r n → (7 ≤ n) × (n ≤ 8) → ⊥
+wrong-never (WrongRoute.prefix h) w = omega (arith, w .0)
+wrong-never (WrongRoute.hop p h) w = omega (arith, w .0)
+wrong-never (WrongRoute.mark p a b h) w = omega (arith, w .1)
+
+input-never : (s : List ℕ) (x : Said) → Checked s x → ForChunks x → ⊥
+input-never s _ (Checked.ragged z) w = w
+input-never s _ (Checked.stopped k f z l b v p) w = w
+input-never s _ (Checked.many z b m) w = omega (arith, w .0)
+input-never s _ (Checked.good n z r) w = w
 
 module _ (t : Table) (l : Lent) where
-  announce-formed : (a len hop : ℕ) {s : Said} → Announce t l a len hop s → ForChunks s → Formed (announce a len hop) (standing t l) (roomOf l)
-  announce-formed a len hop (Announce.sizing n h) w = absurd (small h w)
-  announce-formed a len hop (Announce.bad-prefix z h) w = absurd (omega (arith, w .0))
-  announce-formed a len hop (Announce.bad-hop z p h) w = absurd (omega (arith, w .0))
-  announce-formed a len hop (Announce.unsound z f h) w = absurd (omega (arith, w .0))
-  announce-formed a len hop (Announce.replaced p h) w = absurd w
-  announce-formed a len hop (Announce.full p h k) w = absurd (omega (arith, w .0))
-  announce-formed a len hop (Announce.second r x) w = (r .proper .fine, omega (arith, insert-adds (route a len hop) (standing t l) (r .new), r .room))
-  announce-formed a len hop (Announce.third r x y) w = (r .proper .fine, omega (arith, insert-adds (route a len hop) (standing t l) (r .new), r .room))
-  announce-formed a len hop (Announce.added r x y) w = absurd w
+  -- whether bits were cleared is told of what is accepted alone
+  announce-formed : (b : Bool) (r : Route) {s : Said} → Announce t l (cutRoute r) s → ForChunks (telling b s) → Formed (announce r) (standing t l) (roomOf l)
+  announce-formed b r (Announce.sizing n h) w = absurd (small h w)
+  announce-formed b r (Announce.wrong n z h) w = absurd (wrong-never h w)
+  announce-formed b r (Announce.unsound z f h) w = absurd (omega (arith, w .0))
+  announce-formed b r (Announce.replaced p h) w = absurd w
+  announce-formed b r (Announce.full p h k) w = absurd (omega (arith, w .0))
+  announce-formed b r (Announce.second k x) w = (k .proper .fine, omega (arith, insert-adds (cutRoute r) (standing t l) (k .new), k .room))
+  announce-formed b r (Announce.third k x y) w = (k .proper .fine, omega (arith, insert-adds (cutRoute r) (standing t l) (k .new), k .room))
+  announce-formed b r (Announce.added k x y) w = absurd w
 
-  withdraw-never : (a len : ℕ) {s : Said} → Withdraw t l a len s → ForChunks s → ⊥
-  withdraw-never a len (Withdraw.sizing n h) w = small h w
-  withdraw-never a len (Withdraw.bad-prefix z h) w = omega (arith, w .0)
-  withdraw-never a len (Withdraw.unsound z p h) w = omega (arith, w .0)
-  withdraw-never a len (Withdraw.absent p k h) w = omega (arith, w .1)
-  withdraw-never a len (Withdraw.removed k) w = w
+  withdraw-never : (b : Bool) (a len : ℕ) {s : Said} → Withdraw t l a len s → ForChunks (telling b s) → ⊥
+  withdraw-never b a len (Withdraw.sizing n h) w = small h w
+  withdraw-never b a len (Withdraw.bad-prefix z h) w = omega (arith, w .0)
+  withdraw-never b a len (Withdraw.unsound z p h) w = omega (arith, w .0)
+  withdraw-never b a len (Withdraw.absent p k h) w = omega (arith, w .1)
+  withdraw-never b a len (Withdraw.removed k) w = w
 
   readable-formed : (input : List ℕ) → Readable t l input → length input / 8 ≤ roomOf l → Formed (load input) (standing t l) (roomOf l)
   readable-formed input r k = (length input / 8, good-input input (length input / 8) (r .whole) (r .records), k)
 
   load-formed : (input : List ℕ) {s : Said} → Load t l input s → ForChunks s → Formed (load input) (standing t l) (roomOf l)
   load-formed input (Load.sizing n h) w = absurd (small h w)
-  load-formed input (Load.bad-input {s} z e h) w = absurd (input-never input s e w)
+  load-formed input (Load.bad-input s z b) w = absurd (input-never input s (b .checked) w)
   load-formed input (Load.full r k) w = absurd (omega (arith, w .0))
   load-formed input (Load.second r k x) w = readable-formed input r k
   load-formed input (Load.third r k x y) w = readable-formed input r k
@@ -99,6 +101,6 @@ module _ (t : Table) (l : Lent) where
   -- in any state
   pub chunks-formed : (c : Call) → ForChunks (done t l c .said) → Formed c (standing t l) (roomOf l)
   unfolding done
-  chunks-formed (announce a len hop) w = announce-formed a len hop (announce-judged t l a len hop) (rw (announce-said t l a len hop) at w)
-  chunks-formed (withdraw a len) w = absurd (withdraw-never a len (withdraw-judged t l a len) (rw (withdraw-said t l a len) at w))
+  chunks-formed (announce r) w = announce-formed _ r (announce-judged t l (cutRoute r)) (rw (announce-said t l r) at w)
+  chunks-formed (withdraw a len) w = absurd (withdraw-never _ (cut len a) len (withdraw-judged t l (cut len a) len) (rw (withdraw-said t l a len) at w))
   chunks-formed (load input) w = load-formed input (load-judged t l input) (rw (load-said t l input) at w)

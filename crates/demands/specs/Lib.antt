@@ -1,2 +1,3 @@
 -- The statements of the calls, as predicates on what they answer and leave.
 pub mod Meets
+pub mod MeetsBasic

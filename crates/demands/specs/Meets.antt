@@ -17,7 +17,7 @@ use Rattle.sail.specs.Lent.{Lent}
 use Rattle.sail.specs.Walk.{lookupSaid, saysFound}
 use Rattle.sail.specs.declared.table.Table.{Table}
 use Rattle.sail.specs.declared.lookup.Found.{Found}
-use Rattle.sail_theory.specs.Calls.{out, made, announced, withdrawn, loaded, reported}
+use Rattle.sail_theory.specs.Calls.{route, out, made, announced, withdrawn, loaded, reported}
 use Rattle.sail_sound.specs.Report.{saysReported}
 use Rattle.sail_sound.specs.declared.report.Reported.{Reported}
 use Rattle.sail_make.specs.Answers.{saysMade}
@@ -64,8 +64,8 @@ MeetsMake t l r e = out (saysMade (r .answer)) (r .table) e ≡ made t l
 abbrev pub MeetsLoad : Table → Lent → List ℕ → Changed → Lent → Type 0
 MeetsLoad t l input r e = out (saysLoaded (r .answer)) (r .table) e ≡ loaded t l input
 
-abbrev pub MeetsAnnounce : Table → Lent → ℕ → ℕ → ℕ → Announced → Lent → Type 0
-MeetsAnnounce t l addr len hop r e = out (saysAnnounce (r .answer)) (r .table) e ≡ announced t l addr len hop
+abbrev pub MeetsAnnounce : Table → Lent → ℕ → ℕ → ℕ → ℕ → Announced → Lent → Type 0
+MeetsAnnounce t l addr len hop mark r e = out (saysAnnounce (r .answer)) (r .table) e ≡ announced t l (route addr len hop mark)
 
 abbrev pub MeetsWithdraw : Table → Lent → ℕ → ℕ → Withdrawn → Lent → Type 0
 MeetsWithdraw t l addr len r e = out (saysWithdraw (r .answer)) (r .table) e ≡ withdrawn t l addr len

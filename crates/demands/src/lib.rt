@@ -1,2 +1,3 @@
-// The three demands as theorems, and that no statement of a call leaves a second answer. This crate has proofs and no code: it gathers
-// what the crates below it show, in the words and the order of the demands.
+// The three demands as theorems, and that no statement of a call leaves a second answer. This crate has no code: its definitions state the
+// calls' contracts as predicates and list what each call can say, and its theorems gather what the crates below it show, in the order of
+// the demands.

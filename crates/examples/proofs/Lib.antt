@@ -1,4 +1,21 @@
--- The examples hold.
+-- The examples hold; tables and calls that meet what the theorems suppose; and what the claims refuse.
+pub mod Lines
 pub mod Paper
 pub mod Starred
+pub mod Blank
+pub mod Many
+pub mod EdgesSizes
+pub mod EdgesInputs
+pub mod EdgesLookups
+pub mod EdgesChanges
+pub mod EdgesImages
+pub mod Edges
 pub mod Witness
+pub mod Maps
+pub mod TableA
+pub mod NotSound
+pub mod NotAlters
+pub mod NotServed
+pub mod NotFresh
+pub mod NotByNeed
+pub mod NotHeld

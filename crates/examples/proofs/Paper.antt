@@ -1,10 +1,11 @@
 -- A table on paper: its geometry, its routes and its owners. After a run they follow from the calls alone, and all that is asked of a sound
--- table follows from them. So no cell array is ever computed. Assumes nothing.
+-- table follows from them. So no cell array is ever computed.
 use mathlib.Core.Path.{_≡_, refl, sym, _∙_, ap}
-use mathlib.Core.Bool.{true, cond}
+use mathlib.Core.Bool.{Bool, true, cond}
 use mathlib.Core.List.{List, [], _∷_}
 use Prim.Native.Nat.{ℕ, _*_, _^_, _<_}
 use lib.ListN.{getD, length}
+use Rattle.bits.specs.Slot.{cut}
 use Rattle.routes.specs.Route.{keyOf}
 use Rattle.standing.specs.Cells.{best, need}
 use Rattle.routes.specs.Said.{Said, accepted, refused, refusedAt, accepts}
@@ -21,12 +22,13 @@ use Rattle.sail.specs.declared.geometry.Geometry.{Geometry}
 use Rattle.sail.specs.declared.table.Table.{Table}
 use Rattle.sail.proofs.Sounds.{sail-serves}
 use Rattle.sail_theory.specs.Render.{shown}
-use Rattle.sail_theory.specs.Calls.{Owners, opened, settled, kept, ownersOf, noOwners, route, termsOf, announceSaid, withdrawSaid, loadSaid, inputRoutes, Out, leaving, announced, withdrawn, loaded, reported}
+use Rattle.sail_theory.specs.Calls.{Owners, opened, settled, kept, ownersOf, noOwners, termsOf, announceSaid, withdrawSaid, loadSaid, inputRoutes, Out, leaving, adding, taking, cutRoute, cleared, told, announced, withdrawn, loaded, reported}
 use Rattle.sail_theory.specs.Runs.{Call, announce, withdraw, load, done, after, would}
 use Rattle.sail_theory.proofs.Judged.{Report}
 use Rattle.sail_theory.proofs.Only.{report-only}
 use Rattle.sail_theory.proofs.Fresh.{make-is}
 use Rattle.sail_theory.proofs.Pools.{shows-shown}
+use Rattle.sail_theory.proofs.Cleared.{telling-accepts}
 use Rattle.sail_theory.proofs.Runs.{run-is}
 use Rattle.demands.proofs.Replies.{reply, stood, run-says, run-stood}
 
@@ -59,15 +61,15 @@ module _ (t : Table) (l : Lent) (s : Sound t l) where
   report-on = report-only t l _ (Report.counts s) ∙ ap (λ (n : ℕ). accepted (n ∷ need (standing t l) (t .geometry .p1) ∷ need (standing t l) (t .geometry .p2) ∷ [])) (sym (length-routes (l .list) (t .count)))
 
   pub first-on : (q : ℕ) → q < 2 ^ t .geometry .p1 → getD (l .first) q 0 ≡ firstOn q (paperOf t l)
-  first-on q h = shows-shown (standing t l) (level1 (t .geometry)) (chunksOf (l .own2)) (entry (l .first)) (s .serves .shows1) q h refl
+  first-on q h = shows-shown (standing t l) (level1 (t .geometry)) (chunksOf (l .own2)) (entry (l .first)) (s .serves .first) q h refl
 
   pub second-on : (q : ℕ) → q < length (l .own2) * 2 ^ bits2 (t .geometry) → liveIn (entry (l .own2)) (bits2 (t .geometry)) q ≡ true → getD (l .second) q 0 ≡ secondOn q (paperOf t l)
-  second-on q h e = shows-shown (standing t l) (level2 (t .geometry) (chunksOf (l .own2))) (chunksOf (l .own3)) (entry (l .second)) (s .serves .shows2) q h e
+  second-on q h e = shows-shown (standing t l) (level2 (t .geometry) (chunksOf (l .own2))) (chunksOf (l .own3)) (entry (l .second)) (s .serves .second) q h e
 
 -- the owners after an accepted call, where the routes rs stand with the owners o; `none` are the owners of a fresh table
 abbrev owned : Geometry → Owners → Call → List Route → Owners → Owners
-owned g none (announce a len hop) rs o = opened g o (route a len hop)
-owned g none (withdraw a len) rs o = kept g (remove (keyOf a len) rs) o
+owned g none (announce r) rs o = opened g o (cutRoute r)
+owned g none (withdraw a len) rs o = kept g (remove (keyOf (cut len a) len) rs) o
 owned g none (load input) rs o = settled g none (inputRoutes input)
 
 -- a call leaves these owners where it is accepted, and else those that were
@@ -76,10 +78,19 @@ leaves-owners (accepted vs) t l rs o = refl
 leaves-owners (refused n) t l rs o = refl
 leaves-owners (refusedAt n k) t l rs o = refl
 
+-- whether bits were cleared is told beside it
+told-owners : (b : Bool) (s : Said) (t : Table) (l : Lent) (rs : List Route) (o : Owners)
+    → ownersOf (leaving s t l rs o .lent) ≡ cond (accepts (told b (leaving s t l rs o) .said)) o (ownersOf l)
+told-owners b s t l rs o = leaves-owners s t l rs o ∙ ap (λ (c : Bool). cond c o (ownersOf l)) (sym (telling-accepts b (leaving s t l rs o .said)))
+
 done-owners : (t : Table) (l : Lent) (c : Call) → ownersOf (done t l c .lent) ≡ cond (accepts (done t l c .said)) (owned (t .geometry) (noOwners l) c (standing t l) (ownersOf l)) (ownersOf l)
-unfolding done announced withdrawn loaded
-done-owners t l (announce a len hop) = leaves-owners (announceSaid t l a len hop) t l (would (announce a len hop) (standing t l)) (owned (t .geometry) (noOwners l) (announce a len hop) (standing t l) (ownersOf l))
-done-owners t l (withdraw a len) = leaves-owners (withdrawSaid t l a len) t l (would (withdraw a len) (standing t l)) (owned (t .geometry) (noOwners l) (withdraw a len) (standing t l) (ownersOf l))
+unfolding done announced adding withdrawn taking loaded
+done-owners t l (announce r) =
+    told-owners (cleared (r .len) (r .addr)) (announceSaid t l (cutRoute r)) t l (would (announce r) (standing t l))
+    (owned (t .geometry) (noOwners l) (announce r) (standing t l) (ownersOf l))
+done-owners t l (withdraw a len) =
+    told-owners (cleared len a) (withdrawSaid t l (cut len a) len) t l (would (withdraw a len) (standing t l))
+    (owned (t .geometry) (noOwners l) (withdraw a len) (standing t l) (ownersOf l))
 done-owners t l (load input) = leaves-owners (loadSaid t l input) t l (would (load input) (standing t l)) (owned (t .geometry) (noOwners l) (load input) (standing t l) (ownersOf l))
 
 module _ (t : Table) (l : Lent) (z : Sized (t .geometry) l) where

@@ -1,8 +1,8 @@
--- The starred examples hold: the definitions give what document 01 says. What is asked of a run is worked out on paper, and the rest is
+-- The starred examples hold: the definitions give what the documents say. What is asked of a run is worked out on paper, and the rest is
 -- computed. Assumes nothing.
-use mathlib.Core.Path.{_≡_, refl, _∙_, ap, ap₂}
+use mathlib.Core.Path.{_≡_, refl, _∙_, ap}
 use mathlib.Core.Bool.{Bool, true, false, cond, _&&_}
-use mathlib.Core.List.{List, [], _∷_, map}
+use mathlib.Core.List.{List, [], _∷_}
 use Prim.Native.Nat.{ℕ, _^_}
 use native.Mathlib.Nat.{zero-mul}
 use native.Mathlib.Omega.{arith}
@@ -16,8 +16,9 @@ use Rattle.bits.specs.Count.{count}
 use Rattle.bits.proofs.Tests.{and-split}
 use Rattle.standing.specs.Cells.{any, best, need}
 use Rattle.standing.specs.Cells as cells
-use Rattle.routes.specs.Record.{recordAt, routesOf}
+use Rattle.routes.specs.Record.{recordAt, routesOf, noRoute, routesIn}
 use Rattle.routes.specs.Input.{properPrefix, hopFine, routeFault, inOrder, faultAt, inputSaid}
+use Rattle.routes.specs.Answers.{valuesOf}
 use Rattle.routes.specs.Said.{Said, accepted, refused}
 use Rattle.standing.specs.Standing.{insert, remove}
 use Rattle.routes.specs.declared.Route.{Route}
@@ -39,10 +40,13 @@ use Rattle.tree.specs.Image.{bitHop, setBit, word, kids, hopsOf, level, upTo, w
 use Rattle.tree.specs.Image as ofImage
 use Rattle.tree.specs.Reads.{treeReads}
 use Rattle.tree.specs.Walk.{told}
-use Rattle.tree_build.specs.Built.{routesIn, madeOf, built}
+use Rattle.tree_build.specs.Built.{madeOf, built}
 use Rattle.tree_build.proofs.Serves.{built-serves}
 use Rattle.demands.proofs.Replies.{reply, stood, run-says, run-stood}
-use Rattle.examples.specs.Starred.{table, arrays, bare, listA, image, Asked, last, lookup, report, first, second, owner2, owner3, make, input, build, lastNode, hops, tree, answer, Line, starred, Holds}
+use Rattle.routes.specs.ListA.{listA}
+use Rattle.examples.specs.Starred.{table, arrays, bare, image, Asked, last, lookup, report, listed, first, second, owner2, owner3, make, input, build, lastNode, hops, tree, answer, starred}
+use Rattle.examples.specs.Lines.{Hold}
+use Rattle.examples.proofs.Lines.{allServe, lines-hold}
 use Rattle.examples.proofs.Paper.{Paper, paperOf, lookupOn, reportOn, firstOn, secondOn, lookup-on, report-on, first-on, second-on, ownedBy, onPaper, run-paper}
 
 -- what is lent has the right sizes
@@ -71,6 +75,7 @@ paper (last []) = accepted []
 paper (last (c ∷ cs)) = reply terms (stood terms cs) c
 paper (lookup cs a) = lookupOn a (page cs)
 paper (report cs) = reportOn (page cs)
+paper (listed cs k) = accepted (valuesOf (getD (page cs .routes) k noRoute))
 paper (first cs q) = accepted (firstOn q (page cs) ∷ [])
 paper (second cs q) = accepted (secondOn q (page cs) ∷ [])
 paper (owner2 cs c) = accepted (getD (page cs .owners .own2) c 0 ∷ [])
@@ -87,6 +92,7 @@ unfoldable serves : Asked → Bool
 serves (last cs) = true
 serves (lookup cs a) = ltb a (2 ^ 32)
 serves (report cs) = true
+serves (listed cs k) = true
 serves (first cs q) = ltb q 65536
 serves (second cs q) = ltb q 256 && liveIn (entry (page cs .owners .own2)) 8 q
 serves (owner2 cs c) = true
@@ -116,6 +122,10 @@ module _ (cs : List Call) where
   report-agrees : answer (report cs) ≡ paper (report cs)
   unfolding answer paper
   report-agrees = report-on t l (run-sound table arrays sized cs) ∙ ap reportOn asPaper
+
+  listed-agrees : (k : ℕ) → answer (listed cs k) ≡ paper (listed cs k)
+  unfolding answer paper
+  listed-agrees k = ap (λ (p : Paper). accepted (valuesOf (getD (p .routes) k noRoute))) asPaper
 
   first-agrees : (q : ℕ) → ltb q 65536 ≡ true → answer (first cs q) ≡ paper (first cs q)
   unfolding answer paper table onPaper
@@ -168,6 +178,7 @@ unfolding answer paper serves
 agrees (last cs) e = last-agrees cs
 agrees (lookup cs a) e = lookup-agrees cs a e
 agrees (report cs) e = report-agrees cs
+agrees (listed cs k) e = listed-agrees cs k
 agrees (first cs q) e = first-agrees cs q e
 agrees (second cs q) e = second-agrees cs q e
 agrees (owner2 cs c) e = owner2-agrees cs c
@@ -179,23 +190,13 @@ agrees lastNode e = refl
 agrees hops e = refl
 agrees (tree a) e = tree-agrees a e
 
--- every line of a table
-abbrev allServe : List Line → Bool
-allServe [] = true
-allServe (x ∷ xs) = serves (x .asked) && allServe xs
-
-all-agree : (xs : List Line) → allServe xs ≡ true → map (λ (x : Line). answer (x .asked)) xs ≡ map (λ (x : Line). paper (x .asked)) xs
-all-agree [] e = refl
-all-agree (x ∷ xs) e = let s = and-split (serves (x .asked)) (allServe xs) e in ap₂ _∷_ (agrees (x .asked) (s .0)) (all-agree xs (s .1))
-
-serve-all : allServe starred ≡ true
-unfolding serves starred onPaper ownedBy stood reply inputSaid listA firstOf firstFrom faultAt routeFault inOrder properPrefix hopFine recordAt cut loadFault chunksFault arrays table routesOf tabulate need any settled openAt grant chunkFor
+serve-all : allServe answer paper serves agrees starred ≡ true
+unfolding allServe serves starred onPaper ownedBy stood reply inputSaid listA firstOf firstFrom faultAt routeFault inOrder properPrefix hopFine recordAt cut announceFault loadFault chunksFault arrays table routesOf tabulate need any insert settled openAt grant chunkFor
 serve-all = refl
 
-on-paper : map (λ (x : Line). paper (x .asked)) starred ≡ map (λ (x : Line). x .expected) starred
-unfolding starred paper onPaper ownedBy stood reply inputSaid listA firstOf firstFrom faultAt routeFault inOrder properPrefix hopFine recordAt cut announceFault withdrawFault loadFault chunksFault arrays table routesOf tabulate need any best cells.first insert remove settled openAt grant keep chunkFor shown hopSaid validGeo image built madeOf count packed picked gather bitHop setBit word kids hopsOf level upTo wordsFrom words ofImage.hops imageBy
+on-paper : Hold paper starred
+unfolding Hold starred paper onPaper ownedBy stood reply inputSaid listA firstOf firstFrom faultAt routeFault inOrder properPrefix hopFine recordAt cut announceFault withdrawFault loadFault chunksFault arrays table routesOf tabulate need any best cells.first insert remove settled openAt grant keep chunkFor shown hopSaid validGeo image built madeOf count packed picked gather bitHop setBit word kids hopsOf level upTo wordsFrom words ofImage.hops imageBy
 on-paper = refl
 
-pub starred-hold : Holds
-unfolding Holds
-starred-hold = all-agree starred serve-all ∙ on-paper
+pub starred-hold : Hold answer starred
+starred-hold = lines-hold answer paper serves agrees starred serve-all on-paper

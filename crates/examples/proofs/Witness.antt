@@ -6,7 +6,8 @@ use mathlib.Core.Bool.{true, false, cond}
 use mathlib.Core.List.{List, [], _∷_, map}
 use Prim.Native.Nat.{ℕ, _^_, _<_}
 use native.Mathlib.Omega.{arith}
-use lib.ListN.{getD, length, replicate, List·getD-map}
+use lib.ListN.{getD, length, drop, replicate, List·getD-map}
+use denote.Ref.{RefT}
 use Rattle.bits.specs.Slot.{slot, cut}
 use Rattle.bits.specs.Search.{firstFrom, firstOf}
 use Rattle.bits.specs.Tab.{tabulate}
@@ -14,7 +15,7 @@ use Rattle.bits.specs.Count.{count}
 use Rattle.routes.specs.Route.{Good}
 use Rattle.standing.specs.Cells.{any, best}
 use Rattle.standing.specs.Cells as cells
-use Rattle.routes.specs.Record.{recordAt, routesOf, written}
+use Rattle.routes.specs.Record.{recordAt, routesOf, written, routesIn}
 use Rattle.routes.specs.Input.{properPrefix, hopFine, routeFault, inOrder, faultAt, inputSaid}
 use Rattle.routes.specs.Said.{Said, accepted, refused, accepts}
 use Rattle.routes.specs.Answers.{saysInput, saysGot, routeSaid}
@@ -24,8 +25,8 @@ use Rattle.routes.specs.declared.input.Got.the-variants as got
 use Rattle.routes.specs.declared.Route.{Route}
 use Rattle.routes.proofs.Meaning.{prefix-true}
 use Rattle.lists.specs.Place.{placeOf}
-use Rattle.runs.specs.Run.{runSaid, saysRunCheck}
-use Rattle.runs.specs.Tally.{tallyOf}
+use Rattle.runs.specs.Run.{runSaid, saysRunCheck, runOf, runAt}
+use Rattle.runs.specs.Tally.{lengthsOf, tallyOf}
 use Rattle.runs.specs.declared.run.RunCheck.the-variants as runCheck
 use Rattle.sail.specs.Geometry.{standardGeo, validGeo}
 use Rattle.sail.specs.Lent.{Lent}
@@ -35,10 +36,10 @@ use Rattle.sail.specs.Walk.{lookupSaid, saysFound}
 use Rattle.sail.specs.declared.table.Table.{Table}
 use Rattle.sail.specs.declared.lookup.Found.the-variants as found
 use Rattle.sail.proofs.Fresh.{fresh-sound}
-use Rattle.sail_theory.specs.Calls.{termsOf, withdrawFault, Out, out, made, announced, withdrawn, loaded}
+use Rattle.sail_theory.specs.Calls.{route, termsOf, withdrawFault, Out, out, made, announced, withdrawn, loaded, reported}
 use Rattle.sail_theory.specs.Runs.{Call, announce, withdraw, load, done, after, worked, would, Formed}
 use Rattle.sail_theory.specs.Render.{roomOf}
-use Rattle.sail_theory.proofs.Accepted.{announce-said, announce-off}
+use Rattle.sail_theory.proofs.Cleared.{telling-once, announce-said, announce-off}
 use Rattle.sail_theory.proofs.Anew as anew
 use Rattle.sail_theory.proofs.Fresh.{make-said, make-is}
 use Rattle.sail_theory.proofs.Sizes.{size-refl}
@@ -59,21 +60,25 @@ use Rattle.tree.specs.Walk as walk
 use Rattle.tree.specs.Walk.{walkFrom, treeSaid, saysTreeFound}
 use Rattle.tree.specs.declared.TreeFound.the-variants as treeFound
 use Rattle.tree_build.specs.Built as building
-use Rattle.tree_build.specs.Built.{saysBuilt, routesIn, madeOf, built}
+use Rattle.tree_build.specs.Built.{saysBuilt, madeOf, built}
 use Rattle.tree_build.specs.declared.Built.the-variants as ofBuild
 use Rattle.tree_build.proofs.Serves.{built-serves}
-use Rattle.demands.specs.Meets.{MeetsCheckInput, MeetsRouteAt, MeetsRunCheck, MeetsTally, MeetsLookup, MeetsReport, MeetsMake, MeetsLoad, MeetsAnnounce, MeetsWithdraw, MeetsTreeLookup, MeetsBuild}
+use Rattle.demands.specs.Meets.{MeetsCheckInput, MeetsRouteAt, MeetsRun, MeetsRunCheck, MeetsTally, MeetsLookup, MeetsReport, MeetsMake, MeetsLoad, MeetsAnnounce, MeetsWithdraw, MeetsTreeLookup, MeetsBuild}
 use Rattle.demands.proofs.Replies.{reply, stood, run-says, run-stood}
 use Rattle.demands.proofs.Wants.{ByNeed, ForChunks}
 use Rattle.demands.proofs.Demand2 as demand2
 use Rattle.demands.proofs.Demand3 as demand3
-use Rattle.examples.specs.Starred.{ip, geo, table, arrays, bare, listA, image, loadedA, without0, entered, other, last, answer, Line, _gives_, starred, Holds}
+use Rattle.examples.specs.Lines.{ip, Line, _gives_, Hold}
+use Rattle.examples.specs.Blank.{geo}
+use Rattle.routes.specs.ListA.{listA}
+use Rattle.examples.specs.Starred.{table, arrays, bare, image, loadedA, without0, entered, other, loose, tight, away, Asked, last, answer, starred}
 use Rattle.examples.proofs.Starred.{sized, starred-hold}
+use Rattle.examples.proofs.TableA.{goodA}
 
 -- a line of the examples
-line : (k : ℕ) → answer (getD starred k (last [] gives accepted []) .asked) ≡ getD (map (λ (x : Line). x .expected) starred) k (answer (last []))
-unfolding Holds
-line k = sym (List·getD-map (λ (x : Line). answer (x .asked)) starred k (last [] gives accepted [])) ∙ ap (λ (ss : List Said). getD ss k (answer (last []))) starred-hold
+line : (k : ℕ) → answer (getD starred k (last [] gives accepted []) .asked) ≡ getD (map (λ (x : Line Asked). x .expected) starred) k (answer (last []))
+unfolding Hold
+line k = sym (List·getD-map (λ (x : Line Asked). answer (x .asked)) starred k (last [] gives accepted [])) ∙ ap (λ (ss : List Said). getD ss k (answer (last []))) starred-hold
 
 -- the table and the arrays after a run
 abbrev t : List Call → Table
@@ -92,6 +97,10 @@ pub refused-input : accepts (inputSaid (1 ∷ [])) ≡ false
 unfolding inputSaid
 refused-input = refl
 
+pub refused-route : (k : ℕ) → accepts (routeSaid (1 ∷ []) k) ≡ false
+unfolding routeSaid inputSaid
+refused-route k = refl
+
 pub refused-run : accepts (runSaid (1 ∷ []) 0 0) ≡ false
 unfolding runSaid inputSaid
 refused-run = refl
@@ -104,7 +113,7 @@ pub refused-load : accepts (loaded (t []) (l []) (1 ∷ []) .said) ≡ false
 unfolding after done reply inputSaid
 refused-load = ap accepts (first-says (load (1 ∷ [])))
 
-pub refused-announce : accepts (announced (t entered) (l entered) (ip 10 2 2 0) 24 45 .said) ≡ false
+pub refused-announce : accepts (announced (t entered) (l entered) (route (ip 10 2 2 0) 24 45 0) .said) ≡ false
 unfolding starred answer after done
 refused-announce = ap accepts (line 34)
 
@@ -115,6 +124,10 @@ refused-withdraw = ap accepts (first-says (withdraw 0 0))
 pub refused-build : accepts (built (1 ∷ []) [] [] .said) ≡ false
 unfolding built inputSaid
 refused-build = refl
+
+pub refused-report : reported (freshTable (geo 16 27)) (bare (geo 16 27)) ≡ refused 1
+unfolding reported sizesFault validGeo
+refused-report = refl
 
 -- and a lookup that is: its answer is the number
 pub refused-lookup : (a : ℕ) → lookupSaid (freshTable (geo 16 27)) (bare (geo 16 27)) a ≡ refused 1
@@ -133,11 +146,7 @@ fresh = fresh-sound standardGeo arrays sized
 pub soundA : Sound (t loadedA) (l loadedA)
 soundA = demand3.run-sound table arrays sized loadedA
 
--- list A is a good input, and its image is built
-pub goodA : inputSaid listA ≡ accepted (5 ∷ [])
-unfolding listA inputSaid firstOf firstFrom faultAt routeFault inOrder properPrefix hopFine recordAt cut
-goodA = refl
-
+-- list A is a good input (`goodA`), and its image is built
 pub builtA : built listA (replicate 21 0) (replicate 5 0) .said ≡ accepted (7 ∷ 5 ∷ [])
 unfolding starred answer image
 builtA = line 17
@@ -164,11 +173,11 @@ pub makes : accepts (made table arrays .said) ≡ true
 makes = ap (λ (o : Out). accepts (o .said)) (make-is table arrays sized)
 
 -- what stands after each run is a list as `run-only` speaks of,
-pub stands-in-order : (cs : List Call) → Good (demand3.now table arrays sized cs) × ((k : ℕ) → routeAt k (demand3.now table arrays sized cs) ≡ worked table arrays cs k)
+pub stands-in-order : (cs : List Call) → Good (demand3.standingAfter table arrays sized cs) × ((k : ℕ) → routeAt k (demand3.standingAfter table arrays sized cs) ≡ worked table arrays cs k)
 stands-in-order cs = (demand3.run-in-order table arrays sized cs, demand3.run-standing table arrays sized cs)
 
 -- after each run there is a fresh load to compare with, into the arrays themselves,
-pub freshly : (cs : List Call) → anew.AsFresh (t cs) (l cs) (loaded table arrays (written (demand3.now table arrays sized cs) (length (demand3.now table arrays sized cs))))
+pub freshly : (cs : List Call) → anew.AsFresh (t cs) (l cs) (loaded table arrays (written (demand3.standingAfter table arrays sized cs) (length (demand3.standingAfter table arrays sized cs))))
 freshly cs = demand3.run-as-fresh table arrays sized cs table arrays refl (size-refl arrays) _ (demand3.run-input table arrays sized cs)
 
 -- a change that is refused for want of chunks, and so is well-formed, and wants a chunk,
@@ -176,23 +185,24 @@ pub wantedA : ForChunks (after table arrays other .said)
 unfolding starred answer
 wantedA = rw (line 34) (omega arith, omega arith)
 
-pub formed-announce : Formed (announce (ip 10 2 2 0) 24 45) (demand3.now table arrays sized entered) (roomOf arrays)
-formed-announce = demand3.want-formed table arrays sized entered (announce (ip 10 2 2 0) 24 45) wantedA
+pub formed-announce : Formed (announce (route (ip 10 2 2 0) 24 45 0)) (demand3.standingAfter table arrays sized entered) (roomOf arrays)
+formed-announce = demand3.want-formed table arrays sized entered (announce (route (ip 10 2 2 0) 24 45 0)) wantedA
 
-pub needed : ByNeed (termsOf table arrays) (would (announce (ip 10 2 2 0) 24 45) (demand3.now table arrays sized entered)) (after table arrays other .said)
-needed = demand3.want-of-chunks table arrays sized entered (announce (ip 10 2 2 0) 24 45) formed-announce
+pub needed : ByNeed (termsOf table arrays) (would (announce (route (ip 10 2 2 0) 24 45 0)) (demand3.standingAfter table arrays sized entered)) (after table arrays other .said)
+needed = demand3.want-of-chunks table arrays sized entered (announce (route (ip 10 2 2 0) 24 45 0)) formed-announce
 
 -- a withdrawal and a load that are well-formed,
-pub formed-withdraw : Formed (withdraw 0 0) (demand3.now table arrays sized loadedA) (roomOf arrays)
+pub formed-withdraw : Formed (withdraw 0 0) (demand3.standingAfter table arrays sized loadedA) (roomOf arrays)
 unfolding listA properPrefix cut any routesOf tabulate recordAt
 formed-withdraw = (prefix-true 0 0 refl, rw (← same-routes))
 
-pub formed-load : Formed (load listA) (demand3.now table arrays sized []) (roomOf arrays)
+pub formed-load : Formed (load listA) (demand3.standingAfter table arrays sized []) (roomOf arrays)
 unfolding arrays
 formed-load = (5, goodA, omega arith)
 
 -- an address outside a prefix,
-pub elsewhere : slot 25 (ip 10 2 0 1) ≢ slot 25 (ip 10 1 2 128)
+pub elsewhere : slot 25 (ip 10 2 0 1) ≢ slot 25 (cut 25 (ip 10 1 2 128))
+unfolding cut
 elsewhere e = omega (arith, e)
 
 -- and a load that is accepted.
@@ -208,15 +218,46 @@ pub checked-A : MeetsCheckInput listA (ofInput.Good 5)
 unfolding saysInput
 checked-A = sym goodA
 
-pub route-A : MeetsRouteAt listA 4 (got.One (record { addr = ip 10 1 2 128; len = 25; spare = 0; hop = 57 }))
+pub route-A : MeetsRouteAt listA 4 (got.One (record { addr = ip 10 1 2 128; len = 25; mark = 0; hop = 57 }))
 unfolding saysGot routeSaid listA recordAt
 route-A = rw goodA
+
+pub route-attached : MeetsRouteAt (10 ∷ 1 ∷ 0 ∷ 0 ∷ 16 ∷ 1 ∷ 0 ∷ 31 ∷ []) 0 (got.One (route (ip 10 1 0 0) 16 31 1))
+unfolding starred answer saysGot routeSaid recordAt
+route-attached = rw (line 39)
+
+pub route-refused : (k : ℕ) → MeetsRouteAt (1 ∷ []) k (got.Refused 10 0)
+unfolding saysGot routeSaid inputSaid
+route-refused k = refl
+
+-- list A lies somewhere in memory; its run under 10.1.0.0/16 is its part from byte 16 on, there
+unfoldable pub inMemory : List ℕ → RefT (List ℕ)
+inMemory bytes = record { ptr = (3, 4096); name = 0; now = bytes }
+
+pub run-part : MeetsRun (inMemory listA) (ip 10 1 0 0) 16 (record { ptr = (3, 4112); name = 1; now = drop 16 listA })
+unfolding inMemory runOf runAt runSaid inputSaid listA recordAt placeOf firstOf firstFrom faultAt routeFault inOrder properPrefix hopFine cut
+run-part = record { holds = refl; stands = refl }
+
+pub run-refused : MeetsRun (inMemory (1 ∷ [])) (ip 10 1 0 0) 16 (record { ptr = (3, 4096); name = 1; now = [] })
+unfolding inMemory runOf runAt runSaid inputSaid
+run-refused = record { holds = refl; stands = refl }
 
 pub run-A : MeetsRunCheck listA (ip 10 1 0 0) 16 (runCheck.Run 2 3)
 unfolding saysRunCheck runSaid listA recordAt placeOf firstOf firstFrom properPrefix cut
 run-A = rw goodA
 
-pub tally-A : MeetsTally listA (record { answer = ofInput.Good 5; counts = tallyOf listA })
+-- one route of each of the lengths 0, 8, 16, 24 and 25
+abbrev countsA : List ℕ
+countsA =
+    1 ∷ 0 ∷ 0 ∷ 0 ∷ 0 ∷ 0 ∷ 0 ∷ 0
+    ∷ 1 ∷ 0 ∷ 0 ∷ 0 ∷ 0 ∷ 0 ∷ 0 ∷ 0
+    ∷ 1 ∷ 0 ∷ 0 ∷ 0 ∷ 0 ∷ 0 ∷ 0 ∷ 0
+    ∷ 1 ∷ 1 ∷ 0 ∷ 0 ∷ 0 ∷ 0 ∷ 0 ∷ 0
+    ∷ 0
+    ∷ []
+
+pub tally-A : MeetsTally listA (record { answer = ofInput.Good 5; counts = countsA })
+unfolding tallyOf lengthsOf listA inputSaid firstOf firstFrom faultAt routeFault inOrder properPrefix hopFine recordAt cut tabulate count
 tally-A = record { answered = checked-A; counted = refl }
 
 pub found-A : MeetsLookup (t loadedA) (l loadedA) (ip 10 1 2 200) (found.Hop 57 3)
@@ -226,6 +267,10 @@ found-A = sym (line 1)
 pub found-refused : (a : ℕ) → MeetsLookup (freshTable (geo 16 27)) (bare (geo 16 27)) a (found.Refused 1)
 unfolding saysFound
 found-refused a = sym (refused-lookup a)
+
+pub reported-refused : MeetsReport (freshTable (geo 16 27)) (bare (geo 16 27)) (ofReport.Refused 1)
+unfolding saysReported
+reported-refused = sym refused-report
 
 pub reported-A : MeetsReport (t loadedA) (l loadedA) (ofReport.Standing 5 1 1)
 unfolding starred answer saysReported
@@ -239,17 +284,28 @@ pub loaded-A : MeetsLoad (t []) (l []) listA (record { answer = ofLoad.Done; tab
 unfolding starred answer after done saysLoaded
 loaded-A = told (loaded (t []) (l []) listA) (accepted []) (line 0)
 
-pub announced-first : MeetsAnnounce (t []) (l []) (ip 10 1 2 0) 24 44 (record { answer = ofAnnounce.Added; table = t entered }) (l entered)
+pub announced-first : MeetsAnnounce (t []) (l []) (ip 10 1 2 0) 24 44 0 (record { answer = ofAnnounce.Added false; table = t entered }) (l entered)
 unfolding starred answer after done saysAnnounce
-announced-first = told (announced (t []) (l []) (ip 10 1 2 0) 24 44) (accepted (0 ∷ [])) (line 33)
+announced-first = told (announced (t []) (l []) (route (ip 10 1 2 0) 24 44 0)) (accepted (0 ∷ 0 ∷ [])) (line 33)
 
-pub announced-other : MeetsAnnounce (t entered) (l entered) (ip 10 2 2 0) 24 45 (record { answer = ofAnnounce.Refused 7; table = t entered }) (l entered)
+pub announced-other : MeetsAnnounce (t entered) (l entered) (ip 10 2 2 0) 24 45 0 (record { answer = ofAnnounce.Refused 7; table = t entered }) (l entered)
 unfolding starred answer after done saysAnnounce
-announced-other = sym (announce-off (t entered) (l entered) (ip 10 2 2 0) 24 45 (refused 7) (sym (announce-said (t entered) (l entered) (ip 10 2 2 0) 24 45) ∙ line 34) refl)
+announced-other =
+    let said = announce-said (t entered) (l entered) (route (ip 10 2 2 0) 24 45 0) in
+    sym (announce-off (t entered) (l entered) (route (ip 10 2 2 0) 24 45 0) (refused 7) (telling-once _ _ (refused 7) (sym said ∙ line 34)) refl)
 
-pub withdrawn-A : MeetsWithdraw (t loadedA) (l loadedA) 0 0 (record { answer = ofWithdraw.Removed; table = t without0 }) (l without0)
+-- bits that were cleared are told
+pub announced-loose : MeetsAnnounce (t []) (l []) (ip 10 1 2 3) 24 44 0 (record { answer = ofAnnounce.Added true; table = t loose }) (l loose)
+unfolding starred answer after done saysAnnounce
+announced-loose = told (announced (t []) (l []) (route (ip 10 1 2 3) 24 44 0)) (accepted (1 ∷ 0 ∷ [])) (line 48)
+
+pub withdrawn-loose : MeetsWithdraw (t tight) (l tight) (ip 10 1 2 9) 24 (record { answer = ofWithdraw.Removed true; table = t away }) (l away)
 unfolding starred answer after done saysWithdraw
-withdrawn-A = told (withdrawn (t loadedA) (l loadedA) 0 0) (accepted []) (line 9)
+withdrawn-loose = told (withdrawn (t tight) (l tight) (ip 10 1 2 9) 24) (accepted (1 ∷ [])) (line 52)
+
+pub withdrawn-A : MeetsWithdraw (t loadedA) (l loadedA) 0 0 (record { answer = ofWithdraw.Removed false; table = t without0 }) (l without0)
+unfolding starred answer after done saysWithdraw
+withdrawn-A = told (withdrawn (t loadedA) (l loadedA) 0 0) (accepted (0 ∷ [])) (line 9)
 
 pub tree-found-A : MeetsTreeLookup (image .words) (image .hops) (ip 10 1 2 200) (treeFound.Hop 57 8)
 unfolding starred answer saysTreeFound

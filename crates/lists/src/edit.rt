@@ -65,7 +65,7 @@ pub fn remove_at(list: &mut [u8], n: usize, k: usize)
         Route {
             addr: 0,
             len: 0,
-            spare: 0,
+            mark: 0,
             hop: 0,
         },
     );

@@ -11,10 +11,10 @@ use borrow.Author.Tests.{eq-eqb, ne-eqb}
 use Rattle.routes.specs.Said.{Said, accepted, refused, refusedAt, andThen, accepts}
 use Rattle.sail.specs.Word.{packed, value, packFound}
 use Rattle.packing.specs.Pack.{packReport, packChange, packBuilt, packRun, packNone, packRoute}
-use Rattle.packing.specs.Unpack.{field, refusalOf, unpacked, foundValues, unpackFound, reportValues, unpackReport, builtValues, unpackBuilt, runValues, unpackRun, routeValues, unpackRoute, announceValues, unpackAnnounce, noValues, unpackDone, unpackNone, countOf, Fits, FoundFits, ReportFits, BuiltFits, RunFits, RouteFits, AnnounceFits, DoneFits}
+use Rattle.packing.specs.Unpack.{field, refusalOf, unpacked, foundValues, unpackFound, reportValues, unpackReport, builtValues, unpackBuilt, runValues, unpackRun, routeValues, unpackRoute, announceValues, unpackAnnounce, withdrawValues, unpackWithdraw, noValues, unpackDone, unpackNone, countOf, Fits, FoundFits, ReportFits, BuiltFits, RunFits, RouteFits, AnnounceFits, WithdrawFits, DoneFits}
 
 -- A field is read whatever stands below it and above it. (Most of those below `omega` does by itself; the highest fields it does not.)
-field-is : (low width below v above x : ℕ) → below < 2 ^ low → v < 2 ^ width → x ≡ (above * 2 ^ width + v) * 2 ^ low + below → field low width x ≡ v
+pub field-is : (low width below v above x : ℕ) → below < 2 ^ low → v < 2 ^ width → x ≡ (above * 2 ^ width + v) * 2 ^ low + below → field low width x ≡ v
 field-is low width below v above x b c e =
     ap (field low width) e ∙ ap (λ (y : ℕ). y % 2 ^ width) (digits-div (above * 2 ^ width + v) b) ∙ digits-mod above c
 
@@ -37,14 +37,14 @@ module _ (layout : List ℕ → ℕ) (values : ℕ → List ℕ) where
       rw (f, g, h, ne-eqb n 0 (λ z. omega arith))
 
 -- x is read as accepted, with these values
-record Reads (values : ℕ → List ℕ) (x : ℕ) (vs : List ℕ) : Type 0 where
-  none : field 0 8 x ≡ 0
-  back : values x ≡ vs
+pub record Reads (values : ℕ → List ℕ) (x : ℕ) (vs : List ℕ) : Type 0 where
+  pub none : field 0 8 x ≡ 0
+  pub back : values x ≡ vs
 
 -- A layout whose values are read back packs every answer that fits so that it is read back
 module _ (most : ℕ) (few : most ≤ 2 ^ 32) (P : List ℕ → Type 0) (layout : List ℕ → ℕ) (values : ℕ → List ℕ)
     (reads : (vs : List ℕ) → P vs → Reads values (packed layout (accepted vs)) vs) where
-  said-read : (s : Said) → Fits most P s → unpacked values (packed layout s) ≡ s
+  pub said-read : (s : Said) → Fits most P s → unpacked values (packed layout s) ≡ s
   unfolding packed unpacked
   said-read _ (Fits.values vs p) = let r = reads vs p in rw (eq-eqb _ 0 (r .none)) (ap accepted (r .back))
   said-read _ (Fits.number n a b) = number-read layout values n _ a b refl
@@ -94,17 +94,28 @@ run-values j n x a b e =
     let g : field 32 16 x ≡ n = omega arith in
     record { none = omega arith; back = rw (f, g) }
 
-route-values : (a len hop x : ℕ) → a < 2 ^ 32 → len < 2 ^ 8 → 1 ≤ hop → hop < 2 ^ 16 → x ≡ packRoute (accepted (a ∷ len ∷ 0 ∷ hop ∷ [])) → Reads routeValues x (a ∷ len ∷ 0 ∷ hop ∷ [])
+route-values : (a len mark hop x : ℕ) → a < 2 ^ 32 → len < 2 ^ 7 → mark < 2 → 1 ≤ hop → hop < 2 ^ 16 → x ≡ packRoute (accepted (a ∷ len ∷ mark ∷ hop ∷ []))
+    → Reads routeValues x (a ∷ len ∷ mark ∷ hop ∷ [])
 unfolding packed routeValues
-route-values a len hop x i j k m e =
-    let f : field 32 32 x ≡ a = omega arith in
-    let g : field 8 8 x ≡ len = omega arith in
-    let h : field 16 16 x ≡ hop = omega arith in
-    record { none = omega arith; back = rw (f, g, h, ne-eqb hop 0 (λ z. omega arith)) }
+route-values a len mark hop x i j n k m e =
+    let u : len % 128 ≡ len = mod-eq-of-lt j in
+    let v : mark % 2 ≡ mark = mod-eq-of-lt n in
+    let f : field 32 32 x ≡ a = field-is 32 32 (len * 256 + mark * 32768 + hop * 65536) a 0 x (omega arith) i (omega arith) in
+    let g : field 8 7 x ≡ len = field-is 8 7 0 len (mark + hop * 2 + a * 131072) x (omega arith) j (omega arith) in
+    let p : field 15 1 x ≡ mark = field-is 15 1 (len * 256) mark (hop + a * 65536) x (omega arith) n (omega arith) in
+    let h : field 16 16 x ≡ hop = field-is 16 16 (len * 256 + mark * 32768) hop a x (omega arith) m (omega arith) in
+    record { none = omega arith; back = rw (f, g, p, h, ne-eqb hop 0 (λ z. omega arith)) }
 
-announce-values : (b n x : ℕ) → b < 2 → n < 2 ^ 16 → x ≡ packChange n (accepted (b ∷ [])) → Reads announceValues x (b ∷ [])
+announce-values : (c b n x : ℕ) → c < 2 → b < 2 → n < 2 ^ 16 → x ≡ packChange n (accepted (c ∷ b ∷ [])) → Reads announceValues x (c ∷ b ∷ [])
 unfolding packed announceValues
-announce-values b n x i j e = let f : field 8 1 x ≡ b = omega arith in record { none = omega arith; back = rw f }
+announce-values c b n x h i j e =
+    let f : field 9 1 x ≡ c = omega arith in
+    let g : field 8 1 x ≡ b = omega arith in
+    record { none = omega arith; back = rw (f, g) }
+
+withdraw-values : (c n x : ℕ) → c < 2 → n < 2 ^ 16 → x ≡ packChange n (accepted (c ∷ [])) → Reads withdrawValues x (c ∷ [])
+unfolding packed withdrawValues
+withdraw-values c n x i j e = let f : field 9 1 x ≡ c = omega arith in record { none = omega arith; back = rw f }
 
 -- The theorem, for each layout.
 module _ (most : ℕ) (few : most ≤ 2 ^ 32) where
@@ -142,7 +153,7 @@ module _ (most : ℕ) (few : most ≤ 2 ^ 32) where
   route-read = said-read most few RouteFits _ routeValues go
     where
       go : (vs : List ℕ) → RouteFits vs → Reads routeValues (packRoute (accepted vs)) vs
-      go _ (RouteFits.one a len spare hop i j e k m) = rw e (route-values a len hop _ i j k m refl)
+      go _ (RouteFits.one a len mark hop i j n k m) = route-values a len mark hop _ i j n k m refl
       go _ RouteFits.nothing = record { none = refl; back = refl }
 
   pub announce-read : (count : ℕ) (s : Said) → Fits most (AnnounceFits count) s → unpackAnnounce (packChange count s) ≡ s
@@ -150,7 +161,14 @@ module _ (most : ℕ) (few : most ≤ 2 ^ 32) where
   announce-read count = said-read most few (AnnounceFits count) _ announceValues go
     where
       go : (vs : List ℕ) → AnnounceFits count vs → Reads announceValues (packChange count (accepted vs)) vs
-      go _ (AnnounceFits.which b i j) = announce-values b count _ i j refl
+      go _ (AnnounceFits.which c b h i j) = announce-values c b count _ h i j refl
+
+  pub withdraw-read : (count : ℕ) (s : Said) → Fits most (WithdrawFits count) s → unpackWithdraw (packChange count s) ≡ s
+  unfolding packed
+  withdraw-read count = said-read most few (WithdrawFits count) _ withdrawValues go
+    where
+      go : (vs : List ℕ) → WithdrawFits count vs → Reads withdrawValues (packChange count (accepted vs)) vs
+      go _ (WithdrawFits.gone c i j) = withdraw-values c count _ i j refl
 
   pub done-read : (count : ℕ) (s : Said) → Fits most (DoneFits count) s → unpackDone (packChange count s) ≡ s
   unfolding packed noValues
@@ -167,23 +185,35 @@ module _ (most : ℕ) (few : most ≤ 2 ^ 32) where
   none-read P _ (Fits.index n k a b c) = index-read (λ vs. 0) noValues n k _ a b (omega arith) refl
 
 -- the route count after a change that was accepted
-change-count : (most count : ℕ) (P : List ℕ → Type 0) → ((vs : List ℕ) → P vs → (value 0 vs < 2) × (count < 2 ^ 16)) → (s : Said) → Fits most P s → accepts s ≡ true → countOf (packChange count s) ≡ count
+record Changed (count : ℕ) (vs : List ℕ) : Type 0 where
+  cleared : value 0 vs < 2
+  replaced : value 1 vs < 2
+  few : count < 2 ^ 16
+
+change-count : (most count : ℕ) (P : List ℕ → Type 0) → ((vs : List ℕ) → P vs → Changed count vs)
+    → (s : Said) → Fits most P s → accepts s ≡ true → countOf (packChange count s) ≡ count
 unfolding packed
-change-count most count P small _ (Fits.values vs p) e = let h = small vs p in omega (arith, h .0, h .1)
+change-count most count P small _ (Fits.values vs p) e = let h = small vs p in omega (arith, h .cleared, h .replaced, h .few)
 change-count most count P small _ (Fits.number n a b) e = absurd (false≢true e)
 change-count most count P small _ (Fits.index n k a b c) e = absurd (false≢true e)
 
 pub announce-count : (most count : ℕ) (s : Said) → Fits most (AnnounceFits count) s → accepts s ≡ true → countOf (packChange count s) ≡ count
 announce-count most count = change-count most count (AnnounceFits count) go
   where
-    go : (vs : List ℕ) → AnnounceFits count vs → (value 0 vs < 2) × (count < 2 ^ 16)
-    go _ (AnnounceFits.which b i j) = (i, j)
+    go : (vs : List ℕ) → AnnounceFits count vs → Changed count vs
+    go _ (AnnounceFits.which c b h i j) = record { cleared = h; replaced = i; few = j }
+
+pub withdraw-count : (most count : ℕ) (s : Said) → Fits most (WithdrawFits count) s → accepts s ≡ true → countOf (packChange count s) ≡ count
+withdraw-count most count = change-count most count (WithdrawFits count) go
+  where
+    go : (vs : List ℕ) → WithdrawFits count vs → Changed count vs
+    go _ (WithdrawFits.gone c i j) = record { cleared = i; replaced = omega arith; few = j }
 
 pub done-count : (most count : ℕ) (s : Said) → Fits most (DoneFits count) s → accepts s ≡ true → countOf (packChange count s) ≡ count
 done-count most count = change-count most count (DoneFits count) go
   where
-    go : (vs : List ℕ) → DoneFits count vs → (value 0 vs < 2) × (count < 2 ^ 16)
-    go _ (DoneFits.done j) = (omega arith, j)
+    go : (vs : List ℕ) → DoneFits count vs → Changed count vs
+    go _ (DoneFits.done j) = record { cleared = omega arith; replaced = omega arith; few = j }
 
 -- what carries no index is packed into 32 bits
 pub found-low : (s : Said) → Fits 0 FoundFits s → packFound s < 2 ^ 32

@@ -49,21 +49,28 @@ runValues x = field 16 16 x ∷ field 32 16 x ∷ []
 abbrev pub unpackRun : ℕ → Said
 unpackRun = unpacked runValues
 
--- route: address, length, a spare byte of 0, hop; hop 0 is no record of that index
+-- route: address, length, mark, hop; hop 0 is no record of that index
 unfoldable pub routeValues : ℕ → List ℕ
-routeValues x = cond (eqb (field 16 16 x) 0) [] (field 32 32 x ∷ field 8 8 x ∷ 0 ∷ field 16 16 x ∷ [])
+routeValues x = cond (eqb (field 16 16 x) 0) [] (field 32 32 x ∷ field 8 7 x ∷ field 15 1 x ∷ field 16 16 x ∷ [])
 
 abbrev pub unpackRoute : ℕ → Said
 unpackRoute = unpacked routeValues
 
--- announce: 1 where the hop was replaced, 0 where the route was added
+-- announce: 1 where bits were cleared; then 1 where a route was replaced, 0 where it was added
 unfoldable pub announceValues : ℕ → List ℕ
-announceValues x = field 8 1 x ∷ []
+announceValues x = field 9 1 x ∷ field 8 1 x ∷ []
 
 abbrev pub unpackAnnounce : ℕ → Said
 unpackAnnounce = unpacked announceValues
 
--- no values: make, load and withdraw, which say none
+-- withdraw: 1 where bits were cleared
+unfoldable pub withdrawValues : ℕ → List ℕ
+withdrawValues x = field 9 1 x ∷ []
+
+abbrev pub unpackWithdraw : ℕ → Said
+unpackWithdraw = unpacked withdrawValues
+
+-- no values: make and load, which say none
 unfoldable pub noValues : ℕ → List ℕ
 noValues x = []
 
@@ -100,12 +107,15 @@ pub data RunFits : List ℕ → Type 0 where
   run : (start count : ℕ) → start < 2 ^ 16 → count < 2 ^ 16 → RunFits (start ∷ count ∷ [])
 
 pub data RouteFits : List ℕ → Type 0 where
-  one : (a len spare h : ℕ) → a < 2 ^ 32 → len < 2 ^ 8 → spare ≡ 0 → 1 ≤ h → h < 2 ^ 16 → RouteFits (a ∷ len ∷ spare ∷ h ∷ [])
+  one : (a len mark h : ℕ) → a < 2 ^ 32 → len < 2 ^ 7 → mark < 2 → 1 ≤ h → h < 2 ^ 16 → RouteFits (a ∷ len ∷ mark ∷ h ∷ [])
   nothing : RouteFits []
 
 -- with the route count that the same answer carries
 pub data AnnounceFits (count : ℕ) : List ℕ → Type 0 where
-  which : (b : ℕ) → b < 2 → count < 2 ^ 16 → AnnounceFits count (b ∷ [])
+  which : (c b : ℕ) → c < 2 → b < 2 → count < 2 ^ 16 → AnnounceFits count (c ∷ b ∷ [])
+
+pub data WithdrawFits (count : ℕ) : List ℕ → Type 0 where
+  gone : (c : ℕ) → c < 2 → count < 2 ^ 16 → WithdrawFits count (c ∷ [])
 
 pub data DoneFits (count : ℕ) : List ℕ → Type 0 where
   done : count < 2 ^ 16 → DoneFits count []

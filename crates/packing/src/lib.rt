@@ -1,6 +1,7 @@
 // Answers as one number of 64 bits. Which value stands in which bits is said with each function's definition.
 ghost use mathlib.Core.Path.{_≡_};
-ghost use Prim.Native.Nat.{_+_, _*_, _%_, _^_, _<_};
+ghost use Prim.Native.Nat.{_+_, _*_, _%_, _^_, _≤_, _<_};
+ghost use Rattle.bits.specs.Count.{bit};
 ghost use Rattle.sail_make.specs.Answers.{saysMade};
 ghost use Rattle.sail_load.specs.Answers.{saysLoaded};
 ghost use Rattle.sail_announce.specs.Answers.{saysAnnounce};
@@ -12,6 +13,9 @@ ghost use Rattle.tree.specs.Walk.{saysTreeFound};
 ghost use Rattle.tree_build.specs.Built.{saysBuilt};
 ghost use Rattle.sail.specs.Word.{packFound};
 ghost use Rattle.packing.specs.Pack.{packReport, packChange, packBuilt, packRun, packNone, packRoute};
+
+pub mod maps;
+
 use routes::input::Got;
 use routes::input::Input;
 use runs::run::RunCheck;
@@ -55,11 +59,20 @@ fn refused_at(n: u8, k: usize) -> u64
     byte(n) + 256 + (k as u64) % 4294967296 * 4294967296
 }
 
-// A change that was accepted, by the route count after it.
-fn counted(count: u32) -> u64
-    ensures { λ r. ⌜ r ≡ 0 * 256 + count * 65536 ⌝ }
+fn flag(b: bool) -> u64
+    ensures { λ r. ⌜ (r ≡ bit b) × (r ≤ 1) ⌝ }
 {
-    word(count) * 65536
+    if b {
+        return 1;
+    }
+    0
+}
+
+// A change that was accepted: whether bits were cleared, whether a route was replaced, and the route count after it.
+fn changed(cleared: bool, replaced: bool, count: u32) -> u64
+    ensures { λ r. ⌜ r ≡ bit cleared * 512 + bit replaced * 256 + count * 65536 ⌝ }
+{
+    flag(cleared) * 512 + flag(replaced) * 256 + word(count) * 65536
 }
 
 pub fn reported(a: Reported) -> u64
@@ -83,7 +96,7 @@ pub fn made(a: Made, count: u32) -> u64
     ensures { λ r. ⌜ r ≡ packChange count (saysMade a) ⌝ }
 {
     match a {
-        Made::Done => counted(count),
+        Made::Done => changed(false, false, count),
         Made::Refused(z) => byte(z),
     }
 }
@@ -92,7 +105,7 @@ pub fn loaded(a: Loaded, count: u32) -> u64
     ensures { λ r. ⌜ r ≡ packChange count (saysLoaded a) ⌝ }
 {
     match a {
-        Loaded::Done => counted(count),
+        Loaded::Done => changed(false, false, count),
         Loaded::Refused(z) => byte(z),
         Loaded::RefusedAt(z, k) => refused_at(z, k),
     }
@@ -102,8 +115,8 @@ pub fn announced(a: Announce, count: u32) -> u64
     ensures { λ r. ⌜ r ≡ packChange count (saysAnnounce a) ⌝ }
 {
     match a {
-        Announce::Added => counted(count),
-        Announce::Replaced => 256 + word(count) * 65536,
+        Announce::Added(c) => changed(c, false, count),
+        Announce::Replaced(c) => changed(c, true, count),
         Announce::Refused(z) => byte(z),
     }
 }
@@ -112,7 +125,7 @@ pub fn withdrawn(a: Withdraw, count: u32) -> u64
     ensures { λ r. ⌜ r ≡ packChange count (saysWithdraw a) ⌝ }
 {
     match a {
-        Withdraw::Removed => counted(count),
+        Withdraw::Removed(c) => changed(c, false, count),
         Withdraw::Refused(z) => byte(z),
     }
 }
@@ -164,7 +177,12 @@ pub fn got(a: Got) -> u64
     ensures { λ r. ⌜ r ≡ packRoute (saysGot a) ⌝ }
 {
     match a {
-        Got::One(r) => byte(r.len) * 256 + half(r.hop) * 65536 + word(r.addr) * 4294967296,
+        Got::One(r) => {
+            byte(r.len) % 128 * 256
+                + byte(r.mark) % 2 * 32768
+                + half(r.hop) * 65536
+                + word(r.addr) * 4294967296
+        }
         Got::Nothing => 0,
         Got::Refused(z, k) => refused_at(z, k),
         Got::TooMany => 6,

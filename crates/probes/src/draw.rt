@@ -1,4 +1,4 @@
-// What a long run draws: numbers of a linear congruential generator, and prefixes, hops and addresses made of them.
+// What a long run draws: numbers of a linear congruential generator, and prefixes, hops, marks and addresses made of them.
 ghost use Prim.Native.Nat.{_<_};
 
 // The number after x. All are below 2^32.
@@ -47,17 +47,24 @@ pub struct Prefix {
     pub len: u8,
 }
 
-// A prefix of one of the addresses. One length in 34 is 33, with the address as it is.
+// A length and one of the addresses, with the bits after the length as they are. One length in 34 is 33.
 pub fn any_prefix(x: u64) -> Prefix {
-    let l = pick(x, 34) as u32;
-    let a = base(pick(next(x), 8));
-    if 32 < l {
-        return Prefix { addr: a, len: 33 };
-    }
     Prefix {
-        addr: bits::cut(l, a),
-        len: l as u8,
+        addr: base(pick(next(x), 8)),
+        len: pick(x, 34) as u8,
     }
+}
+
+// A mark: as often 0 as not, and one in eight is 2, which is none.
+pub fn mark(x: u64) -> u8 {
+    let k = pick(x, 8);
+    if k < 4 {
+        return 0;
+    }
+    if k < 7 {
+        return 1;
+    }
+    2
 }
 
 // A hop: 0, 800, 1,600 and so on up to 32,800. The first and the last are none.

@@ -49,7 +49,7 @@ fn longest(list: &[u8], n: usize, addr: u32) -> Route
     let mut best = Route {
         addr: 0,
         len: 0,
-        spare: 0,
+        mark: 0,
         hop: 0,
     };
     let mut k = 0;

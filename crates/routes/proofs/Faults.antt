@@ -39,13 +39,13 @@ module _ (r : Route) (b : Bool) (e : b ≡ properPrefix (r .addr) (r .len)) wher
     unfolding routeFault
     bad-hop u = simp (← e, t, ← q, u)
 
-    pub no-fault : not h ≡ false → r .spare ≡ 0 → 0 ≡ routeFault r
+    pub bad-mark : not h ≡ false → 1 < r .mark → 10 ≡ routeFault r
     unfolding routeFault
-    no-fault u z = simp (← e, t, ← q, u, eq-eqb (r .spare) 0 z)
+    bad-mark u z = simp (← e, t, ← q, u, lt-ltb 1 (r .mark) z)
 
-    pub bad-spare : not h ≡ false → (r .spare ≡ 0 → ⊥) → 10 ≡ routeFault r
+    pub no-fault : not h ≡ false → r .mark ≤ 1 → 0 ≡ routeFault r
     unfolding routeFault
-    bad-spare u z = simp (← e, t, ← q, u, ne-eqb (r .spare) 0 z)
+    no-fault u z = simp (← e, t, ← q, u, le-ltb 1 (r .mark) z)
 
 module _ (s : List ℕ) (k : ℕ) (r : Route) (e : r ≡ recordAt s k) (f : ℕ) (q : f ≡ routeFault r) where
   is-fault : f ≡ routeFault (recordAt s k)

@@ -2,6 +2,7 @@
 pub mod Goods
 pub mod Faults
 pub mod Meaning
+pub mod Cases
 pub mod Inputs
 pub mod Puts
 pub mod Rows

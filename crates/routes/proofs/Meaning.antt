@@ -12,7 +12,7 @@ use borrow.Author.Tests.{eqb-true, eqb-false, ltb-true, ltb-false, leb-true, leb
 use Rattle.bits.specs.Slot.{cut}
 use Rattle.bits.specs.Search.{firstOf}
 use Rattle.bits.proofs.Searches.{firstOf-le, firstOf-before, firstOf-at, firstOf-is}
-use Rattle.bits.proofs.Tests.{decided, both, and-split}
+use Rattle.bits.proofs.Tests.{decided, below?, both, and-split, untrue}
 use Rattle.routes.specs.Route.{key, Prefix, Fine}
 use Rattle.routes.specs.Record.{recordAt, Records}
 use Rattle.routes.specs.Said.{Said, accepted, refused, refusedAt}
@@ -46,7 +46,7 @@ false-prefix a l e p = true≢false (sym (true-prefix a l p) ∙ e)
 pub data WrongRoute (r : Route) : ℕ → Type 0 where
   prefix : (Prefix (r .addr) (r .len) → ⊥) → WrongRoute r 3
   hop : Prefix (r .addr) (r .len) → (1 ≤ r .hop → r .hop ≤ 32767 → ⊥) → WrongRoute r 4
-  spare : Prefix (r .addr) (r .len) → 1 ≤ r .hop → r .hop ≤ 32767 → r .spare ≢ 0 → WrongRoute r 10
+  mark : Prefix (r .addr) (r .len) → 1 ≤ r .hop → r .hop ≤ 32767 → 1 < r .mark → WrongRoute r 10
 
 -- a route has no fault and is fine, or has the first fault in order
 pub data RouteChecked (r : Route) (f : ℕ) : Type 0 where
@@ -55,22 +55,34 @@ pub data RouteChecked (r : Route) (f : ℕ) : Type 0 where
 
 pub route-checked : (r : Route) → RouteChecked r (routeFault r)
 unfolding routeFault
-route-checked r = go (decided (properPrefix (r .addr) (r .len))) (decided (hopFine (r .hop))) (decided (eqb (r .spare) 0))
+route-checked r = go (decided (properPrefix (r .addr) (r .len))) (decided (hopFine (r .hop))) (below? 1 (r .mark))
   where
-    go : (properPrefix (r .addr) (r .len) ≡ true) ⊎ (properPrefix (r .addr) (r .len) ≡ false) → (hopFine (r .hop) ≡ true) ⊎ (hopFine (r .hop) ≡ false) → (eqb (r .spare) 0 ≡ true) ⊎ (eqb (r .spare) 0 ≡ false)
-        → RouteChecked r (cond (not (properPrefix (r .addr) (r .len))) 3 (cond (not (hopFine (r .hop))) 4 (cond (eqb (r .spare) 0) 0 10)))
+    go : (properPrefix (r .addr) (r .len) ≡ true) ⊎ (properPrefix (r .addr) (r .len) ≡ false) → (hopFine (r .hop) ≡ true) ⊎ (hopFine (r .hop) ≡ false) → (1 < r .mark) ⊎ (r .mark ≤ 1)
+        → RouteChecked r (cond (not (properPrefix (r .addr) (r .len))) 3 (cond (not (hopFine (r .hop))) 4 (cond (ltb 1 (r .mark)) 10 0)))
     go (inr p) h s = rw p (wrong (omega arith) (prefix (false-prefix (r .addr) (r .len) p)))
     go (inl p) (inr h) s = rw (p, h) (wrong (omega arith) (hop (prefix-true (r .addr) (r .len) p) (λ l u. true≢false (sym (true-hop (r .hop) l u) ∙ h))))
-    go (inl p) (inl h) (inr s) =
-        let b = hop-true (r .hop) h in
-        rw (p, h, s) (wrong (omega arith) (spare (prefix-true (r .addr) (r .len) p) (b .0) (b .1) (eqb-false (r .spare) 0 s)))
     go (inl p) (inl h) (inl s) =
         let b = hop-true (r .hop) h in
-        rw (p, h, s) (fine refl (record { prefix = prefix-true (r .addr) (r .len) p; hop-one = b .0; hop-ok = b .1; spare-ok = eqb-true (r .spare) 0 s }))
+        rw (p, h, lt-ltb 1 (r .mark) s) (wrong (omega arith) (mark (prefix-true (r .addr) (r .len) p) (b .0) (b .1) s))
+    go (inl p) (inl h) (inr s) =
+        let b = hop-true (r .hop) h in
+        rw (p, h, le-ltb 1 (r .mark) s) (fine refl (record { prefix = prefix-true (r .addr) (r .len) p; hop-one = b .0; hop-ok = b .1; mark-ok = s }))
 
 pub fine-fault : (r : Route) → Fine r → routeFault r ≡ 0
 unfolding routeFault
-fine-fault r f = rw (true-prefix (r .addr) (r .len) (f .prefix), true-hop (r .hop) (f .hop-one) (f .hop-ok), eq-eqb (r .spare) 0 (f .spare-ok))
+fine-fault r f = rw (true-prefix (r .addr) (r .len) (f .prefix), true-hop (r .hop) (f .hop-one) (f .hop-ok), le-ltb 1 (r .mark) (f .mark-ok))
+
+-- what is wrong with a route is one thing, and that is its fault
+pub wrong-fine : {r : Route} {f : ℕ} → WrongRoute r f → Fine r → ⊥
+wrong-fine (prefix h) g = h (g .prefix)
+wrong-fine (hop p h) g = h (g .hop-one) (g .hop-ok)
+wrong-fine (mark p a b h) g = omega (arith, g .mark-ok)
+
+pub wrong-fault : (r : Route) (f : ℕ) → WrongRoute r f → routeFault r ≡ f
+unfolding routeFault
+wrong-fault r f (prefix h) = rw (untrue (properPrefix (r .addr) (r .len)) (λ e. h (prefix-true (r .addr) (r .len) e)))
+wrong-fault r f (hop p h) = rw (true-prefix (r .addr) (r .len) p, untrue (hopFine (r .hop)) (λ e. let b = hop-true (r .hop) e in h (b .0) (b .1)))
+wrong-fault r f (mark p a b h) = rw (true-prefix (r .addr) (r .len) p, true-hop (r .hop) a b, lt-ltb 1 (r .mark) h)
 
 -- what is wrong with record k: by itself, or with its order
 pub data WrongRecord (s : List ℕ) (k : ℕ) : ℕ → Type 0 where

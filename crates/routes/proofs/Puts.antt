@@ -26,9 +26,9 @@ word-halves s i a b x y p q u v = let e = rw (add-assoc i 2 1) at q in omega ari
 -- a record and its key by their parts
 module _ (s : List ℕ) (k a : ℕ) (address : a ≡ word32 s (k * 8)) where
   pub record-parts : (h : ℕ) → h ≡ word16 s (k * 8 + 6)
-      → _≡_ {A = Route} (record { addr = a; len = getD s (k * 8 + 4) 0; spare = getD s (k * 8 + 5) 0; hop = h }) (recordAt s k)
+      → _≡_ {A = Route} (record { addr = a; len = getD s (k * 8 + 4) 0; mark = getD s (k * 8 + 5) 0; hop = h }) (recordAt s k)
   unfolding recordAt
-  record-parts h e = λ i. record { addr = address i; len = getD s (k * 8 + 4) 0; spare = getD s (k * 8 + 5) 0; hop = e i }
+  record-parts h e = λ i. record { addr = address i; len = getD s (k * 8 + 4) 0; mark = getD s (k * 8 + 5) 0; hop = e i }
 
   pub key-parts : (n : ℕ) → n ≡ a * 256 + getD s (k * 8 + 4) 0 → n ≡ key (recordAt s k)
   unfolding recordAt
@@ -38,7 +38,7 @@ module _ (s : List ℕ) (k a : ℕ) (address : a ≡ word32 s (k * 8)) where
 pub put-halves : (s x y z : List ℕ) (k : ℕ) (r : Route) → (k + 1) * 8 ≤ length s
     → x ≡ set (set s (k * 8) (r .addr / 65536 / 256)) (k * 8 + 1) (r .addr / 65536 % 256)
     → y ≡ set (set x (k * 8 + 2) (r .addr % 65536 / 256)) (k * 8 + 2 + 1) (r .addr % 65536 % 256)
-    → z ≡ set (set (set (set y (k * 8 + 4) (r .len)) (k * 8 + 5) (r .spare)) (k * 8 + 6) (r .hop / 256)) (k * 8 + 6 + 1) (r .hop % 256)
+    → z ≡ set (set (set (set y (k * 8 + 4) (r .len)) (k * 8 + 5) (r .mark)) (k * 8 + 6) (r .hop / 256)) (k * 8 + 6 + 1) (r .hop % 256)
     → z ≡ putAt s k r
 unfolding bytesOf putAt
 put-halves s x y z k r room ex ey ez =
@@ -57,7 +57,7 @@ bytes-read s k r ok at =
     let hh = ok .hop-fits in
     let e₁ : word32 s (k * 8) ≡ r .addr = omega (arith, at 1 (lit< tt), at 2 (lit< tt), at 3 (lit< tt)) in
     let e₂ : word16 s (k * 8 + 6) ≡ r .hop = rw (add-assoc (k * 8) 6 1) (omega (arith, at 6 (lit< tt), at 7 (lit< tt))) in
-    λ i. record { addr = e₁ i; len = at 4 (lit< tt) i; spare = at 5 (lit< tt) i; hop = e₂ i }
+    λ i. record { addr = e₁ i; len = at 4 (lit< tt) i; mark = at 5 (lit< tt) i; hop = e₂ i }
 
 part-at : (p v w : List ℕ) (n j : ℕ) → length p ≡ n → j < length v → getD (p ++ v ++ w) (n + j) 0 ≡ getD v j 0
 part-at p v w n j e l =

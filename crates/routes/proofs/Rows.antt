@@ -68,6 +68,16 @@ module _ (s : List ℕ) (n : ℕ) where
   unfolding routesOf
   nth-route k l = getD-tabulate n (recordAt s) k noRoute l
 
+  -- each record is one of the routes, and each of the routes is that of a record
+  pub record-listed : (k : ℕ) → k < n → List·Memᴰ (recordAt s k) (routesOf s n)
+  record-listed k l = subst (λ (r : Route). List·Memᴰ r (routesOf s n)) (nth-route k l) (nth-listed (routesOf s n) k (rw length-routes l))
+
+  pub listed-record : (r : Route) → List·Memᴰ r (routesOf s n) → (k : ℕ) × (k < n) × (recordAt s k ≡ r)
+  listed-record r m =
+      let p = listed-nth (routesOf s n) r m in
+      let l : p .place < n = rw length-routes at (p .inside) in
+      (p .place, l, sym (nth-route (p .place) l) ∙ p .holds)
+
   pub records-good : Records s n → Good (routesOf s n)
   records-good r =
       nth-good (routesOf s n)
@@ -78,7 +88,7 @@ pub fine-ranged : (r : Route) → Fine r → Ranged r
 fine-ranged r f = record {
   addr-fits = f .prefix .addr-ok;
   len-fits = omega (arith, f .prefix .len-ok);
-  spare-fits = omega (arith, f .spare-ok);
+  mark-fits = omega (arith, f .mark-ok);
   hop-fits = omega (arith, f .hop-ok);
 }
 

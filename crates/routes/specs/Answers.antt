@@ -19,9 +19,9 @@ saysInput (input.Good n) = accepted (n ∷ [])
 saysInput (input.Refused f k) = refusedAt f k
 saysInput input.TooMany = refused 6
 
--- a route's values: address, length, spare byte, hop
+-- a route's values: address, length, mark, hop
 abbrev pub valuesOf : Route → List ℕ
-valuesOf r = r .addr ∷ r .len ∷ r .spare ∷ r .hop ∷ []
+valuesOf r = r .addr ∷ r .len ∷ r .mark ∷ r .hop ∷ []
 
 -- no values where there is no such record
 unfoldable pub saysGot : Got → Said

@@ -19,12 +19,12 @@ properPrefix a l = leb l 32 && (ltb a (2 ^ 32) && eqb (cut l a) a)
 unfoldable pub hopFine : ℕ → Bool
 hopFine h = leb 1 h && leb h 32767
 
--- the number of what is wrong with a route by itself, in order: prefix (3), hop (4), spare byte (10); 0 where nothing is
+-- the number of what is wrong with a route by itself, in order: prefix (3), hop (4), a mark over 1 (10); 0 where nothing is
 unfoldable pub routeFault : Route → ℕ
 routeFault r =
     cond (not (properPrefix (r .addr) (r .len))) 3
     (cond (not (hopFine (r .hop))) 4
-    (cond (eqb (r .spare) 0) 0 10))
+    (cond (ltb 1 (r .mark)) 10 0))
 
 -- whether record k comes after the one before it
 unfoldable pub inOrder : List ℕ → ℕ → Bool

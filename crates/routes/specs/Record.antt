@@ -21,7 +21,7 @@ unfoldable pub recordAt : List ℕ → ℕ → Route
 recordAt s k = record {
   addr = word32 s (k * 8);
   len = getD s (k * 8 + 4) 0;
-  spare = getD s (k * 8 + 5) 0;
+  mark = getD s (k * 8 + 5) 0;
   hop = word16 s (k * 8 + 6);
 }
 
@@ -33,7 +33,7 @@ bytesOf r =
     ∷ r .addr / 256 % 256
     ∷ r .addr % 256
     ∷ r .len
-    ∷ r .spare
+    ∷ r .mark
     ∷ r .hop / 256
     ∷ r .hop % 256
     ∷ []
@@ -47,7 +47,7 @@ unfoldable pub routesOf : List ℕ → ℕ → List Route
 routesOf s n = tabulate n (recordAt s)
 
 abbrev pub noRoute : Route
-noRoute = record { addr = 0; len = 0; spare = 0; hop = 0 }
+noRoute = record { addr = 0; len = 0; mark = 0; hop = 0 }
 
 -- the bytes of these routes in a list with room for this many records; those past the last record are zero
 unfoldable pub written : List Route → ℕ → List ℕ
@@ -57,7 +57,7 @@ written rs room = tabulate (room * 8) (λ j. cond (ltb (j / 8) (length rs)) (get
 pub record Ranged (r : Route) : Type 0 where
   pub addr-fits : r .addr < 2 ^ 32
   pub len-fits : r .len < 2 ^ 8
-  pub spare-fits : r .spare < 2 ^ 8
+  pub mark-fits : r .mark < 2 ^ 8
   pub hop-fits : r .hop < 2 ^ 16
 
 -- the first n records of s are fine and strictly ascending
@@ -72,3 +72,12 @@ pub record Listed (s : List ℕ) (n : ℕ) : Type 0 where
   pub records : Records s n
   pub whole : length s % 8 ≡ 0
   pub zeros : (j : ℕ) → n * 8 ≤ j → j < length s → getD s j 0 ≡ 0
+
+-- an input of n good records, and nothing after them
+pub record GoodInput (s : List ℕ) (n : ℕ) : Type 0 where
+  pub records : Records s n
+  pub whole : length s ≡ n * 8
+
+-- the routes of an input
+abbrev pub routesIn : List ℕ → List Route
+routesIn s = routesOf s (length s / 8)

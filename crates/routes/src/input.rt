@@ -38,10 +38,10 @@ pub fn route_fault(r: Route) -> u8
     if !hop_ok(r.hop) {
         return 4;
     }
-    if r.spare == 0 {
-        return 0;
+    if 1 < r.mark {
+        return 10;
     }
-    10
+    0
 }
 
 // What is wrong with record k: by itself, or with its place after the one before.

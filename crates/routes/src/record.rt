@@ -62,7 +62,7 @@ pub fn read_record(list: &[u8], k: usize) -> Route
     Route {
         addr: word_at(list, at),
         len: list[at + 4],
-        spare: list[at + 5],
+        mark: list[at + 5],
         hop: half_at(list, at + 6),
     }
 }
@@ -102,6 +102,6 @@ pub fn write_record(list: &mut [u8], k: usize, r: Route)
     put_half(list, at, (addr / 65536) as u16);
     put_half(list, at + 2, (addr % 65536) as u16);
     list[at + 4] = r.len;
-    list[at + 5] = r.spare;
+    list[at + 5] = r.mark;
     put_half(list, at + 6, r.hop);
 }

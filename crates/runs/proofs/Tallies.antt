@@ -1,4 +1,4 @@
--- Laws of the tally: one more record, and the counts together are the number of records. Assumes nothing.
+-- Laws of the tally: one more record, the counts together are the number of records, and marks have no part in it. Assumes nothing.
 use mathlib.Core.Path.{_≡_, refl, sym, ap, _∙_}
 use mathlib.Core.Logic.{_⊎_, inl, inr}
 use mathlib.Core.Bool.{Bool, true, false, cond}
@@ -13,11 +13,14 @@ use borrow.Author.Tests.{eqb-true, eqb-false, eq-eqb, ne-eqb}
 use Rattle.bits.specs.Tab.{tabulate}
 use Rattle.bits.specs.Count.{bit, count}
 use Rattle.bits.proofs.Tests.{decided, below?}
+use Rattle.bits.proofs.Counts.{count-ext}
 use Rattle.bits.proofs.Tabs.{getD-tabulate, tabulate-ext, set-tabulate}
+use Rattle.routes.specs.Route.{plain}
 use Rattle.routes.specs.Record.{recordAt, Records}
 use Rattle.routes.specs.Said.{accepted, accepts}
 use Rattle.routes.specs.Input.{inputSaid}
 use Rattle.routes.specs.Answers.{saysInput}
+use Rattle.routes.specs.declared.Route.{Route}
 use Rattle.routes.specs.declared.input.Input.{Input}
 use Rattle.routes.specs.declared.input.Input.the-variants as input
 use Rattle.routes.proofs.Meaning.{input-good}
@@ -33,6 +36,11 @@ count-le f (suc n) = go (f n) (count-le f n)
     go : (b : Bool) → count f n ≤ n → bit b + count f n ≤ suc n
     go true h = omega arith
     go false h = omega arith
+
+-- records that differ in their marks alone have the same lengths
+pub tally-unmarked : (s u : List ℕ) (n : ℕ) → ((k : ℕ) → k < n → plain (recordAt s k) ≡ plain (recordAt u k)) → lengthsOf s n ≡ lengthsOf u n
+unfolding lengthsOf
+tally-unmarked s u n same = tabulate-ext 33 _ _ (λ l h. count-ext (hasLength s l) (hasLength u l) n (λ k i. ap (λ (r : Route). eqb (r .len) l) (same k i)))
 
 module _ (s : List ℕ) where
   -- no record yet
@@ -126,8 +134,8 @@ module _ (s : List ℕ) (n : ℕ) (r : Records s n) where
   sums (suc m) h =
       omega (arith, sum-add (λ l. bit (hasLength s l m)) (λ l. count (hasLength s l) m) 33, sum-bit (recordAt s m .len) 33 (omega (arith, r .each m h .prefix .len-ok)), sums m (omega arith))
 
--- count l is that of the records of length l
-pub tally-count : (s : List ℕ) (n l : ℕ) → inputSaid s ≡ accepted (n ∷ []) → l < 33 → getD (tallyOf s) l 0 ≡ count (hasLength s l) n
+-- "a count for each of the 33 lengths": count l is that of the records whose length byte is l
+pub tally-count : (s : List ℕ) (n l : ℕ) → inputSaid s ≡ accepted (n ∷ []) → l < 33 → getD (tallyOf s) l 0 ≡ count (λ k. eqb (recordAt s k .len) l) n
 tally-count s n l e h = rw (tally-good s n e) (length-count s n l h)
 
 -- and together they are all records

@@ -3,9 +3,9 @@ pub mod Geos
 pub mod Fitting
 pub mod Words
 pub mod Steps
+pub mod ReadCells
 pub mod Answers
 pub mod Places
 pub mod Walks
 pub mod Sounds
 pub mod Fresh
-pub mod Examples

@@ -1,15 +1,15 @@
--- How the live places of a pool match cells of a level of the routes. Said of any level, and so proved once for all.
--- Assumes nothing.
+-- How the live places of a level match the cells that the routes reach. Said of any level, and so proved once for all.
 use mathlib.Core.Path.{_≡_, refl, sym, _∙_, ap, ap₂}
 use mathlib.Core.Logic.{_⊎_, inl, inr}
-use mathlib.Core.Bool.{Bool, true, false}
+use mathlib.Core.Bool.{Bool, true, false, not}
 use mathlib.Core.List.{List}
 use Prim.Native.Nat.{ℕ, suc, _+_, _-_, _*_, _/_, _%_, _^_, _≤_, _<_}
 use native.Mathlib.Nat.{div-lt-iff-lt-mul, mod-lt, div-add-mod'}
 use native.Mathlib.Omega.{arith}
 use lib.Arith.{digits-lt, digits-div, digits-mod}
+use lib.Dec.{leb}
 use lib.Pow.{pow-add, pow-pos}
-use borrow.Author.Tests.{ltb-true, lt-ltb}
+use borrow.Author.Tests.{ltb-true, lt-ltb, le-leb, lt-leb}
 use Rattle.bits.specs.Count.{count}
 use Rattle.bits.proofs.Tests.{decided}
 use Rattle.bits.proofs.Counts.{Matched, count-matched}
@@ -18,7 +18,8 @@ use Rattle.standing.specs.Cells.{long, best, need}
 use Rattle.routes.specs.declared.Route.{Route}
 use Rattle.standing.proofs.Levels.{long-up}
 use Rattle.standing.proofs.Need.{need-count}
-use Rattle.sail.specs.Level.{Level, Chunks, Shows, deep, always, itself, inUse, top, below}
+use Rattle.sail.specs.Level.{Level, Chunks, deep, always, itself, inUse, top, below}
+use Rattle.sail.specs.Sound.{Shows}
 use Rattle.sail.specs.Walk.{place}
 
 -- numbers that match still do with a digit below b after each
@@ -39,12 +40,12 @@ spread P Q f g m n b pos h = record { there = spread-half P Q f g m n b pos (h .
 
 -- a live cell names a chunk exactly where it is deep: else its top bit is set
 pub names-exactly : (rs : List Route) (v : Level) (k : Chunks) (cells : ℕ → ℕ) → Shows rs v k cells → k .many < 32768
-    → (q : ℕ) → q < v .places → v .live q ≡ true → (cells q < 32768 → deep rs v q ≡ true) × (deep rs v q ≡ true → cells q < 32768)
-names-exactly rs v k cells s few q l e = ((λ h. go h (decided (deep rs v q))), (λ d. omega (arith, s .node q l e d .1)))
+    → (q : ℕ) → q < v .places → v .live q ≡ true → leb 32768 (cells q) ≡ not (deep rs v q)
+names-exactly rs v k cells s few q l e = go (decided (deep rs v q))
   where
-    go : cells q < 32768 → (deep rs v q ≡ true) ⊎ (deep rs v q ≡ false) → deep rs v q ≡ true
-    go h (inl d) = d
-    go h (inr d) = absurd (omega (arith, s .leaf q l e d))
+    go : (deep rs v q ≡ true) ⊎ (deep rs v q ≡ false) → leb 32768 (cells q) ≡ not (deep rs v q)
+    go (inl d) = rw (d, lt-leb 32768 (cells q) (omega (arith, s .node q l e d .last)))
+    go (inr d) = rw (d, le-leb 32768 (cells q) (omega (arith, s .leaf q l e d)))
 
 -- The live places of a level match the cells of its bits that are reached: the cell i is at the place `find i`.
 pub record Reached (rs : List Route) (v : Level) (reach : ℕ → Bool) (find : ℕ → ℕ) : Type 0 where
@@ -68,8 +69,8 @@ module _ (rs : List Route) (v : Level) (k : Chunks) (cells : ℕ → ℕ) (s : S
     back = λ i l e.
         let j = m .match .back i l (m .up i e) in
         let g = s .node (find i) (j .0) (j .1) (rw (j .2) e) in
-        let u : k .own (cells (find i) - 1) - 1 ≡ find i = omega (arith, g .2) in
-        (omega (arith, g .0, g .1), lt-ltb 0 (k .own (cells (find i) - 1)) (omega (arith, g .2)), ap (v .at) u ∙ j .2);
+        let u : k .own (cells (find i) - 1) - 1 ≡ find i = omega (arith, g .owner) in
+        (omega (arith, g .one, g .last), lt-ltb 0 (k .own (cells (find i) - 1)) (omega (arith, g .owner)), ap (v .at) u ∙ j .2);
   }
 
   -- so as many chunks are in use as are needed
@@ -98,4 +99,4 @@ module _ (rs : List Route) (v : Level) (k : Chunks) (cells : ℕ → ℕ) (s : S
   read-node i l e =
       let j = m .match .back i l (m .up i e) in
       let g = s .node (find i) (j .0) (j .1) (rw (j .2) e) in
-      (g .0, g .1, omega (arith, g .2))
+      (g .one, g .last, omega (arith, g .owner))

@@ -22,7 +22,8 @@ use Rattle.routes.proofs.Rows.{records-good}
 use Rattle.sail.specs.Lent.{Lent}
 use Rattle.sail.specs.Level.{whole, chunksOf, level2, level3}
 use Rattle.sail.specs.Sizes.{sizesFault}
-use Rattle.sail.specs.Walk.{oneOf, hopSaid, foundSaid, lookupSaid, lastCell, ReadsSecond, ReadsThird}
+use Rattle.sail.specs.Walk.{oneOf, hopSaid, foundSaid, lookupSaid, lastCell}
+use Rattle.sail.specs.Reads.{ReadsFirst, ReadsSecond, ReadsThird}
 use Rattle.sail.specs.Sound.{standing, Sound, cellsRead, used}
 use Rattle.sail.specs.declared.geometry.Geometry.{Geometry}
 use Rattle.sail.specs.declared.table.Table.{Table}
@@ -96,11 +97,11 @@ module _ (t : Table) (l : Lent) (s : Sound t l) where
   leaf-is a h = last-best rs g (whole l) (s .sized .valid) standing-good (s .serves) a h few2 few3
 
   -- and each first cell, and each cell of a chunk in use, is one that the walk for some address reads
-  pub first-served : (q : ℕ) → q < 2 ^ g .p1 → (a : ℕ) × (a < 2 ^ 32) × (slot (g .p1) a ≡ q)
+  pub first-served : (q : ℕ) → q < 2 ^ g .p1 → (a : ℕ) × (a < 2 ^ 32) × ReadsFirst g a q
   first-served q h =
       let v = s .sized .valid in
       let e : g .p1 + (32 - g .p1) ≡ 32 = omega arith in
-      (q * 2 ^ (32 - g .p1), rw e at (shl-lt (g .p1) (32 - g .p1) h), shl-shr q (32 - g .p1))
+      (q * 2 ^ (32 - g .p1), rw e at (shl-lt (g .p1) (32 - g .p1) h), record { there = shl-shr q (32 - g .p1) })
 
   pub second-served : (q : ℕ) → q < length (l .second) → level2 g (chunksOf (l .own2)) .live q ≡ true → (a : ℕ) × (a < 2 ^ 32) × ReadsSecond g (whole l) a q
   second-served q h e = second-read rs g (whole l) (s .sized .valid) standing-good (s .serves) few2 q (rw (s .sized .cells2) at h) e

@@ -26,7 +26,7 @@ use Rattle.sail.specs.declared.table.Table.{Table}
 use Rattle.sail.proofs.Words.{word-of, word-five}
 
 -- the place lies in the pool
-place-in : (m n c k i : ℕ) → Chunk m n c k → place k c i < m
+pub place-in : (m n c k i : ℕ) → Chunk m n c k → place k c i < m
 place-in m n c k i h =
     let a : (c - 1) * 2 ^ k + i % 2 ^ k < n * 2 ^ k = digits-lt (omega arith) (mod-lt i (pow-pos k)) in
     omega arith
@@ -54,7 +54,7 @@ pub reads-in : (m n c k i r : ℕ) → Chunk m n c k → r ≡ (c - 1) * 2 ^ k +
 reads-in m n c k i r h e = omega (arith, place-is c k i r (h .size) e, place-in m n c k i h)
 
 -- a chunk's number
-named : (m v : ℕ) → oneOf m v ≡ true → (1 ≤ v) × (v ≤ m)
+pub named : (m v : ℕ) → oneOf m v ≡ true → (1 ≤ v) × (v ≤ m)
 named m v e = let s = and-split (leb 1 v) (leb v m) e in (leb-true 1 v (s .0), leb-true v m (s .1))
 
 opened : (b t : Bool) → b ≡ t → not b ≡ false → t ≡ true
@@ -81,7 +81,7 @@ module _ (n : ℕ) (opens : ℕ → Bool) (v : ℕ) (on : Said) where
   unfolding stepSaid
   step-leaf h = rw (le-leb 32768 v h)
 
-  step-off : v < 32768 → opens v ≡ false → refused 5 ≡ stepSaid n opens v on
+  pub step-off : v < 32768 → opens v ≡ false → refused 5 ≡ stepSaid n opens v on
   unfolding stepSaid
   step-off h e = rw (lt-leb 32768 v h, e)
 

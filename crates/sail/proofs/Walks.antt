@@ -1,5 +1,5 @@
 -- Where three levels serve a list of routes: what the walk for an address reads and says, and how many chunks are in use.
--- Said of what is seen of a table, so that it holds of a part of one. Assumes nothing.
+-- Said of what is seen of a table, so that it holds of a part of one.
 use mathlib.Core.Path.{_≡_, refl, sym, _∙_, ap}
 use mathlib.Core.Logic.{_⊎_, inl, inr}
 use mathlib.Core.Bool.{Bool, true, false, cond, true≢false}
@@ -18,10 +18,11 @@ use Rattle.standing.specs.Cells.{long, best, need}
 use Rattle.routes.specs.Said.{Said, refused}
 use Rattle.routes.specs.declared.Route.{Route}
 use Rattle.standing.proofs.Levels.{best-slot}
-use Rattle.standing.proofs.Need.{none-longer}
 use Rattle.sail.specs.Geometry.{bits2, bits3, Valid}
-use Rattle.sail.specs.Level.{View, Serves, always, itself, inUse, level1, level2, level3, noChunks}
-use Rattle.sail.specs.Walk.{place, cell1, place2, cell2, place3, cell3, Leads, ReadsSecond, ReadsThird, lastCell, hopSaid, stepSaid, shut, walkSaid}
+use Rattle.sail.specs.Level.{View, always, itself, inUse, level1, level2, level3}
+use Rattle.sail.specs.Sound.{Serves}
+use Rattle.sail.specs.Walk.{place, cell1, place2, cell2, place3, cell3, lastCell, hopSaid, stepSaid, shut, walkSaid}
+use Rattle.sail.specs.Reads.{Leads, ReadsSecond, ReadsThird}
 use Rattle.sail.proofs.Steps.{step-leaf, step-on}
 use Rattle.sail.specs.declared.geometry.Geometry.{Geometry}
 use Rattle.sail.proofs.Places.{Reached, top-reached, below-reached, used-need, read-leaf, read-node}
@@ -48,18 +49,18 @@ module _ (rs : List Route) (g : Geometry) (t : View) (valid : Valid g) (good : G
 
   reached2 : Reached rs (level2 g (t .chunks2)) reach2 find2
   unfolding reach2 find2
-  reached2 = below-reached rs (level1 g) (t .chunks2) (t .first) (s .shows1) always itself reached1 (g .p2) (omega arith) (omega arith)
+  reached2 = below-reached rs (level1 g) (t .chunks2) (t .first) (s .first) always itself reached1 (g .p2) (omega arith) (omega arith)
 
   reached3 : Reached rs (level3 g (t .chunks2) (t .chunks3)) reach3 find3
   unfolding reach3 find3
-  reached3 = below-reached rs (level2 g (t .chunks2)) (t .chunks3) (t .second) (s .shows2) reach2 find2 reached2 32 (omega arith) (omega arith)
+  reached3 = below-reached rs (level2 g (t .chunks2)) (t .chunks3) (t .second) (s .second) reach2 find2 reached2 32 (omega arith) (omega arith)
 
   -- as many chunks are in use as are needed
   pub used2-need : count (inUse (t .chunks2 .own)) (t .chunks2 .many) ≡ need rs (g .p1)
-  used2-need = used-need rs (level1 g) (t .chunks2) (t .first) (s .shows1) always itself reached1 good
+  used2-need = used-need rs (level1 g) (t .chunks2) (t .first) (s .first) always itself reached1 good
 
   pub used3-need : count (inUse (t .chunks3 .own)) (t .chunks3 .many) ≡ need rs (g .p2)
-  used3-need = used-need rs (level2 g (t .chunks2)) (t .chunks3) (t .second) (s .shows2) reach2 find2 reached2 good
+  used3-need = used-need rs (level2 g (t .chunks2)) (t .chunks3) (t .second) (s .second) reach2 find2 reached2 good
 
   module _ (a : ℕ) (small : a < 2 ^ 32) where
     -- the first cell of an address holds its second cell
@@ -81,21 +82,23 @@ module _ (rs : List Route) (g : Geometry) (t : View) (valid : Valid g) (good : G
 
     -- each cell on the way: a leaf with the best hop where no longer route is there, and the number of a chunk of one's own where one is
     pub leaf1 : long rs (g .p1) (slot (g .p1) a) ≡ false → cell1 g t a ≡ 32768 + best rs (g .p1) (slot (g .p1) a)
-    leaf1 = read-leaf rs (level1 g) (t .chunks2) (t .first) (s .shows1) always itself reached1 (slot (g .p1) a) (slot-lt (g .p1) a (omega arith) small) refl
+    leaf1 = read-leaf rs (level1 g) (t .chunks2) (t .first) (s .first) always itself reached1 (slot (g .p1) a) (slot-lt (g .p1) a (omega arith) small) refl
 
     pub node1 : long rs (g .p1) (slot (g .p1) a) ≡ true → (1 ≤ cell1 g t a) × (cell1 g t a ≤ t .chunks2 .many) × (0 < t .chunks2 .own (cell1 g t a - 1))
-    node1 = read-node rs (level1 g) (t .chunks2) (t .first) (s .shows1) always itself reached1 (slot (g .p1) a) (slot-lt (g .p1) a (omega arith) small)
+    node1 = read-node rs (level1 g) (t .chunks2) (t .first) (s .first) always itself reached1 (slot (g .p1) a) (slot-lt (g .p1) a (omega arith) small)
 
     pub leaf2 : long rs (g .p1) (slot (g .p1) a) ≡ true → long rs (g .p2) (slot (g .p2) a) ≡ false → cell2 g t a ≡ 32768 + best rs (g .p2) (slot (g .p2) a)
     unfolding reach2
-    leaf2 e f = sym v2-is ∙ read-leaf rs (level2 g (t .chunks2)) (t .chunks3) (t .second) (s .shows2) reach2 find2 reached2 (slot (g .p2) a) (slot-lt (g .p2) a (omega arith) small) (rw up2 e) f
+    leaf2 e f = sym v2-is ∙ read-leaf rs (level2 g (t .chunks2)) (t .chunks3) (t .second) (s .second) reach2 find2 reached2 (slot (g .p2) a) (slot-lt (g .p2) a (omega arith) small) (rw up2 e) f
 
     pub node2 : long rs (g .p2) (slot (g .p2) a) ≡ true → (1 ≤ cell2 g t a) × (cell2 g t a ≤ t .chunks3 .many) × (0 < t .chunks3 .own (cell2 g t a - 1))
-    node2 e = rw (← v2-is) (read-node rs (level2 g (t .chunks2)) (t .chunks3) (t .second) (s .shows2) reach2 find2 reached2 (slot (g .p2) a) (slot-lt (g .p2) a (omega arith) small) e)
+    node2 e = rw (← v2-is) (read-node rs (level2 g (t .chunks2)) (t .chunks3) (t .second) (s .second) reach2 find2 reached2 (slot (g .p2) a) (slot-lt (g .p2) a (omega arith) small) e)
 
     pub leaf3 : long rs (g .p2) (slot (g .p2) a) ≡ true → cell3 g t a ≡ 32768 + best rs 32 a
     unfolding reach3
-    leaf3 e = ap (t .third) (sym place3-is) ∙ read-leaf rs (level3 g (t .chunks2) (t .chunks3)) noChunks (t .third) (s .shows3) reach3 find3 reached3 a small e (none-longer rs a good)
+    leaf3 e =
+        let j = reached3 .match .back a small e in
+        ap (t .third) (sym place3-is) ∙ s .third .leaf (find3 a) (j .0) (j .1) ∙ ap (λ (x : ℕ). 32768 + best rs 32 x) (j .2)
 
     -- a long second cell lies in a long first cell
     pub long2-long1 : long rs (g .p2) (slot (g .p2) a) ≡ true → long rs (g .p1) (slot (g .p1) a) ≡ true
@@ -166,7 +169,7 @@ module _ (rs : List Route) (g : Geometry) (t : View) (valid : Valid g) (good : G
       let h : a < 2 ^ 32 = rw sum at (shl-lt (g .p2) (bits3 g) (j .0)) in
       let is : slot (g .p2) a ≡ i = shl-shr i (bits3 g) in
       let f : long rs (g .p1) (slot (g .p1) a) ≡ true = rw (up2 a h) at (rw (← is) at (j .1)) in
-      (a, h, record { goes = leads few (node1 a h f); there = sym (place2-is a h) ∙ ap find2 is ∙ j .2 })
+      (a, h, record { goes = leads few (node1 a h f); there = cc (sym (place2-is a h) ∙ ap find2 is ∙ j .2) })
 
   pub third-read : t .chunks2 .many < 32768 → t .chunks3 .many < 32768 → (q : ℕ) → q < level3 g (t .chunks2) (t .chunks3) .places → level3 g (t .chunks2) (t .chunks3) .live q ≡ true
       → (a : ℕ) × (a < 2 ^ 32) × ReadsThird g t a q
@@ -176,4 +179,4 @@ module _ (rs : List Route) (g : Geometry) (t : View) (valid : Valid g) (good : G
       let a : ℕ = level3 g (t .chunks2) (t .chunks3) .at q in
       let h : a < 2 ^ 32 = j .0 in
       let f : long rs (g .p2) (slot (g .p2) a) ≡ true = j .1 in
-      (a, h, record { goes = leads few2 (node1 a h (long2-long1 a h f)); on = leads few3 (node2 a h f); there = sym (place3-is a h) ∙ j .2 })
+      (a, h, record { goes = leads few2 (node1 a h (long2-long1 a h f)); on = leads few3 (node2 a h f); there = cc (sym (place3-is a h) ∙ j .2) })

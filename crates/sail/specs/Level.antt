@@ -1,10 +1,8 @@
--- A level of cells and the chunks that hang from it; and when three levels serve a list of routes.
--- All is said of functions, from a place to the cell there and from a chunk to its owner, and of live cells alone: so it can be said
--- of a part of what is lent. Assumes nothing.
-use mathlib.Core.Path.{_≡_}
-use mathlib.Core.Bool.{Bool, true, false}
+-- A level of cells, and the chunks that hang from it: which cells it has, which of them are live, what each stands for, and which serves an
+-- address. All is said of functions, from a place to the cell there and from a chunk to its owner, so that it holds of a part of what is lent.
+use mathlib.Core.Bool.{Bool, true}
 use mathlib.Core.List.{List}
-use Prim.Native.Nat.{ℕ, suc, _+_, _-_, _*_, _/_, _%_, _^_, _≤_, _<_}
+use Prim.Native.Nat.{ℕ, suc, _+_, _-_, _*_, _/_, _%_, _^_}
 use lib.Dec.{eqb, ltb}
 use lib.ListN.{getD, length}
 use Rattle.bits.specs.Search.{firstOf}
@@ -56,7 +54,7 @@ liveIn own d q = inUse own (q / 2 ^ d)
 abbrev pub partOf : (ℕ → ℕ) → ℕ → (ℕ → ℕ) → ℕ → ℕ
 partOf own d at q = at (own (q / 2 ^ d) - 1) * 2 ^ d + q % 2 ^ d
 
--- The level of p bits below v: the cells of the chunks that hang from v, 2 ^ (p - v .bits) in each.
+-- The level of p bits below v: the cells of the chunks that hang from v, 2 ^ (p - v .bits) in each, counted over the whole pool.
 abbrev pub below : Level → Chunks → ℕ → Level
 below v k p = record {
   bits = p;
@@ -70,23 +68,23 @@ below v k p = record {
 abbrev pub deep : List Route → Level → ℕ → Bool
 deep rs v q = long rs (v .bits) (v .at q)
 
--- a leaf: the top bit, and the hop of the longest route of at most the level's bits that covers the cell at q
+-- a leaf: the top bit, and the hop of the longest route of at most the level's bits that covers the cell at q, 0 where none does
 abbrev pub leafAt : List Route → Level → ℕ → ℕ
 leafAt rs v q = 32768 + best rs (v .bits) (v .at q)
 
--- The cells of a level are right: a live cell is a leaf where it is not deep, and where it is, it names the one chunk that hangs from it.
-pub record Shows (rs : List Route) (v : Level) (k : Chunks) (cells : ℕ → ℕ) : Type 0 where
-  pub leaf : (q : ℕ) → q < v .places → v .live q ≡ true → deep rs v q ≡ false → cells q ≡ leafAt rs v q
-  pub node : (q : ℕ) → q < v .places → v .live q ≡ true → deep rs v q ≡ true → (1 ≤ cells q) × (cells q ≤ k .many) × (k .own (cells q - 1) ≡ suc q)
-  pub owned : (c q : ℕ) → c < k .many → k .own c ≡ suc q → (q < v .places) × (v .live q ≡ true) × (deep rs v q ≡ true) × (cells q ≡ suc c)
+-- what stands at a place of an array
+abbrev pub entry : List ℕ → ℕ → ℕ
+entry xs q = getD xs q 0
 
--- A pool of m chunks of 2 ^ d cells. A chunk whose owner is nobody's is free: its owner is 0, and so are its cells.
-pub record Clear (m d : ℕ) (somebodys : ℕ → Bool) (own cells : ℕ → ℕ) : Type 0 where
-  pub unowned : (c : ℕ) → c < m → somebodys (own c) ≡ false → own c ≡ 0
-  pub blank : (c : ℕ) → c < m → somebodys (own c) ≡ false → (j : ℕ) → j < 2 ^ d → cells (c * 2 ^ d + j) ≡ 0
+-- chunks by an array of owners
+abbrev pub chunksOf : List ℕ → Chunks
+chunksOf own = record { many = length own; own = entry own }
 
--- The three levels of a table: p1, p2 and 32 bits. A third cell stands for one address; no route is longer than 32, so that a third cell in
--- use is always a leaf, and no chunk hangs from it.
+-- no chunk hangs from a third cell
+abbrev pub noChunks : Chunks
+noChunks = record { many = 0; own = λ c. 0 }
+
+-- The three levels of a table: p1, p2 and 32 bits. So a third cell stands for one address.
 abbrev pub level1 : Geometry → Level
 level1 g = top (g .p1)
 
@@ -96,13 +94,7 @@ level2 g k2 = below (level1 g) k2 (g .p2)
 abbrev pub level3 : Geometry → Chunks → Chunks → Level
 level3 g k2 k3 = below (level2 g k2) k3 32
 
-abbrev pub nobody : ℕ → ℕ
-nobody c = 0
-
-abbrev pub noChunks : Chunks
-noChunks = record { many = 0; own = nobody }
-
--- what is seen of a table: the cells of three levels, and the chunks that are one's own
+-- what is seen of a table: the cells of three levels, and the chunks of its two pools
 pub record View : Type 0 where
   pub first : ℕ → ℕ
   pub second : ℕ → ℕ
@@ -110,32 +102,12 @@ pub record View : Type 0 where
   pub chunks2 : Chunks
   pub chunks3 : Chunks
 
-pub record Serves (rs : List Route) (g : Geometry) (t : View) : Type 0 where
-  pub shows1 : Shows rs (level1 g) (t .chunks2) (t .first)
-  pub shows2 : Shows rs (level2 g (t .chunks2)) (t .chunks3) (t .second)
-  pub shows3 : Shows rs (level3 g (t .chunks2) (t .chunks3)) noChunks (t .third)
-
--- what stands at a place of an array
-abbrev pub entry : List ℕ → ℕ → ℕ
-entry xs q = getD xs q 0
-
--- chunks by an array of owner numbers, as `sight` reads them: 1 + the place where the chunk is one's own, and 0 where it is not
-abbrev pub seenIn : (ℕ → ℕ) → List ℕ → Chunks
-seenIn sight own = record { many = length own; own = λ c. sight (getD own c 0) }
-
--- where every owner number is one's own
-abbrev pub chunksOf : List ℕ → Chunks
-chunksOf own = seenIn itself own
-
-abbrev pub seenBy : (ℕ → ℕ) → Lent → View
-seenBy sight l = record {
+-- all that is lent
+abbrev pub whole : Lent → View
+whole l = record {
   first = entry (l .first);
   second = entry (l .second);
   third = entry (l .third);
-  chunks2 = seenIn sight (l .own2);
-  chunks3 = seenIn sight (l .own3);
+  chunks2 = chunksOf (l .own2);
+  chunks3 = chunksOf (l .own3);
 }
-
--- a table of one party: every owner number is its own
-abbrev pub whole : Lent → View
-whole l = seenBy itself l

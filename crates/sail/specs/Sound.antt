@@ -1,17 +1,17 @@
--- When a table is sound. Assumes nothing.
+-- When a table is sound: document 01's sentences, each beside the record that says it.
+use mathlib.Core.Bool.{true, false}
 use mathlib.Core.List.{List}
-use Prim.Native.Nat.{ℕ, _+_}
-use lib.Dec.{ltb}
+use mathlib.Core.Path.{_≡_}
+use Prim.Native.Nat.{ℕ, suc, _+_, _-_, _≤_, _<_}
 use lib.ListN.{length, replicate}
 use Rattle.bits.specs.Slot.{slot}
 use Rattle.bits.specs.Count.{bit, count}
 use Rattle.standing.specs.Cells.{long}
 use Rattle.routes.specs.Record.{routesOf, Listed}
 use Rattle.routes.specs.declared.Route.{Route}
-use Rattle.sail.specs.Geometry.{bits2, bits3}
 use Rattle.sail.specs.Lent.{Lent}
+use Rattle.sail.specs.Level.{Level, Chunks, View, deep, leafAt, inUse, entry, chunksOf, level1, level2, level3, whole}
 use Rattle.sail.specs.Sizes.{Sized}
-use Rattle.sail.specs.Level.{Serves, Clear, entry, whole, inUse}
 use Rattle.sail.specs.declared.geometry.Geometry.{Geometry}
 use Rattle.sail.specs.declared.table.Table.{Table}
 
@@ -19,21 +19,50 @@ use Rattle.sail.specs.declared.table.Table.{Table}
 abbrev pub standing : Table → Lent → List Route
 standing t l = routesOf (l .list) (t .count)
 
+-- "Otherwise it names a chunk, numbered from 1": the value x of the cell at place q is the number of a chunk, and that hangs from q
+pub record Names (k : Chunks) (q x : ℕ) : Type 0 where
+  pub one : 1 ≤ x
+  pub last : x ≤ k .many
+  pub owner : k .own (x - 1) ≡ suc q
+
+-- What holds of the live cells of a level and of the chunks that hang from it.
+pub record Shows (rs : List Route) (v : Level) (k : Chunks) (cells : ℕ → ℕ) : Type 0 where
+  -- "A first cell names a chunk exactly when some standing route longer than p1 has the cell's p1 bits"
+  pub node : (q : ℕ) → q < v .places → v .live q ≡ true → deep rs v q ≡ true → Names k q (cells q)
+  -- "Otherwise it is a leaf with the hop of the longest route of length at most p1 that covers it"
+  pub leaf : (q : ℕ) → q < v .places → v .live q ≡ true → deep rs v q ≡ false → cells q ≡ leafAt rs v q
+  -- "An owner is 1 plus the index of the cell that names the chunk, the index counted over the whole of that lent cell array"
+  pub owned : (c q : ℕ) → c < k .many → k .own c ≡ suc q → (q < v .places) × (v .live q ≡ true) × (deep rs v q ≡ true) × (cells q ≡ suc c)
+
+-- the live cells of a level are all leaves
+pub record AllLeaves (rs : List Route) (v : Level) (cells : ℕ → ℕ) : Type 0 where
+  pub leaf : (q : ℕ) → q < v .places → v .live q ≡ true → cells q ≡ leafAt rs v q
+
+-- Three levels of cells serve a list of routes. The first level's cells are all live, a pool's are where their chunk is in use.
+pub record Serves (rs : List Route) (g : Geometry) (t : View) : Type 0 where
+  -- the sentences beside `Shows`, with p1
+  pub first : Shows rs (level1 g) (t .chunks2) (t .first)
+  -- "A second cell of a chunk in use does the same with p2"
+  pub second : Shows rs (level2 g (t .chunks2)) (t .chunks3) (t .second)
+  -- "A third cell of a chunk in use is always a leaf: the hop of the longest route that covers its one address"
+  pub third : AllLeaves rs (level3 g (t .chunks2) (t .chunks3)) (t .third)
+
+-- The cells of a level that are not live are 0: those of chunks with owner 0.
+pub record Clear (v : Level) (cells : ℕ → ℕ) : Type 0 where
+  pub blank : (q : ℕ) → q < v .places → v .live q ≡ false → cells q ≡ 0
+
+-- "A table with all this, over a good list, is sound"
 pub record Sound (t : Table) (l : Lent) : Type 0 where
   -- the sizes are those of the geometry
   pub sized : Sized (t .geometry) l
   -- "A list is good when the route count is at most its room and that many records pass the input checks"
   -- "Records past the route count are zero bytes"
   pub listed : Listed (l .list) (t .count)
-  -- "A first cell names a chunk exactly when some standing route longer than p1 has the cell's p1 bits. Otherwise it is a leaf with the hop
-  -- of the longest route of length at most p1 that covers it"
-  -- "A second cell of a chunk in use does the same with p2"
-  -- "A third cell of a chunk in use is always a leaf: the hop of the longest route that covers its one address"
-  -- "An owner is 1 plus the index of the cell that names the chunk, the index counted over the whole of that lent cell array"
+  -- first, second and third cells, and the owners of chunks in use
   pub serves : Serves (standing t l) (t .geometry) (whole l)
   -- "A free chunk has owner 0 and all cells 0"
-  pub clear2 : Clear (length (l .own2)) (bits2 (t .geometry)) (ltb 0) (entry (l .own2)) (entry (l .second))
-  pub clear3 : Clear (length (l .own3)) (bits3 (t .geometry)) (ltb 0) (entry (l .own3)) (entry (l .third))
+  pub clear2 : Clear (level2 (t .geometry) (chunksOf (l .own2))) (entry (l .second))
+  pub clear3 : Clear (level3 (t .geometry) (chunksOf (l .own2)) (chunksOf (l .own3))) (entry (l .third))
 
 -- "1 plus one if some standing route longer than p1 shares the address's first p1 bits, plus one if some route longer than p2 shares its
 -- first p2 bits"

@@ -1,12 +1,11 @@
 -- What lookup says, of any state, arrays and address, damaged tables too. Assumes nothing.
 use mathlib.Core.Bool.{Bool, false, _&&_, cond}
-use mathlib.Core.List.{[], _∷_}
 use mathlib.Core.Path.{_≡_}
 use Prim.Native.Nat.{ℕ, _+_, _-_, _*_, _%_, _^_, _≤_, _<_}
 use lib.Dec.{eqb, leb}
 use lib.ListN.{length}
 use Rattle.bits.specs.Slot.{slot}
-use Rattle.routes.specs.Said.{Said, accepted, refused}
+use Rattle.routes.specs.Said.{Said, refused, hopAfter, noRouteAfter}
 use Rattle.sail.specs.Geometry.{bits2, bits3}
 use Rattle.sail.specs.Lent.{Lent}
 use Rattle.sail.specs.Level.{View, whole}
@@ -38,23 +37,6 @@ module _ (g : Geometry) (t : View) (a : ℕ) where
   abbrev pub cell3 : ℕ
   cell3 = t .third place3
 
--- v is the number of one of m chunks
-pub record Leads (v m : ℕ) : Type 0 where
-  pub low : v < 32768
-  pub one : 1 ≤ v
-  pub last : v ≤ m
-
--- "A cell serves an address when that address's lookup reads it": the second cell where the first leads on, the third where both do.
--- (The first cell that a lookup reads is that of the address's first p1 bits.)
-pub record ReadsSecond (g : Geometry) (t : View) (a q : ℕ) : Type 0 where
-  pub goes : Leads (cell1 g t a) (t .chunks2 .many)
-  pub there : place2 g t a ≡ q
-
-pub record ReadsThird (g : Geometry) (t : View) (a q : ℕ) : Type 0 where
-  pub goes : Leads (cell1 g t a) (t .chunks2 .many)
-  pub on : Leads (cell2 g t a) (t .chunks3 .many)
-  pub there : place3 g t a ≡ q
-
 -- the cell at which the walk ends
 unfoldable pub lastCell : Geometry → View → ℕ → ℕ
 lastCell g t a =
@@ -63,7 +45,7 @@ lastCell g t a =
 
 -- after n cells were read: n and the hop; n alone where the hop is 0, which is no route
 unfoldable pub hopSaid : ℕ → ℕ → Said
-hopSaid n h = cond (eqb h 0) (accepted (n ∷ [])) (accepted (n ∷ h ∷ []))
+hopSaid n h = cond (eqb h 0) (noRouteAfter n) (hopAfter n h)
 
 -- "A cell with its top bit set is a leaf: the low 15 bits are the hop, 0 for no route"
 abbrev pub leafSaid : ℕ → ℕ → Said
@@ -100,6 +82,6 @@ lookupSaid t l a =
 
 -- what the code's answer says
 unfoldable pub saysFound : Found → Said
-saysFound (Hop h n) = accepted (n ∷ h ∷ [])
-saysFound (NoRoute n) = accepted (n ∷ [])
+saysFound (Hop h n) = hopAfter n h
+saysFound (NoRoute n) = noRouteAfter n
 saysFound (Refused k) = refused k

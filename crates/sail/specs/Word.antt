@@ -1,23 +1,12 @@
--- What a call says as one number: the refusal's number in bits 0 to 7; a refusal's index in bits 32 to 63, with bit 8 set; and the
--- values of an accepted call by its own layout. A lookup's number fits 32 bits. Assumes nothing.
+-- What a lookup says as one number, which fits 32 bits. A refusal is packed the same everywhere (`packed`).
 use mathlib.Core.Bool.{cond}
-use mathlib.Core.List.{List}
 use mathlib.Core.Path.{_≡_}
 use Prim.Native.Nat.{ℕ, _+_, _*_, _/_, _%_, _^_}
 use lib.Dec.{eqb}
-use lib.ListN.{getD}
-use Rattle.routes.specs.Said.{Said, accepted, refused, refusedAt}
+use Rattle.routes.specs.Said.{Said, refused}
+unfoldable pub use Rattle.routes.specs.Said.{packed}
+pub use Rattle.routes.specs.Said.{value}
 use Rattle.sail.specs.Walk.{hopSaid}
-
--- a refusal is packed the same everywhere. (An index beyond 32 bits would be of an input of more than 32 GiB.)
-unfoldable pub packed : (List ℕ → ℕ) → Said → ℕ
-packed layout (accepted vs) = layout vs
-packed layout (refused n) = n
-packed layout (refusedAt n k) = n + 256 + k % 2 ^ 32 * 2 ^ 32
-
--- one of the values; 0 where there are fewer
-abbrev pub value : ℕ → List ℕ → ℕ
-value k vs = getD vs k 0
 
 -- a lookup's reads in bits 8 to 15, its hop in 16 to 31
 abbrev pub packFound : Said → ℕ

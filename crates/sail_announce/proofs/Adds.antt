@@ -1,10 +1,13 @@
 -- An announcement step by step: what each step asks, and what they leave. Assumes nothing.
 use mathlib.Core.Path.{_≡_, refl, sym, _∙_, ap}
+use mathlib.Core.Bool.{Bool, not}
 use mathlib.Core.List.{List, [], _∷_}
 use Prim.Native.Nat.{ℕ, _/_, _≤_}
 use native.Mathlib.Omega.{arith}
+use lib.Dec.{eqb}
 use lib.ListN.{length}
 use Rattle.bits.specs.Count.{bit}
+use Rattle.bits.specs.Slot.{cut}
 use Rattle.routes.specs.Route.{key}
 use Rattle.routes.specs.Record.{routesOf}
 use Rattle.routes.specs.Said.{accepted, refused}
@@ -20,10 +23,11 @@ use Rattle.sail.specs.Sound.{standing}
 use Rattle.sail.specs.declared.geometry.Geometry.{Geometry}
 use Rattle.sail.specs.declared.table.Table.{Table}
 use Rattle.sail.proofs.Sounds.{standing-good}
-use Rattle.sail_theory.specs.Calls.{route, opening, announceSaid, out, announced}
+use Rattle.sail_theory.specs.Calls.{opening, route, announceSaid, Out, out, adding, told, announced}
 use Rattle.sail.specs.Level.{chunksOf, level1, level2}
 use Rattle.sail_theory.specs.Facts.{Welcome}
-use Rattle.sail_theory.proofs.Accepted.{announce-is, announce-off}
+use Rattle.sail_theory.proofs.Accepted.{adding-is}
+use Rattle.sail_theory.proofs.Cleared.{announce-off}
 use Rattle.sail_paint.specs.Stale.{Repainted}
 use Rattle.sail_paint.specs.Pending.{Pending}
 use Rattle.sail_change.specs.Opening.{Openable}
@@ -34,20 +38,25 @@ use Rattle.sail_announce.specs.Answers.{saysAnnounce}
 use Rattle.sail_announce.specs.declared.answers.Announce.{Announce}
 use Rattle.sail_announce.specs.declared.answers.Announce.the-variants as announce
 
--- a refusal leaves all as it was
-pub announce-refused : (t : Table) (l : Lent) (a len hop z : ℕ) → Judged z (announceSaid t l a len hop) (Welcome t l (route a len hop)) → (z ≡ 0 → ⊥) → out (saysAnnounce (announce.Refused z)) t l ≡ announced t l a len hop
-unfolding saysAnnounce
-announce-refused t l a len hop z k h = sym (announce-off t l a len hop (refused z) (k .off h) refl)
+-- The address x is cut to its length before the route is judged.
+module _ (t : Table) (l : Lent) (a len hop mark x : ℕ) (e : x ≡ cut len a) where
+  -- a refusal leaves all as it was
+  pub announce-refused : (z : ℕ) → Judged z (announceSaid t l (route x len hop mark)) (Welcome t l (route x len hop mark)) → (z ≡ 0 → ⊥)
+      → out (saysAnnounce (announce.Refused z)) t l ≡ announced t l (route a len hop mark)
+  unfolding saysAnnounce
+  announce-refused z k h = sym (announce-off t l (route a len hop mark) (refused z) (rw e at (k .off h)) refl)
 
-module _ (t : Table) (l : Lent) (a len hop : ℕ) (w : Welcome t l (route a len hop)) where
+  -- what is added is the cleared route, and bits were cleared where the address is another
+  pub announce-cleared : (c : Bool) → c ≡ not (eqb x a) → (o : Out) → o ≡ told c (adding t l (route x len hop mark)) → o ≡ announced t l (route a len hop mark)
+  unfolding announced
+  announce-cleared c f o q = q ∙ rw (f, e)
+
+module _ (t : Table) (l : Lent) (r : Route) (w : Welcome t l r) where
   abbrev g : Geometry
   g = t .geometry
 
   abbrev rs : List Route
   rs = standing t l
-
-  abbrev r : Route
-  r = route a len hop
 
   abbrev own2′ : List ℕ
   own2′ = opening (level1 g) (l .own2) r
@@ -86,15 +95,16 @@ module _ (t : Table) (l : Lent) (a len hop : ℕ) (w : Welcome t l (route a len 
         rw (list-is, c) (insert-holds (l .list) (t .count) few r add-insertable)
 
     module _ (own2 own3 : List ℕ) (o2 : own2 ≡ own2′) (o3 : own3 ≡ own3′) where
-      pub add-pending : (x : ℕ) → x ≡ len → Pending g m a x (lent s (l .first) (l .second) (l .third) own2 own3)
+      pub add-pending : (x : ℕ) → x ≡ r .len → Pending g m (r .addr) x (lent s (l .first) (l .second) (l .third) own2 own3)
       add-pending x q = rw (q, o2, o3) (record {
         listed = holds .listed;
-        stale = λ ws par ready z. underway-stale g a len (insert r rs) l (lent s (l .first) (l .second) (l .third) own2′ own3′) (welcome-underway t l r w s) ws par ready (z ∙ holds .routes);
+        stale = λ ws par ready z. underway-stale g (r .addr) (r .len) (insert r rs) l (lent s (l .first) (l .second) (l .third) own2′ own3′) (welcome-underway t l r w s) ws par ready (z ∙ holds .routes);
       })
 
-      module _ (first second third : List ℕ) (h : Repainted g (routesOf s m) (cells (l .first) (l .second) (l .third) own2 own3) first second third) (n : Announce) (q : saysAnnounce n ≡ accepted (bit (saysPut p) ∷ [])) where
-        pub add-done : out (saysAnnounce n) (record { geometry = g; count = m }) (lent s first second third own2 own3) ≡ announced t l a len hop
+      module _ (first second third : List ℕ) (h : Repainted g (routesOf s m) (cells (l .first) (l .second) (l .third) own2 own3) first second third)
+          (n : Announce) (c : Bool) (q : saysAnnounce n ≡ accepted (bit c ∷ bit (saysPut p) ∷ [])) where
+        pub add-done : out (saysAnnounce n) (record { geometry = g; count = m }) (lent s first second third own2 own3) ≡ told c (adding t l r)
         add-done =
             let then : Lent = lent s (l .first) (l .second) (l .third) own2′ own3′ in
-            let h′ = underway-asked g a len (insert r rs) l then (welcome-underway t l r w s) first second third (rw (holds .routes, o2, o3) at h) in
-            rw (q, stood, count-is, list-is, h′ .is-first, h′ .is-second, h′ .is-third, o2, o3) (sym (announce-is t l a len hop w))
+            let h′ = underway-asked g (r .addr) (r .len) (insert r rs) l then (welcome-underway t l r w s) first second third (rw (holds .routes, o2, o3) at h) in
+            rw (q, stood, count-is, list-is, h′ .is-first, h′ .is-second, h′ .is-third, o2, o3) (sym (ap (told c) (adding-is t l r w)))

@@ -4,19 +4,20 @@ use mathlib.Core.Logic.{_⊎_, inl, inr}
 use mathlib.Core.Bool.{Bool, true, false, not, _&&_, true≢false}
 use mathlib.Core.List.{List}
 use Prim.Native.Nat.{ℕ, _/_, _≤_, _<_}
+use native.Mathlib.Nat.{pos-of-ne-zero}
 use native.Mathlib.Omega.{arith}
 use lib.Dec.{ltb, leb}
 use lib.ListN.{length}
-use borrow.Author.Tests.{ltb-true, ltb-false, lt-ltb, le-ltb, lt-leb, le-leb, not-true, not-false}
+use borrow.Author.Tests.{ltb-true, ltb-false, lt-ltb, le-ltb, lt-leb, le-leb, not-true}
 use Rattle.bits.specs.Slot.{slot}
 use Rattle.bits.proofs.Tests.{decided, below?}
-use Rattle.routes.specs.Route.{keyOf, Prefix, Fine}
+use Rattle.routes.specs.Route.{key, Fine}
 use Rattle.standing.specs.Cells.{long, need}
-use Rattle.routes.specs.Input.{properPrefix, hopFine}
+use Rattle.routes.specs.Input.{routeFault}
 use Rattle.routes.specs.Said.{refused}
 use Rattle.standing.specs.Standing.{stands, insert}
 use Rattle.routes.specs.declared.Route.{Route}
-use Rattle.routes.proofs.Meaning.{prefix-true, true-prefix, hop-true, true-hop}
+use Rattle.routes.proofs.Meaning.{WrongRoute, RouteChecked, route-checked}
 use Rattle.routes.proofs.Rows.{length-routes}
 use Rattle.standing.proofs.Changed.{insert-adds}
 use Rattle.sail.specs.Lent.{Lent}
@@ -24,7 +25,7 @@ use Rattle.sail.specs.Sizes.{Checked}
 use Rattle.sail.specs.Level.{chunksOf}
 use Rattle.sail.specs.Sound.{standing, used}
 use Rattle.sail.specs.declared.table.Table.{Table}
-use Rattle.sail_theory.specs.Calls.{route, announceSaid}
+use Rattle.sail_theory.specs.Calls.{announceSaid}
 use Rattle.sail_theory.specs.Facts.{Welcome}
 use Rattle.sail_theory.proofs.Judged.{Proper, Roomy, Announce}
 use Rattle.sail_theory.proofs.Only.{announce-only}
@@ -55,32 +56,29 @@ over rs r p own w fine limit h = go (decided (ltb p (r .len))) (decided (long rs
     go (inl e) (inr d) (inl z) = rw (e, d, lt-leb limit (used own) z) (sym (le-ltb limit (need (insert r rs) p) (omega (arith, w .counted, need-more r rs fine (w .good) p (w .small) e d))))
     go (inl e) (inr d) (inr z) = rw (e, d, le-leb limit (used own) z) (sym (lt-ltb limit (need (insert r rs) p) (omega (arith, w .counted, need-more r rs fine (w .good) p (w .small) e d))))
 
-module _ (t : Table) (l : Lent) (a len hop : ℕ) where
+module _ (t : Table) (l : Lent) (r : Route) where
   abbrev rs : List Route
   rs = standing t l
 
-  abbrev r : Route
-  r = route a len hop
-
   abbrev Told : ℕ → Type 0
-  Told n = Judged n (announceSaid t l a len hop) (Welcome t l r)
+  Told n = Judged n (announceSaid t l r) (Welcome t l r)
 
-  off : (n : ℕ) → 1 ≤ n → Announce t l a len hop (refused n) → Told n
-  off n h x = judged-off n _ _ h (announce-only t l a len hop (refused n) x)
+  off : (n : ℕ) → 1 ≤ n → Announce t l r (refused n) → Told n
+  off n h x = judged-off n _ _ h (announce-only t l r (refused n) x)
 
   -- b tells whether the prefix stands
-  module _ (x : ℕ) (b : Bool) (p : Proper t l a len hop) (key : x ≡ keyOf a len) (e : b ≡ stands x rs) where
-    stands-is : b ≡ stands (keyOf a len) rs
-    stands-is = rw (← key) e
+  module _ (x : ℕ) (b : Bool) (p : Proper t l r) (named : x ≡ key r) (e : b ≡ stands x rs) where
+    stands-is : b ≡ stands (key r) rs
+    stands-is = rw (← named) e
 
     pub room-stands : b ≡ true → Told 0
-    room-stands h = judged-on _ _ (replaced-welcome t l a len hop p (sym stands-is ∙ h))
+    room-stands h = judged-on _ _ (replaced-welcome t l r p (sym stands-is ∙ h))
 
     pub room-full : b ≡ false → length (l .list) / 8 ≤ t .count → Told 6
     room-full h f = off 6 (omega arith) (Announce.full p (sym stands-is ∙ h) (rw length-routes f))
 
-    module _ (h : b ≡ false) (f : t .count < length (l .list) / 8) (o : Opening) (k : Opens (t .geometry) rs (l .own2) a len o) where
-      roomy : Roomy t l a len hop
+    module _ (h : b ≡ false) (f : t .count < length (l .list) / 8) (o : Opening) (k : Opens (t .geometry) rs (l .own2) (r .addr) (r .len) o) where
+      roomy : Roomy t l r
       roomy = record { proper = p; new = sym stands-is ∙ h; room = rw length-routes f }
 
       -- the test of a pool tells whether the need exceeds it
@@ -116,23 +114,25 @@ module _ (t : Table) (l : Lent) (a len hop : ℕ) where
     unfolding announceSaid
     judge-sizes h = record { off = λ _. or-said _ z _ (check .number) h; on = λ e. absurd (h e) }
 
-    module _ (h : z ≡ 0) (b : Bool) (e : b ≡ properPrefix a len) where
-      pub judge-prefix : not b ≡ true → Told 3
-      judge-prefix n = off 3 (omega arith) (Announce.bad-prefix (check .facts h) (λ q. true≢false (sym (true-prefix a len q) ∙ sym e ∙ not-true b n)))
+    -- f is what is wrong with the route by itself
+    module _ (h : z ≡ 0) (f : ℕ) (e : f ≡ routeFault r) where
+      pub judge-route : (f ≡ 0 → ⊥) → Told f
+      judge-route n = off f (pos-of-ne-zero n) (Announce.wrong f (check .facts h) (go (rw (← e) at (route-checked r))))
+        where
+          go : RouteChecked r f → WrongRoute r f
+          go (RouteChecked.fine q g) = absurd (n q)
+          go (RouteChecked.wrong q w) = w
 
-      module _ (p : not b ≡ false) (c : Bool) (f : c ≡ hopFine hop) where
-        prefix : Prefix a len
-        prefix = prefix-true a len (sym e ∙ not-false b p)
+      module _ (n : f ≡ 0) (d : Bool) (k : Tried d t l) where
+        fine : Fine r
+        fine = go (rw (← e) at (route-checked r))
+          where
+            go : RouteChecked r f → Fine r
+            go (RouteChecked.fine q g) = g
+            go (RouteChecked.wrong q w) = absurd (omega arith)
 
-        pub judge-hop : not c ≡ true → Told 4
-        judge-hop n = off 4 (omega arith) (Announce.bad-hop (check .facts h) prefix (λ i j. true≢false (sym (true-hop hop i j) ∙ sym f ∙ not-true c n)))
+        pub judge-sound : not d ≡ true → Told 5
+        judge-sound y = off 5 (omega arith) (Announce.unsound (check .facts h) fine (λ s. true≢false (sym (k .tells .1 s) ∙ not-true d y)))
 
-        module _ (q : not c ≡ false) (d : Bool) (k : Tried d t l) where
-          fine : Fine r
-          fine = let g = hop-true hop (sym f ∙ not-false c q) in record { prefix = prefix; hop-one = g .0; hop-ok = g .1; spare-ok = refl }
-
-          pub judge-sound : not d ≡ true → Told 5
-          judge-sound n = off 5 (omega arith) (Announce.unsound (check .facts h) fine (λ s. true≢false (sym (k .tells .1 s) ∙ not-true d n)))
-
-          pub judge-proper : not d ≡ false → Proper t l a len hop
-          judge-proper n = record { fine = fine; sound = tried-sound t l d k n }
+        pub judge-proper : not d ≡ false → Proper t l r
+        judge-proper y = record { fine = fine; sound = tried-sound t l d k y }

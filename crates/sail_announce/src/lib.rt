@@ -6,7 +6,7 @@ ghost use Rattle.bits.specs.Count.{bit};
 ghost use Rattle.lists.specs.Edit.{countWith, saysPut};
 ghost use Rattle.routes.specs.Said.{accepted};
 ghost use Rattle.sail.specs.Lent.{lent};
-ghost use Rattle.sail_theory.specs.Calls.{route, announceSaid, out, announced};
+ghost use Rattle.sail_theory.specs.Calls.{route, announceSaid, out, adding, told, announced};
 ghost use Rattle.sail_theory.specs.Facts.{Welcome};
 ghost use Rattle.sail_theory.proofs.Judged.{Proper};
 ghost use Rattle.sail_calls.specs.Judge.{Judged};
@@ -24,6 +24,7 @@ use routes::input;
 use routes::record;
 use sail::table::Table;
 use sail::table::sizes;
+use sail_calls::clear::clear;
 use sail_calls::renew::renew;
 use sail_change::chunks::wanting;
 use sail_change::opening::open;
@@ -40,15 +41,13 @@ fn judge_room(
     third: &[u16],
     own2: &[u32],
     own3: &[u32],
-    addr: u32,
-    len: u8,
-    hop: u16,
+    r: Route,
 ) -> u8
-    requires { ⌜ Proper t (lent (now list) (now first) (now second) (now third) (now own2) (now own3)) addr len hop ⌝ }
-    ensures { λ r. ⌜ Judged r (announceSaid t (lent (now (list .entry)) (now (first .entry)) (now (second .entry)) (now (third .entry)) (now (own2 .entry)) (now (own3 .entry))) addr len hop) (Welcome t (lent (now (list .entry)) (now (first .entry)) (now (second .entry)) (now (third .entry)) (now (own2 .entry)) (now (own3 .entry))) (route addr len hop)) ⌝ }
+    requires { ⌜ Proper t (lent (now list) (now first) (now second) (now third) (now own2) (now own3)) r ⌝ }
+    ensures { λ n. ⌜ Judged n (announceSaid t (lent (now (list .entry)) (now (first .entry)) (now (second .entry)) (now (third .entry)) (now (own2 .entry)) (now (own3 .entry))) r) (Welcome t (lent (now (list .entry)) (now (first .entry)) (now (second .entry)) (now (third .entry)) (now (own2 .entry)) (now (own3 .entry))) r) ⌝ }
 {
     let n = t.count as usize;
-    let p = record::key_of(addr, len);
+    let p = record::key_of(r.addr, r.len);
     let k = place(list, n, p);
     if edit::stands_at(list, n, k, p) {
         return 0;
@@ -56,7 +55,7 @@ fn judge_room(
     if list.len() / 8 <= n {
         return 6;
     }
-    let o = to_open(t, list, first, second, own2, own3, addr, len);
+    let o = to_open(t, list, first, second, own2, own3, r.addr, r.len);
     if wanting(o.second, in_use(own2) as usize, own2.len()) {
         return 7;
     }
@@ -75,26 +74,22 @@ fn judge_announce(
     third: &[u16],
     own2: &[u32],
     own3: &[u32],
-    addr: u32,
-    len: u8,
-    hop: u16,
+    r: Route,
 ) -> u8
-    ensures { λ r. ⌜ Judged r (announceSaid t (lent (now (list .entry)) (now (first .entry)) (now (second .entry)) (now (third .entry)) (now (own2 .entry)) (now (own3 .entry))) addr len hop) (Welcome t (lent (now (list .entry)) (now (first .entry)) (now (second .entry)) (now (third .entry)) (now (own2 .entry)) (now (own3 .entry))) (route addr len hop)) ⌝ }
+    ensures { λ n. ⌜ Judged n (announceSaid t (lent (now (list .entry)) (now (first .entry)) (now (second .entry)) (now (third .entry)) (now (own2 .entry)) (now (own3 .entry))) r) (Welcome t (lent (now (list .entry)) (now (first .entry)) (now (second .entry)) (now (third .entry)) (now (own2 .entry)) (now (own3 .entry))) r) ⌝ }
 {
     let s = sizes(t, list, first, second, third, own2, own3);
     if s != 0 {
         return s;
     }
-    if !input::prefix_ok(addr, len) {
-        return 3;
-    }
-    if !input::hop_ok(hop) {
-        return 4;
+    let f = input::route_fault(r);
+    if f != 0 {
+        return f;
     }
     if !sound(t, list, first, second, third, own2, own3) {
         return 5;
     }
-    judge_room(t, list, first, second, third, own2, own3, addr, len, hop)
+    judge_room(t, list, first, second, third, own2, own3, r)
 }
 
 // How many routes stand after one was put into n.
@@ -108,18 +103,18 @@ fn count_with(p: Put, n: usize) -> usize
     }
 }
 
-// What putting a route into the list answers for the table.
-fn answer_of(p: Put) -> Announce
-    ensures { λ r. ⌜ saysAnnounce r ≡ accepted (bit (saysPut p) ∷ []) ⌝ }
+// What putting a route into the list answers for the table, where bits were cleared or not.
+fn answer_of(p: Put, cleared: bool) -> Announce
+    ensures { λ r. ⌜ saysAnnounce r ≡ accepted (bit cleared ∷ bit (saysPut p) ∷ []) ⌝ }
 {
     match p {
-        Put::Added => Announce::Added,
-        Put::Replaced => Announce::Replaced,
+        Put::Added => Announce::Added(cleared),
+        Put::Replaced => Announce::Replaced(cleared),
     }
 }
 
 // The announcement, where nothing speaks against it: chunks are opened, the route is put into the list, and what it
-// touches is painted again.
+// touches is painted again. The answer tells whether bits were cleared.
 fn add(
     t: Table,
     list: &mut [u8],
@@ -128,20 +123,13 @@ fn add(
     third: &mut [u16],
     own2: &mut [u32],
     own3: &mut [u32],
-    addr: u32,
-    len: u8,
-    hop: u16,
+    r: Route,
+    cleared: bool,
 ) -> Announced
-    requires { ⌜ Welcome t (lent (now list) (now first) (now second) (now third) (now own2) (now own3)) (route addr len hop) ⌝ }
-    ensures { λ r. ⌜ out (saysAnnounce (r .answer)) (r .table) (lent (now (list .exit)) (now (first .exit)) (now (second .exit)) (now (third .exit)) (now (own2 .exit)) (now (own3 .exit))) ≡ announced t (lent (now (list .entry)) (now (first .entry)) (now (second .entry)) (now (third .entry)) (now (own2 .entry)) (now (own3 .entry))) addr len hop ⌝ }
+    requires { ⌜ Welcome t (lent (now list) (now first) (now second) (now third) (now own2) (now own3)) r ⌝ }
+    ensures { λ o. ⌜ out (saysAnnounce (o .answer)) (o .table) (lent (now (list .exit)) (now (first .exit)) (now (second .exit)) (now (third .exit)) (now (own2 .exit)) (now (own3 .exit))) ≡ told cleared (adding t (lent (now (list .entry)) (now (first .entry)) (now (second .entry)) (now (third .entry)) (now (own2 .entry)) (now (own3 .entry))) r) ⌝ }
 {
     let g = t.geometry;
-    let r = Route {
-        addr,
-        len,
-        spare: 0,
-        hop,
-    };
     let n = t.count as usize;
     open(t, r, list, first, second, own2, own3);
     let p = edit::insert(list, n, r);
@@ -150,8 +138,8 @@ fn add(
         g,
         list,
         m,
-        addr,
-        record::wide(len),
+        r.addr,
+        record::wide(r.len),
         first,
         second,
         third,
@@ -163,13 +151,14 @@ fn add(
         count: m as u32,
     };
     Announced {
-        answer: answer_of(p),
+        answer: answer_of(p, cleared),
         table: u,
     }
 }
 
-// Adds the route to the prefix of len bits of addr, or replaces its hop where one stands, and says which. A refusal
-// leaves the state and all that is lent as they were.
+// Adds the route to the prefix of len bits of addr, or replaces its hop and mark where one stands, and says which. Bits of
+// addr after the length are cleared first, and an accepted answer says whether any were. The mark is 1 for an attached
+// network. A refusal leaves the state and all that is lent as they were.
 pub fn announce(
     t: Table,
     list: &mut [u8],
@@ -181,15 +170,23 @@ pub fn announce(
     addr: u32,
     len: u8,
     hop: u16,
+    mark: u8,
 ) -> Announced
-    ensures { λ r. ⌜ out (saysAnnounce (r .answer)) (r .table) (lent (now (list .exit)) (now (first .exit)) (now (second .exit)) (now (third .exit)) (now (own2 .exit)) (now (own3 .exit))) ≡ announced t (lent (now (list .entry)) (now (first .entry)) (now (second .entry)) (now (third .entry)) (now (own2 .entry)) (now (own3 .entry))) addr len hop ⌝ }
+    ensures { λ r. ⌜ out (saysAnnounce (r .answer)) (r .table) (lent (now (list .exit)) (now (first .exit)) (now (second .exit)) (now (third .exit)) (now (own2 .exit)) (now (own3 .exit))) ≡ announced t (lent (now (list .entry)) (now (first .entry)) (now (second .entry)) (now (third .entry)) (now (own2 .entry)) (now (own3 .entry))) (route addr len hop mark) ⌝ }
 {
-    let z = judge_announce(t, list, first, second, third, own2, own3, addr, len, hop);
+    let a = clear(addr, len);
+    let r = Route {
+        addr: a,
+        len,
+        mark,
+        hop,
+    };
+    let z = judge_announce(t, list, first, second, third, own2, own3, r);
     if z != 0 {
         return Announced {
             answer: Announce::Refused(z),
             table: t,
         };
     }
-    add(t, list, first, second, third, own2, own3, addr, len, hop)
+    add(t, list, first, second, third, own2, own3, r, a != addr)
 }

@@ -1,20 +1,24 @@
--- A search for a chunk, and a chunk hung or closed. Assumes nothing.
+-- A search for a chunk, a prefix that alone needs one, and a chunk hung or closed.
 use mathlib.Core.Path.{_≡_, refl, sym, _∙_}
 use mathlib.Core.Logic.{_⊎_, inl, inr, _≢_}
-use mathlib.Core.Bool.{Bool, true, false, _&&_}
+use mathlib.Core.Bool.{Bool, true, false, not, _&&_, true≢false}
 use mathlib.Core.List.{List}
 use Prim.Native.Nat.{ℕ, suc, _+_, _*_, _^_, _≤_, _<_}
 use native.Mathlib.Omega.{arith}
 use native.Mathlib.Nat.{mul-le-mul-right, suc-mul, one-mul}
-use lib.Dec.{leb}
+use lib.Dec.{ltb, leb}
 use lib.ListN.{getD, length, set, length-set, List·getD-eq-default}
 use lib.Seq.{getD-set-same, getD-set-other}
-use Rattle.bits.proofs.Tests.{equal?, below?}
+use borrow.Author.Tests.{ltb-true, lt-ltb, not-true}
+use Rattle.bits.specs.Slot.{slot}
+use Rattle.bits.proofs.Tests.{equal?, below?, decided, and-split}
+use Rattle.standing.specs.Cells.{long}
+use Rattle.routes.specs.declared.Route.{Route}
 use Rattle.plan.specs.Paint.{filled, Range}
 use Rattle.sail.specs.Level.{chunksOf}
 use Rattle.sail_theory.specs.Render.{find}
 use Rattle.sail_theory.proofs.Chunks.{chunk-is, chunk-none}
-use Rattle.sail_change.specs.Chunks.{hung, closed, blanked, Closing}
+use Rattle.sail_change.specs.Chunks.{hung, closed, blanked, alone, Closing}
 
 -- no owner before c is o
 abbrev pub Others : List ℕ → ℕ → ℕ → Type 0
@@ -25,6 +29,26 @@ named-here own o c l u e = (sym (chunk-is (chunksOf own) o c l e u), omega arith
 
 pub named-nowhere : (own : List ℕ) (o c : ℕ) → c ≤ length own → length own ≤ c → Others own o c → (c ≡ find own o) × (c ≤ length own)
 named-nowhere own o c l m u = let e : c ≡ length own = omega arith in (e ∙ sym (chunk-none (chunksOf own) o (λ j i. u j (omega arith))), l)
+
+-- a prefix that alone needs a chunk of level p is longer than p, and its cell is not long
+module _ (rs : List Route) (p a len : ℕ) where
+  pub alone-parts : alone rs p a len ≡ true → (ltb p len ≡ true) × (long rs p (slot p a) ≡ false)
+  unfolding alone
+  alone-parts e = let k = and-split (ltb p len) (not (long rs p (slot p a))) e in (k .0, not-true _ (k .1))
+
+  pub alone-longer : alone rs p a len ≡ true → p < len
+  alone-longer e = ltb-true p len (alone-parts e .0)
+
+  pub is-alone : ltb p len ≡ true → long rs p (slot p a) ≡ false → alone rs p a len ≡ true
+  unfolding alone
+  is-alone h d = rw (h, d)
+
+  pub not-alone : p < len → alone rs p a len ≡ false → long rs p (slot p a) ≡ true
+  not-alone h e = go (decided (long rs p (slot p a)))
+    where
+      go : (long rs p (slot p a) ≡ true) ⊎ (long rs p (slot p a) ≡ false) → long rs p (slot p a) ≡ true
+      go (inl d) = d
+      go (inr d) = absurd (true≢false (sym (is-alone (lt-ltb p len h) d) ∙ e))
 
 -- what `wanting` answers, where a chunk is to be opened
 pub wanting-on : (b : Bool) (used limit : ℕ) → b ≡ true → leb limit used ≡ (b && leb limit used)

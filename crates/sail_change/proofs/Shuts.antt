@@ -1,4 +1,4 @@
--- The cells of a pool after a chunk was closed: those of chunks in use are as they were, and the others are 0. Assumes nothing.
+-- The cells of a pool after a chunk was closed: those of chunks in use are as they were, and the others are 0.
 use mathlib.Core.Path.{_≡_, refl, sym, _∙_, ap}
 use mathlib.Core.Logic.{_⊎_, inl, inr, _≢_}
 use mathlib.Core.Bool.{Bool, true, false, cond}

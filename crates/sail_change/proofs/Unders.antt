@@ -1,4 +1,4 @@
--- Whether a list has a route under a cell, by the record at one place. Assumes nothing.
+-- Whether a list has a route under a cell, by the record at one place.
 use mathlib.Core.Path.{_≡_, refl, sym, _∙_, ap}
 use mathlib.Core.Logic.{_⊎_, inl, inr, _≢_}
 use mathlib.Core.Bool.{Bool, true, false, not, _&&_, or-true}

@@ -1,4 +1,4 @@
--- A chunk opened or closed, where that is asked: at most one owner changes, and a closed chunk's cells are 0. Assumes nothing.
+-- A chunk opened or closed, where that is asked: at most one owner changes, and a closed chunk's cells are 0.
 use mathlib.Core.Bool.{Bool, true, not, _&&_, cond}
 use mathlib.Core.List.{List}
 use mathlib.Core.Path.{_≡_}

@@ -1,17 +1,15 @@
--- What an announcement opens. Assumes nothing.
+-- What an announcement opens.
 use mathlib.Core.Bool.{false}
 use mathlib.Core.List.{List}
 use mathlib.Core.Path.{_≡_}
 use Prim.Native.Nat.{ℕ, suc, _≤_, _<_}
 use lib.ListN.{length}
 use Rattle.bits.specs.Slot.{slot}
+use Rattle.routes.specs.Route.{Fine, Good}
 use Rattle.routes.specs.declared.Route.{Route}
-use Rattle.sail.specs.Level.{chunksOf, level1, level2}
 use Rattle.sail.specs.declared.geometry.Geometry.{Geometry}
 use Rattle.sail_theory.specs.Render.{find}
-use Rattle.sail_theory.specs.Calls.{opening}
-use Rattle.sail_theory.proofs.Grown.{Ready}
-use Rattle.sail_change.specs.Chunks.{alone}
+use Rattle.sail_change.specs.Chunks.{alone, Free}
 use Rattle.sail_change.specs.Trail.{Serving}
 use Rattle.sail_change.specs.declared.opening.Opening.{Opening}
 
@@ -27,8 +25,10 @@ pub record Opens (g : Geometry) (rs : List Route) (own2 : List ℕ) (a len : ℕ
   pub chunk : g .p1 < len → alone rs (g .p1) a len ≡ false → o .chunk ≡ find own2 (suc (slot (g .p1) a))
   pub few : o .chunk < 65536
 
--- the first two levels serve the routes, and r may be announced to both: where a chunk has to be opened, one is free
+-- the first two levels serve good routes, and r may be announced: where it alone needs a chunk, one is free
 pub record Openable (g : Geometry) (rs : List Route) (r : Route) (first second own2 own3 : List ℕ) : Type 0 where
   pub serving : Serving g rs first second own2 own3
-  pub ready2 : Ready rs r (level1 g) own2 (find own2 0)
-  pub ready3 : Ready rs r (level2 g (chunksOf (opening (level1 g) own2 r))) own3 (find own3 0)
+  pub good : Good rs
+  pub fine : Fine r
+  pub free2 : Free (alone rs (g .p1) (r .addr) (r .len)) own2
+  pub free3 : Free (alone rs (g .p2) (r .addr) (r .len)) own3

@@ -1,17 +1,17 @@
--- All that is lent, written anew: what repainting the whole table asks, and what a load leaves. Assumes nothing.
+-- All that is lent, written anew: what repainting the whole table asks, and what a load leaves.
 use mathlib.Core.Path.{_≡_, refl, sym, _∙_, ap, subst}
 use mathlib.Core.Logic.{_⊎_, inl, inr}
-use mathlib.Core.Bool.{Bool, true, false, _&&_, true≢false}
+use mathlib.Core.Bool.{true, false, true≢false}
 use mathlib.Core.List.{List, []}
-use Prim.Native.Nat.{ℕ, suc, _-_, _*_, _/_, _^_, _≤_, _<_, zero-le}
+use Prim.Native.Nat.{ℕ, _-_, _*_, _/_, _^_, _≤_, _<_, zero-le}
 use native.Mathlib.Omega.{arith}
 use native.Mathlib.Nat.{div-eq-of-lt}
 use lib.Dec.{eqb, ltb}
-use lib.ListN.{length, getD, replicate, length-replicate, List·getD-eq-default}
-use borrow.Author.Tests.{le-leb, ltb-true, eqb-true}
+use lib.ListN.{length, getD, replicate, length-replicate}
+use borrow.Author.Tests.{le-leb, eqb-true}
 use Rattle.bits.specs.Slot.{slot}
 use Rattle.bits.proofs.Slots.{slot-lt, cut-zero}
-use Rattle.bits.proofs.Tests.{decided, below?, and-split}
+use Rattle.bits.proofs.Tests.{decided, and-split}
 use Rattle.routes.specs.Route.{Good}
 use Rattle.standing.specs.Cells.{within, long}
 use Rattle.routes.specs.Record.{written}
@@ -31,7 +31,7 @@ use Rattle.sail_theory.specs.Render.{Fits, roomOf}
 use Rattle.sail_theory.specs.Calls.{Owners, settled, noOwners, inputRoutes}
 use Rattle.sail_theory.proofs.Places.{chunk-lt, live-owner}
 use Rattle.sail_theory.proofs.Ends.{any-some}
-use Rattle.sail_theory.proofs.Fresh.{zeros}
+use Rattle.sail.proofs.Fresh.{zeros}
 use Rattle.sail_theory.proofs.Loads.{Fronts, fronts-none, settles}
 use Rattle.sail_make.specs.Fill.{padded}
 use Rattle.sail_owners.specs.Owners.{owners, Ownable}
@@ -156,7 +156,7 @@ module _ (t : Table) (l : Lent) (input : List ℕ) (w : Renewable t input l) whe
 
         renews-then : Repainted g rs (cells (l .first) second third (o .own2) (o .own3)) a b c → lent list a b c (o .own2) (o .own3) ≡ anew t l input
         renews-then p′ =
-            let p = repainted-asked g rs _ (bare-then .celled) (record { blank2 = λ q _ _. bare-then .zero2 q; blank3 = λ q _ _. bare-then .zero3 q }) a b c p′ in
+            let p = repainted-asked g rs _ (bare-then .celled) (record { blank = λ q _ _. bare-then .zero2 q }) (record { blank = λ q _ _. bare-then .zero3 q }) a b c p′ in
             λ i. record { list = listed i; first = p .is-first i; second = p .is-second i; third = p .is-third i; own2 = o .own2; own3 = o .own3 }
 
         pub renews : Repainted g rs (cells (l .first) second third own2 own3) a b c → lent list a b c own2 own3 ≡ anew t l input

@@ -10,6 +10,7 @@ use borrow.Author.Count.{below-more}
 use Rattle.bits.specs.Tab.{tabulate}
 use Rattle.bits.proofs.Tabs.{is-tabulate}
 use Rattle.bits.proofs.Tests.{below?}
+use Rattle.sail.specs.Geometry.{standardGeo}
 use Rattle.sail_many.specs.Words.{step1, step2, step3, answerAt, put, turned, Flowing, Flows, Swept, Range, Spot, Ready}
 
 module _ (f : ℕ → ℕ → ℕ) (j : ℕ) (out : List ℕ) where
@@ -132,14 +133,21 @@ module _ (p1 p2 : ℕ) (first second : List ℕ) (m2 : ℕ) (third : List ℕ) (
   flows-at k e s = rw e at s
 
 -- two turns at the standard geometry, where the levels are its own
-module _ (p1 p2 : ℕ) (e1 : p1 ≡ 16) (e2 : p2 ≡ 24) (first second : List ℕ) (m2 : ℕ) (third : List ℕ) (m3 : ℕ) where
-  pub ready-standard : Ready p1 p2 first second m2 third m3 → Ready 16 24 first second m2 third m3
+abbrev s1 : ℕ
+s1 = standardGeo .p1
+
+abbrev s2 : ℕ
+s2 = standardGeo .p2
+
+module _ (p1 p2 : ℕ) (e1 : p1 ≡ s1) (e2 : p2 ≡ s2) (first second : List ℕ) (m2 : ℕ) (third : List ℕ) (m3 : ℕ) where
+  pub ready-standard : Ready p1 p2 first second m2 third m3 → Ready s1 s2 first second m2 third m3
   ready-standard h = rw (e1, e2) at h
 
-  pub standard-pair : (ads : List ℕ) (j : ℕ) (out xs ys : List ℕ) → xs ≡ turned (step1 16 first ads) (step2 16 24 second m2 ads) (step3 24 third m3 ads) j out
-      → ys ≡ turned (step1 16 first ads) (step2 16 24 second m2 ads) (step3 24 third m3 ads) (j + 1) xs → j + 17 < length ads → Flows p1 p2 first second m2 third m3 ads j out
-      → Flows p1 p2 first second m2 third m3 ads (j + 2) ys
-  standard-pair ads j out xs ys a b room s = rw (e1, e2) (flows-pair 16 24 first second m2 third m3 ads j out xs ys a b room (rw (e1, e2) at s))
+  pub standard-pair : (ads : List ℕ) (j : ℕ) (out xs ys : List ℕ)
+      → xs ≡ turned (step1 s1 first ads) (step2 s1 s2 second m2 ads) (step3 s2 third m3 ads) j out
+      → ys ≡ turned (step1 s1 first ads) (step2 s1 s2 second m2 ads) (step3 s2 third m3 ads) (j + 1) xs
+      → j + 17 < length ads → Flows p1 p2 first second m2 third m3 ads j out → Flows p1 p2 first second m2 third m3 ads (j + 2) ys
+  standard-pair ads j out xs ys a b room s = rw (e1, e2) (flows-pair s1 s2 first second m2 third m3 ads j out xs ys a b room (rw (e1, e2) at s))
 
 -- three passes over all; the passes before the first turn and after the last
 module _ (p1 p2 : ℕ) (first second : List ℕ) (m2 : ℕ) (third : List ℕ) (m3 : ℕ) (ads : List ℕ) where

@@ -11,6 +11,7 @@ use crate::pass::settles;
 use crate::word::descend;
 use crate::word::enter;
 use crate::word::settle;
+use sail::geometry::Geometry;
 
 // One turn: three addresses go one level on.
 fn turn(
@@ -49,11 +50,12 @@ fn round(
     requires { ⌜ Ready p1 p2 (now first) (now second) chunks2 (now third) chunks3 × (j + 17 < length (now addrs)) × Flows p1 p2 (now first) (now second) chunks2 (now third) chunks3 (now addrs) j (now out) ⌝ }
     ensures { λ _. ⌜ Flows p1 p2 (now (first .entry)) (now (second .entry)) chunks2 (now (third .entry)) chunks3 (now (addrs .entry)) (j + 2) (now (out .exit)) ⌝ }
 {
-    if p1 == 16 {
-        if p2 == 24 {
+    let standard = Geometry::STANDARD;
+    if p1 == standard.p1 {
+        if p2 == standard.p2 {
             turn(
-                16,
-                24,
+                standard.p1,
+                standard.p2,
                 first,
                 second,
                 chunks2,
@@ -64,8 +66,8 @@ fn round(
                 j,
             );
             turn(
-                16,
-                24,
+                standard.p1,
+                standard.p2,
                 first,
                 second,
                 chunks2,

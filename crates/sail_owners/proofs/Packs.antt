@@ -1,4 +1,4 @@
--- What giving a chunk an owner leaves, and the chunks of a route. Assumes nothing.
+-- What giving a chunk an owner leaves, and the chunks of a route.
 use mathlib.Core.Path.{_≡_, refl, sym, _∙_, ap}
 use mathlib.Core.Logic.{_⊎_, inl, inr, _≢_}
 use mathlib.Core.List.{List}
@@ -15,12 +15,12 @@ use Rattle.bits.proofs.Slots.{slot-lt}
 use Rattle.bits.proofs.Tests.{equal?}
 use Rattle.routes.specs.declared.Route.{Route}
 use Rattle.sail.specs.Geometry.{bits2, Power}
-use Rattle.sail.specs.Level.{chunksOf, level1, level2}
+use Rattle.sail.specs.Level.{Level, chunksOf, level1}
 use Rattle.sail.specs.declared.geometry.Geometry.{Geometry}
 use Rattle.sail_theory.specs.Render.{find}
-use Rattle.sail_theory.specs.Calls.{openAt, opening}
+use Rattle.sail_theory.specs.Calls.{openAt}
 use Rattle.sail_theory.proofs.Chunks.{chunk-is, chunk-none, chunk-before}
-use Rattle.sail_owners.specs.Owners.{Past, LastIs, Hangs, Moved, stays, goes, Hung, Chunk, placeFor, Opens, Step, none, hung, Opened}
+use Rattle.sail_owners.specs.Owners.{Past, LastIs, Hangs, stays, goes, Hung, Chunk, Next, none, hung, Taken, secondFor, Opens, Opened}
 use Rattle.sail_owners.specs.declared.owners.Pass.{Pass}
 use Rattle.sail_owners.specs.declared.owners.Passes.{Passes}
 
@@ -61,59 +61,57 @@ place-few g c x d k w =
 pub place-at : (g : Geometry) (c x d a : ℕ) → x ≡ slot (g .p2) a → Power d (bits2 g) 1024 → (c - 1) * d + x % d ≡ (c - 1) * 2 ^ bits2 g + slot (g .p2) a % 2 ^ bits2 g
 place-at g c x d a e w = rw (e, w .is)
 
+-- The chunk of a route at one level. A route that is no longer than the level opens none.
+pub taken-none : (v : Level) (r : Route) (u : Pass) (own : List ℕ) → Next v r u own → r .len ≤ v .bits → Taken v r own u u own
+unfolding openAt
+taken-none v r u own n h = record { is = rw (le-ltb (v .bits) (r .len) h); past = n .past; step = none refl refl }
+
+-- the chunk of a longer one hangs from q, the place that serves it
+module _ (v : Level) (r : Route) (u : Pass) (own : List ℕ) (n : Next v r u own) (h : v .bits < r .len) (q : ℕ) (at : q ≡ v .serving (r .addr)) where
+  may-hang : Hangs own u (q + 1)
+  may-hang = rw (at, add-one) (n .hangs h)
+
+  module _ (own′ : List ℕ) (s : Pass) (now : Hung own u (q + 1) own′ s) where
+    here : Hung own u (suc (v .serving (r .addr))) own′ s
+    here = rw (at, add-one) at now
+
+    taken-hung : Taken v r own u s own′
+    taken-hung = record { is = n .grants own′ s h (here .moved); past = here .past; step = hung _ (here .moved) }
+
 -- the chunks of a route, by its length
 module _ (g : Geometry) (r : Route) (u : Passes) (own2 own3 : List ℕ) (o : Opens g r u own2 own3) where
   pub slot-small : (q2 : ℕ) → q2 ≡ slot (g .p1) (r .addr) → q2 < 65536
   slot-small q2 e = let v = o .valid in omega (arith, slot-lt (g .p1) (r .addr) (omega arith) (o .fine .prefix .addr-ok), pow-mono {i = g .p1} {j = 16} (v .p1-high))
 
-  pub hangs-second : g .p1 < r .len → (q2 : ℕ) → q2 ≡ slot (g .p1) (r .addr) → Hangs own2 (u .second) (q2 + 1)
-  hangs-second h q2 e = rw (e, add-one) (o .hangs2 h)
+  no-third : r .len ≤ g .p2 → Taken (secondFor g r own2) r own3 (u .third) (u .third) own3
+  no-third = taken-none (secondFor g r own2) r (u .third) own3 (o .third)
 
   pub opened-none : r .len ≤ g .p1 → Opened g r own2 own3 u u own2 own3
-  unfolding openAt
-  opened-none h =
-      let v = o .valid in
-      record {
-        is2 = rw (le-ltb (g .p1) (r .len) h);
-        is3 = rw (le-ltb (g .p2) (r .len) (omega arith));
-        past2 = o .past2;
-        past3 = o .past3;
-        step2 = none refl refl;
-        step3 = none refl refl;
-      }
+  opened-none h = let v = o .valid in record { second = taken-none (level1 g) r (u .second) own2 (o .second) h; third = no-third (omega arith) }
 
-  module _ (h : g .p1 < r .len) (q2 : ℕ) (cell : q2 ≡ slot (g .p1) (r .addr)) (own2′ : List ℕ) (s2 : Pass) (now : Hung own2 (u .second) (q2 + 1) own2′ s2) where
-    hung2 : Hung own2 (u .second) (suc (slot (g .p1) (r .addr))) own2′ s2
-    hung2 = rw (cell, add-one) at now
+  module _ (h : g .p1 < r .len) (q2 : ℕ) (cell : q2 ≡ slot (g .p1) (r .addr)) where
+    pub hangs-second : Hangs own2 (u .second) (q2 + 1)
+    hangs-second = may-hang (level1 g) r (u .second) own2 (o .second) h q2 cell
 
-    pub chunk-second : length own2′ ≡ length own2 → Chunk g (s2 .last)
-    chunk-second e = record { valid = o .valid; one = omega (arith, now .last); few = omega (arith, now .inside, o .few2) }
+    module _ (own2′ : List ℕ) (s2 : Pass) (now : Hung own2 (u .second) (q2 + 1) own2′ s2) where
+      pub chunk-second : length own2′ ≡ length own2 → Chunk g (s2 .last)
+      chunk-second e = record { valid = o .valid; one = omega (arith, now .last); few = omega (arith, now .inside, o .few2) }
 
-    second : own2′ ≡ opening (level1 g) own2 r
-    second = o .grants2 own2′ s2 h (hung2 .moved)
+      second : Taken (level1 g) r own2 (u .second) s2 own2′
+      second = taken-hung (level1 g) r (u .second) own2 (o .second) h q2 cell own2′ s2 now
 
-    pub opened-second : r .len ≤ g .p2 → Opened g r own2 own3 u (record { second = s2; third = u .third }) own2′ own3
-    unfolding openAt
-    opened-second k = record { is2 = second; is3 = rw (le-ltb (g .p2) (r .len) k); past2 = hung2 .past; past3 = o .past3; step2 = hung _ (hung2 .moved); step3 = none refl refl }
+      pub opened-second : r .len ≤ g .p2 → Opened g r own2 own3 u (record { second = s2; third = u .third }) own2′ own3
+      opened-second k = record { second = second; third = no-third k }
 
-    -- where the third chunk hangs
-    module _ (k : g .p2 < r .len) (q3 : ℕ) (at : q3 ≡ (s2 .last - 1) * 2 ^ bits2 g + slot (g .p2) (r .addr) % 2 ^ bits2 g) where
-      place-is : q3 ≡ placeFor g r own2
-      place-is =
-          let e : find own2′ (suc (slot (g .p1) (r .addr))) ≡ s2 .last - 1 = omega (arith, hung2 .last) in
-          rw (← second, e) at
+      -- where the third chunk hangs
+      module _ (k : g .p2 < r .len) (q3 : ℕ) (at : q3 ≡ (s2 .last - 1) * 2 ^ bits2 g + slot (g .p2) (r .addr) % 2 ^ bits2 g) where
+        place-is : q3 ≡ secondFor g r own2 .serving (r .addr)
+        place-is =
+            let e : find own2′ (suc (slot (g .p1) (r .addr))) ≡ s2 .last - 1 = omega (arith, here (level1 g) r (u .second) own2 (o .second) h q2 cell own2′ s2 now .last) in
+            rw (← second .is, e) at
 
-      pub hangs-third : Hangs own3 (u .third) (q3 + 1)
-      hangs-third = rw (place-is, add-one) (o .hangs3 k)
+        pub hangs-third : Hangs own3 (u .third) (q3 + 1)
+        hangs-third = may-hang (secondFor g r own2) r (u .third) own3 (o .third) k q3 place-is
 
-      pub opened-third : (own3′ : List ℕ) (s3 : Pass) → Hung own3 (u .third) (q3 + 1) own3′ s3 → Opened g r own2 own3 u (record { second = s2; third = s3 }) own2′ own3′
-      opened-third own3′ s3 now3 =
-          let hung3 : Hung own3 (u .third) (suc (placeFor g r own2)) own3′ s3 = rw (place-is, add-one) at now3 in
-          record {
-            is2 = second;
-            is3 = o .grants3 own3′ s3 k (hung3 .moved);
-            past2 = hung2 .past;
-            past3 = hung3 .past;
-            step2 = hung _ (hung2 .moved);
-            step3 = hung _ (hung3 .moved);
-          }
+        pub opened-third : (own3′ : List ℕ) (s3 : Pass) → Hung own3 (u .third) (q3 + 1) own3′ s3 → Opened g r own2 own3 u (record { second = s2; third = s3 }) own2′ own3′
+        opened-third own3′ s3 now3 = record { second = second; third = taken-hung (secondFor g r own2) r (u .third) own3 (o .third) k q3 place-is own3′ s3 now3 }

@@ -1,6 +1,6 @@
--- The pass over the records of a load: after the first k of them the owners are those of announcing these k in order. Assumes nothing.
+-- The pass over the records of a load: after the first k of them the owners are those of announcing these k in order.
 use mathlib.Core.Path.{_≡_, refl, sym, _∙_, ap}
-use mathlib.Core.Logic.{_⊎_, inl, inr, _≢_}
+use mathlib.Core.Logic.{_⊎_, inl, inr}
 use mathlib.Core.List.{List, _∷_}
 use Prim.Native.Nat.{ℕ, suc, _+_, _-_, _*_, _/_, _^_, _≤_, _<_}
 use native.Mathlib.Omega.{arith}
@@ -8,7 +8,6 @@ use native.Mathlib.Numerals.{add-one}
 use lib.ListN.{length, getD, set, replicate, take, drop, length-replicate, take-append-drop}
 use lib.Seq.{take-suc, drop-cons, take-all}
 use Rattle.bits.proofs.Tests.{below?}
-use Rattle.bits.specs.Slot.{slot}
 use Rattle.routes.specs.Record.{recordAt, noRoute}
 use Rattle.routes.specs.declared.Route.{Route}
 use Rattle.routes.proofs.Rows.{length-routes, nth-route, records-good}
@@ -19,14 +18,14 @@ use Rattle.sail.specs.declared.geometry.Geometry.{Geometry}
 use Rattle.sail.specs.declared.table.Table.{Table}
 use Rattle.sail_theory.specs.Render.{find}
 use Rattle.sail_theory.specs.Calls.{opening, settled, noOwners, inputRoutes}
-use Rattle.sail.specs.Level.{chunksOf, level1, level2}
+use Rattle.sail.specs.Level.{Level, chunksOf, level1}
 use Rattle.sail_theory.specs.Facts.{Loadable}
 use Rattle.sail_theory.proofs.Ends.{good-next}
-use Rattle.sail_theory.proofs.Fresh.{zeros}
+use Rattle.sail.proofs.Fresh.{zeros}
 use Rattle.sail_theory.proofs.Chunks.{chunk-is, chunk-le}
 use Rattle.sail_theory.proofs.Passing.{Passing, passing, settled-snoc, next-free, climbs1, climbs2}
-use Rattle.sail_theory.proofs.Ascends.{Rising, step-had, step-new}
-use Rattle.sail_owners.specs.Owners.{owners, Past, LastIs, Hangs, Moved, stays, goes, placeFor, Opens, Step, none, hung, Opened, Ownable}
+use Rattle.sail_theory.proofs.Ascends.{Climbs, step-had, step-new}
+use Rattle.sail_owners.specs.Owners.{owners, Past, LastIs, Moved, stays, goes, Next, Step, none, hung, Taken, secondFor, Opens, Opened, Ownable}
 use Rattle.sail_owners.specs.declared.owners.Pass.{Pass}
 use Rattle.sail_owners.specs.declared.owners.Passes.{Passes}
 
@@ -37,45 +36,59 @@ state g = record { geometry = g; count = 0 }
 abbrev shape : Geometry → List ℕ → List ℕ → List ℕ → Lent
 shape g input own2 own3 = lent (replicate (length input / 8 * 8) 0) (replicate (2 ^ g .p1) 0) (replicate (length own2 * 2 ^ bits2 g) 0) (replicate (length own3 * 2 ^ bits3 g) 0) own2 own3
 
--- after the first k records; the last chunk opened is the last in use
+-- how far the pass over a pool has come: chunks before `free` are in use, and the last chunk opened is the last in use
+pub record Reached (own : List ℕ) (u : Pass) : Type 0 where
+  pub past : Past own (u .free)
+  pub last : find own 0 ≡ u .last
+
+-- after the first k records
 pub record Passed (g : Geometry) (input start2 start3 : List ℕ) (k : ℕ) (own2 own3 : List ℕ) (u : Passes) : Type 0 where
   pub is : owners own2 own3 ≡ settled g (owners start2 start3) (take k (inputRoutes input))
-  pub past2 : Past own2 (u .second .free)
-  pub past3 : Past own3 (u .third .free)
-  pub last2 : find own2 0 ≡ u .second .last
-  pub last3 : find own3 0 ≡ u .third .last
+  pub second : Reached own2 (u .second)
+  pub third : Reached own3 (u .third)
 
--- a chunk hangs from q, as the laws of announcing in order have it: `next` are the owners then
-module _ (own next : List ℕ) (u : Pass) (q : ℕ) (past : Past own (u .free)) (last : find own 0 ≡ u .last)
-    (had : (k : ℕ) → getD own k 0 ≡ suc q → (next ≡ own) × (find own (suc q) ≡ k))
-    (new : ((k : ℕ) → find own 0 ≡ suc k → getD own k 0 ≢ suc q) → (find own 0 < length own) × (next ≡ set own (find own 0) (suc q)) × (find next (suc q) ≡ find own 0)) where
-  fresh : (LastIs own (u .last) (suc q) → ⊥) → (k : ℕ) → find own 0 ≡ suc k → getD own k 0 ≢ suc q
-  fresh e k a b = let x : u .last - 1 ≡ k = omega (arith, last) in e (record { some = omega (arith, last); is = rw x b })
+-- The next route climbs at a level: its place has the last chunk that was opened, or gets the next that is free.
+module _ (xs : List Route) (r : Route) (v : Level) (own : List ℕ) (w : Climbs xs r v own) (u : Pass) (p : Reached own u) where
+  abbrev q : ℕ
+  q = v .serving (r .addr)
 
-  hangs : Hangs own u (suc q)
-  hangs = record {
-    past = past;
-    inside = omega (arith, last, chunk-le (chunksOf own) 0);
-    some = omega arith;
-    had = λ e. omega (arith, had (u .last - 1) (e .is) .1, e .some);
-    new = λ e. let z = new (fresh e) in (z .0, rw (← z .1) (z .2));
+  had : v .bits < r .len → LastIs own (u .last) (suc q) → (opening v own r ≡ own) × (find own (suc q) ≡ u .last - 1)
+  had h e = step-had xs r v own w h (u .last - 1) (e .is)
+
+  new : v .bits < r .len → (LastIs own (u .last) (suc q) → ⊥) → (find own 0 < length own) × (opening v own r ≡ set own (find own 0) (suc q)) × (find (opening v own r) (suc q) ≡ find own 0)
+  new h e = step-new xs r v own w h (λ k a b.
+      let x : u .last - 1 ≡ k = omega (arith, p .last) in
+      e (record { some = omega (arith, p .last); is = rw x b }))
+
+  granted : v .bits < r .len → (own′ : List ℕ) (s : Pass) → Moved own u (suc q) own′ s → own′ ≡ opening v own r
+  granted h own′ s (stays e is _) = is ∙ sym (had h e .0)
+  granted h own′ s (goes e _ is _) = is ∙ sym (new h e .1)
+
+  climbs-next : Next v r u own
+  climbs-next = record {
+    past = p .past;
+    hangs = λ h. record {
+      past = p .past;
+      inside = omega (arith, p .last, chunk-le (chunksOf own) 0);
+      some = omega arith;
+      had = λ e. omega (arith, had h e .1, e .some);
+      new = λ e. let z = new h e in (z .0, rw (← z .1) (z .2));
+    };
+    grants = λ own′ s h m. granted h own′ s m;
   }
 
-  granted : (own′ : List ℕ) (r : Pass) → Moved own u (suc q) own′ r → own′ ≡ next
-  granted own′ r (stays e is _) = is ∙ sym (had (u .last - 1) (e .is) .0)
-  granted own′ r (goes e _ is _) = is ∙ sym (new (fresh e) .1)
+  -- then the last chunk opened is the last in use
+  climbs-taken : (s : Pass) (own′ : List ℕ) → Taken v r own u s own′ → Reached own′ s
+  climbs-taken s own′ t = record { past = t .past; last = last (t .step) }
+    where
+      last : Step own u own′ s → find own′ 0 ≡ s .last
+      last (none e f) = ap (λ (x : List ℕ). find x 0) e ∙ p .last ∙ ap (λ (x : Pass). x .last) (sym f)
+      last (hung z (stays _ e f)) = ap (λ (x : List ℕ). find x 0) e ∙ p .last ∙ sym f
+      last (hung z (goes _ h e f)) = ap (λ (x : List ℕ). find x 0) e ∙ next-free own z (w .rising) h ∙ sym f
 
--- then the last chunk opened is the last in use
-step-last : (own : List ℕ) (u : Pass) (own′ : List ℕ) (r : Pass) → Rising own → find own 0 ≡ u .last → Step own u own′ r → find own′ 0 ≡ r .last
-step-last own u own′ r up l (none e f) = ap (λ (x : List ℕ). find x 0) e ∙ l ∙ ap (λ (x : Pass). x .last) (sym f)
-step-last own u own′ r up l (hung q (stays _ e f)) = ap (λ (x : List ℕ). find x 0) e ∙ l ∙ sym f
-step-last own u own′ r up l (hung q (goes _ h e f)) = ap (λ (x : List ℕ). find x 0) e ∙ next-free own q up h ∙ sym f
-
-none-past : (own : List ℕ) → Past own 0
-none-past own = record { few = omega arith; used = λ j i. absurd (omega arith) }
-
-none-last : (own : List ℕ) → own ≡ replicate (length own) 0 → find own 0 ≡ 0
-none-last own e = go (below? 0 (length own))
+-- before the first record no chunk is in use
+none-reached : (own : List ℕ) → own ≡ replicate (length own) 0 → Reached own (record { last = 0; free = 0 })
+none-reached own e = record { past = record { few = omega arith; used = λ j i. absurd (omega arith) }; last = go (below? 0 (length own)) }
   where
     go : (0 < length own) ⊎ (length own ≤ 0) → find own 0 ≡ 0
     go (inl l) = chunk-is (chunksOf own) 0 0 l (ap (λ (x : List ℕ). getD x 0 0) e ∙ zeros (length own) 0) (λ j i. absurd (omega arith))
@@ -121,7 +134,7 @@ module _ (g : Geometry) (input start2 start3 : List ℕ) (w : Ownable g input st
   -- before the first
   pub passed-none : Passed g input start2 start3 0 start2 start3 (record { second = record { last = 0; free = 0 }; third = record { last = 0; free = 0 } })
   unfolding settled
-  passed-none = record { is = refl; past2 = none-past start2; past3 = none-past start3; last2 = none-last start2 (w .none2); last3 = none-last start3 (w .none3) }
+  passed-none = record { is = refl; second = none-reached start2 (w .none2); third = none-reached start3 (w .none3) }
 
   module _ (k : ℕ) (own2 own3 : List ℕ) (u : Passes) (p : Passed g input start2 start3 k own2 own3 u) where
     abbrev xs : List Route
@@ -152,46 +165,25 @@ module _ (g : Geometry) (input start2 start3 : List ℕ) (w : Ownable g input st
       on : Passing t l xs (r ∷ ys) (owners own2 own3)
       on = rw (drop-cons rs k noRoute inside, nth) at stands
 
-      abbrev q2 : ℕ
-      q2 = slot (g .p1) (r .addr)
+      -- it climbs at both levels
+      climbs-first : Climbs xs r (level1 g) own2
+      climbs-first = climbs1 t l xs r ys (owners own2 own3) on
 
-      had2 : g .p1 < r .len → (c : ℕ) → getD own2 c 0 ≡ suc q2 → (opening (level1 g) own2 r ≡ own2) × (find own2 (suc q2) ≡ c)
-      had2 h = step-had xs r _ own2 (climbs1 t l xs r ys (owners own2 own3) on) h
-
-      new2 : g .p1 < r .len → ((c : ℕ) → find own2 0 ≡ suc c → getD own2 c 0 ≢ suc q2)
-          → (find own2 0 < length own2) × (opening (level1 g) own2 r ≡ set own2 (find own2 0) (suc q2)) × (find (opening (level1 g) own2 r) (suc q2) ≡ find own2 0)
-      new2 h = step-new xs r _ own2 (climbs1 t l xs r ys (owners own2 own3) on) h
-
-      abbrev q3 : ℕ
-      q3 = placeFor g r own2
-
-      abbrev next3 : List ℕ
-      next3 = opening (level2 g (chunksOf (opening (level1 g) own2 r))) own3 r
-
-      had3 : g .p2 < r .len → (c : ℕ) → getD own3 c 0 ≡ suc q3 → (next3 ≡ own3) × (find own3 (suc q3) ≡ c)
-      had3 h = step-had xs r _ own3 (climbs2 t l xs r ys (owners own2 own3) on) h
-
-      new3 : g .p2 < r .len → ((c : ℕ) → find own3 0 ≡ suc c → getD own3 c 0 ≢ suc q3) → (find own3 0 < length own3) × (next3 ≡ set own3 (find own3 0) (suc q3)) × (find next3 (suc q3) ≡ find own3 0)
-      new3 h = step-new xs r _ own3 (climbs2 t l xs r ys (owners own2 own3) on) h
+      climbs-second : Climbs xs r (secondFor g r own2) own3
+      climbs-second = climbs2 t l xs r ys (owners own2 own3) on
 
       pub passed-opens : Opens g r u own2 own3
       passed-opens = record {
         valid = w .valid;
         fine = good-next xs r ys (on .fronts .good);
         few2 = omega (arith, passed-lengths .0, w .few2);
-        past2 = p .past2;
-        past3 = p .past3;
-        hangs2 = λ h. hangs own2 _ (u .second) q2 (p .past2) (p .last2) (had2 h) (new2 h);
-        hangs3 = λ h. hangs own3 _ (u .third) q3 (p .past3) (p .last3) (had3 h) (new3 h);
-        grants2 = λ own′ s h. granted own2 _ (u .second) q2 (p .past2) (p .last2) (had2 h) (new2 h) own′ s;
-        grants3 = λ own′ s h. granted own3 _ (u .third) q3 (p .past3) (p .last3) (had3 h) (new3 h) own′ s;
+        second = climbs-next xs r (level1 g) own2 climbs-first (u .second) (p .second);
+        third = climbs-next xs r (secondFor g r own2) own3 climbs-second (u .third) (p .third);
       }
 
-      pub passed-more : (v : Passes) (x y : List ℕ) → Opened g r own2 own3 u v x y → Passed g input start2 start3 (k + 1) x y v
-      passed-more v x y e = record {
-        is = rw (add-one, e .is2, e .is3, take-suc rs k noRoute inside, nth, settled-snoc g (owners start2 start3) xs r, ← p .is);
-        past2 = e .past2;
-        past3 = e .past3;
-        last2 = step-last own2 (u .second) x (v .second) (stands .rises2) (p .last2) (e .step2);
-        last3 = step-last own3 (u .third) y (v .third) (stands .rises3) (p .last3) (e .step3);
+      pub passed-more : (s : Passes) (x y : List ℕ) → Opened g r own2 own3 u s x y → Passed g input start2 start3 (k + 1) x y s
+      passed-more s x y e = record {
+        is = rw (add-one, e .second .is, e .third .is, take-suc rs k noRoute inside, nth, settled-snoc g (owners start2 start3) xs r, ← p .is);
+        second = climbs-taken xs r (level1 g) own2 climbs-first (u .second) (p .second) (s .second) x (e .second);
+        third = climbs-taken xs r (secondFor g r own2) own3 climbs-second (u .third) (p .third) (s .third) y (e .third);
       }

@@ -1,10 +1,9 @@
--- The owners of a load as they grow: what opening a chunk after all others asks and leaves. Assumes nothing.
+-- The owners of a load as they grow: what opening a chunk after all others asks and leaves, at one level and at both.
 use mathlib.Core.List.{List}
 use mathlib.Core.Path.{_≡_}
 use mathlib.Core.Logic.{_≢_}
 use Prim.Native.Nat.{ℕ, suc, _-_, _/_, _≤_, _<_}
 use lib.ListN.{length, getD, set, replicate}
-use Rattle.bits.specs.Slot.{slot}
 use Rattle.routes.specs.Route.{Fine}
 use Rattle.standing.specs.Cells.{need}
 use Rattle.routes.specs.Record.{Records}
@@ -13,7 +12,7 @@ use Rattle.sail.specs.Geometry.{Valid}
 use Rattle.sail.specs.declared.geometry.Geometry.{Geometry}
 use Rattle.sail_theory.specs.Render.{find}
 use Rattle.sail_theory.specs.Calls.{Owners, opening, inputRoutes}
-use Rattle.sail.specs.Level.{chunksOf, level1, level2}
+use Rattle.sail.specs.Level.{Level, chunksOf, level1, level2}
 use Rattle.sail_owners.specs.declared.owners.Pass.{Pass}
 use Rattle.sail_owners.specs.declared.owners.Passes.{Passes}
 
@@ -56,35 +55,39 @@ pub record Chunk (g : Geometry) (c : ℕ) : Type 0 where
   pub one : 1 ≤ c
   pub few : c ≤ 4096
 
--- the place of the second pool that serves r once its second chunk is opened
-abbrev pub placeFor : Geometry → Route → List ℕ → ℕ
-placeFor g r own2 = level2 g (chunksOf (opening (level1 g) own2 r)) .serving (r .addr)
-
--- The route r comes after all those that the owners serve.
-pub record Opens (g : Geometry) (r : Route) (u : Passes) (own2 own3 : List ℕ) : Type 0 where
-  pub valid : Valid g
-  pub fine : Fine r
-  pub few2 : length own2 ≤ 4096
-  pub past2 : Past own2 (u .second .free)
-  pub past3 : Past own3 (u .third .free)
-  pub hangs2 : g .p1 < r .len → Hangs own2 (u .second) (suc (slot (g .p1) (r .addr)))
-  pub hangs3 : g .p2 < r .len → Hangs own3 (u .third) (suc (placeFor g r own2))
-  pub grants2 : (own′ : List ℕ) (s : Pass) → g .p1 < r .len → Moved own2 (u .second) (suc (slot (g .p1) (r .addr))) own′ s → own′ ≡ opening (level1 g) own2 r
-  pub grants3 : (own′ : List ℕ) (s : Pass) → g .p2 < r .len → Moved own3 (u .third) (suc (placeFor g r own2)) own′ s → own′ ≡ opening (level2 g (chunksOf (opening (level1 g) own2 r))) own3 r
+-- The route r comes after all those that the owners of a level's chunks serve. Where it is longer than the level, its place may get a chunk;
+-- and that chunk is the one which announcing r opens.
+pub record Next (v : Level) (r : Route) (u : Pass) (own : List ℕ) : Type 0 where
+  pub past : Past own (u .free)
+  pub hangs : v .bits < r .len → Hangs own u (suc (v .serving (r .addr)))
+  pub grants : (own′ : List ℕ) (s : Pass) → v .bits < r .len → Moved own u (suc (v .serving (r .addr))) own′ s → own′ ≡ opening v own r
 
 -- how a pool's owners and its pass moved: not at all, or as for a chunk that hangs from some place
 pub data Step (own : List ℕ) (u : Pass) (own′ : List ℕ) (r : Pass) : Type 0 where
   none : own′ ≡ own → r ≡ u → Step own u own′ r
   hung : (q : ℕ) → Moved own u (suc q) own′ r → Step own u own′ r
 
--- its chunks are opened
-pub record Opened (g : Geometry) (r : Route) (own2 own3 : List ℕ) (u v : Passes) (own2′ own3′ : List ℕ) : Type 0 where
-  pub is2 : own2′ ≡ opening (level1 g) own2 r
-  pub is3 : own3′ ≡ opening (level2 g (chunksOf (opening (level1 g) own2 r))) own3 r
-  pub past2 : Past own2′ (v .second .free)
-  pub past3 : Past own3′ (v .third .free)
-  pub step2 : Step own2 (u .second) own2′ (v .second)
-  pub step3 : Step own3 (u .third) own3′ (v .third)
+-- its chunk is opened
+pub record Taken (v : Level) (r : Route) (own : List ℕ) (u s : Pass) (own′ : List ℕ) : Type 0 where
+  pub is : own′ ≡ opening v own r
+  pub past : Past own′ (s .free)
+  pub step : Step own u own′ s
+
+-- the second level once the second chunk of r is opened
+abbrev pub secondFor : Geometry → Route → List ℕ → Level
+secondFor g r own2 = level2 g (chunksOf (opening (level1 g) own2 r))
+
+-- at both levels
+pub record Opens (g : Geometry) (r : Route) (u : Passes) (own2 own3 : List ℕ) : Type 0 where
+  pub valid : Valid g
+  pub fine : Fine r
+  pub few2 : length own2 ≤ 4096
+  pub second : Next (level1 g) r (u .second) own2
+  pub third : Next (secondFor g r own2) r (u .third) own3
+
+pub record Opened (g : Geometry) (r : Route) (own2 own3 : List ℕ) (u s : Passes) (own2′ own3′ : List ℕ) : Type 0 where
+  pub second : Taken (level1 g) r own2 (u .second) (s .second) own2′
+  pub third : Taken (secondFor g r own2) r own3 (u .third) (s .third) own3′
 
 -- good records, as many chunks as their routes need, and none in use
 pub record Ownable (g : Geometry) (input own2 own3 : List ℕ) : Type 0 where

@@ -1,9 +1,9 @@
--- Painting and stamping make a stale table right, and leave what is not live. Assumes nothing.
+-- Painting and stamping make a stale table right, and leave what is not live.
 use mathlib.Core.Path.{_≡_, refl, sym, ap, _∙_}
 use mathlib.Core.Logic.{_⊎_, inl, inr}
-use mathlib.Core.Bool.{Bool, true, false, cond, true≢false}
+use mathlib.Core.Bool.{Bool, true, false, cond}
 use mathlib.Core.List.{List}
-use Prim.Native.Nat.{ℕ, suc, _+_, _-_, _*_, _/_, _^_, _≤_, _<_}
+use Prim.Native.Nat.{ℕ, suc, _+_, _-_, _/_, _^_, _≤_, _<_}
 use native.Mathlib.Omega.{arith}
 use lib.ListN.{length, getD}
 use lib.Seq.{ext-getD}
@@ -17,15 +17,16 @@ use Rattle.plan.specs.Plan.{plan}
 use Rattle.sail.specs.Geometry.{bits2, bits3}
 use Rattle.sail.specs.Lent.{Cells}
 use Rattle.sail.specs.Sizes.{Celled}
-use Rattle.sail.specs.Level.{Level, Chunks, chunkFor, deep, itself, nobody, partOf, entry, chunksOf, noChunks, level1, level2, level3}
+use Rattle.sail.specs.Level.{Level, Chunks, chunkFor, deep, itself, partOf, entry, chunksOf, noChunks, level1, level2, level3}
+use Rattle.sail.specs.Sound.{Clear}
 use Rattle.sail.specs.declared.geometry.Geometry.{Geometry}
 use Rattle.sail_theory.specs.Render.{shown, laidOver, Fits}
 use Rattle.sail_theory.proofs.Chunks.{chunk-at}
 use Rattle.sail_theory.proofs.Places.{chunk-lt, live-owner}
-use Rattle.sail_theory.proofs.Rendered.{last-fits}
+use Rattle.sail_theory.proofs.Rendered.{top-clear, last-fits}
 use Rattle.sail_theory.proofs.Frames.{top-bounded, below-bounded}
 use Rattle.sail_theory.proofs.Pools.{length-laid, laid-at, shown-leaf, shown-node, laid-rendered}
-use Rattle.sail_paint.specs.Stale.{meets, staleBelow, Right, Stale, Repainted, Blank, AsAsked}
+use Rattle.sail_paint.specs.Stale.{meets, staleBelow, Right, Stale, Repainted, AsAsked}
 use Rattle.sail_paint.specs.Paint.{overpainted, stampedBy, stamped, standsFor, staleIn, Above, FirstCells, Pool, Stamps}
 use Rattle.sail_paint.proofs.Places.{stands-itself, stands-part}
 use Rattle.sail_paint.proofs.Overs.{length-over, over-at}
@@ -156,14 +157,16 @@ module _ (g : Geometry) (ws par : List ℕ) (a len : ℕ) (l : Cells) (s : Stale
       → after ≡ laidOver rs (level3 g (chunksOf (l .own2)) (chunksOf (l .own3))) noChunks (l .third)
   third-is after e =
       e ∙ ap (λ (h : ℕ → ℕ). overpainted rs 32 (staleIn a len (g .p2) (bits3 g) h (entry (l .own3))) (partOf (entry (l .own3)) (bits3 g) h) (l .third)) (λ i q. stands-part (bits2 g) (l .own2) q some2 i)
-      ∙ stamp-none nobody _
+      ∙ stamp-none (noChunks .own) _
       ∙ level-right rs (level3 g (chunksOf (l .own2)) (chunksOf (l .own3))) noChunks (last-fits rs (words-good ws (s .ready .words)) (level2 g (chunksOf (l .own2))) (chunksOf (l .own3)))
       (staleBelow a len (level2 g (chunksOf (l .own2))) (chunksOf (l .own3)) 32) (λ q t. and-split (level3 g (chunksOf (l .own2)) (chunksOf (l .own3)) .live q) _ t .0) (l .third) (s .celled .cells3) (s .right3)
 
 -- where the cells of free chunks are 0, repainting leaves what is asked
-pub repainted-asked : (g : Geometry) (rs : List Route) (l : Cells) → Celled g l → Blank g l → (first second third : List ℕ) → Repainted g rs l first second third → AsAsked g rs l first second third
-repainted-asked g rs l z b first second third r = record {
-  is-first = r .is-first ∙ laid-rendered rs (level1 g) (chunksOf (l .own2)) (l .first) (z .cells1) (λ q h e. absurd (true≢false e));
-  is-second = r .is-second ∙ laid-rendered rs (level2 g (chunksOf (l .own2))) (chunksOf (l .own3)) (l .second) (z .cells2) (b .blank2);
-  is-third = r .is-third ∙ laid-rendered rs (level3 g (chunksOf (l .own2)) (chunksOf (l .own3))) noChunks (l .third) (z .cells3) (b .blank3);
+pub repainted-asked : (g : Geometry) (rs : List Route) (l : Cells) → Celled g l
+    → Clear (level2 g (chunksOf (l .own2))) (entry (l .second)) → Clear (level3 g (chunksOf (l .own2)) (chunksOf (l .own3))) (entry (l .third))
+    → (first second third : List ℕ) → Repainted g rs l first second third → AsAsked g rs l first second third
+repainted-asked g rs l z clear2 clear3 first second third r = record {
+  is-first = r .is-first ∙ laid-rendered rs (level1 g) (chunksOf (l .own2)) (l .first) (z .cells1) (top-clear (g .p1) (entry (l .first)));
+  is-second = r .is-second ∙ laid-rendered rs (level2 g (chunksOf (l .own2))) (chunksOf (l .own3)) (l .second) (z .cells2) clear2;
+  is-third = r .is-third ∙ laid-rendered rs (level3 g (chunksOf (l .own2)) (chunksOf (l .own3))) noChunks (l .third) (z .cells3) clear3;
 }

@@ -1,20 +1,19 @@
 -- The cells that a change at a prefix may make stale: those that lie under the prefix or hold it, and the cells of chunks that hang from
--- such cells. All others that are live hold already what the routes and owners ask. Assumes nothing.
+-- such cells. All others that are live hold already what the routes and owners ask.
 use mathlib.Core.Bool.{Bool, true, false, _&&_, cond}
 use mathlib.Core.List.{List}
 use mathlib.Core.Path.{_≡_}
-use Prim.Native.Nat.{ℕ, _-_, _*_, _/_, _^_, _<_}
+use Prim.Native.Nat.{ℕ, _-_, _/_, _^_, _<_}
 use lib.Dec.{eqb, leb}
-use lib.ListN.{getD, length}
+use lib.ListN.{getD}
 use Rattle.bits.specs.Slot.{slot}
 use Rattle.routes.specs.Route.{Prefix}
 use Rattle.routes.specs.declared.Route.{Route}
 use Rattle.chain.specs.Words.{routesIn}
 use Rattle.chain.specs.Cover.{Ready}
-use Rattle.sail.specs.Geometry.{bits2, bits3}
 use Rattle.sail.specs.Lent.{Lent, Cells}
 use Rattle.sail.specs.Sizes.{Celled}
-use Rattle.sail.specs.Level.{Level, Chunks, liveIn, entry, chunksOf, noChunks, below, level1, level2, level3}
+use Rattle.sail.specs.Level.{Level, Chunks, chunksOf, noChunks, below, level1, level2, level3}
 use Rattle.sail.specs.declared.geometry.Geometry.{Geometry}
 use Rattle.sail_theory.specs.Render.{shown, laidOver, rendered, Fits}
 
@@ -52,12 +51,7 @@ pub record Repainted (g : Geometry) (rs : List Route) (l : Cells) (first second 
   pub is-second : second ≡ laidOver rs (level2 g (chunksOf (l .own2))) (chunksOf (l .own3)) (l .second)
   pub is-third : third ≡ laidOver rs (level3 g (chunksOf (l .own2)) (chunksOf (l .own3))) noChunks (l .third)
 
--- where the cells of free chunks are 0
-pub record Blank (g : Geometry) (l : Cells) : Type 0 where
-  pub blank2 : (q : ℕ) → q < length (l .own2) * 2 ^ bits2 g → liveIn (entry (l .own2)) (bits2 g) q ≡ false → getD (l .second) q 0 ≡ 0
-  pub blank3 : (q : ℕ) → q < length (l .own3) * 2 ^ bits3 g → liveIn (entry (l .own3)) (bits3 g) q ≡ false → getD (l .third) q 0 ≡ 0
-
--- it leaves what is asked
+-- where the cells of free chunks are 0, it leaves what is asked
 pub record AsAsked (g : Geometry) (rs : List Route) (l : Cells) (first second third : List ℕ) : Type 0 where
   pub is-first : first ≡ asked g rs l .first
   pub is-second : second ≡ asked g rs l .second

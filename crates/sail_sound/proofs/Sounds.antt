@@ -1,12 +1,11 @@
--- What the test goes through is soundness. Assumes nothing.
+-- What the test goes through is soundness.
 use mathlib.Core.Path.{_≡_, refl, sym, ap, _∙_}
-use mathlib.Core.Bool.{Bool, true, false}
+use mathlib.Core.Bool.{Bool, true, false, true≢false}
 use mathlib.Core.List.{List, []}
 use Prim.Native.Nat.{ℕ, suc, _+_, _-_, _*_, _/_, _%_, _^_, _≤_, _<_}
-use native.Mathlib.Nat.{mod-lt, mod-eq-of-lt, div-eq-of-lt, not-suc-le-zero, div-add-mod'}
+use native.Mathlib.Nat.{mod-lt, mod-eq-of-lt, div-eq-of-lt, div-add-mod'}
 use native.Mathlib.Omega.{arith}
-use lib.Arith.{digits-lt}
-use lib.Dec.{ltb}
+use lib.Arith.{digits-lt, digits-div}
 use lib.ListN.{length, getD}
 use lib.Pow.{pow-pos}
 use borrow.Author.Tests.{le-ltb, ltb-false}
@@ -14,12 +13,15 @@ use borrow.Rule.Slice.PartMut.{mid-len}
 use Rattle.bits.specs.Tab.{Tells}
 use Rattle.routes.specs.declared.Route.{Route}
 use Rattle.routes.specs.Record.{Listed}
+use Rattle.routes.specs.Route.{Good}
+use Rattle.routes.proofs.Rows.{records-good}
+use Rattle.standing.proofs.Need.{none-longer}
 use Rattle.plan.proofs.Tells.{tells-same}
-use Rattle.sail.specs.Geometry.{bits2, bits3}
+use Rattle.sail.specs.Geometry.{bits2}
 use Rattle.sail.specs.Lent.{Lent, cellsOf}
-use Rattle.sail.specs.Level.{Level, Shows, Clear, deep, always, itself, liveIn, partOf, entry, chunksOf, below, level1, level2, level3}
+use Rattle.sail.specs.Level.{Level, deep, always, itself, liveIn, partOf, entry, chunksOf, below, level1, level2, level3}
 use Rattle.sail.specs.Sizes.{Sized}
-use Rattle.sail.specs.Sound.{Sound, standing}
+use Rattle.sail.specs.Sound.{Shows, Clear, Sound, standing}
 use Rattle.sail.specs.declared.geometry.Geometry.{Geometry}
 use Rattle.sail.specs.declared.table.Table.{Table}
 use Rattle.sail_theory.proofs.Places.{chunk-lt, live-owner, chunk-live, chunk-part}
@@ -40,8 +42,8 @@ Named v cells own = (c q : ℕ) → c < length own → getD own c 0 ≡ suc q �
 module _ (rs : List Route) (v : Level) (cells low : List ℕ) where
   pub shows-of : length low ≤ 4096 → Asked rs v cells low → Named v cells low → Shows rs v (chunksOf low) (entry cells)
   shows-of few ok named = record {
+    node = λ q l u e. let m = ok q l u .node e in record { one = m .one; last = m .few; owner = m .back };
     leaf = λ q l u e. ok q l u .leaf e;
-    node = λ q l u e. let m = ok q l u .node e in (m .one, m .few, m .back);
     owned = λ c q l e. let k = named c q l e in (k .0, k .1, is-deep c q l k (deep rs v q) refl, k .2);
   }
     where
@@ -52,7 +54,7 @@ module _ (rs : List Route) (v : Level) (cells low : List ℕ) where
   pub shows-asked : Shows rs v (chunksOf low) (entry cells) → Asked rs v cells low
   shows-asked s q l u = record {
     leaf = λ e. s .leaf q l u e;
-    node = λ e. let m = s .node q l u e in record { one = m .0; few = m .1; back = m .2 };
+    node = λ e. let m = s .node q l u e in record { one = m .one; few = m .last; back = m .owner };
   }
 
   pub shows-named : Shows rs v (chunksOf low) (entry cells) → Named v cells low
@@ -85,19 +87,23 @@ module _ (rs : List Route) (v : Level) (p : ℕ) (above own cells low : List ℕ
     pool-named c q l e = let h = k .each c l in (rw all at (h .hangs q e .inside), h .lives q e, h .hangs q e .named)
 
   -- its free chunks
-  pub free-clear : FreeAll d own cells → Clear (length own) d (ltb 0) (entry own) (entry cells)
+  pub free-clear : FreeAll d own cells → Clear (below v (chunksOf own) p) (entry cells)
   free-clear k = record {
-    unowned = λ c l e. free c e;
-    blank = λ c l e j u. sym (part-at cells (c * 2 ^ d) (2 ^ d) j u) ∙ k .each c l .zero (free c e) .each j (rw (chunk-long c l) u);
+    blank = λ q l e.
+        let c = chunk-lt d (length own) q l in
+        let j = mod-lt q (pow-pos d) in
+        let free : getD own (q / 2 ^ d) 0 ≡ 0 = omega (arith, ltb-false 0 (getD own (q / 2 ^ d) 0) e) in
+        ap (entry cells) (sym (div-add-mod' q (2 ^ d))) ∙ sym (part-at cells (q / 2 ^ d * 2 ^ d) (2 ^ d) (q % 2 ^ d) j) ∙ k .each (q / 2 ^ d) c .zero free .each (q % 2 ^ d) (rw (chunk-long (q / 2 ^ d) c) j);
   }
-    where
-      free : (c : ℕ) → ltb 0 (getD own c 0) ≡ false → getD own c 0 ≡ 0
-      free c e = omega (arith, ltb-false 0 (getD own c 0) e)
 
-  pub clear-free : Clear (length own) d (ltb 0) (entry own) (entry cells) → FreeAll d own cells
+  pub clear-free : Clear (below v (chunksOf own) p) (entry cells) → FreeAll d own cells
   clear-free clear = record {
     each = λ c l. record {
-      zero = λ e. record { each = λ j u. let m : j < 2 ^ d = rw (chunk-long c l) at u in part-at cells (c * 2 ^ d) (2 ^ d) j m ∙ clear .blank c l (le-ltb 0 (getD own c 0) (omega arith)) j m };
+      zero = λ e. record {
+        each = λ j u.
+            let m : j < 2 ^ d = rw (chunk-long c l) at u in
+            part-at cells (c * 2 ^ d) (2 ^ d) j m ∙ clear .blank (c * 2 ^ d + j) (digits-lt l m) (le-ltb 0 (getD own ((c * 2 ^ d + j) / 2 ^ d) 0) (omega (arith, e, ap (entry own) (digits-div c m))));
+      };
     };
   }
 
@@ -148,6 +154,9 @@ module _ (t : Table) (l : Lent) (s : Sized (t .geometry) l) (h : Listed (l .list
   abbrev v3 : Level
   v3 = level3 g (chunksOf (l .own2)) (chunksOf (l .own3))
 
+  good : Good rs
+  good = records-good (l .list) (t .count) (h .records)
+
   inside : (q : ℕ) → q < length (l .first) → q < 2 ^ g .p1
   inside q u = rw (s .cells1) at u
 
@@ -167,13 +176,13 @@ module _ (t : Table) (l : Lent) (s : Sized (t .geometry) l) (h : Listed (l .list
         sized = s;
         listed = h;
         serves = record {
-          shows1 = shows-of rs (level1 g) (l .first) (l .own2) (s .few2)
+          first = shows-of rs (level1 g) (l .first) (l .own2) (s .few2)
               (λ q u v. cell-as rs (g .p1) (l .own2) (omega arith) refl (omega arith) (right-cell rs (g .p1) (l .own2) 0 (l .first) 1 (length (l .first)) (k .live .cells1) q (rw (s .cells1) u)))
               (pool-named rs (level1 g) (g .p2) (l .first) (l .own2) (l .second) (l .own3) (s .cells1) (s .cells2) pool2);
-          shows2 = shows-of rs v2 (l .second) (l .own3) (s .few3)
+          second = shows-of rs v2 (l .second) (l .own3) (s .few3)
               (pool-asked rs (level1 g) (g .p2) (l .first) (l .own2) (l .second) (l .own3) (s .cells1) (s .cells2) pool2)
               (pool-named rs v2 32 (l .second) (l .own3) (l .third) [] (s .cells2) (s .cells3) (k .live .pool3));
-          shows3 = shows-of rs v3 (l .third) [] (omega arith) (pool-asked rs v2 32 (l .second) (l .own3) (l .third) [] (s .cells2) (s .cells3) (k .live .pool3)) (λ c q u e. absurd (not-suc-le-zero u));
+          third = record { leaf = λ q i u. pool-asked rs v2 32 (l .second) (l .own3) (l .third) [] (s .cells2) (s .cells3) (k .live .pool3) q i u .leaf (none-longer rs _ good) };
         };
         clear2 = free-clear rs (level1 g) (g .p2) (l .first) (l .own2) (l .second) (l .own3) (s .cells1) (s .cells2) (k .free2);
         clear3 = free-clear rs v2 32 (l .second) (l .own3) (l .third) [] (s .cells2) (s .cells3) (k .free3);
@@ -183,15 +192,18 @@ module _ (t : Table) (l : Lent) (s : Sized (t .geometry) l) (h : Listed (l .list
   sound-passed w = record {
     live = record {
       cells1 = cells-right rs (g .p1) (l .own2) 0 (l .first) 1 (length (l .first)) (λ q u.
-          cell-as rs (g .p1) (l .own2) (omega arith) refl (omega arith) (shows-asked rs (level1 g) (l .first) (l .own2) (w .serves .shows1) q (inside q u) refl));
+          cell-as rs (g .p1) (l .own2) (omega arith) refl (omega arith) (shows-asked rs (level1 g) (l .first) (l .own2) (w .serves .first) q (inside q u) refl));
       pool2 = to-root (pool-of rs (level1 g) (g .p2) (l .first) (l .own2) (l .second) (l .own3) (s .cells1) (s .cells2)
-          (shows-asked rs v2 (l .second) (l .own3) (w .serves .shows2)) (shows-named rs (level1 g) (l .first) (l .own2) (w .serves .shows1)));
+          (shows-asked rs v2 (l .second) (l .own3) (w .serves .second)) (shows-named rs (level1 g) (l .first) (l .own2) (w .serves .first)));
       pool3 = pool-of rs v2 32 (l .second) (l .own3) (l .third) [] (s .cells2) (s .cells3)
-          (shows-asked rs v3 (l .third) [] (w .serves .shows3)) (shows-named rs v2 (l .second) (l .own3) (w .serves .shows2));
+          third-asked (shows-named rs v2 (l .second) (l .own3) (w .serves .second));
     };
     free2 = clear-free rs (level1 g) (g .p2) (l .first) (l .own2) (l .second) (l .own3) (s .cells1) (s .cells2) (w .clear2);
     free3 = clear-free rs v2 32 (l .second) (l .own3) (l .third) [] (s .cells2) (s .cells3) (w .clear3);
   }
+    where
+      third-asked : Asked rs v3 (l .third) []
+      third-asked q i u = record { leaf = λ e. w .serves .third .leaf q i u; node = λ e. absurd (true≢false (sym e ∙ none-longer rs _ good)) }
 
   pub tells-sound : (b : Bool) → Tells b Test → Tells b (Sound t l)
   tells-sound b = tells-same passed-sound sound-passed

@@ -9,7 +9,7 @@ use native.Mathlib.Omega.{arith}
 use lib.ListN.{length}
 use Rattle.bits.specs.Count.{bit}
 use Rattle.bits.proofs.Tests.{decided}
-use Rattle.routes.specs.Route.{keyOf}
+use Rattle.routes.specs.Route.{keyOf, key}
 use Rattle.routes.specs.Said.{Said, accepted, refused, refusedAt, accepts}
 use Rattle.standing.specs.Standing.{stands, insert, remove}
 use Rattle.routes.specs.declared.Route.{Route}
@@ -22,7 +22,7 @@ use Rattle.sail.specs.Sound.{Sound, standing, used}
 use Rattle.sail.specs.declared.table.Table.{Table}
 use Rattle.sail.proofs.Sounds.{standing-good, chunks-need}
 use Rattle.sail_theory.specs.Render.{roomOf}
-use Rattle.sail_theory.specs.Calls.{opened, kept, ownersOf, route, announceSaid, withdrawSaid, Out, outcome, stateOf, lentOf, announced, withdrawn, reported}
+use Rattle.sail_theory.specs.Calls.{opened, kept, ownersOf, announceSaid, withdrawSaid, Out, outcome, stateOf, lentOf, adding, taking, reported}
 use Rattle.sail_theory.specs.Facts.{Holds, Welcome, Farewell}
 use Rattle.sail_theory.proofs.Chunks.{used-le}
 use Rattle.sail_theory.proofs.Needs.{need-same, stands-long}
@@ -56,10 +56,7 @@ module _ (s : Said) (t : Table) (l : Lent) (t′ : Table) (l′ : Lent) where
       go (refused n) e = refl
       go (refusedAt n k) e = refl
 
-module _ (t : Table) (l : Lent) (a len hop : ℕ) where
-  abbrev r : Route
-  r = route a len hop
-
+module _ (t : Table) (l : Lent) (r : Route) where
   abbrev rs : List Route
   rs = standing t l
 
@@ -68,7 +65,7 @@ module _ (t : Table) (l : Lent) (a len hop : ℕ) where
   within-room s = omega (arith, length-routes (l .list) (t .count), s .listed .records .room)
 
   -- a replacement needs no chunk more
-  pub replaced-welcome : Proper t l a len hop → stands (keyOf a len) rs ≡ true → Welcome t l r
+  pub replaced-welcome : Proper t l r → stands (key r) rs ≡ true → Welcome t l r
   replaced-welcome p e =
       let s = p .sound in
       let v = s .sized .valid in
@@ -83,13 +80,12 @@ module _ (t : Table) (l : Lent) (a len hop : ℕ) where
       }
 
   -- accepted exactly where the route is welcome
-  pub accepted-welcome : accepts (announceSaid t l a len hop) ≡ true → Welcome t l r
-  accepted-welcome e = go (announce-judged t l a len hop) e
+  pub accepted-welcome : accepts (announceSaid t l r) ≡ true → Welcome t l r
+  accepted-welcome e = go (announce-judged t l r) e
     where
-      go : {s : Said} → Announce t l a len hop s → accepts s ≡ true → Welcome t l r
+      go : {s : Said} → Announce t l r s → accepts s ≡ true → Welcome t l r
       go (Announce.sizing n h) e = absurd (false≢true e)
-      go (Announce.bad-prefix z h) e = absurd (false≢true e)
-      go (Announce.bad-hop z p h) e = absurd (false≢true e)
+      go (Announce.wrong n z h) e = absurd (false≢true e)
       go (Announce.unsound z f h) e = absurd (false≢true e)
       go (Announce.replaced p h) e = replaced-welcome p h
       go (Announce.full p h k) e = absurd (false≢true e)
@@ -103,47 +99,43 @@ module _ (t : Table) (l : Lent) (a len hop : ℕ) where
         enough3 = y;
       }
 
-  pub welcome-said : Welcome t l r → announceSaid t l a len hop ≡ accepted (bit (stands (keyOf a len) rs) ∷ [])
-  welcome-said w = go (decided (stands (keyOf a len) rs))
+  pub welcome-said : Welcome t l r → announceSaid t l r ≡ accepted (bit (stands (key r) rs) ∷ [])
+  welcome-said w = go (decided (stands (key r) rs))
     where
-      go : (stands (keyOf a len) rs ≡ true) ⊎ (stands (keyOf a len) rs ≡ false) → announceSaid t l a len hop ≡ accepted (bit (stands (keyOf a len) rs) ∷ [])
-      go (inl e) = rw e (announce-only t l a len hop _ (Announce.replaced (record { fine = w .fine; sound = w .sound }) e))
+      go : (stands (key r) rs ≡ true) ⊎ (stands (key r) rs ≡ false) → announceSaid t l r ≡ accepted (bit (stands (key r) rs) ∷ [])
+      go (inl e) = rw e (announce-only t l r _ (Announce.replaced (record { fine = w .fine; sound = w .sound }) e))
       go (inr e) =
-          rw e (announce-only t l a len hop _ (Announce.added (record {
+          rw e (announce-only t l r _ (Announce.added (record {
             proper = record { fine = w .fine; sound = w .sound };
             new = e;
             room = omega (arith, insert-adds r rs e, w .roomy);
           }) (w .enough2) (w .enough3)))
 
   -- what is then left
-  pub announce-is : Welcome t l r → announced t l a len hop ≡ record { said = accepted (bit (stands (keyOf a len) rs) ∷ []); table = stateOf t (insert r rs); lent = lentOf t l (insert r rs) (opened (t .geometry) (ownersOf l) r) }
-  unfolding announced
-  announce-is w = rw (welcome-said w)
+  pub adding-is : Welcome t l r → adding t l r
+      ≡ record { said = accepted (bit (stands (key r) rs) ∷ []); table = stateOf t (insert r rs); lent = lentOf t l (insert r rs) (opened (t .geometry) (ownersOf l) r) }
+  unfolding adding
+  adding-is w = rw (welcome-said w)
 
   -- the count: one more where the route is added, and the same where it is replaced
-  pub count-added : stands (keyOf a len) rs ≡ false → stateOf t (insert r rs) .count ≡ suc (t .count)
+  pub count-added : stands (key r) rs ≡ false → stateOf t (insert r rs) .count ≡ suc (t .count)
   count-added e = insert-adds r rs e ∙ ap suc (length-routes (l .list) (t .count))
 
-  pub count-replaced : Sound t l → stands (keyOf a len) rs ≡ true → stateOf t (insert r rs) .count ≡ t .count
+  pub count-replaced : Sound t l → stands (key r) rs ≡ true → stateOf t (insert r rs) .count ≡ t .count
   count-replaced s e = insert-replaces r rs (standing-good t l s) e ∙ length-routes (l .list) (t .count)
 
-  pub announce-said : announced t l a len hop .said ≡ announceSaid t l a len hop
-  unfolding announced
-  announce-said = outcome-said (announceSaid t l a len hop) t l _ _
+  pub adding-said : adding t l r .said ≡ announceSaid t l r
+  unfolding adding
+  adding-said = outcome-said (announceSaid t l r) t l _ _
 
   -- Refused: the number alone, and all as it was. (The number is that of the first condition that holds: `announce-judged`.)
-  pub announce-off : (s : Said) → announceSaid t l a len hop ≡ s → accepts s ≡ false → announced t l a len hop ≡ record { said = s; table = t; lent = l }
-  unfolding announced
-  announce-off s q e = rw q (outcome-refused s t l _ _ e)
-
-  pub announce-refused : accepts (announced t l a len hop .said) ≡ false → announced t l a len hop ≡ record { said = announceSaid t l a len hop; table = t; lent = l }
-  announce-refused e = announce-off (announceSaid t l a len hop) refl (sym (ap accepts announce-said) ∙ e)
+  pub adding-off : (s : Said) → announceSaid t l r ≡ s → accepts s ≡ false → adding t l r ≡ record { said = s; table = t; lent = l }
+  unfolding adding
+  adding-off s q e = rw q (outcome-refused s t l _ _ e)
 
   -- Accepted: sound, and the list holds the routes with this one inserted
-  pub announce-holds : accepts (announced t l a len hop .said) ≡ true → Holds t l (insert r rs) (announced t l a len hop .table) (announced t l a len hop .lent)
-  announce-holds e =
-      let w = accepted-welcome (sym (ap accepts announce-said) ∙ e) in
-      subst (λ (o : Out). Holds t l (insert r rs) (o .table) (o .lent)) (sym (announce-is w)) (welcome-holds t l r w)
+  pub adding-holds : Welcome t l r → Holds t l (insert r rs) (adding t l r .table) (adding t l r .lent)
+  adding-holds w = subst (λ (o : Out). Holds t l (insert r rs) (o .table) (o .lent)) (sym (adding-is w)) (welcome-holds t l r w)
 
 module _ (t : Table) (l : Lent) (a len : ℕ) where
   abbrev left : List Route
@@ -162,29 +154,25 @@ module _ (t : Table) (l : Lent) (a len : ℕ) where
   pub farewell-said : Farewell t l a len → withdrawSaid t l a len ≡ accepted []
   farewell-said w = withdraw-only t l a len _ (Withdraw.removed w)
 
-  pub withdraw-is : Farewell t l a len → withdrawn t l a len ≡ record { said = accepted []; table = stateOf t left; lent = lentOf t l left (kept (t .geometry) left (ownersOf l)) }
-  unfolding withdrawn
-  withdraw-is w = rw (farewell-said w)
+  pub taking-is : Farewell t l a len → taking t l a len
+      ≡ record { said = accepted []; table = stateOf t left; lent = lentOf t l left (kept (t .geometry) left (ownersOf l)) }
+  unfolding taking
+  taking-is w = rw (farewell-said w)
 
   pub count-removed : Farewell t l a len → suc (stateOf t left .count) ≡ t .count
   count-removed w = remove-takes (keyOf a len) (standing t l) (standing-good t l (w .sound)) (w .old) ∙ length-routes (l .list) (t .count)
 
-  pub withdraw-said : withdrawn t l a len .said ≡ withdrawSaid t l a len
-  unfolding withdrawn
-  withdraw-said = outcome-said (withdrawSaid t l a len) t l _ _
+  pub taking-said : taking t l a len .said ≡ withdrawSaid t l a len
+  unfolding taking
+  taking-said = outcome-said (withdrawSaid t l a len) t l _ _
 
-  pub withdraw-off : (s : Said) → withdrawSaid t l a len ≡ s → accepts s ≡ false → withdrawn t l a len ≡ record { said = s; table = t; lent = l }
-  unfolding withdrawn
-  withdraw-off s q e = rw q (outcome-refused s t l _ _ e)
-
-  pub withdraw-refused : accepts (withdrawn t l a len .said) ≡ false → withdrawn t l a len ≡ record { said = withdrawSaid t l a len; table = t; lent = l }
-  withdraw-refused e = withdraw-off (withdrawSaid t l a len) refl (sym (ap accepts withdraw-said) ∙ e)
+  pub taking-off : (s : Said) → withdrawSaid t l a len ≡ s → accepts s ≡ false → taking t l a len ≡ record { said = s; table = t; lent = l }
+  unfolding taking
+  taking-off s q e = rw q (outcome-refused s t l _ _ e)
 
   -- Accepted: sound, and the list holds the routes with those of this prefix removed
-  pub withdraw-holds : accepts (withdrawn t l a len .said) ≡ true → Holds t l left (withdrawn t l a len .table) (withdrawn t l a len .lent)
-  withdraw-holds e =
-      let w = accepted-farewell (sym (ap accepts withdraw-said) ∙ e) in
-      subst (λ (o : Out). Holds t l left (o .table) (o .lent)) (sym (withdraw-is w)) (farewell-holds t l a len w)
+  pub taking-holds : Farewell t l a len → Holds t l left (taking t l a len .table) (taking t l a len .lent)
+  taking-holds w = subst (λ (o : Out). Holds t l left (o .table) (o .lent)) (sym (taking-is w)) (farewell-holds t l a len w)
 
 -- the report of a sound table: its count, and how many chunks of each pool are in use
 pub report-is : (t : Table) (l : Lent) → Sound t l → reported t l ≡ accepted (t .count ∷ used (l .own2) ∷ used (l .own3) ∷ [])

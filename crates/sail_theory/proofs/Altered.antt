@@ -9,7 +9,6 @@ use native.Mathlib.Omega.{arith}
 use lib.Dec.{ltb}
 use lib.ListN.{getD, length}
 use borrow.Author.Tests.{ltb-false}
-use Rattle.routes.specs.Said.{accepts}
 use Rattle.routes.specs.Route.{keyOf, Good}
 use Rattle.standing.specs.Standing.{insert, remove}
 use Rattle.routes.specs.declared.Route.{Route}
@@ -23,7 +22,7 @@ use Rattle.sail.specs.declared.geometry.Geometry.{Geometry}
 use Rattle.sail.specs.declared.table.Table.{Table}
 use Rattle.sail.proofs.Sounds.{standing-good}
 use Rattle.sail_theory.specs.Render.{find, Rendered}
-use Rattle.sail_theory.specs.Calls.{Owners, grant, openAt, opening, opened, kept, ownersOf, route, Out, lentOf, announced, withdrawn}
+use Rattle.sail_theory.specs.Calls.{Owners, grant, openAt, opening, opened, kept, ownersOf, Out, lentOf, adding, taking}
 use Rattle.sail_theory.specs.Facts.{Welcome, Farewell}
 use Rattle.sail_theory.specs.Alters.{Alters, NoneUnder, Same, Frame}
 use Rattle.sail_theory.proofs.Chunks.{chunk-before}
@@ -33,7 +32,7 @@ use Rattle.sail_theory.proofs.Owners.{kept-over}
 use Rattle.sail_theory.proofs.Stores.{length-keep, kept-was, kept-stays, keep-closed, grant-lowest}
 use Rattle.sail_theory.proofs.Grown.{length-open, open-stays}
 use Rattle.sail_theory.proofs.Changes.{welcome-fits2, welcome-fits3, farewell-fits2, farewell-fits3, less}
-use Rattle.sail_theory.proofs.Accepted.{announce-said, accepted-welcome, announce-is, withdraw-said, accepted-farewell, withdraw-is}
+use Rattle.sail_theory.proofs.Accepted.{adding-is, taking-is}
 use Rattle.sail_theory.proofs.Frames.{Moved, framed, top-bounded, below-bounded, below-same}
 use Rattle.sail_theory.proofs.Read.{reads-second, reads-third}
 
@@ -62,9 +61,9 @@ module _ (g : Geometry) (l u : Lent) (o : Kept g l u) where
 frame-alters : (t : Table) (l : Lent) → Sound t l → (a len : ℕ) (u : Lent) → Frame (t .geometry) a len l u → Kept (t .geometry) l u → Alters (t .geometry) a len l u
 unfolding NoneUnder
 frame-alters t l s a len u f o = record {
-  first = λ q h n. f .first .stays q (rw (s .sized .cells1) at h) (record { live = refl; at = λ _. refl }) (λ _ x b c d. n x b d c);
+  first = λ q h n. f .first .stays q (rw (s .sized .cells1) at h) (record { live = refl; at = λ _. refl }) (λ _ x b c d. n x b d (record { there = c }));
   second = λ q h n e. let i = rw (s .sized .cells2) at h in f .second .stays q i (kept-same2 (t .geometry) l u o q (o .same2 _ e)) (λ y x b c d. n x b d (reads-second t l s x b q i y (sym c)));
-  third = λ q h n e. let i = rw (s .sized .cells3) at h in f .third .stays q i (kept-same3 (t .geometry) l u o q i (o .same3 _ e)) (λ y x b c d. n x b d (reads-third t l s x b q i y (sym c)));
+  third = λ q h n e. let i = rw (s .sized .cells3) at h in cc (f .third .stays q i (kept-same3 (t .geometry) l u o q i (o .same3 _ e)) (λ y x b c d. n x b d (reads-third t l s x b q i y (sym c))));
 }
 
 -- Two lists of good routes that differ at one prefix, and the chunks of the two levels: the frame of the table.
@@ -158,10 +157,8 @@ module _ (t : Table) (l : Lent) (r : Route) (w : Welcome t l r) where
   welcome-alters : Alters g (r .addr) (r .len) l now
   welcome-alters = frame-alters t l (w .sound) (r .addr) (r .len) now announce-frame announce-kept
 
-pub announce-alters : (t : Table) (l : Lent) (a len hop : ℕ) → accepts (announced t l a len hop .said) ≡ true → Alters (t .geometry) a len l (announced t l a len hop .lent)
-announce-alters t l a len hop e =
-    let w = accepted-welcome t l a len hop (sym (ap accepts (announce-said t l a len hop)) ∙ e) in
-    subst (λ (o : Out). Alters (t .geometry) a len l (o .lent)) (sym (announce-is t l a len hop w)) (welcome-alters t l (route a len hop) w)
+pub adding-alters : (t : Table) (l : Lent) (r : Route) → Welcome t l r → Alters (t .geometry) (r .addr) (r .len) l (adding t l r .lent)
+adding-alters t l r w = subst (λ (o : Out). Alters (t .geometry) (r .addr) (r .len) l (o .lent)) (sym (adding-is t l r w)) (welcome-alters t l r w)
 
 -- withdraw
 module _ (t : Table) (l : Lent) (a len : ℕ) (w : Farewell t l a len) where
@@ -222,10 +219,8 @@ module _ (t : Table) (l : Lent) (a len : ℕ) (w : Farewell t l a len) where
   farewell-alters : Alters (t .geometry) a len l gone
   farewell-alters = frame-alters t l (w .sound) a len gone withdraw-frame withdraw-kept
 
-pub withdraw-alters : (t : Table) (l : Lent) (a len : ℕ) → accepts (withdrawn t l a len .said) ≡ true → Alters (t .geometry) a len l (withdrawn t l a len .lent)
-withdraw-alters t l a len e =
-    let w = accepted-farewell t l a len (sym (ap accepts (withdraw-said t l a len)) ∙ e) in
-    subst (λ (o : Out). Alters (t .geometry) a len l (o .lent)) (sym (withdraw-is t l a len w)) (farewell-alters t l a len w)
+pub taking-alters : (t : Table) (l : Lent) (a len : ℕ) → Farewell t l a len → Alters (t .geometry) a len l (taking t l a len .lent)
+taking-alters t l a len w = subst (λ (o : Out). Alters (t .geometry) a len l (o .lent)) (sym (taking-is t l a len w)) (farewell-alters t l a len w)
 
 -- "A newly opened chunk takes the lowest free number": c was free and is in use, so no chunk before it was free
 pub opened-lowest : (v : Level) (own : List ℕ) (r : Route) (c x : ℕ) → getD own c 0 ≡ 0 → getD (opening v own r) c 0 ≡ suc x → (j : ℕ) → j < c → getD own j 0 ≢ 0
@@ -235,13 +230,3 @@ opened-lowest v own r c x was now j h = go (ltb (v .bits) (r .len)) now
     go : (b : Bool) → getD (cond b (grant own (find own 0) (v .serving (r .addr))) own) c 0 ≡ suc x → getD own j 0 ≢ 0
     go true z = let y = grant-lowest own _ c x was z in chunk-before (chunksOf own) 0 j (omega arith)
     go false z = absurd (omega arith)
-
-module _ (t : Table) (l : Lent) (a len hop : ℕ) (e : accepts (announced t l a len hop .said) ≡ true) where
-  after-is : announced t l a len hop .lent ≡ lentOf t l (insert (route a len hop) (standing t l)) (opened (t .geometry) (ownersOf l) (route a len hop))
-  after-is = ap (λ (o : Out). o .lent) (announce-is t l a len hop (accepted-welcome t l a len hop (sym (ap accepts (announce-said t l a len hop)) ∙ e)))
-
-  pub opened-lowest2 : (c x : ℕ) → getD (l .own2) c 0 ≡ 0 → getD (announced t l a len hop .lent .own2) c 0 ≡ suc x → (j : ℕ) → j < c → getD (l .own2) j 0 ≢ 0
-  opened-lowest2 c x was now = opened-lowest (level1 (t .geometry)) (l .own2) (route a len hop) c x was (sym (ap {B = ℕ} (λ (u : Lent). getD (u .own2) c 0) after-is) ∙ now)
-
-  pub opened-lowest3 : (c x : ℕ) → getD (l .own3) c 0 ≡ 0 → getD (announced t l a len hop .lent .own3) c 0 ≡ suc x → (j : ℕ) → j < c → getD (l .own3) j 0 ≢ 0
-  opened-lowest3 c x was now = opened-lowest (level2 (t .geometry) (chunksOf (opened (t .geometry) (ownersOf l) (route a len hop) .own2))) (l .own3) (route a len hop) c x was (sym (ap {B = ℕ} (λ (u : Lent). getD (u .own3) c 0) after-is) ∙ now)

@@ -1,6 +1,6 @@
--- After any run the table is as good as one that is freshly loaded with its routes: that load is accepted, every address gets the same hop
--- and count of cells, and as many chunks are in use. Assumes nothing.
-use mathlib.Core.Path.{_≡_, sym, _∙_, ap₂, subst}
+-- After any run the table is as good as one that is freshly loaded with its routes: that load is accepted, its list is the same to the byte,
+-- every address gets the same hop and count of cells, and as many chunks are in use. Assumes nothing.
+use mathlib.Core.Path.{_≡_, sym, _∙_, ap, ap₂, subst}
 use mathlib.Core.List.{List}
 use mathlib.Core.Bool.{true}
 use Prim.Native.Nat.{ℕ, _/_, _^_, _≤_, _<_}
@@ -20,6 +20,7 @@ use Rattle.sail.specs.Walk.{hopSaid, lookupSaid}
 use Rattle.sail.specs.declared.geometry.Geometry.{Geometry}
 use Rattle.sail.specs.declared.table.Table.{Table}
 use Rattle.sail.proofs.Sounds.{standing-good, sail-serves, chunks-need}
+use Rattle.sail_theory.specs.Render.{roomOf}
 use Rattle.sail_theory.specs.Calls.{inputRoutes, Out, loaded}
 use Rattle.sail_theory.specs.Facts.{SameSize, Holds, Loadable}
 use Rattle.sail_theory.specs.Runs.{Call, after, Carries}
@@ -84,6 +85,9 @@ module _ (t : Table) (l : Lent) (s : Sound t l) (u : Table) (v : Lent) (geo : u 
   fresh-holds : Holds u v (inputRoutes input) (loaded u v input .table) (loaded u v input .lent)
   fresh-holds = subst (λ (o : Out). Holds u v (inputRoutes input) (o .table) (o .lent)) (sym (load-is u v input readable loadable)) (loadable-holds u v (inputRoutes input) loadable)
 
+  pub fresh-list : l .list ≡ written rs (roomOf l) → l .list ≡ loaded u v input .lent .list
+  fresh-list b = b ∙ sym (fresh-holds .list ∙ ap₂ written routes-are (ap (λ (n : ℕ). n / 8) (size .list)))
+
   pub fresh-lookups : (a : ℕ) → a < 2 ^ 32 → lookupSaid (loaded u v input .table) (loaded u v input .lent) a ≡ lookupSaid t l a
   fresh-lookups = same-lookups t l (loaded u v input .table) (loaded u v input .lent) s (fresh-holds .sound) (fresh-holds .geometry ∙ geo) (fresh-holds .routes ∙ routes-are)
 
@@ -91,9 +95,10 @@ module _ (t : Table) (l : Lent) (s : Sound t l) (u : Table) (v : Lent) (geo : u 
   fresh-used = same-used t l (loaded u v input .table) (loaded u v input .lent) s (fresh-holds .sound) (fresh-holds .geometry ∙ geo) (fresh-holds .routes ∙ routes-are)
 
 -- Demand 3: after a run from a fresh table of t's geometry over arrays of l's sizes, a load of the standing routes into any (u, v) of that
--- geometry and these sizes is accepted, looks the same, and uses as many chunks.
+-- geometry and these sizes is accepted, has the same list to the byte, looks the same, and uses as many chunks.
 pub record AsFresh (t : Table) (l : Lent) (o : Out) : Type 0 where
   pub accepted-too : accepts (o .said) ≡ true
+  pub lists : l .list ≡ o .lent .list
   pub lookups : (a : ℕ) → a < 2 ^ 32 → lookupSaid t l a ≡ lookupSaid (o .table) (o .lent) a
   pub chunks2 : used (l .own2) ≡ used (o .lent .own2)
   pub chunks3 : used (l .own3) ≡ used (o .lent .own3)
@@ -107,6 +112,7 @@ run-as-fresh t l z cs u v geo size input c =
     let k = fresh-used _ _ (w .sound) u v geo′ size′ input c in
     record {
       accepted-too = fresh-accepted _ _ (w .sound) u v geo′ size′ input c;
+      lists = fresh-list _ _ (w .sound) u v geo′ size′ input c (rw (ap (λ (n : ℕ). n / 8) (w .size .list)) (w .bytes-so));
       lookups = λ a h. sym (fresh-lookups _ _ (w .sound) u v geo′ size′ input c a h);
       chunks2 = sym (k .0);
       chunks3 = sym (k .1);

@@ -1,10 +1,10 @@
 -- After a load the chunk numbers ascend: chunks in use come first, and their owners rise. So a load in one pass looks at the last chunk in
--- use alone. Assumes nothing.
+-- use alone.
 use mathlib.Core.Path.{_≡_, ap}
 use mathlib.Core.Logic.{_⊎_, inl, inr, _≢_}
 use mathlib.Core.Bool.{true, false, cond}
 use mathlib.Core.List.{List, [], _∷_, _++_, List·Memᴰ, List·Memᴰ·append-cases, List·Memᴰ·eq-of-singleton}
-use Prim.Native.Nat.{ℕ, suc, _+_, _-_, _*_, _/_, _%_, _^_, _≤_, _<_}
+use Prim.Native.Nat.{ℕ, suc, _+_, _-_, _*_, _/_, _^_, _≤_, _<_}
 use native.Mathlib.Omega.{arith}
 use native.Mathlib.Nat.{mod-lt, div-add-mod', le-refl, eq-or-lt-of-le}
 use lib.Arith.{digits-lt}
@@ -29,7 +29,7 @@ use Rattle.sail_theory.proofs.Places.{chunk-lt, live-owner, part-up}
 use Rattle.sail_theory.proofs.Owners.{chunk-found}
 use Rattle.sail_theory.proofs.Stores.{grant-had, grant-new, had?}
 use Rattle.sail_theory.proofs.Grown.{Ready, open-stays, open-fits, open-new, not-long}
-use Rattle.sail_theory.proofs.Fresh.{zeros}
+use Rattle.sail.proofs.Fresh.{zeros}
 
 -- a chunk before one in use is in use, and its owner is smaller
 abbrev pub Rising : List ℕ → Type 0

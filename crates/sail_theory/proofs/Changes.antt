@@ -1,8 +1,8 @@
 -- Announce and withdraw: what is left where they are accepted is sound, and its list holds the routes that then stand; and a chunk more is
--- needed exactly where one has to be opened. Assumes nothing.
+-- needed exactly where one has to be opened.
 use mathlib.Core.Path.{_≡_, refl, sym, _∙_, ap}
 use mathlib.Core.Logic.{_≢_}
-use mathlib.Core.Bool.{true, false}
+use mathlib.Core.Bool.{true}
 use mathlib.Core.List.{List}
 use Prim.Native.Nat.{ℕ, _*_, _^_, _≤_}
 use native.Mathlib.Omega.{arith}

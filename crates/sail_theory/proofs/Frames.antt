@@ -1,21 +1,19 @@
 -- A change of one prefix leaves every cell of a level as it was in which no address under the prefix lies and which stands where it stood.
--- Said of any level. Assumes nothing.
-use mathlib.Core.Path.{_≡_, refl, sym, _∙_, ap, ap₂, subst}
+-- Said of any level.
+use mathlib.Core.Path.{_≡_, refl, sym, _∙_, ap, subst}
 use mathlib.Core.Logic.{_⊎_, inl, inr, _≢_}
-use mathlib.Core.Bool.{Bool, true, false, cond}
+use mathlib.Core.Bool.{true, false, cond}
 use mathlib.Core.List.{List}
-use Prim.Native.Nat.{ℕ, suc, _+_, _-_, _*_, _/_, _%_, _^_, _≤_, _<_}
+use Prim.Native.Nat.{ℕ, suc, _+_, _-_, _*_, _/_, _^_, _≤_, _<_}
 use native.Mathlib.Omega.{arith}
 use native.Mathlib.Nat.{mod-lt}
 use lib.Arith.{digits-lt, digits-div}
-use lib.Dec.{ltb}
-use lib.ListN.{getD}
 use lib.Pow.{pow-pos, pow-add}
 use Rattle.bits.specs.Slot.{slot}
 use Rattle.bits.proofs.Slots.{slot-up}
 use Rattle.bits.proofs.Tests.{decided}
 use Rattle.bits.proofs.Tabs.{getD-tabulate}
-use Rattle.standing.specs.Cells.{long, best}
+use Rattle.standing.specs.Cells.{best}
 use Rattle.routes.specs.declared.Route.{Route}
 use Rattle.standing.proofs.Frame.{SameBut, frame-long, frame-best}
 use Rattle.sail.specs.Level.{Level, Chunks, chunkFor, deep, leafAt, top, below}
@@ -24,7 +22,6 @@ use Rattle.sail_theory.specs.Alters.{NoneUnder, Same, Framed}
 use Rattle.sail_theory.proofs.Mids.{pow-down}
 use Rattle.sail_theory.proofs.Chunks.{chunk-at}
 use Rattle.sail_theory.proofs.Places.{chunk-lt, live-owner}
-use Rattle.sail_theory.proofs.Pools.{pool-node}
 
 module _ (a len p i : ℕ) (h : p ≤ 32) (k : i < 2 ^ p) (n : NoneUnder a len p i) where
   above : a < 2 ^ 32 → slot p a ≡ i → ⊥
@@ -92,13 +89,6 @@ module _ (rs rs′ : List Route) (v v′ : Level) (k k′ : Chunks) (m : Moved r
   chunk-stays q l u d d′ =
       let h = m .was .has q l u d in
       m .now .once (chunkFor k (suc q)) q (rw (m .many) h) (m .stay (chunkFor k (suc q)) q (chunk-at k (suc q) h) d′)
-
-  -- a cell that named a chunk, and does still, names the same one
-  pub still : (q : ℕ) → q < v .places → v .live q ≡ true → Same v v′ q → deep rs v q ≡ true → deep rs′ v q ≡ true → getD (pool rs′ v′ k′) q 0 ≡ getD (pool rs v k) q 0
-  still q l e s d d′ =
-      pool-node rs′ v′ k′ q (rw (m .places) l) (s .live ∙ e) (ap₂ (long rs′) (m .bits) (s .at e) ∙ d′)
-      ∙ ap suc (chunk-stays q l e d d′)
-      ∙ sym (pool-node rs v k q l e d)
 
   pub framed : (a len : ℕ) → a < 2 ^ 32 → SameBut a len rs rs′ → Framed a len v v′ (pool rs v k) (pool rs′ v′ k′)
   unfolding block shown

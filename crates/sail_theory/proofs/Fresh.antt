@@ -1,13 +1,13 @@
--- Make: a fresh table is what is rendered for no routes and no owners. Assumes nothing.
+-- Make: a fresh table is what is rendered for no routes and no owners.
 use mathlib.Core.Path.{_≡_, refl, sym, _∙_, ap, subst}
 use mathlib.Core.Bool.{true, false, false≢true}
 use mathlib.Core.List.{List, []}
-use Prim.Native.Nat.{ℕ, zero, suc, _-_, _*_, _/_, _^_, _<_}
+use Prim.Native.Nat.{ℕ, _-_, _*_, _^_, _<_}
 use native.Mathlib.Omega.{arith}
 use lib.ListN.{getD, length, replicate, getD-replicate, length-replicate}
 use lib.Seq.{ext-getD}
 use Rattle.routes.specs.Route.{Good}
-use Rattle.standing.specs.Cells.{any, first, best}
+use Rattle.standing.specs.Cells.{any, first}
 use Rattle.routes.specs.Record.{written}
 use Rattle.routes.specs.Said.{Said, accepted, accepts}
 use Rattle.routes.proofs.Rows.{length-written, zero-written}
@@ -17,24 +17,15 @@ use Rattle.sail.specs.Sizes.{Sized}
 use Rattle.sail.specs.Sound.{freshTable, freshLent}
 use Rattle.sail.specs.declared.geometry.Geometry.{Geometry}
 use Rattle.sail.specs.declared.table.Table.{Table}
+use Rattle.sail.proofs.Fresh.{zeros, best-none}
 use Rattle.sail_theory.specs.Render.{pool, Fits, roomOf}
 use Rattle.sail_theory.specs.Calls.{noOwners, makeSaid, Out, lentOf, made}
 use Rattle.sail_theory.specs.Facts.{Holds}
-use Rattle.sail_theory.proofs.Pools.{length-pool, pool-free, pool-leaf}
+use Rattle.sail_theory.proofs.Pools.{length-pool, pool-clear, pool-leaf}
 use Rattle.sail_theory.proofs.Judged.{Make, make-judged}
 use Rattle.sail_theory.proofs.Only.{make-only}
 use Rattle.sail_theory.proofs.Changes.{render-holds}
 use Rattle.sail_theory.proofs.Accepted.{outcome-said, outcome-refused}
-
-pub zeros : (n i : ℕ) → _≡_ {A = ℕ} (getD (replicate n 0) i 0) 0
-zeros zero i = refl
-zeros (suc n) zero = refl
-zeros (suc n) (suc i) = zeros n i
-
-best-none : (p i : ℕ) → best [] p i ≡ 0
-unfolding best first
-best-none zero i = refl
-best-none (suc p) i = best-none p (i / 2)
 
 -- no owners fit no routes
 pub no-fits : (v : Level) (m : ℕ) → Fits [] v (chunksOf (replicate m 0))
@@ -64,7 +55,7 @@ module _ (t : Table) (l : Lent) (z : Sized (t .geometry) l) where
   free-pool v m p k n e =
       let w : Level = below v (chunksOf (replicate m 0)) p in
       let all : w .places ≡ n = ap (λ (x : ℕ). x * 2 ^ (p - v .bits)) (length-replicate m 0) ∙ sym e in
-      constant 0 n (pool [] w k) (length-pool [] w k ∙ all) (λ q h. pool-free [] w k q (rw all h) (rw zeros))
+      constant 0 n (pool [] w k) (length-pool [] w k ∙ all) (λ q h. pool-clear [] w k .blank q (rw all h) (rw zeros))
 
   pub fresh-rendered : freshLent l ≡ lentOf t l [] (noOwners l)
   unfolding freshLent any

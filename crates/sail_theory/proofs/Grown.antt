@@ -1,4 +1,4 @@
--- Owners after an announcement, at one level and at the level below it. Said of any level. Assumes nothing.
+-- Owners after an announcement, at one level and at the level below it. Said of any level.
 use mathlib.Core.Path.{_≡_, refl, sym, _∙_, ap, subst}
 use mathlib.Core.Logic.{_⊎_, inl, inr, _≢_}
 use mathlib.Core.Bool.{Bool, true, false, cond}
@@ -15,7 +15,7 @@ use Rattle.routes.specs.Route.{Fine, Good}
 use Rattle.standing.specs.Cells.{long}
 use Rattle.standing.specs.Standing.{insert}
 use Rattle.routes.specs.declared.Route.{Route}
-use Rattle.sail.specs.Level.{Level, Chunks, chunksOf, below}
+use Rattle.sail.specs.Level.{Level, chunksOf, below}
 use Rattle.sail_theory.specs.Render.{find, Fits}
 use Rattle.sail_theory.specs.Calls.{grant, openAt, opening}
 use Rattle.sail_theory.proofs.Chunks.{chunk-is, chunk-before}
@@ -41,15 +41,11 @@ open-stays v own r c x e = go (ltb (v .bits) (r .len))
     go true = grant-stays own (v .serving (r .addr)) c x e
     go false = e
 
--- a chunk that was just chunksOf from q, where none chunksOf, is found there
+-- a chunk that was just hung from q, where none hung, is found there
 pub find-hung : (own : List ℕ) (c q : ℕ) → c < length own → length own ≤ find own (suc q) → find (set own c (suc q)) (suc q) ≡ c
 find-hung own c q l none =
     chunk-is (chunksOf (set own c (suc q))) (suc q) c (rw lib.ListN.length-set l) (getD-set-same own c (suc q) 0 l)
     (λ j i e. chunk-before (chunksOf own) (suc q) j (omega arith) (sym (getD-set-other own c j (suc q) 0 (λ y. omega arith)) ∙ e))
-
-either : (b : Bool) (x : List ℕ) → cond b x x ≡ x
-either true x = refl
-either false x = refl
 
 -- where a chunk has to be opened for r, c is free
 abbrev pub Space : List Route → Route → Level → List ℕ → ℕ → Type 0

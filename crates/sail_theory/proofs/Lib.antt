@@ -15,7 +15,7 @@ pub mod Changes
 pub mod Wants
 pub mod Accepted
 pub mod Fresh
-pub mod Cells
+pub mod Marks
 pub mod Ends
 pub mod Sizes
 pub mod Loads
@@ -26,6 +26,8 @@ pub mod Wanting
 pub mod Frames
 pub mod Read
 pub mod Altered
+pub mod Cleared
 pub mod Passing
 pub mod Counting
 pub mod Wrong
+pub mod Outside

@@ -16,7 +16,7 @@ use Rattle.sail.specs.Sizes.{Sized}
 use Rattle.sail.specs.declared.geometry.Geometry.{Geometry}
 use Rattle.sail.specs.declared.table.Table.{Table}
 use Rattle.sail_theory.specs.Render.{find, Fits, roomOf}
-use Rattle.sail_theory.specs.Calls.{Owners, opened, settled, ownersOf, noOwners, route, inputRoutes, loadSaid, Out, stateOf, lentOf, made, announced, loaded}
+use Rattle.sail_theory.specs.Calls.{Owners, opened, settled, ownersOf, noOwners, inputRoutes, loadSaid, Out, stateOf, lentOf, made, adding, told, announced, loaded}
 use Rattle.sail_theory.specs.Facts.{Holds, Welcome, Loadable}
 use Rattle.sail_theory.specs.Runs.{announceAll, AllAdded}
 use Rattle.sail_theory.proofs.Ends.{good-front, good-next, good-below, insert-end, none-stands, any-front}
@@ -25,12 +25,9 @@ use Rattle.sail_theory.proofs.Grown.{Ready, length-open}
 use Rattle.sail_theory.proofs.Judged.{Readable, Load, load-judged}
 use Rattle.sail_theory.proofs.Only.{load-only}
 use Rattle.sail_theory.proofs.Changes.{render-holds, ready1, ready2, welcome-fits2, welcome-fits3}
-use Rattle.sail_theory.proofs.Accepted.{announce-is, outcome-said, outcome-refused}
+use Rattle.sail_theory.proofs.Accepted.{adding-is, outcome-said, outcome-refused}
+use Rattle.sail_theory.proofs.Cleared.{announce-fine}
 use Rattle.sail_theory.proofs.Fresh.{no-fits, fresh-rendered, make-is}
-
--- a route without spare is made of its parts
-route-parts : (r : Route) → r .spare ≡ 0 → route (r .addr) (r .len) (r .hop) ≡ r
-route-parts r e = λ i. record { addr = r .addr; len = r .len; spare = sym e i; hop = r .hop }
 
 -- Owners that fit a good list which is the front of one that may be loaded.
 pub record Fronts (t : Table) (l : Lent) (xs ys : List Route) (o : Owners) : Type 0 where
@@ -101,11 +98,11 @@ module _ (t : Table) (l : Lent) (xs : List Route) (r : Route) (ys : List Route) 
   fronts-ready2 = rw (now .routes) at (ready2 u v r welcome)
 
   -- it is added, and its chunks opened
-  next : announced u v (r .addr) (r .len) (r .hop) ≡ record { said = accepted (0 ∷ []); table = stateOf t xs′; lent = lentOf t l xs′ (opened g o r) }
+  next : announced u v r ≡ record { said = accepted (0 ∷ 0 ∷ []); table = stateOf t xs′; lent = lentOf t l xs′ (opened g o r) }
   next =
-      let whole = route-parts r (fine .spare-ok) in
-      announce-is u v (r .addr) (r .len) (r .hop) (rw whole welcome)
-      ∙ rw (whole, now .routes, none-stands (key r) xs below, ended, same-room)
+      let is : adding u v r ≡ record { said = accepted (0 ∷ []); table = stateOf t xs′; lent = lentOf t l xs′ (opened g o r) }
+      = adding-is u v r welcome ∙ rw (now .routes, none-stands (key r) xs below, ended, same-room) in
+      announce-fine u v r fine ∙ ap (told false) is
 
   pub fronts-next : Fronts t l xs′ ys (opened g o r)
   fronts-next = record {
@@ -133,12 +130,12 @@ pub record Settles (s : Said) (t : Table) (l : Lent) (xs ys : List Route) (o : O
 pub settles : (s : Said) (t : Table) (l : Lent) (ys xs : List Route) (o : Owners) → Fronts t l xs ys o → Settles s t l xs ys o
 unfolding announceAll AllAdded settled
 settles s t l [] xs o f = record { table = rw append-nil; lent = rw append-nil; added = tt; ends = rw append-nil f }
-settles s t l (r ∷ ys) xs o f = go (settles (accepted (0 ∷ [])) t l ys (xs ++ (r ∷ [])) (opened (t .geometry) o r) (fronts-next t l xs r ys o f))
+settles s t l (r ∷ ys) xs o f = go (settles (accepted (0 ∷ 0 ∷ [])) t l ys (xs ++ (r ∷ [])) (opened (t .geometry) o r) (fronts-next t l xs r ys o f))
   where
     re : (xs ++ (r ∷ [])) ++ ys ≡ xs ++ r ∷ ys
     re = append-assoc xs (r ∷ []) ys
 
-    go : Settles (accepted (0 ∷ [])) t l (xs ++ (r ∷ [])) ys (opened (t .geometry) o r) → Settles s t l xs (r ∷ ys) o
+    go : Settles (accepted (0 ∷ 0 ∷ [])) t l (xs ++ (r ∷ [])) ys (opened (t .geometry) o r) → Settles s t l xs (r ∷ ys) o
     go k =
         let step = next t l xs r ys o f in
         record {
@@ -186,12 +183,7 @@ module _ (t : Table) (l : Lent) (input : List ℕ) where
     where
       go : {s : Said} → Load t l input s → accepts s ≡ true → Readable t l input × Loadable t l rs
       go (Load.sizing n h) e = absurd (false≢true e)
-      go (Load.bad-input {s} z c h) e = absurd (off s h e)
-        where
-          off : (s : Said) → ((ns : List ℕ) → s ≡ accepted ns → ⊥) → accepts s ≡ true → ⊥
-          off (Said.accepted ns) h e = h ns refl
-          off (Said.refused n) h e = false≢true e
-          off (Said.refusedAt n k) h e = false≢true e
+      go (Load.bad-input s z b) e = absurd (false≢true (sym (b .not-accepted) ∙ e))
       go (Load.full w r) e = absurd (false≢true e)
       go (Load.second w r x) e = absurd (false≢true e)
       go (Load.third w r x y) e = absurd (false≢true e)

@@ -1,4 +1,4 @@
--- From a level of p bits to one of p′ more bits or as many. Assumes nothing.
+-- From a level of p bits to one of p′, which is as many or more.
 use mathlib.Core.Path.{_≡_, sym, _∙_, ap}
 use mathlib.Core.Bool.{true, false}
 use mathlib.Core.List.{List}

@@ -2,18 +2,19 @@
 use mathlib.Core.Path.{_≡_, refl, _∙_}
 use mathlib.Core.Bool.{false, cond}
 use mathlib.Core.List.{List, [], _∷_}
-use Prim.Native.Nat.{ℕ, _/_, _≤_}
+use Prim.Native.Nat.{ℕ, _/_}
 use lib.Dec.{leb, ltb}
 use lib.ListN.{length}
 use borrow.Author.Tests.{lt-leb, le-leb, lt-ltb, le-ltb}
 use Rattle.bits.specs.Count.{bit}
 use Rattle.bits.proofs.Tests.{untrue}
-use Rattle.routes.specs.Route.{keyOf, Prefix}
-use Rattle.routes.specs.Input.{properPrefix, hopFine}
-use Rattle.routes.specs.Said.{Said, accepted, refused, andThen}
+use Rattle.routes.specs.Route.{key, Prefix}
+use Rattle.routes.specs.Input.{properPrefix, routeFault}
+use Rattle.routes.specs.Said.{Said, accepted, refused}
 use Rattle.standing.specs.Standing.{stands, insert}
 use Rattle.routes.specs.declared.Route.{Route}
-use Rattle.routes.proofs.Meaning.{prefix-true, true-prefix, hop-true, true-hop, good-input}
+use Rattle.routes.proofs.Meaning.{prefix-true, true-prefix, WrongRoute, wrong-fault, fine-fault, good-input}
+use Rattle.routes.proofs.Cases.{check-only, bad-stops}
 use Rattle.routes.proofs.Rows.{length-routes}
 use Rattle.sail.specs.Lent.{Lent}
 use Rattle.sail.specs.Sizes.{sizesFault}
@@ -22,7 +23,7 @@ use Rattle.sail.specs.declared.table.Table.{Table}
 use Rattle.sail.proofs.Fitting.{Fault, none-is, fault-is}
 use Rattle.sail_theory.specs.Render.{roomOf}
 use Rattle.sail_theory.specs.Test.{sound?}
-use Rattle.sail_theory.specs.Calls.{route, termsOf, chunksFault, announceFault, withdrawFault, loadFault, orSay, makeSaid, announceSaid, withdrawSaid, loadSaid, inputRoutes, reported}
+use Rattle.sail_theory.specs.Calls.{termsOf, chunksFault, announceFault, withdrawFault, loadFault, orSay, makeSaid, announceSaid, withdrawSaid, loadSaid, inputRoutes, reported}
 use Rattle.sail_theory.proofs.Tells.{sound-tells}
 use Rattle.sail_theory.proofs.Judged.{Sizing, Make, Proper, Roomy, Announce, Withdraw, Readable, Load, Report}
 
@@ -55,31 +56,36 @@ unsound-is t l h = untrue (sound? t l) (λ e. h (sound-tells t l .0 e))
 not-prefix : (a len : ℕ) → (Prefix a len → ⊥) → properPrefix a len ≡ false
 not-prefix a len h = untrue (properPrefix a len) (λ e. h (prefix-true a len e))
 
-not-hop : (hop : ℕ) → (1 ≤ hop → hop ≤ 32767 → ⊥) → hopFine hop ≡ false
-not-hop hop h = untrue (hopFine hop) (λ e. let b = hop-true hop e in h (b .0) (b .1))
+-- what is wrong with a route is its fault
+wrong-said : (r : Route) (n : ℕ) (s : Said) → WrongRoute r n → orSay (routeFault r) s ≡ refused n
+wrong-said r n s w = rw (wrong-fault r n w) (go w)
+  where
+    go : {n : ℕ} → WrongRoute r n → orSay n s ≡ refused n
+    go (WrongRoute.prefix h) = refl
+    go (WrongRoute.hop p h) = refl
+    go (WrongRoute.mark p a b h) = refl
 
-module _ (t : Table) (l : Lent) (a len hop : ℕ) where
+module _ (t : Table) (l : Lent) (r : Route) where
   abbrev rs : List Route
   rs = standing t l
 
   -- past 5
-  proper-said : Proper t l a len hop
-      → announceSaid t l a len hop ≡ orSay (cond (stands (keyOf a len) rs) 0 (cond (leb (roomOf l) (length rs)) 6 (chunksFault (termsOf t l) (insert (route a len hop) rs)))) (accepted (bit (stands (keyOf a len) rs) ∷ []))
+  proper-said : Proper t l r
+      → announceSaid t l r ≡ orSay (cond (stands (key r) rs) 0 (cond (leb (roomOf l) (length rs)) 6 (chunksFault (termsOf t l) (insert r rs)))) (accepted (bit (stands (key r) rs) ∷ []))
   unfolding announceSaid announceFault
-  proper-said p = rw (none-is (t .geometry) l (p .sound .sized), true-prefix a len (p .fine .prefix), true-hop hop (p .fine .hop-one) (p .fine .hop-ok), sound-tells t l .1 (p .sound))
+  proper-said p = rw (none-is (t .geometry) l (p .sound .sized), fine-fault r (p .fine), sound-tells t l .1 (p .sound))
 
   -- past 6
-  pub roomy-said : Roomy t l a len hop → announceSaid t l a len hop ≡ orSay (chunksFault (termsOf t l) (insert (route a len hop) rs)) (accepted (0 ∷ []))
+  pub roomy-said : Roomy t l r → announceSaid t l r ≡ orSay (chunksFault (termsOf t l) (insert r rs)) (accepted (0 ∷ []))
   roomy-said w = proper-said (w .proper) ∙ rw (w .new, lt-leb (roomOf l) (length rs) (w .room))
 
-  pub announce-only : (s : Said) → Announce t l a len hop s → announceSaid t l a len hop ≡ s
+  pub announce-only : (s : Said) → Announce t l r s → announceSaid t l r ≡ s
   unfolding announceSaid announceFault chunksFault
   announce-only s (Announce.sizing n h) = sizing-said t l n _ h
-  announce-only s (Announce.bad-prefix z h) = rw (none-is (t .geometry) l z, not-prefix a len h)
-  announce-only s (Announce.bad-hop z p h) = rw (none-is (t .geometry) l z, true-prefix a len p, not-hop hop h)
-  announce-only s (Announce.unsound z f h) = rw (none-is (t .geometry) l z, true-prefix a len (f .prefix), true-hop hop (f .hop-one) (f .hop-ok), unsound-is t l h)
+  announce-only s (Announce.wrong n z w) = rw (none-is (t .geometry) l z) (wrong-said r n _ w)
+  announce-only s (Announce.unsound z f h) = rw (none-is (t .geometry) l z, fine-fault r f, unsound-is t l h)
   announce-only s (Announce.replaced p e) = proper-said p ∙ rw e
-  announce-only s (Announce.full p e r) = proper-said p ∙ rw (e, le-leb (roomOf l) (length rs) r)
+  announce-only s (Announce.full p e k) = proper-said p ∙ rw (e, le-leb (roomOf l) (length rs) k)
   announce-only s (Announce.second w x) = roomy-said w ∙ rw (lt-ltb _ _ x)
   announce-only s (Announce.third w x y) = roomy-said w ∙ rw (le-ltb _ _ x, lt-ltb _ _ y)
   announce-only s (Announce.added w x y) = roomy-said w ∙ rw (le-ltb _ _ x, le-ltb _ _ y)
@@ -101,12 +107,7 @@ module _ (t : Table) (l : Lent) (input : List ℕ) where
   pub load-only : (s : Said) → Load t l input s → loadSaid t l input ≡ s
   unfolding loadSaid chunksFault
   load-only s (Load.sizing n h) = sizing-said t l n _ h
-  load-only s (Load.bad-input z c h) = rw (none-is (t .geometry) l z, c) (go s h)
-    where
-      go : (s : Said) → ((ns : List ℕ) → s ≡ accepted ns → ⊥) → andThen s (orSay (loadFault (termsOf t l) (inputRoutes input)) (accepted [])) ≡ s
-      go (Said.accepted ns) h = absurd (h ns refl)
-      go (Said.refused n) h = refl
-      go (Said.refusedAt n k) h = refl
+  load-only _ (Load.bad-input s z b) = rw (none-is (t .geometry) l z, check-only input s (b .checked)) (bad-stops s _ (b .not-accepted))
   load-only s (Load.full w r) = read-said w ∙ rw (lt-ltb _ _ r)
   load-only s (Load.second w r x) = read-said w ∙ rw (le-ltb _ _ r, lt-ltb _ _ x)
   load-only s (Load.third w r x y) = read-said w ∙ rw (le-ltb _ _ r, le-ltb _ _ x, lt-ltb _ _ y)

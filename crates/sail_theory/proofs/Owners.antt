@@ -1,5 +1,5 @@
 -- Owners that fit a level still do after a chunk is granted, after the level above has one more, and after what is no longer deep is closed.
--- Said of any level, and of owners by what is read of them. Assumes nothing.
+-- Said of any level, and of owners by what is read of them.
 use mathlib.Core.Path.{_≡_, refl, sym, _∙_, ap}
 use mathlib.Core.Logic.{_⊎_, inl, inr, _≢_}
 use mathlib.Core.Bool.{true, false, true≢false}
@@ -81,7 +81,7 @@ module _ (rs rs′ : List Route) (v : Level) (k : Chunks) (f : Fits rs v k)
       has′ x l e d (inl s) = rw s h
       has′ x l e d (inr s) = f .has x l e (sym (others x l e s) ∙ d)
 
-  -- or a free chunk c is chunksOf there
+  -- or a free chunk c is hung there
   module _ (k′ : Chunks) (same : k′ .many ≡ k .many) (none : k .many ≤ chunkFor k (suc q)) (c : ℕ) (cl : c < k .many) (free : k .own c ≡ 0) (here : k′ .own c ≡ suc q) (left : (j : ℕ) → j ≢ c → k′ .own j ≡ k .own j) where
     gone : (j : ℕ) → j < k .many → k .own j ≢ suc q
     gone j l e = let z = chunk-has k (suc q) j e in omega arith

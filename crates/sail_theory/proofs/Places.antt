@@ -1,13 +1,13 @@
--- The places of a level, and the cells that they stand for. Said of any level. Assumes nothing.
+-- The places of a level, and the cells that they stand for. Said of any level.
 use mathlib.Core.Path.{_≡_, refl, sym, _∙_, ap, ap₂}
-use mathlib.Core.Bool.{Bool, true, false}
+use mathlib.Core.Bool.{true}
 use mathlib.Core.List.{List}
 use Prim.Native.Nat.{ℕ, suc, _+_, _-_, _*_, _/_, _%_, _^_, _≤_, _<_}
 use native.Mathlib.Omega.{arith}
 use native.Mathlib.Nat.{mod-lt, div-add-mod', div-lt-iff-lt-mul}
 use lib.Arith.{digits-lt, digits-div, digits-mod}
 use lib.Pow.{pow-pos}
-use borrow.Author.Tests.{ltb-true, lt-ltb, le-ltb}
+use borrow.Author.Tests.{ltb-true, lt-ltb}
 use Rattle.bits.specs.Slot.{slot}
 use Rattle.bits.proofs.Slots.{slot-lt}
 use Rattle.standing.specs.Cells.{long}
@@ -36,7 +36,7 @@ module _ (v : Level) (k : Chunks) (p : ℕ) where
   pub part-low : (x : ℕ) → below v k p .at x % 2 ^ d ≡ x % 2 ^ d
   part-low x = digits-mod (v .at (k .own (x / 2 ^ d) - 1)) (mod-lt x (pow-pos d))
 
-  -- the cells of a chunk that hangs from the place q, and of one that is free
+  -- the cells of a chunk that hangs from the place q
   module _ (c j : ℕ) (h : j < 2 ^ d) where
     pub chunk-live : (q : ℕ) → k .own c ≡ suc q → below v k p .live (c * 2 ^ d + j) ≡ true
     chunk-live q o = lt-ltb 0 (k .own ((c * 2 ^ d + j) / 2 ^ d)) (omega (arith, o, ap (k .own) (digits-div c h)))
@@ -45,9 +45,6 @@ module _ (v : Level) (k : Chunks) (p : ℕ) where
     chunk-part q o =
         let e : k .own ((c * 2 ^ d + j) / 2 ^ d) - 1 ≡ q = omega (arith, o, ap (k .own) (digits-div c h)) in
         ap₂ (λ (x y : ℕ). v .at x * 2 ^ d + y) e (digits-mod c h)
-
-    pub chunk-dead : k .own c ≡ 0 → below v k p .live (c * 2 ^ d + j) ≡ false
-    chunk-dead o = le-ltb 0 (k .own ((c * 2 ^ d + j) / 2 ^ d)) (omega (arith, o, ap (k .own) (digits-div c h)))
 
 -- The place that serves an address is live, and stands for the address's cell.
 pub record Served (v : Level) (a : ℕ) : Type 0 where

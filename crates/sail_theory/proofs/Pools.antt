@@ -1,15 +1,16 @@
--- A level's cells are right exactly where its chunks fit and its live cells are as they are shown. Said of any level. Assumes nothing.
+-- A level's cells are right exactly where its chunks fit and its live cells are as they are shown. Said of any level.
 use mathlib.Core.Path.{_≡_, sym, _∙_, ap}
 use mathlib.Core.Logic.{_⊎_, inl, inr}
 use mathlib.Core.Bool.{Bool, true, false, cond}
 use mathlib.Core.List.{List}
-use Prim.Native.Nat.{ℕ, suc, _+_, _-_, _<_}
+use Prim.Native.Nat.{ℕ, suc, _-_, _<_}
 use native.Mathlib.Omega.{arith}
 use lib.ListN.{getD, length}
 use Rattle.bits.proofs.Tests.{decided}
 use Rattle.bits.proofs.Tabs.{length-tabulate, getD-tabulate, is-tabulate, tabulate-ext}
 use Rattle.routes.specs.declared.Route.{Route}
-use Rattle.sail.specs.Level.{Level, Chunks, Shows, chunkFor, deep, leafAt, entry}
+use Rattle.sail.specs.Level.{Level, Chunks, chunkFor, deep, leafAt, entry}
+use Rattle.sail.specs.Sound.{Shows, Clear}
 use Rattle.sail_theory.specs.Render.{shown, block, laid, pool, laidOver, Fits}
 use Rattle.sail_theory.proofs.Chunks.{chunk-at, chunk-is}
 
@@ -47,36 +48,32 @@ module _ (rs : List Route) (v : Level) (k : Chunks) where
   pool-shown q l e = getD-tabulate (v .places) _ q 0 l ∙ rw e
 
   -- a level laid over an array in which what is not live is 0
-  pub laid-rendered : (old : List ℕ) → length old ≡ v .places → ((q : ℕ) → q < v .places → v .live q ≡ false → getD old q 0 ≡ 0) → laidOver rs v k old ≡ pool rs v k
-  laid-rendered old s h = laid-block old (v .live) (shown rs v k) (λ q l e. h q (rw s at l) e) ∙ ap (λ (n : ℕ). block n (v .live) (shown rs v k)) s
+  pub laid-rendered : (old : List ℕ) → length old ≡ v .places → Clear v (entry old) → laidOver rs v k old ≡ pool rs v k
+  laid-rendered old s z = laid-block old (v .live) (shown rs v k) (λ q l e. z .blank q (rw s at l) e) ∙ ap (λ (n : ℕ). block n (v .live) (shown rs v k)) s
 
   pub length-pool : length (pool rs v k) ≡ v .places
   unfolding block
   length-pool = length-tabulate (v .places) _
 
-  -- a cell of a pool: free, a leaf, or the number of a chunk
-  pub pool-free : (q : ℕ) → q < v .places → v .live q ≡ false → getD (pool rs v k) q 0 ≡ 0
+  -- a cell of a pool: 0 where it is not live, and a leaf where it is not deep
+  pub pool-clear : Clear v (entry (pool rs v k))
   unfolding block
-  pool-free q l e = getD-tabulate (v .places) _ q 0 l ∙ rw e
+  pool-clear = record { blank = λ q l e. getD-tabulate (v .places) _ q 0 l ∙ rw e }
 
   pub pool-leaf : (q : ℕ) → q < v .places → v .live q ≡ true → deep rs v q ≡ false → getD (pool rs v k) q 0 ≡ leafAt rs v q
   unfolding block shown
   pool-leaf q l e f = getD-tabulate (v .places) _ q 0 l ∙ rw (e, f)
 
-  pub pool-node : (q : ℕ) → q < v .places → v .live q ≡ true → deep rs v q ≡ true → getD (pool rs v k) q 0 ≡ suc (chunkFor k (suc q))
-  unfolding block shown
-  pool-node q l e f = getD-tabulate (v .places) _ q 0 l ∙ rw (e, f)
-
   -- live cells that are as they are shown, with chunks that fit, are right, whatever stands at the other places
   pub shown-shows : (cells : ℕ → ℕ) → Fits rs v k → ((q : ℕ) → q < v .places → v .live q ≡ true → cells q ≡ shown rs v k q) → Shows rs v k cells
   unfolding shown
   shown-shows cells f is = record {
-    leaf = λ q l e d. is q l e ∙ rw d;
     node = λ q l e d.
         let h = f .has q l e d in
         let z : cells q ≡ suc (chunkFor k (suc q)) = is q l e ∙ rw d in
         let y : cells q - 1 ≡ chunkFor k (suc q) = omega arith in
-        (omega arith, omega arith, ap (k .own) y ∙ chunk-at k (suc q) h);
+        record { one = omega arith; last = omega arith; owner = ap (k .own) y ∙ chunk-at k (suc q) h };
+    leaf = λ q l e d. is q l e ∙ rw d;
     owned = λ c q l e.
         let j = f .lies c q l e in
         (j .0, j .1, j .2, is q (j .0) (j .1) ∙ rw (j .2) (ap suc (f .once c q l e)));
@@ -97,13 +94,13 @@ module _ (rs : List Route) (v : Level) (k : Chunks) where
     node-chunk : (q : ℕ) → q < v .places → v .live q ≡ true → deep rs v q ≡ true → suc (chunkFor k (suc q)) ≡ cells q
     node-chunk q l e d =
         let n = s .node q l e d in
-        let c : cells q - 1 < k .many = omega (arith, n .0, n .1) in
-        omega (arith, n .0, single (cells q - 1) q c (n .2))
+        let c : cells q - 1 < k .many = omega arith in
+        omega (arith, single (cells q - 1) q c (n .owner))
 
     pub shows-fits : Fits rs v k
     shows-fits = record {
       lies = λ c q l e. (s .owned c q l e .0, s .owned c q l e .1, s .owned c q l e .2);
-      has = λ q l e d. omega (arith, node-chunk q l e d, s .node q l e d .1);
+      has = λ q l e d. omega (arith, node-chunk q l e d, s .node q l e d .last);
       once = single;
     }
 
@@ -116,10 +113,10 @@ module _ (rs : List Route) (v : Level) (k : Chunks) where
         go (inr d) = rw d (s .leaf q l e d)
 
   -- an array whose live places are as they are shown, and whose others are 0
-  pub shows-pool : (cells : List ℕ) → Shows rs v k (entry cells) → length cells ≡ v .places → ((q : ℕ) → q < v .places → v .live q ≡ false → getD cells q 0 ≡ 0) → cells ≡ pool rs v k
+  pub shows-pool : (cells : List ℕ) → Shows rs v k (entry cells) → length cells ≡ v .places → Clear v (entry cells) → cells ≡ pool rs v k
   unfolding block
-  shows-pool cells s h blank = is-tabulate 0 cells (v .places) _ h (λ q l. go q l (decided (v .live q)))
+  shows-pool cells s h z = is-tabulate 0 cells (v .places) _ h (λ q l. go q l (decided (v .live q)))
     where
       go : (q : ℕ) → q < v .places → (v .live q ≡ true) ⊎ (v .live q ≡ false) → getD cells q 0 ≡ cond (v .live q) (shown rs v k q) 0
       go q l (inl e) = rw e (shows-shown (entry cells) s q l e)
-      go q l (inr e) = rw e (blank q l e)
+      go q l (inr e) = rw e (z .blank q l e)

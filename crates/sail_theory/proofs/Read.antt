@@ -1,4 +1,4 @@
--- The lookup of an address in a sound table reads the live places that stand for its cells. Assumes nothing.
+-- The lookup of an address in a sound table reads the live places that stand for its cells.
 use mathlib.Core.Path.{_≡_, refl, sym, _∙_, ap, ap₂, subst}
 use mathlib.Core.Bool.{true}
 use mathlib.Core.List.{List}
@@ -11,9 +11,10 @@ use Rattle.bits.proofs.Slots.{slot-lt}
 use Rattle.routes.specs.declared.Route.{Route}
 use Rattle.sail.specs.Geometry.{bits2, bits3, Valid}
 use Rattle.sail.specs.Lent.{Lent}
-use Rattle.sail.specs.Level.{Level, Chunks, Shows, entry, chunksOf, whole, below, level1, level2, level3}
-use Rattle.sail.specs.Sound.{Sound, standing}
-use Rattle.sail.specs.Walk.{place, cell2, Leads, ReadsSecond, ReadsThird}
+use Rattle.sail.specs.Level.{Level, Chunks, entry, chunksOf, whole, below, level1, level2, level3}
+use Rattle.sail.specs.Sound.{Shows, Sound, standing}
+use Rattle.sail.specs.Walk.{place, cell2}
+use Rattle.sail.specs.Reads.{Leads, ReadsSecond, ReadsThird}
 use Rattle.sail.specs.declared.geometry.Geometry.{Geometry}
 use Rattle.sail.specs.declared.table.Table.{Table}
 use Rattle.sail_theory.proofs.Mids.{slot-down}
@@ -58,7 +59,7 @@ module _ (t : Table) (l : Lent) (s : Sound t l) (x : ℕ) (small : x < 2 ^ 32) w
       → (getD (l .first) (slot (g .p1) x) 0 ≡ suc (q / 2 ^ bits2 g)) × (getD (l .first) (slot (g .p1) x) 0 ≤ length (l .own2)) × (place (bits2 g) (getD (l .first) (slot (g .p1) x) 0) (slot (g .p2) x) ≡ q)
   named2 q h e p =
       let v = valid in
-      stands-named (standing t l) (level1 g) (chunksOf (l .own2)) (entry (l .first)) (s .serves .shows1) (top-apart (g .p1)) (g .p2) x (omega arith) (omega arith) q h e p
+      stands-named (standing t l) (level1 g) (chunksOf (l .own2)) (entry (l .first)) (s .serves .first) (top-apart (g .p1)) (g .p2) x (omega arith) (omega arith) q h e p
       (slot (g .p1) x) (slot-lt (g .p1) x (omega arith) small) refl refl
 
   pub reads-second : (q : ℕ) → q < v2 .places → v2 .live q ≡ true → v2 .at q ≡ slot (g .p2) x → ReadsSecond g (whole l) x q
@@ -69,11 +70,11 @@ module _ (t : Table) (l : Lent) (s : Sound t l) (x : ℕ) (small : x < 2 ^ 32) w
   reads-third q h e p =
       let v = valid in
       let z : ℕ = getD (l .own3) (q / 2 ^ bits3 g) 0 - 1 in
-      let k = s .serves .shows2 .owned (q / 2 ^ bits3 g) z (chunk-lt (bits3 g) (length (l .own3)) q h) (live-owner v2 (chunksOf (l .own3)) 32 q e) in
+      let k = s .serves .second .owned (q / 2 ^ bits3 g) z (chunk-lt (bits3 g) (length (l .own3)) q h) (live-owner v2 (chunksOf (l .own3)) 32 q e) in
       let apart = below-apart (standing t l) (level1 g) (chunksOf (l .own2)) (g .p2) (sound-rendered t l s .fits2) (top-apart (g .p1)) in
-      let stands = owner-stands (standing t l) v2 (chunksOf (l .own3)) (entry (l .second)) (s .serves .shows2) apart 32 x (omega arith) (omega arith) q h e p in
+      let stands = owner-stands (standing t l) v2 (chunksOf (l .own3)) (entry (l .second)) (s .serves .second) apart 32 x (omega arith) (omega arith) q h e p in
       let two = named2 z (k .0) (k .1) stands in
-      let three = stands-named (standing t l) v2 (chunksOf (l .own3)) (entry (l .second)) (s .serves .shows2) apart 32 x (omega arith) (omega arith) q h e p z (k .0) (k .1) stands in
+      let three = stands-named (standing t l) v2 (chunksOf (l .own3)) (entry (l .second)) (s .serves .second) apart 32 x (omega arith) (omega arith) q h e p z (k .0) (k .1) stands in
       let here : cell2 g (whole l) x ≡ getD (l .second) z 0 = ap (entry (l .second)) (two .2) in
       record {
         goes = leads (two .0) (two .1) (s .sized .few2);

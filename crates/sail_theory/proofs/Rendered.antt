@@ -1,15 +1,11 @@
 -- A table is sound exactly when its sizes are right, its list is good, its owners fit, and its cells are those that are rendered.
--- Assumes nothing.
-use mathlib.Core.Path.{_≡_, refl, sym, _∙_, ap, subst}
-use mathlib.Core.Bool.{true, false, true≢false}
+use mathlib.Core.Path.{_≡_, sym, _∙_, ap, subst}
+use mathlib.Core.Bool.{true≢false}
 use mathlib.Core.List.{List}
-use Prim.Native.Nat.{ℕ, _+_, _-_, _*_, _/_, _%_, _^_, _≤_, _<_}
+use Prim.Native.Nat.{ℕ, _≤_}
 use native.Mathlib.Omega.{arith}
-use native.Mathlib.Nat.{not-suc-le-zero, mod-lt, div-add-mod', div-lt-iff-lt-mul}
-use lib.Arith.{digits-lt, digits-div}
-use lib.Dec.{ltb}
-use lib.ListN.{getD, length}
-use lib.Pow.{pow-pos}
+use native.Mathlib.Nat.{not-suc-le-zero}
+use lib.ListN.{length}
 use Rattle.routes.specs.Route.{Good}
 use Rattle.routes.specs.Record.{Listed}
 use Rattle.routes.specs.declared.Route.{Route}
@@ -17,30 +13,19 @@ use Rattle.standing.proofs.Need.{none-longer}
 use Rattle.routes.proofs.Rows.{records-good, length-written, routes-written, written-listed}
 use Rattle.sail.specs.Geometry.{Valid}
 use Rattle.sail.specs.Lent.{Lent}
-use Rattle.sail.specs.Level.{Level, Chunks, Shows, Clear, inUse, leafAt, entry, chunksOf, noChunks, below, level1, level2, level3}
+use Rattle.sail.specs.Level.{Level, Chunks, entry, chunksOf, noChunks, top, below, level1, level2, level3}
 use Rattle.sail.specs.Sizes.{Sized}
-use Rattle.sail.specs.Sound.{Sound, standing}
+use Rattle.sail.specs.Sound.{Shows, AllLeaves, Clear, Sound, standing}
 use Rattle.sail.specs.declared.geometry.Geometry.{Geometry}
 use Rattle.sail.specs.declared.table.Table.{Table}
-use Rattle.sail_theory.specs.Render.{pool, rendered, Fits, asAsked, Rendered}
-use Rattle.sail_theory.proofs.Pools.{length-pool, pool-free, pool-leaf, pool-shows, shows-fits, shows-pool}
+use Rattle.sail_theory.specs.Render.{pool, rendered, Fits, Rendered}
+use Rattle.sail_theory.proofs.Pools.{length-pool, pool-clear, pool-leaf, pool-shows, shows-fits, shows-pool}
 
--- a pool in which free chunks are blank, and one in which all that is not live is 0
-module _ (v : Level) (p : ℕ) (own cells : List ℕ) where
-  abbrev d : ℕ
-  d = p - v .bits
+-- every cell of the first level is live
+pub top-clear : (p : ℕ) (cells : ℕ → ℕ) → Clear (top p) cells
+top-clear p cells = record { blank = λ q h e. absurd (true≢false e) }
 
-  pub clear-blank : Clear (length own) d (ltb 0) (entry own) (entry cells) → (q : ℕ) → q < below v (chunksOf own) p .places → below v (chunksOf own) p .live q ≡ false → getD cells q 0 ≡ 0
-  clear-blank k q l e =
-      ap (entry cells) (sym (div-add-mod' q (2 ^ d))) ∙ k .blank (q / 2 ^ d) (div-lt-iff-lt-mul (pow-pos d) .1 l) e (q % 2 ^ d) (mod-lt q (pow-pos d))
-
-  pub blank-clear : ((q : ℕ) → q < below v (chunksOf own) p .places → below v (chunksOf own) p .live q ≡ false → getD cells q 0 ≡ 0) → Clear (length own) d (ltb 0) (entry own) (entry cells)
-  blank-clear h = record {
-    unowned = λ c l e. omega (arith, borrow.Author.Tests.ltb-false 0 (getD own c 0) e);
-    blank = λ c l e j k. h (c * 2 ^ d + j) (digits-lt l k) (ap (inUse (entry own)) (digits-div c k) ∙ e);
-  }
-
--- no route is longer than 32: a level of 32 bits has no deep cell, and no chunk hangs from it
+-- no route is longer than 32: in a level of 32 bits no cell is deep, so that no chunk hangs from it, and its live cells are leaves
 module _ (rs : List Route) (good : Good rs) (v : Level) (k : Chunks) where
   pub last-fits : Fits rs (below v k 32) noChunks
   last-fits = record {
@@ -49,13 +34,13 @@ module _ (rs : List Route) (good : Good rs) (v : Level) (k : Chunks) where
     once = λ c q l e. absurd (not-suc-le-zero l);
   }
 
-  pub last-leaf : (q : ℕ) → q < below v k 32 .places → below v k 32 .live q ≡ true → getD (pool rs (below v k 32) noChunks) q 0 ≡ leafAt rs (below v k 32) q
-  last-leaf q l e = pool-leaf rs (below v k 32) noChunks q l e (none-longer rs _ good)
+  last-leaves : AllLeaves rs (below v k 32) (entry (pool rs (below v k 32) noChunks))
+  last-leaves = record { leaf = λ q l e. pool-leaf rs (below v k 32) noChunks q l e (none-longer rs _ good) }
 
-  pub last-shows : (cells : ℕ → ℕ) → ((q : ℕ) → q < below v k 32 .places → below v k 32 .live q ≡ true → cells q ≡ leafAt rs (below v k 32) q) → Shows rs (below v k 32) noChunks cells
-  last-shows cells h = record {
-    leaf = λ q l e d. h q l e;
+  last-shows : (cells : ℕ → ℕ) → AllLeaves rs (below v k 32) cells → Shows rs (below v k 32) noChunks cells
+  last-shows cells s = record {
     node = λ q l e d. absurd (true≢false (sym d ∙ none-longer rs _ good));
+    leaf = λ q l e d. s .leaf q l e;
     owned = λ c q l e. absurd (not-suc-le-zero l);
   }
 
@@ -90,11 +75,11 @@ module _ (t : Table) (l : Lent) where
   sound-rendered s = record {
     sized = s .sized;
     listed = s .listed;
-    fits2 = shows-fits rs v1 (chunksOf own2) (entry (l .first)) (s .serves .shows1);
-    fits3 = shows-fits rs v2 (chunksOf own3) (entry (l .second)) (s .serves .shows2);
-    is-first = shows-pool rs v1 (chunksOf own2) (l .first) (s .serves .shows1) (s .sized .cells1) (λ q h e. absurd (true≢false e));
-    is-second = shows-pool rs v2 (chunksOf own3) (l .second) (s .serves .shows2) (s .sized .cells2) (clear-blank v1 (g .p2) own2 (l .second) (s .clear2));
-    is-third = shows-pool rs v3 noChunks (l .third) (s .serves .shows3) (s .sized .cells3) (clear-blank v2 32 own3 (l .third) (s .clear3));
+    fits2 = shows-fits rs v1 (chunksOf own2) (entry (l .first)) (s .serves .first);
+    fits3 = shows-fits rs v2 (chunksOf own3) (entry (l .second)) (s .serves .second);
+    is-first = shows-pool rs v1 (chunksOf own2) (l .first) (s .serves .first) (s .sized .cells1) (top-clear (g .p1) (entry (l .first)));
+    is-second = shows-pool rs v2 (chunksOf own3) (l .second) (s .serves .second) (s .sized .cells2) (s .clear2);
+    is-third = shows-pool rs v3 noChunks (l .third) (last-shows rs (listed-good (s .listed)) v2 (chunksOf own3) (entry (l .third)) (s .serves .third)) (s .sized .cells3) (s .clear3);
   }
 
   pub rendered-sound : Rendered t l → Sound t l
@@ -102,12 +87,12 @@ module _ (t : Table) (l : Lent) where
     sized = w .sized;
     listed = w .listed;
     serves = record {
-      shows1 = rw (w .is-first) (pool-shows rs v1 (chunksOf own2) (w .fits2));
-      shows2 = rw (w .is-second) (pool-shows rs v2 (chunksOf own3) (w .fits3));
-      shows3 = rw (w .is-third) (pool-shows rs v3 noChunks (last-fits rs (listed-good (w .listed)) v2 (chunksOf own3)));
+      first = rw (w .is-first) (pool-shows rs v1 (chunksOf own2) (w .fits2));
+      second = rw (w .is-second) (pool-shows rs v2 (chunksOf own3) (w .fits3));
+      third = rw (w .is-third) (last-leaves rs (listed-good (w .listed)) v2 (chunksOf own3));
     };
-    clear2 = rw (w .is-second) (blank-clear v1 (g .p2) own2 (asAsked t l .second) (pool-free rs v2 (chunksOf own3)));
-    clear3 = rw (w .is-third) (blank-clear v2 32 own3 (asAsked t l .third) (pool-free rs v3 noChunks));
+    clear2 = rw (w .is-second) (pool-clear rs v2 (chunksOf own3));
+    clear3 = rw (w .is-third) (pool-clear rs v3 noChunks);
   }
 
 -- so a table that is rendered for a good list is sound where the owners fit, and its list holds that list

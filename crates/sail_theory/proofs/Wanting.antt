@@ -2,7 +2,7 @@
 -- need more than were lent, and else it is accepted. Assumes nothing.
 use mathlib.Core.Path.{_≡_, _∙_, ap}
 use mathlib.Core.Logic.{_⊎_, inl, inr}
-use mathlib.Core.Bool.{true, false, cond}
+use mathlib.Core.Bool.{Bool, true, false, cond}
 use mathlib.Core.List.{List, [], _∷_}
 use Prim.Native.Nat.{ℕ, _/_, _≤_, _<_}
 use native.Mathlib.Omega.{arith}
@@ -10,8 +10,9 @@ use lib.Dec.{ltb}
 use lib.ListN.{length}
 use borrow.Author.Tests.{lt-ltb, le-ltb}
 use Rattle.bits.specs.Count.{bit}
+use Rattle.bits.specs.Slot.{cut}
 use Rattle.bits.proofs.Tests.{decided, below?}
-use Rattle.routes.specs.Route.{keyOf}
+use Rattle.routes.specs.Route.{keyOf, key}
 use Rattle.standing.specs.Cells.{within, need}
 use Rattle.routes.specs.Said.{Said, accepted, refused}
 use Rattle.standing.specs.Standing.{stands, insert, remove}
@@ -26,13 +27,14 @@ use Rattle.sail.specs.Sound.{Sound, standing}
 use Rattle.sail.specs.declared.table.Table.{Table}
 use Rattle.sail.proofs.Sounds.{standing-good, chunks-need}
 use Rattle.sail_theory.specs.Render.{roomOf}
-use Rattle.sail_theory.specs.Calls.{route, Terms, termsOf, chunksFault, inputRoutes, orSay, announced, withdrawn, loaded}
+use Rattle.sail_theory.specs.Calls.{Terms, termsOf, chunksFault, inputRoutes, orSay, announceSaid, cutRoute, cleared, telling, announced, withdrawn, loaded}
 use Rattle.sail_theory.specs.Runs.{Call, announce, withdraw, load, done, after, would, Formed}
 use Rattle.sail_theory.proofs.Chunks.{used-le}
 use Rattle.sail_theory.proofs.Needs.{need-mono}
 use Rattle.sail_theory.proofs.Judged.{Proper}
 use Rattle.sail_theory.proofs.Only.{roomy-said, read-said}
-use Rattle.sail_theory.proofs.Accepted.{replaced-welcome, announce-said, welcome-said, withdraw-said, farewell-said}
+use Rattle.sail_theory.proofs.Accepted.{replaced-welcome, welcome-said, farewell-said}
+use Rattle.sail_theory.proofs.Cleared.{announce-said, withdraw-said}
 use Rattle.sail_theory.proofs.Sizes.{terms-same}
 use Rattle.sail_theory.proofs.Loads.{load-said}
 use Rattle.sail_theory.proofs.Runs.{run-is}
@@ -53,32 +55,44 @@ wanting m rs vs = go (below? (m .most2) (need rs (m .geometry .p1))) (below? (m 
     go (inr x) (inl y) = rw (le-ltb _ _ x, lt-ltb _ _ y) (third x y)
     go (inr x) (inr y) = rw (le-ltb _ _ x, le-ltb _ _ y) (neither x y vs)
 
+-- whether bits were cleared is told beside it
+wanting-told : {m : Terms} {rs : List Route} {s : Said} (b : Bool) → Wanting m rs s → Wanting m rs (telling b s)
+wanting-told b (second x) = second x
+wanting-told b (third x y) = third x y
+wanting-told b (neither x y vs) = neither x y (bit b ∷ vs)
+
 module _ (t : Table) (l : Lent) (s : Sound t l) where
   abbrev rs : List Route
   rs = standing t l
 
-  announce-wants : (a len hop : ℕ) → Formed (announce a len hop) rs (roomOf l) → Wanting (termsOf t l) (insert (route a len hop) rs) (announced t l a len hop .said)
-  announce-wants a len hop f = go (decided (stands (keyOf a len) rs))
+  announce-wants : (r : Route) → Formed (announce r) rs (roomOf l) → Wanting (termsOf t l) (insert (cutRoute r) rs) (announced t l r .said)
+  announce-wants r f = rw (announce-said t l r) (wanting-told (cleared (r .len) (r .addr)) (go (decided (stands (key c) rs))))
     where
-      proper : Proper t l a len hop
+      c : Route
+      c = cutRoute r
+
+      proper : Proper t l c
       proper = record { fine = f .0; sound = s }
 
-      go : (stands (keyOf a len) rs ≡ true) ⊎ (stands (keyOf a len) rs ≡ false) → Wanting (termsOf t l) (insert (route a len hop) rs) (announced t l a len hop .said)
+      go : (stands (key c) rs ≡ true) ⊎ (stands (key c) rs ≡ false) → Wanting (termsOf t l) (insert c rs) (announceSaid t l c)
       go (inl e) =
-          let w = replaced-welcome t l a len hop proper e in
-          rw (announce-said t l a len hop ∙ welcome-said t l a len hop w) (neither (w .enough2) (w .enough3) (bit (stands (keyOf a len) rs) ∷ []))
-      go (inr e) = rw (announce-said t l a len hop ∙ roomy-said t l a len hop (record { proper = proper; new = e; room = omega (arith, insert-adds (route a len hop) rs e, f .1) })) (wanting (termsOf t l) (insert (route a len hop) rs) (0 ∷ []))
+          let w = replaced-welcome t l c proper e in
+          rw (welcome-said t l c w) (neither (w .enough2) (w .enough3) (bit (stands (key c) rs) ∷ []))
+      go (inr e) =
+          let roomy = roomy-said t l c (record { proper = proper; new = e; room = omega (arith, insert-adds c rs e, f .1) }) in
+          rw roomy (wanting (termsOf t l) (insert c rs) (0 ∷ []))
 
-  withdraw-wants : (a len : ℕ) → Formed (withdraw a len) rs (roomOf l) → Wanting (termsOf t l) (remove (keyOf a len) rs) (withdrawn t l a len .said)
+  withdraw-wants : (a len : ℕ) → Formed (withdraw a len) rs (roomOf l) → Wanting (termsOf t l) (remove (keyOf (cut len a) len) rs) (withdrawn t l a len .said)
   withdraw-wants a len f =
+      let k = keyOf (cut len a) len in
       let n = chunks-need t l s in
       let v = s .sized .valid in
       let good = standing-good t l s in
-      let less : (p : ℕ) → p ≤ 32 → need (remove (keyOf a len) rs) p ≤ need rs p
-      = λ p h. need-mono (remove (keyOf a len) rs) rs p h (remove-good (keyOf a len) rs good) good (λ i e. remove-any (within p i) (keyOf a len) rs e) in
-      rw (withdraw-said t l a len ∙ farewell-said t l a len (record { prefix = f .0; sound = s; old = f .1 }))
+      let less : (p : ℕ) → p ≤ 32 → need (remove k rs) p ≤ need rs p
+      = λ p h. need-mono (remove k rs) rs p h (remove-good k rs good) good (λ i e. remove-any (within p i) k rs e) in
+      rw (withdraw-said t l a len, farewell-said t l (cut len a) len (record { prefix = f .0; sound = s; old = f .1 }))
       (neither (omega (arith, n .0, used-le (chunksOf (l .own2)), less (t .geometry .p1) (omega arith)))
-      (omega (arith, n .1, used-le (chunksOf (l .own3)), less (t .geometry .p2) (omega arith))) [])
+      (omega (arith, n .1, used-le (chunksOf (l .own3)), less (t .geometry .p2) (omega arith))) (bit (cleared len a) ∷ []))
 
   load-wants : (input : List ℕ) → Formed (load input) rs (roomOf l) → Wanting (termsOf t l) (inputRoutes input) (loaded t l input .said)
   load-wants input f =
@@ -89,7 +103,7 @@ module _ (t : Table) (l : Lent) (s : Sound t l) where
 
   pub change-wants : (c : Call) → Formed c rs (roomOf l) → Wanting (termsOf t l) (would c rs) (done t l c .said)
   unfolding done
-  change-wants (announce a len hop) f = announce-wants a len hop f
+  change-wants (announce r) f = announce-wants r f
   change-wants (withdraw a len) f = withdraw-wants a len f
   change-wants (load input) f = load-wants input f
 

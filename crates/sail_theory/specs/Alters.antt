@@ -8,13 +8,15 @@ use Rattle.bits.specs.Slot.{slot}
 use Rattle.sail.specs.Geometry.{bits2, bits3}
 use Rattle.sail.specs.Lent.{Lent}
 use Rattle.sail.specs.Level.{Level, inUse, entry, chunksOf, whole, level1, level2, level3}
-use Rattle.sail.specs.Walk.{ReadsSecond, ReadsThird}
+use Rattle.sail.specs.Reads.{ReadsFirst, ReadsSecond, ReadsThird}
 use Rattle.sail.specs.declared.geometry.Geometry.{Geometry}
 
 -- From l to u no cell is altered but those that serve an address under the prefix a, len, and those in chunks that are opened or closed. (A
 -- cell serves x where the lookup of x reads it; a chunk that is in use before and after, or neither, is not opened or closed.)
 pub record Alters (g : Geometry) (a len : ℕ) (l u : Lent) : Type 0 where
-  pub first : (q : ℕ) → q < length (l .first) → ((x : ℕ) → x < 2 ^ 32 → slot len x ≡ slot len a → slot (g .p1) x ≡ q → ⊥) → getD (u .first) q 0 ≡ getD (l .first) q 0
+  pub first : (q : ℕ) → q < length (l .first)
+      → ((x : ℕ) → x < 2 ^ 32 → slot len x ≡ slot len a → ReadsFirst g x q → ⊥)
+      → getD (u .first) q 0 ≡ getD (l .first) q 0
   pub second : (q : ℕ) → q < length (l .second)
       → ((x : ℕ) → x < 2 ^ 32 → slot len x ≡ slot len a → ReadsSecond g (whole l) x q → ⊥)
       → inUse (entry (u .own2)) (q / 2 ^ bits2 g) ≡ inUse (entry (l .own2)) (q / 2 ^ bits2 g) → getD (u .second) q 0 ≡ getD (l .second) q 0

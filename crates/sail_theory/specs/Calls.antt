@@ -3,13 +3,14 @@
 use mathlib.Core.Bool.{Bool, not, cond}
 use mathlib.Core.List.{List, [], _∷_, map}
 use Prim.Native.Nat.{ℕ, zero, suc, _-_, _/_}
-use lib.Dec.{ltb, leb}
+use lib.Dec.{ltb, leb, eqb}
 use lib.ListN.{length, set, replicate}
 use Rattle.bits.specs.Count.{bit}
-use Rattle.routes.specs.Route.{keyOf}
+use Rattle.bits.specs.Slot.{cut}
+use Rattle.routes.specs.Route.{keyOf, key}
 use Rattle.standing.specs.Cells.{need}
 use Rattle.routes.specs.Record.{routesOf}
-use Rattle.routes.specs.Input.{properPrefix, hopFine, inputSaid}
+use Rattle.routes.specs.Input.{properPrefix, routeFault, inputSaid}
 use Rattle.routes.specs.Said.{Said, accepted, refused, refusedAt, andThen}
 use Rattle.standing.specs.Standing.{stands, insert, remove}
 use Rattle.routes.specs.declared.Route.{Route}
@@ -80,18 +81,18 @@ termsOf t l = record { geometry = t .geometry; room = roomOf l; most2 = length (
 unfoldable pub chunksFault : Terms → List Route → ℕ
 chunksFault m rs = cond (ltb (m .most2) (need rs (m .geometry .p1))) 7 (cond (ltb (m .most3) (need rs (m .geometry .p2))) 8 0)
 
-abbrev pub route : ℕ → ℕ → ℕ → Route
-route a len hop = record { addr = a; len = len; spare = 0; hop = hop }
+-- the route that an announcement asks for
+abbrev pub route : ℕ → ℕ → ℕ → ℕ → Route
+route a len hop mark = record { addr = a; len = len; mark = mark; hop = hop }
 
--- 3, 4, 5, 6, 7, 8; a replacement never meets 6 to 8. `ok` tells whether the table is sound
-unfoldable pub announceFault : Bool → Terms → List Route → ℕ → ℕ → ℕ → ℕ
-announceFault ok m rs a len hop =
-    cond (not (properPrefix a len)) 3
-    (cond (not (hopFine hop)) 4
-    (cond (not ok) 5
-    (cond (stands (keyOf a len) rs) 0
+-- 5, 6, 7, 8, after the route by itself is good; a replacement never meets 6 to 8. `ok` tells whether the table is sound: it is `sound?`, which is
+-- true exactly where `Sound` holds (`sound-tells`, proofs/Tells.antt)
+unfoldable pub announceFault : Bool → Terms → List Route → Route → ℕ
+announceFault ok m rs r =
+    cond (not ok) 5
+    (cond (stands (key r) rs) 0
     (cond (leb (m .room) (length rs)) 6
-    (chunksFault m (insert (route a len hop) rs))))))
+    (chunksFault m (insert r rs))))
 
 -- 3, 5, 9
 unfoldable pub withdrawFault : Bool → List Route → ℕ → ℕ → ℕ
@@ -112,12 +113,14 @@ orSay (suc n) s = refused (suc n)
 unfoldable pub makeSaid : Table → Lent → Said
 makeSaid t l = orSay (sizesFault (t .geometry) l) (accepted [])
 
--- added says 0, replaced says 1
-unfoldable pub announceSaid : Table → Lent → ℕ → ℕ → ℕ → Said
-announceSaid t l a len hop =
+-- 1, 2; what is wrong with the route by itself (3, 4, 10); 5, 6, 7, 8. Added says 0, replaced says 1. The route is the one that is meant: of an
+-- address that is cut to its length, 3 is a length over 32 and nothing else (`three-is-length-announce`)
+unfoldable pub announceSaid : Table → Lent → Route → Said
+announceSaid t l r =
     orSay (sizesFault (t .geometry) l)
-    (orSay (announceFault (sound? t l) (termsOf t l) (standing t l) a len hop)
-    (accepted (bit (stands (keyOf a len) (standing t l)) ∷ [])))
+    (orSay (routeFault r)
+    (orSay (announceFault (sound? t l) (termsOf t l) (standing t l) r)
+    (accepted (bit (stands (key r) (standing t l)) ∷ []))))
 
 unfoldable pub withdrawSaid : Table → Lent → ℕ → ℕ → Said
 withdrawSaid t l a len =
@@ -168,19 +171,45 @@ leaving s t l rs o = outcome s t l (stateOf t rs) (lentOf t l rs o)
 unfoldable pub made : Table → Lent → Out
 made t l = outcome (makeSaid t l) t l (freshTable (t .geometry)) (freshLent l)
 
--- "Announce adds, or replaces the hop of a standing prefix, and says which"
-unfoldable pub announced : Table → Lent → ℕ → ℕ → ℕ → Out
-announced t l a len hop =
-    leaving (announceSaid t l a len hop) t l
-    (insert (route a len hop) (standing t l))
-    (opened (t .geometry) (ownersOf l) (route a len hop))
+-- Announce and withdraw, of a prefix with no bit set after its length. "Announce adds, or replaces the hop of a standing prefix, and says
+-- which"; the mark is replaced with the hop
+unfoldable pub adding : Table → Lent → Route → Out
+adding t l r =
+    leaving (announceSaid t l r) t l
+    (insert r (standing t l))
+    (opened (t .geometry) (ownersOf l) r)
 
 -- "Withdraw removes, and closes chunks that are no longer needed"
-unfoldable pub withdrawn : Table → Lent → ℕ → ℕ → Out
-withdrawn t l a len =
+unfoldable pub taking : Table → Lent → ℕ → ℕ → Out
+taking t l a len =
     leaving (withdrawSaid t l a len) t l
     (remove (keyOf a len) (standing t l))
     (kept (t .geometry) (remove (keyOf a len) (standing t l)) (ownersOf l))
+
+-- the route with its address cut to its length
+abbrev pub cutRoute : Route → Route
+cutRoute r = record { addr = cut (r .len) (r .addr); len = r .len; mark = r .mark; hop = r .hop }
+
+-- whether the cut clears any bit: exactly where one is set after the length (`cleared-bits`)
+abbrev pub cleared : ℕ → ℕ → Bool
+cleared len a = not (eqb (cut len a) a)
+
+-- an accepted answer says first whether bits were cleared; a refusal does not say it
+abbrev pub telling : Bool → Said → Said
+telling b (accepted vs) = accepted (bit b ∷ vs)
+telling b (refused n) = refused n
+telling b (refusedAt n k) = refusedAt n k
+
+abbrev pub told : Bool → Out → Out
+told b o = record { said = telling b (o .said); table = o .table; lent = o .lent }
+
+-- The calls. "Announce and withdraw now clear the bits after the length and say in an accepted answer whether any were cleared; all else ..
+-- goes by the cleared prefix"
+unfoldable pub announced : Table → Lent → Route → Out
+announced t l r = told (cleared (r .len) (r .addr)) (adding t l (cutRoute r))
+
+unfoldable pub withdrawn : Table → Lent → ℕ → ℕ → Out
+withdrawn t l a len = told (cleared len a) (taking t l (cut len a) len)
 
 -- of the old table its geometry and its sizes alone
 unfoldable pub loaded : Table → Lent → List ℕ → Out

@@ -5,7 +5,8 @@ use mathlib.Core.Path.{_≡_}
 use Prim.Native.Nat.{ℕ, _*_, _≤_}
 use lib.Dec.{eqb}
 use lib.ListN.{length}
-use Rattle.routes.specs.Route.{keyOf, Prefix, Fine}
+use Rattle.bits.specs.Slot.{cut}
+use Rattle.routes.specs.Route.{keyOf, key, Prefix, Fine}
 use Rattle.routes.specs.Record.{routesOf, Records}
 use Rattle.routes.specs.Input.{inputSaid}
 use Rattle.routes.specs.Said.{accepted, accepts}
@@ -13,27 +14,27 @@ use Rattle.standing.specs.Standing.{stands, Held, absent, stood, routeAt, inser
 use Rattle.routes.specs.declared.Route.{Route}
 use Rattle.sail.specs.Lent.{Lent}
 use Rattle.sail.specs.declared.table.Table.{Table}
-use Rattle.sail_theory.specs.Calls.{route, inputRoutes, Out, made, announced, withdrawn, loaded}
+use Rattle.sail_theory.specs.Calls.{inputRoutes, Out, made, cutRoute, announced, withdrawn, loaded}
 
 -- what is left after announcing each of these in order
 unfoldable pub announceAll : Out → List Route → Out
 announceAll o [] = o
-announceAll o (r ∷ rs) = announceAll (announced (o .table) (o .lent) (r .addr) (r .len) (r .hop)) rs
+announceAll o (r ∷ rs) = announceAll (announced (o .table) (o .lent) r) rs
 
--- each of these answers is that the route was added
+-- each of these answers is that no bit was cleared and the route was added
 unfoldable pub AllAdded : Out → List Route → Type 0
 AllAdded o [] = Unit
 AllAdded o (r ∷ rs) =
-    (announced (o .table) (o .lent) (r .addr) (r .len) (r .hop) .said ≡ accepted (0 ∷ []))
-    × AllAdded (announced (o .table) (o .lent) (r .addr) (r .len) (r .hop)) rs
+    (announced (o .table) (o .lent) r .said ≡ accepted (0 ∷ 0 ∷ []))
+    × AllAdded (announced (o .table) (o .lent) r) rs
 
 pub data Call : Type 0 where
-  announce : ℕ → ℕ → ℕ → Call
+  announce : Route → Call
   withdraw : ℕ → ℕ → Call
   load : List ℕ → Call
 
 unfoldable pub done : Table → Lent → Call → Out
-done t l (announce a len hop) = announced t l a len hop
+done t l (announce r) = announced t l r
 done t l (withdraw a len) = withdrawn t l a len
 done t l (load input) = loaded t l input
 
@@ -42,10 +43,11 @@ unfoldable pub after : Table → Lent → List Call → Out
 after t l [] = made t l
 after t l (c ∷ cs) = done (after t l cs .table) (after t l cs .lent) c
 
--- what stands for the prefix with key k after an accepted call, where `before` stood for it
+-- what stands for the prefix with key k after an accepted call, where `before` stood for it; announcements and withdrawals speak of the
+-- cleared prefix
 abbrev pub says : Call → ℕ → Held → Held
-says (announce a len hop) k before = cond (eqb (keyOf a len) k) (stood (route a len hop)) before
-says (withdraw a len) k before = cond (eqb (keyOf a len) k) absent before
+says (announce r) k before = cond (eqb (key (cutRoute r)) k) (stood (cutRoute r)) before
+says (withdraw a len) k before = cond (eqb (keyOf (cut len a) len) k) absent before
 says (load input) k before = routeAt k (inputRoutes input)
 
 -- "Which routes stand after a run is worked out from its accepted calls alone"
@@ -55,14 +57,14 @@ worked t l (c ∷ cs) k = cond (accepts (after t l (c ∷ cs) .said)) (says c k 
 
 -- the routes that would stand after the call, where rs stand
 abbrev pub would : Call → List Route → List Route
-would (announce a len hop) rs = insert (route a len hop) rs
-would (withdraw a len) rs = remove (keyOf a len) rs
+would (announce r) rs = insert (cutRoute r) rs
+would (withdraw a len) rs = remove (keyOf (cut len a) len) rs
 would (load input) rs = inputRoutes input
 
 -- a well-formed change for which a list of this room has room, where rs stand
 abbrev pub Formed : Call → List Route → ℕ → Type 0
-Formed (announce a len hop) rs room = Fine (route a len hop) × (length (insert (route a len hop) rs) ≤ room)
-Formed (withdraw a len) rs room = Prefix a len × (stands (keyOf a len) rs ≡ true)
+Formed (announce r) rs room = Fine (cutRoute r) × (length (insert (cutRoute r) rs) ≤ room)
+Formed (withdraw a len) rs room = Prefix (cut len a) len × (stands (keyOf (cut len a) len) rs ≡ true)
 Formed (load input) rs room = (n : ℕ) × (inputSaid input ≡ accepted (n ∷ [])) × (n ≤ room)
 
 -- a record input of these routes

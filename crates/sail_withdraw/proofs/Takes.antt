@@ -1,12 +1,13 @@
--- A withdrawal step by step: what each step asks, and what they leave. Assumes nothing.
+-- A withdrawal step by step: what each step asks, and what they leave.
 use mathlib.Core.Path.{_≡_, refl, sym, _∙_, ap}
 use mathlib.Core.Logic.{_⊎_, inl, inr}
-use mathlib.Core.Bool.{Bool, true, false, cond}
+use mathlib.Core.Bool.{Bool, true, false, not, cond}
 use mathlib.Core.List.{List, []}
 use Prim.Native.Nat.{ℕ, suc, _+_, _-_, _*_, _/_, _^_, _≤_}
 use native.Mathlib.Omega.{arith}
+use lib.Dec.{eqb}
 use lib.ListN.{length, set}
-use Rattle.bits.specs.Slot.{slot}
+use Rattle.bits.specs.Slot.{cut}
 use Rattle.bits.proofs.Tests.{decided}
 use Rattle.routes.specs.Route.{keyOf}
 use Rattle.routes.specs.Record.{routesOf}
@@ -16,32 +17,44 @@ use Rattle.routes.specs.declared.Route.{Route}
 use Rattle.lists.specs.Edit.{Edited, edited, removed, removing, countWithout, Holds}
 use Rattle.lists.proofs.EditHolds.{remove-holds}
 use Rattle.plan.specs.Paint.{filled}
-use Rattle.sail.specs.Geometry.{bits2, bits3, Valid}
+use Rattle.sail.specs.Geometry.{bits2, bits3}
 use Rattle.sail.specs.Lent.{Lent, lent, cells}
 use Rattle.sail.specs.Sound.{standing}
 use Rattle.sail.specs.declared.geometry.Geometry.{Geometry}
 use Rattle.sail.specs.declared.table.Table.{Table}
 use Rattle.sail_theory.specs.Render.{find}
-use Rattle.sail_theory.specs.Calls.{keep, withdrawSaid, out, withdrawn}
-use Rattle.sail.specs.Level.{chunksOf, level1, level2}
+use Rattle.sail_theory.specs.Calls.{keep, withdrawSaid, Out, out, taking, told, withdrawn}
+use Rattle.sail.specs.Level.{Level, chunksOf, below, level1, level2}
 use Rattle.sail_theory.specs.Facts.{Farewell}
-use Rattle.sail_theory.proofs.Accepted.{count-removed, withdraw-is, withdraw-off}
+use Rattle.sail_theory.proofs.Stores.{Losing}
+use Rattle.sail_theory.proofs.Changes.{losing1, losing2}
+use Rattle.sail_theory.proofs.Accepted.{count-removed, taking-is}
+use Rattle.sail_theory.proofs.Cleared.{withdraw-off}
 use Rattle.sail_paint.specs.Stale.{Repainted}
 use Rattle.sail_change.specs.Chunks.{alone, closed, blanked, Closing, Closable}
 use Rattle.sail_paint.specs.Pending.{Pending}
-use Rattle.sail_change.specs.Trail.{Serving, Trailed}
-use Rattle.sail_change.proofs.Shrinks.{was-long, keep2-closed, keep3-closed, closing2, closing3, farewell-underway}
+use Rattle.sail_change.specs.Trail.{Told, Serving, Trailed}
+use Rattle.sail_change.proofs.Hangs.{alone-longer}
+use Rattle.sail_change.proofs.Openings.{told-one, told-chunk}
+use Rattle.sail_change.proofs.Shrinks.{was-long, keep-closes, closing, farewell-underway}
 use Rattle.sail_change.proofs.Trails.{serving-of}
 use Rattle.sail_change.proofs.Underway.{underway-stale, underway-asked}
 use Rattle.sail_calls.specs.Judge.{Judged}
 use Rattle.sail_withdraw.specs.Answers.{saysWithdraw}
 use Rattle.sail_withdraw.specs.declared.answers.Withdraw.the-variants as withdraw
-use Rattle.sail_change.proofs.Openings.{told-one, told-chunk, alone-longer}
 
--- a refusal leaves all as it was
-pub withdraw-refused : (t : Table) (l : Lent) (a len z : ℕ) → Judged z (withdrawSaid t l a len) (Farewell t l a len) → (z ≡ 0 → ⊥) → out (saysWithdraw (withdraw.Refused z)) t l ≡ withdrawn t l a len
-unfolding saysWithdraw
-withdraw-refused t l a len z k h = sym (withdraw-off t l a len (refused z) (k .off h) refl)
+-- The address x is cut to the length before the prefix is judged.
+module _ (t : Table) (l : Lent) (a len x : ℕ) (e : x ≡ cut len a) where
+  -- a refusal leaves all as it was
+  pub withdraw-refused : (z : ℕ) → Judged z (withdrawSaid t l x len) (Farewell t l x len) → (z ≡ 0 → ⊥)
+      → out (saysWithdraw (withdraw.Refused z)) t l ≡ withdrawn t l a len
+  unfolding saysWithdraw
+  withdraw-refused z k h = sym (withdraw-off t l a len (refused z) (rw e at (k .off h)) refl)
+
+  -- what is taken is the cleared prefix, and bits were cleared where the address is another
+  pub withdraw-cleared : (c : Bool) → c ≡ not (eqb x a) → (o : Out) → o ≡ told c (taking t l x len) → o ≡ withdrawn t l a len
+  unfolding withdrawn
+  withdraw-cleared c f o q = q ∙ rw (f, e)
 
 -- which chunk is closed matters only where one is
 module _ (b : Bool) (c c′ : ℕ) (h : b ≡ true → c ≡ c′) where
@@ -98,49 +111,56 @@ module _ (t : Table) (l : Lent) (a len : ℕ) (w : Farewell t l a len) where
         let k : Holds (removed (l .list) (t .count) (keyOf a len)) (countWithout (stands (keyOf a len) rs) (t .count)) left = remove-holds (l .list) (t .count) few (keyOf a len) (w .sound .listed) in
         rw list-is (rw (w .old) at k)
 
-    module _ (v1 v2 : ℕ) (k : Trailed g rs (l .own2) (l .own3) a v1 v2) where
-      valid : Valid g
-      valid = w .sound .sized .valid
+    -- A level that the withdrawal may close a chunk at, and the pool of p bits below it: the cell x of the address names the chunk.
+    module _ (v : Level) (own cells : List ℕ) (z : Losing rs left a v own) (p : ℕ) (size : length cells ≡ below v (chunksOf own) p .places) (x : ℕ) (k : Told rs v own a x) where
+      names : alone left (v .bits) a len ≡ true → x - 1 ≡ find own (suc (v .serving a))
+      names q = told-chunk rs v own a x k (was-long t l a len w (v .bits) (alone-longer left (v .bits) a len q))
 
-      -- a chunk that is closed is the one that the cell names
-      chunk2 : alone left (g .p1) a len ≡ true → v1 - 1 ≡ find (l .own2) (suc (slot (g .p1) a))
-      chunk2 q = told-chunk _ v1 _ _ (k .first) (was-long t l a len w (g .p1) (alone-longer left (g .p1) a len q))
+      closable : v .bits ≤ 32 → length own ≤ 4096 → p - v .bits ≤ 10 → Closable s m (v .bits) a len x (p - v .bits) own cells
+      closable low few small = record {
+        levelled = record { records = holds .listed .records; level = low };
+        some = told-one rs v own a x k;
+        closing = rw (holds .routes) (same-closing _ _ _ names own cells (p - v .bits) (closing t l a len w v own z p cells size few small));
+      }
 
-      chunk3 : alone left (g .p2) a len ≡ true → v2 - 1 ≡ find (l .own3) (suc (level2 g (chunksOf (l .own2)) .serving a))
-      chunk3 q = told-chunk _ v2 _ _ (k .second) (was-long t l a len w (g .p2) (alone-longer left (g .p2) a len q))
+      own-is : (own′ : List ℕ) → own′ ≡ closed (alone (routesOf s m) (v .bits) a len) (x - 1) own → own′ ≡ keep left v own
+      own-is own′ o = o ∙ rw (holds .routes) (same-closed _ _ _ names own ∙ sym (keep-closes t l a len w v own z p cells size))
 
-      pub take-second : Closable s m (g .p1) a len v1 (bits2 g) (l .own2) (l .second)
+      cells-are : (cells′ : List ℕ) → cells′ ≡ blanked (alone (routesOf s m) (v .bits) a len) (x - 1) (p - v .bits) cells
+          → cells′ ≡ blanked (alone left (v .bits) a len) (find own (suc (v .serving a))) (p - v .bits) cells
+      cells-are cells′ c = c ∙ rw (holds .routes) (same-blanked _ _ _ names (p - v .bits) cells)
+
+    -- the first level with the second pool, and the second with the third; x1 and x2 are the cells of the address
+    module _ (x1 x2 : ℕ) (k : Trailed g rs (l .own2) (l .own3) a x1 x2) where
+      abbrev v2 : Level
+      v2 = level2 g (chunksOf (l .own2))
+
+      pub take-second : Closable s m (g .p1) a len x1 (bits2 g) (l .own2) (l .second)
       take-second =
-          let v = valid in
-          record {
-            levelled = record { records = holds .listed .records; level = omega arith };
-            some = told-one _ v1 _ _ (k .first);
-            closing = rw (holds .routes) (same-closing _ _ _ chunk2 (l .own2) (l .second) (bits2 g) (closing2 t l a len w));
-          }
+          let z = w .sound .sized in
+          let v = z .valid in
+          closable (level1 g) (l .own2) (l .second) (losing1 t l a len w) (g .p2) (z .cells2) x1 (k .first) (omega arith) (z .few2) (v .near)
 
-      pub take-third : Closable s m (g .p2) a len v2 (bits3 g) (l .own3) (l .third)
+      pub take-third : Closable s m (g .p2) a len x2 (bits3 g) (l .own3) (l .third)
       take-third =
-          let v = valid in
-          record {
-            levelled = record { records = holds .listed .records; level = omega arith };
-            some = told-one _ v2 _ _ (k .second);
-            closing = rw (holds .routes) (same-closing _ _ _ chunk3 (l .own3) (l .third) (bits3 g) (closing3 t l a len w));
-          }
+          let z = w .sound .sized in
+          let v = z .valid in
+          closable v2 (l .own3) (l .third) (losing2 t l a len w) 32 (z .cells3) x2 (k .second) (omega arith) (z .few3) (omega arith)
 
       module _ (own2 own3 second third : List ℕ)
-          (o2 : own2 ≡ closed (alone (routesOf s m) (g .p1) a len) (v1 - 1) (l .own2)) (s2 : second ≡ blanked (alone (routesOf s m) (g .p1) a len) (v1 - 1) (bits2 g) (l .second))
-          (o3 : own3 ≡ closed (alone (routesOf s m) (g .p2) a len) (v2 - 1) (l .own3)) (s3 : third ≡ blanked (alone (routesOf s m) (g .p2) a len) (v2 - 1) (bits3 g) (l .third)) where
+          (o2 : own2 ≡ closed (alone (routesOf s m) (g .p1) a len) (x1 - 1) (l .own2)) (s2 : second ≡ blanked (alone (routesOf s m) (g .p1) a len) (x1 - 1) (bits2 g) (l .second))
+          (o3 : own3 ≡ closed (alone (routesOf s m) (g .p2) a len) (x2 - 1) (l .own3)) (s3 : third ≡ blanked (alone (routesOf s m) (g .p2) a len) (x2 - 1) (bits3 g) (l .third)) where
         own2-is : own2 ≡ keep left (level1 g) (l .own2)
-        own2-is = o2 ∙ rw (holds .routes) (same-closed _ _ _ chunk2 (l .own2) ∙ sym (keep2-closed t l a len w))
+        own2-is = own-is (level1 g) (l .own2) (l .second) (losing1 t l a len w) (g .p2) (w .sound .sized .cells2) x1 (k .first) own2 o2
 
-        own3-is : own3 ≡ keep left (level2 g (chunksOf (l .own2))) (l .own3)
-        own3-is = o3 ∙ rw (holds .routes) (same-closed _ _ _ chunk3 (l .own3) ∙ sym (keep3-closed t l a len w))
+        own3-is : own3 ≡ keep left v2 (l .own3)
+        own3-is = own-is v2 (l .own3) (l .third) (losing2 t l a len w) 32 (w .sound .sized .cells3) x2 (k .second) own3 o3
 
-        second-is : second ≡ blanked (alone left (g .p1) a len) (find (l .own2) (suc (slot (g .p1) a))) (bits2 g) (l .second)
-        second-is = s2 ∙ rw (holds .routes) (same-blanked _ _ _ chunk2 (bits2 g) (l .second))
+        second-is : second ≡ blanked (alone left (g .p1) a len) (find (l .own2) (suc (level1 g .serving a))) (bits2 g) (l .second)
+        second-is = cells-are (level1 g) (l .own2) (l .second) (losing1 t l a len w) (g .p2) (w .sound .sized .cells2) x1 (k .first) second s2
 
-        third-is : third ≡ blanked (alone left (g .p2) a len) (find (l .own3) (suc (level2 g (chunksOf (l .own2)) .serving a))) (bits3 g) (l .third)
-        third-is = s3 ∙ rw (holds .routes) (same-blanked _ _ _ chunk3 (bits3 g) (l .third))
+        third-is : third ≡ blanked (alone left (g .p2) a len) (find (l .own3) (suc (v2 .serving a))) (bits3 g) (l .third)
+        third-is = cells-are v2 (l .own3) (l .third) (losing2 t l a len w) 32 (w .sound .sized .cells3) x2 (k .second) third s3
 
         pub take-pending : (x : ℕ) → x ≡ len → Pending g m a x (lent s (l .first) second third own2 own3)
         take-pending x q = rw (q, own2-is, own3-is, second-is, third-is) (record {
@@ -149,8 +169,9 @@ module _ (t : Table) (l : Lent) (a len : ℕ) (w : Farewell t l a len) where
         })
 
         module _ (first′ second′ third′ : List ℕ) (h : Repainted g (routesOf s m) (cells (l .first) second third own2 own3) first′ second′ third′) where
-          pub take-done : out (saysWithdraw withdraw.Removed) (record { geometry = g; count = m }) (lent s first′ second′ third′ own2 own3) ≡ withdrawn t l a len
+          pub take-done : (c : Bool)
+              → out (saysWithdraw (withdraw.Removed c)) (record { geometry = g; count = m }) (lent s first′ second′ third′ own2 own3) ≡ told c (taking t l a len)
           unfolding saysWithdraw
-          take-done =
+          take-done c =
               let h′ = underway-asked g a len left l _ (farewell-underway t l a len w s) first′ second′ third′ (rw (holds .routes, own2-is, own3-is, second-is, third-is) at h) in
-              rw (count-is, list-is, h′ .is-first, h′ .is-second, h′ .is-third, own2-is, own3-is) (sym (withdraw-is t l a len w))
+              rw (count-is, list-is, h′ .is-first, h′ .is-second, h′ .is-third, own2-is, own3-is) (sym (ap (told c) (taking-is t l a len w)))

@@ -1,9 +1,11 @@
 -- What each case of the answer of withdraw says. Assumes nothing.
-use mathlib.Core.List.{[]}
+use mathlib.Core.List.{[], _∷_}
+use Rattle.bits.specs.Count.{bit}
 use Rattle.routes.specs.Said.{Said, accepted, refused}
 use Rattle.sail_withdraw.specs.declared.answers.Withdraw.{Withdraw}
 use Rattle.sail_withdraw.specs.declared.answers.Withdraw.the-variants as withdraw
 
+-- whether bits were cleared
 unfoldable pub saysWithdraw : Withdraw → Said
-saysWithdraw withdraw.Removed = accepted []
+saysWithdraw (withdraw.Removed c) = accepted (bit c ∷ [])
 saysWithdraw (withdraw.Refused n) = refused n

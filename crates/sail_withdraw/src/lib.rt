@@ -1,7 +1,7 @@
 // Withdraw: a route is taken out of a table.
 ghost use mathlib.Core.Path.{_≡_};
 ghost use Rattle.sail.specs.Lent.{lent};
-ghost use Rattle.sail_theory.specs.Calls.{withdrawSaid, out, withdrawn};
+ghost use Rattle.sail_theory.specs.Calls.{withdrawSaid, out, taking, told, withdrawn};
 ghost use Rattle.sail_theory.specs.Facts.{Farewell};
 ghost use Rattle.sail_calls.specs.Judge.{Judged};
 ghost use Rattle.sail_withdraw.specs.Answers.{saysWithdraw};
@@ -16,6 +16,7 @@ use routes::input;
 use routes::record;
 use sail::table::Table;
 use sail::table::sizes;
+use sail_calls::clear::clear;
 use sail_calls::renew::renew;
 use sail_change::alone::close_alone;
 use sail_change::trail::follow;
@@ -55,7 +56,7 @@ fn judge_withdraw(
 }
 
 // The withdrawal, where the prefix stands: its record is taken out of the list, chunks that it alone needed are closed,
-// and what it touched is painted again.
+// and what it touched is painted again. The answer tells whether bits were cleared.
 fn take(
     t: Table,
     list: &mut [u8],
@@ -66,9 +67,10 @@ fn take(
     own3: &mut [u32],
     addr: u32,
     len: u8,
+    cleared: bool,
 ) -> Withdrawn
     requires { ⌜ Farewell t (lent (now list) (now first) (now second) (now third) (now own2) (now own3)) addr len ⌝ }
-    ensures { λ r. ⌜ out (saysWithdraw (r .answer)) (r .table) (lent (now (list .exit)) (now (first .exit)) (now (second .exit)) (now (third .exit)) (now (own2 .exit)) (now (own3 .exit))) ≡ withdrawn t (lent (now (list .entry)) (now (first .entry)) (now (second .entry)) (now (third .entry)) (now (own2 .entry)) (now (own3 .entry))) addr len ⌝ }
+    ensures { λ r. ⌜ out (saysWithdraw (r .answer)) (r .table) (lent (now (list .exit)) (now (first .exit)) (now (second .exit)) (now (third .exit)) (now (own2 .exit)) (now (own3 .exit))) ≡ told cleared (taking t (lent (now (list .entry)) (now (first .entry)) (now (second .entry)) (now (third .entry)) (now (own2 .entry)) (now (own3 .entry))) addr len) ⌝ }
 {
     let g = t.geometry;
     let p1 = g.p1;
@@ -96,13 +98,14 @@ fn take(
         count: m as u32,
     };
     Withdrawn {
-        answer: Withdraw::Removed,
+        answer: Withdraw::Removed(cleared),
         table: u,
     }
 }
 
 // Takes the route of the prefix of len bits of addr out of the table, and closes the chunks that are no longer needed.
-// A refusal leaves the state and all that is lent as they were.
+// Bits of addr after the length are cleared first, and an accepted answer says whether any were. A refusal leaves the
+// state and all that is lent as they were.
 pub fn withdraw(
     t: Table,
     list: &mut [u8],
@@ -116,12 +119,13 @@ pub fn withdraw(
 ) -> Withdrawn
     ensures { λ r. ⌜ out (saysWithdraw (r .answer)) (r .table) (lent (now (list .exit)) (now (first .exit)) (now (second .exit)) (now (third .exit)) (now (own2 .exit)) (now (own3 .exit))) ≡ withdrawn t (lent (now (list .entry)) (now (first .entry)) (now (second .entry)) (now (third .entry)) (now (own2 .entry)) (now (own3 .entry))) addr len ⌝ }
 {
-    let z = judge_withdraw(t, list, first, second, third, own2, own3, addr, len);
+    let a = clear(addr, len);
+    let z = judge_withdraw(t, list, first, second, third, own2, own3, a, len);
     if z != 0 {
         return Withdrawn {
             answer: Withdraw::Refused(z),
             table: t,
         };
     }
-    take(t, list, first, second, third, own2, own3, addr, len)
+    take(t, list, first, second, third, own2, own3, a, len, a != addr)
 }

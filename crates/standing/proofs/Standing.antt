@@ -1,5 +1,4 @@
--- A route insert into a good list, and a prefix struck out of one.
--- Assumes nothing.
+-- A route put into a good list, and a prefix taken out of one: the list stays good, and what then stands, is long, and is best at a cell.
 use mathlib.Core.Path.{_≡_, refl, sym, _∙_, ap, ap₂, subst}
 use mathlib.Core.Logic.{_⊎_, inl, inr, _≢_}
 use mathlib.Core.Bool.{Bool, true, false, not, _&&_, _||_, cond, true≢false, false≢true, or-true, or-false, or-assoc, or-comm}
@@ -121,11 +120,11 @@ insert-any f w r (s ∷ ss) k g = go (order (key r) (key s)) (insert-any f w r s
         rw (le-ltb (key r) (key s) (omega arith), eq-eqb (key s) (key r) o, w r s (p .0) (p .1)) (twice (f r) (any f ss))
     go (more o) ih = rw (le-ltb (key r) (key s) (omega arith), ne-eqb (key s) (key r) (λ e. omega arith), ih) (swap (f s) (f r) (any f ss))
 
--- which routes are long after a route is insert
+-- which cells are long after a route is put in
 pub insert-long : (r : Route) (rs : List Route) → Fine r → Good rs → (p i : ℕ) → long (insert r rs) p i ≡ (within p i r || long rs p i)
 insert-long r rs f g p i = insert-any (within p i) (of-within p i) r rs f g
 
--- what stands for a prefix after a route is insert
+-- what stands for a prefix after a route is put in
 pub insert-stands : (k : ℕ) (r : Route) (rs : List Route) → routeAt k (insert r rs) ≡ cond (eqb (key r) k) (stood r) (routeAt k rs)
 unfolding insert routeAt
 insert-stands k r [] = refl

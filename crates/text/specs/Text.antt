@@ -2,7 +2,9 @@
 use Prim.Native.Nat.{ℕ, _/_, _%_}
 use Prim.Native.Char.{code}
 use Prim.Native.String.{String, [] as none, _∷_ as more}
+use mathlib.Core.Bool.{cond}
 use mathlib.Core.List.{List, [], _∷_, _++_}
+use lib.Dec.{eqb}
 use lib.ListN.{length}
 use Rattle.routes.specs.Said.{Said, accepted, refused, refusedAt}
 use Rattle.routes.specs.declared.Route.{Route}
@@ -21,9 +23,13 @@ labelled words n = ascii words ++ digitsOf n
 unfoldable pub dotted : ℕ → List ℕ
 dotted a = digitsOf (a / 16777216) ++ labelled "." (a / 65536 % 256) ++ labelled "." (a / 256 % 256) ++ labelled "." (a % 256)
 
--- a route's line: prefix and hop
+-- what follows the hop: that the network is attached, where the mark is 1
+unfoldable pub markText : ℕ → List ℕ
+markText m = cond (eqb m 1) (ascii " attached") []
+
+-- a route's line: prefix, hop and mark
 unfoldable pub routeLine : Route → List ℕ
-routeLine r = dotted (r .addr) ++ labelled "/" (r .len) ++ labelled " " (r .hop) ++ ascii "\n"
+routeLine r = dotted (r .addr) ++ labelled "/" (r .len) ++ labelled " " (r .hop) ++ markText (r .mark) ++ ascii "\n"
 
 -- a line for each route, in the order of the list
 unfoldable pub routeLines : List Route → List ℕ

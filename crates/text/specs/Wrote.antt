@@ -18,7 +18,7 @@ pub record Wrote (before : List ℕ) (at : ℕ) (text : List ℕ) (next : ℕ) (
   pub inside : next ≤ length after
   pub holds : after ≡ spelled before at text
 
--- the list has n records, and the buffer has room for their text: 64 bytes for the first line, 26 for each route's
+-- the list has n records, and the buffer has room for their text: 64 bytes for the first line, 35 for each route's
 pub record Printable (list : List ℕ) (n : ℕ) (out : List ℕ) : Type 0 where
   pub records : n * 8 ≤ length list
-  pub room : 64 + 26 * n ≤ length out
+  pub room : 64 + 35 * n ≤ length out

@@ -5,7 +5,7 @@ ghost use Prim.Native.Nat.{_≤_};
 ghost use lib.ListN.{length};
 ghost use Rattle.routes.specs.Record.{routesOf};
 ghost use Rattle.routes.specs.Said.{refused, refusedAt};
-ghost use Rattle.text.specs.Text.{dotted, routeLine, headLine, tableText, saidText};
+ghost use Rattle.text.specs.Text.{dotted, markText, routeLine, headLine, tableText, saidText};
 ghost use Rattle.text.specs.Wrote.{Room, Wrote, Printable};
 
 // An address, as four numbers with points between them.
@@ -20,6 +20,17 @@ pub fn put_address(out: &mut [u8], at: usize, addr: u32) -> usize
     put::put_labelled(out, r, b".", a % 256)
 }
 
+// That the network is attached, where the mark is 1.
+fn put_mark(out: &mut [u8], at: usize, mark: u8) -> usize
+    requires { ⌜ Room (now out) at (markText mark) ⌝ }
+    ensures { λ r. ⌜ Wrote (now (out .entry)) at (markText mark) r (now (out .exit)) ⌝ }
+{
+    if mark == 1 {
+        return put::put_text(out, at, b" attached");
+    }
+    at
+}
+
 // A route's line.
 pub fn put_route(out: &mut [u8], at: usize, r: Route) -> usize
     requires { ⌜ Room (now out) at (routeLine r) ⌝ }
@@ -28,7 +39,8 @@ pub fn put_route(out: &mut [u8], at: usize, r: Route) -> usize
     let p = put_address(out, at, r.addr);
     let q = put::put_labelled(out, p, b"/", r.len as u64);
     let s = put::put_labelled(out, q, b" ", r.hop as u64);
-    put::put_byte(out, s, b'\n')
+    let m = put_mark(out, s, r.mark);
+    put::put_byte(out, m, b'\n')
 }
 
 // A table's first line.

@@ -13,3 +13,4 @@ pub mod Needs
 pub mod Serves
 pub mod ReadCounts
 pub mod Ranks
+pub mod Marks

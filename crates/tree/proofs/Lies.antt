@@ -2,7 +2,7 @@
 -- Assumes nothing.
 use mathlib.Core.Path.{_≡_, refl, sym, _∙_, ap, subst}
 use mathlib.Core.Logic.{_⊎_, inl, inr}
-use mathlib.Core.Bool.{Bool, true, false, cond, _||_, or-true, false≢true}
+use mathlib.Core.Bool.{Bool, true, false, _||_, or-true, false≢true}
 use mathlib.Core.List.{List, [], _∷_, List·Memᴰ, List·Memᴰ·head, List·Memᴰ·tail, List·Memᴰ·cases-cons, List·Memᴰ·not-nil}
 use Prim.Native.Nat.{ℕ, zero, suc, _+_, _-_, _*_, _/_, _%_, _^_, _≤_, _<_}
 use native.Mathlib.Nat.{mod-lt}
@@ -10,13 +10,14 @@ use native.Mathlib.Omega.{arith}
 use lib.Dec.{ltb, leb, eqb}
 use lib.Pow.{split, pow-pos, high}
 use borrow.Author.Tests.{ltb-true, ltb-false, lt-ltb, le-ltb, le-leb, leb-true, eqb-true, eq-eqb}
-use Rattle.bits.specs.Slot.{slot, cut}
-use Rattle.bits.proofs.Slots.{slot-up, cut-slot}
-use Rattle.bits.proofs.Tests.{decided, both, and-split, or-split, untrue}
-use Rattle.routes.specs.Route.{key, Fine, Good}
+use Rattle.bits.specs.Slot.{slot}
+use Rattle.bits.proofs.Slots.{slot-up}
+use Rattle.bits.proofs.Tests.{decided, both, and-split, or-split}
+use Rattle.routes.specs.Route.{Good}
 use Rattle.standing.specs.Cells.{here, any, first, orElse}
 use Rattle.routes.specs.declared.Route.{Route}
-use Rattle.routes.proofs.Goods.{good-fine}
+use Rattle.standing.proofs.Longest.{here-parts}
+use Rattle.standing.proofs.Prefixes.{first-here}
 use Rattle.tree.specs.Image.{innerLen, through, hopFor}
 
 -- some route of a list passes a test
@@ -38,20 +39,6 @@ any-mem f (x ∷ rs) r m e = go (List·Memᴰ·cases-cons m) (λ k. any-mem f rs
     go (inl q) ih = let t : f x ≡ true = rw q at e in rw t
     go (inr k) ih = rw (ih k) (or-true (f x))
 
-here-parts : (l q : ℕ) (r : Route) → here l q r ≡ true → (r .len ≡ l) × (slot l (r .addr) ≡ q)
-here-parts l q r e =
-    let s = and-split (eqb (r .len) l) (eqb (slot l (r .addr)) q) e in
-    (eqb-true (r .len) l (s .0), eqb-true (slot l (r .addr)) q (s .1))
-
--- two routes of one prefix have one key
-pub one-prefix : (l q : ℕ) (r s : Route) → Fine r → Fine s → here l q r ≡ true → here l q s ≡ true → key r ≡ key s
-one-prefix l q r s fr fs a b =
-    let x = here-parts l q r a in
-    let y = here-parts l q s b in
-    let cr : cut l (r .addr) ≡ r .addr = rw (x .0) at (fr .prefix .clear) in
-    let cs : cut l (s .addr) ≡ s .addr = rw (y .0) at (fs .prefix .clear) in
-    omega (arith, cr, cut-slot l (r .addr) (s .addr) cs (x .1 ∙ sym (y .1)))
-
 -- a hop is found only where a route has the prefix
 pub found-any : (f : Route → Bool) (rs : List Route) → 0 < orElse (first f rs) 0 → any f rs ≡ true
 unfolding first any
@@ -64,15 +51,7 @@ found-any f (r ∷ rs) h = go (decided (f r)) (found-any f rs)
 
 -- the hop of a prefix is that of its route
 pub hop-of : (l q : ℕ) (rs : List Route) (r : Route) → Good rs → List·Memᴰ r rs → here l q r ≡ true → hopFor rs l q ≡ r .hop
-unfolding Good first
-hop-of l q [] r g m e = absurd (List·Memᴰ·not-nil m)
-hop-of l q (x ∷ rs) r g m e = go (List·Memᴰ·cases-cons m) (hop-of l q rs r (g .2))
-  where
-    go : (r ≡ x) ⊎ List·Memᴰ r rs → (List·Memᴰ r rs → here l q r ≡ true → hopFor rs l q ≡ r .hop) → orElse (cond (here l q x) (suc (x .hop)) (first (here l q) rs)) 0 ≡ r .hop
-    go (inl w) ih = let t : here l q x ≡ true = rw w at e in rw (t, w)
-    go (inr k) ih =
-        let n : here l q x ≡ false = untrue (here l q x) (λ t. omega (arith, g .1 r k, one-prefix l q x r (g .0) (good-fine rs (g .2) r k) t e)) in
-        rw n (ih k e)
+hop-of l q rs r g m e = ap (λ (x : ℕ). orElse x 0) (first-here l q rs r g m e)
 
 pub pass-parts : (m p : ℕ) (r : Route) → through m p r ≡ true → (4 * m ≤ r .len) × (slot (4 * m) (r .addr) ≡ p)
 pass-parts m p r e =

@@ -14,6 +14,8 @@ use lib.Count.{ones}
 use Rattle.bits.specs.Bit.{bitAt}
 use Rattle.bits.proofs.Tests.{decided}
 use Rattle.routes.specs.Input.{hopFine}
+use Rattle.standing.specs.Down.{orNext, down}
+use Rattle.standing.proofs.Downs.{or-none, or-some}
 use Rattle.tree.specs.Node.{bitsOf, childOf, baseOf, isSet, tryBit, deepestOf, betterOf, childAt, nibbleOf}
 use Rattle.tree.specs.Walk.{told, fetchedFrom, walkFrom, treeSaid}
 use Rattle.tree.specs.declared.Place.{Place}
@@ -23,15 +25,9 @@ use Rattle.tree.proofs.Walks.{walk-last, walk-stop, walk-down}
 abbrev pub Hops : Type 0
 Hops = ℕ → ℕ → ℕ
 
--- the hop a, or else b
-abbrev pub orHop : ℕ → ℕ → ℕ
-orHop zero b = b
-orHop (suc a) b = suc a
-
 -- the hop of the longest route shorter than k that matches a, or 0
-unfoldable pub longest : Hops → ℕ → ℕ → ℕ
-longest R a zero = 0
-longest R a (suc l) = orHop (R l (a / 2 ^ (32 - l))) (longest R a l)
+abbrev pub longest : Hops → ℕ → ℕ → ℕ
+longest R a = down (λ l. R l (a / 2 ^ (32 - l)))
 
 -- the internal bit b of a node, and the hop that it leads to
 pub record Hopped (R : Hops) (hs : List ℕ) (w base b l q : ℕ) : Type 0 where
@@ -71,13 +67,6 @@ unfolding fetchedFrom hopFine
 fetched hs n h Nowhere r = rw r
 fetched hs n h (At i) r = rw (lt-ltb i (length hs) (r .0), r .1, le-leb 1 h (r .2), le-leb h 32767 (r .3))
 
-or-zero : (a b : ℕ) → a ≡ 0 → orHop a b ≡ b
-or-zero a b e = rw e
-
-or-pos : (a b : ℕ) → 0 < a → orHop a b ≡ a
-or-pos zero b h = absurd (omega arith)
-or-pos (suc a) b h = refl
-
 -- one bit of a node
 bit-cases : (w b : ℕ) → (bitAt w b ≡ 0) ⊎ (bitAt w b ≡ 1)
 bit-cases w b = cases (bitAt w b) (omega arith)
@@ -91,17 +80,17 @@ not-set : (w b : ℕ) → bitAt w b ≡ 0 → isSet w b ≡ false
 not-set w b z = ne-eqb (bitAt w b) 1 (λ (o : bitAt w b ≡ 1). omega arith)
 
 try-rep : (R : Hops) (hs : List ℕ) (w base b l q h rest : ℕ) (best : Place) → b < 15 → Hopped R hs w base b l q
-    → Rep hs (betterOf w base rest best) h → Rep hs (betterOf w base (tryBit w b rest) best) (orHop (R l q) h)
+    → Rep hs (betterOf w base rest best) h → Rep hs (betterOf w base (tryBit w b rest) best) (orNext (R l q) h)
 unfolding tryBit betterOf
 try-rep R hs w base b l q h rest best lb k r =
     ⊎-elim
-    (λ z. rw (not-set w b z, or-zero (R l q) h (k .off z)) r)
-    (λ o. rw (eq-eqb (bitAt w b) 1 o, ne-eqb b 15 (λ (e : b ≡ 15). omega arith), or-pos (R l q) h (k .on o .2)) (k .on o))
+    (λ z. rw (not-set w b z, or-none (R l q) h (k .off z)) r)
+    (λ o. rw (eq-eqb (bitAt w b) 1 o, ne-eqb b 15 (λ (e : b ≡ 15). omega arith), or-some (R l q) h (λ e. omega (arith, k .on o .2))) (k .on o))
     (bit-cases w b)
 
 -- the lengths of one node
-next : (R : Hops) (a k l q : ℕ) → k ≡ suc l → a / 2 ^ (32 - l) ≡ q → longest R a k ≡ orHop (R l q) (longest R a l)
-unfolding longest
+next : (R : Hops) (a k l q : ℕ) → k ≡ suc l → a / 2 ^ (32 - l) ≡ q → longest R a k ≡ orNext (R l q) (longest R a l)
+unfolding down
 next R a k l q e f = rw (e, f)
 
 -- the first l bits of a, from its first 4 * m + 4 bits x
@@ -125,7 +114,7 @@ module _ (R : Hops) (ws hs : List ℕ) (a m i p : ℕ) (best : Place) (r : Rep h
   unfolding betterOf
   none-rep = r
 
-  own-rep : (t : ℕ) → 0 < t → NodeOf R ws hs t m i p → Rep hs (betterOf (bitsOf ws i) (baseOf ws i) (tryBit (bitsOf ws i) 0 15) best) (orHop (R (4 * m) p) (longest R a (4 * m)))
+  own-rep : (t : ℕ) → 0 < t → NodeOf R ws hs t m i p → Rep hs (betterOf (bitsOf ws i) (baseOf ws i) (tryBit (bitsOf ws i) 0 15) best) (orNext (R (4 * m) p) (longest R a (4 * m)))
   own-rep t h k =
       let e : 4 * m + 0 ≡ 4 * m = omega arith in
       let f : p * 1 + 0 ≡ p = omega arith in
@@ -164,7 +153,7 @@ no-longer R a m e d none (suc l) h t =
     (λ (i : 4 * (m + 1) ≡ suc l). let q : suc l ≡ 4 * m + 4 = omega arith in ap (longest R a) q)
     (λ (i : 4 * (m + 1) < suc l).
     next R a (suc l) l (a / 2 ^ (32 - l)) refl refl
-    ∙ or-zero (R l (a / 2 ^ (32 - l))) (longest R a l) (below-zero R a m e l d none (omega arith) (omega arith))
+    ∙ or-none (R l (a / 2 ^ (32 - l))) (longest R a l) (below-zero R a m e l d none (omega arith) (omega arith))
     ∙ no-longer R a m e d none l (omega arith) (omega arith))
     (eq-or-lt-of-le h)
 
@@ -215,5 +204,5 @@ module _ (st : ℕ → ℕ → Bool) (R : Hops) (ws hs : List ℕ) (a : ℕ) whe
 
 -- Where the image holds the routes R, the walk answers with the hop of the longest route that matches, and with the nodes on the address's path.
 pub walk-longest : (st : ℕ → ℕ → Bool) (R : Hops) (ws hs : List ℕ) (a : ℕ) → a < 2 ^ 32 → Holds st R ws hs 8 0 0 0 → treeSaid ws hs a ≡ told (longest R a 33) (readsFrom st a 8 0)
-unfolding treeSaid longest
+unfolding treeSaid down
 walk-longest st R ws hs a h k = found st R ws hs a 8 0 0 0 Nowhere refl (omega arith) k refl

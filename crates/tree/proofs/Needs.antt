@@ -20,7 +20,8 @@ use Rattle.tree.specs.Image.{Node, node, innerLen, bitHop, inner, child,
 use Rattle.tree.proofs.Counts.{count-none, count-one}
 use Rattle.tree.proofs.Parts.{picked-length, gather-append}
 use Rattle.tree.proofs.Levels.{level-is}
-use Rattle.tree.proofs.Lies.{any-mem, one-prefix, pass-parts, pass-make, up-pass, kidOf, kid-at, kid-is, atBit, bitOf, bit-at, bit-pass, bit-is}
+use Rattle.standing.proofs.Prefixes.{one-key}
+use Rattle.tree.proofs.Lies.{any-mem, pass-parts, pass-make, up-pass, kidOf, kid-at, kid-is, atBit, bitOf, bit-at, bit-pass, bit-is}
 
 -- g 0 + .. + g (n - 1), and F of each element of a list added up
 unfoldable sums : (ℕ → ℕ) → ℕ → ℕ
@@ -139,7 +140,7 @@ own-tally l q (r ∷ rs) g = go (decided (here l q r)) (own-tally l q rs (g .2))
         → bit (here l q r) + tally (here l q) rs ≡ bit (ltb 0 (orElse (cond (here l q r) (suc (r .hop)) (first (here l q) rs)) 0))
     go (inl t) ih =
         rw (t, lt-ltb 0 (r .hop) (g .0 .hop-one))
-        (omega (arith, tally-none (here l q) rs (λ s m. untrue (here l q s) (λ u. omega (arith, g .1 s m, one-prefix l q r s (g .0) (good-fine rs (g .2) s m) t u)))))
+        (omega (arith, tally-none (here l q) rs (λ s m. untrue (here l q s) (λ u. omega (arith, g .1 s m, one-key l q r s (g .0) (good-fine rs (g .2) s m) t u)))))
     go (inr t) ih = rw t (zero-add _ ∙ ih)
 
 module _ (rs : List Route) (g : Good rs) where

@@ -18,6 +18,7 @@ use Rattle.bits.proofs.Tests.{decided, both, and-split, fails}
 use Rattle.routes.specs.Route.{Good}
 use Rattle.standing.specs.Cells.{here, any, first, orElse, best}
 use Rattle.routes.specs.declared.Route.{Route}
+use Rattle.standing.specs.Down.{orNext, down}
 use Rattle.standing.proofs.Levels.{any-mono}
 use Rattle.tree.specs.Walk.{told, treeSaid}
 use Rattle.tree.specs.Image.{Node, node, nodes, words, hops, imageBy, imageOf, through, nodeStands, hopFor, nodeNeed, onPath}
@@ -26,7 +27,7 @@ use Rattle.tree.proofs.Nodes.{up-next, words-length}
 use Rattle.tree.proofs.Holds.{pad-past, Agree, image-holds}
 use Rattle.tree.proofs.Lies.{found-any}
 use Rattle.tree.proofs.Needs.{hops-need}
-use Rattle.tree.proofs.Longest.{orHop, longest, readsFrom, walk-longest}
+use Rattle.tree.proofs.Longest.{longest, readsFrom, walk-longest}
 
 -- what the routes say of nodes and hops
 no-nine : (rs : List Route) (p : ℕ) → Good rs → nodeStands rs 9 p ≡ false
@@ -70,18 +71,18 @@ first-not-one f (r ∷ rs) g e = go (f r) (first-not-one f rs (g .2)) e
     go true h e = omega (arith, g .0 .hop-one)
     go false h e = h e
 
-or-same : (x d : ℕ) → (x ≡ 1 → ⊥) → orElse x d ≡ orHop (orElse x 0) d
+or-same : (x d : ℕ) → (x ≡ 1 → ⊥) → orElse x d ≡ orNext (orElse x 0) d
 or-same zero d h = refl
 or-same (suc zero) d h = absurd (h refl)
 or-same (suc (suc x)) d h = refl
 
 best-longest : (rs : List Route) (p a : ℕ) → Good rs → p ≤ 32 → best rs p (slot p a) ≡ longest (hopFor rs) a (suc p)
-unfolding best longest
+unfolding best down
 best-longest rs zero a f h = or-same (first (here zero (slot zero a)) rs) 0 (first-not-one (here zero (slot zero a)) rs f)
 best-longest rs (suc p) a f h =
     let up : slot (suc p) a / 2 ≡ slot p a = shr-shr a (32 - suc p) 1 ∙ ap (λ (n : ℕ). a / 2 ^ n) (omega arith) in
     or-same (first (here (suc p) (slot (suc p) a)) rs) _ (first-not-one (here (suc p) (slot (suc p) a)) rs f)
-    ∙ ap (λ (x : ℕ). orHop (hopFor rs (suc p) (slot (suc p) a)) x) (ap (best rs p) up ∙ best-longest rs p a f (omega arith))
+    ∙ ap (λ (x : ℕ). orNext (hopFor rs (suc p) (slot (suc p) a)) x) (ap (best rs p) up ∙ best-longest rs p a f (omega arith))
 
 -- the nodes read
 

@@ -1,10 +1,10 @@
 -- What a lookup says, for every content of the words and the hops. All nodes are read first, then one hop. Assumes nothing.
 use Prim.Native.Nat.{ℕ, zero, suc, _+_, _-_}
 use mathlib.Core.Bool.{cond, _&&_}
-use mathlib.Core.List.{List, [], _∷_}
+use mathlib.Core.List.{List}
 use lib.Dec.{eqb, ltb}
 use lib.ListN.{length, getD}
-use Rattle.routes.specs.Said.{Said, accepted, refused}
+use Rattle.routes.specs.Said.{Said, refused, hopAfter, noRouteAfter}
 use Rattle.routes.specs.Input.{hopFine}
 use Rattle.tree.specs.Node.{bitsOf, childOf, baseOf, isSet, sound, nibbleOf, deepestOf, betterOf, tryBit, childAt}
 use Rattle.tree.specs.Reads.{counted}
@@ -15,13 +15,13 @@ use Rattle.tree.specs.declared.TreeFound.the-variants.{Hop, NoRoute, Bro
 
 -- document 01's number and values for each answer
 unfoldable pub saysTreeFound : TreeFound → Said
-saysTreeFound (Hop h n) = accepted (n ∷ h ∷ [])
-saysTreeFound (NoRoute n) = accepted (n ∷ [])
+saysTreeFound (Hop h n) = hopAfter n h
+saysTreeFound (NoRoute n) = noRouteAfter n
 saysTreeFound Broken = refused 13
 
 -- the answer with the hop h, 0 for no route, after n nodes
 unfoldable pub told : ℕ → ℕ → Said
-told h n = cond (eqb h 0) (accepted (counted h n ∷ [])) (accepted (counted h n ∷ h ∷ []))
+told h n = cond (eqb h 0) (noRouteAfter (counted h n)) (hopAfter (counted h n) h)
 
 -- the hop at a place is read; it has to be lent, and 1 to 32,767
 unfoldable pub fetchedFrom : List ℕ → ℕ → Place → Said

@@ -5,7 +5,7 @@ use Prim.Native.Nat.{ℕ, _/_, _≤_, _<_}
 use native.Mathlib.Omega.{arith}
 use lib.ListN.{length}
 use borrow.Author.Tests.{lt-ltb, le-ltb}
-use Rattle.routes.specs.Record.{Records}
+use Rattle.routes.specs.Record.{Records, GoodInput, routesIn}
 use Rattle.routes.specs.Answers.{saysInput}
 use Rattle.routes.specs.Input.{inputSaid}
 use Rattle.routes.specs.declared.input.Input.{Input}
@@ -17,7 +17,7 @@ use Rattle.tree.specs.Image.{nodeNeed}
 use Rattle.tree.proofs.Needs.{hops-need}
 use Rattle.tree_build.specs.declared.Built.{Built}
 use Rattle.tree_build.specs.declared.Built.the-variants.{Made, RefusedAt, Refused}
-use Rattle.tree_build.specs.Built.{saysBuilt, Out, out, GoodInput, routesIn, madeOf, built}
+use Rattle.tree_build.specs.Built.{saysBuilt, Out, out, madeOf, built}
 use Rattle.tree_build.specs.Count.{nodesTo}
 use Rattle.tree_build.specs.Queue.{Room, Filled}
 use Rattle.tree_build.proofs.Runs.{good-list}

@@ -17,7 +17,8 @@ use Rattle.tree.specs.Image.{bitHop, word}
 use Rattle.tree.proofs.Counts.{count-less}
 use Rattle.bits.proofs.Packed.{rank-count, upper-count}
 use Rattle.tree.proofs.Nodes.{inner-bit, child-bit}
-use Rattle.tree.proofs.Lies.{one-prefix, atBit, bitOf, bit-at}
+use Rattle.standing.proofs.Prefixes.{one-key}
+use Rattle.tree.proofs.Lies.{atBit, bitOf, bit-at}
 use Rattle.tree_build.specs.Run.{standsIn, hopIn, pathAt, nodeAt, placeOf, innerIn, childIn, wordIn}
 use Rattle.tree_build.specs.Queue.{HopsReady, HopsPut}
 use Rattle.tree_build.proofs.Runs.{short}
@@ -88,7 +89,7 @@ module _ (s : List ℕ) (m a e base k word : ℕ) (old new : List ℕ) (ready : 
       omega (
         arith,
         n .records .rises x k q lk,
-        one-prefix _ _ (recordAt s x) (recordAt s k) (n .records .each x lx) (n .records .each k lk)
+        one-key _ _ (recordAt s x) (recordAt s k) (n .records .each x lx) (n .records .each k lk)
             (subst (λ (y : ℕ). atBit m (pathAt s m a) y (recordAt s x) ≡ true) same (bit-at m (pathAt s m a) (recordAt s x) (short s (n .records) x lx) (n .run .inside x v (omega arith)) t .1))
             (bit-at m (pathAt s m a) (recordAt s k) (short s (n .records) k lk) (n .run .inside k l u) ends-here .1),
       ))

@@ -14,13 +14,12 @@ use Rattle.bits.specs.Search.{firstOf}
 use Rattle.bits.proofs.Counts.{count-matched}
 use Rattle.bits.proofs.Searches.{firstOf-is, firstOf-before}
 use Rattle.bits.proofs.Tests.{both, and-split, equal?, untrue}
-use Rattle.routes.specs.Record.{recordAt, Records}
+use Rattle.routes.specs.Record.{recordAt, Records, routesIn}
 use Rattle.tree.specs.Image.{Node, node, level, upTo}
 use Rattle.tree.proofs.Counts.{count-all}
 use Rattle.tree.proofs.Levels.{LevelOf, level-is}
 use Rattle.tree.proofs.Lies.{pass-parts, pass-make}
 use Rattle.tree.proofs.Ranks.{first-found}
-use Rattle.tree_build.specs.Built.{routesIn}
 use Rattle.tree_build.specs.Run.{standsIn, pathAt, throughAt}
 use Rattle.tree_build.specs.Count.{freshAt, nodesTo}
 use Rattle.tree_build.proofs.Runs.{good-list, stands-at, stands-by, convex}

@@ -2,7 +2,7 @@
 use mathlib.Core.Path.{_≡_, refl, sym, _∙_, ap, subst}
 use mathlib.Core.Logic.{_⊎_, inl, inr}
 use mathlib.Core.Bool.{true, false, true≢false}
-use mathlib.Core.List.{List, List·Memᴰ}
+use mathlib.Core.List.{List}
 use Prim.Native.Nat.{ℕ, _+_, _-_, _*_, _/_, _^_, _≤_, _<_}
 use native.Mathlib.Nat.{eq-or-lt-of-le, le-antisymm, le-refl}
 use native.Mathlib.Omega.{arith}
@@ -13,44 +13,33 @@ use Rattle.bits.proofs.Slots.{cut-is, cut-le, cut-more}
 use Rattle.bits.proofs.Tests.{below?}
 use Rattle.routes.specs.Route.{Good}
 use Rattle.standing.specs.Cells.{here}
-use Rattle.routes.specs.Record.{recordAt, Records}
-use Rattle.routes.specs.declared.Route.{Route}
-use Rattle.routes.proofs.Rows.{nth-listed, listed-nth, length-routes, nth-route, records-good}
+use Rattle.routes.specs.Record.{recordAt, Records, routesIn}
+use Rattle.routes.proofs.Rows.{record-listed, listed-record, records-good}
 use Rattle.tree.specs.Image.{through}
 use Rattle.tree.proofs.Lies.{any-is, any-mem, found-any, hop-of, pass-parts, pass-make, up-pass, kidOf, kid-at}
-use Rattle.tree_build.specs.Built.{routesIn}
 use Rattle.tree_build.specs.Run.{standsIn, hopIn, pathAt, throughAt, Run, RunEnd}
 
 module _ (s : List ℕ) (good : Records s (length s / 8)) where
   pub good-list : Good (routesIn s)
   good-list = records-good s (length s / 8) good
 
-  pub listed : (k : ℕ) → k < length s / 8 → List·Memᴰ (recordAt s k) (routesIn s)
-  listed k l = subst (λ (r : Route). List·Memᴰ r (routesIn s)) (nth-route s (length s / 8) k l) (nth-listed (routesIn s) k (rw length-routes l))
-
-  pub place-of : (r : Route) → List·Memᴰ r (routesIn s) → (k : ℕ) × (k < length s / 8) × (recordAt s k ≡ r)
-  place-of r m =
-      let p = listed-nth (routesIn s) r m in
-      let l : p .place < length s / 8 = rw length-routes at (p .inside) in
-      (p .place, l, sym (nth-route s (length s / 8) (p .place) l) ∙ p .holds)
-
   -- a node stands where some record passes through it, and the hop of a prefix is that of its record
   pub stands-at : (m p k : ℕ) → k < length s / 8 → throughAt s m p k ≡ true → standsIn s m p ≡ true
-  stands-at m p k l t = any-mem (through m p) (routesIn s) (recordAt s k) (listed k l) t
+  stands-at m p k l t = any-mem (through m p) (routesIn s) (recordAt s k) (record-listed s (length s / 8) k l) t
 
   pub stands-by : (m p : ℕ) → standsIn s m p ≡ true → (k : ℕ) × (k < length s / 8) × (throughAt s m p k ≡ true)
   stands-by m p e =
       let f = any-is (through m p) (routesIn s) e in
-      let k = place-of (f .0) (f .1) in
+      let k = listed-record s (length s / 8) (f .0) (f .1) in
       (k .0, k .1, ap (through m p) (k .2) ∙ f .2)
 
   pub hop-at : (l q k : ℕ) → k < length s / 8 → here l q (recordAt s k) ≡ true → hopIn s l q ≡ recordAt s k .hop
-  hop-at l q k u e = hop-of l q (routesIn s) (recordAt s k) good-list (listed k u) e
+  hop-at l q k u e = hop-of l q (routesIn s) (recordAt s k) good-list (record-listed s (length s / 8) k u) e
 
   pub hop-by : (l q : ℕ) → 0 < hopIn s l q → (k : ℕ) × (k < length s / 8) × (here l q (recordAt s k) ≡ true)
   hop-by l q h =
       let f = any-is (here l q) (routesIn s) (found-any (here l q) (routesIn s) h) in
-      let k = place-of (f .0) (f .1) in
+      let k = listed-record s (length s / 8) (f .0) (f .1) in
       (k .0, k .1, ap (here l q) (k .2) ∙ f .2)
 
   pub short : (k : ℕ) → k < length s / 8 → recordAt s k .len ≤ 32

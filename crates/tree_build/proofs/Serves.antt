@@ -9,7 +9,7 @@ use borrow.Author.Tests.{lt-ltb, le-ltb}
 use Rattle.bits.proofs.Tests.{below?}
 use Rattle.routes.specs.Route.{Good}
 use Rattle.standing.specs.Cells.{best}
-use Rattle.routes.specs.Record.{Records}
+use Rattle.routes.specs.Record.{Records, routesIn}
 use Rattle.routes.specs.Input.{inputSaid}
 use Rattle.routes.specs.Said.{Said, accepted, refused, refusedAt}
 use Rattle.routes.specs.declared.Route.{Route}
@@ -17,7 +17,7 @@ use Rattle.routes.proofs.Meaning.{Checked, ragged, stopped, many, good, input-c
 use Rattle.tree.specs.Image.{imageOf, nodeNeed, onPath}
 use Rattle.tree.specs.Walk.{told, treeSaid}
 use Rattle.tree.proofs.Serves.{image-serves}
-use Rattle.tree_build.specs.Built.{Out, routesIn, madeOf, afterInput, built}
+use Rattle.tree_build.specs.Built.{Out, madeOf, afterInput, built}
 use Rattle.tree_build.proofs.Runs.{good-list}
 
 -- an accepted build of these routes: they are good, there is room, and the arrays hold their image

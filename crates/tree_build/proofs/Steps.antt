@@ -10,7 +10,7 @@ use lib.Count.{ones}
 use lib.ListN.{length, getD}
 use Rattle.bits.specs.Count.{count}
 use Rattle.bits.proofs.Tests.{below?}
-use Rattle.routes.specs.Record.{Records}
+use Rattle.routes.specs.Record.{Records, routesIn}
 use Rattle.tree.specs.Parts.{before, gather}
 use Rattle.tree.specs.Image.{Node, node, bitHop, inner, child, kids, hopsOf, hops}
 use Rattle.tree.specs.Image as image
@@ -20,7 +20,6 @@ use Rattle.tree.proofs.Parts.{picked-length, before-next, before-le, before-mon
 use Rattle.tree.proofs.Nodes.{nodes-fix, depth-lt}
 use Rattle.tree.proofs.Holds.{child-place}
 use Rattle.tree.proofs.Serves.{agree}
-use Rattle.tree_build.specs.Built.{routesIn}
 use Rattle.tree_build.specs.Run.{standsIn, hopIn, pathAt, nodeAt, Run, NodeRun, innerIn, childIn, wordIn}
 use Rattle.tree_build.specs.Queue.{put3, Waits, HopsReady, HopsPut, KidsReady, KidsPut, nodesIn, nodeIn, kidsBefore, hopsBefore, State, Next}
 use Rattle.tree_build.proofs.Stores.{put3-length, put3-other, put3-at}

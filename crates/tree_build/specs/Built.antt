@@ -1,11 +1,10 @@
 -- What a build answers, and what the two arrays then hold. Assumes nothing.
 use mathlib.Core.Bool.{cond}
 use mathlib.Core.List.{List, [], _∷_}
-use mathlib.Core.Path.{_≡_}
-use Prim.Native.Nat.{ℕ, _*_, _/_}
+use Prim.Native.Nat.{ℕ, _/_}
 use lib.Dec.{ltb}
 use lib.ListN.{length}
-use Rattle.routes.specs.Record.{routesOf, Records}
+use Rattle.routes.specs.Record.{routesIn}
 use Rattle.routes.specs.Input.{inputSaid}
 use Rattle.routes.specs.Said.{Said, accepted, refused, refusedAt}
 use Rattle.routes.specs.declared.Route.{Route}
@@ -27,15 +26,6 @@ pub record Out : Type 0 where
 
 abbrev pub out : Said → List ℕ → List ℕ → Out
 out x ws hs = record { said = x; words = ws; hops = hs }
-
--- an input of n good records, and nothing after them
-pub record GoodInput (s : List ℕ) (n : ℕ) : Type 0 where
-  pub records : Records s n
-  pub whole : length s ≡ n * 8
-
--- the routes of an input
-abbrev pub routesIn : List ℕ → List Route
-routesIn s = routesOf s (length s / 8)
 
 -- good routes into the words ws and the hops hs: 11 for too few whole nodes, 12 for too few hops, and the arrays as they were;
 -- otherwise the image in arrays of these sizes

@@ -6,7 +6,8 @@ pub mod run;
 use routes::input;
 use routes::input::Input;
 ghost use mathlib.Core.Path.{_≡_};
-ghost use Rattle.tree_build.specs.Built.{saysBuilt, out, GoodInput, routesIn, madeOf, built};
+ghost use Rattle.routes.specs.Record.{GoodInput, routesIn};
+ghost use Rattle.tree_build.specs.Built.{saysBuilt, out, madeOf, built};
 
 // What a build answers: the nodes and the hops used; a refusal with the index of a record; or a refusal by its number alone.
 pub enum Built {

@@ -2,6 +2,7 @@
 use crate::samples;
 use tree::TreeFound;
 use tree_build::Built;
+use words::list;
 use words::print;
 
 fn built(answer: Built) {
@@ -69,7 +70,7 @@ fn hops(list: &[u16]) {
 
 // List A's image in arrays that held other numbers, and lookups in it.
 pub fn list_a() {
-    let a = samples::list_a();
+    let a = list::list_a();
     let mut ws = [9u32; 23];
     let mut hs = [9u16; 6];
     built(tree_build::build(&a, &mut ws, &mut hs));
@@ -94,7 +95,7 @@ pub fn host() {
 
 // The image of no routes, and arrays that are too small: they stay as they were.
 pub fn sizes() {
-    let a = samples::list_a();
+    let a = list::list_a();
     let mut ws = [9u32; 20];
     let mut hs = [9u16; 4];
     built(tree_build::build(&a, &mut ws, &mut hs));
@@ -124,4 +125,13 @@ pub fn broken() {
     found(tree::lookup(&root, &zero, 0));
     found(tree::lookup(&root, &large, 0));
     found(tree::lookup(&root, &last, 0));
+}
+
+// Build stays strict, and leaves both arrays.
+pub fn host_bits() {
+    let mut ws = [9u32; 3];
+    let mut hs = [9u16; 1];
+    built(tree_build::build(&samples::loose(), &mut ws, &mut hs));
+    words(&ws);
+    hops(&hs);
 }

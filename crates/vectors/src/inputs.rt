@@ -4,6 +4,7 @@ use routes::Route;
 use routes::input;
 use routes::input::Got;
 use routes::input::Input;
+use words::list;
 use words::print;
 ghost use Prim.Native.Nat.{_≤_};
 ghost use lib.ListN.{length};
@@ -32,6 +33,8 @@ fn route(r: Route) {
     print::value(r.addr as u64);
     print::value(r.len as u64);
     print::value(r.hop as u64);
+    print::text(b" mark");
+    print::value(r.mark as u64);
 }
 
 fn got(answer: Got) {
@@ -60,7 +63,7 @@ pub fn run() {
     print::text(b"record");
     print::bytes(&samples::one(samples::route(0x0A01_0280, 25, 0, 57)));
     print::end();
-    let a = samples::list_a();
+    let a = list::list_a();
     said(input::check_input(&a));
     said(input::check_input(b""));
     said(input::check_input(b"nine byte"));
@@ -69,17 +72,34 @@ pub fn run() {
     got(input::route_at(b"nine byte", 0));
 }
 
+// An attached network: its record, and the route read back out of it.
+pub fn attached() {
+    let record = samples::one(samples::route(0x0A01_0000, 16, 1, 31));
+    print::text(b"record");
+    print::bytes(&record);
+    print::end();
+    got(input::route_at(&record, 0));
+}
+
 pub fn refusals() {
     let good = samples::route(0x0A00_0000, 8, 0, 20);
     said(input::check_input(&samples::two(good, samples::route(0x0B00_0000, 33, 0, 0))));
-    said(input::check_input(&samples::two(good, samples::route(0x0B00_0001, 24, 1, 0))));
-    said(input::check_input(&samples::two(good, samples::route(0x0B00_0000, 24, 1, 0))));
+    said(input::check_input(&samples::two(good, samples::route(0x0B00_0001, 24, 2, 0))));
+    said(input::check_input(&samples::two(good, samples::route(0x0B00_0000, 24, 2, 0))));
+    said(input::check_input(&samples::two(good, samples::route(0x0B00_0000, 24, 2, 32767))));
+    said(input::check_input(&samples::two(good, samples::route(0x0B00_0000, 24, 255, 32767))));
+    said(input::check_input(&samples::two(good, samples::route(0x0A00_0000, 8, 1, 20))));
     said(input::check_input(&samples::two(good, samples::route(0x0B00_0000, 24, 1, 32767))));
     said(input::check_input(&samples::two(good, samples::route(0x0B00_0000, 24, 0, 32767))));
     said(input::check_input(&samples::two(good, samples::route(0x0B00_0000, 24, 0, 32768))));
     said(input::check_input(&samples::two(good, samples::route(0x0A00_0000, 8, 0, 21))));
     said(input::check_input(&samples::two(good, samples::route(0x0A00_0000, 7, 0, 21))));
     said(input::check_input(&samples::two(good, samples::route(0x0A00_0000, 9, 0, 21))));
+}
+
+// An input stays strict.
+pub fn host_bits() {
+    said(input::check_input(&samples::loose()));
 }
 
 // So many routes of 24 bits, one after the other.

@@ -3,6 +3,7 @@ use crate::samples;
 use runs::run;
 use runs::run::RunCheck;
 use runs::tally;
+use words::list;
 use words::print;
 
 fn said(answer: RunCheck) {
@@ -40,12 +41,25 @@ fn one(list: &[u8], addr: u32, len: u8) {
 
 // Document 01's two runs under list A; the whole list; a prefix with a bit after its length; an input of nine bytes.
 pub fn run() {
-    let a = samples::list_a();
+    let a = list::list_a();
     one(&a, 0x0A01_0000, 16);
     one(&a, 0x0B00_0000, 8);
     one(&a, 0, 0);
     one(&a, 0x0A01_0001, 16);
     one(b"nine byte", 0x0A01_0001, 16);
+}
+
+// The run carries the mark, and the tally does not look at it.
+pub fn attached() {
+    let a = samples::attached_a();
+    one(&a, 0x0A01_0000, 16);
+    counts(&a);
+}
+
+// The run stays strict: none under 10.1.2.3/24.
+pub fn host_bits() {
+    let a = list::list_a();
+    one(&a, 0x0A01_0203, 24);
 }
 
 fn counts(list: &[u8]) {
@@ -62,7 +76,7 @@ fn counts(list: &[u8]) {
 
 // The tally of list A, and of an input that is refused.
 pub fn tallies() {
-    let a = samples::list_a();
+    let a = list::list_a();
     counts(&a);
     counts(b"nine byte");
 }

@@ -1,58 +1,20 @@
-// Inputs that the document names, or that follow from its words.
+// Records, inputs of one and two records, and list A with a route attached.
 use routes::Route;
 use routes::record;
+use words::list;
 
-// Document 01's list A.
-pub fn list_a() -> [u8; 40] {
-    [
-        0,
-        0,
-        0,
-        0,
-        0,
-        0,
-        0,
-        6,
-        10,
-        0,
-        0,
-        0,
-        8,
-        0,
-        0,
-        20,
-        10,
-        1,
-        0,
-        0,
-        16,
-        0,
-        0,
-        31,
-        10,
-        1,
-        2,
-        0,
-        24,
-        0,
-        0,
-        44,
-        10,
-        1,
-        2,
-        128,
-        25,
-        0,
-        0,
-        57,
-    ]
+// List A with 10.1.0.0/16 attached: one byte is another.
+pub fn attached_a() -> [u8; 40] {
+    let mut a = list::list_a();
+    a[21] = 1;
+    a
 }
 
-pub fn route(addr: u32, len: u8, spare: u8, hop: u16) -> Route {
+pub fn route(addr: u32, len: u8, mark: u8, hop: u16) -> Route {
     Route {
         addr,
         len,
-        spare,
+        mark,
         hop,
     }
 }
@@ -62,6 +24,11 @@ pub fn one(r: Route) -> [u8; 8] {
     let mut out = [0u8; 8];
     record::write_record(&mut out, 0, r);
     out
+}
+
+// 10.1.2.3/24 to hop 44, whose last byte is past the length.
+pub fn loose() -> [u8; 8] {
+    one(route(0x0A01_0203, 24, 0, 44))
 }
 
 // Two records' bytes.

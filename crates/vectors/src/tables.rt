@@ -1,9 +1,9 @@
 // SAIL tables: list A's table at the standard geometry, written out by hand from document 01, looked up, reported and damaged.
-use crate::samples;
 use sail::geometry::Geometry;
 use sail::lookup;
 use sail::table::Table;
 use sail_sound::report;
+use words::list;
 use words::table;
 
 // A lookup of 10.1.2.200 and the report.
@@ -72,12 +72,11 @@ fn third_cells(v: u16, w: u16) -> [u16; 1024] {
 
 // List A's records with room for eight; the last byte is b.
 fn records(b: u8) -> [u8; 64] {
+    let a = list::list_a();
     let mut list = [0u8; 64];
-    routes::record::write_record(&mut list, 0, samples::route(0, 0, 0, 6));
-    routes::record::write_record(&mut list, 1, samples::route(0x0A00_0000, 8, 0, 20));
-    routes::record::write_record(&mut list, 2, samples::route(0x0A01_0000, 16, 0, 31));
-    routes::record::write_record(&mut list, 3, samples::route(0x0A01_0200, 24, 0, 44));
-    routes::record::write_record(&mut list, 4, samples::route(0x0A01_0280, 25, 0, 57));
+    for k in 0..40 {
+        list[k] = a[k];
+    }
     list[63] = b;
     list
 }

@@ -4,28 +4,8 @@ use probes::linear;
 use probes::looks;
 use sail::table::Table;
 use sail_load::load;
-use sail_load::load::Loaded;
 use sail_sound::report;
-use words::print;
 use words::table;
-
-fn loaded(answer: Loaded) {
-    print::text(b"load");
-    match answer {
-        Loaded::Done => {
-            print::text(b" done");
-        }
-        Loaded::Refused(f) => {
-            print::refused(f);
-        }
-        Loaded::RefusedAt(f, k) => {
-            print::refused(f);
-            print::text(b" at");
-            print::value(k as u64);
-        }
-    }
-    print::end();
-}
 
 fn reload(
     t: Table,
@@ -39,7 +19,7 @@ fn reload(
 ) -> Table {
     let r = load::load(t, input, list, first, second, third, own2, own3);
     let answer = r.answer;
-    loaded(answer);
+    table::loaded(answer);
     r.table
 }
 

@@ -14,6 +14,7 @@ struct Act {
     addr: u32,
     len: u8,
     hop: u16,
+    mark: u8,
 }
 
 // The prefix of a change: a standing one, which x picks, where the kind says so and there is one; otherwise a drawn one.
@@ -37,12 +38,15 @@ fn next(t: Table, list: &[u8], x: u64) -> Act {
     let kind = draw::pick(x, 8);
     let y = draw::next(x);
     let p = chosen(t, list, kind, y);
-    let hop = draw::hop(draw::next(draw::next(y)));
+    let z = draw::next(draw::next(y));
+    let hop = draw::hop(z);
+    let mark = draw::mark(draw::next(z));
     Act {
         withdraws: 5 <= kind,
         addr: p.addr,
         len: p.len,
         hop,
+        mark,
     }
 }
 
@@ -67,6 +71,7 @@ fn announced(
         a.addr,
         a.len,
         a.hop,
+        a.mark,
     );
     let answer = d.answer;
     course::changed(r, d.table, course::of_announce(answer))

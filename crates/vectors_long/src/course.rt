@@ -8,13 +8,13 @@ use sail_withdraw::answers::Withdraw;
 use std::num;
 use words::print;
 
-// The state, the next drawn number, the lookups so far, and how often each answer came: a refusal at its number, and added,
-// replaced and removed at 10, 11 and 12.
+// The state, the next drawn number, the lookups so far, and how often each answer came: a refusal at its number, added,
+// replaced and removed at 11, 12 and 13, and at 14 how often one of these said that bits were cleared.
 pub struct Course {
     pub table: Table,
     pub x: u64,
     pub sums: Sums,
-    pub tally: [u64; 13],
+    pub tally: [u64; 15],
 }
 
 pub fn start(table: Table, x: u64) -> Course {
@@ -23,40 +23,58 @@ pub fn start(table: Table, x: u64) -> Course {
         table,
         x,
         sums,
-        tally: [0u64; 13],
+        tally: [0u64; 15],
     }
 }
 
-pub fn of_announce(answer: Announce) -> u8 {
+// An answer by its place in the tally, and whether bits were cleared.
+pub struct Count {
+    pub place: u8,
+    pub cleared: bool,
+}
+
+fn at(place: u8, cleared: bool) -> Count {
+    Count { place, cleared }
+}
+
+pub fn of_announce(answer: Announce) -> Count {
     match answer {
-        Announce::Added => 10,
-        Announce::Replaced => 11,
-        Announce::Refused(f) => f,
+        Announce::Added(c) => at(11, c),
+        Announce::Replaced(c) => at(12, c),
+        Announce::Refused(f) => at(f, false),
     }
 }
 
-pub fn of_withdraw(answer: Withdraw) -> u8 {
+pub fn of_withdraw(answer: Withdraw) -> Count {
     match answer {
-        Withdraw::Removed => 12,
-        Withdraw::Refused(f) => f,
+        Withdraw::Removed(c) => at(13, c),
+        Withdraw::Refused(f) => at(f, false),
     }
 }
 
-fn count(tally: [u64; 13], k: usize) -> [u64; 13] {
+fn more(tally: [u64; 15], k: usize) -> [u64; 15] {
     let mut t = tally;
-    if k < 13 {
+    if k < 15 {
         let n = t[k];
         t[k] = num::wrapping_add_u64(n, 1);
     }
     t
 }
 
-// A change is made: the state after it, and its answer. It took four drawn numbers.
-pub fn changed(r: Course, table: Table, answer: u8) -> Course {
+fn counted_in(tally: [u64; 15], c: Count) -> [u64; 15] {
+    let t = more(tally, c.place as usize);
+    if c.cleared {
+        return more(t, 14);
+    }
+    t
+}
+
+// A change is made: the state after it, and its answer. It took five drawn numbers.
+pub fn changed(r: Course, table: Table, answer: Count) -> Course {
     let before = r.tally;
-    let tally = count(before, answer as usize);
+    let tally = counted_in(before, answer);
     let sums = r.sums;
-    let x = draw::next(draw::next(draw::next(draw::next(r.x))));
+    let x = draw::next(draw::next(draw::next(draw::next(draw::next(r.x)))));
     Course {
         table,
         x,
@@ -79,9 +97,11 @@ fn numbers(tally: &[u64], from: usize, to: usize) {
 
 fn counted(tally: &[u64]) {
     print::text(b"added, replaced, removed");
-    numbers(tally, 10, 13);
-    print::text(b"refused 1 to 9:");
-    numbers(tally, 1, 10);
+    numbers(tally, 11, 14);
+    print::text(b"cleared");
+    numbers(tally, 14, 15);
+    print::text(b"refused 1 to 10:");
+    numbers(tally, 1, 11);
 }
 
 // How many lookups there were, and what they found.

@@ -39,10 +39,22 @@ fn announced(
     own2: &mut [u32],
     own3: &mut [u32],
 ) -> Table {
-    let Step::Announce(addr, len, hop) = s else {
+    let Step::Announce(addr, len, hop, mark) = s else {
         return t;
     };
-    let r = sail_announce::announce(t, list, first, second, third, own2, own3, addr, len, hop);
+    let r = sail_announce::announce(
+        t,
+        list,
+        first,
+        second,
+        third,
+        own2,
+        own3,
+        addr,
+        len,
+        hop,
+        mark,
+    );
     let answer = r.answer;
     said::announced(answer);
     r.table
@@ -91,6 +103,17 @@ fn cell(cells: &[u16], own: &[u32], i: usize) {
     print::end();
 }
 
+// A record of the list.
+fn record(list: &[u8], k: usize) {
+    print::text(b"record");
+    if k < list.len() / 8 {
+        let from = k * 8;
+        let to = from + 8;
+        print::bytes(&list[from..to]);
+    }
+    print::end();
+}
+
 fn read(
     s: Step,
     t: Table,
@@ -107,6 +130,9 @@ fn read(
         }
         Step::Report => {
             table::reported(report::report(t, list, first, second, third, own2, own3));
+        }
+        Step::Record(k) => {
+            record(list, k);
         }
         Step::First(i) => {
             cell(first, own2, i);

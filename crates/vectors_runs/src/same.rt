@@ -44,7 +44,7 @@ fn roots(list: &[u8], first: &[u16]) {
     let r = Route {
         addr: 0x0A01_0200,
         len: 24,
-        spare: 0,
+        mark: 0,
         hop: 44,
     };
     routes::record::write_record(&mut list0, 0, r);

@@ -32,6 +32,46 @@ pub fn list_a() {
     );
 }
 
+// Room for two routes, and one chunk in each pool.
+pub fn marks() {
+    let mut list = [0u8; 16];
+    let mut first = [0u16; 65536];
+    let mut second = [0u16; 256];
+    let mut third = [0u16; 256];
+    let mut own2 = [0u32; 1];
+    let mut own3 = [0u32; 1];
+    play::play(
+        steps::MARKS,
+        start(),
+        &mut list,
+        &mut first,
+        &mut second,
+        &mut third,
+        &mut own2,
+        &mut own3,
+    );
+}
+
+// Room for two routes, one second chunk, and no third.
+pub fn host_bits() {
+    let mut list = [0u8; 16];
+    let mut first = [0u16; 65536];
+    let mut second = [0u16; 256];
+    let mut third = [0u16; 0];
+    let mut own2 = [0u32; 1];
+    let mut own3 = [0u32; 0];
+    play::play(
+        steps::HOST_BITS,
+        start(),
+        &mut list,
+        &mut first,
+        &mut second,
+        &mut third,
+        &mut own2,
+        &mut own3,
+    );
+}
+
 // One second chunk, and no third.
 pub fn one_chunk() {
     let mut list = [0u8; 64];

@@ -1,6 +1,7 @@
-// The answers of make, lookup and report, as words.
+// The answers of make, load, lookup and report, as words.
 use crate::print;
 use sail::lookup::Found;
+use sail_load::load::Loaded;
 use sail_make::Made;
 use sail_sound::report::Reported;
 
@@ -12,6 +13,24 @@ pub fn made(answer: Made) {
         }
         Made::Refused(f) => {
             print::refused(f);
+        }
+    }
+    print::end();
+}
+
+pub fn loaded(answer: Loaded) {
+    print::text(b"load");
+    match answer {
+        Loaded::Done => {
+            print::text(b" done");
+        }
+        Loaded::Refused(f) => {
+            print::refused(f);
+        }
+        Loaded::RefusedAt(f, k) => {
+            print::refused(f);
+            print::text(b" at");
+            print::value(k as u64);
         }
     }
     print::end();

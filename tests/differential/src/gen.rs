@@ -134,7 +134,7 @@ impl Field {
 
     pub fn route(&self, rng: &mut Rng) -> Route {
         let len = self.len(rng);
-        Route { addr: cut(self.addr(rng), len as u32), len, hop: self.hop(rng) }
+        Route { addr: cut(self.addr(rng), len as u32), len, hop: self.hop(rng), mark: mark(rng) }
     }
 
     /// At most `n` routes, ascending.
@@ -143,6 +143,11 @@ impl Field {
         tidy(&mut routes);
         routes
     }
+}
+
+/// A mark that a route may have: a third of the networks are attached.
+pub fn mark(rng: &mut Rng) -> u8 {
+    rng.one_in(3) as u8
 }
 
 /// Sorts the routes and leaves one for each prefix.
@@ -170,7 +175,7 @@ pub fn spread(rng: &mut Rng, n: usize) -> Vec<Route> {
                 _ => rng.range(25, 32),
             } as u32;
             let hop = rng.range(1, 64) as u16;
-            routes.push(Route { addr: cut(rng.word(), len), len: len as u8, hop });
+            routes.push(Route { addr: cut(rng.word(), len), len: len as u8, hop, mark: mark(rng) });
         }
         tidy(&mut routes);
     }
@@ -235,7 +240,7 @@ fn damage_input(rng: &mut Rng, input: &mut Vec<u8>) {
         }
         4 => input[b + 6..b + 8].copy_from_slice(&[0, 0]),
         5 => input[b + 6] |= 0x80,
-        6 => input[b + 5] = *rng.pick(&[1, 2, 128, 255]),
+        6 => input[b + 5] = *rng.pick(&[1, 2, 3, 128, 255]),
         7 => {
             // Two records change places.
             let j = if rng.one_in(2) { k + 1 } else { rng.below(whole) };
@@ -246,10 +251,10 @@ fn damage_input(rng: &mut Rng, input: &mut Vec<u8>) {
             }
         }
         8 => {
-            // The same record twice, perhaps with another hop.
+            // The same record twice, perhaps with another hop or another mark.
             let mut record = input[b..b + 8].to_vec();
             if rng.one_in(2) {
-                record[7] ^= 1;
+                record[*rng.pick(&[5, 7])] ^= 1;
             }
             input.splice(b..b, record);
         }
@@ -294,30 +299,81 @@ fn damage_input(rng: &mut Rng, input: &mut Vec<u8>) {
     }
 }
 
-/// A prefix to ask an input or a table about: one that stands, a shorter or longer one near it, any, or a bad one.
-pub fn asked_prefix(rng: &mut Rng, field: &Field, routes: &[Route]) -> (u32, u8) {
+/// A prefix to ask an input or a table about: one that stands, a shorter or longer one near it, any, or a bad one. Of
+/// the bad lengths 256, 280 and 2^32 - 1 would be others if only their low byte were looked at.
+pub fn asked_prefix(rng: &mut Rng, field: &Field, routes: &[Route]) -> (u32, u32) {
     if rng.one_in(10) {
-        return (field.addr(rng), *rng.pick(&[33, 40, 255, 24, 8, 31, 0]));
+        return (field.addr(rng), *rng.pick(&[33, 40, 255, 24, 8, 31, 0, 256, 280, u32::MAX]));
     }
     if routes.is_empty() || rng.one_in(6) {
         let r = field.route(rng);
-        return (r.addr, r.len);
+        return (r.addr, r.len as u32);
     }
     let r = *rng.pick(routes);
-    match rng.below(4) {
-        0 => (r.addr, r.len),
+    match rng.below(5) {
+        0 => (r.addr, r.len as u32),
         1 => {
             let len = rng.range(0, r.len as usize) as u32;
-            (cut(r.addr, len), len as u8)
+            (cut(r.addr, len), len)
         }
         2 => {
             let len = rng.range(r.len as usize, 32) as u32;
-            (cut(r.addr | (rng.word() & !cut(u32::MAX, r.len as u32)), len), len as u8)
+            (cut(r.addr | (rng.word() & !cut(u32::MAX, r.len as u32)), len), len)
         }
+        3 => (r.addr, wide(rng, r.len as u32, 8)),
         _ => {
             // The neighbour of the same length.
             let len = r.len as u32;
-            (if len == 0 { 0 } else { (bits(r.addr, len) ^ 1) << (32 - len) }, r.len)
+            (if len == 0 { 0 } else { (bits(r.addr, len) ^ 1) << (32 - len) }, len)
         }
     }
+}
+
+/// The address with bits after the length set, as some feeds leave them: none, one, all, or some.
+pub fn loose(rng: &mut Rng, addr: u32, len: u32) -> u32 {
+    if len >= 32 {
+        return addr;
+    }
+    let after = !cut(u32::MAX, len);
+    addr | match rng.below(6) {
+        0 => 1,
+        1 => 1 << (31 - len),
+        2 => after,
+        3 => rng.word() & after,
+        _ => 0,
+    }
+}
+
+/// A prefix to announce or to withdraw: as `asked_prefix`, with loose bits.
+pub fn asked_loose_prefix(rng: &mut Rng, field: &Field, routes: &[Route]) -> (u32, u32) {
+    let (addr, len) = asked_prefix(rng, field, routes);
+    (loose(rng, addr, len), len)
+}
+
+/// A hop to announce: mostly a good one, and bad ones of which 65,536 and 65,580 would be others in 16 bits.
+pub fn asked_hop(rng: &mut Rng, field: &Field) -> u32 {
+    if rng.one_in(20) {
+        *rng.pick(&[0, 32_768, 65_535, 65_536, 65_580, 1 << 31, u32::MAX, 32_767])
+    } else {
+        field.hop(rng) as u32
+    }
+}
+
+/// A mark to announce, of all values: mostly 0 or 1, and bad ones of which 256 and 257 would be good in 8 bits.
+pub fn asked_mark(rng: &mut Rng) -> u32 {
+    if rng.one_in(16) {
+        *rng.pick(&[2, 3, 128, 255, 256, 257, 65_537, u32::MAX])
+    } else {
+        mark(rng) as u32
+    }
+}
+
+/// A number that does not fit the bits of its field, and whose low bits are `low`: cut off, it would pass.
+pub fn wide(rng: &mut Rng, low: u32, bits: u32) -> u32 {
+    let high = match rng.below(3) {
+        0 => 1,
+        1 => 1 << (31 - bits),
+        _ => 1 + (rng.word() >> (bits + 1)),
+    };
+    low | high << bits
 }

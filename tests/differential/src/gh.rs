@@ -1,13 +1,12 @@
-//! The exported functions of the proved library, and arrays to lend to them.
+//! The exported functions of the proved library, as the Rust binding wraps them, and arrays to lend to them.
 //!
 //! Each array that the library sees stands between two fences of known words, so that a write outside it shows.
 
 use differential::plain::Lent;
+use ghatumri::{raw, Geometry, TableMut, TableRef};
 use std::ops::{Deref, DerefMut};
-use sys::*;
 
-#[path = "../../../bindings/rust/src/sys.rs"]
-mod sys;
+pub use raw::{basic_build, basic_lookup, basic_lookup_many, build, route, run, tally, tree_lookup};
 
 /// A word that an array can be made of.
 pub trait Word: Copy + PartialEq + std::fmt::LowerHex {
@@ -107,6 +106,32 @@ impl Six {
         }
     }
 
+    fn lend(&self, p1: u32, p2: u32, count: u32) -> TableRef<'_> {
+        TableRef {
+            geometry: Geometry { p1, p2 },
+            count,
+            list: &self.list,
+            first: &self.first,
+            second: &self.second,
+            third: &self.third,
+            own2: &self.own2,
+            own3: &self.own3,
+        }
+    }
+
+    fn lend_mut(&mut self, p1: u32, p2: u32, count: u32) -> TableMut<'_> {
+        TableMut {
+            geometry: Geometry { p1, p2 },
+            count,
+            list: &mut self.list,
+            first: &mut self.first,
+            second: &mut self.second,
+            third: &mut self.third,
+            own2: &mut self.own2,
+            own3: &mut self.own3,
+        }
+    }
+
     pub fn set(&mut self, lent: &Lent) {
         self.list.set(&lent.list);
         self.first.set(&lent.first);
@@ -127,83 +152,30 @@ impl Six {
     }
 }
 
-/// Calls a function of the library: what comes before the six arrays; the six, `mut` where it changes them; what
-/// comes after.
-macro_rules! call {
-    ($gh:ident, ($($before:expr),*), mut $t:ident, ($($after:expr),*)) => {
-        unsafe {
-            $gh(
-                $($before,)*
-                $t.list.as_mut_ptr(), $t.list.len(),
-                $t.first.as_mut_ptr(), $t.first.len(),
-                $t.second.as_mut_ptr(), $t.second.len(),
-                $t.third.as_mut_ptr(), $t.third.len(),
-                $t.own2.as_mut_ptr(), $t.own2.len(),
-                $t.own3.as_mut_ptr(), $t.own3.len(),
-                $($after,)*
-            )
-        }
-    };
-    ($gh:ident, ($($before:expr),*), $t:ident, ($($after:expr),*)) => {
-        unsafe {
-            $gh(
-                $($before,)*
-                $t.list.as_ptr(), $t.list.len(),
-                $t.first.as_ptr(), $t.first.len(),
-                $t.second.as_ptr(), $t.second.len(),
-                $t.third.as_ptr(), $t.third.len(),
-                $t.own2.as_ptr(), $t.own2.len(),
-                $t.own3.as_ptr(), $t.own3.len(),
-                $($after,)*
-            )
-        }
-    };
-}
-
 pub fn make(p1: u32, p2: u32, t: &mut Six) -> u64 {
-    call!(gh_make, (p1, p2), mut t, ())
+    raw::make(&mut t.lend_mut(p1, p2, 0))
 }
 
 pub fn load(p1: u32, p2: u32, input: &[u8], t: &mut Six) -> u64 {
-    call!(gh_load, (p1, p2, input.as_ptr(), input.len()), mut t, ())
+    raw::load(&mut t.lend_mut(p1, p2, 0), input)
 }
 
-pub fn announce(p1: u32, p2: u32, count: u32, t: &mut Six, addr: u32, len: u8, hop: u16) -> u64 {
-    call!(gh_announce, (p1, p2, count), mut t, (addr, len, hop))
+pub fn announce(p1: u32, p2: u32, count: u32, t: &mut Six, addr: u32, len: u32, hop: u32, mark: u32) -> u64 {
+    raw::announce(&mut t.lend_mut(p1, p2, count), addr, len, hop, mark)
 }
 
-pub fn withdraw(p1: u32, p2: u32, count: u32, t: &mut Six, addr: u32, len: u8) -> u64 {
-    call!(gh_withdraw, (p1, p2, count), mut t, (addr, len))
+pub fn withdraw(p1: u32, p2: u32, count: u32, t: &mut Six, addr: u32, len: u32) -> u64 {
+    raw::withdraw(&mut t.lend_mut(p1, p2, count), addr, len)
 }
 
 pub fn report(p1: u32, p2: u32, count: u32, t: &Six) -> u64 {
-    call!(gh_report, (p1, p2, count), t, ())
+    raw::report(&t.lend(p1, p2, count))
 }
 
 pub fn lookup(p1: u32, p2: u32, count: u32, t: &Six, addr: u32) -> u64 {
-    call!(gh_lookup, (p1, p2, count), t, (addr))
+    raw::lookup(&t.lend(p1, p2, count), addr)
 }
 
 pub fn lookup_many(p1: u32, p2: u32, count: u32, t: &Six, addrs: &[u32], out: &mut [u32]) -> u64 {
-    call!(gh_lookup_many, (p1, p2, count), t, (addrs.as_ptr(), addrs.len(), out.as_mut_ptr(), out.len()))
-}
-
-pub fn build(input: &[u8], words: &mut [u32], hops: &mut [u16]) -> u64 {
-    unsafe { gh_build(input.as_ptr(), input.len(), words.as_mut_ptr(), words.len(), hops.as_mut_ptr(), hops.len()) }
-}
-
-pub fn tree_lookup(words: &[u32], hops: &[u16], addr: u32) -> u64 {
-    unsafe { gh_tree_lookup(words.as_ptr(), words.len(), hops.as_ptr(), hops.len(), addr) }
-}
-
-pub fn run(input: &[u8], addr: u32, len: u8) -> u64 {
-    unsafe { gh_run(input.as_ptr(), input.len(), addr, len) }
-}
-
-pub fn tally(input: &[u8], out: &mut [u32]) -> u64 {
-    unsafe { gh_tally(input.as_ptr(), input.len(), out.as_mut_ptr(), out.len()) }
-}
-
-pub fn route(input: &[u8], index: u32) -> u64 {
-    unsafe { gh_route(input.as_ptr(), input.len(), index) }
+    raw::lookup_many(&t.lend(p1, p2, count), addrs, out)
 }

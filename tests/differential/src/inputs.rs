@@ -47,6 +47,9 @@ fn ask(run: &mut Run, rng: &mut Rng, field: &Field, routes: &[Route], input: &[u
         let told = || format!("call: run under {addr:08x}/{len} of {}", tell(input));
         run.calls += 1;
         run.answered("run", is, plain::run(input, addr, len), &told);
+        if is == 3 && len > 255 {
+            run.count("run", "wide length");
+        }
         if number(is) == 0 {
             run.count("run", if is >> 32 == 0 { "empty" } else { "some" });
         }
@@ -80,7 +83,12 @@ fn ask(run: &mut Run, rng: &mut Rng, field: &Field, routes: &[Route], input: &[u
             run.count("route", "none");
         } else if number(is) == 0 {
             // What is read back is the record itself.
-            let r = Route { addr: (is >> 32) as u32, len: (is >> 8) as u8, hop: (is >> 16) as u16 };
+            let r = Route {
+                addr: (is >> 32) as u32,
+                len: (is >> 8) as u8 & 0x7F,
+                hop: (is >> 16) as u16,
+                mark: (is >> 15) as u8 & 1,
+            };
             if r.record() != input[8 * index as usize..8 * index as usize + 8] {
                 run.fault("the route is not that of the record", &told);
             }

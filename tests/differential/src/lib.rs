@@ -1,4 +1,5 @@
-//! The plain implementation of document 01, and the random routes, inputs and damage that it is compared over.
+//! The plain implementation of documents 01 and 02, and the random routes, inputs and damage that it is compared over.
 
+pub mod basic;
 pub mod gen;
 pub mod plain;

@@ -10,6 +10,7 @@ mod damage;
 mod gh;
 mod images;
 mod inputs;
+mod maps;
 mod pair;
 mod run;
 mod tables;
@@ -64,9 +65,11 @@ fn episode(run: &mut Run) {
     match n % 100 {
         7 => tables::large(run, &mut rng, n / 100),
         57 => inputs::long(run, &mut rng),
+        77 => maps::long(run, &mut rng),
         k if k % 10 == 3 => inputs::episode(run, &mut rng),
         k if k % 10 == 6 => images::episode(run, &mut rng),
         k if k % 20 == 9 => images::wild(run, &mut rng),
+        k if k % 20 == 15 => maps::episode(run, &mut rng),
         _ => tables::episode(run, &mut rng),
     }
 }

@@ -10,8 +10,9 @@ use differential::plain::{self, number, records, Lent, Route};
 pub enum Call {
     Make,
     Load(Vec<u8>),
-    Announce(u32, u8, u16),
-    Withdraw(u32, u8),
+    /// Address, length, hop and mark, as wide as the boundary takes them.
+    Announce(u32, u32, u32, u32),
+    Withdraw(u32, u32),
     Report,
     /// The addresses, and the length of the array for the answers.
     LookupMany(Vec<u32>, usize),
@@ -62,7 +63,7 @@ impl Pair {
             Some(routes) => {
                 told += "standing:";
                 for r in routes.iter().take(64) {
-                    told += &format!(" {:08x}/{} to {};", r.addr, r.len, r.hop);
+                    told += &format!(" {:08x}/{} to {} mark {};", r.addr, r.len, r.hop, r.mark);
                 }
                 told += &format!(" {} in all", routes.len());
             }
@@ -89,9 +90,9 @@ impl Pair {
                 }
                 ("load", is, plain::load(p1, p2, input, &mut self.plain))
             }
-            Call::Announce(addr, len, hop) => {
-                let is = gh::announce(p1, p2, count, &mut self.library, *addr, *len, *hop);
-                ("announce", is, plain::announce(p1, p2, count, &mut self.plain, *addr, *len, *hop))
+            Call::Announce(addr, len, hop, mark) => {
+                let is = gh::announce(p1, p2, count, &mut self.library, *addr, *len, *hop, *mark);
+                ("announce", is, plain::announce(p1, p2, count, &mut self.plain, *addr, *len, *hop, *mark))
             }
             Call::Withdraw(addr, len) => {
                 let is = gh::withdraw(p1, p2, count, &mut self.library, *addr, *len);
@@ -115,6 +116,13 @@ impl Pair {
             }
         };
         run.answered(name, is, should, &|| self.tell(&format!("{call:?}")));
+        match (number(is), call) {
+            (3, Call::Announce(_, 256.., _, _)) => run.count("announce", "wide length"),
+            (4, Call::Announce(_, _, 65_536.., _)) => run.count("announce", "wide hop"),
+            (10, Call::Announce(_, _, _, 256..)) => run.count("announce", "wide mark"),
+            (3, Call::Withdraw(_, 256..)) => run.count("withdraw", "wide length"),
+            _ => {}
+        }
         if let Some(what) = self.library.differs(&self.plain) {
             run.fault(&what, &|| self.tell(&format!("{call:?}")));
         }
@@ -142,11 +150,15 @@ impl Pair {
             Call::Load(input) => {
                 standing = plain::check_input(input).expect("an accepted input is good");
             }
-            Call::Announce(addr, len, hop) => {
-                let route = Route { addr: *addr, len: *len, hop: *hop };
-                let replaced = match standing.iter_mut().find(|r| (r.addr, r.len) == (*addr, *len)) {
+            Call::Announce(given, len, hop, mark) => {
+                let addr = plain::cleared(*given, *len);
+                let route = Route { addr, len: *len as u8, hop: *hop as u16, mark: *mark as u8 };
+                let replaced = match standing.iter_mut().find(|r| (r.addr, r.len) == (addr, route.len)) {
                     Some(r) => {
-                        r.hop = *hop;
+                        if r.hop == route.hop && r.mark != route.mark {
+                            run.count("announce", "mark alone");
+                        }
+                        *r = route;
                         true
                     }
                     None => {
@@ -161,11 +173,20 @@ impl Pair {
                 if replaced {
                     run.count("announce", "replaced");
                 }
+                self.told_cleared(run, call, answer, *given != addr);
+                if *given != addr {
+                    run.count("announce", if replaced { "replaced and cleared" } else { "added and cleared" });
+                }
                 self.count_opened(run);
             }
-            Call::Withdraw(addr, len) => {
-                standing.retain(|r| (r.addr, r.len) != (*addr, *len));
-                if standing.iter().any(|r| r.len < *len && r.covers(*addr)) {
+            Call::Withdraw(given, len) => {
+                let addr = plain::cleared(*given, *len);
+                standing.retain(|r| (r.addr, r.len as u32) != (addr, *len));
+                self.told_cleared(run, call, answer, *given != addr);
+                if *given != addr {
+                    run.count("withdraw", "cleared");
+                }
+                if standing.iter().any(|r| (r.len as u32) < *len && r.covers(addr)) {
                     run.count("withdraw", "under a cover");
                 }
                 let fewer = |now: &[u32], was: &[u32]| used(now) < used(was);
@@ -187,6 +208,13 @@ impl Pair {
         }
         if self.count as usize != self.standing.as_ref().unwrap().len() {
             run.fault("the count is not that of the standing routes", &|| self.tell(&told));
+        }
+    }
+
+    /// Bit 9 of an accepted change tells whether bits after the length were cleared.
+    fn told_cleared(&self, run: &mut Run, call: &Call, answer: u64, cleared: bool) {
+        if (answer >> 9 & 1 == 1) != cleared {
+            run.fault("cleared is told wrongly", &|| self.tell(&format!("{call:?}")));
         }
     }
 

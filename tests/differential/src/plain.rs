@@ -39,12 +39,13 @@ fn accepted_tree_lookup(nodes: u64, hop: u16) -> u64 {
 
 // ---------------------------------------------------------------------------------------------------- routes
 
-/// A route: a prefix and a hop. Ordered by address and then length.
+/// A route: a prefix, a hop and a mark, 1 for an attached network (request d). Ordered by address and then length.
 #[derive(Clone, Copy, PartialEq, Eq, PartialOrd, Ord, Debug)]
 pub struct Route {
     pub addr: u32,
     pub len: u8,
     pub hop: u16,
+    pub mark: u8,
 }
 
 pub const HOP_MAX: u16 = 32_767;
@@ -71,17 +72,29 @@ impl Route {
     pub fn record(&self) -> [u8; 8] {
         let a = self.addr.to_be_bytes();
         let h = self.hop.to_be_bytes();
-        [a[0], a[1], a[2], a[3], self.len, 0, h[0], h[1]]
+        [a[0], a[1], a[2], a[3], self.len, self.mark, h[0], h[1]]
     }
 }
 
+// Lengths, hops and marks come in 32 bits wide, and none is cut before it is judged.
+
 /// Length at most 32, and every bit after the length zero.
-pub fn prefix_ok(addr: u32, len: u8) -> bool {
-    len <= 32 && (addr as u64) % (1u64 << (32 - len as u32)) == 0
+pub fn prefix_ok(addr: u32, len: u32) -> bool {
+    len <= 32 && (addr as u64) % (1u64 << (32 - len)) == 0
 }
 
-pub fn hop_ok(hop: u16) -> bool {
-    hop >= 1 && hop <= HOP_MAX
+/// The address with all bits after the length zero. The length is at most 32.
+pub fn cleared(addr: u32, len: u32) -> u32 {
+    (addr as u64 - addr as u64 % (1u64 << (32 - len))) as u32
+}
+
+pub fn hop_ok(hop: u32) -> bool {
+    hop >= 1 && hop <= HOP_MAX as u32
+}
+
+/// Request d: the sixth byte of a record is 0, or 1 for attached.
+pub fn mark_ok(mark: u32) -> bool {
+    mark <= 1
 }
 
 /// Records end to end.
@@ -89,7 +102,7 @@ pub fn records(routes: &[Route]) -> Vec<u8> {
     routes.iter().flat_map(|r| r.record()).collect()
 }
 
-/// The input checks: the length (10), then record by record 3, 4, spare (10), order (10), after that 6.
+/// The input checks: the length (10), then record by record 3, 4, mark (10), order (10), after that 6.
 pub fn check_input(input: &[u8]) -> Result<Vec<Route>, u64> {
     let whole = input.len() / 8;
     if input.len() % 8 != 0 {
@@ -102,14 +115,15 @@ pub fn check_input(input: &[u8]) -> Result<Vec<Route>, u64> {
             addr: u32::from_be_bytes([b[0], b[1], b[2], b[3]]),
             len: b[4],
             hop: u16::from_be_bytes([b[6], b[7]]),
+            mark: b[5],
         };
-        if !prefix_ok(route.addr, route.len) {
+        if !prefix_ok(route.addr, route.len as u32) {
             return Err(refused_at(3, k));
         }
-        if !hop_ok(route.hop) {
+        if !hop_ok(route.hop as u32) {
             return Err(refused_at(4, k));
         }
-        if b[5] != 0 {
+        if !mark_ok(route.mark as u32) {
             return Err(refused_at(10, k));
         }
         if let Some(last) = routes.last() {
@@ -126,7 +140,7 @@ pub fn check_input(input: &[u8]) -> Result<Vec<Route>, u64> {
 }
 
 /// The run under a prefix: every record of that length or longer inside it.
-pub fn run(input: &[u8], addr: u32, len: u8) -> u64 {
+pub fn run(input: &[u8], addr: u32, len: u32) -> u64 {
     let routes = match check_input(input) {
         Ok(routes) => routes,
         Err(answer) => return answer,
@@ -134,7 +148,8 @@ pub fn run(input: &[u8], addr: u32, len: u8) -> u64 {
     if !prefix_ok(addr, len) {
         return refused(3);
     }
-    let prefix = Route { addr, len, hop: 1 };
+    let len = len as u8;
+    let prefix = Route { addr, len, hop: 1, mark: 0 };
     let start = routes.iter().filter(|r| (r.addr, r.len) < (addr, len)).count();
     let inside: Vec<usize> =
         (0..routes.len()).filter(|&k| routes[k].len >= len && prefix.covers(routes[k].addr)).collect();
@@ -160,11 +175,11 @@ pub fn tally(input: &[u8], out: &mut [u32]) -> u64 {
     }
 }
 
-/// Reads a route back out of an input. An index beyond the end answers with all fields 0.
+/// Reads a route back out of an input, its mark in bit 15. An index beyond the end answers with all fields 0.
 pub fn route(input: &[u8], index: u32) -> u64 {
     match check_input(input) {
         Ok(routes) => match routes.get(index as usize) {
-            Some(r) => (r.len as u64) << 8 | (r.hop as u64) << 16 | (r.addr as u64) << 32,
+            Some(r) => (r.len as u64) << 8 | (r.mark as u64) << 15 | (r.hop as u64) << 16 | (r.addr as u64) << 32,
             None => 0,
         },
         Err(answer) => answer,
@@ -502,20 +517,41 @@ pub fn load(p1: u32, p2: u32, input: &[u8], lent: &mut Lent) -> u64 {
     })())
 }
 
-pub fn announce(p1: u32, p2: u32, count: u32, lent: &mut Lent, addr: u32, len: u8, hop: u16) -> u64 {
+/// Request b: "Announce and withdraw now clear the bits after the length"; "for announce and withdraw, 3 is now only a
+/// length over 32". Answers the cleared address and the length.
+fn check_prefix(addr: u32, len: u32) -> Result<(u32, u8), u64> {
+    if len > 32 {
+        return Err(refused(3));
+    }
+    Ok((cleared(addr, len), len as u8))
+}
+
+/// Bit 9 of an accepted answer: they "say in an accepted answer whether any were cleared".
+fn told_cleared(given: u32, prefix: u32) -> u64 {
+    ((given != prefix) as u64) << 9
+}
+
+/// Refusals 3, 4 and request d's: "announce meets 10 for a mark over 1, after 4 and before 5".
+fn check_route(addr: u32, len: u32, hop: u32, mark: u32) -> Result<Route, u64> {
+    let (addr, len) = check_prefix(addr, len)?;
+    if !hop_ok(hop) {
+        return Err(refused(4));
+    }
+    if !mark_ok(mark) {
+        return Err(refused(10));
+    }
+    Ok(Route { addr, len, hop: hop as u16, mark: mark as u8 })
+}
+
+/// Request d: "Announce takes the mark and a replacement replaces it with the hop."
+pub fn announce(p1: u32, p2: u32, count: u32, lent: &mut Lent, addr: u32, len: u32, hop: u32, mark: u32) -> u64 {
     either((|| {
         check_sizes(p1, p2, lent)?;
-        if !prefix_ok(addr, len) {
-            return Err(refused(3));
-        }
-        if !hop_ok(hop) {
-            return Err(refused(4));
-        }
+        let route = check_route(addr, len, hop, mark)?;
         let mut routes = sound(p1, p2, count, lent).ok_or(refused(5))?;
-        let route = Route { addr, len, hop };
-        let standing = routes.iter().position(|r| (r.addr, r.len) == (addr, len));
+        let standing = routes.iter().position(|r| (r.addr, r.len) == (route.addr, route.len));
         match standing {
-            Some(k) => routes[k].hop = hop,
+            Some(k) => routes[k] = route,
             None => {
                 if routes.len() == lent.room() {
                     return Err(refused(6));
@@ -527,22 +563,20 @@ pub fn announce(p1: u32, p2: u32, count: u32, lent: &mut Lent, addr: u32, len: u
             }
         }
         write_all(p1, p2, &routes, lent);
-        Ok(accepted_routes(routes.len()) | (standing.is_some() as u64) << 8)
+        Ok(accepted_routes(routes.len()) | (standing.is_some() as u64) << 8 | told_cleared(addr, route.addr))
     })())
 }
 
-pub fn withdraw(p1: u32, p2: u32, count: u32, lent: &mut Lent, addr: u32, len: u8) -> u64 {
+pub fn withdraw(p1: u32, p2: u32, count: u32, lent: &mut Lent, addr: u32, len: u32) -> u64 {
     either((|| {
         check_sizes(p1, p2, lent)?;
-        if !prefix_ok(addr, len) {
-            return Err(refused(3));
-        }
+        let (prefix, len) = check_prefix(addr, len)?;
         let mut routes = sound(p1, p2, count, lent).ok_or(refused(5))?;
-        let k = routes.iter().position(|r| (r.addr, r.len) == (addr, len)).ok_or(refused(9))?;
+        let k = routes.iter().position(|r| (r.addr, r.len) == (prefix, len)).ok_or(refused(9))?;
         routes.remove(k);
         close_unneeded(p1, p2, &routes, lent);
         write_all(p1, p2, &routes, lent);
-        Ok(accepted_routes(routes.len()))
+        Ok(accepted_routes(routes.len()) | told_cleared(addr, prefix))
     })())
 }
 
@@ -604,6 +638,29 @@ pub fn lookup_many(p1: u32, p2: u32, _count: u32, lent: &Lent, addrs: &[u32], ou
         *o = walk(p1, p2, lent, addr) as u32;
     }
     0
+}
+
+// ---------------------------------------------------------------------------------------------------- the printed text
+
+/// One line of the printing program: prefix and hop. Request d: it "adds ` attached` to such lines".
+pub fn line(r: &Route) -> String {
+    let [a, b, c, d] = r.addr.to_be_bytes();
+    let attached = if r.mark == 1 { " attached" } else { "" };
+    format!("{a}.{b}.{c}.{d}/{} {}{attached}\n", r.len, r.hop)
+}
+
+/// What the printing program prints for what stands on its standard input.
+pub fn printed(stdin: &[u8]) -> String {
+    let input = &stdin[..stdin.len().min(520)];
+    let mut lent = Lent::new(12, 22, 64, 4, 4);
+    let answer = load(12, 22, input, &mut lent);
+    if number(answer) != 0 {
+        let at = if answer >> 8 & 1 == 1 { format!(" at {}", answer >> 32) } else { String::new() };
+        return format!("refused {}{at}\n", number(answer));
+    }
+    let routes = check_input(input).expect("an accepted input is good");
+    let head = format!("routes {} second {} third {}\n", routes.len(), need(&routes, 12), need(&routes, 22));
+    head + &routes.iter().map(line).collect::<String>()
 }
 
 // ---------------------------------------------------------------------------------------------------- the tree image
@@ -707,7 +764,7 @@ pub fn tree_lookup(words: &[u32], hops: &[u16], addr: u32) -> u64 {
     }
     match deepest {
         None => accepted_tree_lookup(nodes, 0),
-        Some(place) if place < hops.len() as u64 && hop_ok(hops[place as usize]) => {
+        Some(place) if place < hops.len() as u64 && hop_ok(hops[place as usize] as u32) => {
             accepted_tree_lookup(nodes, hops[place as usize])
         }
         Some(_) => refused(13),

@@ -85,11 +85,11 @@ fn say(answer: u64) -> String {
 }
 
 /// What a run of full length meets. Numbers are refusals, 0 is accepted, `at` is with an index.
-const MUST_HAPPEN: [(&str, &str); 13] = [
+const MUST_HAPPEN: [(&str, &str); 16] = [
     ("make", "0, 1, 2"),
     ("load", "0, 1, 2, 3 at, 4 at, 6, 7, 8, 10 at"),
-    ("announce", "0, 1, 2, 3, 4, 5, 6, 7, 8, replaced, room and chunks full, second opened, third opened, hole filled"),
-    ("withdraw", "0, 1, 2, 3, 5, 9, second closed, third closed, under a cover"),
+    ("announce", "0, 1, 2, 3, 4, 5, 6, 7, 8, 10, replaced, added and cleared, replaced and cleared, mark alone, room and chunks full, second opened, third opened, hole filled, wide length, wide hop, wide mark"),
+    ("withdraw", "0, 1, 2, 3, 5, 9, cleared, second closed, third closed, under a cover, wide length"),
     ("report", "0, 1, 2, 5"),
     ("lookup", "0, 1, 2, 5, hop in 1, hop in 2, hop in 3, no route in 1, no route in 2, no route in 3"),
     ("lookup_many", "0, 1, 2"),
@@ -100,8 +100,11 @@ const MUST_HAPPEN: [(&str, &str); 13] = [
          no route in 1, no route in 2, no route in 3, no route in 4, no route in 5, no route in 6, no route in 7, \
          no route in 8, no route in 9",
     ),
-    ("run", "0, 3, 3 at, 4 at, 6, 10 at, empty, some"),
+    ("run", "0, 3, 3 at, 4 at, 6, 10 at, empty, some, wide length"),
     ("tally", "0, 2, 3 at, 4 at, 6, 10 at"),
     ("route", "0, 3 at, 4 at, 6, 10 at, none"),
+    ("basic_build", "0, 2, 3 at, 4 at, 6, 10 at"),
+    ("basic_lookup", "0, 2, 6, 10 at, 13, hop, no route, longer than 16"),
+    ("basic_lookup_many", "0, 2, 6, 10 at"),
     ("table", "damaged and not sound, chunks renumbered, 4096 second chunks, 4096 third chunks, 4096 routes"),
 ];

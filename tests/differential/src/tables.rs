@@ -3,7 +3,9 @@
 use crate::damage::{renumber, Harm};
 use crate::pair::{used, Call, Pair};
 use crate::run::Run;
-use differential::gen::{asked_prefix, cut, damaged_input, spread, tidy, Field, Rng};
+use differential::gen::{
+    asked_hop, asked_loose_prefix, asked_mark, cut, damaged_input, loose, mark, spread, tidy, wide, Field, Rng,
+};
 use differential::plain::{geometry_ok, need, number, records, size2, size3, Lent, Route};
 
 /// All geometries, the cheap and the named ones more often.
@@ -49,36 +51,45 @@ fn litter(rng: &mut Rng, t: &mut Lent) {
     t.own3.fill_with(&mut word);
 }
 
-/// A route to announce: a new one, a standing one with another hop, one that nests with a standing one, a bad one.
+/// A route to announce: a new one, a standing one with another hop, or with another mark alone, one that nests with a
+/// standing one, a bad one. One in three has loose bits after its length.
 fn to_announce(rng: &mut Rng, field: &Field, standing: &[Route]) -> Call {
+    if !standing.is_empty() && rng.one_in(16) {
+        let r = rng.pick(standing);
+        return Call::Announce(r.addr, r.len as u32, r.hop as u32, 1 - r.mark as u32);
+    }
     let (addr, len) = match rng.below(12) {
         0 | 1 if !standing.is_empty() => {
             let r = rng.pick(standing);
-            (r.addr, r.len)
+            (r.addr, r.len as u32)
         }
-        2 | 3 => asked_prefix(rng, field, standing),
+        2 | 3 => asked_loose_prefix(rng, field, standing),
         4 if !standing.is_empty() => {
             // A short route over standing ones, announced late.
             let r = *rng.pick(standing);
             let len = rng.below(r.len as usize + 1) as u32;
-            (cut(r.addr, len), len as u8)
+            (cut(r.addr, len), len)
         }
         _ => {
             let r = field.route(rng);
-            (r.addr, r.len)
+            (r.addr, r.len as u32)
         }
     };
-    let hop = if rng.one_in(20) { *rng.pick(&[0, 32_768, 65_535, 32_767]) } else { field.hop(rng) };
-    Call::Announce(addr, len, hop)
+    let addr = if rng.one_in(3) { loose(rng, addr, len) } else { addr };
+    let (hop, mark) = (asked_hop(rng, field), asked_mark(rng));
+    let hop = if rng.one_in(24) { wide(rng, hop & 0x7FFF, 16) } else { hop };
+    let mark = if rng.one_in(24) { wide(rng, mark & 1, 8) } else { mark };
+    Call::Announce(addr, len, hop, mark)
 }
 
 fn to_withdraw(rng: &mut Rng, field: &Field, standing: &[Route]) -> Call {
     if standing.is_empty() || rng.one_in(6) {
-        let (addr, len) = asked_prefix(rng, field, standing);
+        let (addr, len) = asked_loose_prefix(rng, field, standing);
         return Call::Withdraw(addr, len);
     }
     let r = rng.pick(standing);
-    Call::Withdraw(r.addr, r.len)
+    let addr = if rng.one_in(3) { loose(rng, r.addr, r.len as u32) } else { r.addr };
+    Call::Withdraw(addr, r.len as u32)
 }
 
 fn to_load(rng: &mut Rng, field: &Field, t: &Pair) -> Call {
@@ -95,7 +106,7 @@ fn to_load(rng: &mut Rng, field: &Field, t: &Pair) -> Call {
         // Enough long routes to want more chunks than there are.
         for _ in 0..rng.range(1, 6) {
             let len = *rng.pick(&[field.p1 + 1, field.p2, field.p2 + 1, 32]);
-            routes.push(Route { addr: cut(rng.word(), len), len: len as u8, hop: field.hop(rng) });
+            routes.push(Route { addr: cut(rng.word(), len), len: len as u8, hop: field.hop(rng), mark: mark(rng) });
         }
         tidy(&mut routes);
     }
@@ -149,7 +160,7 @@ pub fn episode(run: &mut Run, rng: &mut Rng) {
         t.step(run, &Call::Make);
         while !filling.is_empty() {
             let r = filling.swap_remove(rng.below(filling.len()));
-            t.step(run, &Call::Announce(r.addr, r.len, r.hop));
+            t.step(run, &Call::Announce(r.addr, r.len as u32, r.hop as u32, r.mark as u32));
         }
     }
     let mut growing = true;
@@ -200,11 +211,13 @@ fn one_step(run: &mut Run, rng: &mut Rng, field: &Field, t: &mut Pair, growing: 
         _ => {
             // A sure refusal in each of the orders that the document fixes.
             let r = field.route(rng);
-            let bad_len = *rng.pick(&[33, 64, 255]);
-            let bad_hop = *rng.pick(&[0, 32_768]);
+            let bad_len = *rng.pick(&[33, 64, 255, 256, 280, u32::MAX]);
+            let bad_hop = *rng.pick(&[0, 32_768, 65_536, 65_580, u32::MAX]);
+            let bad_mark = *rng.pick(&[2, 255, 256, 257, u32::MAX]);
             for call in [
-                Call::Announce(r.addr, bad_len, bad_hop),
-                Call::Announce(r.addr, r.len, bad_hop),
+                Call::Announce(r.addr, bad_len, bad_hop, bad_mark),
+                Call::Announce(r.addr, r.len as u32, bad_hop, bad_mark),
+                Call::Announce(r.addr, r.len as u32, r.hop as u32, bad_mark),
                 Call::Withdraw(r.addr, bad_len),
             ] {
                 t.step(run, &call);
@@ -254,7 +267,7 @@ fn odd_calls(run: &mut Run, rng: &mut Rng, field: &Field, mut odd: Pair, standin
         let call = match rng.below(8) {
             0 => Call::Make,
             1 => Call::Load(records(standing)),
-            2 => Call::Announce(1, 8, 0),
+            2 => Call::Announce(1, 8, 0, 2),
             3 => Call::Withdraw(1, 8),
             _ => any_call(rng, field, &odd, standing),
         };
@@ -378,7 +391,12 @@ pub fn large(run: &mut Run, rng: &mut Rng, kind: u64) {
         0 => {
             // Every second and every third chunk is wanted: one long route under each first cell.
             let routes: Vec<Route> = (0..4096u32)
-                .map(|i| Route { addr: i << 20 | (rng.word() >> 12), len: 32, hop: rng.range(1, 99) as u16 })
+                .map(|i| Route {
+                    addr: i << 20 | (rng.word() >> 12),
+                    len: 32,
+                    hop: rng.range(1, 99) as u16,
+                    mark: mark(rng),
+                })
                 .collect();
             (12, 22, 4096, 4096, routes)
         }
@@ -391,7 +409,7 @@ pub fn large(run: &mut Run, rng: &mut Rng, kind: u64) {
                     let len = rng.range(17, 32) as u32;
                     let keep = rng.range(12, 20) as u32;
                     let addr = cut(near, keep) | (rng.word() & !cut(u32::MAX, keep));
-                    Route { addr: cut(addr, len), len: len as u8, hop: rng.range(1, 9) as u16 }
+                    Route { addr: cut(addr, len), len: len as u8, hop: rng.range(1, 9) as u16, mark: mark(rng) }
                 })
                 .collect();
             tidy(&mut routes);
@@ -425,12 +443,12 @@ pub fn large(run: &mut Run, rng: &mut Rng, kind: u64) {
             1 => to_withdraw(rng, &field, &standing),
             2 => {
                 let r = *rng.pick(&standing);
-                Call::Withdraw(r.addr, r.len)
+                Call::Withdraw(r.addr, r.len as u32)
             }
             _ => {
                 // Room and chunks were just freed.
                 let r = *rng.pick(&standing);
-                Call::Announce(r.addr ^ 1 << (32 - p1), 32, 7)
+                Call::Announce(r.addr ^ 1 << (32 - p1), 32, 7, 1)
             }
         };
         t.step(run, &call);

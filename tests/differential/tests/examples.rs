@@ -9,7 +9,7 @@ fn ip(a: u8, b: u8, c: u8, d: u8) -> u32 {
 }
 
 fn to(addr: u32, len: u8, hop: u16) -> Route {
-    Route { addr, len, hop }
+    Route { addr, len, hop, mark: 0 }
 }
 
 fn list_a() -> Vec<Route> {
@@ -245,7 +245,7 @@ fn sizes() {
         assert_eq!(make(12, 22, &mut t), 2, "{k}");
         assert_eq!(report(12, 22, 0, &t), 2, "{k}");
         assert_eq!(lookup(12, 22, 0, &t, 0), 2, "{k}");
-        assert_eq!(announce(12, 22, 0, &mut t, 1, 33, 0), 2, "{k}");
+        assert_eq!(announce(12, 22, 0, &mut t, 1, 33, 0, 0), 2, "{k}");
         assert_eq!(t, before);
     }
     let mut t = Lent::new(12, 22, 4096, 0, 4096);
@@ -256,39 +256,46 @@ fn sizes() {
 fn prefixes_and_hops() {
     let mut t = Lent::new(12, 22, 4, 1, 1);
     make(12, 22, &mut t);
-    assert_eq!(announce(12, 22, 0, &mut t, 0, 33, 0), 3);
-    assert_eq!(announce(12, 22, 0, &mut t, 1, 31, 0), 3);
-    assert_eq!(announce(12, 22, 0, &mut t, 0, 0, 0), 4);
-    assert_eq!(announce(12, 22, 0, &mut t, 0, 0, 32_768), 4);
-    assert_eq!(announce(12, 22, 0, &mut t, 0, 0, 32_767), routes_after(1));
-    assert_eq!(announce(12, 22, 1, &mut t, 0, 0, 5), routes_after(1) | 1 << 8);
+    assert_eq!(announce(12, 22, 0, &mut t, 0, 33, 0, 0), 3);
+    // A bit after the length is cleared (request b), so the hop is judged.
+    assert_eq!(announce(12, 22, 0, &mut t, 1, 31, 0, 0), 4);
+    assert_eq!(announce(12, 22, 0, &mut t, 0, 0, 0, 0), 4);
+    assert_eq!(announce(12, 22, 0, &mut t, 0, 0, 32_768, 0), 4);
+    assert_eq!(announce(12, 22, 0, &mut t, 0, 0, 32_767, 0), routes_after(1));
+    assert_eq!(announce(12, 22, 1, &mut t, 0, 0, 5, 0), routes_after(1) | 1 << 8);
     assert_eq!(lookup(12, 22, 1, &t, 77), found(5, 1));
     // The count is more than the room, or past it stand other bytes than zero.
-    assert_eq!(announce(12, 22, 5, &mut t, 0, 0, 5), 5);
-    assert_eq!(announce(12, 22, 0, &mut t, 0, 0, 5), 5);
+    assert_eq!(announce(12, 22, 5, &mut t, 0, 0, 5, 0), 5);
+    assert_eq!(announce(12, 22, 0, &mut t, 0, 0, 5, 0), 5);
     assert_eq!(withdraw(12, 22, 5, &mut t, 0, 33), 3);
+    // A number that does not fit its field is over its limit, whatever its low bits are.
+    assert_eq!(announce(12, 22, 0, &mut t, 0, 256, 5, 0), 3);
+    assert_eq!(announce(12, 22, 0, &mut t, 0, 0, 65_541, 0), 4);
+    assert_eq!(announce(12, 22, 0, &mut t, 0, 0, 5, 257), 10);
+    assert_eq!(withdraw(12, 22, 0, &mut t, 0, 256), 3);
+    assert_eq!(run(&records(&list_a()), ip(10, 1, 0, 0), 272), 3);
 }
 
 #[test]
 fn a_pool_of_one_chunk() {
     let mut t = Lent::new(16, 24, 4, 1, 1);
     make(16, 24, &mut t);
-    assert_eq!(announce(16, 24, 0, &mut t, ip(10, 1, 2, 0), 24, 3), routes_after(1));
+    assert_eq!(announce(16, 24, 0, &mut t, ip(10, 1, 2, 0), 24, 3, 0), routes_after(1));
     assert_eq!(t.first[2561], 1);
     let before = t.clone();
-    assert_eq!(announce(16, 24, 1, &mut t, ip(10, 2, 2, 0), 24, 4), 7);
+    assert_eq!(announce(16, 24, 1, &mut t, ip(10, 2, 2, 0), 24, 4, 0), 7);
     assert_eq!(t, before);
     assert_eq!(withdraw(16, 24, 1, &mut t, ip(10, 1, 2, 0), 24), routes_after(0));
-    assert_eq!(announce(16, 24, 0, &mut t, ip(10, 2, 2, 0), 24, 4), routes_after(1));
+    assert_eq!(announce(16, 24, 0, &mut t, ip(10, 2, 2, 0), 24, 4, 0), routes_after(1));
     assert_eq!((t.first[2562], t.own2[0]), (1, 2563));
     // The third pool, and the list's room, in their order.
-    assert_eq!(announce(16, 24, 1, &mut t, ip(10, 2, 3, 0), 25, 4), routes_after(2));
-    assert_eq!(announce(16, 24, 2, &mut t, ip(10, 2, 4, 0), 25, 4), 8);
-    assert_eq!(announce(16, 24, 2, &mut t, ip(10, 3, 4, 0), 25, 4), 7);
-    assert_eq!(announce(16, 24, 2, &mut t, 0, 0, 4), routes_after(3));
-    assert_eq!(announce(16, 24, 3, &mut t, 0, 1, 4), routes_after(4));
-    assert_eq!(announce(16, 24, 4, &mut t, ip(10, 3, 4, 0), 25, 4), 6);
-    assert_eq!(announce(16, 24, 4, &mut t, ip(10, 2, 3, 0), 25, 9), routes_after(4) | 1 << 8);
+    assert_eq!(announce(16, 24, 1, &mut t, ip(10, 2, 3, 0), 25, 4, 0), routes_after(2));
+    assert_eq!(announce(16, 24, 2, &mut t, ip(10, 2, 4, 0), 25, 4, 0), 8);
+    assert_eq!(announce(16, 24, 2, &mut t, ip(10, 3, 4, 0), 25, 4, 0), 7);
+    assert_eq!(announce(16, 24, 2, &mut t, 0, 0, 4, 0), routes_after(3));
+    assert_eq!(announce(16, 24, 3, &mut t, 0, 1, 4, 0), routes_after(4));
+    assert_eq!(announce(16, 24, 4, &mut t, ip(10, 3, 4, 0), 25, 4, 0), 6);
+    assert_eq!(announce(16, 24, 4, &mut t, ip(10, 2, 3, 0), 25, 9, 0), routes_after(4) | 1 << 8);
 }
 
 #[test]
@@ -296,14 +303,14 @@ fn slips_that_the_document_names() {
     let mut t = Lent::new(16, 24, 8, 2, 2);
     make(16, 24, &mut t);
     // A short route announced late leaves the longer one's leaves.
-    announce(16, 24, 0, &mut t, ip(10, 1, 0, 0), 16, 1);
-    announce(16, 24, 1, &mut t, ip(10, 0, 0, 0), 8, 2);
+    announce(16, 24, 0, &mut t, ip(10, 1, 0, 0), 16, 1, 0);
+    announce(16, 24, 1, &mut t, ip(10, 0, 0, 0), 8, 2, 0);
     assert_eq!(lookup(16, 24, 2, &t, ip(10, 1, 0, 1)), found(1, 1));
     // A withdrawal under a cover leaves the cover.
     withdraw(16, 24, 2, &mut t, ip(10, 1, 0, 0), 16);
     assert_eq!(lookup(16, 24, 1, &t, ip(10, 1, 0, 1)), found(2, 1));
     // A route of length 32, at the last address.
-    announce(16, 24, 1, &mut t, u32::MAX, 32, 3);
+    announce(16, 24, 1, &mut t, u32::MAX, 32, 3, 0);
     assert_eq!(lookup(16, 24, 2, &t, u32::MAX), found(3, 3));
     assert_eq!(lookup(16, 24, 2, &t, u32::MAX - 1), found(0, 3));
 }
@@ -326,19 +333,19 @@ fn inputs() {
     assert_eq!(with(&[a, b], |x| x[7] = 0), Err(refused_at(4, 0)));
     assert_eq!(with(&[a, b], |x| x[6] = 0x80), Err(refused_at(4, 0)));
     assert_eq!(with(&[a, b], |x| x[6] = 0x7F), Ok(vec![to(a.addr, 8, 0x7F01), b]));
-    assert_eq!(with(&[a, b], |x| x[5] = 1), Err(refused_at(10, 0)));
-    // In one record 3 comes before 4, and 4 before the spare byte and the order.
-    assert_eq!(with(&[b, a], |x| (x[12], x[15], x[13]) = (33, 0, 1)), Err(refused_at(3, 1)));
-    assert_eq!(with(&[b, a], |x| (x[15], x[13]) = (0, 1)), Err(refused_at(4, 1)));
+    assert_eq!(with(&[a, b], |x| x[5] = 2), Err(refused_at(10, 0)));
+    // In one record 3 comes before 4, and 4 before the mark and the order.
+    assert_eq!(with(&[b, a], |x| (x[12], x[15], x[13]) = (33, 0, 2)), Err(refused_at(3, 1)));
+    assert_eq!(with(&[b, a], |x| (x[15], x[13]) = (0, 2)), Err(refused_at(4, 1)));
     // The earlier record comes first, and the length before all records.
-    assert_eq!(with(&[a, b], |x| (x[5], x[12]) = (1, 33)), Err(refused_at(10, 0)));
+    assert_eq!(with(&[a, b], |x| (x[5], x[12]) = (2, 33)), Err(refused_at(10, 0)));
     assert_eq!(check_input(&[0xFF; 15]), Err(refused_at(10, 1)));
     // Too many records: only after each of them has passed.
     let many: Vec<Route> = (0..4097).map(|k| to(k << 8, 24, 1)).collect();
     assert!(check_input(&records(&many[..4096])).is_ok());
     assert_eq!(check_input(&records(&many)), Err(6));
     let mut input = records(&many);
-    input[8 * 4096 + 5] = 1;
+    input[8 * 4096 + 5] = 2;
     assert_eq!(check_input(&input), Err(refused_at(10, 4096)));
     // Load: more than the room, and then the needs.
     let mut t = Lent::new(16, 24, 1, 0, 0);
@@ -415,7 +422,7 @@ fn sound_as_the_document_says() {
         let mut count = 0;
         for _ in 0..16 {
             let r = field.route(&mut rng);
-            let answer = announce(p1, p2, count, &mut t, r.addr, r.len, r.hop);
+            let answer = announce(p1, p2, count, &mut t, r.addr, r.len as u32, r.hop as u32, r.mark as u32);
             if number(answer) == 0 {
                 count = (answer >> 16) as u32 & 0xFFFF;
             }
@@ -476,13 +483,13 @@ fn runs_of_calls() {
             let before = t.clone();
             let answer = if rng.one_in(3) && !standing.is_empty() {
                 let r = standing[rng.below(standing.len())];
-                let answer = withdraw(p1, p2, count, &mut t, r.addr, r.len);
+                let answer = withdraw(p1, p2, count, &mut t, r.addr, r.len as u32);
                 assert_eq!(number(answer), 0);
                 standing.retain(|s| (s.addr, s.len) != (r.addr, r.len));
                 answer
             } else {
                 let r = field.route(&mut rng);
-                let answer = announce(p1, p2, count, &mut t, r.addr, r.len, r.hop);
+                let answer = announce(p1, p2, count, &mut t, r.addr, r.len as u32, r.hop as u32, r.mark as u32);
                 if number(answer) == 0 {
                     standing.retain(|s| (s.addr, s.len) != (r.addr, r.len));
                     standing.push(r);
@@ -505,7 +512,7 @@ fn runs_of_calls() {
         let mut announced = Lent::new(p1, p2, room, second, third);
         make(p1, p2, &mut announced);
         for (k, r) in standing.iter().enumerate() {
-            announce(p1, p2, k as u32, &mut announced, r.addr, r.len, r.hop);
+            announce(p1, p2, k as u32, &mut announced, r.addr, r.len as u32, r.hop as u32, r.mark as u32);
         }
         assert_eq!(loaded, announced);
 

@@ -1,4 +1,4 @@
--- `packing::announced` meets its contract. Assumes nothing.
+-- `packing::announced`: each case of the answer by its values.
 use mathlib.Core.Path.{ap}
 use native.Mathlib.Omega.{arith}
 use Rattle.sail_announce.specs.Answers.{saysAnnounce}
@@ -19,9 +19,7 @@ announced-spec =
     (λ c. search needs)
     (λ c κs. search needs)
     (λ c. search needs)
-    (λ c. search needs)
-    (λ c. search needs)
     (λ c κs. search needs)
-    (λ c. omega (arith, ap (λ (x : Announce). packChange (c .before .before .before .args .count) (saysAnnounce x)) (c .before .enum-told .given .1)))
-    (λ c. omega (arith, ap (λ (x : Announce). packChange (c .before .before .before .args .count) (saysAnnounce x)) (c .before .enum-told2 .given .1)))
-    (λ c. omega (arith, ap (λ (x : Announce). packChange (c .before .before .before .before .args .count) (saysAnnounce x)) (c .before .before .a .given .1))))
+    (λ c. omega (arith, ap (λ (x : Announce). packChange (c .before .before .before .before .args .count) (saysAnnounce x)) (c .before .before .a .given .1)))
+    (λ c. omega (arith, ap (λ (x : Announce). packChange (c .before .before .before .before .args .count) (saysAnnounce x)) (c .before .before .a2 .given .1)))
+    (λ c. omega (arith, ap (λ (x : Announce). packChange (c .before .before .before .before .args .count) (saysAnnounce x)) (c .before .before .a3 .given .1))))

@@ -1,10 +1,11 @@
--- `packing::got` meets its contract. Assumes nothing.
+-- `packing::got`: the four numbers of a route have room, and stand where the layout has them.
 use mathlib.Core.Path.{ap}
 use native.Mathlib.Omega.{arith}
 use Rattle.routes.specs.Answers.{saysGot}
 use Rattle.routes.specs.declared.input.Got.{Got}
 use Rattle.sail.specs.Word.{packed}
 use Rattle.packing.specs.Pack.{packRoute}
+use Rattle.packing.proofs.Reports.{route-packs}
 use borrow.Author.Needs.{needs}
 use Rattle.packing.proofs.got.Statement.{statement}
 use Rattle.packing.proofs.got.Tie as tie
@@ -23,11 +24,14 @@ got-spec =
     (λ c κs. search needs)
     (λ c. search needs)
     (λ c. search needs)
+    (λ c κs. search needs)
+    (λ c. search needs)
+    (λ c. search needs)
     (λ c. search needs)
     (λ c. search needs)
     (λ c κs. search needs)
     (λ c. search needs)
-    (λ c. omega (arith, ap (λ (x : Got). packRoute (saysGot x)) (c .before .before .before .before .a .given .1)))
+    (λ c. route-packs _ _ _ _ _ _ (c .before .before .before .before .before .a .given .1) (c .before .before .before .byte .ensures .0) (c .before .before .byte2 .ensures .0) (c .before .half .ensures .0) (c .word .ensures .0))
     (λ c. omega (arith, ap (λ (x : Got). packRoute (saysGot x)) (c .enum-told .given .1)))
     (λ c. omega (arith, ap (λ (x : Got). packRoute (saysGot x)) (c .before .before .a2 .given .1)))
     (λ c. omega (arith, ap (λ (x : Got). packRoute (saysGot x)) (c .enum-told2 .given .1))))

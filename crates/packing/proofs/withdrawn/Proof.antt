@@ -1,4 +1,4 @@
--- `packing::withdrawn` meets its contract. Assumes nothing.
+-- `packing::withdrawn`: each case of the answer by its values.
 use mathlib.Core.Path.{ap}
 use native.Mathlib.Omega.{arith}
 use Rattle.sail_withdraw.specs.Answers.{saysWithdraw}
@@ -18,5 +18,5 @@ withdrawn-spec =
     (λ c κs. search needs)
     (λ c. search needs)
     (λ c κs. search needs)
-    (λ c. omega (arith, ap (λ (x : Withdraw). packChange (c .before .before .before .args .count) (saysWithdraw x)) (c .before .enum-told .given .1)))
-    (λ c. omega (arith, ap (λ (x : Withdraw). packChange (c .before .before .before .before .args .count) (saysWithdraw x)) (c .before .before .a .given .1))))
+    (λ c. omega (arith, ap (λ (x : Withdraw). packChange (c .before .before .before .before .args .count) (saysWithdraw x)) (c .before .before .a .given .1)))
+    (λ c. omega (arith, ap (λ (x : Withdraw). packChange (c .before .before .before .before .args .count) (saysWithdraw x)) (c .before .before .a2 .given .1))))

@@ -1,13 +1,32 @@
--- `sail_announce::announce` meets its contract. Assumes nothing.
+-- `sail_announce::announce`: the address is cleared, the route judged, and then it is refused or added.
 use mathlib.Core.Path.{refl}
-use Rattle.sail_announce.proofs.Adds.{announce-refused}
+use borrow.Author.Needs.{needs}
+use Rattle.sail_announce.proofs.Adds.{announce-refused, announce-cleared}
 use Rattle.sail_announce.proofs.announce.Statement.{statement}
 use Rattle.sail_announce.proofs.announce.Tie as tie
+
+returns : tie.Need-returns
+returns c =
+    let judged = c .before in
+    let clear = judged .before .before .before .before .before .before .before in
+    announce-refused _ _ _ _ _ _ _ (clear .clear .ensures) _ (judged .judge-announce .ensures) (c .if1 .taken)
+
+add-requires : tie.Need-add-requires
+add-requires c κs =
+    let judged = c .before .before .before .before .before .before .before in
+    judged .judge-announce .ensures .on (c .before .before .before .before .before .before .if1 .left)
+
+returns-2 : tie.Need-returns-2
+returns-2 c =
+    let added = c .before .before .before .before .before .before .before .before .before .before .before .before in
+    let clear = added .before .before .before .before .before .before .before .before .before .before .before .before .before .before .before in
+    announce-cleared _ _ _ _ _ _ _ (clear .clear .ensures) _ refl _ (added .add .ensures)
 
 pub announce-spec : {M : Type 1} → statement M
 announce-spec =
     tie.close
     (tie.spec
+    (λ c κs. search needs)
     (λ c κs. tt)
     (λ c. refl)
     (λ c. refl)
@@ -15,12 +34,12 @@ announce-spec =
     (λ c. refl)
     (λ c. refl)
     (λ c. refl)
-    (λ c. announce-refused _ _ _ _ _ _ (c .before .judge-announce .ensures) (c .if1 .taken))
-    (λ c κs. c .before .before .before .before .before .before .before .judge-announce .ensures .on (c .before .before .before .before .before .before .if1 .left))
+    returns
+    add-requires
     (λ c. c .before .before .before .before .before .before .before .before .before .before .before .before .add .kept .1 .0)
     (λ c. c .before .before .before .before .before .before .before .before .before .before .before .before .add .kept .1 .1 .0)
     (λ c. c .before .before .before .before .before .before .before .before .before .before .before .before .add .kept .1 .1 .1 .0)
     (λ c. c .before .before .before .before .before .before .before .before .before .before .before .before .add .kept .1 .1 .1 .1 .0)
     (λ c. c .before .before .before .before .before .before .before .before .before .before .before .before .add .kept .1 .1 .1 .1 .1 .0)
     (λ c. c .before .before .before .before .before .before .before .before .before .before .before .before .add .kept .1 .1 .1 .1 .1 .1 .0)
-    (λ c. c .before .before .before .before .before .before .before .before .before .before .before .before .add .ensures))
+    returns-2)

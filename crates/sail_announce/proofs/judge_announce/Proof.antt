@@ -1,5 +1,5 @@
 -- `sail_announce::judge_announce` meets its contract. Assumes nothing.
-use Rattle.sail_announce.proofs.Judges.{judge-sizes, judge-prefix, judge-hop, judge-sound, judge-proper}
+use Rattle.sail_announce.proofs.Judges.{judge-sizes, judge-route, judge-sound, judge-proper}
 use borrow.Author.Needs.{needs}
 use Rattle.sail_announce.proofs.judge_announce.Statement.{statement}
 use Rattle.sail_announce.proofs.judge_announce.Tie as tie
@@ -11,10 +11,8 @@ judge-announce-spec =
     (λ c κs. search needs)
     (λ c. search judge-sizes)
     (λ c κs. search needs)
-    (λ c. search judge-prefix)
-    (λ c κs. search needs)
-    (λ c. search judge-hop)
-    (λ c κs. c .before .before .before .before .before .sizes .ensures .facts (c .before .before .before .before .if1 .left))
+    (λ c. search judge-route)
+    (λ c κs. c .before .before .before .sizes .ensures .facts (c .before .before .if1 .left))
     (λ c. search judge-sound)
-    (λ c κs. judge-proper _ _ _ _ _ _ (c .before .before .before .before .before .before .before .sizes .ensures) (c .before .before .before .before .before .before .if1 .left) _ (c .before .before .before .before .before .prefix-ok .ensures) (c .before .before .before .before .if2 .left) _ (c .before .before .before .hop-ok .ensures) (c .before .before .if3 .left) _ (c .before .sound .ensures) (c .if4 .left))
+    (λ c κs. judge-proper _ _ _ _ (c .before .before .before .before .before .sizes .ensures) (c .before .before .before .before .if1 .left) _ (c .before .before .before .route-fault .ensures) (c .before .before .if2 .left) _ (c .before .sound .ensures) (c .if3 .left))
     (λ c. search needs))

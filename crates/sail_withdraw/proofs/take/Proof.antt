@@ -29,4 +29,4 @@ take-spec =
     (λ c. c .before .before .before .before .before .before .before .before .before .before .before .before .before .before .before .before .before .before .before .before .before .before .before .before .before .before .close-alone .kept .1 .1 .1 .1 .1 .1 .1 .0)
     (λ c. c .before .before .before .before .before .before .before .before .before .before .before .before .before .before .before .before .before .before .close-alone2 .kept .1 .1 .1 .1 .1 .1 .1 .0)
     (λ c. let r = c .before .before .before .before .before .before in let y = r .before .before .before .before .before .before .before .before .before .before .before .before in let x = y .before .before .before .before .before .before .before .before in let m = x .before .before .before .before .before .before in let f = m .before .before in let s = f .before .before .before .before .before .before .before .before .before .before .before .before .before .before in
-    take-done _ _ _ _ (s .pre) _ _ (m .remove .ensures) _ _ (f .follow .ensures) _ _ _ _ (x .close-alone .ensures .0) (x .close-alone .ensures .1) (y .close-alone2 .ensures .0) (y .close-alone2 .ensures .1) _ _ _ (r .renew .ensures)))
+    take-done _ _ _ _ (s .pre) _ _ (m .remove .ensures) _ _ (f .follow .ensures) _ _ _ _ (x .close-alone .ensures .0) (x .close-alone .ensures .1) (y .close-alone2 .ensures .0) (y .close-alone2 .ensures .1) _ _ _ (r .renew .ensures) _))

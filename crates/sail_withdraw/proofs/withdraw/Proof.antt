@@ -1,13 +1,32 @@
--- `sail_withdraw::withdraw` meets its contract. Assumes nothing.
+-- `sail_withdraw::withdraw`: the address is cleared, the prefix judged, and then it is refused or taken.
 use mathlib.Core.Path.{refl}
-use Rattle.sail_withdraw.proofs.Takes.{withdraw-refused}
+use borrow.Author.Needs.{needs}
+use Rattle.sail_withdraw.proofs.Takes.{withdraw-refused, withdraw-cleared}
 use Rattle.sail_withdraw.proofs.withdraw.Statement.{statement}
 use Rattle.sail_withdraw.proofs.withdraw.Tie as tie
+
+returns : tie.Need-returns
+returns c =
+    let judged = c .before in
+    let clear = judged .before .before .before .before .before .before .before in
+    withdraw-refused _ _ _ _ _ (clear .clear .ensures) _ (judged .judge-withdraw .ensures) (c .if1 .taken)
+
+take-requires : tie.Need-take-requires
+take-requires c κs =
+    let judged = c .before .before .before .before .before .before .before in
+    judged .judge-withdraw .ensures .on (c .before .before .before .before .before .before .if1 .left)
+
+returns-2 : tie.Need-returns-2
+returns-2 c =
+    let taken = c .before .before .before .before .before .before .before .before .before .before .before .before in
+    let clear = taken .before .before .before .before .before .before .before .before .before .before .before .before .before .before .before in
+    withdraw-cleared _ _ _ _ _ (clear .clear .ensures) _ refl _ (taken .take .ensures)
 
 pub withdraw-spec : {M : Type 1} → statement M
 withdraw-spec =
     tie.close
     (tie.spec
+    (λ c κs. search needs)
     (λ c κs. tt)
     (λ c. refl)
     (λ c. refl)
@@ -15,12 +34,12 @@ withdraw-spec =
     (λ c. refl)
     (λ c. refl)
     (λ c. refl)
-    (λ c. withdraw-refused _ _ _ _ _ (c .before .judge-withdraw .ensures) (c .if1 .taken))
-    (λ c κs. c .before .before .before .before .before .before .before .judge-withdraw .ensures .on (c .before .before .before .before .before .before .if1 .left))
+    returns
+    take-requires
     (λ c. c .before .before .before .before .before .before .before .before .before .before .before .before .take .kept .1 .0)
     (λ c. c .before .before .before .before .before .before .before .before .before .before .before .before .take .kept .1 .1 .0)
     (λ c. c .before .before .before .before .before .before .before .before .before .before .before .before .take .kept .1 .1 .1 .0)
     (λ c. c .before .before .before .before .before .before .before .before .before .before .before .before .take .kept .1 .1 .1 .1 .0)
     (λ c. c .before .before .before .before .before .before .before .before .before .before .before .before .take .kept .1 .1 .1 .1 .1 .0)
     (λ c. c .before .before .before .before .before .before .before .before .before .before .before .before .take .kept .1 .1 .1 .1 .1 .1 .0)
-    (λ c. c .before .before .before .before .before .before .before .before .before .before .before .before .take .ensures))
+    returns-2)

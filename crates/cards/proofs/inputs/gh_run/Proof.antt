@@ -1,6 +1,7 @@
--- `cards::inputs::gh_run` meets its contract. Assumes nothing.
+-- `cards::inputs::gh_run`: its length is narrowed, which changes nothing that the call says.
 use mathlib.Core.Path.{ap, _∙_}
 use Rattle.packing.specs.Pack.{packRun}
+use Rattle.cards.proofs.Narrow.{run-narrow}
 use borrow.Author.Needs.{needs}
 use Rattle.cards.proofs.inputs.gh_run.Statement.{statement}
 use Rattle.cards.proofs.inputs.gh_run.Tie as tie
@@ -11,4 +12,5 @@ gh-run-spec =
     (tie.spec
     (λ c κs. search needs)
     (λ c κs. search needs)
-    (λ c. c .run .ensures ∙ ap packRun (c .before .run-check .ensures)))
+    (λ c κs. search needs)
+    (λ c. c .run .ensures ∙ ap packRun (c .before .run-check .ensures ∙ run-narrow _ _ _ _ (c .before .before .narrow8 .ensures))))

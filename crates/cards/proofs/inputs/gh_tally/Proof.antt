@@ -3,7 +3,8 @@ use native.Mathlib.Omega.{arith}
 use Prim.Native.Nat.{ℕ, _+_, _-_, _≤_, _<_}
 use mathlib.Core.Path.{_≡_, refl, sym, ap, _∙_}
 use lib.ListN.{length, getD, length-set}
-use Rattle.cards.proofs.Laws.{tally-short, tally-all, tally-length, stored-more}
+use Rattle.bits.proofs.Tabs.{stored-more}
+use Rattle.cards.proofs.Laws.{tally-short, tally-all, tally-length}
 use borrow.Author.Needs.{needs}
 use Rattle.cards.proofs.inputs.gh_tally.Statement.{statement}
 use Rattle.cards.proofs.inputs.gh_tally.Tie as tie

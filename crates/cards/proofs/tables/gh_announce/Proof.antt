@@ -1,19 +1,24 @@
--- `cards::tables::gh_announce` meets its contract. Assumes nothing.
-use Rattle.cards.proofs.Laws.{card-is}
-use borrow.Author.Needs.{needs}
+-- `cards::tables::gh_announce`: its length, its hop and its mark are narrowed, which changes nothing that the call says or leaves.
+use Rattle.cards.proofs.Laws.{announce-card}
 use Rattle.cards.proofs.tables.gh_announce.Statement.{statement}
 use Rattle.cards.proofs.tables.gh_announce.Tie as tie
+
+returns : tie.Need-returns
+returns c = search announce-card
 
 pub gh-announce-spec : {M : Type 1} → statement M
 gh-announce-spec =
     tie.close
     (tie.spec
-    (λ c κs. search needs)
-    (λ c κs. search needs)
-    (λ c. search needs)
-    (λ c. search needs)
-    (λ c. search needs)
-    (λ c. search needs)
-    (λ c. search needs)
-    (λ c. search needs)
-    (λ c. search card-is))
+    (λ c κs. tt)
+    (λ c κs. tt)
+    (λ c κs. tt)
+    (λ c κs. tt)
+    (λ c κs. tt)
+    (λ c. c .before .before .before .before .before .before .before .before .before .before .before .before .before .before .announce .kept .1 .0)
+    (λ c. c .before .before .before .before .before .before .before .before .before .before .before .before .before .before .announce .kept .1 .1 .0)
+    (λ c. c .before .before .before .before .before .before .before .before .before .before .before .before .before .before .announce .kept .1 .1 .1 .0)
+    (λ c. c .before .before .before .before .before .before .before .before .before .before .before .before .before .before .announce .kept .1 .1 .1 .1 .0)
+    (λ c. c .before .before .before .before .before .before .before .before .before .before .before .before .before .before .announce .kept .1 .1 .1 .1 .1 .0)
+    (λ c. c .before .before .before .before .before .before .before .before .before .before .before .before .before .before .announce .kept .1 .1 .1 .1 .1 .1 .0)
+    returns)

@@ -1,19 +1,22 @@
--- `cards::tables::gh_withdraw` meets its contract. Assumes nothing.
-use Rattle.cards.proofs.Laws.{card-is}
-use borrow.Author.Needs.{needs}
+-- `cards::tables::gh_withdraw`: its length is narrowed, which changes nothing that the call says or leaves.
+use Rattle.cards.proofs.Laws.{withdraw-card}
 use Rattle.cards.proofs.tables.gh_withdraw.Statement.{statement}
 use Rattle.cards.proofs.tables.gh_withdraw.Tie as tie
+
+returns : tie.Need-returns
+returns c = search withdraw-card
 
 pub gh-withdraw-spec : {M : Type 1} → statement M
 gh-withdraw-spec =
     tie.close
     (tie.spec
-    (λ c κs. search needs)
-    (λ c κs. search needs)
-    (λ c. search needs)
-    (λ c. search needs)
-    (λ c. search needs)
-    (λ c. search needs)
-    (λ c. search needs)
-    (λ c. search needs)
-    (λ c. search card-is))
+    (λ c κs. tt)
+    (λ c κs. tt)
+    (λ c κs. tt)
+    (λ c. c .before .before .before .before .before .before .before .before .before .before .before .before .before .before .withdraw .kept .1 .0)
+    (λ c. c .before .before .before .before .before .before .before .before .before .before .before .before .before .before .withdraw .kept .1 .1 .0)
+    (λ c. c .before .before .before .before .before .before .before .before .before .before .before .before .before .before .withdraw .kept .1 .1 .1 .0)
+    (λ c. c .before .before .before .before .before .before .before .before .before .before .before .before .before .before .withdraw .kept .1 .1 .1 .1 .0)
+    (λ c. c .before .before .before .before .before .before .before .before .before .before .before .before .before .before .withdraw .kept .1 .1 .1 .1 .1 .0)
+    (λ c. c .before .before .before .before .before .before .before .before .before .before .before .before .before .before .withdraw .kept .1 .1 .1 .1 .1 .1 .0)
+    returns)

@@ -1,5 +1,5 @@
 -- `routes::input::route_fault` meets its contract: each way through the tests has its law. Assumes nothing.
-use Rattle.routes.proofs.Faults.{bad-prefix, bad-hop, no-fault, bad-spare}
+use Rattle.routes.proofs.Faults.{bad-prefix, bad-hop, bad-mark, no-fault}
 use borrow.Author.Needs.{needs}
 use Rattle.routes.proofs.input.route_fault.Statement.{statement}
 use Rattle.routes.proofs.input.route_fault.Tie as tie
@@ -12,5 +12,5 @@ route-fault-spec =
     (λ c. search bad-prefix)
     (λ c κs. search needs)
     (λ c. search bad-hop)
-    (λ c. search no-fault)
-    (λ c. search bad-spare))
+    (λ c. search bad-mark)
+    (λ c. search no-fault))

@@ -1,4 +1,4 @@
--- `sail_change::opening::open` meets its contract. The second chunk that serves the route is known before the owners change. Assumes nothing.
+-- `sail_change::opening::open` meets its contract. The second chunk that serves the route is known before the owners change.
 use native.Mathlib.Omega.{arith}
 use borrow.Author.Needs.{needs}
 use Rattle.sail_change.proofs.Openings.{hang-second, hang-third, opened-second, opened-third, slot-small}
@@ -17,7 +17,7 @@ place-requires c κs = record { valid = c .before .before .before .before .befor
 add-hang : tie.Need-add-hang
 add-hang c =
     let start = c .before .before .before .before .before .before .before .before .before .before .before .before .before .before in
-    omega (arith, slot-small _ _ _ (start .pre .serving .valid) (start .pre .ready2 .fine .prefix .addr-ok) (c .slot .ensures))
+    omega (arith, slot-small _ _ _ (start .pre .serving .valid) (start .pre .fine .prefix .addr-ok) (c .slot .ensures))
 
 hang-requires : tie.Need-hang-requires
 hang-requires c κs = hang-second _ _ _ _ _ _ _ (c .before .before .before .before .before .before .before .before .before .before .before .before .before .before .pre) _ (c .before .before .before .before .before .to-open .ensures)

@@ -1,5 +1,4 @@
--- `sail_change::opening::to_open` meets its contract. Assumes nothing.
-use native.Mathlib.Omega.{arith}
+-- `sail_change::opening::to_open` meets its contract.
 use borrow.Author.Needs.{needs}
 use Rattle.sail_change.proofs.Openings.{named-first, opens-is}
 use Rattle.sail_change.proofs.opening.to_open.Statement.{statement}

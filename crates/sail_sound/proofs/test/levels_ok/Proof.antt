@@ -1,5 +1,4 @@
--- `sail_sound::test::levels_ok` meets its contract. Assumes nothing.
-use native.Mathlib.Omega.{arith}
+-- `sail_sound::test::levels_ok` meets its contract.
 use borrow.Author.Needs.{needs}
 use Rattle.sail_sound.proofs.Levels.{chunked2, chunked3, live-fails, free-fails, free-tells}
 use Rattle.sail_sound.proofs.test.levels_ok.Statement.{statement}

@@ -1,4 +1,4 @@
--- `text::line::put_route` meets its contract. Assumes nothing.
+-- `text::line::put_route`: the pieces of the line one after the other. The room for the line is room for each piece.
 use Rattle.text.specs.Text.{routeLine, labelled, ascii}
 use native.Mathlib.Omega.{arith}
 use Rattle.text.proofs.Writes.{wrote-more}
@@ -7,18 +7,50 @@ use borrow.Author.Needs.{needs}
 use Rattle.text.proofs.line.put_route.Statement.{statement}
 use Rattle.text.proofs.line.put_route.Tie as tie
 
-pub put-route-spec : {M : Type 1} → statement M
+put-address-requires : tie.Need-put-address-requires
+put-address-requires c κs = record { room = omega (arith, length-line (c .before .before .args .r)) }
+
+put-labelled-requires : tie.Need-put-labelled-requires
+unfolding labelled ascii
+put-labelled-requires c κs = record { room = omega (arith, length-line (c .before .before .before .before .before .before .before .before .args .r)) }
+
+put-labelled-requires-2 : tie.Need-put-labelled-requires-2
+unfolding labelled ascii
+put-labelled-requires-2 c κs = record { room = omega (arith, length-line (c .before .before .before .before .before .before .before .before .before .before .before .before .before .before .args .r)) }
+
+put-mark-requires : tie.Need-put-mark-requires
+unfolding labelled ascii
+put-mark-requires c κs =
+    let start = c .before .before .before .before .before .before .before .before .before .before .before .before .before .before .before .before .before .before in
+    record { room = omega (arith, length-line (start .args .r), start .pre .room) }
+
+put-byte-requires : tie.Need-put-byte-requires
+unfolding labelled ascii
+put-byte-requires c κs =
+    let start = c .before .before .before .before .before .before .before .before .before .before .before .before .before .before .before .before .before .before .before .before .before .before in
+    record { room = omega (arith, length-line (start .args .r), start .pre .room) }
+
+returns : tie.Need-returns
 unfolding routeLine labelled ascii
+returns c =
+    let marked = c .before .before .before .before .before .before in
+    let hop = marked .before .before .before .before in
+    let length = hop .before .before .before .before .before .before in
+    let address = length .before .before .before .before .before .before in
+    wrote-more (wrote-more (wrote-more (wrote-more (address .put-address .ensures) (length .put-labelled .ensures)) (hop .put-labelled2 .ensures)) (marked .put-mark .ensures)) (c .before .before .put-byte .ensures)
+
+pub put-route-spec : {M : Type 1} → statement M
 put-route-spec =
     tie.close
     (tie.spec
-    (λ c κs. record { room = omega (arith, length-line (c .before .before .args .r)) })
+    put-address-requires
     (λ c. search needs)
     (λ c. search needs)
-    (λ c κs. record { room = omega (arith, length-line (c .before .before .before .before .before .before .before .before .args .r)) })
+    put-labelled-requires
     (λ c. search needs)
     (λ c. search needs)
-    (λ c κs. record { room = omega (arith, length-line (c .before .before .before .before .before .before .before .before .before .before .before .before .before .before .args .r)) })
-    (λ c κs. let s = c .before .before .before .before .before .before .before .before .before .before .before .before .before .before .before .before .before .before in record { room = omega (arith, length-line (s .args .r), s .pre .room) })
+    put-labelled-requires-2
+    put-mark-requires
+    put-byte-requires
     (λ c. search needs)
-    (λ c. wrote-more (wrote-more (wrote-more (c .before .before .before .before .before .before .before .before .before .before .before .before .before .before .before .before .before .before .put-address .ensures) (c .before .before .before .before .before .before .before .before .before .before .before .before .put-labelled .ensures)) (c .before .before .before .before .before .before .put-labelled2 .ensures)) (c .before .before .put-byte .ensures)))
+    returns)

@@ -12,7 +12,7 @@ use Rattle.text.proofs.line.table_text.Statement.{statement}
 use Rattle.text.proofs.line.table_text.Tie as tie
 
 abbrev Inv-loop : tie.InvT-loop
-Inv-loop list n second third out₀ at₀ k₀ out at k = (k ≤ n) × (at + 26 * (n - k) ≤ length out) × (length out ≡ length out₀) × Wrote out₀ at₀ (routeLines (routesOf list k)) at out
+Inv-loop list n second third out₀ at₀ k₀ out at k = (k ≤ n) × (at + 35 * (n - k) ≤ length out) × (length out ≡ length out₀) × Wrote out₀ at₀ (routeLines (routesOf list k)) at out
 
 abbrev μ-loop : tie.MeasureT-loop
 μ-loop list n second third out₀ at₀ k₀ out at k = n - k

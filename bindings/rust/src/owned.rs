@@ -1,0 +1,275 @@
+//! Tables, images and maps that own their buffers.
+
+use crate::found::{Answer, Found};
+use crate::geometry::{Geometry, MOST_CHUNKS, MOST_RECORDS};
+use crate::image::{self, words_for, Built, ImageMut, ImageRef};
+use crate::input::Routes;
+use crate::maps::{self, MapsMut, MapsRef, MAP_BYTES, MAP_CELLS};
+use crate::refusal::Refusal;
+use crate::route::Mark;
+use crate::table::{self, Announced, Report, TableMut, TableRef, Withdrawn};
+use alloc::vec;
+use alloc::vec::Vec;
+use core::fmt;
+use core::net::Ipv4Addr;
+
+/// A SAIL table that owns its buffers: a [`TableMut`] over vectors.
+///
+/// The fields are open, since no content of them can do harm: a table that is not sound is refused with 5, and
+/// [`Table::load`] makes it sound again.
+#[derive(Clone, PartialEq, Eq)]
+pub struct Table {
+    pub geometry: Geometry,
+    /// The route count. An accepted change sets it, and a refusal leaves it.
+    pub count: u32,
+    /// Records of 8 bytes, as many as there is room for; those past the count are zero.
+    pub list: Vec<u8>,
+    pub first: Vec<u16>,
+    pub second: Vec<u16>,
+    pub third: Vec<u16>,
+    /// An owner for each chunk of the second pool.
+    pub own2: Vec<u32>,
+    /// An owner for each chunk of the third pool.
+    pub own3: Vec<u32>,
+}
+
+impl Table {
+    /// A fresh table with no routes: room for so many records, and pools of so many chunks, each at most 4,096.
+    ///
+    /// # Errors
+    ///
+    /// 1, 2.
+    pub fn new(geometry: Geometry, room: usize, second: usize, third: usize) -> Result<Table, Refusal> {
+        // One more than the most is refused as well as any number above.
+        let room = room.min(MOST_RECORDS + 1);
+        let second = second.min(MOST_CHUNKS + 1);
+        let third = third.min(MOST_CHUNKS + 1);
+        let mut table = Table {
+            geometry,
+            count: 0,
+            list: vec![0; 8 * room],
+            first: vec![0; geometry.first_cells()],
+            second: vec![0; second * geometry.second_chunk()],
+            third: vec![0; third * geometry.third_chunk()],
+            own2: vec![0; second],
+            own3: vec![0; third],
+        };
+        table.make()?;
+        Ok(table)
+    }
+
+    /// The same table, only to be read.
+    #[inline]
+    #[must_use]
+    pub fn view(&self) -> TableRef<'_> {
+        TableRef {
+            geometry: self.geometry,
+            count: self.count,
+            list: &self.list,
+            first: &self.first,
+            second: &self.second,
+            third: &self.third,
+            own2: &self.own2,
+            own3: &self.own3,
+        }
+    }
+
+    table::reads!();
+
+    /// Lends the buffers to a change, and keeps the count that it leaves.
+    fn lend<T>(&mut self, change: impl FnOnce(&mut TableMut) -> T) -> T {
+        let mut lent = TableMut {
+            geometry: self.geometry,
+            count: self.count,
+            list: &mut self.list,
+            first: &mut self.first,
+            second: &mut self.second,
+            third: &mut self.third,
+            own2: &mut self.own2,
+            own3: &mut self.own3,
+        };
+        let answer = change(&mut lent);
+        self.count = lent.count;
+        answer
+    }
+
+    /// Empties the table, whatever is in it.
+    ///
+    /// # Errors
+    ///
+    /// 1, 2.
+    pub fn make(&mut self) -> Result<(), Refusal> {
+        self.lend(|t| t.make())
+    }
+
+    /// Makes the table of a record input, whatever was in it, and answers the number of routes.
+    ///
+    /// # Errors
+    ///
+    /// 1, 2, the input's (10 for its length; record by record 3, 4, 10; 6), 6 for the room, 7, 8.
+    pub fn load(&mut self, input: &[u8]) -> Result<usize, Refusal> {
+        self.lend(|t| t.load(input))
+    }
+
+    /// As [`TableMut::announce`].
+    ///
+    /// # Errors
+    ///
+    /// 1, 2, 3 for a length over 32, 4, 5, 6, 7, 8; a replacement never meets 6 to 8, and a [`Mark`] never 10.
+    pub fn announce(&mut self, addr: impl Into<Ipv4Addr>, len: u8, hop: u16, mark: Mark) -> Result<Announced, Refusal> {
+        self.lend(|t| t.announce(addr, len, hop, mark))
+    }
+
+    /// As [`TableMut::withdraw`].
+    ///
+    /// # Errors
+    ///
+    /// 1, 2, 3 for a length over 32, 5, 9.
+    pub fn withdraw(&mut self, addr: impl Into<Ipv4Addr>, len: u8) -> Result<Withdrawn, Refusal> {
+        self.lend(|t| t.withdraw(addr, len))
+    }
+}
+
+impl fmt::Debug for Table {
+    fn fmt(&self, f: &mut fmt::Formatter) -> fmt::Result {
+        table::debug("Table", self.view(), f)
+    }
+}
+
+/// A tree bitmap image that owns its buffers: three words for each node, and the hops.
+///
+/// The fields are open, as those of [`Table`]: a walk that meets something broken is refused with 13.
+#[derive(Clone, PartialEq, Eq)]
+pub struct Image {
+    pub words: Vec<u32>,
+    pub hops: Vec<u16>,
+}
+
+impl Image {
+    /// Room for so many nodes and hops, all zero.
+    #[must_use]
+    pub fn new(nodes: usize, hops: usize) -> Image {
+        Image { words: vec![0; 3 * nodes], hops: vec![0; hops] }
+    }
+
+    /// The image of a record input, in arrays of just its size.
+    ///
+    /// # Errors
+    ///
+    /// The input's: 10 for its length; record by record 3, 4, 10; 6.
+    pub fn of(input: &[u8]) -> Result<Image, Refusal> {
+        // More records than the most are refused whatever the room.
+        let records = (input.len() / 8).min(MOST_RECORDS);
+        let mut image = Image { words: vec![0; words_for(records)], hops: vec![0; records] };
+        let Built { nodes, hops } = image.build(input)?;
+        image.words.truncate(3 * nodes);
+        image.hops.truncate(hops);
+        Ok(image)
+    }
+
+    /// The same image, only to be read.
+    #[inline]
+    #[must_use]
+    pub fn view(&self) -> ImageRef<'_> {
+        ImageRef { words: &self.words, hops: &self.hops }
+    }
+
+    /// As [`ImageRef::lookup`].
+    ///
+    /// # Errors
+    ///
+    /// 13.
+    #[inline]
+    pub fn lookup(&self, addr: impl Into<Ipv4Addr>) -> Result<Found, Refusal> {
+        self.view().lookup(addr)
+    }
+
+    /// Builds the image of a record input into these arrays, whatever was in them.
+    ///
+    /// # Errors
+    ///
+    /// The input's (10 for its length; record by record 3, 4, 10; 6), 11, 12.
+    pub fn build(&mut self, input: &[u8]) -> Result<Built, Refusal> {
+        ImageMut { words: &mut self.words, hops: &mut self.hops }.build(input)
+    }
+}
+
+impl fmt::Debug for Image {
+    fn fmt(&self, f: &mut fmt::Formatter) -> fmt::Result {
+        image::debug("Image", self.view(), f)
+    }
+}
+
+/// Bit maps that own their buffers: [`MAP_BYTES`] bytes of bits, and [`MAP_CELLS`] cells.
+///
+/// The fields are open, as those of [`Table`]: a cell that is broken is refused with 13 where a lookup meets it.
+#[derive(Clone, PartialEq, Eq)]
+pub struct Maps {
+    pub bits: Vec<u8>,
+    pub cells: Vec<u16>,
+}
+
+impl Default for Maps {
+    fn default() -> Maps {
+        Maps::new()
+    }
+}
+
+impl Maps {
+    /// Maps of no routes.
+    #[must_use]
+    pub fn new() -> Maps {
+        Maps { bits: vec![0; MAP_BYTES], cells: vec![0; MAP_CELLS] }
+    }
+
+    /// The maps of a record input.
+    ///
+    /// # Errors
+    ///
+    /// The input's: 10 for its length; record by record 3, 4, 10; 6.
+    pub fn of(input: &[u8]) -> Result<Maps, Refusal> {
+        let mut maps = Maps::new();
+        maps.build(input)?;
+        Ok(maps)
+    }
+
+    /// The same maps, only to be read.
+    #[inline]
+    #[must_use]
+    pub fn view(&self) -> MapsRef<'_> {
+        MapsRef { bits: &self.bits, cells: &self.cells }
+    }
+
+    /// Builds the maps of a record input, whatever was in them.
+    ///
+    /// # Errors
+    ///
+    /// The input's (10 for its length; record by record 3, 4, 10; 6), 2.
+    pub fn build(&mut self, input: &[u8]) -> Result<(), Refusal> {
+        MapsMut { bits: &mut self.bits, cells: &mut self.cells }.build(input)
+    }
+
+    /// As [`MapsRef::lookup`].
+    ///
+    /// # Errors
+    ///
+    /// The input's, 2, 13.
+    pub fn lookup(&self, input: &[u8], addr: impl Into<Ipv4Addr>) -> Result<Option<u16>, Refusal> {
+        self.view().lookup(input, addr)
+    }
+
+    /// As [`MapsRef::lookup_many`].
+    ///
+    /// # Errors
+    ///
+    /// The input's, 2.
+    pub fn lookup_many(&self, input: &[u8], addrs: &[u32], out: &mut [u32]) -> Result<(), Refusal> {
+        self.view().lookup_many(input, addrs, out)
+    }
+}
+
+impl fmt::Debug for Maps {
+    fn fmt(&self, f: &mut fmt::Formatter) -> fmt::Result {
+        maps::debug("Maps", self.view(), f)
+    }
+}

@@ -1,0 +1,169 @@
+//! Each call as it crosses the boundary: arrays as slices, numbers of 32 bits, and the packed answer, which the header's
+//! section ANSWERS tells how to read.
+//!
+//! Nothing is kept here: after an accepted change its caller sets [`TableMut::count`] from bits 16 to 31 of the answer,
+//! and leaves it after a refusal. The rest of this crate, the comparison with a plain implementation and the measurements
+//! stand on these functions.
+
+use crate::sys;
+use crate::table::{TableMut, TableRef};
+
+/// Calls a function that takes a table: what comes before its arrays, and what comes after them. Each pointer and length
+/// is that of a slice, and the borrow of one that is written keeps all others away from it. So such a call is safe.
+macro_rules! lend {
+    ($call:expr, ($($before:expr),*), mut $t:ident, ($($after:expr),*)) => {
+        $call(
+            $t.geometry.p1, $t.geometry.p2, $($before,)*
+            $t.list.as_mut_ptr(), $t.list.len(),
+            $t.first.as_mut_ptr(), $t.first.len(),
+            $t.second.as_mut_ptr(), $t.second.len(),
+            $t.third.as_mut_ptr(), $t.third.len(),
+            $t.own2.as_mut_ptr(), $t.own2.len(),
+            $t.own3.as_mut_ptr(), $t.own3.len(),
+            $($after),*
+        )
+    };
+    ($call:expr, $t:ident, ($($after:expr),*)) => {
+        $call(
+            $t.geometry.p1, $t.geometry.p2, $t.count,
+            $t.list.as_ptr(), $t.list.len(),
+            $t.first.as_ptr(), $t.first.len(),
+            $t.second.as_ptr(), $t.second.len(),
+            $t.third.as_ptr(), $t.third.len(),
+            $t.own2.as_ptr(), $t.own2.len(),
+            $t.own3.as_ptr(), $t.own3.len(),
+            $($after),*
+        )
+    };
+}
+
+/// The type of `gh_lookup`.
+pub type Lookup = unsafe extern "C" fn(
+    p1: u32,
+    p2: u32,
+    count: u32,
+    list: *const u8,
+    list_len: usize,
+    first: *const u16,
+    first_len: usize,
+    second: *const u16,
+    second_len: usize,
+    third: *const u16,
+    third_len: usize,
+    own2: *const u32,
+    own2_len: usize,
+    own3: *const u32,
+    own3_len: usize,
+    addr: u32,
+) -> u64;
+
+/// The type of `gh_tree_lookup`.
+pub type TreeLookup =
+    unsafe extern "C" fn(words: *const u32, words_len: usize, hops: *const u16, hops_len: usize, addr: u32) -> u64;
+
+#[must_use]
+pub fn make(t: &mut TableMut) -> u64 {
+    unsafe { lend!(sys::gh_make, (), mut t, ()) }
+}
+
+#[must_use]
+pub fn load(t: &mut TableMut, input: &[u8]) -> u64 {
+    unsafe { lend!(sys::gh_load, (input.as_ptr(), input.len()), mut t, ()) }
+}
+
+#[must_use]
+pub fn announce(t: &mut TableMut, addr: u32, len: u32, hop: u32, mark: u32) -> u64 {
+    unsafe { lend!(sys::gh_announce, (t.count), mut t, (addr, len, hop, mark)) }
+}
+
+#[must_use]
+pub fn withdraw(t: &mut TableMut, addr: u32, len: u32) -> u64 {
+    unsafe { lend!(sys::gh_withdraw, (t.count), mut t, (addr, len)) }
+}
+
+#[must_use]
+pub fn report(t: &TableRef) -> u64 {
+    unsafe { lend!(sys::gh_report, t, ()) }
+}
+
+#[inline]
+#[must_use]
+pub fn lookup(t: &TableRef, addr: u32) -> u64 {
+    unsafe { lookup_by(sys::gh_lookup, t, addr) }
+}
+
+/// A lookup by `gh_lookup`, or by a function that is to be measured beside it.
+///
+/// # Safety
+///
+/// The function reads no more than the slices that it is lent.
+#[inline]
+#[must_use]
+pub unsafe fn lookup_by(look: Lookup, t: &TableRef, addr: u32) -> u64 {
+    unsafe { lend!(look, t, (addr)) }
+}
+
+#[must_use]
+pub fn lookup_many(t: &TableRef, addrs: &[u32], out: &mut [u32]) -> u64 {
+    unsafe { lend!(sys::gh_lookup_many, t, (addrs.as_ptr(), addrs.len(), out.as_mut_ptr(), out.len())) }
+}
+
+#[must_use]
+pub fn build(input: &[u8], words: &mut [u32], hops: &mut [u16]) -> u64 {
+    let (w, h) = (words.len(), hops.len());
+    unsafe { sys::gh_build(input.as_ptr(), input.len(), words.as_mut_ptr(), w, hops.as_mut_ptr(), h) }
+}
+
+#[inline]
+#[must_use]
+pub fn tree_lookup(words: &[u32], hops: &[u16], addr: u32) -> u64 {
+    unsafe { tree_lookup_by(sys::gh_tree_lookup, words, hops, addr) }
+}
+
+/// A lookup by `gh_tree_lookup`, or by a function that is to be measured beside it.
+///
+/// # Safety
+///
+/// The function reads no more than the slices that it is lent.
+#[inline]
+#[must_use]
+pub unsafe fn tree_lookup_by(look: TreeLookup, words: &[u32], hops: &[u16], addr: u32) -> u64 {
+    unsafe { look(words.as_ptr(), words.len(), hops.as_ptr(), hops.len(), addr) }
+}
+
+#[must_use]
+pub fn run(input: &[u8], addr: u32, len: u32) -> u64 {
+    unsafe { sys::gh_run(input.as_ptr(), input.len(), addr, len) }
+}
+
+#[must_use]
+pub fn tally(input: &[u8], out: &mut [u32]) -> u64 {
+    unsafe { sys::gh_tally(input.as_ptr(), input.len(), out.as_mut_ptr(), out.len()) }
+}
+
+#[must_use]
+pub fn route(input: &[u8], index: u32) -> u64 {
+    unsafe { sys::gh_route(input.as_ptr(), input.len(), index) }
+}
+
+#[must_use]
+pub fn basic_build(input: &[u8], bits: &mut [u8], cells: &mut [u16]) -> u64 {
+    let (b, c) = (bits.len(), cells.len());
+    unsafe { sys::gh_basic_build(input.as_ptr(), input.len(), bits.as_mut_ptr(), b, cells.as_mut_ptr(), c) }
+}
+
+#[must_use]
+pub fn basic_lookup(input: &[u8], bits: &[u8], cells: &[u16], addr: u32) -> u64 {
+    let (b, c) = (bits.len(), cells.len());
+    unsafe { sys::gh_basic_lookup(input.as_ptr(), input.len(), bits.as_ptr(), b, cells.as_ptr(), c, addr) }
+}
+
+#[must_use]
+pub fn basic_lookup_many(input: &[u8], bits: &[u8], cells: &[u16], addrs: &[u32], out: &mut [u32]) -> u64 {
+    let (b, c, o) = (bits.len(), cells.len(), out.len());
+    let (n, out) = (addrs.len(), out.as_mut_ptr());
+    let input = (input.as_ptr(), input.len());
+    unsafe {
+        sys::gh_basic_lookup_many(input.0, input.1, bits.as_ptr(), b, cells.as_ptr(), c, addrs.as_ptr(), n, out, o)
+    }
+}

@@ -1,0 +1,7 @@
+-- Laws of the maps, of the walk and of the calls.
+pub mod Places
+pub mod Walks
+pub mod Checks
+pub mod Answers
+pub mod Serves
+pub mod Judged

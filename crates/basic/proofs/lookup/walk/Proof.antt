@@ -1,0 +1,47 @@
+-- The longest record of 17 bits or more decides; where there is none, the maps do.
+use Rattle.basic.proofs.Walks.{walk-long, walk-short}
+use borrow.Author.Needs.{needs}
+use Rattle.basic.proofs.lookup.walk.Statement.{statement}
+use Rattle.basic.proofs.lookup.walk.Tie as tie
+
+longest-record-requires : tie.Need-longest-record-requires
+longest-record-requires c κs = search needs
+
+sub-read-record : tie.Need-sub-read-record
+sub-read-record c = search needs
+
+read-record-requires : tie.Need-read-record-requires
+read-record-requires c κs = search needs
+
+wide-requires : tie.Need-wide-requires
+wide-requires c κs = search needs
+
+add-result : tie.Need-add-result
+add-result c = search needs
+
+returns : tie.Need-returns
+returns c =
+    let input = c .before .before .before .before .before .before .before .pre .0 in
+    let far = c .before .before .before .longest-record .ensures in
+    walk-long _ _ _ input _ _ _ far _ _ (c .before .before .if1 .taken) (c .before .read-record .ensures) (c .wide .ensures .0) (c .wide .ensures .1)
+
+down-requires : tie.Need-down-requires
+down-requires c κs = search needs
+
+returns-2 : tie.Need-returns-2
+returns-2 c =
+    let input = c .before .before .before .before .before .before .pre .0 in
+    walk-short _ _ _ input _ _ _ (c .before .before .longest-record .ensures) _ (c .before .if1 .left) (c .down .ensures)
+
+pub walk-spec : {M : Type 1} → statement M
+walk-spec =
+    tie.close
+    (tie.spec
+    longest-record-requires
+    sub-read-record
+    read-record-requires
+    wide-requires
+    add-result
+    returns
+    down-requires
+    returns-2)

@@ -1,0 +1,47 @@
+-- One law for each arm of the check.
+use Rattle.basic.proofs.Checks.{good-told}
+use Rattle.basic.proofs.Answers.{many-good, many-refused, many-number}
+use borrow.Author.Needs.{needs}
+use Rattle.basic.proofs.many.lookup_many.Statement.{statement}
+use Rattle.basic.proofs.many.lookup_many.Tie as tie
+
+check-requires : tie.Need-check-requires
+check-requires c κs = search needs
+
+enum-known-n : tie.Need-enum-known-n
+enum-known-n c = search needs
+
+each-requires : tie.Need-each-requires
+each-requires c κs = good-told _ _ _ _ (c .before .before .before .before .check .ensures) _ (c .before .before .n .given .1)
+
+enum-known-f : tie.Need-enum-known-f
+enum-known-f c = search needs
+
+enum-known-f-2 : tie.Need-enum-known-f-2
+enum-known-f-2 c = search needs
+
+same-length : tie.Need-same-length
+same-length c = search needs
+
+returns : tie.Need-returns
+returns c = search many-good
+
+returns-2 : tie.Need-returns-2
+returns-2 c = search many-refused
+
+returns-3 : tie.Need-returns-3
+returns-3 c = search many-number
+
+pub lookup-many-spec : {M : Type 1} → statement M
+lookup-many-spec =
+    tie.close
+    (tie.spec
+    check-requires
+    enum-known-n
+    each-requires
+    enum-known-f
+    enum-known-f-2
+    same-length
+    returns
+    returns-2
+    returns-3)

@@ -1,0 +1,62 @@
+-- One law for each case of the answer.
+use borrow.Author.Needs.{needs}
+use Rattle.basic.proofs.Answers.{word-hop, word-none, word-index, word-number}
+use Rattle.basic.proofs.many.word.Statement.{statement}
+use Rattle.basic.proofs.many.word.Tie as tie
+
+enum-known-f : tie.Need-enum-known-f
+enum-known-f c = search needs
+
+wide-requires : tie.Need-wide-requires
+wide-requires c κs = search needs
+
+mul-result : tie.Need-mul-result
+mul-result c = search needs
+
+enum-told : tie.Need-enum-told
+enum-told c = search needs
+
+enum-known-f-2 : tie.Need-enum-known-f-2
+enum-known-f-2 c = search needs
+
+wide-requires-2 : tie.Need-wide-requires-2
+wide-requires-2 c κs = search needs
+
+add-result : tie.Need-add-result
+add-result c = search needs
+
+enum-known-f-3 : tie.Need-enum-known-f-3
+enum-known-f-3 c = search needs
+
+wide-requires-3 : tie.Need-wide-requires-3
+wide-requires-3 c κs = search needs
+
+returns : tie.Need-returns
+returns c = search word-hop
+
+returns-2 : tie.Need-returns-2
+returns-2 c = search word-none
+
+returns-3 : tie.Need-returns-3
+returns-3 c = search word-index
+
+returns-4 : tie.Need-returns-4
+returns-4 c = search word-number
+
+pub word-spec : {M : Type 1} → statement M
+word-spec =
+    tie.close
+    (tie.spec
+    enum-known-f
+    wide-requires
+    mul-result
+    enum-told
+    enum-known-f-2
+    wide-requires-2
+    add-result
+    enum-known-f-3
+    wide-requires-3
+    returns
+    returns-2
+    returns-3
+    returns-4)

@@ -1,0 +1,24 @@
+-- Bit `i % 8` of byte `i / 8`.
+use Rattle.basic.proofs.Places.{set-told}
+use borrow.Author.Needs.{needs}
+use Rattle.basic.proofs.maps.is_set.Statement.{statement}
+use Rattle.basic.proofs.maps.is_set.Tie as tie
+
+shared-slice-read-wide : tie.Need-shared-slice-read-wide
+shared-slice-read-wide c = search needs
+
+wide-requires : tie.Need-wide-requires
+wide-requires c κs = search needs
+
+cast-is-set : tie.Need-cast-is-set
+cast-is-set c = search needs
+
+is-set-requires : tie.Need-is-set-requires
+is-set-requires c κs = search needs
+
+returns : tie.Need-returns
+returns c = search set-told
+
+pub is-set-spec : {M : Type 1} → statement M
+is-set-spec =
+    tie.close (tie.spec shared-slice-read-wide wide-requires cast-is-set is-set-requires returns)

@@ -1,0 +1,69 @@
+// Many lookups: input and sizes are checked once, and each word is what one lookup answers.
+use crate::check::BasicAnswer;
+use crate::check::Ready;
+use crate::check::check;
+use crate::lookup::BasicFound;
+use crate::lookup::told;
+use crate::lookup::walk;
+use crate::maps::wide;
+use routes::record;
+ghost use mathlib.Core.Path.{_≡_};
+ghost use lib.ListN.{length};
+ghost use Rattle.routes.specs.Record.{GoodInput};
+ghost use Rattle.basic.specs.Maps.{MapSizes};
+ghost use Rattle.basic.specs.Calls.{saysBasicFound, saysBasicAnswer, hopWord, many, manyOf, basicMany};
+
+// An answer as a word: the hop in bits 16 to 31, or the refusal's number in bits 0 to 7, with bit 8 set where it has an index.
+fn word(f: BasicFound) -> u32
+    ensures { λ r. ⌜ r ≡ hopWord (saysBasicFound f) ⌝ }
+{
+    match f {
+        BasicFound::Hop(h) => wide(h) * 65536,
+        BasicFound::NoRoute => 0,
+        BasicFound::RefusedAt(z, _) => record::wide(z) + 256,
+        BasicFound::Refused(z) => record::wide(z),
+    }
+}
+
+// One word for each address, where the checks are done.
+fn each(
+    input: &[u8],
+    n: usize,
+    bits: &[u8],
+    cells: &[u16],
+    addrs: &[u32],
+    out: &mut [u32],
+) -> BasicAnswer
+    requires { ⌜ GoodInput (now input) n × MapSizes (length (now bits)) (length (now cells)) ⌝ }
+    ensures { λ r. ⌜ many (saysBasicAnswer r) (now (out .exit))
+        ≡ manyOf (now (input .entry)) (now (bits .entry)) (now (cells .entry)) (now (addrs .entry)) (now (out .entry)) ⌝ }
+{
+    let m = addrs.len();
+    if out.len() != m {
+        return BasicAnswer::Refused(2);
+    }
+    let mut k = 0;
+    while k < m {
+        out[k] = word(told(walk(input, n, bits, cells, addrs[k])));
+        k += 1;
+    }
+    BasicAnswer::Done
+}
+
+// For each address the word of its lookup. A refusal leaves the words as they were.
+pub fn lookup_many(
+    input: &[u8],
+    bits: &[u8],
+    cells: &[u16],
+    addrs: &[u32],
+    out: &mut [u32],
+) -> BasicAnswer
+    ensures { λ r. ⌜ many (saysBasicAnswer r) (now (out .exit))
+        ≡ basicMany (now (input .entry)) (now (bits .entry)) (now (cells .entry)) (now (addrs .entry)) (now (out .entry)) ⌝ }
+{
+    match check(input, bits.len(), cells.len()) {
+        Ready::Good(n) => each(input, n, bits, cells, addrs, out),
+        Ready::RefusedAt(f, k) => BasicAnswer::RefusedAt(f, k),
+        Ready::Refused(f) => BasicAnswer::Refused(f),
+    }
+}

@@ -1,0 +1,4 @@
+-- Laws of the build, and what it is worth.
+pub mod Fills
+pub mod Answers
+pub mod Serves

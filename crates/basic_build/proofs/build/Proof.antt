@@ -1,0 +1,51 @@
+-- One law for each arm of the check.
+use Rattle.basic.proofs.Checks.{good-told}
+use Rattle.basic_build.proofs.Answers.{built-good, built-refused, built-number}
+use borrow.Author.Needs.{needs}
+use Rattle.basic_build.proofs.build.Statement.{statement}
+use Rattle.basic_build.proofs.build.Tie as tie
+
+check-requires : tie.Need-check-requires
+check-requires c κs = search needs
+
+enum-known-n : tie.Need-enum-known-n
+enum-known-n c = search needs
+
+fill-requires : tie.Need-fill-requires
+fill-requires c κs = good-told _ _ _ _ (c .before .before .before .before .before .check .ensures) _ (c .before .before .before .n .given .1)
+
+enum-known-f : tie.Need-enum-known-f
+enum-known-f c = search needs
+
+enum-known-f-2 : tie.Need-enum-known-f-2
+enum-known-f-2 c = search needs
+
+same-length : tie.Need-same-length
+same-length c = search needs
+
+same-length-2 : tie.Need-same-length-2
+same-length-2 c = search needs
+
+returns : tie.Need-returns
+returns c = search built-good
+
+returns-2 : tie.Need-returns-2
+returns-2 c = search built-refused
+
+returns-3 : tie.Need-returns-3
+returns-3 c = search built-number
+
+pub build-spec : {M : Type 1} → statement M
+build-spec =
+    tie.close
+    (tie.spec
+    check-requires
+    enum-known-n
+    fill-requires
+    enum-known-f
+    enum-known-f-2
+    same-length
+    same-length-2
+    returns
+    returns-2
+    returns-3)

@@ -1,0 +1,2 @@
+-- What a build answers and leaves.
+pub mod Built

@@ -1,0 +1,135 @@
+-- The demands of the calls on bit maps: build, lookup and many lookups of basic SAIL for cards without chunk memory.
+use mathlib.Core.Path.{_≡_, refl, sym, _∙_, ap}
+use mathlib.Core.Logic.{_↔_}
+use mathlib.Core.Bool.{true, false}
+use mathlib.Core.List.{List, [], _∷_, List·Memᴰ}
+use Prim.Native.Nat.{ℕ, _^_, _<_}
+use native.Mathlib.Omega.{arith}
+use lib.ListN.{length, getD}
+use borrow.Author.Tests.{ne-eqb}
+use Rattle.routes.specs.Route.{Good}
+use Rattle.routes.specs.Record.{routesIn}
+use Rattle.routes.specs.Said.{Said, accepted, refused, accepts}
+use Rattle.routes.specs.declared.Route.{Route}
+use Rattle.routes.proofs.Goods.{good-fine}
+use Rattle.standing.specs.Cells.{covers, Best, best}
+use Rattle.standing.proofs.Longest.{best-is}
+use Rattle.standing.proofs.Only.{best-only, covers-none}
+use Rattle.sail.specs.Lent.{Lent}
+use Rattle.sail.specs.Sound.{Sound, standing, cellsRead}
+use Rattle.sail.specs.Walk.{hopSaid, lookupSaid}
+use Rattle.sail.specs.declared.table.Table.{Table}
+use Rattle.sail.proofs.Sounds as sounds
+use Rattle.basic.specs.Maps.{isSetAt}
+use Rattle.basic.specs.Calls.{saysBasicFound, basicSaid, hopWord, Many, basicMany}
+use Rattle.basic.specs.Meaning.{MapsOf, Serves, BasicLookup, BasicLookups}
+use Rattle.basic.specs.declared.lookup.BasicFound.{BasicFound}
+use Rattle.basic.specs.declared.lookup.BasicFound.the-variants as found
+use Rattle.basic.proofs.Answers.{refused-leaves-words, basic-found-injective, basic-answer-injective}
+use Rattle.basic.proofs.Judged.{lookup-only, lookup-judged, many-only, many-judged, many-words}
+use Rattle.basic_build.specs.Built.{MapsOut, basicBuilt, BasicBuild}
+use Rattle.basic_build.proofs.Answers.{refused-leaves, build-only, build-judged}
+use Rattle.basic_build.proofs.Serves as worth
+use Rattle.demands.specs.MeetsBasic.{BasicBuildEnd, MeetsBasicBuild, MeetsBasicLookup, BasicManyEnd, MeetsBasicMany}
+use Rattle.demands.proofs.Demand1.{exactly}
+use Rattle.demands.proofs.Demand2.{uncounted}
+
+-- Demand 1. "A refusal is never a hop": the answer of a lookup that is refused is the number alone.
+pub refused-no-hop-basic : (input bits cells : List ℕ) (a : ℕ) (r : BasicFound) → saysBasicFound r ≡ basicSaid input bits cells a
+    → (n : ℕ) → basicSaid input bits cells a ≡ refused n → r ≡ found.Refused n
+unfolding saysBasicFound
+refused-no-hop-basic input bits cells a r e n q = basic-found-injective r (found.Refused n) (e ∙ q)
+
+-- "It carries its number": in order, with the failure of those before
+module _ (input bits cells : List ℕ) where
+  -- build: the input's, then 2
+  pub refused-number-basic-build : (s : Said) → (basicBuilt input bits cells .said ≡ s) ↔ BasicBuild input bits cells s
+  refused-number-basic-build = exactly (BasicBuild input bits cells) _ _ refl (build-judged input bits cells) (build-only input bits cells)
+
+  -- lookup: the input's, 2, then 13
+  pub refused-number-basic-lookup : (a : ℕ) (s : Said) → (basicSaid input bits cells a ≡ s) ↔ BasicLookup input bits cells a s
+  refused-number-basic-lookup a = exactly (BasicLookup input bits cells a) _ _ refl (lookup-judged input bits cells a) (lookup-only input bits cells a)
+
+  -- many lookups: the input's, 2 for the maps, 2 for the two lengths
+  pub refused-number-basic-lookup-many : (addrs words : List ℕ) (s : Said)
+      → (basicMany input bits cells addrs words .said ≡ s) ↔ BasicLookups input bits cells addrs words s
+  refused-number-basic-lookup-many addrs words =
+      exactly (BasicLookups input bits cells addrs words) _ _ refl (many-judged input bits cells addrs words) (many-only input bits cells addrs words)
+
+  -- "The caller's state and buffers stay exactly as they were"
+  pub refused-leaves-all-basic-build : accepts (basicBuilt input bits cells .said) ≡ false
+      → (basicBuilt input bits cells .bits ≡ bits) × (basicBuilt input bits cells .cells ≡ cells)
+  refused-leaves-all-basic-build = refused-leaves input bits cells
+
+  pub refused-leaves-all-basic-lookup-many : (addrs words : List ℕ) → accepts (basicMany input bits cells addrs words .said) ≡ false
+      → basicMany input bits cells addrs words .words ≡ words
+  refused-leaves-all-basic-lookup-many = refused-leaves-words input bits cells
+
+-- Demand 2. "For every good record input, the arrays built from it and every address, its hop equals that of the covering rule."
+module _ (input bits cells : List ℕ) (e : accepts (basicBuilt input bits cells .said) ≡ true) where
+  pub basic-serves : (a : ℕ) → a < 2 ^ 32
+      → Serves (routesIn input) a (basicSaid input (basicBuilt input bits cells .bits) (basicBuilt input bits cells .cells) a)
+  basic-serves = worth.basic-serves input bits cells e
+
+  -- the arrays, bit by bit and cell by cell
+  pub basic-built : MapsOf (routesIn input) (basicBuilt input bits cells .bits) (basicBuilt input bits cells .cells)
+  basic-built = worth.basic-built input bits cells e
+
+  -- "the last bit zero"
+  pub last-bit-zero : isSetAt (basicBuilt input bits cells .bits) 131071 ≡ false
+  last-bit-zero = basic-built .last
+
+-- of each address one thing is said: the hop alone, without a count
+serves-best : (rs : List Route) → Good rs → (a n : ℕ) {s : Said} → Serves rs a s → s ≡ uncounted (hopSaid n (best rs 32 a))
+unfolding hopSaid
+serves-best rs g a n (Serves.hop h w) =
+    let f = good-fine rs g (w .route) (w .listed) in
+    rw (best-only rs g 32 a (best rs 32 a) h (best-is rs 32 a) (Best.one w), ne-eqb h 0 (λ z. omega (arith, f .hop-one, w .its-hop)))
+serves-best rs g a n (Serves.none k) = rw (covers-none rs g 32 a k)
+
+pub basic-served-once : (rs : List Route) → Good rs → (a : ℕ) {s u : Said} → Serves rs a s → Serves rs a u → s ≡ u
+basic-served-once rs g a v w = serves-best rs g a 0 v ∙ sym (serves-best rs g a 0 w)
+
+no-hop : (rs : List Route) (a : ℕ) {s : Said} → Serves rs a s → s ≡ accepted [] → (r : Route) → List·Memᴰ r rs → covers 32 a r ≡ false
+no-hop rs a (Serves.hop h w) e = absurd (let z : _≡_ {A = ℕ} 0 1 = cc in omega arith)
+no-hop rs a (Serves.none k) e = k
+
+module _ (input bits cells : List ℕ) (e : accepts (basicBuilt input bits cells .said) ≡ true) (a : ℕ) (h : a < 2 ^ 32) where
+  -- "and no route exactly when none covers"
+  pub no-route-basic : (basicSaid input (basicBuilt input bits cells .bits) (basicBuilt input bits cells .cells) a ≡ accepted [])
+      ↔ ((r : Route) → List·Memᴰ r (routesIn input) → covers 32 a r ≡ false)
+  no-route-basic = (
+    (λ q. no-hop (routesIn input) a (basic-serves input bits cells e a h) q),
+    (λ none. basic-served-once (routesIn input) (worth.built-good-routes input bits cells e) a (basic-serves input bits cells e a h) (Serves.none none)),
+  )
+
+  -- a table and the maps of the same routes give the same hop, and no route alike
+  pub table-as-maps : (t : Table) (l : Lent) → Sound t l → routesIn input ≡ standing t l
+      → uncounted (lookupSaid t l a) ≡ basicSaid input (basicBuilt input bits cells .bits) (basicBuilt input bits cells .cells) a
+  table-as-maps t l s same =
+      ap uncounted (sounds.sail-serves t l s a h)
+      ∙ ap (λ (rs : List Route). uncounted (hopSaid (cellsRead (t .geometry) (standing t l) a) (best rs 32 a))) (sym same)
+      ∙ sym (serves-best (routesIn input) (worth.built-good-routes input bits cells e) a _ (basic-serves input bits cells e a h))
+
+-- each word of many lookups is what one lookup answers
+pub basic-many-words : (input bits cells addrs words : List ℕ) → accepts (basicMany input bits cells addrs words .said) ≡ true
+    → (k : ℕ) → k < length addrs → getD (basicMany input bits cells addrs words .words) k 0 ≡ hopWord (basicSaid input bits cells (getD addrs k 0))
+basic-many-words = many-words
+
+-- "Show that no second answer would satisfy it."
+module _ (input bits cells : List ℕ) where
+  pub one-answer-basic-build : (x y : BasicBuildEnd) → MeetsBasicBuild input bits cells x → MeetsBasicBuild input bits cells y → x ≡ y
+  one-answer-basic-build x y p q =
+      let e = p ∙ sym q in
+      let a = basic-answer-injective (x .answer) (y .answer) (ap (λ (u : MapsOut). u .said) e) in
+      λ i. record { answer = a i; bits = e i .bits; cells = e i .cells }
+
+  pub one-answer-basic-lookup : (addr : ℕ) (x y : BasicFound) → MeetsBasicLookup input bits cells addr x → MeetsBasicLookup input bits cells addr y → x ≡ y
+  one-answer-basic-lookup addr x y p q = basic-found-injective x y (p ∙ sym q)
+
+  pub one-answer-basic-lookup-many : (addrs words : List ℕ) (x y : BasicManyEnd)
+      → MeetsBasicMany input bits cells addrs words x → MeetsBasicMany input bits cells addrs words y → x ≡ y
+  one-answer-basic-lookup-many addrs words x y p q =
+      let e = p ∙ sym q in
+      let a = basic-answer-injective (x .answer) (y .answer) (ap (λ (u : Many). u .said) e) in
+      λ i. record { answer = a i; words = e i .words }

@@ -1,0 +1,38 @@
+-- What is not said by need. List A needs a chunk of either pool. Where one is lent, it is neither refused with 7 nor with 8 nor with anything
+-- else; where none is, it is not accepted, and the second pool speaks first.
+use mathlib.Core.Path.{refl}
+use mathlib.Core.Bool.{true, false≢true}
+use mathlib.Core.List.{[]}
+use Prim.Native.Nat.{ℕ}
+use native.Mathlib.Omega.{arith}
+use Rattle.routes.specs.Said.{accepted, refused}
+use Rattle.sail.specs.Geometry.{standardGeo}
+use Rattle.sail_theory.specs.Calls.{Terms}
+use Rattle.demands.proofs.Wants.{ByNeed}
+use Rattle.examples.proofs.TableA.{routesA, need2, need3}
+
+abbrev terms : ℕ → ℕ → Terms
+terms m2 m3 = record { geometry = standardGeo; room = 8; most2 = m2; most3 = m3 }
+
+-- with enough of both
+pub seven-early : ByNeed (terms 1 1) routesA (refused 7) → ⊥
+seven-early b = omega (arith, need2, b .seven .0 refl)
+
+pub eight-early : ByNeed (terms 1 1) routesA (refused 8) → ⊥
+eight-early b = omega (arith, need3, b .eight .0 refl .1)
+
+pub other-refusal : ByNeed (terms 1 1) routesA (refused 6) → ⊥
+other-refusal b = false≢true (b .taken .1 (omega (arith, need2), omega (arith, need3)))
+
+-- without second chunks, and without third ones
+pub seven-left-out : ByNeed (terms 0 1) routesA (accepted []) → ⊥
+seven-left-out b = omega (arith, need2, b .taken .0 refl .0)
+
+pub eight-for-seven : ByNeed (terms 0 0) routesA (refused 8) → ⊥
+eight-for-seven b = omega (arith, need2, b .eight .0 refl .0)
+
+pub eight-left-out : ByNeed (terms 1 0) routesA (accepted []) → ⊥
+eight-left-out b = omega (arith, need3, b .taken .0 refl .1)
+
+pub seven-for-eight : ByNeed (terms 1 0) routesA (refused 7) → ⊥
+seven-for-eight b = omega (arith, need2, b .seven .0 refl)

@@ -1,0 +1,71 @@
+-- What does not serve as a fresh load does, beside list A's table: a load that is refused, one table with another hop at one address, and one
+-- with another number of chunks in use. Each breaks one clause alone.
+use mathlib.Core.Path.{_≡_, sym, _∙_, ap}
+use mathlib.Core.Bool.{false≢true}
+use mathlib.Core.List.{List, [], _∷_}
+use Prim.Native.Nat.{ℕ, _-_}
+use native.Mathlib.Omega.{arith}
+use lib.ListN.{length-set}
+use Rattle.bits.specs.Tab.{tabulate}
+use Rattle.bits.specs.Count.{count}
+use Rattle.routes.specs.Record.{recordAt, routesOf}
+use Rattle.routes.specs.Said.{accepted, refused}
+use Rattle.routes.specs.declared.Route.{Route}
+use Rattle.standing.specs.Cells.{any, first, best}
+use Rattle.sail.specs.Geometry.{standardGeo}
+use Rattle.sail.specs.Sizes.{Sized}
+use Rattle.sail.specs.Sound.{cellsRead}
+use Rattle.sail.specs.Walk.{hopSaid, lookupSaid}
+use Rattle.sail.proofs.Sounds.{sail-serves}
+use Rattle.sail_theory.specs.Calls.{out}
+use Rattle.sail_theory.proofs.Anew.{AsFresh}
+use Rattle.demands.proofs.Lookups.{Lookup, lookup-only}
+use Rattle.examples.specs.Lines.{ip}
+use Rattle.routes.specs.ListA.{listA}
+use Rattle.examples.proofs.TableA.{stateA, lentA, sound-A, standing-A}
+use Rattle.examples.proofs.NotSound.{firstIs, own2Is, own3Is, at-first}
+
+-- refused
+pub load-refused : (n : ℕ) → AsFresh stateA lentA (out (refused n) stateA lentA) → ⊥
+load-refused n f = false≢true (f .accepted-too)
+
+-- 192.0.2.1 gets hop 6, and hop 7 where its first cell says so
+six : lookupSaid stateA lentA (ip 192 0 2 1) ≡ accepted (1 ∷ 6 ∷ [])
+unfolding listA routesOf tabulate recordAt any best first hopSaid
+six =
+    sail-serves stateA lentA sound-A (ip 192 0 2 1) (omega arith)
+    ∙ ap (λ (rs : List Route). hopSaid (cellsRead standardGeo rs (ip 192 0 2 1)) (best rs 32 (ip 192 0 2 1))) standing-A
+
+sized : Sized standardGeo (firstIs 49152 32775)
+sized = record {
+  valid = sound-A .sized .valid;
+  whole = sound-A .sized .whole;
+  room = sound-A .sized .room;
+  cells1 = rw length-set (sound-A .sized .cells1);
+  few2 = sound-A .sized .few2;
+  cells2 = sound-A .sized .cells2;
+  few3 = sound-A .sized .few3;
+  cells3 = sound-A .sized .cells3;
+}
+
+seven : lookupSaid stateA (firstIs 49152 32775) (ip 192 0 2 1) ≡ accepted (1 ∷ 7 ∷ [])
+unfolding hopSaid
+seven =
+    let e = at-first 49152 32775 (omega arith) in
+    lookup-only stateA (firstIs 49152 32775) (ip 192 0 2 1) _ (Lookup.first-leaf sized (omega (arith, e)))
+    ∙ ap (λ (v : ℕ). hopSaid 1 (v - 32768)) e
+
+pub other-hop : AsFresh stateA lentA (out (accepted []) stateA (firstIs 49152 32775)) → ⊥
+other-hop f =
+    let e : accepted (1 ∷ 6 ∷ []) ≡ accepted (1 ∷ 7 ∷ []) = sym six ∙ f .lookups (ip 192 0 2 1) (omega arith) ∙ seven in
+    let z : _≡_ {A = ℕ} 6 7 = cc in
+    omega arith
+
+-- another chunk of a pool in use
+pub more-second : AsFresh stateA lentA (out (accepted []) stateA (own2Is (2562 ∷ 7 ∷ []))) → ⊥
+unfolding count
+more-second f = omega (arith, f .chunks2)
+
+pub more-third : AsFresh stateA lentA (out (accepted []) stateA (own3Is (3 ∷ 7 ∷ []))) → ⊥
+unfolding count
+more-third f = omega (arith, f .chunks3)

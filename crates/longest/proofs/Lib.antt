@@ -1,0 +1,3 @@
+-- Laws of the longest record.
+pub mod Shares
+pub mod Steps

@@ -1,0 +1,66 @@
+-- `packing::maps::hop_found`: the hop has room, and stands where the layout has it.
+use mathlib.Core.Path.{ap}
+use native.Mathlib.Omega.{arith}
+use Rattle.routes.specs.Said.{packed}
+use Rattle.basic.specs.Calls.{saysBasicFound, packHop}
+use Rattle.basic.specs.declared.lookup.BasicFound.{BasicFound}
+use borrow.Author.Needs.{needs}
+use Rattle.packing.proofs.maps.hop_found.Statement.{statement}
+use Rattle.packing.proofs.maps.hop_found.Tie as tie
+
+enum-known-a : tie.Need-enum-known-a
+enum-known-a c = search needs
+
+half-requires : tie.Need-half-requires
+half-requires c κs = search needs
+
+mul-result : tie.Need-mul-result
+mul-result c = search needs
+
+enum-told : tie.Need-enum-told
+enum-told c = search needs
+
+enum-known-a-2 : tie.Need-enum-known-a-2
+enum-known-a-2 c = search needs
+
+refused-at-requires : tie.Need-refused-at-requires
+refused-at-requires c κs = search needs
+
+enum-known-a-3 : tie.Need-enum-known-a-3
+enum-known-a-3 c = search needs
+
+byte-requires : tie.Need-byte-requires
+byte-requires c κs = search needs
+
+returns : tie.Need-returns
+unfolding saysBasicFound packed
+returns c = omega (arith, ap (λ (x : BasicFound). packHop (saysBasicFound x)) (c .before .before .a .given .1))
+
+returns-2 : tie.Need-returns-2
+unfolding saysBasicFound packed
+returns-2 c = omega (arith, ap (λ (x : BasicFound). packHop (saysBasicFound x)) (c .enum-told .given .1))
+
+returns-3 : tie.Need-returns-3
+unfolding saysBasicFound packed
+returns-3 c = omega (arith, ap (λ (x : BasicFound). packHop (saysBasicFound x)) (c .before .before .a2 .given .1))
+
+returns-4 : tie.Need-returns-4
+unfolding saysBasicFound packed
+returns-4 c = omega (arith, ap (λ (x : BasicFound). packHop (saysBasicFound x)) (c .before .before .a3 .given .1))
+
+pub hop-found-spec : {M : Type 1} → statement M
+hop-found-spec =
+    tie.close
+    (tie.spec
+    enum-known-a
+    half-requires
+    mul-result
+    enum-told
+    enum-known-a-2
+    refused-at-requires
+    enum-known-a-3
+    byte-requires
+    returns
+    returns-2
+    returns-3
+    returns-4)

@@ -1,0 +1,67 @@
+-- `print::put_standing`: what the report of a sound table tells is what is written, and its refusal is impossible.
+use borrow.Author.Needs.{needs}
+use native.Mathlib.Omega.{arith}
+use Rattle.print.proofs.Ways.{standing-printable, standing-wrote, never-refused}
+use Rattle.print.proofs.put_standing.Statement.{statement}
+use Rattle.print.proofs.put_standing.Tie as tie
+
+report-requires : tie.Need-report-requires
+report-requires c κs = tt
+
+enum-known-routes : tie.Need-enum-known-routes
+enum-known-routes c = search needs
+
+cast-table-text : tie.Need-cast-table-text
+cast-table-text c = search needs
+
+table-text-requires : tie.Need-table-text-requires
+table-text-requires c κs =
+    let arm = c .before .before .before in
+    let report = arm .before .before in
+    let start = report .before .before .before .before .before .before .before .before in
+    standing-printable _ _ (start .pre .sound) _ (report .report .ensures) _ _ _ (arm .routes .given .1) _ (omega arith) (start .pre .room)
+
+enum-known-number : tie.Need-enum-known-number
+enum-known-number c = search needs
+
+refusal-text-requires : tie.Need-refusal-text-requires
+refusal-text-requires c κs =
+    let report = c .before .before .before .before in
+    let start = report .before .before .before .before .before .before .before .before in
+    omega (arith, start .pre .room)
+
+same-length : tie.Need-same-length
+same-length c = search needs
+
+returns : tie.Need-returns
+returns c =
+    let put = c .before .before in
+    let arm = put .before .before .before .before in
+    let report = arm .before .before in
+    let start = report .before .before .before .before .before .before .before .before in
+    standing-wrote _ _ (start .pre .sound) _ (report .report .ensures) _ _ _ (arm .routes .given .1) (put .table-text .ensures)
+
+same-length-2 : tie.Need-same-length-2
+same-length-2 c = search needs
+
+returns-2 : tie.Need-returns-2
+returns-2 c =
+    let arm = c .before .before .before .before .before in
+    let report = arm .before .before in
+    let start = report .before .before .before .before .before .before .before .before in
+    absurd (never-refused _ _ (start .pre .sound) _ (report .report .ensures) _ (arm .number .given .1))
+
+pub put-standing-spec : {M : Type 1} → statement M
+put-standing-spec =
+    tie.close
+    (tie.spec
+    report-requires
+    enum-known-routes
+    cast-table-text
+    table-text-requires
+    enum-known-number
+    refusal-text-requires
+    same-length
+    returns
+    same-length-2
+    returns-2)

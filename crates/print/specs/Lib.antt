@@ -1,0 +1,3 @@
+-- What is printed of a record input, and the same case by case.
+pub mod Printed
+pub mod Cases

@@ -1,0 +1,94 @@
+/* How much stack each call takes, beside what the header says: it runs in a thread whose stack is painted before, and
+ * the paint that is gone afterwards is counted. The table is the largest that there is, with every chunk in use. */
+#include <pthread.h>
+#include <stdlib.h>
+#include "check.h"
+
+#define STACK ((size_t)1 << 20)
+#define N GH_MOST_RECORDS
+#define PAINT 0xA5
+
+static uint8_t list[N * GH_RECORD_BYTES], input[N * GH_RECORD_BYTES];
+static uint16_t first[GH_FIRST_CELLS(12)], second[N * GH_SECOND_CHUNK(12, 22)], third[N * GH_THIRD_CHUNK(22)];
+static uint32_t own2[N], own3[N];
+static struct gh_table t = GH_TABLE(12, 22, list, first, second, third, own2, own3);
+static uint32_t words[GH_WORDS_FOR(N)], addrs[1000], out[1000], counts[GH_TALLY_WORDS];
+static uint16_t hops[N];
+static uint8_t bits[GH_MAP_BYTES];
+static uint16_t cells[GH_MAP_CELLS];
+#define MAPS input, sizeof input, bits, GH_MAP_BYTES, cells, GH_MAP_CELLS
+static const uint32_t here = IP(100, 16, 0, 77);
+
+static uint64_t nothing(void) { return 0; }
+static uint64_t make(void) { return gh_table_make(&t); }
+static uint64_t load(void) { return gh_table_load(&t, input, sizeof input); }
+static uint64_t announce(void) { return gh_table_announce(&t, here, 32, 5, GH_BEHIND); }
+static uint64_t withdraw(void) { return gh_table_withdraw(&t, here, 32); }
+static uint64_t report(void) { return gh_table_report(&t); }
+static uint64_t lookup(void) { return gh_table_lookup(&t, here); }
+static uint64_t lookup_many(void) { return gh_table_lookup_many(&t, addrs, out, 1000); }
+static uint64_t build(void) { return gh_build(input, sizeof input, words, GH_ELEMENTS(words), hops, N); }
+static uint64_t tree_lookup(void) { return gh_tree_lookup(words, GH_ELEMENTS(words), hops, N, here); }
+static uint64_t run(void) { return gh_run(input, sizeof input, IP(100, 0, 0, 0), 8); }
+static uint64_t tally(void) { return gh_tally(input, sizeof input, counts, GH_TALLY_WORDS); }
+static uint64_t route(void) { return gh_route(input, sizeof input, 7); }
+static uint64_t basic_build(void) { return gh_basic_build(MAPS); }
+static uint64_t basic_lookup(void) { return gh_basic_lookup(MAPS, here); }
+static uint64_t basic_lookup_many(void) { return gh_basic_lookup_many(MAPS, addrs, 1000, out, 1000); }
+
+struct call {
+    const char *name;
+    uint64_t (*call)(void);
+    size_t most;
+    uint64_t answer;
+};
+
+static void *in_thread(void *c)
+{
+    struct call *call = (struct call *)c;
+    call->answer = call->call();
+    return NULL;
+}
+
+static size_t taken(struct call *call)
+{
+    uint8_t *stack = (uint8_t *)aligned_alloc(4096, STACK);
+    memset(stack, PAINT, STACK);
+    pthread_attr_t how;
+    pthread_t thread;
+    pthread_attr_init(&how);
+    if (pthread_attr_setstack(&how, stack, STACK) || pthread_create(&thread, &how, in_thread, call)
+        || pthread_join(thread, NULL))
+        CHECK(0, 1);
+    size_t left = 0;
+    while (left < STACK && stack[left] == PAINT)
+        left++;
+    free(stack);
+    return STACK - left;
+}
+
+int main(void)
+{
+    struct call calls[] = {
+        { "nothing", nothing, STACK, 0 },
+        { "make", make, GH_STACK, 0 }, { "load", load, GH_STACK_TABLE, 0 },
+        { "withdraw", withdraw, GH_STACK_TABLE, 0 }, { "announce", announce, GH_STACK_TABLE, 0 },
+        { "report", report, GH_STACK_TABLE, 0 }, { "lookup", lookup, GH_STACK, 0 },
+        { "lookup_many", lookup_many, GH_STACK, 0 }, { "build", build, GH_STACK, 0 },
+        { "tree_lookup", tree_lookup, GH_STACK, 0 }, { "run", run, GH_STACK, 0 }, { "tally", tally, GH_STACK, 0 },
+        { "route", route, GH_STACK, 0 }, { "basic_build", basic_build, GH_STACK, 0 },
+        { "basic_lookup", basic_lookup, GH_STACK, 0 }, { "basic_lookup_many", basic_lookup_many, GH_STACK, 0 },
+    };
+    for (uint32_t k = 0; k < N; k++)
+        put_record(input + GH_RECORD_BYTES * k, k << 20 | 77, 32, 9);
+    for (uint32_t k = 0; k < 1000; k++)
+        addrs[k] = k * 4294967u;
+    size_t thread = taken(&calls[0]);
+    for (size_t k = 1; k < GH_ELEMENTS(calls); k++) {
+        size_t bytes = taken(&calls[k]) - thread;
+        printf("%s %zu%s", calls[k].name, bytes, k + 1 < GH_ELEMENTS(calls) ? ", " : " bytes of stack\n");
+        CHECK(GH_NUMBER(calls[k].answer), 0);
+        CHECK(bytes <= calls[k].most, 1);
+    }
+    return checked("stack");
+}
