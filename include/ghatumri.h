@@ -75,9 +75,10 @@
  * no pointer in the arrays, so a copy of them with geometry and count is the same table. It is so with images too: a
  * change in place moves nodes, and a reader beside it would meet halves.
  *
- * STACK. gh_load, gh_announce, gh_withdraw and gh_report take at most GH_STACK_TABLE bytes of stack, the others
- * GH_STACK. Measured for x86-64 it is 44 KB for announce, withdraw and the report, 42 KB for load, and under 200 bytes
- * for each of the others. None is recursive.
+ * STACK. gh_load, gh_announce, gh_withdraw and gh_report take at most GH_STACK_TABLE bytes of stack, the test and the
+ * changes of an image GH_STACK_IMAGE, the others GH_STACK. Measured for x86-64 it is 44 KB for announce, withdraw and the
+ * report, 42 KB for load, under 200 bytes for each of the others. The test of an image is the only one that is recursive:
+ * a node's test calls that of its children and back, once for each depth, of which there are 9.
  *
  * WHAT THE LIBRARY NEEDS: memcpy and memset, and nothing else of a C library.
  */
@@ -145,6 +146,7 @@ extern "C" {
 #define GH_MAP_CELLS       131071     /* their cells */
 
 #define GH_STACK_TABLE     49152      /* bytes of stack: load, announce, withdraw, report */
+#define GH_STACK_IMAGE     4096       /* gh_tree_test, gh_tree_announce, gh_tree_withdraw */
 #define GH_STACK           1024       /* the other calls */
 
 /* ---- Refusals -------------------------------------------------------------------------------------------------- */

@@ -54,9 +54,13 @@ fn announced_and_withdrawn() {
     assert_eq!((&*image.words, &*image.hops), (&before[..], &[6, 20, 31, 44, 57, 0][..]));
 
     // Down to no route at all: the root stays, and nothing else.
-    for (addr, len, nodes) in
-        [([10, 1, 2, 128], 25, 7), ([10, 0, 0, 0], 8, 7), ([10, 1, 2, 0], 24, 5), ([0; 4], 0, 5), ([10, 1, 0, 0], 16, 1)]
-    {
+    for (addr, len, nodes) in [
+        ([10, 1, 2, 128], 25, 7),
+        ([10, 0, 0, 0], 8, 7),
+        ([10, 1, 2, 0], 24, 5),
+        ([0; 4], 0, 5),
+        ([10, 1, 0, 0], 16, 1),
+    ] {
         assert_eq!(image.withdraw(addr, len).unwrap().nodes, nodes);
     }
     assert_eq!(image.test(), Ok(Built { nodes: 1, hops: 0 }));
