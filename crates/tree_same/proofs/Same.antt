@@ -17,8 +17,9 @@ use Rattle.routes.proofs.Goods.{good-fine, key-parts}
 use Rattle.standing.specs.Cells.{here}
 use Rattle.standing.specs.Standing.{Held, absent, stood, routeAt}
 use Rattle.standing.proofs.Standing.{same-standing}
+use Rattle.standing.proofs.Prefixes.{one-key}
 use Rattle.tree.specs.Image.{through, nodeStands, hopFor, Image, imageOf, imageBy, nodeNeed}
-use Rattle.tree.proofs.Lies.{any-is, found-any, hop-of, one-prefix, pass-parts}
+use Rattle.tree.proofs.Lies.{any-is, found-any, hop-of, pass-parts}
 use Rattle.tree.proofs.Marks.{hops-plain, image-unmarked}
 use Rattle.tree.proofs.Levels.{parent-stands}
 use Rattle.tree.proofs.Needs.{hops-need}
@@ -109,7 +110,7 @@ carried rs ss g k a b e r m =
     let w = any-is (here l q) ss (found-any (here l q) ss (omega (arith, e l q, h, f .hop-one))) in
     let t = good-fine ss k (w .0) (w .1) in
     let same : r ≡ w .0 =
-    same-route r (w .0) f t (a r m ∙ sym (b (w .0) (w .1))) (one-prefix l q r (w .0) f t mine (w .2)) (sym h ∙ e l q ∙ hop-of l q ss (w .0) k (w .1) (w .2)) in
+    same-route r (w .0) f t (a r m ∙ sym (b (w .0) (w .1))) (one-key l q r (w .0) f t mine (w .2)) (sym h ∙ e l q ∙ hop-of l q ss (w .0) k (w .1) (w .2)) in
     subst (λ (x : Route). List·Memᴰ x ss) (sym same) (w .1)
 
 -- a good list with no marks is known by its prefixes and their hops
