@@ -19,6 +19,7 @@ use Rattle.tree_build.specs.Built.{Out, out, madeOf, afterInput, built}
 use Rattle.tree_build.proofs.Serves.{Accepted, built-accepts}
 use Rattle.tree_same.specs.Listed.{routesHeld}
 use Rattle.tree_check.specs.WellFormed.{used, wellFormed}
+use Rattle.tree_check.specs.Buildable.{Buildable}
 use Rattle.tree_check.proofs.Meaning.{WellFormed, well-formed-is, is-well-formed}
 use Rattle.tree_check.proofs.Builds.{image-formed}
 use Rattle.tree_check.proofs.Held.{held-good, held-image, held-nodes, held-hops}
@@ -44,13 +45,6 @@ pub made-fits : (rs : List Route) (ws hs : List ℕ) → nodeNeed rs ≤ length 
 unfolding madeOf
 made-fits rs ws hs a b = rw (le-ltb (length ws / 3) (nodeNeed rs) a, le-ltb (length hs) (length rs) b) refl
 
--- some record input builds these words and hops, into any arrays of these sizes
-pub record Buildable (ws hs : List ℕ) : Type 0 where
-  pub input : List ℕ
-  pub nodes : ℕ
-  pub routes : ℕ
-  pub builds : (ws₀ hs₀ : List ℕ) → length ws₀ ≡ length ws → length hs₀ ≡ length hs → built input ws₀ hs₀ ≡ out (accepted (nodes ∷ routes ∷ [])) ws hs
-
 -- (words are of 32 bits by their type)
 pub passes-builds : (ws hs : List ℕ) → ((j : ℕ) → getD ws j 0 < 2 ^ 32) → wellFormed ws hs ≡ true → Buildable ws hs
 passes-builds ws hs narrow e =
@@ -72,7 +66,7 @@ passes-builds ws hs narrow e =
     }
 
 -- an accepted input has at most 4,096 routes
-accepted-few : (s ws hs vs : List ℕ) → built s ws hs .said ≡ accepted vs → length (routesIn s) ≤ 4096
+pub accepted-few : (s ws hs vs : List ℕ) → built s ws hs .said ≡ accepted vs → length (routesIn s) ≤ 4096
 unfolding built
 accepted-few s ws hs vs e = go (input-checked s) e
   where

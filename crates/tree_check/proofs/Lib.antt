@@ -5,3 +5,5 @@ pub mod Held
 pub mod Exact
 pub mod Steps
 pub mod Answers
+pub mod OneAnswer
+pub mod AsBuilt

@@ -1,3 +1,5 @@
--- When an image is well formed, and what its test says.
+-- When an image is well formed, what its test says, and what that is to mean.
 pub mod WellFormed
 pub mod Answers
+pub mod Contract
+pub mod Buildable
