@@ -2,7 +2,9 @@
 ghost use mathlib.Core.Path.{_≡_};
 ghost use Rattle.tree.specs.Walk.{treeSaid};
 ghost use Rattle.tree_build.specs.Built.{built};
+ghost use Rattle.tree_check.specs.Answers.{tested};
 ghost use Rattle.sail.specs.Word.{packFound};
+ghost use Rattle.packing.specs.Pack.{packBuilt};
 ghost use Rattle.cards.specs.Cards.{imageCard, imageCardOf};
 
 // The image of the input's routes.
@@ -19,4 +21,12 @@ pub extern "C" fn gh_tree_lookup(words: &[u32], hops: &[u16], addr: u32) -> u64
     ensures { λ r. ⌜ r ≡ packFound (treeSaid (now (words .entry)) (now (hops .entry)) addr) ⌝ }
 {
     packing::tree_found(tree::lookup(words, hops, addr))
+}
+
+// The nodes and the hops in use of a well-formed image.
+#[no_mangle]
+pub extern "C" fn gh_tree_test(words: &[u32], hops: &[u16]) -> u64
+    ensures { λ r. ⌜ r ≡ packBuilt (tested (now (words .entry)) (now (hops .entry))) ⌝ }
+{
+    packing::images::tested(tree_check::test(words, hops))
 }
