@@ -183,7 +183,7 @@ is-formed ws hs n narrow e z =
 
 -- a route of a proper prefix and a fine hop
 pub is-fine : (a len h : ℕ) → properPrefix a len ≡ true → hopFine h ≡ true → Fine (route a len h)
-is-fine a len h p q = let k = hop-true h q in record { prefix = prefix-true a len p; hop-one = k .0; hop-ok = k .1; spare-ok = refl }
+is-fine a len h p q = let k = hop-true h q in record { prefix = prefix-true a len p; hop-one = k .0; hop-ok = k .1; mark-ok = omega arith }
 
 module _ (ws hs : List ℕ) (a len : ℕ) where
   not-false : (t : Bool) → not t ≡ false → t ≡ true

@@ -7,14 +7,17 @@ use native.Mathlib.Omega.{arith}
 use lib.Dec.{eqb, ltb}
 use lib.ListN.{length, getD}
 use Rattle.routes.specs.Input.{properPrefix, hopFine}
-use Rattle.routes.specs.Route.{key, keyOf, Fine, Good}
+use Rattle.routes.specs.Route.{key, keyOf, plain, Fine, Good}
 use Rattle.routes.specs.Said.{accepted, accepts}
 use Rattle.routes.specs.declared.Route.{Route}
 use Rattle.standing.specs.Standing.{stands, insert, remove}
 use Rattle.standing.proofs.Standing.{insert-good, insert-replaces, remove-good}
-use Rattle.tree.specs.Image.{nodeNeed, imageOf, nodeStands}
+use Rattle.standing.specs.Cells.{best}
+use Rattle.tree.specs.Image.{nodeNeed, imageOf, onPath}
+use Rattle.tree.specs.Walk.{told, treeSaid}
+use Rattle.tree.proofs.Serves.{image-serves}
 use Rattle.tree_build.specs.Built.{Out, out, madeOf, built}
-use Rattle.tree_same.specs.Listed.{plain, routesHeld}
+use Rattle.tree_same.specs.Listed.{routesHeld}
 use Rattle.tree_same.proofs.Same.{image-held}
 use Rattle.tree_check.specs.WellFormed.{used, wellFormed}
 use Rattle.tree_check.proofs.Meaning.{well-formed-is, is-well-formed}
@@ -60,6 +63,10 @@ module _ (rs : List Route) (g : Good rs) (ws hs : List ℕ) (few : length rs ≤
   pub then-held : routesHeld (imageOf rs (length ws) (length hs) .words) (imageOf rs (length ws) (length hs) .hops) ≡ map plain rs
   then-held = image-held rs (length ws) (length hs) g (omega arith) hops
 
+  -- every address meets the longest of these routes that covers it, or none, told after the nodes on its path
+  pub then-serves : (x : ℕ) → x < 2 ^ 32 → treeSaid (imageOf rs (length ws) (length hs) .words) (imageOf rs (length ws) (length hs) .hops) x ≡ told (best rs 32 x) (onPath rs x)
+  then-serves x l = image-serves rs (length ws) (length hs) x g l (omega arith) hops
+
   pub then-formed : wellFormed (imageOf rs (length ws) (length hs) .words) (imageOf rs (length ws) (length hs) .hops) ≡ true
   then-formed = is-well-formed _ _ (nodeNeed rs) (image-formed rs (length ws) (length hs) g few (omega arith) hops)
 
@@ -100,6 +107,12 @@ module _ (ws hs : List ℕ) (a len h : ℕ) (narrow : (j : ℕ) → getD ws j 0 
     announce-stands =
         ap₂ routesHeld words-are hops-are′ ∙ then-held (routesWith ws hs a len h) (good-with (put .asked)) ws hs (put .few) (put .nodes-fit) (put .hops-fit)
         ∙ plain-insert (route a len h) (routesHeld ws hs) ∙ ap (insert (route a len h)) (held-plain ws hs narrow (put .asked .image))
+
+    -- a lookup in it meets the longest of them
+    pub announce-serves : (x : ℕ) → x < 2 ^ 32 → treeSaid (after .words) (after .hops) x ≡ told (best (routesWith ws hs a len h) 32 x) (onPath (routesWith ws hs a len h) x)
+    announce-serves x l =
+        ap₂ (λ (u v : List ℕ). treeSaid u v x) words-are hops-are′
+        ∙ then-serves (routesWith ws hs a len h) (good-with (put .asked)) ws hs (put .few) (put .nodes-fit) (put .hops-fit) x l
 
     pub announce-formed : wellFormed (after .words) (after .hops) ≡ true
     announce-formed = rw (words-are, hops-are′) (then-formed (routesWith ws hs a len h) (good-with (put .asked)) ws hs (put .few) (put .nodes-fit) (put .hops-fit))
@@ -144,6 +157,11 @@ module _ (ws hs : List ℕ) (a len : ℕ) (narrow : (j : ℕ) → getD ws j 0 < 
   withdraw-stands =
       ap₂ routesHeld left-words left-hops ∙ then-held (routesWithout ws hs a len) good-without ws hs (room .2) (room .0) (room .1)
       ∙ plain-remove (keyOf a len) (routesHeld ws hs) ∙ ap (remove (keyOf a len)) (held-plain ws hs narrow (taken .image))
+
+  pub withdraw-serves : (x : ℕ) → x < 2 ^ 32 → treeSaid (left .words) (left .hops) x ≡ told (best (routesWithout ws hs a len) 32 x) (onPath (routesWithout ws hs a len) x)
+  withdraw-serves x l =
+      ap₂ (λ (u v : List ℕ). treeSaid u v x) left-words left-hops
+      ∙ then-serves (routesWithout ws hs a len) good-without ws hs (room .2) (room .0) (room .1) x l
 
   pub withdraw-formed : wellFormed (left .words) (left .hops) ≡ true
   withdraw-formed = rw (left-words, left-hops) (then-formed (routesWithout ws hs a len) good-without ws hs (room .2) (room .0) (room .1))

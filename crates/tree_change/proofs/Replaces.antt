@@ -69,7 +69,7 @@ module _ {ws hs : List ℕ} {n k x a len b : ℕ} (r : Standing ws hs n k x a le
 
   module _ (h : ℕ) (some : 0 < h) (most : h ≤ 32767) where
     fine : Fine (route a len h)
-    fine = record { prefix = r .prefix; hop-one = some; hop-ok = most; spare-ok = refl }
+    fine = record { prefix = r .prefix; hop-one = some; hop-ok = most; mark-ok = omega arith }
 
     pub replace-done : (y : ℕ) → y ≡ baseOf ws x + ones (bitsOf ws x % 2 ^ b) → Become (insert (route a len h) rs) ws hs ws (set hs y h) n
     replace-done y e =
