@@ -34,7 +34,7 @@ use Rattle.tree_hold.proofs.Paths.{down-shaped, down-grows, down-same, insert-n
 use Rattle.tree_change.specs.Changed.{route}
 use Rattle.tree_change.specs.Stages.{New}
 use Rattle.tree_change.proofs.Places.{shaped, way-stands, way-absent}
-use Rattle.tree_change.proofs.Adds.{down-any}
+use Rattle.tree_change.proofs.Midways.{down-any}
 
 module _ (st : ℕ → ℕ → Bool) (hop : ℕ → ℕ → ℕ) (a : ℕ) (small : a < 2 ^ 32) (f : Shaped st hop) where
   -- a node that stands is not added

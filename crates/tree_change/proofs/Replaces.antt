@@ -30,7 +30,7 @@ use Rattle.tree_hold.proofs.Paths.{insert-nodes, insert-hops, stands-hop}
 use Rattle.tree_change.specs.Changed.{route}
 use Rattle.tree_change.specs.Stages.{Found, Descent, BitOf, Standing, Become}
 use Rattle.tree_change.proofs.Places.{bit-len, bit-bits, hop-at-bit, shaped, way-stands}
-use Rattle.tree_change.proofs.Adds.{become, down-any}
+use Rattle.tree_change.proofs.Midways.{down-any, become}
 
 module _ {ws hs : List ℕ} {n k x a len b : ℕ} (r : Standing ws hs n k x a len b) where
   abbrev rs : List Route
