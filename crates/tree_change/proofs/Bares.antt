@@ -23,7 +23,7 @@ use Rattle.tree_same.specs.Read.{reached, leads}
 use Rattle.tree_same.specs.Order.{standsAt}
 use Rattle.tree_same.proofs.Back.{Shaped}
 use Rattle.tree_hold.specs.More.{downTo}
-use Rattle.tree_change.specs.Stages.{Descent}
+use Rattle.tree_change.specs.Stages.{Descent, OnPath}
 
 -- ---- no bit where no route passes
 
@@ -105,3 +105,15 @@ module _ (ws : List ℕ) (a : ℕ) where
           let q : suc d + (m - suc d) ≡ m = omega arith in
           let s = leads-step d (omega arith) (leads-above (m - suc d) (suc d) (omega arith) (subst (λ (z : ℕ). leads ws z (slot (4 * z) a) ≡ true) (sym q) t)) in
           absurd (true≢false (sym (s .1) ∙ ap₂ (λ (z c : ℕ). isSet (bitsOf ws z) (16 + slot (4 * c) a % 16)) (sym (w .at)) (sym (add-one d)) ∙ w .stop u))
+
+-- ---- what the code's test of a node says
+
+module _ (ws : List ℕ) (n a m : ℕ) (p : OnPath ws n a m) where
+  -- the root is never taken away
+  pub bare-root : m ≡ 0 → false ≡ (ltb 0 m && eqb (bitsOf ws (reached ws m (slot (4 * m) a))) 0)
+  bare-root e = rw (le-ltb 0 m (omega arith)) refl
+
+  pub bare-node : (m ≡ 0 → ⊥) → (x d : ℕ) → Descent ws n a m x d → eqb (bitsOf ws x) 0 ≡ (ltb 0 m && eqb (bitsOf ws (reached ws m (slot (4 * m) a))) 0)
+  bare-node z x d w =
+      rw (lt-ltb 0 m (omega arith))
+      (ap (λ (y : ℕ). eqb (bitsOf ws y) 0) (w .at ∙ ap (λ (y : ℕ). reached ws y (slot (4 * y) a)) (full-way ws a n m x d (p .deep) (p .stands) w)))
