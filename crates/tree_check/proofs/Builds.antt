@@ -33,9 +33,9 @@ use Rattle.tree.proofs.Serves.{agree, words-after, hops-after}
 use Rattle.tree_build.proofs.Marks.{word-bits}
 use Rattle.tree_same.specs.Order.{exts, ints, Order}
 use Rattle.tree_same.proofs.Canonical.{ext-ones, exts-before, ints-before, all-kids}
-use Rattle.tree_same.proofs.Same.{hopping}
+use Rattle.tree_same.proofs.Same.{hopping, fits}
+use Rattle.tree_same.proofs.Holdings.{image-order, image-ints}
 use Rattle.tree_check.specs.WellFormed.{allFrom, nodeOk, wellFormed}
-use Rattle.tree_check.proofs.Orders.{image-order, image-ints}
 use Rattle.tree_check.proofs.Meaning.{WellFormed, from-all, is-well-formed}
 
 -- a number with a bit set is not 0
@@ -157,11 +157,11 @@ module _ (rs : List Route) (g : Good rs) where
 
     order : Order ws (nodeNeed rs)
     unfolding imageBy
-    order = image-order st hop (agree rs g) w h room hops-fit
+    order = image-order st hop (fits rs g) w h room hops-fit
 
     all-hops : ints ws (nodeNeed rs) ≡ length rs
     unfolding imageBy
-    all-hops = image-ints st hop (agree rs g) w h room hops-fit ∙ hops-need rs g
+    all-hops = image-ints st hop (fits rs g) w h room hops-fit ∙ hops-need rs g
 
     hop-fine : (k : ℕ) → k < length rs → (1 ≤ getD hs k 0) × (getD hs k 0 ≤ 32767)
     unfolding imageBy hops hopsOf bitHop

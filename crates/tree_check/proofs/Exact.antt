@@ -8,14 +8,14 @@ use native.Mathlib.Omega.{arith}
 use lib.ListN.{length, getD}
 use borrow.Author.Tests.{le-ltb}
 use Rattle.routes.specs.Said.{Said, accepted}
-use Rattle.routes.specs.Record.{routesOf, written, Records}
+use Rattle.routes.specs.Record.{routesOf, written, Records, routesIn}
 use Rattle.routes.specs.Input.{inputSaid}
 use Rattle.routes.specs.Route.{Good}
 use Rattle.routes.specs.declared.Route.{Route}
 use Rattle.routes.proofs.Meaning.{Checked, ragged, stopped, many, good, input-checked, good-input}
 use Rattle.routes.proofs.Rows.{length-routes, length-written, routes-written, written-listed}
 use Rattle.tree.specs.Image.{imageOf, nodeNeed}
-use Rattle.tree_build.specs.Built.{Out, out, routesIn, madeOf, afterInput, built}
+use Rattle.tree_build.specs.Built.{Out, out, madeOf, afterInput, built}
 use Rattle.tree_build.proofs.Serves.{Accepted, built-accepts}
 use Rattle.tree_same.specs.Listed.{routesHeld}
 use Rattle.tree_check.specs.WellFormed.{used, wellFormed}

@@ -1,5 +1,4 @@
 -- Laws of the test, and that it passes exactly what a build leaves.
-pub mod Orders
 pub mod Meaning
 pub mod Builds
 pub mod Held

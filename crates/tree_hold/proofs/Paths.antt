@@ -254,11 +254,11 @@ module _ (r : Route) (rs : List Route) (f : Fine r) (g : Good rs) where
           rw t
           (ap (λ (x : ℕ). orElse x 0)
           (sym (insert-but r rs f g .same-first (here l q) (λ s a b. untrue (here l q s) (λ u.
-              let k = and-split (eqb (s .len) l) (eqb (slot l (s .addr)) q) u in
-              let x = eqb-true (s .len) l (k .0) in
-              let y = eqb-true (slot l (s .addr)) q (k .1) in
-              let z : l ≡ r .len = sym x ∙ b in
-              true≢false (sym (both (eq-eqb l (r .len) z) (eq-eqb q (slot (r .len) (r .addr)) (sym y ∙ ap₂ slot z a))) ∙ t))))))
+          let k = and-split (eqb (s .len) l) (eqb (slot l (s .addr)) q) u in
+          let x = eqb-true (s .len) l (k .0) in
+          let y = eqb-true (slot l (s .addr)) q (k .1) in
+          let z : l ≡ r .len = sym x ∙ b in
+          true≢false (sym (both (eq-eqb l (r .len) z) (eq-eqb q (slot (r .len) (r .addr)) (sym y ∙ ap₂ slot z a))) ∙ t))))))
 
 -- ---- a route of the list, taken out and put in again
 

@@ -24,7 +24,7 @@ use Rattle.tree_same.proofs.Back.{Shaped, set-is}
 use Rattle.tree_same.proofs.Holdings.{nodes-are, hops-are, stands-found}
 use Rattle.tree_hold.specs.More.{withHop}
 use Rattle.tree_hold.specs.Edits.{HopPut, Puttable}
-use Rattle.tree_hold.proofs.Holds.{held-words, image-holding}
+use Rattle.tree_hold.proofs.Holds.{held-words}
 use Rattle.tree_hold.proofs.Each.{past}
 use Rattle.tree_hold.proofs.PutBits.{low-upto}
 use Rattle.tree_hold.proofs.Puts.{leads-same, all-ints, put-holds}

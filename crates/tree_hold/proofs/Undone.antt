@@ -25,11 +25,11 @@ use Rattle.tree_same.specs.Read.{reached}
 use Rattle.tree_same.specs.Order.{exts, ints, standsAt}
 use Rattle.tree_same.specs.Holding.{Holding}
 use Rattle.tree_same.proofs.Back.{Shaped, set-is}
-use Rattle.tree_same.proofs.Holdings.{nodes-are, hops-are, holds-image, stands-found}
+use Rattle.tree_same.proofs.Holdings.{nodes-are, hops-are, holds-image, stands-found, image-holding}
 use Rattle.tree_check.proofs.Held.{bit-of}
 use Rattle.tree_hold.specs.More.{also, withHop}
 use Rattle.tree_hold.specs.Edits.{GraftedBits, Grafted, Graftable, MarkedBits, HopPut, Puttable}
-use Rattle.tree_hold.proofs.Holds.{held-words, image-holding}
+use Rattle.tree_hold.proofs.Holds.{held-words}
 use Rattle.tree_hold.proofs.GraftBits.{rank-old, rank-new, count-upto}
 use Rattle.tree_hold.proofs.Grafts.{moved-low, all-ints, leads-moved, graft-holds}
 use Rattle.tree_hold.proofs.GraftMade.{graft-done}

@@ -86,11 +86,11 @@ module _ (st : ℕ → ℕ → Bool) (hop : ℕ → ℕ → ℕ) (ok : Shaped st
   bits-at : (x : ℕ) → x < length (nodes st) → bitsOf ws x ≡ word st hop (nodeNo st x)
   bits-at x l = node-words st hop (ok .agree) w h room space x (nodeNo st x) l refl .0
 
-  ints-all : ints ws (length (nodes st)) ≡ length (hops st hop)
+  pub image-ints : ints ws (length (nodes st)) ≡ length (hops st hop)
   unfolding hops
-  ints-all = ints-before st hop ws (length (nodes st)) (le-refl _) bits-at ∙ before-all (hopsOf hop) (nodes st)
+  image-ints = ints-before st hop ws (length (nodes st)) (le-refl _) bits-at ∙ before-all (hopsOf hop) (nodes st)
 
-  image-order : Order ws (length (nodes st))
+  pub image-order : Order ws (length (nodes st))
   unfolding words
   image-order = record {
     lent = omega (arith, pad-length w (words st hop) (omega (arith, size)), size);
@@ -107,15 +107,15 @@ module _ (st : ℕ → ℕ → Bool) (hop : ℕ → ℕ → ℕ) (ok : Shaped st
       size : length (wordsFrom st hop (nodes st) 1 0) ≡ 3 * length (nodes st)
       size = words-length st hop (nodes st) 1 0
 
-  pub image-holding : Holding st hop ws hs (length (nodes st))
-  unfolding words
+  pub image-holding : Holding st hop (imageBy st hop w h .words) (imageBy st hop w h .hops) (length (nodes st))
+  unfolding imageBy words
   image-holding = record {
     order = image-order;
     right = λ m p e. let f = leads-is st hop ok w h room space m p .1 e in bits-at (reached ws m p) (f .0) ∙ ap (word st hop) (f .1);
     put = λ m p b e l o.
         let f = leads-is st hop ok w h room space m p .1 e in
         hop-found st hop (ok .agree) w h room space (reached ws m p) (node m p) b (f .0) (f .1) l o .1;
-    room = omega (arith, ints-all, pad-length h (hops st hop) space);
+    room = omega (arith, image-ints, pad-length h (hops st hop) space);
     rest = λ j l. pad-past w (words st hop) j (omega (arith, words-length st hop (nodes st) 1 0));
-    blank = λ j l. pad-past h (hops st hop) j (omega (arith, ints-all));
+    blank = λ j l. pad-past h (hops st hop) j (omega (arith, image-ints));
   }

@@ -132,8 +132,8 @@ module _ (hop : ℕ → ℕ → ℕ) where
       go (inr k) a b = two (List·Memᴰ·append-cases _ k) a b
 
   -- a listed route has no mark
-  pub listed-unmarked : (r : Route) → List·Memᴰ r (listed hop 32 0 0) → r .spare ≡ 0
-  listed-unmarked r m = ap (λ (x : Route). x .spare) (listed-under 32 0 0 refl r m .is)
+  pub listed-unmarked : (r : Route) → List·Memᴰ r (listed hop 32 0 0) → r .mark ≡ 0
+  listed-unmarked r m = ap (λ (x : Route). x .mark) (listed-under 32 0 0 refl r m .is)
 
   -- the route of the prefix itself
   own-has : (l q l′ q′ : ℕ) → l′ ≡ l → q′ / 2 ^ (l′ - l) ≡ q → 0 < hop l′ q′ → List·Memᴰ (routeOf l′ q′ (hop l′ q′)) (own hop l q)
@@ -204,7 +204,7 @@ module _ (hop : ℕ → ℕ → ℕ) (ok : Hopping hop) where
         };
         hop-one = h;
         hop-ok = ok .small l q;
-        spare-ok = refl;
+        mark-ok = omega arith;
       }
 
       go : (ltb 0 (hop l q) ≡ true) ⊎ (ltb 0 (hop l q) ≡ false) → Good (cond (ltb 0 (hop l q)) (routeOf l q (hop l q) ∷ []) [])

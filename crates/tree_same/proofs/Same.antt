@@ -11,23 +11,25 @@ use borrow.Author.Tests.{eqb-true, eq-eqb, ne-eqb}
 use Rattle.bits.specs.Slot.{slot}
 use Rattle.bits.proofs.Slots.{slot-lt}
 use Rattle.bits.proofs.Tests.{decided, both, and-split}
-use Rattle.routes.specs.Route.{key, Fine, Good}
+use Rattle.routes.specs.Route.{key, plain, Fine, Good}
 use Rattle.routes.specs.declared.Route.{Route}
 use Rattle.routes.proofs.Goods.{good-fine, key-parts}
 use Rattle.standing.specs.Cells.{here}
 use Rattle.standing.specs.Standing.{Held, absent, stood, routeAt}
 use Rattle.standing.proofs.Standing.{same-standing}
+use Rattle.standing.proofs.Prefixes.{one-key}
 use Rattle.tree.specs.Image.{through, nodeStands, hopFor, Image, imageOf, imageBy, nodeNeed}
-use Rattle.tree.proofs.Lies.{any-is, found-any, hop-of, one-prefix, pass-parts}
+use Rattle.tree.proofs.Lies.{any-is, found-any, hop-of, pass-parts}
+use Rattle.tree.proofs.Marks.{hops-plain, image-unmarked}
 use Rattle.tree.proofs.Levels.{parent-stands}
 use Rattle.tree.proofs.Needs.{hops-need}
 use Rattle.tree.proofs.Serves.{agree}
 use Rattle.tree_same.specs.Read.{readOut}
 use Rattle.tree_same.specs.Order.{standsAt}
-use Rattle.tree_same.specs.Listed.{listed, plain, SameHops, routesHeld}
+use Rattle.tree_same.specs.Listed.{listed, SameHops, routesHeld}
 use Rattle.tree_same.proofs.Lists.{Hopping, listed-good, listed-hop, listed-unmarked}
 use Rattle.tree_same.proofs.Back.{Shaped, reads-back}
-use Rattle.tree_same.proofs.Plain.{plain-mem, plain-good, hops-plain, image-unmarked}
+use Rattle.tree_same.proofs.Plain.{plain-mem, plain-good}
 
 -- what a good list says of nodes and hops
 module _ (rs : List Route) (g : Good rs) where
@@ -88,15 +90,15 @@ standing k (x ∷ rs) = go (decided (eqb (key x) k)) (standing k rs)
 
 -- the routes have no marks
 abbrev Unmarked : List Route → Type 0
-Unmarked rs = (r : Route) → List·Memᴰ r rs → r .spare ≡ 0
+Unmarked rs = (r : Route) → List·Memᴰ r rs → r .mark ≡ 0
 
-same-route : (r s : Route) → Fine r → Fine s → r .spare ≡ s .spare → key r ≡ key s → r .hop ≡ s .hop → r ≡ s
+same-route : (r s : Route) → Fine r → Fine s → r .mark ≡ s .mark → key r ≡ key s → r .hop ≡ s .hop → r ≡ s
 same-route r s f g z e h =
     let p = key-parts (r .addr) (r .len) (s .addr) (s .len) (f .prefix .len-ok) (g .prefix .len-ok) e in
-    ap₂ (λ (a l : ℕ). made a l (r .spare) (r .hop)) (p .0) (p .1) ∙ ap₂ (made (s .addr) (s .len)) z h
+    ap₂ (λ (a l : ℕ). made a l (r .mark) (r .hop)) (p .0) (p .1) ∙ ap₂ (made (s .addr) (s .len)) z h
   where
     made : ℕ → ℕ → ℕ → ℕ → Route
-    made a l x k = record { addr = a; len = l; spare = x; hop = k }
+    made a l x k = record { addr = a; len = l; mark = x; hop = k }
 
 carried : (rs ss : List Route) → Good rs → Good ss → Unmarked rs → Unmarked ss → SameHops rs ss → (r : Route) → List·Memᴰ r rs → List·Memᴰ r ss
 carried rs ss g k a b e r m =
@@ -108,7 +110,7 @@ carried rs ss g k a b e r m =
     let w = any-is (here l q) ss (found-any (here l q) ss (omega (arith, e l q, h, f .hop-one))) in
     let t = good-fine ss k (w .0) (w .1) in
     let same : r ≡ w .0 =
-    same-route r (w .0) f t (a r m ∙ sym (b (w .0) (w .1))) (one-prefix l q r (w .0) f t mine (w .2)) (sym h ∙ e l q ∙ hop-of l q ss (w .0) k (w .1) (w .2)) in
+    same-route r (w .0) f t (a r m ∙ sym (b (w .0) (w .1))) (one-key l q r (w .0) f t mine (w .2)) (sym h ∙ e l q ∙ hop-of l q ss (w .0) k (w .1) (w .2)) in
     subst (λ (x : Route). List·Memᴰ x ss) (sym same) (w .1)
 
 -- a good list with no marks is known by its prefixes and their hops
@@ -121,23 +123,27 @@ same-unmarked rs ss g k a b e = same-standing rs ss g k (λ n. go n (standing n 
     go n (nobody z) (one s m q y) =
         sym (y ∙ sym (subst (λ (x : ℕ). routeAt x rs ≡ stood s) q (at-listed rs g s (carried ss rs k g b a (λ l p. sym (e l p)) s m))))
 
+-- marks aside, each prefix has its hop
+said : (rs : List Route) (l q : ℕ) → hopFor (map plain rs) l q ≡ hopFor rs l q
+said rs l q = ap (λ (f : ℕ → ℕ → ℕ). f l q) (hops-plain rs)
+
 plain-unmarked : (rs : List Route) → Unmarked (map plain rs)
-plain-unmarked rs r m = ap (λ (x : Route). x .spare) (plain-mem rs r m .2)
+plain-unmarked rs r m = ap (λ (x : Route). x .mark) (plain-mem rs r m .2)
 
 -- the same prefixes with the same hops: the same list, marks aside
 pub same-hops : (rs ss : List Route) → Good rs → Good ss → SameHops rs ss ↔ (map plain rs ≡ map plain ss)
 same-hops rs ss g k = (
   (λ e.
       same-unmarked (map plain rs) (map plain ss) (plain-good rs g) (plain-good ss k) (plain-unmarked rs) (plain-unmarked ss)
-      (λ l q. hops-plain rs l q ∙ e l q ∙ sym (hops-plain ss l q))),
-  (λ e l q. sym (hops-plain rs l q) ∙ ap (λ (x : List Route). hopFor x l q) e ∙ hops-plain ss l q),
+      (λ l q. said rs l q ∙ e l q ∙ sym (said ss l q))),
+  (λ e l q. sym (said rs l q) ∙ ap (λ (x : List Route). hopFor x l q) e ∙ said ss l q),
 )
 
 -- the list of a good list's hops is the list
 pub listed-is : (rs : List Route) → Good rs → listed (hopFor rs) 32 0 0 ≡ map plain rs
 listed-is rs g =
     same-unmarked _ (map plain rs) (listed-good (hopFor rs) (hopping rs g)) (plain-good rs g) (listed-unmarked (hopFor rs)) (plain-unmarked rs)
-    (λ l q. listed-hop (hopFor rs) (hopping rs g) l q ∙ sym (hops-plain rs l q))
+    (λ l q. listed-hop (hopFor rs) (hopping rs g) l q ∙ sym (said rs l q))
 
 -- One set of routes, one image: two lists that are the same but for their marks have the same image, and two good lists that have the same image,
 -- with room for it, are the same but for their marks.

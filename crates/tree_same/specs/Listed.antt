@@ -11,7 +11,7 @@ use Rattle.tree_same.specs.Read.{readOut}
 
 -- the route of length l whose bits are q, to the hop h
 abbrev pub routeOf : ℕ → ℕ → ℕ → Route
-routeOf l q h = record { addr = q * 2 ^ (32 - l); len = l; spare = 0; hop = h }
+routeOf l q h = record { addr = q * 2 ^ (32 - l); len = l; mark = 0; hop = h }
 
 -- it alone, if it has a hop
 unfoldable pub own : (ℕ → ℕ → ℕ) → ℕ → ℕ → List Route
@@ -22,10 +22,6 @@ own hop l q = cond (ltb 0 (hop l q)) (routeOf l q (hop l q) ∷ []) []
 unfoldable pub listed : (ℕ → ℕ → ℕ) → ℕ → ℕ → ℕ → List Route
 listed hop zero l q = own hop l q
 listed hop (suc d) l q = own hop l q ++ (listed hop d (suc l) (q + q) ++ listed hop d (suc l) (q + q + 1))
-
--- a route with its mark put aside
-abbrev pub plain : Route → Route
-plain r = record { addr = r .addr; len = r .len; spare = 0; hop = r .hop }
 
 -- the same prefixes with the same hops
 abbrev pub SameHops : List Route → List Route → Type 0

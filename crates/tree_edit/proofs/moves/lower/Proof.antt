@@ -29,8 +29,7 @@ next-some c =
 
 loop-again : tie.Need-loop-again Inv-loop μ-loop
 loop-again c =
-    let inv = c .before .before .loop .inv in
-    (
+    let inv = c .before .before .loop .inv in (
       omega arith,
       omega arith,
       simp length-set (inv .2),
