@@ -136,7 +136,7 @@ module _ {ws₀ hs : List ℕ} {n k x₀ m₀ a len h b : ℕ} (r : Addable ws�
             at = sym (ap₂ (reached ws′) q (ap (λ (z : ℕ). slot (4 * z) a) q ∙ sym its-path) ∙ new-at m path f (g .mid .holds) e o (g .at) (omega (arith, short)) gap);
             count = omega (arith, g .count);
             same = e .same ∙ g .same;
-            next = λ v. rw q (absent-below st a small hop shape m 1 (omega (arith, short)) (g .next l));
+            next = λ v. absent-below st a small hop shape m 1 (omega (arith, short)) (g .next l);
           }
 
     module _ (l : len / 4 ≤ m) where

@@ -27,9 +27,9 @@ use Rattle.tree_same.specs.Holding.{Holding}
 use Rattle.tree_same.specs.Listed.{routesHeld}
 use Rattle.tree_same.proofs.Back.{Shaped}
 use Rattle.tree_same.proofs.Same.{fits}
-use Rattle.tree_same.proofs.Holdings.{nodes-are, hops-are, holds-image}
+use Rattle.tree_same.proofs.Holdings.{nodes-are, hops-are, holds-image, image-holding}
 use Rattle.tree_hold.specs.More.{downTo}
-use Rattle.tree_hold.proofs.Holds.{image-holding, holding-same}
+use Rattle.tree_hold.proofs.Holds.{holding-same}
 use Rattle.tree_hold.proofs.Paths.{down-shaped, down-grows, down-same, insert-nodes, put-again, stands-is}
 use Rattle.tree_change.specs.Changed.{route}
 use Rattle.tree_change.specs.Stages.{New}

@@ -18,7 +18,7 @@ use Rattle.standing.specs.Standing.{remove}
 use Rattle.tree.specs.Node.{bitsOf, childOf, isSet, childAt}
 use Rattle.tree.specs.Image.{node, word, nodeStands, hopFor}
 use Rattle.tree_same.specs.Read.{reached, leads}
-use Rattle.tree_same.specs.Order.{ints, Order}
+use Rattle.tree_same.specs.Order.{ints, Order, standsAt}
 use Rattle.tree_same.specs.Holding.{Holding}
 use Rattle.tree_same.specs.Listed.{routesHeld}
 use Rattle.tree_same.proofs.Back.{Shaped}
@@ -42,7 +42,7 @@ use Rattle.tree_change.proofs.Bares.{own-word, absent-word}
 
 -- ---- the hop
 
-module _ {ws₀ hs₀ : List ℕ} {n k x a len b : ℕ} (r : Standing ws₀ hs₀ n (k + 1) x a len b) where
+module _ {ws₀ hs₀ : List ℕ} {n x a len b : ℕ} (k : ℕ) (r : Standing ws₀ hs₀ n (k + 1) x a len b) where
   abbrev deep : ℕ
   deep = len / 4
 
@@ -169,6 +169,7 @@ module _ {rs : List Route} {a m : ℕ} {ws hs : List ℕ} {nodes k : ℕ} (g : M
             ap₂ (λ (z d : ℕ). childAt (bitsOf ws z) (childOf ws z) d) v its-turn ∙ ap (λ (z : ℕ). reached ws z (at z)) (sym e)
 
         pub shrink-ready : Prunable ws nodes′ k u c
+        unfolding standsAt
         shrink-ready = record {
           words = record {
             order = subst (λ (z : ℕ). Order ws z) one (g .holds .order);

@@ -28,7 +28,7 @@ use Rattle.tree_check.specs.WellFormed.{used}
 use Rattle.tree_check.proofs.Meaning.{well-formed-is}
 use Rattle.tree_check.proofs.Held.{held-holds, held-image}
 use Rattle.tree_hold.specs.More.{downTo, withHop}
-use Rattle.tree_hold.proofs.Holds.{image-holding}
+use Rattle.tree_same.proofs.Holdings.{image-holding}
 use Rattle.tree_hold.proofs.Undone.{image-sizes}
 use Rattle.tree_hold.proofs.Paths.{insert-hops, stands-hop}
 use Rattle.tree_change.specs.Changed.{route, imageAnnounced, imageWithdrawn, hopPlace}
