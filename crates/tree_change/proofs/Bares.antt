@@ -43,24 +43,24 @@ module _ (st : ℕ → ℕ → Bool) (hop : ℕ → ℕ → ℕ) (f : Shaped st 
   no-hop k l =
       untrue (inner hop (node (suc m) q) k)
       (λ t.
-          let j = inner-cases k l in
-          let z : 4 * suc m + innerLen k - 4 * suc m ≡ innerLen k = omega arith in
-          let u = ltb-true 0 _ t in
-          let r = f .hopping .range _ _ u .0 in
-          let e = f .agree .told (suc m) (4 * suc m + innerLen k) (q * 2 ^ innerLen k + (k + 1 - 2 ^ innerLen k)) (omega arith) (omega arith) r u in
-          let d : (q * 2 ^ innerLen k + (k + 1 - 2 ^ innerLen k)) / 2 ^ (4 * suc m + innerLen k - 4 * suc m) ≡ q =
-          ap (λ (i : ℕ). (q * 2 ^ innerLen k + (k + 1 - 2 ^ innerLen k)) / 2 ^ i) z ∙ high-part q (innerLen k) (j .2) in
-          true≢false (sym e ∙ ap (st (suc m)) d ∙ absent))
+      let j = inner-cases k l in
+      let z : 4 * suc m + innerLen k - 4 * suc m ≡ innerLen k = omega arith in
+      let u = ltb-true 0 _ t in
+      let r = f .hopping .range _ _ u .0 in
+      let e = f .agree .told (suc m) (4 * suc m + innerLen k) (q * 2 ^ innerLen k + (k + 1 - 2 ^ innerLen k)) (omega arith) (omega arith) r u in
+      let d : (q * 2 ^ innerLen k + (k + 1 - 2 ^ innerLen k)) / 2 ^ (4 * suc m + innerLen k - 4 * suc m) ≡ q =
+      ap (λ (i : ℕ). (q * 2 ^ innerLen k + (k + 1 - 2 ^ innerLen k)) / 2 ^ i) z ∙ high-part q (innerLen k) (j .2) in
+      true≢false (sym e ∙ ap (st (suc m)) d ∙ absent))
 
   no-child : (d : ℕ) → d < 16 → child st (node (suc m) q) d ≡ false
   unfolding standsAt
   no-child d l =
       untrue (child st (node (suc m) q) d)
       (λ t.
-          let a : suc m + 1 ≡ suc (suc m) = omega arith in
-          let u : (q * 16 + d) / 16 ≡ q = omega arith in
-          let e = f .up (suc m) (q * 16 + d) (rw a at t) in
-          true≢false (sym (rw u at e) ∙ absent))
+      let a : suc m + 1 ≡ suc (suc m) = omega arith in
+      let u : (q * 16 + d) / 16 ≡ q = omega arith in
+      let e = f .up (suc m) (q * 16 + d) (rw a at t) in
+      true≢false (sym (rw u at e) ∙ absent))
 
   pub absent-word : word st hop (node (suc m) q) ≡ 0
   unfolding word setBit

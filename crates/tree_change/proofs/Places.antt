@@ -101,12 +101,12 @@ module _ {ws hs : List ℕ} {n k : ℕ} (s : Found ws hs n k) where
         stands-hop a len rs p (s .good)
         ∙ untrue (ltb 0 (hop len (slot len a)))
         (λ t.
-            let l = p .len-ok in
-            let e : 4 * suc m + (len - 4 * suc m) ≡ len = omega arith in
-            let q : slot len a / 2 ^ (len - 4 * suc m) ≡ slot (4 * suc m) a =
-            ap (λ (z : ℕ). slot z a / 2 ^ (len - 4 * suc m)) (sym e) ∙ slot-up (4 * suc m) (len - 4 * suc m) a (omega arith) in
-            let d = shaped .agree .told (suc m) len (slot len a) (omega arith) (omega arith) l (ltb-true 0 _ t) in
-            true≢false (sym d ∙ ap (st (suc m)) q ∙ way-absent (p .addr-ok) w (omega arith) u))
+        let l = p .len-ok in
+        let e : 4 * suc m + (len - 4 * suc m) ≡ len = omega arith in
+        let q : slot len a / 2 ^ (len - 4 * suc m) ≡ slot (4 * suc m) a =
+        ap (λ (z : ℕ). slot z a / 2 ^ (len - 4 * suc m)) (sym e) ∙ slot-up (4 * suc m) (len - 4 * suc m) a (omega arith) in
+        let d = shaped .agree .told (suc m) len (slot len a) (omega arith) (omega arith) l (ltb-true 0 _ t) in
+        true≢false (sym d ∙ ap (st (suc m)) q ∙ way-absent (p .addr-ok) w (omega arith) u))
 
     -- the bit is set at the depth of the prefix exactly when the prefix stands
     pub there-is : (t : Bool) → t ≡ (eqb m (len / 4) && isSet (bitsOf ws x) b) → t ≡ stands (keyOf a len) rs

@@ -46,7 +46,7 @@ pub data Announcing (ws hs : List ℕ) (a len h : ℕ) : Out → Type 0 where
   put-in : Asked ws hs a len h → length (routesWith ws hs a len h) ≤ 4096 → nodeNeed (routesWith ws hs a len h) ≤ length ws / 3
       → length (routesWith ws hs a len h) ≤ length hs
       → Announcing ws hs a len h
-        (imageIn (routesWith ws hs a len h) ws hs (bit (stands (keyOf a len) (routesHeld ws hs)) ∷ nodeNeed (routesWith ws hs a len h) ∷ length (routesWith ws hs a len h) ∷ []))
+      (imageIn (routesWith ws hs a len h) ws hs (bit (stands (keyOf a len) (routesHeld ws hs)) ∷ nodeNeed (routesWith ws hs a len h) ∷ length (routesWith ws hs a len h) ∷ []))
 
 -- (11 and 12 cannot be met: the routes left need no more)
 pub data Withdrawing (ws hs : List ℕ) (a len : ℕ) : Out → Type 0 where
