@@ -6,6 +6,7 @@ use mathlib.Core.List.{List}
 use Prim.Native.Nat.{ℕ, zero, suc, _+_, _-_, _*_, _/_, _%_, _^_, _≤_, _<_}
 use native.Mathlib.Numerals.{add-one}
 use native.Mathlib.Omega.{arith}
+use lib.Count.{ones}
 use lib.Dec.{ltb}
 use lib.ListN.{length}
 use borrow.Author.Tests.{ltb-false}
@@ -14,7 +15,7 @@ use Rattle.routes.specs.Route.{keyOf, Fine, Good}
 use Rattle.routes.specs.declared.Route.{Route}
 use Rattle.standing.specs.Standing.{stands, insert}
 use Rattle.standing.proofs.Standing.{insert-good}
-use Rattle.tree.specs.Node.{bitsOf, isSet}
+use Rattle.tree.specs.Node.{bitsOf, baseOf, isSet}
 use Rattle.tree.specs.Image.{node, inner, nodeStands, hopFor}
 use Rattle.tree_same.specs.Read.{reached}
 use Rattle.tree_same.specs.Holding.{Holding}
@@ -164,8 +165,8 @@ module _ {ws₀ hs : List ℕ} {n k x₀ m₀ a len h b : ℕ} (r : Addable ws�
         few = omega (arith, new .found .few-hops);
       }
 
-      pub grow-done : {ws′ hs′ : List ℕ} {y : ℕ} → HopPut ws ws′ hs hs′ nodes x b y h → Become (insert (route a len h) rs) ws₀ hs ws′ hs′ nodes
-      grow-done {ws′} {hs′} {y} e =
+      pub grow-done : {ws′ hs′ : List ℕ} → HopPut ws ws′ hs hs′ nodes x b (baseOf ws x + ones (bitsOf ws x % 2 ^ b)) h → Become (insert (route a len h) rs) ws₀ hs ws′ hs′ nodes
+      grow-done {ws′} {hs′} e =
           let p = put-holds m path (mid-shape (g .mid)) (g .mid .holds) e (end-stands (g .mid)) (g .at) (new .fine .hop-one) in
           let s : downTo st a m ≡ nodeStands (insert (route a len h) rs) = ap (downTo st a) whole ∙ sym (insert-nodes (route a len h) rs (new .fine) (new .found .good)) in
           let t : withHop hop (lenAt m b) (bitsAt path b) h ≡ hopFor (insert (route a len h) rs) =

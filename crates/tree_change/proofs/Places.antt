@@ -128,3 +128,11 @@ module _ {ws hs : List ℕ} {n k : ℕ} (s : Found ws hs n k) where
         go : (m ≡ len / 4) ⊎ (m ≡ len / 4 → ⊥) → m ≡ len / 4
         go (inl q) = q
         go (inr q) = absurd (true≢false (sym t ∙ not-there (omega (arith, up, q))))
+
+-- ---- what the code's test of the end of the way says
+
+pub ends-above : (d deep : ℕ) (t : Bool) → (d ≡ deep → ⊥) → false ≡ (eqb d deep && t)
+ends-above d deep t n = rw (ne-eqb d deep n) refl
+
+pub ends-there : (d deep : ℕ) (s t : Bool) → d ≡ deep → s ≡ t → s ≡ (eqb d deep && t)
+ends-there d deep s t e q = rw (eq-eqb d deep e) q

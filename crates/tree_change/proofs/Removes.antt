@@ -32,13 +32,13 @@ use Rattle.tree_hold.proofs.PutBits.{ints-after}
 use Rattle.tree_hold.proofs.Undone.{prune-holds}
 use Rattle.tree_hold.proofs.Taken.{lenAt, bitsAt, take-holds}
 use Rattle.tree_hold.proofs.Paths.{on-path, path-child, down-shaped, down-next, down-absent, down-same, path-stands}
-use Rattle.tree_change.specs.Stages.{OnPath, Standing}
+use Rattle.tree_change.specs.Stages.{Descent, OnPath, Standing}
 use Rattle.tree_change.proofs.Ways.{held-leads, child-held, inner-held}
 use Rattle.tree_change.proofs.Places.{bit-len, bit-bits, hop-at-bit, shaped}
 use Rattle.tree_change.proofs.Midways.{Midway, mid-shape, end-stands, mid-words}
 use Rattle.tree_change.proofs.Replaces.{its-node, its-bit}
 use Rattle.tree_change.proofs.Without.{Without, without}
-use Rattle.tree_change.proofs.Bares.{own-word, absent-word}
+use Rattle.tree_change.proofs.Bares.{own-word, absent-word, full-way}
 
 -- ---- the hop
 
@@ -128,78 +128,96 @@ module _ {rs : List Route} {a m : ℕ} {ws hs : List ℕ} {nodes k : ℕ} (g : M
   abbrev bare : Bool
   bare = ltb 0 m && eqb (bitsOf ws (reached ws m (at m))) 0
 
-  module _ (t : bare ≡ true) where
-    pub shrink-some : (0 < m) × (0 < nodes)
-    shrink-some = (ltb-true 0 m (and-split (ltb 0 m) (eqb (bitsOf ws (reached ws m (at m))) 0) t .0), omega (arith, g .holds .order .whole))
+  module _ (t : Bool) (tells : t ≡ bare) (on : t ≡ true) where
+    parts : (ltb 0 m ≡ true) × (eqb (bitsOf ws (reached ws m (at m))) 0 ≡ true)
+    parts = and-split (ltb 0 m) (eqb (bitsOf ws (reached ws m (at m))) 0) (sym tells ∙ on)
+
+    pub shrink-some : (1 ≤ m) × (1 ≤ nodes)
+    shrink-some = (ltb-true 0 m (parts .0), omega (arith, g .holds .order .whole))
 
     empty : bitsOf ws (reached ws m (at m)) ≡ 0
-    empty = eqb-true (bitsOf ws (reached ws m (at m))) 0 (and-split (ltb 0 m) (eqb (bitsOf ws (reached ws m (at m))) 0) t .1)
+    empty = eqb-true (bitsOf ws (reached ws m (at m))) 0 (parts .1)
 
-    module _ (i : ℕ) (e : m ≡ suc i) where
-      shallow : i < 8
-      shallow = omega (arith, g .deep)
+    -- the depth above
+    abbrev i : ℕ
+    i = m - 1
 
-      -- no route passes through it
-      absent-there : st (suc i) (at (suc i)) ≡ false
-      absent-there =
-          untrue (st (suc i) (at (suc i)))
-          (λ s. word-some rs (g .good) (suc i) (at (suc i)) s (subst (λ (z : ℕ). word st hop (node z (at z)) ≡ 0) e (sym last-word ∙ empty)))
+    shallow : i < 8
+    shallow = omega (arith, g .deep, shrink-some)
 
-      held : Holding (downTo st a (suc i)) hop ws hs nodes
-      held = subst (λ (z : ℕ). Holding (downTo st a z) hop ws hs nodes) e (g .holds)
+    down : m ≡ suc i
+    down = omega (arith, shrink-some)
 
-      shape : Shaped (downTo st a (suc i)) hop
-      shape = down-shaped st a (g .addr) hop (suc i) (omega arith) (fits rs (g .good))
+    one : nodes ≡ nodes - 1 + 1
+    one = omega (arith, shrink-some)
 
-      pub up-path : leads ws i (at i) ≡ true
-      up-path = held-leads shape held i (at i) ∙ on-path st a (g .addr) (suc i) i (omega arith)
+    -- no route passes through the last node
+    absent-there : st (suc i) (at (suc i)) ≡ false
+    absent-there =
+        untrue (st (suc i) (at (suc i)))
+        (λ s. word-some rs (g .good) (suc i) (at (suc i)) s (subst (λ (z : ℕ). word st hop (node z (at z)) ≡ 0) down (sym last-word ∙ empty)))
 
-      module _ (c : ℕ) (turn : c ≡ slot (4 * (i + 1)) a % 16) (u nodes′ : ℕ) (one : nodes ≡ nodes′ + 1) (there : u ≡ reached ws i (at i)) (inside : u < nodes) where
-        its-turn : c ≡ at (suc i) % 16
-        its-turn = turn ∙ ap (λ (z : ℕ). slot (4 * z) a % 16) (add-one i)
+    held : Holding (downTo st a (suc i)) hop ws hs nodes
+    held = subst (λ (z : ℕ). Holding (downTo st a z) hop ws hs nodes) down (g .holds)
 
-        its-path : at i * 16 + c ≡ at (suc i)
-        its-path = ap (λ (z : ℕ). at i * 16 + z) its-turn ∙ sym (path-child st a (g .addr) i shallow)
+    shape : Shaped (downTo st a (suc i)) hop
+    shape = down-shaped st a (g .addr) hop (suc i) (omega arith) (fits rs (g .good))
 
-        child-is : childAt (bitsOf ws u) (childOf ws u) c ≡ reached ws m (at m)
-        unfolding reached
-        child-is =
-            let q : at (suc i) / 16 ≡ at i = omega (arith, its-path, its-turn) in
-            let v : u ≡ reached ws i (at (suc i) / 16) = there ∙ ap (reached ws i) (sym q) in
-            ap₂ (λ (z d : ℕ). childAt (bitsOf ws z) (childOf ws z) d) v its-turn ∙ ap (λ (z : ℕ). reached ws z (at z)) (sym e)
+    up-path : leads ws i (at i) ≡ true
+    up-path = held-leads shape held i (at i) ∙ on-path st a (g .addr) (suc i) i (omega arith)
 
-        pub shrink-ready : Prunable ws nodes′ k u c
-        unfolding standsAt
-        shrink-ready = record {
-          words = record {
-            order = subst (λ (z : ℕ). Order ws z) one (g .holds .order);
-            hops = g .hops ∙ ap (ints ws) one;
-            narrow = λ j l. mid-words g .narrow j (omega arith);
-            rest = λ j l. g .holds .rest j (omega arith);
-          };
-          parent = omega arith;
-          small = omega (arith, its-turn);
-          stands =
-              ap (λ (z : ℕ). isSet (bitsOf ws z) (16 + c)) there ∙ child-held shape held i (at i) c (on-path st a (g .addr) (suc i) i (omega arith)) (omega (arith, its-turn))
-              ∙ ap (downTo st a (suc i) (suc i)) its-path ∙ on-path st a (g .addr) (suc i) (suc i) (omega arith);
-          bare = ap (bitsOf ws) child-is ∙ empty;
-        }
+    pub shrink-up : Order ws (nodes - 1 + 1) × (m - 1 ≤ 8)
+    shrink-up = (subst (λ (z : ℕ). Order ws z) one (g .holds .order), omega (arith, shallow))
 
-        pub shrink-next : {ws′ : List ℕ} {y : ℕ} → Grafted ws′ ws nodes′ u c y → Midway rs a i ws′ hs nodes′ k
-        shrink-next {ws′} {y} f =
-            let s : downTo st a (suc i) ≡ also (downTo st a i) (suc i) (at i * 16 + c) = sym (ap (also (downTo st a i) (suc i)) its-path ∙ down-next st a (g .addr) i) in
-            let o = subst (λ (z : ℕ). Holding (also (downTo st a i) (suc i) (at i * 16 + c)) hop ws hs z) one
-            (subst (λ (z : ℕ → ℕ → Bool). Holding z hop ws hs nodes) s held) in
-            let q : nodes′ + 1 ≡ suc nodes′ = omega arith in
-            record {
-              good = g .good;
-              addr = g .addr;
-              deep = omega arith;
-              holds =
-                  prune-holds i (at i) c (down-shaped st a (g .addr) hop i (omega arith) (fits rs (g .good))) shallow (omega (arith, its-turn))
-                  (on-path st a (g .addr) i i (omega arith)) (ap (downTo st a i (suc i)) its-path ∙ down-absent st a (g .addr) i absent-there) o f there;
-              hops = g .hops ∙ ap (ints ws) (one ∙ q) ∙ ints-later (f .bits) nodes′ (f .bits .inside) (omega arith);
-            }
+    module _ {u d : ℕ} (w : Descent ws (nodes - 1 + 1) a (m - 1) u d) (c : ℕ) (turn : c ≡ slot (4 * (m - 1 + 1)) a % 16) where
+      there : u ≡ reached ws i (at i)
+      there = w .at ∙ ap (λ (z : ℕ). reached ws z (at z)) (full-way ws a (nodes - 1 + 1) i u d (omega (arith, shallow)) up-path w)
+
+      its-turn : c ≡ at (suc i) % 16
+      its-turn = turn ∙ ap (λ (z : ℕ). at z % 16) (add-one i)
+
+      its-path : at i * 16 + c ≡ at (suc i)
+      its-path = ap (λ (z : ℕ). at i * 16 + z) its-turn ∙ sym (path-child st a (g .addr) i shallow)
+
+      child-is : childAt (bitsOf ws u) (childOf ws u) c ≡ reached ws m (at m)
+      unfolding reached
+      child-is =
+          let q : at (suc i) / 16 ≡ at i = omega (arith, its-path, its-turn) in
+          let v : u ≡ reached ws i (at (suc i) / 16) = there ∙ ap (reached ws i) (sym q) in
+          ap₂ (λ (z d : ℕ). childAt (bitsOf ws z) (childOf ws z) d) v its-turn ∙ ap (λ (z : ℕ). reached ws z (at z)) (sym down)
+
+      pub shrink-ready : Prunable ws (nodes - 1) k u c
+      unfolding standsAt
+      shrink-ready = record {
+        words = record {
+          order = shrink-up .0;
+          hops = g .hops ∙ ap (ints ws) one;
+          narrow = λ j l. mid-words g .narrow j (omega (arith, one));
+          rest = λ j l. g .holds .rest j (omega (arith, one));
+        };
+        parent = w .inside;
+        small = omega (arith, its-turn);
+        stands =
+            ap (λ (z : ℕ). isSet (bitsOf ws z) (16 + c)) there ∙ child-held shape held i (at i) c (on-path st a (g .addr) (suc i) i (omega arith)) (omega (arith, its-turn))
+            ∙ ap (downTo st a (suc i) (suc i)) its-path ∙ on-path st a (g .addr) (suc i) (suc i) (omega arith);
+        bare = ap (bitsOf ws) child-is ∙ empty;
+      }
+
+      pub shrink-next : {ws′ : List ℕ} → Grafted ws′ ws (nodes - 1) u c (childAt (bitsOf ws u) (childOf ws u) c) → Midway rs a (m - 1) ws′ hs (nodes - 1) k
+      shrink-next {ws′} f =
+          let s : downTo st a (suc i) ≡ also (downTo st a i) (suc i) (at i * 16 + c) = sym (ap (also (downTo st a i) (suc i)) its-path ∙ down-next st a (g .addr) i) in
+          let o = subst (λ (z : ℕ). Holding (also (downTo st a i) (suc i) (at i * 16 + c)) hop ws hs z) one
+          (subst (λ (z : ℕ → ℕ → Bool). Holding z hop ws hs nodes) s held) in
+          let q : nodes ≡ suc (nodes - 1) = omega (arith, one) in
+          record {
+            good = g .good;
+            addr = g .addr;
+            deep = shrink-up .1;
+            holds =
+                prune-holds i (at i) c (down-shaped st a (g .addr) hop i (shrink-up .1) (fits rs (g .good))) shallow (omega (arith, its-turn))
+                (on-path st a (g .addr) i i (omega arith)) (ap (downTo st a i (suc i)) its-path ∙ down-absent st a (g .addr) i absent-there) o f there;
+            hops = g .hops ∙ ap (ints ws) q ∙ ints-later (f .bits) (nodes - 1) (f .bits .inside) (omega arith);
+          }
 
   -- where the last node is the root, or has a bit, the path stands by itself
   path-own : (z : ℕ) → m ≡ z → bare ≡ false → (j : ℕ) → j < z → st (suc j) (at (suc j)) ≡ true
@@ -212,5 +230,5 @@ module _ {rs : List Route} {a m : ℕ} {ws hs : List ℕ} {nodes k : ℕ} (g : M
           let w : word st hop (node m (at m)) ≡ 0 = subst (λ (y : ℕ). word st hop (node y (at y)) ≡ 0) (sym e) (absent-word st hop (fits rs (g .good)) i (at (suc i)) s) in
           absurd (true≢false (sym (both (lt-ltb 0 m (omega arith)) (eq-eqb _ 0 (last-word ∙ w))) ∙ t))
 
-  pub shrink-done : bare ≡ false → Holding (nodeStands rs) (hopFor rs) ws hs nodes
-  shrink-done t = holding-same (downTo st a m) st hop (λ i p. down-same st a (g .addr) m (path-own m refl t) i p) (g .holds)
+  pub shrink-done : (t : Bool) → t ≡ bare → t ≡ false → Holding (nodeStands rs) (hopFor rs) ws hs nodes
+  shrink-done t tells off = holding-same (downTo st a m) st hop (λ i p. down-same st a (g .addr) m (path-own m refl (sym tells ∙ off)) i p) (g .holds)

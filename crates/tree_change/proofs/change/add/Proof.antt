@@ -1,60 +1,52 @@
+-- The invariant: the arrays hold the routes, and the path of the prefix down to depth m, whose last node is the one at hand. The depth that is left falls.
+use Prim.Native.Nat.{_-_, _/_}
+use native.Mathlib.Omega.{arith}
+use Rattle.tree_change.proofs.Adds.{Grown, grow-start, grow-ready, grow-next, grow-put, grow-done}
 use Rattle.tree_change.proofs.change.add.Statement.{statement}
 use Rattle.tree_change.proofs.change.add.Tie as tie
-use Rattle.tree_change.proofs.change.add.Reads as reads
-use Rattle.tree_change.proofs.change.add.Lts as lts
-use Rattle.tree_change.proofs.path.turn.Reads as turn-reads
-use Rattle.tree_edit.proofs.graft.Reads as graft-reads
-use Rattle.tree_edit.proofs.put_hop.Reads as put-hop-reads
 
 abbrev Inv-loop : tie.InvT-loop
-Inv-loop words₀ hops n k addr len hop b deep m₀ at₀ nodes₀ words m at nodes = ?
+Inv-loop words₀ hops n k addr len hop b deep m₀ at₀ nodes₀ words m at nodes = Grown words₀ hops n k m₀ addr len words m at nodes
 
 abbrev μ-loop : tie.MeasureT-loop
-μ-loop words₀ hops n k addr len hop b deep m₀ at₀ nodes₀ words m at nodes = ?
+μ-loop words₀ hops n k addr len hop b deep m₀ at₀ nodes₀ words m at nodes = deep - m
 
--- src/change.rt:37:5
 loop-holds : tie.Need-loop-holds Inv-loop μ-loop
-loop-holds c = ?
+loop-holds c = grow-start (c .before .before .pre)
 
--- src/change.rt:38:52
 turn-requires : tie.Need-turn-requires Inv-loop μ-loop
-turn-requires c κs = ?
+turn-requires c κs = omega (arith, c .before .before .before .before .before .pre .new .fine .prefix .len-ok)
 
--- src/change.rt:38:9
 graft-requires : tie.Need-graft-requires Inv-loop μ-loop
-graft-requires c κs = ?
+graft-requires c κs = grow-ready (c .before .before .before .before .before .before .pre) (c .before .before .before .loop .inv) (c .before .before .loop-test .taken) _ (c .turn .ensures .0)
 
--- src/change.rt:39:9
 add-m : tie.Need-add-m Inv-loop μ-loop
-add-m c = ?
+add-m c = omega arith
 
--- src/change.rt:40:9
 add-nodes : tie.Need-add-nodes Inv-loop μ-loop
-add-nodes c = ?
+add-nodes c = omega (arith, c .before .before .graft .ensures .lent)
 
--- src/change.rt:37:5
 loop-less : tie.Need-loop-less Inv-loop μ-loop
-loop-less c = ?
+loop-less c = omega arith
 
--- src/change.rt:37:5
 loop-again : tie.Need-loop-again Inv-loop μ-loop
-loop-again c = ?
+loop-again c =
+    let at-turn = c .before .before .before in
+    grow-next (at-turn .before .before .before .before .before .before .pre) (at-turn .before .before .before .loop .inv) (at-turn .before .before .loop-test .taken) _ (at-turn .turn .ensures .0) (c .before .before .graft .ensures)
 
--- src/change.rt:42:5
 put-hop-requires : tie.Need-put-hop-requires Inv-loop μ-loop
-put-hop-requires c κs = ?
+put-hop-requires c κs = grow-put (c .before .before .before .before .before .before .pre) (c .before .before .before .loop .inv) (c .before .before .loop-test .left)
 
--- src/change.rt:19:1
 same-length : tie.Need-same-length Inv-loop μ-loop
-same-length c = ?
+same-length c = omega arith
 
--- src/change.rt:19:1
 same-length-2 : tie.Need-same-length-2 Inv-loop μ-loop
-same-length-2 c = ?
+same-length-2 c = omega arith
 
--- src/change.rt:19:1
 returns : tie.Need-returns Inv-loop μ-loop
-returns c = ?
+returns c =
+    let at-loop = c .before .before .before .before .before .before .before .before in
+    grow-done (at-loop .before .before .before .pre) (at-loop .loop .inv) (c .before .before .before .before .before .before .before .loop-test .left) (c .before .before .before .before .put-hop .ensures)
 
 pub add-spec : {M : Type 1} → statement M
 add-spec =
