@@ -1,9 +1,9 @@
 -- A prefix put into an image: the nodes of its path one after another, and then its hop. At each step the arrays hold the routes with the path
 -- down to the depth at hand; at the end they hold the routes with the new one, and so are their image.
 use mathlib.Core.Path.{_≡_, refl, sym, _∙_, ap, ap₂, subst}
-use mathlib.Core.Bool.{Bool, true, false}
+use mathlib.Core.Bool.{Bool, false}
 use mathlib.Core.List.{List}
-use Prim.Native.Nat.{ℕ, zero, suc, _+_, _-_, _*_, _/_, _%_, _^_, _≤_, _<_}
+use Prim.Native.Nat.{ℕ, suc, _+_, _-_, _*_, _/_, _%_, _^_, _≤_, _<_}
 use native.Mathlib.Numerals.{add-one}
 use native.Mathlib.Omega.{arith}
 use lib.Count.{ones}
@@ -11,9 +11,8 @@ use lib.Dec.{ltb}
 use lib.ListN.{length}
 use borrow.Author.Tests.{ltb-false}
 use Rattle.bits.specs.Slot.{slot}
-use Rattle.routes.specs.Route.{keyOf, Fine, Good}
 use Rattle.routes.specs.declared.Route.{Route}
-use Rattle.standing.specs.Standing.{stands, insert}
+use Rattle.standing.specs.Standing.{insert}
 use Rattle.standing.proofs.Standing.{insert-good}
 use Rattle.tree.specs.Node.{bitsOf, baseOf, isSet}
 use Rattle.tree.specs.Image.{node, inner, nodeStands, hopFor}

@@ -1,22 +1,20 @@
 -- What announce and withdraw say at each return, and that it is what the definitions say.
 use mathlib.Core.Path.{_≡_, refl, sym, _∙_, ap, ap₂, subst}
-use mathlib.Core.Logic.{_⊎_, inl, inr}
-use mathlib.Core.Bool.{Bool, true, false, not, cond, _&&_}
+use mathlib.Core.Bool.{Bool, true, false, not, _&&_}
 use mathlib.Core.List.{List, [], _∷_}
-use Prim.Native.Nat.{ℕ, zero, suc, _+_, _-_, _*_, _/_, _%_, _^_, _≤_, _<_}
+use Prim.Native.Nat.{ℕ, suc, _+_, _-_, _/_, _^_, _≤_, _<_}
 use native.Mathlib.Omega.{arith}
-use lib.Dec.{eqb, ltb}
+use lib.Dec.{eqb}
 use lib.ListN.{length, getD}
 use borrow.Author.Tests.{lt-ltb, le-ltb}
 use Rattle.bits.specs.Count.{bit}
-use Rattle.bits.proofs.Tests.{decided}
 use Rattle.routes.specs.Input.{properPrefix, hopFine}
-use Rattle.routes.specs.Route.{key, keyOf, Prefix, Fine, Good}
-use Rattle.routes.specs.Said.{Said, accepted, refused}
+use Rattle.routes.specs.Route.{keyOf, Prefix, Fine}
+use Rattle.routes.specs.Said.{accepted}
 use Rattle.routes.specs.declared.Route.{Route}
 use Rattle.routes.proofs.Meaning.{prefix-true, hop-true}
 use Rattle.standing.specs.Standing.{stands, insert, remove}
-use Rattle.standing.proofs.Standing.{insert-replaces, insert-good}
+use Rattle.standing.proofs.Standing.{insert-replaces}
 use Rattle.standing.proofs.Changed.{insert-adds, remove-takes}
 use Rattle.tree.specs.Node.{bitsOf, isSet}
 use Rattle.tree.specs.Image.{nodeStands, hopFor, nodeNeed, imageOf}
@@ -25,17 +23,15 @@ use Rattle.tree_build.specs.Built.{Out, out, madeOf}
 use Rattle.tree_same.specs.Order.{ints}
 use Rattle.tree_same.specs.Listed.{routesHeld}
 use Rattle.tree_same.proofs.Holdings.{nodes-are, hops-are}
-use Rattle.tree_check.specs.WellFormed.{ordered, wellFormed, nodesIf}
+use Rattle.tree_check.specs.WellFormed.{wellFormed, nodesIf}
 use Rattle.tree_check.proofs.Meaning.{not-true}
 use Rattle.tree_check.proofs.Steps.{kept}
 use Rattle.tree_check.proofs.Held.{held-good, held-holds}
 use Rattle.tree_check.proofs.Exact.{made-fits}
 use Rattle.tree_check.proofs.Answers.{check-broken, check-formed, check-hops-in, check-few}
-use Rattle.tree_change.specs.declared.Announced.{Announced}
 use Rattle.tree_change.specs.declared.Announced.the-variants as announced
-use Rattle.tree_change.specs.declared.Withdrawn.{Withdrawn}
 use Rattle.tree_change.specs.declared.Withdrawn.the-variants as withdrawn
-use Rattle.tree_change.specs.Changed.{saysAnnounced, saysWithdrawn, route, inFront, saying, putTo, takenFrom, imageAnnounced, imageWithdrawn}
+use Rattle.tree_change.specs.Changed.{saysAnnounced, saysWithdrawn, route, saying, putTo, takenFrom, imageAnnounced, imageWithdrawn}
 use Rattle.tree_change.specs.Stages.{Found, Descent, BitOf, Formed, New, Addable, Standing, Become}
 use Rattle.tree_change.proofs.Places.{shaped, there-is, there-at}
 use Rattle.tree_change.proofs.Needs.{fewer-nodes, new-need}

@@ -6,7 +6,7 @@ use mathlib.Core.List.{List}
 use Prim.Native.Nat.{ℕ, zero, suc, _+_, _-_, _*_, _/_, _%_, _^_, _≤_, _<_}
 use native.Mathlib.Numerals.{add-one}
 use native.Mathlib.Omega.{arith}
-use lib.Dec.{eqb, leb, ltb}
+use lib.Dec.{eqb, ltb}
 use lib.Pow.{shr-le}
 use lib.Pow.{high as high-part}
 use borrow.Author.Tests.{lt-leb, lt-ltb, le-ltb, ltb-true}
@@ -14,7 +14,7 @@ use Rattle.bits.specs.Bit.{bitAt, packed}
 use Rattle.bits.specs.Count.{bit}
 use Rattle.bits.specs.Slot.{slot}
 use Rattle.bits.proofs.Slots.{slot-up}
-use Rattle.bits.proofs.Tests.{and-split, below?, equal?, untrue}
+use Rattle.bits.proofs.Tests.{and-split, below?, untrue}
 use Rattle.tree.specs.Node.{bitsOf, isSet}
 use Rattle.tree.specs.Image.{node, innerLen, bitHop, inner, child, setBit, word}
 use Rattle.tree.proofs.Lies.{inner-cases}

@@ -3,7 +3,7 @@ use mathlib.Core.Path.{_≡_, refl, sym, _∙_, ap, ap₂, subst}
 use mathlib.Core.Logic.{_⊎_, inl, inr}
 use mathlib.Core.Bool.{Bool, true, false, _&&_, true≢false}
 use mathlib.Core.List.{List}
-use Prim.Native.Nat.{ℕ, zero, suc, _+_, _-_, _*_, _/_, _%_, _^_, _≤_, _<_}
+use Prim.Native.Nat.{ℕ, suc, _+_, _-_, _*_, _/_, _%_, _^_, _≤_, _<_}
 use native.Mathlib.Nat.{mod-lt}
 use native.Mathlib.Numerals.{add-one}
 use native.Mathlib.Omega.{arith}
@@ -13,16 +13,15 @@ use borrow.Author.Tests.{eq-eqb, ne-eqb, lt-ltb, ltb-true}
 use Rattle.bits.specs.Slot.{slot}
 use Rattle.bits.proofs.Slots.{slot-up}
 use Rattle.bits.proofs.Tests.{equal?, untrue}
-use Rattle.routes.specs.Route.{keyOf, Prefix, Good}
+use Rattle.routes.specs.Route.{keyOf, Prefix}
 use Rattle.routes.specs.declared.Route.{Route}
 use Rattle.standing.specs.Standing.{stands}
 use Rattle.tree.specs.Node.{bitsOf, isSet}
-use Rattle.tree.specs.Image.{node, innerLen, bitHop, inner, nodeStands, hopFor}
+use Rattle.tree.specs.Image.{node, innerLen, bitHop, nodeStands, hopFor}
 use Rattle.tree.proofs.Lies.{inner-len}
 use Rattle.tree_build.specs.Run.{placeOf}
 use Rattle.tree_same.specs.Read.{reached}
 use Rattle.tree_same.specs.Order.{standsAt}
-use Rattle.tree_same.specs.Holding.{Holding}
 use Rattle.tree_same.specs.Listed.{routesHeld}
 use Rattle.tree_same.proofs.Back.{Shaped}
 use Rattle.tree_same.proofs.Same.{fits}

@@ -8,7 +8,6 @@ use Prim.Native.Nat.{ℕ, zero, suc, _+_, _-_, _*_, _/_, _%_, _^_, _≤_, _<_}
 use native.Mathlib.Numerals.{add-one}
 use native.Mathlib.Omega.{arith}
 use lib.Dec.{eqb, ltb}
-use lib.ListN.{length}
 use borrow.Author.Tests.{eq-eqb, eqb-true, lt-ltb, ltb-true}
 use Rattle.bits.specs.Slot.{slot}
 use Rattle.bits.proofs.Tests.{decided, and-split, both, untrue}
@@ -24,20 +23,20 @@ use Rattle.tree_same.specs.Listed.{routesHeld}
 use Rattle.tree_same.proofs.Back.{Shaped}
 use Rattle.tree_same.proofs.Same.{fits}
 use Rattle.tree_check.proofs.Builds.{word-some}
-use Rattle.tree_hold.specs.More.{also, downTo, withHop}
+use Rattle.tree_hold.specs.More.{also, downTo}
 use Rattle.tree_hold.specs.Edits.{Grafted, Prunable, HopPut, Takable}
 use Rattle.tree_hold.proofs.Holds.{bits-fit, holding-same}
 use Rattle.tree_hold.proofs.GraftBits.{ints-later}
 use Rattle.tree_hold.proofs.PutBits.{ints-after}
 use Rattle.tree_hold.proofs.Undone.{prune-holds}
-use Rattle.tree_hold.proofs.Taken.{lenAt, bitsAt, take-holds}
+use Rattle.tree_hold.proofs.Taken.{take-holds}
 use Rattle.tree_hold.proofs.Paths.{on-path, path-child, down-shaped, down-next, down-absent, down-same, path-stands}
 use Rattle.tree_change.specs.Stages.{Descent, OnPath, Standing}
 use Rattle.tree_change.proofs.Ways.{held-leads, child-held, inner-held}
-use Rattle.tree_change.proofs.Places.{bit-len, bit-bits, hop-at-bit, shaped}
+use Rattle.tree_change.proofs.Places.{hop-at-bit, shaped}
 use Rattle.tree_change.proofs.Midways.{Midway, mid-shape, end-stands, mid-words}
 use Rattle.tree_change.proofs.Replaces.{its-node, its-bit}
-use Rattle.tree_change.proofs.Without.{Without, without}
+use Rattle.tree_change.proofs.Without.{Without, without, held-with}
 use Rattle.tree_change.proofs.Bares.{own-word, absent-word, full-way}
 
 -- ---- the hop
@@ -86,14 +85,6 @@ module _ {ws₀ hs₀ : List ℕ} {n x a len b : ℕ} (k : ℕ) (r : Standing ws
   down-shape : Shaped (downTo st′ a deep) hop′
   down-shape = down-shaped st′ a small hop′ deep (omega (arith, short)) (fits rs′ (others .good))
 
-  -- the image holds the other routes with the path of the prefix, and its hop
-  held-with : Holding (downTo st′ a deep) (withHop hop′ (lenAt deep b) (bitsAt path b) (others .hop)) ws₀ hs₀ n
-  held-with =
-      let t : hopFor (routesHeld ws₀ hs₀) ≡ withHop hop′ (lenAt deep b) (bitsAt path b) (others .hop) =
-      others .hops ∙ sym (ap₂ (λ (u v : ℕ). withHop hop′ u v (others .hop)) (bit-len (r .bit) short) (bit-bits (r .bit) short)) in
-      subst (λ (f : ℕ → ℕ → Bool). Holding f (withHop hop′ (lenAt deep b) (bitsAt path b) (others .hop)) ws₀ hs₀ n) (others .nodes)
-      (subst (λ (f : ℕ → ℕ → ℕ). Holding (nodeStands (routesHeld ws₀ hs₀)) f ws₀ hs₀ n) t (r .found .holds))
-
   pub shrink-start : {ws hs : List ℕ} {y z : ℕ} → HopPut ws ws₀ hs hs₀ n x b y z → Midway (remove (keyOf a len) (routesHeld ws₀ hs₀)) a (len / 4) ws hs n k
   shrink-start {ws} {hs} {y} {z} g = record {
     good = others .good;
@@ -101,7 +92,7 @@ module _ {ws₀ hs₀ : List ℕ} {n x a len b : ℕ} (k : ℕ) (r : Standing ws
     deep = omega (arith, short);
     holds =
         take-holds deep path b (others .hop) down-shape (r .bit .small) (on-path st′ a small deep deep (omega arith)) (hop-at-bit (r .bit) short hop′ ∙ others .gone)
-        (others .some) held-with (subst (λ (v : ℕ). HopPut ws ws₀ hs hs₀ n v b y z) (r .way .at) g);
+        (others .some) (held-with others short (r .bit) (r .found .holds)) (subst (λ (v : ℕ). HopPut ws ws₀ hs hs₀ n v b y z) (r .way .at) g);
     hops = omega (arith, ints-after (g .bits) n (g .bits .inside) (omega arith), r .found .hops);
   }
 

@@ -1,5 +1,5 @@
 -- The invariant: the arrays hold the routes, and the path of the prefix down to depth m, whose last node is the one at hand. The depth that is left falls.
-use Prim.Native.Nat.{_-_, _/_}
+use Prim.Native.Nat.{_-_}
 use native.Mathlib.Omega.{arith}
 use Rattle.tree_change.proofs.Adds.{Grown, grow-start, grow-ready, grow-next, grow-put, grow-done}
 use Rattle.tree_change.proofs.change.add.Statement.{statement}

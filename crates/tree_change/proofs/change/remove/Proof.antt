@@ -2,7 +2,6 @@
 -- The depth falls; where the node at hand has a bit, or is the root, the path stands by the routes alone.
 use mathlib.Core.List.{List}
 use mathlib.Core.Path.{_≡_, refl}
-use Prim.Native.Nat.{_/_}
 use native.Mathlib.Omega.{arith}
 use lib.ListN.{length}
 use Rattle.routes.specs.Route.{keyOf}
