@@ -1,62 +1,47 @@
 -- A prefix put into an image: the nodes of its path one after another, and then its hop. At each step the arrays hold the routes with the path
 -- down to the depth at hand; at the end they hold the routes with the new one, and so are their image.
 use mathlib.Core.Path.{_≡_, refl, sym, _∙_, ap, ap₂, subst}
-use mathlib.Core.Bool.{Bool, true, false}
+use mathlib.Core.Bool.{Bool, false}
 use mathlib.Core.List.{List}
-use Prim.Native.Nat.{ℕ, zero, suc, _+_, _-_, _*_, _/_, _%_, _^_, _≤_, _<_}
+use Prim.Native.Nat.{ℕ, suc, _+_, _-_, _*_, _/_, _%_, _^_, _≤_, _<_}
 use native.Mathlib.Numerals.{add-one}
 use native.Mathlib.Omega.{arith}
+use lib.Count.{ones}
 use lib.Dec.{ltb}
 use lib.ListN.{length}
 use borrow.Author.Tests.{ltb-false}
 use Rattle.bits.specs.Slot.{slot}
-use Rattle.routes.specs.Route.{keyOf, Fine, Good}
 use Rattle.routes.specs.declared.Route.{Route}
-use Rattle.standing.specs.Standing.{stands, insert}
+use Rattle.standing.specs.Standing.{insert}
 use Rattle.standing.proofs.Standing.{insert-good}
-use Rattle.tree.specs.Node.{bitsOf, isSet}
-use Rattle.tree.specs.Image.{node, inner, nodes, Image, imageBy, imageOf, nodeStands, hopFor, nodeNeed}
-use Rattle.tree.proofs.Serves.{agree}
+use Rattle.tree.specs.Node.{bitsOf, baseOf, isSet}
+use Rattle.tree.specs.Image.{node, inner, nodeStands, hopFor}
 use Rattle.tree_same.specs.Read.{reached}
-use Rattle.tree_same.specs.Order.{ints, standsAt}
 use Rattle.tree_same.specs.Holding.{Holding}
 use Rattle.tree_same.specs.Listed.{routesHeld}
 use Rattle.tree_same.proofs.Back.{Shaped}
-use Rattle.tree_same.proofs.Holdings.{nodes-are, holds-image, stands-found}
 use Rattle.tree_hold.specs.More.{also, downTo, withHop}
-use Rattle.tree_hold.specs.Edits.{Words, Grafted, HopPut}
-use Rattle.tree_hold.proofs.Holds.{bits-fit, holding-same}
+use Rattle.tree_hold.specs.Edits.{Grafted, HopPut}
 use Rattle.tree_hold.proofs.Grafts.{all-ints, new-at, graft-holds}
 use Rattle.tree_hold.proofs.Puts.{put-holds}
 use Rattle.tree_hold.proofs.Taken.{lenAt, bitsAt}
-use Rattle.tree_hold.proofs.Paths.{on-path, path-child, down-shaped, down-next, down-absent, down-same, absent-below, path-stands, insert-nodes, insert-hops, stands-hop}
+use Rattle.tree_hold.proofs.Paths.{path-child, down-next, down-absent, absent-below, insert-nodes, insert-hops, stands-hop}
 use Rattle.tree_edit.specs.Small.{GraftReady, PutReady}
 use Rattle.tree_change.specs.Changed.{route}
 use Rattle.tree_change.specs.Stages.{New, Addable, Become}
 use Rattle.tree_change.proofs.Ways.{child-held, inner-held}
 use Rattle.tree_change.proofs.Places.{bit-len, bit-bits, hop-at-bit, shaped, way-stands, way-absent}
+use Rattle.tree_change.proofs.Midways.{Midway, mid-shape, end-stands, end-inside, mid-words, down-any, become}
 
--- arrays that hold a good list's routes are its image
-pub become : {rs : List Route} {ws hs ws′ hs′ : List ℕ} {n : ℕ} → Good rs → Holding (nodeStands rs) (hopFor rs) ws′ hs′ n → length ws′ ≡ length ws → length hs′ ≡ length hs
-    → Become rs ws hs ws′ hs′ n
-become {rs} {ws} {hs} {ws′} {hs′} {n} g h e f =
-    let i = holds-image (nodeStands rs) (hopFor rs) ws′ hs′ n (agree rs g .nine) h in
-    let q : imageOf rs (length ws′) (length hs′) ≡ imageOf rs (length ws) (length hs) = ap₂ (λ (x y : ℕ). imageOf rs x y) e f in
-    record {
-      words = i .0 ∙ ap (λ (x : Image). x .words) q;
-      hops = i .1 ∙ ap (λ (x : Image). x .hops) q;
-      nodes = nodes-are (nodeStands rs) (hopFor rs) ws′ hs′ n (agree rs g .nine) h;
-    }
-
--- the path that stands changes nothing: no node is added by it
-pub down-any : (st : ℕ → ℕ → Bool) (hop : ℕ → ℕ → ℕ) (a m : ℕ) → a < 2 ^ 32 → m ≤ 8 → Shaped st hop → standsAt st m (slot (4 * m) a) ≡ true
-    → {f : ℕ → ℕ → ℕ} {ws hs : List ℕ} {n : ℕ} → Holding st f ws hs n → Holding (downTo st a m) f ws hs n
-unfolding standsAt
-down-any st hop a zero l u s t {f} h = holding-same st (downTo st a 0) f (λ i p. sym (down-same st a l 0 (λ j v. absurd (omega arith)) i p)) h
-down-any st hop a (suc m) l u s t {f} h =
-    holding-same st (downTo st a (suc m)) f (λ i p. sym (down-same st a l (suc m) (λ j v. path-stands st hop a l s m j (omega arith) t v) i p)) h
-
--- ---- a prefix that does not stand
+-- The way from ws₀, whose n nodes have the path of the prefix down to depth m₀: the path is there down to depth m, and node x is its last.
+pub record Grown (ws₀ hs : List ℕ) (n k m₀ a len : ℕ) (ws : List ℕ) (m x nodes : ℕ) : Type 0 where
+  pub mid : Midway (routesHeld ws₀ hs) a m ws hs nodes k
+  pub low : m₀ ≤ m
+  pub high : m ≤ len / 4
+  pub at : x ≡ reached ws m (slot (4 * m) a)
+  pub count : nodes + m₀ ≡ n + m
+  pub same : length ws ≡ length ws₀
+  pub next : m < len / 4 → nodeStands (routesHeld ws₀ hs) (suc m) (slot (4 * suc m) a) ≡ false
 
 module _ {ws₀ hs : List ℕ} {n k x₀ m₀ a len h b : ℕ} (r : Addable ws₀ hs n k x₀ m₀ a len h b) where
   abbrev new : New ws₀ hs n k x₀ m₀ a len h b
@@ -80,44 +65,29 @@ module _ {ws₀ hs : List ℕ} {n k x₀ m₀ a len h b : ℕ} (r : Addable ws�
   shape : Shaped st hop
   shape = shaped (new .found)
 
-  down-shape : (m : ℕ) → m ≤ 8 → Shaped (downTo st a m) hop
-  down-shape m l = down-shaped st a small hop m l shape
-
-  -- the path is there down to depth m, and node x is its last
-  pub record Grown (ws : List ℕ) (m x nodes : ℕ) : Type 0 where
-    pub low : m₀ ≤ m
-    pub high : m ≤ len / 4
-    pub holds : Holding (downTo st a m) hop ws hs nodes
-    pub at : x ≡ reached ws m (slot (4 * m) a)
-    pub count : nodes + m₀ ≡ n + m
-    pub hops : k ≡ ints ws nodes
-    pub same : length ws ≡ length ws₀
-    pub next : m < len / 4 → st (suc m) (slot (4 * suc m) a) ≡ false
-
-  pub grow-start : Grown ws₀ m₀ x₀ n
+  pub grow-start : Grown ws₀ hs n k m₀ a len ws₀ m₀ x₀ n
   grow-start = record {
+    mid = record {
+      good = new .found .good;
+      addr = small;
+      deep = omega (arith, new .way .upto, short);
+      holds = down-any st hop a m₀ small (omega (arith, new .way .upto, short)) shape (way-stands (new .found) small (new .way)) (new .found .holds);
+      hops = new .found .hops;
+    };
     low = omega arith;
     high = new .way .upto;
-    holds = down-any st hop a m₀ small (omega (arith, new .way .upto, short)) shape (way-stands (new .found) small (new .way)) (new .found .holds);
     at = new .way .at;
     count = refl;
-    hops = new .found .hops;
     same = refl;
     next = λ l. way-absent (new .found) small (new .way) (omega (arith, short)) l;
   }
 
-  module _ {ws : List ℕ} {m x nodes : ℕ} (g : Grown ws m x nodes) where
-    deep : m ≤ 8
-    deep = omega (arith, g .high, short)
-
-    stood : standsAt (downTo st a m) m (slot (4 * m) a) ≡ true
-    stood = on-path st a small m m (omega arith)
+  module _ {ws : List ℕ} {m x nodes : ℕ} (g : Grown ws₀ hs n k m₀ a len ws m x nodes) where
+    abbrev path : ℕ
+    path = slot (4 * m) a
 
     inside : x < nodes
-    inside = rw (g .at) (stands-found (downTo st a m) hop ws hs nodes (down-shape m deep) (g .holds) m (slot (4 * m) a) stood .0)
-
-    able : Words ws nodes k
-    able = record { order = g .holds .order; hops = g .hops; narrow = bits-fit (down-shape m deep .agree .nine) (g .holds); rest = g .holds .rest }
+    inside = rw (g .at) (end-inside (g .mid))
 
     pub grow-count : nodes ≤ n + (len / 4 - m₀)
     grow-count = omega (arith, g .count, g .low, g .high)
@@ -126,41 +96,47 @@ module _ {ws₀ hs : List ℕ} {n k x₀ m₀ a len h b : ℕ} (r : Addable ws�
       its-turn : c ≡ slot (4 * suc m) a % 16
       its-turn = turn ∙ ap (λ (z : ℕ). slot (4 * z) a % 16) (add-one m)
 
-      its-path : slot (4 * m) a * 16 + c ≡ slot (4 * suc m) a
-      its-path = ap (λ (z : ℕ). slot (4 * m) a * 16 + z) its-turn ∙ sym (path-child st a small m (omega (arith, short)))
+      its-path : path * 16 + c ≡ slot (4 * suc m) a
+      its-path = ap (λ (z : ℕ). path * 16 + z) its-turn ∙ sym (path-child st a small m (omega (arith, short)))
 
-      gap : downTo st a m (suc m) (slot (4 * m) a * 16 + c) ≡ false
+      gap : downTo st a m (suc m) (path * 16 + c) ≡ false
       gap = ap (downTo st a m (suc m)) its-path ∙ down-absent st a small m (g .next l)
 
       pub grow-ready : GraftReady ws nodes k x c
       grow-ready = record {
         able = record {
-          words = able;
+          words = mid-words (g .mid);
           parent = inside;
           small = omega (arith, its-turn);
-          free = ap (λ (z : ℕ). isSet (bitsOf ws z) (16 + c)) (g .at) ∙ child-held (down-shape m deep) (g .holds) m (slot (4 * m) a) c stood (omega (arith, its-turn)) ∙ gap;
+          free = ap (λ (z : ℕ). isSet (bitsOf ws z) (16 + c)) (g .at) ∙ child-held (mid-shape (g .mid)) (g .mid .holds) m path c (end-stands (g .mid)) (omega (arith, its-turn)) ∙ gap;
           room = omega (arith, g .count, g .same, r .words-room, g .low);
         };
         few = omega (arith, g .count, new .found .few-nodes, short);
         hops-few = omega (arith, new .found .few-hops);
       }
 
-      pub grow-next : {ws′ : List ℕ} {y : ℕ} → Grafted ws ws′ nodes x c y → Grown ws′ (m + 1) y (nodes + 1)
+      pub grow-next : {ws′ : List ℕ} {y : ℕ} → Grafted ws ws′ nodes x c y → Grown ws₀ hs n k m₀ a len ws′ (m + 1) y (nodes + 1)
       grow-next {ws′} {y} e =
-          let f = down-shape m deep in
-          let h′ = graft-holds m (slot (4 * m) a) f (g .holds) e stood (g .at) (omega (arith, short)) gap in
-          let s : also (downTo st a m) (suc m) (slot (4 * m) a * 16 + c) ≡ downTo st a (m + 1) =
+          let f = mid-shape (g .mid) in
+          let o = end-stands (g .mid) in
+          let h′ = graft-holds m path f (g .mid .holds) e o (g .at) (omega (arith, short)) gap in
+          let s : also (downTo st a m) (suc m) (path * 16 + c) ≡ downTo st a (m + 1) =
           ap (also (downTo st a m) (suc m)) its-path ∙ down-next st a small m ∙ ap (downTo st a) (sym (add-one m)) in
           let q : m + 1 ≡ suc m = add-one m in
           record {
+            mid = record {
+              good = new .found .good;
+              addr = small;
+              deep = omega (arith, short);
+              holds = subst (λ (z : ℕ → ℕ → Bool). Holding z hop ws′ hs (nodes + 1)) s h′;
+              hops = g .mid .hops ∙ sym (all-ints m path f (g .mid .holds) e o (g .at) (omega (arith, short)) gap);
+            };
             low = omega (arith, g .low);
             high = omega arith;
-            holds = subst (λ (z : ℕ → ℕ → Bool). Holding z hop ws′ hs (nodes + 1)) s h′;
-            at = sym (ap₂ (reached ws′) q (ap (λ (z : ℕ). slot (4 * z) a) q ∙ sym its-path) ∙ new-at m (slot (4 * m) a) f (g .holds) e stood (g .at) (omega (arith, short)) gap);
+            at = sym (ap₂ (reached ws′) q (ap (λ (z : ℕ). slot (4 * z) a) q ∙ sym its-path) ∙ new-at m path f (g .mid .holds) e o (g .at) (omega (arith, short)) gap);
             count = omega (arith, g .count);
-            hops = g .hops ∙ sym (all-ints m (slot (4 * m) a) f (g .holds) e stood (g .at) (omega (arith, short)) gap);
             same = e .same ∙ g .same;
-            next = λ v. rw q (absent-below st a small hop shape m 1 (omega (arith, short)) (g .next l));
+            next = λ v. absent-below st a small hop shape m 1 (omega (arith, short)) (g .next l);
           }
 
     module _ (l : len / 4 ≤ m) where
@@ -176,26 +152,26 @@ module _ {ws₀ hs : List ℕ} {n k x₀ m₀ a len h b : ℕ} (r : Addable ws�
       pub grow-put : PutReady ws hs nodes k x b
       grow-put = record {
         able = record {
-          words = able;
+          words = mid-words (g .mid);
           parent = inside;
           small = new .bit .small;
           free =
-              ap (λ (z : ℕ). isSet (bitsOf ws z) b) (g .at) ∙ inner-held (down-shape m deep) (g .holds) m (slot (4 * m) a) b stood (new .bit .small)
+              ap (λ (z : ℕ). isSet (bitsOf ws z) b) (g .at) ∙ inner-held (mid-shape (g .mid)) (g .mid .holds) m path b (end-stands (g .mid)) (new .bit .small)
               ∙ ap (λ (z : ℕ). inner hop (node z (slot (4 * z) a)) b) whole ∙ ap (ltb 0) (hop-at-bit (new .bit) short hop ∙ no-hop);
           room = r .hops-room;
-          blank = λ j u. g .holds .blank j (omega (arith, g .hops));
+          blank = λ j u. g .mid .holds .blank j (omega (arith, g .mid .hops));
         };
         few = omega (arith, new .found .few-hops);
       }
 
-      pub grow-done : {ws′ hs′ : List ℕ} {y : ℕ} → HopPut ws ws′ hs hs′ nodes x b y h → Become (insert (route a len h) rs) ws₀ hs ws′ hs′ nodes
-      grow-done {ws′} {hs′} {y} e =
-          let p = put-holds m (slot (4 * m) a) (down-shape m deep) (g .holds) e stood (g .at) (new .fine .hop-one) in
+      pub grow-done : {ws′ hs′ : List ℕ} → HopPut ws ws′ hs hs′ nodes x b (baseOf ws x + ones (bitsOf ws x % 2 ^ b)) h → Become (insert (route a len h) rs) ws₀ hs ws′ hs′ nodes
+      grow-done {ws′} {hs′} e =
+          let p = put-holds m path (mid-shape (g .mid)) (g .mid .holds) e (end-stands (g .mid)) (g .at) (new .fine .hop-one) in
           let s : downTo st a m ≡ nodeStands (insert (route a len h) rs) = ap (downTo st a) whole ∙ sym (insert-nodes (route a len h) rs (new .fine) (new .found .good)) in
-          let t : withHop hop (lenAt m b) (bitsAt (slot (4 * m) a) b) h ≡ hopFor (insert (route a len h) rs) =
+          let t : withHop hop (lenAt m b) (bitsAt path b) h ≡ hopFor (insert (route a len h) rs) =
           ap₂ (λ (u v : ℕ). withHop hop u v h) (ap (λ (z : ℕ). lenAt z b) whole ∙ bit-len (new .bit) short) (ap (λ (z : ℕ). bitsAt (slot (4 * z) a) b) whole ∙ bit-bits (new .bit) short)
           ∙ sym (insert-hops (route a len h) rs (new .fine) (new .found .good)) in
           become (insert-good (route a len h) rs (new .fine) (new .found .good))
           (subst (λ (z : ℕ → ℕ → ℕ). Holding (nodeStands (insert (route a len h) rs)) z ws′ hs′ nodes) t
-          (subst (λ (z : ℕ → ℕ → Bool). Holding z (withHop hop (lenAt m b) (bitsAt (slot (4 * m) a) b) h) ws′ hs′ nodes) s p))
+          (subst (λ (z : ℕ → ℕ → Bool). Holding z (withHop hop (lenAt m b) (bitsAt path b) h) ws′ hs′ nodes) s p))
           (e .same ∙ g .same) (e .same-hops)

@@ -1,38 +1,37 @@
 -- What announce and withdraw say at each return, and that it is what the definitions say.
 use mathlib.Core.Path.{_≡_, refl, sym, _∙_, ap, ap₂, subst}
-use mathlib.Core.Logic.{_⊎_, inl, inr}
-use mathlib.Core.Bool.{Bool, true, false, not, cond, true≢false}
+use mathlib.Core.Bool.{Bool, true, false, not, _&&_}
 use mathlib.Core.List.{List, [], _∷_}
-use Prim.Native.Nat.{ℕ, zero, suc, _+_, _-_, _*_, _/_, _%_, _^_, _≤_, _<_}
+use Prim.Native.Nat.{ℕ, suc, _+_, _-_, _/_, _^_, _≤_, _<_}
 use native.Mathlib.Omega.{arith}
-use lib.Dec.{ltb}
+use lib.Dec.{eqb}
 use lib.ListN.{length, getD}
 use borrow.Author.Tests.{lt-ltb, le-ltb}
 use Rattle.bits.specs.Count.{bit}
-use Rattle.bits.proofs.Tests.{decided}
 use Rattle.routes.specs.Input.{properPrefix, hopFine}
-use Rattle.routes.specs.Route.{key, keyOf, Prefix, Fine, Good}
-use Rattle.routes.specs.Said.{Said, accepted, refused}
+use Rattle.routes.specs.Route.{keyOf, Prefix, Fine}
+use Rattle.routes.specs.Said.{accepted}
 use Rattle.routes.specs.declared.Route.{Route}
 use Rattle.routes.proofs.Meaning.{prefix-true, hop-true}
 use Rattle.standing.specs.Standing.{stands, insert, remove}
-use Rattle.standing.proofs.Standing.{insert-replaces, insert-good}
+use Rattle.standing.proofs.Standing.{insert-replaces}
 use Rattle.standing.proofs.Changed.{insert-adds, remove-takes}
-use Rattle.tree.specs.Image.{nodeStands, hopFor, hops, nodeNeed, imageOf}
+use Rattle.tree.specs.Node.{bitsOf, isSet}
+use Rattle.tree.specs.Image.{nodeStands, hopFor, nodeNeed, imageOf}
 use Rattle.tree.proofs.Needs.{hops-need}
 use Rattle.tree_build.specs.Built.{Out, out, madeOf}
 use Rattle.tree_same.specs.Order.{ints}
 use Rattle.tree_same.specs.Listed.{routesHeld}
 use Rattle.tree_same.proofs.Holdings.{nodes-are, hops-are}
-use Rattle.tree_check.specs.WellFormed.{ordered, wellFormed, nodesIf}
+use Rattle.tree_check.specs.WellFormed.{wellFormed, nodesIf}
+use Rattle.tree_check.proofs.Meaning.{not-true}
+use Rattle.tree_check.proofs.Steps.{kept}
 use Rattle.tree_check.proofs.Held.{held-good, held-holds}
 use Rattle.tree_check.proofs.Exact.{made-fits}
 use Rattle.tree_check.proofs.Answers.{check-broken, check-formed, check-hops-in, check-few}
-use Rattle.tree_change.specs.declared.Announced.{Announced}
 use Rattle.tree_change.specs.declared.Announced.the-variants as announced
-use Rattle.tree_change.specs.declared.Withdrawn.{Withdrawn}
 use Rattle.tree_change.specs.declared.Withdrawn.the-variants as withdrawn
-use Rattle.tree_change.specs.Changed.{saysAnnounced, saysWithdrawn, route, inFront, saying, putTo, takenFrom, imageAnnounced, imageWithdrawn}
+use Rattle.tree_change.specs.Changed.{saysAnnounced, saysWithdrawn, route, saying, putTo, takenFrom, imageAnnounced, imageWithdrawn}
 use Rattle.tree_change.specs.Stages.{Found, Descent, BitOf, Formed, New, Addable, Standing, Become}
 use Rattle.tree_change.proofs.Places.{shaped, there-is, there-at}
 use Rattle.tree_change.proofs.Needs.{fewer-nodes, new-need}
@@ -125,49 +124,60 @@ module _ {ws hs : List ℕ} {n : ℕ} (f : Formed ws hs n) where
     pub its-found : Found ws hs n k
     its-found = subst (Found ws hs n) (sym ek) (f .found)
 
-    pub is-standing : (t : Bool) → t ≡ stands (keyOf a len) ts → t ≡ true → Standing ws hs n k x a len b
-    is-standing t e q =
-        let s : stands (keyOf a len) ts ≡ true = sym e ∙ q in
-        record {
-          found = its-found;
-          prefix = p;
-          way = subst (Descent ws n a (len / 4) x) (there-at its-found p o w s) w;
-          bit = o;
-          stood = s;
-        }
+    -- the code's test of the end of the way
+    module _ (t : Bool) (e : t ≡ (eqb m (len / 4) && isSet (bitsOf ws x) b)) where
+      says : t ≡ stands (keyOf a len) ts
+      says = there-is its-found p o w t e
 
-    pub is-new : (t : Bool) (h : ℕ) → Fine (route a len h) → t ≡ stands (keyOf a len) ts → t ≡ false → New ws hs n k x m a len h b
-    is-new t h g e q = record { found = its-found; fine = g; way = w; bit = o; absent = sym e ∙ q }
+      pub is-standing : t ≡ true → Standing ws hs n k x a len b
+      is-standing q =
+          let s : stands (keyOf a len) ts ≡ true = sym says ∙ q in
+          record {
+            found = its-found;
+            prefix = p;
+            way = subst (Descent ws n a (len / 4) x) (there-at its-found p o w s) w;
+            bit = o;
+            stood = s;
+          }
 
-    pub told-nine : (t : Bool) → t ≡ stands (keyOf a len) ts → not t ≡ true → out (saysWithdrawn (withdrawn.Refused 9)) ws hs ≡ takenFrom ts (keyOf a len) ws hs
-    unfolding saysWithdrawn takenFrom
-    told-nine t e q = rw (sym e ∙ off t q) refl
-      where
-        off : (u : Bool) → not u ≡ true → u ≡ false
-        off true z = sym z
-        off false z = refl
+      pub is-new : (h : ℕ) → Fine (route a len h) → t ≡ false → New ws hs n k x m a len h b
+      is-new h g q = record { found = its-found; fine = g; way = w; bit = o; absent = sym says ∙ q }
 
-    module _ (s : stands (keyOf a len) ts ≡ true) where
-      fewer : suc (length (remove (keyOf a len) ts)) ≡ k
-      fewer = remove-takes (keyOf a len) ts (f .found .good) s ∙ sym (routes-are its-found)
-
-      pub one-there : 0 < k
-      one-there = omega (arith, fewer)
-
-      pub told-removed : {ws′ hs′ : List ℕ} {nodes : ℕ} → Become (remove (keyOf a len) ts) ws hs ws′ hs′ nodes → (y z : ℕ) → y ≡ nodes → z ≡ k - 1
-          → out (saysWithdrawn (withdrawn.Removed y z)) ws′ hs′ ≡ takenFrom ts (keyOf a len) ws hs
+      pub told-nine : not t ≡ true → out (saysWithdrawn (withdrawn.Refused 9)) ws hs ≡ takenFrom ts (keyOf a len) ws hs
       unfolding saysWithdrawn takenFrom
-      told-removed {ws′} {hs′} {nodes} g y z ey ez =
-          let q : nodeNeed ts ≡ n = sym (nodes-are (nodeStands ts) (hopFor ts) ws hs n (shaped (f .found) .agree .nine) (f .found .holds)) in
-          rw s
-          (ap₂ (λ (u v : ℕ). out (accepted (u ∷ v ∷ [])) ws′ hs′) ey ez
-          ∙ made-so g (omega (arith, g .nodes, fewer-nodes (keyOf a len) ts (f .found .good) s, q, f .found .holds .order .lent)) (k - 1) (omega (arith, fewer))
-          (omega (arith, f .found .holds .room, ek)))
+      told-nine q = rw (sym says ∙ not-true t q) refl
 
-      pub removed-few : {ws′ hs′ : List ℕ} {nodes : ℕ} → Become (remove (keyOf a len) ts) ws hs ws′ hs′ nodes → (nodes < 2 ^ 32) × (k - 1 < 2 ^ 32)
-      removed-few g =
-          let q : nodeNeed ts ≡ n = sym (nodes-are (nodeStands ts) (hopFor ts) ws hs n (shaped (f .found) .agree .nine) (f .found .holds)) in
-          (omega (arith, g .nodes, fewer-nodes (keyOf a len) ts (f .found .good) s, q, f .found .few-nodes), omega (arith, its-found .few-hops))
+-- ---- a prefix taken out
+
+module _ {ws hs : List ℕ} {n k x a len b : ℕ} (r : Standing ws hs n k x a len b) where
+  abbrev us : List Route
+  us = routesHeld ws hs
+
+  fewer : suc (length (remove (keyOf a len) us)) ≡ k
+  fewer = remove-takes (keyOf a len) us (r .found .good) (r .stood) ∙ sym (routes-are (r .found))
+
+  pub one-there : 1 ≤ k
+  one-there = omega (arith, fewer)
+
+  pub one-less : Standing ws hs n (k - 1 + 1) x a len b
+  one-less = let q : k ≡ k - 1 + 1 = omega (arith, fewer) in subst (λ (z : ℕ). Standing ws hs n z x a len b) q r
+
+  its-nodes : nodeNeed us ≡ n
+  its-nodes = sym (nodes-are (nodeStands us) (hopFor us) ws hs n (shaped (r .found) .agree .nine) (r .found .holds))
+
+  module _ {ws′ hs′ : List ℕ} {nodes : ℕ} (g : Become (remove (keyOf a len) us) ws hs ws′ hs′ nodes) where
+    no-more : nodes ≤ n
+    no-more = omega (arith, g .nodes, fewer-nodes (keyOf a len) us (r .found .good) (r .stood), its-nodes)
+
+    pub removed-few : (nodes < 2 ^ 32) × (k - 1 < 2 ^ 32)
+    removed-few = (omega (arith, no-more, r .found .few-nodes), omega (arith, r .found .few-hops))
+
+    pub told-removed : (y z : ℕ) → y ≡ nodes → z ≡ k - 1 → out (saysWithdrawn (withdrawn.Removed y z)) ws′ hs′ ≡ takenFrom us (keyOf a len) ws hs
+    unfolding saysWithdrawn takenFrom
+    told-removed y z ey ez =
+        rw (r .stood)
+        (ap₂ (λ (u v : ℕ). out (accepted (u ∷ v ∷ [])) ws′ hs′) ey ez
+        ∙ made-so g (omega (arith, no-more, r .found .holds .order .lent)) (k - 1) (omega (arith, fewer)) (omega (arith, r .found .holds .room, r .found .hops)))
 
 -- the test passed
 pub is-formed : (ws hs : List ℕ) (n : ℕ) → ((j : ℕ) → getD ws j 0 < 2 ^ 32) → n ≡ nodesIf (wellFormed ws hs) ws → (n ≡ 0 → ⊥) → Formed ws hs n
@@ -183,17 +193,16 @@ is-formed ws hs n narrow e z =
 
 -- a route of a proper prefix and a fine hop
 pub is-fine : (a len h : ℕ) → properPrefix a len ≡ true → hopFine h ≡ true → Fine (route a len h)
-is-fine a len h p q = let k = hop-true h q in record { prefix = prefix-true a len p; hop-one = k .0; hop-ok = k .1; spare-ok = refl }
+is-fine a len h p q = let k = hop-true h q in record { prefix = prefix-true a len p; hop-one = k .0; hop-ok = k .1; mark-ok = omega arith }
+
+-- the prefix and the route that the code's tests passed; the length goes on as a wider number
+pub passed-prefix : (a len : ℕ) (t : Bool) → t ≡ properPrefix a len → not t ≡ false → (l : ℕ) → l ≡ len → Prefix a l
+passed-prefix a len t e q l el = subst (λ (z : ℕ). Prefix a z) (sym el) (prefix-true a len (kept t (properPrefix a len) e q))
+
+pub passed-route : (a len h : ℕ) (t u : Bool) → t ≡ properPrefix a len → not t ≡ false → u ≡ hopFine h → not u ≡ false → (l : ℕ) → l ≡ len → Fine (route a l h)
+passed-route a len h t u et qt eu qu l el = subst (λ (z : ℕ). Fine (route a z h)) (sym el) (is-fine a len h (kept t (properPrefix a len) et qt) (kept u (hopFine h) eu qu))
 
 module _ (ws hs : List ℕ) (a len : ℕ) where
-  not-false : (t : Bool) → not t ≡ false → t ≡ true
-  not-false true e = refl
-  not-false false e = absurd (true≢false e)
-
-  not-true : (t : Bool) → not t ≡ true → t ≡ false
-  not-true true e = sym e
-  not-true false e = refl
-
   pub announced-three : (h : ℕ) (t : Bool) → t ≡ properPrefix a len → not t ≡ true → out (saysAnnounced (announced.Refused 3)) ws hs ≡ imageAnnounced ws hs a len h
   unfolding saysAnnounced imageAnnounced
   announced-three h t e q = rw (sym e ∙ not-true t q) refl
@@ -204,15 +213,16 @@ module _ (ws hs : List ℕ) (a len : ℕ) where
 
   module _ (t : Bool) (et : t ≡ properPrefix a len) (qt : not t ≡ false) where
     pub proper : properPrefix a len ≡ true
-    proper = sym et ∙ not-false t qt
+    proper = kept t (properPrefix a len) et qt
 
     pub withdrawn-broken : (n : ℕ) → n ≡ nodesIf (wellFormed ws hs) ws → n ≡ 0 → out (saysWithdrawn (withdrawn.Refused 13)) ws hs ≡ imageWithdrawn ws hs a len
     unfolding saysWithdrawn imageWithdrawn
     withdrawn-broken n e z = rw (proper, check-broken ws hs n e z) refl
 
-    pub withdrawn-formed : (n : ℕ) → n ≡ nodesIf (wellFormed ws hs) ws → (n ≡ 0 → ⊥) → (o : Out) → o ≡ takenFrom (routesHeld ws hs) (keyOf a len) ws hs → o ≡ imageWithdrawn ws hs a len
+    pub withdrawn-formed : (n : ℕ) → n ≡ nodesIf (wellFormed ws hs) ws → (n ≡ 0 → ⊥) → (l : ℕ) → l ≡ len → (o : Out) → o ≡ takenFrom (routesHeld ws hs) (keyOf a l) ws hs → o ≡ imageWithdrawn ws hs a len
     unfolding imageWithdrawn
-    withdrawn-formed n e z o q = rw (proper, check-formed ws hs n e z .0) q
+    withdrawn-formed n e z l el o q =
+        rw (proper, check-formed ws hs n e z .0) (q ∙ ap (λ (y : ℕ). takenFrom (routesHeld ws hs) (keyOf a y) ws hs) el)
 
     module _ (h : ℕ) where
       pub announced-four : (u : Bool) → u ≡ hopFine h → not u ≡ true → out (saysAnnounced (announced.Refused 4)) ws hs ≡ imageAnnounced ws hs a len h
@@ -221,12 +231,13 @@ module _ (ws hs : List ℕ) (a len : ℕ) where
 
       module _ (u : Bool) (eu : u ≡ hopFine h) (qu : not u ≡ false) where
         pub fine-hop : hopFine h ≡ true
-        fine-hop = sym eu ∙ not-false u qu
+        fine-hop = kept u (hopFine h) eu qu
 
         pub announced-broken : (n : ℕ) → n ≡ nodesIf (wellFormed ws hs) ws → n ≡ 0 → out (saysAnnounced (announced.Refused 13)) ws hs ≡ imageAnnounced ws hs a len h
         unfolding saysAnnounced imageAnnounced
         announced-broken n e z = rw (proper, fine-hop, check-broken ws hs n e z) refl
 
-        pub announced-formed : (n : ℕ) → n ≡ nodesIf (wellFormed ws hs) ws → (n ≡ 0 → ⊥) → (o : Out) → o ≡ putTo (routesHeld ws hs) (route a len h) ws hs → o ≡ imageAnnounced ws hs a len h
+        pub announced-formed : (n : ℕ) → n ≡ nodesIf (wellFormed ws hs) ws → (n ≡ 0 → ⊥) → (l : ℕ) → l ≡ len → (o : Out) → o ≡ putTo (routesHeld ws hs) (route a l h) ws hs → o ≡ imageAnnounced ws hs a len h
         unfolding imageAnnounced
-        announced-formed n e z o q = rw (proper, fine-hop, check-formed ws hs n e z .0) q
+        announced-formed n e z l el o q =
+            rw (proper, fine-hop, check-formed ws hs n e z .0) (q ∙ ap (λ (y : ℕ). putTo (routesHeld ws hs) (route a y h) ws hs) el)

@@ -6,7 +6,7 @@ use mathlib.Core.List.{List}
 use Prim.Native.Nat.{ℕ, zero, suc, _+_, _-_, _*_, _/_, _%_, _^_, _≤_, _<_}
 use native.Mathlib.Numerals.{add-one}
 use native.Mathlib.Omega.{arith}
-use lib.Dec.{eqb, leb, ltb}
+use lib.Dec.{eqb, ltb}
 use lib.Pow.{shr-le}
 use lib.Pow.{high as high-part}
 use borrow.Author.Tests.{lt-leb, lt-ltb, le-ltb, ltb-true}
@@ -14,7 +14,7 @@ use Rattle.bits.specs.Bit.{bitAt, packed}
 use Rattle.bits.specs.Count.{bit}
 use Rattle.bits.specs.Slot.{slot}
 use Rattle.bits.proofs.Slots.{slot-up}
-use Rattle.bits.proofs.Tests.{and-split, below?, equal?, untrue}
+use Rattle.bits.proofs.Tests.{and-split, below?, untrue}
 use Rattle.tree.specs.Node.{bitsOf, isSet}
 use Rattle.tree.specs.Image.{node, innerLen, bitHop, inner, child, setBit, word}
 use Rattle.tree.proofs.Lies.{inner-cases}
@@ -23,7 +23,7 @@ use Rattle.tree_same.specs.Read.{reached, leads}
 use Rattle.tree_same.specs.Order.{standsAt}
 use Rattle.tree_same.proofs.Back.{Shaped}
 use Rattle.tree_hold.specs.More.{downTo}
-use Rattle.tree_change.specs.Stages.{Descent}
+use Rattle.tree_change.specs.Stages.{Descent, OnPath}
 
 -- ---- no bit where no route passes
 
@@ -43,24 +43,24 @@ module _ (st : ℕ → ℕ → Bool) (hop : ℕ → ℕ → ℕ) (f : Shaped st 
   no-hop k l =
       untrue (inner hop (node (suc m) q) k)
       (λ t.
-          let j = inner-cases k l in
-          let z : 4 * suc m + innerLen k - 4 * suc m ≡ innerLen k = omega arith in
-          let u = ltb-true 0 _ t in
-          let r = f .hopping .range _ _ u .0 in
-          let e = f .agree .told (suc m) (4 * suc m + innerLen k) (q * 2 ^ innerLen k + (k + 1 - 2 ^ innerLen k)) (omega arith) (omega arith) r u in
-          let d : (q * 2 ^ innerLen k + (k + 1 - 2 ^ innerLen k)) / 2 ^ (4 * suc m + innerLen k - 4 * suc m) ≡ q =
-          ap (λ (i : ℕ). (q * 2 ^ innerLen k + (k + 1 - 2 ^ innerLen k)) / 2 ^ i) z ∙ high-part q (innerLen k) (j .2) in
-          true≢false (sym e ∙ ap (st (suc m)) d ∙ absent))
+      let j = inner-cases k l in
+      let z : 4 * suc m + innerLen k - 4 * suc m ≡ innerLen k = omega arith in
+      let u = ltb-true 0 _ t in
+      let r = f .hopping .range _ _ u .0 in
+      let e = f .agree .told (suc m) (4 * suc m + innerLen k) (q * 2 ^ innerLen k + (k + 1 - 2 ^ innerLen k)) (omega arith) (omega arith) r u in
+      let d : (q * 2 ^ innerLen k + (k + 1 - 2 ^ innerLen k)) / 2 ^ (4 * suc m + innerLen k - 4 * suc m) ≡ q =
+      ap (λ (i : ℕ). (q * 2 ^ innerLen k + (k + 1 - 2 ^ innerLen k)) / 2 ^ i) z ∙ high-part q (innerLen k) (j .2) in
+      true≢false (sym e ∙ ap (st (suc m)) d ∙ absent))
 
   no-child : (d : ℕ) → d < 16 → child st (node (suc m) q) d ≡ false
   unfolding standsAt
   no-child d l =
       untrue (child st (node (suc m) q) d)
       (λ t.
-          let a : suc m + 1 ≡ suc (suc m) = omega arith in
-          let u : (q * 16 + d) / 16 ≡ q = omega arith in
-          let e = f .up (suc m) (q * 16 + d) (rw a at t) in
-          true≢false (sym (rw u at e) ∙ absent))
+      let a : suc m + 1 ≡ suc (suc m) = omega arith in
+      let u : (q * 16 + d) / 16 ≡ q = omega arith in
+      let e = f .up (suc m) (q * 16 + d) (rw a at t) in
+      true≢false (sym (rw u at e) ∙ absent))
 
   pub absent-word : word st hop (node (suc m) q) ≡ 0
   unfolding word setBit
@@ -105,3 +105,15 @@ module _ (ws : List ℕ) (a : ℕ) where
           let q : suc d + (m - suc d) ≡ m = omega arith in
           let s = leads-step d (omega arith) (leads-above (m - suc d) (suc d) (omega arith) (subst (λ (z : ℕ). leads ws z (slot (4 * z) a) ≡ true) (sym q) t)) in
           absurd (true≢false (sym (s .1) ∙ ap₂ (λ (z c : ℕ). isSet (bitsOf ws z) (16 + slot (4 * c) a % 16)) (sym (w .at)) (sym (add-one d)) ∙ w .stop u))
+
+-- ---- what the code's test of a node says
+
+module _ (ws : List ℕ) (n a m : ℕ) (p : OnPath ws n a m) where
+  -- the root is never taken away
+  pub bare-root : m ≡ 0 → false ≡ (ltb 0 m && eqb (bitsOf ws (reached ws m (slot (4 * m) a))) 0)
+  bare-root e = rw (le-ltb 0 m (omega arith)) refl
+
+  pub bare-node : (m ≡ 0 → ⊥) → (x d : ℕ) → Descent ws n a m x d → eqb (bitsOf ws x) 0 ≡ (ltb 0 m && eqb (bitsOf ws (reached ws m (slot (4 * m) a))) 0)
+  bare-node z x d w =
+      rw (lt-ltb 0 m (omega arith))
+      (ap (λ (y : ℕ). eqb (bitsOf ws y) 0) (w .at ∙ ap (λ (y : ℕ). reached ws y (slot (4 * y) a)) (full-way ws a n m x d (p .deep) (p .stands) w)))

@@ -1,43 +1,34 @@
--- Announce and withdraw on an image, case by case, and what follows: a refusal leaves both arrays; what is accepted is a fresh build of the
--- routes then standing, into the same arrays; a replacement meets none of 6, 11 and 12, a withdrawal neither 11 nor 12.
-use mathlib.Core.Path.{_≡_, refl, sym, _∙_, ap, ap₂, subst}
+-- Announce on an image, case by case: the outcome is one of the cases, and its condition decides which; a refusal leaves both arrays. And no two
+-- answers of announce or of withdraw say the same.
+use mathlib.Core.Path.{_≡_, refl, sym, _∙_, ap, subst}
 use mathlib.Core.Logic.{_⊎_, inl, inr, _↔_}
-use mathlib.Core.Bool.{Bool, true, false, not, cond, true≢false}
+use mathlib.Core.Bool.{true, false, true≢false}
 use mathlib.Core.List.{List, [], _∷_}
-use Prim.Native.Nat.{ℕ, zero, suc, _+_, _-_, _*_, _/_, _%_, _^_, _≤_, _<_}
+use Prim.Native.Nat.{ℕ, _/_, _^_, _≤_, _<_}
 use native.Mathlib.Omega.{arith}
-use lib.Dec.{ltb}
 use lib.ListN.{length, getD}
 use borrow.Author.Tests.{lt-ltb, le-ltb}
 use Rattle.bits.specs.Count.{bit}
 use Rattle.bits.proofs.Tests.{decided, below?}
 use Rattle.routes.specs.Input.{properPrefix, hopFine}
-use Rattle.routes.specs.Route.{key, keyOf, Prefix, Fine, Good}
-use Rattle.routes.specs.Said.{Said, accepted, refused, accepts}
+use Rattle.routes.specs.Route.{keyOf}
+use Rattle.routes.specs.Said.{accepts}
 use Rattle.routes.specs.declared.Route.{Route}
-use Rattle.standing.specs.Standing.{stands, insert, remove}
-use Rattle.standing.proofs.Standing.{insert-good, insert-replaces, remove-good, remove-length}
-use Rattle.standing.proofs.Changed.{insert-adds}
-use Rattle.tree.specs.Image.{nodeStands, hopFor, nodeNeed, imageOf}
-use Rattle.tree_build.specs.Built.{Out, out, madeOf, built}
-use Rattle.tree_same.specs.Order.{ints}
+use Rattle.standing.specs.Standing.{stands}
+use Rattle.tree.specs.Image.{nodeNeed}
+use Rattle.tree_build.specs.Built.{Out, madeOf}
 use Rattle.tree_same.specs.Listed.{routesHeld}
-use Rattle.tree_same.proofs.Same.{image-held}
 use Rattle.tree_check.specs.WellFormed.{used, wellFormed}
 use Rattle.tree_check.proofs.Meaning.{well-formed-is}
 use Rattle.tree_check.proofs.Held.{held-good, held-nodes, held-hops}
-use Rattle.tree_check.proofs.Exact.{inputOf, input-built, made-fits}
-use Rattle.tree_hold.proofs.Paths.{insert-nodes}
+use Rattle.tree_check.proofs.Exact.{made-fits}
 use Rattle.tree_change.specs.declared.Announced.{Announced}
 use Rattle.tree_change.specs.declared.Announced.the-variants as announced
 use Rattle.tree_change.specs.declared.Withdrawn.{Withdrawn}
 use Rattle.tree_change.specs.declared.Withdrawn.the-variants as withdrawn
-use Rattle.tree_change.specs.Changed.{saysAnnounced, saysWithdrawn, route, saying, putTo, takenFrom, imageAnnounced, imageWithdrawn}
-use Rattle.tree_change.specs.Cases.{Asked, routesWith, routesWithout, imageIn}
+use Rattle.tree_change.specs.Changed.{saysAnnounced, saysWithdrawn, saying, putTo, imageAnnounced}
+use Rattle.tree_change.specs.Cases.{Fitted, Asked, routesWith, imageIn}
 use Rattle.tree_change.specs.Cases.{Announcing, wrong-prefix, wrong-hop, wrong-image, too-many, nodes-short, hops-short, put-in}
-use Rattle.tree_change.specs.Cases.{Withdrawing, no-prefix, no-image, no-route, taken-out}
-use Rattle.tree_change.proofs.Needs.{fewer-nodes}
-use Rattle.tree_change.proofs.Answers.{is-fine}
 
 -- ---- each answer says something else
 
@@ -62,17 +53,17 @@ saysWithdrawn-injective (withdrawn.Refused a) (withdrawn.Refused c) e = cc
 
 -- ---- what a well-formed image holds (words are of 32 bits by their type)
 
-module _ (ws hs : List ℕ) (narrow : (j : ℕ) → getD ws j 0 < 2 ^ 32) (formed : wellFormed ws hs ≡ true) where
-  pub its-good : Good (routesHeld ws hs)
-  its-good = held-good ws hs (used ws) (well-formed-is ws hs formed) narrow
-
-  -- it fits, and has at most 4,096 routes
-  pub its-room : (nodeNeed (routesHeld ws hs) ≤ length ws / 3) × (length (routesHeld ws hs) ≤ length hs) × (length (routesHeld ws hs) ≤ 4096)
-  its-room =
-      let w = well-formed-is ws hs formed in
-      let n = held-nodes ws hs (used ws) w narrow in
-      let k = held-hops ws hs (used ws) w narrow in
-      (omega (arith, n, w .order .lent), omega (arith, k, w .room), omega (arith, k, w .few))
+pub its-fit : (ws hs : List ℕ) → ((j : ℕ) → getD ws j 0 < 2 ^ 32) → wellFormed ws hs ≡ true → Fitted (routesHeld ws hs) ws hs
+its-fit ws hs narrow formed =
+    let w = well-formed-is ws hs formed in
+    let n = held-nodes ws hs (used ws) w narrow in
+    let k = held-hops ws hs (used ws) w narrow in
+    record {
+      good = held-good ws hs (used ws) w narrow;
+      few = omega (arith, k, w .few);
+      nodes = omega (arith, n, w .order .lent);
+      hops = omega (arith, k, w .room);
+    }
 
 -- ---- announce, case by case
 

@@ -1,43 +1,36 @@
 -- No hop cell before the place of the changed one is altered: below the place of a prefix the hops of an image are those of the image of the
 -- other routes, whatever its hop is and whether it stands.
 use mathlib.Core.Path.{_≡_, refl, sym, _∙_, ap, ap₂, subst}
-use mathlib.Core.Logic.{_⊎_, inl, inr}
-use mathlib.Core.Bool.{Bool, true, false}
-use mathlib.Core.List.{List, List·Memᴰ}
-use Prim.Native.Nat.{ℕ, _+_, _-_, _*_, _/_, _%_, _^_, _≤_, _<_}
+use mathlib.Core.Bool.{Bool, true}
+use mathlib.Core.List.{List}
+use Prim.Native.Nat.{ℕ, _+_, _*_, _/_, _%_, _^_, _≤_, _<_}
 use native.Mathlib.Nat.{mod-lt}
 use native.Mathlib.Omega.{arith}
-use lib.Dec.{ltb}
 use lib.Count.{ones}
 use lib.ListN.{length, getD}
 use lib.Pow.{pow-pos}
-use borrow.Author.Tests.{ltb-true, ltb-false}
 use Rattle.bits.specs.Slot.{slot}
 use Rattle.bits.proofs.Slots.{slot-up}
-use Rattle.bits.proofs.Tests.{decided}
-use Rattle.routes.specs.Route.{key, keyOf, Prefix, Good}
+use Rattle.routes.specs.Route.{keyOf, Prefix, Good}
 use Rattle.routes.specs.declared.Route.{Route}
-use Rattle.routes.proofs.Meaning.{prefix-true}
-use Rattle.standing.specs.Standing.{stands, insert, remove}
+use Rattle.standing.specs.Standing.{stands, remove}
 use Rattle.tree.specs.Node.{bitsOf, baseOf}
 use Rattle.tree.specs.Parts.{padded}
-use Rattle.tree.specs.Image.{node, bitHop, nodes, hops, imageBy, imageOf, nodeStands, hopFor, nodeNeed}
+use Rattle.tree.specs.Image.{hops, imageBy, nodeStands, hopFor}
 use Rattle.tree.proofs.Lies.{inner-len}
 use Rattle.tree_same.specs.Read.{reached, pathOf, bitFor}
-use Rattle.tree_same.specs.Order.{standsAt}
 use Rattle.tree_same.specs.Holding.{Holding}
-use Rattle.tree_same.specs.Listed.{routesHeld}
 use Rattle.tree_same.proofs.Back.{Shaped}
 use Rattle.tree_same.proofs.Same.{fits}
 use Rattle.tree_same.proofs.Holdings.{holds-image}
 use Rattle.tree_hold.specs.More.{downTo, withHop}
-use Rattle.tree_hold.proofs.Paths.{on-path, down-shaped, insert-hops, stands-hop}
-use Rattle.tree_hold.proofs.Taken.{lenAt, bitsAt, before}
+use Rattle.tree_hold.proofs.Paths.{on-path, down-shaped}
+use Rattle.tree_hold.proofs.Taken.{lenAt, bitsAt, Before, before}
 use Rattle.tree_change.specs.Stages.{BitOf}
 use Rattle.tree_change.specs.Changed.{hopPlace}
-use Rattle.tree_change.proofs.Places.{bit-len, bit-bits, hop-at-bit}
+use Rattle.tree_change.proofs.Places.{hop-at-bit}
 use Rattle.tree_change.proofs.Needs.{down-hops}
-use Rattle.tree_change.proofs.Without.{Without, without, gone-stands, out-again}
+use Rattle.tree_change.proofs.Without.{Without, without, held-with}
 
 -- the path and the bit of a prefix
 prefix-path : (a len : ℕ) → len ≤ 32 → pathOf len (slot len a) ≡ slot (4 * (len / 4)) a
@@ -75,16 +68,16 @@ module _ (rs : List Route) (a len : ℕ) (good : Good rs) (p : Prefix a len) (st
 
   module _ {ws hs : List ℕ} {n : ℕ} (h : Holding (nodeStands rs) (hopFor rs) ws hs n) where
     held : Holding (downTo st₀ a deep) (withHop hop₀ (lenAt deep b) (bitsAt path b) (by .hop)) ws hs n
-    held =
-        let t : hopFor rs ≡ withHop hop₀ (lenAt deep b) (bitsAt path b) (by .hop) =
-        by .hops ∙ sym (ap₂ (λ (u v : ℕ). withHop hop₀ u v (by .hop)) (bit-len bit (p .len-ok)) (bit-bits bit (p .len-ok))) in
-        subst (λ (f : ℕ → ℕ → Bool). Holding f (withHop hop₀ (lenAt deep b) (bitsAt path b) (by .hop)) ws hs n) (by .nodes)
-        (subst (λ (f : ℕ → ℕ → ℕ). Holding (nodeStands rs) f ws hs n) t h)
+    held = held-with by (p .len-ok) bit h
+
+    -- the arrays without the hop
+    without-hop : Before deep path b (by .hop) shape (bit .small) (on-path st₀ a (p .addr-ok) deep deep (omega arith)) (hop-at-bit bit (p .len-ok) hop₀ ∙ by .gone) (by .some) held
+    without-hop = before deep path b (by .hop) shape (bit .small) (on-path st₀ a (p .addr-ok) deep deep (omega arith)) (hop-at-bit bit (p .len-ok) hop₀ ∙ by .gone) (by .some) held
 
     -- the place is that in the image of the other routes with the path of the prefix
     pub place-shared : hopPlace ws len (slot len a) ≡ hopPlace (imageBy (downTo st₀ a deep) hop₀ (length ws) (length hs) .words) len (slot len a)
     place-shared =
-        let o = before deep path b (by .hop) shape (bit .small) (on-path st₀ a (p .addr-ok) deep deep (omega arith)) (hop-at-bit bit (p .len-ok) hop₀ ∙ by .gone) (by .some) held in
+        let o = without-hop in
         let w = holds-image (downTo st₀ a deep) hop₀ (o .words) (o .hops) n (shape .agree .nine) (o .holds) .0 in
         let e : o .words ≡ imageBy (downTo st₀ a deep) hop₀ (length ws) (length hs) .words =
         w ∙ ap₂ (λ (u v : ℕ). imageBy (downTo st₀ a deep) hop₀ u v .words) (sym (o .put .same)) (sym (o .put .same-hops)) in
@@ -102,7 +95,7 @@ module _ (rs : List Route) (a len : ℕ) (good : Good rs) (p : Prefix a len) (st
     pub cells-shared : (j : ℕ) → j < hopPlace ws len (slot len a) → getD hs j 0 ≡ getD (padded (length hs) (hops st₀ hop₀)) j 0
     unfolding imageBy
     cells-shared j l =
-        let o = before deep path b (by .hop) shape (bit .small) (on-path st₀ a (p .addr-ok) deep deep (omega arith)) (hop-at-bit bit (p .len-ok) hop₀ ∙ by .gone) (by .some) held in
+        let o = without-hop in
         let w = holds-image (downTo st₀ a deep) hop₀ (o .words) (o .hops) n (shape .agree .nine) (o .holds) .1 in
         let q = prefix-path a len (p .len-ok) in
         let u : j < baseOf ws (reached ws deep path) + ones (bitsOf ws (reached ws deep path) % 2 ^ b) =

@@ -1,6 +1,7 @@
 -- Laws of the way down a path, of each change, and the theorems on what announce and withdraw leave.
 pub mod Ways
 pub mod Places
+pub mod Midways
 pub mod Adds
 pub mod Replaces
 pub mod Bares

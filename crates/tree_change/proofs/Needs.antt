@@ -3,7 +3,7 @@ use mathlib.Core.Path.{_≡_, refl, sym, _∙_, ap, ap₂, subst, fun-ext}
 use mathlib.Core.Logic.{_⊎_, inl, inr}
 use mathlib.Core.Bool.{Bool, true, false, _&&_, _||_, or-true}
 use mathlib.Core.List.{List, List·Memᴰ}
-use Prim.Native.Nat.{ℕ, zero, suc, _+_, _-_, _*_, _/_, _%_, _^_, _≤_, _<_}
+use Prim.Native.Nat.{ℕ, zero, suc, _+_, _-_, _*_, _/_, _^_, _≤_, _<_}
 use native.Mathlib.Numerals.{add-one}
 use native.Mathlib.Omega.{arith}
 use lib.Dec.{eqb, leb}
@@ -13,7 +13,7 @@ use borrow.Author.Tests.{le-leb, leb-true, eq-eqb, eqb-true}
 use Rattle.bits.specs.Slot.{slot}
 use Rattle.bits.proofs.Slots.{slot-zero}
 use Rattle.bits.proofs.Tests.{decided, and-split, or-split, equal?, below?, same}
-use Rattle.routes.specs.Route.{key, keyOf, Fine, Good}
+use Rattle.routes.specs.Route.{key, Fine, Good}
 use Rattle.routes.specs.declared.Route.{Route}
 use Rattle.routes.proofs.Goods.{good-fine, key-parts}
 use Rattle.standing.specs.Standing.{stands, insert, remove}
@@ -27,14 +27,14 @@ use Rattle.tree_same.specs.Holding.{Holding}
 use Rattle.tree_same.specs.Listed.{routesHeld}
 use Rattle.tree_same.proofs.Back.{Shaped}
 use Rattle.tree_same.proofs.Same.{fits}
-use Rattle.tree_same.proofs.Holdings.{nodes-are, hops-are, holds-image}
+use Rattle.tree_same.proofs.Holdings.{nodes-are, hops-are, holds-image, image-holding}
 use Rattle.tree_hold.specs.More.{downTo}
-use Rattle.tree_hold.proofs.Holds.{image-holding, holding-same}
+use Rattle.tree_hold.proofs.Holds.{holding-same}
 use Rattle.tree_hold.proofs.Paths.{down-shaped, down-grows, down-same, insert-nodes, put-again, stands-is}
 use Rattle.tree_change.specs.Changed.{route}
 use Rattle.tree_change.specs.Stages.{New}
 use Rattle.tree_change.proofs.Places.{shaped, way-stands, way-absent}
-use Rattle.tree_change.proofs.Adds.{down-any}
+use Rattle.tree_change.proofs.Midways.{down-any}
 
 module _ (st : ℕ → ℕ → Bool) (hop : ℕ → ℕ → ℕ) (a : ℕ) (small : a < 2 ^ 32) (f : Shaped st hop) where
   -- a node that stands is not added

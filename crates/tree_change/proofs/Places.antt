@@ -3,7 +3,7 @@ use mathlib.Core.Path.{_≡_, refl, sym, _∙_, ap, ap₂, subst}
 use mathlib.Core.Logic.{_⊎_, inl, inr}
 use mathlib.Core.Bool.{Bool, true, false, _&&_, true≢false}
 use mathlib.Core.List.{List}
-use Prim.Native.Nat.{ℕ, zero, suc, _+_, _-_, _*_, _/_, _%_, _^_, _≤_, _<_}
+use Prim.Native.Nat.{ℕ, suc, _+_, _-_, _*_, _/_, _%_, _^_, _≤_, _<_}
 use native.Mathlib.Nat.{mod-lt}
 use native.Mathlib.Numerals.{add-one}
 use native.Mathlib.Omega.{arith}
@@ -13,16 +13,15 @@ use borrow.Author.Tests.{eq-eqb, ne-eqb, lt-ltb, ltb-true}
 use Rattle.bits.specs.Slot.{slot}
 use Rattle.bits.proofs.Slots.{slot-up}
 use Rattle.bits.proofs.Tests.{equal?, untrue}
-use Rattle.routes.specs.Route.{keyOf, Prefix, Good}
+use Rattle.routes.specs.Route.{keyOf, Prefix}
 use Rattle.routes.specs.declared.Route.{Route}
 use Rattle.standing.specs.Standing.{stands}
 use Rattle.tree.specs.Node.{bitsOf, isSet}
-use Rattle.tree.specs.Image.{node, innerLen, bitHop, inner, nodeStands, hopFor}
+use Rattle.tree.specs.Image.{node, innerLen, bitHop, nodeStands, hopFor}
 use Rattle.tree.proofs.Lies.{inner-len}
 use Rattle.tree_build.specs.Run.{placeOf}
 use Rattle.tree_same.specs.Read.{reached}
 use Rattle.tree_same.specs.Order.{standsAt}
-use Rattle.tree_same.specs.Holding.{Holding}
 use Rattle.tree_same.specs.Listed.{routesHeld}
 use Rattle.tree_same.proofs.Back.{Shaped}
 use Rattle.tree_same.proofs.Same.{fits}
@@ -101,12 +100,12 @@ module _ {ws hs : List ℕ} {n k : ℕ} (s : Found ws hs n k) where
         stands-hop a len rs p (s .good)
         ∙ untrue (ltb 0 (hop len (slot len a)))
         (λ t.
-            let l = p .len-ok in
-            let e : 4 * suc m + (len - 4 * suc m) ≡ len = omega arith in
-            let q : slot len a / 2 ^ (len - 4 * suc m) ≡ slot (4 * suc m) a =
-            ap (λ (z : ℕ). slot z a / 2 ^ (len - 4 * suc m)) (sym e) ∙ slot-up (4 * suc m) (len - 4 * suc m) a (omega arith) in
-            let d = shaped .agree .told (suc m) len (slot len a) (omega arith) (omega arith) l (ltb-true 0 _ t) in
-            true≢false (sym d ∙ ap (st (suc m)) q ∙ way-absent (p .addr-ok) w (omega arith) u))
+        let l = p .len-ok in
+        let e : 4 * suc m + (len - 4 * suc m) ≡ len = omega arith in
+        let q : slot len a / 2 ^ (len - 4 * suc m) ≡ slot (4 * suc m) a =
+        ap (λ (z : ℕ). slot z a / 2 ^ (len - 4 * suc m)) (sym e) ∙ slot-up (4 * suc m) (len - 4 * suc m) a (omega arith) in
+        let d = shaped .agree .told (suc m) len (slot len a) (omega arith) (omega arith) l (ltb-true 0 _ t) in
+        true≢false (sym d ∙ ap (st (suc m)) q ∙ way-absent (p .addr-ok) w (omega arith) u))
 
     -- the bit is set at the depth of the prefix exactly when the prefix stands
     pub there-is : (t : Bool) → t ≡ (eqb m (len / 4) && isSet (bitsOf ws x) b) → t ≡ stands (keyOf a len) rs
@@ -128,3 +127,11 @@ module _ {ws hs : List ℕ} {n k : ℕ} (s : Found ws hs n k) where
         go : (m ≡ len / 4) ⊎ (m ≡ len / 4 → ⊥) → m ≡ len / 4
         go (inl q) = q
         go (inr q) = absurd (true≢false (sym t ∙ not-there (omega (arith, up, q))))
+
+-- ---- what the code's test of the end of the way says
+
+pub ends-above : (d deep : ℕ) (t : Bool) → (d ≡ deep → ⊥) → false ≡ (eqb d deep && t)
+ends-above d deep t n = rw (ne-eqb d deep n) refl
+
+pub ends-there : (d deep : ℕ) (s t : Bool) → d ≡ deep → s ≡ t → s ≡ (eqb d deep && t)
+ends-there d deep s t e q = rw (eq-eqb d deep e) q

@@ -1,9 +1,9 @@
 -- The hop of a prefix that stands, replaced by one store.
 use mathlib.Core.Path.{_≡_, refl, sym, _∙_, ap, ap₂, subst}
 use mathlib.Core.Logic.{_⊎_, inl, inr}
-use mathlib.Core.Bool.{Bool, true, false}
+use mathlib.Core.Bool.{Bool, true}
 use mathlib.Core.List.{List}
-use Prim.Native.Nat.{ℕ, zero, suc, _+_, _*_, _/_, _%_, _^_, _≤_, _<_}
+use Prim.Native.Nat.{ℕ, _+_, _*_, _/_, _%_, _^_, _≤_, _<_}
 use native.Mathlib.Omega.{arith}
 use lib.Dec.{ltb}
 use lib.ListN.{length, getD, set, length-set}
@@ -11,7 +11,7 @@ use borrow.Author.Tests.{ltb-true}
 use lib.Count.{ones}
 use Rattle.bits.specs.Slot.{slot}
 use Rattle.bits.proofs.Tests.{below?}
-use Rattle.routes.specs.Route.{keyOf, Fine, Good}
+use Rattle.routes.specs.Route.{Fine}
 use Rattle.routes.specs.declared.Route.{Route}
 use Rattle.standing.specs.Standing.{insert}
 use Rattle.standing.proofs.Standing.{insert-good}
@@ -28,9 +28,9 @@ use Rattle.tree_hold.proofs.Taken.{lenAt, bitsAt, hopPlace}
 use Rattle.tree_hold.proofs.Replaced.{replace-holds}
 use Rattle.tree_hold.proofs.Paths.{insert-nodes, insert-hops, stands-hop}
 use Rattle.tree_change.specs.Changed.{route}
-use Rattle.tree_change.specs.Stages.{Found, Descent, BitOf, Standing, Become}
+use Rattle.tree_change.specs.Stages.{Standing, Become}
 use Rattle.tree_change.proofs.Places.{bit-len, bit-bits, hop-at-bit, shaped, way-stands}
-use Rattle.tree_change.proofs.Adds.{become, down-any}
+use Rattle.tree_change.proofs.Midways.{down-any, become}
 
 module _ {ws hs : List ℕ} {n k x a len b : ℕ} (r : Standing ws hs n k x a len b) where
   abbrev rs : List Route
@@ -69,7 +69,7 @@ module _ {ws hs : List ℕ} {n k x a len b : ℕ} (r : Standing ws hs n k x a le
 
   module _ (h : ℕ) (some : 0 < h) (most : h ≤ 32767) where
     fine : Fine (route a len h)
-    fine = record { prefix = r .prefix; hop-one = some; hop-ok = most; spare-ok = refl }
+    fine = record { prefix = r .prefix; hop-one = some; hop-ok = most; mark-ok = omega arith }
 
     pub replace-done : (y : ℕ) → y ≡ baseOf ws x + ones (bitsOf ws x % 2 ^ b) → Become (insert (route a len h) rs) ws hs ws (set hs y h) n
     replace-done y e =

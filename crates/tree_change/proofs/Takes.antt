@@ -1,46 +1,47 @@
--- Withdraw on an image, case by case.
-use mathlib.Core.Path.{_≡_, refl, sym, _∙_, ap, ap₂, subst}
+-- Withdraw on an image, case by case: the outcome is one of the cases, and its condition decides which; a refusal leaves both arrays, and a prefix
+-- that stands is always taken out.
+use mathlib.Core.Path.{_≡_, refl, sym, _∙_, ap, subst}
 use mathlib.Core.Logic.{_⊎_, inl, inr, _↔_}
-use mathlib.Core.Bool.{Bool, true, false, true≢false}
+use mathlib.Core.Bool.{true, false, true≢false}
 use mathlib.Core.List.{List, [], _∷_}
-use Prim.Native.Nat.{ℕ, _+_, _/_, _^_, _≤_, _<_}
+use Prim.Native.Nat.{ℕ, _^_, _<_}
 use native.Mathlib.Omega.{arith}
 use lib.ListN.{length, getD}
 use Rattle.bits.proofs.Tests.{decided}
 use Rattle.routes.specs.Input.{properPrefix}
-use Rattle.routes.specs.Route.{keyOf, Good}
-use Rattle.routes.specs.Said.{accepted, refused, accepts}
+use Rattle.routes.specs.Route.{keyOf}
+use Rattle.routes.specs.Said.{accepts}
 use Rattle.routes.specs.declared.Route.{Route}
-use Rattle.standing.specs.Standing.{stands, remove}
-use Rattle.standing.proofs.Standing.{remove-length}
-use Rattle.tree.specs.Image.{nodeNeed, imageOf}
-use Rattle.tree_build.specs.Built.{Out, out, madeOf}
+use Rattle.standing.specs.Standing.{stands}
+use Rattle.standing.proofs.Standing.{remove-good, remove-length}
+use Rattle.tree.specs.Image.{nodeNeed}
+use Rattle.tree_build.specs.Built.{Out}
 use Rattle.tree_same.specs.Listed.{routesHeld}
 use Rattle.tree_check.specs.WellFormed.{wellFormed}
 use Rattle.tree_change.specs.Changed.{takenFrom, imageWithdrawn}
-use Rattle.tree_change.specs.Cases.{routesWithout, imageIn, Withdrawing, no-prefix, no-image, no-route, taken-out}
+use Rattle.tree_change.specs.Cases.{routesWithout, imageIn, Fitted, Withdrawing, no-prefix, no-image, no-route, taken-out}
 use Rattle.tree_change.proofs.Needs.{fewer-nodes}
 use Rattle.tree_check.proofs.Exact.{made-fits}
-use Rattle.tree_change.proofs.Cases.{its-good, its-room}
+use Rattle.tree_change.proofs.Cases.{its-fit}
 
 module _ (ws hs : List ℕ) (a len : ℕ) (narrow : (j : ℕ) → getD ws j 0 < 2 ^ 32) where
   abbrev rs′ : List Route
   rs′ = routesWithout ws hs a len
 
   -- the routes left need no more: neither 11 nor 12
-  pub left-fits : wellFormed ws hs ≡ true → stands (keyOf a len) (routesHeld ws hs) ≡ true → (nodeNeed rs′ ≤ length ws / 3) × (length rs′ ≤ length hs) × (length rs′ ≤ 4096)
-  left-fits f s =
-      let r = its-room ws hs narrow f in
-      let n = fewer-nodes (keyOf a len) (routesHeld ws hs) (its-good ws hs narrow f) s in
+  pub left-fit : wellFormed ws hs ≡ true → stands (keyOf a len) (routesHeld ws hs) ≡ true → Fitted rs′ ws hs
+  left-fit f s =
+      let r = its-fit ws hs narrow f in
+      let n = fewer-nodes (keyOf a len) (routesHeld ws hs) (r .good) s in
       let l = remove-length (keyOf a len) (routesHeld ws hs) in
-      (omega (arith, r .0), omega (arith, r .1), omega (arith, r .2))
+      record { good = remove-good (keyOf a len) (routesHeld ws hs) (r .good); few = omega (arith, r .few); nodes = omega (arith, r .nodes); hops = omega (arith, r .hops) }
 
   pub case-withdrawn : (o : Out) → Withdrawing ws hs a len o → imageWithdrawn ws hs a len ≡ o
   unfolding imageWithdrawn takenFrom
   case-withdrawn o (no-prefix e) = rw e refl
   case-withdrawn o (no-image e f) = rw (e, f) refl
   case-withdrawn o (no-route e f g) = rw (e, f, g) refl
-  case-withdrawn o (taken-out e f g) = let r = left-fits f g in rw (e, f, g) (made-fits rs′ ws hs (r .0) (r .1))
+  case-withdrawn o (taken-out e f g) = let r = left-fit f g in rw (e, f, g) (made-fits rs′ ws hs (r .nodes) (r .hops))
 
   some-case : (properPrefix a len ≡ true) ⊎ (properPrefix a len ≡ false) → (wellFormed ws hs ≡ true) ⊎ (wellFormed ws hs ≡ false)
       → (stands (keyOf a len) (routesHeld ws hs) ≡ true) ⊎ (stands (keyOf a len) (routesHeld ws hs) ≡ false) → (o : Out) × Withdrawing ws hs a len o

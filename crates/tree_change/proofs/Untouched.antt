@@ -1,11 +1,10 @@
 -- The change alters no hop cell before the place of the changed one.
-use mathlib.Core.Path.{_≡_, refl, sym, _∙_, ap, ap₂, subst}
+use mathlib.Core.Path.{_≡_, refl, sym, _∙_, ap, ap₂}
 use mathlib.Core.Logic.{_⊎_, inl, inr}
-use mathlib.Core.Bool.{Bool, true, false, cond}
+use mathlib.Core.Bool.{true, false}
 use mathlib.Core.List.{List}
-use Prim.Native.Nat.{ℕ, _+_, _*_, _/_, _^_, _≤_, _<_}
-use native.Mathlib.Omega.{arith}
-use lib.Dec.{eqb, ltb}
+use Prim.Native.Nat.{ℕ, _/_, _^_, _<_}
+use lib.Dec.{ltb}
 use lib.ListN.{length, getD}
 use borrow.Author.Tests.{eq-eqb, lt-ltb}
 use Rattle.bits.specs.Slot.{slot}
@@ -14,28 +13,24 @@ use Rattle.routes.specs.Route.{keyOf, Fine, Good}
 use Rattle.routes.specs.Said.{accepts}
 use Rattle.routes.specs.declared.Route.{Route}
 use Rattle.routes.proofs.Meaning.{prefix-true}
-use Rattle.standing.specs.Standing.{stands, insert, remove}
-use Rattle.standing.proofs.Standing.{insert-good}
+use Rattle.standing.specs.Standing.{stands, remove}
 use Rattle.standing.proofs.Changed.{remove-absent}
 use Rattle.tree.specs.Parts.{padded}
-use Rattle.tree.specs.Image.{hops, imageBy, imageOf, nodeStands, hopFor, nodeNeed}
-use Rattle.tree.proofs.Needs.{hops-need}
+use Rattle.tree.specs.Image.{hops, imageBy, nodeStands, hopFor, nodeNeed}
 use Rattle.tree_build.specs.Built.{Out}
 use Rattle.tree_same.specs.Holding.{Holding}
 use Rattle.tree_same.specs.Listed.{routesHeld}
-use Rattle.tree_same.proofs.Same.{fits}
 use Rattle.tree_check.specs.WellFormed.{used}
 use Rattle.tree_check.proofs.Meaning.{well-formed-is}
 use Rattle.tree_check.proofs.Held.{held-holds, held-image}
 use Rattle.tree_hold.specs.More.{downTo, withHop}
-use Rattle.tree_hold.proofs.Holds.{image-holding}
-use Rattle.tree_hold.proofs.Undone.{image-sizes}
 use Rattle.tree_hold.proofs.Paths.{insert-hops, stands-hop}
 use Rattle.tree_change.specs.Changed.{route, imageAnnounced, imageWithdrawn, hopPlace}
-use Rattle.tree_change.specs.Cases.{routesWith, routesWithout}
+use Rattle.tree_change.specs.Cases.{Asked, routesWith, Left}
 use Rattle.tree_change.proofs.Answers.{is-fine}
-use Rattle.tree_change.proofs.Cases.{its-good, Put, announce-put}
+use Rattle.tree_change.proofs.Cases.{its-fit, announce-put}
 use Rattle.tree_change.proofs.Takes.{Taken, withdraw-taken}
+use Rattle.tree_change.proofs.Fresh.{announce-left, change-sizes, change-holds}
 use Rattle.tree_change.proofs.Without.{out-again}
 use Rattle.tree_change.proofs.Frame.{place-shared, cells-shared}
 
@@ -61,30 +56,26 @@ module _ (ws hs : List ℕ) (a len h : ℕ) (narrow : (j : ℕ) → getD ws j 0 
   abbrev rs′ : List Route
   rs′ = routesWith ws hs a len h
 
-  put : Put ws hs a len h
-  put = announce-put ws hs a len h ok
+  asked : Asked ws hs a len h
+  asked = announce-put ws hs a len h ok .asked
 
   fine : Fine (route a len h)
-  fine = is-fine a len h (put .asked .prefix) (put .asked .hop)
+  fine = is-fine a len h (asked .prefix) (asked .hop)
 
   good : Good rs
-  good = its-good ws hs narrow (put .asked .image)
+  good = its-fit ws hs narrow (asked .image) .good
+
+  left : Left rs′ ws hs after
+  left = announce-left ws hs a len narrow h ok
 
   good′ : Good rs′
-  good′ = insert-good (route a len h) rs fine good
-
-  space : length (hops (nodeStands rs′) (hopFor rs′)) ≤ length hs
-  space = omega (arith, hops-need rs′ good′, put .hops-fit)
+  good′ = left .fit .good
 
   sizes : (length (after .words) ≡ length ws) × (length (after .hops) ≡ length hs)
-  sizes =
-      let z = image-sizes (nodeStands rs′) (hopFor rs′) (length ws) (length hs) (omega (arith, put .nodes-fit)) space in
-      (ap (λ (o : Out). length (o .words)) (put .told) ∙ z .0, ap (λ (o : Out). length (o .hops)) (put .told) ∙ z .1)
+  sizes = change-sizes left
 
   held′ : Holding (nodeStands rs′) (hopFor rs′) (after .words) (after .hops) (nodeNeed rs′)
-  held′ =
-      subst (λ (o : Out). Holding (nodeStands rs′) (hopFor rs′) (o .words) (o .hops) (nodeNeed rs′)) (sym (put .told))
-      (image-holding (nodeStands rs′) (hopFor rs′) (fits rs′ good′) (length ws) (length hs) (omega (arith, put .nodes-fit)) space)
+  held′ = change-holds left
 
   stood′ : stands (keyOf a len) rs′ ≡ true
   stood′ =
@@ -100,7 +91,7 @@ module _ (ws hs : List ℕ) (a len h : ℕ) (narrow : (j : ℕ) → getD ws j 0 
       cells-shared rs′ a len good′ (fine .prefix) stood′ held′ j l ∙ ap₂ (λ (n : ℕ) (x : List Route). cells x n j) (sizes .1) others
 
   held : Holding (nodeStands rs) (hopFor rs) ws hs (used ws)
-  held = held-holds ws hs (used ws) (well-formed-is ws hs (put .asked .image)) narrow
+  held = held-holds ws hs (used ws) (well-formed-is ws hs (asked .image)) narrow
 
   -- and so are those of the old one
   old-cells : (stands (keyOf a len) rs ≡ true) ⊎ (stands (keyOf a len) rs ≡ false) → (j : ℕ) → j < hopPlace (after .words) len (slot len a)
@@ -118,22 +109,19 @@ module _ (ws hs : List ℕ) (a len h : ℕ) (narrow : (j : ℕ) → getD ws j 0 
               ap₂ (λ (m n : ℕ). hopPlace (base (remove (keyOf a len) rs′) a len m n) len (slot len a)) (sizes .0) (sizes .1)
               ∙ ap (λ (x : List Route). hopPlace (base x a len (length ws) (length hs)) len (slot len a)) others
   old-cells (inr s) j l =
-      ap (λ (v : List ℕ). getD v j 0) (held-image ws hs (used ws) (well-formed-is ws hs (put .asked .image)) narrow .1)
+      ap (λ (v : List ℕ). getD v j 0) (held-image ws hs (used ws) (well-formed-is ws hs (asked .image)) narrow .1)
       ∙ ap (λ (x : List Route). cells x (length hs) j) (sym (remove-absent (keyOf a len) rs s))
 
   pub announce-hops-before : (j : ℕ) → j < hopPlace (after .words) len (slot len a) → getD (after .hops) j 0 ≡ getD hs j 0
   announce-hops-before j l = new-cells j l ∙ sym (old-cells (decided (stands (keyOf a len) rs)) j l)
 
 module _ (ws hs : List ℕ) (a len : ℕ) (narrow : (j : ℕ) → getD ws j 0 < 2 ^ 32) (ok : accepts (imageWithdrawn ws hs a len .said) ≡ true) where
-  abbrev left : Out
-  left = imageWithdrawn ws hs a len
-
   taken : Taken ws hs a len narrow
   taken = withdraw-taken ws hs a len narrow ok
 
-  pub withdraw-hops-before : (j : ℕ) → j < hopPlace ws len (slot len a) → getD (left .hops) j 0 ≡ getD hs j 0
+  pub withdraw-hops-before : (j : ℕ) → j < hopPlace ws len (slot len a) → getD (imageWithdrawn ws hs a len .hops) j 0 ≡ getD hs j 0
   unfolding imageBy
   withdraw-hops-before j l =
       ap (λ (o : Out). getD (o .hops) j 0) (taken .told)
-      ∙ sym (cells-shared (routesHeld ws hs) a len (its-good ws hs narrow (taken .image)) (prefix-true a len (taken .prefix)) (taken .stood)
+      ∙ sym (cells-shared (routesHeld ws hs) a len (its-fit ws hs narrow (taken .image) .good) (prefix-true a len (taken .prefix)) (taken .stood)
       (held-holds ws hs (used ws) (well-formed-is ws hs (taken .image)) narrow) j l)

@@ -1,12 +1,11 @@
 -- The way down a path, step by step; and what the bits of a node say where arrays hold routes.
 use mathlib.Core.Path.{_≡_, refl, sym, _∙_, ap, ap₂, subst}
-use mathlib.Core.Bool.{Bool, true, false, _&&_}
+use mathlib.Core.Bool.{Bool, true, false}
 use mathlib.Core.List.{List}
-use Prim.Native.Nat.{ℕ, zero, suc, _+_, _-_, _*_, _/_, _%_, _^_, _≤_, _<_}
+use Prim.Native.Nat.{ℕ, suc, _+_, _*_, _/_, _%_, _^_, _≤_, _<_}
 use native.Mathlib.Numerals.{add-one}
 use native.Mathlib.Omega.{arith}
-use lib.ListN.{length, getD}
-use lib.Count.{ones}
+use lib.ListN.{length}
 use borrow.Author.Tests.{eq-eqb}
 use Rattle.bits.specs.Bit.{bitAt}
 use Rattle.bits.specs.Count.{bit}
@@ -17,7 +16,7 @@ use Rattle.tree.specs.Node.{bitsOf, childOf, isSet, childAt}
 use Rattle.tree.specs.Image.{node, inner, imageBy}
 use Rattle.tree.proofs.Nodes.{inner-bit, child-bit}
 use Rattle.tree_same.specs.Read.{reached, leads}
-use Rattle.tree_same.specs.Order.{exts, Order, standsAt}
+use Rattle.tree_same.specs.Order.{Order, standsAt}
 use Rattle.tree_same.specs.Holding.{Holding}
 use Rattle.tree_same.proofs.Back.{Shaped, set-is, leads-is}
 use Rattle.tree_same.proofs.Holdings.{holds-image, holds-done}

@@ -1,23 +1,26 @@
 -- A list of routes by the list without one prefix: the nodes on the path of the prefix stand too, and the prefix has its hop.
 use mathlib.Core.Path.{_≡_, refl, sym, _∙_, ap, ap₂, subst}
-use mathlib.Core.Logic.{_⊎_, inl, inr}
-use mathlib.Core.Bool.{Bool, true, false, cond, true≢false}
+use mathlib.Core.Bool.{Bool, true, false, cond}
 use mathlib.Core.List.{List, List·Memᴰ}
-use Prim.Native.Nat.{ℕ, _+_, _/_, _<_}
+use Prim.Native.Nat.{ℕ, _*_, _/_, _≤_, _<_}
 use native.Mathlib.Omega.{arith}
 use lib.Dec.{eqb, ltb}
 use borrow.Author.Tests.{eq-eqb, ltb-false}
 use Rattle.bits.specs.Slot.{slot}
-use Rattle.bits.proofs.Tests.{decided, untrue}
+use Rattle.bits.proofs.Tests.{untrue}
 use Rattle.routes.specs.Route.{key, keyOf, Prefix, Fine, Good}
 use Rattle.routes.specs.declared.Route.{Route}
 use Rattle.routes.proofs.Goods.{good-fine, key-parts}
 use Rattle.standing.specs.Standing.{Held, absent, stood, stands, routeAt, insert, remove}
 use Rattle.standing.proofs.Standing.{insert-good, insert-stands, remove-good, remove-stands, same-standing}
 use Rattle.tree.specs.Image.{nodeStands, hopFor}
+use Rattle.tree_same.specs.Holding.{Holding}
 use Rattle.tree_same.proofs.Same.{at-listed}
 use Rattle.tree_hold.specs.More.{downTo, withHop}
+use Rattle.tree_hold.proofs.Taken.{lenAt, bitsAt}
 use Rattle.tree_hold.proofs.Paths.{insert-nodes, insert-hops, put-again, stands-is, stands-hop}
+use Rattle.tree_change.specs.Stages.{BitOf}
+use Rattle.tree_change.proofs.Places.{bit-len, bit-bits}
 
 -- a prefix that was taken out does not stand
 pub gone-stands : (k : ℕ) (rs : List Route) → Good rs → stands k (remove k rs) ≡ false
@@ -73,3 +76,14 @@ without rs a len g p t = go (stands-is (keyOf a len) rs t)
               ∙ ap₂ (λ (u v : ℕ). withHop (hopFor (remove (keyOf a len) rs)) v (slot v u) (w .0 .hop)) (k .0) (k .1);
           gone = zero-of (hopFor (remove (keyOf a len) rs) len (slot len a)) (sym (stands-hop a len (remove (keyOf a len) rs) p g₀) ∙ gone-stands (keyOf a len) rs g);
         }
+
+-- arrays that hold the list hold the others with the path of the prefix, and its hop at its bit
+pub held-with : {rs : List Route} {a len b : ℕ} (w : Without rs a len) → len ≤ 32 → BitOf a len b → {ws hs : List ℕ} {n : ℕ} → Holding (nodeStands rs) (hopFor rs) ws hs n
+    → Holding (downTo (nodeStands (remove (keyOf a len) rs)) a (len / 4))
+    (withHop (hopFor (remove (keyOf a len) rs)) (lenAt (len / 4) b) (bitsAt (slot (4 * (len / 4)) a) b) (w .hop)) ws hs n
+held-with {rs} {a} {len} {b} w l o {ws} {hs} {n} h =
+    let hop = hopFor (remove (keyOf a len) rs) in
+    let t : hopFor rs ≡ withHop (hopFor (remove (keyOf a len) rs)) (lenAt (len / 4) b) (bitsAt (slot (4 * (len / 4)) a) b) (w .hop) =
+    w .hops ∙ sym (ap₂ (λ (u v : ℕ). withHop hop u v (w .hop)) (bit-len o l) (bit-bits o l)) in
+    subst (λ (f : ℕ → ℕ → Bool). Holding f (withHop hop (lenAt (len / 4) b) (bitsAt (slot (4 * (len / 4)) a) b) (w .hop)) ws hs n) (w .nodes)
+    (subst (λ (f : ℕ → ℕ → ℕ). Holding (nodeStands rs) f ws hs n) t h)

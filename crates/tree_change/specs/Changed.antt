@@ -34,7 +34,7 @@ saysWithdrawn (withdrawn.Refused n) = refused n
 
 -- the route of a prefix; a route of an image has no mark
 abbrev pub route : ℕ → ℕ → ℕ → Route
-route a len h = record { addr = a; len = len; spare = 0; hop = h }
+route a len h = record { addr = a; len = len; mark = 0; hop = h }
 
 -- what is said, with one value in front where it is accepted
 abbrev pub inFront : ℕ → Said → Said

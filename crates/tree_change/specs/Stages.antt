@@ -44,9 +44,9 @@ pub record BitOf (a len b : ℕ) : Type 0 where
   pub small : b < 15
   pub is : b ≡ 2 ^ (len % 4) - 1 + slot len a % 2 ^ (len % 4)
 
--- n is the number of nodes that the test of a well-formed image answers, and words are of 32 bits
+-- n is the number of nodes that the test of a well-formed image answers
 pub record Formed (ws hs : List ℕ) (n : ℕ) : Type 0 where
-  pub found : Found ws hs (n) (ints ws n)
+  pub found : Found ws hs n (ints ws n)
   pub nodes : n ≡ nodesIf (ordered ws) ws
   pub lent : (0 < n) × (3 * n ≤ length ws)
 

@@ -16,7 +16,17 @@ ghost use Rattle.tree_change.specs.Changed.{route};
 ghost use Rattle.tree_change.specs.Stages.{Addable, Standing, Become, OnPath};
 
 // The nodes that the path of a prefix lacks, from the node at hand down, and then its hop. Answers how many nodes are then in use.
-pub fn add(words: &mut [u32], hops: &mut [u16], n: usize, k: usize, from: Reached, addr: u32, len: u32, hop: u16, b: u32) -> usize
+pub fn add(
+    words: &mut [u32],
+    hops: &mut [u16],
+    n: usize,
+    k: usize,
+    from: Reached,
+    addr: u32,
+    len: u32,
+    hop: u16,
+    b: u32,
+) -> usize
     requires { ⌜ Addable (now words) (now hops) n k (from .at) (from .depth) addr len hop b ⌝ }
     ensures { λ r. ⌜ Become (insert (route addr len hop) (routesHeld (now (words .entry)) (now (hops .entry)))) (now (words .entry)) (now (hops .entry)) (now (words .exit)) (now (hops .exit)) r ⌝ }
 {
@@ -34,7 +44,17 @@ pub fn add(words: &mut [u32], hops: &mut [u16], n: usize, k: usize, from: Reache
 }
 
 // The hop of a prefix that stands, replaced: one store.
-pub fn replace(words: &[u32], hops: &mut [u16], n: usize, k: usize, at: usize, addr: u32, len: u32, hop: u16, b: u32)
+pub fn replace(
+    words: &[u32],
+    hops: &mut [u16],
+    n: usize,
+    k: usize,
+    at: usize,
+    addr: u32,
+    len: u32,
+    hop: u16,
+    b: u32,
+)
     requires { ⌜ Standing (now words) (now hops) n k at addr len b × (0 < hop) × (hop ≤ 32767) ⌝ }
     ensures { λ _. ⌜ Become (insert (route addr len hop) (routesHeld (now (words .entry)) (now (hops .entry)))) (now (words .entry)) (now (hops .entry)) (now (words .entry)) (now (hops .exit)) n ⌝ }
 {
@@ -57,7 +77,16 @@ fn bare(words: &[u32], n: usize, addr: u32, m: u32) -> bool
 
 // A prefix that stands is taken out: its hop, and then the nodes of its path that have no bit left, upwards; k hops are left. Answers how many
 // nodes are then in use.
-pub fn remove(words: &mut [u32], hops: &mut [u16], n: usize, k: usize, at: usize, addr: u32, len: u32, b: u32) -> usize
+pub fn remove(
+    words: &mut [u32],
+    hops: &mut [u16],
+    n: usize,
+    k: usize,
+    at: usize,
+    addr: u32,
+    len: u32,
+    b: u32,
+) -> usize
     requires { ⌜ Standing (now words) (now hops) n (k + 1) at addr len b ⌝ }
     ensures { λ r. ⌜ Become (remove (keyOf addr len) (routesHeld (now (words .entry)) (now (hops .entry)))) (now (words .entry)) (now (hops .entry)) (now (words .exit)) (now (hops .exit)) r ⌝ }
 {

@@ -36,7 +36,17 @@ fn wide(x: u32) -> usize
 }
 
 // A prefix that does not stand: 6 where 4,096 routes stand, 11 where too few whole nodes are lent, 12 where too few hops are.
-fn put_new(words: &mut [u32], hops: &mut [u16], n: usize, k: usize, from: path::Reached, addr: u32, len: u32, hop: u16, b: u32) -> Announced
+fn put_new(
+    words: &mut [u32],
+    hops: &mut [u16],
+    n: usize,
+    k: usize,
+    from: path::Reached,
+    addr: u32,
+    len: u32,
+    hop: u16,
+    b: u32,
+) -> Announced
     requires { ⌜ New (now words) (now hops) n k (from .at) (from .depth) addr len hop b ⌝ }
     ensures { λ r. ⌜ out (saysAnnounced r) (now (words .exit)) (now (hops .exit)) ≡ putTo (routesHeld (now (words .entry)) (now (hops .entry))) (route addr len hop) (now (words .entry)) (now (hops .entry)) ⌝ }
 {

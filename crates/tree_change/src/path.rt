@@ -34,12 +34,18 @@ pub fn descend(words: &[u32], n: usize, addr: u32, deep: u32) -> Reached
     while depth < deep {
         let c = turn(addr, depth);
         if !bits::is_set(words[3 * at], 16 + c) {
-            return Reached { at: at, depth: depth };
+            return Reached {
+                at: at,
+                depth: depth,
+            };
         }
         at = tree_edit::child_place(words, at, c);
         depth += 1;
     }
-    Reached { at: at, depth: depth }
+    Reached {
+        at: at,
+        depth: depth,
+    }
 }
 
 // The internal bit of a prefix in its node, which is at depth len / 4.
