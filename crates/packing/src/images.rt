@@ -3,12 +3,16 @@ use crate::byte;
 use crate::flag;
 use crate::narrow;
 use crate::word;
+use tree_change::Announced;
+use tree_change::Withdrawn;
 use tree_check::Tested;
 ghost use mathlib.Core.Path.{_≡_};
 ghost use Prim.Native.Nat.{_+_, _*_, _%_, _^_};
 ghost use Rattle.bits.specs.Count.{bit};
 ghost use Rattle.tree_check.specs.Answers.{saysTested};
+ghost use Rattle.tree_change.specs.Changed.{saysAnnounced, saysWithdrawn};
 ghost use Rattle.packing.specs.Pack.{packBuilt};
+ghost use Rattle.packing.specs.ImageAnswers.{packImage};
 
 // What is accepted: whether a hop was replaced, and the nodes and the hops in use.
 fn used(replaced: bool, nodes: u32, hops: u32) -> u64
@@ -23,5 +27,24 @@ pub fn tested(a: Tested) -> u64
     match a {
         Tested::Image(nodes, hops) => used(false, nodes, hops),
         Tested::Broken => 13,
+    }
+}
+
+pub fn announced(a: Announced) -> u64
+    ensures { λ r. ⌜ r ≡ packImage (saysAnnounced a) ⌝ }
+{
+    match a {
+        Announced::Added(nodes, hops) => used(false, nodes, hops),
+        Announced::Replaced(nodes, hops) => used(true, nodes, hops),
+        Announced::Refused(z) => byte(z),
+    }
+}
+
+pub fn withdrawn(a: Withdrawn) -> u64
+    ensures { λ r. ⌜ r ≡ packBuilt (saysWithdrawn a) ⌝ }
+{
+    match a {
+        Withdrawn::Removed(nodes, hops) => used(false, nodes, hops),
+        Withdrawn::Refused(z) => byte(z),
     }
 }
