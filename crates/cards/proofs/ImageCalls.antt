@@ -1,16 +1,16 @@
 -- The test and the changes of an image at the boundary. A length over 32 and a hop over 32,767 that do not fit the narrow types are refused as those
 -- just over the limit are. What the calls say has room in their answers, a caller that reads an answer by the header's fields has exactly what the
 -- call inside says, and nothing else is in it. Supposed is what the type of words gives, that each has 32 bits.
-use mathlib.Core.Path.{_≡_, refl, sym, _∙_, ap, subst}
+use mathlib.Core.Path.{_≡_, refl, _∙_, ap}
 use mathlib.Core.Logic.{_⊎_, inl, inr}
-use mathlib.Core.Bool.{Bool, true, false, cond}
+use mathlib.Core.Bool.{true, false, cond}
 use mathlib.Core.List.{List, [], _∷_}
 use Prim.Native.Nat.{ℕ, _^_, _≤_, _<_, min}
 use native.Mathlib.Omega.{arith}
 use lib.ListN.{length}
 use Rattle.bits.specs.Count.{bit}
 use Rattle.bits.proofs.Tests.{decided, untrue}
-use Rattle.routes.specs.Input.{properPrefix, hopFine}
+use Rattle.routes.specs.Input.{hopFine}
 use Rattle.routes.specs.Route.{keyOf, Good}
 use Rattle.routes.specs.Said.{Said, accepted, refused}
 use Rattle.routes.proofs.Meaning.{hop-true}
@@ -25,7 +25,7 @@ use Rattle.tree_check.specs.WellFormed.{used, hopsIn, wellFormed}
 use Rattle.tree_check.proofs.Meaning.{well-formed-is}
 use Rattle.tree_check.proofs.Held.{held-good, held-nodes, held-hops}
 use Rattle.tree_change.specs.Changed.{route, imageAnnounced, imageWithdrawn}
-use Rattle.tree_change.specs.Cases.{Asked, routesWith, routesWithout, Fitted, Announcing, Withdrawing}
+use Rattle.tree_change.specs.Cases.{Asked, routesWith, routesWithout, Announcing, Withdrawing}
 use Rattle.tree_change.proofs.Answers.{is-fine}
 use Rattle.tree_change.proofs.Cases.{announce-cases, its-fit}
 use Rattle.tree_change.proofs.Takes.{withdraw-cases, left-fit}

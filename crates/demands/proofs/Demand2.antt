@@ -122,7 +122,7 @@ table-as-image t l s input ws hs vs e same a h =
     ∙ ap uncounted (sym (image-said input ws hs vs e a h))
 
 -- "And no route exactly when none does"
-no-hop : (rs : List Route) → Good rs → (a n m : ℕ) {s : Said} → Served rs a n s → (s ≡ noRouteAfter m) → (r : Route) → List·Memᴰ r rs → covers 32 a r ≡ false
+pub no-hop : (rs : List Route) → Good rs → (a n m : ℕ) {s : Said} → Served rs a n s → (s ≡ noRouteAfter m) → (r : Route) → List·Memᴰ r rs → covers 32 a r ≡ false
 no-hop rs g a n m (Served.hop h v) e = absurd (let z : _≡_ {A = ℕ} 0 1 = cc in omega arith)
 no-hop rs g a n m (Served.no-route z) e = z
 
