@@ -76,9 +76,9 @@
  * change in place moves nodes, and a reader beside it would meet halves.
  *
  * STACK. gh_load, gh_announce, gh_withdraw and gh_report take at most GH_STACK_TABLE bytes of stack, the test and the
- * changes of an image GH_STACK_IMAGE, the others GH_STACK. Measured for x86-64 it is 44 KB for announce, withdraw and the
- * report, 42 KB for load, under 200 bytes for each of the others. The test of an image is the only one that is recursive:
- * a node's test calls that of its children and back, once for each depth, of which there are 9.
+ * changes of an image GH_STACK_IMAGE, the others GH_STACK. On x86-64 and on Arm it is 44 KB for announce, withdraw and
+ * the report, 42 KB for load, 8.5 KB for an image, and under 200 bytes for each of the others. Only the test of an image
+ * is recursive: the test of a node calls that of its children, and back, at most 17 calls for each of 8 depths.
  *
  * WHAT THE LIBRARY NEEDS: memcpy and memset, and nothing else of a C library.
  */
@@ -146,7 +146,7 @@ extern "C" {
 #define GH_MAP_CELLS       131071     /* their cells */
 
 #define GH_STACK_TABLE     49152      /* bytes of stack: load, announce, withdraw, report */
-#define GH_STACK_IMAGE     4096       /* gh_tree_test, gh_tree_announce, gh_tree_withdraw */
+#define GH_STACK_IMAGE     12288      /* gh_tree_test, gh_tree_announce, gh_tree_withdraw */
 #define GH_STACK           1024       /* the other calls */
 
 /* ---- Refusals -------------------------------------------------------------------------------------------------- */

@@ -1,6 +1,6 @@
 /* How much stack each call takes, beside what the header says: it runs in a thread whose stack is painted before, and
  * the paint that is gone afterwards is counted. The table is the largest that there is, with every chunk in use. The
- * image that is tested is the one that takes the test of nodes deepest: 16 children at each depth, and 16 under the last. */
+ * image that is tested and changed is the one whose test goes deepest: 16 children at each depth, and 16 under the last. */
 #include <pthread.h>
 #include <stdlib.h>
 #include "check.h"
@@ -34,9 +34,10 @@ static uint64_t lookup(void) { return gh_table_lookup(&t, here); }
 static uint64_t lookup_many(void) { return gh_table_lookup_many(&t, addrs, out, 1000); }
 static uint64_t build(void) { return gh_build(input, sizeof input, words, GH_ELEMENTS(words), hops, N); }
 static uint64_t tree_lookup(void) { return gh_tree_lookup(words, GH_ELEMENTS(words), hops, N, here); }
-static uint64_t tree_test(void) { return gh_tree_test(step_words, GH_ELEMENTS(step_words), step_hops, STEPS); }
-static uint64_t tree_withdraw(void) { return gh_tree_withdraw(words, GH_ELEMENTS(words), hops, N, here, 32); }
-static uint64_t tree_announce(void) { return gh_tree_announce(words, GH_ELEMENTS(words), hops, N, here, 32, 5); }
+#define IMAGE step_words, GH_ELEMENTS(step_words), step_hops, STEPS
+static uint64_t tree_test(void) { return gh_tree_test(IMAGE); }
+static uint64_t tree_withdraw(void) { return gh_tree_withdraw(IMAGE, UINT32_MAX, 32); }
+static uint64_t tree_announce(void) { return gh_tree_announce(IMAGE, UINT32_MAX, 32, 5); }
 static uint64_t run(void) { return gh_run(input, sizeof input, IP(100, 0, 0, 0), 8); }
 static uint64_t tally(void) { return gh_tally(input, sizeof input, counts, GH_TALLY_WORDS); }
 static uint64_t route(void) { return gh_route(input, sizeof input, 7); }
@@ -98,7 +99,7 @@ int main(void)
     for (unsigned depth = 1; depth <= 8; depth++)
         for (uint32_t child = 0; child < (depth < 8 ? 15 : 16); child++, at += GH_RECORD_BYTES)
             put_record(at, ~(UINT32_MAX >> (4 * depth - 4)) | child << (32 - 4 * depth), 4 * depth, 9);
-    CHECK(GH_NODES(gh_build(steps, sizeof steps, step_words, GH_ELEMENTS(step_words), step_hops, STEPS)), 129);
+    CHECK(GH_NODES(gh_build(steps, sizeof steps, IMAGE)), 129);
     /* A process's first thread may take more than the others. */
     taken(&calls[0]);
     size_t thread = taken(&calls[0]);
