@@ -57,12 +57,7 @@ pub extern "C" fn gh_tree_announce(
 
 // A route is taken out of the image itself.
 #[no_mangle]
-pub extern "C" fn gh_tree_withdraw(
-    words: &mut [u32],
-    hops: &mut [u16],
-    addr: u32,
-    len: u32,
-) -> u64
+pub extern "C" fn gh_tree_withdraw(words: &mut [u32], hops: &mut [u16], addr: u32, len: u32) -> u64
     ensures { λ r. ⌜ imageCard r (now (words .exit)) (now (hops .exit)) ≡ imageCardOf (imageWithdrawn (now (words .entry)) (now (hops .entry)) addr len) ⌝ }
 {
     packing::images::withdrawn(tree_change::withdraw(words, hops, addr, narrow8(len)))
