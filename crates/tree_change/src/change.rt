@@ -2,14 +2,13 @@
 use crate::path;
 use crate::path::Reached;
 ghost use mathlib.Core.Path.{_≡_};
-ghost use mathlib.Core.Bool.{_&&_, not};
+ghost use mathlib.Core.Bool.{_&&_};
 ghost use Prim.Native.Nat.{_+_, _-_, _*_, _/_, _≤_, _<_};
 ghost use lib.Dec.{eqb, ltb};
 ghost use Rattle.bits.specs.Slot.{slot};
 ghost use Rattle.routes.specs.Route.{keyOf};
 ghost use Rattle.standing.specs.Standing.{insert, remove};
 ghost use Rattle.tree.specs.Node.{bitsOf};
-ghost use Rattle.tree_same.specs.Order.{Order};
 ghost use Rattle.tree_same.specs.Read.{reached};
 ghost use Rattle.tree_same.specs.Listed.{routesHeld};
 ghost use Rattle.tree_change.specs.Changed.{route};
