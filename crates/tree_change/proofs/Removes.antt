@@ -92,7 +92,8 @@ module _ {ws₀ hs₀ : List ℕ} {n x a len b : ℕ} (k : ℕ) (r : Standing ws
   abbrev place : ℕ
   place = baseOf ws₀ x + ones (bitsOf ws₀ x % 2 ^ b)
 
-  pub shrink-start : {ws hs : List ℕ} → HopPut ws ws₀ hs hs₀ n x b place (getD hs₀ place 0) → Midway (remove (keyOf a len) (routesHeld ws₀ hs₀)) a (len / 4) ws hs n k
+  pub shrink-start : {ws hs : List ℕ} → HopPut ws ws₀ hs hs₀ n x b place (getD hs₀ place 0)
+      → Midway (remove (keyOf a len) (routesHeld ws₀ hs₀)) a (len / 4) ws hs n k
   shrink-start {ws} {hs} g = record {
     good = others .good;
     addr = small;
@@ -100,7 +101,8 @@ module _ {ws₀ hs₀ : List ℕ} {n x a len b : ℕ} (k : ℕ) (r : Standing ws
     holds =
         take-holds deep path b (others .hop) down-shape (r .bit .small) (on-path st′ a small deep deep (omega arith))
         (hop-at-bit (r .bit) short hop′ ∙ others .gone)
-        (others .some) (held-with others short (r .bit) (r .found .holds)) (subst (λ (v : ℕ). HopPut ws ws₀ hs hs₀ n v b place (getD hs₀ place 0)) (r .way .at) g);
+        (others .some) (held-with others short (r .bit) (r .found .holds))
+        (subst (λ (v : ℕ). HopPut ws ws₀ hs hs₀ n v b place (getD hs₀ place 0)) (r .way .at) g);
     hops = omega (arith, ints-after (g .bits) n (g .bits .inside) (omega arith), r .found .hops);
   }
 

@@ -14,7 +14,8 @@ hop-ok-requires : tie.Need-hop-ok-requires
 hop-ok-requires c κs = tt
 
 returns-2 : tie.Need-returns-2
-returns-2 c = announced-four _ _ _ _ _ (c .before .before .before .prefix-ok .ensures) (c .before .before .if1 .left) _ _ (c .before .hop-ok .ensures) (c .if2 .taken)
+returns-2 c =
+    announced-four _ _ _ _ _ (c .before .before .before .prefix-ok .ensures) (c .before .before .if1 .left) _ _ (c .before .hop-ok .ensures) (c .if2 .taken)
 
 check-requires : tie.Need-check-requires
 check-requires c κs = tt
@@ -29,7 +30,8 @@ returns-3 : tie.Need-returns-3
 returns-3 c =
     let at-check = c .before in
     let at-hop = at-check .before .before .before .before in
-    announced-broken _ _ _ _ _ (at-hop .before .before .prefix-ok .ensures) (at-hop .before .if1 .left) _ _ (at-hop .hop-ok .ensures) (at-check .before .before .before .if2 .left) _
+    announced-broken _ _ _ _ _ (at-hop .before .before .prefix-ok .ensures) (at-hop .before .if1 .left) _ _ (at-hop .hop-ok .ensures)
+    (at-check .before .before .before .if2 .left) _
     (at-check .check .ensures) (c .if3 .taken)
 
 wide-requires : tie.Need-wide-requires
@@ -39,8 +41,10 @@ put-requires : tie.Need-put-requires
 put-requires c κs =
     let at-check = c .before .before .before .before in
     let at-hop = at-check .before .before .before .before in (
-      is-formed _ _ _ (λ j. at-hop .before .before .before .before .slice-known .given j .fits) (at-check .check .ensures) (c .before .before .before .if3 .left),
-      passed-route _ _ _ _ _ (at-hop .before .before .prefix-ok .ensures) (at-hop .before .if1 .left) (at-hop .hop-ok .ensures) (at-check .before .before .before .if2 .left) _
+      is-formed _ _ _ (λ j. at-hop .before .before .before .before .slice-known .given j .fits) (at-check .check .ensures)
+          (c .before .before .before .if3 .left),
+      passed-route _ _ _ _ _ (at-hop .before .before .prefix-ok .ensures) (at-hop .before .if1 .left) (at-hop .hop-ok .ensures)
+          (at-check .before .before .before .if2 .left) _
           (c .wide .ensures .0),
     )
 
@@ -55,7 +59,8 @@ returns-4 c =
     let at-put = c .before .before .before .before in
     let at-check = at-put .before .before .before .before .before in
     let at-hop = at-check .before .before .before .before in
-    announced-formed _ _ _ _ _ (at-hop .before .before .prefix-ok .ensures) (at-hop .before .if1 .left) _ _ (at-hop .hop-ok .ensures) (at-check .before .before .before .if2 .left) _
+    announced-formed _ _ _ _ _ (at-hop .before .before .prefix-ok .ensures) (at-hop .before .if1 .left) _ _ (at-hop .hop-ok .ensures)
+    (at-check .before .before .before .if2 .left) _
     (at-check .check .ensures) (at-put .before .before .before .before .if3 .left) _ (at-put .before .wide .ensures .0) _ (at-put .put .ensures)
 
 pub announce-spec : {M : Type 1} → statement M

@@ -16,7 +16,9 @@ descend-requires : tie.Need-descend-requires
 descend-requires c κs = let pre = c .before .before .before .before .before .before .pre in ask-way (pre .0) (pre .1 .prefix .len-ok)
 
 is-there-requires : tie.Need-is-there-requires
-is-there-requires c κs = ask-end (c .before .before .before .before .before .before .before .before .pre .0) (c .before .descend .ensures) (c .before .before .before .own-bit .ensures)
+is-there-requires c κs =
+    ask-end (c .before .before .before .before .before .before .before .before .pre .0) (c .before .descend .ensures)
+    (c .before .before .before .own-bit .ensures)
 
 -- the prefix stands
 standing : (c : tie.Then1)
@@ -32,11 +34,14 @@ standing : (c : tie.Then1)
 standing c =
     let at-way = c .before .before .before in
     let pre = at-way .before .before .before .before .before .before .before .pre in
-    is-standing (pre .0) (at-way .before .before .before .hops-in .ensures) (pre .1 .prefix) (at-way .before .before .own-bit .ensures) (at-way .descend .ensures) _ (c .before .is-there .ensures)
+    is-standing (pre .0) (at-way .before .before .before .hops-in .ensures) (pre .1 .prefix) (at-way .before .before .own-bit .ensures)
+    (at-way .descend .ensures) _ (c .before .is-there .ensures)
     (c .if1 .taken)
 
 replace-requires : tie.Need-replace-requires
-replace-requires c κs = let fine = c .before .before .before .before .before .before .before .before .before .before .before .before .pre .1 in (standing (c .before .before), fine .hop-one, fine .hop-ok)
+replace-requires c κs =
+    let fine = c .before .before .before .before .before .before .before .before .before .before .before .before .pre .1 in
+    (standing (c .before .before), fine .hop-one, fine .hop-ok)
 
 narrow-requires : tie.Need-narrow-requires
 narrow-requires c κs = omega (arith, standing (c .before .before .before .before .before) .found .few-nodes)
@@ -51,13 +56,16 @@ same-length-2 : tie.Need-same-length-2
 same-length-2 c = c .before .before .before .before .replace .kept .1 .0
 
 returns : tie.Need-returns
-returns c = told-replaced (standing (c .before .before .before .before .before .before .before)) _ (c .before .before .before .before .replace .ensures) _ _ (c .before .narrow .ensures) (c .narrow2 .ensures)
+returns c =
+    told-replaced (standing (c .before .before .before .before .before .before .before)) _ (c .before .before .before .before .replace .ensures) _ _
+    (c .before .narrow .ensures) (c .narrow2 .ensures)
 
 put-new-requires : tie.Need-put-new-requires
 put-new-requires c κs =
     let at-way = c .before .before .before .before .before in
     let pre = at-way .before .before .before .before .before .before .before .pre in
-    is-new (pre .0) (at-way .before .before .before .hops-in .ensures) (pre .1 .prefix) (at-way .before .before .own-bit .ensures) (at-way .descend .ensures) _ (c .before .before .before .is-there .ensures) _
+    is-new (pre .0) (at-way .before .before .before .hops-in .ensures) (pre .1 .prefix) (at-way .before .before .own-bit .ensures)
+    (at-way .descend .ensures) _ (c .before .before .before .is-there .ensures) _
     (pre .1) (c .before .before .if1 .left)
 
 same-length-3 : tie.Need-same-length-3

@@ -24,19 +24,22 @@ returns-2 c =
 returns-3 : tie.Need-returns-3
 returns-3 c =
     let at-wide = c .before .before .before in
-    told-twelve (at-wide .before .before .before .before .pre) (c .before .before .if1 .left) _ (at-wide .wide .ensures .0) (c .before .if2 .left) (c .if3 .taken)
+    told-twelve (at-wide .before .before .before .before .pre) (c .before .before .if1 .left) _ (at-wide .wide .ensures .0) (c .before .if2 .left)
+    (c .if3 .taken)
 
 add-requires : tie.Need-add-requires
 add-requires c κs =
     let at-if = c .before .before in
     let at-wide = at-if .before .before .before in
-    add-ready (at-wide .before .before .before .before .pre) (at-if .before .before .if1 .left) _ (at-wide .wide .ensures .0) (at-if .before .if2 .left) (at-if .if3 .left)
+    add-ready (at-wide .before .before .before .before .pre) (at-if .before .before .if1 .left) _ (at-wide .wide .ensures .0)
+    (at-if .before .if2 .left) (at-if .if3 .left)
 
 narrow-requires : tie.Need-narrow-requires
 narrow-requires c κs =
     let at-if = c .before .before .before .before .before .before .before in
     let at-wide = at-if .before .before .before in
-    add-few (at-wide .before .before .before .before .pre) (at-if .before .before .if1 .left) _ (at-wide .wide .ensures .0) (at-if .before .if2 .left) (c .before .before .before .before .add .ensures) .0
+    add-few (at-wide .before .before .before .before .pre) (at-if .before .before .if1 .left) _ (at-wide .wide .ensures .0) (at-if .before .if2 .left)
+    (c .before .before .before .before .add .ensures) .0
 
 add-narrow : tie.Need-add-narrow
 add-narrow c = search needs
@@ -45,7 +48,8 @@ narrow-requires-2 : tie.Need-narrow-requires-2
 narrow-requires-2 c κs =
     let at-if = c .before .before .before .before .before .before .before .before in
     let at-wide = at-if .before .before .before in
-    add-few (at-wide .before .before .before .before .pre) (at-if .before .before .if1 .left) _ (at-wide .wide .ensures .0) (at-if .before .if2 .left) (c .before .before .before .before .before .add .ensures) .1
+    add-few (at-wide .before .before .before .before .pre) (at-if .before .before .if1 .left) _ (at-wide .wide .ensures .0) (at-if .before .if2 .left)
+    (c .before .before .before .before .before .add .ensures) .1
 
 same-length : tie.Need-same-length
 same-length c = c .before .before .before .before .before .before .add .kept .0
@@ -58,7 +62,8 @@ returns-4 c =
     let at-add = c .before .before .before .before .before .before in
     let at-if = at-add .before .before .before in
     let at-wide = at-if .before .before .before in
-    told-added (at-wide .before .before .before .before .pre) (at-if .before .before .if1 .left) _ (at-wide .wide .ensures .0) (at-if .before .if2 .left) (at-if .if3 .left)
+    told-added (at-wide .before .before .before .before .pre) (at-if .before .before .if1 .left) _ (at-wide .wide .ensures .0)
+    (at-if .before .if2 .left) (at-if .if3 .left)
     (at-add .add .ensures) _ _ (c .before .narrow .ensures) (c .narrow2 .ensures)
 
 pub put-new-spec : {M : Type 1} → statement M

@@ -16,7 +16,9 @@ descend-requires : tie.Need-descend-requires
 descend-requires c κs = let pre = c .before .before .before .before .before .before .pre in ask-way (pre .0) (pre .1 .len-ok)
 
 is-there-requires : tie.Need-is-there-requires
-is-there-requires c κs = ask-end (c .before .before .before .before .before .before .before .before .pre .0) (c .before .descend .ensures) (c .before .before .before .own-bit .ensures)
+is-there-requires c κs =
+    ask-end (c .before .before .before .before .before .before .before .before .pre .0) (c .before .descend .ensures)
+    (c .before .before .before .own-bit .ensures)
 
 same-length : tie.Need-same-length
 same-length c = refl
@@ -25,7 +27,8 @@ returns : tie.Need-returns
 returns c =
     let at-way = c .before .before .before in
     let pre = at-way .before .before .before .before .before .before .before .pre in
-    told-nine (pre .0) (at-way .before .before .before .hops-in .ensures) (pre .1) (at-way .before .before .own-bit .ensures) (at-way .descend .ensures) _ (c .before .is-there .ensures)
+    told-nine (pre .0) (at-way .before .before .before .hops-in .ensures) (pre .1) (at-way .before .before .own-bit .ensures)
+    (at-way .descend .ensures) _ (c .before .is-there .ensures)
     (c .if1 .taken)
 
 -- the prefix stands
@@ -42,7 +45,8 @@ standing : (c : tie.Else1)
 standing c =
     let at-way = c .before .before .before in
     let pre = at-way .before .before .before .before .before .before .before .pre in
-    is-standing (pre .0) (at-way .before .before .before .hops-in .ensures) (pre .1) (at-way .before .before .own-bit .ensures) (at-way .descend .ensures) _ (c .before .is-there .ensures)
+    is-standing (pre .0) (at-way .before .before .before .hops-in .ensures) (pre .1) (at-way .before .before .own-bit .ensures)
+    (at-way .descend .ensures) _ (c .before .is-there .ensures)
     (kept _ _ refl (c .if1 .left))
 
 sub-left : tie.Need-sub-left
@@ -52,10 +56,12 @@ remove-requires : tie.Need-remove-requires
 remove-requires c κs = one-less (standing (c .before .before))
 
 narrow-requires : tie.Need-narrow-requires
-narrow-requires c κs = removed-few (standing (c .before .before .before .before .before .before .before)) (c .before .before .before .before .remove .ensures) .0
+narrow-requires c κs =
+    removed-few (standing (c .before .before .before .before .before .before .before)) (c .before .before .before .before .remove .ensures) .0
 
 narrow-requires-2 : tie.Need-narrow-requires-2
-narrow-requires-2 c κs = removed-few (standing (c .before .before .before .before .before .before .before .before)) (c .before .before .before .before .before .remove .ensures) .1
+narrow-requires-2 c κs =
+    removed-few (standing (c .before .before .before .before .before .before .before .before)) (c .before .before .before .before .before .remove .ensures) .1
 
 same-length-2 : tie.Need-same-length-2
 same-length-2 c = c .before .before .before .before .before .before .remove .kept .0
@@ -64,7 +70,9 @@ same-length-3 : tie.Need-same-length-3
 same-length-3 c = c .before .before .before .before .before .before .remove .kept .1 .0
 
 returns-2 : tie.Need-returns-2
-returns-2 c = told-removed (standing (c .before .before .before .before .before .before .before .before .before)) (c .before .before .before .before .before .before .remove .ensures) _ _ (c .before .narrow .ensures) (c .narrow2 .ensures)
+returns-2 c =
+    told-removed (standing (c .before .before .before .before .before .before .before .before .before))
+    (c .before .before .before .before .before .before .remove .ensures) _ _ (c .before .narrow .ensures) (c .narrow2 .ensures)
 
 pub take-spec : {M : Type 1} → statement M
 take-spec =

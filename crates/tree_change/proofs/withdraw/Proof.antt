@@ -22,7 +22,8 @@ same-length-2 c = refl
 returns-2 : tie.Need-returns-2
 returns-2 c =
     let at-check = c .before in
-    withdrawn-broken _ _ _ _ _ (at-check .before .before .before .before .prefix-ok .ensures) (at-check .before .before .before .if1 .left) _ (at-check .check .ensures) (c .if2 .taken)
+    withdrawn-broken _ _ _ _ _ (at-check .before .before .before .before .prefix-ok .ensures) (at-check .before .before .before .if1 .left) _
+    (at-check .check .ensures) (c .if2 .taken)
 
 wide-requires : tie.Need-wide-requires
 wide-requires c κs = tt
@@ -45,7 +46,8 @@ returns-3 : tie.Need-returns-3
 returns-3 c =
     let at-take = c .before .before .before .before in
     let at-check = at-take .before .before .before .before .before in
-    withdrawn-formed _ _ _ _ _ (at-check .before .before .before .before .prefix-ok .ensures) (at-check .before .before .before .if1 .left) _ (at-check .check .ensures) (at-take .before .before .before .before .if2 .left) _
+    withdrawn-formed _ _ _ _ _ (at-check .before .before .before .before .prefix-ok .ensures) (at-check .before .before .before .if1 .left) _
+    (at-check .check .ensures) (at-take .before .before .before .before .if2 .left) _
     (at-take .before .wide .ensures .0) _ (at-take .take .ensures)
 
 pub withdraw-spec : {M : Type 1} → statement M

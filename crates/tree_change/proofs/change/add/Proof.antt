@@ -36,7 +36,8 @@ loop-again : tie.Need-loop-again Inv-loop μ-loop
 loop-again c =
     let at-turn = c .before .before .before in
     let at-loop = at-turn .before .before .before in
-    grow-next (at-loop .before .before .before .pre) (at-loop .loop .inv) (at-turn .before .before .loop-test .taken) _ (at-turn .turn .ensures .0) (c .before .before .graft .ensures)
+    grow-next (at-loop .before .before .before .pre) (at-loop .loop .inv) (at-turn .before .before .loop-test .taken) _ (at-turn .turn .ensures .0)
+    (c .before .before .graft .ensures)
 
 put-hop-requires : tie.Need-put-hop-requires Inv-loop μ-loop
 put-hop-requires c κs =

@@ -2,7 +2,6 @@
 -- The depth falls; where the node at hand has a bit, or is the root, the path stands by the routes alone.
 use mathlib.Core.List.{List}
 use mathlib.Core.Path.{_≡_, refl}
-use Prim.Native.Nat.{_/_}
 use native.Mathlib.Omega.{arith}
 use lib.ListN.{length}
 use Rattle.routes.specs.Route.{keyOf}
@@ -30,8 +29,10 @@ loop-holds c = ((λ rs g. g), refl)
 -- what is held at the loop's head: the routes without the prefix
 held : (c : tie.At-loop Inv-loop μ-loop)
     → Midway
-    (remove (keyOf (c .before .before .before .before .before .before .before .before .before .before .args .addr) (c .before .before .before .before .before .before .before .before .before .before .args .len))
-    (routesHeld (c .before .before .before .before .before .before .before .before .before .before .args .words .now) (c .before .before .before .before .before .before .before .before .before .before .args .hops .now)))
+    (remove (keyOf (c .before .before .before .before .before .before .before .before .before .before .args .addr)
+    (c .before .before .before .before .before .before .before .before .before .before .args .len))
+    (routesHeld (c .before .before .before .before .before .before .before .before .before .before .args .words .now)
+    (c .before .before .before .before .before .before .before .before .before .before .args .hops .now)))
     (c .before .before .before .before .before .before .before .before .before .before .args .addr)
     (c .loop .m)
     (c .loop .words)
@@ -66,7 +67,8 @@ turn-requires c κs =
 prune-requires : tie.Need-prune-requires Inv-loop μ-loop
 prune-requires c κs =
     let at-if = c .before .before .before .before in
-    shrink-ready (held (at-if .before .before .before)) _ (at-if .before .bare .ensures) (at-if .if1 .taken) (c .before .before .descend .ensures) _ (c .turn .ensures .0)
+    shrink-ready (held (at-if .before .before .before)) _ (at-if .before .bare .ensures) (at-if .if1 .taken) (c .before .before .descend .ensures) _
+    (c .turn .ensures .0)
 
 loop-less : tie.Need-loop-less Inv-loop μ-loop
 loop-less c =
@@ -78,7 +80,8 @@ loop-again c =
     let at-prune = c .before .before in
     let at-if = at-prune .before .before .before .before .before in (
       (λ rs g.
-          shrink-next (at-if .before .before .before .loop .inv .0 rs g) _ (at-if .before .bare .ensures) (at-if .if1 .taken) (at-prune .before .before .before .descend .ensures) _
+          shrink-next (at-if .before .before .before .loop .inv .0 rs g) _ (at-if .before .bare .ensures) (at-if .if1 .taken)
+          (at-prune .before .before .before .descend .ensures) _
           (at-prune .before .turn .ensures .0) (at-prune .prune .ensures)),
       omega arith,
     )
