@@ -5,3 +5,4 @@ pub mod Held
 pub mod Exact
 pub mod Steps
 pub mod Answers
+pub mod Visits
