@@ -1,12 +1,8 @@
 -- The node test calls the child-array test and back. What falls: 18 for each level left below, and in a child array one for each sibling left.
-use mathlib.Core.Path.{_≡_, sym, ap, ap₂, _∙_}
+use mathlib.Core.Path.{_≡_, sym, _∙_}
 use Prim.Native.Nat.{_+_, _*_, _/_, _^_, _≤_}
 use native.Mathlib.Omega.{arith}
 use borrow.Author.Needs.{needs}
-use lib.Count.{ones, ones-le}
-use lib.ListN.{getD}
-use denote.Ref.{now}
-use Rattle.tree_check.specs.WellFormed.{childrenOk}
 use Rattle.tree_check.proofs.Steps.{all-none, all-more, all-not, node-past, node-bad, node-last, node-bare, node-inner}
 use Prim.Native.Nat.{ℕ, _<_}
 use borrow.Fn.Kinds.{In}
