@@ -1,29 +1,22 @@
 -- An image passes the test exactly when some record input builds it into arrays of these sizes. What passes is built from the routes read
 -- out of it, and what a build leaves passes.
 use mathlib.Core.Path.{_≡_, refl, sym, _∙_, ap, ap₂}
-use mathlib.Core.List.{List, [], _∷_, List·Memᴰ}
+use mathlib.Core.List.{List, [], _∷_}
 use mathlib.Core.Bool.{true}
-use Prim.Native.Nat.{ℕ, suc, _+_, _*_, _/_, _%_, _^_, _≤_, _<_}
+use Prim.Native.Nat.{ℕ, _+_, _*_, _/_, _%_, _^_, _≤_, _<_}
 use native.Mathlib.Omega.{arith}
 use lib.ListN.{length, getD}
 use borrow.Author.Tests.{le-ltb}
-use Rattle.bits.specs.Slot.{slot}
 use Rattle.routes.specs.Said.{Said, accepted}
 use Rattle.routes.specs.Record.{routesOf, written, routesIn}
 use Rattle.routes.specs.Route.{Good}
 use Rattle.routes.specs.declared.Route.{Route}
 use Rattle.routes.proofs.Meaning.{Checked, ragged, stopped, many, good, input-checked, good-input}
 use Rattle.routes.proofs.Rows.{length-routes, length-written, routes-written, written-listed}
-use Rattle.tree.specs.Image.{hops, through, nodeStands, hopFor, imageBy, imageOf, nodeNeed}
-use Rattle.tree.proofs.Lies.{any-is, pass-parts}
-use Rattle.tree.proofs.Needs.{hops-need}
+use Rattle.tree.specs.Image.{imageOf, nodeNeed}
 use Rattle.tree_build.specs.Built.{Out, out, madeOf, afterInput, built}
 use Rattle.tree_build.proofs.Serves.{built-accepts}
-use Rattle.tree_same.specs.Read.{leads}
-use Rattle.tree_same.specs.Order.{standsAt}
 use Rattle.tree_same.specs.Listed.{routesHeld}
-use Rattle.tree_same.proofs.Back.{leads-is}
-use Rattle.tree_same.proofs.Same.{fits}
 use Rattle.tree_check.specs.WellFormed.{used, wellFormed}
 use Rattle.tree_check.proofs.Meaning.{well-formed-is, is-well-formed}
 use Rattle.tree_check.proofs.Builds.{image-formed}
@@ -104,22 +97,3 @@ builds-passes ws hs b =
 -- an image passes the test exactly when some record input builds it into arrays of these sizes
 pub passes-exactly : (ws hs : List ℕ) → ((j : ℕ) → getD ws j 0 < 2 ^ 32) → (wellFormed ws hs ≡ true → Buildable ws hs) × (Buildable ws hs → wellFormed ws hs ≡ true)
 passes-exactly ws hs narrow = (passes-builds ws hs narrow, builds-passes ws hs)
-
--- No path ends without a route: where the extending bits lead to a node below the root, a route that the image holds begins with its path.
-pub path-has-route : (ws hs : List ℕ) → ((j : ℕ) → getD ws j 0 < 2 ^ 32) → wellFormed ws hs ≡ true → (m p : ℕ) → leads ws (suc m) p ≡ true
-    → (r : Route) × List·Memᴰ r (routesHeld ws hs) × (4 * suc m ≤ r .len) × (slot (4 * suc m) (r .addr) ≡ p)
-unfolding standsAt imageBy
-path-has-route ws hs narrow e m p t =
-    let w = well-formed-is ws hs e in
-    let rs = routesHeld ws hs in
-    let g = held-good ws hs (used ws) w narrow in
-    let i = held-image ws hs (used ws) w narrow in
-    let room : 3 * nodeNeed (routesHeld ws hs) ≤ length ws = omega (arith, held-nodes ws hs (used ws) w narrow, w .order .lent) in
-    let space : length (hops (nodeStands (routesHeld ws hs)) (hopFor (routesHeld ws hs))) ≤ length hs =
-    omega (arith, hops-need (routesHeld ws hs) g, held-hops ws hs (used ws) w narrow, w .room) in
-    let k : leads ws (suc m) p ≡ nodeStands (routesHeld ws hs) (suc m) p =
-    ap (λ (v : List ℕ). leads v (suc m) p) (i .0)
-    ∙ leads-is (nodeStands (routesHeld ws hs)) (hopFor (routesHeld ws hs)) (fits (routesHeld ws hs) g) (length ws) (length hs) room space (suc m) p .0 in
-    let f = any-is (through (suc m) p) (routesHeld ws hs) (sym k ∙ t) in
-    let s = pass-parts (suc m) p (f .0) (f .2) in
-    (f .0, f .1, s .0, s .1)
