@@ -3,7 +3,7 @@
 use mathlib.Core.Path.{_≡_, refl, sym, _∙_, ap, ap₂, subst}
 use mathlib.Core.Bool.{Bool, false}
 use mathlib.Core.List.{List}
-use Prim.Native.Nat.{ℕ, suc, _+_, _-_, _*_, _/_, _%_, _^_, _≤_, _<_}
+use Prim.Native.Nat.{ℕ, suc, _+_, _*_, _/_, _%_, _^_, _≤_, _<_}
 use native.Mathlib.Numerals.{add-one}
 use native.Mathlib.Omega.{arith}
 use lib.Count.{ones}
@@ -89,9 +89,6 @@ module _ {ws₀ hs : List ℕ} {n k x₀ m₀ a len h b : ℕ} (r : Addable ws�
     inside : x < nodes
     inside = rw (g .at) (end-inside (g .mid))
 
-    pub grow-count : nodes ≤ n + (len / 4 - m₀)
-    grow-count = omega (arith, g .count, g .low, g .high)
-
     module _ (l : m < len / 4) (c : ℕ) (turn : c ≡ slot (4 * (m + 1)) a % 16) where
       its-turn : c ≡ slot (4 * suc m) a % 16
       its-turn = turn ∙ ap (λ (z : ℕ). slot (4 * z) a % 16) (add-one m)
@@ -108,7 +105,9 @@ module _ {ws₀ hs : List ℕ} {n k x₀ m₀ a len h b : ℕ} (r : Addable ws�
           words = mid-words (g .mid);
           parent = inside;
           small = omega (arith, its-turn);
-          free = ap (λ (z : ℕ). isSet (bitsOf ws z) (16 + c)) (g .at) ∙ child-held (mid-shape (g .mid)) (g .mid .holds) m path c (end-stands (g .mid)) (omega (arith, its-turn)) ∙ gap;
+          free =
+              ap (λ (z : ℕ). isSet (bitsOf ws z) (16 + c)) (g .at)
+              ∙ child-held (mid-shape (g .mid)) (g .mid .holds) m path c (end-stands (g .mid)) (omega (arith, its-turn)) ∙ gap;
           room = omega (arith, g .count, g .same, r .words-room, g .low);
         };
         few = omega (arith, g .count, new .found .few-nodes, short);
@@ -133,7 +132,9 @@ module _ {ws₀ hs : List ℕ} {n k x₀ m₀ a len h b : ℕ} (r : Addable ws�
             };
             low = omega (arith, g .low);
             high = omega arith;
-            at = sym (ap₂ (reached ws′) q (ap (λ (z : ℕ). slot (4 * z) a) q ∙ sym its-path) ∙ new-at m path f (g .mid .holds) e o (g .at) (omega (arith, short)) gap);
+            at =
+                sym (ap₂ (reached ws′) q (ap (λ (z : ℕ). slot (4 * z) a) q ∙ sym its-path) ∙ new-at m path f (g .mid .holds) e o (g .at)
+                (omega (arith, short)) gap);
             count = omega (arith, g .count);
             same = e .same ∙ g .same;
             next = λ v. absent-below st a small hop shape m 1 (omega (arith, short)) (g .next l);
@@ -164,12 +165,15 @@ module _ {ws₀ hs : List ℕ} {n k x₀ m₀ a len h b : ℕ} (r : Addable ws�
         few = omega (arith, new .found .few-hops);
       }
 
-      pub grow-done : {ws′ hs′ : List ℕ} → HopPut ws ws′ hs hs′ nodes x b (baseOf ws x + ones (bitsOf ws x % 2 ^ b)) h → Become (insert (route a len h) rs) ws₀ hs ws′ hs′ nodes
+      pub grow-done : {ws′ hs′ : List ℕ} → HopPut ws ws′ hs hs′ nodes x b (baseOf ws x + ones (bitsOf ws x % 2 ^ b)) h
+          → Become (insert (route a len h) rs) ws₀ hs ws′ hs′ nodes
       grow-done {ws′} {hs′} e =
           let p = put-holds m path (mid-shape (g .mid)) (g .mid .holds) e (end-stands (g .mid)) (g .at) (new .fine .hop-one) in
-          let s : downTo st a m ≡ nodeStands (insert (route a len h) rs) = ap (downTo st a) whole ∙ sym (insert-nodes (route a len h) rs (new .fine) (new .found .good)) in
+          let s : downTo st a m ≡ nodeStands (insert (route a len h) rs) =
+          ap (downTo st a) whole ∙ sym (insert-nodes (route a len h) rs (new .fine) (new .found .good)) in
           let t : withHop hop (lenAt m b) (bitsAt path b) h ≡ hopFor (insert (route a len h) rs) =
-          ap₂ (λ (u v : ℕ). withHop hop u v h) (ap (λ (z : ℕ). lenAt z b) whole ∙ bit-len (new .bit) short) (ap (λ (z : ℕ). bitsAt (slot (4 * z) a) b) whole ∙ bit-bits (new .bit) short)
+          ap₂ (λ (u v : ℕ). withHop hop u v h) (ap (λ (z : ℕ). lenAt z b) whole ∙ bit-len (new .bit) short)
+          (ap (λ (z : ℕ). bitsAt (slot (4 * z) a) b) whole ∙ bit-bits (new .bit) short)
           ∙ sym (insert-hops (route a len h) rs (new .fine) (new .found .good)) in
           become (insert-good (route a len h) rs (new .fine) (new .found .good))
           (subst (λ (z : ℕ → ℕ → ℕ). Holding (nodeStands (insert (route a len h) rs)) z ws′ hs′ nodes) t

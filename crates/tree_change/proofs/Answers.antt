@@ -2,7 +2,7 @@
 use mathlib.Core.Path.{_≡_, refl, sym, _∙_, ap, ap₂, subst}
 use mathlib.Core.Bool.{Bool, true, false, not, _&&_}
 use mathlib.Core.List.{List, [], _∷_}
-use Prim.Native.Nat.{ℕ, suc, _+_, _-_, _/_, _^_, _≤_, _<_}
+use Prim.Native.Nat.{ℕ, suc, _+_, _-_, _*_, _/_, _^_, _≤_, _<_}
 use native.Mathlib.Omega.{arith}
 use lib.Dec.{eqb}
 use lib.ListN.{length, getD}
@@ -20,10 +20,10 @@ use Rattle.tree.specs.Node.{bitsOf, isSet}
 use Rattle.tree.specs.Image.{nodeStands, hopFor, nodeNeed, imageOf}
 use Rattle.tree.proofs.Needs.{hops-need}
 use Rattle.tree_build.specs.Built.{Out, out, madeOf}
-use Rattle.tree_same.specs.Order.{ints}
+use Rattle.tree_same.specs.Order.{ints, Order}
 use Rattle.tree_same.specs.Listed.{routesHeld}
 use Rattle.tree_same.proofs.Holdings.{nodes-are, hops-are}
-use Rattle.tree_check.specs.WellFormed.{wellFormed, nodesIf}
+use Rattle.tree_check.specs.WellFormed.{ordered, wellFormed, nodesIf}
 use Rattle.tree_check.proofs.Meaning.{not-true}
 use Rattle.tree_check.proofs.Steps.{kept}
 use Rattle.tree_check.proofs.Held.{held-good, held-holds}
@@ -37,11 +37,13 @@ use Rattle.tree_change.proofs.Places.{shaped, there-is, there-at}
 use Rattle.tree_change.proofs.Needs.{fewer-nodes, new-need}
 
 -- what a change that fits leaves and says
-module _ {rs : List Route} {ws hs ws′ hs′ : List ℕ} {n : ℕ} (b : Become rs ws hs ws′ hs′ n) (fit : n ≤ length ws / 3) (k : ℕ) (count : k ≡ length rs) (space : k ≤ length hs) where
+module _ {rs : List Route} {ws hs ws′ hs′ : List ℕ} {n : ℕ} (b : Become rs ws hs ws′ hs′ n) (fit : n ≤ length ws / 3)
+    (k : ℕ) (count : k ≡ length rs) (space : k ≤ length hs) where
   pub made-is : (v : ℕ) → out (accepted (v ∷ n ∷ k ∷ [])) ws′ hs′ ≡ saying v (madeOf rs ws hs)
   made-is v =
       ap₂ (λ (x y : List ℕ). out (accepted (v ∷ n ∷ k ∷ [])) x y) (b .words) (b .hops)
-      ∙ ap₂ (λ (x y : ℕ). out (accepted (v ∷ x ∷ y ∷ [])) (imageOf rs (length ws) (length hs) .words) (imageOf rs (length ws) (length hs) .hops)) (b .nodes) count
+      ∙ ap₂ (λ (x y : ℕ). out (accepted (v ∷ x ∷ y ∷ [])) (imageOf rs (length ws) (length hs) .words) (imageOf rs (length ws) (length hs) .hops))
+      (b .nodes) count
       ∙ ap (saying v) (sym (made-fits rs ws hs (omega (arith, b .nodes)) (omega (arith, count))))
 
   pub made-so : out (accepted (n ∷ k ∷ [])) ws′ hs′ ≡ madeOf rs ws hs
@@ -54,7 +56,8 @@ module _ {rs : List Route} {ws hs ws′ hs′ : List ℕ} {n : ℕ} (b : Become 
 pub routes-are : {ws hs : List ℕ} {n k : ℕ} → Found ws hs n k → k ≡ length (routesHeld ws hs)
 routes-are {ws} {hs} {n} {k} s =
     let rs = routesHeld ws hs in
-    s .hops ∙ hops-are (nodeStands (routesHeld ws hs)) (hopFor (routesHeld ws hs)) ws hs n (shaped s .agree .nine) (s .holds) ∙ hops-need (routesHeld ws hs) (s .good)
+    s .hops ∙ hops-are (nodeStands (routesHeld ws hs)) (hopFor (routesHeld ws hs)) ws hs n (shaped s .agree .nine) (s .holds)
+    ∙ hops-need (routesHeld ws hs) (s .good)
 
 -- ---- a prefix that does not stand
 
@@ -85,7 +88,9 @@ module _ {ws hs : List ℕ} {n k x m a len h b : ℕ} (r : New ws hs n k x m a l
       pub told-twelve : length hs ≤ k → out (saysAnnounced (announced.Refused 12)) ws hs ≡ putTo rs r₁ ws hs
       unfolding saysAnnounced madeOf
       told-twelve v =
-          sym (put-some ∙ rw (le-ltb (length ws / 3) (nodeNeed (insert r₁ rs)) (omega (arith, new-need r)), lt-ltb (length hs) (length (insert r₁ rs)) (omega (arith, one-more))) refl)
+          let n = le-ltb (length ws / 3) (nodeNeed (insert r₁ rs)) (omega (arith, new-need r)) in
+          let k = lt-ltb (length hs) (length (insert r₁ rs)) (omega (arith, one-more)) in
+          sym (put-some ∙ rw (n, k) refl)
 
       pub add-ready : k < length hs → Addable ws hs n k x m a len h b
       add-ready v = record { new = r; words-room = omega arith; hops-room = omega arith }
@@ -106,7 +111,8 @@ module _ {ws hs : List ℕ} {n k x a len b : ℕ} (r : Standing ws hs n k x a le
   abbrev ss : List Route
   ss = routesHeld ws hs
 
-  pub told-replaced : {hs′ : List ℕ} → Become (insert (route a len h) ss) ws hs ws hs′ n → (p q : ℕ) → p ≡ n → q ≡ k → out (saysAnnounced (announced.Replaced p q)) ws hs′ ≡ putTo ss (route a len h) ws hs
+  pub told-replaced : {hs′ : List ℕ} → Become (insert (route a len h) ss) ws hs ws hs′ n → (p q : ℕ) → p ≡ n → q ≡ k
+      → out (saysAnnounced (announced.Replaced p q)) ws hs′ ≡ putTo ss (route a len h) ws hs
   unfolding saysAnnounced putTo
   told-replaced {hs′} g p q ep eq =
       let c : length (insert (route a len h) ss) ≡ k = insert-replaces (route a len h) ss (r .found .good) (r .stood) ∙ sym (routes-are (r .found)) in
@@ -119,6 +125,16 @@ module _ {ws hs : List ℕ} {n k x a len b : ℕ} (r : Standing ws hs n k x a le
 module _ {ws hs : List ℕ} {n : ℕ} (f : Formed ws hs n) where
   abbrev ts : List Route
   ts = routesHeld ws hs
+
+  -- what the code asks for on the way
+  pub ask-hops : (0 < n) × (3 * n ≤ length ws) × (n ≡ nodesIf (ordered ws) ws)
+  ask-hops = (f .lent .0, f .lent .1, f .nodes)
+
+  pub ask-way : {len : ℕ} → len ≤ 32 → Order ws n × (len / 4 ≤ 8)
+  ask-way l = (f .found .holds .order, omega arith)
+
+  pub ask-end : {x m a deep len b : ℕ} → Descent ws n a deep x m → BitOf a len b → (3 * x < length ws) × (b < 15)
+  ask-end w o = (omega (arith, w .inside, f .lent .1), o .small)
 
   module _ {k x m a len b : ℕ} (ek : k ≡ ints ws n) (p : Prefix a len) (o : BitOf a len b) (w : Descent ws n a (len / 4) x m) where
     pub its-found : Found ws hs n k
@@ -177,7 +193,8 @@ module _ {ws hs : List ℕ} {n k x a len b : ℕ} (r : Standing ws hs n k x a le
     told-removed y z ey ez =
         rw (r .stood)
         (ap₂ (λ (u v : ℕ). out (accepted (u ∷ v ∷ [])) ws′ hs′) ey ez
-        ∙ made-so g (omega (arith, no-more, r .found .holds .order .lent)) (k - 1) (omega (arith, fewer)) (omega (arith, r .found .holds .room, r .found .hops)))
+        ∙ made-so g (omega (arith, no-more, r .found .holds .order .lent)) (k - 1) (omega (arith, fewer))
+        (omega (arith, r .found .holds .room, r .found .hops)))
 
 -- the test passed
 pub is-formed : (ws hs : List ℕ) (n : ℕ) → ((j : ℕ) → getD ws j 0 < 2 ^ 32) → n ≡ nodesIf (wellFormed ws hs) ws → (n ≡ 0 → ⊥) → Formed ws hs n
@@ -200,10 +217,12 @@ pub passed-prefix : (a len : ℕ) (t : Bool) → t ≡ properPrefix a len → no
 passed-prefix a len t e q l el = subst (λ (z : ℕ). Prefix a z) (sym el) (prefix-true a len (kept t (properPrefix a len) e q))
 
 pub passed-route : (a len h : ℕ) (t u : Bool) → t ≡ properPrefix a len → not t ≡ false → u ≡ hopFine h → not u ≡ false → (l : ℕ) → l ≡ len → Fine (route a l h)
-passed-route a len h t u et qt eu qu l el = subst (λ (z : ℕ). Fine (route a z h)) (sym el) (is-fine a len h (kept t (properPrefix a len) et qt) (kept u (hopFine h) eu qu))
+passed-route a len h t u et qt eu qu l el =
+    subst (λ (z : ℕ). Fine (route a z h)) (sym el) (is-fine a len h (kept t (properPrefix a len) et qt) (kept u (hopFine h) eu qu))
 
 module _ (ws hs : List ℕ) (a len : ℕ) where
-  pub announced-three : (h : ℕ) (t : Bool) → t ≡ properPrefix a len → not t ≡ true → out (saysAnnounced (announced.Refused 3)) ws hs ≡ imageAnnounced ws hs a len h
+  pub announced-three : (h : ℕ) (t : Bool) → t ≡ properPrefix a len → not t ≡ true
+      → out (saysAnnounced (announced.Refused 3)) ws hs ≡ imageAnnounced ws hs a len h
   unfolding saysAnnounced imageAnnounced
   announced-three h t e q = rw (sym e ∙ not-true t q) refl
 
@@ -219,7 +238,8 @@ module _ (ws hs : List ℕ) (a len : ℕ) where
     unfolding saysWithdrawn imageWithdrawn
     withdrawn-broken n e z = rw (proper, check-broken ws hs n e z) refl
 
-    pub withdrawn-formed : (n : ℕ) → n ≡ nodesIf (wellFormed ws hs) ws → (n ≡ 0 → ⊥) → (l : ℕ) → l ≡ len → (o : Out) → o ≡ takenFrom (routesHeld ws hs) (keyOf a l) ws hs → o ≡ imageWithdrawn ws hs a len
+    pub withdrawn-formed : (n : ℕ) → n ≡ nodesIf (wellFormed ws hs) ws → (n ≡ 0 → ⊥) → (l : ℕ) → l ≡ len → (o : Out)
+        → o ≡ takenFrom (routesHeld ws hs) (keyOf a l) ws hs → o ≡ imageWithdrawn ws hs a len
     unfolding imageWithdrawn
     withdrawn-formed n e z l el o q =
         rw (proper, check-formed ws hs n e z .0) (q ∙ ap (λ (y : ℕ). takenFrom (routesHeld ws hs) (keyOf a y) ws hs) el)
@@ -233,11 +253,13 @@ module _ (ws hs : List ℕ) (a len : ℕ) where
         pub fine-hop : hopFine h ≡ true
         fine-hop = kept u (hopFine h) eu qu
 
-        pub announced-broken : (n : ℕ) → n ≡ nodesIf (wellFormed ws hs) ws → n ≡ 0 → out (saysAnnounced (announced.Refused 13)) ws hs ≡ imageAnnounced ws hs a len h
+        pub announced-broken : (n : ℕ) → n ≡ nodesIf (wellFormed ws hs) ws → n ≡ 0
+            → out (saysAnnounced (announced.Refused 13)) ws hs ≡ imageAnnounced ws hs a len h
         unfolding saysAnnounced imageAnnounced
         announced-broken n e z = rw (proper, fine-hop, check-broken ws hs n e z) refl
 
-        pub announced-formed : (n : ℕ) → n ≡ nodesIf (wellFormed ws hs) ws → (n ≡ 0 → ⊥) → (l : ℕ) → l ≡ len → (o : Out) → o ≡ putTo (routesHeld ws hs) (route a l h) ws hs → o ≡ imageAnnounced ws hs a len h
+        pub announced-formed : (n : ℕ) → n ≡ nodesIf (wellFormed ws hs) ws → (n ≡ 0 → ⊥) → (l : ℕ) → l ≡ len → (o : Out)
+            → o ≡ putTo (routesHeld ws hs) (route a l h) ws hs → o ≡ imageAnnounced ws hs a len h
         unfolding imageAnnounced
         announced-formed n e z l el o q =
             rw (proper, fine-hop, check-formed ws hs n e z .0) (q ∙ ap (λ (y : ℕ). putTo (routesHeld ws hs) (route a y h) ws hs) el)

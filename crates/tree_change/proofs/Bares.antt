@@ -35,7 +35,8 @@ own-word st hop a m p =
   where
     kid : (c : ℕ) → child (downTo st a m) (node m p) c ≡ child st (node m p) c
     kid c =
-        ap (λ (t : Bool). st (m + 1) (p * 16 + c) || (t && eqb (p * 16 + c) (slot (4 * (m + 1)) a))) (lt-leb (m + 1) m (omega arith)) ∙ or-false (st (m + 1) (p * 16 + c))
+        ap (λ (t : Bool). st (m + 1) (p * 16 + c) || (t && eqb (p * 16 + c) (slot (4 * (m + 1)) a))) (lt-leb (m + 1) m (omega arith))
+        ∙ or-false (st (m + 1) (p * 16 + c))
 
 module _ (st : ℕ → ℕ → Bool) (hop : ℕ → ℕ → ℕ) (f : Shaped st hop) (m q : ℕ) (absent : st (suc m) q ≡ false) where
   no-hop : (k : ℕ) → k < 15 → inner hop (node (suc m) q) k ≡ false
@@ -103,7 +104,8 @@ module _ (ws : List ℕ) (a : ℕ) where
       go (inr u) = omega arith
       go (inl u) =
           let q : suc d + (m - suc d) ≡ m = omega arith in
-          let s = leads-step d (omega arith) (leads-above (m - suc d) (suc d) (omega arith) (subst (λ (z : ℕ). leads ws z (slot (4 * z) a) ≡ true) (sym q) t)) in
+          let s =
+          leads-step d (omega arith) (leads-above (m - suc d) (suc d) (omega arith) (subst (λ (z : ℕ). leads ws z (slot (4 * z) a) ≡ true) (sym q) t)) in
           absurd (true≢false (sym (s .1) ∙ ap₂ (λ (z c : ℕ). isSet (bitsOf ws z) (16 + slot (4 * c) a % 16)) (sym (w .at)) (sym (add-one d)) ∙ w .stop u))
 
 -- ---- what the code's test of a node says

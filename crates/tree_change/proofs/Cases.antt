@@ -89,13 +89,15 @@ module _ (ws hs : List ℕ) (a len h : ℕ) where
   case-announced o (hops-short k l u v) = asked-out k l ∙ rw (le-ltb (length ws / 3) (nodeNeed rs′) u, lt-ltb (length hs) (length rs′) v) refl
   case-announced o (put-in k l u v) = asked-out k l ∙ ap (saying b) (made-fits rs′ ws hs u v)
 
-  fits-cases : Asked ws hs a len h → length rs′ ≤ 4096 → (length ws / 3 < nodeNeed rs′) ⊎ (nodeNeed rs′ ≤ length ws / 3) → (length hs < length rs′) ⊎ (length rs′ ≤ length hs)
+  fits-cases : Asked ws hs a len h → length rs′ ≤ 4096 → (length ws / 3 < nodeNeed rs′) ⊎ (nodeNeed rs′ ≤ length ws / 3)
+      → (length hs < length rs′) ⊎ (length rs′ ≤ length hs)
       → (o : Out) × Announcing ws hs a len h o
   fits-cases k l (inl u) v = (_, nodes-short k l u)
   fits-cases k l (inr u) (inl v) = (_, hops-short k l u v)
   fits-cases k l (inr u) (inr v) = (_, put-in k l u v)
 
-  some-case : (properPrefix a len ≡ true) ⊎ (properPrefix a len ≡ false) → (hopFine h ≡ true) ⊎ (hopFine h ≡ false) → (wellFormed ws hs ≡ true) ⊎ (wellFormed ws hs ≡ false)
+  some-case : (properPrefix a len ≡ true) ⊎ (properPrefix a len ≡ false) → (hopFine h ≡ true) ⊎ (hopFine h ≡ false)
+      → (wellFormed ws hs ≡ true) ⊎ (wellFormed ws hs ≡ false)
       → (o : Out) × Announcing ws hs a len h o
   some-case (inr e) f g = (_, wrong-prefix e)
   some-case (inl e) (inr f) g = (_, wrong-hop e f)

@@ -16,9 +16,10 @@ use Rattle.routes.specs.declared.Route.{Route}
 use Rattle.standing.specs.Standing.{stands, remove}
 use Rattle.tree.specs.Node.{bitsOf, baseOf}
 use Rattle.tree.specs.Parts.{padded}
-use Rattle.tree.specs.Image.{hops, imageBy, nodeStands, hopFor}
+use Rattle.tree.specs.Image.{node, bitHop, hops, imageBy, nodeStands, hopFor}
 use Rattle.tree.proofs.Lies.{inner-len}
 use Rattle.tree_same.specs.Read.{reached, pathOf, bitFor}
+use Rattle.tree_same.specs.Order.{standsAt}
 use Rattle.tree_same.specs.Holding.{Holding}
 use Rattle.tree_same.proofs.Back.{Shaped}
 use Rattle.tree_same.proofs.Same.{fits}
@@ -39,7 +40,8 @@ prefix-path a len l =
     ap (λ (z : ℕ). slot z a / 2 ^ (len % 4)) (sym e) ∙ slot-up (4 * (len / 4)) (len % 4) a (omega arith)
 
 bit-of-prefix : (a len : ℕ) → len ≤ 32 → BitOf a len (bitFor len (slot len a))
-bit-of-prefix a len l = record { small = inner-len (len % 4) (slot len a % 2 ^ (len % 4)) (omega arith) (mod-lt (slot len a) (pow-pos (len % 4))) .0; is = refl }
+bit-of-prefix a len l =
+    record { small = inner-len (len % 4) (slot len a % 2 ^ (len % 4)) (omega arith) (mod-lt (slot len a) (pow-pos (len % 4))) .0; is = refl }
 
 module _ (rs : List Route) (a len : ℕ) (good : Good rs) (p : Prefix a len) (stood : stands (keyOf a len) rs ≡ true) where
   abbrev deep : ℕ
@@ -66,13 +68,20 @@ module _ (rs : List Route) (a len : ℕ) (good : Good rs) (p : Prefix a len) (st
   shape : Shaped (downTo st₀ a deep) hop₀
   shape = down-shaped st₀ a (p .addr-ok) hop₀ deep (omega (arith, p .len-ok)) (fits (remove (keyOf a len) rs) (by .good))
 
+  -- the node of the prefix stands, and its bit there is free
+  end-stands : standsAt (downTo st₀ a deep) deep path ≡ true
+  end-stands = on-path st₀ a (p .addr-ok) deep deep (omega arith)
+
+  end-free : bitHop hop₀ (node deep path) b ≡ 0
+  end-free = hop-at-bit bit (p .len-ok) hop₀ ∙ by .gone
+
   module _ {ws hs : List ℕ} {n : ℕ} (h : Holding (nodeStands rs) (hopFor rs) ws hs n) where
     held : Holding (downTo st₀ a deep) (withHop hop₀ (lenAt deep b) (bitsAt path b) (by .hop)) ws hs n
     held = held-with by (p .len-ok) bit h
 
     -- the arrays without the hop
-    without-hop : Before deep path b (by .hop) shape (bit .small) (on-path st₀ a (p .addr-ok) deep deep (omega arith)) (hop-at-bit bit (p .len-ok) hop₀ ∙ by .gone) (by .some) held
-    without-hop = before deep path b (by .hop) shape (bit .small) (on-path st₀ a (p .addr-ok) deep deep (omega arith)) (hop-at-bit bit (p .len-ok) hop₀ ∙ by .gone) (by .some) held
+    without-hop : Before deep path b (by .hop) shape (bit .small) end-stands end-free (by .some) held
+    without-hop = before deep path b (by .hop) shape (bit .small) end-stands end-free (by .some) held
 
     -- the place is that in the image of the other routes with the path of the prefix
     pub place-shared : hopPlace ws len (slot len a) ≡ hopPlace (imageBy (downTo st₀ a deep) hop₀ (length ws) (length hs) .words) len (slot len a)

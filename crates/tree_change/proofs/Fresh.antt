@@ -49,7 +49,8 @@ module _ {rs : List Route} {ws hs : List ℕ} {o : Out} (l : Left rs ws hs o) wh
 
   -- and these are the routes that are then read out of it
   pub change-stands : routesHeld (o .words) (o .hops) ≡ rs
-  change-stands = ap₂ routesHeld (l .words) (l .hops) ∙ image-held rs (length ws) (length hs) (l .fit .good) (omega (arith, l .fit .nodes)) (l .fit .hops) ∙ l .unmarked
+  change-stands =
+      ap₂ routesHeld (l .words) (l .hops) ∙ image-held rs (length ws) (length hs) (l .fit .good) (omega (arith, l .fit .nodes)) (l .fit .hops) ∙ l .unmarked
 
   -- it is well formed again
   pub change-formed : wellFormed (o .words) (o .hops) ≡ true
@@ -66,12 +67,16 @@ module _ {rs : List Route} {ws hs : List ℕ} {o : Out} (l : Left rs ws hs o) wh
 
   pub change-sizes : (length (o .words) ≡ length ws) × (length (o .hops) ≡ length hs)
   change-sizes =
-      let z = image-sizes (nodeStands rs) (hopFor rs) (length ws) (length hs) (omega (arith, l .fit .nodes)) (omega (arith, hops-need rs (l .fit .good), l .fit .hops)) in
+      let z =
+      image-sizes (nodeStands rs) (hopFor rs) (length ws) (length hs) (omega (arith, l .fit .nodes))
+      (omega (arith, hops-need rs (l .fit .good), l .fit .hops)) in
       (ap length (l .words) ∙ z .0, ap length (l .hops) ∙ z .1)
 
   pub change-holds : Holding (nodeStands rs) (hopFor rs) (o .words) (o .hops) (nodeNeed rs)
   change-holds =
-      let h = image-holding (nodeStands rs) (hopFor rs) (fits rs (l .fit .good)) (length ws) (length hs) (omega (arith, l .fit .nodes)) (omega (arith, hops-need rs (l .fit .good), l .fit .hops)) in
+      let h =
+      image-holding (nodeStands rs) (hopFor rs) (fits rs (l .fit .good)) (length ws) (length hs) (omega (arith, l .fit .nodes))
+      (omega (arith, hops-need rs (l .fit .good), l .fit .hops)) in
       subst (λ (v : List ℕ). Holding (nodeStands rs) (hopFor rs) v (o .hops) (nodeNeed rs)) (sym (l .words))
       (subst (λ (v : List ℕ). Holding (nodeStands rs) (hopFor rs) (image .words) v (nodeNeed rs)) (sym (l .hops)) h)
 

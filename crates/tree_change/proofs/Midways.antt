@@ -54,7 +54,8 @@ down-any st hop a (suc m) l u s t {f} h =
     holding-same st (downTo st a (suc m)) f (λ i p. sym (down-same st a l (suc m) (λ j v. path-stands st hop a l s m j (omega arith) t v) i p)) h
 
 -- arrays that hold a good list's routes are its image
-pub become : {rs : List Route} {ws hs ws′ hs′ : List ℕ} {n : ℕ} → Good rs → Holding (nodeStands rs) (hopFor rs) ws′ hs′ n → length ws′ ≡ length ws → length hs′ ≡ length hs
+pub become : {rs : List Route} {ws hs ws′ hs′ : List ℕ} {n : ℕ} → Good rs → Holding (nodeStands rs) (hopFor rs) ws′ hs′ n → length ws′ ≡ length ws
+    → length hs′ ≡ length hs
     → Become rs ws hs ws′ hs′ n
 become {rs} {ws} {hs} {ws′} {hs′} {n} g h e f =
     let i = holds-image (nodeStands rs) (hopFor rs) ws′ hs′ n (agree rs g .nine) h in

@@ -61,7 +61,8 @@ module _ (st : ℕ → ℕ → Bool) (hop : ℕ → ℕ → ℕ) (a : ℕ) (smal
   more : (e : ℕ) → e < 8 → length (nodes (downTo st a e)) ≤ length (nodes (downTo st a (suc e)))
   more e l = go (decided (st (suc e) (slot (4 * suc e) a)))
     where
-      go : (st (suc e) (slot (4 * suc e) a) ≡ true) ⊎ (st (suc e) (slot (4 * suc e) a) ≡ false) → length (nodes (downTo st a e)) ≤ length (nodes (downTo st a (suc e)))
+      go : (st (suc e) (slot (4 * suc e) a) ≡ true) ⊎ (st (suc e) (slot (4 * suc e) a) ≡ false)
+          → length (nodes (downTo st a e)) ≤ length (nodes (downTo st a (suc e)))
       go (inl t) = omega (arith, ap (λ (s : ℕ → ℕ → Bool). length (nodes s)) (idle e t))
       go (inr t) = omega (arith, down-grows st a small hop f e 1 (omega arith) t .0, ap (λ (z : ℕ). length (nodes (downTo st a z))) (add-one e))
 
@@ -97,7 +98,8 @@ module _ (st : ℕ → ℕ → Bool) (hop : ℕ → ℕ → ℕ) (a : ℕ) (smal
       hops-shared (down-shaped st a small hop 0 l f .agree .nine) (f .agree .nine) o h refl
   down-hops (suc e) l = go (decided (st (suc e) (slot (4 * suc e) a))) (down-hops e (omega arith))
     where
-      go : (st (suc e) (slot (4 * suc e) a) ≡ true) ⊎ (st (suc e) (slot (4 * suc e) a) ≡ false) → hops (downTo st a e) hop ≡ hops st hop → hops (downTo st a (suc e)) hop ≡ hops st hop
+      go : (st (suc e) (slot (4 * suc e) a) ≡ true) ⊎ (st (suc e) (slot (4 * suc e) a) ≡ false) → hops (downTo st a e) hop ≡ hops st hop
+          → hops (downTo st a (suc e)) hop ≡ hops st hop
       go (inl t) ih = ap (λ (s : ℕ → ℕ → Bool). hops s hop) (idle st hop a small f e t) ∙ ih
       go (inr t) ih = ap (λ (z : ℕ). hops (downTo st a z) hop) (sym (add-one e)) ∙ down-grows st a small hop f e 1 (omega arith) t .1 ∙ ih
 
@@ -113,7 +115,8 @@ pub same-nodes : (r : Route) (rs : List Route) → Fine r → Good rs → stands
 unfolding standsAt
 same-nodes r rs f g t =
     ap (λ (s : ℕ → ℕ → Bool). length (nodes s)) (insert-nodes r rs f g)
-    ∙ stood-nodes (nodeStands rs) (hopFor rs) (r .addr) (r .len / 4) (f .prefix .addr-ok) (omega (arith, f .prefix .len-ok)) (fits rs g) (its-path (r .len / 4) refl (stands-is (key r) rs t))
+    ∙ stood-nodes (nodeStands rs) (hopFor rs) (r .addr) (r .len / 4) (f .prefix .addr-ok) (omega (arith, f .prefix .len-ok)) (fits rs g)
+    (its-path (r .len / 4) refl (stands-is (key r) rs t))
   where
     its-path : (m : ℕ) → r .len / 4 ≡ m → (s : Route) × List·Memᴰ s rs × (key s ≡ key r) → standsAt (nodeStands rs) m (slot (4 * m) (r .addr)) ≡ true
     its-path zero e w = eq-eqb (slot 0 (r .addr)) 0 (slot-zero 0 (r .addr) (f .prefix .addr-ok) refl)
@@ -132,11 +135,13 @@ fewer-nodes k rs g t = go (stands-is k rs t)
         let f = good-fine rs g (w .0) (w .1) in
         let q : insert (w .0) (remove k rs) ≡ rs = ap (λ (z : ℕ). insert (w .0) (remove z rs)) (sym (w .2)) ∙ put-again rs g (w .0) (w .1) in
         let d = remove-good k rs g in
-        let e : nodeStands rs ≡ downTo (nodeStands (remove k rs)) (w .0 .addr) (w .0 .len / 4) = ap nodeStands (sym q) ∙ insert-nodes (w .0) (remove k rs) f d in
+        let e : nodeStands rs ≡ downTo (nodeStands (remove k rs)) (w .0 .addr) (w .0 .len / 4) =
+        ap nodeStands (sym q) ∙ insert-nodes (w .0) (remove k rs) f d in
         omega (
           arith,
           ap (λ (s : ℕ → ℕ → Bool). length (nodes s)) e,
-          down-most (nodeStands (remove k rs)) (hopFor (remove k rs)) (w .0 .addr) (f .prefix .addr-ok) (fits (remove k rs) d) (w .0 .len / 4) (omega (arith, f .prefix .len-ok)),
+          down-most (nodeStands (remove k rs)) (hopFor (remove k rs)) (w .0 .addr) (f .prefix .addr-ok) (fits (remove k rs) d) (w .0 .len / 4)
+              (omega (arith, f .prefix .len-ok)),
         )
 
 -- the nodes that the path of a new prefix lacks
@@ -157,11 +162,14 @@ new-need {ws} {hs} {n} {k} {x} {m} {a} {len} {h} {b} r =
     now =
         sym (nodes-are (downTo (nodeStands (routesHeld ws hs)) a m) (hopFor (routesHeld ws hs)) ws hs n
         (down-shaped (nodeStands (routesHeld ws hs)) a small (hopFor (routesHeld ws hs)) m (omega (arith, up, short)) (shaped (r .found)) .agree .nine)
-        (down-any (nodeStands (routesHeld ws hs)) (hopFor (routesHeld ws hs)) a m small (omega (arith, up, short)) (shaped (r .found)) (way-stands (r .found) small (r .way)) (r .found .holds)))
+        (down-any (nodeStands (routesHeld ws hs)) (hopFor (routesHeld ws hs)) a m small (omega (arith, up, short)) (shaped (r .found))
+        (way-stands (r .found) small (r .way)) (r .found .holds)))
 
     go : (m < len / 4) ⊎ (len / 4 ≤ m) → length (nodes (downTo (nodeStands (routesHeld ws hs)) a (len / 4))) ≡ n + (len / 4 - m)
     go (inl l) =
         let e : m + (len / 4 - m) ≡ len / 4 = omega arith in
-        let d = down-grows (nodeStands (routesHeld ws hs)) a small (hopFor (routesHeld ws hs)) (shaped (r .found)) m (len / 4 - m) (omega (arith, short)) (way-absent (r .found) small (r .way) (omega (arith, short)) l) .0 in
+        let d =
+        down-grows (nodeStands (routesHeld ws hs)) a small (hopFor (routesHeld ws hs)) (shaped (r .found)) m (len / 4 - m) (omega (arith, short))
+        (way-absent (r .found) small (r .way) (omega (arith, short)) l) .0 in
         subst (λ (z : ℕ). length (nodes (downTo (nodeStands (routesHeld ws hs)) a z)) ≡ n + (len / 4 - m)) e (omega (arith, d, now))
     go (inr l) = let e : m ≡ len / 4 = omega (arith, up) in omega (arith, now, ap (λ (z : ℕ). length (nodes (downTo (nodeStands (routesHeld ws hs)) a z))) e)

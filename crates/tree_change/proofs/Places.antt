@@ -50,7 +50,8 @@ module _ {a len b : ℕ} (o : BitOf a len b) (short : len ≤ 32) where
   pub bit-bits : bitsAt (slot (4 * (len / 4)) a) b ≡ slot len a
   bit-bits =
       let e : 4 * (len / 4) + len % 4 ≡ len = omega arith in
-      let up : slot (4 * (len / 4)) a ≡ slot len a / 2 ^ (len % 4) = sym (slot-up (4 * (len / 4)) (len % 4) a (omega arith)) ∙ ap (λ (z : ℕ). slot z a / 2 ^ (len % 4)) e in
+      let up : slot (4 * (len / 4)) a ≡ slot len a / 2 ^ (len % 4) =
+      sym (slot-up (4 * (len / 4)) (len % 4) a (omega arith)) ∙ ap (λ (z : ℕ). slot z a / 2 ^ (len % 4)) e in
       let u : b + 1 - 2 ^ (len % 4) ≡ slot len a % 2 ^ (len % 4) = omega (arith, o .is, pow-pos (len % 4)) in
       ap (λ (z : ℕ). slot (4 * (len / 4)) a * 2 ^ z + (b + 1 - 2 ^ z)) its-len
       ∙ ap₂ (λ (z v : ℕ). z * 2 ^ (len % 4) + v) up u ∙ split (slot len a) (len % 4)
@@ -89,7 +90,8 @@ module _ {ws hs : List ℕ} {n k : ℕ} (s : Found ws hs n k) where
     -- at the depth of the prefix
     there : m ≡ len / 4 → isSet (bitsOf ws x) b ≡ stands (keyOf a len) rs
     there e =
-        let t : standsAt st (len / 4) (slot (4 * (len / 4)) a) ≡ true = subst (λ (z : ℕ). standsAt st z (slot (4 * z) a) ≡ true) e (way-stands (p .addr-ok) w) in
+        let t : standsAt st (len / 4) (slot (4 * (len / 4)) a) ≡ true =
+        subst (λ (z : ℕ). standsAt st z (slot (4 * z) a) ≡ true) e (way-stands (p .addr-ok) w) in
         let q : x ≡ reached ws (len / 4) (slot (4 * (len / 4)) a) = w .at ∙ ap (λ (z : ℕ). reached ws z (slot (4 * z) a)) e in
         ap (λ (z : ℕ). isSet (bitsOf ws z) b) q ∙ inner-held shaped (s .holds) (len / 4) (slot (4 * (len / 4)) a) b t (o .small)
         ∙ ap (ltb 0) (hop-at-bit o (p .len-ok) hop) ∙ sym (stands-hop a len rs p (s .good))

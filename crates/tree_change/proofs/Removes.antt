@@ -7,14 +7,16 @@ use mathlib.Core.List.{List}
 use Prim.Native.Nat.{ℕ, zero, suc, _+_, _-_, _*_, _/_, _%_, _^_, _≤_, _<_}
 use native.Mathlib.Numerals.{add-one}
 use native.Mathlib.Omega.{arith}
+use lib.Count.{ones}
 use lib.Dec.{eqb, ltb}
+use lib.ListN.{getD}
 use borrow.Author.Tests.{eq-eqb, eqb-true, lt-ltb, ltb-true}
 use Rattle.bits.specs.Slot.{slot}
 use Rattle.bits.proofs.Tests.{decided, and-split, both, untrue}
 use Rattle.routes.specs.Route.{keyOf}
 use Rattle.routes.specs.declared.Route.{Route}
 use Rattle.standing.specs.Standing.{remove}
-use Rattle.tree.specs.Node.{bitsOf, childOf, isSet, childAt}
+use Rattle.tree.specs.Node.{bitsOf, childOf, baseOf, isSet, childAt}
 use Rattle.tree.specs.Image.{node, word, nodeStands, hopFor}
 use Rattle.tree_same.specs.Read.{reached, leads}
 use Rattle.tree_same.specs.Order.{ints, Order, standsAt}
@@ -74,7 +76,8 @@ module _ {ws₀ hs₀ : List ℕ} {n x a len b : ℕ} (k : ℕ) (r : Standing ws
     parent = r .way .inside;
     small = r .bit .small;
     stands =
-        ap (λ (z : ℕ). isSet (bitsOf ws₀ z) b) (r .way .at) ∙ inner-held (shaped (r .found)) (r .found .holds) deep path b (its-node r) (r .bit .small) ∙ its-bit r;
+        ap (λ (z : ℕ). isSet (bitsOf ws₀ z) b) (r .way .at) ∙ inner-held (shaped (r .found)) (r .found .holds) deep path b (its-node r) (r .bit .small)
+        ∙ its-bit r;
     room = omega (arith, r .found .holds .room, r .found .hops);
     blank = λ j l. r .found .holds .blank j (omega (arith, r .found .hops));
   }
@@ -85,14 +88,21 @@ module _ {ws₀ hs₀ : List ℕ} {n x a len b : ℕ} (k : ℕ) (r : Standing ws
   down-shape : Shaped (downTo st′ a deep) hop′
   down-shape = down-shaped st′ a small hop′ deep (omega (arith, short)) (fits rs′ (others .good))
 
-  pub shrink-start : {ws hs : List ℕ} {y z : ℕ} → HopPut ws ws₀ hs hs₀ n x b y z → Midway (remove (keyOf a len) (routesHeld ws₀ hs₀)) a (len / 4) ws hs n k
-  shrink-start {ws} {hs} {y} {z} g = record {
+  -- the place of the hop
+  abbrev place : ℕ
+  place = baseOf ws₀ x + ones (bitsOf ws₀ x % 2 ^ b)
+
+  pub shrink-start : {ws hs : List ℕ} → HopPut ws ws₀ hs hs₀ n x b place (getD hs₀ place 0)
+      → Midway (remove (keyOf a len) (routesHeld ws₀ hs₀)) a (len / 4) ws hs n k
+  shrink-start {ws} {hs} g = record {
     good = others .good;
     addr = small;
     deep = omega (arith, short);
     holds =
-        take-holds deep path b (others .hop) down-shape (r .bit .small) (on-path st′ a small deep deep (omega arith)) (hop-at-bit (r .bit) short hop′ ∙ others .gone)
-        (others .some) (held-with others short (r .bit) (r .found .holds)) (subst (λ (v : ℕ). HopPut ws ws₀ hs hs₀ n v b y z) (r .way .at) g);
+        take-holds deep path b (others .hop) down-shape (r .bit .small) (on-path st′ a small deep deep (omega arith))
+        (hop-at-bit (r .bit) short hop′ ∙ others .gone)
+        (others .some) (held-with others short (r .bit) (r .found .holds))
+        (subst (λ (v : ℕ). HopPut ws ws₀ hs hs₀ n v b place (getD hs₀ place 0)) (r .way .at) g);
     hops = omega (arith, ints-after (g .bits) n (g .bits .inside) (omega arith), r .found .hops);
   }
 
@@ -189,14 +199,16 @@ module _ {rs : List Route} {a m : ℕ} {ws hs : List ℕ} {nodes k : ℕ} (g : M
         parent = w .inside;
         small = omega (arith, its-turn);
         stands =
-            ap (λ (z : ℕ). isSet (bitsOf ws z) (16 + c)) there ∙ child-held shape held i (at i) c (on-path st a (g .addr) (suc i) i (omega arith)) (omega (arith, its-turn))
+            ap (λ (z : ℕ). isSet (bitsOf ws z) (16 + c)) there
+            ∙ child-held shape held i (at i) c (on-path st a (g .addr) (suc i) i (omega arith)) (omega (arith, its-turn))
             ∙ ap (downTo st a (suc i) (suc i)) its-path ∙ on-path st a (g .addr) (suc i) (suc i) (omega arith);
         bare = ap (bitsOf ws) child-is ∙ empty;
       }
 
       pub shrink-next : {ws′ : List ℕ} → Grafted ws′ ws (nodes - 1) u c (childAt (bitsOf ws u) (childOf ws u) c) → Midway rs a (m - 1) ws′ hs (nodes - 1) k
       shrink-next {ws′} f =
-          let s : downTo st a (suc i) ≡ also (downTo st a i) (suc i) (at i * 16 + c) = sym (ap (also (downTo st a i) (suc i)) its-path ∙ down-next st a (g .addr) i) in
+          let s : downTo st a (suc i) ≡ also (downTo st a i) (suc i) (at i * 16 + c) =
+          sym (ap (also (downTo st a i) (suc i)) its-path ∙ down-next st a (g .addr) i) in
           let o = subst (λ (z : ℕ). Holding (also (downTo st a i) (suc i) (at i * 16 + c)) hop ws hs z) one
           (subst (λ (z : ℕ → ℕ → Bool). Holding z hop ws hs nodes) s held) in
           let q : nodes ≡ suc (nodes - 1) = omega (arith, one) in
@@ -218,7 +230,8 @@ module _ {rs : List Route} {a m : ℕ} {ws hs : List ℕ} {nodes k : ℕ} (g : M
       go : (st (suc i) (at (suc i)) ≡ true) ⊎ (st (suc i) (at (suc i)) ≡ false) → st (suc j) (at (suc j)) ≡ true
       go (inl s) = path-stands st hop a (g .addr) (fits rs (g .good)) i j (omega (arith, g .deep)) s l
       go (inr s) =
-          let w : word st hop (node m (at m)) ≡ 0 = subst (λ (y : ℕ). word st hop (node y (at y)) ≡ 0) (sym e) (absent-word st hop (fits rs (g .good)) i (at (suc i)) s) in
+          let w : word st hop (node m (at m)) ≡ 0 =
+          subst (λ (y : ℕ). word st hop (node y (at y)) ≡ 0) (sym e) (absent-word st hop (fits rs (g .good)) i (at (suc i)) s) in
           absurd (true≢false (sym (both (lt-ltb 0 m (omega arith)) (eq-eqb _ 0 (last-word ∙ w))) ∙ t))
 
   pub shrink-done : (t : Bool) → t ≡ bare → t ≡ false → Holding (nodeStands rs) (hopFor rs) ws hs nodes

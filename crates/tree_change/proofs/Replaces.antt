@@ -63,10 +63,6 @@ module _ {ws hs : List ℕ} {n k x a len b : ℕ} (r : Standing ws hs n k x a le
   pub its-bit : inner hop (node deep path) b ≡ true
   its-bit = ap (ltb 0) (hop-at-bit (r .bit) short hop) ∙ its-hop
 
-  -- the image holds the routes by the path too
-  pub held-down : Holding (downTo st a deep) hop ws hs n
-  held-down = down-any st hop a deep (r .prefix .addr-ok) (omega (arith, short)) shape its-node (r .found .holds)
-
   module _ (h : ℕ) (some : 0 < h) (most : h ≤ 32767) where
     fine : Fine (route a len h)
     fine = record { prefix = r .prefix; hop-one = some; hop-ok = most; mark-ok = omega arith }
@@ -92,7 +88,8 @@ module _ {ws hs : List ℕ} {n k x a len b : ℕ} (r : Standing ws hs n k x a le
     replace-room y e = go (below? y (length hs))
       where
         there : getD hs y 0 ≡ bitHop hop (node deep path) b
-        there = ap (λ (z : ℕ). getD hs z 0) (e ∙ ap (λ (z : ℕ). hopPlace ws z b) (r .way .at)) ∙ r .found .holds .put deep path b its-node (r .bit .small) its-bit
+        there =
+            ap (λ (z : ℕ). getD hs z 0) (e ∙ ap (λ (z : ℕ). hopPlace ws z b) (r .way .at)) ∙ r .found .holds .put deep path b its-node (r .bit .small) its-bit
 
         go : (y < length hs) ⊎ (length hs ≤ y) → y < length hs
         go (inl u) = u

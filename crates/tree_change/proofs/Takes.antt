@@ -34,7 +34,12 @@ module _ (ws hs : List ℕ) (a len : ℕ) (narrow : (j : ℕ) → getD ws j 0 < 
       let r = its-fit ws hs narrow f in
       let n = fewer-nodes (keyOf a len) (routesHeld ws hs) (r .good) s in
       let l = remove-length (keyOf a len) (routesHeld ws hs) in
-      record { good = remove-good (keyOf a len) (routesHeld ws hs) (r .good); few = omega (arith, r .few); nodes = omega (arith, r .nodes); hops = omega (arith, r .hops) }
+      record {
+        good = remove-good (keyOf a len) (routesHeld ws hs) (r .good);
+        few = omega (arith, r .few);
+        nodes = omega (arith, r .nodes);
+        hops = omega (arith, r .hops);
+      }
 
   pub case-withdrawn : (o : Out) → Withdrawing ws hs a len o → imageWithdrawn ws hs a len ≡ o
   unfolding imageWithdrawn takenFrom

@@ -80,7 +80,8 @@ module _ (ws hs : List ℕ) (a len h : ℕ) (narrow : (j : ℕ) → getD ws j 0 
   stood′ : stands (keyOf a len) rs′ ≡ true
   stood′ =
       stands-hop a len rs′ (fine .prefix) good′
-      ∙ ap (ltb 0) (ap (λ (f : ℕ → ℕ → ℕ). f len (slot len a)) (insert-hops (route a len h) rs fine good) ∙ with-own (hopFor rs) len (slot len a) h) ∙ lt-ltb 0 h (fine .hop-one)
+      ∙ ap (ltb 0) (ap (λ (f : ℕ → ℕ → ℕ). f len (slot len a)) (insert-hops (route a len h) rs fine good) ∙ with-own (hopFor rs) len (slot len a) h)
+      ∙ lt-ltb 0 h (fine .hop-one)
 
   others : remove (keyOf a len) rs′ ≡ remove (keyOf a len) rs
   others = out-again (route a len h) rs fine good
@@ -104,7 +105,8 @@ module _ (ws hs : List ℕ) (a len h : ℕ) (narrow : (j : ℕ) → getD ws j 0 
           place-shared rs a len good (fine .prefix) s held
           ∙ sym (place-shared rs′ a len good′ (fine .prefix) stood′ held′ ∙ shared)
         where
-          shared : hopPlace (base (remove (keyOf a len) rs′) a len (length (after .words)) (length (after .hops))) len (slot len a) ≡ hopPlace (base (remove (keyOf a len) rs) a len (length ws) (length hs)) len (slot len a)
+          shared : hopPlace (base (remove (keyOf a len) rs′) a len (length (after .words)) (length (after .hops))) len (slot len a)
+              ≡ hopPlace (base (remove (keyOf a len) rs) a len (length ws) (length hs)) len (slot len a)
           shared =
               ap₂ (λ (m n : ℕ). hopPlace (base (remove (keyOf a len) rs′) a len m n) len (slot len a)) (sizes .0) (sizes .1)
               ∙ ap (λ (x : List Route). hopPlace (base x a len (length ws) (length hs)) len (slot len a)) others

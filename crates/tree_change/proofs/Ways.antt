@@ -35,8 +35,8 @@ pub walk-start : (ws : List ℕ) (n a : ℕ) → Order ws n → a < 2 ^ 32 → W
 unfolding reached leads
 walk-start ws n a o l = record { inside = omega (arith, o .whole); at = refl; stands = eq-eqb (slot 0 a) 0 (slot-zero 0 a l refl) }
 
-module _ (ws : List ℕ) (n a x m c y : ℕ) (o : Order ws n) (w : Walked ws n a x m) (fits : bitsOf ws x < 2 ^ 32) (deep : m < 8) (turn : c ≡ slot (4 * (m + 1)) a % 16)
-    (set : isSet (bitsOf ws x) (16 + c) ≡ true) (place : y ≡ childAt (bitsOf ws x) (childOf ws x) c) where
+module _ (ws : List ℕ) (n a x m c y : ℕ) (o : Order ws n) (w : Walked ws n a x m) (fits : bitsOf ws x < 2 ^ 32) (deep : m < 8)
+    (turn : c ≡ slot (4 * (m + 1)) a % 16) (set : isSet (bitsOf ws x) (16 + c) ≡ true) (place : y ≡ childAt (bitsOf ws x) (childOf ws x) c) where
   abbrev p : ℕ
   p = slot (4 * suc m) a
 
@@ -74,7 +74,8 @@ module _ (ws : List ℕ) (n a x m c y : ℕ) (o : Order ws n) (w : Walked ws n a
 pub walk-end : (ws : List ℕ) (n a deep x m : ℕ) → Walked ws n a x m → deep ≤ m → m ≤ deep → Descent ws n a deep x m
 walk-end ws n a deep x m w l u = record { upto = u; inside = w .inside; at = w .at; stands = w .stands; stop = λ v. absurd (omega arith) }
 
-pub walk-stop : (ws : List ℕ) (n a deep x m c : ℕ) → Walked ws n a x m → m < deep → c ≡ slot (4 * (m + 1)) a % 16 → isSet (bitsOf ws x) (16 + c) ≡ false → Descent ws n a deep x m
+pub walk-stop : (ws : List ℕ) (n a deep x m c : ℕ) → Walked ws n a x m → m < deep → c ≡ slot (4 * (m + 1)) a % 16 → isSet (bitsOf ws x) (16 + c) ≡ false
+    → Descent ws n a deep x m
 walk-stop ws n a deep x m c w l e f = record {
   upto = omega arith;
   inside = w .inside;
@@ -99,4 +100,5 @@ module _ {st : ℕ → ℕ → Bool} {hop : ℕ → ℕ → ℕ} {ws hs : List �
       (ap (λ (z : ℕ). bitAt z (16 + c)) (h .right m p e) ∙ child-bit st hop (node m p) c l ∙ ap (λ (z : ℕ). bit (st z (p * 16 + c))) (add-one m))
 
   pub inner-held : (m p b : ℕ) → standsAt st m p ≡ true → b < 15 → isSet (bitsOf ws (reached ws m p)) b ≡ inner hop (node m p) b
-  inner-held m p b e l = set-is (bitsOf ws (reached ws m p)) b (inner hop (node m p) b) (ap (λ (z : ℕ). bitAt z b) (h .right m p e) ∙ inner-bit st hop (node m p) b l)
+  inner-held m p b e l =
+      set-is (bitsOf ws (reached ws m p)) b (inner hop (node m p) b) (ap (λ (z : ℕ). bitAt z b) (h .right m p e) ∙ inner-bit st hop (node m p) b l)

@@ -28,7 +28,8 @@ gone-stands k rs g = untrue (stands k (remove k rs)) (λ t. clash (stands-is k (
   where
     clash : (r : Route) × List·Memᴰ r (remove k rs) × (key r ≡ k) → ⊥
     clash w =
-        let a : routeAt k (remove k rs) ≡ stood (w .0) = subst (λ (z : ℕ). routeAt z (remove k rs) ≡ stood (w .0)) (w .2) (at-listed (remove k rs) (remove-good k rs g) (w .0) (w .1)) in
+        let a : routeAt k (remove k rs) ≡ stood (w .0) =
+        subst (λ (z : ℕ). routeAt z (remove k rs) ≡ stood (w .0)) (w .2) (at-listed (remove k rs) (remove-good k rs g) (w .0) (w .1)) in
         let b : routeAt k (remove k rs) ≡ absent = remove-stands k k rs ∙ ap (λ (t : Bool). cond t absent (routeAt k rs)) (eq-eqb k k refl) in
         let c : stood (w .0) ≡ absent = sym a ∙ b in
         let z : _≡_ {A = ℕ} 0 1 = cc in
@@ -38,7 +39,9 @@ gone-stands k rs g = untrue (stands k (remove k rs)) (λ t. clash (stands-is k (
 pub out-again : (r : Route) (rs : List Route) → Fine r → Good rs → remove (key r) (insert r rs) ≡ remove (key r) rs
 out-again r rs f g =
     same-standing (remove (key r) (insert r rs)) (remove (key r) rs) (remove-good (key r) (insert r rs) (insert-good r rs f g)) (remove-good (key r) rs g)
-    (λ k. remove-stands (key r) k (insert r rs) ∙ ap (cond (eqb (key r) k) absent) (insert-stands k r rs) ∙ go (eqb (key r) k) (routeAt k rs) ∙ sym (remove-stands (key r) k rs))
+    (λ k.
+    remove-stands (key r) k (insert r rs) ∙ ap (cond (eqb (key r) k) absent) (insert-stands k r rs) ∙ go (eqb (key r) k) (routeAt k rs)
+    ∙ sym (remove-stands (key r) k rs))
   where
     go : (t : Bool) (h : Held) → cond t absent (cond t (stood r) h) ≡ cond t absent h
     go true h = refl
@@ -74,11 +77,14 @@ without rs a len g p t = go (stands-is (keyOf a len) rs t)
           hops =
               ap hopFor (sym again) ∙ insert-hops (w .0) (remove (keyOf a len) rs) f g₀
               ∙ ap₂ (λ (u v : ℕ). withHop (hopFor (remove (keyOf a len) rs)) v (slot v u) (w .0 .hop)) (k .0) (k .1);
-          gone = zero-of (hopFor (remove (keyOf a len) rs) len (slot len a)) (sym (stands-hop a len (remove (keyOf a len) rs) p g₀) ∙ gone-stands (keyOf a len) rs g);
+          gone =
+              zero-of (hopFor (remove (keyOf a len) rs) len (slot len a))
+              (sym (stands-hop a len (remove (keyOf a len) rs) p g₀) ∙ gone-stands (keyOf a len) rs g);
         }
 
 -- arrays that hold the list hold the others with the path of the prefix, and its hop at its bit
-pub held-with : {rs : List Route} {a len b : ℕ} (w : Without rs a len) → len ≤ 32 → BitOf a len b → {ws hs : List ℕ} {n : ℕ} → Holding (nodeStands rs) (hopFor rs) ws hs n
+pub held-with : {rs : List Route} {a len b : ℕ} (w : Without rs a len) → len ≤ 32 → BitOf a len b → {ws hs : List ℕ} {n : ℕ}
+    → Holding (nodeStands rs) (hopFor rs) ws hs n
     → Holding (downTo (nodeStands (remove (keyOf a len) rs)) a (len / 4))
     (withHop (hopFor (remove (keyOf a len) rs)) (lenAt (len / 4) b) (bitsAt (slot (4 * (len / 4)) a) b) (w .hop)) ws hs n
 held-with {rs} {a} {len} {b} w l o {ws} {hs} {n} h =

@@ -46,13 +46,15 @@ pub data Announcing (ws hs : List ℕ) (a len h : ℕ) : Out → Type 0 where
   put-in : Asked ws hs a len h → length (routesWith ws hs a len h) ≤ 4096 → nodeNeed (routesWith ws hs a len h) ≤ length ws / 3
       → length (routesWith ws hs a len h) ≤ length hs
       → Announcing ws hs a len h
-      (imageIn (routesWith ws hs a len h) ws hs (bit (stands (keyOf a len) (routesHeld ws hs)) ∷ nodeNeed (routesWith ws hs a len h) ∷ length (routesWith ws hs a len h) ∷ []))
+      (imageIn (routesWith ws hs a len h) ws hs
+      (bit (stands (keyOf a len) (routesHeld ws hs)) ∷ nodeNeed (routesWith ws hs a len h) ∷ length (routesWith ws hs a len h) ∷ []))
 
 -- (11 and 12 cannot be met: the routes left need no more)
 pub data Withdrawing (ws hs : List ℕ) (a len : ℕ) : Out → Type 0 where
   no-prefix : properPrefix a len ≡ false → Withdrawing ws hs a len (out (refused 3) ws hs)
   no-image : properPrefix a len ≡ true → wellFormed ws hs ≡ false → Withdrawing ws hs a len (out (refused 13) ws hs)
-  no-route : properPrefix a len ≡ true → wellFormed ws hs ≡ true → stands (keyOf a len) (routesHeld ws hs) ≡ false → Withdrawing ws hs a len (out (refused 9) ws hs)
+  no-route : properPrefix a len ≡ true → wellFormed ws hs ≡ true → stands (keyOf a len) (routesHeld ws hs) ≡ false
+      → Withdrawing ws hs a len (out (refused 9) ws hs)
   taken-out : properPrefix a len ≡ true → wellFormed ws hs ≡ true → stands (keyOf a len) (routesHeld ws hs) ≡ true
       → Withdrawing ws hs a len (imageIn (routesWithout ws hs a len) ws hs (nodeNeed (routesWithout ws hs a len) ∷ length (routesWithout ws hs a len) ∷ []))
 

@@ -53,19 +53,26 @@ putTo rs r ws hs = cond (ltb 4096 (length (insert r rs))) (out (refused 6) ws hs
 unfoldable pub takenFrom : List Route → ℕ → List ℕ → List ℕ → Out
 takenFrom rs k ws hs = cond (stands k rs) (madeOf (remove k rs) ws hs) (out (refused 9) ws hs)
 
+-- the same of the routes that an image holds
+abbrev pub imagePut : List ℕ → List ℕ → ℕ → ℕ → ℕ → Out
+imagePut ws hs a len h = putTo (routesHeld ws hs) (route a len h) ws hs
+
+abbrev pub imageTaken : List ℕ → List ℕ → ℕ → ℕ → Out
+imageTaken ws hs a len = takenFrom (routesHeld ws hs) (keyOf a len) ws hs
+
 -- in order: the prefix (3, in its strict form), the hop (4), the image (13), and then the routes read out of it
 unfoldable pub imageAnnounced : List ℕ → List ℕ → ℕ → ℕ → ℕ → Out
 imageAnnounced ws hs a len h =
     cond (not (properPrefix a len)) (out (refused 3) ws hs)
     (cond (not (hopFine h)) (out (refused 4) ws hs)
     (cond (not (wellFormed ws hs)) (out (refused 13) ws hs)
-    (putTo (routesHeld ws hs) (route a len h) ws hs)))
+    (imagePut ws hs a len h)))
 
 unfoldable pub imageWithdrawn : List ℕ → List ℕ → ℕ → ℕ → Out
 imageWithdrawn ws hs a len =
     cond (not (properPrefix a len)) (out (refused 3) ws hs)
     (cond (not (wellFormed ws hs)) (out (refused 13) ws hs)
-    (takenFrom (routesHeld ws hs) (keyOf a len) ws hs))
+    (imageTaken ws hs a len))
 
 -- the place of the hop of the prefix of length l whose bits are q: the hop base of its node and the internal ones below its bit
 abbrev pub hopPlace : List ℕ → ℕ → ℕ → ℕ

@@ -7,7 +7,7 @@ use lib.ListN.{length}
 use Rattle.bits.specs.Slot.{slot}
 use Rattle.routes.specs.Route.{keyOf, Prefix, Fine, Good}
 use Rattle.routes.specs.declared.Route.{Route}
-use Rattle.standing.specs.Standing.{stands}
+use Rattle.standing.specs.Standing.{stands, insert, remove}
 use Rattle.tree.specs.Image.{nodeStands, hopFor, nodeNeed, imageOf}
 use Rattle.tree.specs.Node.{bitsOf, isSet}
 use Rattle.tree_same.specs.Read.{reached, leads}
@@ -77,3 +77,10 @@ pub record Become (rs : List Route) (ws hs ws′ hs′ : List ℕ) (n : ℕ) : T
   pub words : ws′ ≡ imageOf rs (length ws) (length hs) .words
   pub hops : hs′ ≡ imageOf rs (length ws) (length hs) .hops
   pub nodes : n ≡ nodeNeed rs
+
+-- the image with a prefix put in or its hop replaced, and without a prefix
+abbrev pub BecomeWith : List ℕ → List ℕ → ℕ → ℕ → ℕ → List ℕ → List ℕ → ℕ → Type 0
+BecomeWith ws hs a len h ws′ hs′ n = Become (insert (route a len h) (routesHeld ws hs)) ws hs ws′ hs′ n
+
+abbrev pub BecomeWithout : List ℕ → List ℕ → ℕ → ℕ → List ℕ → List ℕ → ℕ → Type 0
+BecomeWithout ws hs a len ws′ hs′ n = Become (remove (keyOf a len) (routesHeld ws hs)) ws hs ws′ hs′ n

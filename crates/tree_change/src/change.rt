@@ -2,18 +2,13 @@
 use crate::path;
 use crate::path::Reached;
 ghost use mathlib.Core.Path.{_≡_};
-ghost use mathlib.Core.Bool.{_&&_, not};
-ghost use Prim.Native.Nat.{_+_, _-_, _*_, _/_, _≤_, _<_};
+ghost use mathlib.Core.Bool.{_&&_};
+ghost use Prim.Native.Nat.{_+_, _*_, _≤_, _<_};
 ghost use lib.Dec.{eqb, ltb};
 ghost use Rattle.bits.specs.Slot.{slot};
-ghost use Rattle.routes.specs.Route.{keyOf};
-ghost use Rattle.standing.specs.Standing.{insert, remove};
 ghost use Rattle.tree.specs.Node.{bitsOf};
-ghost use Rattle.tree_same.specs.Order.{Order};
 ghost use Rattle.tree_same.specs.Read.{reached};
-ghost use Rattle.tree_same.specs.Listed.{routesHeld};
-ghost use Rattle.tree_change.specs.Changed.{route};
-ghost use Rattle.tree_change.specs.Stages.{Addable, Standing, Become, OnPath};
+ghost use Rattle.tree_change.specs.Stages.{Addable, Standing, OnPath, BecomeWith, BecomeWithout};
 
 // The nodes that the path of a prefix lacks, from the node at hand down, and then its hop. Answers how many nodes are then in use.
 pub fn add(
@@ -28,7 +23,7 @@ pub fn add(
     b: u32,
 ) -> usize
     requires { ⌜ Addable (now words) (now hops) n k (from .at) (from .depth) addr len hop b ⌝ }
-    ensures { λ r. ⌜ Become (insert (route addr len hop) (routesHeld (now (words .entry)) (now (hops .entry)))) (now (words .entry)) (now (hops .entry)) (now (words .exit)) (now (hops .exit)) r ⌝ }
+    ensures { λ r. ⌜ BecomeWith (now (words .entry)) (now (hops .entry)) addr len hop (now (words .exit)) (now (hops .exit)) r ⌝ }
 {
     let deep = len / 4;
     let mut m = from.depth;
@@ -56,7 +51,7 @@ pub fn replace(
     b: u32,
 )
     requires { ⌜ Standing (now words) (now hops) n k at addr len b × (0 < hop) × (hop ≤ 32767) ⌝ }
-    ensures { λ _. ⌜ Become (insert (route addr len hop) (routesHeld (now (words .entry)) (now (hops .entry)))) (now (words .entry)) (now (hops .entry)) (now (words .entry)) (now (hops .exit)) n ⌝ }
+    ensures { λ _. ⌜ BecomeWith (now (words .entry)) (now (hops .entry)) addr len hop (now (words .entry)) (now (hops .exit)) n ⌝ }
 {
     let y = tree_edit::hop_place(words, at, b);
     hops[y] = hop;
@@ -88,7 +83,7 @@ pub fn remove(
     b: u32,
 ) -> usize
     requires { ⌜ Standing (now words) (now hops) n (k + 1) at addr len b ⌝ }
-    ensures { λ r. ⌜ Become (remove (keyOf addr len) (routesHeld (now (words .entry)) (now (hops .entry)))) (now (words .entry)) (now (hops .entry)) (now (words .exit)) (now (hops .exit)) r ⌝ }
+    ensures { λ r. ⌜ BecomeWithout (now (words .entry)) (now (hops .entry)) addr len (now (words .exit)) (now (hops .exit)) r ⌝ }
 {
     tree_edit::take_hop(words, hops, n, k, at, b);
     let mut m = len / 4;

@@ -10,10 +10,9 @@ use tree_check::check;
 use tree_check::hops_in;
 ghost use mathlib.Core.Path.{_≡_};
 ghost use Prim.Native.Nat.{_^_, _<_};
-ghost use Rattle.routes.specs.Route.{Fine, Prefix, keyOf};
+ghost use Rattle.routes.specs.Route.{Fine, Prefix};
 ghost use Rattle.tree_build.specs.Built.{out};
-ghost use Rattle.tree_same.specs.Listed.{routesHeld};
-ghost use Rattle.tree_change.specs.Changed.{saysAnnounced, saysWithdrawn, route, putTo, takenFrom};
+ghost use Rattle.tree_change.specs.Changed.{saysAnnounced, saysWithdrawn, route, imagePut, imageTaken};
 ghost use Rattle.tree_change.specs.Contract.{MeetsTreeAnnounce, MeetsTreeWithdraw};
 ghost use Rattle.tree_change.specs.Stages.{Formed, New};
 
@@ -49,7 +48,7 @@ fn put_new(
     b: u32,
 ) -> Announced
     requires { ⌜ New (now words) (now hops) n k (from .at) (from .depth) addr len hop b ⌝ }
-    ensures { λ r. ⌜ out (saysAnnounced r) (now (words .exit)) (now (hops .exit)) ≡ putTo (routesHeld (now (words .entry)) (now (hops .entry))) (route addr len hop) (now (words .entry)) (now (hops .entry)) ⌝ }
+    ensures { λ r. ⌜ out (saysAnnounced r) (now (words .exit)) (now (hops .exit)) ≡ imagePut (now (words .entry)) (now (hops .entry)) addr len hop ⌝ }
 {
     let more = wide(len / 4 - from.depth);
     if k >= 4096 {
@@ -68,7 +67,7 @@ fn put_new(
 // A fine route and a well-formed image.
 fn put(words: &mut [u32], hops: &mut [u16], n: usize, addr: u32, len: u32, hop: u16) -> Announced
     requires { ⌜ Formed (now words) (now hops) n × Fine (route addr len hop) ⌝ }
-    ensures { λ r. ⌜ out (saysAnnounced r) (now (words .exit)) (now (hops .exit)) ≡ putTo (routesHeld (now (words .entry)) (now (hops .entry))) (route addr len hop) (now (words .entry)) (now (hops .entry)) ⌝ }
+    ensures { λ r. ⌜ out (saysAnnounced r) (now (words .exit)) (now (hops .exit)) ≡ imagePut (now (words .entry)) (now (hops .entry)) addr len hop ⌝ }
 {
     let k = hops_in(words, n);
     let b = path::own_bit(addr, len);
@@ -83,7 +82,7 @@ fn put(words: &mut [u32], hops: &mut [u16], n: usize, addr: u32, len: u32, hop: 
 // A proper prefix and a well-formed image: 9 where the prefix does not stand.
 fn take(words: &mut [u32], hops: &mut [u16], n: usize, addr: u32, len: u32) -> Withdrawn
     requires { ⌜ Formed (now words) (now hops) n × Prefix addr len ⌝ }
-    ensures { λ r. ⌜ out (saysWithdrawn r) (now (words .exit)) (now (hops .exit)) ≡ takenFrom (routesHeld (now (words .entry)) (now (hops .entry))) (keyOf addr len) (now (words .entry)) (now (hops .entry)) ⌝ }
+    ensures { λ r. ⌜ out (saysWithdrawn r) (now (words .exit)) (now (hops .exit)) ≡ imageTaken (now (words .entry)) (now (hops .entry)) addr len ⌝ }
 {
     let k = hops_in(words, n);
     let b = path::own_bit(addr, len);

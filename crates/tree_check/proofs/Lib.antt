@@ -3,7 +3,9 @@ pub mod Meaning
 pub mod Builds
 pub mod Held
 pub mod Exact
+pub mod Serves
 pub mod Steps
 pub mod Answers
 pub mod OneAnswer
 pub mod AsBuilt
+pub mod Visits

@@ -3,3 +3,4 @@ pub mod WellFormed
 pub mod Answers
 pub mod Contract
 pub mod Buildable
+pub mod Visits

@@ -8,7 +8,7 @@ sub-wide : tie.Need-sub-wide
 sub-wide c = c .before .before .before .pre .way .upto
 
 wide-requires : tie.Need-wide-requires
-wide-requires c κs = search needs
+wide-requires c κs = tt
 
 returns : tie.Need-returns
 returns c = told-six (c .before .before .before .before .before .pre) (c .if1 .taken)
@@ -17,34 +17,54 @@ add-if2 : tie.Need-add-if2
 add-if2 c = search needs
 
 returns-2 : tie.Need-returns-2
-returns-2 c = told-eleven (c .before .before .before .before .before .before .pre) (c .before .if1 .left) _ (c .before .before .wide .ensures .0) (c .if2 .taken)
+returns-2 c =
+    let at-wide = c .before .before in
+    told-eleven (at-wide .before .before .before .before .pre) (c .before .if1 .left) _ (at-wide .wide .ensures .0) (c .if2 .taken)
 
 returns-3 : tie.Need-returns-3
-returns-3 c = told-twelve (c .before .before .before .before .before .before .before .pre) (c .before .before .if1 .left) _ (c .before .before .before .wide .ensures .0) (c .before .if2 .left) (c .if3 .taken)
+returns-3 c =
+    let at-wide = c .before .before .before in
+    told-twelve (at-wide .before .before .before .before .pre) (c .before .before .if1 .left) _ (at-wide .wide .ensures .0) (c .before .if2 .left)
+    (c .if3 .taken)
 
 add-requires : tie.Need-add-requires
-add-requires c κs = add-ready (c .before .before .before .before .before .before .before .before .before .pre) (c .before .before .before .before .if1 .left) _ (c .before .before .before .before .before .wide .ensures .0) (c .before .before .before .if2 .left) (c .before .before .if3 .left)
+add-requires c κs =
+    let at-if = c .before .before in
+    let at-wide = at-if .before .before .before in
+    add-ready (at-wide .before .before .before .before .pre) (at-if .before .before .if1 .left) _ (at-wide .wide .ensures .0)
+    (at-if .before .if2 .left) (at-if .if3 .left)
 
 narrow-requires : tie.Need-narrow-requires
-narrow-requires c κs = add-few (c .before .before .before .before .before .before .before .before .before .before .before .before .before .before .pre) (c .before .before .before .before .before .before .before .before .before .if1 .left) _ (c .before .before .before .before .before .before .before .before .before .before .wide .ensures .0) (c .before .before .before .before .before .before .before .before .if2 .left) (c .before .before .before .before .add .ensures) .0
+narrow-requires c κs =
+    let at-if = c .before .before .before .before .before .before .before in
+    let at-wide = at-if .before .before .before in
+    add-few (at-wide .before .before .before .before .pre) (at-if .before .before .if1 .left) _ (at-wide .wide .ensures .0) (at-if .before .if2 .left)
+    (c .before .before .before .before .add .ensures) .0
 
 add-narrow : tie.Need-add-narrow
 add-narrow c = search needs
 
 narrow-requires-2 : tie.Need-narrow-requires-2
-narrow-requires-2 c κs = add-few (c .before .before .before .before .before .before .before .before .before .before .before .before .before .before .before .pre) (c .before .before .before .before .before .before .before .before .before .before .if1 .left) _ (c .before .before .before .before .before .before .before .before .before .before .before .wide .ensures .0) (c .before .before .before .before .before .before .before .before .before .if2 .left) (c .before .before .before .before .before .add .ensures) .1
+narrow-requires-2 c κs =
+    let at-if = c .before .before .before .before .before .before .before .before in
+    let at-wide = at-if .before .before .before in
+    add-few (at-wide .before .before .before .before .pre) (at-if .before .before .if1 .left) _ (at-wide .wide .ensures .0) (at-if .before .if2 .left)
+    (c .before .before .before .before .before .add .ensures) .1
 
 same-length : tie.Need-same-length
-same-length c = search needs
+same-length c = c .before .before .before .before .before .before .add .kept .0
 
 same-length-2 : tie.Need-same-length-2
-same-length-2 c = search needs
+same-length-2 c = c .before .before .before .before .before .before .add .kept .1 .0
 
 returns-4 : tie.Need-returns-4
 returns-4 c =
     let at-add = c .before .before .before .before .before .before in
-    told-added (at-add .before .before .before .before .before .before .before .before .before .before .pre) (at-add .before .before .before .before .before .if1 .left) _ (at-add .before .before .before .before .before .before .wide .ensures .0) (at-add .before .before .before .before .if2 .left) (at-add .before .before .before .if3 .left) (at-add .add .ensures) _ _
-    (c .before .narrow .ensures) (c .narrow2 .ensures)
+    let at-if = at-add .before .before .before in
+    let at-wide = at-if .before .before .before in
+    told-added (at-wide .before .before .before .before .pre) (at-if .before .before .if1 .left) _ (at-wide .wide .ensures .0)
+    (at-if .before .if2 .left) (at-if .if3 .left)
+    (at-add .add .ensures) _ _ (c .before .narrow .ensures) (c .narrow2 .ensures)
 
 pub put-new-spec : {M : Type 1} → statement M
 put-new-spec =

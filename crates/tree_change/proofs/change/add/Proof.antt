@@ -1,4 +1,5 @@
--- The invariant: the arrays hold the routes, and the path of the prefix down to depth m, whose last node is the one at hand. The depth that is left falls.
+-- The invariant: the arrays hold the routes, and the path of the prefix down to depth m, whose last node is the one at hand. The depth that is
+-- left falls.
 use Prim.Native.Nat.{_-_}
 use native.Mathlib.Omega.{arith}
 use Rattle.tree_change.proofs.Adds.{Grown, grow-start, grow-ready, grow-next, grow-put, grow-done}
@@ -18,7 +19,9 @@ turn-requires : tie.Need-turn-requires Inv-loop μ-loop
 turn-requires c κs = omega (arith, c .before .before .before .before .before .pre .new .fine .prefix .len-ok)
 
 graft-requires : tie.Need-graft-requires Inv-loop μ-loop
-graft-requires c κs = grow-ready (c .before .before .before .before .before .before .pre) (c .before .before .before .loop .inv) (c .before .before .loop-test .taken) _ (c .turn .ensures .0)
+graft-requires c κs =
+    let at-loop = c .before .before .before in
+    grow-ready (at-loop .before .before .before .pre) (at-loop .loop .inv) (c .before .before .loop-test .taken) _ (c .turn .ensures .0)
 
 add-m : tie.Need-add-m Inv-loop μ-loop
 add-m c = omega arith
@@ -32,10 +35,14 @@ loop-less c = omega arith
 loop-again : tie.Need-loop-again Inv-loop μ-loop
 loop-again c =
     let at-turn = c .before .before .before in
-    grow-next (at-turn .before .before .before .before .before .before .pre) (at-turn .before .before .before .loop .inv) (at-turn .before .before .loop-test .taken) _ (at-turn .turn .ensures .0) (c .before .before .graft .ensures)
+    let at-loop = at-turn .before .before .before in
+    grow-next (at-loop .before .before .before .pre) (at-loop .loop .inv) (at-turn .before .before .loop-test .taken) _ (at-turn .turn .ensures .0)
+    (c .before .before .graft .ensures)
 
 put-hop-requires : tie.Need-put-hop-requires Inv-loop μ-loop
-put-hop-requires c κs = grow-put (c .before .before .before .before .before .before .pre) (c .before .before .before .loop .inv) (c .before .before .loop-test .left)
+put-hop-requires c κs =
+    let at-loop = c .before .before .before in
+    grow-put (at-loop .before .before .before .pre) (at-loop .loop .inv) (c .before .before .loop-test .left)
 
 same-length : tie.Need-same-length Inv-loop μ-loop
 same-length c = omega arith
@@ -45,8 +52,9 @@ same-length-2 c = omega arith
 
 returns : tie.Need-returns Inv-loop μ-loop
 returns c =
-    let at-loop = c .before .before .before .before .before .before .before .before in
-    grow-done (at-loop .before .before .before .pre) (at-loop .loop .inv) (c .before .before .before .before .before .before .before .loop-test .left) (c .before .before .before .before .put-hop .ensures)
+    let at-put = c .before .before .before .before in
+    let at-loop = at-put .before .before .before .before in
+    grow-done (at-loop .before .before .before .pre) (at-loop .loop .inv) (at-put .before .before .before .loop-test .left) (at-put .put-hop .ensures)
 
 pub add-spec : {M : Type 1} → statement M
 add-spec =

@@ -28,8 +28,20 @@ loop-holds c = ((λ rs g. g), refl)
 
 -- what is held at the loop's head: the routes without the prefix
 held : (c : tie.At-loop Inv-loop μ-loop)
-    → Midway (remove (keyOf (c .before .before .before .before .before .before .before .before .before .before .args .addr) (c .before .before .before .before .before .before .before .before .before .before .args .len)) (routesHeld (c .before .before .before .before .before .before .before .before .before .before .args .words .now) (c .before .before .before .before .before .before .before .before .before .before .args .hops .now))) (c .before .before .before .before .before .before .before .before .before .before .args .addr) (c .loop .m) (c .loop .words) (c .before .before .before .before .before .take-hop .last .1 .0) (c .loop .nodes) (c .before .before .before .before .before .before .before .before .before .before .args .k)
-held c = c .loop .inv .0 _ (shrink-start _ (c .before .before .before .before .before .before .before .before .before .before .pre) (c .before .before .before .before .before .take-hop .ensures))
+    → Midway
+    (remove (keyOf (c .before .before .before .before .before .before .before .before .before .before .args .addr)
+    (c .before .before .before .before .before .before .before .before .before .before .args .len))
+    (routesHeld (c .before .before .before .before .before .before .before .before .before .before .args .words .now)
+    (c .before .before .before .before .before .before .before .before .before .before .args .hops .now)))
+    (c .before .before .before .before .before .before .before .before .before .before .args .addr)
+    (c .loop .m)
+    (c .loop .words)
+    (c .before .before .before .before .before .take-hop .last .1 .0)
+    (c .loop .nodes)
+    (c .before .before .before .before .before .before .before .before .before .before .args .k)
+held c =
+    let at-take = c .before .before .before .before .before in
+    c .loop .inv .0 _ (shrink-start _ (at-take .before .before .before .before .before .pre) (at-take .take-hop .ensures))
 
 bare-requires : tie.Need-bare-requires Inv-loop μ-loop
 bare-requires c κs = shrink-path (held (c .before))
@@ -47,18 +59,30 @@ descend-requires : tie.Need-descend-requires Inv-loop μ-loop
 descend-requires c κs = shrink-up (held (c .before .before .before .before)) _ (c .before .before .bare .ensures) (c .before .if1 .taken)
 
 turn-requires : tie.Need-turn-requires Inv-loop μ-loop
-turn-requires c κs = omega (arith, held (c .before .before .before .before .before .before) .deep, shrink-some (held (c .before .before .before .before .before .before)) _ (c .before .before .before .before .bare .ensures) (c .before .before .before .if1 .taken) .0)
+turn-requires c κs =
+    let at-if = c .before .before .before in
+    let at-loop = at-if .before .before .before in
+    omega (arith, held at-loop .deep, shrink-some (held at-loop) _ (at-if .before .bare .ensures) (at-if .if1 .taken) .0)
 
 prune-requires : tie.Need-prune-requires Inv-loop μ-loop
-prune-requires c κs = shrink-ready (held (c .before .before .before .before .before .before .before)) _ (c .before .before .before .before .before .bare .ensures) (c .before .before .before .before .if1 .taken) (c .before .before .descend .ensures) _ (c .turn .ensures .0)
+prune-requires c κs =
+    let at-if = c .before .before .before .before in
+    shrink-ready (held (at-if .before .before .before)) _ (at-if .before .bare .ensures) (at-if .if1 .taken) (c .before .before .descend .ensures) _
+    (c .turn .ensures .0)
 
 loop-less : tie.Need-loop-less Inv-loop μ-loop
-loop-less c = omega (arith, shrink-some (held (c .before .before .before .before .before .before .before .before .before .before)) _ (c .before .before .before .before .before .before .before .before .bare .ensures) (c .before .before .before .before .before .before .before .if1 .taken) .0)
+loop-less c =
+    let at-if = c .before .before .before .before .before .before .before in
+    omega (arith, shrink-some (held (at-if .before .before .before)) _ (at-if .before .bare .ensures) (at-if .if1 .taken) .0)
 
 loop-again : tie.Need-loop-again Inv-loop μ-loop
 loop-again c =
-    let at-loop = c .before .before .before .before .before .before .before .before .before .before in (
-      (λ rs g. shrink-next (at-loop .loop .inv .0 rs g) _ (c .before .before .before .before .before .before .before .before .bare .ensures) (c .before .before .before .before .before .before .before .if1 .taken) (c .before .before .before .before .before .descend .ensures) _ (c .before .before .before .turn .ensures .0) (c .before .before .prune .ensures)),
+    let at-prune = c .before .before in
+    let at-if = at-prune .before .before .before .before .before in (
+      (λ rs g.
+          shrink-next (at-if .before .before .before .loop .inv .0 rs g) _ (at-if .before .bare .ensures) (at-if .if1 .taken)
+          (at-prune .before .before .before .descend .ensures) _
+          (at-prune .before .turn .ensures .0) (at-prune .prune .ensures)),
       omega arith,
     )
 

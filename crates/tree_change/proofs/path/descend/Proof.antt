@@ -54,7 +54,8 @@ loop-again : tie.Need-loop-again Inv-loop μ-loop
 loop-again c =
     let at-turn = c .before .before .before .before in
     let at-start = at-turn .before .before .before .before in (
-      walk-next _ _ _ _ _ _ _ (at-start .pre .0) (at-turn .before .before .loop .inv .0) (at-turn .before .before .before .shared-slice-known .given _ .fits) (omega arith) (at-turn .turn .ensures .0)
+      walk-next _ _ _ _ _ _ _ (at-start .pre .0) (at-turn .before .before .loop .inv .0)
+          (at-turn .before .before .before .shared-slice-known .given _ .fits) (omega arith) (at-turn .turn .ensures .0)
           (kept _ _ (c .before .before .is-set .ensures) (c .before .if1 .left)) (c .child-place .ensures .0),
       omega arith,
     )
