@@ -7,3 +7,4 @@ pub mod Hops
 pub mod Outs
 pub mod Named
 pub mod Casts
+pub mod ImageCalls

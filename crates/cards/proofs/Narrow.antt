@@ -26,7 +26,7 @@ use Rattle.sail_theory.proofs.Cleared.{announce-off, withdraw-off}
 use Rattle.cards.specs.Narrow.{AlikeOver}
 
 -- where it is the same over a limit, a number may be narrowed to a type that has room for one over the limit
-narrowed : {A : Type 0} (f : ℕ → A) (limit top : ℕ) → limit < top → AlikeOver limit f → (x n : ℕ) → n ≡ min x top → f n ≡ f x
+pub narrowed : {A : Type 0} (f : ℕ → A) (limit top : ℕ) → limit < top → AlikeOver limit f → (x n : ℕ) → n ≡ min x top → f n ≡ f x
 narrowed f limit top h alike x n e = go (below? top x)
   where
     go : (top < x) ⊎ (x ≤ top) → f n ≡ f x
@@ -48,7 +48,7 @@ hop? hop = go (below? 0 hop) (below? 32767 hop)
     go (inl a) (inl b) = inr (λ x y. omega arith)
     go (inr a) b = inr (λ x y. omega arith)
 
-long-prefix : (a len : ℕ) → 32 < len → properPrefix a len ≡ false
+pub long-prefix : (a len : ℕ) → 32 < len → properPrefix a len ≡ false
 unfolding properPrefix
 long-prefix a len h = rw (lt-leb len 32 h)
 

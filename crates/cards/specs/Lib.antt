@@ -2,3 +2,4 @@
 pub mod Cards
 pub mod Maps
 pub mod Narrow
+pub mod Images

@@ -1,10 +1,11 @@
--- Every limit of document 01 holds, on both sides (`Edges`).
+-- Every limit of documents 01 and 02 holds, on both sides (`Edges`).
 use Rattle.examples.specs.Edges.{Edges}
 use Rattle.examples.proofs.EdgesSizes.{sizes-hold}
 use Rattle.examples.proofs.EdgesInputs.{inputs-hold}
 use Rattle.examples.proofs.EdgesLookups.{lookups-hold}
 use Rattle.examples.proofs.EdgesChanges.{blank-hold, runs-hold}
 use Rattle.examples.proofs.EdgesImages.{images-hold}
+use Rattle.examples.proofs.EdgesTreeChanges.{tree-changes-hold}
 
 pub edges-hold : Edges
-edges-hold = record { sizes-of = sizes-hold; inputs-of = inputs-hold; lookups-of = lookups-hold; blank-of = blank-hold; runs-of = runs-hold; images-of = images-hold }
+edges-hold = record { sizes-of = sizes-hold; inputs-of = inputs-hold; lookups-of = lookups-hold; blank-of = blank-hold; runs-of = runs-hold; images-of = images-hold; tree-changes-of = tree-changes-hold }

@@ -8,3 +8,4 @@ pub mod EdgesLookups
 pub mod EdgesChanges
 pub mod EdgesImages
 pub mod Edges
+pub mod EdgesTreeChanges

@@ -15,6 +15,7 @@ ghost use Rattle.sail.specs.Word.{packFound};
 ghost use Rattle.packing.specs.Pack.{packReport, packChange, packBuilt, packRun, packNone, packRoute};
 
 pub mod broadcasts;
+pub mod images;
 pub mod maps;
 
 use routes::input::Got;

@@ -45,11 +45,11 @@ bit-off : (b : Bool) → bit b ≡ 0 → b ≡ false
 bit-off false e = refl
 bit-off true e = absurd (omega arith)
 
--- what the standing nodes and the hops have to do with each other
+-- what the standing nodes and the hops have to do with each other: below the root, the nodes on the path of a hop stand
 pub record Agree (st : ℕ → ℕ → Bool) (hop : ℕ → ℕ → ℕ) : Type 0 where
   pub nine : (p : ℕ) → st 9 p ≡ false
   pub small : (l q : ℕ) → hop l q ≤ 32767
-  pub told : (m l q : ℕ) → 4 * m ≤ l → l ≤ 32 → 0 < hop l q → st m (q / 2 ^ (l - 4 * m)) ≡ true
+  pub told : (m l q : ℕ) → 0 < m → 4 * m ≤ l → l ≤ 32 → 0 < hop l q → st m (q / 2 ^ (l - 4 * m)) ≡ true
 
 -- the internal bit of the inner length j and the bits u
 pub bit-hop : (hop : ℕ → ℕ → ℕ) (n : Node) (j u : ℕ) → j < 4 → u < 2 ^ j → (2 ^ j - 1 + u < 15) × (bitHop hop n (2 ^ j - 1 + u) ≡ hop (4 * n .depth + j) (n .path * 2 ^ j + u))
@@ -156,7 +156,7 @@ module _ (st : ℕ → ℕ → Bool) (hop : ℕ → ℕ → ℕ) (ok : Agree st 
       }
 
   none-below : (m p : ℕ) → st (m + 1) p ≡ false → NoneBelow hop m p
-  none-below m p z l q lo hi e = go (hop l q) (ok .told (m + 1) l q lo hi)
+  none-below m p z l q lo hi e = go (hop l q) (ok .told (m + 1) l q (omega arith) lo hi)
     where
       go : (x : ℕ) → (0 < x → st (m + 1) (q / 2 ^ (l - 4 * (m + 1))) ≡ true) → x ≡ 0
       go zero f = refl

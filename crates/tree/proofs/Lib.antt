@@ -7,6 +7,7 @@ pub mod Parts
 pub mod Nodes
 pub mod Longest
 pub mod Holds
+pub mod Filled
 pub mod Lies
 pub mod Levels
 pub mod Needs

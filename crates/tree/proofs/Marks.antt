@@ -9,13 +9,13 @@ use Rattle.routes.specs.Route.{plain}
 use Rattle.routes.specs.declared.Route.{Route}
 use Rattle.standing.specs.Cells.{here, orElse}
 use Rattle.standing.proofs.Marks.{any-plain, first-plain}
-use Rattle.tree.specs.Image.{Image, Node, nodes, imageBy, through, nodeStands, hopFor, imageOf, nodeNeed}
+use Rattle.tree.specs.Image.{Node, nodes, imageBy, through, nodeStands, hopFor, imageOf, nodeNeed}
 
 module _ (rs : List Route) where
-  stands-plain : nodeStands (map plain rs) ≡ nodeStands rs
+  pub stands-plain : nodeStands (map plain rs) ≡ nodeStands rs
   stands-plain = λ i m p. any-plain (through m p) (λ r. refl) rs i
 
-  hops-plain : hopFor (map plain rs) ≡ hopFor rs
+  pub hops-plain : hopFor (map plain rs) ≡ hopFor rs
   hops-plain = λ i l q. orElse (first-plain (here l q) (λ r. refl) rs i) 0
 
   pub image-unmarked : (w h : ℕ) → imageOf (map plain rs) w h ≡ imageOf rs w h

@@ -12,7 +12,7 @@ use lib.Dec.{ltb}
 use lib.ListN.{length}
 use Rattle.bits.proofs.Tests.{decided}
 use Rattle.routes.specs.Said.{refused}
-use Rattle.tree.specs.Node.{bitsOf, baseOf, isSet, sound, tryBit, bitFor, Deepest, match, none, deepestOf, betterOf}
+use Rattle.tree.specs.Node.{bitsOf, baseOf, isSet, sound, tryBit, matchBit, Deepest, match, none, deepestOf, betterOf}
 use Rattle.tree.specs.Walk.{fetchedFrom, lastMatch, walkFrom}
 use Rattle.tree.specs.declared.Place.{Place}
 use Rattle.tree.specs.declared.Place.the-variants.{At}
@@ -31,9 +31,9 @@ unfolding deepestOf tryBit
 deepest-longest w v l = go (decided (set 3)) (decided (set 2)) (decided (set 1)) (decided (set 0))
   where
     set : ℕ → Bool
-    set j = isSet w (bitFor j v)
+    set j = isSet w (matchBit j v)
 
-    own : bitFor 0 v ≡ 0
+    own : matchBit 0 v ≡ 0
     own = omega arith
 
     at-own : {t : Bool} → set 0 ≡ t → isSet w 0 ≡ t
@@ -43,7 +43,7 @@ deepest-longest w v l = go (decided (set 3)) (decided (set 2)) (decided (set 1))
     above j one two three k lo hi = by-length (λ k. j < k → set k ≡ false) (λ z. absurd (omega arith)) one two three k hi lo
 
     go : (set 3 ≡ true) ⊎ (set 3 ≡ false) → (set 2 ≡ true) ⊎ (set 2 ≡ false) → (set 1 ≡ true) ⊎ (set 1 ≡ false) → (set 0 ≡ true) ⊎ (set 0 ≡ false)
-        → Deepest w v (cond (set 3) (bitFor 3 v) (cond (set 2) (bitFor 2 v) (cond (set 1) (bitFor 1 v) (cond (isSet w 0) 0 15))))
+        → Deepest w v (cond (set 3) (matchBit 3 v) (cond (set 2) (matchBit 2 v) (cond (set 1) (matchBit 1 v) (cond (isSet w 0) 0 15))))
     go (inl a) b c d = rw a (match 3 (omega arith) a (above 3 (λ z. absurd (omega arith)) (λ z. absurd (omega arith)) (λ z. absurd (omega arith))))
     go (inr a) (inl b) c d = rw (a, b) (match 2 (omega arith) b (above 2 (λ z. absurd (omega arith)) (λ z. absurd (omega arith)) (λ z. a)))
     go (inr a) (inr b) (inl c) d = rw (a, b, c) (match 1 (omega arith) c (above 1 (λ z. absurd (omega arith)) (λ z. b) (λ z. a)))

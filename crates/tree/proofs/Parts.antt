@@ -11,7 +11,7 @@ use native.Mathlib.Numerals.{add-one}
 use native.Mathlib.Omega.{arith}
 use lib.Dec.{ltb}
 use lib.ListN.{length, getD, take, length-append, List·getD-append}
-use lib.Seq.{getD-append-add, getD-at}
+use lib.Seq.{getD-append-add, getD-at, take-length}
 use borrow.Author.Tests.{ltb-true, ltb-false}
 use Rattle.bits.proofs.Tests.{decided}
 use Rattle.bits.specs.Count.{bit, count}
@@ -94,6 +94,10 @@ module _ {A : Type 0} {B : Type 0} (F : A → List B) where
   before-take [] (suc i) = refl
   before-take (x ∷ xs) zero = refl
   before-take (x ∷ xs) (suc i) = length-append (F x) (gather F (take i xs)) ∙ ap (λ (k : ℕ). length (F x) + k) (before-take xs i)
+
+  -- all of them
+  pub before-all : (xs : List A) → before F xs (length xs) ≡ length (gather F xs)
+  before-all xs = sym (before-take xs (length xs)) ∙ ap (λ (ys : List A). length (gather F ys)) (take-length xs)
 
   pub before-mono : (xs : List A) (i j : ℕ) → i ≤ j → before F xs i ≤ before F xs j
   unfolding before

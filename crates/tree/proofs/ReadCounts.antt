@@ -52,13 +52,16 @@ module _ (ws hs : List ℕ) (a : ℕ) where
       go : (b : Bool) → TreeAnswer (cond b (fetchedFrom hs 9 (lastMatch ws i p)) (refused 13))
       go true = fetched-answer 9 (lastMatch ws i p) (omega arith) (omega arith)
       go false = broken
-  walk-answer (suc d) i p l = go (sound ws i) (isSet (bitsOf ws i) (16 + nibbleOf a d)) (walk-answer d (childAt (bitsOf ws i) (childOf ws i) (nibbleOf a d)) q (omega arith))
+  walk-answer (suc d) i p l = go (sound ws i) (isSet (bitsOf ws i) (16 + nibbleOf a d)) (walk-answer d next q (omega arith))
     where
+      next : ℕ
+      next = childAt (bitsOf ws i) (childOf ws i) (nibbleOf a d)
+
       q : Place
       q = innerMatch ws i (nibbleOf a d) p
 
-      go : (b c : Bool) → TreeAnswer (walkFrom d ws hs a (childAt (bitsOf ws i) (childOf ws i) (nibbleOf a d)) q)
-          → TreeAnswer (cond b (cond c (walkFrom d ws hs a (childAt (bitsOf ws i) (childOf ws i) (nibbleOf a d)) q) (fetchedFrom hs (8 - d) q)) (refused 13))
+      go : (b c : Bool) → TreeAnswer (walkFrom d ws hs a next q)
+          → TreeAnswer (cond b (cond c (walkFrom d ws hs a next q) (fetchedFrom hs (8 - d) q)) (refused 13))
       go true true ih = ih
       go true false ih = fetched-answer (8 - d) q (omega arith) (omega arith)
       go false c ih = broken

@@ -57,7 +57,7 @@ pub agree : (rs : List Route) → Good rs → Agree (nodeStands rs) (hopFor rs)
 agree rs g = record {
   nine = λ p. no-nine rs p g;
   small = λ l q. hop-small (here l q) rs g;
-  told = λ m l q lo hi t. any-mono (here l q) (through m (q / 2 ^ (l - 4 * m))) rs (λ r. here-passes m l q r lo hi) (found-any (here l q) rs t);
+  told = λ m l q z lo hi t. any-mono (here l q) (through m (q / 2 ^ (l - 4 * m))) rs (λ r. here-passes m l q r lo hi) (found-any (here l q) rs t);
 }
 
 -- the longest route

@@ -7,3 +7,4 @@ pub mod Parts
 pub mod Image
 pub mod Levels
 pub mod Reads
+pub mod Done

@@ -36,15 +36,19 @@ nibbleOf a d = a / 2 ^ (4 * d) % 16
 unfoldable pub tryBit : ℕ → ℕ → ℕ → ℕ
 tryBit w b rest = cond (isSet w b) b rest
 
--- the internal bit for the inner length j: 2 ^ j - 1 and the value of the first j of the four bits v
-abbrev pub bitFor : ℕ → ℕ → ℕ
-bitFor j v = 2 ^ j - 1 + v / 2 ^ (4 - j)
+-- the internal bit for the inner length j and the j bits u there
+abbrev pub innerBit : ℕ → ℕ → ℕ
+innerBit j u = 2 ^ j - 1 + u
+
+-- the one that matches four bits v: for the first j of them
+abbrev pub matchBit : ℕ → ℕ → ℕ
+matchBit j v = innerBit j (v / 2 ^ (4 - j))
 
 -- What the deepest match of a node is: the bit of the longest inner length, of 3 down to 0, whose bit is set; 15, which is no internal bit, where
 -- none is.
 pub data Deepest (w v : ℕ) : ℕ → Type 0 where
-  match : (j : ℕ) → j < 4 → isSet w (bitFor j v) ≡ true → ((k : ℕ) → j < k → k < 4 → isSet w (bitFor k v) ≡ false) → Deepest w v (bitFor j v)
-  none : ((k : ℕ) → k < 4 → isSet w (bitFor k v) ≡ false) → Deepest w v 15
+  match : (j : ℕ) → j < 4 → isSet w (matchBit j v) ≡ true → ((k : ℕ) → j < k → k < 4 → isSet w (matchBit k v) ≡ false) → Deepest w v (matchBit j v)
+  none : ((k : ℕ) → k < 4 → isSet w (matchBit k v) ≡ false) → Deepest w v 15
 
 -- it is worked out bit by bit (`deepest-longest` in proofs/Matches.antt)
 unfoldable pub deepestOf : ℕ → ℕ → ℕ

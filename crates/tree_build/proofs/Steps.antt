@@ -14,13 +14,14 @@ use Rattle.routes.specs.Record.{Records, routesIn}
 use Rattle.tree.specs.Parts.{before, gather}
 use Rattle.tree.specs.Image.{Node, node, bitHop, inner, child, kids, hopsOf, hops}
 use Rattle.tree.specs.Image as image
+use Rattle.tree.specs.Done.{Done}
 use Rattle.tree.proofs.Counts.{count-less, count-hit}
 use Rattle.tree.proofs.Parts.{picked-length, before-next, before-le, before-mono}
 use Rattle.tree.proofs.Nodes.{nodes-fix, depth-lt}
 use Rattle.tree.proofs.Holds.{child-place}
 use Rattle.tree.proofs.Serves.{agree}
 use Rattle.tree_build.specs.Run.{standsIn, hopIn, pathAt, nodeAt, Run, NodeRun, innerIn, childIn, wordIn}
-use Rattle.tree_build.specs.Queue.{put3, Waits, HopsReady, HopsPut, KidsReady, KidsPut, nodesIn, nodeIn, kidsBefore, hopsBefore, Done, State, Next}
+use Rattle.tree_build.specs.Queue.{put3, Waits, HopsReady, HopsPut, KidsReady, KidsPut, nodesIn, nodeIn, kidsBefore, hopsBefore, State, Next}
 use Rattle.tree_build.proofs.Stores.{put3-length, put3-other, put3-at}
 use Rattle.tree_build.proofs.Runs.{good-list}
 use Rattle.tree_build.proofs.Hops.{inner-ones, child-ones}
@@ -139,14 +140,14 @@ module _ (s ws hs : List ℕ) (i t h : ℕ) (next : Next s ws hs i t h) where
                 before-mono (hopsOf (hopIn s)) (nodesIn s) (x + 1) i (omega arith),
               )
 
-          done-next : (x : ℕ) → (x ≡ i) ⊎ (x < i) → Done s ws′ hs′ x
+          done-next : (x : ℕ) → (x ≡ i) ⊎ (x < i) → Done (standsIn s) (hopIn s) ws′ hs′ x
           done-next x (inl q) =
               let at = put3-at ws₁ i word t₁ h₁ node-room in
               rw (q, eq)
               record {
                 bits = at .0 ∙ ew ∙ ap (image.word (standsIn s) (hopIn s)) (sym node-is);
                 child = at .1 ∙ et ∙ now .tail;
-                hop = at .2 ∙ eh ∙ now .hop;
+                base = at .2 ∙ eh ∙ now .hop;
                 put = subst (λ (n : Node). (b : ℕ) → b < 15 → inner (hopIn s) n b ≡ true → getD hs′ (hopsBefore s i + count (inner (hopIn s) n) b) 0 ≡ bitHop (hopIn s) n b) (sym node-is)
                     (λ b lb o. ap (λ (y : ℕ). getD hs′ (y + count (innerIn s m a) b) 0) (sym (now .hop)) ∙ H .put b lb o);
               }
@@ -155,7 +156,7 @@ module _ (s ws hs : List ℕ) (i t h : ℕ) (next : Next s ws hs i t h) where
               record {
                 bits = far (3 * x) (inl (omega arith)) ∙ K .below (3 * x) (omega (arith, next .waits)) ∙ d .bits;
                 child = far (3 * x + 1) (inl (omega arith)) ∙ K .below (3 * x + 1) (omega (arith, next .waits)) ∙ d .child;
-                hop = far (3 * x + 2) (inl (omega arith)) ∙ K .below (3 * x + 2) (omega (arith, next .waits)) ∙ d .hop;
+                base = far (3 * x + 2) (inl (omega arith)) ∙ K .below (3 * x + 2) (omega (arith, next .waits)) ∙ d .base;
                 put = λ b lb o. H .below _ (early x b u lb o) ∙ d .put b lb o;
               }
 

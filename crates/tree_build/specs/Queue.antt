@@ -8,7 +8,8 @@ use lib.ListN.{length, getD, set}
 use Rattle.bits.specs.Count.{count}
 use Rattle.routes.specs.Record.{Records, routesIn}
 use Rattle.tree.specs.Parts.{before}
-use Rattle.tree.specs.Image.{Node, node, inner, bitHop, word, kids, hopsOf, nodes, hops, imageOf}
+use Rattle.tree.specs.Image.{Node, node, bitHop, kids, hopsOf, nodes, hops, imageOf}
+use Rattle.tree.specs.Done.{nodeNo, Done}
 use Rattle.tree_build.specs.Run.{standsIn, hopIn, pathAt, nodeAt, Run, NodeRun, innerIn, childIn, wordIn}
 
 -- the three words of node x made a, b and d
@@ -56,20 +57,13 @@ abbrev pub nodesIn : List ℕ → List Node
 nodesIn s = nodes (standsIn s)
 
 abbrev pub nodeIn : List ℕ → ℕ → Node
-nodeIn s x = getD (nodesIn s) x (node 0 0)
+nodeIn s x = nodeNo (standsIn s) x
 
 abbrev pub kidsBefore : List ℕ → ℕ → ℕ
 kidsBefore s i = before (kids (standsIn s)) (nodesIn s) i
 
 abbrev pub hopsBefore : List ℕ → ℕ → ℕ
 hopsBefore s i = before (hopsOf (hopIn s)) (nodesIn s) i
-
--- node x has its three words, and its hops are put
-pub record Done (s ws hs : List ℕ) (x : ℕ) : Type 0 where
-  pub bits : getD ws (3 * x) 0 ≡ word (standsIn s) (hopIn s) (nodeIn s x)
-  pub child : getD ws (3 * x + 1) 0 ≡ 1 + kidsBefore s x
-  pub hop : getD ws (3 * x + 2) 0 ≡ hopsBefore s x
-  pub put : (b : ℕ) → b < 15 → inner (hopIn s) (nodeIn s x) b ≡ true → getD hs (hopsBefore s x + count (inner (hopIn s) (nodeIn s x)) b) 0 ≡ bitHop (hopIn s) (nodeIn s x) b
 
 -- good records, no byte after them, and room for their image in w words and h hops
 pub record Room (s : List ℕ) (w h : ℕ) : Type 0 where
@@ -86,7 +80,7 @@ pub record State (s ws hs : List ℕ) (i t h : ℕ) : Type 0 where
   pub order : i ≤ t
   pub tail : t ≡ 1 + kidsBefore s i
   pub hop : h ≡ hopsBefore s i
-  pub done : (x : ℕ) → x < i → Done s ws hs x
+  pub done : (x : ℕ) → x < i → Done (standsIn s) (hopIn s) ws hs x
   pub wait : (x : ℕ) → i ≤ x → x < t → Waits s ws x (nodeIn s x)
   pub rest : (j : ℕ) → 3 * t ≤ j → getD ws j 0 ≡ 0
   pub blank : (j : ℕ) → h ≤ j → getD hs j 0 ≡ 0

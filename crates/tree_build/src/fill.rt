@@ -22,7 +22,7 @@ pub fn narrow(x: usize) -> u32
 }
 
 // The three words of node x.
-fn put_node(words: &mut [u32], x: usize, bits: u32, child: u32, hop: u32)
+pub fn put_node(words: &mut [u32], x: usize, bits: u32, child: u32, hop: u32)
     requires { ⌜ 3 * x + 3 ≤ length (now words) ⌝ }
     ensures { λ _. ⌜ now (words .exit) ≡ put3 (now (words .entry)) x bits «child» hop ⌝ }
 {

@@ -49,7 +49,7 @@ pub fn place(addr: u32, len: u32, m: u32) -> u32
 }
 
 // A word with one more bit set, or set already.
-fn with_bit(word: u32, b: u32) -> u32
+pub fn with_bit(word: u32, b: u32) -> u32
     requires { ⌜ b < 32 ⌝ }
     ensures { λ r. ⌜ WithBit word b r ⌝ }
 {

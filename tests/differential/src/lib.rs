@@ -4,3 +4,4 @@ pub mod basic;
 pub mod broadcast;
 pub mod gen;
 pub mod plain;
+pub mod tree_change;

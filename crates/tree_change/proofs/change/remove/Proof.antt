@@ -1,0 +1,119 @@
+-- The invariant: whichever routes the arrays held with the path of the prefix after its hop was taken, they hold with that path down to depth m.
+-- The depth falls; where the node at hand has a bit, or is the root, the path stands by the routes alone.
+use mathlib.Core.List.{List}
+use mathlib.Core.Path.{_≡_, refl}
+use native.Mathlib.Omega.{arith}
+use lib.ListN.{length}
+use Rattle.routes.specs.Route.{keyOf}
+use Rattle.routes.specs.declared.Route.{Route}
+use Rattle.standing.specs.Standing.{remove}
+use Rattle.tree_same.specs.Listed.{routesHeld}
+use Rattle.tree_change.proofs.Midways.{Midway, become}
+use Rattle.tree_change.proofs.Removes.{take-ready, shrink-start, shrink-path, shrink-some, shrink-up, shrink-ready, shrink-next, shrink-done}
+use Rattle.tree_change.proofs.change.remove.Statement.{statement}
+use Rattle.tree_change.proofs.change.remove.Tie as tie
+
+abbrev Inv-loop : tie.InvT-loop
+Inv-loop words₀ hops n k at addr len b m₀ nodes₀ words m nodes =
+    ((rs : List Route) → Midway rs addr m₀ words₀ hops nodes₀ k → Midway rs addr m words hops nodes k) × (length words ≡ length words₀)
+
+abbrev μ-loop : tie.MeasureT-loop
+μ-loop words₀ hops n k at addr len b m₀ nodes₀ words m nodes = m
+
+take-hop-requires : tie.Need-take-hop-requires Inv-loop μ-loop
+take-hop-requires c κs = take-ready _ (c .before .before .before .before .pre)
+
+loop-holds : tie.Need-loop-holds Inv-loop μ-loop
+loop-holds c = ((λ rs g. g), refl)
+
+-- what is held at the loop's head: the routes without the prefix
+held : (c : tie.At-loop Inv-loop μ-loop)
+    → Midway
+    (remove (keyOf (c .before .before .before .before .before .before .before .before .before .before .args .addr)
+    (c .before .before .before .before .before .before .before .before .before .before .args .len))
+    (routesHeld (c .before .before .before .before .before .before .before .before .before .before .args .words .now)
+    (c .before .before .before .before .before .before .before .before .before .before .args .hops .now)))
+    (c .before .before .before .before .before .before .before .before .before .before .args .addr)
+    (c .loop .m)
+    (c .loop .words)
+    (c .before .before .before .before .before .take-hop .last .1 .0)
+    (c .loop .nodes)
+    (c .before .before .before .before .before .before .before .before .before .before .args .k)
+held c =
+    let at-take = c .before .before .before .before .before in
+    c .loop .inv .0 _ (shrink-start _ (at-take .before .before .before .before .before .pre) (at-take .take-hop .ensures))
+
+bare-requires : tie.Need-bare-requires Inv-loop μ-loop
+bare-requires c κs = shrink-path (held (c .before))
+
+sub-m : tie.Need-sub-m Inv-loop μ-loop
+sub-m c = shrink-some (held (c .before .before .before)) _ (c .before .bare .ensures) (c .if1 .taken) .0
+
+sub-nodes : tie.Need-sub-nodes Inv-loop μ-loop
+sub-nodes c = shrink-some (held (c .before .before .before)) _ (c .before .bare .ensures) (c .if1 .taken) .1
+
+add-descend : tie.Need-add-descend Inv-loop μ-loop
+add-descend c = omega (arith, held (c .before .before .before .before) .holds .order .lent)
+
+descend-requires : tie.Need-descend-requires Inv-loop μ-loop
+descend-requires c κs = shrink-up (held (c .before .before .before .before)) _ (c .before .before .bare .ensures) (c .before .if1 .taken)
+
+turn-requires : tie.Need-turn-requires Inv-loop μ-loop
+turn-requires c κs =
+    let at-if = c .before .before .before in
+    let at-loop = at-if .before .before .before in
+    omega (arith, held at-loop .deep, shrink-some (held at-loop) _ (at-if .before .bare .ensures) (at-if .if1 .taken) .0)
+
+prune-requires : tie.Need-prune-requires Inv-loop μ-loop
+prune-requires c κs =
+    let at-if = c .before .before .before .before in
+    shrink-ready (held (at-if .before .before .before)) _ (at-if .before .bare .ensures) (at-if .if1 .taken) (c .before .before .descend .ensures) _
+    (c .turn .ensures .0)
+
+loop-less : tie.Need-loop-less Inv-loop μ-loop
+loop-less c =
+    let at-if = c .before .before .before .before .before .before .before in
+    omega (arith, shrink-some (held (at-if .before .before .before)) _ (at-if .before .bare .ensures) (at-if .if1 .taken) .0)
+
+loop-again : tie.Need-loop-again Inv-loop μ-loop
+loop-again c =
+    let at-prune = c .before .before in
+    let at-if = at-prune .before .before .before .before .before in (
+      (λ rs g.
+          shrink-next (at-if .before .before .before .loop .inv .0 rs g) _ (at-if .before .bare .ensures) (at-if .if1 .taken)
+          (at-prune .before .before .before .descend .ensures) _
+          (at-prune .before .turn .ensures .0) (at-prune .prune .ensures)),
+      omega arith,
+    )
+
+same-length : tie.Need-same-length Inv-loop μ-loop
+same-length c = omega arith
+
+same-length-2 : tie.Need-same-length-2 Inv-loop μ-loop
+same-length-2 c = omega arith
+
+returns : tie.Need-returns Inv-loop μ-loop
+returns c =
+    let at-loop = c .before .before .before in
+    become (held at-loop .good) (shrink-done (held at-loop) _ (c .before .bare .ensures) (c .if1 .left)) (omega arith) (omega arith)
+
+pub remove-spec : {M : Type 1} → statement M
+remove-spec =
+    tie.close
+    (tie.spec
+    Inv-loop
+    μ-loop
+    take-hop-requires
+    loop-holds
+    bare-requires
+    sub-m
+    sub-nodes
+    add-descend
+    descend-requires
+    turn-requires
+    prune-requires
+    loop-less
+    loop-again
+    same-length
+    same-length-2
+    returns)

@@ -1,0 +1,93 @@
+-- The way down and the bit at its end tell whether the prefix stands; then it is taken out.
+use mathlib.Core.Path.{refl}
+use Rattle.tree_check.proofs.Steps.{kept}
+use Rattle.tree_change.specs.Stages.{Standing}
+use Rattle.tree_change.proofs.Answers.{ask-hops, ask-way, ask-end, is-standing, one-there, one-less, removed-few, told-nine, told-removed}
+use Rattle.tree_change.proofs.take.Statement.{statement}
+use Rattle.tree_change.proofs.take.Tie as tie
+
+hops-in-requires : tie.Need-hops-in-requires
+hops-in-requires c κs = ask-hops (c .before .before .before .pre .0)
+
+own-bit-requires : tie.Need-own-bit-requires
+own-bit-requires c κs = c .before .before .before .before .pre .1 .len-ok
+
+descend-requires : tie.Need-descend-requires
+descend-requires c κs = let pre = c .before .before .before .before .before .before .pre in ask-way (pre .0) (pre .1 .len-ok)
+
+is-there-requires : tie.Need-is-there-requires
+is-there-requires c κs =
+    ask-end (c .before .before .before .before .before .before .before .before .pre .0) (c .before .descend .ensures)
+    (c .before .before .before .own-bit .ensures)
+
+same-length : tie.Need-same-length
+same-length c = refl
+
+returns : tie.Need-returns
+returns c =
+    let at-way = c .before .before .before in
+    let pre = at-way .before .before .before .before .before .before .before .pre in
+    told-nine (pre .0) (at-way .before .before .before .hops-in .ensures) (pre .1) (at-way .before .before .own-bit .ensures)
+    (at-way .descend .ensures) _ (c .before .is-there .ensures)
+    (c .if1 .taken)
+
+-- the prefix stands
+standing : (c : tie.Else1)
+    → Standing
+    (c .before .before .before .before .before .before .before .before .before .before .args .words .now)
+    (c .before .before .before .before .before .before .before .before .before .before .args .hops .now)
+    (c .before .before .before .before .before .before .before .before .before .before .args .n)
+    (c .before .before .before .before .before .before .hops-in .result)
+    (c .before .before .before .descend .result .at)
+    (c .before .before .before .before .before .before .before .before .before .before .args .addr)
+    (c .before .before .before .before .before .before .before .before .before .before .args .len)
+    (c .before .before .before .before .before .own-bit .result)
+standing c =
+    let at-way = c .before .before .before in
+    let pre = at-way .before .before .before .before .before .before .before .pre in
+    is-standing (pre .0) (at-way .before .before .before .hops-in .ensures) (pre .1) (at-way .before .before .own-bit .ensures)
+    (at-way .descend .ensures) _ (c .before .is-there .ensures)
+    (kept _ _ refl (c .if1 .left))
+
+sub-left : tie.Need-sub-left
+sub-left c = one-there (standing c)
+
+remove-requires : tie.Need-remove-requires
+remove-requires c κs = one-less (standing (c .before .before))
+
+narrow-requires : tie.Need-narrow-requires
+narrow-requires c κs =
+    removed-few (standing (c .before .before .before .before .before .before .before)) (c .before .before .before .before .remove .ensures) .0
+
+narrow-requires-2 : tie.Need-narrow-requires-2
+narrow-requires-2 c κs =
+    removed-few (standing (c .before .before .before .before .before .before .before .before)) (c .before .before .before .before .before .remove .ensures) .1
+
+same-length-2 : tie.Need-same-length-2
+same-length-2 c = c .before .before .before .before .before .before .remove .kept .0
+
+same-length-3 : tie.Need-same-length-3
+same-length-3 c = c .before .before .before .before .before .before .remove .kept .1 .0
+
+returns-2 : tie.Need-returns-2
+returns-2 c =
+    told-removed (standing (c .before .before .before .before .before .before .before .before .before))
+    (c .before .before .before .before .before .before .remove .ensures) _ _ (c .before .narrow .ensures) (c .narrow2 .ensures)
+
+pub take-spec : {M : Type 1} → statement M
+take-spec =
+    tie.close
+    (tie.spec
+    hops-in-requires
+    own-bit-requires
+    descend-requires
+    is-there-requires
+    same-length
+    returns
+    sub-left
+    remove-requires
+    narrow-requires
+    narrow-requires-2
+    same-length-2
+    same-length-3
+    returns-2)

@@ -1,0 +1,11 @@
+-- Laws of the test, and that it passes exactly what a build leaves.
+pub mod Meaning
+pub mod Builds
+pub mod Held
+pub mod Exact
+pub mod Serves
+pub mod Steps
+pub mod Answers
+pub mod OneAnswer
+pub mod AsBuilt
+pub mod Visits

@@ -1,0 +1,2 @@
+-- What the numbers of an edit have to fit.
+pub mod Small

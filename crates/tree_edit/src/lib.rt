@@ -1,0 +1,99 @@
+// Edits of an image in place: a node or a hop more, or one less. Each leaves exactly the image of the routes with it or without it.
+pub mod moves;
+
+use tree_build::fill;
+use tree_build::run;
+ghost use mathlib.Core.Path.{_≡_};
+ghost use mathlib.Core.Bool.{true, false};
+ghost use Prim.Native.Nat.{_+_, _*_, _%_, _^_, _≤_, _<_};
+ghost use lib.Count.{ones};
+ghost use lib.ListN.{length, getD};
+ghost use Rattle.tree.specs.Node.{bitsOf, childOf, baseOf, isSet, childAt};
+ghost use Rattle.tree_build.specs.Run.{WithBit};
+ghost use Rattle.tree_hold.specs.Edits.{Grafted, HopPut, Prunable, Takable};
+ghost use Rattle.tree_edit.specs.Small.{GraftReady, PutReady};
+
+fn wide(x: u32) -> usize
+    ensures { λ r. ⌜ (r ≡ x) × (r < 2 ^ 32) ⌝ }
+{
+    x as usize
+}
+
+// A word with a bit cleared that is set.
+fn without_bit(word: u32, b: u32) -> u32
+    requires { ⌜ (b < 32) × (isSet word b ≡ true) ⌝ }
+    ensures { λ r. ⌜ WithBit r b word × (isSet r b ≡ false) × (r < 2 ^ 32) ⌝ }
+{
+    word ^ (1 << b)
+}
+
+// The place of the child c of node x: the child base and the extending ones below its bit.
+pub fn child_place(words: &[u32], x: usize, c: u32) -> usize
+    requires { ⌜ (3 * x + 3 ≤ length (now words)) × (c < 16) ⌝ }
+    ensures { λ r. ⌜ (r ≡ childAt (bitsOf (now (words .entry)) x) (childOf (now (words .entry)) x) c) × (r < 2 ^ 33) ⌝ }
+{
+    wide(words[3 * x + 1]) + wide(bits::ones_below(words[3 * x] >> 16, c))
+}
+
+// The place of the hop at the internal bit b of node x: the hop base and the internal ones below the bit.
+pub fn hop_place(words: &[u32], x: usize, b: u32) -> usize
+    requires { ⌜ (3 * x + 3 ≤ length (now words)) × (b < 15) ⌝ }
+    ensures { λ r. ⌜ (r ≡ baseOf (now (words .entry)) x + ones (bitsOf (now (words .entry)) x % 2 ^ b)) × (r < 2 ^ 33) ⌝ }
+{
+    wide(words[3 * x + 2]) + wide(bits::ones_below(words[3 * x], b))
+}
+
+// An empty child c under node x of n nodes and k hops; answers its place. The empty node is written after the last one and a gap opened at
+// the place: the node that is left there has, with the child bases after the parent one more, the bases of the new one.
+pub fn graft(words: &mut [u32], n: usize, k: usize, x: usize, c: u32) -> usize
+    requires { ⌜ GraftReady (now words) n k x c ⌝ }
+    ensures { λ y. ⌜ Grafted (now (words .entry)) (now (words .exit)) n x c y ⌝ }
+{
+    let word = words[3 * x];
+    let y = child_place(words, x, c);
+    fill::put_node(words, n, 0, fill::narrow(n), fill::narrow(k));
+    moves::open_words(words, 3 * y, 3 * n);
+    moves::raise(words, 1, x + 1, n + 1);
+    words[3 * y] = 0;
+    words[3 * x] = run::with_bit(word, 16 + c);
+    y
+}
+
+// The empty child c of node x taken away; n nodes are left.
+pub fn prune(words: &mut [u32], n: usize, k: usize, x: usize, c: u32)
+    requires { ⌜ Prunable (now words) n k x c ⌝ }
+    ensures { λ _. ⌜ Grafted (now (words .exit)) (now (words .entry)) n x c (childAt (bitsOf (now (words .entry)) x) (childOf (now (words .entry)) x) c) ⌝ }
+{
+    let word = words[3 * x];
+    let y = child_place(words, x, c);
+    words[3 * x] = without_bit(word, 16 + c);
+    moves::lower(words, 1, x + 1, n + 1);
+    moves::close_words(words, 3 * y, 3 * n);
+    fill::put_node(words, n, 0, 0, 0);
+}
+
+// The hop h at the internal bit b of node x, of n nodes and k hops.
+pub fn put_hop(words: &mut [u32], hops: &mut [u16], n: usize, k: usize, x: usize, b: u32, h: u16)
+    requires { ⌜ PutReady (now words) (now hops) n k x b ⌝ }
+    ensures { λ _. ⌜ HopPut (now (words .entry)) (now (words .exit)) (now (hops .entry)) (now (hops .exit)) n x b (baseOf (now (words .entry)) x + ones (bitsOf (now (words .entry)) x % 2 ^ b)) h ⌝ }
+{
+    let word = words[3 * x];
+    let y = hop_place(words, x, b);
+    moves::open_hops(hops, y, k);
+    hops[y] = h;
+    moves::raise(words, 2, x + 1, n);
+    words[3 * x] = run::with_bit(word, b);
+}
+
+// The hop at the internal bit b of node x taken away; k hops are left.
+pub fn take_hop(words: &mut [u32], hops: &mut [u16], n: usize, k: usize, x: usize, b: u32)
+    requires { ⌜ Takable (now words) (now hops) n k x b ⌝ }
+    ensures { λ _. ⌜ HopPut (now (words .exit)) (now (words .entry)) (now (hops .exit)) (now (hops .entry)) n x b (baseOf (now (words .entry)) x + ones (bitsOf (now (words .entry)) x % 2 ^ b)) (getD (now (hops .entry)) (baseOf (now (words .entry)) x + ones (bitsOf (now (words .entry)) x % 2 ^ b)) 0) ⌝ }
+{
+    let word = words[3 * x];
+    let y = hop_place(words, x, b);
+    words[3 * x] = without_bit(word, b);
+    moves::lower(words, 2, x + 1, n);
+    moves::close_hops(hops, y, k);
+    hops[k] = 0;
+}
