@@ -1,13 +1,13 @@
 -- The number that the whole test answers, 0 or the nodes in use, and what follows from each.
 use mathlib.Core.Path.{_≡_, refl, sym, _∙_, ap, ap₂}
 use mathlib.Core.Logic.{_⊎_, inl, inr}
-use mathlib.Core.Bool.{Bool, true, false, cond}
+use mathlib.Core.Bool.{true, false}
 use mathlib.Core.List.{List, [], _∷_}
 use Prim.Native.Nat.{ℕ, _+_, _*_, _/_, _^_, _≤_, _<_}
 use native.Mathlib.Omega.{arith}
 use lib.ListN.{length, getD}
 use Rattle.bits.proofs.Tests.{decided}
-use Rattle.routes.specs.Said.{accepted, refused}
+use Rattle.routes.specs.Said.{accepted}
 use Rattle.tree.proofs.Needs.{nodes-most}
 use Rattle.tree_same.specs.Order.{ints}
 use Rattle.tree_same.specs.Listed.{routesHeld}

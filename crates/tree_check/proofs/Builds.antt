@@ -1,42 +1,40 @@
 -- What a build leaves is well formed: a node that stands has some route in it or below it, and so a bit set.
-use mathlib.Core.Path.{_≡_, refl, sym, _∙_, ap, ap₂, subst}
+use mathlib.Core.Path.{_≡_, refl, sym, _∙_, ap, subst}
 use mathlib.Core.Logic.{_⊎_, inl, inr}
 use mathlib.Core.Bool.{Bool, true, false, cond, not, _&&_, true≢false}
 use mathlib.Core.List.{List, [], _∷_, List·Memᴰ, List·Memᴰ·head}
 use Prim.Native.Nat.{ℕ, zero, suc, _+_, _-_, _*_, _/_, _%_, _^_, _≤_, _<_}
-use native.Mathlib.Nat.{div-eq-of-lt, add-assoc}
-use native.Mathlib.Numerals.{add-one}
+use native.Mathlib.Nat.{div-eq-of-lt}
 use native.Mathlib.Omega.{arith}
-use lib.Dec.{eqb, ltb, leb}
-use lib.Pow.{shr-le, pow-mono, pow-lt}
+use lib.Dec.{eqb, ltb}
+use lib.Pow.{shr-le, pow-lt}
 use lib.ListN.{length, getD}
-use lib.Seq.{take-length}
 use lib.Count.{ones}
-use borrow.Author.Tests.{lt-ltb, le-ltb, ltb-true, ltb-false, eq-eqb, ne-eqb}
+use borrow.Author.Tests.{lt-ltb, le-ltb, ltb-true, eq-eqb, ne-eqb}
 use Rattle.bits.specs.Bit.{bitAt}
 use Rattle.bits.specs.Count.{bit, count}
-use Rattle.bits.proofs.Tests.{decided, both, below?, untrue}
+use Rattle.bits.proofs.Tests.{both, below?, untrue}
 use Rattle.routes.specs.Route.{Good}
 use Rattle.routes.specs.declared.Route.{Route}
 use Rattle.routes.proofs.Goods.{good-fine}
 use Rattle.standing.specs.Cells.{any, first}
-use Rattle.tree.specs.Node.{bitsOf, childOf, baseOf, isSet, sound}
+use Rattle.tree.specs.Node.{bitsOf, childOf, baseOf, sound}
 use Rattle.tree.specs.Parts.{gather, before}
 use Rattle.tree.specs.Image.{Node, node, innerLen, bitHop, inner, child, setBit, word, kids, hopsOf, nodes, words, hops, imageBy, imageOf, through, nodeStands, hopFor, nodeNeed}
 use Rattle.tree.proofs.Counts.{count-hit}
-use Rattle.tree.proofs.Parts.{picked-length, gather-split, before-take}
-use Rattle.tree.proofs.Nodes.{ahead, up-next, inner-bit, clear-bit, child-bit, words-length}
+use Rattle.tree.proofs.Parts.{picked-length, gather-split}
+use Rattle.tree.proofs.Nodes.{up-next, inner-bit, clear-bit, child-bit}
 use Rattle.tree.proofs.Holds.{pad-length, pad-at, node-words, child-place, hop-place}
-use Rattle.tree.proofs.Lies.{any-is, any-mem, pass-parts, pass-make, kidOf, kid-at, bitOf, bit-at, hop-of, inner-cases}
+use Rattle.tree.proofs.Lies.{any-is, any-mem, pass-make, kidOf, kid-at, bitOf, bit-at, hop-of}
 use Rattle.tree.proofs.Needs.{hops-need}
 use Rattle.tree.proofs.Serves.{agree, words-after, hops-after}
 use Rattle.tree_build.proofs.Marks.{word-bits}
-use Rattle.tree_same.specs.Order.{exts, ints, Order}
-use Rattle.tree_same.proofs.Canonical.{ext-ones, exts-before, ints-before, all-kids}
+use Rattle.tree_same.specs.Order.{ints, Order}
+use Rattle.tree_same.proofs.Canonical.{ext-ones}
 use Rattle.tree_same.proofs.Same.{hopping, fits}
 use Rattle.tree_same.proofs.Holdings.{image-order, image-ints}
-use Rattle.tree_check.specs.WellFormed.{allFrom, nodeOk, wellFormed}
-use Rattle.tree_check.proofs.Meaning.{WellFormed, from-all, is-well-formed}
+use Rattle.tree_check.specs.WellFormed.{nodeOk}
+use Rattle.tree_check.proofs.Meaning.{WellFormed, from-all}
 
 -- a number with a bit set is not 0
 pub not-zero : (w k : ℕ) → bitAt w k ≡ 1 → w ≡ 0 → ⊥

@@ -1,6 +1,6 @@
 -- An image passes the test exactly when some record input builds it into arrays of these sizes. What passes is built from the routes read
 -- out of it, and what a build leaves passes.
-use mathlib.Core.Path.{_≡_, refl, sym, _∙_, ap, ap₂, subst}
+use mathlib.Core.Path.{_≡_, refl, sym, _∙_, ap, ap₂}
 use mathlib.Core.List.{List, [], _∷_}
 use mathlib.Core.Bool.{true}
 use Prim.Native.Nat.{ℕ, _+_, _*_, _/_, _%_, _^_, _≤_, _<_}
@@ -8,18 +8,17 @@ use native.Mathlib.Omega.{arith}
 use lib.ListN.{length, getD}
 use borrow.Author.Tests.{le-ltb}
 use Rattle.routes.specs.Said.{Said, accepted}
-use Rattle.routes.specs.Record.{routesOf, written, Records, routesIn}
-use Rattle.routes.specs.Input.{inputSaid}
+use Rattle.routes.specs.Record.{routesOf, written, routesIn}
 use Rattle.routes.specs.Route.{Good}
 use Rattle.routes.specs.declared.Route.{Route}
 use Rattle.routes.proofs.Meaning.{Checked, ragged, stopped, many, good, input-checked, good-input}
 use Rattle.routes.proofs.Rows.{length-routes, length-written, routes-written, written-listed}
 use Rattle.tree.specs.Image.{imageOf, nodeNeed}
 use Rattle.tree_build.specs.Built.{Out, out, madeOf, afterInput, built}
-use Rattle.tree_build.proofs.Serves.{Accepted, built-accepts}
+use Rattle.tree_build.proofs.Serves.{built-accepts}
 use Rattle.tree_same.specs.Listed.{routesHeld}
 use Rattle.tree_check.specs.WellFormed.{used, wellFormed}
-use Rattle.tree_check.proofs.Meaning.{WellFormed, well-formed-is, is-well-formed}
+use Rattle.tree_check.proofs.Meaning.{well-formed-is, is-well-formed}
 use Rattle.tree_check.proofs.Builds.{image-formed}
 use Rattle.tree_check.proofs.Held.{held-good, held-image, held-nodes, held-hops}
 

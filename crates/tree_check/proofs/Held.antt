@@ -1,19 +1,17 @@
 -- A well-formed image holds the routes that are read out of it, and so is their image: a path that leads to a node leads on to a route, so
 -- the nodes that paths lead to are those that stand.
-use mathlib.Core.Path.{_≡_, refl, sym, _∙_, ap, ap₂, subst}
+use mathlib.Core.Path.{_≡_, refl, sym, _∙_, ap, subst}
 use mathlib.Core.Logic.{_⊎_, inl, inr}
 use mathlib.Core.Bool.{Bool, true, false, cond, not, _&&_, true≢false, false≢true}
-use mathlib.Core.List.{List, [], _∷_, List·Memᴰ}
+use mathlib.Core.List.{List, [], _∷_}
 use Prim.Native.Nat.{ℕ, zero, suc, _+_, _-_, _*_, _/_, _%_, _^_, _≤_, _<_}
-use native.Mathlib.Nat.{mod-lt, add-zero, mul-le-mul-right, div-eq-of-lt, pow-suc, add-mul, one-mul}
-use native.Mathlib.Numerals.{add-one}
+use native.Mathlib.Nat.{mod-lt, add-zero, mul-le-mul-right, pow-suc, add-mul, one-mul}
 use native.Mathlib.Omega.{arith}
 use lib.Dec.{eqb, ltb, leb}
-use lib.Pow.{split, pow-pos, pow-add, pow-mono, shr-shr, shr-mod, high, low}
+use lib.Pow.{split, pow-pos, pow-add, shr-shr, shr-mod, high, low}
 use lib.ListN.{length, getD}
 use lib.Count.{ones}
-use lib.Seq.{take-length}
-use borrow.Author.Tests.{lt-ltb, le-ltb, ltb-true, leb-true, leb-false, le-leb, lt-leb, eqb-true, eq-eqb}
+use borrow.Author.Tests.{lt-ltb, ltb-true, leb-true, le-leb, lt-leb, eqb-true, eq-eqb}
 use Rattle.bits.specs.Bit.{bitAt}
 use Rattle.bits.specs.Slot.{slot}
 use Rattle.bits.specs.Count.{bit, count}
@@ -24,14 +22,12 @@ use Rattle.routes.specs.declared.Route.{Route}
 use Rattle.routes.proofs.Goods.{good-fine}
 use Rattle.standing.specs.Cells.{here}
 use Rattle.tree.specs.Node.{bitsOf, childOf, baseOf, isSet, sound, childAt}
-use Rattle.tree.specs.Parts.{gather, before}
-use Rattle.tree.specs.Image.{Node, node, innerLen, bitHop, inner, child, setBit, word, kids, hopsOf, nodes, words, hops, imageBy, imageOf, through, nodeStands, hopFor, nodeNeed}
+use Rattle.tree.specs.Image.{node, innerLen, bitHop, inner, child, setBit, word, nodes, words, hops, imageOf, through, nodeStands, hopFor, nodeNeed}
 use Rattle.tree.proofs.Counts.{count-less}
 use Rattle.bits.proofs.Packed.{rank-count, upper-count}
-use Rattle.tree.proofs.Parts.{before-take}
 use Rattle.tree.proofs.Needs.{hops-need}
-use Rattle.tree.proofs.Nodes.{set-inner, set-child, inner-bit}
-use Rattle.tree.proofs.Lies.{any-is, any-mem, pass-parts, hop-of, inner-cases, inner-len}
+use Rattle.tree.proofs.Nodes.{set-inner, set-child}
+use Rattle.tree.proofs.Lies.{any-is, pass-parts, hop-of, inner-cases, inner-len}
 use Rattle.tree.proofs.Serves.{agree}
 use Rattle.tree_build.proofs.Marks.{word-bits}
 use Rattle.tree_same.specs.Read.{reached, leads, hopAt, pathOf, bitFor, readOut}

@@ -3,5 +3,7 @@ pub mod Meaning
 pub mod Builds
 pub mod Held
 pub mod Exact
+pub mod Serves
 pub mod Steps
 pub mod Answers
+pub mod Visits

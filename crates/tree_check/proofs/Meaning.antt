@@ -1,25 +1,22 @@
 -- What a well-formed image is, part by part: the tests of specs/WellFormed.antt and the facts that they stand for.
-use mathlib.Core.Path.{_≡_, refl, sym, _∙_, ap, ap₂, subst}
+use mathlib.Core.Path.{_≡_, refl, _∙_}
 use mathlib.Core.Logic.{_⊎_, inl, inr}
-use mathlib.Core.Bool.{Bool, true, false, cond, not, _&&_, _||_, true≢false, false≢true, or-true}
+use mathlib.Core.Bool.{Bool, true, false, not, _&&_, _||_, true≢false, false≢true, or-true}
 use mathlib.Core.List.{List}
 use Prim.Native.Nat.{ℕ, zero, suc, _+_, _-_, _*_, _/_, _%_, _^_, _≤_, _<_}
-use native.Mathlib.Nat.{add-zero, le-refl}
-use native.Mathlib.Numerals.{add-one}
+use native.Mathlib.Nat.{add-zero}
 use native.Mathlib.Omega.{arith}
 use lib.Dec.{eqb, ltb, leb}
 use lib.ListN.{length, getD, List·getD-eq-default}
-use lib.Count.{ones}
-use borrow.Author.Tests.{leb-true, leb-false, le-leb, lt-leb, ltb-true, lt-ltb, le-ltb, eqb-true, eq-eqb, ne-eqb}
-use Rattle.bits.specs.Bit.{bitAt}
+use borrow.Author.Tests.{leb-true, leb-false, le-leb, lt-leb, ltb-true, lt-ltb, le-ltb, eqb-true, eq-eqb}
 use Rattle.bits.specs.Search.{firstOf}
 use Rattle.bits.specs.Tab.{every}
 use Rattle.bits.proofs.Searches.{firstOf-is, firstOf-le, firstOf-before}
-use Rattle.bits.proofs.Tests.{decided, both, and-split, or-split, below?}
+use Rattle.bits.proofs.Tests.{both, and-split, or-split, below?}
 use Rattle.bits.proofs.Tabs.{every-true, true-every}
 use Rattle.routes.specs.Input.{hopFine}
 use Rattle.routes.proofs.Meaning.{hop-true, true-hop}
-use Rattle.tree.specs.Node.{bitsOf, childOf, baseOf, isSet, sound}
+use Rattle.tree.specs.Node.{bitsOf, childOf, baseOf}
 use Rattle.tree_same.specs.Order.{exts, ints, Order}
 use Rattle.tree_check.specs.WellFormed.{closed, used, basesAt, ordered, allFrom, nodeOk, rootOk, hopsIn, hopsOk, blankFrom, wellFormed}
 

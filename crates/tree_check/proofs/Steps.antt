@@ -4,13 +4,11 @@ use mathlib.Core.Logic.{_⊎_, inl, inr}
 use mathlib.Core.Bool.{Bool, true, false, cond, not, _&&_, _||_, true≢false}
 use mathlib.Core.List.{List}
 use Prim.Native.Nat.{ℕ, zero, suc, _+_, _-_, _*_, _/_, _%_, _^_, _≤_, _<_}
-use native.Mathlib.Nat.{le-refl, le-step}
 use native.Mathlib.Omega.{arith}
 use lib.Dec.{eqb, ltb, leb}
 use lib.ListN.{length, getD}
 use lib.Count.{ones}
-use borrow.Author.Tests.{leb-true, le-leb, lt-leb, lt-ltb, le-ltb, ltb-true, eqb-true, eq-eqb, ne-eqb}
-use Rattle.bits.specs.Bit.{bitAt}
+use borrow.Author.Tests.{leb-true, le-leb, lt-leb, lt-ltb, le-ltb, eq-eqb, ne-eqb}
 use Rattle.bits.specs.Tab.{every}
 use Rattle.bits.proofs.Tests.{decided, both, and-split, untrue, below?}
 use Rattle.bits.proofs.Tabs.{every-true, true-every}
@@ -18,7 +16,7 @@ use Rattle.routes.specs.Input.{hopFine}
 use Rattle.routes.proofs.Meaning.{true-hop}
 use Rattle.tree.specs.Node.{bitsOf, childOf, baseOf, isSet, sound}
 use Rattle.tree_same.specs.Order.{exts, ints, Order}
-use Rattle.tree_check.specs.WellFormed.{closed, used, basesAt, ordered, allFrom, nodeOk, childrenOk, rootOk, hopsIn, hopsOk, hopsFineTo, blankFrom, wellFormed, nodesIf}
+use Rattle.tree_check.specs.WellFormed.{used, ordered, allFrom, nodeOk, childrenOk, rootOk, hopsIn, hopsOk, hopsFineTo, blankFrom, wellFormed, nodesIf}
 use Rattle.tree_check.proofs.Meaning.{not-true, ordered-is, used-is, is-ordered}
 
 -- ---- the pass over the bases

@@ -1,3 +1,4 @@
 -- When an image is well formed, and what its test says.
 pub mod WellFormed
 pub mod Answers
+pub mod Visits

@@ -2,14 +2,12 @@
 // those of the fixed order no two child arrays share a node, so the way down meets each node once, whatever the arrays hold.
 use tree_build::fill;
 ghost use mathlib.Core.Path.{_≡_};
-ghost use mathlib.Core.Bool.{cond};
 ghost use Prim.Native.Nat.{_+_, _*_, _/_, _^_, _≤_, _<_};
 ghost use lib.ListN.{length};
 ghost use lib.Count.{ones};
-ghost use Rattle.tree.specs.Node.{bitsOf};
 ghost use Rattle.tree_same.specs.Order.{ints};
 ghost use Rattle.tree_check.specs.Answers.{saysTested, tested};
-ghost use Rattle.tree_check.specs.WellFormed.{used, ordered, nodeOk, childrenOk, rootOk, hopsFineTo, blankFrom, wellFormed, nodesIf};
+ghost use Rattle.tree_check.specs.WellFormed.{ordered, nodeOk, childrenOk, rootOk, hopsFineTo, blankFrom, wellFormed, nodesIf};
 
 // What the test answers: the nodes and the hops in use, or that the image is not well formed.
 pub enum Tested {

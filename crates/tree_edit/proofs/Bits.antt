@@ -6,7 +6,7 @@ use Prim.Native.Nat.{ℕ, _+_, _*_, _/_, _%_, _^_, _≤_, _<_}
 use native.Mathlib.Nat.{mod-lt}
 use native.Mathlib.Omega.{arith}
 use lib.Dec.{eqb}
-use lib.Bits.{bitXor, bitOr, or-zero-l, xor-zero-r, xor-self, xor-lt, xor-shr, xor-mod}
+use lib.Bits.{bitXor, or-zero-l, xor-zero-r, xor-self, xor-lt, xor-shr, xor-mod}
 use lib.Pow.{pow-pos, shr-le}
 use borrow.Author.Tests.{eq-eqb, ne-eqb, eqb-true}
 use Rattle.bits.specs.Bit.{bitAt}

@@ -1,6 +1,6 @@
 -- The steps of each edit: what a loop asks of the numbers that it raises or lowers, and what the steps together leave.
-use mathlib.Core.Path.{_≡_, refl, sym, _∙_, ap, ap₂, subst}
-use mathlib.Core.Bool.{true, false}
+use mathlib.Core.Path.{_≡_, _∙_, ap, ap₂, subst}
+use mathlib.Core.Bool.{false}
 use mathlib.Core.List.{List}
 use Prim.Native.Nat.{ℕ, suc, _+_, _-_, _*_, _/_, _%_, _^_, _≤_, _<_}
 use native.Mathlib.Omega.{arith}
@@ -16,12 +16,12 @@ use Rattle.tree_build.proofs.Stores.{put3-length}
 use Rattle.tree_same.specs.Order.{ints}
 use Rattle.tree_check.proofs.Held.{fewer-ints, ints-next, ints-mono}
 use Rattle.tree_hold.specs.Moves.{each}
-use Rattle.tree_hold.specs.Edits.{Grafted, Graftable, Prunable, HopPut, Puttable, Takable}
+use Rattle.tree_hold.specs.Edits.{Grafted, Prunable, HopPut, Takable}
 use Rattle.tree_hold.proofs.Each.{each-length, each-out, each-more}
-use Rattle.tree_hold.proofs.GraftMade.{graft-after, graft-inside, graft-few, graft-long, graft-done}
-use Rattle.tree_hold.proofs.PruneMade.{prune-after, prune-inside, prune-long, prune-done}
-use Rattle.tree_hold.proofs.HopMade.{put-inside, put-long, put-long-hops, put-done}
-use Rattle.tree_hold.proofs.TakeMade.{take-inside, take-long, take-long-hops, take-done}
+use Rattle.tree_hold.proofs.GraftMade.{graft-inside, graft-few, graft-done}
+use Rattle.tree_hold.proofs.PruneMade.{prune-inside, prune-done}
+use Rattle.tree_hold.proofs.HopMade.{put-inside, put-done}
+use Rattle.tree_hold.proofs.TakeMade.{take-inside, take-done}
 use Rattle.tree_edit.specs.Small.{Raisable, Lowerable, GraftReady, PutReady}
 
 -- ---- the loops

@@ -2,7 +2,7 @@
 use mathlib.Core.List.{List}
 use Prim.Native.Nat.{ℕ, _+_, _*_, _^_, _≤_, _<_}
 use lib.ListN.{length, getD}
-use Rattle.tree_hold.specs.Edits.{Graftable, Prunable, Puttable, Takable}
+use Rattle.tree_hold.specs.Edits.{Graftable, Puttable}
 
 -- word d of the nodes from a up to b can be one more, and one less
 pub record Raisable (ws : List ℕ) (d a b : ℕ) : Type 0 where

@@ -1,8 +1,7 @@
 -- A graft made by its steps. It writes the empty node after the last one, opens a gap at the new node's place, and
 -- raises the child bases after the parent: the node that is left in the gap has then the bases of the new one.
-use mathlib.Core.Path.{_≡_, refl, sym, _∙_, ap, subst}
+use mathlib.Core.Path.{_≡_, sym, _∙_, ap, subst}
 use mathlib.Core.Logic.{_⊎_, inl, inr}
-use mathlib.Core.Bool.{true, false}
 use mathlib.Core.List.{List}
 use Prim.Native.Nat.{ℕ, zero, suc, _+_, _-_, _*_, _/_, _%_, _^_, _≤_, _<_}
 use native.Mathlib.Omega.{arith}
@@ -11,7 +10,7 @@ use lib.Seq.{getD-set-same, getD-set-other}
 use lib.Pow.{shr-mod}
 use lib.Count.{ones}
 use Rattle.bits.specs.Count.{count}
-use Rattle.bits.proofs.Tests.{below?, equal?}
+use Rattle.bits.proofs.Tests.{below?}
 use Rattle.bits.proofs.Packed.{upper-count}
 use Rattle.lists.specs.Edit.{drawn}
 use Rattle.lists.proofs.EditMoves.{length-drawn, drawn-in, drawn-before, drawn-after}
@@ -21,11 +20,10 @@ use Rattle.tree_build.specs.Run.{WithBit}
 use Rattle.tree_build.specs.Queue.{put3}
 use Rattle.tree_build.proofs.Stores.{put3-length, put3-other, put3-at}
 use Rattle.tree_same.specs.Order.{exts, ints, Order}
-use Rattle.tree_check.proofs.Held.{bit-of, fewer-exts, exts-next, exts-mono}
+use Rattle.tree_check.proofs.Held.{bit-of, exts-next, exts-mono}
 use Rattle.tree_hold.specs.Moves.{each}
-use Rattle.tree_hold.specs.Edits.{GraftedBits, Grafted, Words, Graftable, Prunable}
+use Rattle.tree_hold.specs.Edits.{Grafted, Graftable}
 use Rattle.tree_hold.proofs.Each.{past, each-length, each-in, each-out}
-use Rattle.tree_hold.proofs.GraftBits.{rank-old, rank-new, count-upto, exts-between, ints-upto}
 
 -- all nodes but the root are children
 pub order-full : (ws : List ℕ) (n : ℕ) → Order ws n → n ≡ 1 + exts ws n

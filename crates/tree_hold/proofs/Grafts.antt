@@ -9,7 +9,7 @@ use native.Mathlib.Omega.{arith}
 use lib.Dec.{eqb, ltb}
 use lib.Pow.{shr-le}
 use lib.Pow.{high as high-part}
-use lib.ListN.{length, getD}
+use lib.ListN.{getD}
 use lib.Count.{ones}
 use borrow.Author.Tests.{lt-ltb, le-ltb, eq-eqb, ne-eqb, eqb-true, ltb-true}
 use Rattle.bits.specs.Bit.{bitAt}

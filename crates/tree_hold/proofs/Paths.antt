@@ -8,16 +8,15 @@ use Prim.Native.Nat.{ℕ, zero, suc, _+_, _-_, _*_, _/_, _%_, _^_, _≤_, _<_}
 use native.Mathlib.Omega.{arith}
 use lib.Dec.{eqb, leb, ltb}
 use lib.ListN.{length}
-use borrow.Author.Tests.{eq-eqb, ne-eqb, eqb-true, le-leb, lt-leb, leb-true, lt-ltb, ltb-true}
+use borrow.Author.Tests.{eq-eqb, eqb-true, le-leb, lt-leb, leb-true, lt-ltb, ltb-true}
 use Rattle.bits.specs.Slot.{slot, cut}
 use Rattle.bits.proofs.Slots.{slot-up, slot-zero, cut-slot}
-use Rattle.bits.proofs.Tests.{decided, both, and-split, or-split, below?, equal?, same, untrue}
+use Rattle.bits.proofs.Tests.{decided, both, and-split, or-split, equal?, same, untrue}
 use Rattle.routes.specs.Route.{key, keyOf, Prefix, Fine, Good}
 use Rattle.routes.specs.declared.Route.{Route}
 use Rattle.routes.proofs.Goods.{good-fine, key-parts}
 use Rattle.standing.specs.Cells.{here, any, first, orElse}
 use Rattle.standing.specs.Standing.{isAt, stands, absent, stood, routeAt, insert, remove}
-use Rattle.standing.proofs.Frame.{SameBut}
 use Rattle.standing.proofs.Standing.{one-prefix, insert-mem, insert-good, insert-stands, insert-but, remove-good, remove-stands, same-standing}
 use Rattle.tree.specs.Image.{through, nodeStands, hopFor, nodes, hops}
 use Rattle.tree.proofs.Lies.{any-is, any-mem, found-any, hop-of}

@@ -1,28 +1,24 @@
 -- A graft undone by its steps: the parent's bit is cleared, the child bases after the parent are lowered, and the gap is closed.
-use mathlib.Core.Path.{_≡_, refl, sym, _∙_, ap, subst}
+use mathlib.Core.Path.{_≡_, sym, _∙_, ap}
 use mathlib.Core.Logic.{_⊎_, inl, inr}
-use mathlib.Core.Bool.{true, false}
+use mathlib.Core.Bool.{false}
 use mathlib.Core.List.{List}
 use Prim.Native.Nat.{ℕ, zero, suc, _+_, _-_, _*_, _/_, _%_, _^_, _≤_, _<_}
 use native.Mathlib.Omega.{arith}
 use lib.ListN.{length, getD, set, length-set}
 use lib.Seq.{getD-set-same, getD-set-other}
-use lib.Pow.{shr-mod}
-use lib.Count.{ones}
 use Rattle.bits.specs.Count.{count}
 use Rattle.bits.proofs.Tests.{below?, equal?}
-use Rattle.bits.proofs.Packed.{upper-count}
 use Rattle.lists.specs.Edit.{drawn}
 use Rattle.lists.proofs.EditMoves.{length-drawn, drawn-in, drawn-before, drawn-after}
-use Rattle.tree.specs.Node.{bitsOf, childOf, baseOf, isSet, childAt}
-use Rattle.tree.proofs.Counts.{count-mono}
+use Rattle.tree.specs.Node.{bitsOf, childOf, isSet, childAt}
 use Rattle.tree_build.specs.Run.{WithBit}
 use Rattle.tree_build.specs.Queue.{put3}
 use Rattle.tree_build.proofs.Stores.{put3-length, put3-other, put3-at}
-use Rattle.tree_same.specs.Order.{exts, ints, Order}
-use Rattle.tree_check.proofs.Held.{bit-of, fewer-exts, exts-next, exts-mono}
+use Rattle.tree_same.specs.Order.{exts, ints}
+use Rattle.tree_check.proofs.Held.{fewer-exts, exts-next, exts-mono}
 use Rattle.tree_hold.specs.Moves.{each}
-use Rattle.tree_hold.specs.Edits.{GraftedBits, Grafted, Words, Graftable, Prunable}
+use Rattle.tree_hold.specs.Edits.{GraftedBits, Grafted, Prunable}
 use Rattle.tree_hold.proofs.Each.{past, each-length, each-in, each-out}
 use Rattle.tree_hold.proofs.GraftBits.{rank-old, rank-new, count-upto, exts-between, ints-upto}
 

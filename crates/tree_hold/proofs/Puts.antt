@@ -10,12 +10,12 @@ use lib.Dec.{eqb, ltb}
 use lib.Pow.{high}
 use lib.ListN.{getD}
 use lib.Count.{ones}
-use borrow.Author.Tests.{lt-ltb, le-ltb, eq-eqb, ne-eqb, eqb-true}
+use borrow.Author.Tests.{lt-ltb, le-ltb, eq-eqb, eqb-true}
 use Rattle.bits.specs.Bit.{bitAt}
 use Rattle.bits.specs.Count.{bit, count}
 use Rattle.bits.proofs.Tests.{and-split, below?, equal?, untrue}
 use Rattle.bits.proofs.Packed.{packed-bit, rank-count}
-use Rattle.tree.specs.Node.{bitsOf, childOf, baseOf, isSet}
+use Rattle.tree.specs.Node.{bitsOf, baseOf, isSet}
 use Rattle.tree.specs.Image.{Node, node, innerLen, bitHop, inner, setBit, word}
 use Rattle.tree.specs.Done.{nodeNo}
 use Rattle.tree.proofs.Counts.{count-mono, count-less}
@@ -60,9 +60,6 @@ module _ {ws ws′ hs hs′ : List ℕ} {n x b y h : ℕ} (o : Order ws n) (g : 
   at-place : (i k : ℕ) → i < n → k < 15 → isSet (bitsOf ws i) k ≡ true → getD hs′ (baseOf ws′ i + ones (bitsOf ws′ i % 2 ^ k)) 0 ≡ getD hs (baseOf ws i + ones (bitsOf ws i % 2 ^ k)) 0
   at-place i k l u s = go (below? i x) (below? x i)
     where
-      idx : ℕ
-      idx = baseOf ws i + ones (bitsOf ws i % 2 ^ k)
-
       in-node : ones (bitsOf ws i % 2 ^ k) < ones (bitsOf ws i % 2 ^ 15)
       in-node = rw (rank-count (bitsOf ws i) (isSet (bitsOf ws i)) k (λ j v. bit-of (bitsOf ws i) j), rank-count (bitsOf ws i) (isSet (bitsOf ws i)) 15 (λ j v. bit-of (bitsOf ws i) j)) (count-less (isSet (bitsOf ws i)) 15 k u s)
 

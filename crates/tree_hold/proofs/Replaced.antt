@@ -3,34 +3,24 @@ use mathlib.Core.Path.{_≡_, refl, sym, _∙_, ap, ap₂, subst, fun-ext}
 use mathlib.Core.Logic.{_⊎_, inl, inr}
 use mathlib.Core.Bool.{Bool, true, false, cond, _&&_, true≢false}
 use mathlib.Core.List.{List}
-use Prim.Native.Nat.{ℕ, zero, suc, _+_, _-_, _*_, _/_, _%_, _^_, _≤_, _<_}
+use Prim.Native.Nat.{ℕ, suc, _+_, _-_, _*_, _/_, _%_, _^_, _≤_, _<_}
 use native.Mathlib.Omega.{arith}
 use lib.Dec.{eqb, ltb}
 use lib.ListN.{length, getD, set, length-set}
 use lib.Seq.{getD-set-same, getD-set-other}
-use lib.Count.{ones}
 use borrow.Author.Tests.{eq-eqb, eqb-true, ltb-true}
 use Rattle.bits.specs.Count.{bit}
 use Rattle.bits.proofs.Tests.{decided, below?, equal?, and-split}
-use Rattle.tree.specs.Node.{bitsOf, baseOf, isSet}
-use Rattle.tree.specs.Image.{node, innerLen, bitHop, inner, nodes, hops, Image, imageBy}
-use Rattle.tree.proofs.Nodes.{inner-bit}
-use Rattle.tree_build.specs.Run.{WithBit}
-use Rattle.tree_build.proofs.Marks.{with-bit}
+use Rattle.tree.specs.Image.{node, bitHop, inner, hops}
 use Rattle.tree_same.specs.Read.{reached}
 use Rattle.tree_same.specs.Order.{ints, standsAt}
 use Rattle.tree_same.specs.Holding.{Holding}
-use Rattle.tree_same.proofs.Back.{Shaped, set-is}
-use Rattle.tree_same.proofs.Holdings.{nodes-are, hops-are, stands-found}
+use Rattle.tree_same.proofs.Back.{Shaped}
 use Rattle.tree_hold.specs.More.{withHop}
-use Rattle.tree_hold.specs.Edits.{HopPut, Puttable}
-use Rattle.tree_hold.proofs.Holds.{held-words}
+use Rattle.tree_hold.specs.Edits.{HopPut}
 use Rattle.tree_hold.proofs.Each.{past}
-use Rattle.tree_hold.proofs.PutBits.{low-upto}
-use Rattle.tree_hold.proofs.Puts.{leads-same, all-ints, put-holds}
-use Rattle.tree_hold.proofs.HopMade.{put-done}
-use Rattle.tree_hold.proofs.Undone.{same-held, image-sizes, put-back}
-use Rattle.tree_hold.proofs.Taken.{lenAt, bitsAt, hopPlace, Before, before}
+use Rattle.tree_hold.proofs.Puts.{put-holds}
+use Rattle.tree_hold.proofs.Taken.{lenAt, bitsAt, hopPlace, before}
 
 module _ (st : ℕ → ℕ → Bool) (hop : ℕ → ℕ → ℕ) (l q : ℕ) where
   -- the hops without this one, and with it again

@@ -1,25 +1,22 @@
 -- A hop taken away by its steps: the hops after its place move down by one, and the hop bases after its node are one less.
-use mathlib.Core.Path.{_≡_, refl, sym, _∙_, ap, subst}
+use mathlib.Core.Path.{_≡_, refl, sym, _∙_, ap}
 use mathlib.Core.Logic.{_⊎_, inl, inr}
-use mathlib.Core.Bool.{true, false}
+use mathlib.Core.Bool.{false}
 use mathlib.Core.List.{List}
-use Prim.Native.Nat.{ℕ, zero, suc, _+_, _-_, _*_, _/_, _%_, _^_, _≤_, _<_}
+use Prim.Native.Nat.{ℕ, suc, _+_, _-_, _*_, _/_, _%_, _^_, _≤_, _<_}
 use native.Mathlib.Omega.{arith}
 use lib.ListN.{length, getD, set, length-set}
 use lib.Seq.{getD-set-same, getD-set-other}
 use lib.Count.{ones}
-use Rattle.bits.specs.Count.{count}
 use Rattle.bits.proofs.Tests.{below?, equal?}
-use Rattle.bits.proofs.Packed.{rank-count}
 use Rattle.lists.specs.Edit.{drawn}
 use Rattle.lists.proofs.EditMoves.{length-drawn, drawn-in, drawn-before, drawn-after}
-use Rattle.tree.specs.Node.{bitsOf, childOf, baseOf, isSet}
-use Rattle.tree.proofs.Counts.{count-mono}
+use Rattle.tree.specs.Node.{bitsOf, baseOf, isSet}
 use Rattle.tree_build.specs.Run.{WithBit}
 use Rattle.tree_same.specs.Order.{ints}
-use Rattle.tree_check.proofs.Held.{bit-of, fewer-ints, ints-next, ints-mono}
+use Rattle.tree_check.proofs.Held.{fewer-ints, ints-next, ints-mono}
 use Rattle.tree_hold.specs.Moves.{each}
-use Rattle.tree_hold.specs.Edits.{Words, MarkedBits, HopPut, Puttable, Takable}
+use Rattle.tree_hold.specs.Edits.{MarkedBits, HopPut, Takable}
 use Rattle.tree_hold.proofs.Each.{past, each-length, each-in, each-out}
 use Rattle.tree_hold.proofs.PutBits.{low-upto, ints-after}
 

@@ -6,36 +6,33 @@ use mathlib.Core.Bool.{Bool, true, false, cond, _&&_, true≢false}
 use mathlib.Core.List.{List, _++_, append-nil}
 use Prim.Native.Nat.{ℕ, zero, suc, _+_, _-_, _*_, _/_, _%_, _^_, _≤_, _<_}
 use native.Mathlib.Omega.{arith}
-use lib.Dec.{eqb, ltb}
+use lib.Dec.{eqb}
 use lib.ListN.{length, getD, replicate}
 use lib.Seq.{ext-getD}
-use lib.Count.{ones}
-use borrow.Author.Tests.{eq-eqb, ne-eqb, eqb-true, le-ltb}
+use borrow.Author.Tests.{ne-eqb}
 use Rattle.bits.specs.Bit.{bitAt}
 use Rattle.bits.specs.Count.{bit}
-use Rattle.bits.proofs.Tests.{below?, equal?, and-split, untrue}
+use Rattle.bits.proofs.Tests.{below?, equal?}
 use Rattle.tree.specs.Node.{bitsOf, childOf, baseOf, isSet, childAt}
 use Rattle.tree.specs.Parts.{padded}
-use Rattle.tree.specs.Image.{Node, node, child, nodes, words, hops, Image, imageBy}
-use Rattle.tree.proofs.Nodes.{inner-bit, child-bit, words-length}
+use Rattle.tree.specs.Image.{node, child, nodes, words, hops, Image, imageBy}
+use Rattle.tree.proofs.Nodes.{child-bit, words-length}
 use Rattle.tree.proofs.Holds.{pad-length}
 use Rattle.tree_build.specs.Run.{WithBit}
 use Rattle.tree_build.proofs.Marks.{with-bit, word-bits}
 use Rattle.tree_same.specs.Read.{reached}
-use Rattle.tree_same.specs.Order.{exts, ints, standsAt}
+use Rattle.tree_same.specs.Order.{ints, standsAt}
 use Rattle.tree_same.specs.Holding.{Holding}
 use Rattle.tree_same.proofs.Back.{Shaped, set-is}
 use Rattle.tree_same.proofs.Holdings.{nodes-are, hops-are, holds-image, stands-found, image-holding}
 use Rattle.tree_check.proofs.Held.{bit-of}
-use Rattle.tree_hold.specs.More.{also, withHop}
-use Rattle.tree_hold.specs.Edits.{GraftedBits, Grafted, Graftable, MarkedBits, HopPut, Puttable}
+use Rattle.tree_hold.specs.More.{also}
+use Rattle.tree_hold.specs.Edits.{Grafted, Graftable, HopPut}
 use Rattle.tree_hold.proofs.Holds.{held-words}
 use Rattle.tree_hold.proofs.GraftBits.{rank-old, rank-new, count-upto}
 use Rattle.tree_hold.proofs.Grafts.{moved-low, all-ints, leads-moved, graft-holds}
 use Rattle.tree_hold.proofs.GraftMade.{graft-done}
-use Rattle.tree_hold.proofs.PutBits.{low-upto}
 use Rattle.tree_hold.proofs.Puts as puts
-use Rattle.tree_hold.proofs.HopMade.{put-done}
 
 -- ---- what was there before is determined
 

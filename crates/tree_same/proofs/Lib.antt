@@ -5,3 +5,4 @@ pub mod Plain
 pub mod Same
 pub mod Canonical
 pub mod Holdings
+pub mod OneImage

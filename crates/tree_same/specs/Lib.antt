@@ -3,3 +3,4 @@ pub mod Read
 pub mod Listed
 pub mod Order
 pub mod Holding
+pub mod OneImage

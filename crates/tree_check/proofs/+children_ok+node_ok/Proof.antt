@@ -1,12 +1,8 @@
 -- The node test calls the child-array test and back. What falls: 18 for each level left below, and in a child array one for each sibling left.
-use mathlib.Core.Path.{_≡_, sym, ap, ap₂, _∙_}
+use mathlib.Core.Path.{_≡_, sym, _∙_}
 use Prim.Native.Nat.{_+_, _*_, _/_, _^_, _≤_}
 use native.Mathlib.Omega.{arith}
 use borrow.Author.Needs.{needs}
-use lib.Count.{ones, ones-le}
-use lib.ListN.{getD}
-use denote.Ref.{now}
-use Rattle.tree_check.specs.WellFormed.{childrenOk}
 use Rattle.tree_check.proofs.Steps.{all-none, all-more, all-not, node-past, node-bad, node-last, node-bare, node-inner}
 use Prim.Native.Nat.{ℕ, _<_}
 use borrow.Fn.Kinds.{In}
@@ -229,7 +225,9 @@ node-ok-returns-3 : (t : ℕ) → node-ok-lts.Need-returns-3 (
   children-ok-below t,
   children-ok.Post,
 ) (node-ok-at t) node-ok.Post
-node-ok-returns-3 t c = node-last _ _ _ (c .before .before .before .before .before .if1 .left) (sym (c .before .before .is-set .ensures) ∙ c .before .if2 .left) (c .if3 .taken)
+node-ok-returns-3 t c =
+    let sound = c .before .before in
+    node-last _ _ _ (sound .before .before .before .if1 .left) (sym (sound .is-set .ensures) ∙ c .before .if2 .left) (c .if3 .taken)
 
 node-ok-returns-4 : (t : ℕ) → node-ok-lts.Need-returns-4 (
   is-set-reads.Asked,
@@ -241,7 +239,9 @@ node-ok-returns-4 : (t : ℕ) → node-ok-lts.Need-returns-4 (
   children-ok-below t,
   children-ok.Post,
 ) (node-ok-at t) node-ok.Post
-node-ok-returns-4 t c = node-bare _ _ _ (c .before .before .before .before .before .before .if1 .left) (sym (c .before .before .before .is-set .ensures) ∙ c .before .before .if2 .left) (c .before .if3 .left) (c .if4 .taken)
+node-ok-returns-4 t c =
+    let sound = c .before .before .before in
+    node-bare _ _ _ (sound .before .before .before .if1 .left) (sym (sound .is-set .ensures) ∙ c .before .before .if2 .left) (c .before .if3 .left) (c .if4 .taken)
 
 node-ok-wide-requires : (t : ℕ) → node-ok-lts.Need-wide-requires (
   is-set-reads.Asked,
@@ -289,7 +289,9 @@ node-ok-children-ok-requires : (t : ℕ) → node-ok-lts.Need-children-ok-requir
   children-ok-below t,
   children-ok.Post,
 ) (node-ok-at t) node-ok.Post
-node-ok-children-ok-requires t c κs = let s = c .before .before .before .before .before .before .before .before .before .before in omega (arith, s .pre .0, s .pre .1, c .children .ensures .1, c .before .wide .ensures .1)
+node-ok-children-ok-requires t c κs =
+    let start = c .before .before .before .before .before .before .before .before .before .before in
+    omega (arith, start .pre .0, start .pre .1, c .children .ensures .1, c .before .wide .ensures .1)
 
 node-ok-returns-5 : (t : ℕ) → node-ok-lts.Need-returns-5 (
   is-set-reads.Asked,
@@ -301,7 +303,13 @@ node-ok-returns-5 : (t : ℕ) → node-ok-lts.Need-returns-5 (
   children-ok-below t,
   children-ok.Post,
 ) (node-ok-at t) node-ok.Post
-node-ok-returns-5 t c = c .children-ok .ensures ∙ node-inner _ _ _ (c .before .before .before .before .before .before .before .before .before .if1 .left) (sym (c .before .before .before .before .before .before .is-set .ensures) ∙ c .before .before .before .before .before .if2 .left) (c .before .before .before .before .if3 .left) (c .before .before .before .if4 .left) _ _ (c .before .before .wide .ensures .0) (c .before .children .ensures .0)
+node-ok-returns-5 t c =
+    let told = c .before .before in
+    let bare = told .before in
+    let sound = bare .before .before .before in
+    c .children-ok .ensures
+    ∙ node-inner _ _ _ (sound .before .before .before .if1 .left) (sym (sound .is-set .ensures) ∙ bare .before .before .if2 .left)
+    (bare .before .if3 .left) (bare .if4 .left) _ _ (told .wide .ensures .0) (c .before .children .ensures .0)
 
 pub +children-ok+node-ok-spec : {M : Type 1} → statement M
 +children-ok+node-ok-spec = close μ-children-ok μ-node-ok (λ t. children-ok-lts.spec (

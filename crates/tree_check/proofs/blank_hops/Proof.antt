@@ -1,9 +1,9 @@
 -- The invariant: zeros stand from place k up to place j.
 use mathlib.Core.Path.{_≡_}
-use Prim.Native.Nat.{ℕ, _-_, _≤_, _<_}
+use Prim.Native.Nat.{_-_, _≤_, _<_}
 use native.Mathlib.Omega.{arith}
 use borrow.Author.Needs.{needs}
-use lib.ListN.{length, getD}
+use lib.ListN.{length}
 use Rattle.tree_check.proofs.Steps.{Blank, blank-none, blank-more, blank-not, blank-all}
 use Rattle.tree_check.proofs.blank_hops.Statement.{statement}
 use Rattle.tree_check.proofs.blank_hops.Tie as tie

@@ -1,9 +1,19 @@
 -- Each step that fails is one of the parts of `wellFormed`, and where none fails all of them hold.
-use Rattle.tree_check.proofs.Steps.{kept}
-use Rattle.tree_check.proofs.Steps.{check-none, check-root, check-room, check-few, check-hops, check-words-after, check-hops-after, check-passes}
+use Rattle.tree_check.proofs.Steps.{kept, check-none, check-root, check-room, check-few, check-hops, check-words-after, check-hops-after, check-passes}
 use borrow.Author.Needs.{needs}
 use Rattle.tree_check.proofs.check.Statement.{statement}
 use Rattle.tree_check.proofs.check.Tie as tie
+
+returns-8 : tie.Need-returns-8
+returns-8 c =
+    let words-blank = c .before .before .before in
+    let fine = words-blank .before .before in
+    let counted = fine .before .before .before in
+    let root = counted .before .before in
+    check-passes _ _ _ (root .before .before .shape .ensures .0) (root .before .if1 .left) _ (counted .hops-in .ensures)
+    (kept _ _ (root .root-ok .ensures) (counted .before .if2 .left)) (fine .before .before .if3 .left) (fine .before .if4 .left)
+    (kept _ _ (fine .hops-fine .ensures) (words-blank .before .if5 .left)) (kept _ _ (words-blank .blank-words .ensures) (c .before .before .if6 .left))
+    (kept _ _ (c .before .blank-hops .ensures) (c .if7 .left))
 
 pub check-spec : {M : Type 1} → statement M
 check-spec =
@@ -23,4 +33,4 @@ check-spec =
     (λ c. search check-words-after)
     (λ c κs. search needs)
     (λ c. search check-hops-after)
-    (λ c. check-passes _ _ _ (c .before .before .before .before .before .before .before .before .before .before .before .before .shape .ensures .0) (c .before .before .before .before .before .before .before .before .before .before .before .if1 .left) _ (c .before .before .before .before .before .before .before .before .hops-in .ensures) (kept _ _ (c .before .before .before .before .before .before .before .before .before .before .root-ok .ensures) (c .before .before .before .before .before .before .before .before .before .if2 .left)) (c .before .before .before .before .before .before .before .if3 .left) (c .before .before .before .before .before .before .if4 .left) (kept _ _ (c .before .before .before .before .before .hops-fine .ensures) (c .before .before .before .before .if5 .left)) (kept _ _ (c .before .before .before .blank-words .ensures) (c .before .before .if6 .left)) (kept _ _ (c .before .blank-hops .ensures) (c .if7 .left))))
+    returns-8)

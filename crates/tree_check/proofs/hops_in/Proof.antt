@@ -5,6 +5,12 @@ use borrow.Author.Needs.{needs}
 use Rattle.tree_check.proofs.hops_in.Statement.{statement}
 use Rattle.tree_check.proofs.hops_in.Tie as tie
 
+returns : tie.Need-returns
+returns c =
+    let base = c .before .before .before in
+    let pre = base .before .before .before .pre in
+    hops-last _ _ _ _ (pre .0) (pre .2) (base .wide .ensures .0) (c .wide2 .ensures .0 ∙ c .before .ones-below .ensures .0)
+
 pub hops-in-spec : {M : Type 1} → statement M
 hops-in-spec =
     tie.close
@@ -22,4 +28,4 @@ hops-in-spec =
     (λ c κs. search needs)
     (λ c κs. search needs)
     (λ c. search needs)
-    (λ c. hops-last _ _ _ _ (c .before .before .before .before .before .before .pre .0) (c .before .before .before .before .before .before .pre .2) (c .before .before .before .wide .ensures .0) (c .wide2 .ensures .0 ∙ c .before .ones-below .ensures .0)))
+    returns)

@@ -1,6 +1,6 @@
 -- The invariant: the first i nodes have their bases, and no number of nodes up to i has all its children among them.
 use mathlib.Core.Path.{_≡_, sym, _∙_}
-use Prim.Native.Nat.{ℕ, _-_, _/_, _≤_, _<_}
+use Prim.Native.Nat.{_-_, _/_, _≤_, _<_}
 use native.Mathlib.Omega.{arith}
 use borrow.Author.Needs.{needs}
 use lib.ListN.{length}
@@ -13,6 +13,37 @@ Inv-loop words lent i₀ t₀ h₀ i t h = (lent ≡ length words / 3) × Passed
 
 abbrev μ-loop : tie.MeasureT-loop
 μ-loop words lent i₀ t₀ h₀ i t h = lent - i
+
+-- the child base, and the hop base, are not those of the fixed order
+returns-2 : tie.Need-returns-2 Inv-loop μ-loop
+returns-2 c =
+    let room = c .before .before .before in
+    let inv = room .before .before .loop .inv in (
+      pass-child _ _ _ _ (inv .1) (room .before .loop-test .taken) (omega (arith, room .if1 .left, inv .0)) (λ e. c .if2 .taken (c .before .wide .ensures .0 ∙ e)),
+      omega arith,
+    )
+
+returns-3 : tie.Need-returns-3 Inv-loop μ-loop
+returns-3 c =
+    let room = c .before .before .before .before .before .before in
+    let inv = room .before .before .loop .inv in (
+      pass-base _ _ _ _ (inv .1) (room .before .loop-test .taken) (omega (arith, room .if1 .left, inv .0)) (λ e. c .if3 .taken (c .before .wide2 .ensures .0 ∙ e)),
+      omega arith,
+    )
+
+-- both are
+loop-again : tie.Need-loop-again Inv-loop μ-loop
+loop-again c =
+    let counted = c .before .before .before in
+    let hop-base = counted .before .before in
+    let child-base = hop-base .before .before .before in
+    let room = child-base .before .before .before in
+    let inv = room .before .before .loop .inv in (
+      inv .0,
+      pass-next _ _ _ _ (inv .1) (room .before .loop-test .taken) (omega (arith, room .if1 .left, inv .0))
+          (sym (child-base .before .wide .ensures .0) ∙ child-base .if2 .left) (sym (hop-base .before .wide2 .ensures .0) ∙ hop-base .if3 .left) _ _
+          (c .before .before .wide3 .ensures .0 ∙ counted .children .ensures .0) (c .wide4 .ensures .0 ∙ c .before .ones-below .ensures .0),
+    )
 
 pub shape-spec : {M : Type 1} → statement M
 shape-spec =
@@ -27,19 +58,13 @@ shape-spec =
     (λ c. search needs)
     (λ c. search needs)
     (λ c κs. search needs)
-    (λ c. (
-      pass-child _ _ _ _ (c .before .before .before .before .before .loop .inv .1) (c .before .before .before .before .loop-test .taken) (omega (arith, c .before .before .before .if1 .left, c .before .before .before .before .before .loop .inv .0)) (λ e. c .if2 .taken (c .before .wide .ensures .0 ∙ e)),
-      omega arith,
-    ))
+    returns-2
     (λ c. search needs)
     (λ c. search needs)
     (λ c. search needs)
     (λ c. search needs)
     (λ c κs. search needs)
-    (λ c. (
-      pass-base _ _ _ _ (c .before .before .before .before .before .before .before .before .loop .inv .1) (c .before .before .before .before .before .before .before .loop-test .taken) (omega (arith, c .before .before .before .before .before .before .if1 .left, c .before .before .before .before .before .before .before .before .loop .inv .0)) (λ e. c .if3 .taken (c .before .wide2 .ensures .0 ∙ e)),
-      omega arith,
-    ))
+    returns-3
     (λ c. search needs)
     (λ c. search needs)
     (λ c. search needs)
@@ -51,10 +76,5 @@ shape-spec =
     (λ c. search needs)
     (λ c. search needs)
     (λ c. search needs)
-    (λ c. (
-      c .before .before .before .before .before .before .before .before .before .before .before .before .before .loop .inv .0,
-      pass-next _ _ _ _ (c .before .before .before .before .before .before .before .before .before .before .before .before .before .loop .inv .1) (c .before .before .before .before .before .before .before .before .before .before .before .before .loop-test .taken) (omega (arith, c .before .before .before .before .before .before .before .before .before .before .before .if1 .left, c .before .before .before .before .before .before .before .before .before .before .before .before .before .loop .inv .0))
-          (sym (c .before .before .before .before .before .before .before .before .before .wide .ensures .0) ∙ c .before .before .before .before .before .before .before .before .if2 .left) (sym (c .before .before .before .before .before .before .wide2 .ensures .0) ∙ c .before .before .before .before .before .if3 .left) _ _
-          (c .before .before .wide3 .ensures .0 ∙ c .before .before .before .children .ensures .0) (c .wide4 .ensures .0 ∙ c .before .ones-below .ensures .0),
-    ))
+    loop-again
     (λ c. (search pass-end, omega (arith, c .before .loop .inv .1 .lent))))

@@ -34,7 +34,10 @@ mul-open-words-2 c = search needs
 
 open-words-requires : tie.Need-open-words-requires
 open-words-requires c κs =
-    graft-open (c .before .before .before .before .before .before .before .before .before .before .before .pre) _ _ _ (c .before .before .before .before .before .before .before .child-place .ensures .0) _ (c .before .before .before .before .before .narrow .ensures) (c .before .before .before .before .narrow2 .ensures) (c .before .before .before .put-node .ensures)
+    let put = c .before .before .before in
+    let at = put .before .before .before .before in
+    graft-open (at .before .before .before .before .pre) _ _ _ (at .child-place .ensures .0) _
+    (put .before .before .narrow .ensures) (put .before .narrow2 .ensures) (put .put-node .ensures)
 
 add-raise : tie.Need-add-raise
 add-raise c = search needs
@@ -44,8 +47,11 @@ add-raise-2 c = search needs
 
 raise-requires : tie.Need-raise-requires
 raise-requires c κs =
-    graft-raise (c .before .before .before .before .before .before .before .before .before .before .before .before .before .before .before .pre) _ _ _ (c .before .before .before .before .before .before .before .before .before .before .before .child-place .ensures .0) _ (c .before .before .before .before .before .before .before .before .before .narrow .ensures) (c .before .before .before .before .before .before .before .before .narrow2 .ensures) (c .before .before .before .before .before .before .before .put-node .ensures)
-    _ (c .before .before .before .open-words .ensures)
+    let opened = c .before .before .before in
+    let put = opened .before .before .before .before in
+    let at = put .before .before .before .before in
+    graft-raise (at .before .before .before .before .pre) _ _ _ (at .child-place .ensures .0) _
+    (put .before .before .narrow .ensures) (put .before .narrow2 .ensures) (put .put-node .ensures) _ (opened .open-words .ensures)
 
 mul-words : tie.Need-mul-words
 mul-words c = search needs
@@ -55,8 +61,13 @@ mul-words-2 c = search needs
 
 slice-write-words : tie.Need-slice-write-words
 slice-write-words c =
-    graft-stores (c .before .before .before .before .before .before .before .before .before .before .before .before .before .before .before .before .before .before .pre) _ _ _ (c .before .before .before .before .before .before .before .before .before .before .before .before .before .before .child-place .ensures .0) _ (c .before .before .before .before .before .before .before .before .before .before .before .before .narrow .ensures) (c .before .before .before .before .before .before .before .before .before .before .before .narrow2 .ensures) (c .before .before .before .before .before .before .before .before .before .before .put-node .ensures)
-    _ (c .before .before .before .before .before .before .open-words .ensures) _ (c .before .before .raise .ensures) .0
+    let raised = c .before .before in
+    let opened = raised .before .before .before .before in
+    let put = opened .before .before .before .before in
+    let at = put .before .before .before .before in
+    graft-stores (at .before .before .before .before .pre) _ _ _ (at .child-place .ensures .0) _
+    (put .before .before .narrow .ensures) (put .before .narrow2 .ensures) (put .put-node .ensures) _ (opened .open-words .ensures)
+    _ (raised .raise .ensures) .0
 
 add-with-bit : tie.Need-add-with-bit
 add-with-bit c = search needs
@@ -72,20 +83,35 @@ mul-words-4 c = search needs
 
 slice-write-words-2 : tie.Need-slice-write-words-2
 slice-write-words-2 c =
+    let raised = c .before .before .before in
+    let opened = raised .before .before .before .before in
+    let put = opened .before .before .before .before in
+    let at = put .before .before .before .before in
     simp length-set
-    (graft-stores (c .before .before .before .before .before .before .before .before .before .before .before .before .before .before .before .before .before .before .before .pre) _ _ _ (c .before .before .before .before .before .before .before .before .before .before .before .before .before .before .before .child-place .ensures .0) _ (c .before .before .before .before .before .before .before .before .before .before .before .before .before .narrow .ensures) (c .before .before .before .before .before .before .before .before .before .before .before .before .narrow2 .ensures) (c .before .before .before .before .before .before .before .before .before .before .before .put-node .ensures)
-    _ (c .before .before .before .before .before .before .before .open-words .ensures) _ (c .before .before .before .raise .ensures) .1)
+    (graft-stores (at .before .before .before .before .pre) _ _ _ (at .child-place .ensures .0) _
+    (put .before .before .narrow .ensures) (put .before .narrow2 .ensures) (put .put-node .ensures) _ (opened .open-words .ensures)
+    _ (raised .raise .ensures) .1)
 
 same-length : tie.Need-same-length
 same-length c =
+    let raised = c .before .before .before in
+    let opened = raised .before .before .before .before in
+    let put = opened .before .before .before .before in
+    let at = put .before .before .before .before in
     simp length-set
-    (graft-size (c .before .before .before .before .before .before .before .before .before .before .before .before .before .before .before .before .before .before .before .pre) _ _ _ (c .before .before .before .before .before .before .before .before .before .before .before .before .before .before .before .child-place .ensures .0) _ (c .before .before .before .before .before .before .before .before .before .before .before .before .before .narrow .ensures) (c .before .before .before .before .before .before .before .before .before .before .before .before .narrow2 .ensures) (c .before .before .before .before .before .before .before .before .before .before .before .put-node .ensures)
-    _ (c .before .before .before .before .before .before .before .open-words .ensures) _ (c .before .before .before .raise .ensures))
+    (graft-size (at .before .before .before .before .pre) _ _ _ (at .child-place .ensures .0) _
+    (put .before .before .narrow .ensures) (put .before .narrow2 .ensures) (put .put-node .ensures) _ (opened .open-words .ensures)
+    _ (raised .raise .ensures))
 
 returns : tie.Need-returns
 returns c =
-    graft-leaves (c .before .before .before .before .before .before .before .before .before .before .before .before .before .before .before .before .before .before .before .pre) _ _ _ (c .before .before .before .before .before .before .before .before .before .before .before .before .before .before .before .child-place .ensures .0) _ (c .before .before .before .before .before .before .before .before .before .before .before .before .before .narrow .ensures) (c .before .before .before .before .before .before .before .before .before .before .before .before .narrow2 .ensures) (c .before .before .before .before .before .before .before .before .before .before .before .put-node .ensures)
-    _ (c .before .before .before .before .before .before .before .open-words .ensures) _ (c .before .before .before .raise .ensures) _ (c .with-bit .ensures)
+    let raised = c .before .before .before in
+    let opened = raised .before .before .before .before in
+    let put = opened .before .before .before .before in
+    let at = put .before .before .before .before in
+    graft-leaves (at .before .before .before .before .pre) _ _ _ (at .child-place .ensures .0) _
+    (put .before .before .narrow .ensures) (put .before .narrow2 .ensures) (put .put-node .ensures) _ (opened .open-words .ensures)
+    _ (raised .raise .ensures) _ (c .with-bit .ensures)
 
 pub graft-spec : {M : Type 1} → statement M
 graft-spec =

@@ -39,7 +39,10 @@ add-lower-2 c = search needs
 
 lower-requires : tie.Need-lower-requires
 lower-requires c κs =
-    prune-lower (c .before .before .before .before .before .before .pre) _ _ (c .before .before .child-place .ensures .0) (c .before .without-bit .ensures .0) (c .before .without-bit .ensures .1) (c .before .without-bit .ensures .2)
+    let cleared = c .before in
+    let at = cleared .before in
+    prune-lower (at .before .before .before .before .pre) _ _ (at .child-place .ensures .0)
+    (cleared .without-bit .ensures .0) (cleared .without-bit .ensures .1) (cleared .without-bit .ensures .2)
 
 mul-close-words : tie.Need-mul-close-words
 mul-close-words c = search needs
@@ -49,19 +52,43 @@ mul-close-words-2 c = search needs
 
 close-words-requires : tie.Need-close-words-requires
 close-words-requires c κs =
-    prune-close (c .before .before .before .before .before .before .before .before .before .before .pre) _ _ (c .before .before .before .before .before .before .child-place .ensures .0) (c .before .before .before .before .before .without-bit .ensures .0) (c .before .before .before .before .before .without-bit .ensures .1) (c .before .before .before .before .before .without-bit .ensures .2) _ (c .before .before .before .lower .ensures)
+    let lowered = c .before .before .before in
+    let cleared = lowered .before .before in
+    let at = cleared .before in
+    prune-close (at .before .before .before .before .pre) _ _ (at .child-place .ensures .0)
+    (cleared .without-bit .ensures .0) (cleared .without-bit .ensures .1) (cleared .without-bit .ensures .2) _ (lowered .lower .ensures)
 
 put-node-requires : tie.Need-put-node-requires
 put-node-requires c κs =
-    prune-put (c .before .before .before .before .before .before .before .before .before .before .before .before .before .before .pre) _ _ (c .before .before .before .before .before .before .before .before .before .before .child-place .ensures .0) (c .before .before .before .before .before .before .before .before .before .without-bit .ensures .0) (c .before .before .before .before .before .before .before .before .before .without-bit .ensures .1) (c .before .before .before .before .before .before .before .before .before .without-bit .ensures .2) _ (c .before .before .before .before .before .before .before .lower .ensures) _ (c .before .before .before .close-words .ensures)
+    let closed = c .before .before .before in
+    let lowered = closed .before .before .before .before in
+    let cleared = lowered .before .before in
+    let at = cleared .before in
+    prune-put (at .before .before .before .before .pre) _ _ (at .child-place .ensures .0)
+    (cleared .without-bit .ensures .0) (cleared .without-bit .ensures .1) (cleared .without-bit .ensures .2)
+    _ (lowered .lower .ensures) _ (closed .close-words .ensures)
 
 same-length : tie.Need-same-length
 same-length c =
-    prune-size (c .before .before .before .before .before .before .before .before .before .before .before .before .before .before .before .before .before .pre) _ _ (c .before .before .before .before .before .before .before .before .before .before .before .before .before .child-place .ensures .0) (c .before .before .before .before .before .before .before .before .before .before .before .before .without-bit .ensures .0) (c .before .before .before .before .before .before .before .before .before .before .before .before .without-bit .ensures .1) (c .before .before .before .before .before .before .before .before .before .before .before .before .without-bit .ensures .2) _ (c .before .before .before .before .before .before .before .before .before .before .lower .ensures) _ (c .before .before .before .before .before .before .close-words .ensures) _ (c .before .before .put-node .ensures)
+    let blank = c .before .before in
+    let closed = blank .before .before .before .before in
+    let lowered = closed .before .before .before .before in
+    let cleared = lowered .before .before in
+    let at = cleared .before in
+    prune-size (at .before .before .before .before .pre) _ _ (at .child-place .ensures .0)
+    (cleared .without-bit .ensures .0) (cleared .without-bit .ensures .1) (cleared .without-bit .ensures .2)
+    _ (lowered .lower .ensures) _ (closed .close-words .ensures) _ (blank .put-node .ensures)
 
 returns : tie.Need-returns
 returns c =
-    prune-leaves (c .before .before .before .before .before .before .before .before .before .before .before .before .before .before .before .before .before .pre) _ _ (c .before .before .before .before .before .before .before .before .before .before .before .before .before .child-place .ensures .0) (c .before .before .before .before .before .before .before .before .before .before .before .before .without-bit .ensures .0) (c .before .before .before .before .before .before .before .before .before .before .before .before .without-bit .ensures .1) (c .before .before .before .before .before .before .before .before .before .before .before .before .without-bit .ensures .2) _ (c .before .before .before .before .before .before .before .before .before .before .lower .ensures) _ (c .before .before .before .before .before .before .close-words .ensures) _ (c .before .before .put-node .ensures)
+    let blank = c .before .before in
+    let closed = blank .before .before .before .before in
+    let lowered = closed .before .before .before .before in
+    let cleared = lowered .before .before in
+    let at = cleared .before in
+    prune-leaves (at .before .before .before .before .pre) _ _ (at .child-place .ensures .0)
+    (cleared .without-bit .ensures .0) (cleared .without-bit .ensures .1) (cleared .without-bit .ensures .2)
+    _ (lowered .lower .ensures) _ (closed .close-words .ensures) _ (blank .put-node .ensures)
 
 pub prune-spec : {M : Type 1} → statement M
 prune-spec =

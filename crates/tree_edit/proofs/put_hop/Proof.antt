@@ -18,21 +18,25 @@ hop-place-requires c κs = search needs
 
 open-hops-requires : tie.Need-open-hops-requires
 open-hops-requires c κs =
-    put-open (c .before .before .before .before .before .before .pre) _ (c .before .hop-place .ensures .0)
+    let at = c .before in
+    put-open (at .before .before .before .before .before .pre) _ (at .hop-place .ensures .0)
 
 mul-hops : tie.Need-mul-hops
 mul-hops c = search needs
 
 slice-write-hops : tie.Need-slice-write-hops
 slice-write-hops c =
-    put-store (c .before .before .before .before .before .before .before .before .before .pre) _ (c .before .before .before .before .hop-place .ensures .0) _ (c .before .before .open-hops .ensures)
+    let opened = c .before .before in
+    let at = opened .before .before in
+    put-store (at .before .before .before .before .before .pre) _ (at .hop-place .ensures .0) _ (opened .open-hops .ensures)
 
 add-raise : tie.Need-add-raise
 add-raise c = search needs
 
 raise-requires : tie.Need-raise-requires
 raise-requires c κs =
-    put-raise (c .before .before .before .before .before .before .before .before .before .before .pre) _ (c .before .before .before .before .before .hop-place .ensures .0)
+    let at = c .before .before .before .before .before in
+    put-raise (at .before .before .before .before .before .pre) _ (at .hop-place .ensures .0)
 
 with-bit-requires : tie.Need-with-bit-requires
 with-bit-requires c κs = search needs
@@ -54,7 +58,11 @@ same-length-2 c = search needs
 
 returns : tie.Need-returns
 returns c =
-    put-leaves (c .before .before .before .before .before .before .before .before .before .before .before .before .before .before .pre) _ (c .before .before .before .before .before .before .before .before .before .hop-place .ensures .0) _ (c .before .before .before .before .before .before .before .open-hops .ensures) _ (c .before .before .before .raise .ensures) _ _ (c .with-bit .ensures)
+    let raised = c .before .before .before in
+    let opened = raised .before .before .before .before in
+    let at = opened .before .before in
+    put-leaves (at .before .before .before .before .before .pre) _ (at .hop-place .ensures .0) _ (opened .open-hops .ensures)
+    _ (raised .raise .ensures) _ _ (c .with-bit .ensures)
 
 pub put-hop-spec : {M : Type 1} → statement M
 put-hop-spec =

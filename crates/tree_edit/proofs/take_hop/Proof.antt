@@ -33,11 +33,17 @@ add-lower c = search needs
 
 lower-requires : tie.Need-lower-requires
 lower-requires c κs =
-    take-lower (c .before .before .before .before .before .before .before .pre) _ _ (c .before .before .hop-place .ensures .0) (c .before .without-bit .ensures .0) (c .before .without-bit .ensures .1) (c .before .without-bit .ensures .2)
+    let cleared = c .before in
+    let at = cleared .before in
+    take-lower (at .before .before .before .before .before .pre) _ _ (at .hop-place .ensures .0)
+    (cleared .without-bit .ensures .0) (cleared .without-bit .ensures .1) (cleared .without-bit .ensures .2)
 
 close-hops-requires : tie.Need-close-hops-requires
 close-hops-requires c κs =
-    take-close (c .before .before .before .before .before .before .before .before .before .before .before .pre) _ _ (c .before .before .before .before .before .before .hop-place .ensures .0) (c .before .before .before .before .before .without-bit .ensures .0) (c .before .before .before .before .before .without-bit .ensures .1) (c .before .before .before .before .before .without-bit .ensures .2)
+    let cleared = c .before .before .before .before .before in
+    let at = cleared .before in
+    take-close (at .before .before .before .before .before .pre) _ _ (at .hop-place .ensures .0)
+    (cleared .without-bit .ensures .0) (cleared .without-bit .ensures .1) (cleared .without-bit .ensures .2)
 
 mul-hops : tie.Need-mul-hops
 mul-hops c = search needs
@@ -47,14 +53,26 @@ slice-write-hops c = search needs
 
 same-length : tie.Need-same-length
 same-length c =
-    take-size (c .before .before .before .before .before .before .before .before .before .before .before .before .before .before .pre) _ _ (c .before .before .before .before .before .before .before .before .before .hop-place .ensures .0) (c .before .before .before .before .before .before .before .before .without-bit .ensures .0) (c .before .before .before .before .before .before .before .before .without-bit .ensures .1) (c .before .before .before .before .before .before .before .before .without-bit .ensures .2) _ _ (c .before .before .before .before .before .before .lower .ensures) (c .before .before .close-hops .ensures)
+    let closed = c .before .before in
+    let lowered = closed .before .before .before .before in
+    let cleared = lowered .before .before in
+    let at = cleared .before in
+    take-size (at .before .before .before .before .before .pre) _ _ (at .hop-place .ensures .0)
+    (cleared .without-bit .ensures .0) (cleared .without-bit .ensures .1) (cleared .without-bit .ensures .2)
+    _ _ (lowered .lower .ensures) (closed .close-hops .ensures)
 
 same-length-2 : tie.Need-same-length-2
 same-length-2 c = search needs
 
 returns : tie.Need-returns
 returns c =
-    take-leaves (c .before .before .before .before .before .before .before .before .before .before .before .before .before .before .pre) _ _ (c .before .before .before .before .before .before .before .before .before .hop-place .ensures .0) (c .before .before .before .before .before .before .before .before .without-bit .ensures .0) (c .before .before .before .before .before .before .before .before .without-bit .ensures .1) (c .before .before .before .before .before .before .before .before .without-bit .ensures .2) _ _ (c .before .before .before .before .before .before .lower .ensures) (c .before .before .close-hops .ensures)
+    let closed = c .before .before in
+    let lowered = closed .before .before .before .before in
+    let cleared = lowered .before .before in
+    let at = cleared .before in
+    take-leaves (at .before .before .before .before .before .pre) _ _ (at .hop-place .ensures .0)
+    (cleared .without-bit .ensures .0) (cleared .without-bit .ensures .1) (cleared .without-bit .ensures .2)
+    _ _ (lowered .lower .ensures) (closed .close-hops .ensures)
 
 pub take-hop-spec : {M : Type 1} → statement M
 take-hop-spec =
