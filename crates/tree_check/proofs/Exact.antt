@@ -71,7 +71,7 @@ passes-builds ws hs narrow e =
     }
 
 -- an accepted input has at most 4,096 routes
-accepted-few : (s ws hs vs : List ℕ) → built s ws hs .said ≡ accepted vs → length (routesIn s) ≤ 4096
+pub accepted-few : (s ws hs vs : List ℕ) → built s ws hs .said ≡ accepted vs → length (routesIn s) ≤ 4096
 unfolding built
 accepted-few s ws hs vs e = go (input-checked s) e
   where
