@@ -49,6 +49,10 @@
  *   gh_lookup_many   0; each word of out: the low 32 bits of what gh_lookup answers
  *   gh_build         bits 16 to 31: hops; 32 to 63: nodes
  *   gh_tree_lookup   bits 8 to 15: nodes read, and one more where a hop is answered; 16 to 31: hop, 0 for no route
+ *   gh_tree_test     bits 16 to 31: hops; 32 to 63: nodes
+ *   gh_tree_announce bit 8: the prefix stood and its hop was replaced; bits 16 to 31: hops after the call;
+ *                    32 to 63: nodes after the call
+ *   gh_tree_withdraw bits 16 to 31: hops after the call; 32 to 63: nodes after the call
  *   gh_run           bits 16 to 31: first record of the run; 32 to 47: records in it
  *   gh_tally         0
  *   gh_route         bits 8 to 14: length; 15: mark; 16 to 31: hop; 32 to 63: address; no record of that index: all 0
@@ -64,15 +68,17 @@
  *
  * THREADS. No call has memory of its own, so calls over different arrays may run at the same time, in threads and in
  * interrupts. Over the same arrays calls that only read them may run at the same time: every lookup, the report,
- * the run, the tally, a route read back. A call that writes an array (make, load, announce, withdraw, build) runs alone:
- * no other call may use that array meanwhile, lookups neither. To change a table beside readers, keep two sets of arrays:
- * change the set that no reader uses, hand it to the readers (an atomic pointer to the struct), wait until no reader has
- * the old one, and copy arrays and count over or make the same change there. There is no pointer in the arrays, so a
- * copy of them with geometry and count is the same table.
+ * the test of an image, the run, the tally, a route read back. A call that writes an array (make, load, announce,
+ * withdraw, build) runs alone: no other call may use that array meanwhile, lookups neither. To change a table beside
+ * readers, keep two sets of arrays: change the set that no reader uses, hand it to the readers (an atomic pointer to the
+ * struct), wait until no reader has the old one, and copy arrays and count over or make the same change there. There is
+ * no pointer in the arrays, so a copy of them with geometry and count is the same table. It is so with images too: a
+ * change in place moves nodes, and a reader beside it would meet halves.
  *
- * STACK. gh_load, gh_announce, gh_withdraw and gh_report take at most GH_STACK_TABLE bytes of stack, the others
- * GH_STACK. Measured for x86-64 it is 44 KB for announce, withdraw and the report, 42 KB for load, and under 200 bytes
- * for each of the others. None is recursive.
+ * STACK. gh_load, gh_announce, gh_withdraw and gh_report take at most GH_STACK_TABLE bytes of stack, the test and the
+ * changes of an image GH_STACK_IMAGE, the others GH_STACK. On x86-64 and on Arm it is 44 KB for announce, withdraw and
+ * the report, 42 KB for load, 8.5 KB for an image, and under 200 bytes for each of the others. Only the test of an image
+ * is recursive: the test of a node calls that of its children, and back, at most 17 calls for each of 8 depths.
  *
  * WHAT THE LIBRARY NEEDS: memcpy and memset, and nothing else of a C library.
  */
@@ -140,6 +146,7 @@ extern "C" {
 #define GH_MAP_CELLS       131071     /* their cells */
 
 #define GH_STACK_TABLE     49152      /* bytes of stack: load, announce, withdraw, report */
+#define GH_STACK_IMAGE     12288      /* gh_tree_test, gh_tree_announce, gh_tree_withdraw */
 #define GH_STACK           1024       /* the other calls */
 
 /* ---- Refusals -------------------------------------------------------------------------------------------------- */
@@ -168,17 +175,17 @@ static inline const char *gh_meaning(unsigned number)
         /*  0 */ "accepted",
         /*  1 */ "geometry outside the limits",
         /*  2 */ "a lent array has another size than it must, or too many chunks or records of room",
-        /*  3 */ "length over 32, or a bit set after the length; announce and withdraw: length over 32 alone",
+        /*  3 */ "length over 32, or a bit set after the length; announce and withdraw on a table: length over 32 alone",
         /*  4 */ "hop not 1 to 32,767",
         /*  5 */ "table not sound; in lookup only: a chunk number is 0 or beyond its pool, or a third cell is no leaf",
-        /*  6 */ "announce: list room full; load: more records than room; any record input: over 4,096",
+        /*  6 */ "announce: list room full, in an image 4,096 routes stand; load: more records than room; any record input: over 4,096",
         /*  7 */ "need for second chunks exceeds those lent",
         /*  8 */ "need for third chunks exceeds those lent",
         /*  9 */ "withdrawn prefix doesn't stand",
         /* 10 */ "record input not a multiple of 8 bytes, mark over 1, or not ascending; announce: mark over 1",
         /* 11 */ "too few whole nodes lent",
         /* 12 */ "too few hops lent",
-        /* 13 */ "image broken on this walk: bit 15 set, child or hop beyond what is lent, no root, hop outside 1 to 32,767; bit maps: such a hop at the first set bit",
+        /* 13 */ "image broken on this walk: bit 15 set, child or hop beyond what is lent, no root, hop outside 1 to 32,767; image tested or changed: not well formed; bit maps: such a hop at the first set bit",
     };
     return number < sizeof texts / sizeof *texts ? texts[number] : "no number of a refusal";
 }
@@ -188,15 +195,15 @@ static inline const char *gh_meaning(unsigned number)
 #define GH_NUMBER(a)       ((unsigned)((a) & 0xff))               /* the refusal's number, 0: accepted */
 #define GH_HAS_INDEX(a)    ((unsigned)((a) >> 8 & 1))             /* refused: an index is carried */
 #define GH_INDEX(a)        ((uint32_t)((a) >> 32))                /* refused: that index */
-#define GH_REPLACED(a)     ((unsigned)((a) >> 8 & 1))             /* gh_announce */
+#define GH_REPLACED(a)     ((unsigned)((a) >> 8 & 1))             /* gh_announce, gh_tree_announce */
 #define GH_CLEARED(a)      ((unsigned)((a) >> 9 & 1))             /* accepted gh_announce and gh_withdraw */
 #define GH_COUNT(a)        ((unsigned)((a) >> 16 & 0xffff))       /* make, load, announce, withdraw, report: routes */
 #define GH_NEED_SECOND(a)  ((unsigned)((a) >> 32 & 0xffff))       /* gh_report */
 #define GH_NEED_THIRD(a)   ((unsigned)((a) >> 48 & 0xffff))       /* gh_report */
 #define GH_READS(a)        ((unsigned)((a) >> 8 & 0xff))          /* gh_lookup: cells read; gh_tree_lookup: as above */
 #define GH_HOP(a)          ((unsigned)((a) >> 16 & 0xffff))       /* lookups and gh_route: hop, 0 for none */
-#define GH_HOPS(a)         ((unsigned)((a) >> 16 & 0xffff))       /* gh_build */
-#define GH_NODES(a)        ((uint32_t)((a) >> 32))                /* gh_build */
+#define GH_HOPS(a)         ((unsigned)((a) >> 16 & 0xffff))       /* gh_build; test and changes of an image */
+#define GH_NODES(a)        ((uint32_t)((a) >> 32))                /* the same */
 #define GH_RUN_FIRST(a)    ((unsigned)((a) >> 16 & 0xffff))       /* gh_run */
 #define GH_RUN_RECORDS(a)  ((unsigned)((a) >> 32 & 0xffff))       /* gh_run */
 #define GH_ROUTE_LEN(a)    ((unsigned)((a) >> 8 & 0x7f))          /* gh_route */
@@ -305,6 +312,31 @@ GH_CALL
 uint64_t gh_tree_lookup(const uint32_t *words, size_t words_len,
                         const uint16_t *hops, size_t hops_len,
                         uint32_t addr);
+
+/* Tests a tree image: whether some record input builds these very words and hops into arrays of these lengths. Then
+ * bitmaps and hops are right, the bases are those of the fixed order, no path ends without a route but the bare root of
+ * an empty list, and everything after the last used is zero. Answers nodes and hops as gh_build does. A lookup asks for
+ * less. Each word and each hop is read a bounded number of times, whatever they are. Refusals: 13. */
+GH_CALL
+uint64_t gh_tree_test(const uint32_t *words, size_t words_len,
+                      const uint16_t *hops, size_t hops_len);
+
+/* Adds the route addr/len to hop to a tree image itself, or replaces the hop of that prefix where it stands. The image
+ * is tested first; no list and no second copy is needed. Words and hops then are those of a fresh build, into the same
+ * arrays, from the routes then standing, and no hop before the place of the changed one is altered. An image of no
+ * routes is what gh_build makes of an empty input. Bits of addr after the length are not cleared: they give 3.
+ * Refusals: 3, 4, 13, 6 where more than 4,096 routes would stand, 11, 12; a replacement never meets 6, 11 and 12. */
+GH_CALL
+uint64_t gh_tree_announce(uint32_t *GH_RESTRICT words, size_t words_len,
+                          uint16_t *GH_RESTRICT hops, size_t hops_len,
+                          uint32_t addr, uint32_t len, uint32_t hop);
+
+/* Removes the route of the prefix addr/len from a tree image itself, as gh_tree_announce adds one.
+ * Refusals: 3, 13, 9. */
+GH_CALL
+uint64_t gh_tree_withdraw(uint32_t *GH_RESTRICT words, size_t words_len,
+                          uint16_t *GH_RESTRICT hops, size_t hops_len,
+                          uint32_t addr, uint32_t len);
 
 /* ---- Calls on record inputs ------------------------------------------------------------------------------------ */
 

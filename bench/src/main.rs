@@ -7,6 +7,7 @@
 
 mod gh;
 mod hand;
+mod images;
 mod maps;
 
 use ghatumri::{sys, Answer, Image, Mark, Table};
@@ -413,7 +414,13 @@ fn main() {
     println!("\nchanges, pools of just the need");
     change_table(rounds, &all, report.second.into(), report.third.into());
     println!("\nchanges, the largest table, all chunks in use");
-    change_table(rounds, &scattered(&mut rng), 4096, 4096);
+    let apart = scattered(&mut rng);
+    change_table(rounds, &apart, 4096, 4096);
+
+    println!("\nchanges of an image, time for one call");
+    images::changes(4 * rounds, &all);
+    println!("\nchanges of an image, 4,096 long routes far apart");
+    images::changes(4 * rounds, &apart);
 }
 
 /// The changes over a table with pools of so many chunks. Some routes are kept back, to be announced and withdrawn.

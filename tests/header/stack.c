@@ -1,5 +1,6 @@
 /* How much stack each call takes, beside what the header says: it runs in a thread whose stack is painted before, and
- * the paint that is gone afterwards is counted. The table is the largest that there is, with every chunk in use. */
+ * the paint that is gone afterwards is counted. The table is the largest that there is, with every chunk in use. The
+ * image that is tested and changed is the one whose test goes deepest: 16 children at each depth, and 16 under the last. */
 #include <pthread.h>
 #include <stdlib.h>
 #include "check.h"
@@ -14,6 +15,10 @@ static uint32_t own2[N], own3[N];
 static struct gh_table t = GH_TABLE(12, 22, list, first, second, third, own2, own3);
 static uint32_t words[GH_WORDS_FOR(N)], addrs[1000], out[1000], counts[GH_TALLY_WORDS];
 static uint16_t hops[N];
+#define STEPS (8 * 15 + 1)
+static uint8_t steps[STEPS * GH_RECORD_BYTES];
+static uint32_t step_words[3 * (1 + 8 * 16)];
+static uint16_t step_hops[STEPS];
 static uint8_t bits[GH_MAP_BYTES];
 static uint16_t cells[GH_MAP_CELLS];
 #define MAPS input, sizeof input, bits, GH_MAP_BYTES, cells, GH_MAP_CELLS
@@ -29,6 +34,10 @@ static uint64_t lookup(void) { return gh_table_lookup(&t, here); }
 static uint64_t lookup_many(void) { return gh_table_lookup_many(&t, addrs, out, 1000); }
 static uint64_t build(void) { return gh_build(input, sizeof input, words, GH_ELEMENTS(words), hops, N); }
 static uint64_t tree_lookup(void) { return gh_tree_lookup(words, GH_ELEMENTS(words), hops, N, here); }
+#define IMAGE step_words, GH_ELEMENTS(step_words), step_hops, STEPS
+static uint64_t tree_test(void) { return gh_tree_test(IMAGE); }
+static uint64_t tree_withdraw(void) { return gh_tree_withdraw(IMAGE, UINT32_MAX, 32); }
+static uint64_t tree_announce(void) { return gh_tree_announce(IMAGE, UINT32_MAX, 32, 5); }
 static uint64_t run(void) { return gh_run(input, sizeof input, IP(100, 0, 0, 0), 8); }
 static uint64_t tally(void) { return gh_tally(input, sizeof input, counts, GH_TALLY_WORDS); }
 static uint64_t route(void) { return gh_route(input, sizeof input, 7); }
@@ -75,14 +84,24 @@ int main(void)
         { "withdraw", withdraw, GH_STACK_TABLE, 0 }, { "announce", announce, GH_STACK_TABLE, 0 },
         { "report", report, GH_STACK_TABLE, 0 }, { "lookup", lookup, GH_STACK, 0 },
         { "lookup_many", lookup_many, GH_STACK, 0 }, { "build", build, GH_STACK, 0 },
-        { "tree_lookup", tree_lookup, GH_STACK, 0 }, { "run", run, GH_STACK, 0 }, { "tally", tally, GH_STACK, 0 },
-        { "route", route, GH_STACK, 0 }, { "basic_build", basic_build, GH_STACK, 0 },
-        { "basic_lookup", basic_lookup, GH_STACK, 0 }, { "basic_lookup_many", basic_lookup_many, GH_STACK, 0 },
+        { "tree_lookup", tree_lookup, GH_STACK, 0 }, { "tree_test", tree_test, GH_STACK_IMAGE, 0 },
+        { "tree_withdraw", tree_withdraw, GH_STACK_IMAGE, 0 }, { "tree_announce", tree_announce, GH_STACK_IMAGE, 0 },
+        { "run", run, GH_STACK, 0 }, { "tally", tally, GH_STACK, 0 }, { "route", route, GH_STACK, 0 },
+        { "basic_build", basic_build, GH_STACK, 0 }, { "basic_lookup", basic_lookup, GH_STACK, 0 },
+        { "basic_lookup_many", basic_lookup_many, GH_STACK, 0 },
     };
     for (uint32_t k = 0; k < N; k++)
         put_record(input + GH_RECORD_BYTES * k, k << 20 | 77, 32, 9);
     for (uint32_t k = 0; k < 1000; k++)
         addrs[k] = k * 4294967u;
+    /* At depth d the prefixes of ones and then 0 to 14, and the last of all; in ascending order. */
+    uint8_t *at = steps;
+    for (unsigned depth = 1; depth <= 8; depth++)
+        for (uint32_t child = 0; child < (depth < 8 ? 15 : 16); child++, at += GH_RECORD_BYTES)
+            put_record(at, ~(UINT32_MAX >> (4 * depth - 4)) | child << (32 - 4 * depth), 4 * depth, 9);
+    CHECK(GH_NODES(gh_build(steps, sizeof steps, IMAGE)), 129);
+    /* A process's first thread may take more than the others. */
+    taken(&calls[0]);
     size_t thread = taken(&calls[0]);
     for (size_t k = 1; k < GH_ELEMENTS(calls); k++) {
         size_t bytes = taken(&calls[k]) - thread;

@@ -1,8 +1,8 @@
 //! Proved IPv4 lookup over buffers that you lend or own.
 //!
-//! A table holds routes in SAIL form: it can be changed, and a lookup reads 1 to 3 cells. An image is a tree bitmap built
-//! from a record input: small, and a lookup reads at most 9 nodes and one hop. Maps are bits and hops for cards that have
-//! neither chunks nor nodes. [`routes`], [`run`] and [`tally`] work on record inputs directly.
+//! A table holds routes in SAIL form: a lookup in it reads 1 to 3 cells. An image is a tree bitmap built from a record
+//! input: small, and a lookup reads at most 9 nodes and one hop. Both are changed in place, route by route. Maps are bits
+//! and hops for cards that have neither chunks nor nodes. [`routes`], [`run`] and [`tally`] work on record inputs directly.
 //!
 //! Every call of the library underneath is proved for every content of the buffers, and none allocates or trusts them:
 //! a table that is damaged is refused with 5 and stays as it is. A call that is refused changes nothing.
@@ -55,7 +55,7 @@ mod table;
 
 pub use found::{Answer, Found};
 pub use geometry::{Geometry, MOST_CHUNKS, MOST_RECORDS};
-pub use image::{words_for, Built, ImageMut, ImageRef};
+pub use image::{words_for, Built, ImageAnnounced, ImageMut, ImageRef};
 pub use input::{route, routes, run, tally, Routes};
 pub use maps::{hop, MapsMut, MapsRef, MAP_BYTES, MAP_CELLS};
 #[cfg(feature = "alloc")]

@@ -2,7 +2,7 @@
 
 use crate::found::{Answer, Found};
 use crate::geometry::{Geometry, MOST_CHUNKS, MOST_RECORDS};
-use crate::image::{self, words_for, Built, ImageMut, ImageRef};
+use crate::image::{self, words_for, Built, ImageAnnounced, ImageMut, ImageRef};
 use crate::input::Routes;
 use crate::maps::{self, MapsMut, MapsRef, MAP_BYTES, MAP_CELLS};
 use crate::refusal::Refusal;
@@ -138,7 +138,20 @@ impl fmt::Debug for Table {
 
 /// A tree bitmap image that owns its buffers: three words for each node, and the hops.
 ///
-/// The fields are open, as those of [`Table`]: a walk that meets something broken is refused with 13.
+/// The fields are open, as those of [`Table`]: a walk that meets something broken is refused with 13, and so is a change
+/// of an image that is not well formed. Zeros after its last word and its last hop are room to grow:
+///
+/// ```
+/// use ghatumri::{Image, ImageAnnounced, Reason, Route};
+///
+/// let mut image = Image::of(&"10.0.0.0/8 20".parse::<Route>()?.record())?;
+/// assert_eq!(image.announce([10, 1, 0, 0], 16, 31).unwrap_err().reason, Reason::Nodes);
+/// image.resize(5, 2);
+/// let ImageAnnounced::Added(built) = image.announce([10, 1, 0, 0], 16, 31)? else { panic!("it did not stand") };
+/// assert_eq!((built.nodes, built.hops), (5, 2));
+/// assert_eq!(image.lookup([10, 1, 2, 3])?.hop, Some(31));
+/// # Ok::<(), Box<dyn std::error::Error>>(())
+/// ```
 #[derive(Clone, PartialEq, Eq)]
 pub struct Image {
     pub words: Vec<u32>,
@@ -167,11 +180,26 @@ impl Image {
         Ok(image)
     }
 
+    /// Other room: for so many nodes and hops. What is new is zero, so an image that uses no more is the same.
+    pub fn resize(&mut self, nodes: usize, hops: usize) {
+        self.words.resize(3 * nodes, 0);
+        self.hops.resize(hops, 0);
+    }
+
     /// The same image, only to be read.
     #[inline]
     #[must_use]
     pub fn view(&self) -> ImageRef<'_> {
         ImageRef { words: &self.words, hops: &self.hops }
+    }
+
+    /// As [`ImageRef::test`].
+    ///
+    /// # Errors
+    ///
+    /// 13.
+    pub fn test(&self) -> Result<Built, Refusal> {
+        self.view().test()
     }
 
     /// As [`ImageRef::lookup`].
@@ -190,7 +218,30 @@ impl Image {
     ///
     /// The input's (10 for its length; record by record 3, 4, 10; 6), 11, 12.
     pub fn build(&mut self, input: &[u8]) -> Result<Built, Refusal> {
-        ImageMut { words: &mut self.words, hops: &mut self.hops }.build(input)
+        self.lend().build(input)
+    }
+
+    fn lend(&mut self) -> ImageMut<'_> {
+        ImageMut { words: &mut self.words, hops: &mut self.hops }
+    }
+
+    /// As [`ImageMut::announce`]: in place, and with no more room than there is.
+    ///
+    /// # Errors
+    ///
+    /// 3 also for a bit after the length, 4, 13, 6 where more than 4,096 routes would stand, 11, 12; a replacement never
+    /// meets the last three.
+    pub fn announce(&mut self, addr: impl Into<Ipv4Addr>, len: u8, hop: u16) -> Result<ImageAnnounced, Refusal> {
+        self.lend().announce(addr, len, hop)
+    }
+
+    /// As [`ImageMut::withdraw`].
+    ///
+    /// # Errors
+    ///
+    /// 3 also for a bit after the length, 13, 9.
+    pub fn withdraw(&mut self, addr: impl Into<Ipv4Addr>, len: u8) -> Result<Built, Refusal> {
+        self.lend().withdraw(addr, len)
     }
 }
 

@@ -132,6 +132,23 @@ pub unsafe fn tree_lookup_by(look: TreeLookup, words: &[u32], hops: &[u16], addr
 }
 
 #[must_use]
+pub fn tree_test(words: &[u32], hops: &[u16]) -> u64 {
+    unsafe { sys::gh_tree_test(words.as_ptr(), words.len(), hops.as_ptr(), hops.len()) }
+}
+
+#[must_use]
+pub fn tree_announce(words: &mut [u32], hops: &mut [u16], addr: u32, len: u32, hop: u32) -> u64 {
+    let (w, h) = (words.len(), hops.len());
+    unsafe { sys::gh_tree_announce(words.as_mut_ptr(), w, hops.as_mut_ptr(), h, addr, len, hop) }
+}
+
+#[must_use]
+pub fn tree_withdraw(words: &mut [u32], hops: &mut [u16], addr: u32, len: u32) -> u64 {
+    let (w, h) = (words.len(), hops.len());
+    unsafe { sys::gh_tree_withdraw(words.as_mut_ptr(), w, hops.as_mut_ptr(), h, addr, len) }
+}
+
+#[must_use]
 pub fn run(input: &[u8], addr: u32, len: u32) -> u64 {
     unsafe { sys::gh_run(input.as_ptr(), input.len(), addr, len) }
 }

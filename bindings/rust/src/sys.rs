@@ -141,6 +141,24 @@ extern "C" {
         hops_len: usize,
     ) -> u64;
     pub fn gh_tree_lookup(words: *const u32, words_len: usize, hops: *const u16, hops_len: usize, addr: u32) -> u64;
+    pub fn gh_tree_test(words: *const u32, words_len: usize, hops: *const u16, hops_len: usize) -> u64;
+    pub fn gh_tree_announce(
+        words: *mut u32,
+        words_len: usize,
+        hops: *mut u16,
+        hops_len: usize,
+        addr: u32,
+        len: u32,
+        hop: u32,
+    ) -> u64;
+    pub fn gh_tree_withdraw(
+        words: *mut u32,
+        words_len: usize,
+        hops: *mut u16,
+        hops_len: usize,
+        addr: u32,
+        len: u32,
+    ) -> u64;
     pub fn gh_run(input: *const u8, input_len: usize, addr: u32, len: u32) -> u64;
     pub fn gh_tally(input: *const u8, input_len: usize, out: *mut u32, out_len: usize) -> u64;
     pub fn gh_route(input: *const u8, input_len: usize, index: u32) -> u64;

@@ -53,7 +53,7 @@ sizing-fits (Sizing.limits h) = Fits.number 1 (omega arith) (omega arith)
 sizing-fits (Sizing.size v h) = Fits.number 2 (omega arith) (omega arith)
 
 -- a flag
-bit-low : (b : Bool) → bit b < 2
+pub bit-low : (b : Bool) → bit b < 2
 bit-low true = omega arith
 bit-low false = omega arith
 

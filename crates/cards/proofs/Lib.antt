@@ -6,3 +6,4 @@ pub mod Boundary
 pub mod Hops
 pub mod Outs
 pub mod Named
+pub mod ImageCalls

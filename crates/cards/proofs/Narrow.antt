@@ -28,7 +28,7 @@ abbrev pub AlikeOver : {A : Type 0} → ℕ → (ℕ → A) → Type 0
 AlikeOver limit f = (x y : ℕ) → limit < x → limit < y → f x ≡ f y
 
 -- then a number may be narrowed to a type that has room for one over the limit
-narrowed : {A : Type 0} (f : ℕ → A) (limit top : ℕ) → limit < top → AlikeOver limit f → (x n : ℕ) → n ≡ min x top → f n ≡ f x
+pub narrowed : {A : Type 0} (f : ℕ → A) (limit top : ℕ) → limit < top → AlikeOver limit f → (x n : ℕ) → n ≡ min x top → f n ≡ f x
 narrowed f limit top h alike x n e = go (below? top x)
   where
     go : (top < x) ⊎ (x ≤ top) → f n ≡ f x
@@ -50,7 +50,7 @@ hop? hop = go (below? 0 hop) (below? 32767 hop)
     go (inl a) (inl b) = inr (λ x y. omega arith)
     go (inr a) b = inr (λ x y. omega arith)
 
-long-prefix : (a len : ℕ) → 32 < len → properPrefix a len ≡ false
+pub long-prefix : (a len : ℕ) → 32 < len → properPrefix a len ≡ false
 unfolding properPrefix
 long-prefix a len h = rw (lt-leb len 32 h)
 

@@ -1,3 +1,4 @@
 -- What each exported call answers and leaves.
 pub mod Cards
 pub mod Maps
+pub mod Images

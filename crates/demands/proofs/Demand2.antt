@@ -81,6 +81,10 @@ tree-said : (h n : ℕ) → told h n ≡ hopSaid (counted h n) h
 unfolding told hopSaid
 tree-said h n = refl
 
+-- what is told so is served
+pub told-served : (rs : List Route) → Good rs → (a : ℕ) (s : Said) → s ≡ told (best rs 32 a) (onPath rs a) → Served rs a (treeReads rs a) s
+told-served rs g a s e = rw (e ∙ tree-said (best rs 32 a) (onPath rs a)) (served rs g a _ _ (best-is rs 32 a))
+
 module _ (input ws hs vs : List ℕ) (e : built input ws hs .said ≡ accepted vs) (a : ℕ) (h : a < 2 ^ 32) where
   image-said : treeSaid (built input ws hs .words) (built input ws hs .hops) a ≡ hopSaid (treeReads (routesIn input) a) (best (routesIn input) 32 a)
   image-said = built-serves input ws hs vs a e h ∙ tree-said _ _
@@ -118,7 +122,7 @@ table-as-image t l s input ws hs vs e same a h =
     ∙ ap uncounted (sym (image-said input ws hs vs e a h))
 
 -- "And no route exactly when none does"
-no-hop : (rs : List Route) → Good rs → (a n m : ℕ) {s : Said} → Served rs a n s → (s ≡ noRouteAfter m) → (r : Route) → List·Memᴰ r rs → covers 32 a r ≡ false
+pub no-hop : (rs : List Route) → Good rs → (a n m : ℕ) {s : Said} → Served rs a n s → (s ≡ noRouteAfter m) → (r : Route) → List·Memᴰ r rs → covers 32 a r ≡ false
 no-hop rs g a n m (Served.hop h v) e = absurd (let z : _≡_ {A = ℕ} 0 1 = cc in omega arith)
 no-hop rs g a n m (Served.no-route z) e = z
 

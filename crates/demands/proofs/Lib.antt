@@ -11,3 +11,4 @@ pub mod Elsewhere
 pub mod Demand3
 pub mod OneAnswer
 pub mod Basic
+pub mod Images

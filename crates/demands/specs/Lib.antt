@@ -1,3 +1,4 @@
 -- The statements of the calls, as predicates on what they answer and leave.
 pub mod Meets
 pub mod MeetsBasic
+pub mod Images

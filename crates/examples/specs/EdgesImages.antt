@@ -1,24 +1,28 @@
--- Lookups in images of any content, each way a walk can end, and builds at the limits of what is lent.
+-- Lookups in images of any content, each way a walk can end; builds at the limits of what is lent; and the test of an image (document 02, m), each
+-- thing that it asks for on both sides.
 use mathlib.Core.List.{List, [], _∷_, _++_}
 use Prim.Native.Nat.{ℕ, _+_, _^_}
 use Rattle.routes.specs.Said.{Said, accepted, refused, refusedAt, hopAfter, noRouteAfter}
 use Rattle.tree.specs.Walk.{treeSaid}
 use Rattle.tree_build.specs.Built.{built}
+use Rattle.tree_check.specs.Answers.{tested}
 use Rattle.examples.specs.Lines.{ip, Line, _gives_}
 use Rattle.examples.specs.EdgesInputs.{rec}
 
--- a lookup; what a build says; and the words and the hops that it leaves
+-- a lookup; what a build says; the words and the hops that it leaves; what the test says
 pub data Asked : Type 0 where
   tree : List ℕ → List ℕ → ℕ → Asked
   build : List ℕ → List ℕ → List ℕ → Asked
   wordsOf : List ℕ → List ℕ → List ℕ → Asked
   hopsOf : List ℕ → List ℕ → List ℕ → Asked
+  test : List ℕ → List ℕ → Asked
 
 unfoldable pub answer : Asked → Said
 answer (tree words hops a) = treeSaid words hops a
 answer (build input words hops) = built input words hops .said
 answer (wordsOf input words hops) = accepted (built input words hops .words)
 answer (hopsOf input words hops) = accepted (built input words hops .hops)
+answer (test words hops) = tested words hops
 
 -- the eight nodes above depth 8 on the path of 0.0.0.0, each with one child; and one more
 abbrev path : List ℕ → List ℕ
@@ -86,4 +90,44 @@ edges =
     ∷ (hopsOf (rec 10 0 0 0 8 0 20) (9 ∷ 9 ∷ 9 ∷ 9 ∷ 9 ∷ 9 ∷ 9 ∷ 9 ∷ 9 ∷ 9 ∷ []) (9 ∷ 9 ∷ []) gives accepted (20 ∷ 0 ∷ []))
     ∷ (wordsOf (rec 10 0 0 0 8 0 20) (9 ∷ 9 ∷ 9 ∷ []) (9 ∷ []) gives accepted (9 ∷ 9 ∷ 9 ∷ []))
     ∷ (hopsOf (rec 10 0 0 0 8 0 20) (9 ∷ 9 ∷ 9 ∷ []) (9 ∷ []) gives accepted (9 ∷ []))
+    -- The test. No root is lent whole; "the bare root of an empty list"
+    ∷ (test [] [] gives refused 13)
+    ∷ (test (0 ∷ 1 ∷ []) [] gives refused 13)
+    ∷ (test (0 ∷ 1 ∷ 0 ∷ []) [] gives accepted (1 ∷ 0 ∷ []))
+    -- "the bases must be those of the fixed order", also where nothing is read by them
+    ∷ (test (0 ∷ 0 ∷ 0 ∷ []) [] gives refused 13)
+    ∷ (test (0 ∷ 2 ∷ 0 ∷ []) [] gives refused 13)
+    ∷ (test (0 ∷ 1 ∷ 1 ∷ []) [] gives refused 13)
+    ∷ (test (1 ∷ 1 ∷ 0 ∷ []) (7 ∷ []) gives accepted (1 ∷ 1 ∷ []))
+    ∷ (test (1 ∷ 2 ∷ 0 ∷ []) (7 ∷ []) gives refused 13)
+    ∷ (tree (1 ∷ 2 ∷ 0 ∷ []) (7 ∷ []) 0 gives hopAfter 2 7)
+    ∷ (test (2 ^ 16 ∷ 1 ∷ 0 ∷ 1 ∷ 2 ∷ 0 ∷ []) (7 ∷ []) gives accepted (2 ∷ 1 ∷ []))
+    ∷ (test (2 ^ 16 ∷ 0 ∷ 0 ∷ 1 ∷ 2 ∷ 0 ∷ []) (7 ∷ []) gives refused 13)
+    ∷ (test ((2 ^ 16 + 2 ^ 17) ∷ 1 ∷ 0 ∷ 1 ∷ 3 ∷ 0 ∷ 2 ∷ 3 ∷ 1 ∷ []) (5 ∷ 6 ∷ []) gives accepted (3 ∷ 2 ∷ []))
+    ∷ (test ((2 ^ 16 + 2 ^ 17) ∷ 1 ∷ 0 ∷ 2 ∷ 3 ∷ 1 ∷ 1 ∷ 3 ∷ 0 ∷ []) (5 ∷ 6 ∷ []) gives refused 13)
+    -- "its own bitmaps": bit 15, and at depth 8 bit 0 alone
+    ∷ (test (2 ^ 14 ∷ 1 ∷ 0 ∷ []) (7 ∷ []) gives accepted (1 ∷ 1 ∷ []))
+    ∷ (test (2 ^ 15 ∷ 1 ∷ 0 ∷ []) (7 ∷ []) gives refused 13)
+    ∷ (test ((2 ^ 15 + 1) ∷ 1 ∷ 0 ∷ []) (7 ∷ []) gives refused 13)
+    ∷ (test (path (1 ∷ 9 ∷ 0 ∷ [])) (7 ∷ []) gives accepted (9 ∷ 1 ∷ []))
+    ∷ (test (path (3 ∷ 9 ∷ 0 ∷ [])) (7 ∷ 8 ∷ []) gives refused 13)
+    ∷ (test (path (2 ∷ 9 ∷ 0 ∷ [])) (7 ∷ []) gives refused 13)
+    ∷ (test (path ((2 ^ 16 + 1) ∷ 9 ∷ 0 ∷ 1 ∷ 10 ∷ 1 ∷ [])) (7 ∷ 8 ∷ []) gives refused 13)
+    -- "No path may end without a route", and no child lies beyond what is lent
+    ∷ (test (2 ^ 16 ∷ 1 ∷ 0 ∷ 0 ∷ 2 ∷ 0 ∷ []) [] gives refused 13)
+    ∷ (test ((2 ^ 16 + 1) ∷ 1 ∷ 0 ∷ 0 ∷ 2 ∷ 1 ∷ []) (7 ∷ []) gives refused 13)
+    ∷ (test (2 ^ 16 ∷ 1 ∷ 0 ∷ []) [] gives refused 13)
+    ∷ (test (2 ^ 16 ∷ 1 ∷ 0 ∷ 1 ∷ 2 ∷ []) (7 ∷ []) gives refused 13)
+    ∷ (test (path []) (7 ∷ []) gives refused 13)
+    -- the hops in use are lent, and 1 to 32,767
+    ∷ (test (1 ∷ 1 ∷ 0 ∷ []) [] gives refused 13)
+    ∷ (test (1 ∷ 1 ∷ 0 ∷ []) (0 ∷ []) gives refused 13)
+    ∷ (test (1 ∷ 1 ∷ 0 ∷ []) (32767 ∷ []) gives accepted (1 ∷ 1 ∷ []))
+    ∷ (test (1 ∷ 1 ∷ 0 ∷ []) (32768 ∷ []) gives refused 13)
+    -- zeros after the last used, in the one or two words after the last whole node too
+    ∷ (test (1 ∷ 1 ∷ 0 ∷ 0 ∷ 0 ∷ []) (7 ∷ 0 ∷ []) gives accepted (1 ∷ 1 ∷ []))
+    ∷ (test (1 ∷ 1 ∷ 0 ∷ 1 ∷ 2 ∷ 1 ∷ []) (7 ∷ []) gives refused 13)
+    ∷ (test (1 ∷ 1 ∷ 0 ∷ 9 ∷ []) (7 ∷ []) gives refused 13)
+    ∷ (test (1 ∷ 1 ∷ 0 ∷ 0 ∷ 9 ∷ []) (7 ∷ []) gives refused 13)
+    ∷ (test (1 ∷ 1 ∷ 0 ∷ []) (7 ∷ 8 ∷ []) gives refused 13)
     ∷ []

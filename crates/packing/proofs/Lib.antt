@@ -3,3 +3,4 @@ pub mod Unpacks
 pub mod Parts
 mod Reports
 pub mod Hops
+pub mod ImageAnswers

@@ -34,13 +34,13 @@ module _ (layout : List ℕ → ℕ) (values : ℕ → ℕ) where
       rw (f, g, h, ne-eqb n 0 (λ z. omega arith)) (omega arith)
 
 -- x is an accepted answer, and the sum of its values' fields
-record Sums (values : ℕ → ℕ) (x : ℕ) : Type 0 where
-  none : field 0 8 x ≡ 0
-  sum : x ≡ values x
+pub record Sums (values : ℕ → ℕ) (x : ℕ) : Type 0 where
+  pub none : field 0 8 x ≡ 0
+  pub sum : x ≡ values x
 
 module _ (most : ℕ) (few : most ≤ 2 ^ 32) (P : List ℕ → Type 0) (layout : List ℕ → ℕ) (values : ℕ → ℕ)
     (sums : (vs : List ℕ) → P vs → Sums values (packed layout (accepted vs))) where
-  said-parts : (s : Said) → Fits most P s → packed layout s ≡ parts values (packed layout s)
+  pub said-parts : (s : Said) → Fits most P s → packed layout s ≡ parts values (packed layout s)
   unfolding packed parts
   said-parts _ (Fits.values vs p) = let r = sums vs p in rw (eq-eqb _ 0 (r .none)) (r .sum)
   said-parts _ (Fits.number n a b) = number-parts layout values n _ a b refl

@@ -2,4 +2,5 @@
 pub mod Pack
 pub mod Unpack
 pub mod Hops
+pub mod ImageAnswers
 pub mod Parts

@@ -14,6 +14,7 @@ ghost use Rattle.tree_build.specs.Built.{saysBuilt};
 ghost use Rattle.sail.specs.Word.{packFound};
 ghost use Rattle.packing.specs.Pack.{packReport, packChange, packBuilt, packRun, packNone, packRoute};
 
+pub mod images;
 pub mod maps;
 
 use routes::input::Got;

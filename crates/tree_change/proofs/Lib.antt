@@ -10,6 +10,7 @@ pub mod Removes
 pub mod Needs
 pub mod Answers
 pub mod Cases
+pub mod OneAnswer
 pub mod Takes
 pub mod Fresh
 pub mod Frame

@@ -2,3 +2,4 @@
 pub mod Changed
 pub mod Stages
 pub mod Cases
+pub mod Contract

@@ -12,7 +12,8 @@ ghost use mathlib.Core.Path.{_≡_};
 ghost use Prim.Native.Nat.{_^_, _<_};
 ghost use Rattle.routes.specs.Route.{Fine, Prefix};
 ghost use Rattle.tree_build.specs.Built.{out};
-ghost use Rattle.tree_change.specs.Changed.{saysAnnounced, saysWithdrawn, route, imagePut, imageTaken, imageAnnounced, imageWithdrawn};
+ghost use Rattle.tree_change.specs.Changed.{saysAnnounced, saysWithdrawn, route, imagePut, imageTaken};
+ghost use Rattle.tree_change.specs.Contract.{MeetsTreeAnnounce, MeetsTreeWithdraw};
 ghost use Rattle.tree_change.specs.Stages.{Formed, New};
 
 // What announce answers: the prefix was new, or its hop was replaced, with the nodes and the hops then in use; or a refusal.
@@ -96,7 +97,7 @@ fn take(words: &mut [u32], hops: &mut [u16], n: usize, addr: u32, len: u32) -> W
 
 // Adds a route to an image, or replaces the hop of its prefix. A refusal leaves both arrays as they were.
 pub fn announce(words: &mut [u32], hops: &mut [u16], addr: u32, len: u8, hop: u16) -> Announced
-    ensures { λ r. ⌜ out (saysAnnounced r) (now (words .exit)) (now (hops .exit)) ≡ imageAnnounced (now (words .entry)) (now (hops .entry)) addr len hop ⌝ }
+    ensures { λ r. ⌜ MeetsTreeAnnounce (now (words .entry)) (now (hops .entry)) addr len hop r (now (words .exit)) (now (hops .exit)) ⌝ }
 {
     if !input::prefix_ok(addr, len) {
         return Announced::Refused(3);
@@ -113,7 +114,7 @@ pub fn announce(words: &mut [u32], hops: &mut [u16], addr: u32, len: u8, hop: u1
 
 // Takes a prefix out of an image. A refusal leaves both arrays as they were.
 pub fn withdraw(words: &mut [u32], hops: &mut [u16], addr: u32, len: u8) -> Withdrawn
-    ensures { λ r. ⌜ out (saysWithdrawn r) (now (words .exit)) (now (hops .exit)) ≡ imageWithdrawn (now (words .entry)) (now (hops .entry)) addr len ⌝ }
+    ensures { λ r. ⌜ MeetsTreeWithdraw (now (words .entry)) (now (hops .entry)) addr len r (now (words .exit)) (now (hops .exit)) ⌝ }
 {
     if !input::prefix_ok(addr, len) {
         return Withdrawn::Refused(3);

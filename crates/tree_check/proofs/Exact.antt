@@ -18,6 +18,7 @@ use Rattle.tree_build.specs.Built.{Out, out, madeOf, afterInput, built}
 use Rattle.tree_build.proofs.Serves.{built-accepts}
 use Rattle.tree_same.specs.Listed.{routesHeld}
 use Rattle.tree_check.specs.WellFormed.{used, wellFormed}
+use Rattle.tree_check.specs.Buildable.{Buildable}
 use Rattle.tree_check.proofs.Meaning.{well-formed-is, is-well-formed}
 use Rattle.tree_check.proofs.Builds.{image-formed}
 use Rattle.tree_check.proofs.Held.{held-good, held-image, held-nodes, held-hops}
@@ -42,13 +43,6 @@ pub made-fits : (rs : List Route) (ws hs : List ℕ) → nodeNeed rs ≤ length 
     → madeOf rs ws hs ≡ out (accepted (nodeNeed rs ∷ length rs ∷ [])) (imageOf rs (length ws) (length hs) .words) (imageOf rs (length ws) (length hs) .hops)
 unfolding madeOf
 made-fits rs ws hs a b = rw (le-ltb (length ws / 3) (nodeNeed rs) a, le-ltb (length hs) (length rs) b) refl
-
--- some record input builds these words and hops, into any arrays of these sizes
-pub record Buildable (ws hs : List ℕ) : Type 0 where
-  pub input : List ℕ
-  pub nodes : ℕ
-  pub routes : ℕ
-  pub builds : (ws₀ hs₀ : List ℕ) → length ws₀ ≡ length ws → length hs₀ ≡ length hs → built input ws₀ hs₀ ≡ out (accepted (nodes ∷ routes ∷ [])) ws hs
 
 -- (words are of 32 bits by their type)
 pub passes-builds : (ws hs : List ℕ) → ((j : ℕ) → getD ws j 0 < 2 ^ 32) → wellFormed ws hs ≡ true → Buildable ws hs

@@ -7,3 +7,5 @@ pub mod Serves
 pub mod Steps
 pub mod Answers
 pub mod Visits
+pub mod OneAnswer
+pub mod AsBuilt

@@ -6,7 +6,7 @@ ghost use Prim.Native.Nat.{_+_, _*_, _/_, _^_, _≤_, _<_};
 ghost use lib.ListN.{length};
 ghost use lib.Count.{ones};
 ghost use Rattle.tree_same.specs.Order.{ints};
-ghost use Rattle.tree_check.specs.Answers.{saysTested, tested};
+ghost use Rattle.tree_check.specs.Contract.{MeetsTreeTest};
 ghost use Rattle.tree_check.specs.WellFormed.{ordered, nodeOk, childrenOk, rootOk, hopsFineTo, blankFrom, wellFormed, nodesIf};
 
 // What the test answers: the nodes and the hops in use, or that the image is not well formed.
@@ -187,7 +187,7 @@ pub fn check(words: &[u32], hops: &[u16]) -> usize
 
 // Tests an image, whatever the two arrays hold.
 pub fn test(words: &[u32], hops: &[u16]) -> Tested
-    ensures { λ r. ⌜ saysTested r ≡ tested (now (words .entry)) (now (hops .entry)) ⌝ }
+    ensures { λ r. ⌜ MeetsTreeTest (now (words .entry)) (now (hops .entry)) r ⌝ }
 {
     let n = check(words, hops);
     if n == 0 {

@@ -6,7 +6,8 @@ use differential::plain::Lent;
 use ghatumri::{raw, Geometry, TableMut, TableRef};
 use std::ops::{Deref, DerefMut};
 
-pub use raw::{basic_build, basic_lookup, basic_lookup_many, build, route, run, tally, tree_lookup};
+pub use raw::{basic_build, basic_lookup, basic_lookup_many, build, route, run, tally};
+pub use raw::{tree_announce, tree_lookup, tree_test, tree_withdraw};
 
 /// A word that an array can be made of.
 pub trait Word: Copy + PartialEq + std::fmt::LowerHex {

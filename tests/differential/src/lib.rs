@@ -3,3 +3,4 @@
 pub mod basic;
 pub mod gen;
 pub mod plain;
+pub mod tree_change;

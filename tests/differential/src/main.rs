@@ -6,6 +6,7 @@
 //! CALLS is how many calls to make at least (single lookups are counted apart). SEED fixes the run. With EPISODE only
 //! that part of the run is made, the way to look at a fault again.
 
+mod changes;
 mod damage;
 mod gh;
 mod images;
@@ -66,10 +67,13 @@ fn episode(run: &mut Run) {
         7 => tables::large(run, &mut rng, n / 100),
         57 => inputs::long(run, &mut rng),
         77 => maps::long(run, &mut rng),
+        27 => changes::large(run, &mut rng),
         k if k % 10 == 3 => inputs::episode(run, &mut rng),
         k if k % 10 == 6 => images::episode(run, &mut rng),
         k if k % 20 == 9 => images::wild(run, &mut rng),
         k if k % 20 == 15 => maps::episode(run, &mut rng),
+        k if k % 20 == 5 => changes::wild(run, &mut rng),
+        k if k % 10 == 1 => changes::episode(run, &mut rng),
         _ => tables::episode(run, &mut rng),
     }
 }

@@ -725,7 +725,7 @@ pub fn build(input: &[u8], words: &mut [u32], hops: &mut [u16]) -> u64 {
 }
 
 /// The number of ones of `word` at the bits from `from` up to and not including `to`.
-fn ones(word: u32, from: u32, to: u32) -> u64 {
+pub fn ones(word: u32, from: u32, to: u32) -> u64 {
     (from..to).filter(|&bit| word >> bit & 1 == 1).count() as u64
 }
 

@@ -85,7 +85,7 @@ fn say(answer: u64) -> String {
 }
 
 /// What a run of full length meets. Numbers are refusals, 0 is accepted, `at` is with an index.
-const MUST_HAPPEN: [(&str, &str); 16] = [
+const MUST_HAPPEN: [(&str, &str); 19] = [
     ("make", "0, 1, 2"),
     ("load", "0, 1, 2, 3 at, 4 at, 6, 7, 8, 10 at"),
     ("announce", "0, 1, 2, 3, 4, 5, 6, 7, 8, 10, replaced, added and cleared, replaced and cleared, mark alone, room and chunks full, second opened, third opened, hole filled, wide length, wide hop, wide mark"),
@@ -100,6 +100,13 @@ const MUST_HAPPEN: [(&str, &str); 16] = [
          no route in 1, no route in 2, no route in 3, no route in 4, no route in 5, no route in 6, no route in 7, \
          no route in 8, no route in 9",
     ),
+    (
+        "tree_test",
+        "0, 13, 13 by bits, 13 by a child base, 13 by a hop base, 13 by a hop, 13 by a word after the last, \
+         13 by a hop after the last, 13 by room, 0 by a hop, 0 by room, 0 of any bitmaps, 13 of any bitmaps",
+    ),
+    ("tree_announce", "0, 3, 4, 6, 11, 12, 13, added, replaced, 3 before 13, 4 before 13, wide length, wide hop"),
+    ("tree_withdraw", "0, 3, 9, 13, removed, none left, 3 before 13, wide length"),
     ("run", "0, 3, 3 at, 4 at, 6, 10 at, empty, some, wide length"),
     ("tally", "0, 2, 3 at, 4 at, 6, 10 at"),
     ("route", "0, 3 at, 4 at, 6, 10 at, none"),

@@ -1,4 +1,4 @@
-// What the calls on an image answer, and what its arrays hold.
+// What the calls on an image answer, and what its arrays hold: of each node the bits in hexadecimal, and both bases.
 use tree_change::Announced;
 use tree_change::Withdrawn;
 use tree_check::Tested;
@@ -17,66 +17,82 @@ fn refused(number: u8) {
     print::end();
 }
 
+pub fn tested(answer: Tested) {
+    print::text(b"test");
+    match answer {
+        Tested::Image(nodes, hops) => {
+            sizes(nodes, hops);
+        }
+        Tested::Broken => {
+            refused(13);
+        }
+    }
+}
+
 pub fn announced(answer: Announced) {
+    print::text(b"announce");
     match answer {
         Announced::Added(nodes, hops) => {
-            print::text(b"added");
+            print::text(b" added");
             sizes(nodes, hops);
         }
         Announced::Replaced(nodes, hops) => {
-            print::text(b"replaced");
+            print::text(b" replaced");
             sizes(nodes, hops);
         }
         Announced::Refused(number) => {
-            print::text(b"announce");
             refused(number);
         }
     }
 }
 
 pub fn withdrawn(answer: Withdrawn) {
+    print::text(b"withdraw");
     match answer {
         Withdrawn::Removed(nodes, hops) => {
-            print::text(b"removed");
             sizes(nodes, hops);
         }
         Withdrawn::Refused(number) => {
-            print::text(b"withdraw");
             refused(number);
         }
     }
 }
 
-pub fn tested(answer: Tested) {
-    match answer {
-        Tested::Image(nodes, hops) => {
-            print::text(b"image");
-            sizes(nodes, hops);
-        }
-        Tested::Broken => {
-            print::text(b"test");
-            refused(13);
-        }
+// The first word of a node.
+fn bits(word: u32) {
+    print::text(b" | ");
+    io::print_hex(libc::STDOUT_FILENO, word as u64, 8);
+}
+
+fn word(place: usize, word: u32) {
+    if place == 0 {
+        bits(word);
+    } else {
+        print::value32(word);
     }
 }
 
-pub fn shown(words: &[u32], hops: &[u16]) {
+fn words(list: &[u32]) {
     print::text(b"words");
     let mut i = 0;
-    while i < words.len() {
-        print::value32(words[i]);
+    while i < list.len() {
+        word(i % 3, list[i]);
         i += 1;
     }
     print::end();
-    shown_hops(hops);
 }
 
-fn shown_hops(hops: &[u16]) {
+fn hops(list: &[u16]) {
     print::text(b"hops");
     let mut i = 0;
-    while i < hops.len() {
-        print::value16(hops[i]);
+    while i < list.len() {
+        print::value16(list[i]);
         i += 1;
     }
     print::end();
+}
+
+pub fn image(list: &[u32], then: &[u16]) {
+    words(list);
+    hops(then);
 }

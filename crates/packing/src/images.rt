@@ -1,0 +1,50 @@
+// The answers of the test and the changes of an image.
+use crate::byte;
+use crate::flag;
+use crate::narrow;
+use crate::word;
+use tree_change::Announced;
+use tree_change::Withdrawn;
+use tree_check::Tested;
+ghost use mathlib.Core.Path.{_≡_};
+ghost use Prim.Native.Nat.{_+_, _*_, _%_, _^_};
+ghost use Rattle.bits.specs.Count.{bit};
+ghost use Rattle.tree_check.specs.Answers.{saysTested};
+ghost use Rattle.tree_change.specs.Changed.{saysAnnounced, saysWithdrawn};
+ghost use Rattle.packing.specs.Pack.{packBuilt};
+ghost use Rattle.packing.specs.ImageAnswers.{packImage};
+
+// What is accepted: whether a hop was replaced, and the nodes and the hops in use.
+fn used(replaced: bool, nodes: u32, hops: u32) -> u64
+    ensures { λ r. ⌜ r ≡ bit replaced * 256 + hops % 65536 * 65536 + nodes * 2 ^ 32 ⌝ }
+{
+    flag(replaced) * 256 + narrow(word(hops)) * 65536 + word(nodes) * 4294967296
+}
+
+pub fn tested(a: Tested) -> u64
+    ensures { λ r. ⌜ r ≡ packBuilt (saysTested a) ⌝ }
+{
+    match a {
+        Tested::Image(nodes, hops) => used(false, nodes, hops),
+        Tested::Broken => 13,
+    }
+}
+
+pub fn announced(a: Announced) -> u64
+    ensures { λ r. ⌜ r ≡ packImage (saysAnnounced a) ⌝ }
+{
+    match a {
+        Announced::Added(nodes, hops) => used(false, nodes, hops),
+        Announced::Replaced(nodes, hops) => used(true, nodes, hops),
+        Announced::Refused(z) => byte(z),
+    }
+}
+
+pub fn withdrawn(a: Withdrawn) -> u64
+    ensures { λ r. ⌜ r ≡ packBuilt (saysWithdrawn a) ⌝ }
+{
+    match a {
+        Withdrawn::Removed(nodes, hops) => used(false, nodes, hops),
+        Withdrawn::Refused(z) => byte(z),
+    }
+}

@@ -1,0 +1,14 @@
+-- What the test of an image is to tell: "An image passes the test exactly when some record input builds it into arrays of these sizes."
+use mathlib.Core.List.{List, [], _∷_}
+use mathlib.Core.Path.{_≡_}
+use Prim.Native.Nat.{ℕ}
+use lib.ListN.{length}
+use Rattle.routes.specs.Said.{accepted}
+use Rattle.tree_build.specs.Built.{out, built}
+
+-- some record input builds these words and hops, into any arrays of these sizes
+pub record Buildable (ws hs : List ℕ) : Type 0 where
+  pub input : List ℕ
+  pub nodes : ℕ
+  pub routes : ℕ
+  pub builds : (ws₀ hs₀ : List ℕ) → length ws₀ ≡ length ws → length hs₀ ≡ length hs → built input ws₀ hs₀ ≡ out (accepted (nodes ∷ routes ∷ [])) ws hs

@@ -1,0 +1,31 @@
+-- `vectors_images::shown::hops` is safe and ends.
+use Prim.Native.Nat.{_-_, _≤_}
+use native.Mathlib.Omega.{arith}
+use lib.ListN.{length}
+use borrow.Author.Needs.{needs}
+use Rattle.vectors_images.proofs.shown.hops.Statement.{statement}
+use Rattle.vectors_images.proofs.shown.hops.Tie as tie
+
+abbrev Inv-loop : tie.InvT-loop
+Inv-loop list i₀ i = i ≤ length list
+
+abbrev μ-loop : tie.MeasureT-loop
+μ-loop list i₀ i = length list - i
+
+pub hops-spec : {M : Type 1} → statement M
+hops-spec =
+    tie.close
+    (tie.spec
+    Inv-loop
+    μ-loop
+    (λ c. search needs)
+    (λ c κs. search needs)
+    (λ c. search needs)
+    (λ c. search needs)
+    (λ c. search needs)
+    (λ c κs. search needs)
+    (λ c. search needs)
+    (λ c. search needs)
+    (λ c. search needs)
+    (λ c κs. search needs)
+    (λ c. search needs))
