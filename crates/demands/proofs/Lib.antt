@@ -12,3 +12,4 @@ pub mod Demand3
 pub mod OneAnswer
 pub mod Basic
 pub mod Images
+pub mod OneImage

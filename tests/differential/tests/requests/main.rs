@@ -5,6 +5,7 @@ use differential::plain::*;
 mod basic;
 mod host_bits;
 mod mark;
+mod one_image;
 mod tree_change;
 
 fn ip(a: u8, b: u8, c: u8, d: u8) -> u32 {

@@ -1,0 +1,113 @@
+// List A by build, and by its five announcements on the empty image in each of the 120 orders; and with a route more that is withdrawn again.
+use crate::compare;
+use tree_change::announce;
+use tree_change::withdraw;
+use words::list;
+use words::print;
+ghost use Prim.Native.Nat.{_≤_};
+
+// One of list A's routes.
+fn enter(words: &mut [u32], hops: &mut [u16], k: u32) {
+    if k == 0 {
+        announce(words, hops, 0, 0, 6);
+    } else if k == 1 {
+        announce(words, hops, 0x0A00_0000, 8, 20);
+    } else if k == 2 {
+        announce(words, hops, 0x0A01_0000, 16, 31);
+    } else if k == 3 {
+        announce(words, hops, 0x0A01_0200, 24, 44);
+    } else {
+        announce(words, hops, 0x0A01_0280, 25, 57);
+    }
+}
+
+// The route with d others before it among those that are not taken.
+fn pick(taken: u32, d: u32) -> u32
+    ensures { λ r. ⌜ r ≤ 4 ⌝ }
+{
+    let mut k = 0;
+    let mut left = d;
+    while k < 4 {
+        if (taken >> k) & 1 == 0 {
+            if left == 0 {
+                return k;
+            }
+            left -= 1;
+        }
+        k += 1;
+    }
+    4
+}
+
+// The n-th order: the routes announced one by one on the empty image.
+fn announced(words: &mut [u32], hops: &mut [u16], n: u32) {
+    tree_build::build(b"", words, hops);
+    let mut taken = 0;
+    let mut rest = n;
+    let mut left: u32 = 5;
+    while left > 0 {
+        let k = pick(taken, rest % left);
+        rest = rest / left;
+        taken = taken | (1 << k);
+        enter(words, hops, k);
+        left -= 1;
+    }
+}
+
+// Whether the n-th order gives the same words and hops.
+fn gives(words: &[u32], hops: &[u16], n: u32) -> bool {
+    let mut ws = [7u32; 21];
+    let mut hs = [7u16; 5];
+    announced(&mut ws, &mut hs, n);
+    if compare::same_words(&ws, words) {
+        return compare::same_hops(&hs, hops);
+    }
+    false
+}
+
+fn count(words: &[u32], hops: &[u16]) {
+    let mut n: u32 = 0;
+    let mut same: u32 = 0;
+    while n < 120 {
+        if gives(words, hops, n) {
+            same += 1;
+        }
+        n += 1;
+    }
+    print::text(b"same in");
+    print::value32(same);
+    print::text(b" orders of");
+    print::value32(n);
+    print::end();
+}
+
+pub fn every() {
+    let mut ws = [9u32; 21];
+    let mut hs = [9u16; 5];
+    tree_build::build(&list::list_a(), &mut ws, &mut hs);
+    count(&ws, &hs);
+}
+
+// 192.0.2.0/24 announced and withdrawn, in larger arrays; their used part is what the smaller ones hold.
+pub fn detour() {
+    let mut ws = [9u32; 39];
+    let mut hs = [9u16; 6];
+    tree_build::build(&list::list_a(), &mut ws, &mut hs);
+    let mut ws2 = [8u32; 39];
+    let mut hs2 = [8u16; 6];
+    tree_build::build(&list::list_a(), &mut ws2, &mut hs2);
+    announce(&mut ws2, &mut hs2, 0xC000_0200, 24, 3);
+    print::text(b"more:");
+    compare::words(&ws2, &ws);
+    compare::hops(&hs2, &hs);
+    withdraw(&mut ws2, &mut hs2, 0xC000_0200, 24);
+    print::text(b"back:");
+    compare::words(&ws2, &ws);
+    compare::hops(&hs2, &hs);
+    let mut small = [7u32; 21];
+    let mut few = [7u16; 5];
+    tree_build::build(&list::list_a(), &mut small, &mut few);
+    print::text(b"used:");
+    compare::words(&ws2[..21], &small);
+    compare::hops(&hs2[..5], &few);
+}
