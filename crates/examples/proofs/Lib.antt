@@ -12,6 +12,7 @@ pub mod EdgesImages
 pub mod Edges
 pub mod Witness
 pub mod Maps
+pub mod OneImage
 pub mod TableA
 pub mod NotSound
 pub mod NotAlters

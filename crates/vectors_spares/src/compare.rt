@@ -1,35 +1,44 @@
 // Arrays compared cell by cell, and what is printed of it: the cells in which they differ, or that they are the same.
 use words::print;
 
-pub fn same_words(list: &[u32], others: &[u32]) -> bool {
-    if list.len() != others.len() {
+// Whether the list begins with the others.
+pub fn words_begin(list: &[u32], others: &[u32]) -> bool {
+    if list.len() < others.len() {
         return false;
     }
     let mut i = 0;
-    while i < list.len() {
+    while i < others.len() {
         if list[i] != others[i] {
             return false;
         }
         i += 1;
     }
     true
+}
+
+pub fn hops_begin(list: &[u16], others: &[u16]) -> bool {
+    if list.len() < others.len() {
+        return false;
+    }
+    let mut i = 0;
+    while i < others.len() {
+        if list[i] != others[i] {
+            return false;
+        }
+        i += 1;
+    }
+    true
+}
+
+pub fn same_words(list: &[u32], others: &[u32]) -> bool {
+    list.len() == others.len() && words_begin(list, others)
 }
 
 pub fn same_hops(list: &[u16], others: &[u16]) -> bool {
-    if list.len() != others.len() {
-        return false;
-    }
-    let mut i = 0;
-    while i < list.len() {
-        if list[i] != others[i] {
-            return false;
-        }
-        i += 1;
-    }
-    true
+    list.len() == others.len() && hops_begin(list, others)
 }
 
-fn told(same: bool) {
+pub fn told(same: bool) {
     if same {
         print::text(b" same");
     } else {

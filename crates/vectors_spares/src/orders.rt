@@ -39,19 +39,29 @@ fn pick(taken: u32, d: u32) -> u32
     4
 }
 
-// The n-th order: the routes announced one by one on the empty image.
-fn announced(words: &mut [u32], hops: &mut [u16], n: u32) {
+// The route with d others before it among those not taken is announced; it is taken then.
+fn step(words: &mut [u32], hops: &mut [u16], taken: u32, d: u32) -> u32 {
+    let k = pick(taken, d);
+    enter(words, hops, k);
+    taken | (1 << k)
+}
+
+// The n-th order, n from 1 to 120: the routes announced one by one on the empty image.
+fn first_two(words: &mut [u32], hops: &mut [u16], n: u32) -> u32 {
     tree_build::build(b"", words, hops);
-    let mut taken = 0;
-    let mut rest = n;
-    let mut left: u32 = 5;
-    while left > 0 {
-        let k = pick(taken, rest % left);
-        rest = rest / left;
-        taken = taken | (1 << k);
-        enter(words, hops, k);
-        left -= 1;
-    }
+    let taken = step(words, hops, 0, n % 5);
+    step(words, hops, taken, n / 5 % 4)
+}
+
+fn other_three(words: &mut [u32], hops: &mut [u16], taken: u32, n: u32) {
+    let three = step(words, hops, taken, n / 20 % 3);
+    let four = step(words, hops, three, n / 60 % 2);
+    step(words, hops, four, 0);
+}
+
+fn announced(words: &mut [u32], hops: &mut [u16], n: u32) {
+    let taken = first_two(words, hops, n);
+    other_three(words, hops, taken, n);
 }
 
 // Whether the n-th order gives the same words and hops.
@@ -69,10 +79,10 @@ fn count(words: &[u32], hops: &[u16]) {
     let mut n: u32 = 0;
     let mut same: u32 = 0;
     while n < 120 {
+        n += 1;
         if gives(words, hops, n) {
             same += 1;
         }
-        n += 1;
     }
     print::text(b"same in");
     print::value32(same);
@@ -88,26 +98,37 @@ pub fn every() {
     count(&ws, &hs);
 }
 
-// 192.0.2.0/24 announced and withdrawn, in larger arrays; their used part is what the smaller ones hold.
-pub fn detour() {
+// What the image of list A in arrays of exactly its size has is the used part of one in larger arrays.
+fn used(words: &[u32], hops: &[u16]) {
+    let mut ws = [7u32; 21];
+    let mut hs = [7u16; 5];
+    tree_build::build(&list::list_a(), &mut ws, &mut hs);
+    print::text(b"used: words");
+    compare::told(compare::words_begin(words, &ws));
+    print::text(b" hops");
+    compare::told(compare::hops_begin(hops, &hs));
+    print::end();
+}
+
+// Beside list A, built into arrays of the same sizes.
+fn beside(words: &[u32], hops: &[u16]) {
     let mut ws = [9u32; 39];
     let mut hs = [9u16; 6];
     tree_build::build(&list::list_a(), &mut ws, &mut hs);
-    let mut ws2 = [8u32; 39];
-    let mut hs2 = [8u16; 6];
-    tree_build::build(&list::list_a(), &mut ws2, &mut hs2);
-    announce(&mut ws2, &mut hs2, 0xC000_0200, 24, 3);
+    compare::words(words, &ws);
+    compare::hops(hops, &hs);
+}
+
+// 192.0.2.0/24 announced and withdrawn again.
+pub fn detour() {
+    let mut ws = [8u32; 39];
+    let mut hs = [8u16; 6];
+    tree_build::build(&list::list_a(), &mut ws, &mut hs);
+    announce(&mut ws, &mut hs, 0xC000_0200, 24, 3);
     print::text(b"more:");
-    compare::words(&ws2, &ws);
-    compare::hops(&hs2, &hs);
-    withdraw(&mut ws2, &mut hs2, 0xC000_0200, 24);
+    beside(&ws, &hs);
+    withdraw(&mut ws, &mut hs, 0xC000_0200, 24);
     print::text(b"back:");
-    compare::words(&ws2, &ws);
-    compare::hops(&hs2, &hs);
-    let mut small = [7u32; 21];
-    let mut few = [7u16; 5];
-    tree_build::build(&list::list_a(), &mut small, &mut few);
-    print::text(b"used:");
-    compare::words(&ws2[..21], &small);
-    compare::hops(&hs2[..5], &few);
+    beside(&ws, &hs);
+    used(&ws, &hs);
 }
