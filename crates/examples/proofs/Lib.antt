@@ -9,6 +9,8 @@ pub mod EdgesInputs
 pub mod EdgesLookups
 pub mod EdgesChanges
 pub mod EdgesImages
+pub mod EdgesTreeChanges
+pub mod TreeChanges
 pub mod Edges
 pub mod Witness
 pub mod Maps

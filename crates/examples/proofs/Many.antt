@@ -26,7 +26,7 @@ use Rattle.sail_theory.specs.Calls.{inputRoutes}
 use Rattle.examples.specs.EdgesInputs.{many}
 use Rattle.examples.proofs.Blank.{zero-at}
 
-abbrev nth : ℕ → Route
+abbrev pub nth : ℕ → Route
 nth k = record { addr = k * 65536; len = 16; mark = 0; hop = 1 }
 
 nth-fine : (k : ℕ) → k < 65536 → Fine (nth k)

@@ -7,3 +7,4 @@ pub mod EdgesInputs
 pub mod EdgesLookups
 pub mod EdgesChanges
 pub mod EdgesImages
+pub mod EdgesTreeChanges
