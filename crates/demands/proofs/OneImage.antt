@@ -6,7 +6,7 @@
 -- was built into ws and hs. What these held before a build is free. Assumes nothing.
 use mathlib.Core.Path.{_≡_}
 use mathlib.Core.Logic.{_↔_}
-use mathlib.Core.Bool.{false, cond}
+use mathlib.Core.Bool.{true, false, cond}
 use mathlib.Core.List.{List, _∷_, map}
 use Prim.Native.Nat.{ℕ}
 use lib.ListN.{length}
@@ -16,12 +16,15 @@ use Rattle.routes.specs.Said.{accepts}
 use Rattle.standing.specs.Standing.{routeAt}
 use Rattle.tree.specs.Image.{nodeNeed}
 use Rattle.tree_build.specs.Built.{built}
+use Rattle.tree_same.specs.Listed.{routesHeld}
 use Rattle.tree_same.specs.OneImage.{SameRoutes, Builds, SameArrays, SameUsed}
 use Rattle.tree_same.proofs.OneImage as builds
+use Rattle.tree_check.specs.WellFormed.{wellFormed}
 use Rattle.tree_change.specs.Cases.{Left}
 use Rattle.tree_runs.specs.Runs.{Call, after, standingAfter, worked, would}
 use Rattle.tree_runs.proofs.Runs as runs
 use Rattle.tree_runs.proofs.Same as same
+use Rattle.demands.specs.Images.{Narrow}
 
 -- ---- two builds
 
@@ -79,3 +82,10 @@ module _ (s ws hs : List ℕ) (n k : ℕ) (b : Builds s ws hs n k) (t ws′ hs�
       × SameUsed (nodeNeed (standingAfter s ws hs cs)) (length (standingAfter s ws hs cs)) (after s ws hs cs) (after t ws′ hs′ ds))
       ↔ (standingAfter s ws hs cs ≡ standingAfter t ws′ hs′ ds)
   runs-used-part = same.runs-used-part s ws hs n k b t ws′ hs′ n′ k′ b′ cs ds
+
+-- ---- two images that pass the test
+
+-- However they came to be: equal arrays exactly when the routes that are read out of them are the same. Words are of 32 bits by their type.
+module _ (ws hs ws′ hs′ : List ℕ) (narrow : Narrow ws) (narrow′ : Narrow ws′) (formed : wellFormed ws hs ≡ true) (formed′ : wellFormed ws′ hs′ ≡ true) where
+  pub tested-one-image : length ws ≡ length ws′ → length hs ≡ length hs′ → ((ws ≡ ws′) × (hs ≡ hs′)) ↔ (routesHeld ws hs ≡ routesHeld ws′ hs′)
+  tested-one-image = same.tested-one-image ws hs ws′ hs′ narrow narrow′ formed formed′

@@ -1,6 +1,6 @@
 -- What meets the suppositions of the theorems on one image: two inputs that differ in a mark alone, two that differ in one hop, and a run with a call
 -- that is refused. Each is built over other old contents.
-use mathlib.Core.Path.{_≡_, refl}
+use mathlib.Core.Path.{_≡_, refl, sym, _∙_, ap}
 use mathlib.Core.Bool.{false}
 use mathlib.Core.List.{List, [], _∷_, map}
 use Prim.Native.Nat.{ℕ}
@@ -47,21 +47,36 @@ elsewhere : Builds (one 0 21) (ws 8) (hs 8) 3 1
 unfolding built madeOf inputSaid firstOf firstFrom faultAt routeFault inOrder properPrefix hopFine recordAt cut routesOf tabulate any cells.first picked gather kids level upTo
 elsewhere = record { said = refl }
 
-routes-are : (m h : ℕ) → map plain (routesIn (one m h)) ≡ record { addr = 167772160; len = 8; mark = 0; hop = h } ∷ []
+abbrev to : ℕ → List Route
+to h = record { addr = 167772160; len = 8; mark = 0; hop = h } ∷ []
+
+-- the hop of the first route
+firstHop : List Route → ℕ
+firstHop [] = 0
+firstHop (r ∷ rs) = r .hop
+
+same-plain : map plain (routesIn (one 0 20)) ≡ map plain (routesIn (one 1 20))
 unfolding routesOf recordAt tabulate
-routes-are m h = refl
+same-plain = refl
+
+to-20 : map plain (routesIn (one 0 20)) ≡ to 20
+unfolding routesOf recordAt tabulate
+to-20 = refl
+
+to-21 : map plain (routesIn (one 0 21)) ≡ to 21
+unfolding routesOf recordAt tabulate
+to-21 = refl
 
 -- a mark is not in the image
 pub mark-aside : SameArrays (built (one 0 20) (ws 0) (hs 0)) (built (one 1 20) (ws 7) (hs 7))
-mark-aside = one-image-plain (one 0 20) (one 1 20) (ws 0) (hs 0) (ws 7) (hs 7) 3 1 3 1 behind attached refl refl .1 (rw (routes-are 0 20, routes-are 1 20) refl)
+mark-aside = one-image-plain (one 0 20) (one 1 20) (ws 0) (hs 0) (ws 7) (hs 7) 3 1 3 1 behind attached refl refl .1 same-plain
 
 -- a hop is
 pub hop-apart : SameArrays (built (one 0 20) (ws 0) (hs 0)) (built (one 0 21) (ws 8) (hs 8)) → ⊥
+unfolding firstHop
 hop-apart e =
-    let r : map plain (routesIn (one 0 20)) ≡ map plain (routesIn (one 0 21)) =
-    one-image-plain (one 0 20) (one 0 21) (ws 0) (hs 0) (ws 8) (hs 8) 3 1 3 1 behind elsewhere refl refl .0 e in
-    let q = rw (routes-are 0 20, routes-are 0 21) at r in
-    let z : _≡_ {A = ℕ} 20 21 = cc in
+    let r = one-image-plain (one 0 20) (one 0 21) (ws 0) (hs 0) (ws 8) (hs 8) 3 1 3 1 behind elsewhere refl refl .0 e in
+    let z : _≡_ {A = ℕ} 20 21 = ap firstHop (sym to-20 ∙ r ∙ to-21) in
     omega arith
 
 -- a withdrawal of length 33 is refused, and leaves both arrays

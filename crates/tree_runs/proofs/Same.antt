@@ -2,9 +2,10 @@
 -- standing are the same, in whichever order they came. In arrays of other lengths this holds of the part that is used.
 use mathlib.Core.Path.{_≡_, sym, _∙_, ap, ap₂}
 use mathlib.Core.Logic.{_↔_}
+use mathlib.Core.Bool.{true}
 use mathlib.Core.List.{List, map}
-use Prim.Native.Nat.{ℕ, _*_}
-use lib.ListN.{length, take}
+use Prim.Native.Nat.{ℕ, _*_, _^_, _<_}
+use lib.ListN.{length, getD, take}
 use Rattle.routes.specs.Record.{routesIn}
 use Rattle.routes.specs.Route.{plain}
 use Rattle.routes.specs.declared.Route.{Route}
@@ -15,6 +16,9 @@ use Rattle.tree_build.specs.Built.{Out, built}
 use Rattle.tree_same.specs.Listed.{routesHeld}
 use Rattle.tree_same.specs.OneImage.{Builds, SameArrays, SameUsed}
 use Rattle.tree_same.proofs.OneImage.{used-part-same}
+use Rattle.tree_check.specs.WellFormed.{used, wellFormed}
+use Rattle.tree_check.proofs.Meaning.{well-formed-is}
+use Rattle.tree_check.proofs.Held.{held-image}
 use Rattle.tree_check.proofs.Exact.{inputOf, input-routes, input-built, made-fits}
 use Rattle.tree_change.specs.Cases.{Left}
 use Rattle.tree_change.proofs.Fresh.{change-as-build}
@@ -92,4 +96,21 @@ module _ (s ws hs : List ℕ) (n k : ℕ) (b : Builds s ws hs n k) (t ws′ hs�
         (λ e.
             let x = u .1 (its-routes first-left ∙ e ∙ sym (its-routes second-left)) in
             (x .0, x .1, used-as (nodeNeed rs) (length rs) o′ o p′ p (sym (f .0), sym (f .1)) (sym (g .0), sym (g .1)) (x .2))),
+      )
+
+-- ---- images that pass the test, however they came to be (words are of 32 bits by their type)
+
+module _ (ws hs ws′ hs′ : List ℕ) (narrow : (j : ℕ) → getD ws j 0 < 2 ^ 32) (narrow′ : (j : ℕ) → getD ws′ j 0 < 2 ^ 32)
+    (formed : wellFormed ws hs ≡ true) (formed′ : wellFormed ws′ hs′ ≡ true) where
+  pub tested-one-image : length ws ≡ length ws′ → length hs ≡ length hs′ → ((ws ≡ ws′) × (hs ≡ hs′)) ↔ (routesHeld ws hs ≡ routesHeld ws′ hs′)
+  tested-one-image ew eh =
+      let i = held-image ws hs (used ws) (well-formed-is ws hs formed) narrow in
+      let j = held-image ws′ hs′ (used ws′) (well-formed-is ws′ hs′ formed′) narrow′ in (
+        (λ e. ap₂ routesHeld (e .0) (e .1)),
+        (λ e. (
+          i .0 ∙ ap (λ (x : List Route). imageOf x (length ws) (length hs) .words) e
+              ∙ ap₂ (λ (w h : ℕ). imageOf (routesHeld ws′ hs′) w h .words) ew eh ∙ sym (j .0),
+          i .1 ∙ ap (λ (x : List Route). imageOf x (length ws) (length hs) .hops) e
+              ∙ ap₂ (λ (w h : ℕ). imageOf (routesHeld ws′ hs′) w h .hops) ew eh ∙ sym (j .1),
+        )),
       )
