@@ -1,5 +1,5 @@
 -- The words of an image are of 32 bits: bits by their number, child bases below 2 ^ 16, hop bases below 2 ^ 13.
-use mathlib.Core.Path.{_≡_, sym, _∙_, ap}
+use mathlib.Core.Path.{_≡_, _∙_}
 use mathlib.Core.Logic.{_⊎_, inl, inr}
 use mathlib.Core.List.{List}
 use Prim.Native.Nat.{ℕ, _+_, _*_, _/_, _%_, _^_, _≤_, _<_}

@@ -1,6 +1,5 @@
 -- `vectors_spares::compare::hops_begin` is safe and ends.
 use Prim.Native.Nat.{_-_, _≤_}
-use native.Mathlib.Omega.{arith}
 use lib.ListN.{length}
 use borrow.Author.Needs.{needs}
 use Rattle.vectors_spares.proofs.compare.hops_begin.Statement.{statement}

@@ -1,6 +1,5 @@
 -- `vectors_spares::orders::count` is safe and ends.
 use Prim.Native.Nat.{_-_, _≤_}
-use native.Mathlib.Omega.{arith}
 use borrow.Author.Needs.{needs}
 use Rattle.vectors_spares.proofs.orders.count.Statement.{statement}
 use Rattle.vectors_spares.proofs.orders.count.Tie as tie

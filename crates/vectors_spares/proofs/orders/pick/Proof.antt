@@ -1,6 +1,5 @@
 -- `vectors_spares::orders::pick` is safe and ends.
 use Prim.Native.Nat.{_-_, _≤_}
-use native.Mathlib.Omega.{arith}
 use borrow.Author.Needs.{needs}
 use Rattle.vectors_spares.proofs.orders.pick.Statement.{statement}
 use Rattle.vectors_spares.proofs.orders.pick.Tie as tie
