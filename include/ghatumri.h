@@ -306,7 +306,8 @@ uint64_t gh_lookup_many(uint32_t p1, uint32_t p2, uint32_t count,
 
 /* ---- Calls on tree images -------------------------------------------------------------------------------------- */
 
-/* Builds the tree image of a record input. Words and hops after the last used become zero.
+/* Builds the tree image of a record input. Words and hops after the last used become zero. Images in arrays of equal
+ * lengths, built or changed afterwards, are equal to the byte exactly when they hold the same prefixes with the same hops.
  * Refusals: the input's, 11, 12. */
 GH_CALL
 uint64_t gh_build(const uint8_t *GH_RESTRICT input, size_t input_len,

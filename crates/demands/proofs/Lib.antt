@@ -13,3 +13,4 @@ pub mod OneAnswer
 pub mod Basic
 pub mod Broadcasts
 pub mod Images
+pub mod OneImage

@@ -14,6 +14,7 @@ pub mod TreeChanges
 pub mod Edges
 pub mod Witness
 pub mod Maps
+pub mod OneImage
 pub mod TableA
 pub mod NotSound
 pub mod NotAlters

@@ -6,6 +6,7 @@ mod basic;
 mod broadcast;
 mod host_bits;
 mod mark;
+mod one_image;
 mod tree_change;
 
 fn ip(a: u8, b: u8, c: u8, d: u8) -> u32 {

@@ -1,0 +1,88 @@
+-- What meets the suppositions of the theorems on one image: two inputs that differ in a mark alone, two that differ in one hop, and a run with a call
+-- that is refused. Each is built over other old contents.
+use mathlib.Core.Path.{_≡_, refl, sym, _∙_, ap}
+use mathlib.Core.Bool.{false}
+use mathlib.Core.List.{List, [], _∷_, map}
+use Prim.Native.Nat.{ℕ}
+use native.Mathlib.Omega.{arith}
+use lib.ListN.{replicate}
+use Rattle.bits.specs.Search.{firstFrom, firstOf}
+use Rattle.bits.specs.Slot.{cut}
+use Rattle.bits.specs.Tab.{tabulate}
+use Rattle.routes.specs.Input.{properPrefix, hopFine, routeFault, inOrder, faultAt, inputSaid}
+use Rattle.routes.specs.Record.{recordAt, routesOf, routesIn}
+use Rattle.routes.specs.Route.{plain}
+use Rattle.routes.specs.Said.{accepts}
+use Rattle.routes.specs.declared.Route.{Route}
+use Rattle.standing.specs.Cells.{any}
+use Rattle.standing.specs.Cells as cells
+use Rattle.tree.specs.Parts.{picked, gather}
+use Rattle.tree.specs.Image.{kids, level, upTo}
+use Rattle.tree_build.specs.Built.{madeOf, built}
+use Rattle.tree_same.specs.OneImage.{Builds, SameArrays}
+use Rattle.tree_change.specs.Changed.{imageWithdrawn}
+use Rattle.tree_runs.specs.Runs.{withdraw, done, after}
+use Rattle.demands.proofs.OneImage.{one-image-plain, image-run-refused}
+
+-- 10.0.0.0/8 with mark m, to hop h
+abbrev one : ℕ → ℕ → List ℕ
+one m h = 10 ∷ 0 ∷ 0 ∷ 0 ∷ 8 ∷ m ∷ 0 ∷ h ∷ []
+
+-- nine words and one hop, with this in them
+abbrev ws : ℕ → List ℕ
+ws x = replicate 9 x
+
+abbrev hs : ℕ → List ℕ
+hs x = replicate 1 x
+
+behind : Builds (one 0 20) (ws 0) (hs 0) 3 1
+unfolding built madeOf inputSaid firstOf firstFrom faultAt routeFault inOrder properPrefix hopFine recordAt cut routesOf tabulate any cells.first picked gather kids level upTo
+behind = record { said = refl }
+
+attached : Builds (one 1 20) (ws 7) (hs 7) 3 1
+unfolding built madeOf inputSaid firstOf firstFrom faultAt routeFault inOrder properPrefix hopFine recordAt cut routesOf tabulate any cells.first picked gather kids level upTo
+attached = record { said = refl }
+
+elsewhere : Builds (one 0 21) (ws 8) (hs 8) 3 1
+unfolding built madeOf inputSaid firstOf firstFrom faultAt routeFault inOrder properPrefix hopFine recordAt cut routesOf tabulate any cells.first picked gather kids level upTo
+elsewhere = record { said = refl }
+
+abbrev to : ℕ → List Route
+to h = record { addr = 167772160; len = 8; mark = 0; hop = h } ∷ []
+
+-- the hop of the first route
+firstHop : List Route → ℕ
+firstHop [] = 0
+firstHop (r ∷ rs) = r .hop
+
+same-plain : map plain (routesIn (one 0 20)) ≡ map plain (routesIn (one 1 20))
+unfolding routesOf recordAt tabulate
+same-plain = refl
+
+to-20 : map plain (routesIn (one 0 20)) ≡ to 20
+unfolding routesOf recordAt tabulate
+to-20 = refl
+
+to-21 : map plain (routesIn (one 0 21)) ≡ to 21
+unfolding routesOf recordAt tabulate
+to-21 = refl
+
+-- a mark is not in the image
+pub mark-aside : SameArrays (built (one 0 20) (ws 0) (hs 0)) (built (one 1 20) (ws 7) (hs 7))
+mark-aside = one-image-plain (one 0 20) (one 1 20) (ws 0) (hs 0) (ws 7) (hs 7) 3 1 3 1 behind attached refl refl .1 same-plain
+
+-- a hop is
+pub hop-apart : SameArrays (built (one 0 20) (ws 0) (hs 0)) (built (one 0 21) (ws 8) (hs 8)) → ⊥
+unfolding firstHop
+hop-apart e =
+    let r = one-image-plain (one 0 20) (one 0 21) (ws 0) (hs 0) (ws 8) (hs 8) 3 1 3 1 behind elsewhere refl refl .0 e in
+    let z : _≡_ {A = ℕ} 20 21 = ap firstHop (sym to-20 ∙ r ∙ to-21) in
+    omega arith
+
+-- a withdrawal of length 33 is refused, and leaves both arrays
+long-refused : accepts (after (one 0 20) (ws 0) (hs 0) (withdraw 0 33 ∷ []) .said) ≡ false
+unfolding after done imageWithdrawn properPrefix
+long-refused = refl
+
+pub refused-aside : SameArrays (after (one 0 20) (ws 0) (hs 0) (withdraw 0 33 ∷ [])) (after (one 0 20) (ws 0) (hs 0) [])
+refused-aside = image-run-refused (one 0 20) (ws 0) (hs 0) 3 1 behind (withdraw 0 33) [] long-refused

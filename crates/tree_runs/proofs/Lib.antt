@@ -1,0 +1,4 @@
+-- Laws of the words of an image, and the theorems on runs.
+pub mod Narrow
+pub mod Runs
+pub mod Same
