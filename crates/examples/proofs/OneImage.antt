@@ -35,17 +35,10 @@ ws x = replicate 9 x
 abbrev hs : ℕ → List ℕ
 hs x = replicate 1 x
 
-behind : Builds (one 0 20) (ws 0) (hs 0) 3 1
+-- 10.0.0.0/8 to 20, the same attached, and to 21
+three : Builds (one 0 20) (ws 0) (hs 0) 3 1 × Builds (one 1 20) (ws 7) (hs 7) 3 1 × Builds (one 0 21) (ws 8) (hs 8) 3 1
 unfolding built madeOf inputSaid firstOf firstFrom faultAt routeFault inOrder properPrefix hopFine recordAt cut routesOf tabulate any cells.first picked gather kids level upTo
-behind = record { said = refl }
-
-attached : Builds (one 1 20) (ws 7) (hs 7) 3 1
-unfolding built madeOf inputSaid firstOf firstFrom faultAt routeFault inOrder properPrefix hopFine recordAt cut routesOf tabulate any cells.first picked gather kids level upTo
-attached = record { said = refl }
-
-elsewhere : Builds (one 0 21) (ws 8) (hs 8) 3 1
-unfolding built madeOf inputSaid firstOf firstFrom faultAt routeFault inOrder properPrefix hopFine recordAt cut routesOf tabulate any cells.first picked gather kids level upTo
-elsewhere = record { said = refl }
+three = (record { said = refl }, record { said = refl }, record { said = refl })
 
 abbrev to : ℕ → List Route
 to h = record { addr = 167772160; len = 8; mark = 0; hop = h } ∷ []
@@ -69,13 +62,13 @@ to-21 = refl
 
 -- a mark is not in the image
 pub mark-aside : SameArrays (built (one 0 20) (ws 0) (hs 0)) (built (one 1 20) (ws 7) (hs 7))
-mark-aside = one-image-plain (one 0 20) (one 1 20) (ws 0) (hs 0) (ws 7) (hs 7) 3 1 3 1 behind attached refl refl .1 same-plain
+mark-aside = one-image-plain (one 0 20) (one 1 20) (ws 0) (hs 0) (ws 7) (hs 7) 3 1 3 1 (three .0) (three .1) refl refl .1 same-plain
 
 -- a hop is
 pub hop-apart : SameArrays (built (one 0 20) (ws 0) (hs 0)) (built (one 0 21) (ws 8) (hs 8)) → ⊥
 unfolding firstHop
 hop-apart e =
-    let r = one-image-plain (one 0 20) (one 0 21) (ws 0) (hs 0) (ws 8) (hs 8) 3 1 3 1 behind elsewhere refl refl .0 e in
+    let r = one-image-plain (one 0 20) (one 0 21) (ws 0) (hs 0) (ws 8) (hs 8) 3 1 3 1 (three .0) (three .2) refl refl .0 e in
     let z : _≡_ {A = ℕ} 20 21 = ap firstHop (sym to-20 ∙ r ∙ to-21) in
     omega arith
 
@@ -85,4 +78,4 @@ unfolding after done imageWithdrawn properPrefix
 long-refused = refl
 
 pub refused-aside : SameArrays (after (one 0 20) (ws 0) (hs 0) (withdraw 0 33 ∷ [])) (after (one 0 20) (ws 0) (hs 0) [])
-refused-aside = image-run-refused (one 0 20) (ws 0) (hs 0) 3 1 behind (withdraw 0 33) [] long-refused
+refused-aside = image-run-refused (one 0 20) (ws 0) (hs 0) 3 1 (three .0) (withdraw 0 33) [] long-refused
