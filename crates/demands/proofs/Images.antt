@@ -23,8 +23,9 @@ use Rattle.tree_check.specs.Buildable.{Buildable}
 use Rattle.tree_check.specs.Contract.{MeetsTreeTest}
 use Rattle.tree_check.specs.WellFormed.{wellFormed}
 use Rattle.tree_check.specs.declared.Tested.{Tested}
-use Rattle.tree_check.proofs.AsBuilt.{buildable-told, unbuildable-told, formed-good, formed-serves}
+use Rattle.tree_check.proofs.AsBuilt.{buildable-told, unbuildable-told, formed-good}
 use Rattle.tree_check.proofs.Exact.{inputOf, passes-builds, builds-passes}
+use Rattle.tree_check.proofs.Serves.{formed-serves}
 use Rattle.tree_check.proofs.OneAnswer as test
 use Rattle.tree_change.specs.Cases.{Asked, routesWith, routesWithout, Announcing, Withdrawing, Left}
 use Rattle.tree_change.specs.Changed.{hopPlace, imageAnnounced, imageWithdrawn}

