@@ -1,7 +1,7 @@
--- What meets the suppositions of the theorems on one image: two inputs that differ in a mark alone, two that differ in one hop, and a run with a call
--- that is refused. Each is built over other old contents.
+-- What meets the suppositions of the theorems on one image: two inputs that differ in a mark alone, two that differ in one hop, a run with a call that
+-- is refused, and one with a call that is accepted.
 use mathlib.Core.Path.{_≡_, refl, sym, _∙_, ap}
-use mathlib.Core.Bool.{false}
+use mathlib.Core.Bool.{true, false}
 use mathlib.Core.List.{List, [], _∷_, map}
 use Prim.Native.Nat.{ℕ}
 use native.Mathlib.Omega.{arith}
@@ -11,18 +11,23 @@ use Rattle.bits.specs.Slot.{cut}
 use Rattle.bits.specs.Tab.{tabulate}
 use Rattle.routes.specs.Input.{properPrefix, hopFine, routeFault, inOrder, faultAt, inputSaid}
 use Rattle.routes.specs.Record.{recordAt, routesOf, routesIn}
-use Rattle.routes.specs.Route.{plain}
+use Rattle.routes.specs.ListA.{listA}
+use Rattle.routes.specs.Route.{keyOf, plain}
 use Rattle.routes.specs.Said.{accepts}
 use Rattle.routes.specs.declared.Route.{Route}
 use Rattle.standing.specs.Cells.{any}
 use Rattle.standing.specs.Cells as cells
+use Rattle.standing.specs.Standing.{absent, stood, routeAt}
 use Rattle.tree.specs.Parts.{picked, gather}
 use Rattle.tree.specs.Image.{kids, level, upTo}
 use Rattle.tree_build.specs.Built.{madeOf, built}
 use Rattle.tree_same.specs.OneImage.{Builds, SameArrays}
-use Rattle.tree_change.specs.Changed.{imageWithdrawn}
-use Rattle.tree_runs.specs.Runs.{withdraw, done, after}
-use Rattle.demands.proofs.OneImage.{one-image-plain, image-run-refused}
+use Rattle.tree_change.specs.Changed.{route, imageWithdrawn}
+use Rattle.tree_runs.specs.Runs.{Call, announce, withdraw, done, after, worked}
+use Rattle.demands.proofs.OneImage.{one-image-plain, image-run-refused, runs-one-image-worked}
+use Rattle.examples.specs.Lines.{ip}
+use Rattle.examples.specs.EdgesTreeChanges.{imageIn}
+use Rattle.examples.proofs.TreeChanges.{built-39, added-A}
 
 -- 10.0.0.0/8 with mark m, to hop h
 abbrev one : ℕ → ℕ → List ℕ
@@ -79,3 +84,36 @@ long-refused = refl
 
 pub refused-aside : SameArrays (after (one 0 20) (ws 0) (hs 0) (withdraw 0 33 ∷ [])) (after (one 0 20) (ws 0) (hs 0) [])
 refused-aside = image-run-refused (one 0 20) (ws 0) (hs 0) 3 1 (three .0) (withdraw 0 33) [] long-refused
+
+-- ---- an accepted call: list A, and 192.0.2.0/24 announced on its image, which is another image then
+
+abbrev ws₃₉ : List ℕ
+ws₃₉ = replicate 39 0
+
+abbrev hs₆ : List ℕ
+hs₆ = replicate 6 0
+
+builtA : Builds listA ws₃₉ hs₆ 7 5
+builtA = record { said = built-39 }
+
+abbrev more : List Call
+more = announce (ip 192 0 2 0) 24 3 ∷ []
+
+added : accepts (after listA ws₃₉ hs₆ more .said) ≡ true
+unfolding after done imageIn
+added = ap accepts added-A
+
+one-more : worked listA ws₃₉ hs₆ more (keyOf (ip 192 0 2 0) 24) ≡ stood (route (ip 192 0 2 0) 24 3)
+unfolding worked
+one-more = rw added refl
+
+none-before : worked listA ws₃₉ hs₆ [] (keyOf (ip 192 0 2 0) 24) ≡ absent
+unfolding worked routeAt listA routesOf recordAt tabulate
+none-before = refl
+
+pub more-apart : SameArrays (after listA ws₃₉ hs₆ more) (after listA ws₃₉ hs₆ []) → ⊥
+more-apart e =
+    let w = runs-one-image-worked listA ws₃₉ hs₆ 7 5 builtA listA ws₃₉ hs₆ 7 5 builtA more [] refl refl .0 e (keyOf (ip 192 0 2 0) 24) in
+    let q : stood (route (ip 192 0 2 0) 24 3) ≡ absent = sym one-more ∙ w ∙ none-before in
+    let z : _≡_ {A = ℕ} 0 1 = cc in
+    omega arith
