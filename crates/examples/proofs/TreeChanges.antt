@@ -80,7 +80,7 @@ ws = imageIn listA 39 6 .words
 abbrev hs : List ℕ
 hs = imageIn listA 39 6 .hops
 
-built-39 : built listA (replicate 39 0) (replicate 6 0) .said ≡ accepted (7 ∷ 5 ∷ [])
+pub built-39 : built listA (replicate 39 0) (replicate 6 0) .said ≡ accepted (7 ∷ 5 ∷ [])
 unfolding listA built madeOf inputSaid firstOf firstFrom faultAt routeFault inOrder properPrefix hopFine recordAt cut routesOf tabulate any cells.first picked gather kids level upTo
 built-39 = refl
 

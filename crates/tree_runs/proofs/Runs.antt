@@ -39,6 +39,10 @@ resized {rs} d e l = record {
   hops = l .hops ∙ ap₂ (λ (m n : ℕ). imageOf rs m n .hops) d e;
 }
 
+-- the arrays are the image of the routes that they hold
+abbrev Itself : List ℕ → List ℕ → Type 0
+Itself ws hs = Left (routesHeld ws hs) ws hs (out (accepted []) ws hs)
+
 -- ---- one call
 
 -- what it leaves: the image of the routes that would then stand, if it is accepted, and else all as it was
@@ -47,7 +51,7 @@ pub record Leaves (ws hs : List ℕ) (c : Call) (o : Out) : Type 0 where
   pub list-so : routesHeld (o .words) (o .hops) ≡ cond (accepts (o .said)) (would c (routesHeld ws hs)) (routesHeld ws hs)
   pub kept : accepts (o .said) ≡ false → (o .words ≡ ws) × (o .hops ≡ hs)
 
-module _ (ws hs : List ℕ) (fine : Left (routesHeld ws hs) ws hs (out (accepted []) ws hs)) (c : Call) (o : Out) where
+module _ (ws hs : List ℕ) (fine : Itself ws hs) (c : Call) (o : Out) where
   refused-leaves : accepts (o .said) ≡ false → (o .words ≡ ws) × (o .hops ≡ hs) → Leaves ws hs c o
   refused-leaves e k = record {
     left = record {
@@ -67,7 +71,7 @@ module _ (ws hs : List ℕ) (fine : Left (routesHeld ws hs) ws hs (out (accepted
     kept = λ f. absurd (true≢false (sym e ∙ f));
   }
 
-module _ (ws hs : List ℕ) (fine : Left (routesHeld ws hs) ws hs (out (accepted []) ws hs)) where
+module _ (ws hs : List ℕ) (fine : Itself ws hs) where
   leaves : (c : Call) → Leaves ws hs c (done ws hs c)
   unfolding done
   leaves (announce a len h) = go (decided (accepts (imageAnnounced ws hs a len h .said)))
@@ -118,9 +122,8 @@ module _ (s ws hs : List ℕ) (n k : ℕ) (b : Builds s ws hs n k) where
     pub left : Left (standingAfter s ws hs cs) ws hs (after s ws hs cs)
     pub stands-so : (j : ℕ) → routeAt j (standingAfter s ws hs cs) ≡ worked s ws hs cs j
 
-  -- the arrays as they are after a run, seen as what was lent to the next call
-  lent-next : (cs : List Call) → RunIs cs
-      → Left (standingAfter s ws hs cs) (after s ws hs cs .words) (after s ws hs cs .hops) (out (accepted []) (after s ws hs cs .words) (after s ws hs cs .hops))
+  -- the arrays as they are after a run are what is lent to the next call
+  lent-next : (cs : List Call) → RunIs cs → Itself (after s ws hs cs .words) (after s ws hs cs .hops)
   lent-next cs w =
       let z = change-sizes (w .left) in
       let l = resized (sym (z .0)) (sym (z .1)) (w .left) in

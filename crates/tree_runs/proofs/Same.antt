@@ -83,7 +83,8 @@ module _ (s ws hs : List ℕ) (n k : ℕ) (b : Builds s ws hs n k) (t ws′ hs�
       ((λ e. standing-worked .0 (i .0 e)), (λ e. i .1 (standing-worked .1 e)))
 
   -- in arrays of any lengths: as many nodes and hops in use, and the same in them
-  pub runs-used-part : ((nodeNeed rs ≡ nodeNeed ss) × (length rs ≡ length ss) × SameUsed (nodeNeed rs) (length rs) (after s ws hs cs) (after t ws′ hs′ ds)) ↔ (rs ≡ ss)
+  pub runs-used-part : ((nodeNeed rs ≡ nodeNeed ss) × (length rs ≡ length ss) × SameUsed (nodeNeed rs) (length rs) (after s ws hs cs) (after t ws′ hs′ ds))
+      ↔ (rs ≡ ss)
   runs-used-part =
       let o = after s ws hs cs in
       let o′ = built (inputOf rs) ws hs in
@@ -91,7 +92,9 @@ module _ (s ws hs : List ℕ) (n k : ℕ) (b : Builds s ws hs n k) (t ws′ hs�
       let p′ = built (inputOf ss) ws′ hs′ in
       let f = change-as-build first-left in
       let g = change-as-build second-left in
-      let u = used-part-same (inputOf rs) (inputOf ss) ws hs ws′ hs′ (nodeNeed rs) (length rs) (nodeNeed ss) (length ss) (builds first-left) (builds second-left) in (
+      let u =
+      used-part-same (inputOf rs) (inputOf ss) ws hs ws′ hs′ (nodeNeed rs) (length rs) (nodeNeed ss) (length ss) (builds first-left)
+      (builds second-left) in (
         (λ e. sym (its-routes first-left) ∙ u .0 (e .0, e .1, used-as (nodeNeed rs) (length rs) o o′ p p′ f g (e .2)) ∙ its-routes second-left),
         (λ e.
             let x = u .1 (its-routes first-left ∙ e ∙ sym (its-routes second-left)) in

@@ -30,10 +30,16 @@ pub fn hop() {
     beside(&other);
 }
 
-// 10.1.3.0/24 instead of 10.1.2.0/24, after 10.1.2.128/25.
+// 10.1.3.0/24 instead of 10.1.2.0/24, in its place after 10.1.2.128/25.
 pub fn prefix() {
+    let mut other = list::list_a();
+    other[27] = 128;
+    other[28] = 25;
+    other[31] = 57;
+    other[34] = 3;
+    other[35] = 0;
+    other[36] = 24;
+    other[39] = 44;
     print::text(b"prefix:");
-    beside(
-        b"\x00\x00\x00\x00\x00\x00\x00\x06\x0A\x00\x00\x00\x08\x00\x00\x14\x0A\x01\x00\x00\x10\x00\x00\x1F\x0A\x01\x02\x80\x19\x00\x00\x39\x0A\x01\x03\x00\x18\x00\x00\x2C",
-    );
+    beside(&other);
 }
