@@ -98,13 +98,12 @@ module _ (t : Table) (l : Lent) (r : Route) (w : Welcome t l r) where
       pub add-pending : (x : ℕ) → x ≡ r .len → Pending g m (r .addr) x s (cells (l .first) (l .second) (l .third) own2 own3)
       add-pending x q = rw (q, o2, o3) (record {
         listed = holds .listed;
-        stale = λ ws par ready z. underway-stale g (r .addr) (r .len) (insert r rs) l (lent s (l .first) (l .second) (l .third) own2′ own3′) (welcome-underway t l r w s) ws par ready (z ∙ holds .routes);
+        stale = λ ws par ready z. underway-stale g (r .addr) (r .len) (insert r rs) l _ (welcome-underway t l r w) ws par ready (z ∙ holds .routes);
       })
 
       module _ (first second third : List ℕ) (h : Repainted g (routesOf s m) (cells (l .first) (l .second) (l .third) own2 own3) first second third)
           (n : Announce) (c : Bool) (q : saysAnnounce n ≡ accepted (bit c ∷ bit (saysPut p) ∷ [])) where
         pub add-done : out (saysAnnounce n) (record { geometry = g; count = m }) (lent s first second third own2 own3) ≡ told c (adding t l r)
         add-done =
-            let then : Lent = lent s (l .first) (l .second) (l .third) own2′ own3′ in
-            let h′ = underway-asked g (r .addr) (r .len) (insert r rs) l then (welcome-underway t l r w s) first second third (rw (holds .routes, o2, o3) at h) in
+            let h′ = underway-asked g (r .addr) (r .len) (insert r rs) l _ (welcome-underway t l r w) first second third (rw (holds .routes, o2, o3) at h) in
             rw (q, stood, count-is, list-is, h′ .is-first, h′ .is-second, h′ .is-third, o2, o3) (sym (ap (told c) (adding-is t l r w)))

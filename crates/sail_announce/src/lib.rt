@@ -55,10 +55,12 @@ fn judge_room(
     third: &[u16],
     own2: &[u32],
     own3: &[u32],
+    long1: &[u16],
+    long2: &[u16],
     r: Route,
 ) -> u8
-    requires { ⌜ Proper t (lent (now list) (now first) (now second) (now third) (now own2) (now own3)) r ⌝ }
-    ensures { λ n. ⌜ Judged n (announceSaid t (lent (now (list .entry)) (now (first .entry)) (now (second .entry)) (now (third .entry)) (now (own2 .entry)) (now (own3 .entry))) r) (Welcome t (lent (now (list .entry)) (now (first .entry)) (now (second .entry)) (now (third .entry)) (now (own2 .entry)) (now (own3 .entry))) r) ⌝ }
+    requires { ⌜ Proper t (lent (now list) (now first) (now second) (now third) (now own2) (now own3) (now long1) (now long2)) r ⌝ }
+    ensures { λ n. ⌜ Judged n (announceSaid t (lent (now (list .entry)) (now (first .entry)) (now (second .entry)) (now (third .entry)) (now (own2 .entry)) (now (own3 .entry)) (now (long1 .entry)) (now (long2 .entry))) r) (Welcome t (lent (now (list .entry)) (now (first .entry)) (now (second .entry)) (now (third .entry)) (now (own2 .entry)) (now (own3 .entry)) (now (long1 .entry)) (now (long2 .entry))) r) ⌝ }
 {
     let n = t.count as usize;
     let p = record::key_of(r.addr, r.len);
@@ -88,11 +90,13 @@ fn judge_announce(
     third: &[u16],
     own2: &[u32],
     own3: &[u32],
+    long1: &[u16],
+    long2: &[u16],
     r: Route,
 ) -> u8
-    ensures { λ n. ⌜ Judged n (announceSaid t (lent (now (list .entry)) (now (first .entry)) (now (second .entry)) (now (third .entry)) (now (own2 .entry)) (now (own3 .entry))) r) (Welcome t (lent (now (list .entry)) (now (first .entry)) (now (second .entry)) (now (third .entry)) (now (own2 .entry)) (now (own3 .entry))) r) ⌝ }
+    ensures { λ n. ⌜ Judged n (announceSaid t (lent (now (list .entry)) (now (first .entry)) (now (second .entry)) (now (third .entry)) (now (own2 .entry)) (now (own3 .entry)) (now (long1 .entry)) (now (long2 .entry))) r) (Welcome t (lent (now (list .entry)) (now (first .entry)) (now (second .entry)) (now (third .entry)) (now (own2 .entry)) (now (own3 .entry)) (now (long1 .entry)) (now (long2 .entry))) r) ⌝ }
 {
-    let s = sizes(t, list, first, second, third, own2, own3);
+    let s = sizes(t, list, first, second, third, own2, own3, long1, long2);
     if s != 0 {
         return s;
     }
@@ -100,10 +104,10 @@ fn judge_announce(
     if f != 0 {
         return f;
     }
-    if !sound(t, list, first, second, third, own2, own3) {
+    if !sound(t, list, first, second, third, own2, own3, long1, long2) {
         return 5;
     }
-    judge_room(t, list, first, second, third, own2, own3, r)
+    judge_room(t, list, first, second, third, own2, own3, long1, long2, r)
 }
 
 // How many routes stand after one was put into n.
@@ -137,11 +141,13 @@ fn add(
     third: &mut [u16],
     own2: &mut [u32],
     own3: &mut [u32],
+    long1: &mut [u16],
+    long2: &mut [u16],
     r: Route,
     cleared: bool,
 ) -> Announced
-    requires { ⌜ Welcome t (lent (now list) (now first) (now second) (now third) (now own2) (now own3)) r ⌝ }
-    ensures { λ o. ⌜ out (saysAnnounce (o .answer)) (o .table) (lent (now (list .exit)) (now (first .exit)) (now (second .exit)) (now (third .exit)) (now (own2 .exit)) (now (own3 .exit))) ≡ told cleared (adding t (lent (now (list .entry)) (now (first .entry)) (now (second .entry)) (now (third .entry)) (now (own2 .entry)) (now (own3 .entry))) r) ⌝ }
+    requires { ⌜ Welcome t (lent (now list) (now first) (now second) (now third) (now own2) (now own3) (now long1) (now long2)) r ⌝ }
+    ensures { λ o. ⌜ out (saysAnnounce (o .answer)) (o .table) (lent (now (list .exit)) (now (first .exit)) (now (second .exit)) (now (third .exit)) (now (own2 .exit)) (now (own3 .exit)) (now (long1 .exit)) (now (long2 .exit))) ≡ told cleared (adding t (lent (now (list .entry)) (now (first .entry)) (now (second .entry)) (now (third .entry)) (now (own2 .entry)) (now (own3 .entry)) (now (long1 .entry)) (now (long2 .entry))) r) ⌝ }
 {
     let g = t.geometry;
     let n = t.count as usize;
@@ -181,12 +187,14 @@ pub fn announce(
     third: &mut [u16],
     own2: &mut [u32],
     own3: &mut [u32],
+    long1: &mut [u16],
+    long2: &mut [u16],
     addr: u32,
     len: u8,
     hop: u16,
     mark: u8,
 ) -> Announced
-    ensures { λ r. ⌜ out (saysAnnounce (r .answer)) (r .table) (lent (now (list .exit)) (now (first .exit)) (now (second .exit)) (now (third .exit)) (now (own2 .exit)) (now (own3 .exit))) ≡ announced t (lent (now (list .entry)) (now (first .entry)) (now (second .entry)) (now (third .entry)) (now (own2 .entry)) (now (own3 .entry))) (route addr len hop mark) ⌝ }
+    ensures { λ r. ⌜ out (saysAnnounce (r .answer)) (r .table) (lent (now (list .exit)) (now (first .exit)) (now (second .exit)) (now (third .exit)) (now (own2 .exit)) (now (own3 .exit)) (now (long1 .exit)) (now (long2 .exit))) ≡ announced t (lent (now (list .entry)) (now (first .entry)) (now (second .entry)) (now (third .entry)) (now (own2 .entry)) (now (own3 .entry)) (now (long1 .entry)) (now (long2 .entry))) (route addr len hop mark) ⌝ }
 {
     let a = clear(addr, len);
     let r = Route {
@@ -195,12 +203,12 @@ pub fn announce(
         mark,
         hop,
     };
-    let z = judge_announce(t, list, first, second, third, own2, own3, r);
+    let z = judge_announce(t, list, first, second, third, own2, own3, long1, long2, r);
     if z != 0 {
         return Announced {
             answer: Announce::Refused(z),
             table: t,
         };
     }
-    add(t, list, first, second, third, own2, own3, r, a != addr)
+    add(t, list, first, second, third, own2, own3, long1, long2, r, a != addr)
 }

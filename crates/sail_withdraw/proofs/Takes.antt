@@ -169,7 +169,7 @@ module _ (t : Table) (l : Lent) (a len : ℕ) (w : Farewell t l a len) where
         pub take-pending : (x : ℕ) → x ≡ len → Pending g m a x s (cells (l .first) second third own2 own3)
         take-pending x q = rw (q, own2-is, own3-is, second-is, third-is) (record {
           listed = holds .listed;
-          stale = λ ws par ready z. underway-stale g a len left l _ (farewell-underway t l a len w s) ws par ready (z ∙ holds .routes);
+          stale = λ ws par ready z. underway-stale g a len left l _ (farewell-underway t l a len w) ws par ready (z ∙ holds .routes);
         })
 
         module _ (first′ second′ third′ : List ℕ) (h : Repainted g (routesOf s m) (cells (l .first) second third own2 own3) first′ second′ third′) where
@@ -177,5 +177,5 @@ module _ (t : Table) (l : Lent) (a len : ℕ) (w : Farewell t l a len) where
               → out (saysWithdraw (withdraw.Removed c)) (record { geometry = g; count = m }) (lent s first′ second′ third′ own2 own3) ≡ told c (taking t l a len)
           unfolding saysWithdraw
           take-done c =
-              let h′ = underway-asked g a len left l _ (farewell-underway t l a len w s) first′ second′ third′ (rw (holds .routes, own2-is, own3-is, second-is, third-is) at h) in
+              let h′ = underway-asked g a len left l _ (farewell-underway t l a len w) first′ second′ third′ (rw (holds .routes, own2-is, own3-is, second-is, third-is) at h) in
               rw (count-is, list-is, h′ .is-first, h′ .is-second, h′ .is-third, own2-is, own3-is) (sym (ap (told c) (taking-is t l a len w)))

@@ -31,19 +31,21 @@ fn judge_withdraw(
     third: &[u16],
     own2: &[u32],
     own3: &[u32],
+    long1: &[u16],
+    long2: &[u16],
     addr: u32,
     len: u8,
 ) -> u8
-    ensures { λ r. ⌜ Judged r (withdrawSaid t (lent (now (list .entry)) (now (first .entry)) (now (second .entry)) (now (third .entry)) (now (own2 .entry)) (now (own3 .entry))) addr len) (Farewell t (lent (now (list .entry)) (now (first .entry)) (now (second .entry)) (now (third .entry)) (now (own2 .entry)) (now (own3 .entry))) addr len) ⌝ }
+    ensures { λ r. ⌜ Judged r (withdrawSaid t (lent (now (list .entry)) (now (first .entry)) (now (second .entry)) (now (third .entry)) (now (own2 .entry)) (now (own3 .entry)) (now (long1 .entry)) (now (long2 .entry))) addr len) (Farewell t (lent (now (list .entry)) (now (first .entry)) (now (second .entry)) (now (third .entry)) (now (own2 .entry)) (now (own3 .entry)) (now (long1 .entry)) (now (long2 .entry))) addr len) ⌝ }
 {
-    let s = sizes(t, list, first, second, third, own2, own3);
+    let s = sizes(t, list, first, second, third, own2, own3, long1, long2);
     if s != 0 {
         return s;
     }
     if !input::prefix_ok(addr, len) {
         return 3;
     }
-    if !sound(t, list, first, second, third, own2, own3) {
+    if !sound(t, list, first, second, third, own2, own3, long1, long2) {
         return 5;
     }
     let n = t.count as usize;
@@ -65,12 +67,14 @@ fn take(
     third: &mut [u16],
     own2: &mut [u32],
     own3: &mut [u32],
+    long1: &mut [u16],
+    long2: &mut [u16],
     addr: u32,
     len: u8,
     cleared: bool,
 ) -> Withdrawn
-    requires { ⌜ Farewell t (lent (now list) (now first) (now second) (now third) (now own2) (now own3)) addr len ⌝ }
-    ensures { λ r. ⌜ out (saysWithdraw (r .answer)) (r .table) (lent (now (list .exit)) (now (first .exit)) (now (second .exit)) (now (third .exit)) (now (own2 .exit)) (now (own3 .exit))) ≡ told cleared (taking t (lent (now (list .entry)) (now (first .entry)) (now (second .entry)) (now (third .entry)) (now (own2 .entry)) (now (own3 .entry))) addr len) ⌝ }
+    requires { ⌜ Farewell t (lent (now list) (now first) (now second) (now third) (now own2) (now own3) (now long1) (now long2)) addr len ⌝ }
+    ensures { λ r. ⌜ out (saysWithdraw (r .answer)) (r .table) (lent (now (list .exit)) (now (first .exit)) (now (second .exit)) (now (third .exit)) (now (own2 .exit)) (now (own3 .exit)) (now (long1 .exit)) (now (long2 .exit))) ≡ told cleared (taking t (lent (now (list .entry)) (now (first .entry)) (now (second .entry)) (now (third .entry)) (now (own2 .entry)) (now (own3 .entry)) (now (long1 .entry)) (now (long2 .entry))) addr len) ⌝ }
 {
     let g = t.geometry;
     let p1 = g.p1;
@@ -114,18 +118,20 @@ pub fn withdraw(
     third: &mut [u16],
     own2: &mut [u32],
     own3: &mut [u32],
+    long1: &mut [u16],
+    long2: &mut [u16],
     addr: u32,
     len: u8,
 ) -> Withdrawn
-    ensures { λ r. ⌜ out (saysWithdraw (r .answer)) (r .table) (lent (now (list .exit)) (now (first .exit)) (now (second .exit)) (now (third .exit)) (now (own2 .exit)) (now (own3 .exit))) ≡ withdrawn t (lent (now (list .entry)) (now (first .entry)) (now (second .entry)) (now (third .entry)) (now (own2 .entry)) (now (own3 .entry))) addr len ⌝ }
+    ensures { λ r. ⌜ out (saysWithdraw (r .answer)) (r .table) (lent (now (list .exit)) (now (first .exit)) (now (second .exit)) (now (third .exit)) (now (own2 .exit)) (now (own3 .exit)) (now (long1 .exit)) (now (long2 .exit))) ≡ withdrawn t (lent (now (list .entry)) (now (first .entry)) (now (second .entry)) (now (third .entry)) (now (own2 .entry)) (now (own3 .entry)) (now (long1 .entry)) (now (long2 .entry))) addr len ⌝ }
 {
     let a = clear(addr, len);
-    let z = judge_withdraw(t, list, first, second, third, own2, own3, a, len);
+    let z = judge_withdraw(t, list, first, second, third, own2, own3, long1, long2, a, len);
     if z != 0 {
         return Withdrawn {
             answer: Withdraw::Refused(z),
             table: t,
         };
     }
-    take(t, list, first, second, third, own2, own3, a, len, a != addr)
+    take(t, list, first, second, third, own2, own3, long1, long2, a, len, a != addr)
 }

@@ -1,0 +1,19 @@
+-- `sail_sound::test::table_ok`: levels that fail decide; else the counts do.
+use mathlib.Core.Path.{refl}
+use Rattle.plan.proofs.Tells.{passed}
+use Rattle.sail_sound.proofs.Sounds.{countable, levels-fail, counts-tell}
+use borrow.Author.Needs.{needs}
+use Rattle.sail_sound.proofs.test.table_ok.Statement.{statement}
+use Rattle.sail_sound.proofs.test.table_ok.Tie as tie
+
+returns : tie.Need-returns
+returns c = levels-fail _ _ _ _ _ _ _ _ _ _ (c .before .levels-ok .ensures) (c .if1 .taken)
+
+counts-ok-requires : tie.Need-counts-ok-requires
+counts-ok-requires c κs = ?
+
+returns-2 : tie.Need-returns-2
+returns-2 c = ?
+
+pub table-ok-spec : {M : Type 1} → statement M
+table-ok-spec = tie.close (tie.spec (λ c κs. search needs) returns counts-ok-requires returns-2)
