@@ -1,0 +1,3 @@
+-- Laws that the proofs of the functions and the calls cite.
+pub mod Owners
+pub mod Ticks
