@@ -5,3 +5,4 @@ pub mod Steps
 pub mod Runs
 pub mod Leads
 pub mod Exact
+pub mod Tallies
