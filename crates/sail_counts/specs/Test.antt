@@ -17,7 +17,7 @@ use Rattle.sail.specs.declared.geometry.Geometry.{Geometry}
 use Rattle.sail_counts.specs.Tick.{placeIn}
 
 -- no chunk hangs from a cell that holds v: it is a leaf, or one of a free chunk
-abbrev pub idle : ℕ → Bool
+unfoldable pub idle : ℕ → Bool
 idle v = eqb v 0 || leb 32768 v
 
 -- where no chunk hangs, the count is 0

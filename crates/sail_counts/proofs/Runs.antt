@@ -1,0 +1,165 @@
+-- Runs of words: where one begins, how many routes it counts, and that the cells of all long words are counted where those of the runs are.
+use mathlib.Core.Path.{_≡_, refl, sym, _∙_, ap, subst}
+use mathlib.Core.Logic.{_⊎_, inl, inr}
+use mathlib.Core.Bool.{Bool, true, false, not, _&&_, _||_, true≢false, and-true, and-false}
+use mathlib.Core.List.{List}
+use Prim.Native.Nat.{ℕ, zero, suc, _+_, _-_, _*_, _/_, _%_, _^_, _≤_, _<_}
+use native.Mathlib.Omega.{arith}
+use lib.Dec.{eqb, ltb, leb}
+use lib.ListN.{getD, length, length-map, List·getD-map}
+use lib.Pow.{shr-mono, shl-shr}
+use borrow.Author.Tests.{ltb-true, eqb-true, lt-ltb, le-ltb, eq-eqb, ne-eqb}
+use Rattle.bits.specs.Slot.{slot}
+use Rattle.bits.specs.Tab.{Tells}
+use Rattle.bits.proofs.Slots.{cut-is, cut-le, cut-more}
+use Rattle.bits.proofs.Tests.{decided, both, and-split, below?}
+use Rattle.standing.specs.Cells.{within}
+use Rattle.counts.specs.Counts.{howMany}
+use Rattle.counts.proofs.Many.{many-run}
+use Rattle.chain.specs.Words.{routeOf, keyIn, routesIn, Words}
+use Rattle.chain.specs.Place.{underKey, RunFrom, Run}
+use Rattle.chain.specs.Cover.{addrIn}
+use Rattle.chain.proofs.Places.{keys}
+use Rattle.plan.proofs.Tells.{is-no, is-yes}
+use Rattle.sail_counts.specs.Tick.{placeIn}
+use Rattle.sail_counts.specs.Test.{idle, lenIn, cellIn, Told, Tallied, Goes, RunTold}
+
+-- the answers of `stray`
+module _ (v n : ℕ) where
+  pub stray-none : n ≡ 0 → false ≡ (idle v && not (eqb n 0))
+  stray-none e = sym (rw (eq-eqb n 0 e) (and-false (idle v)))
+
+  module _ (z : n ≡ 0 → ⊥) where
+    pub stray-free : v ≡ 0 → true ≡ (idle v && not (eqb n 0))
+    unfolding idle
+    stray-free e = rw (ne-eqb n 0 z, eq-eqb v 0 e)
+
+    pub stray-leaf : (v ≡ 0 → ⊥) → leb 32768 v ≡ (idle v && not (eqb n 0))
+    unfolding idle
+    stray-leaf e = rw (ne-eqb n 0 z, ne-eqb v 0 e) (sym (and-true (leb 32768 v)))
+
+-- what they tell of a count: where the answer is no, the count is 0 if the cell is idle
+pub stray-zero : (v n : ℕ) (b : Bool) → b ≡ (idle v && not (eqb n 0)) → b ≡ false → idle v ≡ true → n ≡ 0
+stray-zero v n b is e i = go (decided (eqb n 0))
+  where
+    go : (eqb n 0 ≡ true) ⊎ (eqb n 0 ≡ false) → n ≡ 0
+    go (inl z) = eqb-true n 0 z
+    go (inr z) = absurd (true≢false (sym (rw (i, z) at is) ∙ e))
+
+pub stray-wrong : (v n : ℕ) (b : Bool) → b ≡ (idle v && not (eqb n 0)) → b ≡ true → (idle v ≡ true → n ≡ 0) → ⊥
+stray-wrong v n b is e z =
+    let s = and-split (idle v) (not (eqb n 0)) (sym is ∙ e) in
+    true≢false (sym (s .1) ∙ rw (eq-eqb n 0 (z (s .0))))
+
+-- the answers of `goes_on`
+module _ (ws : List ℕ) (p i k : ℕ) where
+  pub goes-first : k ≡ 0 → Tells false (Goes ws p i k)
+  goes-first e = is-no (λ w. let z = w .some in omega arith)
+
+  pub goes-short : lenIn ws (k - 1) ≤ p → Tells false (Goes ws p i k)
+  goes-short l = is-no (λ w. true≢false (sym (w .there) ∙ rw (le-ltb p (lenIn ws (k - 1)) l)))
+
+  pub goes-told : (k ≡ 0 → ⊥) → p < lenIn ws (k - 1) → Tells (eqb (cellIn ws p (k - 1)) i) (Goes ws p i k)
+  goes-told n l = (λ e. record { some = omega (arith, n); there = both (lt-ltb p (lenIn ws (k - 1)) l) e }, λ w. and-split (ltb p (lenIn ws (k - 1))) (eqb (cellIn ws p (k - 1)) i) (w .there) .1)
+
+module _ (ws : List ℕ) (good : Words ws) (p : ℕ) (level : p ≤ 32) where
+  -- a word that is longer than p does not come before its cell's least key
+  from-cell : (k : ℕ) → p < lenIn ws k → underKey p (cellIn ws p k) ≤ keyIn (getD ws k 0)
+  from-cell k l = omega (arith, cut-is p (addrIn ws k), cut-le p (addrIn ws k))
+
+  -- one that does not come before that, nor past the cell, is longer than p and lies in it
+  in-cell : (k j : ℕ) → j < k → k < length ws → underKey p (cellIn ws p k) ≤ keyIn (getD ws j 0) → within p (cellIn ws p k) (routeOf (getD ws j 0)) ≡ true
+  in-cell k j b l h =
+      let i = cellIn ws p k in
+      let n = good .fine j (omega arith) .prefix .len-ok in
+      let a : i * 2 ^ (32 - p) ≤ addrIn ws j = omega arith in
+      let up = keys ws good k j b l in
+      let c : addrIn ws j ≤ addrIn ws k = omega arith in
+      let e : slot p (addrIn ws j) ≡ i = omega (arith, shr-mono (32 - p) a, shl-shr i (32 - p), shr-mono (32 - p) c) in
+      both (lt-ltb p (lenIn ws j) (longer e (below? p (lenIn ws j)))) (eq-eqb _ _ e)
+    where
+      longer : slot p (addrIn ws j) ≡ cellIn ws p k → (p < lenIn ws j) ⊎ (lenIn ws j ≤ p) → p < lenIn ws j
+      longer e (inl y) = y
+      longer e (inr y) =
+          let c = cut-more (lenIn ws j) p (addrIn ws j) y level (good .fine j (omega arith) .prefix .clear) in
+          let f : addrIn ws j ≡ cellIn ws p k * 2 ^ (32 - p) = sym c ∙ cut-is p (addrIn ws j) ∙ ap (λ (x : ℕ). x * 2 ^ (32 - p)) e in
+          absurd (omega arith)
+
+  -- where the word before it does not lie in its cell, a run begins with a long word
+  module _ (k : ℕ) (l : k < length ws) (longer : p < lenIn ws k) (begins : Goes ws p (cellIn ws p k) k → ⊥) where
+    before : (j : ℕ) → j < k → keyIn (getD ws j 0) < underKey p (cellIn ws p k)
+    before j b = omega (arith, last (below? (keyIn (getD ws (k - 1) 0)) (underKey p (cellIn ws p k))), rises (below? j (k - 1)))
+      where
+        last : (keyIn (getD ws (k - 1) 0) < underKey p (cellIn ws p k)) ⊎ (underKey p (cellIn ws p k) ≤ keyIn (getD ws (k - 1) 0)) → keyIn (getD ws (k - 1) 0) < underKey p (cellIn ws p k)
+        last (inl y) = y
+        last (inr y) = absurd (begins (record { some = omega arith; there = in-cell k (k - 1) (omega arith) l y }))
+
+        rises : (j < k - 1) ⊎ (k - 1 ≤ j) → keyIn (getD ws j 0) ≤ keyIn (getD ws (k - 1) 0)
+        rises (inl y) = omega (arith, keys ws good (k - 1) j y (omega arith))
+        rises (inr y) = let e : j ≡ k - 1 = omega arith in rw e (omega arith)
+
+    pub run-begins : RunFrom ws p (cellIn ws p k) k
+    run-begins = record {
+      level = level;
+      place = record { to = omega arith; below = before; above = λ j a b. omega (arith, from-cell k longer, rises j a b (below? k j)) };
+    }
+      where
+        rises : (j : ℕ) → k ≤ j → j < length ws → (k < j) ⊎ (j ≤ k) → keyIn (getD ws k 0) ≤ keyIn (getD ws j 0)
+        rises j a b (inl y) = omega (arith, keys ws good j k y b)
+        rises j a b (inr y) = let e : k ≡ j = omega arith in rw e (omega arith)
+
+-- the routes of a run are those that its cell counts
+pub run-many : (ws : List ℕ) (p i lo hi : ℕ) → Run ws p i lo hi → howMany (routesIn ws) p i ≡ hi - lo
+run-many ws p i lo hi run =
+    many-run (routesIn ws) p i lo hi (run .from) (rw length-map (run .to))
+    (λ j a. rw (List·getD-map routeOf ws j 0) (run .before j a))
+    (λ j a b. rw (List·getD-map routeOf ws j 0) (run .inside j a b))
+    (λ j a b. rw (List·getD-map routeOf ws j 0) (run .past j a (rw length-map at b)))
+
+-- a long word that begins a run
+module _ (ws : List ℕ) (p k : ℕ) (longer : p < lenIn ws k) (b : Bool) (t : Tells b (Goes ws p (cellIn ws p k) k)) (off : b ≡ false) where
+  no-run : Goes ws p (cellIn ws p k) k → ⊥
+  no-run w = true≢false (sym (t .1 w) ∙ off)
+
+  pub run-from : Words ws → p ≤ 32 → k < length ws → RunFrom ws p (cellIn ws p k) k
+  run-from good level l = run-begins ws good p level k l longer no-run
+
+-- a place under another name has a count
+pub counted-there : (q q′ n : ℕ) → q ≡ q′ → q′ < n → q < n
+counted-there q q′ n e l = omega arith
+
+-- the answers of `run_ok`
+module _ (ws : List ℕ) (p d : ℕ) (above counts : List ℕ) (k : ℕ) where
+  pub run-short : lenIn ws k ≤ p → Tells true (RunTold ws p d above counts k)
+  run-short l = is-yes (record { begins = λ z n. absurd (omega arith) })
+
+  pub run-on : (b : Bool) → Tells b (Goes ws p (cellIn ws p k) k) → b ≡ true → Tells true (RunTold ws p d above counts k)
+  run-on b t e = is-yes (record { begins = λ z n. absurd (n (t .0 e)) })
+
+  pub run-told : (longer : p < lenIn ws k) (b : Bool) (t : Tells b (Goes ws p (cellIn ws p k) k)) (off : b ≡ false) (q n end : ℕ)
+      → q ≡ placeIn d above (cellIn ws p k) → n ≡ getD counts q 0 → Run ws p (cellIn ws p k) k end
+      → Tells (eqb n (end - k)) (RunTold ws p d above counts k)
+  run-told longer b t off q n end at is run =
+      let m = run-many ws p (cellIn ws p k) k end run in
+      let c : n ≡ getD counts (placeIn d above (cellIn ws p k)) 0 = is ∙ ap (λ (x : ℕ). getD counts x 0) at in (
+        λ e. record { begins = λ _ _. record { count = sym c ∙ eqb-true n (end - k) e ∙ sym m } },
+        λ w. eq-eqb n (end - k) (c ∙ w .begins longer (no-run ws p k longer b t off) .count ∙ m),
+      )
+
+-- where the cells of all runs are counted, those of all long words are: a word that begins no run lies in the cell of the word before it
+pub all-told : (ws : List ℕ) (p d : ℕ) (above counts : List ℕ) → ((k : ℕ) → k < length ws → RunTold ws p d above counts k) → Tallied ws p d above counts
+all-told ws p d above counts h = record { each = each }
+  where
+    each : (k : ℕ) → k < length ws → p < lenIn ws k → Told ws p d above counts (cellIn ws p k)
+    each zero l n = h zero l .begins n (λ w. let z = w .some in omega arith)
+    each (suc k) l n = go (decided (within p (cellIn ws p (suc k)) (routeOf (getD ws k 0)))) (each k (omega arith))
+      where
+        go : (within p (cellIn ws p (suc k)) (routeOf (getD ws k 0)) ≡ true) ⊎ (within p (cellIn ws p (suc k)) (routeOf (getD ws k 0)) ≡ false)
+            → (p < lenIn ws k → Told ws p d above counts (cellIn ws p k)) → Told ws p d above counts (cellIn ws p (suc k))
+        go (inl y) ih =
+            let s = and-split (ltb p (lenIn ws k)) (eqb (cellIn ws p k) (cellIn ws p (suc k))) y in
+            subst (Told ws p d above counts) (eqb-true (cellIn ws p k) (cellIn ws p (suc k)) (s .1)) (ih (ltb-true p (lenIn ws k) (s .0)))
+        go (inr y) ih = let e : suc k - 1 ≡ k = omega arith in h (suc k) l .begins n (λ w. true≢false (sym (rw e at (w .there)) ∙ y))
+
+pub told-run : (ws : List ℕ) (p d : ℕ) (above counts : List ℕ) (k : ℕ) → k < length ws → Tallied ws p d above counts → RunTold ws p d above counts k
+told-run ws p d above counts k l t = record { begins = λ n _. t .each k l n }
