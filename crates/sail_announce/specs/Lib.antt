@@ -1,2 +1,3 @@
 -- What announce answers.
 pub mod Answers
+pub mod Booked

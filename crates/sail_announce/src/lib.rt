@@ -15,6 +15,7 @@ ghost use Rattle.sail_theory.specs.Facts.{Welcome};
 ghost use Rattle.sail_theory.proofs.Judged.{Proper};
 ghost use Rattle.sail_calls.specs.Judge.{Judged};
 ghost use Rattle.sail_announce.specs.Answers.{saysAnnounce};
+ghost use Rattle.sail_announce.specs.Booked.{Bookable, Booked};
 
 pub mod answers;
 
@@ -26,12 +27,14 @@ use lists::place::place;
 use routes::Route;
 use routes::input;
 use routes::record;
+use sail::geometry::Geometry;
 use sail::table::Table;
 use sail::table::sizes;
 use sail_calls::clear::clear;
 use sail_calls::renew::renew;
 use sail_change::opening::open;
 use sail_change::opening::to_open;
+use sail_counts::tick::tick;
 use sail_sound::report::in_use;
 use sail_sound::test::sound;
 
@@ -131,8 +134,25 @@ fn answer_of(p: Put, cleared: bool) -> Announce
     }
 }
 
-// The announcement, where nothing speaks against it: chunks are opened, the route is put into the list, and what it
-// touches is painted again. The answer tells whether bits were cleared.
+// The counts with the route, where it is added; a replacement changes none.
+fn count_in(
+    added: bool,
+    g: Geometry,
+    r: Route,
+    first: &[u16],
+    long1: &mut [u16],
+    long2: &mut [u16],
+)
+    requires { ⌜ Bookable added g r (now first) (now long1) (now long2) ⌝ }
+    ensures { λ _. ⌜ Booked added g r (now (first .entry)) (now (long1 .entry)) (now (long2 .entry)) (now (long1 .exit)) (now (long2 .exit)) ⌝ }
+{
+    if added {
+        tick(g, r.addr, r.len, first, long1, long2, true);
+    }
+}
+
+// The announcement, where nothing speaks against it: chunks are opened, the route is put into the list, what it touches is
+// painted again, and it is counted. The answer tells whether bits were cleared.
 fn add(
     t: Table,
     list: &mut [u8],
@@ -166,6 +186,7 @@ fn add(
         own2,
         own3,
     );
+    count_in(n < m, g, r, first, long1, long2);
     let u = Table {
         geometry: g,
         count: m as u32,

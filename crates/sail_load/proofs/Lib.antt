@@ -1,4 +1,5 @@
 -- Laws that the functions' proofs cite.
 pub mod Lists
+pub mod Counting
 pub mod Renews
 pub mod Loads

@@ -1,4 +1,5 @@
 -- What load answers, and what its steps ask and leave.
 pub mod Answers
 pub mod Renew
+pub mod Count
 pub mod Weigh

@@ -268,6 +268,10 @@ module _ (t : Table) (l : Lent) (s : Sized (t .geometry) l) (h : Listed (l .list
   pub tells-sound : (b : Bool) → Tells b Test → Tells b (Sound t l)
   tells-sound b = tells-same passed-sound sound-passed
 
+-- as many counts as cells
+pub beside-of : (g : Geometry) (l : Lent) → Sized g l → Beside (l .first) (l .second) (l .long1) (l .long2)
+beside-of g l s = record { counts1 = s .counts1 ∙ sym (s .cells1); counts2 = s .counts2 }
+
 -- the answers of `table_ok`
 module _ (rs : List Route) (g : Geometry) (first second third own2 own3 long1 long2 : List ℕ) (b : Bool)
     (levels : Tells b (PassedAll rs g (cells first second third own2 own3))) where

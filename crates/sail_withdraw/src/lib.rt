@@ -18,8 +18,9 @@ use sail::table::Table;
 use sail::table::sizes;
 use sail_calls::clear::clear;
 use sail_calls::renew::renew;
-use sail_change::alone::close_alone;
+use sail_change::chunks::close;
 use sail_change::trail::follow;
+use sail_counts::tick::tick;
 use sail_sound::test::sound;
 
 // The number with which the withdrawal is refused, by the first condition that holds; 0 where it is accepted.
@@ -57,8 +58,8 @@ fn judge_withdraw(
     9
 }
 
-// The withdrawal, where the prefix stands: its record is taken out of the list, chunks that it alone needed are closed,
-// and what it touched is painted again. The answer tells whether bits were cleared.
+// The withdrawal, where the prefix stands: its record is taken out of the list and counted no more, chunks whose count falls
+// to 0 are closed, and what it touched is painted again. The answer tells whether bits were cleared.
 fn take(
     t: Table,
     list: &mut [u8],
@@ -83,8 +84,9 @@ fn take(
     let v = follow(t, list, first, second, own2, own3, addr);
     edit::remove(list, n, addr, len);
     let m = n - 1;
-    close_alone(list, m, p1, addr, len, v.first, p2 - p1, own2, second);
-    close_alone(list, m, p2, addr, len, v.second, 32 - p2, own3, third);
+    let left = tick(g, addr, len, first, long1, long2, false);
+    close(own2, second, left.first == 0, (v.first - 1) as usize, p2 - p1);
+    close(own3, third, left.second == 0, (v.second - 1) as usize, 32 - p2);
     renew(
         g,
         list,

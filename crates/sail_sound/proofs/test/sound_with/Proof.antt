@@ -2,6 +2,7 @@
 -- the counts are looked at beside them.
 use Rattle.sail.proofs.Fitting.{celled-of}
 use Rattle.sail_list.proofs.Fronts.{count-in, count-room, chain-room, still-in, front-room, front-ready}
+use Rattle.sail_sound.proofs.Sounds.{beside-of}
 use Rattle.sail_sound.proofs.Tries.{no-list, table-tried}
 use borrow.Author.Needs.{needs}
 use Rattle.sail_sound.proofs.test.sound_with.Statement.{statement}
@@ -9,7 +10,7 @@ use Rattle.sail_sound.proofs.test.sound_with.Tie as tie
 
 -- Places: where it starts, seen from the branch on which the list is good; and that branch, seen from after `chained`.
 abbrev start : tie.Else1 → tie.Start
-start c = c .before .before .before .before .before .before .before .before .before .before .before
+start c = c .before .before .before .before .before .before .before .before .before .before .before .before .before
 
 abbrev good : tie.After-chained → tie.Else1
 good c = c .before .before .before
@@ -44,6 +45,7 @@ table-ok-requires c κs =
     let g = good made in (
       front-ready _ _ _ (g .before .list-ok .ensures) (g .if1 .left) _ _ (start g .pre .1) _ (made .chained .kept .1 .0) _ (made .chained .ensures),
       celled-of _ _ (start g .pre .0),
+      beside-of _ _ (start g .pre .0),
     )
 
 returns-2 : tie.Need-returns-2
