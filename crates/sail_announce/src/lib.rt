@@ -135,14 +135,7 @@ fn answer_of(p: Put, cleared: bool) -> Announce
 }
 
 // The counts with the route, where it is added; a replacement changes none.
-fn count_in(
-    added: bool,
-    g: Geometry,
-    r: Route,
-    first: &[u16],
-    long1: &mut [u16],
-    long2: &mut [u16],
-)
+fn count_in(added: bool, g: Geometry, r: Route, first: &[u16], long1: &mut [u16], long2: &mut [u16])
     requires { ⌜ Bookable added g r (now first) (now long1) (now long2) ⌝ }
     ensures { λ _. ⌜ Booked added g r (now (first .entry)) (now (long1 .entry)) (now (long2 .entry)) (now (long1 .exit)) (now (long2 .exit)) ⌝ }
 {
@@ -231,5 +224,17 @@ pub fn announce(
             table: t,
         };
     }
-    add(t, list, first, second, third, own2, own3, long1, long2, r, a != addr)
+    add(
+        t,
+        list,
+        first,
+        second,
+        third,
+        own2,
+        own3,
+        long1,
+        long2,
+        r,
+        a != addr,
+    )
 }

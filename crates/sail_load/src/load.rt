@@ -101,9 +101,31 @@ pub fn load(
 ) -> Changed
     ensures { λ r. ⌜ out (saysLoaded (r .answer)) (r .table) (lent (now (list .exit)) (now (first .exit)) (now (second .exit)) (now (third .exit)) (now (own2 .exit)) (now (own3 .exit)) (now (long1 .exit)) (now (long2 .exit))) ≡ loaded t (lent (now (list .entry)) (now (first .entry)) (now (second .entry)) (now (third .entry)) (now (own2 .entry)) (now (own3 .entry)) (now (long1 .entry)) (now (long2 .entry))) (now (input .entry)) ⌝ }
 {
-    let answer = judge(t, input, list, first, second, third, own2, own3, long1, long2);
+    let answer = judge(
+        t,
+        input,
+        list,
+        first,
+        second,
+        third,
+        own2,
+        own3,
+        long1,
+        long2,
+    );
     if accepts(answer) {
-        renew(t, input, list, first, second, third, own2, own3, long1, long2);
+        renew(
+            t,
+            input,
+            list,
+            first,
+            second,
+            third,
+            own2,
+            own3,
+            long1,
+            long2,
+        );
         let g = t.geometry;
         let count = (input.len() / 8) as u32;
         return Changed {

@@ -142,7 +142,18 @@ pub fn sound_with(
     }
     chained(list, &mut ws[..n], par);
     let g = t.geometry;
-    table_ok(&ws[..n], par, g, first, second, third, own2, own3, long1, long2)
+    table_ok(
+        &ws[..n],
+        par,
+        g,
+        first,
+        second,
+        third,
+        own2,
+        own3,
+        long1,
+        long2,
+    )
 }
 
 // The same with room of its own.
@@ -162,5 +173,17 @@ pub fn sound(
 {
     let mut ws = [0u64; 4096];
     let mut par = [0u16; 4353];
-    sound_with(t, list, first, second, third, own2, own3, long1, long2, &mut ws, &mut par)
+    sound_with(
+        t,
+        list,
+        first,
+        second,
+        third,
+        own2,
+        own3,
+        long1,
+        long2,
+        &mut ws,
+        &mut par,
+    )
 }

@@ -85,8 +85,20 @@ fn take(
     edit::remove(list, n, addr, len);
     let m = n - 1;
     let left = tick(g, addr, len, first, long1, long2, false);
-    close(own2, second, left.first == 0, (v.first - 1) as usize, p2 - p1);
-    close(own3, third, left.second == 0, (v.second - 1) as usize, 32 - p2);
+    close(
+        own2,
+        second,
+        left.first == 0,
+        (v.first - 1) as usize,
+        p2 - p1,
+    );
+    close(
+        own3,
+        third,
+        left.second == 0,
+        (v.second - 1) as usize,
+        32 - p2,
+    );
     renew(
         g,
         list,
@@ -128,12 +140,37 @@ pub fn withdraw(
     ensures { λ r. ⌜ out (saysWithdraw (r .answer)) (r .table) (lent (now (list .exit)) (now (first .exit)) (now (second .exit)) (now (third .exit)) (now (own2 .exit)) (now (own3 .exit)) (now (long1 .exit)) (now (long2 .exit))) ≡ withdrawn t (lent (now (list .entry)) (now (first .entry)) (now (second .entry)) (now (third .entry)) (now (own2 .entry)) (now (own3 .entry)) (now (long1 .entry)) (now (long2 .entry))) addr len ⌝ }
 {
     let a = clear(addr, len);
-    let z = judge_withdraw(t, list, first, second, third, own2, own3, long1, long2, a, len);
+    let z = judge_withdraw(
+        t,
+        list,
+        first,
+        second,
+        third,
+        own2,
+        own3,
+        long1,
+        long2,
+        a,
+        len,
+    );
     if z != 0 {
         return Withdrawn {
             answer: Withdraw::Refused(z),
             table: t,
         };
     }
-    take(t, list, first, second, third, own2, own3, long1, long2, a, len, a != addr)
+    take(
+        t,
+        list,
+        first,
+        second,
+        third,
+        own2,
+        own3,
+        long1,
+        long2,
+        a,
+        len,
+        a != addr,
+    )
 }

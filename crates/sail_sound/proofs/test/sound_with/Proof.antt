@@ -44,8 +44,7 @@ table-ok-requires c κs =
     let made = c .before .before .before .before .before .before .before in
     let g = good made in (
       front-ready _ _ _ (g .before .list-ok .ensures) (g .if1 .left) _ _ (start g .pre .1) _ (made .chained .kept .1 .0) _ (made .chained .ensures),
-      celled-of _ _ (start g .pre .0),
-      beside-of _ _ (start g .pre .0),
+      (celled-of _ _ (start g .pre .0), beside-of _ _ (start g .pre .0)),
     )
 
 returns-2 : tie.Need-returns-2

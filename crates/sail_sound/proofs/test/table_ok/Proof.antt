@@ -16,7 +16,7 @@ returns c = levels-fail _ _ _ _ _ _ _ _ _ _ (c .before .levels-ok .ensures) (c .
 counts-ok-requires : tie.Need-counts-ok-requires
 counts-ok-requires c κs =
     let s = start c in
-    countable _ _ _ (s .pre .1) _ _ (s .pre .0) refl _ _ (s .pre .2) (passed (c .before .levels-ok .ensures) (c .if1 .left))
+    countable _ _ _ (s .pre .1 .0) _ _ (s .pre .0) refl _ _ (s .pre .1 .1) (passed (c .before .levels-ok .ensures) (c .if1 .left))
 
 returns-2 : tie.Need-returns-2
 returns-2 c = counts-tell _ _ _ _ _ _ _ _ _ _ (c .before .before .levels-ok .ensures) (c .before .if1 .left) _ (c .counts-ok .ensures)
