@@ -119,7 +119,18 @@ pub fn lookup(
 {
     let s = crate::table::sizes(t, list, first, second, third, own2, own3, long1, long2);
     if s == 0 {
-        return said(walk(t.geometry, list, first, second, third, own2, own3, long1, long2, addr));
+        return said(walk(
+            t.geometry,
+            list,
+            first,
+            second,
+            third,
+            own2,
+            own3,
+            long1,
+            long2,
+            addr,
+        ));
     }
     Found::Refused(s)
 }

@@ -159,21 +159,21 @@ module _ (t : Table) (l : Lent) (input : List ℕ) (w : Renewable t input l) whe
             (omega (arith, w .loadable .roomy, length-routes input (length input / 8)))
 
         -- the cells are painted, and all counts are 0
-        module _ (painted : Repainted g rs (cells (l .first) second third own2 own3) a b c) (z1 z2 : List ℕ)
-            (n1 : z1 ≡ replicate (length (l .long1)) 0) (n2 : z2 ≡ replicate (length (l .long2)) 0) where
+        module _ (painted : Repainted g rs (cells (l .first) second third own2 own3) a b c) (c1 c2 : List ℕ)
+            (n1 : c1 ≡ replicate (length (l .long1)) 0) (n2 : c2 ≡ replicate (length (l .long2)) 0) where
           asked : AsAsked g rs (cells (l .first) second third own2 own3) a b c
           asked = repainted-asked g rs _ (bare .celled)
               (record { blank = λ q _ _. bare .zero2 q }) (record { blank = λ q _ _. bare .zero3 q }) a b c painted
 
-          many1 : length z1 ≡ 2 ^ g .p1
+          many1 : length c1 ≡ 2 ^ g .p1
           many1 = ap length n1 ∙ length-replicate (length (l .long1)) 0 ∙ w .loadable .sized .counts1
 
-          many2 : length z2 ≡ length own2 * 2 ^ bits2 g
+          many2 : length c2 ≡ length own2 * 2 ^ bits2 g
           many2 =
               ap length n2 ∙ length-replicate (length (l .long2)) 0 ∙ w .loadable .sized .counts2
               ∙ sym (ap length s2 ∙ length-replicate (length (l .second)) 0) ∙ bare .celled .cells2
 
-          pub uncounted : Uncounted g input (length input / 8) a own2 z1 z2
+          pub uncounted : Uncounted g input (length input / 8) a own2 c1 c2
           uncounted = record {
             valid = w .loadable .sized .valid;
             records = w .readable .records;
@@ -185,7 +185,7 @@ module _ (t : Table) (l : Lent) (input : List ℕ) (w : Renewable t input l) whe
             zero2 = λ q. rw n2 (zeros (length (l .long2)) q);
           }
 
-          pub renews : (long1 long2 : List ℕ) → Counts rs g own2 long1 long2 → length long1 ≡ length z1 → length long2 ≡ length z2
+          pub renews : (long1 long2 : List ℕ) → Counts rs g own2 long1 long2 → length long1 ≡ length c1 → length long2 ≡ length c2
               → lent list a b c own2 own3 long1 long2 ≡ anew t l input
           renews long1 long2 k e1 e2 =
               let are = counts-are g (w .loadable .sized .valid) rs own2 long1 long2 k (e1 ∙ many1) (e2 ∙ many2) in

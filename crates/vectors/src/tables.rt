@@ -271,6 +271,59 @@ pub fn states() {
     owner(2562, wide);
 }
 
+// The same with these counts at first cell 0 and in a free chunk.
+fn counts(a: u16, b: u16) {
+    let list = records(0);
+    let first = first_cells(1);
+    let second = second_cells();
+    let third = third_cells(32825, 0);
+    let own2 = [2562u32, 0, 0, 0];
+    let own3 = [3u32, 0, 0, 0];
+    let long1 = first_counts(a);
+    let long2 = second_counts(b);
+    judge(
+        standard(5),
+        &list,
+        &first,
+        &second,
+        &third,
+        &own2,
+        &own3,
+        &long1,
+        &long2,
+    );
+}
+
+// One count too few.
+fn short_counts() {
+    let list = records(0);
+    let first = first_cells(1);
+    let second = second_cells();
+    let third = third_cells(32825, 0);
+    let own2 = [2562u32, 0, 0, 0];
+    let own3 = [3u32, 0, 0, 0];
+    let long1 = [0u16; 65535];
+    let long2 = second_counts(0);
+    judge(
+        standard(5),
+        &list,
+        &first,
+        &second,
+        &third,
+        &own2,
+        &own3,
+        &long1,
+        &long2,
+    );
+}
+
+// Wrong counts, which the report tells and no lookup looks at; and a size of theirs, which both tell.
+pub fn counted() {
+    counts(1, 0);
+    counts(0, 1);
+    short_counts();
+}
+
 // Nothing damaged; chunk numbers 0 and beyond the pool; a third cell that is no leaf; a free chunk that is not zero, which no
 // lookup reads; a stray byte past the count.
 pub fn damaged() {

@@ -1,4 +1,4 @@
-// Whether what is lent is the table of one route: two sets of the six arrays compared.
+// Whether what is lent is the table of one route: two sets of the eight arrays compared.
 use routes::Route;
 use words::print;
 

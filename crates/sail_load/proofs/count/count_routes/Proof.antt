@@ -1,51 +1,48 @@
+-- `sail_load::count::count_routes`. The invariant: the counts are those of the records passed.
+use Prim.Native.Nat.{_-_, _≤_}
+use native.Mathlib.Omega.{arith}
+use Rattle.sail_load.proofs.Counting.{Reached, reached-none, reached-all, reached-ticks, reached-more}
 use Rattle.sail_load.proofs.count.count_routes.Statement.{statement}
 use Rattle.sail_load.proofs.count.count_routes.Tie as tie
-use Rattle.sail_load.proofs.count.count_routes.Reads as reads
-use Rattle.sail_load.proofs.count.count_routes.Lts as lts
-use Rattle.routes.proofs.record.read_record.Reads as read-record-reads
-use Rattle.sail_counts.proofs.tick.tick.Reads as tick-reads
 
 abbrev Inv-loop : tie.InvT-loop
-Inv-loop g input n first own2 long1₀ long2₀ k₀ long1 long2 k = ?
+Inv-loop g input n first own2 long1₀ long2₀ k₀ long1 long2 k = (k ≤ n) × Reached g input k own2 long1₀ long2₀ long1 long2
 
 abbrev μ-loop : tie.MeasureT-loop
-μ-loop g input n first own2 long1₀ long2₀ k₀ long1 long2 k = ?
+μ-loop g input n first own2 long1₀ long2₀ k₀ long1 long2 k = n - k
 
--- src/count.rt:23:5
 loop-holds : tie.Need-loop-holds Inv-loop μ-loop
-loop-holds c = ?
+loop-holds c = let s = c .before .before .before .before .before in (omega arith, reached-none _ _ _ _ _ _ _ (s .pre))
 
--- src/count.rt:24:13
 read-record-requires : tie.Need-read-record-requires Inv-loop μ-loop
-read-record-requires c κs = ?
+read-record-requires c κs = let s = c .before .before .before .before .before .before .before in omega (arith, s .pre .records .room)
 
--- src/count.rt:25:9
 tick-requires : tie.Need-tick-requires Inv-loop μ-loop
-tick-requires c κs = ?
+tick-requires c κs =
+    let read = c .before .before in
+    let turn = read .before .before in
+    let s = turn .before .before .before .before .before .before in
+    reached-ticks _ _ _ _ _ _ _ (s .pre) _ _ _ (turn .loop .inv .1) (omega arith) _ (read .read-record .ensures)
 
--- src/count.rt:26:9
 add-k : tie.Need-add-k Inv-loop μ-loop
-add-k c = ?
+add-k c = let s = c .before .before .before .before .before .before .before .before .before .before .before .before .before .before .before in omega (arith, s .pre .records .few)
 
--- src/count.rt:23:5
-loop-less : tie.Need-loop-less Inv-loop μ-loop
-loop-less c = ?
-
--- src/count.rt:23:5
 loop-again : tie.Need-loop-again Inv-loop μ-loop
-loop-again c = ?
+loop-again c =
+    let ticked = c .before .before .before .before in
+    let read = ticked .before .before .before in
+    let turn = read .before .before in
+    let s = turn .before .before .before .before .before .before in (
+      omega arith,
+      reached-more _ _ _ _ _ _ _ (s .pre) _ _ _ (turn .loop .inv .1) (omega arith) _ (read .read-record .ensures) _ _ _ (ticked .tick .ensures)
+      (ticked .tick .kept .1 .1 .1 .1 .0) (ticked .tick .kept .1 .1 .1 .1 .1 .0),
+    )
 
--- src/count.rt:10:1
-same-length : tie.Need-same-length Inv-loop μ-loop
-same-length c = ?
-
--- src/count.rt:10:1
-same-length-2 : tie.Need-same-length-2 Inv-loop μ-loop
-same-length-2 c = ?
-
--- src/count.rt:10:1
 returns : tie.Need-returns Inv-loop μ-loop
-returns c = ?
+returns c =
+    let turn = c .before in
+    let s = turn .before .before .before .before .before .before in
+    reached-all _ _ _ _ _ _ _ (s .pre) _ _ _ (turn .loop .inv .1) (omega arith) (turn .loop .inv .0)
 
 pub count-routes-spec : {M : Type 1} → statement M
 count-routes-spec =
@@ -57,8 +54,8 @@ count-routes-spec =
     read-record-requires
     tick-requires
     add-k
-    loop-less
+    (λ c. omega arith)
     loop-again
-    same-length
-    same-length-2
+    (λ c. c .before .loop .inv .1 .many1)
+    (λ c. c .before .loop .inv .1 .many2)
     returns)
