@@ -1,5 +1,5 @@
 -- Runs of words: where one begins, how many routes it counts, and that the cells of all long words are counted where those of the runs are.
-use mathlib.Core.Path.{_≡_, refl, sym, _∙_, ap, subst}
+use mathlib.Core.Path.{_≡_, sym, _∙_, ap, subst}
 use mathlib.Core.Logic.{_⊎_, inl, inr}
 use mathlib.Core.Bool.{Bool, true, false, not, _&&_, _||_, true≢false, and-true, and-false}
 use mathlib.Core.List.{List}
@@ -60,7 +60,10 @@ module _ (ws : List ℕ) (p i k : ℕ) where
   goes-short l = is-no (λ w. true≢false (sym (w .there) ∙ rw (le-ltb p (lenIn ws (k - 1)) l)))
 
   pub goes-told : (k ≡ 0 → ⊥) → p < lenIn ws (k - 1) → Tells (eqb (cellIn ws p (k - 1)) i) (Goes ws p i k)
-  goes-told n l = (λ e. record { some = omega (arith, n); there = both (lt-ltb p (lenIn ws (k - 1)) l) e }, λ w. and-split (ltb p (lenIn ws (k - 1))) (eqb (cellIn ws p (k - 1)) i) (w .there) .1)
+  goes-told n l = (
+    λ e. record { some = omega (arith, n); there = both (lt-ltb p (lenIn ws (k - 1)) l) e },
+    λ w. and-split (ltb p (lenIn ws (k - 1))) (eqb (cellIn ws p (k - 1)) i) (w .there) .1,
+  )
 
 module _ (ws : List ℕ) (good : Words ws) (p : ℕ) (level : p ≤ 32) where
   -- a word that is longer than p does not come before its cell's least key
@@ -90,7 +93,8 @@ module _ (ws : List ℕ) (good : Words ws) (p : ℕ) (level : p ≤ 32) where
     before : (j : ℕ) → j < k → keyIn (getD ws j 0) < underKey p (cellIn ws p k)
     before j b = omega (arith, last (below? (keyIn (getD ws (k - 1) 0)) (underKey p (cellIn ws p k))), rises (below? j (k - 1)))
       where
-        last : (keyIn (getD ws (k - 1) 0) < underKey p (cellIn ws p k)) ⊎ (underKey p (cellIn ws p k) ≤ keyIn (getD ws (k - 1) 0)) → keyIn (getD ws (k - 1) 0) < underKey p (cellIn ws p k)
+        last : (keyIn (getD ws (k - 1) 0) < underKey p (cellIn ws p k)) ⊎ (underKey p (cellIn ws p k) ≤ keyIn (getD ws (k - 1) 0))
+            → keyIn (getD ws (k - 1) 0) < underKey p (cellIn ws p k)
         last (inl y) = y
         last (inr y) = absurd (begins (record { some = omega arith; there = in-cell k (k - 1) (omega arith) l y }))
 
@@ -130,9 +134,6 @@ counted-there q q′ n e l = omega arith
 
 -- the answers of `run_ok`
 module _ (ws : List ℕ) (p d : ℕ) (above counts : List ℕ) (k : ℕ) where
-  pub run-short : lenIn ws k ≤ p → Tells true (RunTold ws p d above counts k)
-  run-short l = is-yes (record { begins = λ z n. absurd (omega arith) })
-
   pub run-on : (b : Bool) → Tells b (Goes ws p (cellIn ws p k) k) → b ≡ true → Tells true (RunTold ws p d above counts k)
   run-on b t e = is-yes (record { begins = λ z n. absurd (n (t .0 e)) })
 

@@ -9,7 +9,7 @@ ghost use lib.ListN.{length};
 ghost use Rattle.bits.specs.Tab.{Tells};
 ghost use Rattle.chain.specs.Words.{routesIn};
 ghost use Rattle.sail_counts.specs.Counted.{Counts};
-ghost use Rattle.sail_counts.specs.Test.{idle, Idle, Goes, RunTold, Tallied, Passed, Led, Countable};
+ghost use Rattle.sail_counts.specs.Test.{idle, Idle, Goes, RunTold, Tallied, Led, Countable};
 use crate::place::place;
 use chain::place::run_end;
 use sail::geometry::Geometry;
