@@ -8,11 +8,12 @@ use Prim.Native.Nat.{ℕ, zero, suc, _+_, _-_, _*_, _/_, _^_, _≤_, _<_, suc-le
 use native.Mathlib.Nat.{not-suc-le-zero, le-of-suc-le-suc}
 use native.Mathlib.Omega.{arith}
 use lib.Dec.{eqb, ltb, leb}
-use lib.ListN.{getD, length}
+use lib.ListN.{getD, length, length-map, List·getD-map}
 use borrow.Author.Tests.{ltb-true, eqb-true, lt-ltb, eq-eqb, ne-eqb, le-leb, lt-leb}
 use Rattle.bits.specs.Slot.{slot}
 use Rattle.bits.specs.Tab.{Tells}
 use Rattle.bits.proofs.Tests.{decided, both, and-split, or-split}
+use Rattle.routes.specs.Record.{noRoute}
 use Rattle.routes.specs.declared.Route.{Route}
 use Rattle.standing.specs.Cells.{any, within, long}
 use Rattle.counts.specs.Counts.{howMany}
@@ -24,22 +25,25 @@ use Rattle.sail.specs.Geometry.{bits2}
 use Rattle.sail.specs.Level.{Level, Chunks, deep, entry, chunksOf, level1, level2}
 use Rattle.sail.specs.Sound.{Shows, Clear}
 use Rattle.sail.specs.declared.geometry.Geometry.{Geometry}
-use Rattle.sail_theory.proofs.Places.{Served, Apart, top-apart, below-apart}
+use Rattle.sail_theory.proofs.Places.{Apart, top-apart, below-apart}
 use Rattle.sail_theory.proofs.Pools.{shows-fits}
 use Rattle.sail_theory.proofs.Rendered.{top-clear}
 use Rattle.sail_theory.proofs.Mids.{long-down, slot-down}
 use Rattle.sail_counts.specs.Counted.{Counted, Counts}
-use Rattle.sail_counts.specs.Tick.{placeIn}
-use Rattle.sail_counts.specs.Test.{idle, Idle, lenIn, cellIn, Told, Tallied, Passed, Led, Countable, root}
+use Rattle.sail_counts.specs.Test.{idle, Idle, lenIn, cellIn, Tallied, Led, Countable, root}
 use Rattle.sail_counts.proofs.Leads.{Leads, first-leads, second-leads}
 use Rattle.sail_counts.proofs.Ticks.{served-count}
 
--- a word of a long cell
-word-long : (ws : List ℕ) (p i k : ℕ) → k < length ws → within p i (routeOf (getD ws k 0)) ≡ true → long (routesIn ws) p i ≡ true
+-- a route that stands in the list makes its cells long
+pub long-at : (rs : List Route) (p i k : ℕ) → k < length rs → within p i (getD rs k noRoute) ≡ true → long rs p i ≡ true
 unfolding any
-word-long [] p i k l e = absurd (not-suc-le-zero l)
-word-long (w ∷ ws) p i zero l e = rw e
-word-long (w ∷ ws) p i (suc k) l e = rw (word-long ws p i k (le-of-suc-le-suc l) e) (or-true (within p i (routeOf w)))
+long-at [] p i k l e = absurd (not-suc-le-zero l)
+long-at (r ∷ rs) p i zero l e = rw e
+long-at (r ∷ rs) p i (suc k) l e = rw (long-at rs p i k (le-of-suc-le-suc l) e) (or-true (within p i r))
+
+-- so does a word, and a long cell has one
+word-long : (ws : List ℕ) (p i k : ℕ) → k < length ws → within p i (routeOf (getD ws k 0)) ≡ true → long (routesIn ws) p i ≡ true
+word-long ws p i k l e = long-at (routesIn ws) p i k (rw length-map l) (rw (List·getD-map routeOf ws k 0) e)
 
 record Word (ws : List ℕ) (p i : ℕ) : Type 0 where
   k : ℕ

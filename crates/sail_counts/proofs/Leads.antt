@@ -1,8 +1,8 @@
 -- From the cell of an address at a level to the place that serves the address: in the first level at once, in the second by its first cell.
-use mathlib.Core.Path.{_≡_, refl, sym, _∙_, ap}
+use mathlib.Core.Path.{_≡_, sym, _∙_, ap}
 use mathlib.Core.Bool.{true}
 use mathlib.Core.List.{List}
-use Prim.Native.Nat.{ℕ, suc, _+_, _-_, _*_, _/_, _%_, _^_, _≤_, _<_}
+use Prim.Native.Nat.{ℕ, _+_, _-_, _*_, _/_, _%_, _^_, _≤_, _<_}
 use native.Mathlib.Nat.{div-eq-of-lt, mod-eq-of-lt}
 use native.Mathlib.Omega.{arith}
 use lib.ListN.{getD, length}
@@ -56,7 +56,8 @@ module _ (g : Geometry) (valid : Valid g) (rs : List Route) (first own2 : List �
 
     pub second-served : Served (level2 g (chunksOf own2)) a
     second-served =
-        below-served rs (level1 g) (chunksOf own2) (shows-fits rs (level1 g) (chunksOf own2) (entry first) shows1) (g .p2) a (omega arith) (omega arith) served1 e
+        below-served rs (level1 g) (chunksOf own2) (shows-fits rs (level1 g) (chunksOf own2) (entry first) shows1) (g .p2) a (omega arith) (omega arith)
+        served1 e
 
     pub second-leads : Leads (level2 g (chunksOf own2)) (bits2 g) first a
     second-leads =

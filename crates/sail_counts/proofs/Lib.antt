@@ -6,3 +6,4 @@ pub mod Runs
 pub mod Leads
 pub mod Exact
 pub mod Tallies
+pub mod Loads

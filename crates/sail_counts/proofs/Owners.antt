@@ -4,7 +4,7 @@ use mathlib.Core.Path.{_≡_, sym, _∙_, ap}
 use mathlib.Core.Logic.{_⊎_, inl, inr, _≢_}
 use mathlib.Core.Bool.{true, false, true≢false}
 use mathlib.Core.List.{List}
-use Prim.Native.Nat.{ℕ, zero, suc, _+_, _-_, _*_, _/_, _%_, _^_, _≤_, _<_}
+use Prim.Native.Nat.{ℕ, suc, _+_, _-_, _*_, _/_, _%_, _^_, _≤_, _<_}
 use native.Mathlib.Omega.{arith}
 use lib.Dec.{ltb}
 use lib.ListN.{getD, length, set}
@@ -48,7 +48,8 @@ module _ (rs : List Route) (v : Level) (p : ℕ) (h : v .bits ≤ p) (u : p ≤ 
     blank = λ q l e. blank q (rw same at l) e (turn (q / 2 ^ d));
   }
     where
-      there : (q : ℕ) → q < below v k p .places → below v k′ p .live q ≡ true → Turned rs v k k′ (q / 2 ^ d) → getD counts q 0 ≡ howMany rs p (below v k′ p .at q)
+      there : (q : ℕ) → q < below v k p .places → below v k′ p .live q ≡ true → Turned rs v k k′ (q / 2 ^ d)
+          → getD counts q 0 ≡ howMany rs p (below v k′ p .at q)
       there q l e (stayed y) =
           c .true-there q l (sym (ap (ltb 0) y) ∙ e) ∙ ap (λ (o : ℕ). howMany rs p (v .at (o - 1) * 2 ^ d + q % 2 ^ d)) (sym y)
       there q l e (came x y z n) = c .blank q l (le-ltb 0 (k .own (q / 2 ^ d)) (omega arith)) ∙ sym (none-under k′ q x z n)
@@ -70,7 +71,8 @@ module _ (rs : List Route) (r : Route) (v : Level) (own : List ℕ) (c : ℕ) (w
       same : own′ ≡ own → Turned rs v (chunksOf own) (chunksOf own′) j
       same e = stayed (ap (λ (o : List ℕ). getD o j 0) e)
 
-      go : (v .bits < r .len) ⊎ (r .len ≤ v .bits) → (long rs (v .bits) (slot (v .bits) (r .addr)) ≡ true) ⊎ (long rs (v .bits) (slot (v .bits) (r .addr)) ≡ false)
+      go : (v .bits < r .len) ⊎ (r .len ≤ v .bits)
+          → (long rs (v .bits) (slot (v .bits) (r .addr)) ≡ true) ⊎ (long rs (v .bits) (slot (v .bits) (r .addr)) ≡ false)
           → Turned rs v (chunksOf own) (chunksOf own′) j
       go (inr l) e = same (open-short rs r v own c w l)
       go (inl l) (inl e) = same (open-had rs r v own c w e)
@@ -85,11 +87,13 @@ module _ (rs : List Route) (r : Route) (v : Level) (own : List ℕ) (c : ℕ) (w
           at : (j ≡ c) ⊎ (j ≢ c) → Turned rs v (chunksOf own) (chunksOf own′) j
           at (inl y) =
               let free = w .space longer e in
-              came (v .serving (r .addr)) (rw y (free .1)) (ap (λ (o : List ℕ). getD o j 0) is ∙ rw y (getD-set-same own c (suc (v .serving (r .addr))) 0 (free .0)))
+              came (v .serving (r .addr)) (rw y (free .1))
+              (ap (λ (o : List ℕ). getD o j 0) is ∙ rw y (getD-set-same own c (suc (v .serving (r .addr))) 0 (free .0)))
               (ap (long rs (v .bits)) (w .served longer .stands) ∙ e)
           at (inr y) = stayed (ap (λ (o : List ℕ). getD o j 0) is ∙ getD-set-other own c j (suc (v .serving (r .addr))) 0 y)
 
-  pub open-counted : (p : ℕ) → v .bits ≤ p → p ≤ 32 → (counts : List ℕ) → Counted rs (below v (chunksOf own) p) counts → Counted rs (below v (chunksOf (openAt v own c r)) p) counts
+  pub open-counted : (p : ℕ) → v .bits ≤ p → p ≤ 32 → (counts : List ℕ) → Counted rs (below v (chunksOf own) p) counts
+      → Counted rs (below v (chunksOf (openAt v own c r)) p) counts
   open-counted p h u = owners-counted rs v p h u (chunksOf own) (chunksOf (openAt v own c r)) (length-open v own c r) open-turned
 
 -- what is closed hung from a cell that no longer route has

@@ -1,14 +1,15 @@
 -- Runs of words: where one begins, how many routes it counts, and that the cells of all long words are counted where those of the runs are.
-use mathlib.Core.Path.{_≡_, refl, sym, _∙_, ap, subst}
+use mathlib.Core.Path.{_≡_, sym, _∙_, ap, subst}
 use mathlib.Core.Logic.{_⊎_, inl, inr}
-use mathlib.Core.Bool.{Bool, true, false, not, _&&_, _||_, true≢false, and-true, and-false}
+use mathlib.Core.Bool.{Bool, true, false, cond, _||_, true≢false}
 use mathlib.Core.List.{List}
 use Prim.Native.Nat.{ℕ, zero, suc, _+_, _-_, _*_, _/_, _%_, _^_, _≤_, _<_}
 use native.Mathlib.Omega.{arith}
 use lib.Dec.{eqb, ltb, leb}
 use lib.ListN.{getD, length, length-map, List·getD-map}
 use lib.Pow.{shr-mono, shl-shr}
-use borrow.Author.Tests.{ltb-true, eqb-true, lt-ltb, le-ltb, eq-eqb, ne-eqb}
+use borrow.Author.Count.{below-more}
+use borrow.Author.Tests.{ltb-true, eqb-true, lt-ltb, le-ltb, eq-eqb, ne-eqb, le-leb, lt-leb}
 use Rattle.bits.specs.Slot.{slot}
 use Rattle.bits.specs.Tab.{Tells}
 use Rattle.bits.proofs.Slots.{cut-is, cut-le, cut-more}
@@ -24,32 +25,38 @@ use Rattle.plan.proofs.Tells.{is-no, is-yes}
 use Rattle.sail_counts.specs.Tick.{placeIn}
 use Rattle.sail_counts.specs.Test.{idle, lenIn, cellIn, Told, Tallied, Goes, RunTold}
 
--- the answers of `stray`
+-- the answers of `idle_count`
 module _ (v n : ℕ) where
-  pub stray-none : n ≡ 0 → false ≡ (idle v && not (eqb n 0))
-  stray-none e = sym (rw (eq-eqb n 0 e) (and-false (idle v)))
+  pub count-free : v ≡ 0 → n ≡ cond (idle v) n 0
+  unfolding idle
+  count-free e = rw (eq-eqb v 0 e)
 
-  module _ (z : n ≡ 0 → ⊥) where
-    pub stray-free : v ≡ 0 → true ≡ (idle v && not (eqb n 0))
-    unfolding idle
-    stray-free e = rw (ne-eqb n 0 z, eq-eqb v 0 e)
+  pub count-leaf : (v ≡ 0 → ⊥) → 32768 ≤ v → n ≡ cond (idle v) n 0
+  unfolding idle
+  count-leaf z l = rw (ne-eqb v 0 z, le-leb 32768 v l)
 
-    pub stray-leaf : (v ≡ 0 → ⊥) → leb 32768 v ≡ (idle v && not (eqb n 0))
-    unfolding idle
-    stray-leaf e = rw (ne-eqb n 0 z, ne-eqb v 0 e) (sym (and-true (leb 32768 v)))
+  pub count-node : (v ≡ 0 → ⊥) → v < 32768 → 0 ≡ cond (idle v) n 0
+  unfolding idle
+  count-node z l = rw (ne-eqb v 0 z, lt-leb 32768 v l)
 
--- what they tell of a count: where the answer is no, the count is 0 if the cell is idle
-pub stray-zero : (v n : ℕ) (b : Bool) → b ≡ (idle v && not (eqb n 0)) → b ≡ false → idle v ≡ true → n ≡ 0
-stray-zero v n b is e i = go (decided (eqb n 0))
-  where
-    go : (eqb n 0 ≡ true) ⊎ (eqb n 0 ≡ false) → n ≡ 0
-    go (inl z) = eqb-true n 0 z
-    go (inr z) = absurd (true≢false (sym (rw (i, z) at is) ∙ e))
+-- of the first n cells, each that names no chunk counts 0
+abbrev pub Quiet : List ℕ → List ℕ → ℕ → Type 0
+Quiet cells counts n = (q : ℕ) → q < n → idle (getD cells q 0) ≡ true → getD counts q 0 ≡ 0
 
-pub stray-wrong : (v n : ℕ) (b : Bool) → b ≡ (idle v && not (eqb n 0)) → b ≡ true → (idle v ≡ true → n ≡ 0) → ⊥
-stray-wrong v n b is e z =
-    let s = and-split (idle v) (not (eqb n 0)) (sym is ∙ e) in
-    true≢false (sym (s .1) ∙ rw (eq-eqb n 0 (z (s .0))))
+-- the largest of their counts, after one cell more: it is that cell's, or the one before
+module _ (cells counts : List ℕ) (j m : ℕ) (is : m ≡ cond (idle (getD cells j 0)) (getD counts j 0) 0) (most : ℕ) where
+  pub most-new : most < m → Tells (eqb m 0) (Quiet cells counts (j + 1))
+  most-new l = rw (ne-eqb m 0 (λ z. omega arith)) (is-no (λ f. none (f j (omega arith)) (decided (idle (getD cells j 0)))))
+    where
+      none : (idle (getD cells j 0) ≡ true → getD counts j 0 ≡ 0) → (idle (getD cells j 0) ≡ true) ⊎ (idle (getD cells j 0) ≡ false) → ⊥
+      none f (inl e) = omega (arith, f e, rw e at is)
+      none f (inr e) = omega (arith, rw e at is)
+
+  pub most-old : m ≤ most → Tells (eqb most 0) (Quiet cells counts j) → Tells (eqb most 0) (Quiet cells counts (j + 1))
+  most-old l t = (
+    λ e. below-more (λ (q : ℕ). idle (getD cells q 0) ≡ true → getD counts q 0 ≡ 0) j (t .0 e) (λ i. let z = eqb-true most 0 e in omega (arith, rw i at is)),
+    λ f. t .1 (λ q b. f q (omega arith)),
+  )
 
 -- the answers of `goes_on`
 module _ (ws : List ℕ) (p i k : ℕ) where
@@ -60,7 +67,10 @@ module _ (ws : List ℕ) (p i k : ℕ) where
   goes-short l = is-no (λ w. true≢false (sym (w .there) ∙ rw (le-ltb p (lenIn ws (k - 1)) l)))
 
   pub goes-told : (k ≡ 0 → ⊥) → p < lenIn ws (k - 1) → Tells (eqb (cellIn ws p (k - 1)) i) (Goes ws p i k)
-  goes-told n l = (λ e. record { some = omega (arith, n); there = both (lt-ltb p (lenIn ws (k - 1)) l) e }, λ w. and-split (ltb p (lenIn ws (k - 1))) (eqb (cellIn ws p (k - 1)) i) (w .there) .1)
+  goes-told n l = (
+    λ e. record { some = omega (arith, n); there = both (lt-ltb p (lenIn ws (k - 1)) l) e },
+    λ w. and-split (ltb p (lenIn ws (k - 1))) (eqb (cellIn ws p (k - 1)) i) (w .there) .1,
+  )
 
 module _ (ws : List ℕ) (good : Words ws) (p : ℕ) (level : p ≤ 32) where
   -- a word that is longer than p does not come before its cell's least key
@@ -90,7 +100,8 @@ module _ (ws : List ℕ) (good : Words ws) (p : ℕ) (level : p ≤ 32) where
     before : (j : ℕ) → j < k → keyIn (getD ws j 0) < underKey p (cellIn ws p k)
     before j b = omega (arith, last (below? (keyIn (getD ws (k - 1) 0)) (underKey p (cellIn ws p k))), rises (below? j (k - 1)))
       where
-        last : (keyIn (getD ws (k - 1) 0) < underKey p (cellIn ws p k)) ⊎ (underKey p (cellIn ws p k) ≤ keyIn (getD ws (k - 1) 0)) → keyIn (getD ws (k - 1) 0) < underKey p (cellIn ws p k)
+        last : (keyIn (getD ws (k - 1) 0) < underKey p (cellIn ws p k)) ⊎ (underKey p (cellIn ws p k) ≤ keyIn (getD ws (k - 1) 0))
+            → keyIn (getD ws (k - 1) 0) < underKey p (cellIn ws p k)
         last (inl y) = y
         last (inr y) = absurd (begins (record { some = omega arith; there = in-cell k (k - 1) (omega arith) l y }))
 
@@ -130,9 +141,6 @@ counted-there q q′ n e l = omega arith
 
 -- the answers of `run_ok`
 module _ (ws : List ℕ) (p d : ℕ) (above counts : List ℕ) (k : ℕ) where
-  pub run-short : lenIn ws k ≤ p → Tells true (RunTold ws p d above counts k)
-  run-short l = is-yes (record { begins = λ z n. absurd (omega arith) })
-
   pub run-on : (b : Bool) → Tells b (Goes ws p (cellIn ws p k) k) → b ≡ true → Tells true (RunTold ws p d above counts k)
   run-on b t e = is-yes (record { begins = λ z n. absurd (n (t .0 e)) })
 

@@ -1,8 +1,8 @@
 -- The code of a step: a place by shifts, one count, and both levels.
-use mathlib.Core.Path.{_≡_, refl, sym, _∙_, ap}
+use mathlib.Core.Path.{_≡_, _∙_}
 use mathlib.Core.Bool.{Bool, true, false}
 use mathlib.Core.List.{List}
-use Prim.Native.Nat.{ℕ, suc, _+_, _-_, _*_, _/_, _%_, _^_, _≤_, _<_}
+use Prim.Native.Nat.{ℕ, _+_, _-_, _*_, _/_, _%_, _^_, _≤_, _<_}
 use native.Mathlib.Nat.{mod-lt, mul-le-mul}
 use native.Mathlib.Omega.{arith}
 use lib.Dec.{ltb}
@@ -14,7 +14,6 @@ use Rattle.sail.specs.Geometry.{bits2}
 use Rattle.sail.specs.Walk.{place}
 use Rattle.sail.specs.declared.geometry.Geometry.{Geometry}
 use Rattle.sail_counts.specs.Tick.{step, ticked, leftAt, secondAt, Ticks, Ticked, Tickable, Moved}
-use Rattle.sail_counts.specs.declared.tick.Left.{Left}
 
 -- a place, by shifts
 module _ (c d i : ℕ) (small : c < 65536) (h : (1 ≤ c) × (d ≤ 16)) where
@@ -61,8 +60,8 @@ pub first-named : (g : Geometry) (a len : ℕ) (first long1 long2 : List ℕ) (u
 first-named g a len first long1 long2 up i e w = let z = w .valid in (rw e (w .some), omega arith)
 
 -- both levels
-module _ (g : Geometry) (a len : ℕ) (first long1 long2 : List ℕ) (up : Bool) (l i j q : ℕ) (is-len : l ≡ len) (is-slot : i ≡ slot (g .p1) a) (is-slot2 : j ≡ slot (g .p2) a)
-    (is-place : q ≡ place (bits2 g) (getD first i 0) j) where
+module _ (g : Geometry) (a len : ℕ) (first long1 long2 : List ℕ) (up : Bool) (l i j q : ℕ)
+    (is-len : l ≡ len) (is-slot : i ≡ slot (g .p1) a) (is-slot2 : j ≡ slot (g .p2) a) (is-place : q ≡ place (bits2 g) (getD first i 0) j) where
   here : q ≡ secondAt g first a
   here = is-place ∙ rw (is-slot, is-slot2)
 

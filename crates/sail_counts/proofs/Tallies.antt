@@ -89,7 +89,8 @@ module _ (g : Geometry) (all : List Route) (a len : ℕ) (first own2 long1 long2
     }
 
     -- what has moved is the place that serves the address
-    moved-second : (long1′ long2′ : List ℕ) (left : Left) → Moved g a len first long1 long2 up long1′ long2′ left → long2′ ≡ ticked (ltb (g .p2) len) up (v2 .serving a) long2
+    moved-second : (long1′ long2′ : List ℕ) (left : Left) → Moved g a len first long1 long2 up long1′ long2′ left
+        → long2′ ≡ ticked (ltb (g .p2) len) up (v2 .serving a) long2
     moved-second long1′ long2′ left t = t .two .now ∙ ticked-as (ltb (g .p2) len) up (secondAt g first a) (v2 .serving a) long2 here
 
   -- The route comes: its place counts one more at each level that it is longer than, and all other places what they did.
@@ -103,7 +104,8 @@ module _ (g : Geometry) (all : List Route) (a len : ℕ) (first own2 long1 long2
       → Counts rs′ g own2 long1′ long2′
   up-counts c long1′ long2′ left t = record {
     first = subst (Counted rs′ v1) (sym (t .one .now)) (up-counted a len rs rs′ m v1 (top-apart (g .p1)) (λ l. served1) long1 (w .counts1) (c .first));
-    second = subst (Counted rs′ v2) (sym (moved-second true long1′ long2′ left t)) (up-counted a len rs rs′ m v2 apart2 served2 long2 (w .counts2) (c .second));
+    second = subst (Counted rs′ v2) (sym (moved-second true long1′ long2′ left t))
+        (up-counted a len rs rs′ m v2 apart2 served2 long2 (w .counts2) (c .second));
   }
 
   -- The route goes: one less. What is left is 0 exactly where the route alone needed a chunk at the level.
@@ -117,7 +119,8 @@ module _ (g : Geometry) (all : List Route) (a len : ℕ) (first own2 long1 long2
     pub down-counts : Counts rs g own2 long1′ long2′
     down-counts = record {
       first = subst (Counted rs v1) (sym (t .one .now)) (down-counted a len rs rs′ m v1 (top-apart (g .p1)) (λ l. served1) long1 (w .counts1) (c .first));
-      second = subst (Counted rs v2) (sym (moved-second false long1′ long2′ left t)) (down-counted a len rs rs′ m v2 apart2 served2 long2 (w .counts2) (c .second));
+      second = subst (Counted rs v2) (sym (moved-second false long1′ long2′ left t))
+          (down-counted a len rs rs′ m v2 apart2 served2 long2 (w .counts2) (c .second));
     }
 
     pub closes-first : eqb (left .first) 0 ≡ (ltb (g .p1) len && not (long rs (g .p1) (slot (g .p1) a)))
@@ -140,7 +143,10 @@ module _ (g : Geometry) (valid : Valid g) (rs : List Route) (own2 long1 long2 : 
 
   -- the same for routes that count alike: one of them is replaced
   pub as-counts : (rs′ : List Route) → ((p i : ℕ) → howMany rs′ p i ≡ howMany rs p i) → Counts rs′ g own2 long1 long2
-  as-counts rs′ e = record { first = as-counted rs rs′ (level1 g) long1 e (c .first); second = as-counted rs rs′ (level2 g (chunksOf own2)) long2 e (c .second) }
+  as-counts rs′ e = record {
+    first = as-counted rs rs′ (level1 g) long1 e (c .first);
+    second = as-counted rs rs′ (level2 g (chunksOf own2)) long2 e (c .second);
+  }
 
   -- and these are the arrays that the routes and owners give
   pub counts-are : length long1 ≡ 2 ^ g .p1 → length long2 ≡ length own2 * 2 ^ bits2 g

@@ -4,7 +4,7 @@ use mathlib.Core.Path.{_≡_, refl, sym, _∙_, ap}
 use mathlib.Core.Logic.{_⊎_, inl, inr, _≢_}
 use mathlib.Core.Bool.{Bool, true, false, not, _&&_, cond, true≢false}
 use mathlib.Core.List.{List}
-use Prim.Native.Nat.{ℕ, suc, _-_, _≤_, _<_}
+use Prim.Native.Nat.{ℕ, _-_, _≤_, _<_}
 use native.Mathlib.Omega.{arith}
 use lib.Dec.{eqb, ltb}
 use lib.ListN.{getD, length, set}
@@ -20,10 +20,11 @@ use Rattle.counts.proofs.Changed.{more-own, more-other, more-short}
 use Rattle.sail.specs.Level.{Level}
 use Rattle.sail_theory.proofs.Places.{Served, Apart}
 use Rattle.sail_counts.specs.Counted.{Counted}
-use Rattle.sail_counts.specs.Tick.{step, ticked, leftAt, Steps, Ticks}
+use Rattle.sail_counts.specs.Tick.{step, ticked, leftAt, Ticks}
 
--- the same counts for routes that count alike, and for no routes
-pub as-counted : (rs rs′ : List Route) (v : Level) (counts : List ℕ) → ((p i : ℕ) → howMany rs′ p i ≡ howMany rs p i) → Counted rs v counts → Counted rs′ v counts
+-- the same counts for routes that count alike
+pub as-counted : (rs rs′ : List Route) (v : Level) (counts : List ℕ) → ((p i : ℕ) → howMany rs′ p i ≡ howMany rs p i) → Counted rs v counts
+    → Counted rs′ v counts
 as-counted rs rs′ v counts e c = record { true-there = λ q l u. c .true-there q l u ∙ sym (e (v .bits) (v .at q)); blank = c .blank }
 
 -- what the count is at the place that serves an address
@@ -67,10 +68,12 @@ module _ (a len : ℕ) (rs rs′ : List Route) (m : OneMore a len rs rs′) (v :
             s : Served v a
             s = served l
 
-            there : (q : ℕ) → q < v .places → v .live q ≡ true → (q ≡ here) ⊎ (q ≢ here) → getD (set counts here (step up (getD counts here 0))) q 0 ≡ howMany new p (v .at q)
+            there : (q : ℕ) → q < v .places → v .live q ≡ true → (q ≡ here) ⊎ (q ≢ here)
+                → getD (set counts here (step up (getD counts here 0))) q 0 ≡ howMany new p (v .at q)
             there q u e (inl y) =
                 rw (y, s .stands)
-                (getD-set-same counts here (step up (getD counts here 0)) 0 (rw size (s .inside)) ∙ ap (step up) (served-count old v counts c a s) ∙ sym (own l))
+                (getD-set-same counts here (step up (getD counts here 0)) 0 (rw size (s .inside))
+                ∙ ap (step up) (served-count old v counts c a s) ∙ sym (own l))
             there q u e (inr y) =
                 getD-set-other counts here q (step up (getD counts here 0)) 0 y
                 ∙ c .true-there q u e ∙ sym (other (v .at q) (λ z. y (apart q here u (s .inside) e (s .used) (sym z ∙ sym (s .stands)))))

@@ -52,13 +52,6 @@ pub record RunTold (ws : List ℕ) (p d : ℕ) (above counts : List ℕ) (k : �
 abbrev pub root : List ℕ
 root = 1 ∷ []
 
--- the whole test
-pub record Passed (ws : List ℕ) (g : Geometry) (first second long1 long2 : List ℕ) : Type 0 where
-  pub idle1 : Idle first long1
-  pub runs1 : Tallied ws (g .p1) (g .p1) root long1
-  pub idle2 : Idle second long2
-  pub runs2 : Tallied ws (g .p2) (bits2 g) first long2
-
 -- What the functions rest on.
 
 -- the cell of each word that is longer than p is in a chunk that a cell of `above` names, and has a count

@@ -6,7 +6,10 @@ use Prim.Native.Nat.{ℕ, suc, _-_, _*_, _/_, _%_, _+_, _^_, _≤_, _<_}
 use lib.Dec.{ltb}
 use lib.ListN.{length, getD, set}
 use Rattle.bits.specs.Slot.{slot}
+use Rattle.routes.specs.Record.{routesOf, Records}
 use Rattle.sail.specs.Geometry.{bits2, Valid}
+use Rattle.sail.specs.Level.{entry, chunksOf, level1}
+use Rattle.sail.specs.Sound.{Shows}
 use Rattle.sail.specs.Walk.{place}
 use Rattle.sail.specs.declared.geometry.Geometry.{Geometry}
 use Rattle.sail_counts.specs.declared.tick.Left.{Left}
@@ -60,3 +63,14 @@ pub record Tickable (g : Geometry) (a len : ℕ) (first long1 long2 : List ℕ) 
 pub record Moved (g : Geometry) (a len : ℕ) (first long1 long2 : List ℕ) (up : Bool) (long1′ long2′ : List ℕ) (left : Left) : Type 0 where
   pub one : Ticked (ltb (g .p1) len) up (slot (g .p1) a) long1 long1′ (left .first)
   pub two : Ticked (ltb (g .p2) len) up (secondAt g first a) long2 long2′ (left .second)
+
+-- n good records, first cells that serve their routes, and as many counts as cells, each of them 0
+pub record Uncounted (g : Geometry) (s : List ℕ) (n : ℕ) (first own2 long1 long2 : List ℕ) : Type 0 where
+  pub records : Records s n
+  pub valid : Valid g
+  pub cells1 : length first ≡ 2 ^ g .p1
+  pub shows1 : Shows (routesOf s n) (level1 g) (chunksOf own2) (entry first)
+  pub counts1 : length long1 ≡ 2 ^ g .p1
+  pub counts2 : length long2 ≡ length own2 * 2 ^ bits2 g
+  pub zero1 : (q : ℕ) → getD long1 q 0 ≡ 0
+  pub zero2 : (q : ℕ) → getD long2 q 0 ≡ 0

@@ -2,14 +2,13 @@
 // an early end, so that many cells can be done at a time. The others are the cells of the routes longer than the level. In
 // the list the routes of one cell stand side by side, and their number is the cell's count.
 ghost use mathlib.Core.Path.{_≡_};
-ghost use mathlib.Core.Bool.{_&&_, not};
+ghost use mathlib.Core.Bool.{cond};
 ghost use Prim.Native.Nat.{_≤_, _<_};
-ghost use lib.Dec.{eqb};
 ghost use lib.ListN.{length};
 ghost use Rattle.bits.specs.Tab.{Tells};
 ghost use Rattle.chain.specs.Words.{routesIn};
 ghost use Rattle.sail_counts.specs.Counted.{Counts};
-ghost use Rattle.sail_counts.specs.Test.{idle, Idle, Goes, RunTold, Tallied, Passed, Led, Countable};
+ghost use Rattle.sail_counts.specs.Test.{idle, Idle, Goes, RunTold, Tallied, Led, Countable};
 use crate::place::place;
 use chain::place::run_end;
 use sail::geometry::Geometry;
@@ -20,35 +19,35 @@ fn wide(x: u16) -> usize
     x as usize
 }
 
-// Whether a cell that holds v names no chunk, and its count n is not 0.
-fn stray(v: u16, n: u16) -> bool
-    ensures { λ r. ⌜ r ≡ (idle v && not (eqb n 0)) ⌝ }
+// The count n of a cell that holds v, where it names no chunk, and else 0.
+fn idle_count(v: u16, n: u16) -> u16
+    ensures { λ r. ⌜ r ≡ cond (idle v) n 0 ⌝ }
 {
-    if n == 0 {
-        return false;
-    }
     if v == 0 {
-        return true;
+        return n;
     }
-    32768 <= v
+    if 32768 <= v {
+        return n;
+    }
+    0
 }
 
-// Whether each cell that names no chunk counts 0.
+// Whether each cell that names no chunk counts 0. The largest of these counts says so: the compiler makes many steps of it at
+// once, and does not where each step sets a flag by two comparisons.
 pub fn idle_ok(cells: &[u16], counts: &[u16]) -> bool
     requires { ⌜ length (now counts) ≡ length (now cells) ⌝ }
     ensures { λ r. ⌜ Tells r (Idle (now (cells .entry)) (now (counts .entry))) ⌝ }
 {
-    let mut ok = true;
+    let mut most = 0;
     let mut j = 0;
     while j < cells.len() {
-        let v = cells[j];
-        let n = counts[j];
+        let n = idle_count(cells[j], counts[j]);
         j += 1;
-        if stray(v, n) {
-            ok = false;
+        if most < n {
+            most = n;
         }
     }
-    ok
+    most == 0
 }
 
 // Whether the word before word k, too, is longer than p and has the bits of cell i.

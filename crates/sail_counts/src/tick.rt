@@ -1,7 +1,10 @@
 // One route more or less in the counts of a table, whose first cells lead to the place that serves the route.
 ghost use mathlib.Core.Path.{_≡_};
-ghost use Rattle.sail_counts.specs.Tick.{step, Steps, Ticks, Ticked, Tickable, Moved};
+ghost use Rattle.routes.specs.Record.{routesOf};
+ghost use Rattle.sail_counts.specs.Counted.{Counts};
+ghost use Rattle.sail_counts.specs.Tick.{step, Steps, Ticks, Ticked, Tickable, Moved, Uncounted};
 use crate::place::place;
+use routes::record::read_record;
 use routes::record::wide;
 use sail::geometry::Geometry;
 
@@ -59,5 +62,27 @@ pub fn tick(
     Left {
         first: one,
         second: two,
+    }
+}
+
+// The routes of the first n records come one by one, where all counts are 0. The first cells lead to the places of all of
+// them. The owners are not read: they say which cells are in use.
+pub fn count_all(
+    g: Geometry,
+    list: &[u8],
+    n: usize,
+    first: &[u16],
+    own2: &[u32],
+    long1: &mut [u16],
+    long2: &mut [u16],
+)
+    requires { ⌜ Uncounted g (now list) n (now first) (now own2) (now long1) (now long2) ⌝ }
+    ensures { λ _. ⌜ Counts (routesOf (now (list .entry)) n) g (now (own2 .entry)) (now (long1 .exit)) (now (long2 .exit)) ⌝ }
+{
+    let mut k = 0;
+    while k < n {
+        let r = read_record(list, k);
+        tick(g, r.addr, r.len, first, long1, long2, true);
+        k += 1;
     }
 }

@@ -42,15 +42,19 @@ shared-slice-read-wide c =
 
 run-end-requires : tie.Need-run-end-requires
 run-end-requires c κs =
-    let asked = c .before .before .before .before .before in
+    let off = c .before .before .before .before in
+    let asked = off .before in
     let tested = asked .before in
     let start = tested .before .before .before .before .before in
-    (start .pre .0 .words, run-from _ _ _ (tested .if1 .left) _ (asked .goes-on .ensures) (c .before .before .before .before .if2 .left) (start .pre .0 .words) (start .pre .0 .level) (start .pre .1))
+    let led = start .pre .0 in
+    (led .words, run-from _ _ _ (tested .if1 .left) _ (asked .goes-on .ensures) (off .if2 .left) (led .words) (led .level) (start .pre .1))
 
 returns-3 : tie.Need-returns-3
 returns-3 c =
-    let asked = c .before .before .before .before .before .before in
-    run-told _ _ _ _ _ _ (asked .before .if1 .left) _ (asked .goes-on .ensures) (c .before .before .before .before .before .if2 .left) _ _ _ (c .before .before .before .place .ensures) (c .before .wide .ensures .0)
+    let found = c .before .before .before in
+    let off = found .before .before in
+    let asked = off .before in
+    run-told _ _ _ _ _ _ (asked .before .if1 .left) _ (asked .goes-on .ensures) (off .if2 .left) _ _ _ (found .place .ensures) (c .before .wide .ensures .0)
     (c .run-end .ensures)
 
 pub run-ok-spec : {M : Type 1} → statement M

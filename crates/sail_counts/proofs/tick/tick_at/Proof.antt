@@ -1,5 +1,4 @@
 -- `sail_counts::tick::tick_at` meets its contract.
-use native.Mathlib.Omega.{arith}
 use borrow.Author.Needs.{needs}
 use Rattle.sail_counts.proofs.Steps.{tick-on, tick-off}
 use Rattle.sail_counts.proofs.tick.tick_at.Statement.{statement}
