@@ -23,7 +23,7 @@ use Rattle.sail_theory.proofs.Places.{part-up}
 use Rattle.sail_theory.proofs.Owners.{Closed}
 use Rattle.sail_theory.proofs.Stores.{keep-closed}
 use Rattle.sail_theory.proofs.Grown.{Ready, length-open, open-short, open-had, open-new}
-use Rattle.sail_counts.specs.Counted.{Counted}
+use Rattle.sail.specs.Sound.{Counted}
 
 -- from k to k′ the owner of c stays; or c is opened or closed, and hangs from a cell that no longer route has
 pub data Turned (rs : List Route) (v : Level) (k k′ : Chunks) (c : ℕ) : Type 0 where

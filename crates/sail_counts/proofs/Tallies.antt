@@ -16,13 +16,14 @@ use Rattle.counts.specs.Counts.{howMany, OneMore}
 use Rattle.counts.proofs.Stored.{tallies-counted, counted-tallies}
 use Rattle.sail.specs.Geometry.{bits2, Valid}
 use Rattle.sail.specs.Level.{Level, entry, chunksOf, level1, level2}
-use Rattle.sail.specs.Sound.{Shows}
+use Rattle.sail.specs.Sound.{Shows, Counted}
 use Rattle.sail.specs.declared.geometry.Geometry.{Geometry}
 use Rattle.sail_theory.specs.Calls.{openAt, keep}
 use Rattle.sail_theory.proofs.Places.{Served, Apart, top-apart, top-served, below-apart}
 use Rattle.sail_theory.proofs.Pools.{shows-fits}
 use Rattle.sail_theory.proofs.Grown.{Ready}
-use Rattle.sail_counts.specs.Counted.{Counted, Counts, talliesOf}
+use Rattle.sail_theory.specs.Render.{longs}
+use Rattle.sail_counts.specs.Counted.{Counts}
 use Rattle.sail_counts.specs.Tick.{ticked, secondAt, Ticks, Tickable, Moved}
 use Rattle.sail_counts.specs.declared.tick.Left.{Left}
 use Rattle.sail_counts.proofs.Owners.{open-counted, keep-counted}
@@ -150,13 +151,13 @@ module _ (g : Geometry) (valid : Valid g) (rs : List Route) (own2 long1 long2 : 
 
   -- and these are the arrays that the routes and owners give
   pub counts-are : length long1 ≡ 2 ^ g .p1 → length long2 ≡ length own2 * 2 ^ bits2 g
-      → (long1 ≡ talliesOf rs (level1 g)) × (long2 ≡ talliesOf rs (level2 g (chunksOf own2)))
+      → (long1 ≡ longs rs (level1 g)) × (long2 ≡ longs rs (level2 g (chunksOf own2)))
   counts-are h k = (
     counted-tallies rs (g .p1) (2 ^ g .p1) _ _ long1 h (c .first),
     counted-tallies rs (g .p2) (length own2 * 2 ^ bits2 g) _ _ long2 k (c .second),
   )
 
-pub tallies-counts : (g : Geometry) (rs : List Route) (own2 : List ℕ) → Counts rs g own2 (talliesOf rs (level1 g)) (talliesOf rs (level2 g (chunksOf own2)))
+pub tallies-counts : (g : Geometry) (rs : List Route) (own2 : List ℕ) → Counts rs g own2 (longs rs (level1 g)) (longs rs (level2 g (chunksOf own2)))
 tallies-counts g rs own2 = record { first = tallies-counted rs _ _ _ _; second = tallies-counted rs _ _ _ _ }
 
 -- no routes: every count is 0

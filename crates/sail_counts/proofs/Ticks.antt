@@ -19,7 +19,7 @@ use Rattle.counts.proofs.Many.{many-le, many-none, many-some}
 use Rattle.counts.proofs.Changed.{more-own, more-other, more-short}
 use Rattle.sail.specs.Level.{Level}
 use Rattle.sail_theory.proofs.Places.{Served, Apart}
-use Rattle.sail_counts.specs.Counted.{Counted}
+use Rattle.sail.specs.Sound.{Counted}
 use Rattle.sail_counts.specs.Tick.{step, ticked, leftAt, Ticks}
 
 -- the same counts for routes that count alike

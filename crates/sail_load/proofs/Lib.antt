@@ -1,5 +1,4 @@
 -- Laws that the functions' proofs cite.
 pub mod Lists
-pub mod Counting
 pub mod Renews
 pub mod Loads

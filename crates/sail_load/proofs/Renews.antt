@@ -35,10 +35,10 @@ use Rattle.sail.proofs.Fresh.{zeros}
 use Rattle.sail_theory.proofs.Loads.{Fronts, fronts-none, settles}
 use Rattle.sail_make.specs.Fill.{padded}
 use Rattle.sail_counts.specs.Counted.{Counts}
+use Rattle.sail_counts.specs.Tick.{Uncounted}
 use Rattle.sail_counts.proofs.Tallies.{counts-are}
 use Rattle.sail_owners.specs.Owners.{owners, Ownable}
 use Rattle.sail_load.specs.Renew.{Bare, Renewable, anew}
-use Rattle.sail_load.specs.Count.{Uncounted}
 use Rattle.sail_load.proofs.Lists.{padded-written}
 
 -- every cell lies under the prefix of no bits

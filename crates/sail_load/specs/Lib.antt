@@ -1,5 +1,4 @@
 -- What load answers, and what its steps ask and leave.
 pub mod Answers
 pub mod Renew
-pub mod Count
 pub mod Weigh

@@ -2,8 +2,8 @@
 ghost use mathlib.Core.Path.{_≡_};
 ghost use Rattle.sail.specs.Lent.{lent};
 ghost use Rattle.sail_load.specs.Renew.{Renewable, anew};
-use crate::count::count_routes;
 use sail::table::Table;
+use sail_counts::tick::count_all;
 use sail_make::fill::fill16;
 use sail_make::fill::put_list;
 use sail_make::fill::zero32;
@@ -36,5 +36,5 @@ pub fn renew(
     zero32(own3);
     settle_owners(g, input, own2, own3);
     sail_calls::renew::renew(g, input, n, 0, 0, first, second, third, own2, own3);
-    count_routes(g, input, n, first, own2, long1, long2);
+    count_all(g, input, n, first, own2, long1, long2);
 }

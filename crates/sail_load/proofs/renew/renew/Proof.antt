@@ -36,10 +36,10 @@ own3-empty c = c .before .before .before .before .before
 abbrev owned : tie.After-renew → tie.After-settle-owners
 owned c = c .before .before .before .before .before .before .before .before .before .before
 
-abbrev painted : tie.After-count-routes → tie.After-renew
+abbrev painted : tie.After-count-all → tie.After-renew
 painted c = c .before .before .before .before .before .before .before .before .before .before .before
 
-abbrev counted : tie.After-slice-known22 → tie.After-count-routes
+abbrev counted : tie.After-slice-known22 → tie.After-count-all
 counted c = c .before .before .before .before
 
 put-list-requires : tie.Need-put-list-requires
@@ -64,8 +64,8 @@ renew-requires c κs =
     (bare _ _ _ (s .pre) _ _ (o2 .zero32 .ensures) (o3 .zero322 .ensures)
     _ _ _ _ (second .fill16 .ensures) (third .fill162 .ensures) (o .settle-owners .ensures))
 
-count-routes-requires : tie.Need-count-routes-requires
-count-routes-requires c κs =
+count-all-requires : tie.Need-count-all-requires
+count-all-requires c κs =
     let p = c .before .before .before .before .before .before .before .before .before .before in
     let o = owned p in
     let o3 = own3-empty o in
@@ -112,12 +112,12 @@ same-own3 c =
 same-long1 : tie.Need-same-length-7
 same-long1 c =
     let n = counted c in
-    n .count-routes .kept .1 .1 .1 .1 .1 .0 ∙ long1-empty (long2-empty (own2-empty (own3-empty (owned (painted n))))) .fill163 .kept .0
+    n .count-all .kept .1 .1 .1 .1 .1 .0 ∙ long1-empty (long2-empty (own2-empty (own3-empty (owned (painted n))))) .fill163 .kept .0
 
 same-long2 : tie.Need-same-length-8
 same-long2 c =
     let n = counted c in
-    n .count-routes .kept .1 .1 .1 .1 .1 .1 .0 ∙ long2-empty (own2-empty (own3-empty (owned (painted n)))) .fill164 .kept .0
+    n .count-all .kept .1 .1 .1 .1 .1 .1 .0 ∙ long2-empty (own2-empty (own3-empty (owned (painted n)))) .fill164 .kept .0
 
 returns : tie.Need-returns
 returns c =
@@ -137,7 +137,7 @@ returns c =
     (o .settle-owners .ensures)
     (λ j. omega (arith, input .shared-slice-known .given j)) _ _ _ _ (list .put-list .ensures) (p .renew .ensures)
     _ _ (l1 .fill163 .ensures) (l2 .fill164 .ensures)
-    _ _ (n .count-routes .ensures) (n .count-routes .kept .1 .1 .1 .1 .1 .0) (n .count-routes .kept .1 .1 .1 .1 .1 .1 .0)
+    _ _ (n .count-all .ensures) (n .count-all .kept .1 .1 .1 .1 .1 .0) (n .count-all .kept .1 .1 .1 .1 .1 .1 .0)
 
 pub renew-spec : {M : Type 1} → statement M
 renew-spec =
@@ -152,7 +152,7 @@ renew-spec =
     (λ c κs. tt)
     settle-owners-requires
     renew-requires
-    count-routes-requires
+    count-all-requires
     same-list
     same-first
     same-second
