@@ -3,6 +3,7 @@
 use differential::plain::*;
 
 mod basic;
+mod counts;
 mod host_bits;
 mod mark;
 
