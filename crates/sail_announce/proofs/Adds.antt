@@ -2,7 +2,7 @@
 use mathlib.Core.Path.{_≡_, refl, sym, _∙_, ap}
 use mathlib.Core.Bool.{Bool, true, false, not}
 use mathlib.Core.List.{List, [], _∷_}
-use Prim.Native.Nat.{ℕ, suc, _*_, _/_, _^_, _≤_}
+use Prim.Native.Nat.{ℕ, _+_, _*_, _/_, _^_, _≤_}
 use native.Mathlib.Omega.{arith}
 use lib.Dec.{eqb, ltb}
 use lib.ListN.{length}
@@ -152,7 +152,7 @@ module _ (t : Table) (l : Lent) (r : Route) (w : Welcome t l r) where
           where
             go : (x : Bool) → ltb (t .count) (countWith x (t .count)) ≡ not x
             go true = le-ltb (t .count) (t .count) (omega arith)
-            go false = lt-ltb (t .count) (suc (t .count)) (omega arith)
+            go false = lt-ltb (t .count) (t .count + 1) (omega arith)
 
         new : ltb (t .count) m ≡ true → OneMore (r .addr) (r .len) rs (insert r rs)
         new e = many-insert r rs (not-true (stands (key r) rs) (sym added-is ∙ e))

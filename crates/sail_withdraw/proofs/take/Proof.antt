@@ -19,10 +19,10 @@ abbrev removed : tie.After-tick → tie.After-remove
 removed c = c .before .before .before .before .before .before
 
 abbrev counted : tie.After-close → tie.After-tick
-counted c = c .before .before .before .before .before .before .before
+counted c = c .before .before .before .before .before .before .before .before .before
 
 abbrev second-closed : tie.After-close2 → tie.After-close
-second-closed c = c .before .before .before .before .before .before .before
+second-closed c = c .before .before .before .before .before .before .before .before .before
 
 abbrev third-closed : tie.After-renew → tie.After-close2
 third-closed c = c .before .before .before .before .before .before .before .before .before .before .before .before
@@ -37,7 +37,7 @@ tick-requires c κs =
 
 close-requires : tie.Need-close-requires
 close-requires c κs =
-    let n = c .before .before .before .before .before .before in
+    let n = c .before .before .before .before .before .before .before .before in
     let m = removed n in
     let f = followed m in
     take-second _ _ _ _ (start f .pre) _ _ (m .remove .ensures) _ _ _ (n .tick .ensures) (n .tick .kept .1 .1 .1 .1 .0) (n .tick .kept .1 .1 .1 .1 .1 .0)
@@ -45,7 +45,7 @@ close-requires c κs =
 
 close-requires-2 : tie.Need-close-requires-2
 close-requires-2 c κs =
-    let n = counted (c .before .before .before .before .before .before) in
+    let n = counted (c .before .before .before .before .before .before .before .before) in
     let m = removed n in
     let f = followed m in
     take-third _ _ _ _ (start f .pre) _ _ (m .remove .ensures) _ _ _ (n .tick .ensures) (n .tick .kept .1 .1 .1 .1 .0) (n .tick .kept .1 .1 .1 .1 .1 .0)
@@ -114,15 +114,15 @@ take-spec =
     (λ c κs. search needs)
     (λ c. search take-some)
     tick-requires
-    (λ c. let n = c .before .before .before .before .before .before in let f = followed (removed n) in
+    (λ c. let n = c .before .before .before .before .before .before .before .before in let f = followed (removed n) in
     omega (arith, take-one _ _ _ _ (start f .pre) _ _ (removed n .remove .ensures) _ _ _ (n .tick .ensures) (n .tick .kept .1 .1 .1 .1 .0) (n .tick .kept .1 .1 .1 .1 .1 .0) _ _ (f .follow .ensures) .0))
     (λ c. search needs)
-    (λ c. let v = start (followed (removed (c .before .before .before .before .before .before))) .pre .sound .sized .valid in omega arith)
+    (λ c. let v = start (followed (removed (c .before .before .before .before .before .before .before .before))) .pre .sound .sized .valid in omega arith)
     close-requires
-    (λ c. let n = counted (c .before .before .before .before .before .before) in let f = followed (removed n) in
+    (λ c. let n = counted (c .before .before .before .before .before .before .before .before) in let f = followed (removed n) in
     omega (arith, take-one _ _ _ _ (start f .pre) _ _ (removed n .remove .ensures) _ _ _ (n .tick .ensures) (n .tick .kept .1 .1 .1 .1 .0) (n .tick .kept .1 .1 .1 .1 .1 .0) _ _ (f .follow .ensures) .1))
     (λ c. search needs)
-    (λ c. let v = start (followed (removed (counted (c .before .before .before .before .before .before)))) .pre .sound .sized .valid in omega arith)
+    (λ c. let v = start (followed (removed (counted (c .before .before .before .before .before .before .before .before)))) .pre .sound .sized .valid in omega arith)
     close-requires-2
     (λ c κs. tt)
     renew-requires
