@@ -115,12 +115,16 @@ take-spec =
     (λ c. search take-some)
     tick-requires
     (λ c. let n = c .before .before .before .before .before .before .before .before in let f = followed (removed n) in
-    omega (arith, take-one _ _ _ _ (start f .pre) _ _ (removed n .remove .ensures) _ _ _ (n .tick .ensures) (n .tick .kept .1 .1 .1 .1 .0) (n .tick .kept .1 .1 .1 .1 .1 .0) _ _ (f .follow .ensures) .0))
+    let z = take-one _ _ _ _ (start f .pre) _ _ (removed n .remove .ensures) _ _ _ (n .tick .ensures) (n .tick .kept .1 .1 .1 .1 .0)
+    (n .tick .kept .1 .1 .1 .1 .1 .0) _ _ (f .follow .ensures) in
+    omega (arith, z .0))
     (λ c. search needs)
     (λ c. let v = start (followed (removed (c .before .before .before .before .before .before .before .before))) .pre .sound .sized .valid in omega arith)
     close-requires
     (λ c. let n = counted (c .before .before .before .before .before .before .before .before) in let f = followed (removed n) in
-    omega (arith, take-one _ _ _ _ (start f .pre) _ _ (removed n .remove .ensures) _ _ _ (n .tick .ensures) (n .tick .kept .1 .1 .1 .1 .0) (n .tick .kept .1 .1 .1 .1 .1 .0) _ _ (f .follow .ensures) .1))
+    let z = take-one _ _ _ _ (start f .pre) _ _ (removed n .remove .ensures) _ _ _ (n .tick .ensures) (n .tick .kept .1 .1 .1 .1 .0)
+    (n .tick .kept .1 .1 .1 .1 .1 .0) _ _ (f .follow .ensures) in
+    omega (arith, z .1))
     (λ c. search needs)
     (λ c. let v = start (followed (removed (counted (c .before .before .before .before .before .before .before .before)))) .pre .sound .sized .valid in omega arith)
     close-requires-2

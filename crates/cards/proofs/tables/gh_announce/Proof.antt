@@ -3,6 +3,10 @@ use Rattle.cards.proofs.Laws.{announce-card}
 use Rattle.cards.proofs.tables.gh_announce.Statement.{statement}
 use Rattle.cards.proofs.tables.gh_announce.Tie as tie
 
+-- after the call, seen from the end
+abbrev called : tie.After-announced → tie.After-announce
+called c = c .before .before .before .before .before .before .before .before .before .before .before .before .before .before .before .before .before .before
+
 returns : tie.Need-returns
 returns c = search announce-card
 
@@ -15,12 +19,12 @@ gh-announce-spec =
     (λ c κs. tt)
     (λ c κs. tt)
     (λ c κs. tt)
-    (λ c. c .before .before .before .before .before .before .before .before .before .before .before .before .before .before .before .before .before .before .announce .kept .1 .0)
-    (λ c. c .before .before .before .before .before .before .before .before .before .before .before .before .before .before .before .before .before .before .announce .kept .1 .1 .0)
-    (λ c. c .before .before .before .before .before .before .before .before .before .before .before .before .before .before .before .before .before .before .announce .kept .1 .1 .1 .0)
-    (λ c. c .before .before .before .before .before .before .before .before .before .before .before .before .before .before .before .before .before .before .announce .kept .1 .1 .1 .1 .0)
-    (λ c. c .before .before .before .before .before .before .before .before .before .before .before .before .before .before .before .before .before .before .announce .kept .1 .1 .1 .1 .1 .0)
-    (λ c. c .before .before .before .before .before .before .before .before .before .before .before .before .before .before .before .before .before .before .announce .kept .1 .1 .1 .1 .1 .1 .0)
-    (λ c. c .before .before .before .before .before .before .before .before .before .before .before .before .before .before .before .before .before .before .announce .kept .1 .1 .1 .1 .1 .1 .1 .0)
-    (λ c. c .before .before .before .before .before .before .before .before .before .before .before .before .before .before .before .before .before .before .announce .kept .1 .1 .1 .1 .1 .1 .1 .1 .0)
+    (λ c. called c .announce .kept .1 .0)
+    (λ c. called c .announce .kept .1 .1 .0)
+    (λ c. called c .announce .kept .1 .1 .1 .0)
+    (λ c. called c .announce .kept .1 .1 .1 .1 .0)
+    (λ c. called c .announce .kept .1 .1 .1 .1 .1 .0)
+    (λ c. called c .announce .kept .1 .1 .1 .1 .1 .1 .0)
+    (λ c. called c .announce .kept .1 .1 .1 .1 .1 .1 .1 .0)
+    (λ c. called c .announce .kept .1 .1 .1 .1 .1 .1 .1 .1 .0)
     returns)

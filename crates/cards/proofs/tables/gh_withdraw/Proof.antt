@@ -3,6 +3,10 @@ use Rattle.cards.proofs.Laws.{withdraw-card}
 use Rattle.cards.proofs.tables.gh_withdraw.Statement.{statement}
 use Rattle.cards.proofs.tables.gh_withdraw.Tie as tie
 
+-- after the call, seen from the end
+abbrev called : tie.After-withdrawn → tie.After-withdraw
+called c = c .before .before .before .before .before .before .before .before .before .before .before .before .before .before .before .before .before .before
+
 returns : tie.Need-returns
 returns c = search withdraw-card
 
@@ -13,12 +17,12 @@ gh-withdraw-spec =
     (λ c κs. tt)
     (λ c κs. tt)
     (λ c κs. tt)
-    (λ c. c .before .before .before .before .before .before .before .before .before .before .before .before .before .before .before .before .before .before .withdraw .kept .1 .0)
-    (λ c. c .before .before .before .before .before .before .before .before .before .before .before .before .before .before .before .before .before .before .withdraw .kept .1 .1 .0)
-    (λ c. c .before .before .before .before .before .before .before .before .before .before .before .before .before .before .before .before .before .before .withdraw .kept .1 .1 .1 .0)
-    (λ c. c .before .before .before .before .before .before .before .before .before .before .before .before .before .before .before .before .before .before .withdraw .kept .1 .1 .1 .1 .0)
-    (λ c. c .before .before .before .before .before .before .before .before .before .before .before .before .before .before .before .before .before .before .withdraw .kept .1 .1 .1 .1 .1 .0)
-    (λ c. c .before .before .before .before .before .before .before .before .before .before .before .before .before .before .before .before .before .before .withdraw .kept .1 .1 .1 .1 .1 .1 .0)
-    (λ c. c .before .before .before .before .before .before .before .before .before .before .before .before .before .before .before .before .before .before .withdraw .kept .1 .1 .1 .1 .1 .1 .1 .0)
-    (λ c. c .before .before .before .before .before .before .before .before .before .before .before .before .before .before .before .before .before .before .withdraw .kept .1 .1 .1 .1 .1 .1 .1 .1 .0)
+    (λ c. called c .withdraw .kept .1 .0)
+    (λ c. called c .withdraw .kept .1 .1 .0)
+    (λ c. called c .withdraw .kept .1 .1 .1 .0)
+    (λ c. called c .withdraw .kept .1 .1 .1 .1 .0)
+    (λ c. called c .withdraw .kept .1 .1 .1 .1 .1 .0)
+    (λ c. called c .withdraw .kept .1 .1 .1 .1 .1 .1 .0)
+    (λ c. called c .withdraw .kept .1 .1 .1 .1 .1 .1 .1 .0)
+    (λ c. called c .withdraw .kept .1 .1 .1 .1 .1 .1 .1 .1 .0)
     returns)
