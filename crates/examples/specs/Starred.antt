@@ -165,21 +165,6 @@ starred =
     ∷ (last again gives accepted (0 ∷ 0 ∷ []))
     ∷ (first again 2562 gives accepted (1 ∷ []))
     ∷ (owner2 again 0 gives accepted (2563 ∷ []))
-    -- the counts (document 02, g): two routes longer than 16 bits have the bits of first cell 2561, one longer than 24 those of second cell 2; with
-    -- /25 withdrawn 1 and none, with /24 withdrawn too none, and the chunk is closed
-    ∷ (count1 loadedA 2561 gives accepted (2 ∷ []))
-    ∷ (count1 loadedA 2560 gives accepted (0 ∷ []))
-    ∷ (count2 loadedA 2 gives accepted (1 ∷ []))
-    ∷ (count2 loadedA 3 gives accepted (0 ∷ []))
-    ∷ (count1 without25 2561 gives accepted (1 ∷ []))
-    ∷ (count2 without25 2 gives accepted (0 ∷ []))
-    ∷ (count1 without24 2561 gives accepted (0 ∷ []))
-    ∷ (owner2 without24 0 gives accepted (0 ∷ []))
-    -- a replacement changes none, nor does a refusal
-    ∷ (count1 attachedA 2561 gives accepted (2 ∷ []))
-    ∷ (count1 entered 2561 gives accepted (1 ∷ []))
-    ∷ (count1 other 2561 gives accepted (1 ∷ []))
-    ∷ (count1 other 2562 gives accepted (0 ∷ []))
     -- the mark is 0, or 1 for attached; one over 1 gives 10, in a record and in announce, after 3 and 4
     ∷ (input (10 ∷ 1 ∷ 0 ∷ 0 ∷ 16 ∷ 1 ∷ 0 ∷ 31 ∷ []) gives accepted (1 ∷ []))
     ∷ (input (10 ∷ 1 ∷ 0 ∷ 0 ∷ 16 ∷ 2 ∷ 0 ∷ 31 ∷ []) gives refusedAt 10 0)
@@ -207,4 +192,19 @@ starred =
     -- an input stays strict
     ∷ (input (10 ∷ 1 ∷ 2 ∷ 3 ∷ 24 ∷ 0 ∷ 0 ∷ 44 ∷ []) gives refusedAt 3 0)
     ∷ (last (load (10 ∷ 1 ∷ 2 ∷ 3 ∷ 24 ∷ 0 ∷ 0 ∷ 44 ∷ []) ∷ []) gives refusedAt 3 0)
+    -- the counts (document 02, g): two routes longer than 16 bits have the bits of first cell 2561, one longer than 24 those of second cell 2; with
+    -- /25 withdrawn 1 and none, with /24 withdrawn too none, and the chunk is closed
+    ∷ (count1 loadedA 2561 gives accepted (2 ∷ []))
+    ∷ (count1 loadedA 2560 gives accepted (0 ∷ []))
+    ∷ (count2 loadedA 2 gives accepted (1 ∷ []))
+    ∷ (count2 loadedA 3 gives accepted (0 ∷ []))
+    ∷ (count1 without25 2561 gives accepted (1 ∷ []))
+    ∷ (count2 without25 2 gives accepted (0 ∷ []))
+    ∷ (count1 without24 2561 gives accepted (0 ∷ []))
+    ∷ (owner2 without24 0 gives accepted (0 ∷ []))
+    -- a replacement changes none, nor does a refusal
+    ∷ (count1 attachedA 2561 gives accepted (2 ∷ []))
+    ∷ (count1 entered 2561 gives accepted (1 ∷ []))
+    ∷ (count1 other 2561 gives accepted (1 ∷ []))
+    ∷ (count1 other 2562 gives accepted (0 ∷ []))
     ∷ []
