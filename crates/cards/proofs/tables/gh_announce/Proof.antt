@@ -8,7 +8,13 @@ abbrev called : tie.After-announced → tie.After-announce
 called c = c .before .before .before .before .before .before .before .before .before .before .before .before .before .before .before .before .before .before
 
 returns : tie.Need-returns
-returns c = search announce-card
+returns c =
+    let told = called c in
+    let mark = told .before in
+    let hop = mark .before in
+    let len = hop .before in
+    announce-card _ _ _ _ _ (len .narrow8 .ensures) _ _ _ _ _ _ (hop .narrow16 .ensures) _ _ (mark .narrow82 .ensures) (told .announce .ensures)
+    (c .announced .ensures)
 
 pub gh-announce-spec : {M : Type 1} → statement M
 gh-announce-spec =

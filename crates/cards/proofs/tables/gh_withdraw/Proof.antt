@@ -8,7 +8,10 @@ abbrev called : tie.After-withdrawn → tie.After-withdraw
 called c = c .before .before .before .before .before .before .before .before .before .before .before .before .before .before .before .before .before .before
 
 returns : tie.Need-returns
-returns c = search withdraw-card
+returns c =
+    let told = called c in
+    let len = told .before in
+    withdraw-card _ _ _ _ _ (len .narrow8 .ensures) _ _ _ _ (told .withdraw .ensures) (c .withdrawn .ensures)
 
 pub gh-withdraw-spec : {M : Type 1} → statement M
 gh-withdraw-spec =
