@@ -2,7 +2,7 @@
 /* ghatumri.h: the C boundary of Ghatumri, proved IPv4 lookup. For C from C99 on and C++ from C++11 on.
  *
  * Link with libghatumri (pkg-config --cflags --libs ghatumri). No call keeps a pointer, allocates, or holds state: a
- * table is its geometry (p1, p2), its route count and six arrays, and all of them belong to the caller. Every call
+ * table is its geometry (p1, p2), its route count and eight arrays, and all of them belong to the caller. Every call
  * answers for every content of the arrays. A call that is refused leaves all of them as they were (gh_tally alone then
  * writes 33 zeros).
  *
@@ -22,6 +22,8 @@
  *   third   a pool of 0 to 4,096 chunks of 2^(32 - p2) cells
  *   own2    an owner for each chunk of the second pool
  *   own3    an owner for each chunk of the third pool
+ *   long1   a count for each first cell: the routes longer than p1 that have its bits
+ *   long2   a count for each cell of the second pool: the routes longer than p2 that have its bits, 0 in free chunks
  *   words   3 words for each node of a tree image
  *   hops    the hops of a tree image
  *   bits    the bits of bit maps, GH_MAP_BYTES
@@ -228,7 +230,9 @@ uint64_t gh_make(uint32_t p1, uint32_t p2,
                  uint16_t *GH_RESTRICT second, size_t second_len,
                  uint16_t *GH_RESTRICT third, size_t third_len,
                  uint32_t *GH_RESTRICT own2, size_t own2_len,
-                 uint32_t *GH_RESTRICT own3, size_t own3_len);
+                 uint32_t *GH_RESTRICT own3, size_t own3_len,
+                 uint16_t *GH_RESTRICT long1, size_t long1_len,
+                 uint16_t *GH_RESTRICT long2, size_t long2_len);
 
 /* Makes the table of a record input, as gh_make and then announcing each record in order would. Reads nothing of
  * the old table. Refusals: 1, 2, the input's, 6 where there are more records than room, 7, 8 on the needs of the
@@ -241,7 +245,9 @@ uint64_t gh_load(uint32_t p1, uint32_t p2,
                  uint16_t *GH_RESTRICT second, size_t second_len,
                  uint16_t *GH_RESTRICT third, size_t third_len,
                  uint32_t *GH_RESTRICT own2, size_t own2_len,
-                 uint32_t *GH_RESTRICT own3, size_t own3_len);
+                 uint32_t *GH_RESTRICT own3, size_t own3_len,
+                 uint16_t *GH_RESTRICT long1, size_t long1_len,
+                 uint16_t *GH_RESTRICT long2, size_t long2_len);
 
 /* Adds the route addr/len to hop with its mark, or replaces hop and mark of that prefix where it stands. Bits of addr
  * after the length are cleared first, and an accepted answer tells whether any were: 10.1.2.3/24 means 10.1.2.0/24. A
@@ -255,6 +261,8 @@ uint64_t gh_announce(uint32_t p1, uint32_t p2, uint32_t count,
                      uint16_t *GH_RESTRICT third, size_t third_len,
                      uint32_t *GH_RESTRICT own2, size_t own2_len,
                      uint32_t *GH_RESTRICT own3, size_t own3_len,
+                     uint16_t *GH_RESTRICT long1, size_t long1_len,
+                     uint16_t *GH_RESTRICT long2, size_t long2_len,
                      uint32_t addr, uint32_t len, uint32_t hop, uint32_t mark);
 
 /* Removes the route of the prefix addr/len and closes the chunks that are no longer needed. Bits of addr after the length
@@ -267,6 +275,8 @@ uint64_t gh_withdraw(uint32_t p1, uint32_t p2, uint32_t count,
                      uint16_t *GH_RESTRICT third, size_t third_len,
                      uint32_t *GH_RESTRICT own2, size_t own2_len,
                      uint32_t *GH_RESTRICT own3, size_t own3_len,
+                     uint16_t *GH_RESTRICT long1, size_t long1_len,
+                     uint16_t *GH_RESTRICT long2, size_t long2_len,
                      uint32_t addr, uint32_t len);
 
 /* Tells the route count and both needs of a sound table. Refusals: 1, 2, 5. */
@@ -277,7 +287,9 @@ uint64_t gh_report(uint32_t p1, uint32_t p2, uint32_t count,
                    const uint16_t *second, size_t second_len,
                    const uint16_t *third, size_t third_len,
                    const uint32_t *own2, size_t own2_len,
-                   const uint32_t *own3, size_t own3_len);
+                   const uint32_t *own3, size_t own3_len,
+                   const uint16_t *long1, size_t long1_len,
+                   const uint16_t *long2, size_t long2_len);
 
 /* Looks one address up: 1 to 3 cells are read. The table need not be sound, and count is not looked at.
  * Refusals: 1, 2, 5 in the form for lookups. */
@@ -289,6 +301,8 @@ uint64_t gh_lookup(uint32_t p1, uint32_t p2, uint32_t count,
                    const uint16_t *third, size_t third_len,
                    const uint32_t *own2, size_t own2_len,
                    const uint32_t *own3, size_t own3_len,
+                   const uint16_t *long1, size_t long1_len,
+                   const uint16_t *long2, size_t long2_len,
                    uint32_t addr);
 
 /* Looks many addresses up: geometry and sizes are checked once, and out[k] becomes the low 32 bits of what
@@ -301,6 +315,8 @@ uint64_t gh_lookup_many(uint32_t p1, uint32_t p2, uint32_t count,
                         const uint16_t *GH_RESTRICT third, size_t third_len,
                         const uint32_t *GH_RESTRICT own2, size_t own2_len,
                         const uint32_t *GH_RESTRICT own3, size_t own3_len,
+                        const uint16_t *GH_RESTRICT long1, size_t long1_len,
+                        const uint16_t *GH_RESTRICT long2, size_t long2_len,
                         const uint32_t *GH_RESTRICT addrs, size_t addrs_len,
                         uint32_t *GH_RESTRICT out, size_t out_len);
 
@@ -410,7 +426,7 @@ uint64_t gh_basic_lookup_many(const uint8_t *GH_RESTRICT input, size_t input_len
 struct gh_table {
     uint32_t p1, p2;      /* the geometry */
     uint32_t count;       /* the route count */
-    uint8_t *list;        /* the six arrays, each with its length in elements */
+    uint8_t *list;        /* the eight arrays, each with its length in elements */
     size_t list_len;
     uint16_t *first;
     size_t first_len;
@@ -422,19 +438,25 @@ struct gh_table {
     size_t own2_len;
     uint32_t *own3;
     size_t own3_len;
+    uint16_t *long1;
+    size_t long1_len;
+    uint16_t *long2;
+    size_t long2_len;
 };
 
-/* The initial value of a struct gh_table over six arrays of the caller (arrays, and no pointers to them):
- *   struct gh_table t = GH_TABLE(16, 24, list, first, second, third, own2, own3); */
-#define GH_TABLE(p1, p2, list, first, second, third, own2, own3) \
+/* The initial value of a struct gh_table over eight arrays of the caller (arrays, and no pointers to them):
+ *   struct gh_table t = GH_TABLE(16, 24, list, first, second, third, own2, own3, long1, long2); */
+#define GH_TABLE(p1, p2, list, first, second, third, own2, own3, long1, long2) \
     { (p1), (p2), 0, (list), GH_ELEMENTS(list), (first), GH_ELEMENTS(first), (second), GH_ELEMENTS(second), \
-      (third), GH_ELEMENTS(third), (own2), GH_ELEMENTS(own2), (own3), GH_ELEMENTS(own3) }
+      (third), GH_ELEMENTS(third), (own2), GH_ELEMENTS(own2), (own3), GH_ELEMENTS(own3), \
+      (long1), GH_ELEMENTS(long1), (long2), GH_ELEMENTS(long2) }
 #define GH_ELEMENTS(array) (sizeof(array) / sizeof *(array))
 
-/* The six arrays as the calls above take them: gh_report(t->p1, t->p2, t->count, GH_LENT(t)). */
+/* The eight arrays as the calls above take them: gh_report(t->p1, t->p2, t->count, GH_LENT(t)). */
 #define GH_LENT(t) \
     (t)->list, (t)->list_len, (t)->first, (t)->first_len, (t)->second, (t)->second_len, \
-    (t)->third, (t)->third_len, (t)->own2, (t)->own2_len, (t)->own3, (t)->own3_len
+    (t)->third, (t)->third_len, (t)->own2, (t)->own2_len, (t)->own3, (t)->own3_len, \
+    (t)->long1, (t)->long1_len, (t)->long2, (t)->long2_len
 
 /* A pointer for an array of no elements, which must not be null. */
 static inline void *gh_empty(void)

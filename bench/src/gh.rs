@@ -14,7 +14,8 @@ pub fn table(input: &[u8], room: usize, second: usize, third: usize) -> Table {
 /// How much is lent to a call.
 pub fn bytes(t: TableRef) -> usize {
     let cells = t.first.len() + t.second.len() + t.third.len();
-    t.list.len() + 2 * cells + 4 * (t.own2.len() + t.own3.len())
+    let counts = t.long1.len() + t.long2.len();
+    t.list.len() + 2 * (cells + counts) + 4 * (t.own2.len() + t.own3.len())
 }
 
 /// One call for each address: gh_lookup, or one with the same arguments. Both go through a pointer that the compiler

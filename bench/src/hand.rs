@@ -40,6 +40,10 @@ pub unsafe extern "C" fn hand_lookup(
     _own2_len: usize,
     _own3: *const u32,
     _own3_len: usize,
+    _long1: *const u16,
+    _long1_len: usize,
+    _long2: *const u16,
+    _long2_len: usize,
     addr: u32,
 ) -> u64 {
     let first = std::slice::from_raw_parts(first, first_len);
@@ -155,5 +159,6 @@ pub fn read_all(t: TableRef) -> u64 {
     let list: u64 = t.list.iter().map(|&x| x as u64).sum();
     let cells = |cells: &[u16]| cells.iter().fold(0u32, |s, &x| s.wrapping_add(x as u32)) as u64;
     let owners = |own: &[u32]| own.iter().fold(0u32, |s, &x| s.wrapping_add(x)) as u64;
-    list + cells(t.first) + cells(t.second) + cells(t.third) + owners(t.own2) + owners(t.own3)
+    let counts = cells(t.long1) + cells(t.long2);
+    list + cells(t.first) + cells(t.second) + cells(t.third) + owners(t.own2) + owners(t.own3) + counts
 }

@@ -7,7 +7,8 @@ static uint16_t first[GH_FIRST_CELLS(16)];
 static uint16_t second[4 * GH_SECOND_CHUNK(16, 24)]; /* 4 chunks in each pool */
 static uint16_t third[4 * GH_THIRD_CHUNK(24)];
 static uint32_t own2[4], own3[4];
-static struct gh_table table = GH_TABLE(16, 24, list, first, second, third, own2, own3);
+static uint16_t long1[GH_FIRST_CELLS(16)], long2[4 * GH_SECOND_CHUNK(16, 24)]; /* counts of long routes */
+static struct gh_table table = GH_TABLE(16, 24, list, first, second, third, own2, own3, long1, long2);
 
 /* Tells whether an answer is a refusal, and prints it where it is one. */
 static int refused(const char *what, uint64_t answer)

@@ -10,8 +10,9 @@ static uint16_t first[GH_FIRST_CELLS(16)];
 static uint16_t second[2 * GH_SECOND_CHUNK(16, 24)];
 static uint16_t third[3 * GH_THIRD_CHUNK(24)];
 static uint32_t own2[2], own3[3];
+static uint16_t long1[GH_ELEMENTS(first)], long2[GH_ELEMENTS(second)];
 #define LENT list, sizeof list, first, GH_ELEMENTS(first), second, GH_ELEMENTS(second), third, GH_ELEMENTS(third), \
-             own2, GH_ELEMENTS(own2), own3, GH_ELEMENTS(own3)
+             own2, GH_ELEMENTS(own2), own3, GH_ELEMENTS(own3), long1, GH_ELEMENTS(long1), long2, GH_ELEMENTS(long2)
 
 static void sizes(void)
 {
@@ -47,6 +48,10 @@ static void tables(void)
     CHECK(second[2], 1);
     CHECK(own3[0], 3);
     CHECK(second[3], 0x801F);
+    CHECK(long1[2561], 2);
+    CHECK(long1[2560], 0);
+    CHECK(long2[2], 1);
+    CHECK(long2[3], 0);
 
     static const struct { uint32_t addr; unsigned hop, reads; } asked[] = {
         { IP(10, 1, 2, 200), 57, 3 }, { IP(10, 1, 2, 5), 44, 3 }, { IP(10, 1, 3, 1), 31, 2 },
@@ -122,7 +127,8 @@ static void large_table(void)
     static uint8_t input[N * GH_RECORD_BYTES], list2[N * GH_RECORD_BYTES];
     static uint16_t first2[GH_FIRST_CELLS(12)], second2[N * GH_SECOND_CHUNK(12, 22)], third2[N * GH_THIRD_CHUNK(22)];
     static uint32_t own22[N], own32[N];
-    struct gh_table t = GH_TABLE(12, 22, list2, first2, second2, third2, own22, own32);
+    static uint16_t long12[GH_ELEMENTS(first2)], long22[GH_ELEMENTS(second2)];
+    struct gh_table t = GH_TABLE(12, 22, list2, first2, second2, third2, own22, own32, long12, long22);
     for (uint32_t k = 0; k < N; k++)
         put_record(input + GH_RECORD_BYTES * k, k << 20, k + 1 < N ? 32 : 22, 1000 + k);
     CHECK(GH_COUNT(gh_load(12, 22, input, sizeof input, GH_LENT(&t))), 300);

@@ -12,10 +12,13 @@ struct arrays {
     uint16_t second[1 * GH_SECOND_CHUNK(P1, P2)];
     uint16_t third[2 * GH_THIRD_CHUNK(P2)];
     uint32_t own2[1], own3[2];
+    uint16_t long1[GH_FIRST_CELLS(P1)];
+    uint16_t long2[1 * GH_SECOND_CHUNK(P1, P2)];
 };
 
 static struct arrays lent, lent_was;
-static struct gh_table t = GH_TABLE(P1, P2, lent.list, lent.first, lent.second, lent.third, lent.own2, lent.own3);
+static struct gh_table t = GH_TABLE(P1, P2, lent.list, lent.first, lent.second, lent.third, lent.own2, lent.own3,
+                                    lent.long1, lent.long2);
 static struct gh_table t_was;
 
 static uint8_t rows[LONG * GH_RECORD_BYTES + 3];
@@ -81,6 +84,19 @@ static void geometry_and_sizes(void)
     t.third_len--;
     REFUSED(gh_table_make(&t), GH_REFUSED_SIZE);
     t.third_len++;
+    /* One count too few, in every call. */
+    t.long1_len--;
+    REFUSED(gh_table_make(&t), GH_REFUSED_SIZE);
+    REFUSED(gh_table_load(&t, list_a, 39), GH_REFUSED_SIZE);
+    REFUSED(gh_table_announce(&t, 1, 33, 0, GH_BEHIND), GH_REFUSED_SIZE);
+    REFUSED(gh_table_withdraw(&t, 1, 33), GH_REFUSED_SIZE);
+    REFUSED(gh_table_report(&t), GH_REFUSED_SIZE);
+    REFUSED(gh_table_lookup(&t, 1), GH_REFUSED_SIZE);
+    REFUSED(gh_table_lookup_many(&t, addrs, out, 2), GH_REFUSED_SIZE);
+    t.long1_len++;
+    t.long2_len--;
+    REFUSED(gh_table_make(&t), GH_REFUSED_SIZE);
+    t.long2_len++;
 }
 
 /* 3 to 9, and 10 for the mark, with a number that does not fit its field beside those just over their limits. */

@@ -12,7 +12,8 @@
 static uint8_t list[N * GH_RECORD_BYTES], input[N * GH_RECORD_BYTES];
 static uint16_t first[GH_FIRST_CELLS(12)], second[N * GH_SECOND_CHUNK(12, 22)], third[N * GH_THIRD_CHUNK(22)];
 static uint32_t own2[N], own3[N];
-static struct gh_table t = GH_TABLE(12, 22, list, first, second, third, own2, own3);
+static uint16_t long1[GH_ELEMENTS(first)], long2[GH_ELEMENTS(second)];
+static struct gh_table t = GH_TABLE(12, 22, list, first, second, third, own2, own3, long1, long2);
 static uint32_t words[GH_WORDS_FOR(N)], addrs[1000], out[1000], counts[GH_TALLY_WORDS];
 static uint16_t hops[N];
 #define STEPS (8 * 15 + 1)

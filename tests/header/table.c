@@ -6,7 +6,8 @@ static uint16_t first[GH_FIRST_CELLS(16)];
 static uint16_t second[2 * GH_SECOND_CHUNK(16, 24)];
 static uint16_t third[1 * GH_THIRD_CHUNK(24)];
 static uint32_t own2[2], own3[1];
-static struct gh_table t = GH_TABLE(16, 24, list, first, second, third, own2, own3);
+static uint16_t long1[GH_ELEMENTS(first)], long2[GH_ELEMENTS(second)];
+static struct gh_table t = GH_TABLE(16, 24, list, first, second, third, own2, own3, long1, long2);
 
 static void set_up(void)
 {
@@ -21,6 +22,9 @@ static void set_up(void)
     CHECK(t.own3_len, 1);
     CHECK(t.list == list && t.first == first && t.second == second && t.third == third, 1);
     CHECK(t.own2 == own2 && t.own3 == own3, 1);
+    CHECK(t.long1_len, 65536);
+    CHECK(t.long2_len, 512);
+    CHECK(t.long1 == long1 && t.long2 == long2, 1);
     CHECK(GH_ELEMENTS(first), 65536);
 }
 
@@ -80,9 +84,9 @@ static void runs(void)
 static void without_pools(void)
 {
     struct gh_table s = t;
-    s.second = s.third = (uint16_t *)gh_empty();
+    s.second = s.third = s.long2 = (uint16_t *)gh_empty();
     s.own2 = s.own3 = (uint32_t *)gh_empty();
-    s.second_len = s.third_len = s.own2_len = s.own3_len = 0;
+    s.second_len = s.third_len = s.own2_len = s.own3_len = s.long2_len = 0;
     CHECK(gh_table_make(&s), 0);
     CHECK(GH_COUNT(gh_table_announce(&s, IP(10, 1, 0, 0), 16, 31, GH_BEHIND)), 1);
     CHECK(GH_NUMBER(gh_table_announce(&s, IP(10, 1, 0, 0), 17, 32, GH_BEHIND)), GH_REFUSED_SECOND);
@@ -96,7 +100,8 @@ static void copied(void)
     static uint8_t list2[sizeof list];
     static uint16_t first2[GH_ELEMENTS(first)], second2[GH_ELEMENTS(second)], third2[GH_ELEMENTS(third)];
     static uint32_t own22[2], own32[1];
-    struct gh_table u = GH_TABLE(16, 24, list2, first2, second2, third2, own22, own32);
+    static uint16_t long12[GH_ELEMENTS(long1)], long22[GH_ELEMENTS(long2)];
+    struct gh_table u = GH_TABLE(16, 24, list2, first2, second2, third2, own22, own32, long12, long22);
     CHECK(GH_COUNT(gh_table_load(&t, list_a, sizeof list_a)), 5);
     u.count = t.count;
     memcpy(u.list, t.list, sizeof list);
@@ -105,6 +110,8 @@ static void copied(void)
     memcpy(u.third, t.third, sizeof third);
     memcpy(u.own2, t.own2, sizeof own2);
     memcpy(u.own3, t.own3, sizeof own3);
+    memcpy(u.long1, t.long1, sizeof long1);
+    memcpy(u.long2, t.long2, sizeof long2);
     CHECK(gh_table_report(&u), gh_table_report(&t));
     CHECK(GH_COUNT(gh_table_withdraw(&u, IP(10, 1, 2, 128), 25)), 4);
     CHECK(GH_HOP(gh_table_lookup(&u, IP(10, 1, 2, 200))), 44);

@@ -18,6 +18,8 @@ fn main() -> Result<(), Refusal> {
         third: &mut [0; CHUNKS * SMALL.third_chunk()],
         own2: &mut [0; CHUNKS],
         own3: &mut [0; CHUNKS],
+        long1: &mut [0; SMALL.first_cells()],
+        long2: &mut [0; CHUNKS * SMALL.second_chunk()],
     };
     table.make()?;
     table.announce([10, 1, 2, 0], 24, 44, Mark::Behind)?;

@@ -31,6 +31,10 @@ pub struct Table {
     pub own2: Vec<u32>,
     /// An owner for each chunk of the third pool.
     pub own3: Vec<u32>,
+    /// A count for each first cell: the routes longer than `p1` that have its bits.
+    pub long1: Vec<u16>,
+    /// A count for each cell of the second pool: the routes longer than `p2` that have its bits, 0 in free chunks.
+    pub long2: Vec<u16>,
 }
 
 impl Table {
@@ -53,6 +57,8 @@ impl Table {
             third: vec![0; third * geometry.third_chunk()],
             own2: vec![0; second],
             own3: vec![0; third],
+            long1: vec![0; geometry.first_cells()],
+            long2: vec![0; second * geometry.second_chunk()],
         };
         table.make()?;
         Ok(table)
@@ -71,6 +77,8 @@ impl Table {
             third: &self.third,
             own2: &self.own2,
             own3: &self.own3,
+            long1: &self.long1,
+            long2: &self.long2,
         }
     }
 
@@ -87,6 +95,8 @@ impl Table {
             third: &mut self.third,
             own2: &mut self.own2,
             own3: &mut self.own3,
+            long1: &mut self.long1,
+            long2: &mut self.long2,
         };
         let answer = change(&mut lent);
         self.count = lent.count;

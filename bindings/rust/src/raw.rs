@@ -20,6 +20,8 @@ macro_rules! lend {
             $t.third.as_mut_ptr(), $t.third.len(),
             $t.own2.as_mut_ptr(), $t.own2.len(),
             $t.own3.as_mut_ptr(), $t.own3.len(),
+            $t.long1.as_mut_ptr(), $t.long1.len(),
+            $t.long2.as_mut_ptr(), $t.long2.len(),
             $($after),*
         )
     };
@@ -32,6 +34,8 @@ macro_rules! lend {
             $t.third.as_ptr(), $t.third.len(),
             $t.own2.as_ptr(), $t.own2.len(),
             $t.own3.as_ptr(), $t.own3.len(),
+            $t.long1.as_ptr(), $t.long1.len(),
+            $t.long2.as_ptr(), $t.long2.len(),
             $($after),*
         )
     };
@@ -54,6 +58,10 @@ pub type Lookup = unsafe extern "C" fn(
     own2_len: usize,
     own3: *const u32,
     own3_len: usize,
+    long1: *const u16,
+    long1_len: usize,
+    long2: *const u16,
+    long2_len: usize,
     addr: u32,
 ) -> u64;
 

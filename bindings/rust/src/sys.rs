@@ -17,6 +17,10 @@ extern "C" {
         own2_len: usize,
         own3: *mut u32,
         own3_len: usize,
+        long1: *mut u16,
+        long1_len: usize,
+        long2: *mut u16,
+        long2_len: usize,
     ) -> u64;
     pub fn gh_load(
         p1: u32,
@@ -35,6 +39,10 @@ extern "C" {
         own2_len: usize,
         own3: *mut u32,
         own3_len: usize,
+        long1: *mut u16,
+        long1_len: usize,
+        long2: *mut u16,
+        long2_len: usize,
     ) -> u64;
     pub fn gh_announce(
         p1: u32,
@@ -52,6 +60,10 @@ extern "C" {
         own2_len: usize,
         own3: *mut u32,
         own3_len: usize,
+        long1: *mut u16,
+        long1_len: usize,
+        long2: *mut u16,
+        long2_len: usize,
         addr: u32,
         len: u32,
         hop: u32,
@@ -73,6 +85,10 @@ extern "C" {
         own2_len: usize,
         own3: *mut u32,
         own3_len: usize,
+        long1: *mut u16,
+        long1_len: usize,
+        long2: *mut u16,
+        long2_len: usize,
         addr: u32,
         len: u32,
     ) -> u64;
@@ -92,6 +108,10 @@ extern "C" {
         own2_len: usize,
         own3: *const u32,
         own3_len: usize,
+        long1: *const u16,
+        long1_len: usize,
+        long2: *const u16,
+        long2_len: usize,
     ) -> u64;
     pub fn gh_lookup(
         p1: u32,
@@ -109,6 +129,10 @@ extern "C" {
         own2_len: usize,
         own3: *const u32,
         own3_len: usize,
+        long1: *const u16,
+        long1_len: usize,
+        long2: *const u16,
+        long2_len: usize,
         addr: u32,
     ) -> u64;
     pub fn gh_lookup_many(
@@ -127,6 +151,10 @@ extern "C" {
         own2_len: usize,
         own3: *const u32,
         own3_len: usize,
+        long1: *const u16,
+        long1_len: usize,
+        long2: *const u16,
+        long2_len: usize,
         addrs: *const u32,
         addrs_len: usize,
         out: *mut u32,

@@ -42,7 +42,7 @@ pub struct Report {
     pub third: u16,
 }
 
-/// A table over buffers that are only read: its state, and the six arrays that every call is lent. It is copied
+/// A table over buffers that are only read: its state, and the eight arrays that every call is lent. It is copied
 /// freely, and many threads may use it at once.
 #[derive(Clone, Copy, PartialEq, Eq)]
 pub struct TableRef<'a> {
@@ -60,6 +60,10 @@ pub struct TableRef<'a> {
     pub own2: &'a [u32],
     /// An owner for each chunk of the third pool.
     pub own3: &'a [u32],
+    /// A count for each first cell: the routes longer than `p1` that have its bits.
+    pub long1: &'a [u16],
+    /// A count for each cell of the second pool: the routes longer than `p2` that have its bits, 0 in free chunks.
+    pub long2: &'a [u16],
 }
 
 impl<'a> TableRef<'a> {
@@ -170,7 +174,7 @@ macro_rules! reads {
 #[cfg(feature = "alloc")]
 pub(crate) use reads;
 
-/// A table over buffers that may be changed. All six are lent by the caller, and nothing is allocated.
+/// A table over buffers that may be changed. All eight are lent by the caller, and nothing is allocated.
 ///
 /// It is written with its fields by name, since arrays of both pools have one type. The buffers may hold anything:
 /// [`make`](TableMut::make) or [`load`](TableMut::load) makes a table of them.
@@ -188,6 +192,8 @@ pub(crate) use reads;
 ///     third: &mut [0; 4 * SMALL.third_chunk()],
 ///     own2: &mut [0; 4],
 ///     own3: &mut [0; 4],
+///     long1: &mut [0; SMALL.first_cells()],
+///     long2: &mut [0; 4 * SMALL.second_chunk()],
 /// };
 /// table.make()?;
 /// table.announce([10, 1, 2, 0], 24, 44, Mark::Behind)?;
@@ -212,6 +218,10 @@ pub struct TableMut<'a> {
     pub own2: &'a mut [u32],
     /// An owner for each chunk of the third pool.
     pub own3: &'a mut [u32],
+    /// A count for each first cell: the routes longer than `p1` that have its bits.
+    pub long1: &'a mut [u16],
+    /// A count for each cell of the second pool: the routes longer than `p2` that have its bits, 0 in free chunks.
+    pub long2: &'a mut [u16],
 }
 
 impl TableMut<'_> {
@@ -228,6 +238,8 @@ impl TableMut<'_> {
             third: self.third,
             own2: self.own2,
             own3: self.own3,
+            long1: self.long1,
+            long2: self.long2,
         }
     }
 

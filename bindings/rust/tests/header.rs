@@ -132,7 +132,7 @@ fn as_read() {
     let is: Vec<String> = header()["gh_tally"].iter().map(|(name, of)| format!("{of} {name}")).collect();
     assert_eq!(is, ["const uint8_t * input", "size_t input_len", "uint32_t * out", "size_t out_len"]);
     let count = |call: &str| header()[call].len();
-    assert_eq!((count("gh_make"), count("gh_lookup_many"), count("gh_route")), (14, 19, 3));
+    assert_eq!((count("gh_make"), count("gh_lookup_many"), count("gh_route")), (18, 23, 3));
 }
 
 /// Each refusal has one number, one name and one meaning: `GH_REFUSED_ABSENT = 9` is `Reason::Absent`.

@@ -11,6 +11,8 @@ struct Buffers {
     third: Vec<u16>,
     own2: Vec<u32>,
     own3: Vec<u32>,
+    long1: Vec<u16>,
+    long2: Vec<u16>,
 }
 
 impl Buffers {
@@ -22,6 +24,8 @@ impl Buffers {
             third: vec![7; third * g.third_chunk()],
             own2: vec![7; second],
             own3: vec![7; third],
+            long1: vec![7; g.first_cells()],
+            long2: vec![7; second * g.second_chunk()],
         }
     }
 
@@ -35,6 +39,8 @@ impl Buffers {
             third: &mut self.third,
             own2: &mut self.own2,
             own3: &mut self.own3,
+            long1: &mut self.long1,
+            long2: &mut self.long2,
         }
     }
 }

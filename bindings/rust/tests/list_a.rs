@@ -37,6 +37,7 @@ fn a_table() {
     assert_eq!(hop(&table, [192, 0, 2, 1]), Ok((Some(6), 1)));
     assert_eq!(table.report(), Ok(Report { routes: 5, second: 1, third: 1 }));
     assert_eq!((table.first[2561], table.own2[0], table.second[2], table.own3[0]), (1, 2562, 1, 3));
+    assert_eq!((table.long1[2561], table.long1[2560], table.long2[2], table.long2[3]), (2, 0, 1, 0));
 
     let addrs = [Ipv4Addr::new(10, 1, 2, 200), Ipv4Addr::new(0, 0, 0, 0)];
     let mut out = [Answer::default(); 2];

@@ -20,15 +20,28 @@ fn look(
     third: &[u16],
     own2: &[u32],
     own3: &[u32],
+    long1: &[u16],
+    long2: &[u16],
     addr: u32,
 ) -> u64
-    ensures { λ r. ⌜ r ≡ packFound (lookupSaid t (lent (now (list .entry)) (now (first .entry)) (now (second .entry)) (now (third .entry)) (now (own2 .entry)) (now (own3 .entry))) addr) ⌝ }
+    ensures { λ r. ⌜ r ≡ packFound (lookupSaid t (lent (now (list .entry)) (now (first .entry)) (now (second .entry)) (now (third .entry)) (now (own2 .entry)) (now (own3 .entry)) (now (long1 .entry)) (now (long2 .entry))) addr) ⌝ }
 {
-    let z = sizes(t, list, first, second, third, own2, own3);
+    let z = sizes(t, list, first, second, third, own2, own3, long1, long2);
     if z != 0 {
         return z as u64;
     }
-    walk(t.geometry, list, first, second, third, own2, own3, addr) as u64
+    walk(
+        t.geometry,
+        list,
+        first,
+        second,
+        third,
+        own2,
+        own3,
+        long1,
+        long2,
+        addr,
+    ) as u64
 }
 
 // The same at the standard geometry, whose shifts the compiler then knows.
@@ -40,9 +53,11 @@ fn look_standard(
     third: &[u16],
     own2: &[u32],
     own3: &[u32],
+    long1: &[u16],
+    long2: &[u16],
     addr: u32,
 ) -> u64
-    ensures { λ r. ⌜ r ≡ packFound (lookupSaid (tableOf (standardGeo .p1) (standardGeo .p2) count) (lent (now (list .entry)) (now (first .entry)) (now (second .entry)) (now (third .entry)) (now (own2 .entry)) (now (own3 .entry))) addr) ⌝ }
+    ensures { λ r. ⌜ r ≡ packFound (lookupSaid (tableOf (standardGeo .p1) (standardGeo .p2) count) (lent (now (list .entry)) (now (first .entry)) (now (second .entry)) (now (third .entry)) (now (own2 .entry)) (now (own3 .entry)) (now (long1 .entry)) (now (long2 .entry))) addr) ⌝ }
 {
     let geometry = Geometry::STANDARD;
     let z = sizes(
@@ -53,11 +68,24 @@ fn look_standard(
         third,
         own2,
         own3,
+        long1,
+        long2,
     );
     if z != 0 {
         return z as u64;
     }
-    walk(geometry, list, first, second, third, own2, own3, addr) as u64
+    walk(
+        geometry,
+        list,
+        first,
+        second,
+        third,
+        own2,
+        own3,
+        long1,
+        long2,
+        addr,
+    ) as u64
 }
 
 // The hop for one address, with the count of cells read.
@@ -72,14 +100,27 @@ pub extern "C" fn gh_lookup(
     third: &[u16],
     own2: &[u32],
     own3: &[u32],
+    long1: &[u16],
+    long2: &[u16],
     addr: u32,
 ) -> u64
-    ensures { λ r. ⌜ r ≡ packFound (lookupSaid (tableOf p1 p2 count) (lent (now (list .entry)) (now (first .entry)) (now (second .entry)) (now (third .entry)) (now (own2 .entry)) (now (own3 .entry))) addr) ⌝ }
+    ensures { λ r. ⌜ r ≡ packFound (lookupSaid (tableOf p1 p2 count) (lent (now (list .entry)) (now (first .entry)) (now (second .entry)) (now (third .entry)) (now (own2 .entry)) (now (own3 .entry)) (now (long1 .entry)) (now (long2 .entry))) addr) ⌝ }
 {
     let standard = Geometry::STANDARD;
     if p1 == standard.p1 {
         if p2 == standard.p2 {
-            return look_standard(count, list, first, second, third, own2, own3, addr);
+            return look_standard(
+                count,
+                list,
+                first,
+                second,
+                third,
+                own2,
+                own3,
+                long1,
+                long2,
+                addr,
+            );
         }
     }
     let geometry = Geometry { p1, p2 };
@@ -91,6 +132,8 @@ pub extern "C" fn gh_lookup(
         third,
         own2,
         own3,
+        long1,
+        long2,
         addr,
     )
 }
@@ -104,12 +147,14 @@ fn look_each(
     third: &[u16],
     own2: &[u32],
     own3: &[u32],
+    long1: &[u16],
+    long2: &[u16],
     addrs: &[u32],
     out: &mut [u32],
 ) -> u64
-    ensures { λ r. ⌜ wordsCard r (now (out .exit)) ≡ manyCard t (lent (now (list .entry)) (now (first .entry)) (now (second .entry)) (now (third .entry)) (now (own2 .entry)) (now (own3 .entry))) (now (addrs .entry)) (now (out .entry)) ⌝ }
+    ensures { λ r. ⌜ wordsCard r (now (out .exit)) ≡ manyCard t (lent (now (list .entry)) (now (first .entry)) (now (second .entry)) (now (third .entry)) (now (own2 .entry)) (now (own3 .entry)) (now (long1 .entry)) (now (long2 .entry))) (now (addrs .entry)) (now (out .entry)) ⌝ }
 {
-    let z = sizes(t, list, first, second, third, own2, own3);
+    let z = sizes(t, list, first, second, third, own2, own3, long1, long2);
     if z != 0 {
         return z as u64;
     }
@@ -145,10 +190,12 @@ pub extern "C" fn gh_lookup_many(
     third: &[u16],
     own2: &[u32],
     own3: &[u32],
+    long1: &[u16],
+    long2: &[u16],
     addrs: &[u32],
     out: &mut [u32],
 ) -> u64
-    ensures { λ r. ⌜ wordsCard r (now (out .exit)) ≡ manyCard (tableOf p1 p2 count) (lent (now (list .entry)) (now (first .entry)) (now (second .entry)) (now (third .entry)) (now (own2 .entry)) (now (own3 .entry))) (now (addrs .entry)) (now (out .entry)) ⌝ }
+    ensures { λ r. ⌜ wordsCard r (now (out .exit)) ≡ manyCard (tableOf p1 p2 count) (lent (now (list .entry)) (now (first .entry)) (now (second .entry)) (now (third .entry)) (now (own2 .entry)) (now (own3 .entry)) (now (long1 .entry)) (now (long2 .entry))) (now (addrs .entry)) (now (out .entry)) ⌝ }
 {
     let geometry = Geometry { p1, p2 };
     look_each(
@@ -159,6 +206,8 @@ pub extern "C" fn gh_lookup_many(
         third,
         own2,
         own3,
+        long1,
+        long2,
         addrs,
         out,
     )

@@ -2,11 +2,12 @@
 -- untouched between calls. Every address is then served as by a table freshly loaded with the standing routes: same hop, same count of cells
 -- read, as many chunks in use. A well-formed change for which the list has room is refused for want of chunks exactly when the routes that would
 -- then stand need more than were lent. An announcement or withdrawal alters no cell but those that serve an address under its prefix and those
--- in chunks that it opens or closes."
+-- in chunks that it opens or closes." And document 02, request g: "Demand 3's fresh load has equal counts for first cells, and equal counts on every
+-- address's walk."
 --
 -- A run is a list of calls from a fresh table, the last call first: `after t l cs` is what the last call says, and the state and all that is
 -- lent then. The fresh table has t's geometry, in arrays of l's sizes; make accepts these exactly where they are right (`Sized`).
--- docs/DEMAND3.md walks through this file. Assumes nothing.
+-- docs/DEMAND3.md walks through this file.
 use mathlib.Core.Path.{_≡_, refl, ap}
 use mathlib.Core.Logic.{⊎-elim, _≢_}
 use mathlib.Core.Bool.{true, false}
@@ -69,7 +70,8 @@ module _ (t : Table) (l : Lent) (z : Sized (t .geometry) l) where
 
   -- "Every address is then served as by a table freshly loaded with the standing routes: same hop, same count of cells read, as many chunks in
   -- use": the fresh load is that of an input which holds the standing routes, into any table of the same geometry and array sizes; it is
-  -- accepted, and its list is the same to the byte, marks included.
+  -- accepted, and its list is the same to the byte, marks included. The counts of first cells are the same array (`longs1`), and those on the walk of
+  -- every address are the same (`longs2`).
   pub run-as-fresh : (cs : List Call) (u : Table) (v : Lent) → u .geometry ≡ t .geometry → SameSize l v
       → (input : List ℕ) → Carries input (standingAfter t l cs) → AsFresh (after t l cs .table) (after t l cs .lent) (loaded u v input)
   run-as-fresh = anew.run-as-fresh t l z

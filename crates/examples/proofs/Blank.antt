@@ -35,7 +35,7 @@ use Rattle.examples.specs.Blank.{Lengths, zeros, Asked, make, load, anno
 
 -- 1, 2 or 0, by the lengths
 abbrev pub fault : Geometry → Lengths → ℕ
-fault g n = cond (validGeo g) (cond (sizesFit g (n .list) (n .first) (n .second) (n .third) (n .own2) (n .own3)) 0 2) 1
+fault g n = cond (validGeo g) (cond (sizesFit g (n .list) (n .first) (n .second) (n .third) (n .own2) (n .own3) (n .long1) (n .long2)) 0 2) 1
 
 abbrev pub terms : Geometry → Lengths → Terms
 terms g n = record { geometry = g; room = n .list / 8; most2 = n .own2; most3 = n .own3 }

@@ -25,7 +25,7 @@ use Rattle.demands.proofs.Lookups.{lookup-only}
 use Rattle.examples.specs.Lines.{ip}
 use Rattle.routes.specs.ListA.{listA}
 use Rattle.examples.proofs.TableA.{stateA, lentA, sound-A, standing-A}
-use Rattle.examples.proofs.NotSound.{listIs, firstIs, own2Is, own3Is, in-list, at-first}
+use Rattle.examples.proofs.NotSound.{listIs, firstIs, own2Is, own3Is, long1Is, in-list, at-first, at-long1, none-here}
 
 -- refused
 pub load-refused : (n : ℕ) → AsFresh stateA lentA (out (refused n) stateA lentA) → ⊥
@@ -59,6 +59,8 @@ sized = record {
   cells2 = sound-A .sized .cells2;
   few3 = sound-A .sized .few3;
   cells3 = sound-A .sized .cells3;
+  counts1 = sound-A .sized .counts1;
+  counts2 = sound-A .sized .counts2;
 }
 
 seven : lookupSaid stateA (firstIs 49152 32775) (ip 192 0 2 1) ≡ accepted (1 ∷ 7 ∷ [])
@@ -82,3 +84,7 @@ more-second f = omega (arith, f .chunks2)
 pub more-third : AsFresh stateA lentA (out (accepted []) stateA (own3Is (3 ∷ 7 ∷ []))) → ⊥
 unfolding count
 more-third f = omega (arith, f .chunks3)
+
+-- another count at a first cell
+pub more-long : AsFresh stateA lentA (out (accepted []) stateA (long1Is 0 1)) → ⊥
+more-long f = omega (arith, none-here, at-long1 0 1 (omega arith), ap (λ (xs : List ℕ). getD xs 0 0) (f .longs1))

@@ -14,6 +14,7 @@ use Rattle.routes.specs.declared.Route.{Route}
 use Rattle.routes.proofs.Rows.{length-written}
 use Rattle.standing.specs.Cells.{any, first, long, best}
 use Rattle.sail.specs.Geometry.{standardGeo}
+use Rattle.counts.specs.Counts.{howMany}
 use Rattle.sail.specs.Lent.{Lent, lent}
 use Rattle.sail.specs.Sound.{Sound, standing}
 use Rattle.examples.specs.Lines.{ip}
@@ -23,22 +24,29 @@ use Rattle.examples.proofs.TableA.{routesA, stateA, lentA, sound-A, sta
 
 -- list A's table with another list, a first, second or third cell that holds another value, or other owners
 abbrev pub listIs : List ℕ → Lent
-listIs xs = lent xs (lentA .first) (lentA .second) (lentA .third) (lentA .own2) (lentA .own3)
+listIs xs = lent xs (lentA .first) (lentA .second) (lentA .third) (lentA .own2) (lentA .own3) (lentA .long1) (lentA .long2)
 
 abbrev pub firstIs : ℕ → ℕ → Lent
-firstIs q v = lent (lentA .list) (set (lentA .first) q v) (lentA .second) (lentA .third) (lentA .own2) (lentA .own3)
+firstIs q v = lent (lentA .list) (set (lentA .first) q v) (lentA .second) (lentA .third) (lentA .own2) (lentA .own3) (lentA .long1) (lentA .long2)
 
 abbrev pub secondIs : ℕ → ℕ → Lent
-secondIs q v = lent (lentA .list) (lentA .first) (set (lentA .second) q v) (lentA .third) (lentA .own2) (lentA .own3)
+secondIs q v = lent (lentA .list) (lentA .first) (set (lentA .second) q v) (lentA .third) (lentA .own2) (lentA .own3) (lentA .long1) (lentA .long2)
 
 abbrev pub thirdIs : ℕ → ℕ → Lent
-thirdIs q v = lent (lentA .list) (lentA .first) (lentA .second) (set (lentA .third) q v) (lentA .own2) (lentA .own3)
+thirdIs q v = lent (lentA .list) (lentA .first) (lentA .second) (set (lentA .third) q v) (lentA .own2) (lentA .own3) (lentA .long1) (lentA .long2)
 
 abbrev pub own2Is : List ℕ → Lent
-own2Is own = lent (lentA .list) (lentA .first) (lentA .second) (lentA .third) own (lentA .own3)
+own2Is own = lent (lentA .list) (lentA .first) (lentA .second) (lentA .third) own (lentA .own3) (lentA .long1) (lentA .long2)
 
 abbrev pub own3Is : List ℕ → Lent
-own3Is own = lent (lentA .list) (lentA .first) (lentA .second) (lentA .third) (lentA .own2) own
+own3Is own = lent (lentA .list) (lentA .first) (lentA .second) (lentA .third) (lentA .own2) own (lentA .long1) (lentA .long2)
+
+-- or other counts
+abbrev pub long1Is : ℕ → ℕ → Lent
+long1Is q v = lent (lentA .list) (lentA .first) (lentA .second) (lentA .third) (lentA .own2) (lentA .own3) (set (lentA .long1) q v) (lentA .long2)
+
+abbrev pub long2Is : ℕ → ℕ → Lent
+long2Is q v = lent (lentA .list) (lentA .first) (lentA .second) (lentA .third) (lentA .own2) (lentA .own3) (lentA .long1) (set (lentA .long2) q v)
 
 -- the value is then there
 pub in-list : length (lentA .list) ≡ 64
@@ -73,7 +81,7 @@ asks-best p i = ap (λ (rs : List Route). best rs p i) standing-A
 pub wrong-geometry : Sound (record { geometry = geo 16 27; count = 5 }) lentA → ⊥
 wrong-geometry s = omega (arith, s .sized .valid .p2-high)
 
-pub one-cell-more : Sound stateA (lent (lentA .list) (0 ∷ lentA .first) (lentA .second) (lentA .third) (lentA .own2) (lentA .own3)) → ⊥
+pub one-cell-more : Sound stateA (lent (lentA .list) (0 ∷ lentA .first) (lentA .second) (lentA .third) (lentA .own2) (lentA .own3) (lentA .long1) (lentA .long2)) → ⊥
 one-cell-more s = omega (arith, s .sized .cells1, in-first)
 
 -- "A list is good when the route count is at most its room and that many records pass the input checks"
@@ -201,3 +209,45 @@ free-cell2 s = omega (arith, at-second 300 1 (omega arith), s .clear2 .blank 300
 
 pub free-cell3 : Sound stateA (thirdIs 300 1) → ⊥
 free-cell3 s = omega (arith, at-third 300 1 (omega arith), s .clear3 .blank 300 (omega arith) refl)
+
+-- "5 a stored count that is wrong": of first cell 2561, which has 2, of first cell 0, which has none, of second place 2, which has 1, and of a place in
+-- a free chunk
+many-1 : howMany routesA 16 2561 ≡ 2
+unfolding listA routesOf tabulate recordAt howMany
+many-1 = refl
+
+none-1 : howMany routesA 16 0 ≡ 0
+unfolding listA routesOf tabulate recordAt howMany
+none-1 = refl
+
+many-2 : howMany routesA 24 655618 ≡ 1
+unfolding listA routesOf tabulate recordAt howMany
+many-2 = refl
+
+asks-many : (p i : ℕ) → howMany (standing stateA lentA) p i ≡ howMany routesA p i
+asks-many p i = ap (λ (rs : List Route). howMany rs p i) standing-A
+
+pub at-long1 : (q v : ℕ) → q < 65536 → getD (set (lentA .long1) q v) q 0 ≡ v
+at-long1 q v h = getD-set-same (lentA .long1) q v 0 (rw (sound-A .sized .counts1) h)
+
+pub none-here : getD (lentA .long1) 0 0 ≡ 0
+none-here = sound-A .counted1 .true-there 0 (omega arith) refl ∙ asks-many 16 0 ∙ none-1
+
+first-count : (q v : ℕ) → q < 65536 → Sound stateA (long1Is q v) → v ≡ howMany routesA 16 q
+first-count q v h s = sym (at-long1 q v h) ∙ s .counted1 .true-there q h refl ∙ asks-many 16 q
+
+pub first-one-more : Sound stateA (long1Is 2561 3) → ⊥
+first-one-more s = omega (arith, first-count 2561 3 (omega arith) s, many-1)
+
+pub first-one-there : Sound stateA (long1Is 0 1) → ⊥
+first-one-there s = omega (arith, first-count 0 1 (omega arith) s, none-1)
+
+at-long2 : (q v : ℕ) → q < 512 → getD (set (lentA .long2) q v) q 0 ≡ v
+at-long2 q v h = getD-set-same (lentA .long2) q v 0 (rw (sound-A .sized .counts2, in-second) h)
+
+pub second-one-less : Sound stateA (long2Is 2 0) → ⊥
+second-one-less s =
+    omega (arith, at-long2 2 0 (omega arith), s .counted2 .true-there 2 (omega arith) refl, asks-many 24 655618, many-2)
+
+pub free-count : Sound stateA (long2Is 300 1) → ⊥
+free-count s = omega (arith, at-long2 300 1 (omega arith), s .counted2 .blank 300 (omega arith) refl)

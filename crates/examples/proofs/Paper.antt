@@ -1,7 +1,8 @@
 -- A table on paper: its geometry, its routes and its owners. After a run they follow from the calls alone, and all that is asked of a sound
 -- table follows from them. So no cell array is ever computed.
 use mathlib.Core.Path.{_≡_, refl, sym, _∙_, ap}
-use mathlib.Core.Bool.{Bool, true, cond}
+use mathlib.Core.Bool.{Bool, true, false, cond}
+use mathlib.Core.Logic.{_⊎_, inl, inr}
 use mathlib.Core.List.{List, [], _∷_}
 use Prim.Native.Nat.{ℕ, _*_, _^_, _<_}
 use lib.ListN.{getD, length}
@@ -12,9 +13,11 @@ use Rattle.routes.specs.Said.{Said, accepted, refused, refusedAt, accepts}
 use Rattle.standing.specs.Standing.{remove}
 use Rattle.routes.specs.declared.Route.{Route}
 use Rattle.routes.proofs.Rows.{length-routes}
+use Rattle.counts.specs.Counts.{howMany}
+use Rattle.bits.proofs.Tests.{decided}
 use Rattle.sail.specs.Geometry.{bits2}
 use Rattle.sail.specs.Lent.{Lent}
-use Rattle.sail.specs.Level.{liveIn, entry, chunksOf, level1, level2}
+use Rattle.sail.specs.Level.{Level, liveIn, entry, chunksOf, level1, level2}
 use Rattle.sail.specs.Sizes.{Sized}
 use Rattle.sail.specs.Sound.{Sound, standing, cellsRead, freshLent}
 use Rattle.sail.specs.Walk.{hopSaid, lookupSaid}
@@ -54,6 +57,15 @@ firstOn q p = shown (p .routes) (level1 (p .geometry)) (chunksOf (p .owners .own
 abbrev pub secondOn : ℕ → Paper → ℕ
 secondOn q p = shown (p .routes) (level2 (p .geometry) (chunksOf (p .owners .own2))) (chunksOf (p .owners .own3)) q
 
+-- the counts at a first cell, and at a place of the second pool
+abbrev pub count1On : ℕ → Paper → ℕ
+count1On q p = howMany (p .routes) (p .geometry .p1) q
+
+abbrev pub count2On : ℕ → Paper → ℕ
+count2On q p =
+    let v : Level = level2 (p .geometry) (chunksOf (p .owners .own2)) in
+    cond (v .live q) (howMany (p .routes) (p .geometry .p2) (v .at q)) 0
+
 module _ (t : Table) (l : Lent) (s : Sound t l) where
   pub lookup-on : (a : ℕ) → a < 2 ^ 32 → lookupSaid t l a ≡ lookupOn a (paperOf t l)
   lookup-on = sail-serves t l s
@@ -66,6 +78,19 @@ module _ (t : Table) (l : Lent) (s : Sound t l) where
 
   pub second-on : (q : ℕ) → q < length (l .own2) * 2 ^ bits2 (t .geometry) → liveIn (entry (l .own2)) (bits2 (t .geometry)) q ≡ true → getD (l .second) q 0 ≡ secondOn q (paperOf t l)
   second-on q h e = shows-shown (standing t l) (level2 (t .geometry) (chunksOf (l .own2))) (chunksOf (l .own3)) (entry (l .second)) (s .serves .second) q h e
+
+  pub count1-on : (q : ℕ) → q < 2 ^ t .geometry .p1 → getD (l .long1) q 0 ≡ count1On q (paperOf t l)
+  count1-on q h = s .counted1 .true-there q h refl
+
+  pub count2-on : (q : ℕ) → q < length (l .own2) * 2 ^ bits2 (t .geometry) → getD (l .long2) q 0 ≡ count2On q (paperOf t l)
+  count2-on q h = go (decided (level2 (t .geometry) (chunksOf (l .own2)) .live q))
+    where
+      v : Level
+      v = level2 (t .geometry) (chunksOf (l .own2))
+
+      go : (v .live q ≡ true) ⊎ (v .live q ≡ false) → getD (l .long2) q 0 ≡ cond (v .live q) (howMany (standing t l) (t .geometry .p2) (v .at q)) 0
+      go (inl e) = rw e (s .counted2 .true-there q h e)
+      go (inr e) = rw e (s .counted2 .blank q h e)
 
 -- the owners after an accepted call, where the routes rs stand with the owners o; `none` are the owners of a fresh table
 abbrev owned : Geometry → Owners → Call → List Route → Owners → Owners

@@ -37,6 +37,7 @@ use Rattle.sail_theory.proofs.Runs.{run-is, run-sound}
 use Rattle.bits.specs.Bit.{packed}
 use Rattle.tree.specs.Parts.{picked, gather}
 use Rattle.tree.specs.Image.{bitHop, setBit, word, kids, hopsOf, level, upTo, wordsFrom, words, imageBy}
+use Rattle.counts.specs.Counts.{howMany}
 use Rattle.tree.specs.Image as ofImage
 use Rattle.tree.specs.Reads.{treeReads}
 use Rattle.tree.specs.Walk.{told}
@@ -45,10 +46,10 @@ use Rattle.tree_build.proofs.Serves.{built-serves}
 use Rattle.demands.specs.Replies.{reply, stood}
 use Rattle.demands.proofs.Replies.{run-says, run-stood}
 use Rattle.routes.specs.ListA.{listA}
-use Rattle.examples.specs.Starred.{table, arrays, bare, image, Asked, last, lookup, report, listed, first, second, owner2, owner3, make, input, build, lastNode, hops, tree, answer, starred}
+use Rattle.examples.specs.Starred.{table, arrays, bare, image, Asked, last, lookup, report, listed, first, second, owner2, owner3, count1, count2, make, input, build, lastNode, hops, tree, answer, starred}
 use Rattle.examples.specs.Lines.{Hold}
 use Rattle.examples.proofs.Lines.{allServe, lines-hold}
-use Rattle.examples.proofs.Paper.{Paper, paperOf, lookupOn, reportOn, firstOn, secondOn, lookup-on, report-on, first-on, second-on, ownedBy, onPaper, run-paper}
+use Rattle.examples.proofs.Paper.{Paper, paperOf, lookupOn, reportOn, firstOn, secondOn, count1On, count2On, lookup-on, report-on, first-on, second-on, count1-on, count2-on, ownedBy, onPaper, run-paper}
 
 -- what is lent has the right sizes
 pub sized : Sized (table .geometry) arrays
@@ -62,6 +63,8 @@ sized = record {
   cells2 = refl;
   few3 = omega arith;
   cells3 = refl;
+  counts1 = length-replicate {A = ℕ} 65536 0;
+  counts2 = refl;
 }
 
 abbrev terms : Terms
@@ -81,6 +84,8 @@ paper (first cs q) = accepted (firstOn q (page cs) ∷ [])
 paper (second cs q) = accepted (secondOn q (page cs) ∷ [])
 paper (owner2 cs c) = accepted (getD (page cs .owners .own2) c 0 ∷ [])
 paper (owner3 cs c) = accepted (getD (page cs .owners .own3) c 0 ∷ [])
+paper (count1 cs q) = accepted (count1On q (page cs) ∷ [])
+paper (count2 cs q) = accepted (count2On q (page cs) ∷ [])
 paper (make g) = cond (validGeo g) (accepted []) (refused 1)
 paper (input bytes) = inputSaid bytes
 paper build = image .said
@@ -88,7 +93,7 @@ paper lastNode = accepted (drop 18 (image .words))
 paper hops = accepted (image .hops)
 paper (tree a) = hopSaid (treeReads (routesIn listA) a) (best (routesIn listA) 32 a)
 
--- where they serve: addresses of 32 bits, cells that are there, and second cells of a chunk in use
+-- where they serve: addresses of 32 bits, cells that are there and their counts, and second cells of a chunk in use
 unfoldable serves : Asked → Bool
 serves (last cs) = true
 serves (lookup cs a) = ltb a (2 ^ 32)
@@ -98,6 +103,8 @@ serves (first cs q) = ltb q 65536
 serves (second cs q) = ltb q 256 && liveIn (entry (page cs .owners .own2)) 8 q
 serves (owner2 cs c) = true
 serves (owner3 cs c) = true
+serves (count1 cs q) = ltb q 65536
+serves (count2 cs q) = ltb q 256
 serves (make g) = true
 serves (input bytes) = true
 serves build = true
@@ -151,6 +158,19 @@ module _ (cs : List Call) where
   unfolding answer paper
   owner3-agrees c = ap (λ (p : Paper). accepted (getD (p .owners .own3) c 0 ∷ [])) asPaper
 
+  count1-agrees : (q : ℕ) → ltb q 65536 ≡ true → answer (count1 cs q) ≡ paper (count1 cs q)
+  unfolding answer paper table onPaper
+  count1-agrees q e =
+      let n : t .geometry ≡ standardGeo = ap (λ (p : Paper). p .geometry) asPaper in
+      ap (λ (v : ℕ). accepted (v ∷ [])) (count1-on t l (run-sound table arrays sized cs) q (rw n (ltb-true q 65536 e)) ∙ ap (count1On q) asPaper)
+
+  count2-agrees : (q : ℕ) → ltb q 256 ≡ true → answer (count2 cs q) ≡ paper (count2 cs q)
+  unfolding answer paper table arrays onPaper
+  count2-agrees q e =
+      let n : t .geometry ≡ standardGeo = ap (λ (p : Paper). p .geometry) asPaper in
+      let m : length (l .own2) ≡ 1 = run-is table arrays sized cs .size .chunks2 in
+      ap (λ (v : ℕ). accepted (v ∷ [])) (count2-on t l (run-sound table arrays sized cs) q (rw (n, m) (ltb-true q 256 e)) ∙ ap (count2On q) asPaper)
+
 last-agrees : (cs : List Call) → answer (last cs) ≡ paper (last cs)
 unfolding answer paper after
 last-agrees [] = ap (λ (o : Out). o .said) (make-is table arrays sized)
@@ -184,6 +204,8 @@ agrees (first cs q) e = first-agrees cs q e
 agrees (second cs q) e = second-agrees cs q e
 agrees (owner2 cs c) e = owner2-agrees cs c
 agrees (owner3 cs c) e = owner3-agrees cs c
+agrees (count1 cs q) e = count1-agrees cs q e
+agrees (count2 cs q) e = count2-agrees cs q e
 agrees (make g) e = make-agrees g
 agrees (input bytes) e = refl
 agrees build e = refl
@@ -196,7 +218,7 @@ unfolding allServe serves starred onPaper ownedBy stood reply inputSaid listA fi
 serve-all = refl
 
 on-paper : Hold paper starred
-unfolding Hold starred paper onPaper ownedBy stood reply inputSaid listA firstOf firstFrom faultAt routeFault inOrder properPrefix hopFine recordAt cut announceFault withdrawFault loadFault chunksFault arrays table routesOf tabulate need any best cells.first insert remove settled openAt grant keep chunkFor shown hopSaid validGeo image built madeOf count packed picked gather bitHop setBit word kids hopsOf level upTo wordsFrom words ofImage.hops imageBy
+unfolding Hold starred paper onPaper ownedBy stood reply inputSaid listA firstOf firstFrom faultAt routeFault inOrder properPrefix hopFine recordAt cut announceFault withdrawFault loadFault chunksFault arrays table routesOf tabulate need any howMany best cells.first insert remove settled openAt grant keep chunkFor shown hopSaid validGeo image built madeOf count packed picked gather bitHop setBit word kids hopsOf level upTo wordsFrom words ofImage.hops imageBy
 on-paper = refl
 
 pub starred-hold : Hold answer starred

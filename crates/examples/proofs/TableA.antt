@@ -50,7 +50,8 @@ lentA = rendered standardGeo 8 routesA (ownersA .own2) (ownersA .own3)
 
 -- blank arrays of these sizes
 blank : Lent
-blank = lent (replicate 64 0) (replicate 65536 0) (replicate 512 0) (replicate 512 0) (0 ∷ 0 ∷ []) (0 ∷ 0 ∷ [])
+blank =
+    lent (replicate 64 0) (replicate 65536 0) (replicate 512 0) (replicate 512 0) (0 ∷ 0 ∷ []) (0 ∷ 0 ∷ []) (replicate 65536 0) (replicate 512 0)
 
 blank-sized : Sized standardGeo blank
 unfolding blank
@@ -63,6 +64,8 @@ blank-sized = record {
   cells2 = length-replicate {A = ℕ} 512 0;
   few3 = omega arith;
   cells3 = length-replicate {A = ℕ} 512 0;
+  counts1 = length-replicate {A = ℕ} 65536 0;
+  counts2 = refl;
 }
 
 pub need2 : need routesA 16 ≡ 1

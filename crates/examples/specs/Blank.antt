@@ -13,7 +13,7 @@ use Rattle.sail_theory.specs.Calls.{made, announced, withdrawn, loaded, reporte
 abbrev pub geo : ℕ → ℕ → Geometry
 geo p1 p2 = record { p1 = p1; p2 = p2 }
 
--- how many bytes, cells and owners are lent
+-- how many bytes, cells, owners and counts are lent
 pub record Lengths : Type 0 where
   pub list : ℕ
   pub first : ℕ
@@ -21,14 +21,39 @@ pub record Lengths : Type 0 where
   pub third : ℕ
   pub own2 : ℕ
   pub own3 : ℕ
+  pub long1 : ℕ
+  pub long2 : ℕ
 
+-- with as many counts as first and second cells
 abbrev pub lengths : ℕ → ℕ → ℕ → ℕ → ℕ → ℕ → Lengths
-lengths list first second third own2 own3 = record { list = list; first = first; second = second; third = third; own2 = own2; own3 = own3 }
+lengths list first second third own2 own3 = record {
+  list = list;
+  first = first;
+  second = second;
+  third = third;
+  own2 = own2;
+  own3 = own3;
+  long1 = first;
+  long2 = second;
+}
+
+-- and with so many counts
+abbrev pub counting : Lengths → ℕ → ℕ → Lengths
+counting n long1 long2 = record {
+  list = n .list;
+  first = n .first;
+  second = n .second;
+  third = n .third;
+  own2 = n .own2;
+  own3 = n .own3;
+  long1 = long1;
+  long2 = long2;
+}
 
 unfoldable pub zeros : Lengths → Lent
 zeros n =
     lent (replicate (n .list) 0) (replicate (n .first) 0) (replicate (n .second) 0) (replicate (n .third) 0)
-    (replicate (n .own2) 0) (replicate (n .own3) 0)
+    (replicate (n .own2) 0) (replicate (n .own3) 0) (replicate (n .long1) 0) (replicate (n .long2) 0)
 
 -- a call on such arrays, with a state of no routes
 pub data Asked : Type 0 where

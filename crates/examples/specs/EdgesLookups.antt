@@ -31,7 +31,7 @@ many3 h = h .chunks3 * 2 ^ bits3 (h .geometry)
 unfoldable pub arrays : Content → Lent
 arrays h =
     lent [] (tabulate (2 ^ h .geometry .p1) (h .first)) (tabulate (many2 h) (h .second)) (tabulate (many3 h) (h .third))
-    (replicate (h .chunks2) 0) (replicate (h .chunks3) 0)
+    (replicate (h .chunks2) 0) (replicate (h .chunks3) 0) (replicate (2 ^ h .geometry .p1) 0) (replicate (many2 h) 0)
 
 pub data Asked : Type 0 where
   lookup : Content → ℕ → Asked

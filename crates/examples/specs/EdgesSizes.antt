@@ -4,7 +4,7 @@ use Rattle.routes.specs.Said.{accepted, refused}
 use Rattle.sail.specs.Geometry.{standardGeo, smallGeo}
 use Rattle.sail_theory.specs.Calls.{route}
 use Rattle.examples.specs.Lines.{ip, Line, _gives_}
-use Rattle.examples.specs.Blank.{Lengths, geo, lengths, Asked, make, load, announce, withdraw, report, lookup}
+use Rattle.examples.specs.Blank.{Lengths, geo, lengths, counting, Asked, make, load, announce, withdraw, report, lookup}
 
 -- room for 8 records, 2 second chunks and 3 third chunks of the standard geometry
 abbrev right : Lengths
@@ -53,6 +53,10 @@ edges =
     ∷ (make standardGeo (lengths 64 65536 512 768 3 3) gives refused 2)
     ∷ (make standardGeo (lengths 64 65536 512 768 2 2) gives refused 2)
     ∷ (make standardGeo (lengths 64 65536 512 768 2 4) gives refused 2)
+    ∷ (make standardGeo (counting right 65535 512) gives refused 2)
+    ∷ (make standardGeo (counting right 65537 512) gives refused 2)
+    ∷ (make standardGeo (counting right 65536 511) gives refused 2)
+    ∷ (make standardGeo (counting right 65536 513) gives refused 2)
     -- "0 to 4,096 records of room", "0 to 4,096 chunks" in each pool
     ∷ (make standardGeo (lengths 0 65536 0 0 0 0) gives accepted [])
     ∷ (make standardGeo (lengths 32768 65536 0 0 0 0) gives accepted [])
@@ -78,4 +82,10 @@ edges =
     ∷ (lookup (geo 16 27) right (ip 10 0 0 1) gives refused 1)
     ∷ (lookup standardGeo (lengths 64 65535 512 768 2 3) (ip 10 0 0 1) gives refused 2)
     ∷ (lookup (geo 16 27) (lengths 64 65535 512 768 2 3) (ip 10 0 0 1) gives refused 1)
+    -- one count too few gives 2 in every call
+    ∷ (load standardGeo (counting right 65535 512) [] gives refused 2)
+    ∷ (announce standardGeo (counting right 65535 512) (route (ip 10 0 0 0) 8 20 0) gives refused 2)
+    ∷ (withdraw standardGeo (counting right 65535 512) (ip 10 0 0 0) 8 gives refused 2)
+    ∷ (report standardGeo (counting right 65535 512) gives refused 2)
+    ∷ (lookup standardGeo (counting right 65535 512) (ip 10 0 0 1) gives refused 2)
     ∷ []

@@ -26,11 +26,11 @@ unfoldable pub table : Table
 table = freshTable standardGeo
 
 unfoldable pub arrays : Lent
-arrays = lent (replicate 64 0) (replicate 65536 0) (replicate 256 0) (replicate 256 0) (0 ∷ []) (0 ∷ [])
+arrays = lent (replicate 64 0) (replicate 65536 0) (replicate 256 0) (replicate 256 0) (0 ∷ []) (0 ∷ []) (replicate 65536 0) (replicate 256 0)
 
 -- for any geometry: first cells, and no room and no chunks
 unfoldable pub bare : Geometry → Lent
-bare g = lent [] (replicate (2 ^ g .p1) 0) [] [] [] []
+bare g = lent [] (replicate (2 ^ g .p1) 0) [] [] [] [] (replicate (2 ^ g .p1) 0) []
 
 -- list A's image, in as much as it needs
 unfoldable pub image : building.Out
@@ -45,6 +45,9 @@ without0 = withdraw 0 0 ∷ loadedA
 
 abbrev pub without25 : List Call
 without25 = withdraw (ip 10 1 2 128) 25 ∷ loadedA
+
+abbrev pub without24 : List Call
+without24 = withdraw (ip 10 1 2 0) 24 ∷ without25
 
 -- only the mark of 10.1.0.0/16 is another
 abbrev pub attachedA : List Call
@@ -72,7 +75,7 @@ tight = announce (route (ip 10 1 2 0) 24 45 0) ∷ loose
 abbrev pub away : List Call
 away = withdraw (ip 10 1 2 9) 24 ∷ tight
 
--- What is asked: after a run, what its last call says, a lookup, the report, a route of its list, a cell, an owner; what make says of a geometry; what the check of an
+-- What is asked: after a run, what its last call says, a lookup, the report, a route of its list, a cell, an owner, a count; what make says of a geometry; what the check of an
 -- input says; and of list A's image, what the build says, its last node, its hops, and a lookup in it.
 pub data Asked : Type 0 where
   last : List Call → Asked
@@ -83,6 +86,8 @@ pub data Asked : Type 0 where
   second : List Call → ℕ → Asked
   owner2 : List Call → ℕ → Asked
   owner3 : List Call → ℕ → Asked
+  count1 : List Call → ℕ → Asked
+  count2 : List Call → ℕ → Asked
   make : Geometry → Asked
   input : List ℕ → Asked
   build : Asked
@@ -90,7 +95,7 @@ pub data Asked : Type 0 where
   hops : Asked
   tree : ℕ → Asked
 
--- what the definitions answer; a cell or an owner is told as a value
+-- what the definitions answer; a cell, an owner or a count is told as a value
 unfoldable pub answer : Asked → Said
 answer (last cs) = after table arrays cs .said
 answer (lookup cs a) = lookupSaid (after table arrays cs .table) (after table arrays cs .lent) a
@@ -100,6 +105,8 @@ answer (first cs q) = accepted (getD (after table arrays cs .lent .first) q 0 �
 answer (second cs q) = accepted (getD (after table arrays cs .lent .second) q 0 ∷ [])
 answer (owner2 cs c) = accepted (getD (after table arrays cs .lent .own2) c 0 ∷ [])
 answer (owner3 cs c) = accepted (getD (after table arrays cs .lent .own3) c 0 ∷ [])
+answer (count1 cs q) = accepted (getD (after table arrays cs .lent .long1) q 0 ∷ [])
+answer (count2 cs q) = accepted (getD (after table arrays cs .lent .long2) q 0 ∷ [])
 answer (make g) = makeSaid (freshTable g) (bare g)
 answer (input bytes) = inputSaid bytes
 answer build = image .said
@@ -185,4 +192,19 @@ starred =
     -- an input stays strict
     ∷ (input (10 ∷ 1 ∷ 2 ∷ 3 ∷ 24 ∷ 0 ∷ 0 ∷ 44 ∷ []) gives refusedAt 3 0)
     ∷ (last (load (10 ∷ 1 ∷ 2 ∷ 3 ∷ 24 ∷ 0 ∷ 0 ∷ 44 ∷ []) ∷ []) gives refusedAt 3 0)
+    -- the counts (document 02, g): two routes longer than 16 bits have the bits of first cell 2561, one longer than 24 those of second cell 2; with
+    -- /25 withdrawn 1 and none, with /24 withdrawn too none, and the chunk is closed
+    ∷ (count1 loadedA 2561 gives accepted (2 ∷ []))
+    ∷ (count1 loadedA 2560 gives accepted (0 ∷ []))
+    ∷ (count2 loadedA 2 gives accepted (1 ∷ []))
+    ∷ (count2 loadedA 3 gives accepted (0 ∷ []))
+    ∷ (count1 without25 2561 gives accepted (1 ∷ []))
+    ∷ (count2 without25 2 gives accepted (0 ∷ []))
+    ∷ (count1 without24 2561 gives accepted (0 ∷ []))
+    ∷ (owner2 without24 0 gives accepted (0 ∷ []))
+    -- a replacement changes none, nor does a refusal
+    ∷ (count1 attachedA 2561 gives accepted (2 ∷ []))
+    ∷ (count1 entered 2561 gives accepted (1 ∷ []))
+    ∷ (count1 other 2561 gives accepted (1 ∷ []))
+    ∷ (count1 other 2562 gives accepted (0 ∷ []))
     ∷ []

@@ -36,6 +36,8 @@ small-sized = record {
   cells2 = refl;
   few3 = omega arith;
   cells3 = refl;
+  counts1 = refl;
+  counts2 = refl;
 }
 
 -- each refusal is one line

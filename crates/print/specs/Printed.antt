@@ -19,7 +19,9 @@ abbrev pub smallTable : Table
 smallTable = record { geometry = smallGeo; count = 0 }
 
 abbrev pub smallLent : Lent
-smallLent = lent (replicate (64 * 8) 0) (replicate 4096 0) (replicate (4 * 1024) 0) (replicate (4 * 1024) 0) (replicate 4 0) (replicate 4 0)
+smallLent =
+    lent (replicate (64 * 8) 0) (replicate 4096 0) (replicate (4 * 1024) 0) (replicate (4 * 1024) 0) (replicate 4 0) (replicate 4 0)
+    (replicate 4096 0) (replicate (4 * 1024) 0)
 
 -- "The first line gives the route count and both needs, then come prefix and hop in list order"
 unfoldable pub standingText : Table → Lent → List ℕ

@@ -25,12 +25,14 @@ fn put_standing(
     third: &[u16; 4096],
     own2: &[u32; 4],
     own3: &[u32; 4],
+    long1: &[u16; 4096],
+    long2: &[u16; 4096],
     out: &mut [u8],
 ) -> usize
-    requires { ⌜ Ready t (lent (now list) (now first) (now second) (now third) (now own2) (now own3)) (now out) ⌝ }
-    ensures { λ r. ⌜ Wrote (now (out .entry)) 0 (standingText t (lent (now (list .entry)) (now (first .entry)) (now (second .entry)) (now (third .entry)) (now (own2 .entry)) (now (own3 .entry)))) r (now (out .exit)) ⌝ }
+    requires { ⌜ Ready t (lent (now list) (now first) (now second) (now third) (now own2) (now own3) (now long1) (now long2)) (now out) ⌝ }
+    ensures { λ r. ⌜ Wrote (now (out .entry)) 0 (standingText t (lent (now (list .entry)) (now (first .entry)) (now (second .entry)) (now (third .entry)) (now (own2 .entry)) (now (own3 .entry)) (now (long1 .entry)) (now (long2 .entry)))) r (now (out .exit)) ⌝ }
 {
-    match report::report(t, list, first, second, third, own2, own3) {
+    match report::report(t, list, first, second, third, own2, own3, long1, long2) {
         Reported::Standing {
             routes,
             second: two,
@@ -51,6 +53,8 @@ fn put_loaded(input: &[u8], out: &mut [u8]) -> usize
     let mut third = [0u16; 4096];
     let mut own2 = [0u32; 4];
     let mut own3 = [0u32; 4];
+    let mut long1 = [0u16; 4096];
+    let mut long2 = [0u16; 4096];
     let t = Table {
         geometry: Geometry::SMALL,
         count: 0,
@@ -64,10 +68,23 @@ fn put_loaded(input: &[u8], out: &mut [u8]) -> usize
         &mut third,
         &mut own2,
         &mut own3,
+        &mut long1,
+        &mut long2,
     );
     let answer = c.answer;
     match answer {
-        Loaded::Done => put_standing(c.table, &list, &first, &second, &third, &own2, &own3, out),
+        Loaded::Done => put_standing(
+            c.table,
+            &list,
+            &first,
+            &second,
+            &third,
+            &own2,
+            &own3,
+            &long1,
+            &long2,
+            out,
+        ),
         Loaded::Refused(number) => line::refusal_text(number, out),
         Loaded::RefusedAt(number, index) => line::refusal_at_text(number, index, out),
     }

@@ -58,10 +58,23 @@ fn compare(
     third: &[u16],
     own2: &[u32],
     own3: &[u32],
+    long1: &[u16],
+    long2: &[u16],
     addr: u32,
     s: Sums,
 ) -> Sums {
-    let f = lookup::lookup(t, list, first, second, third, own2, own3, addr);
+    let f = lookup::lookup(
+        t,
+        list,
+        first,
+        second,
+        third,
+        own2,
+        own3,
+        long1,
+        long2,
+        addr,
+    );
     take(s, number(f), linear::answer(t, list, addr))
 }
 
@@ -86,6 +99,8 @@ fn around(
     third: &[u16],
     own2: &[u32],
     own3: &[u32],
+    long1: &[u16],
+    long2: &[u16],
     r: Route,
     s: Sums,
 ) -> Sums {
@@ -93,10 +108,58 @@ fn around(
     let end = num::wrapping_add_u32(from, size(r.len));
     let last = num::wrapping_sub_u32(end, 1);
     let before = num::wrapping_sub_u32(from, 1);
-    let a = compare(t, list, first, second, third, own2, own3, from, s);
-    let b = compare(t, list, first, second, third, own2, own3, last, a);
-    let c = compare(t, list, first, second, third, own2, own3, before, b);
-    compare(t, list, first, second, third, own2, own3, end, c)
+    let a = compare(
+        t,
+        list,
+        first,
+        second,
+        third,
+        own2,
+        own3,
+        long1,
+        long2,
+        from,
+        s,
+    );
+    let b = compare(
+        t,
+        list,
+        first,
+        second,
+        third,
+        own2,
+        own3,
+        long1,
+        long2,
+        last,
+        a,
+    );
+    let c = compare(
+        t,
+        list,
+        first,
+        second,
+        third,
+        own2,
+        own3,
+        long1,
+        long2,
+        before,
+        b,
+    );
+    compare(
+        t,
+        list,
+        first,
+        second,
+        third,
+        own2,
+        own3,
+        long1,
+        long2,
+        end,
+        c,
+    )
 }
 
 // The edges of every standing prefix.
@@ -108,6 +171,8 @@ fn edges(
     third: &[u16],
     own2: &[u32],
     own3: &[u32],
+    long1: &[u16],
+    long2: &[u16],
     s: Sums,
 ) -> Sums {
     let n = linear::standing(t, list);
@@ -115,7 +180,19 @@ fn edges(
     let mut k = 0;
     while k < n {
         let r = record::read_record(list, k);
-        u = around(t, list, first, second, third, own2, own3, r, u);
+        u = around(
+            t,
+            list,
+            first,
+            second,
+            third,
+            own2,
+            own3,
+            long1,
+            long2,
+            r,
+            u,
+        );
         k += 1;
     }
     u
@@ -130,6 +207,8 @@ fn drawn(
     third: &[u16],
     own2: &[u32],
     own3: &[u32],
+    long1: &[u16],
+    long2: &[u16],
     seed: u64,
     s: Sums,
 ) -> Sums {
@@ -137,7 +216,19 @@ fn drawn(
     let mut x = seed;
     let mut i = 0u64;
     while i < 8 {
-        u = compare(t, list, first, second, third, own2, own3, draw::base(i), u);
+        u = compare(
+            t,
+            list,
+            first,
+            second,
+            third,
+            own2,
+            own3,
+            long1,
+            long2,
+            draw::base(i),
+            u,
+        );
         x = draw::next(x);
         u = compare(
             t,
@@ -147,6 +238,8 @@ fn drawn(
             third,
             own2,
             own3,
+            long1,
+            long2,
             draw::near(i, x),
             u,
         );
@@ -164,9 +257,23 @@ pub fn look(
     third: &[u16],
     own2: &[u32],
     own3: &[u32],
+    long1: &[u16],
+    long2: &[u16],
     seed: u64,
     s: Sums,
 ) -> Sums {
-    let u = edges(t, list, first, second, third, own2, own3, s);
-    drawn(t, list, first, second, third, own2, own3, seed, u)
+    let u = edges(t, list, first, second, third, own2, own3, long1, long2, s);
+    drawn(
+        t,
+        list,
+        first,
+        second,
+        third,
+        own2,
+        own3,
+        long1,
+        long2,
+        seed,
+        u,
+    )
 }

@@ -1,4 +1,4 @@
--- The test of the sizes, its number and its facts say the same. Assumes nothing.
+-- The test of the sizes, its number and its facts say the same.
 use mathlib.Core.Path.{_≡_, sym, ap, _∙_}
 use mathlib.Core.Logic.{_⊎_, inl, inr}
 use mathlib.Core.Bool.{Bool, true, false, true≢false}
@@ -21,28 +21,28 @@ pub product-fits : {a b : ℕ} → a ≤ 4096 → b ≤ 1024 → a * b < 2 ^ 64
 product-fits {a} {b} h k = omega (arith, mul-le-mul h k)
 
 -- the test of the lengths, as the code takes it
-module _ (g : Geometry) (n a b c d e : ℕ) where
-  pub off-whole : (n % 8 ≡ 0 → ⊥) → false ≡ sizesFit g n a b c d e
+module _ (g : Geometry) (n a b c d e i j : ℕ) where
+  pub off-whole : (n % 8 ≡ 0 → ⊥) → false ≡ sizesFit g n a b c d e i j
   unfolding sizesFit
   off-whole h = rw (ne-eqb (n % 8) 0 h)
 
   module _ (h1 : n % 8 ≡ 0) where
-    pub off-room : 32768 < n → false ≡ sizesFit g n a b c d e
+    pub off-room : 32768 < n → false ≡ sizesFit g n a b c d e i j
     unfolding sizesFit
     off-room h = rw (eq-eqb (n % 8) 0 h1, lt-leb n (4096 * 8) h)
 
     module _ (h2 : n ≤ 32768) (x : ℕ) (q1 : x ≡ 2 ^ g .p1) where
-      pub off-first : (a ≡ x → ⊥) → false ≡ sizesFit g n a b c d e
+      pub off-first : (a ≡ x → ⊥) → false ≡ sizesFit g n a b c d e i j
       unfolding sizesFit
       off-first h = rw (eq-eqb (n % 8) 0 h1, le-leb n (4096 * 8) h2, ne-eqb a (2 ^ g .p1) (λ q. h (q ∙ sym q1)))
 
       module _ (h3 : a ≡ x) where
-        pub off-few2 : 4096 < d → false ≡ sizesFit g n a b c d e
+        pub off-few2 : 4096 < d → false ≡ sizesFit g n a b c d e i j
         unfolding sizesFit
         off-few2 h = rw (eq-eqb (n % 8) 0 h1, le-leb n (4096 * 8) h2, eq-eqb a (2 ^ g .p1) (h3 ∙ q1), lt-leb d 4096 h)
 
         module _ (h4 : d ≤ 4096) (y : ℕ) (q2 : y ≡ 2 ^ bits2 g) where
-          pub off-second : (b ≡ d * y → ⊥) → false ≡ sizesFit g n a b c d e
+          pub off-second : (b ≡ d * y → ⊥) → false ≡ sizesFit g n a b c d e i j
           unfolding sizesFit
           off-second h =
               rw (
@@ -57,15 +57,56 @@ module _ (g : Geometry) (n a b c d e : ℕ) where
             on-second : eqb b (d * 2 ^ bits2 g) ≡ true
             on-second = eq-eqb b (d * 2 ^ bits2 g) (h5 ∙ ap (λ (z : ℕ). d * z) q2)
 
-            pub off-few3 : 4096 < e → false ≡ sizesFit g n a b c d e
+            pub off-few3 : 4096 < e → false ≡ sizesFit g n a b c d e i j
             unfolding sizesFit
             off-few3 h = rw (eq-eqb (n % 8) 0 h1, le-leb n (4096 * 8) h2, eq-eqb a (2 ^ g .p1) (h3 ∙ q1), le-leb d 4096 h4, on-second, lt-leb e 4096 h)
 
-            pub on-few3 : e ≤ 4096 → (z : ℕ) → z ≡ 2 ^ bits3 g → eqb c (e * z) ≡ sizesFit g n a b c d e
-            unfolding sizesFit
-            on-few3 h z q3 =
-                rw (eq-eqb (n % 8) 0 h1, le-leb n (4096 * 8) h2, eq-eqb a (2 ^ g .p1) (h3 ∙ q1), le-leb d 4096 h4, on-second, le-leb e 4096 h)
-                (ap (λ (x : ℕ). eqb c (e * x)) q3)
+            module _ (h6 : e ≤ 4096) (z : ℕ) (q3 : z ≡ 2 ^ bits3 g) where
+              pub off-third : (c ≡ e * z → ⊥) → false ≡ sizesFit g n a b c d e i j
+              unfolding sizesFit
+              off-third h =
+                  rw (
+                    eq-eqb (n % 8) 0 h1,
+                    le-leb n (4096 * 8) h2,
+                    eq-eqb a (2 ^ g .p1) (h3 ∙ q1),
+                    le-leb d 4096 h4,
+                    on-second,
+                    le-leb e 4096 h6,
+                    ne-eqb c (e * 2 ^ bits3 g) (λ q. h (q ∙ ap (λ (z : ℕ). e * z) (sym q3))),
+                  )
+
+              module _ (h7 : c ≡ e * z) where
+                on-third : eqb c (e * 2 ^ bits3 g) ≡ true
+                on-third = eq-eqb c (e * 2 ^ bits3 g) (h7 ∙ ap (λ (z : ℕ). e * z) q3)
+
+                -- as many counts as first cells
+                pub off-long1 : (i ≡ a → ⊥) → false ≡ sizesFit g n a b c d e i j
+                unfolding sizesFit
+                off-long1 h =
+                    rw (
+                      eq-eqb (n % 8) 0 h1,
+                      le-leb n (4096 * 8) h2,
+                      eq-eqb a (2 ^ g .p1) (h3 ∙ q1),
+                      le-leb d 4096 h4,
+                      on-second,
+                      le-leb e 4096 h6,
+                      on-third,
+                      ne-eqb i (2 ^ g .p1) (λ q. h (q ∙ sym (h3 ∙ q1))),
+                    )
+
+                pub on-long1 : i ≡ a → eqb j b ≡ sizesFit g n a b c d e i j
+                unfolding sizesFit
+                on-long1 h =
+                    rw (
+                      eq-eqb (n % 8) 0 h1,
+                      le-leb n (4096 * 8) h2,
+                      eq-eqb a (2 ^ g .p1) (h3 ∙ q1),
+                      le-leb d 4096 h4,
+                      on-second,
+                      le-leb e 4096 h6,
+                      on-third,
+                      eq-eqb i (2 ^ g .p1) (h ∙ h3 ∙ q1),
+                    )
 
 -- what each number rests on: exactly one of the three holds
 pub data Fault (g : Geometry) (l : Lent) : ℕ → Type 0 where
@@ -83,6 +124,8 @@ module _ (g : Geometry) (l : Lent) where
       let e4 = and-split (leb (length (l .own2)) 4096) _ (e3 .1) in
       let e5 = and-split (eqb (length (l .second)) (length (l .own2) * 2 ^ bits2 g)) _ (e4 .1) in
       let e6 = and-split (leb (length (l .own3)) 4096) _ (e5 .1) in
+      let e7 = and-split (eqb (length (l .third)) (length (l .own3) * 2 ^ bits3 g)) _ (e6 .1) in
+      let e8 = and-split (eqb (length (l .long1)) (2 ^ g .p1)) _ (e7 .1) in
       record {
         valid = v;
         whole = eqb-true (length (l .list) % 8) 0 (e1 .0);
@@ -91,7 +134,9 @@ module _ (g : Geometry) (l : Lent) where
         few2 = leb-true _ _ (e4 .0);
         cells2 = eqb-true _ _ (e5 .0);
         few3 = leb-true _ _ (e6 .0);
-        cells3 = eqb-true _ _ (e6 .1);
+        cells3 = eqb-true _ _ (e7 .0);
+        counts1 = eqb-true _ _ (e8 .0);
+        counts2 = eqb-true _ _ (e8 .1);
       }
 
   fit : Sized g l → lengthsFit g l ≡ true
@@ -101,7 +146,9 @@ module _ (g : Geometry) (l : Lent) where
       (both (le-leb _ _ (s .room))
       (both (eq-eqb _ _ (s .cells1))
       (both (le-leb _ _ (s .few2))
-      (both (eq-eqb _ _ (s .cells2)) (both (le-leb _ _ (s .few3)) (eq-eqb _ _ (s .cells3)))))))
+      (both (eq-eqb _ _ (s .cells2))
+      (both (le-leb _ _ (s .few3))
+      (both (eq-eqb _ _ (s .cells3)) (both (eq-eqb _ _ (s .counts1)) (eq-eqb _ _ (s .counts2)))))))))
 
   -- the number by the facts
   pub none-is : Sized g l → sizesFault g l ≡ 0

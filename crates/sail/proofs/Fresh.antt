@@ -1,5 +1,5 @@
 -- A fresh table is sound: every first cell is a leaf of hop 0, and every chunk is free.
-use mathlib.Core.Path.{_≡_, refl}
+use mathlib.Core.Path.{_≡_, refl, sym, _∙_}
 use mathlib.Core.Bool.{true, false≢true}
 use mathlib.Core.List.{[]}
 use Prim.Native.Nat.{ℕ, zero, suc, _-_, _/_, _%_, _^_, _<_}
@@ -9,6 +9,7 @@ use borrow.Author.Tests.{ltb-true}
 use Rattle.bits.specs.Tab.{tabulate}
 use Rattle.standing.specs.Cells.{any, first, best}
 use Rattle.routes.specs.Record.{routesOf, Listed}
+use Rattle.counts.proofs.Many.{many-none}
 use Rattle.sail.specs.Lent.{Lent}
 use Rattle.sail.specs.Level.{Level, Chunks, View, below, level1, level2}
 use Rattle.sail.specs.Sizes.{Sized}
@@ -65,10 +66,12 @@ fresh-sized g l s = record {
   cells2 = simp length-replicate (s .cells2);
   few3 = rw length-replicate (s .few3);
   cells3 = simp length-replicate (s .cells3);
+  counts1 = rw length-replicate (s .counts1);
+  counts2 = simp length-replicate (s .counts2);
 }
 
 pub fresh-sound : (g : Geometry) (l : Lent) → Sized g l → Sound (freshTable g) (freshLent l)
-unfolding freshLent routesOf tabulate
+unfolding freshLent routesOf tabulate any
 fresh-sound g l s = record {
   sized = fresh-sized g l s;
   listed = fresh-listed (length (l .list)) (s .whole);
@@ -76,4 +79,6 @@ fresh-sound g l s = record {
       (zeros (length (l .own3)));
   clear2 = record { blank = λ q h e. zeros (length (l .second)) q };
   clear3 = record { blank = λ q h e. zeros (length (l .third)) q };
+  counted1 = record { true-there = λ q h e. zeros (length (l .long1)) q ∙ sym (many-none [] (g .p1) q refl); blank = λ q h e. zeros (length (l .long1)) q };
+  counted2 = record { true-there = λ q h e. zeros (length (l .long2)) q ∙ sym (many-none [] (g .p2) _ refl); blank = λ q h e. zeros (length (l .long2)) q };
 }

@@ -1,16 +1,17 @@
--- What soundness gives: the answers of lookup, the chunks in use, and the leaves. Assumes nothing.
-use mathlib.Core.Path.{_≡_, refl, sym, _∙_, ap}
+-- What soundness gives: the answers of lookup, the chunks in use, the leaves, and the counts on a walk.
+use mathlib.Core.Path.{_≡_, refl, sym, _∙_, ap, ap₂}
 use mathlib.Core.Logic.{_⊎_, inl, inr}
 use mathlib.Core.Bool.{Bool, true, false, cond}
 use mathlib.Core.List.{List, [], _∷_, List·Memᴰ}
 use Prim.Native.Nat.{ℕ, _+_, _-_, _*_, _^_, _≤_, _<_}
 use native.Mathlib.Omega.{arith}
-use lib.Dec.{eqb}
-use lib.ListN.{length}
+use lib.Dec.{leb, eqb}
+use lib.ListN.{length, getD}
 use lib.Pow.{shl-lt, shl-shr}
-use borrow.Author.Tests.{le-leb, eq-eqb, eqb-true}
+use borrow.Author.Tests.{le-leb, lt-leb, eq-eqb, eqb-true}
 use Rattle.bits.specs.Slot.{slot}
 use Rattle.bits.specs.Count.{bit}
+use Rattle.bits.proofs.Slots.{slot-lt}
 use Rattle.bits.proofs.Tests.{both, decided}
 use Rattle.routes.specs.Route.{Good}
 use Rattle.standing.specs.Cells.{covers, long, best, need}
@@ -19,16 +20,17 @@ use Rattle.routes.specs.Said.{accepted}
 use Rattle.routes.specs.declared.Route.{Route}
 use Rattle.standing.proofs.Only.{none-covers, covers-none}
 use Rattle.routes.proofs.Rows.{records-good}
+use Rattle.counts.specs.Counts.{howMany}
 use Rattle.sail.specs.Lent.{Lent}
 use Rattle.sail.specs.Level.{whole, chunksOf, level2, level3}
 use Rattle.sail.specs.Sizes.{sizesFault}
-use Rattle.sail.specs.Walk.{oneOf, hopSaid, foundSaid, lookupSaid, lastCell}
+use Rattle.sail.specs.Walk.{oneOf, hopSaid, foundSaid, lookupSaid, lastCell, cell1, place2, walkCounts}
 use Rattle.sail.specs.Reads.{ReadsFirst, ReadsSecond, ReadsThird}
 use Rattle.sail.specs.Sound.{standing, Sound, cellsRead, used}
 use Rattle.sail.specs.declared.geometry.Geometry.{Geometry}
 use Rattle.sail.specs.declared.table.Table.{Table}
 use Rattle.sail.proofs.Fitting.{none-is}
-use Rattle.sail.proofs.Walks.{walk-best, last-best, second-read, third-read, used2-need, used3-need}
+use Rattle.sail.proofs.Walks.{leaf1, node1, second-at, walk-best, last-best, second-read, third-read, used2-need, used3-need}
 
 -- an answer of no hop
 hop-none : (n h : ℕ) → hopSaid n h ≡ accepted (n ∷ []) → h ≡ 0
@@ -108,6 +110,30 @@ module _ (t : Table) (l : Lent) (s : Sound t l) where
 
   pub third-served : (q : ℕ) → q < length (l .third) → level3 g (chunksOf (l .own2)) (chunksOf (l .own3)) .live q ≡ true → (a : ℕ) × (a < 2 ^ 32) × ReadsThird g (whole l) a q
   third-served q h e = third-read rs g (whole l) (s .sized .valid) standing-good (s .serves) few2 few3 q (rw (s .sized .cells3) at h) e
+
+  -- the counts on the walk of an address are how many routes longer than each level have its bits
+  pub counts-serve : (a : ℕ) → a < 2 ^ 32
+      → walkCounts g l a ≡ howMany rs (g .p1) (slot (g .p1) a) ∷ cond (long rs (g .p1) (slot (g .p1) a)) (howMany rs (g .p2) (slot (g .p2) a) ∷ []) []
+  unfolding walkCounts
+  counts-serve a h = go (decided (long rs (g .p1) (slot (g .p1) a)))
+    where
+      one : getD (l .long1) (slot (g .p1) a) 0 ≡ howMany rs (g .p1) (slot (g .p1) a)
+      one = let v = s .sized .valid in s .counted1 .true-there (slot (g .p1) a) (slot-lt (g .p1) a (omega arith) h) refl
+
+      two : long rs (g .p1) (slot (g .p1) a) ≡ true → getD (l .long2) (place2 g (whole l) a) 0 ≡ howMany rs (g .p2) (slot (g .p2) a)
+      two e =
+          let j = second-at rs g (whole l) (s .sized .valid) standing-good (s .serves) a h e in
+          s .counted2 .true-there (place2 g (whole l) a) (j .0) (j .1) ∙ ap (howMany rs (g .p2)) (j .2)
+
+      go : (long rs (g .p1) (slot (g .p1) a) ≡ true) ⊎ (long rs (g .p1) (slot (g .p1) a) ≡ false)
+          → getD (l .long1) (slot (g .p1) a) 0 ∷ cond (leb 32768 (cell1 g (whole l) a)) [] (getD (l .long2) (place2 g (whole l) a) 0 ∷ [])
+          ≡ howMany rs (g .p1) (slot (g .p1) a) ∷ cond (long rs (g .p1) (slot (g .p1) a)) (howMany rs (g .p2) (slot (g .p2) a) ∷ []) []
+      go (inl e) =
+          let n = node1 rs g (whole l) (s .sized .valid) standing-good (s .serves) a h e in
+          rw (e, lt-leb 32768 (cell1 g (whole l) a) (omega (arith, n .1, few2))) (ap₂ (λ (x y : ℕ). x ∷ y ∷ []) one (two e))
+      go (inr e) =
+          let k = leaf1 rs g (whole l) (s .sized .valid) standing-good (s .serves) a h e in
+          rw (e, le-leb 32768 (cell1 g (whole l) a) (omega arith)) (ap (λ (x : ℕ). x ∷ []) one)
 
 -- So two sound tables of one list have the same leaves, whatever numbers their chunks have.
 pub leaf-determined : (t : Table) (l l′ : Lent) → Sound t l → Sound t l′ → l .list ≡ l′ .list → (a : ℕ) → a < 2 ^ 32

@@ -19,7 +19,7 @@ use Rattle.routes.specs.Said.{Said, refused}
 use Rattle.routes.specs.declared.Route.{Route}
 use Rattle.standing.proofs.Levels.{best-slot}
 use Rattle.sail.specs.Geometry.{bits2, bits3, Valid}
-use Rattle.sail.specs.Level.{View, always, itself, inUse, level1, level2, level3}
+use Rattle.sail.specs.Level.{Level, View, always, itself, inUse, level1, level2, level3}
 use Rattle.sail.specs.Sound.{Serves}
 use Rattle.sail.specs.Walk.{place, cell1, place2, cell2, place3, cell3, lastCell, hopSaid, stepSaid, shut, walkSaid}
 use Rattle.sail.specs.Reads.{Leads, ReadsSecond, ReadsThird}
@@ -79,6 +79,12 @@ module _ (rs : List Route) (g : Geometry) (t : View) (valid : Valid g) (good : G
     place3-is : find3 a ≡ place3 g t a
     unfolding find3
     place3-is = rw v2-is
+
+    -- its second cell, where a longer route is at its first: a live place that stands for it
+    pub second-at : long rs (g .p1) (slot (g .p1) a) ≡ true → let v2 : Level = level2 g (t .chunks2) in
+        (place2 g t a < v2 .places) × (v2 .live (place2 g t a) ≡ true) × (v2 .at (place2 g t a) ≡ slot (g .p2) a)
+    unfolding reach2
+    second-at e = rw place2-is at (reached2 .match .back (slot (g .p2) a) (slot-lt (g .p2) a (omega arith) small) (rw up2 e))
 
     -- each cell on the way: a leaf with the best hop where no longer route is there, and the number of a chunk of one's own where one is
     pub leaf1 : long rs (g .p1) (slot (g .p1) a) ≡ false → cell1 g t a ≡ 32768 + best rs (g .p1) (slot (g .p1) a)

@@ -8,6 +8,7 @@ use Rattle.bits.specs.Slot.{slot}
 use Rattle.bits.specs.Count.{bit, count}
 use Rattle.standing.specs.Cells.{long}
 use Rattle.routes.specs.Record.{routesOf, Listed}
+use Rattle.counts.specs.Counts.{CountedBy}
 use Rattle.routes.specs.declared.Route.{Route}
 use Rattle.sail.specs.Lent.{Lent}
 use Rattle.sail.specs.Level.{Level, Chunks, View, deep, leafAt, inUse, entry, chunksOf, level1, level2, level3, whole}
@@ -51,6 +52,10 @@ pub record Serves (rs : List Route) (g : Geometry) (t : View) : Type 0 where
 pub record Clear (v : Level) (cells : ℕ → ℕ) : Type 0 where
   pub blank : (q : ℕ) → q < v .places → v .live q ≡ false → cells q ≡ 0
 
+-- of the counts of a level those of live places are true, and the others 0
+abbrev pub Counted : List Route → Level → List ℕ → Type 0
+Counted rs v counts = CountedBy rs (v .bits) (v .places) (v .live) (v .at) (entry counts)
+
 -- "A table with all this, over a good list, is sound"
 pub record Sound (t : Table) (l : Lent) : Type 0 where
   -- the sizes are those of the geometry
@@ -63,6 +68,10 @@ pub record Sound (t : Table) (l : Lent) : Type 0 where
   -- "A free chunk has owner 0 and all cells 0"
   pub clear2 : Clear (level2 (t .geometry) (chunksOf (l .own2))) (entry (l .second))
   pub clear3 : Clear (level3 (t .geometry) (chunksOf (l .own2)) (chunksOf (l .own3))) (entry (l .third))
+  -- "for each first cell, how many standing routes longer than p1 have its bits"
+  pub counted1 : Counted (standing t l) (level1 (t .geometry)) (l .long1)
+  -- "and for each cell of the second pool how many longer than p2 have its place's bits, 0 in free chunks"
+  pub counted2 : Counted (standing t l) (level2 (t .geometry) (chunksOf (l .own2))) (l .long2)
 
 -- "1 plus one if some standing route longer than p1 shares the address's first p1 bits, plus one if some route longer than p2 shares its
 -- first p2 bits"
@@ -73,7 +82,8 @@ cellsRead g rs a = 1 + bit (long rs (g .p1) (slot (g .p1) a)) + bit (long rs (g 
 abbrev pub used : List ℕ → ℕ
 used own = count (inUse (entry own)) (length own)
 
--- "A fresh table has no routes: leaves of hop 0 (8000 hex), pools and owners zero". Its arrays have the sizes of those that are lent
+-- "A fresh table has no routes: leaves of hop 0 (8000 hex), pools and owners zero", and so are the counts. Its arrays have the sizes of those
+-- that are lent
 abbrev pub freshTable : Geometry → Table
 freshTable g = record { geometry = g; count = 0 }
 
@@ -85,4 +95,6 @@ freshLent l = record {
   third = replicate (length (l .third)) 0;
   own2 = replicate (length (l .own2)) 0;
   own3 = replicate (length (l .own3)) 0;
+  long1 = replicate (length (l .long1)) 0;
+  long2 = replicate (length (l .long2)) 0;
 }

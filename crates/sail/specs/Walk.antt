@@ -1,9 +1,10 @@
--- What lookup says, of any state, arrays and address, damaged tables too. Assumes nothing.
+-- What lookup says, of any state, arrays and address, damaged tables too; and the counts on its walk.
 use mathlib.Core.Bool.{Bool, false, _&&_, cond}
+use mathlib.Core.List.{List, [], _∷_}
 use mathlib.Core.Path.{_≡_}
 use Prim.Native.Nat.{ℕ, _+_, _-_, _*_, _%_, _^_, _≤_, _<_}
 use lib.Dec.{eqb, leb}
-use lib.ListN.{length}
+use lib.ListN.{length, getD}
 use Rattle.bits.specs.Slot.{slot}
 use Rattle.routes.specs.Said.{Said, refused, hopAfter, noRouteAfter}
 use Rattle.sail.specs.Geometry.{bits2, bits3}
@@ -42,6 +43,12 @@ unfoldable pub lastCell : Geometry → View → ℕ → ℕ
 lastCell g t a =
     cond (leb 32768 (cell1 g t a)) (cell1 g t a)
     (cond (leb 32768 (cell2 g t a)) (cell2 g t a) (cell3 g t a))
+
+-- "counts on every address's walk": the count at the first cell that is read, and at the second, where the first is no leaf
+unfoldable pub walkCounts : Geometry → Lent → ℕ → List ℕ
+walkCounts g l a =
+    getD (l .long1) (slot (g .p1) a) 0
+    ∷ cond (leb 32768 (cell1 g (whole l) a)) [] (getD (l .long2) (place2 g (whole l) a) 0 ∷ [])
 
 -- after n cells were read: n and the hop; n alone where the hop is 0, which is no route
 unfoldable pub hopSaid : ℕ → ℕ → Said

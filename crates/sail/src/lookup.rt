@@ -59,10 +59,12 @@ pub fn walk(
     third: &[u16],
     own2: &[u32],
     own3: &[u32],
+    long1: &[u16],
+    long2: &[u16],
     addr: u32,
 ) -> u32
-    requires { ⌜ Sized g (lent (now list) (now first) (now second) (now third) (now own2) (now own3)) ⌝ }
-    ensures { λ r. ⌜ Word r (foundSaid g (lent (now (list .entry)) (now (first .entry)) (now (second .entry)) (now (third .entry)) (now (own2 .entry)) (now (own3 .entry))) addr) ⌝ }
+    requires { ⌜ Sized g (lent (now list) (now first) (now second) (now third) (now own2) (now own3) (now long1) (now long2)) ⌝ }
+    ensures { λ r. ⌜ Word r (foundSaid g (lent (now (list .entry)) (now (first .entry)) (now (second .entry)) (now (third .entry)) (now (own2 .entry)) (now (own3 .entry)) (now (long1 .entry)) (now (long2 .entry))) addr) ⌝ }
 {
     let p1 = g.p1;
     let p2 = g.p2;
@@ -110,13 +112,26 @@ pub fn lookup(
     third: &[u16],
     own2: &[u32],
     own3: &[u32],
+    long1: &[u16],
+    long2: &[u16],
     addr: u32,
 ) -> Found
-    ensures { λ r. ⌜ MeetsLookup t (lent (now (list .entry)) (now (first .entry)) (now (second .entry)) (now (third .entry)) (now (own2 .entry)) (now (own3 .entry))) addr r ⌝ }
+    ensures { λ r. ⌜ MeetsLookup t (lent (now (list .entry)) (now (first .entry)) (now (second .entry)) (now (third .entry)) (now (own2 .entry)) (now (own3 .entry)) (now (long1 .entry)) (now (long2 .entry))) addr r ⌝ }
 {
-    let s = crate::table::sizes(t, list, first, second, third, own2, own3);
+    let s = crate::table::sizes(t, list, first, second, third, own2, own3, long1, long2);
     if s == 0 {
-        return said(walk(t.geometry, list, first, second, third, own2, own3, addr));
+        return said(walk(
+            t.geometry,
+            list,
+            first,
+            second,
+            third,
+            own2,
+            own3,
+            long1,
+            long2,
+            addr,
+        ));
     }
     Found::Refused(s)
 }

@@ -20,9 +20,11 @@ fn lengths(
     third: usize,
     own2: usize,
     own3: usize,
+    long1: usize,
+    long2: usize,
 ) -> bool
     requires { ⌜ Valid g ⌝ }
-    ensures { λ r. ⌜ r ≡ sizesFit g list first second third own2 own3 ⌝ }
+    ensures { λ r. ⌜ r ≡ sizesFit g list first second third own2 own3 long1 long2 ⌝ }
 {
     if list % 8 != 0 {
         return false;
@@ -42,7 +44,13 @@ fn lengths(
     if 4096 < own3 {
         return false;
     }
-    third == own3 * g.third_chunk()
+    if third != own3 * g.third_chunk() {
+        return false;
+    }
+    if long1 != first {
+        return false;
+    }
+    long2 == second
 }
 
 // 1 where the geometry is outside the limits, 2 where a lent array has another size than it asks for, and 0 where all fit.
@@ -54,8 +62,10 @@ pub fn sizes(
     third: &[u16],
     own2: &[u32],
     own3: &[u32],
+    long1: &[u16],
+    long2: &[u16],
 ) -> u8
-    ensures { λ r. ⌜ SizesTold r (t .geometry) (lent (now (list .entry)) (now (first .entry)) (now (second .entry)) (now (third .entry)) (now (own2 .entry)) (now (own3 .entry))) ⌝ }
+    ensures { λ r. ⌜ SizesTold r (t .geometry) (lent (now (list .entry)) (now (first .entry)) (now (second .entry)) (now (third .entry)) (now (own2 .entry)) (now (own3 .entry)) (now (long1 .entry)) (now (long2 .entry))) ⌝ }
 {
     let g = t.geometry;
     if g.valid() {
@@ -67,6 +77,8 @@ pub fn sizes(
             third.len(),
             own2.len(),
             own3.len(),
+            long1.len(),
+            long2.len(),
         ) {
             return 0;
         }

@@ -1,40 +1,52 @@
 -- An announcement step by step: what each step asks, and what they leave.
 use mathlib.Core.Path.{_≡_, refl, sym, _∙_, ap}
-use mathlib.Core.Bool.{Bool, not}
+use mathlib.Core.Bool.{Bool, true, false, not}
 use mathlib.Core.List.{List, [], _∷_}
-use Prim.Native.Nat.{ℕ, _/_, _≤_}
+use Prim.Native.Nat.{ℕ, _+_, _*_, _/_, _^_, _≤_}
 use native.Mathlib.Omega.{arith}
-use lib.Dec.{eqb}
+use lib.Dec.{eqb, ltb}
 use lib.ListN.{length}
+use borrow.Author.Tests.{lt-ltb, le-ltb, eq-eqb, not-true, not-false}
 use Rattle.bits.specs.Count.{bit}
-use Rattle.bits.specs.Slot.{cut}
-use Rattle.routes.specs.Route.{key}
+use Rattle.bits.specs.Slot.{cut, slot}
+use Rattle.routes.specs.Route.{key, Good}
 use Rattle.routes.specs.Record.{routesOf}
 use Rattle.routes.specs.Said.{accepted, refused}
 use Rattle.standing.specs.Standing.{stands, insert}
 use Rattle.routes.specs.declared.Route.{Route}
 use Rattle.routes.proofs.Rows.{length-routes}
 use Rattle.standing.proofs.Changed.{insert-adds}
+use Rattle.standing.proofs.Standing.{insert-long}
+use Rattle.counts.specs.Counts.{OneMore}
+use Rattle.counts.proofs.Changed.{many-insert, many-replace}
 use Rattle.lists.specs.Edit.{Insertable, Edited, edited, inserted, inserting, saysPut, countWith, Holds}
 use Rattle.lists.specs.declared.edit.Put.{Put}
 use Rattle.lists.proofs.EditHolds.{insert-count, insert-holds}
+use Rattle.sail.specs.Geometry.{bits2, Valid}
 use Rattle.sail.specs.Lent.{Lent, lent, cells}
 use Rattle.sail.specs.Sound.{standing}
 use Rattle.sail.specs.declared.geometry.Geometry.{Geometry}
 use Rattle.sail.specs.declared.table.Table.{Table}
 use Rattle.sail.proofs.Sounds.{standing-good}
+use Rattle.sail_theory.specs.Render.{find}
 use Rattle.sail_theory.specs.Calls.{opening, route, announceSaid, Out, out, adding, told, announced}
 use Rattle.sail.specs.Level.{chunksOf, level1, level2}
 use Rattle.sail_theory.specs.Facts.{Welcome}
 use Rattle.sail_theory.proofs.Accepted.{adding-is}
+use Rattle.sail_theory.proofs.Changes.{ready1, welcome-fits2}
+use Rattle.sail_theory.proofs.Grown.{length-open}
+use Rattle.sail_theory.proofs.Pools.{length-pool, pool-shows}
 use Rattle.sail_theory.proofs.Cleared.{announce-off}
-use Rattle.sail_paint.specs.Stale.{Repainted}
+use Rattle.sail_paint.specs.Stale.{Repainted, AsAsked}
 use Rattle.sail_paint.specs.Pending.{Pending}
 use Rattle.sail_change.specs.Opening.{Openable}
 use Rattle.sail_change.proofs.Opened.{openable, welcome-underway}
 use Rattle.sail_change.proofs.Underway.{underway-stale, underway-asked}
 use Rattle.sail_calls.specs.Judge.{Judged}
+use Rattle.sail_counts.specs.Counted.{Counts}
+use Rattle.sail_counts.proofs.Tallies.{Guided, up-tickable, up-counts, open-counts, as-counts, counts-are}
 use Rattle.sail_announce.specs.Answers.{saysAnnounce}
+use Rattle.sail_announce.specs.Booked.{Bookable, Booked, more, same}
 use Rattle.sail_announce.specs.declared.answers.Announce.{Announce}
 use Rattle.sail_announce.specs.declared.answers.Announce.the-variants as announce
 
@@ -98,13 +110,75 @@ module _ (t : Table) (l : Lent) (r : Route) (w : Welcome t l r) where
       pub add-pending : (x : ℕ) → x ≡ r .len → Pending g m (r .addr) x s (cells (l .first) (l .second) (l .third) own2 own3)
       add-pending x q = rw (q, o2, o3) (record {
         listed = holds .listed;
-        stale = λ ws par ready z. underway-stale g (r .addr) (r .len) (insert r rs) l (lent s (l .first) (l .second) (l .third) own2′ own3′) (welcome-underway t l r w s) ws par ready (z ∙ holds .routes);
+        stale = λ ws par ready z. underway-stale g (r .addr) (r .len) (insert r rs) l _ (welcome-underway t l r w) ws par ready (z ∙ holds .routes);
       })
 
-      module _ (first second third : List ℕ) (h : Repainted g (routesOf s m) (cells (l .first) (l .second) (l .third) own2 own3) first second third)
-          (n : Announce) (c : Bool) (q : saysAnnounce n ≡ accepted (bit c ∷ bit (saysPut p) ∷ [])) where
-        pub add-done : out (saysAnnounce n) (record { geometry = g; count = m }) (lent s first second third own2 own3) ≡ told c (adding t l r)
-        add-done =
-            let then : Lent = lent s (l .first) (l .second) (l .third) own2′ own3′ in
-            let h′ = underway-asked g (r .addr) (r .len) (insert r rs) l then (welcome-underway t l r w s) first second third (rw (holds .routes, o2, o3) at h) in
-            rw (q, stood, count-is, list-is, h′ .is-first, h′ .is-second, h′ .is-third, o2, o3) (sym (ap (told c) (adding-is t l r w)))
+      -- The cells are painted: the first ones lead to the place that serves the route, and the chunks opened for it have no long route yet.
+      module _ (first second third : List ℕ) (h : Repainted g (routesOf s m) (cells (l .first) (l .second) (l .third) own2 own3) first second third) where
+        asked : AsAsked g (insert r rs) (cells (l .first) (l .second) (l .third) own2′ own3′) first second third
+        asked = underway-asked g (r .addr) (r .len) (insert r rs) l _ (welcome-underway t l r w) first second third (rw (holds .routes, o2, o3) at h)
+
+        valid : Valid g
+        valid = w .sound .sized .valid
+
+        good : Good rs
+        good = standing-good t l (w .sound)
+
+        many2 : length (l .long2) ≡ length own2′ * 2 ^ bits2 g
+        many2 =
+            w .sound .sized .counts2 ∙ w .sound .sized .cells2
+            ∙ ap (λ (x : ℕ). x * 2 ^ bits2 g) (sym (length-open (level1 g) (l .own2) (find (l .own2) 0) r))
+
+        guided : Guided g (insert r rs) (r .addr) (r .len) first own2′ (l .long1) (l .long2)
+        guided = record {
+          valid = valid;
+          cells1 = ap length (asked .is-first) ∙ length-pool (insert r rs) (level1 g) (chunksOf own2′);
+          shows1 = rw (asked .is-first) (pool-shows (insert r rs) (level1 g) (chunksOf own2′) (welcome-fits2 t l r w));
+          small = w .fine .prefix .addr-ok;
+          held = λ k.
+              insert-long r rs (w .fine) good (g .p1) (slot (g .p1) (r .addr))
+              ∙ rw (lt-ltb (g .p1) (r .len) k, eq-eqb (slot (g .p1) (r .addr)) (slot (g .p1) (r .addr)) refl);
+          counts1 = w .sound .sized .counts1;
+          counts2 = many2;
+        }
+
+        before : Counts rs g own2′ (l .long1) (l .long2)
+        before = open-counts g valid rs (l .own2) (l .long1) (l .long2) (record { first = w .sound .counted1; second = w .sound .counted2 }) r (find (l .own2) 0)
+            (ready1 t l r w)
+
+        -- one more record exactly where the prefix did not stand
+        added-is : ltb (t .count) m ≡ not (stands (key r) rs)
+        added-is = rw (k, stood) (go (stands (key r) rs))
+          where
+            go : (x : Bool) → ltb (t .count) (countWith x (t .count)) ≡ not x
+            go true = le-ltb (t .count) (t .count) (omega arith)
+            go false = lt-ltb (t .count) (t .count + 1) (omega arith)
+
+        new : ltb (t .count) m ≡ true → OneMore (r .addr) (r .len) rs (insert r rs)
+        new e = many-insert r rs (not-true (stands (key r) rs) (sym added-is ∙ e))
+
+        pub add-bookable : Bookable (ltb (t .count) m) g r first (l .long1) (l .long2)
+        add-bookable = record {
+          ticks = λ e.
+              up-tickable g (insert r rs) (r .addr) (r .len) first own2′ (l .long1) (l .long2) guided rs (insert r rs) (new e)
+              (omega (arith, length-routes (l .list) (t .count), add-few)) before;
+        }
+
+        module _ (long1 long2 : List ℕ) (booked : Booked (ltb (t .count) m) g r first (l .long1) (l .long2) long1 long2)
+            (e1 : length long1 ≡ length (l .long1)) (e2 : length long2 ≡ length (l .long2)) where
+          counts : Counts (insert r rs) g own2′ long1 long2
+          counts = go booked
+            where
+              go : Booked (ltb (t .count) m) g r first (l .long1) (l .long2) long1 long2 → Counts (insert r rs) g own2′ long1 long2
+              go (more e left moved) =
+                  up-counts g (insert r rs) (r .addr) (r .len) first own2′ (l .long1) (l .long2) guided rs (insert r rs) (new e) before long1 long2 left moved
+              go (same e a b) =
+                  rw (a, b)
+                  (as-counts g valid rs own2′ (l .long1) (l .long2) before (insert r rs) (many-replace r rs (w .fine) good (not-false (stands (key r) rs) (sym added-is ∙ e))))
+
+          module _ (n : Announce) (c : Bool) (q : saysAnnounce n ≡ accepted (bit c ∷ bit (saysPut p) ∷ [])) where
+            pub add-done : out (saysAnnounce n) (record { geometry = g; count = m }) (lent s first second third own2 own3 long1 long2) ≡ told c (adding t l r)
+            add-done =
+                let are = counts-are g valid (insert r rs) own2′ long1 long2 counts (e1 ∙ w .sound .sized .counts1) (e2 ∙ many2) in
+                rw (q, stood, count-is, list-is, asked .is-first, asked .is-second, asked .is-third, o2, o3, are .0, are .1)
+                (sym (ap (told c) (adding-is t l r w)))

@@ -1,3 +1,4 @@
 -- What announce answers.
 pub mod Answers
 pub mod Contract
+pub mod Booked

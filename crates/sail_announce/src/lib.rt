@@ -16,6 +16,7 @@ ghost use Rattle.sail_theory.specs.Cases.{Proper};
 ghost use Rattle.sail_calls.specs.Judge.{Judged};
 ghost use Rattle.sail_announce.specs.Answers.{saysAnnounce};
 ghost use Rattle.sail_announce.specs.Contract.{MeetsAnnounce};
+ghost use Rattle.sail_announce.specs.Booked.{Bookable, Booked};
 
 pub mod answers;
 
@@ -27,12 +28,14 @@ use lists::place::place;
 use routes::Route;
 use routes::input;
 use routes::record;
+use sail::geometry::Geometry;
 use sail::table::Table;
 use sail::table::sizes;
 use sail_calls::clear::clear;
 use sail_calls::renew::renew;
 use sail_change::opening::open;
 use sail_change::opening::to_open;
+use sail_counts::tick::tick;
 use sail_sound::report::in_use;
 use sail_sound::test::sound;
 
@@ -56,10 +59,12 @@ fn judge_room(
     third: &[u16],
     own2: &[u32],
     own3: &[u32],
+    long1: &[u16],
+    long2: &[u16],
     r: Route,
 ) -> u8
-    requires { ⌜ Proper t (lent (now list) (now first) (now second) (now third) (now own2) (now own3)) r ⌝ }
-    ensures { λ n. ⌜ Judged n (announceSaid t (lent (now (list .entry)) (now (first .entry)) (now (second .entry)) (now (third .entry)) (now (own2 .entry)) (now (own3 .entry))) r) (Welcome t (lent (now (list .entry)) (now (first .entry)) (now (second .entry)) (now (third .entry)) (now (own2 .entry)) (now (own3 .entry))) r) ⌝ }
+    requires { ⌜ Proper t (lent (now list) (now first) (now second) (now third) (now own2) (now own3) (now long1) (now long2)) r ⌝ }
+    ensures { λ n. ⌜ Judged n (announceSaid t (lent (now (list .entry)) (now (first .entry)) (now (second .entry)) (now (third .entry)) (now (own2 .entry)) (now (own3 .entry)) (now (long1 .entry)) (now (long2 .entry))) r) (Welcome t (lent (now (list .entry)) (now (first .entry)) (now (second .entry)) (now (third .entry)) (now (own2 .entry)) (now (own3 .entry)) (now (long1 .entry)) (now (long2 .entry))) r) ⌝ }
 {
     let n = t.count as usize;
     let p = record::key_of(r.addr, r.len);
@@ -89,11 +94,13 @@ fn judge_announce(
     third: &[u16],
     own2: &[u32],
     own3: &[u32],
+    long1: &[u16],
+    long2: &[u16],
     r: Route,
 ) -> u8
-    ensures { λ n. ⌜ Judged n (announceSaid t (lent (now (list .entry)) (now (first .entry)) (now (second .entry)) (now (third .entry)) (now (own2 .entry)) (now (own3 .entry))) r) (Welcome t (lent (now (list .entry)) (now (first .entry)) (now (second .entry)) (now (third .entry)) (now (own2 .entry)) (now (own3 .entry))) r) ⌝ }
+    ensures { λ n. ⌜ Judged n (announceSaid t (lent (now (list .entry)) (now (first .entry)) (now (second .entry)) (now (third .entry)) (now (own2 .entry)) (now (own3 .entry)) (now (long1 .entry)) (now (long2 .entry))) r) (Welcome t (lent (now (list .entry)) (now (first .entry)) (now (second .entry)) (now (third .entry)) (now (own2 .entry)) (now (own3 .entry)) (now (long1 .entry)) (now (long2 .entry))) r) ⌝ }
 {
-    let s = sizes(t, list, first, second, third, own2, own3);
+    let s = sizes(t, list, first, second, third, own2, own3, long1, long2);
     if s != 0 {
         return s;
     }
@@ -101,10 +108,10 @@ fn judge_announce(
     if f != 0 {
         return f;
     }
-    if !sound(t, list, first, second, third, own2, own3) {
+    if !sound(t, list, first, second, third, own2, own3, long1, long2) {
         return 5;
     }
-    judge_room(t, list, first, second, third, own2, own3, r)
+    judge_room(t, list, first, second, third, own2, own3, long1, long2, r)
 }
 
 // How many routes stand after one was put into n.
@@ -128,8 +135,18 @@ fn answer_of(p: Put, cleared: bool) -> Announce
     }
 }
 
-// The announcement, where nothing speaks against it: chunks are opened, the route is put into the list, and what it
-// touches is painted again. The answer tells whether bits were cleared.
+// The counts with the route, where it is added; a replacement changes none.
+fn count_in(added: bool, g: Geometry, r: Route, first: &[u16], long1: &mut [u16], long2: &mut [u16])
+    requires { ⌜ Bookable added g r (now first) (now long1) (now long2) ⌝ }
+    ensures { λ _. ⌜ Booked added g r (now (first .entry)) (now (long1 .entry)) (now (long2 .entry)) (now (long1 .exit)) (now (long2 .exit)) ⌝ }
+{
+    if added {
+        tick(g, r.addr, r.len, first, long1, long2, true);
+    }
+}
+
+// The announcement, where nothing speaks against it: chunks are opened, the route is put into the list, what it touches is
+// painted again, and it is counted. The answer tells whether bits were cleared.
 fn add(
     t: Table,
     list: &mut [u8],
@@ -138,11 +155,13 @@ fn add(
     third: &mut [u16],
     own2: &mut [u32],
     own3: &mut [u32],
+    long1: &mut [u16],
+    long2: &mut [u16],
     r: Route,
     cleared: bool,
 ) -> Announced
-    requires { ⌜ Welcome t (lent (now list) (now first) (now second) (now third) (now own2) (now own3)) r ⌝ }
-    ensures { λ o. ⌜ out (saysAnnounce (o .answer)) (o .table) (lent (now (list .exit)) (now (first .exit)) (now (second .exit)) (now (third .exit)) (now (own2 .exit)) (now (own3 .exit))) ≡ told cleared (adding t (lent (now (list .entry)) (now (first .entry)) (now (second .entry)) (now (third .entry)) (now (own2 .entry)) (now (own3 .entry))) r) ⌝ }
+    requires { ⌜ Welcome t (lent (now list) (now first) (now second) (now third) (now own2) (now own3) (now long1) (now long2)) r ⌝ }
+    ensures { λ o. ⌜ out (saysAnnounce (o .answer)) (o .table) (lent (now (list .exit)) (now (first .exit)) (now (second .exit)) (now (third .exit)) (now (own2 .exit)) (now (own3 .exit)) (now (long1 .exit)) (now (long2 .exit))) ≡ told cleared (adding t (lent (now (list .entry)) (now (first .entry)) (now (second .entry)) (now (third .entry)) (now (own2 .entry)) (now (own3 .entry)) (now (long1 .entry)) (now (long2 .entry))) r) ⌝ }
 {
     let g = t.geometry;
     let n = t.count as usize;
@@ -161,6 +180,7 @@ fn add(
         own2,
         own3,
     );
+    count_in(n < m, g, r, first, long1, long2);
     let u = Table {
         geometry: g,
         count: m as u32,
@@ -182,12 +202,14 @@ pub fn announce(
     third: &mut [u16],
     own2: &mut [u32],
     own3: &mut [u32],
+    long1: &mut [u16],
+    long2: &mut [u16],
     addr: u32,
     len: u8,
     hop: u16,
     mark: u8,
 ) -> Announced
-    ensures { λ r. ⌜ MeetsAnnounce t (lent (now (list .entry)) (now (first .entry)) (now (second .entry)) (now (third .entry)) (now (own2 .entry)) (now (own3 .entry))) addr len hop mark r (lent (now (list .exit)) (now (first .exit)) (now (second .exit)) (now (third .exit)) (now (own2 .exit)) (now (own3 .exit))) ⌝ }
+    ensures { λ r. ⌜ MeetsAnnounce t (lent (now (list .entry)) (now (first .entry)) (now (second .entry)) (now (third .entry)) (now (own2 .entry)) (now (own3 .entry)) (now (long1 .entry)) (now (long2 .entry))) addr len hop mark r (lent (now (list .exit)) (now (first .exit)) (now (second .exit)) (now (third .exit)) (now (own2 .exit)) (now (own3 .exit)) (now (long1 .exit)) (now (long2 .exit))) ⌝ }
 {
     let a = clear(addr, len);
     let r = Route {
@@ -196,12 +218,24 @@ pub fn announce(
         mark,
         hop,
     };
-    let z = judge_announce(t, list, first, second, third, own2, own3, r);
+    let z = judge_announce(t, list, first, second, third, own2, own3, long1, long2, r);
     if z != 0 {
         return Announced {
             answer: Announce::Refused(z),
             table: t,
         };
     }
-    add(t, list, first, second, third, own2, own3, r, a != addr)
+    add(
+        t,
+        list,
+        first,
+        second,
+        third,
+        own2,
+        own3,
+        long1,
+        long2,
+        r,
+        a != addr,
+    )
 }

@@ -88,11 +88,3 @@ hung-was own true z c x e other = go (equal? c (find own 0)) (below? c (length o
     go (inl q) (inr l) =
         let k : length (set own (find own 0) (suc z)) ≤ c = rw length-set l in
         absurd (omega (arith, e, List·getD-eq-default (set own (find own 0) (suc z)) 0 k))
-
--- whether a chunk is closed, under another name
-module _ (b b′ : Bool) (own cells : List ℕ) (c d : ℕ) (e : b ≡ b′) where
-  pub closing-as : Closing b′ own cells c d → Closing b own cells c d
-  closing-as k = rw e k
-
-  pub closed-as : (own′ cells′ : List ℕ) → own′ ≡ closed b c own → cells′ ≡ blanked b c d cells → (own′ ≡ closed b′ c own) × (cells′ ≡ blanked b′ c d cells)
-  closed-as own′ cells′ o s = (rw (← e) o, rw (← e) s)

@@ -6,5 +6,4 @@ pub mod Underway
 pub mod Opened
 pub mod Shrinks
 pub mod Trails
-pub mod Unders
 pub mod Openings

@@ -13,7 +13,7 @@ use Rattle.bits.proofs.Tests.{decided, below?, untrue}
 use Rattle.standing.specs.Cells.{long}
 use Rattle.standing.specs.Standing.{insert}
 use Rattle.routes.specs.declared.Route.{Route}
-use Rattle.sail.specs.Lent.{Lent, lent}
+use Rattle.sail.specs.Lent.{Lent, cells}
 use Rattle.sail.specs.Level.{Level, entry, chunksOf, below, level1, level2}
 use Rattle.sail.specs.Sound.{Clear, standing}
 use Rattle.sail.specs.declared.geometry.Geometry.{Geometry}
@@ -173,9 +173,8 @@ module _ (t : Table) (l : Lent) (r : Route) (w : Welcome t l r) where
       let stays = open-stays (level1 g) (l .own2) r _ _ o in
       sym (below-same (level1 g) (level1 g) (chunksOf (l .own2)) (chunksOf own2′) (g .p2) x refl (stays ∙ sym o) (λ z _. refl) .at e)
 
-  -- whatever the list then is
-  pub welcome-underway : (s : List ℕ) → Underway g (r .addr) (r .len) (insert r rs) l (lent s (l .first) (l .second) (l .third) own2′ own3′)
-  welcome-underway s =
+  pub welcome-underway : Underway g (r .addr) (r .len) (insert r rs) l (cells (l .first) (l .second) (l .third) own2′ own3′)
+  welcome-underway =
       let z = serving-of t l (w .sound) in
       record {
         sized = w .sound .sized;

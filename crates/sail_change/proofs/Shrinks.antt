@@ -16,7 +16,7 @@ use Rattle.routes.specs.declared.Route.{Route}
 use Rattle.standing.proofs.Changed.{remove-long}
 use Rattle.plan.specs.Paint.{filled}
 use Rattle.sail.specs.Geometry.{bits2, bits3}
-use Rattle.sail.specs.Lent.{Lent, lent}
+use Rattle.sail.specs.Lent.{Lent, cells}
 use Rattle.sail.specs.Level.{Level, deep, entry, chunksOf, below, level1, level2}
 use Rattle.sail.specs.Sound.{Clear, standing}
 use Rattle.sail.specs.declared.geometry.Geometry.{Geometry}
@@ -142,11 +142,9 @@ module _ (t : Table) (l : Lent) (a len : ℕ) (w : Farewell t l a len) where
       let o = kept-over rs left (less t l a len w) (level1 g) (chunksOf (l .own2)) (chunksOf own2′) (g .p2) (omega arith) (omega arith) shut x lives d in
       sym (below-same (level1 g) (level1 g) (chunksOf (l .own2)) (chunksOf own2′) (g .p2) x refl o (λ y _. refl) .at lives)
 
-  -- whatever the list then is
-  pub farewell-underway : (s : List ℕ)
-      → Underway g a len left l (lent s (l .first) (blanked (alone left (g .p1) a len) (find (l .own2) (suc (slot (g .p1) a))) (bits2 g) (l .second))
+  pub farewell-underway : Underway g a len left l (cells (l .first) (blanked (alone left (g .p1) a len) (find (l .own2) (suc (slot (g .p1) a))) (bits2 g) (l .second))
       (blanked (alone left (g .p2) a len) (find (l .own3) (suc (v2 .serving a))) (bits3 g) (l .third)) own2′ own3′)
-  farewell-underway s = record {
+  farewell-underway = record {
     sized = w .sound .sized;
     prefix = w .prefix;
     room = roomOf l;

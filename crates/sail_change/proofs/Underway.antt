@@ -9,7 +9,7 @@ use Rattle.routes.specs.Route.{Prefix}
 use Rattle.routes.specs.declared.Route.{Route}
 use Rattle.chain.specs.Words.{routesIn}
 use Rattle.chain.specs.Cover.{Ready}
-use Rattle.sail.specs.Lent.{Lent, cellsOf}
+use Rattle.sail.specs.Lent.{Lent, Cells}
 use Rattle.sail.specs.Level.{Chunks, chunksOf, noChunks, level1, level2, level3}
 use Rattle.sail.specs.Sizes.{Sized, Celled}
 use Rattle.sail.specs.declared.geometry.Geometry.{Geometry}
@@ -20,8 +20,8 @@ use Rattle.sail_paint.specs.Stale.{meets, staleBelow, Right, Stale, Repainted, 
 use Rattle.sail_paint.proofs.Rights.{repainted-asked}
 use Rattle.sail_change.proofs.Still.{meets-none, Held, held-right}
 
--- l is the table before the change, u the one under way, and rs the routes that then stand
-pub record Underway (g : Geometry) (a len : ℕ) (rs : List Route) (l u : Lent) : Type 0 where
+-- l is what was lent before the change, u the cells and owners under way, and rs the routes that then stand
+pub record Underway (g : Geometry) (a len : ℕ) (rs : List Route) (l : Lent) (u : Cells) : Type 0 where
   pub sized : Sized g l
   pub prefix : Prefix a len
   pub room : ℕ
@@ -30,8 +30,8 @@ pub record Underway (g : Geometry) (a len : ℕ) (rs : List Route) (l u : Lent) 
   pub second : Held rs a len (level1 g) (level1 g) (g .p2) (l .own2) (u .own2) (l .second) (u .second)
   pub third : Held rs a len (level2 g (chunksOf (l .own2))) (level2 g (chunksOf (u .own2))) 32 (l .own3) (u .own3) (l .third) (u .third)
 
-module _ (g : Geometry) (a len : ℕ) (rs : List Route) (l u : Lent) (w : Underway g a len rs l u) where
-  still-celled : Celled g (cellsOf u)
+module _ (g : Geometry) (a len : ℕ) (rs : List Route) (l : Lent) (u : Cells) (w : Underway g a len rs l u) where
+  still-celled : Celled g u
   still-celled =
       let z = w .sized in
       record {
@@ -70,7 +70,7 @@ module _ (g : Geometry) (a len : ℕ) (rs : List Route) (l u : Lent) (w : Underw
       (w .frame .third)
 
   -- the routes of the words are those that then stand
-  pub underway-stale : (ws par : List ℕ) → Ready ws par → routesIn ws ≡ rs → Stale g ws par a len (cellsOf u)
+  pub underway-stale : (ws par : List ℕ) → Ready ws par → routesIn ws ≡ rs → Stale g ws par a len u
   underway-stale ws par ready e = record {
     ready = ready;
     celled = still-celled;
@@ -83,5 +83,5 @@ module _ (g : Geometry) (a len : ℕ) (rs : List Route) (l u : Lent) (w : Underw
   }
 
   -- and once it is painted again, the cells are those that the routes and owners ask for
-  pub underway-asked : (first second third : List ℕ) → Repainted g rs (cellsOf u) first second third → AsAsked g rs (cellsOf u) first second third
-  underway-asked = repainted-asked g rs (cellsOf u) still-celled (w .second .clear) (w .third .clear)
+  pub underway-asked : (first second third : List ℕ) → Repainted g rs u first second third → AsAsked g rs u first second third
+  underway-asked = repainted-asked g rs u still-celled (w .second .clear) (w .third .clear)

@@ -2,12 +2,11 @@
 use mathlib.Core.Bool.{Bool, true, not, _&&_, cond}
 use mathlib.Core.List.{List}
 use mathlib.Core.Path.{_≡_}
-use Prim.Native.Nat.{ℕ, _+_, _-_, _*_, _^_, _≤_, _<_}
+use Prim.Native.Nat.{ℕ, _+_, _*_, _^_, _≤_, _<_}
 use lib.Dec.{ltb}
 use lib.ListN.{length, set}
 use Rattle.bits.specs.Slot.{slot}
 use Rattle.standing.specs.Cells.{long}
-use Rattle.routes.specs.Record.{routesOf, Records}
 use Rattle.routes.specs.declared.Route.{Route}
 use Rattle.plan.specs.Paint.{filled}
 use Rattle.sail_theory.specs.Render.{find}
@@ -39,14 +38,3 @@ pub record Closing (closes : Bool) (own cells : List ℕ) (c d : ℕ) : Type 0 w
 -- level p: one that is to be opened, where rs are the routes before it comes, and to be closed, where they are those after it is gone.
 unfoldable pub alone : List Route → ℕ → ℕ → ℕ → Bool
 alone rs p a len = ltb p len && not (long rs p (slot p a))
-
--- n good records, and a level
-pub record Levelled (s : List ℕ) (n p : ℕ) : Type 0 where
-  pub records : Records s n
-  pub level : p ≤ 32
-
--- where the prefix alone needed a chunk, the cell v names it: it is one of a pool of chunks of 2 ^ d cells that hang from cells of level p
-pub record Closable (s : List ℕ) (n p a len v d : ℕ) (own cells : List ℕ) : Type 0 where
-  pub levelled : Levelled s n p
-  pub some : 1 ≤ v
-  pub closing : Closing (alone (routesOf s n) p a len) own cells (v - 1) d

@@ -1,5 +1,4 @@
 // What the calls that change a SAIL table by one route do, step by step.
-pub mod alone;
 pub mod chunks;
 pub mod opening;
 pub mod trail;

@@ -23,16 +23,20 @@ use Rattle.sail.specs.Lent.{Lent, lent, cells}
 use Rattle.sail.specs.Level.{Level, Chunks, chunksOf, noChunks, below, level1, level2}
 use Rattle.sail.specs.declared.geometry.Geometry.{Geometry}
 use Rattle.sail.specs.declared.table.Table.{Table}
-use Rattle.sail_paint.specs.Stale.{meets, staleBelow, Right, Repainted}
+use Rattle.sail_paint.specs.Stale.{meets, staleBelow, Right, Repainted, AsAsked}
 use Rattle.sail_paint.specs.Pending.{Pending}
 use Rattle.sail_paint.proofs.Rights.{repainted-asked}
-use Rattle.sail_theory.specs.Render.{Fits, roomOf}
+use Rattle.sail_theory.specs.Render.{rendered, Fits, roomOf}
 use Rattle.sail_theory.specs.Calls.{Owners, settled, noOwners, inputRoutes}
 use Rattle.sail_theory.proofs.Places.{chunk-lt, live-owner}
+use Rattle.sail_theory.proofs.Pools.{length-pool, pool-shows}
 use Rattle.sail_theory.proofs.Ends.{any-some}
 use Rattle.sail.proofs.Fresh.{zeros}
 use Rattle.sail_theory.proofs.Loads.{Fronts, fronts-none, settles}
 use Rattle.sail_make.specs.Fill.{padded}
+use Rattle.sail_counts.specs.Counted.{Counts}
+use Rattle.sail_counts.specs.Tick.{Uncounted}
+use Rattle.sail_counts.proofs.Tallies.{counts-are}
 use Rattle.sail_owners.specs.Owners.{owners, Ownable}
 use Rattle.sail_load.specs.Renew.{Bare, Renewable, anew}
 use Rattle.sail_load.proofs.Lists.{padded-written}
@@ -154,14 +158,46 @@ module _ (t : Table) (l : Lent) (input : List ℕ) (w : Renewable t input l) whe
             put ∙ ap (padded input) e ∙ padded-written input bytes (w .readable) (roomOf l)
             (omega (arith, w .loadable .roomy, length-routes input (length input / 8)))
 
-        renews-then : Repainted g rs (cells (l .first) second third (o .own2) (o .own3)) a b c → lent list a b c (o .own2) (o .own3) ≡ anew t l input
-        renews-then p′ =
-            let p = repainted-asked g rs _ (bare-then .celled)
-            (record { blank = λ q _ _. bare-then .zero2 q }) (record { blank = λ q _ _. bare-then .zero3 q }) a b c p′ in
-            λ i. record { list = listed i; first = p .is-first i; second = p .is-second i; third = p .is-third i; own2 = o .own2; own3 = o .own3 }
+        -- the cells are painted, and all counts are 0
+        module _ (painted : Repainted g rs (cells (l .first) second third own2 own3) a b c) (c1 c2 : List ℕ)
+            (n1 : c1 ≡ replicate (length (l .long1)) 0) (n2 : c2 ≡ replicate (length (l .long2)) 0) where
+          asked : AsAsked g rs (cells (l .first) second third own2 own3) a b c
+          asked = repainted-asked g rs _ (bare .celled)
+              (record { blank = λ q _ _. bare .zero2 q }) (record { blank = λ q _ _. bare .zero3 q }) a b c painted
 
-        pub renews : Repainted g rs (cells (l .first) second third own2 own3) a b c → lent list a b c own2 own3 ≡ anew t l input
-        renews =
-            subst
-            (λ (x : Owners). Repainted g rs (cells (l .first) second third (x .own2) (x .own3)) a b c → lent list a b c (x .own2) (x .own3) ≡ anew t l input)
-            (sym owned) renews-then
+          many1 : length c1 ≡ 2 ^ g .p1
+          many1 = ap length n1 ∙ length-replicate (length (l .long1)) 0 ∙ w .loadable .sized .counts1
+
+          many2 : length c2 ≡ length own2 * 2 ^ bits2 g
+          many2 =
+              ap length n2 ∙ length-replicate (length (l .long2)) 0 ∙ w .loadable .sized .counts2
+              ∙ sym (ap length s2 ∙ length-replicate (length (l .second)) 0) ∙ bare .celled .cells2
+
+          pub uncounted : Uncounted g input (length input / 8) a own2 c1 c2
+          uncounted = record {
+            valid = w .loadable .sized .valid;
+            records = w .readable .records;
+            cells1 = ap length (asked .is-first) ∙ length-pool rs (level1 g) (chunksOf own2);
+            shows1 = rw (asked .is-first) (pool-shows rs (level1 g) (chunksOf own2) (bare .fits2));
+            counts1 = many1;
+            counts2 = many2;
+            zero1 = λ q. rw n1 (zeros (length (l .long1)) q);
+            zero2 = λ q. rw n2 (zeros (length (l .long2)) q);
+          }
+
+          pub renews : (long1 long2 : List ℕ) → Counts rs g own2 long1 long2 → length long1 ≡ length c1 → length long2 ≡ length c2
+              → lent list a b c own2 own3 long1 long2 ≡ anew t l input
+          renews long1 long2 k e1 e2 =
+              let are = counts-are g (w .loadable .sized .valid) rs own2 long1 long2 k (e1 ∙ many1) (e2 ∙ many2) in
+              let these : lent list a b c own2 own3 long1 long2 ≡ rendered g (roomOf l) rs own2 own3
+              = λ i. record {
+                list = listed i;
+                first = asked .is-first i;
+                second = asked .is-second i;
+                third = asked .is-third i;
+                own2 = own2;
+                own3 = own3;
+                long1 = are .0 i;
+                long2 = are .1 i;
+              } in
+              these ∙ ap (λ (x : Owners). rendered g (roomOf l) rs (x .own2) (x .own3)) owned

@@ -55,10 +55,12 @@ fn judge(
     third: &[u16],
     own2: &[u32],
     own3: &[u32],
+    long1: &[u16],
+    long2: &[u16],
 ) -> Loaded
-    ensures { λ r. ⌜ saysLoaded r ≡ loadSaid t (lent (now (list .entry)) (now (first .entry)) (now (second .entry)) (now (third .entry)) (now (own2 .entry)) (now (own3 .entry))) (now (input .entry)) ⌝ }
+    ensures { λ r. ⌜ saysLoaded r ≡ loadSaid t (lent (now (list .entry)) (now (first .entry)) (now (second .entry)) (now (third .entry)) (now (own2 .entry)) (now (own3 .entry)) (now (long1 .entry)) (now (long2 .entry))) (now (input .entry)) ⌝ }
 {
-    let z = sizes(t, list, first, second, third, own2, own3);
+    let z = sizes(t, list, first, second, third, own2, own3, long1, long2);
     if z != 0 {
         return Loaded::Refused(z);
     }
@@ -95,12 +97,36 @@ pub fn load(
     third: &mut [u16],
     own2: &mut [u32],
     own3: &mut [u32],
+    long1: &mut [u16],
+    long2: &mut [u16],
 ) -> Changed
-    ensures { λ r. ⌜ MeetsLoad t (lent (now (list .entry)) (now (first .entry)) (now (second .entry)) (now (third .entry)) (now (own2 .entry)) (now (own3 .entry))) (now (input .entry)) r (lent (now (list .exit)) (now (first .exit)) (now (second .exit)) (now (third .exit)) (now (own2 .exit)) (now (own3 .exit))) ⌝ }
+    ensures { λ r. ⌜ MeetsLoad t (lent (now (list .entry)) (now (first .entry)) (now (second .entry)) (now (third .entry)) (now (own2 .entry)) (now (own3 .entry)) (now (long1 .entry)) (now (long2 .entry))) (now (input .entry)) r (lent (now (list .exit)) (now (first .exit)) (now (second .exit)) (now (third .exit)) (now (own2 .exit)) (now (own3 .exit)) (now (long1 .exit)) (now (long2 .exit))) ⌝ }
 {
-    let answer = judge(t, input, list, first, second, third, own2, own3);
+    let answer = judge(
+        t,
+        input,
+        list,
+        first,
+        second,
+        third,
+        own2,
+        own3,
+        long1,
+        long2,
+    );
     if accepts(answer) {
-        renew(t, input, list, first, second, third, own2, own3);
+        renew(
+            t,
+            input,
+            list,
+            first,
+            second,
+            third,
+            own2,
+            own3,
+            long1,
+            long2,
+        );
         let g = t.geometry;
         let count = (input.len() / 8) as u32;
         return Changed {

@@ -1,4 +1,4 @@
--- What make leaves and says. Assumes nothing.
+-- What make leaves and says.
 use mathlib.Core.Path.{_≡_, refl, sym, _∙_}
 use mathlib.Core.List.{List, []}
 use Prim.Native.Nat.{ℕ, zero, suc}
@@ -21,14 +21,15 @@ pub or-refused : (n : ℕ) (s : Said) → (n ≡ 0 → ⊥) → orSay n s ≡ re
 or-refused zero s h = absurd (h refl)
 or-refused (suc n) s h = refl
 
-pub blanked : (l : Lent) (list first second third own2 own3 : List ℕ)
+pub blanked : (l : Lent) (list first second third own2 own3 long1 long2 : List ℕ)
     → list ≡ filled (l .list) 0 (length (l .list)) 0 → first ≡ replicate (length (l .first)) 32768 → second ≡ replicate (length (l .second)) 0
     → third ≡ replicate (length (l .third)) 0 → own2 ≡ replicate (length (l .own2)) 0 → own3 ≡ replicate (length (l .own3)) 0
-    → lent list first second third own2 own3 ≡ freshLent l
+    → long1 ≡ replicate (length (l .long1)) 0 → long2 ≡ replicate (length (l .long2)) 0
+    → lent list first second third own2 own3 long1 long2 ≡ freshLent l
 unfolding freshLent
-blanked l list first second third own2 own3 a b c d e f =
+blanked l list first second third own2 own3 long1 long2 a b c d e f g h =
     let z = a ∙ filled-whole (l .list) (length (l .list)) 0 refl in
-    λ i. record { list = z i; first = b i; second = c i; third = d i; own2 = e i; own3 = f i }
+    λ i. record { list = z i; first = b i; second = c i; third = d i; own2 = e i; own3 = f i; long1 = g i; long2 = h i }
 
 module _ (t : Table) (l : Lent) (z : ℕ) (check : SizesTold z (t .geometry) l) where
   pub make-refuses : (z ≡ 0 → ⊥) → out (saysMade (Refused z)) t l ≡ made t l

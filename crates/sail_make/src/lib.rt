@@ -32,8 +32,10 @@ fn blank(
     third: &mut [u16],
     own2: &mut [u32],
     own3: &mut [u32],
+    long1: &mut [u16],
+    long2: &mut [u16],
 )
-    ensures { λ _. ⌜ lent (now (list .exit)) (now (first .exit)) (now (second .exit)) (now (third .exit)) (now (own2 .exit)) (now (own3 .exit)) ≡ freshLent (lent (now (list .entry)) (now (first .entry)) (now (second .entry)) (now (third .entry)) (now (own2 .entry)) (now (own3 .entry))) ⌝ }
+    ensures { λ _. ⌜ lent (now (list .exit)) (now (first .exit)) (now (second .exit)) (now (third .exit)) (now (own2 .exit)) (now (own3 .exit)) (now (long1 .exit)) (now (long2 .exit)) ≡ freshLent (lent (now (list .entry)) (now (first .entry)) (now (second .entry)) (now (third .entry)) (now (own2 .entry)) (now (own3 .entry)) (now (long1 .entry)) (now (long2 .entry))) ⌝ }
 {
     zero8(list, 0);
     fill16(first, 32768);
@@ -41,6 +43,8 @@ fn blank(
     fill16(third, 0);
     zero32(own2);
     zero32(own3);
+    fill16(long1, 0);
+    fill16(long2, 0);
 }
 
 // A table with no routes, of the state's geometry. Nothing else of the old table is read.
@@ -52,17 +56,19 @@ pub fn make(
     third: &mut [u16],
     own2: &mut [u32],
     own3: &mut [u32],
+    long1: &mut [u16],
+    long2: &mut [u16],
 ) -> Fresh
-    ensures { λ r. ⌜ MeetsMake t (lent (now (list .entry)) (now (first .entry)) (now (second .entry)) (now (third .entry)) (now (own2 .entry)) (now (own3 .entry))) r (lent (now (list .exit)) (now (first .exit)) (now (second .exit)) (now (third .exit)) (now (own2 .exit)) (now (own3 .exit))) ⌝ }
+    ensures { λ r. ⌜ MeetsMake t (lent (now (list .entry)) (now (first .entry)) (now (second .entry)) (now (third .entry)) (now (own2 .entry)) (now (own3 .entry)) (now (long1 .entry)) (now (long2 .entry))) r (lent (now (list .exit)) (now (first .exit)) (now (second .exit)) (now (third .exit)) (now (own2 .exit)) (now (own3 .exit)) (now (long1 .exit)) (now (long2 .exit))) ⌝ }
 {
-    let z = sizes(t, list, first, second, third, own2, own3);
+    let z = sizes(t, list, first, second, third, own2, own3, long1, long2);
     if z != 0 {
         return Fresh {
             answer: Made::Refused(z),
             table: t,
         };
     }
-    blank(list, first, second, third, own2, own3);
+    blank(list, first, second, third, own2, own3, long1, long2);
     let g = t.geometry;
     Fresh {
         answer: Made::Done,

@@ -36,7 +36,7 @@ state g = record { geometry = g; count = 0 }
 abbrev shape : Geometry → List ℕ → List ℕ → List ℕ → Lent
 shape g input own2 own3 =
     lent (replicate (length input / 8 * 8) 0) (replicate (2 ^ g .p1) 0) (replicate (length own2 * 2 ^ bits2 g) 0) (replicate (length own3 * 2 ^ bits3 g) 0)
-    own2 own3
+    own2 own3 (replicate (2 ^ g .p1) 0) (replicate (length own2 * 2 ^ bits2 g) 0)
 
 -- how far the pass over a pool has come: chunks before `free` are in use, and the last chunk opened is the last in use
 pub record Reached (own : List ℕ) (u : Pass) : Type 0 where
@@ -120,6 +120,8 @@ module _ (g : Geometry) (input start2 start3 : List ℕ) (w : Ownable g input st
     cells2 = length-replicate (length start2 * 2 ^ bits2 g) 0;
     few3 = w .few3;
     cells3 = length-replicate (length start3 * 2 ^ bits3 g) 0;
+    counts1 = length-replicate (2 ^ g .p1) 0;
+    counts2 = length-replicate (length start2 * 2 ^ bits2 g) 0 ∙ sym (length-replicate (length start2 * 2 ^ bits2 g) 0);
   }
 
   loadable : Loadable t l rs

@@ -1,6 +1,6 @@
 -- What the test goes through is soundness.
 use mathlib.Core.Path.{_≡_, refl, sym, ap, _∙_}
-use mathlib.Core.Bool.{Bool, true, false, true≢false}
+use mathlib.Core.Bool.{Bool, true, false, not, true≢false}
 use mathlib.Core.List.{List, []}
 use Prim.Native.Nat.{ℕ, suc, _+_, _-_, _*_, _/_, _%_, _^_, _≤_, _<_}
 use native.Mathlib.Nat.{mod-lt, mod-eq-of-lt, div-eq-of-lt, div-add-mod'}
@@ -16,17 +16,22 @@ use Rattle.routes.specs.Record.{Listed}
 use Rattle.routes.specs.Route.{Good}
 use Rattle.routes.proofs.Rows.{records-good}
 use Rattle.standing.proofs.Need.{none-longer}
-use Rattle.plan.proofs.Tells.{tells-same}
+use Rattle.chain.specs.Cover.{Ready}
+use Rattle.chain.specs.Words.{routesIn}
+use Rattle.plan.proofs.Tells.{tells-same, refuted, passed}
 use Rattle.sail.specs.Geometry.{bits2}
-use Rattle.sail.specs.Lent.{Lent, cellsOf}
+use Rattle.sail.specs.Lent.{Lent, Cells, cells, cellsOf}
 use Rattle.sail.specs.Level.{Level, deep, always, itself, liveIn, partOf, entry, chunksOf, below, level1, level2, level3}
-use Rattle.sail.specs.Sizes.{Sized}
-use Rattle.sail.specs.Sound.{Shows, Clear, Sound, standing}
+use Rattle.sail.specs.Sizes.{Sized, Celled}
+use Rattle.sail.specs.Sound.{Shows, AllLeaves, Clear, Sound, standing}
 use Rattle.sail.specs.declared.geometry.Geometry.{Geometry}
 use Rattle.sail.specs.declared.table.Table.{Table}
+use Rattle.sail.proofs.Fitting.{celled-of}
+use Rattle.sail_counts.specs.Counted.{Counts}
+use Rattle.sail_counts.specs.Test.{Countable}
 use Rattle.sail_theory.proofs.Places.{chunk-lt, live-owner, chunk-live, chunk-part}
 use Rattle.sail_pool.specs.Pool.{chunkOf, PoolOk, FreeAll}
-use Rattle.sail_sound.specs.Test.{root, PassedAll}
+use Rattle.sail_sound.specs.Test.{root, PassedAll, Beside, PassedTable}
 use Rattle.sail_pool.proofs.Cells.{Cell, cell-as, right-cell, cells-right, part-at}
 use Rattle.sail_pool.proofs.Chunks.{chunk-room}
 
@@ -143,24 +148,13 @@ module _ (p q : ℕ) (l : q < 2 ^ p) where
   pub root-at : partOf (entry root) p itself q ≡ itself q
   root-at = rw (div-eq-of-lt l, mod-eq-of-lt l) (omega arith)
 
-module _ (t : Table) (l : Lent) (s : Sized (t .geometry) l) (h : Listed (l .list) (t .count)) where
-  abbrev g : Geometry
-  g = t .geometry
-
-  abbrev rs : List Route
-  rs = standing t l
-
-  abbrev Test : Type 0
-  Test = PassedAll rs g (cellsOf l)
-
+-- what the test of the levels says of them, whatever else is lent
+module _ (rs : List Route) (g : Geometry) (l : Cells) (s : Celled g l) where
   abbrev v2 : Level
   v2 = level2 g (chunksOf (l .own2))
 
   abbrev v3 : Level
   v3 = level3 g (chunksOf (l .own2)) (chunksOf (l .own3))
-
-  good : Good rs
-  good = records-good (l .list) (t .count) (h .records)
 
   inside : (q : ℕ) → q < length (l .first) → q < 2 ^ g .p1
   inside q u = rw (s .cells1) at u
@@ -176,45 +170,116 @@ module _ (t : Table) (l : Lent) (s : Sized (t .geometry) l) (h : Listed (l .list
   to-root = pool-same rs (g .p2) (bits2 g) (l .first) always _ itself _ (l .own2) (l .second) (l .own3) (λ q u. sym (root-live (g .p1) q (inside q u)))
       (λ q u. sym (root-at (g .p1) q (inside q u)))
 
-  passed-sound : Test → Sound t l
-  passed-sound k =
-      let pool2 = from-root (k .live .pool2) in
-      record {
-        sized = s;
-        listed = h;
-        serves = record {
-          first = shows-of rs (level1 g) (l .first) (l .own2) (s .few2)
-              (λ q u v. cell-as rs (g .p1) (l .own2) (omega arith) refl (omega arith)
-              (right-cell rs (g .p1) (l .own2) 0 (l .first) 1 (length (l .first)) (k .live .cells1) q (rw (s .cells1) u)))
-              (pool-named rs (level1 g) (g .p2) (l .first) (l .own2) (l .second) (l .own3) (s .cells1) (s .cells2) pool2);
-          second = shows-of rs v2 (l .second) (l .own3) (s .few3)
-              (pool-asked rs (level1 g) (g .p2) (l .first) (l .own2) (l .second) (l .own3) (s .cells1) (s .cells2) pool2)
-              (pool-named rs v2 32 (l .second) (l .own3) (l .third) [] (s .cells2) (s .cells3) (k .live .pool3));
-          third = record {
-            leaf = λ q i u. pool-asked rs v2 32 (l .second) (l .own3) (l .third) [] (s .cells2) (s .cells3) (k .live .pool3) q i u .leaf (none-longer rs _ good);
-          };
-        };
-        clear2 = free-clear rs (level1 g) (g .p2) (l .first) (l .own2) (l .second) (l .own3) (s .cells1) (s .cells2) (k .free2);
-        clear3 = free-clear rs v2 32 (l .second) (l .own3) (l .third) [] (s .cells2) (s .cells3) (k .free3);
-      }
+  module _ (k : PassedAll rs g l) where
+    pool2 : Pool2 always itself
+    pool2 = from-root (k .live .pool2)
 
-  sound-passed : Sound t l → Test
-  sound-passed w = record {
+    pub passed-first : Shows rs (level1 g) (chunksOf (l .own2)) (entry (l .first))
+    passed-first = shows-of rs (level1 g) (l .first) (l .own2) (s .few2)
+        (λ q u v. cell-as rs (g .p1) (l .own2) (omega arith) refl (omega arith)
+        (right-cell rs (g .p1) (l .own2) 0 (l .first) 1 (length (l .first)) (k .live .cells1) q (rw (s .cells1) u)))
+        (pool-named rs (level1 g) (g .p2) (l .first) (l .own2) (l .second) (l .own3) (s .cells1) (s .cells2) pool2)
+
+    pub passed-second : Shows rs v2 (chunksOf (l .own3)) (entry (l .second))
+    passed-second = shows-of rs v2 (l .second) (l .own3) (s .few3)
+        (pool-asked rs (level1 g) (g .p2) (l .first) (l .own2) (l .second) (l .own3) (s .cells1) (s .cells2) pool2)
+        (pool-named rs v2 32 (l .second) (l .own3) (l .third) [] (s .cells2) (s .cells3) (k .live .pool3))
+
+    pub passed-third : Good rs → AllLeaves rs v3 (entry (l .third))
+    passed-third good = record {
+      leaf = λ q i u. pool-asked rs v2 32 (l .second) (l .own3) (l .third) [] (s .cells2) (s .cells3) (k .live .pool3) q i u .leaf (none-longer rs _ good);
+    }
+
+    pub passed-clear2 : Clear v2 (entry (l .second))
+    passed-clear2 = free-clear rs (level1 g) (g .p2) (l .first) (l .own2) (l .second) (l .own3) (s .cells1) (s .cells2) (k .free2)
+
+    pub passed-clear3 : Clear v3 (entry (l .third))
+    passed-clear3 = free-clear rs v2 32 (l .second) (l .own3) (l .third) [] (s .cells2) (s .cells3) (k .free3)
+
+  -- and back
+  pub levels-passed : Good rs → Shows rs (level1 g) (chunksOf (l .own2)) (entry (l .first)) → Shows rs v2 (chunksOf (l .own3)) (entry (l .second))
+      → AllLeaves rs v3 (entry (l .third)) → Clear v2 (entry (l .second)) → Clear v3 (entry (l .third)) → PassedAll rs g l
+  levels-passed good first second third clear2 clear3 = record {
     live = record {
       cells1 = cells-right rs (g .p1) (l .own2) 0 (l .first) 1 (length (l .first)) (λ q u.
-          cell-as rs (g .p1) (l .own2) (omega arith) refl (omega arith)
-          (shows-asked rs (level1 g) (l .first) (l .own2) (w .serves .first) q (inside q u) refl));
+          cell-as rs (g .p1) (l .own2) (omega arith) refl (omega arith) (shows-asked rs (level1 g) (l .first) (l .own2) first q (inside q u) refl));
       pool2 = to-root (pool-of rs (level1 g) (g .p2) (l .first) (l .own2) (l .second) (l .own3) (s .cells1) (s .cells2)
-          (shows-asked rs v2 (l .second) (l .own3) (w .serves .second)) (shows-named rs (level1 g) (l .first) (l .own2) (w .serves .first)));
-      pool3 = pool-of rs v2 32 (l .second) (l .own3) (l .third) [] (s .cells2) (s .cells3) third-asked
-          (shows-named rs v2 (l .second) (l .own3) (w .serves .second));
+          (shows-asked rs v2 (l .second) (l .own3) second) (shows-named rs (level1 g) (l .first) (l .own2) first));
+      pool3 = pool-of rs v2 32 (l .second) (l .own3) (l .third) [] (s .cells2) (s .cells3) third-asked (shows-named rs v2 (l .second) (l .own3) second);
     };
-    free2 = clear-free rs (level1 g) (g .p2) (l .first) (l .own2) (l .second) (l .own3) (s .cells1) (s .cells2) (w .clear2);
-    free3 = clear-free rs v2 32 (l .second) (l .own3) (l .third) [] (s .cells2) (s .cells3) (w .clear3);
+    free2 = clear-free rs (level1 g) (g .p2) (l .first) (l .own2) (l .second) (l .own3) (s .cells1) (s .cells2) clear2;
+    free3 = clear-free rs v2 32 (l .second) (l .own3) (l .third) [] (s .cells2) (s .cells3) clear3;
   }
     where
       third-asked : Asked rs v3 (l .third) []
-      third-asked q i u = record { leaf = λ e. w .serves .third .leaf q i u; node = λ e. absurd (true≢false (sym e ∙ none-longer rs _ good)) }
+      third-asked q i u = record { leaf = λ e. third .leaf q i u; node = λ e. absurd (true≢false (sym e ∙ none-longer rs _ good)) }
+
+  -- what the test of the counts rests on
+  pub countable : (ws par : List ℕ) → Ready ws par → routesIn ws ≡ rs → (long1 long2 : List ℕ) → Beside (l .first) (l .second) long1 long2 → PassedAll rs g l
+      → Countable ws g (l .first) (l .second) (l .own2) (l .own3) long1 long2
+  countable ws par ready e long1 long2 z k = record {
+    words = ready .words;
+    valid = s .valid;
+    cells1 = s .cells1;
+    few2 = s .few2;
+    cells2 = s .cells2;
+    few3 = s .few3;
+    counts1 = z .counts1;
+    counts2 = z .counts2;
+    shows1 = rw e (passed-first k);
+    shows2 = rw e (passed-second k);
+    clear2 = passed-clear2 k;
+  }
+
+module _ (t : Table) (l : Lent) (s : Sized (t .geometry) l) (h : Listed (l .list) (t .count)) where
+  abbrev rs : List Route
+  rs = standing t l
+
+  abbrev Test : Type 0
+  Test = PassedTable rs (t .geometry) (cellsOf l) (l .long1) (l .long2)
+
+  good : Good rs
+  good = records-good (l .list) (t .count) (h .records)
+
+  celled : Celled (t .geometry) (cellsOf l)
+  celled = celled-of (t .geometry) l s
+
+  passed-sound : Test → Sound t l
+  passed-sound k = record {
+    sized = s;
+    listed = h;
+    serves = record {
+      first = passed-first rs (t .geometry) (cellsOf l) celled (k .levels);
+      second = passed-second rs (t .geometry) (cellsOf l) celled (k .levels);
+      third = passed-third rs (t .geometry) (cellsOf l) celled (k .levels) good;
+    };
+    clear2 = passed-clear2 rs (t .geometry) (cellsOf l) celled (k .levels);
+    clear3 = passed-clear3 rs (t .geometry) (cellsOf l) celled (k .levels);
+    counted1 = k .counts .first;
+    counted2 = k .counts .second;
+  }
+
+  sound-passed : Sound t l → Test
+  sound-passed w = record {
+    levels = levels-passed rs (t .geometry) (cellsOf l) celled good (w .serves .first) (w .serves .second) (w .serves .third) (w .clear2) (w .clear3);
+    counts = record { first = w .counted1; second = w .counted2 };
+  }
 
   pub tells-sound : (b : Bool) → Tells b Test → Tells b (Sound t l)
   tells-sound b = tells-same passed-sound sound-passed
+
+-- as many counts as cells
+pub beside-of : (g : Geometry) (l : Lent) → Sized g l → Beside (l .first) (l .second) (l .long1) (l .long2)
+beside-of g l s = record { counts1 = s .counts1 ∙ sym (s .cells1); counts2 = s .counts2 }
+
+-- the answers of `table_ok`
+module _ (rs : List Route) (g : Geometry) (first second third own2 own3 long1 long2 : List ℕ) (b : Bool)
+    (levels : Tells b (PassedAll rs g (cells first second third own2 own3))) where
+  abbrev Table? : Type 0
+  Table? = PassedTable rs g (cells first second third own2 own3) long1 long2
+
+  pub levels-fail : not b ≡ true → Tells false Table?
+  levels-fail n = refuted levels n (λ h. h .levels)
+
+  pub counts-tell : not b ≡ false → (r : Bool) → Tells r (Counts rs g own2 long1 long2) → Tells r Table?
+  counts-tell n r = tells-same (λ k. record { levels = passed levels n; counts = k }) (λ h. h .counts)

@@ -1,4 +1,4 @@
--- The whole test as the code makes it, and what it answers. Assumes nothing.
+-- The whole test as the code makes it, and what it answers.
 use mathlib.Core.Path.{_≡_}
 use mathlib.Core.Bool.{Bool, true, false, not}
 use mathlib.Core.List.{List, _++_}
@@ -15,7 +15,7 @@ use Rattle.sail.specs.declared.table.Table.{Table}
 use Rattle.sail_theory.specs.Test.{sound?}
 use Rattle.sail_theory.proofs.Tells.{sound-tells}
 use Rattle.sail_list.specs.List.{Chained, Scratch}
-use Rattle.sail_sound.specs.Test.{PassedAll, Tried}
+use Rattle.sail_sound.specs.Test.{PassedTable, Tried}
 use Rattle.plan.proofs.Tells.{refuted, passed}
 use Rattle.sail_list.proofs.Fronts.{front-routes}
 use Rattle.sail_sound.proofs.Sounds.{tells-sound}
@@ -31,10 +31,10 @@ no-list t l b told e = tried t l false (refuted told e (λ w. w .listed))
 pub tried-sound : (t : Table) (l : Lent) (b : Bool) → Tried b t l → not b ≡ false → Sound t l
 tried-sound t l b k e = passed (k .tells) e
 
--- the levels beside the words of the list
-pub levels-tried : (t : Table) (l : Lent) (z : Sized (t .geometry) l) (b : Bool) (told : Tells b (Listed (l .list) (t .count))) (e : not b ≡ false) (ws par : List ℕ) (room : Scratch ws par)
+-- the levels and the counts beside the words of the list
+pub table-tried : (t : Table) (l : Lent) (z : Sized (t .geometry) l) (b : Bool) (told : Tells b (Listed (l .list) (t .count))) (e : not b ≡ false) (ws par : List ℕ) (room : Scratch ws par)
     (words : List ℕ) (kept : length words ≡ length (take (t .count) ws)) (chain : List ℕ) (k : Chained (l .list) (length (take (t .count) ws)) words chain) (r : Bool)
-    → Tells r (PassedAll (routesIn (take (t .count) (words ++ drop (t .count) ws))) (t .geometry) (cellsOf l)) → Tried r t l
-levels-tried t l z b told e ws par room words kept chain k r x =
+    → Tells r (PassedTable (routesIn (take (t .count) (words ++ drop (t .count) ws))) (t .geometry) (cellsOf l) (l .long1) (l .long2)) → Tried r t l
+table-tried t l z b told e ws par room words kept chain k r x =
     let x′ = rw (front-routes (l .list) (t .count) b told e ws par room words kept chain k) at x in
     tried t l r (tells-sound t l z (passed told e) r x′)

@@ -1,4 +1,4 @@
--- The whole test: what it goes through, and what it answers. Assumes nothing.
+-- The whole test: what it goes through, and what it answers.
 use mathlib.Core.Path.{_≡_}
 use mathlib.Core.Bool.{Bool}
 use mathlib.Core.List.{List, [], _∷_}
@@ -8,6 +8,7 @@ use Rattle.bits.specs.Tab.{Tells}
 use Rattle.routes.specs.declared.Route.{Route}
 use Rattle.plan.specs.Part.{Right}
 use Rattle.sail.specs.Geometry.{bits2, bits3}
+use Rattle.sail_counts.specs.Counted.{Counts}
 use Rattle.sail.specs.Lent.{Lent, Cells}
 use Rattle.sail.specs.Sound.{Sound}
 use Rattle.sail.specs.declared.geometry.Geometry.{Geometry}
@@ -30,6 +31,16 @@ pub record PassedAll (rs : List Route) (g : Geometry) (l : Cells) : Type 0 where
   pub live : Passed rs g l
   pub free2 : FreeAll (bits2 g) (l .own2) (l .second)
   pub free3 : FreeAll (bits3 g) (l .own3) (l .third)
+
+-- as many counts as first and second cells
+pub record Beside (first second long1 long2 : List ℕ) : Type 0 where
+  pub counts1 : length long1 ≡ length first
+  pub counts2 : length long2 ≡ length second
+
+-- the levels, and the counts of the first two
+pub record PassedTable (rs : List Route) (g : Geometry) (l : Cells) (long1 long2 : List ℕ) : Type 0 where
+  pub levels : PassedAll rs g l
+  pub counts : Counts rs g (l .own2) long1 long2
 
 -- the answer tells whether the table is sound, and is that of the test by which the calls are defined
 pub record Tried (r : Bool) (t : Table) (l : Lent) : Type 0 where

@@ -20,14 +20,16 @@ pub fn judged(
     third: &[u16],
     own2: &[u32],
     own3: &[u32],
+    long1: &[u16],
+    long2: &[u16],
 ) -> u8
-    ensures { λ r. ⌜ Judged r t (lent (now (list .entry)) (now (first .entry)) (now (second .entry)) (now (third .entry)) (now (own2 .entry)) (now (own3 .entry))) ⌝ }
+    ensures { λ r. ⌜ Judged r t (lent (now (list .entry)) (now (first .entry)) (now (second .entry)) (now (third .entry)) (now (own2 .entry)) (now (own3 .entry)) (now (long1 .entry)) (now (long2 .entry))) ⌝ }
 {
-    let s = sizes(t, list, first, second, third, own2, own3);
+    let s = sizes(t, list, first, second, third, own2, own3, long1, long2);
     if s != 0 {
         return s;
     }
-    if sound(t, list, first, second, third, own2, own3) {
+    if sound(t, list, first, second, third, own2, own3, long1, long2) {
         return 0;
     }
     5
@@ -68,10 +70,12 @@ pub fn report(
     third: &[u16],
     own2: &[u32],
     own3: &[u32],
+    long1: &[u16],
+    long2: &[u16],
 ) -> Reported
-    ensures { λ r. ⌜ MeetsReport t (lent (now (list .entry)) (now (first .entry)) (now (second .entry)) (now (third .entry)) (now (own2 .entry)) (now (own3 .entry))) r ⌝ }
+    ensures { λ r. ⌜ MeetsReport t (lent (now (list .entry)) (now (first .entry)) (now (second .entry)) (now (third .entry)) (now (own2 .entry)) (now (own3 .entry)) (now (long1 .entry)) (now (long2 .entry))) r ⌝ }
 {
-    let f = judged(t, list, first, second, third, own2, own3);
+    let f = judged(t, list, first, second, third, own2, own3, long1, long2);
     if f != 0 {
         return Reported::Refused(f);
     }

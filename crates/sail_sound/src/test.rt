@@ -1,13 +1,14 @@
-// The soundness test of a whole table: its list, then its three levels beside the routes of the list.
+// The soundness test of a whole table: its list, then its three levels and its counts beside the routes of the list.
 ghost use Rattle.bits.specs.Tab.{Tells};
 ghost use Rattle.chain.specs.Words.{routesIn};
 ghost use Rattle.chain.specs.Cover.{Ready};
 ghost use Rattle.sail.specs.Lent.{lent, cells};
 ghost use Rattle.sail.specs.Sizes.{Sized, Celled};
 ghost use Rattle.sail_list.specs.List.{Scratch};
-ghost use Rattle.sail_sound.specs.Test.{Passed, PassedAll, Tried};
+ghost use Rattle.sail_sound.specs.Test.{Passed, PassedAll, Beside, PassedTable, Tried};
 use sail::geometry::Geometry;
 use sail::table::Table;
+use sail_counts::test::counts_ok;
 use sail_list::chained;
 use sail_list::list_ok;
 use sail_pool::first_ok;
@@ -93,6 +94,30 @@ fn levels_ok(
     free_all(32 - g.p2, third, own3)
 }
 
+// The levels, and then the counts of the first two.
+fn table_ok(
+    ws: &[u64],
+    par: &[u16],
+    g: Geometry,
+    first: &[u16],
+    second: &[u16],
+    third: &[u16],
+    own2: &[u32],
+    own3: &[u32],
+    long1: &[u16],
+    long2: &[u16],
+) -> bool
+    requires { ⌜ Ready (now ws) (now par) ⌝ }
+    requires { ⌜ Celled g (cells (now first) (now second) (now third) (now own2) (now own3)) ⌝ }
+    requires { ⌜ Beside (now first) (now second) (now long1) (now long2) ⌝ }
+    ensures { λ r. ⌜ Tells r (PassedTable (routesIn (now (ws .entry))) g (cells (now (first .entry)) (now (second .entry)) (now (third .entry)) (now (own2 .entry)) (now (own3 .entry))) (now (long1 .entry)) (now (long2 .entry))) ⌝ }
+{
+    if !levels_ok(ws, par, g, first, second, third, own2, own3) {
+        return false;
+    }
+    counts_ok(ws, g, first, second, own2, own3, long1, long2)
+}
+
 // Whether a table of the right sizes is sound; `ws` and `par` are room for the words of its routes and their chain.
 pub fn sound_with(
     t: Table,
@@ -102,12 +127,14 @@ pub fn sound_with(
     third: &[u16],
     own2: &[u32],
     own3: &[u32],
+    long1: &[u16],
+    long2: &[u16],
     ws: &mut [u64],
     par: &mut [u16],
 ) -> bool
-    requires { ⌜ Sized (t .geometry) (lent (now list) (now first) (now second) (now third) (now own2) (now own3)) ⌝ }
+    requires { ⌜ Sized (t .geometry) (lent (now list) (now first) (now second) (now third) (now own2) (now own3) (now long1) (now long2)) ⌝ }
     requires { ⌜ Scratch (now ws) (now par) ⌝ }
-    ensures { λ r. ⌜ Tried r t (lent (now (list .entry)) (now (first .entry)) (now (second .entry)) (now (third .entry)) (now (own2 .entry)) (now (own3 .entry))) ⌝ }
+    ensures { λ r. ⌜ Tried r t (lent (now (list .entry)) (now (first .entry)) (now (second .entry)) (now (third .entry)) (now (own2 .entry)) (now (own3 .entry)) (now (long1 .entry)) (now (long2 .entry))) ⌝ }
 {
     let n = t.count as usize;
     if !list_ok(list, n) {
@@ -115,7 +142,18 @@ pub fn sound_with(
     }
     chained(list, &mut ws[..n], par);
     let g = t.geometry;
-    levels_ok(&ws[..n], par, g, first, second, third, own2, own3)
+    table_ok(
+        &ws[..n],
+        par,
+        g,
+        first,
+        second,
+        third,
+        own2,
+        own3,
+        long1,
+        long2,
+    )
 }
 
 // The same with room of its own.
@@ -127,11 +165,25 @@ pub fn sound(
     third: &[u16],
     own2: &[u32],
     own3: &[u32],
+    long1: &[u16],
+    long2: &[u16],
 ) -> bool
-    requires { ⌜ Sized (t .geometry) (lent (now list) (now first) (now second) (now third) (now own2) (now own3)) ⌝ }
-    ensures { λ r. ⌜ Tried r t (lent (now (list .entry)) (now (first .entry)) (now (second .entry)) (now (third .entry)) (now (own2 .entry)) (now (own3 .entry))) ⌝ }
+    requires { ⌜ Sized (t .geometry) (lent (now list) (now first) (now second) (now third) (now own2) (now own3) (now long1) (now long2)) ⌝ }
+    ensures { λ r. ⌜ Tried r t (lent (now (list .entry)) (now (first .entry)) (now (second .entry)) (now (third .entry)) (now (own2 .entry)) (now (own3 .entry)) (now (long1 .entry)) (now (long2 .entry))) ⌝ }
 {
     let mut ws = [0u64; 4096];
     let mut par = [0u16; 4353];
-    sound_with(t, list, first, second, third, own2, own3, &mut ws, &mut par)
+    sound_with(
+        t,
+        list,
+        first,
+        second,
+        third,
+        own2,
+        own3,
+        long1,
+        long2,
+        &mut ws,
+        &mut par,
+    )
 }

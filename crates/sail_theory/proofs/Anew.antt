@@ -1,31 +1,35 @@
 -- After any run the table is as good as one that is freshly loaded with its routes: that load is accepted, its list is the same to the byte,
--- every address gets the same hop and count of cells, and as many chunks are in use. Assumes nothing.
+-- every address gets the same hop and count of cells, as many chunks are in use, and the counts at first cells and on every address's walk are
+-- equal.
 use mathlib.Core.Path.{_≡_, sym, _∙_, ap, ap₂, subst}
-use mathlib.Core.List.{List}
-use mathlib.Core.Bool.{true}
+use mathlib.Core.List.{List, [], _∷_}
+use mathlib.Core.Bool.{true, cond}
 use Prim.Native.Nat.{ℕ, _/_, _^_, _≤_, _<_}
 use native.Mathlib.Omega.{arith}
 use lib.ListN.{length}
 use Rattle.routes.specs.Said.{accepts}
 use Rattle.routes.specs.Route.{Good}
-use Rattle.standing.specs.Cells.{need, best}
+use Rattle.bits.specs.Slot.{slot}
+use Rattle.standing.specs.Cells.{long, need, best}
+use Rattle.counts.specs.Counts.{howMany}
 use Rattle.routes.specs.Record.{written}
 use Rattle.routes.specs.declared.Route.{Route}
 use Rattle.routes.proofs.Rows.{length-routes, length-written, routes-written, written-listed}
 use Rattle.sail.specs.Lent.{Lent}
-use Rattle.sail.specs.Level.{chunksOf}
+use Rattle.sail.specs.Level.{chunksOf, level1}
 use Rattle.sail.specs.Sizes.{Sized}
 use Rattle.sail.specs.Sound.{Sound, standing, used, cellsRead}
-use Rattle.sail.specs.Walk.{hopSaid, lookupSaid}
+use Rattle.sail.specs.Walk.{hopSaid, lookupSaid, walkCounts}
 use Rattle.sail.specs.declared.geometry.Geometry.{Geometry}
 use Rattle.sail.specs.declared.table.Table.{Table}
-use Rattle.sail.proofs.Sounds.{standing-good, sail-serves, chunks-need}
-use Rattle.sail_theory.specs.Render.{roomOf}
+use Rattle.sail.proofs.Sounds.{standing-good, sail-serves, chunks-need, counts-serve}
+use Rattle.sail_theory.specs.Render.{roomOf, longs}
 use Rattle.sail_theory.specs.Calls.{inputRoutes, Out, loaded}
 use Rattle.sail_theory.specs.Facts.{SameSize, Holds, Loadable}
 use Rattle.sail_theory.specs.Runs.{Call, after, Carries, AsFresh}
 use Rattle.sail_theory.proofs.Chunks.{used-le}
 use Rattle.sail_theory.specs.Cases.{Readable}
+use Rattle.sail_theory.proofs.Rendered.{sound-rendered}
 use Rattle.sail_theory.proofs.Sizes.{size-sym, size-trans, sized-same}
 use Rattle.sail_theory.proofs.Loads.{load-is, loadable-holds}
 use Rattle.sail_theory.proofs.Runs.{run-is}
@@ -42,6 +46,19 @@ same-used t l u v s k g e =
       m .0 ∙ ap₂ (λ (x : Geometry) (rs : List Route). need rs (x .p1)) g e ∙ sym (n .0),
       m .1 ∙ ap₂ (λ (x : Geometry) (rs : List Route). need rs (x .p2)) g e ∙ sym (n .1),
     )
+
+pub same-longs : (t : Table) (l : Lent) (u : Table) (v : Lent) → Sound t l → Sound u v → u .geometry ≡ t .geometry → standing u v ≡ standing t l
+    → v .long1 ≡ l .long1
+same-longs t l u v s k g e =
+    sound-rendered u v k .is-long1 ∙ ap₂ (λ (x : Geometry) (rs : List Route). longs rs (level1 x)) g e ∙ sym (sound-rendered t l s .is-long1)
+
+pub same-walks : (t : Table) (l : Lent) (u : Table) (v : Lent) → Sound t l → Sound u v → u .geometry ≡ t .geometry → standing u v ≡ standing t l
+    → (a : ℕ) → a < 2 ^ 32 → walkCounts (u .geometry) v a ≡ walkCounts (t .geometry) l a
+same-walks t l u v s k g e a h =
+    counts-serve u v k a h
+    ∙ ap₂ (λ (x : Geometry) (rs : List Route).
+    howMany rs (x .p1) (slot (x .p1) a) ∷ cond (long rs (x .p1) (slot (x .p1) a)) (howMany rs (x .p2) (slot (x .p2) a) ∷ []) []) g e
+    ∙ sym (counts-serve t l s a h)
 
 -- a list of routes has a record input
 pub carried : (rs : List Route) → Good rs → length rs ≤ 4096 → Carries (written rs (length rs)) rs
@@ -94,8 +111,17 @@ module _ (t : Table) (l : Lent) (s : Sound t l) (u : Table) (v : Lent) (geo : u 
   pub fresh-used : (used (loaded u v input .lent .own2) ≡ used (l .own2)) × (used (loaded u v input .lent .own3) ≡ used (l .own3))
   fresh-used = same-used t l (loaded u v input .table) (loaded u v input .lent) s (fresh-holds .sound) (fresh-holds .geometry ∙ geo) (fresh-holds .routes ∙ routes-are)
 
+  pub fresh-longs : loaded u v input .lent .long1 ≡ l .long1
+  fresh-longs =
+      same-longs t l (loaded u v input .table) (loaded u v input .lent) s (fresh-holds .sound) (fresh-holds .geometry ∙ geo) (fresh-holds .routes ∙ routes-are)
+
+  pub fresh-walks : (a : ℕ) → a < 2 ^ 32 → walkCounts (loaded u v input .table .geometry) (loaded u v input .lent) a ≡ walkCounts (t .geometry) l a
+  fresh-walks =
+      same-walks t l (loaded u v input .table) (loaded u v input .lent) s (fresh-holds .sound) (fresh-holds .geometry ∙ geo) (fresh-holds .routes ∙ routes-are)
+
 -- Demand 3: after a run from a fresh table of t's geometry over arrays of l's sizes, a load of the standing routes into any (u, v) of that
--- geometry and these sizes is accepted, has the same list to the byte, looks the same, and uses as many chunks.
+-- geometry and these sizes is accepted, has the same list to the byte, looks the same, uses as many chunks, and counts the same at first cells and
+-- on every address's walk.
 pub run-as-fresh : (t : Table) (l : Lent) → Sized (t .geometry) l → (cs : List Call) (u : Table) (v : Lent) → u .geometry ≡ t .geometry → SameSize l v
     → (input : List ℕ) → Carries input (standing (after t l cs .table) (after t l cs .lent)) → AsFresh (after t l cs .table) (after t l cs .lent) (loaded u v input)
 run-as-fresh t l z cs u v geo size input c =
@@ -109,6 +135,8 @@ run-as-fresh t l z cs u v geo size input c =
       lookups = λ a h. sym (fresh-lookups _ _ (w .sound) u v geo′ size′ input c a h);
       chunks2 = sym (k .0);
       chunks3 = sym (k .1);
+      longs1 = sym (fresh-longs _ _ (w .sound) u v geo′ size′ input c);
+      longs2 = λ a h. sym (fresh-walks _ _ (w .sound) u v geo′ size′ input c a h);
     }
 
 -- there is such an input: the bytes of the standing routes

@@ -51,14 +51,19 @@ module _ (t : Table) (l : Lent) (z : Sized (t .geometry) l) (rs : List Route) (g
   sized : Sized (t .geometry) (lentOf t l rs o)
   sized = render-sized (t .geometry) (z .valid) (roomOf l) few rs good roomy (o .own2) (o .own3) few2 few3
 
+  seconds : length (lentOf t l rs o .second) ≡ length (l .second)
+  seconds = sized .cells2 ∙ ap (λ (n : ℕ). n * 2 ^ bits2 (t .geometry)) len2 ∙ sym (z .cells2)
+
   size : SameSize l (lentOf t l rs o)
   size = record {
     list = omega (arith, length-written rs (roomOf l), z .whole);
     first = sized .cells1 ∙ sym (z .cells1);
-    second = sized .cells2 ∙ ap (λ (n : ℕ). n * 2 ^ bits2 (t .geometry)) len2 ∙ sym (z .cells2);
+    second = seconds;
     third = sized .cells3 ∙ ap (λ (n : ℕ). n * 2 ^ bits3 (t .geometry)) len3 ∙ sym (z .cells3);
     chunks2 = len2;
     chunks3 = len3;
+    counts1 = sized .counts1 ∙ sym (z .counts1);
+    counts2 = sized .counts2 ∙ seconds ∙ sym (z .counts2);
   }
 
   pub render-holds : Fits rs (level1 (t .geometry)) (chunksOf (o .own2)) → Fits rs (level2 (t .geometry) (chunksOf (o .own2))) (chunksOf (o .own3))

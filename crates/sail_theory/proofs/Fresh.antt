@@ -11,6 +11,8 @@ use Rattle.standing.specs.Cells.{any, first}
 use Rattle.routes.specs.Record.{written}
 use Rattle.routes.specs.Said.{Said, accepted, accepts}
 use Rattle.routes.proofs.Rows.{length-written, zero-written}
+use Rattle.counts.proofs.Many.{many-none}
+use Rattle.counts.proofs.Stored.{length-tallies, tallies-counted}
 use Rattle.sail.specs.Lent.{Lent}
 use Rattle.sail.specs.Level.{Level, Chunks, chunksOf, noChunks, below, level1, level2}
 use Rattle.sail.specs.Sizes.{Sized}
@@ -18,7 +20,7 @@ use Rattle.sail.specs.Sound.{freshTable, freshLent}
 use Rattle.sail.specs.declared.geometry.Geometry.{Geometry}
 use Rattle.sail.specs.declared.table.Table.{Table}
 use Rattle.sail.proofs.Fresh.{zeros, best-none}
-use Rattle.sail_theory.specs.Render.{pool, Fits, roomOf}
+use Rattle.sail_theory.specs.Render.{pool, longs, Fits, roomOf}
 use Rattle.sail_theory.specs.Calls.{noOwners, makeSaid, Out, lentOf, made}
 use Rattle.sail_theory.specs.Facts.{Holds}
 use Rattle.sail_theory.proofs.Pools.{length-pool, pool-clear, pool-leaf}
@@ -59,6 +61,13 @@ module _ (t : Table) (l : Lent) (z : Sized (t .geometry) l) where
       let all : w .places ≡ n = ap (λ (x : ℕ). x * 2 ^ (p - v .bits)) (length-replicate m 0) ∙ sym e in
       constant 0 n (pool [] w k) (length-pool [] w k ∙ all) (λ q h. pool-clear [] w k .blank q (rw all h) (rw zeros))
 
+  -- nothing is counted there
+  free-longs : (v : Level) (m p n : ℕ) → n ≡ m * 2 ^ (p - v .bits) → replicate n 0 ≡ longs [] (below v (chunksOf (replicate m 0)) p)
+  free-longs v m p n e =
+      let w : Level = below v (chunksOf (replicate m 0)) p in
+      let all : w .places ≡ n = ap (λ (x : ℕ). x * 2 ^ (p - v .bits)) (length-replicate m 0) ∙ sym e in
+      constant 0 n (longs [] w) (length-tallies [] _ _ _ _ ∙ all) (λ q h. tallies-counted [] (w .bits) (w .places) (w .live) (w .at) .blank q (rw all h) (rw zeros))
+
   pub fresh-rendered : freshLent l ≡ lentOf t l [] (noOwners l)
   unfolding freshLent any
   fresh-rendered =
@@ -69,7 +78,10 @@ module _ (t : Table) (l : Lent) (z : Sized (t .geometry) l) where
       (λ q h. pool-leaf [] (level1 g) (chunksOf none2) q (rw (z .cells1) at h) refl refl ∙ rw best-none) in
       let e3 = free-pool (level1 g) (length (l .own2)) (g .p2) (chunksOf none3) (length (l .second)) (z .cells2) in
       let e4 = free-pool (level2 g (chunksOf none2)) (length (l .own3)) 32 noChunks (length (l .third)) (z .cells3) in
-      λ i. record { list = e1 i; first = e2 i; second = e3 i; third = e4 i; own2 = none2; own3 = none3 }
+      let e5 = constant 0 (length (l .long1)) (longs [] (level1 g)) (length-tallies [] _ _ _ _ ∙ sym (z .counts1))
+      (λ q h. tallies-counted [] (g .p1) _ _ _ .true-there q (rw (z .counts1) at h) refl ∙ many-none [] (g .p1) q refl) in
+      let e6 = free-longs (level1 g) (length (l .own2)) (g .p2) (length (l .long2)) (z .counts2 ∙ z .cells2) in
+      λ i. record { list = e1 i; first = e2 i; second = e3 i; third = e4 i; own2 = none2; own3 = none3; long1 = e5 i; long2 = e6 i }
 
   pub make-is : made t l ≡ record { said = accepted []; table = freshTable (t .geometry); lent = freshLent l }
   unfolding made

@@ -1,4 +1,5 @@
--- A table is sound exactly when its sizes are right, its list is good, its owners fit, and its cells are those that are rendered.
+-- A table is sound exactly when its sizes are right, its list is good, its owners fit, and its cells and counts are those
+-- that are rendered.
 use mathlib.Core.Path.{_≡_, sym, _∙_, ap, subst}
 use mathlib.Core.Bool.{true≢false}
 use mathlib.Core.List.{List}
@@ -10,6 +11,7 @@ use Rattle.routes.specs.Route.{Good}
 use Rattle.routes.specs.Record.{Listed}
 use Rattle.routes.specs.declared.Route.{Route}
 use Rattle.standing.proofs.Need.{none-longer}
+use Rattle.counts.proofs.Stored.{length-tallies, tallies-counted, counted-tallies}
 use Rattle.routes.proofs.Rows.{records-good, length-written, routes-written, written-listed}
 use Rattle.sail.specs.Geometry.{Valid}
 use Rattle.sail.specs.Lent.{Lent}
@@ -82,6 +84,8 @@ module _ (t : Table) (l : Lent) where
     is-third =
         shows-pool rs v3 noChunks (l .third) (last-shows rs (listed-good (s .listed)) v2 (chunksOf own3) (entry (l .third)) (s .serves .third))
         (s .sized .cells3) (s .clear3);
+    is-long1 = counted-tallies rs (v1 .bits) (v1 .places) (v1 .live) (v1 .at) (l .long1) (s .sized .counts1) (s .counted1);
+    is-long2 = counted-tallies rs (v2 .bits) (v2 .places) (v2 .live) (v2 .at) (l .long2) (s .sized .counts2 ∙ s .sized .cells2) (s .counted2);
   }
 
   pub rendered-sound : Rendered t l → Sound t l
@@ -95,6 +99,8 @@ module _ (t : Table) (l : Lent) where
     };
     clear2 = rw (w .is-second) (pool-clear rs v2 (chunksOf own3));
     clear3 = rw (w .is-third) (pool-clear rs v3 noChunks);
+    counted1 = rw (w .is-long1) (tallies-counted rs (v1 .bits) (v1 .places) (v1 .live) (v1 .at));
+    counted2 = rw (w .is-long2) (tallies-counted rs (v2 .bits) (v2 .places) (v2 .live) (v2 .at));
   }
 
 -- so a table that is rendered for a good list is sound where the owners fit, and its list holds that list
@@ -121,6 +127,8 @@ module _ (g : Geometry) (valid : Valid g) (room : ℕ) (few : room ≤ 4096) (rs
         cells2 = length-pool rs (level2 g (chunksOf own2)) (chunksOf own3);
         few3 = few3;
         cells3 = length-pool rs (level3 g (chunksOf own2) (chunksOf own3)) noChunks;
+        counts1 = length-tallies rs _ _ _ _;
+        counts2 = length-tallies rs _ _ _ _ ∙ sym (length-pool rs (level2 g (chunksOf own2)) (chunksOf own3));
       }
 
   pub render-sound : Fits rs (level1 g) (chunksOf own2) → Fits rs (level2 g (chunksOf own2)) (chunksOf own3) → Sound now shape
@@ -132,4 +140,6 @@ module _ (g : Geometry) (valid : Valid g) (room : ℕ) (few : room ≤ 4096) (rs
     is-first = ap {B = List ℕ} (λ (x : List Route). rendered g room x own2 own3 .first) (sym render-standing);
     is-second = ap {B = List ℕ} (λ (x : List Route). rendered g room x own2 own3 .second) (sym render-standing);
     is-third = ap {B = List ℕ} (λ (x : List Route). rendered g room x own2 own3 .third) (sym render-standing);
+    is-long1 = ap {B = List ℕ} (λ (x : List Route). rendered g room x own2 own3 .long1) (sym render-standing);
+    is-long2 = ap {B = List ℕ} (λ (x : List Route). rendered g room x own2 own3 .long2) (sym render-standing);
   })

@@ -1,5 +1,5 @@
 -- Arrays of the same sizes: what a call says of sizes and of what there is for routes is the same of both; and load and make read nothing
--- else of the old table. Assumes nothing.
+-- else of the old table.
 use mathlib.Core.Path.{_≡_, refl, sym, _∙_, ap, ap₂}
 use mathlib.Core.Bool.{true}
 use mathlib.Core.List.{List, []}
@@ -18,7 +18,7 @@ use Rattle.sail_theory.specs.Facts.{SameSize}
 use Rattle.sail_theory.proofs.Accepted.{outcome-accepted}
 
 pub size-refl : (l : Lent) → SameSize l l
-size-refl l = record { list = refl; first = refl; second = refl; third = refl; chunks2 = refl; chunks3 = refl }
+size-refl l = record { list = refl; first = refl; second = refl; third = refl; chunks2 = refl; chunks3 = refl; counts1 = refl; counts2 = refl }
 
 pub size-sym : (l u : Lent) → SameSize l u → SameSize u l
 size-sym l u a = record {
@@ -28,6 +28,8 @@ size-sym l u a = record {
   third = sym (a .third);
   chunks2 = sym (a .chunks2);
   chunks3 = sym (a .chunks3);
+  counts1 = sym (a .counts1);
+  counts2 = sym (a .counts2);
 }
 
 pub size-trans : (l u v : Lent) → SameSize l u → SameSize u v → SameSize l v
@@ -38,6 +40,8 @@ size-trans l u v a b = record {
   third = b .third ∙ a .third;
   chunks2 = b .chunks2 ∙ a .chunks2;
   chunks3 = b .chunks3 ∙ a .chunks3;
+  counts1 = b .counts1 ∙ a .counts1;
+  counts2 = b .counts2 ∙ a .counts2;
 }
 
 pub sized-same : (g : Geometry) (l u : Lent) → Sized g l → SameSize l u → Sized g u
@@ -50,6 +54,8 @@ sized-same g l u z s = record {
   cells2 = s .second ∙ z .cells2 ∙ ap (λ (n : ℕ). n * 2 ^ bits2 g) (sym (s .chunks2));
   few3 = rw (s .chunks3) (z .few3);
   cells3 = s .third ∙ z .cells3 ∙ ap (λ (n : ℕ). n * 2 ^ bits3 g) (sym (s .chunks3));
+  counts1 = s .counts1 ∙ z .counts1;
+  counts2 = s .counts2 ∙ z .counts2 ∙ sym (s .second);
 }
 
 module _ (t : Table) (l : Lent) (u : Table) (v : Lent) (geo : u .geometry ≡ t .geometry) (s : SameSize l v) where
@@ -58,7 +64,7 @@ module _ (t : Table) (l : Lent) (u : Table) (v : Lent) (geo : u .geometry ≡ t 
 
   pub fault-same : sizesFault (u .geometry) v ≡ sizesFault (t .geometry) l
   unfolding sizesFault sizesFit
-  fault-same = rw (geo, s .list, s .first, s .second, s .third, s .chunks2, s .chunks3)
+  fault-same = rw (geo, s .list, s .first, s .second, s .third, s .chunks2, s .chunks3, s .counts1, s .counts2)
 
   none-same : noOwners v ≡ noOwners l
   none-same = rw (s .chunks2, s .chunks3)
@@ -66,7 +72,7 @@ module _ (t : Table) (l : Lent) (u : Table) (v : Lent) (geo : u .geometry ≡ t 
   -- what make says and leaves depends on the geometry and the sizes alone
   pub make-blind : (makeSaid u v ≡ makeSaid t l) × (freshTable (u .geometry) ≡ freshTable (t .geometry)) × (freshLent v ≡ freshLent l)
   unfolding makeSaid freshLent
-  make-blind = (rw fault-same, rw geo, rw (s .list, s .first, s .second, s .third, s .chunks2, s .chunks3))
+  make-blind = (rw fault-same, rw geo, rw (s .list, s .first, s .second, s .third, s .chunks2, s .chunks3, s .counts1, s .counts2))
 
   -- "Load takes its geometry from the state and reads nothing else of the old table"
   module _ (input : List ℕ) where

@@ -1,4 +1,4 @@
--- The test of soundness tells exactly whether a table is sound. Assumes nothing.
+-- The test of soundness tells exactly whether a table is sound.
 use mathlib.Core.Path.{_≡_, _∙_, ap}
 use mathlib.Core.Logic.{_⊎_, inl, inr}
 use mathlib.Core.Bool.{Bool, true, false, not, _&&_, _||_, cond}
@@ -150,6 +150,8 @@ module _ (t : Table) (l : Lent) where
       let d = and-split (fits? _ _ _) _ (c .1) in
       let x = and-split (same (l .first) (asAsked t l .first)) _ (d .1) in
       let y = and-split (same (l .second) (asAsked t l .second)) _ (x .1) in
+      let z = and-split (same (l .third) (asAsked t l .third)) _ (y .1) in
+      let u = and-split (same (l .long1) (asAsked t l .long1)) _ (z .1) in
       record {
         sized = sized-of (t .geometry) l (eqb-true _ _ (a .0));
         listed = listed-tells (l .list) (t .count) .0 (b .0);
@@ -157,7 +159,9 @@ module _ (t : Table) (l : Lent) where
         fits3 = fits-tells _ _ _ .0 (d .0);
         is-first = same-true _ _ (x .0);
         is-second = same-true _ _ (y .0);
-        is-third = same-true _ _ (y .1);
+        is-third = same-true _ _ (z .0);
+        is-long1 = same-true _ _ (u .0);
+        is-long2 = same-true _ _ (u .1);
       }
 
   rendered-true : Rendered t l → sound? t l ≡ true
@@ -167,7 +171,10 @@ module _ (t : Table) (l : Lent) where
       (both (listed-tells (l .list) (t .count) .1 (w .listed))
       (both (fits-tells _ _ _ .1 (w .fits2))
       (both (fits-tells _ _ _ .1 (w .fits3))
-      (both (true-same _ _ (w .is-first)) (both (true-same _ _ (w .is-second)) (true-same _ _ (w .is-third)))))))
+      (both (true-same _ _ (w .is-first))
+      (both (true-same _ _ (w .is-second))
+      (both (true-same _ _ (w .is-third))
+      (both (true-same _ _ (w .is-long1)) (true-same _ _ (w .is-long2)))))))))
 
   pub sound-tells : Tells (sound? t l) (Sound t l)
   sound-tells = ((λ e. rendered-sound t l (true-rendered e)), (λ s. rendered-true (sound-rendered t l s)))

@@ -24,6 +24,8 @@ pub record SameSize (l u : Lent) : Type 0 where
   pub third : length (u .third) ≡ length (l .third)
   pub chunks2 : length (u .own2) ≡ length (l .own2)
   pub chunks3 : length (u .own3) ≡ length (l .own3)
+  pub counts1 : length (u .long1) ≡ length (l .long1)
+  pub counts2 : length (u .long2) ≡ length (l .long2)
 
 -- the same in the three arrays of cells
 pub record SameCells (l u : Lent) : Type 0 where

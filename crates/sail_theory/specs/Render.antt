@@ -1,4 +1,4 @@
--- What a table holds, as a function of its geometry, its routes and its owners. Assumes nothing.
+-- What a table holds, as a function of its geometry, its routes and its owners.
 use mathlib.Core.Bool.{Bool, true, cond}
 use mathlib.Core.List.{List}
 use mathlib.Core.Path.{_≡_}
@@ -7,6 +7,7 @@ use lib.ListN.{length, getD}
 use Rattle.bits.specs.Tab.{tabulate}
 use Rattle.routes.specs.Record.{written, Listed}
 use Rattle.routes.specs.declared.Route.{Route}
+use Rattle.counts.specs.Counts.{tallies}
 use Rattle.sail.specs.Lent.{Lent}
 use Rattle.sail.specs.Level.{Level, Chunks, chunkFor, deep, leafAt, chunksOf, noChunks, level1, level2, level3}
 use Rattle.sail.specs.Sizes.{Sized}
@@ -30,6 +31,10 @@ block n live value = tabulate n (λ q. cond (live q) (value q) 0)
 abbrev pub pool : List Route → Level → Chunks → List ℕ
 pool rs v k = block (v .places) (v .live) (shown rs v k)
 
+-- the counts of a level: at each live place how many routes longer than the level have its bits
+abbrev pub longs : List Route → Level → List ℕ
+longs rs v = tallies rs (v .bits) (v .places) (v .live) (v .at)
+
 -- live places of an array hold their value, the others what they held
 unfoldable pub laid : List ℕ → (ℕ → Bool) → (ℕ → ℕ) → List ℕ
 laid old live value = tabulate (length old) (λ q. cond (live q) (value q) (getD old q 0))
@@ -47,6 +52,8 @@ rendered g room rs own2 own3 = record {
   third = pool rs (level3 g (chunksOf own2) (chunksOf own3)) noChunks;
   own2 = own2;
   own3 = own3;
+  long1 = longs rs (level1 g);
+  long2 = longs rs (level2 g (chunksOf own2));
 }
 
 -- Chunks fit a level: each owner is 1 + a live place that is deep, a chunk hangs from each such place, and no two hang from one.
@@ -63,7 +70,7 @@ roomOf l = length (l .list) / 8
 abbrev pub asAsked : Table → Lent → Lent
 asAsked t l = rendered (t .geometry) (roomOf l) (standing t l) (l .own2) (l .own3)
 
--- a good list, owners that fit it, and the cells of these: this is soundness, said by what the cells hold
+-- a good list, owners that fit it, and the cells and counts of these: this is soundness, said by what the arrays hold
 pub record Rendered (t : Table) (l : Lent) : Type 0 where
   pub sized : Sized (t .geometry) l
   pub listed : Listed (l .list) (t .count)
@@ -72,3 +79,5 @@ pub record Rendered (t : Table) (l : Lent) : Type 0 where
   pub is-first : l .first ≡ asAsked t l .first
   pub is-second : l .second ≡ asAsked t l .second
   pub is-third : l .third ≡ asAsked t l .third
+  pub is-long1 : l .long1 ≡ asAsked t l .long1
+  pub is-long2 : l .long2 ≡ asAsked t l .long2

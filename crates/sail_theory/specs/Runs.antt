@@ -14,7 +14,7 @@ use Rattle.standing.specs.Standing.{stands, Held, absent, stood, routeAt, inser
 use Rattle.routes.specs.declared.Route.{Route}
 use Rattle.sail.specs.Lent.{Lent}
 use Rattle.sail.specs.Sound.{standing, used}
-use Rattle.sail.specs.Walk.{lookupSaid}
+use Rattle.sail.specs.Walk.{lookupSaid, walkCounts}
 use Rattle.sail.specs.declared.table.Table.{Table}
 use Rattle.sail_theory.specs.Calls.{inputRoutes, Out, made, cutRoute, announced, withdrawn, loaded}
 
@@ -80,10 +80,12 @@ abbrev pub standingAfter : Table → Lent → List Call → List Route
 standingAfter t l cs = standing (after t l cs .table) (after t l cs .lent)
 
 -- The table t in l is as good as a fresh load with the outcome o: that load is accepted, its list is the same to the byte, every address gets
--- the same hop and count of cells, and as many chunks are in use.
+-- the same hop and count of cells, as many chunks are in use, and the counts are equal at first cells and on every address's walk.
 pub record AsFresh (t : Table) (l : Lent) (o : Out) : Type 0 where
   pub accepted-too : accepts (o .said) ≡ true
   pub lists : l .list ≡ o .lent .list
   pub lookups : (a : ℕ) → a < 2 ^ 32 → lookupSaid t l a ≡ lookupSaid (o .table) (o .lent) a
   pub chunks2 : used (l .own2) ≡ used (o .lent .own2)
   pub chunks3 : used (l .own3) ≡ used (o .lent .own3)
+  pub longs1 : l .long1 ≡ o .lent .long1
+  pub longs2 : (a : ℕ) → a < 2 ^ 32 → walkCounts (t .geometry) l a ≡ walkCounts (o .table .geometry) (o .lent) a

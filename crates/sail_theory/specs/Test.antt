@@ -1,5 +1,5 @@
 -- Soundness as a test. It decides refusal 5 in the definitions of the calls, and is computed on no table: programs test soundness another
--- way, and show that they tell the same. Assumes nothing.
+-- way, and show that they tell the same.
 use mathlib.Core.Bool.{Bool, _&&_, _||_, not}
 use mathlib.Core.List.{List}
 use Prim.Native.Nat.{ℕ, suc, _-_, _*_, _%_}
@@ -38,4 +38,6 @@ sound? t l =
     && (fits? (standing t l) (level2 (t .geometry) (chunksOf (l .own2))) (chunksOf (l .own3))
     && (same (l .first) (asAsked t l .first)
     && (same (l .second) (asAsked t l .second)
-    && same (l .third) (asAsked t l .third))))))
+    && (same (l .third) (asAsked t l .third)
+    && (same (l .long1) (asAsked t l .long1)
+    && same (l .long2) (asAsked t l .long2))))))))

@@ -17,21 +17,24 @@ use Rattle.routes.specs.declared.Route.{Route}
 use Rattle.lists.specs.Edit.{Edited, edited, removed, removing, countWithout, Holds}
 use Rattle.lists.proofs.EditHolds.{remove-holds}
 use Rattle.plan.specs.Paint.{filled}
-use Rattle.sail.specs.Geometry.{bits2, bits3}
+use Rattle.counts.specs.Counts.{OneMore}
+use Rattle.counts.proofs.Changed.{many-remove}
+use Rattle.sail.specs.Geometry.{bits2, bits3, Valid}
 use Rattle.sail.specs.Lent.{Lent, lent, cells}
 use Rattle.sail.specs.Sound.{standing}
 use Rattle.sail.specs.declared.geometry.Geometry.{Geometry}
 use Rattle.sail.specs.declared.table.Table.{Table}
-use Rattle.sail_theory.specs.Render.{find}
+use Rattle.sail.proofs.Sounds.{standing-good}
+use Rattle.sail_theory.specs.Render.{find, longs}
 use Rattle.sail_theory.specs.Calls.{keep, withdrawSaid, Out, out, taking, told, withdrawn}
 use Rattle.sail.specs.Level.{Level, chunksOf, below, level1, level2}
 use Rattle.sail_theory.specs.Facts.{Farewell}
-use Rattle.sail_theory.proofs.Stores.{Losing}
+use Rattle.sail_theory.proofs.Stores.{length-keep, Losing}
 use Rattle.sail_theory.proofs.Changes.{losing1, losing2}
 use Rattle.sail_theory.proofs.Accepted.{count-removed, taking-is}
 use Rattle.sail_theory.proofs.Cleared.{withdraw-off}
 use Rattle.sail_paint.specs.Stale.{Repainted}
-use Rattle.sail_change.specs.Chunks.{alone, closed, blanked, Closing, Closable}
+use Rattle.sail_change.specs.Chunks.{alone, closed, blanked, Closing}
 use Rattle.sail_paint.specs.Pending.{Pending}
 use Rattle.sail_change.specs.Trail.{Told, Serving, Trailed}
 use Rattle.sail_change.proofs.Hangs.{alone-longer}
@@ -40,6 +43,10 @@ use Rattle.sail_change.proofs.Shrinks.{was-long, keep-closes, closing, farewell
 use Rattle.sail_change.proofs.Trails.{serving-of}
 use Rattle.sail_change.proofs.Underway.{underway-stale, underway-asked}
 use Rattle.sail_calls.specs.Judge.{Judged}
+use Rattle.sail_counts.specs.Counted.{Counts}
+use Rattle.sail_counts.specs.Tick.{Tickable, Moved}
+use Rattle.sail_counts.specs.declared.tick.Left.{Left}
+use Rattle.sail_counts.proofs.Tallies.{Guided, down-tickable, down-counts, closes-first, closes-second, keep-counts, counts-are}
 use Rattle.sail_withdraw.specs.Answers.{saysWithdraw}
 use Rattle.sail_withdraw.specs.declared.answers.Withdraw.the-variants as withdraw
 
@@ -113,69 +120,117 @@ module _ (t : Table) (l : Lent) (a len : ℕ) (w : Farewell t l a len) where
         = remove-holds (l .list) (t .count) few (keyOf a len) (w .sound .listed) in
         rw list-is (rw (w .old) at k)
 
-    -- A level that the withdrawal may close a chunk at, and the pool of p bits below it: the cell x of the address names the chunk.
+    -- A level that the withdrawal may close a chunk at, and the pool of p bits below it: the cell x of the address names the chunk. Whether it is
+    -- closed is told by the count that is left.
     module _ (v : Level) (own cells : List ℕ) (z : Losing rs left a v own) (p : ℕ) (size : length cells ≡ below v (chunksOf own) p .places) (x : ℕ)
-        (k : Told rs v own a x) where
-      names : alone left (v .bits) a len ≡ true → x - 1 ≡ find own (suc (v .serving a))
-      names q = told-chunk rs v own a x k (was-long t l a len w (v .bits) (alone-longer left (v .bits) a len q))
+        (k : Told rs v own a x) (closes : Bool) (q : closes ≡ alone left (v .bits) a len) where
+      names : closes ≡ true → x - 1 ≡ find own (suc (v .serving a))
+      names h = told-chunk rs v own a x k (was-long t l a len w (v .bits) (alone-longer left (v .bits) a len (sym q ∙ h)))
 
-      closable : v .bits ≤ 32 → length own ≤ 4096 → p - v .bits ≤ 10 → Closable s m (v .bits) a len x (p - v .bits) own cells
-      closable low few small = record {
-        levelled = record { records = holds .listed .records; level = low };
-        some = told-one rs v own a x k;
-        closing = rw (holds .routes) (same-closing _ _ _ names own cells (p - v .bits) (closing t l a len w v own z p cells size few small));
-      }
+      closable : length own ≤ 4096 → p - v .bits ≤ 10 → Closing closes own cells (x - 1) (p - v .bits)
+      closable few small = same-closing _ _ _ names own cells (p - v .bits) (rw q (closing t l a len w v own z p cells size few small))
 
-      own-is : (own′ : List ℕ) → own′ ≡ closed (alone (routesOf s m) (v .bits) a len) (x - 1) own → own′ ≡ keep left v own
-      own-is own′ o = o ∙ rw (holds .routes) (same-closed _ _ _ names own ∙ sym (keep-closes t l a len w v own z p cells size))
+      own-is : (own′ : List ℕ) → own′ ≡ closed closes (x - 1) own → own′ ≡ keep left v own
+      own-is own′ o = o ∙ same-closed _ _ _ names own ∙ rw q (sym (keep-closes t l a len w v own z p cells size))
 
-      cells-are : (cells′ : List ℕ) → cells′ ≡ blanked (alone (routesOf s m) (v .bits) a len) (x - 1) (p - v .bits) cells
+      cells-are : (cells′ : List ℕ) → cells′ ≡ blanked closes (x - 1) (p - v .bits) cells
           → cells′ ≡ blanked (alone left (v .bits) a len) (find own (suc (v .serving a))) (p - v .bits) cells
-      cells-are cells′ c = c ∙ rw (holds .routes) (same-blanked _ _ _ names (p - v .bits) cells)
+      cells-are cells′ c = c ∙ same-blanked _ _ _ names (p - v .bits) cells ∙ rw q
 
-    -- the first level with the second pool, and the second with the third; x1 and x2 are the cells of the address
-    module _ (x1 x2 : ℕ) (k : Trailed g rs (l .own2) (l .own3) a x1 x2) where
-      abbrev v2 : Level
-      v2 = level2 g (chunksOf (l .own2))
+    -- the counts: the first cells lead to the place that serves the prefix
+    valid : Valid g
+    valid = w .sound .sized .valid
 
-      small : (g .p1 ≤ 32) × (g .p2 ≤ 32) × (bits3 g ≤ 10)
-      small = let v = w .sound .sized .valid in (omega arith, omega arith, omega arith)
+    guided : Guided g rs a len (l .first) (l .own2) (l .long1) (l .long2)
+    guided = record {
+      valid = valid;
+      cells1 = w .sound .sized .cells1;
+      shows1 = w .sound .serves .first;
+      small = w .prefix .addr-ok;
+      held = was-long t l a len w (g .p1);
+      counts1 = w .sound .sized .counts1;
+      counts2 = w .sound .sized .counts2 ∙ w .sound .sized .cells2;
+    }
 
-      pub take-second : Closable s m (g .p1) a len x1 (bits2 g) (l .own2) (l .second)
-      take-second = closable (level1 g) (l .own2) (l .second) (losing1 t l a len w) (g .p2) (w .sound .sized .cells2) x1 (k .first)
-          (small .0) (w .sound .sized .few2) (w .sound .sized .valid .near)
+    goes : OneMore a len left rs
+    goes = many-remove a len rs (w .prefix .len-ok) (standing-good t l (w .sound)) (w .old)
 
-      pub take-third : Closable s m (g .p2) a len x2 (bits3 g) (l .own3) (l .third)
-      take-third = closable v2 (l .own3) (l .third) (losing2 t l a len w) 32 (w .sound .sized .cells3) x2 (k .second)
-          (small .1) (w .sound .sized .few3) (small .2)
+    before : Counts rs g (l .own2) (l .long1) (l .long2)
+    before = record { first = w .sound .counted1; second = w .sound .counted2 }
 
-      module _ (own2 own3 second third : List ℕ)
-          (o2 : own2 ≡ closed (alone (routesOf s m) (g .p1) a len) (x1 - 1) (l .own2))
-          (s2 : second ≡ blanked (alone (routesOf s m) (g .p1) a len) (x1 - 1) (bits2 g) (l .second))
-          (o3 : own3 ≡ closed (alone (routesOf s m) (g .p2) a len) (x2 - 1) (l .own3))
-          (s3 : third ≡ blanked (alone (routesOf s m) (g .p2) a len) (x2 - 1) (bits3 g) (l .third)) where
-        own2-is : own2 ≡ keep left (level1 g) (l .own2)
-        own2-is = own-is (level1 g) (l .own2) (l .second) (losing1 t l a len w) (g .p2) (w .sound .sized .cells2) x1 (k .first) own2 o2
+    pub take-tickable : Tickable g a len (l .first) (l .long1) (l .long2) false
+    take-tickable = down-tickable g rs a len (l .first) (l .own2) (l .long1) (l .long2) guided left rs goes before
 
-        own3-is : own3 ≡ keep left v2 (l .own3)
-        own3-is = own-is v2 (l .own3) (l .third) (losing2 t l a len w) 32 (w .sound .sized .cells3) x2 (k .second) own3 o3
+    -- the prefix is counted no more; n is what is left at its places
+    module _ (long1 long2 : List ℕ) (n : Left) (moved : Moved g a len (l .first) (l .long1) (l .long2) false long1 long2 n)
+        (e1 : length long1 ≡ length (l .long1)) (e2 : length long2 ≡ length (l .long2)) where
+      after : Counts left g (l .own2) long1 long2
+      after = down-counts g rs a len (l .first) (l .own2) (l .long1) (l .long2) guided left rs goes before long1 long2 n moved
 
-        second-is : second ≡ blanked (alone left (g .p1) a len) (find (l .own2) (suc (level1 g .serving a))) (bits2 g) (l .second)
-        second-is = cells-are (level1 g) (l .own2) (l .second) (losing1 t l a len w) (g .p2) (w .sound .sized .cells2) x1 (k .first) second s2
+      closes2 : eqb (n .first) 0 ≡ alone left (g .p1) a len
+      unfolding alone
+      closes2 = closes-first g rs a len (l .first) (l .own2) (l .long1) (l .long2) guided left rs goes before long1 long2 n moved
 
-        third-is : third ≡ blanked (alone left (g .p2) a len) (find (l .own3) (suc (v2 .serving a))) (bits3 g) (l .third)
-        third-is = cells-are v2 (l .own3) (l .third) (losing2 t l a len w) 32 (w .sound .sized .cells3) x2 (k .second) third s3
+      closes3 : eqb (n .second) 0 ≡ alone left (g .p2) a len
+      unfolding alone
+      closes3 = closes-second g rs a len (l .first) (l .own2) (l .long1) (l .long2) guided left rs goes before long1 long2 n moved
 
-        pub take-pending : (x : ℕ) → x ≡ len → Pending g m a x s (cells (l .first) second third own2 own3)
-        take-pending x q = rw (q, own2-is, own3-is, second-is, third-is) (record {
-          listed = holds .listed;
-          stale = λ ws par ready z. underway-stale g a len left l _ (farewell-underway t l a len w s) ws par ready (z ∙ holds .routes);
-        })
+      -- the first level with the second pool, and the second with the third; x1 and x2 are the cells of the address
+      module _ (x1 x2 : ℕ) (k : Trailed g rs (l .own2) (l .own3) a x1 x2) where
+        abbrev v2 : Level
+        v2 = level2 g (chunksOf (l .own2))
 
-        module _ (first′ second′ third′ : List ℕ) (h : Repainted g (routesOf s m) (cells (l .first) second third own2 own3) first′ second′ third′) where
-          pub take-done : (c : Bool)
-              → out (saysWithdraw (withdraw.Removed c)) (record { geometry = g; count = m }) (lent s first′ second′ third′ own2 own3) ≡ told c (taking t l a len)
-          unfolding saysWithdraw
-          take-done c =
-              let h′ = underway-asked g a len left l _ (farewell-underway t l a len w s) first′ second′ third′ (rw (holds .routes, own2-is, own3-is, second-is, third-is) at h) in
-              rw (count-is, list-is, h′ .is-first, h′ .is-second, h′ .is-third, own2-is, own3-is) (sym (ap (told c) (taking-is t l a len w)))
+        pub take-one : (1 ≤ x1) × (1 ≤ x2)
+        take-one = (told-one rs (level1 g) (l .own2) a x1 (k .first), told-one rs v2 (l .own3) a x2 (k .second))
+
+        small : bits3 g ≤ 10
+        small = let v = valid in omega arith
+
+        pub take-second : Closing (eqb (n .first) 0) (l .own2) (l .second) (x1 - 1) (bits2 g)
+        take-second =
+            closable (level1 g) (l .own2) (l .second) (losing1 t l a len w) (g .p2) (w .sound .sized .cells2) x1 (k .first) _ closes2
+            (w .sound .sized .few2) (valid .near)
+
+        pub take-third : Closing (eqb (n .second) 0) (l .own3) (l .third) (x2 - 1) (bits3 g)
+        take-third =
+            closable v2 (l .own3) (l .third) (losing2 t l a len w) 32 (w .sound .sized .cells3) x2 (k .second) _ closes3 (w .sound .sized .few3) small
+
+        module _ (own2 own3 second third : List ℕ)
+            (o2 : own2 ≡ closed (eqb (n .first) 0) (x1 - 1) (l .own2)) (s2 : second ≡ blanked (eqb (n .first) 0) (x1 - 1) (bits2 g) (l .second))
+            (o3 : own3 ≡ closed (eqb (n .second) 0) (x2 - 1) (l .own3)) (s3 : third ≡ blanked (eqb (n .second) 0) (x2 - 1) (bits3 g) (l .third)) where
+          own2-is : own2 ≡ keep left (level1 g) (l .own2)
+          own2-is = own-is (level1 g) (l .own2) (l .second) (losing1 t l a len w) (g .p2) (w .sound .sized .cells2) x1 (k .first) _ closes2 own2 o2
+
+          own3-is : own3 ≡ keep left v2 (l .own3)
+          own3-is = own-is v2 (l .own3) (l .third) (losing2 t l a len w) 32 (w .sound .sized .cells3) x2 (k .second) _ closes3 own3 o3
+
+          second-is : second ≡ blanked (alone left (g .p1) a len) (find (l .own2) (suc (level1 g .serving a))) (bits2 g) (l .second)
+          second-is =
+              cells-are (level1 g) (l .own2) (l .second) (losing1 t l a len w) (g .p2) (w .sound .sized .cells2) x1 (k .first) _ closes2 second s2
+
+          third-is : third ≡ blanked (alone left (g .p2) a len) (find (l .own3) (suc (v2 .serving a))) (bits3 g) (l .third)
+          third-is = cells-are v2 (l .own3) (l .third) (losing2 t l a len w) 32 (w .sound .sized .cells3) x2 (k .second) _ closes3 third s3
+
+          pub take-pending : (x : ℕ) → x ≡ len → Pending g m a x s (cells (l .first) second third own2 own3)
+          take-pending x q = rw (q, own2-is, own3-is, second-is, third-is) (record {
+            listed = holds .listed;
+            stale = λ ws par ready z. underway-stale g a len left l _ (farewell-underway t l a len w) ws par ready (z ∙ holds .routes);
+          })
+
+          -- the counts are those of the owners that are left: what is closed had none to count
+          are : (long1 ≡ longs left (level1 g)) × (long2 ≡ longs left (level2 g (chunksOf (keep left (level1 g) (l .own2)))))
+          are =
+              counts-are g valid left (keep left (level1 g) (l .own2)) long1 long2 (keep-counts g valid left (l .own2) long1 long2 after)
+              (e1 ∙ w .sound .sized .counts1)
+              (e2 ∙ w .sound .sized .counts2 ∙ w .sound .sized .cells2 ∙ ap (λ (y : ℕ). y * 2 ^ bits2 g) (sym (length-keep left (level1 g) (l .own2))))
+
+          module _ (first′ second′ third′ : List ℕ) (h : Repainted g (routesOf s m) (cells (l .first) second third own2 own3) first′ second′ third′) where
+            pub take-done : (c : Bool)
+                → out (saysWithdraw (withdraw.Removed c)) (record { geometry = g; count = m }) (lent s first′ second′ third′ own2 own3 long1 long2)
+                ≡ told c (taking t l a len)
+            unfolding saysWithdraw
+            take-done c =
+                let h′ = underway-asked g a len left l _ (farewell-underway t l a len w) first′ second′ third′
+                (rw (holds .routes, own2-is, own3-is, second-is, third-is) at h) in
+                rw (count-is, list-is, h′ .is-first, h′ .is-second, h′ .is-third, own2-is, own3-is, are .0, are .1)
+                (sym (ap (told c) (taking-is t l a len w)))

@@ -19,8 +19,9 @@ use sail::table::Table;
 use sail::table::sizes;
 use sail_calls::clear::clear;
 use sail_calls::renew::renew;
-use sail_change::alone::close_alone;
+use sail_change::chunks::close;
 use sail_change::trail::follow;
+use sail_counts::tick::tick;
 use sail_sound::test::sound;
 
 // The number with which the withdrawal is refused, by the first condition that holds; 0 where it is accepted.
@@ -32,19 +33,21 @@ fn judge_withdraw(
     third: &[u16],
     own2: &[u32],
     own3: &[u32],
+    long1: &[u16],
+    long2: &[u16],
     addr: u32,
     len: u8,
 ) -> u8
-    ensures { λ r. ⌜ Judged r (withdrawSaid t (lent (now (list .entry)) (now (first .entry)) (now (second .entry)) (now (third .entry)) (now (own2 .entry)) (now (own3 .entry))) addr len) (Farewell t (lent (now (list .entry)) (now (first .entry)) (now (second .entry)) (now (third .entry)) (now (own2 .entry)) (now (own3 .entry))) addr len) ⌝ }
+    ensures { λ r. ⌜ Judged r (withdrawSaid t (lent (now (list .entry)) (now (first .entry)) (now (second .entry)) (now (third .entry)) (now (own2 .entry)) (now (own3 .entry)) (now (long1 .entry)) (now (long2 .entry))) addr len) (Farewell t (lent (now (list .entry)) (now (first .entry)) (now (second .entry)) (now (third .entry)) (now (own2 .entry)) (now (own3 .entry)) (now (long1 .entry)) (now (long2 .entry))) addr len) ⌝ }
 {
-    let s = sizes(t, list, first, second, third, own2, own3);
+    let s = sizes(t, list, first, second, third, own2, own3, long1, long2);
     if s != 0 {
         return s;
     }
     if !input::prefix_ok(addr, len) {
         return 3;
     }
-    if !sound(t, list, first, second, third, own2, own3) {
+    if !sound(t, list, first, second, third, own2, own3, long1, long2) {
         return 5;
     }
     let n = t.count as usize;
@@ -56,8 +59,8 @@ fn judge_withdraw(
     9
 }
 
-// The withdrawal, where the prefix stands: its record is taken out of the list, chunks that it alone needed are closed,
-// and what it touched is painted again. The answer tells whether bits were cleared.
+// The withdrawal, where the prefix stands: its record is taken out of the list and counted no more, chunks whose count falls
+// to 0 are closed, and what it touched is painted again. The answer tells whether bits were cleared.
 fn take(
     t: Table,
     list: &mut [u8],
@@ -66,12 +69,14 @@ fn take(
     third: &mut [u16],
     own2: &mut [u32],
     own3: &mut [u32],
+    long1: &mut [u16],
+    long2: &mut [u16],
     addr: u32,
     len: u8,
     cleared: bool,
 ) -> Withdrawn
-    requires { ⌜ Farewell t (lent (now list) (now first) (now second) (now third) (now own2) (now own3)) addr len ⌝ }
-    ensures { λ r. ⌜ out (saysWithdraw (r .answer)) (r .table) (lent (now (list .exit)) (now (first .exit)) (now (second .exit)) (now (third .exit)) (now (own2 .exit)) (now (own3 .exit))) ≡ told cleared (taking t (lent (now (list .entry)) (now (first .entry)) (now (second .entry)) (now (third .entry)) (now (own2 .entry)) (now (own3 .entry))) addr len) ⌝ }
+    requires { ⌜ Farewell t (lent (now list) (now first) (now second) (now third) (now own2) (now own3) (now long1) (now long2)) addr len ⌝ }
+    ensures { λ r. ⌜ out (saysWithdraw (r .answer)) (r .table) (lent (now (list .exit)) (now (first .exit)) (now (second .exit)) (now (third .exit)) (now (own2 .exit)) (now (own3 .exit)) (now (long1 .exit)) (now (long2 .exit))) ≡ told cleared (taking t (lent (now (list .entry)) (now (first .entry)) (now (second .entry)) (now (third .entry)) (now (own2 .entry)) (now (own3 .entry)) (now (long1 .entry)) (now (long2 .entry))) addr len) ⌝ }
 {
     let g = t.geometry;
     let p1 = g.p1;
@@ -80,8 +85,21 @@ fn take(
     let v = follow(t, list, first, second, own2, own3, addr);
     edit::remove(list, n, addr, len);
     let m = n - 1;
-    close_alone(list, m, p1, addr, len, v.first, p2 - p1, own2, second);
-    close_alone(list, m, p2, addr, len, v.second, 32 - p2, own3, third);
+    let left = tick(g, addr, len, first, long1, long2, false);
+    close(
+        own2,
+        second,
+        left.first == 0,
+        (v.first - 1) as usize,
+        p2 - p1,
+    );
+    close(
+        own3,
+        third,
+        left.second == 0,
+        (v.second - 1) as usize,
+        32 - p2,
+    );
     renew(
         g,
         list,
@@ -115,18 +133,45 @@ pub fn withdraw(
     third: &mut [u16],
     own2: &mut [u32],
     own3: &mut [u32],
+    long1: &mut [u16],
+    long2: &mut [u16],
     addr: u32,
     len: u8,
 ) -> Withdrawn
-    ensures { λ r. ⌜ MeetsWithdraw t (lent (now (list .entry)) (now (first .entry)) (now (second .entry)) (now (third .entry)) (now (own2 .entry)) (now (own3 .entry))) addr len r (lent (now (list .exit)) (now (first .exit)) (now (second .exit)) (now (third .exit)) (now (own2 .exit)) (now (own3 .exit))) ⌝ }
+    ensures { λ r. ⌜ MeetsWithdraw t (lent (now (list .entry)) (now (first .entry)) (now (second .entry)) (now (third .entry)) (now (own2 .entry)) (now (own3 .entry)) (now (long1 .entry)) (now (long2 .entry))) addr len r (lent (now (list .exit)) (now (first .exit)) (now (second .exit)) (now (third .exit)) (now (own2 .exit)) (now (own3 .exit)) (now (long1 .exit)) (now (long2 .exit))) ⌝ }
 {
     let a = clear(addr, len);
-    let z = judge_withdraw(t, list, first, second, third, own2, own3, a, len);
+    let z = judge_withdraw(
+        t,
+        list,
+        first,
+        second,
+        third,
+        own2,
+        own3,
+        long1,
+        long2,
+        a,
+        len,
+    );
     if z != 0 {
         return Withdrawn {
             answer: Withdraw::Refused(z),
             table: t,
         };
     }
-    take(t, list, first, second, third, own2, own3, a, len, a != addr)
+    take(
+        t,
+        list,
+        first,
+        second,
+        third,
+        own2,
+        own3,
+        long1,
+        long2,
+        a,
+        len,
+        a != addr,
+    )
 }

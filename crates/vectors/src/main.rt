@@ -27,4 +27,5 @@ fn main() {
     tables::list_a();
     tables::states();
     tables::damaged();
+    tables::counted();
 }

@@ -15,9 +15,22 @@ fn judge(
     third: &[u16],
     own2: &[u32],
     own3: &[u32],
+    long1: &[u16],
+    long2: &[u16],
 ) {
-    table::found(lookup::lookup(t, list, first, second, third, own2, own3, 0x0A01_02C8));
-    table::reported(report::report(t, list, first, second, third, own2, own3));
+    table::found(lookup::lookup(
+        t,
+        list,
+        first,
+        second,
+        third,
+        own2,
+        own3,
+        long1,
+        long2,
+        0x0A01_02C8,
+    ));
+    table::reported(report::report(t, list, first, second, third, own2, own3, long1, long2));
 }
 
 // The five addresses of list A.
@@ -29,12 +42,69 @@ fn look(
     third: &[u16],
     own2: &[u32],
     own3: &[u32],
+    long1: &[u16],
+    long2: &[u16],
 ) {
-    table::found(lookup::lookup(t, list, first, second, third, own2, own3, 0x0A01_02C8));
-    table::found(lookup::lookup(t, list, first, second, third, own2, own3, 0x0A01_0205));
-    table::found(lookup::lookup(t, list, first, second, third, own2, own3, 0x0A01_0301));
-    table::found(lookup::lookup(t, list, first, second, third, own2, own3, 0x0A02_0001));
-    table::found(lookup::lookup(t, list, first, second, third, own2, own3, 0xC000_0201));
+    table::found(lookup::lookup(
+        t,
+        list,
+        first,
+        second,
+        third,
+        own2,
+        own3,
+        long1,
+        long2,
+        0x0A01_02C8,
+    ));
+    table::found(lookup::lookup(
+        t,
+        list,
+        first,
+        second,
+        third,
+        own2,
+        own3,
+        long1,
+        long2,
+        0x0A01_0205,
+    ));
+    table::found(lookup::lookup(
+        t,
+        list,
+        first,
+        second,
+        third,
+        own2,
+        own3,
+        long1,
+        long2,
+        0x0A01_0301,
+    ));
+    table::found(lookup::lookup(
+        t,
+        list,
+        first,
+        second,
+        third,
+        own2,
+        own3,
+        long1,
+        long2,
+        0x0A02_0001,
+    ));
+    table::found(lookup::lookup(
+        t,
+        list,
+        first,
+        second,
+        third,
+        own2,
+        own3,
+        long1,
+        long2,
+        0xC000_0201,
+    ));
 }
 
 fn standard(count: u32) -> Table {
@@ -70,6 +140,22 @@ fn third_cells(v: u16, w: u16) -> [u16; 1024] {
     third
 }
 
+// First cell 2561 has two long routes; cell 0 has n.
+fn first_counts(n: u16) -> [u16; 65536] {
+    let mut long1 = [0u16; 65536];
+    long1[2561] = 2;
+    long1[0] = n;
+    long1
+}
+
+// Place 2 has one long route; the last place, in a free chunk, has n.
+fn second_counts(n: u16) -> [u16; 1024] {
+    let mut long2 = [0u16; 1024];
+    long2[2] = 1;
+    long2[1023] = n;
+    long2
+}
+
 // List A's records with room for eight; the last byte is b.
 fn records(b: u8) -> [u8; 64] {
     let a = list::list_a();
@@ -89,7 +175,19 @@ fn cells(v: u16, third: u16, free: u16, last: u8) {
     let thirds = third_cells(third, free);
     let own2 = [2562u32, 0, 0, 0];
     let own3 = [3u32, 0, 0, 0];
-    judge(standard(5), &list, &first, &second, &thirds, &own2, &own3);
+    let long1 = first_counts(0);
+    let long2 = second_counts(0);
+    judge(
+        standard(5),
+        &list,
+        &first,
+        &second,
+        &thirds,
+        &own2,
+        &own3,
+        &long1,
+        &long2,
+    );
 }
 
 // The same with this owner of the second chunk, in this state.
@@ -100,7 +198,19 @@ fn owner(o: u32, t: Table) {
     let third = third_cells(32825, 0);
     let own2 = [o, 0, 0, 0];
     let own3 = [3u32, 0, 0, 0];
-    judge(t, &list, &first, &second, &third, &own2, &own3);
+    let long1 = first_counts(0);
+    let long2 = second_counts(0);
+    judge(
+        t,
+        &list,
+        &first,
+        &second,
+        &third,
+        &own2,
+        &own3,
+        &long1,
+        &long2,
+    );
 }
 
 // A list that is no whole number of records.
@@ -110,6 +220,8 @@ fn ragged() {
     let third = third_cells(32825, 0);
     let own2 = [2562u32, 0, 0, 0];
     let own3 = [3u32, 0, 0, 0];
+    let long1 = first_counts(0);
+    let long2 = second_counts(0);
     judge(
         standard(5),
         b"nine byte",
@@ -118,6 +230,8 @@ fn ragged() {
         &third,
         &own2,
         &own3,
+        &long1,
+        &long2,
     );
 }
 
@@ -129,7 +243,19 @@ pub fn list_a() {
     let third = third_cells(32825, 0);
     let own2 = [2562u32, 0, 0, 0];
     let own3 = [3u32, 0, 0, 0];
-    look(standard(5), &list, &first, &second, &third, &own2, &own3);
+    let long1 = first_counts(0);
+    let long2 = second_counts(0);
+    look(
+        standard(5),
+        &list,
+        &first,
+        &second,
+        &third,
+        &own2,
+        &own3,
+        &long1,
+        &long2,
+    );
 }
 
 // A wrong owner; counts above the room and below the routes; a size and a geometry that are none.
@@ -143,6 +269,59 @@ pub fn states() {
         count: 5,
     };
     owner(2562, wide);
+}
+
+// The same with these counts at first cell 0 and in a free chunk.
+fn counts(a: u16, b: u16) {
+    let list = records(0);
+    let first = first_cells(1);
+    let second = second_cells();
+    let third = third_cells(32825, 0);
+    let own2 = [2562u32, 0, 0, 0];
+    let own3 = [3u32, 0, 0, 0];
+    let long1 = first_counts(a);
+    let long2 = second_counts(b);
+    judge(
+        standard(5),
+        &list,
+        &first,
+        &second,
+        &third,
+        &own2,
+        &own3,
+        &long1,
+        &long2,
+    );
+}
+
+// One count too few.
+fn short_counts() {
+    let list = records(0);
+    let first = first_cells(1);
+    let second = second_cells();
+    let third = third_cells(32825, 0);
+    let own2 = [2562u32, 0, 0, 0];
+    let own3 = [3u32, 0, 0, 0];
+    let long1 = [0u16; 65535];
+    let long2 = second_counts(0);
+    judge(
+        standard(5),
+        &list,
+        &first,
+        &second,
+        &third,
+        &own2,
+        &own3,
+        &long1,
+        &long2,
+    );
+}
+
+// Wrong counts, which the report tells and no lookup looks at; and a size of theirs, which both tell.
+pub fn counted() {
+    counts(1, 0);
+    counts(0, 1);
+    short_counts();
 }
 
 // Nothing damaged; chunk numbers 0 and beyond the pool; a third cell that is no leaf; a free chunk that is not zero, which no

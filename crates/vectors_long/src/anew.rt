@@ -16,8 +16,21 @@ fn reload(
     third: &mut [u16],
     own2: &mut [u32],
     own3: &mut [u32],
+    long1: &mut [u16],
+    long2: &mut [u16],
 ) -> Table {
-    let r = load::load(t, input, list, first, second, third, own2, own3);
+    let r = load::load(
+        t,
+        input,
+        list,
+        first,
+        second,
+        third,
+        own2,
+        own3,
+        long1,
+        long2,
+    );
     let answer = r.answer;
     table::loaded(answer);
     r.table
@@ -32,10 +45,24 @@ pub fn judge(
     third: &[u16],
     own2: &[u32],
     own3: &[u32],
+    long1: &[u16],
+    long2: &[u16],
     x: u64,
 ) {
-    table::reported(report::report(t, list, first, second, third, own2, own3));
-    course::looked(looks::look(t, list, first, second, third, own2, own3, x, looks::none()));
+    table::reported(report::report(t, list, first, second, third, own2, own3, long1, long2));
+    course::looked(looks::look(
+        t,
+        list,
+        first,
+        second,
+        third,
+        own2,
+        own3,
+        long1,
+        long2,
+        x,
+        looks::none(),
+    ));
 }
 
 fn again(
@@ -47,10 +74,23 @@ fn again(
     third: &mut [u16],
     own2: &mut [u32],
     own3: &mut [u32],
+    long1: &mut [u16],
+    long2: &mut [u16],
     x: u64,
 ) {
-    let u = reload(t, input, list, first, second, third, own2, own3);
-    judge(u, list, first, second, third, own2, own3, x);
+    let u = reload(
+        t,
+        input,
+        list,
+        first,
+        second,
+        third,
+        own2,
+        own3,
+        long1,
+        long2,
+    );
+    judge(u, list, first, second, third, own2, own3, long1, long2, x);
 }
 
 // Other arrays of the sizes of the run at the standard geometry, with numbers in them.
@@ -61,6 +101,8 @@ pub fn standard(t: Table, input: &[u8], x: u64) {
     let mut third = [9u16; 768];
     let mut own2 = [9u32; 4];
     let mut own3 = [9u32; 3];
+    let mut long1 = [9u16; 65536];
+    let mut long2 = [9u16; 1024];
     again(
         t,
         linear::records(t, input),
@@ -70,6 +112,8 @@ pub fn standard(t: Table, input: &[u8], x: u64) {
         &mut third,
         &mut own2,
         &mut own3,
+        &mut long1,
+        &mut long2,
         x,
     );
 }
@@ -82,6 +126,8 @@ pub fn small(t: Table, input: &[u8], x: u64) {
     let mut third = [9u16; 2048];
     let mut own2 = [9u32; 3];
     let mut own3 = [9u32; 2];
+    let mut long1 = [9u16; 4096];
+    let mut long2 = [9u16; 3072];
     again(
         t,
         linear::records(t, input),
@@ -91,6 +137,8 @@ pub fn small(t: Table, input: &[u8], x: u64) {
         &mut third,
         &mut own2,
         &mut own3,
+        &mut long1,
+        &mut long2,
         x,
     );
 }

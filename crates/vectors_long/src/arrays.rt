@@ -44,7 +44,16 @@ fn over32(a: &[u32]) -> u64 {
     s
 }
 
-pub fn all(list: &[u8], first: &[u16], second: &[u16], third: &[u16], own2: &[u32], own3: &[u32]) {
+pub fn all(
+    list: &[u8],
+    first: &[u16],
+    second: &[u16],
+    third: &[u16],
+    own2: &[u32],
+    own3: &[u32],
+    long1: &[u16],
+    long2: &[u16],
+) {
     print::text(b"arrays");
     print::value(over8(list));
     print::value(over16(first));
@@ -52,5 +61,7 @@ pub fn all(list: &[u8], first: &[u16], second: &[u16], third: &[u16], own2: &[u3
     print::value(over16(third));
     print::value(over32(own2));
     print::value(over32(own3));
+    print::value(over16(long1));
+    print::value(over16(long2));
     print::end();
 }

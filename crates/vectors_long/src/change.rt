@@ -59,6 +59,8 @@ fn announced(
     third: &mut [u16],
     own2: &mut [u32],
     own3: &mut [u32],
+    long1: &mut [u16],
+    long2: &mut [u16],
 ) -> Course {
     let d = sail_announce::announce(
         r.table,
@@ -68,6 +70,8 @@ fn announced(
         third,
         own2,
         own3,
+        long1,
+        long2,
         a.addr,
         a.len,
         a.hop,
@@ -86,6 +90,8 @@ fn withdrawn(
     third: &mut [u16],
     own2: &mut [u32],
     own3: &mut [u32],
+    long1: &mut [u16],
+    long2: &mut [u16],
 ) -> Course {
     let d = sail_withdraw::withdraw(
         r.table,
@@ -95,6 +101,8 @@ fn withdrawn(
         third,
         own2,
         own3,
+        long1,
+        long2,
         a.addr,
         a.len,
     );
@@ -111,11 +119,13 @@ fn made(
     third: &mut [u16],
     own2: &mut [u32],
     own3: &mut [u32],
+    long1: &mut [u16],
+    long2: &mut [u16],
 ) -> Course {
     if a.withdraws {
-        return withdrawn(a, r, list, first, second, third, own2, own3);
+        return withdrawn(a, r, list, first, second, third, own2, own3, long1, long2);
     }
-    announced(a, r, list, first, second, third, own2, own3)
+    announced(a, r, list, first, second, third, own2, own3, long1, long2)
 }
 
 // A drawn change, and the lookups after it.
@@ -127,10 +137,24 @@ fn turn(
     third: &mut [u16],
     own2: &mut [u32],
     own3: &mut [u32],
+    long1: &mut [u16],
+    long2: &mut [u16],
 ) -> Course {
     let a = next(r.table, list, r.x);
-    let mut c = made(a, r, list, first, second, third, own2, own3);
-    c.sums = looks::look(c.table, list, first, second, third, own2, own3, c.x, c.sums);
+    let mut c = made(a, r, list, first, second, third, own2, own3, long1, long2);
+    c.sums = looks::look(
+        c.table,
+        list,
+        first,
+        second,
+        third,
+        own2,
+        own3,
+        long1,
+        long2,
+        c.x,
+        c.sums,
+    );
     c
 }
 
@@ -142,11 +166,13 @@ pub fn many(
     third: &mut [u16],
     own2: &mut [u32],
     own3: &mut [u32],
+    long1: &mut [u16],
+    long2: &mut [u16],
 ) -> Course {
     let mut r = start;
     let mut k = 0u32;
     while k < 300 {
-        r = turn(r, list, first, second, third, own2, own3);
+        r = turn(r, list, first, second, third, own2, own3, long1, long2);
         k += 1;
     }
     r

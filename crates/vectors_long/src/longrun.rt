@@ -20,9 +20,11 @@ fn start(
     third: &mut [u16],
     own2: &mut [u32],
     own3: &mut [u32],
+    long1: &mut [u16],
+    long2: &mut [u16],
 ) -> Course {
     let t = Table { geometry, count: 0 };
-    let r = sail_make::make(t, list, first, second, third, own2, own3);
+    let r = sail_make::make(t, list, first, second, third, own2, own3, long1, long2);
     let answer = r.answer;
     table::made(answer);
     course::start(r.table, x)
@@ -37,10 +39,23 @@ fn ended(
     third: &[u16],
     own2: &[u32],
     own3: &[u32],
+    long1: &[u16],
+    long2: &[u16],
 ) {
     course::told(r);
-    anew::judge(r.table, list, first, second, third, own2, own3, r.x);
-    arrays::all(list, first, second, third, own2, own3);
+    anew::judge(
+        r.table,
+        list,
+        first,
+        second,
+        third,
+        own2,
+        own3,
+        long1,
+        long2,
+        r.x,
+    );
+    arrays::all(list, first, second, third, own2, own3, long1, long2);
 }
 
 fn run(
@@ -52,10 +67,23 @@ fn run(
     third: &mut [u16],
     own2: &mut [u32],
     own3: &mut [u32],
+    long1: &mut [u16],
+    long2: &mut [u16],
 ) -> Course {
-    let s = start(geometry, x, list, first, second, third, own2, own3);
-    let r = change::many(s, list, first, second, third, own2, own3);
-    ended(r, list, first, second, third, own2, own3);
+    let s = start(
+        geometry,
+        x,
+        list,
+        first,
+        second,
+        third,
+        own2,
+        own3,
+        long1,
+        long2,
+    );
+    let r = change::many(s, list, first, second, third, own2, own3, long1, long2);
+    ended(r, list, first, second, third, own2, own3, long1, long2);
     r
 }
 
@@ -67,6 +95,8 @@ pub fn standard() {
     let mut third = [0u16; 768];
     let mut own2 = [0u32; 4];
     let mut own3 = [0u32; 3];
+    let mut long1 = [0u16; 65536];
+    let mut long2 = [0u16; 1024];
     print::text(b"standard\n");
     let r = run(
         Geometry::STANDARD,
@@ -77,6 +107,8 @@ pub fn standard() {
         &mut third,
         &mut own2,
         &mut own3,
+        &mut long1,
+        &mut long2,
     );
     anew::standard(r.table, &list, r.x);
 }
@@ -89,6 +121,8 @@ pub fn small() {
     let mut third = [0u16; 2048];
     let mut own2 = [0u32; 3];
     let mut own3 = [0u32; 2];
+    let mut long1 = [0u16; 4096];
+    let mut long2 = [0u16; 3072];
     print::text(b"small\n");
     let r = run(
         Geometry::SMALL,
@@ -99,6 +133,8 @@ pub fn small() {
         &mut third,
         &mut own2,
         &mut own3,
+        &mut long1,
+        &mut long2,
     );
     anew::small(r.table, &list, r.x);
 }

@@ -19,11 +19,13 @@ fn made(
     third: &mut [u16],
     own2: &mut [u32],
     own3: &mut [u32],
+    long1: &mut [u16],
+    long2: &mut [u16],
 ) -> Table {
     let Step::Make = s else {
         return t;
     };
-    let r = sail_make::make(t, list, first, second, third, own2, own3);
+    let r = sail_make::make(t, list, first, second, third, own2, own3, long1, long2);
     let answer = r.answer;
     table::made(answer);
     r.table
@@ -38,6 +40,8 @@ fn announced(
     third: &mut [u16],
     own2: &mut [u32],
     own3: &mut [u32],
+    long1: &mut [u16],
+    long2: &mut [u16],
 ) -> Table {
     let Step::Announce(addr, len, hop, mark) = s else {
         return t;
@@ -50,6 +54,8 @@ fn announced(
         third,
         own2,
         own3,
+        long1,
+        long2,
         addr,
         len,
         hop,
@@ -69,11 +75,25 @@ fn withdrawn(
     third: &mut [u16],
     own2: &mut [u32],
     own3: &mut [u32],
+    long1: &mut [u16],
+    long2: &mut [u16],
 ) -> Table {
     let Step::Withdraw(addr, len) = s else {
         return t;
     };
-    let r = sail_withdraw::withdraw(t, list, first, second, third, own2, own3, addr, len);
+    let r = sail_withdraw::withdraw(
+        t,
+        list,
+        first,
+        second,
+        third,
+        own2,
+        own3,
+        long1,
+        long2,
+        addr,
+        len,
+    );
     let answer = r.answer;
     said::withdrawn(answer);
     r.table
@@ -123,13 +143,36 @@ fn read(
     third: &[u16],
     own2: &[u32],
     own3: &[u32],
+    long1: &[u16],
+    long2: &[u16],
 ) {
     match s {
         Step::Lookup(addr) => {
-            table::found(lookup::lookup(t, list, first, second, third, own2, own3, addr));
+            table::found(lookup::lookup(
+                t,
+                list,
+                first,
+                second,
+                third,
+                own2,
+                own3,
+                long1,
+                long2,
+                addr,
+            ));
         }
         Step::Report => {
-            table::reported(report::report(t, list, first, second, third, own2, own3));
+            table::reported(report::report(
+                t,
+                list,
+                first,
+                second,
+                third,
+                own2,
+                own3,
+                long1,
+                long2,
+            ));
         }
         Step::Record(k) => {
             record(list, k);
@@ -141,7 +184,7 @@ fn read(
             cell(second, own3, i);
         }
         Step::Only24 => {
-            same::only_24(list, first, second, third, own2, own3);
+            same::only_24(list, first, second, third, own2, own3, long1, long2);
         }
         _ => {}
     }
@@ -156,10 +199,12 @@ fn changed(
     third: &mut [u16],
     own2: &mut [u32],
     own3: &mut [u32],
+    long1: &mut [u16],
+    long2: &mut [u16],
 ) -> Table {
-    let a = made(s, t, list, first, second, third, own2, own3);
-    let b = announced(s, a, list, first, second, third, own2, own3);
-    withdrawn(s, b, list, first, second, third, own2, own3)
+    let a = made(s, t, list, first, second, third, own2, own3, long1, long2);
+    let b = announced(s, a, list, first, second, third, own2, own3, long1, long2);
+    withdrawn(s, b, list, first, second, third, own2, own3, long1, long2)
 }
 
 // A step: its call, and the answer printed; a state set; and what it reads of the table.
@@ -172,9 +217,14 @@ fn turn(
     third: &mut [u16],
     own2: &mut [u32],
     own3: &mut [u32],
+    long1: &mut [u16],
+    long2: &mut [u16],
 ) -> Table {
-    let u = state(s, changed(s, t, list, first, second, third, own2, own3));
-    read(s, u, list, first, second, third, own2, own3);
+    let u = state(
+        s,
+        changed(s, t, list, first, second, third, own2, own3, long1, long2),
+    );
+    read(s, u, list, first, second, third, own2, own3, long1, long2);
     u
 }
 
@@ -188,6 +238,8 @@ pub fn play(
     third: &mut [u16],
     own2: &mut [u32],
     own3: &mut [u32],
+    long1: &mut [u16],
+    long2: &mut [u16],
 ) -> Table {
     let mut t = start;
     let mut k = 0;
@@ -201,6 +253,8 @@ pub fn play(
             third,
             own2,
             own3,
+            long1,
+            long2,
         );
         k += 1;
     }

@@ -1,4 +1,4 @@
-// Whether what is lent is the table of one route: two sets of the six arrays compared.
+// Whether what is lent is the table of one route: two sets of the eight arrays compared.
 use routes::Route;
 use words::print;
 
@@ -66,6 +66,17 @@ fn pool(cells: &[u16], own: &[u32], cells0: &[u16], own0: &[u32]) {
     print::end();
 }
 
+// The counts: one long route at first cell 2561, and none at a second cell.
+fn counts(long1: &[u16], long2: &[u16]) {
+    let mut one = [0u16; 65536];
+    one[2561] = 1;
+    let none = [0u16; 256];
+    print::text(b"counts");
+    told(plan::part::matches_all(long1, &one));
+    told(plan::part::matches_all(long2, &none));
+    print::end();
+}
+
 // Whether the table, with one second chunk and no third, is as 10.1.2.0/24 to hop 44 alone makes it: first cell 2561 names the
 // chunk, and second cell 2 is the route's leaf.
 pub fn only_24(
@@ -75,6 +86,8 @@ pub fn only_24(
     third: &[u16],
     own2: &[u32],
     own3: &[u32],
+    long1: &[u16],
+    long2: &[u16],
 ) {
     let mut second0 = [32768u16; 256];
     second0[2] = 32812;
@@ -84,4 +97,5 @@ pub fn only_24(
     roots(list, first);
     pool(second, own2, &second0, &own20);
     pool(third, own3, &third0, &own30);
+    counts(long1, long2);
 }

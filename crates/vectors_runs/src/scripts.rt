@@ -20,6 +20,8 @@ pub fn list_a() {
     let mut third = [0u16; 256];
     let mut own2 = [0u32; 1];
     let mut own3 = [0u32; 1];
+    let mut long1 = [0u16; 65536];
+    let mut long2 = [0u16; 256];
     play::play(
         steps::LIST_A,
         start(),
@@ -29,6 +31,8 @@ pub fn list_a() {
         &mut third,
         &mut own2,
         &mut own3,
+        &mut long1,
+        &mut long2,
     );
 }
 
@@ -40,6 +44,8 @@ pub fn marks() {
     let mut third = [0u16; 256];
     let mut own2 = [0u32; 1];
     let mut own3 = [0u32; 1];
+    let mut long1 = [0u16; 65536];
+    let mut long2 = [0u16; 256];
     play::play(
         steps::MARKS,
         start(),
@@ -49,6 +55,8 @@ pub fn marks() {
         &mut third,
         &mut own2,
         &mut own3,
+        &mut long1,
+        &mut long2,
     );
 }
 
@@ -60,6 +68,8 @@ pub fn host_bits() {
     let mut third = [0u16; 0];
     let mut own2 = [0u32; 1];
     let mut own3 = [0u32; 0];
+    let mut long1 = [0u16; 65536];
+    let mut long2 = [0u16; 256];
     play::play(
         steps::HOST_BITS,
         start(),
@@ -69,6 +79,8 @@ pub fn host_bits() {
         &mut third,
         &mut own2,
         &mut own3,
+        &mut long1,
+        &mut long2,
     );
 }
 
@@ -80,6 +92,8 @@ pub fn one_chunk() {
     let mut third = [0u16; 0];
     let mut own2 = [0u32; 1];
     let mut own3 = [0u32; 0];
+    let mut long1 = [0u16; 65536];
+    let mut long2 = [0u16; 256];
     play::play(
         steps::ONE_CHUNK,
         start(),
@@ -89,6 +103,8 @@ pub fn one_chunk() {
         &mut third,
         &mut own2,
         &mut own3,
+        &mut long1,
+        &mut long2,
     );
 }
 
@@ -101,6 +117,8 @@ pub fn refusals() {
     let mut third = [0u16; 256];
     let mut own2 = [0u32; 2];
     let mut own3 = [0u32; 1];
+    let mut long1 = [0u16; 65536];
+    let mut long2 = [0u16; 512];
     let r = play::play(
         steps::LATE_SHORT,
         start(),
@@ -110,6 +128,8 @@ pub fn refusals() {
         &mut third,
         &mut own2,
         &mut own3,
+        &mut long1,
+        &mut long2,
     );
     play::play(
         steps::PLAIN,
@@ -120,6 +140,8 @@ pub fn refusals() {
         &mut third,
         &mut own2,
         &mut own3,
+        &mut long1,
+        &mut long2,
     );
     play::play(
         steps::STATES,
@@ -130,5 +152,7 @@ pub fn refusals() {
         &mut third,
         &mut own2,
         &mut own3,
+        &mut long1,
+        &mut long2,
     );
 }

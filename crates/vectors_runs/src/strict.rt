@@ -24,6 +24,8 @@ pub fn load() {
     let mut third = [0u16; 0];
     let mut own2 = [0u32; 1];
     let mut own3 = [0u32; 0];
+    let mut long1 = [0u16; 65536];
+    let mut long2 = [0u16; 256];
     let c = sail_load::load::load(
         t,
         &input,
@@ -33,6 +35,8 @@ pub fn load() {
         &mut third,
         &mut own2,
         &mut own3,
+        &mut long1,
+        &mut long2,
     );
     let answer = c.answer;
     table::loaded(answer);

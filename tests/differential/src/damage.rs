@@ -1,7 +1,7 @@
 //! Harm to the arrays of a table, at every kind of place: single words, and changes that are wrong although owners
 //! and names agree. Beside it the one change that keeps a table sound: other chunk numbers.
 
-use differential::gen::Rng;
+use differential::gen::{damage_count, Rng};
 use differential::plain::{size2, size3, Lent};
 
 const LEAF: u16 = 0x8000;
@@ -25,7 +25,7 @@ impl Harm<'_> {
 
     /// One change at random. Some fit no table at hand and change nothing; some leave it sound.
     pub fn one(&mut self, rng: &mut Rng) {
-        match rng.below(30) {
+        match rng.below(33) {
             0 | 1 => self.first_cell(rng),
             2 | 3 => self.second_cell(rng),
             4 | 5 => self.third_cell(rng),
@@ -47,6 +47,7 @@ impl Harm<'_> {
             25 | 26 => self.free_chunk(rng),
             27 => self.leaf_off(rng),
             28 => self.copied(rng),
+            29..=31 => damage_count(rng, self.p1, self.p2, self.t),
             _ => self.owner_and_name(rng),
         }
     }
@@ -426,6 +427,7 @@ pub fn renumber(rng: &mut Rng, p1: u32, p2: u32, t: &mut Lent) -> bool {
         t.own2.swap(a, b);
         for k in 0..size {
             t.second.swap(a * size + k, b * size + k);
+            t.long2.swap(a * size + k, b * size + k);
         }
         for c in [a, b] {
             if t.own2[c] != 0 {

@@ -1,6 +1,6 @@
 //! Random routes and inputs, biased so that interesting things happen.
 
-use crate::plain::{bits, records, Route};
+use crate::plain::{bits, records, size2, Lent, Route};
 
 /// A small generator of random numbers (splitmix64). The same seed gives the same numbers.
 #[derive(Clone)]
@@ -376,4 +376,29 @@ pub fn wide(rng: &mut Rng, low: u32, bits: u32) -> u32 {
         _ => 1 + (rng.word() >> (bits + 1)),
     };
     low | high << bits
+}
+
+/// A wrong count in a table of the right sizes: one too many or too few, none, another's, or the largest number; where
+/// routes are counted, in a free chunk, or anywhere. Now and then it is the old one again.
+pub fn damage_count(rng: &mut Rng, p1: u32, p2: u32, t: &mut Lent) {
+    let second = !t.long2.is_empty() && rng.one_in(2);
+    let size = size2(p1, p2);
+    let free = t.own2.iter().position(|&o| o == 0);
+    let counts = if second { &mut t.long2 } else { &mut t.long1 };
+    let counted: Vec<usize> = (0..counts.len()).filter(|&k| counts[k] != 0).collect();
+    let at = match rng.below(4) {
+        0 | 1 if !counted.is_empty() => *rng.pick(&counted),
+        2 if second => free.map_or(0, |c| c * size) + rng.below(size),
+        _ => rng.below(counts.len()),
+    } % counts.len();
+    let other = rng.below(counts.len());
+    match rng.below(6) {
+        0 => counts[at] = counts[at].wrapping_add(1),
+        1 => counts[at] = counts[at].wrapping_sub(1),
+        2 => counts[at] = 0,
+        3 => counts[at] = *rng.pick(&[1, 4096, 32_768, 65_535]),
+        // The sum stays: a count goes to another cell, or to the neighbour.
+        4 => counts.swap(at, other),
+        _ => counts.swap(at, at ^ 1),
+    }
 }

@@ -85,7 +85,7 @@ impl<T> DerefMut for Fenced<T> {
     }
 }
 
-/// The six arrays of a table, as lent to the library.
+/// The eight arrays of a table, as lent to the library.
 pub struct Six {
     pub list: Fenced<u8>,
     pub first: Fenced<u16>,
@@ -93,6 +93,8 @@ pub struct Six {
     pub third: Fenced<u16>,
     pub own2: Fenced<u32>,
     pub own3: Fenced<u32>,
+    pub long1: Fenced<u16>,
+    pub long2: Fenced<u16>,
 }
 
 impl Six {
@@ -104,6 +106,8 @@ impl Six {
             third: Fenced::new(&lent.third),
             own2: Fenced::new(&lent.own2),
             own3: Fenced::new(&lent.own3),
+            long1: Fenced::new(&lent.long1),
+            long2: Fenced::new(&lent.long2),
         }
     }
 
@@ -117,6 +121,8 @@ impl Six {
             third: &self.third,
             own2: &self.own2,
             own3: &self.own3,
+            long1: &self.long1,
+            long2: &self.long2,
         }
     }
 
@@ -130,6 +136,8 @@ impl Six {
             third: &mut self.third,
             own2: &mut self.own2,
             own3: &mut self.own3,
+            long1: &mut self.long1,
+            long2: &mut self.long2,
         }
     }
 
@@ -140,6 +148,8 @@ impl Six {
         self.third.set(&lent.third);
         self.own2.set(&lent.own2);
         self.own3.set(&lent.own3);
+        self.long1.set(&lent.long1);
+        self.long2.set(&lent.long2);
     }
 
     pub fn differs(&self, should: &Lent) -> Option<String> {
@@ -150,6 +160,8 @@ impl Six {
             .or_else(|| self.third.differs("third", &should.third))
             .or_else(|| self.own2.differs("own2", &should.own2))
             .or_else(|| self.own3.differs("own3", &should.own3))
+            .or_else(|| self.long1.differs("long1", &should.long1))
+            .or_else(|| self.long2.differs("long2", &should.long2))
     }
 }
 

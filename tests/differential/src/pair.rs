@@ -309,8 +309,14 @@ impl Pair {
         if used(&fresh.plain.own2) != used(&lent.own2) || used(&fresh.plain.own3) != used(&lent.own3) {
             run.fault("a fresh load has another number of chunks in use", &told);
         }
+        if fresh.plain.long1 != lent.long1 {
+            run.fault("a fresh load has other counts at first cells", &told);
+        }
         for addr in edges(routes) {
             run.lookups += 2;
+            if plain::walk_counts(self.p1, self.p2, lent, addr) != plain::walk_counts(self.p1, self.p2, &fresh.plain, addr) {
+                run.fault("a fresh load has other counts on an address's walk", &told);
+            }
             if gh::lookup(self.p1, self.p2, self.count, &self.library, addr)
                 != gh::lookup(self.p1, self.p2, fresh.count, &fresh.library, addr)
             {

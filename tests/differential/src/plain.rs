@@ -209,7 +209,9 @@ pub fn search_image(routes: &[Route], addr: u32) -> u64 {
 
 // ---------------------------------------------------------------------------------------------------- the SAIL table
 
-/// The six arrays that are lent to a table call.
+/// The arrays that are lent to a table call: document 01's six, and the stored counts of request g, "for each first
+/// cell, how many standing routes longer than p1 have its bits, and for each cell of the second pool how many longer
+/// than p2 have its place's bits".
 #[derive(Clone, PartialEq, Eq, Debug, Default)]
 pub struct Lent {
     pub list: Vec<u8>,
@@ -218,6 +220,8 @@ pub struct Lent {
     pub third: Vec<u16>,
     pub own2: Vec<u32>,
     pub own3: Vec<u32>,
+    pub long1: Vec<u16>,
+    pub long2: Vec<u16>,
 }
 
 const LEAF: u16 = 0x8000;
@@ -246,6 +250,8 @@ impl Lent {
             third: vec![0; third * size3(p2)],
             own2: vec![0; second],
             own3: vec![0; third],
+            long1: vec![0; 1 << p1],
+            long2: vec![0; second * size2(p1, p2)],
         }
     }
 
@@ -254,7 +260,7 @@ impl Lent {
     }
 }
 
-/// Refusals 1 and 2.
+/// Refusals 1 and 2. Request g: "2 also covers these arrays' sizes".
 fn check_sizes(p1: u32, p2: u32, lent: &Lent) -> Result<(), u64> {
     if !geometry_ok(p1, p2) {
         return Err(refused(1));
@@ -265,7 +271,9 @@ fn check_sizes(p1: u32, p2: u32, lent: &Lent) -> Result<(), u64> {
         && lent.own2.len() <= CHUNKS_MAX
         && lent.own3.len() <= CHUNKS_MAX
         && lent.second.len() == lent.own2.len() * size2(p1, p2)
-        && lent.third.len() == lent.own3.len() * size3(p2);
+        && lent.third.len() == lent.own3.len() * size3(p2)
+        && lent.long1.len() == lent.first.len()
+        && lent.long2.len() == lent.second.len();
     if right {
         Ok(())
     } else {
@@ -318,7 +326,7 @@ fn good_list(count: u32, list: &[u8]) -> Option<Vec<Route>> {
     check_input(&list[..8 * count]).ok()
 }
 
-/// The soundness of a table, by the points of document 01. Answers the standing routes, or nothing when not sound.
+/// The soundness of a table, by the points of document 01 and with request g's: "A sound table has them true." Answers the standing routes, or nothing when not sound.
 pub fn sound(p1: u32, p2: u32, count: u32, lent: &Lent) -> Option<Vec<Route>> {
     let routes = good_list(count, &lent.list)?;
     // Records past the route count are zero bytes.
@@ -328,7 +336,8 @@ pub fn sound(p1: u32, p2: u32, count: u32, lent: &Lent) -> Option<Vec<Route>> {
     let by_length = sorted_by_length(&routes);
     let ok = level_sound(&lent.first, 0, &hops_under(&by_length, 0, 0, p1), &long_cells(&routes, p1), 0, &lent.own2)
         && second_sound(p1, p2, &routes, &by_length, lent)
-        && third_sound(p1, p2, &by_length, lent);
+        && third_sound(p1, p2, &by_length, lent)
+        && (&lent.long1, &lent.long2) == (&counts_first(p1, &routes), &counts_second(p1, p2, &routes, &lent.own2));
     ok.then_some(routes)
 }
 
@@ -398,6 +407,35 @@ fn cell_of_place(p1: u32, p2: u32, own2: &[u32], place: usize) -> u32 {
     (own2[place / size] - 1) * size as u32 + (place % size) as u32
 }
 
+/// What `long1` holds: for each first cell the routes longer than p1 that have its bits.
+fn counts_first(p1: u32, routes: &[Route]) -> Vec<u16> {
+    let mut counts = vec![0; 1 << p1];
+    for r in routes.iter().filter(|r| r.len as u32 > p1) {
+        counts[bits(r.addr, p1) as usize] += 1;
+    }
+    counts
+}
+
+/// What `long2` holds: for each place of the second pool the routes longer than p2 that have its bits, "0 in free
+/// chunks". The owners are right.
+fn counts_second(p1: u32, p2: u32, routes: &[Route], own2: &[u32]) -> Vec<u16> {
+    let size = size2(p1, p2);
+    let mut counts = vec![0; own2.len() * size];
+    for r in routes.iter().filter(|r| r.len as u32 > p2) {
+        let c = own2.iter().position(|&o| o == bits(r.addr, p1) + 1).expect("a long route has its chunk");
+        counts[c * size + bits(r.addr, p2) as usize % size] += 1;
+    }
+    counts
+}
+
+/// The counts on an address's walk in a sound table: its first cell's, and its second cell's where it reads one.
+pub fn walk_counts(p1: u32, p2: u32, lent: &Lent, addr: u32) -> (u16, Option<u16>) {
+    let i = bits(addr, p1) as usize;
+    let within = bits(addr, p2) as usize % size2(p1, p2);
+    let place = place_in(lent.first[i], lent.own2.len(), size2(p1, p2), within).ok();
+    (lent.long1[i], place.map(|q| lent.long2[q]))
+}
+
 /// Gives the cell at `place` of its array the lowest free chunk, unless it has one. Answers the chunk, from 0.
 fn open(own: &mut [u32], place: usize) -> usize {
     let owner = place as u32 + 1;
@@ -435,10 +473,12 @@ fn close_unneeded(p1: u32, p2: u32, routes: &[Route], lent: &mut Lent) {
     }
 }
 
-/// Writes the list and every cell anew, from the routes and the owners that now stand.
+/// Writes the list, every cell and every count anew, from the routes and the owners that now stand.
 fn write_all(p1: u32, p2: u32, routes: &[Route], lent: &mut Lent) {
     lent.list.fill(0);
     lent.list[..8 * routes.len()].copy_from_slice(&records(routes));
+    lent.long1 = counts_first(p1, routes);
+    lent.long2 = counts_second(p1, p2, routes, &lent.own2);
     let by_length = sorted_by_length(routes);
     for (k, hop) in hops_under(&by_length, 0, 0, p1).into_iter().enumerate() {
         lent.first[k] = LEAF | hop;

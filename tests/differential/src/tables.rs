@@ -47,6 +47,8 @@ fn litter(rng: &mut Rng, t: &mut Lent) {
     t.first.fill_with(|| word() as u16);
     t.second.fill_with(|| word() as u16);
     t.third.fill_with(|| word() as u16);
+    t.long1.fill_with(|| word() as u16);
+    t.long2.fill_with(|| word() as u16);
     t.own2.fill_with(&mut word);
     t.own3.fill_with(&mut word);
 }
@@ -291,7 +293,7 @@ fn other_sizes(run: &mut Run, rng: &mut Rng, field: &Field, t: &Pair, standing: 
         6 => len / 2,
         _ => rng.below(2 * len + 2),
     };
-    match rng.below(12) {
+    match rng.below(14) {
         0 | 1 => {
             let n = near(rng, lent.list.len(), 8);
             lent.list.resize(n, 0);
@@ -325,6 +327,7 @@ fn other_sizes(run: &mut Run, rng: &mut Rng, field: &Field, t: &Pair, standing: 
             let n = near(rng, lent.own2.len(), 2);
             lent.own2.resize(n, 0);
             lent.second.resize(n * size2, 0);
+            lent.long2.resize(n * size2, 0);
         }
         9 => {
             let n = near(rng, lent.own3.len(), 2);
@@ -337,10 +340,19 @@ fn other_sizes(run: &mut Run, rng: &mut Rng, field: &Field, t: &Pair, standing: 
             if rng.one_in(2) {
                 lent.own2.resize(n, 0);
                 lent.second.resize(n * size2, 0);
+                lent.long2.resize(n * size2, 0);
             } else {
                 lent.own3.resize(n, 0);
                 lent.third.resize(n * size3, 0);
             }
+        }
+        11 => {
+            let n = near(rng, lent.long1.len(), 2);
+            lent.long1.resize(n, 0);
+        }
+        12 => {
+            let n = near(rng, lent.long2.len(), size2);
+            lent.long2.resize(n, 0);
         }
         _ => {
             std::mem::swap(&mut lent.second, &mut lent.third);

@@ -1,7 +1,7 @@
 //! The plain implementation against every example of document 01, with the counts of document 02, and against its own
 //! definitions taken literally.
 
-use differential::gen::{cut, edges, Field, Rng};
+use differential::gen::{cut, damage_count, edges, Field, Rng};
 use differential::plain::*;
 
 fn ip(a: u8, b: u8, c: u8, d: u8) -> u32 {
@@ -201,7 +201,7 @@ fn routes_read_back() {
 fn geometries() {
     let go = |p1: u32, p2: u32| {
         // Arrays of the right sizes, where the geometry has any.
-        let mut lent = Lent { first: vec![0; 1 << p1], ..Lent::default() };
+        let mut lent = Lent { first: vec![0; 1 << p1], long1: vec![0; 1 << p1], ..Lent::default() };
         make(p1, p2, &mut lent)
     };
     assert_eq!(go(16, 24), 0);
@@ -407,7 +407,14 @@ fn sound_literally(p1: u32, p2: u32, count: u32, t: &Lent) -> bool {
                 })
         }
     });
-    first && second && third && t.list[8 * count..].iter().all(|&b| b == 0)
+    let longer = |p: u32, cell: u32| routes.iter().filter(|r| r.len as u32 > p && bits(r.addr, p) == cell).count();
+    let counts1 = (0..t.first.len()).all(|i| t.long1[i] as usize == longer(p1, i as u32));
+    let counts2 = (0..t.own2.len()).all(|c| {
+        let namer = namer2(c);
+        let in_place = |k: usize| namer.map_or(0, |i| longer(p2, (i * size2 + k) as u32));
+        (0..size2).all(|k| t.long2[c * size2 + k] as usize == in_place(k))
+    });
+    first && second && third && counts1 && counts2 && t.list[8 * count..].iter().all(|&b| b == 0)
 }
 
 #[test]
@@ -431,13 +438,14 @@ fn sound_as_the_document_says() {
         let good = t.clone();
         for _ in 0..20 {
             t.clone_from(&good);
-            match rng.below(7) {
+            match rng.below(8) {
                 0 => *pick(&mut rng, &mut t.first) = value(&mut rng),
                 1 => *pick(&mut rng, &mut t.second) = value(&mut rng),
                 2 => *pick(&mut rng, &mut t.third) = value(&mut rng),
                 3 => *pick(&mut rng, &mut t.own2) = rng.below(4000) as u32,
                 4 => *pick(&mut rng, &mut t.own3) = rng.below(5) as u32,
                 5 => *pick(&mut rng, &mut t.list) = value(&mut rng) as u8,
+                6 => damage_count(&mut rng, p1, p2, &mut t),
                 _ => {
                     let (a, b) = (rng.below(1 << p1), rng.below(1 << p1));
                     t.first.swap(a, b);

@@ -13,20 +13,20 @@ enum-told c = search needs
 
 put-standing-requires : tie.Need-put-standing-requires
 put-standing-requires c κs =
-    let told = c .before .before .before .before .before .before .before in
-    let load = told .before .before .before .before .before .before .before .before in
-    let start = load .before .before .before .before .before .before .before .before .before in
-    record { sound = done-sound _ _ _ (lent _ _ _ _ _ _) (load .load .ensures) (told .enum-told .given .1); room = start .pre }
+    let told = c .before .before .before .before .before .before .before .before .before in
+    let load = told .before .before .before .before .before .before .before .before .before .before in
+    let start = load .before .before .before .before .before .before .before .before .before .before .before in
+    record { sound = done-sound _ _ _ (lent _ _ _ _ _ _ _ _) (load .load .ensures) (told .enum-told .given .1); room = start .pre }
 
 same-length : tie.Need-same-length
-same-length c = c .before .before .put-standing .kept .1 .1 .1 .1 .1 .1 .1 .0
+same-length c = c .before .before .put-standing .kept .1 .1 .1 .1 .1 .1 .1 .1 .1 .0
 
 returns : tie.Need-returns
 returns c =
     let put = c .before .before in
-    let told = put .before .before .before .before .before .before .before .before in
-    let load = told .before .before .before .before .before .before .before .before in
-    done-wrote _ _ _ (lent _ _ _ _ _ _) (load .load .ensures) (told .enum-told .given .1) (put .put-standing .ensures)
+    let told = put .before .before .before .before .before .before .before .before .before .before in
+    let load = told .before .before .before .before .before .before .before .before .before .before in
+    done-wrote _ _ _ (lent _ _ _ _ _ _ _ _) (load .load .ensures) (told .enum-told .given .1) (put .put-standing .ensures)
 
 -- of a refusal
 enum-known-answer : tie.Need-enum-known-answer
@@ -34,8 +34,8 @@ enum-known-answer c = search needs
 
 refusal-text-requires : tie.Need-refusal-text-requires
 refusal-text-requires c κs =
-    let load = c .before .before .before .before .before .before .before .before .before .before in
-    let start = load .before .before .before .before .before .before .before .before .before in
+    let load = c .before .before .before .before .before .before .before .before .before .before .before .before in
+    let start = load .before .before .before .before .before .before .before .before .before .before .before in
     omega (arith, start .pre)
 
 same-length-2 : tie.Need-same-length-2
@@ -45,8 +45,8 @@ returns-2 : tie.Need-returns-2
 returns-2 c =
     let put = c .before .before in
     let arm = put .before .before .before in
-    let load = arm .before .before .before .before .before .before .before .before in
-    refused-wrote _ _ _ (lent _ _ _ _ _ _) (load .load .ensures) _ (arm .answer .given .1) (put .refusal-text .ensures)
+    let load = arm .before .before .before .before .before .before .before .before .before .before in
+    refused-wrote _ _ _ (lent _ _ _ _ _ _ _ _) (load .load .ensures) _ (arm .answer .given .1) (put .refusal-text .ensures)
 
 -- and of one with an index
 enum-known-answer-2 : tie.Need-enum-known-answer-2
@@ -54,8 +54,8 @@ enum-known-answer-2 c = search needs
 
 refusal-at-text-requires : tie.Need-refusal-at-text-requires
 refusal-at-text-requires c κs =
-    let load = c .before .before .before .before .before .before .before .before .before .before in
-    let start = load .before .before .before .before .before .before .before .before .before in
+    let load = c .before .before .before .before .before .before .before .before .before .before .before .before in
+    let start = load .before .before .before .before .before .before .before .before .before .before .before in
     omega (arith, start .pre)
 
 same-length-3 : tie.Need-same-length-3
@@ -65,13 +65,15 @@ returns-3 : tie.Need-returns-3
 returns-3 c =
     let put = c .before .before in
     let arm = put .before .before .before in
-    let load = arm .before .before .before .before .before .before .before .before in
-    refused-at-wrote _ _ _ (lent _ _ _ _ _ _) (load .load .ensures) _ _ (arm .answer2 .given .1) (put .refusal-at-text .ensures)
+    let load = arm .before .before .before .before .before .before .before .before .before .before in
+    refused-at-wrote _ _ _ (lent _ _ _ _ _ _ _ _) (load .load .ensures) _ _ (arm .answer2 .given .1) (put .refusal-at-text .ensures)
 
 pub put-loaded-spec : {M : Type 1} → statement M
 put-loaded-spec =
     tie.close
     (tie.spec
+    (λ c. refl)
+    (λ c. refl)
     (λ c. refl)
     (λ c. refl)
     (λ c. refl)

@@ -1,8 +1,21 @@
--- `sail_make::blank` meets its contract. Assumes nothing.
+-- `sail_make::blank`: the arrays are written one after the other.
 use borrow.Author.Needs.{needs}
 use Rattle.sail_make.proofs.Makes.{blanked}
 use Rattle.sail_make.proofs.blank.Statement.{statement}
 use Rattle.sail_make.proofs.blank.Tie as tie
+
+returns : tie.Need-returns
+returns c =
+    let long2 = c .before .before in
+    let long1 = long2 .before .before .before .before in
+    let own3 = long1 .before .before .before .before in
+    let own2 = own3 .before .before .before .before in
+    let third = own2 .before .before .before .before in
+    let second = third .before .before .before .before in
+    let first = second .before .before .before .before in
+    let list = first .before .before .before .before in
+    blanked _ _ _ _ _ _ _ _ _ (list .zero8 .ensures) (first .fill16 .ensures) (second .fill162 .ensures) (third .fill163 .ensures)
+    (own2 .zero32 .ensures) (own3 .zero322 .ensures) (long1 .fill164 .ensures) (long2 .fill165 .ensures)
 
 pub blank-spec : {M : Type 1} → statement M
 blank-spec =
@@ -14,10 +27,14 @@ blank-spec =
     (λ c κs. tt)
     (λ c κs. tt)
     (λ c κs. tt)
-    (λ c. c .before .before .before .before .before .before .before .before .before .before .before .before .before .before .before .before .before .before .before .before .before .before .zero8 .kept .0)
-    (λ c. c .before .before .before .before .before .before .before .before .before .before .before .before .before .before .before .before .before .before .fill16 .kept .0)
-    (λ c. c .before .before .before .before .before .before .before .before .before .before .before .before .before .before .fill162 .kept .0)
-    (λ c. c .before .before .before .before .before .before .before .before .before .before .fill163 .kept .0)
-    (λ c. c .before .before .before .before .before .before .zero32 .kept .0)
-    (λ c. c .before .before .zero322 .kept .0)
-    (λ c. blanked _ _ _ _ _ _ _ (c .before .before .before .before .before .before .before .before .before .before .before .before .before .before .before .before .before .before .before .before .before .before .zero8 .ensures) (c .before .before .before .before .before .before .before .before .before .before .before .before .before .before .before .before .before .before .fill16 .ensures) (c .before .before .before .before .before .before .before .before .before .before .before .before .before .before .fill162 .ensures) (c .before .before .before .before .before .before .before .before .before .before .fill163 .ensures) (c .before .before .before .before .before .before .zero32 .ensures) (c .before .before .zero322 .ensures)))
+    (λ c κs. tt)
+    (λ c κs. tt)
+    (λ c. c .before .before .before .before .before .before .before .before .before .before .before .before .before .before .before .before .before .before .before .before .before .before .before .before .before .before .before .before .before .before .zero8 .kept .0)
+    (λ c. c .before .before .before .before .before .before .before .before .before .before .before .before .before .before .before .before .before .before .before .before .before .before .before .before .before .before .fill16 .kept .0)
+    (λ c. c .before .before .before .before .before .before .before .before .before .before .before .before .before .before .before .before .before .before .before .before .before .before .fill162 .kept .0)
+    (λ c. c .before .before .before .before .before .before .before .before .before .before .before .before .before .before .before .before .before .before .fill163 .kept .0)
+    (λ c. c .before .before .before .before .before .before .before .before .before .before .before .before .before .before .zero32 .kept .0)
+    (λ c. c .before .before .before .before .before .before .before .before .before .before .zero322 .kept .0)
+    (λ c. c .before .before .before .before .before .before .fill164 .kept .0)
+    (λ c. c .before .before .fill165 .kept .0)
+    returns)

@@ -4,6 +4,7 @@ use differential::plain::*;
 
 mod basic;
 mod broadcast;
+mod counts;
 mod host_bits;
 mod mark;
 mod one_image;

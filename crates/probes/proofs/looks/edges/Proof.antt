@@ -7,10 +7,10 @@ use Rattle.probes.proofs.looks.edges.Statement.{statement}
 use Rattle.probes.proofs.looks.edges.Tie as tie
 
 abbrev Inv-loop : tie.InvT-loop
-Inv-loop t list first second third own2 own3 n u₀ k₀ u k = (k ≤ n) × (n * 8 ≤ length list)
+Inv-loop t list first second third own2 own3 long1 long2 n u₀ k₀ u k = (k ≤ n) × (n * 8 ≤ length list)
 
 abbrev μ-loop : tie.MeasureT-loop
-μ-loop t list first second third own2 own3 n u₀ k₀ u k = n - k
+μ-loop t list first second third own2 own3 long1 long2 n u₀ k₀ u k = n - k
 
 pub edges-spec : {M : Type 1} → statement M
 edges-spec =

@@ -1,4 +1,4 @@
--- `sail::lookup::walk` meets its contract. Assumes nothing.
+-- `sail::lookup::walk`: a law for each cell that it may end at.
 use borrow.Author.Needs.{needs}
 use native.Mathlib.Omega.{arith}
 use Rattle.sail.proofs.Steps.{first-in, chunk-named, leaf1, off1, leaf2, off2, leaf3, off3}
@@ -11,9 +11,9 @@ walk-spec =
     (tie.spec
     (λ c. search needs)
     (λ c. search needs)
-    (λ c. let s = c .before .before .before .before .before .before in omega (arith, first-in _ _ _ (s .pre) (s .fits .addr .fits)))
-    (λ c. let s = c .before .before .before .before .before .before in omega (arith, first-in _ _ _ (s .pre) (s .fits .addr .fits)))
-    (λ c. let s = c .before .before .before .before .before .before .before in first-in _ _ _ (s .pre) (s .fits .addr .fits))
+    (λ c. let s = c .before .before .before .before .before .before .before .before in omega (arith, first-in _ _ _ (s .pre) (s .fits .addr .fits)))
+    (λ c. let s = c .before .before .before .before .before .before .before .before in omega (arith, first-in _ _ _ (s .pre) (s .fits .addr .fits)))
+    (λ c. let s = c .before .before .before .before .before .before .before .before .before in first-in _ _ _ (s .pre) (s .fits .addr .fits))
     (λ c κs. search needs)
     (λ c. search leaf1)
     (λ c κs. search needs)

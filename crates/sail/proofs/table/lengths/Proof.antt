@@ -1,7 +1,7 @@
--- `sail::table::lengths` meets its contract. Assumes nothing.
+-- `sail::table::lengths`: each length that does not fit has its law.
 use borrow.Author.Needs.{needs}
 use native.Mathlib.Omega.{arith}
-use Rattle.sail.proofs.Fitting.{product-fits, off-whole, off-room, off-first, off-few2, off-second, off-few3, on-few3}
+use Rattle.sail.proofs.Fitting.{product-fits, off-whole, off-room, off-first, off-few2, off-second, off-few3, off-third, off-long1, on-long1}
 use Rattle.sail.proofs.table.lengths.Statement.{statement}
 use Rattle.sail.proofs.table.lengths.Tie as tie
 
@@ -20,4 +20,6 @@ lengths-spec =
     (λ c. search off-few3)
     (λ c κs. search needs)
     (λ c. record { fits = product-fits (omega arith) (omega arith) })
-    (λ c. search on-few3))
+    (λ c. search off-third)
+    (λ c. search off-long1)
+    (λ c. search on-long1))

@@ -1,4 +1,4 @@
--- `sail_load::load::judge` meets its contract: each way has its law. Assumes nothing.
+-- `sail_load::load::judge` has a law for each way.
 use borrow.Author.Needs.{needs}
 use Rattle.routes.proofs.Inputs.{told-good, told-refused, told-many}
 use Rattle.sail_load.proofs.Loads.{says-sizes, says-bad, says-many, weighs, says-full, says-done}
@@ -13,7 +13,7 @@ judge-spec =
     (λ c. says-sizes _ _ _ _ (c .before .sizes .ensures) (c .if1 .taken))
     (λ c κs. search needs)
     (λ c. search needs)
-    (λ c κs. weighs (c .before .before .before .before .before .before .before .before .before .before .before .before .before .args .t) _ _ _ (c .before .before .before .before .before .sizes .ensures) (c .before .before .before .before .if1 .left) _ (told-good _ _ (c .before .before .before .check-input .ensures) _ (c .before .n .given .1)))
+    (λ c κs. weighs (c .before .before .before .before .before .before .before .before .before .before .before .before .before .before .before .args .t) _ _ _ (c .before .before .before .before .before .sizes .ensures) (c .before .before .before .before .if1 .left) _ (told-good _ _ (c .before .before .before .check-input .ensures) _ (c .before .n .given .1)))
     (λ c. says-full _ _ _ _ (c .before .before .before .before .before .before .before .sizes .ensures) (c .before .before .before .before .before .before .if1 .left) _ (told-good _ _ (c .before .before .before .before .before .check-input .ensures) _ (c .before .before .before .n .given .1)) _ (c .before .weigh .ensures) (c .if2 .taken))
     (λ c. search needs)
     (λ c. search needs)

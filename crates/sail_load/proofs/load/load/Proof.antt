@@ -10,18 +10,18 @@ abbrev judged : tie.Then1 → tie.After-judge
 judged c = c .before .before
 
 abbrev accepted : tie.After-renew → tie.Then1
-accepted c = c .before .before .before .before .before .before .before
+accepted c = c .before .before .before .before .before .before .before .before .before
 
 abbrev renewed : tie.After-g → tie.After-renew
-renewed c = c .before .before .before .before .before .before .before .before .before .before .before .before .before
+renewed c = c .before .before .before .before .before .before .before .before .before .before .before .before .before .before .before .before .before
 
 abbrev branch : tie.After-g → tie.Then1
 branch c = accepted (renewed c)
 
 renew-requires : tie.Need-renew-requires
 renew-requires c κs =
-    renewable _ _ _ _ _ (judged (c .before .before .before .before .before .before) .judge .ensures)
-    (c .before .before .before .before .before .before .before .accepts .ensures) (c .before .before .before .before .before .before .if1 .taken)
+    renewable _ _ _ _ _ (judged (c .before .before .before .before .before .before .before .before) .judge .ensures)
+    (c .before .before .before .before .before .before .before .before .before .accepts .ensures) (c .before .before .before .before .before .before .before .before .if1 .taken)
 
 cast-count : tie.Need-cast-count
 cast-count c = record { fits = omega (arith, few _ _ _ _ _ (judged (branch c) .judge .ensures) (branch c .before .accepts .ensures) (branch c .if1 .taken)) }
@@ -46,7 +46,11 @@ load-spec =
     (λ c. renewed c .renew .kept .1 .1 .1 .1 .1 .0)
     (λ c. renewed c .renew .kept .1 .1 .1 .1 .1 .1 .0)
     (λ c. renewed c .renew .kept .1 .1 .1 .1 .1 .1 .1 .0)
+    (λ c. renewed c .renew .kept .1 .1 .1 .1 .1 .1 .1 .1 .0)
+    (λ c. renewed c .renew .kept .1 .1 .1 .1 .1 .1 .1 .1 .1 .0)
     returns
+    (λ c. refl)
+    (λ c. refl)
     (λ c. refl)
     (λ c. refl)
     (λ c. refl)

@@ -1,15 +1,16 @@
--- `sail_sound::test::sound_with`. A list that fails decides; else its words stand at the front of the room that is lent, and the levels are looked
--- at beside them.
+-- `sail_sound::test::sound_with`. A list that fails decides; else its words stand at the front of the room that is lent, and the levels and
+-- the counts are looked at beside them.
 use Rattle.sail.proofs.Fitting.{celled-of}
 use Rattle.sail_list.proofs.Fronts.{count-in, count-room, chain-room, still-in, front-room, front-ready}
-use Rattle.sail_sound.proofs.Tries.{no-list, levels-tried}
+use Rattle.sail_sound.proofs.Sounds.{beside-of}
+use Rattle.sail_sound.proofs.Tries.{no-list, table-tried}
 use borrow.Author.Needs.{needs}
 use Rattle.sail_sound.proofs.test.sound_with.Statement.{statement}
 use Rattle.sail_sound.proofs.test.sound_with.Tie as tie
 
 -- Places: where it starts, seen from the branch on which the list is good; and that branch, seen from after `chained`.
 abbrev start : tie.Else1 → tie.Start
-start c = c .before .before .before .before .before .before .before .before .before .before .before
+start c = c .before .before .before .before .before .before .before .before .before .before .before .before .before
 
 abbrev good : tie.After-chained → tie.Else1
 good c = c .before .before .before
@@ -26,32 +27,32 @@ words-count c = let g = c .before in count-room _ _ _ (g .before .list-ok .ensur
 chained-requires : tie.Need-chained-requires
 chained-requires c κs = let g = c .before .before in chain-room _ _ _ (g .before .list-ok .ensures) (g .if1 .left) _ _ (start g .pre .1)
 
-front-fits : tie.Need-slice-reshare-prefix-levels-ok
+front-fits : tie.Need-slice-reshare-prefix-table-ok
 front-fits c =
     let made = c .before .before .before .before .before in
     let g = good made in
     still-in _ _ _ (g .before .list-ok .ensures) (g .if1 .left) _ _ (start g .pre .1) (made .chained .last .1 .0) (made .chained .kept .1 .0)
 
-front-count : tie.Need-slice-aggregate-levels-ok
+front-count : tie.Need-slice-aggregate-table-ok
 front-count c =
     let made = c .before .before .before .before .before .before in
     let g = good made in
     front-room _ _ _ (g .before .list-ok .ensures) (g .if1 .left) _ _ (start g .pre .1) (made .chained .last .1 .0) (made .chained .kept .1 .0)
 
-levels-ok-requires : tie.Need-levels-ok-requires
-levels-ok-requires c κs =
+table-ok-requires : tie.Need-table-ok-requires
+table-ok-requires c κs =
     let made = c .before .before .before .before .before .before .before in
     let g = good made in (
       front-ready _ _ _ (g .before .list-ok .ensures) (g .if1 .left) _ _ (start g .pre .1) _ (made .chained .kept .1 .0) _ (made .chained .ensures),
-      celled-of _ _ (start g .pre .0),
+      (celled-of _ _ (start g .pre .0), beside-of _ _ (start g .pre .0)),
     )
 
 returns-2 : tie.Need-returns-2
 returns-2 c =
     let made = c .before .before .before .before .before .before .before .before in
     let g = good made in
-    levels-tried _ _ (start g .pre .0) _ (g .before .list-ok .ensures) (g .if1 .left) _ _ (start g .pre .1) _ (made .chained .kept .1 .0) _
-    (made .chained .ensures) _ (c .levels-ok .ensures)
+    table-tried _ _ (start g .pre .0) _ (g .before .list-ok .ensures) (g .if1 .left) _ _ (start g .pre .1) _ (made .chained .kept .1 .0) _
+    (made .chained .ensures) _ (c .table-ok .ensures)
 
 pub sound-with-spec : {M : Type 1} → statement M
 sound-with-spec =
@@ -65,7 +66,7 @@ sound-with-spec =
     chained-requires
     front-fits
     front-count
-    levels-ok-requires
+    table-ok-requires
     (λ c. search needs)
     (λ c. search needs)
     returns-2)

@@ -1,4 +1,4 @@
--- `vectors_runs::play::play` is safe and ends. Assumes nothing.
+-- `vectors_runs::play::play` is safe and ends.
 use mathlib.Core.Path.{_≡_}
 use Prim.Native.Nat.{_-_, _≤_}
 use native.Mathlib.Omega.{arith}
@@ -8,10 +8,12 @@ use Rattle.vectors_runs.proofs.play.play.Statement.{statement}
 use Rattle.vectors_runs.proofs.play.play.Tie as tie
 
 abbrev Inv-loop : tie.InvT-loop
-Inv-loop script list₀ first₀ second₀ third₀ own2₀ own3₀ t₀ k₀ list first second third own2 own3 t k = (k ≤ 27) × (length list ≡ length list₀) × (length first ≡ length first₀) × (length second ≡ length second₀) × (length third ≡ length third₀) × (length own2 ≡ length own2₀) × (length own3 ≡ length own3₀)
+Inv-loop script list₀ first₀ second₀ third₀ own2₀ own3₀ long1₀ long2₀ t₀ k₀ list first second third own2 own3 long1 long2 t k =
+    (k ≤ 27) × (length list ≡ length list₀) × (length first ≡ length first₀) × (length second ≡ length second₀)
+    × (length third ≡ length third₀) × (length own2 ≡ length own2₀) × (length own3 ≡ length own3₀) × (length long1 ≡ length long1₀) × (length long2 ≡ length long2₀)
 
 abbrev μ-loop : tie.MeasureT-loop
-μ-loop script list₀ first₀ second₀ third₀ own2₀ own3₀ t₀ k₀ list first second third own2 own3 t k = 27 - k
+μ-loop script list₀ first₀ second₀ third₀ own2₀ own3₀ long1₀ long2₀ t₀ k₀ list first second third own2 own3 long1 long2 t k = 27 - k
 
 pub play-spec : {M : Type 1} → statement M
 play-spec =
@@ -22,6 +24,8 @@ play-spec =
     (λ c. search needs)
     (λ c κs. search needs)
     (λ c κs. search needs)
+    (λ c. search needs)
+    (λ c. search needs)
     (λ c. search needs)
     (λ c. search needs)
     (λ c. search needs)

@@ -1,0 +1,9 @@
+-- Laws that the proofs of the functions and the calls cite.
+pub mod Owners
+pub mod Ticks
+pub mod Steps
+pub mod Runs
+pub mod Leads
+pub mod Exact
+pub mod Tallies
+pub mod Loads

@@ -1,0 +1,29 @@
+-- `sail_counts::test::goes_on` meets its contract.
+use borrow.Author.Needs.{needs}
+use Rattle.sail_counts.proofs.Runs.{goes-first, goes-short, goes-told}
+use Rattle.sail_counts.proofs.test.goes_on.Statement.{statement}
+use Rattle.sail_counts.proofs.test.goes_on.Tie as tie
+
+returns : tie.Need-returns
+returns c = goes-first _ _ _ _ (c .if1 .taken)
+
+returns-2 : tie.Need-returns-2
+returns-2 c = goes-short _ _ _ _ (c .if2 .taken)
+
+returns-3 : tie.Need-returns-3
+returns-3 c = goes-told _ _ _ _ (c .before .before .if1 .left) (c .if2 .left)
+
+pub goes-on-spec : {M : Type 1} → statement M
+goes-on-spec =
+    tie.close
+    (tie.spec
+    returns
+    (λ c. search needs)
+    (λ c. search needs)
+    (λ c. search needs)
+    (λ c. search needs)
+    returns-2
+    (λ c. search needs)
+    (λ c. search needs)
+    (λ c. search needs)
+    returns-3)
