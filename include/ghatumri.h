@@ -121,8 +121,8 @@ extern "C" {
 
 /* ---- Version --------------------------------------------------------------------------------------------------- */
 
-#define GH_VERSION         10100      /* 10,000 for each major, 100 for each minor version */
-#define GH_VERSION_TEXT    "1.1.0"
+#define GH_VERSION         20000      /* 10,000 for each major, 100 for each minor version */
+#define GH_VERSION_TEXT    "2.0.0"
 
 /* ---- Limits and sizes ------------------------------------------------------------------------------------------ */
 
