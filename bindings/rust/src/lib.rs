@@ -65,4 +65,4 @@ pub use maps::{hop, MapsMut, MapsRef, MAP_BYTES, MAP_CELLS};
 pub use owned::{Image, Maps, Table};
 pub use refusal::{Reason, Refusal};
 pub use route::{Mark, ParseRouteError, Route};
-pub use table::{Announced, Report, TableMut, TableRef, Withdrawn};
+pub use table::{Announced, Repaired, Report, TableMut, TableRef, Withdrawn};

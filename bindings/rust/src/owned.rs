@@ -7,7 +7,7 @@ use crate::input::Routes;
 use crate::maps::{self, MapsMut, MapsRef, MAP_BYTES, MAP_CELLS};
 use crate::refusal::Refusal;
 use crate::route::Mark;
-use crate::table::{self, Announced, Report, TableMut, TableRef, Withdrawn};
+use crate::table::{self, Announced, Repaired, Report, TableMut, TableRef, Withdrawn};
 use alloc::vec;
 use alloc::vec::Vec;
 use core::fmt;
@@ -137,6 +137,15 @@ impl Table {
     /// 1, 2, 3 for a length over 32, 5, 9.
     pub fn withdraw(&mut self, addr: impl Into<Ipv4Addr>, len: u8) -> Result<Withdrawn, Refusal> {
         self.lend(|t| t.withdraw(addr, len))
+    }
+
+    /// As [`TableMut::repair`].
+    ///
+    /// # Errors
+    ///
+    /// 1, 2, 7, 8.
+    pub fn repair(&mut self) -> Result<Repaired, Refusal> {
+        self.lend(|t| t.repair())
     }
 }
 

@@ -5,3 +5,4 @@ pub mod broadcast;
 pub mod gen;
 pub mod plain;
 pub mod tree_change;
+pub mod repair;
