@@ -1,5 +1,5 @@
 -- What is kept of a list. A record is kept exactly where it is valid by itself and larger than every one kept before it; so what is kept is a good
--- list, and of good records all are. Assumes nothing.
+-- list, and of good records all are.
 use mathlib.Core.Path.{_≡_, refl, sym, _∙_, ap}
 use mathlib.Core.Logic.{_⊎_, inl, inr}
 use mathlib.Core.Bool.{true, false, cond, true≢false}
@@ -19,6 +19,7 @@ use Rattle.routes.specs.declared.Route.{Route}
 use Rattle.routes.proofs.Meaning.{RouteChecked, route-checked, fine-fault}
 use Rattle.routes.proofs.Rows.{listed-record}
 use Rattle.repair_theory.specs.Repair.{keeps, keptFrom, keptOf}
+use Rattle.repair_theory.specs.Keeping.{Largest, Each}
 use Rattle.repair_theory.specs.Pass.{leastFrom}
 
 -- valid by itself is fine
@@ -75,39 +76,6 @@ module _ (s : List ℕ) where
       (λ least k d xs m e a. let z : k + suc d ≡ suc k + d = omega arith in rw (e, z) a)
       (λ least k d xs m e b. let z : k + suc d ≡ suc k + d = omega arith in rw (e, z) b)
 
-  -- where a kept record stands in the list
-  pub record Stood (least k d : ℕ) (r : Route) : Type 0 where
-    pub place : ℕ
-    pub from : k ≤ place
-    pub before : place < k + d
-    pub is : recordAt s place ≡ r
-    pub fine : Fine r
-    pub large : least ≤ key r
-
-  -- what stands among later records, with a key that is asked to be no less
-  later : (least least′ k d : ℕ) (r : Route) → least ≤ least′ → Stood least′ (suc k) d r → Stood least k (suc d) r
-  later least least′ k d r h w = record {
-    place = w .place;
-    from = omega (arith, w .from);
-    before = omega (arith, w .before);
-    is = w .is;
-    fine = w .fine;
-    large = omega (arith, w .large);
-  }
-
-  -- each that is kept is one of the records, fine, and not below what is asked for
-  pub kept-stood : (least k d : ℕ) (r : Route) → List·Memᴰ r (keptFrom s least k d) → Stood least k d r
-  kept-stood =
-      kept-ind (λ least k d xs m. (r : Route) → List·Memᴰ r xs → Stood least k d r)
-      (λ least k r n. absurd (List·Memᴰ·not-nil n))
-      (λ least k d xs m e a r n. first least k d r (keeps-fine least k e) (a r) (List·Memᴰ·cases-cons n))
-      (λ least k d xs m e b r n. later least least k d r (omega arith) (b r n))
-    where
-      first : {xs : List Route} (least k d : ℕ) (r : Route) → Fine (recordAt s k) × (least ≤ key (recordAt s k))
-          → (List·Memᴰ r xs → Stood (suc (key (recordAt s k))) (suc k) d r) → (r ≡ recordAt s k) ⊎ List·Memᴰ r xs → Stood least k (suc d) r
-      first least k d r f a (inl q) = record { place = k; from = omega arith; before = omega arith; is = sym q; fine = rw q (f .0); large = rw q (f .1) }
-      first least k d r f a (inr n) = later least _ k d r (omega (arith, f .1)) (a n)
-
   -- "keeps each record that is valid and larger than the last one kept": what is kept ascends
   pub kept-good : (least k d : ℕ) → Good (keptFrom s least k d)
   unfolding Good
@@ -146,25 +114,17 @@ module _ (s : List ℕ) where
       (λ least k d xs m e a h f. a (f (recordAt s k) (List·Memᴰ·head refl)) (λ r n. f r (List·Memᴰ·tail n)))
       (λ least k d xs m e b. b)
 
-  -- larger than all that are kept of the first n records
-  abbrev pub Largest : ℕ → Route → Type 0
-  Largest n x = (r : Route) → List·Memᴰ r (keptOf s n) → key r < key x
-
-  -- Record n is kept exactly where it is valid by itself and larger than every one kept before it, and then it is the last that is.
-  pub record Each (n : ℕ) : Type 0 where
-    pub takes : Fine (recordAt s n) → Largest n (recordAt s n) → keptOf s (suc n) ≡ keptOf s n ++ (recordAt s n ∷ [])
-    pub drops : (Fine (recordAt s n) → Largest n (recordAt s n) → ⊥) → keptOf s (suc n) ≡ keptOf s n
-
-  pub kept-each : (n : ℕ) → Each n
+  -- Kept or not is told by `keeps`, and what it asks of the key is that it is larger than all that are kept.
+  pub kept-each : (n : ℕ) → Each s n
   kept-each n = record { takes = takes; drops = drops }
     where
       step : keptOf s (suc n) ≡ keptOf s n ++ cond (keeps s (leastFrom s 0 0 n) n) (recordAt s n ∷ []) []
       step = let z : 0 + n ≡ n = omega arith in rw z at (kept-snoc 0 0 n)
 
-      takes : Fine (recordAt s n) → Largest n (recordAt s n) → keptOf s (suc n) ≡ keptOf s n ++ (recordAt s n ∷ [])
+      takes : Fine (recordAt s n) → Largest s n (recordAt s n) → keptOf s (suc n) ≡ keptOf s n ++ (recordAt s n ∷ [])
       takes f h = step ∙ rw (fine-keeps (leastFrom s 0 0 n) n f (least-under (key (recordAt s n)) 0 0 n zero-le h))
 
-      drops : (Fine (recordAt s n) → Largest n (recordAt s n) → ⊥) → keptOf s (suc n) ≡ keptOf s n
+      drops : (Fine (recordAt s n) → Largest s n (recordAt s n) → ⊥) → keptOf s (suc n) ≡ keptOf s n
       drops h = step ∙ rw (untrue (keeps s (leastFrom s 0 0 n) n) kept-not) (append-nil (keptOf s n))
         where
           kept-not : keeps s (leastFrom s 0 0 n) n ≡ true → ⊥

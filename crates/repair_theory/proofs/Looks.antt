@@ -1,26 +1,15 @@
--- Which records are looked at, what is kept of them, and at how many places two lists differ. Assumes nothing.
-use mathlib.Core.Path.{_≡_, refl, _∙_}
-use mathlib.Core.Bool.{false}
-use mathlib.Core.List.{List}
-use Prim.Native.Nat.{ℕ, zero, suc, _+_, _≤_, _<_}
+-- Which records are looked at, and how many of them are kept.
+use mathlib.Core.Path.{_≡_}
+use Prim.Native.Nat.{_+_, _≤_}
 use native.Mathlib.Omega.{arith}
-use lib.Dec.{eqb}
-use lib.ListN.{length, getD}
-use borrow.Author.Tests.{eq-eqb}
-use Rattle.bits.specs.Count.{count}
-use Rattle.bits.proofs.Counts.{count-ext}
+use lib.ListN.{length}
 use Rattle.routes.specs.Route.{Good}
 use Rattle.sail.specs.Lent.{Lent}
 use Rattle.sail.specs.declared.table.Table.{Table}
 use Rattle.sail_theory.specs.Render.{roomOf}
-use Rattle.repair_theory.specs.Repair.{looked, kept, differ, dropped}
+use Rattle.repair_theory.specs.Repair.{looked, kept, dropped}
+use Rattle.repair_theory.specs.Keeping.{Looks}
 use Rattle.repair_theory.proofs.Kept as keeping
-
--- "It looks at the records up to the state's route count, or to the end of the room if that is less"
-pub record Looks (t : Table) (l : Lent) : Type 0 where
-  pub to-count : t .count ≤ roomOf l → looked t l ≡ t .count
-  pub to-room : roomOf l ≤ t .count → looked t l ≡ roomOf l
-  pub inside : looked t l ≤ roomOf l
 
 module _ (t : Table) (l : Lent) where
   pub looks : Looks t l
@@ -41,13 +30,3 @@ module _ (t : Table) (l : Lent) where
 
   pub kept-room : length (kept t l) ≤ roomOf l
   kept-room = omega (arith, kept-few, looks .inside)
-
-count-none : (n : ℕ) → count (λ _. false) n ≡ 0
-unfolding count
-count-none zero = refl
-count-none (suc n) = omega (arith, count-none n)
-
--- equal lists differ nowhere
-pub differ-same : (xs ys : List ℕ) → ys ≡ xs → differ xs ys ≡ 0
-unfolding differ
-differ-same xs ys e = count-ext _ (λ _. false) (length xs) (λ q h. rw (e, eq-eqb (getD xs q 0) (getD xs q 0) refl)) ∙ count-none (length xs)

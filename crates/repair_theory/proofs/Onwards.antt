@@ -1,5 +1,5 @@
 -- Demand 3 goes on from a repaired table: what a repair leaves, a run from a fresh table leaves too, namely a load of the kept records; and so it is
--- with all calls that follow. What demand 3 says of runs it says of these. Assumes nothing.
+-- with all calls that follow. What demand 3 says of runs it says of these.
 use mathlib.Core.Path.{_≡_, refl, sym, _∙_, ap}
 use mathlib.Core.Bool.{true}
 use mathlib.Core.List.{List, [], _∷_, _++_}
@@ -12,22 +12,16 @@ use Rattle.sail.specs.Sound.{Sound, standing}
 use Rattle.sail.specs.declared.table.Table.{Table}
 use Rattle.sail_theory.specs.Calls.{Out, made, loaded}
 use Rattle.sail_theory.specs.Facts.{SameSize}
-use Rattle.sail_theory.specs.Runs.{Call, load, done, after, worked, Carries}
+use Rattle.sail_theory.specs.Runs.{Call, done, after, worked, Carries, AsFresh}
 use Rattle.sail_theory.proofs.Fresh.{make-holds}
 use Rattle.sail_theory.proofs.Sizes.{load-blind}
 use Rattle.sail_theory.proofs.Loads.{load-said}
 use Rattle.sail_theory.proofs.Runs as runs
-use Rattle.sail_theory.specs.Runs.{AsFresh}
 use Rattle.sail_theory.proofs.Anew.{run-as-fresh}
 use Rattle.repair_theory.specs.Repair.{keptBytes, repaired}
-use Rattle.repair_theory.specs.Onwards.{onwards}
+use Rattle.repair_theory.specs.Onwards.{onwards, Same, asRun}
 use Rattle.repair_theory.proofs.Judged.{accepted-loadable}
 use Rattle.repair_theory.proofs.Repairs.{repair-said, repair-loads}
-
--- the state and all that is lent are the same
-pub record Same (o p : Out) : Type 0 where
-  pub table : o .table ≡ p .table
-  pub lent : o .lent ≡ p .lent
 
 -- from there the same calls lead to the same
 onwards-same : (o p : Out) → Same o p → (cs : List Call) → Same (onwards o cs) (onwards p cs)
@@ -45,11 +39,7 @@ module _ (t : Table) (l : Lent) (e : accepts (repaired t l .said) ≡ true) wher
   sized : Sized (t .geometry) l
   sized = accepted-loadable t l (sym (ap accepts (repair-said t l)) ∙ e) .sized
 
-  -- the run that leaves the same: the calls made since, and before them a load of the kept records into a fresh table
-  abbrev pub asRun : List Call → List Call
-  asRun cs = cs ++ load (keptBytes t l) ∷ []
-
-  repair-run : Same (repaired t l) (after t l (asRun []))
+  repair-run : Same (repaired t l) (after t l (asRun t l []))
   unfolding after done
   repair-run =
       let k = repair-loads t l e in
@@ -58,20 +48,20 @@ module _ (t : Table) (l : Lent) (e : accepts (repaired t l .said) ≡ true) wher
       = load-blind t l (made t l .table) (made t l .lent) (h .geometry) (h .size) (keptBytes t l) (rw (sym (load-said t l (keptBytes t l)) ∙ k .loads)) in
       record { table = k .table ∙ sym (ap (λ (o : Out). o .table) q); lent = k .lent ∙ sym (ap (λ (o : Out). o .lent) q) }
 
-  pub goes-on : (cs : List Call) → Same (onwards (repaired t l) cs) (after t l (asRun cs))
+  pub goes-on : (cs : List Call) → Same (onwards (repaired t l) cs) (after t l (asRun t l cs))
   goes-on cs =
       let k = onwards-same _ _ repair-run cs in
-      let q = onwards-after t l (asRun []) cs in
+      let q = onwards-after t l (asRun t l []) cs in
       record { table = k .table ∙ ap (λ (o : Out). o .table) q; lent = k .lent ∙ ap (λ (o : Out). o .lent) q }
 
   -- so any calls after a repair leave a sound table,
   pub onwards-sound : (cs : List Call) → Sound (onwards (repaired t l) cs .table) (onwards (repaired t l) cs .lent)
-  onwards-sound cs = let k = goes-on cs in rw (k .table, k .lent) (runs.run-sound t l sized (asRun cs))
+  onwards-sound cs = let k = goes-on cs in rw (k .table, k .lent) (runs.run-sound t l sized (asRun t l cs))
 
   -- in which stands what the kept records and the accepted calls say,
   pub onwards-standing : (cs : List Call) (k : ℕ)
-      → routeAt k (standing (onwards (repaired t l) cs .table) (onwards (repaired t l) cs .lent)) ≡ worked t l (asRun cs) k
-  onwards-standing cs j = let k = goes-on cs in rw (k .table, k .lent) (runs.run-standing t l sized (asRun cs) j)
+      → routeAt k (standing (onwards (repaired t l) cs .table) (onwards (repaired t l) cs .lent)) ≡ worked t l (asRun t l cs) k
+  onwards-standing cs j = let k = goes-on cs in rw (k .table, k .lent) (runs.run-standing t l sized (asRun t l cs) j)
 
   -- and which serves every address as a fresh load of these does, in as many chunks
   pub onwards-as-fresh : (cs : List Call) (u : Table) (v : Lent) → u .geometry ≡ t .geometry → SameSize l v
@@ -79,4 +69,4 @@ module _ (t : Table) (l : Lent) (e : accepts (repaired t l .said) ≡ true) wher
       → AsFresh (onwards (repaired t l) cs .table) (onwards (repaired t l) cs .lent) (loaded u v input)
   onwards-as-fresh cs u v geo size input c =
       let k = goes-on cs in
-      rw (k .table, k .lent) (run-as-fresh t l sized (asRun cs) u v geo size input (rw (k .table, k .lent) at c))
+      rw (k .table, k .lent) (run-as-fresh t l sized (asRun t l cs) u v geo size input (rw (k .table, k .lent) at c))

@@ -1,6 +1,6 @@
 -- A repair whole. A refusal leaves all as it was. Where it is accepted, what it leaves is what a load of the kept records leaves, and so is sound; a
--- sound table keeps all its records; and what a load or a repair has left is not altered. Assumes nothing.
-use mathlib.Core.Path.{_≡_, sym, _∙_, ap, subst}
+-- sound table keeps all its records; and what a load or a repair has left is not altered.
+use mathlib.Core.Path.{_≡_, refl, sym, _∙_, ap, subst}
 use mathlib.Core.Bool.{true, false, true≢false}
 use mathlib.Core.List.{List, [], _∷_}
 use Prim.Native.Nat.{ℕ, _-_, _*_, _/_, _^_, _≤_, _<_}
@@ -14,24 +14,26 @@ use Rattle.sail.specs.Lent.{Lent}
 use Rattle.sail.specs.Level.{chunksOf}
 use Rattle.sail.specs.Sizes.{Sized}
 use Rattle.sail.specs.Sound.{Sound, standing}
-use Rattle.sail.specs.Walk.{lookupSaid}
 use Rattle.sail.specs.declared.table.Table.{Table}
 use Rattle.sail.proofs.Sounds.{chunks-need}
 use Rattle.sail_theory.specs.Calls.{settled, noOwners, inputRoutes, loadSaid, Out, stateOf, lentOf, loaded}
-use Rattle.sail_theory.specs.Facts.{Holds, Loadable}
+use Rattle.sail_theory.specs.Facts.{SameSize, Holds, Loadable}
 use Rattle.sail_theory.specs.Runs.{Carries}
 use Rattle.sail_theory.proofs.Chunks.{used-le}
 use Rattle.sail_theory.specs.Cases.{Readable, Load}
 use Rattle.sail_theory.proofs.Only.{load-only}
 use Rattle.sail_theory.proofs.Accepted.{outcome-said, outcome-refused}
-use Rattle.sail_theory.proofs.Sizes.{load-blind}
+use Rattle.sail_theory.proofs.Sizes.{size-refl, size-trans, sized-same, load-blind}
 use Rattle.sail_theory.proofs.Loads.{load-is, load-said, load-holds, loadable-said, loadable-holds, accepted-loadable}
 use Rattle.sail_theory.proofs.Anew.{carried, same-lookups}
-use Rattle.repair_theory.specs.Repair.{looked, kept, keptBytes, reloaded, dropped, changes, repairSaid, repaired}
+use Rattle.repair_theory.specs.Repair.{looked, kept, keptBytes, reloaded, differ, dropped, changes, repairSaid, repaired}
+use Rattle.repair_theory.specs.Cases.{Repair}
+use Rattle.repair_theory.specs.Leaves.{Loads, SoundKeeps, untouched, Spared, undone}
 use Rattle.repair_theory.proofs.Kept.{kept-all}
-use Rattle.repair_theory.proofs.Looks.{looks, kept-good, kept-room, differ-same}
+use Rattle.repair_theory.proofs.Looks.{looks, kept-good, kept-room}
+use Rattle.repair_theory.proofs.Differs.{differ-same}
 use Rattle.repair_theory.proofs.Judged as judged
-use Rattle.repair_theory.proofs.Judged.{Repair, repair-judged, repair-only, kept-loadable}
+use Rattle.repair_theory.proofs.Judged.{repair-judged, repair-only, kept-loadable}
 
 -- the routes of an input that carries these
 pub carried-routes : (input : List ℕ) (rs : List Route) → Carries input rs → inputRoutes input ≡ rs
@@ -102,17 +104,12 @@ module _ (t : Table) (l : Lent) where
       go (Repair.third z x y) e = load-only t l (keptBytes t l) _ (Load.third (kept-readable z) (rw n (kept-room t l)) (rw (q z) x) (rw (q z) y))
       go (Repair.done w) e = absurd (true≢false e)
 
-  -- Accepted: "It loads what was kept". That load is accepted, and what it leaves is left
-  pub record Loads : Type 0 where
-    pub loads : reloaded t l .said ≡ accepted []
-    pub table : repaired t l .table ≡ reloaded t l .table
-    pub lent : repaired t l .lent ≡ reloaded t l .lent
-
+  -- Accepted: "It loads what was kept"
   module _ (e : accepts (repaired t l .said) ≡ true) where
     abbrev w : Loadable t l rs
     w = accepted-loads e
 
-    pub repair-loads : Loads
+    pub repair-loads : Loads t l
     repair-loads =
         let q = repair-is w in
         record { loads = ap (λ (o : Out). o .said) (reload-is w); table = ap (λ (o : Out). o .table) q; lent = ap (λ (o : Out). o .lent) q }
@@ -147,15 +144,7 @@ module _ (t : Table) (l : Lent) (s : Sound t l) where
   pub sound-accepted : repaired t l .said ≡ accepted (changes t l)
   sound-accepted = ap (λ (o : Out). o .said) (repair-is t l sound-loadable)
 
-  -- it is accepted and drops none; then the same routes stand, and every address is served as before
-  pub record SoundKeeps : Type 0 where
-    pub accepted-so : accepts (repaired t l .said) ≡ true
-    pub keeps-all : kept t l ≡ standing t l
-    pub drops-none : dropped t l ≡ 0
-    pub stands : standing (repaired t l .table) (repaired t l .lent) ≡ standing t l
-    pub serves : (a : ℕ) → a < 2 ^ 32 → lookupSaid (repaired t l .table) (repaired t l .lent) a ≡ lookupSaid t l a
-
-  pub repair-sound-keeps : SoundKeeps
+  pub repair-sound-keeps : SoundKeeps t l
   repair-sound-keeps =
       let e : accepts (repaired t l .said) ≡ true = rw sound-accepted in
       let h = repair-holds t l e in
@@ -168,11 +157,7 @@ module _ (t : Table) (l : Lent) (s : Sound t l) where
         serves = same-lookups t l (repaired t l .table) (repaired t l .lent) s (h .sound) (h .geometry) q;
       }
 
--- nothing is dropped, no cell differs, and all is left as it was
-abbrev pub untouched : Table → Lent → Out
-untouched t l = record { said = accepted (0 ∷ 0 ∷ 0 ∷ 0 ∷ []); table = t; lent = l }
-
--- a table as a load left it
+-- A table as a load left it, and a fault that spares its list.
 module _ (t : Table) (l : Lent) (input : List ℕ) (e : accepts (loaded t l input .said) ≡ true) where
   abbrev u : Table
   u = loaded t l input .table
@@ -186,33 +171,60 @@ module _ (t : Table) (l : Lent) (input : List ℕ) (e : accepts (loaded t l inpu
   ok : Readable t l input × Loadable t l (inputRoutes input)
   ok = accepted-loadable t l input (sym (ap accepts (load-said t l input)) ∙ e)
 
-  kept-input : kept u v ≡ inputRoutes input
-  kept-input = sound-kept u v (h .sound) ∙ h .routes
+  module _ (d : Lent) (f : Spared v d) where
+    size : SameSize l d
+    size = size-trans l v d (h .size) (f .size)
 
-  carries-input : Carries (keptBytes u v) (inputRoutes input)
-  carries-input = subst (Carries (keptBytes u v)) kept-input (kept-carried u v (rw kept-input (omega (arith, ok .1 .roomy, ok .1 .sized .room))))
+    kept-spared : (kept u d ≡ kept u v) × (dropped u d ≡ dropped u v)
+    unfolding kept looked
+    kept-spared = (rw (f .list), rw (f .list))
 
-  -- a load of what it holds leaves the same
-  reload-same : reloaded u v ≡ loaded t l input
-  reload-same =
-      load-blind t l u v (h .geometry) (h .size) (keptBytes u v) (rw (carried-said carries-input))
-      ∙ carried-is t l (keptBytes u v) (inputRoutes input) carries-input (ok .1)
-      ∙ sym (load-is t l input (ok .0) (ok .1))
-    where
-      carried-said : Carries (keptBytes u v) (inputRoutes input) → loadSaid t l (keptBytes u v) ≡ accepted []
-      carried-said c =
-          loadable-said t l (keptBytes u v) (carried-readable t l (keptBytes u v) (inputRoutes input) c (ok .1))
-          (rw (carried-routes (keptBytes u v) (inputRoutes input) c) (ok .1))
+    kept-input : kept u d ≡ inputRoutes input
+    kept-input = kept-spared .0 ∙ sound-kept u v (h .sound) ∙ h .routes
 
+    input-loadable : Loadable u d (kept u d)
+    input-loadable =
+        kept-loadable u d (sized-same (u .geometry) v d (h .sound .sized) (f .size))
+        (rw (kept-input, h .geometry, size .chunks2) (ok .1 .enough2))
+        (rw (kept-input, h .geometry, size .chunks3) (ok .1 .enough3))
+
+    carries-input : Carries (keptBytes u d) (inputRoutes input)
+    carries-input =
+        subst (Carries (keptBytes u d)) kept-input (kept-carried u d (rw kept-input (omega (arith, ok .1 .roomy, ok .1 .sized .room))))
+
+    -- a load of what it holds leaves the same
+    reload-same : reloaded u d ≡ loaded t l input
+    reload-same =
+        load-blind t l u d (h .geometry) size (keptBytes u d) (rw (carried-said carries-input))
+        ∙ carried-is t l (keptBytes u d) (inputRoutes input) carries-input (ok .1)
+        ∙ sym (load-is t l input (ok .0) (ok .1))
+      where
+        carried-said : Carries (keptBytes u d) (inputRoutes input) → loadSaid t l (keptBytes u d) ≡ accepted []
+        carried-said c =
+            loadable-said t l (keptBytes u d) (carried-readable t l (keptBytes u d) (inputRoutes input) c (ok .1))
+            (rw (carried-routes (keptBytes u d) (inputRoutes input) c) (ok .1))
+
+    -- Whatever was done to the cells, the owners and the counts: all is as the load had left it, and the damaged cells are counted.
+    pub repair-undoes : repaired u d ≡ undone u v d
+    repair-undoes =
+        repair-is u d input-loadable ∙ rw (kept-spared .1, sound-dropped u v (h .sound)) (λ i.
+        record {
+          said = accepted (
+            0
+            ∷ differ (d .first) (reload-same i .lent .first)
+            ∷ differ (d .second) (reload-same i .lent .second)
+            ∷ differ (d .third) (reload-same i .lent .third)
+            ∷ []
+          );
+          table = reload-same i .table;
+          lent = reload-same i .lent;
+        })
+
+  -- and where nothing was done, nothing is altered
   pub repair-fresh : repaired u v ≡ untouched u v
   repair-fresh =
-      let q : reloaded u v .lent ≡ v = ap (λ (o : Out). o .lent) reload-same in
-      repair-is u v (sound-loadable u v (h .sound)) ∙ rw (
-        sound-dropped u v (h .sound),
-        differ-same (v .first) (reloaded u v .lent .first) (ap (λ (x : Lent). x .first) q),
-        differ-same (v .second) (reloaded u v .lent .second) (ap (λ (x : Lent). x .second) q),
-        differ-same (v .third) (reloaded u v .lent .third) (ap (λ (x : Lent). x .third) q),
-      ) (λ i. record { said = accepted (0 ∷ 0 ∷ 0 ∷ 0 ∷ []); table = reload-same i .table; lent = reload-same i .lent })
+      repair-undoes v (record { size = size-refl v; list = refl })
+      ∙ rw (differ-same (v .first) (v .first) refl, differ-same (v .second) (v .second) refl, differ-same (v .third) (v .third) refl)
 
 -- a second repair finds nothing
 pub repair-again : (t : Table) (l : Lent) → accepts (repaired t l .said) ≡ true

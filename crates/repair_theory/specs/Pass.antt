@@ -1,4 +1,4 @@
--- What a program holds that passes over the list once. Assumes nothing.
+-- What a program holds that passes over the list once.
 use mathlib.Core.Bool.{cond}
 use mathlib.Core.List.{List}
 use Prim.Native.Nat.{ℕ, zero, suc}

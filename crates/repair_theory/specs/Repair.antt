@@ -1,6 +1,6 @@
 -- A table put right after a memory fault, for every state and every contents. "A repair that reads the list, keeps each record that is valid and
 -- larger than the last one kept, and drops the others. It loads what was kept and reports the records dropped and the cells that differ from
--- before, for each of the three arrays." Assumes nothing.
+-- before, for each of the three arrays."
 use mathlib.Core.Bool.{Bool, _&&_, not, cond}
 use mathlib.Core.List.{List, [], _∷_}
 use Prim.Native.Nat.{ℕ, zero, suc, _-_, min}
