@@ -1,4 +1,4 @@
--- The exported repair: its number is read back, its words hold what it told, and a refusal leaves all. Assumes nothing.
+-- The exported repair: its number is read back, its words hold what it told, and a refusal leaves all.
 use mathlib.Core.Path.{_≡_, refl, sym, _∙_, ap}
 use mathlib.Core.Bool.{true, false, true≢false}
 use mathlib.Core.List.{List}
@@ -17,7 +17,8 @@ use Rattle.packing.specs.Unpack.{unpackNone, countOf}
 use Rattle.packing.specs.Repairs.{packCount, toldIn, numberSays, wordsFault}
 use Rattle.packing.proofs.Putting.{count-read, refusal-read}
 use Rattle.repair_theory.specs.Repair.{changes, repaired}
-use Rattle.repair_theory.proofs.Judged.{Repair, repair-judged, repair-only}
+use Rattle.repair_theory.specs.Cases.{Repair}
+use Rattle.repair_theory.proofs.Judged.{repair-judged, repair-only}
 use Rattle.repair_theory.proofs.Repairs.{repair-said, repair-holds, refused-leaves-all-repair}
 use Rattle.cards.specs.Repairs.{repairCard, repairCardOf, repairOut}
 
@@ -56,7 +57,8 @@ module _ (t : Table) (l : Lent) (xs : List ℕ) (four : length xs ≡ 4) where
   pub gh-repair-read : unpackNone (repairOut t l xs .answer) ≡ numberSays (repaired t l .said)
   gh-repair-read = rw gh-repair-is (go (repair-judged t l) (repair-said t l))
     where
-      go : {s : Said} → Repair t l s → repaired t l .said ≡ s → unpackNone (packCount (repaired t l .table .count) (repaired t l .said)) ≡ numberSays (repaired t l .said)
+      go : {s : Said} → Repair t l s → repaired t l .said ≡ s
+          → unpackNone (packCount (repaired t l .table .count) (repaired t l .said)) ≡ numberSays (repaired t l .said)
       go (Repair.sizing n (Sizing.limits h)) e = rw e (refusal-read (repaired t l .table .count) 1 (omega arith) (omega arith))
       go (Repair.sizing n (Sizing.size v h)) e = rw e (refusal-read (repaired t l .table .count) 2 (omega arith) (omega arith))
       go (Repair.second s x) e = rw e (refusal-read (repaired t l .table .count) 7 (omega arith) (omega arith))

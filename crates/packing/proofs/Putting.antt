@@ -1,4 +1,4 @@
--- A repair's number is read back, with the route count; and its words hold what it told. Assumes nothing.
+-- A repair's number is read back, with the route count; and its words hold what it told.
 use mathlib.Core.Path.{_≡_, refl, _∙_}
 use mathlib.Core.Logic.{_⊎_, inl, inr}
 use mathlib.Core.List.{List, [], _∷_}
@@ -45,7 +45,8 @@ four-set (x ∷ y ∷ z ∷ w ∷ []) a b c d e = refl
 four-set (x ∷ y ∷ z ∷ w ∷ v ∷ xs) a b c d e = absurd (omega arith)
 
 -- an accepted answer: nothing is in the number but the count
-pub count-read : (count : ℕ) (vs : List ℕ) → count < 2 ^ 16 → (unpackNone (packCount count (accepted vs)) ≡ accepted []) × (countOf (packCount count (accepted vs)) ≡ count)
+pub count-read : (count : ℕ) (vs : List ℕ) → count < 2 ^ 16
+    → (unpackNone (packCount count (accepted vs)) ≡ accepted []) × (countOf (packCount count (accepted vs)) ≡ count)
 unfolding packed unpacked noValues
 count-read count vs h =
     let z : field 0 8 (count * 65536) ≡ 0 = omega arith in

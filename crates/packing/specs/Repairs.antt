@@ -1,4 +1,4 @@
--- A repair's answer at the boundary: a number, and four words beside it. Assumes nothing.
+-- A repair's answer at the boundary: a number, and four words beside it.
 use mathlib.Core.Bool.{cond}
 use mathlib.Core.List.{List, []}
 use Prim.Native.Nat.{ℕ, _*_}

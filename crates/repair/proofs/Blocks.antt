@@ -1,4 +1,4 @@
--- A block of cells beside its plan, and the first cells block by block. Assumes nothing.
+-- A block of cells beside its plan, and the first cells block by block.
 use mathlib.Core.Path.{_≡_, sym, _∙_, ap}
 use mathlib.Core.Bool.{Bool}
 use mathlib.Core.List.{List, _++_}

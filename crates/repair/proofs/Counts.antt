@@ -1,4 +1,4 @@
--- Loops that count: one number more, and one block of numbers more. Assumes nothing.
+-- Loops that count: one number more, and one block of numbers more.
 use mathlib.Core.Path.{_≡_, refl, sym, _∙_, ap}
 use mathlib.Core.Bool.{Bool, true, false, not, _&&_, and-false}
 use mathlib.Core.List.{List}

@@ -1,4 +1,4 @@
--- What is kept of a list is weighed against the chunks there are. Assumes nothing.
+-- What is kept of a list is weighed against the chunks there are.
 use mathlib.Core.Path.{_≡_, refl, sym, _∙_}
 use mathlib.Core.List.{List}
 use Prim.Native.Nat.{ℕ, _*_, _/_, _≤_, min}

@@ -1,4 +1,4 @@
--- The pass over a list that keeps its records: how far it has come, and one record more. Assumes nothing.
+-- The pass over a list that keeps its records: how far it has come, and one record more.
 use mathlib.Core.Path.{_≡_, refl, sym, _∙_, ap}
 use mathlib.Core.Logic.{_⊎_, inl, inr}
 use mathlib.Core.Bool.{true, false}

@@ -1,4 +1,4 @@
--- The three levels beside what routes and owners ask for: what counting each asks, and what the counts come to. Assumes nothing.
+-- The three levels beside what routes and owners ask for: what counting each asks, and what the counts come to.
 use mathlib.Core.Path.{_≡_, refl, sym, _∙_, ap}
 use mathlib.Core.Bool.{Bool}
 use mathlib.Core.List.{List}

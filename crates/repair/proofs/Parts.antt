@@ -1,5 +1,5 @@
 -- At how many places the cells of a level differ from what is asked, by its parts: places where a leaf is asked for or 0, counted place by place;
--- and places from which a chunk hangs, counted chunk by chunk, for these match one to one. Said of any level. Assumes nothing.
+-- and places from which a chunk hangs, counted chunk by chunk, for these match one to one. Said of any level.
 use mathlib.Core.Path.{_≡_, _∙_, ap}
 use mathlib.Core.Logic.{_⊎_, inl, inr}
 use mathlib.Core.Bool.{Bool, true, false, not, _&&_, cond}

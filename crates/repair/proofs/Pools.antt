@@ -1,4 +1,4 @@
--- A chunk beside its plan or 0, and a pool chunk by chunk. Assumes nothing.
+-- A chunk beside its plan or 0, and a pool chunk by chunk.
 use mathlib.Core.Path.{_≡_, refl, sym, _∙_, ap}
 use mathlib.Core.Bool.{Bool}
 use mathlib.Core.List.{List}

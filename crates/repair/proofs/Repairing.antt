@@ -1,4 +1,4 @@
--- The whole call: what it refuses, what counting the cells asks, and what it leaves. Assumes nothing.
+-- The whole call: what it refuses, what counting the cells asks, and what it leaves.
 use mathlib.Core.Path.{_≡_, sym, _∙_, ap}
 use mathlib.Core.Logic.{_⊎_, inl, inr}
 use mathlib.Core.List.{List, [], _∷_}

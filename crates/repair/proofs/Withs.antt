@@ -1,4 +1,4 @@
--- The owners of a load and the words of its routes, made in room that is lent, and what the count is then of. Assumes nothing.
+-- The owners of a load and the words of its routes, made in room that is lent, and what the count is then of.
 use mathlib.Core.Path.{_≡_, refl, sym, _∙_, ap, subst}
 use mathlib.Core.Bool.{true}
 use mathlib.Core.List.{List, _++_}

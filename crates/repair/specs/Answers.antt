@@ -1,4 +1,4 @@
--- What a repair says: the records dropped, and the first, second and third cells that differ. Assumes nothing.
+-- What a repair says: the records dropped, and the first, second and third cells that differ.
 use mathlib.Core.List.{[], _∷_}
 use Rattle.routes.specs.Said.{Said, accepted, refused}
 use Rattle.repair.specs.declared.repair.Repaired.{Repaired}

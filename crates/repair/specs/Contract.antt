@@ -1,5 +1,5 @@
 -- The statement of a repair, as a predicate on what it answers and leaves: t and l are the state and what is lent at entry, r the answer with the
--- state beside it, and e what is lent at exit. Assumes nothing.
+-- state beside it, and e what is lent at exit.
 use mathlib.Core.Path.{_≡_}
 use Rattle.sail.specs.Lent.{Lent}
 use Rattle.sail.specs.declared.table.Table.{Table}

@@ -1,5 +1,5 @@
 -- Cells that differ from what routes ask for, as they are counted: place by place where a leaf is asked for, or 0 in a free chunk; and chunk by
--- chunk where a cell is to name one. And what the functions that count ask for. Assumes nothing.
+-- chunk where a cell is to name one. And what the functions that count ask for.
 use mathlib.Core.Bool.{Bool, _&&_, not, cond}
 use mathlib.Core.List.{List}
 use mathlib.Core.Path.{_≡_}

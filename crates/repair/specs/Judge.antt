@@ -1,4 +1,4 @@
--- What judging a repair asks for, and what it tells: of the list alone, and of the number of chunks. Assumes nothing.
+-- What judging a repair asks for, and what it tells: of the list alone, and of the number of chunks.
 use mathlib.Core.List.{List, [], _∷_}
 use mathlib.Core.Path.{_≡_}
 use Prim.Native.Nat.{ℕ, _-_, _*_, _/_, _^_, _≤_, _<_, min}

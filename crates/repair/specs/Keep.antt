@@ -1,4 +1,4 @@
--- What keeping records asks and leaves. Assumes nothing.
+-- What keeping records asks and leaves.
 use mathlib.Core.List.{List}
 use mathlib.Core.Path.{_≡_}
 use Prim.Native.Nat.{ℕ, _*_, _≤_}

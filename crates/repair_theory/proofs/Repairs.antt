@@ -210,12 +210,12 @@ module _ (t : Table) (l : Lent) (input : List ℕ) (e : accepts (loaded t l inpu
         repair-is u d input-loadable ∙ rw (kept-spared .1, sound-dropped u v (h .sound)) (λ i.
         record {
           said = accepted (
-            0
-            ∷ differ (d .first) (reload-same i .lent .first)
-            ∷ differ (d .second) (reload-same i .lent .second)
-            ∷ differ (d .third) (reload-same i .lent .third)
-            ∷ []
-          );
+              0
+              ∷ differ (d .first) (reload-same i .lent .first)
+              ∷ differ (d .second) (reload-same i .lent .second)
+              ∷ differ (d .third) (reload-same i .lent .third)
+              ∷ []
+              );
           table = reload-same i .table;
           lent = reload-same i .lent;
         })

@@ -1,6 +1,6 @@
 -- What a repair leaves: of any table, of a sound one, and of one that a load has left.
 use mathlib.Core.Bool.{true}
-use mathlib.Core.List.{List, [], _∷_}
+use mathlib.Core.List.{[], _∷_}
 use mathlib.Core.Path.{_≡_}
 use Prim.Native.Nat.{ℕ, _^_, _<_}
 use Rattle.routes.specs.Said.{accepted, accepts}

@@ -14,14 +14,16 @@ abbrev clear : tie.After-repair → tie.Else1
 clear c = c .before .before .before .before .before .before .before .before .before
 
 abbrev put : tie.After-tell → tie.After-repair
-put c = c .before .before .before .before .before .before .before .before .before .before .before .before .before .before .before .before .before .before .before
+put c =
+    c .before .before .before .before .before .before .before .before .before .before .before .before .before .before .before .before .before .before .before
 
 refused : tie.Need-returns
 refused c = let w = c .before in repair-off _ _ _ _ _ (w .before .sizes .ensures) (w .words-fault .ensures) (c .if1 .taken) _ refl
 
 tell-requires : tie.Need-tell-requires
 tell-requires c κs =
-    let e = clear (c .before .before .before .before .before .before .before .before .before .before .before .before .before .before .before .before .before .before) in
+    let d = c .before .before .before .before .before .before .before .before .before in
+    let e = clear (d .before .before .before .before .before .before .before .before .before) in
     fault-none _ _ (sym (judged e .words-fault .ensures) ∙ e .if1 .left) .1
 
 returns-2 : tie.Need-returns-2
@@ -30,7 +32,8 @@ returns-2 c =
     let r = put told in
     let e = clear r in
     let w = judged e in
-    repair-on _ _ _ _ _ (w .before .sizes .ensures) (w .words-fault .ensures) (e .if1 .left) _ _ _ (r .repair .ensures) _ (told .tell .ensures) _ (c .repaired .ensures)
+    repair-on _ _ _ _ _ (w .before .sizes .ensures) (w .words-fault .ensures) (e .if1 .left)
+    _ _ _ (r .repair .ensures) _ (told .tell .ensures) _ (c .repaired .ensures)
 
 pub gh-repair-spec : {M : Type 1} → statement M
 gh-repair-spec =

@@ -69,7 +69,8 @@ input-count-2 c =
 
 done-requires : tie.Need-done-requires
 done-requires c κs =
-    let n = counted (c .before .before .before .before .before .before .before .before .before .before .before .before .before .before .before .before .before) in
+    let d = c .before .before .before .before .before .before .before .before .before in
+    let n = counted (d .before .before .before .before .before .before .before .before) in
     let e = clear n in
     let j = judged e in
     numbers-fit _ _ _ (sized j .sizes .ensures) _ _ (j .judge .ensures) (e .if1 .left) _ (n .count-cells .ensures)
