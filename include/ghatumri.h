@@ -74,16 +74,17 @@
  * THREADS. No call has memory of its own, so calls over different arrays may run at the same time, in threads and in
  * interrupts. Over the same arrays calls that only read them may run at the same time: every lookup, the report,
  * the test of an image, the run, the tally, a route read back, a broadcast. A call that writes an array (make, load,
- * announce, withdraw, repair, build) runs alone: no other call may use that array meanwhile, lookups neither. To change a table beside
- * readers, keep two sets of arrays: change the set that no reader uses, hand it to the readers (an atomic pointer to the
- * struct), wait until no reader has the old one, and copy arrays and count over or make the same change there. There is
- * no pointer in the arrays, so a copy of them with geometry and count is the same table. It is so with images too: a
- * change in place moves nodes, and a reader beside it would meet halves.
+ * announce, withdraw, repair, build) runs alone: no other call may use that array meanwhile, lookups neither. To change a
+ * table beside readers, keep two sets of arrays: change the set that no reader uses, hand it to the readers (an atomic
+ * pointer to the struct), wait until no reader has the old one, and copy arrays and count over or make the same change
+ * there. There is no pointer in the arrays, so a copy of them with geometry and count is the same table. It is so with
+ * images too: a change in place moves nodes, and a reader beside it would meet halves.
  *
  * STACK. gh_load, gh_announce, gh_withdraw and gh_report take at most GH_STACK_TABLE bytes of stack, gh_repair
- * GH_STACK_REPAIR, the test and the changes of an image GH_STACK_IMAGE, the others GH_STACK. On x86-64 and on Arm it is 44 KB for announce, withdraw and
- * the report, 42 KB for load, 8.5 KB for an image, 151 KB for repair (Arm), and under 200 bytes for each of the others. Only the test of an image
- * is recursive: the test of a node calls that of its children, and back, at most 17 calls for each of 8 depths.
+ * GH_STACK_REPAIR, the test and the changes of an image GH_STACK_IMAGE, the others GH_STACK. On x86-64 and on Arm it is
+ * 44 KB for announce, withdraw and the report, 42 KB for load, 8.5 KB for an image, and under 200 bytes for each of the
+ * others; on Arm 152 KB for repair. Only the test of an image is recursive: the test of a node calls that of its
+ * children, and back, at most 17 calls for each of 8 depths.
  *
  * WHAT THE LIBRARY NEEDS: memcpy and memset, and nothing else of a C library.
  */
@@ -123,8 +124,8 @@ extern "C" {
 
 /* ---- Version --------------------------------------------------------------------------------------------------- */
 
-#define GH_VERSION         20000      /* 10,000 for each major, 100 for each minor version */
-#define GH_VERSION_TEXT    "2.0.0"
+#define GH_VERSION         20100      /* 10,000 for each major, 100 for each minor version */
+#define GH_VERSION_TEXT    "2.1.0"
 
 /* ---- Limits and sizes ------------------------------------------------------------------------------------------ */
 

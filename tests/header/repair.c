@@ -104,15 +104,43 @@ static void cells(void)
     CHECK(list[63], 0);
 }
 
+/* Sound, but numbered by a run that closed a chunk: 10.2.2.0/25 has chunk 2 of each pool, and a load gives it chunk 1. No
+ * record is dropped. One first cell names another chunk, and two chunks of each pool differ in all their cells. */
+static void closed_chunk(void)
+{
+    static uint16_t second2[2 * GH_SECOND_CHUNK(16, 24)], third2[2 * GH_THIRD_CHUNK(24)], counts2[GH_ELEMENTS(second2)];
+    static uint32_t owners2[2], owners3[2];
+    struct gh_table run = GH_TABLE(16, 24, list, first, second2, third2, owners2, owners3, long1, counts2);
+    uint32_t told[GH_REPAIR_WORDS];
+    CHECK(gh_table_make(&run), 0);
+    CHECK(GH_NUMBER(gh_table_announce(&run, IP(10, 1, 2, 0), 25, 1, GH_BEHIND)), 0);
+    CHECK(GH_NUMBER(gh_table_announce(&run, IP(10, 2, 2, 0), 25, 2, GH_BEHIND)), 0);
+    CHECK(GH_NUMBER(gh_table_withdraw(&run, IP(10, 1, 2, 0), 25)), 0);
+    CHECK(GH_NUMBER(gh_table_report(&run)), 0);
+    CHECK(first[2562], 2);
+    CHECK(gh_table_repair(&run, told), (uint64_t)1 << 16);
+    CHECK(told[GH_DROPPED], 0);
+    CHECK(told[GH_FIRST_OFF], 1);
+    CHECK(told[GH_SECOND_OFF], 512);
+    CHECK(told[GH_THIRD_OFF], 512);
+    CHECK(first[2562], 1);
+    CHECK(GH_HOP(gh_table_lookup(&run, IP(10, 2, 2, 5))), 2);
+    CHECK(GH_NUMBER(gh_table_report(&run)), 0);
+}
+
 /* A refusal: all is as it was, the words too. */
 static void refused(unsigned number, size_t words)
 {
     static uint8_t list0[sizeof list];
     static uint16_t first0[GH_ELEMENTS(first)], second0[GH_ELEMENTS(second)], third0[GH_ELEMENTS(third)];
+    static uint16_t long10[GH_ELEMENTS(long1)], long20[GH_ELEMENTS(long2)];
+    uint32_t owner2 = own2[0], owner3 = own3[0];
     memcpy(list0, list, sizeof list);
     memcpy(first0, first, sizeof first);
     memcpy(second0, second, sizeof second);
     memcpy(third0, third, sizeof third);
+    memcpy(long10, long1, sizeof long1);
+    memcpy(long20, long2, sizeof long2);
     uint32_t told[5] = { 1, 2, 3, 4, 5 };
     uint32_t count = t.count;
     CHECK(gh_repair(t.p1, t.p2, t.count, GH_LENT(&t), told, words), number);
@@ -123,6 +151,9 @@ static void refused(unsigned number, size_t words)
         CHECK(told[k], k + 1);
     CHECK(memcmp(list0, list, sizeof list) || memcmp(first0, first, sizeof first), 0);
     CHECK(memcmp(second0, second, sizeof second) || memcmp(third0, third, sizeof third), 0);
+    CHECK(memcmp(long10, long1, sizeof long1) || memcmp(long20, long2, sizeof long2), 0);
+    CHECK(own2[0], owner2);
+    CHECK(own3[0], owner3);
 }
 
 static void refusals(void)
@@ -150,6 +181,7 @@ int main(void)
     lists();
     counts();
     cells();
+    closed_chunk();
     refusals();
     return checked("repair");
 }

@@ -16,7 +16,7 @@ use core::net::Ipv4Addr;
 /// A SAIL table that owns its buffers: a [`TableMut`] over vectors.
 ///
 /// The fields are open, since no content of them can do harm: a table that is not sound is refused with 5, and
-/// [`Table::load`] makes it sound again.
+/// [`Table::load`] or [`Table::repair`] makes it sound again.
 #[derive(Clone, PartialEq, Eq)]
 pub struct Table {
     pub geometry: Geometry,

@@ -214,7 +214,8 @@ pub(crate) use reads;
 /// # Ok::<(), ghatumri::Refusal>(())
 /// ```
 ///
-/// No content of the fields does harm: a table that is not sound is refused with 5, and load or repair makes it sound again.
+/// No content of the fields does harm: a table that is not sound is refused with 5, and load or repair makes it sound
+/// again.
 #[derive(PartialEq, Eq)]
 pub struct TableMut<'a> {
     pub geometry: Geometry,
@@ -314,7 +315,7 @@ impl TableMut<'_> {
 
     /// Puts the table right after a memory fault, whatever it holds: looks at the first [`count`](TableMut::count) records
     /// of the list, or to the end of its room if that is less, keeps each that is valid and larger than the last one kept,
-    /// and loads what was kept. A sound table keeps all its records.
+    /// and loads what was kept. A sound table keeps all its records. Takes some 152 KB of stack.
     ///
     /// # Errors
     ///

@@ -112,6 +112,8 @@ impl Pair {
                 }
                 if number(is) == 0 {
                     self.count_repaired(run, &out);
+                } else if number(is) == 2 && number(plain::report(p1, p2, count, &self.plain)) != 2 {
+                    run.count("repair", "2 by words");
                 }
                 ("repair", is, should)
             }
@@ -245,6 +247,9 @@ impl Pair {
         }
         if told.iter().all(|&n| n == 0) {
             run.count("repair", "nothing found");
+        } else if self.standing.is_some() {
+            // A run numbered the chunks otherwise than a load does, and no record was dropped.
+            run.count("repair", "sound and cells differ");
         }
     }
 

@@ -43,18 +43,42 @@ pub fn repair(p1: u32, p2: u32, count: u32, lent: &mut Lent, out: &mut [u32]) ->
 }
 
 /// What a memory fault may do to a table of the right sizes: bits or words of any array, a field of a record that the
-/// repair judges, the order of the records, or the count.
-pub fn memory_fault(rng: &mut Rng, p1: u32, p2: u32, count: &mut u32, t: &mut Lent) {
+/// repair judges, the order of the records, or the count. Answers what was harmed.
+pub fn memory_fault(rng: &mut Rng, p1: u32, p2: u32, count: &mut u32, t: &mut Lent) -> &'static str {
     let room = t.room() as u32;
     match rng.below(9) {
-        0 => flip(rng, &mut t.first, |x, bit| *x ^= 1 << (bit % 16)),
-        1 => flip(rng, &mut t.second, |x, bit| *x ^= 1 << (bit % 16)),
-        2 => flip(rng, &mut t.third, |x, bit| *x ^= 1 << (bit % 16)),
-        3 => flip(rng, &mut t.own2, |x, bit| *x ^= 1 << bit),
-        4 => flip(rng, &mut t.own3, |x, bit| *x ^= 1 << bit),
-        5 => damage_count(rng, p1, p2, t),
-        6 => *count = *rng.pick(&[0, 1, count.wrapping_sub(1), count.wrapping_add(1), room, room + 1, u32::MAX]),
-        _ => damage_record(rng, *count, &mut t.list),
+        0 => {
+            flip(rng, &mut t.first, |x, bit| *x ^= 1 << (bit % 16));
+            "first cells harmed"
+        }
+        1 => {
+            flip(rng, &mut t.second, |x, bit| *x ^= 1 << (bit % 16));
+            "second cells harmed"
+        }
+        2 => {
+            flip(rng, &mut t.third, |x, bit| *x ^= 1 << (bit % 16));
+            "third cells harmed"
+        }
+        3 => {
+            flip(rng, &mut t.own2, |x, bit| *x ^= 1 << bit);
+            "owners harmed"
+        }
+        4 => {
+            flip(rng, &mut t.own3, |x, bit| *x ^= 1 << bit);
+            "owners harmed"
+        }
+        5 => {
+            damage_count(rng, p1, p2, t);
+            "counts harmed"
+        }
+        6 => {
+            *count = *rng.pick(&[0, 1, count.wrapping_sub(1), count.wrapping_add(1), room, room + 1, u32::MAX]);
+            "route count harmed"
+        }
+        _ => {
+            damage_record(rng, *count, &mut t.list);
+            "list harmed"
+        }
     }
 }
 

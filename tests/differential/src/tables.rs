@@ -264,7 +264,8 @@ fn damaged(run: &mut Run, rng: &mut Rng, field: &Field, t: &mut Pair, standing: 
         2..=5 => {
             // Of harm for this very call, too; and a second time, which finds nothing.
             if rng.one_in(2) {
-                memory_fault(rng, t.p1, t.p2, &mut t.count, &mut t.plain);
+                let harmed = memory_fault(rng, t.p1, t.p2, &mut t.count, &mut t.plain);
+                run.count("repair", harmed);
                 t.look_again();
             } else if rng.one_in(4) && 8 * t.plain.room() == t.plain.list.len() {
                 // A list of other routes, which may want more chunks than there are.

@@ -8,8 +8,8 @@ mod counts;
 mod host_bits;
 mod mark;
 mod one_image;
-mod tree_change;
 mod repair;
+mod tree_change;
 
 fn ip(a: u8, b: u8, c: u8, d: u8) -> u32 {
     u32::from_be_bytes([a, b, c, d])

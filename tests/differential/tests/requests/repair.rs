@@ -142,6 +142,21 @@ fn sound_and_numbered_otherwise() {
     assert_eq!(out, [0; 4]);
 }
 
+/// The same after a run that closed a chunk: what is in chunk 2 of each pool goes to chunk 1.
+#[test]
+fn sound_with_a_closed_chunk() {
+    let mut t = table(&[], 2, 2);
+    announce(16, 24, 0, &mut t, ip(10, 1, 2, 0), 25, 1, 0);
+    announce(16, 24, 1, &mut t, ip(10, 2, 2, 0), 25, 2, 0);
+    withdraw(16, 24, 2, &mut t, ip(10, 1, 2, 0), 25);
+    assert_eq!((t.first[2561], t.first[2562], t.own2[0], t.own3[0]), (0x8000, 2, 0, 0));
+    let standing = sound(16, 24, 1, &t).unwrap();
+    let mut out = [77; 4];
+    assert_eq!(repair(16, 24, 1, &mut t, &mut out), routes_after(1));
+    assert_eq!(out, [0, 1, 512, 512]);
+    assert_eq!(t, table(&standing, 2, 2));
+}
+
 /// Over random faults: what is left is a load of the kept records and is sound, a second repair finds nothing, and a
 /// sound table keeps its routes.
 #[test]
