@@ -28,8 +28,8 @@ pub struct Differs {
     pub third: usize,
 }
 
-// How many cells of a part are planned as leaves and hold something else. No early end, so that it can be done many cells at
-// a time.
+// How many cells of a part are planned as leaves and hold something else. No early end, and the first test reads both, so that it
+// can be done many cells at a time.
 fn off_plan(part: &[u16], want: &[u16]) -> usize
     requires { ⌜ length (now part) ≡ length (now want) ⌝ }
     ensures { λ r. ⌜ Counted r (λ j. offPlan (getD (now (want .entry)) j 0) (getD (now (part .entry)) j 0)) (length (now (part .entry))) ⌝ }
@@ -41,8 +41,8 @@ fn off_plan(part: &[u16], want: &[u16]) -> usize
         let x = part[j];
         let w = want[j];
         j += 1;
-        if w != 0 {
-            if x != w {
+        if x != w {
+            if w != 0 {
                 m += 1;
             }
         }

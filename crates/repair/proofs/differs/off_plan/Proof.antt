@@ -21,20 +21,20 @@ off : tie.Need-loop-again Inv-loop μ-loop
 off c =
     let turn = c .before .before .before .before .before in
     let s = turn .before .args in
-    let n = plan-off (now (s .part)) (now (s .want)) (turn .loop .m) (turn .loop .j) (turn .loop .inv .2) (c .before .if1 .taken) (c .if2 .taken) in
+    let n = plan-off (now (s .part)) (now (s .want)) (turn .loop .m) (turn .loop .j) (turn .loop .inv .2) (c .if2 .taken) (c .before .if1 .taken) in
     (omega arith, omega arith, n)
 
-same : tie.Need-loop-again-2 Inv-loop μ-loop
-same c =
+node : tie.Need-loop-again-2 Inv-loop μ-loop
+node c =
     let turn = c .before .before .before .before .before in
     let s = turn .before .args in
-    (omega arith, omega arith, plan-same (now (s .part)) (now (s .want)) (turn .loop .m) (turn .loop .j) (turn .loop .inv .2) (c .if2 .left))
+    (omega arith, omega arith, plan-node (now (s .part)) (now (s .want)) (turn .loop .m) (turn .loop .j) (turn .loop .inv .2) (c .if2 .left))
 
-node : tie.Need-loop-again-3 Inv-loop μ-loop
-node c =
+same : tie.Need-loop-again-3 Inv-loop μ-loop
+same c =
     let turn = c .before .before .before .before in
     let s = turn .before .args in
-    (omega arith, omega arith, plan-node (now (s .part)) (now (s .want)) (turn .loop .m) (turn .loop .j) (turn .loop .inv .2) (c .if1 .left))
+    (omega arith, omega arith, plan-same (now (s .part)) (now (s .want)) (turn .loop .m) (turn .loop .j) (turn .loop .inv .2) (c .if1 .left))
 
 returns : tie.Need-returns Inv-loop μ-loop
 returns c = let l = c .before .loop in counted _ _ _ _ (l .inv .0) (c .loop-test .left) (l .inv .1) (l .inv .2)
@@ -55,7 +55,7 @@ off-plan-spec =
     (λ c. search needs)
     off
     (λ c. search needs)
-    same
-    (λ c. search needs)
     node
+    (λ c. search needs)
+    same
     returns)
