@@ -46,6 +46,8 @@
  *   gh_announce      bit 8: the prefix stood and its hop and mark were replaced; bit 9: bits after the length were
  *                    cleared; bits 16 to 31: routes after the call
  *   gh_withdraw      bit 9: bits after the length were cleared; bits 16 to 31: routes after the call
+ *   gh_repair        bits 16 to 31: routes after the call; the words of out: records dropped, and how many first, second
+ *                    and third cells differ from before
  *   gh_report        bits 16 to 31: routes; 32 to 47: need for second chunks; 48 to 63: need for third chunks
  *   gh_lookup        bits 8 to 15: cells read; 16 to 31: hop, 0 for no route
  *   gh_lookup_many   0; each word of out: the low 32 bits of what gh_lookup answers
@@ -72,16 +74,17 @@
  * THREADS. No call has memory of its own, so calls over different arrays may run at the same time, in threads and in
  * interrupts. Over the same arrays calls that only read them may run at the same time: every lookup, the report,
  * the test of an image, the run, the tally, a route read back, a broadcast. A call that writes an array (make, load,
- * announce, withdraw, build) runs alone: no other call may use that array meanwhile, lookups neither. To change a table beside
- * readers, keep two sets of arrays: change the set that no reader uses, hand it to the readers (an atomic pointer to the
- * struct), wait until no reader has the old one, and copy arrays and count over or make the same change there. There is
- * no pointer in the arrays, so a copy of them with geometry and count is the same table. It is so with images too: a
- * change in place moves nodes, and a reader beside it would meet halves.
+ * announce, withdraw, repair, build) runs alone: no other call may use that array meanwhile, lookups neither. To change a
+ * table beside readers, keep two sets of arrays: change the set that no reader uses, hand it to the readers (an atomic
+ * pointer to the struct), wait until no reader has the old one, and copy arrays and count over or make the same change
+ * there. There is no pointer in the arrays, so a copy of them with geometry and count is the same table. It is so with
+ * images too: a change in place moves nodes, and a reader beside it would meet halves.
  *
- * STACK. gh_load, gh_announce, gh_withdraw and gh_report take at most GH_STACK_TABLE bytes of stack, the test and the
- * changes of an image GH_STACK_IMAGE, the others GH_STACK. On x86-64 and on Arm it is 44 KB for announce, withdraw and
- * the report, 42 KB for load, 8.5 KB for an image, and under 200 bytes for each of the others. Only the test of an image
- * is recursive: the test of a node calls that of its children, and back, at most 17 calls for each of 8 depths.
+ * STACK. gh_load, gh_announce, gh_withdraw and gh_report take at most GH_STACK_TABLE bytes of stack, gh_repair
+ * GH_STACK_REPAIR, the test and the changes of an image GH_STACK_IMAGE, the others GH_STACK. On x86-64 and on Arm it is
+ * 44 KB for announce, withdraw and the report, 42 KB for load, 8.5 KB for an image, and under 200 bytes for each of the
+ * others; on Arm 152 KB for repair. Only the test of an image is recursive: the test of a node calls that of its
+ * children, and back, at most 17 calls for each of 8 depths.
  *
  * WHAT THE LIBRARY NEEDS: memcpy and memset, and nothing else of a C library.
  */
@@ -121,8 +124,8 @@ extern "C" {
 
 /* ---- Version --------------------------------------------------------------------------------------------------- */
 
-#define GH_VERSION         20000      /* 10,000 for each major, 100 for each minor version */
-#define GH_VERSION_TEXT    "2.0.0"
+#define GH_VERSION         20100      /* 10,000 for each major, 100 for each minor version */
+#define GH_VERSION_TEXT    "2.1.0"
 
 /* ---- Limits and sizes ------------------------------------------------------------------------------------------ */
 
@@ -147,11 +150,17 @@ extern "C" {
 #define GH_NODES_FOR(n)              (1 + (size_t)8 * (n))            /* enough for the image of any n routes */
 #define GH_WORDS_FOR(n)              (3 * GH_NODES_FOR(n))            /* the words of so many nodes; its hops are n */
 #define GH_TALLY_WORDS     33
+#define GH_REPAIR_WORDS    4          /* what gh_repair tells, in this order: */
+#define GH_DROPPED         0          /* records dropped */
+#define GH_FIRST_OFF       1          /* first cells that differ from before */
+#define GH_SECOND_OFF      2          /* second cells */
+#define GH_THIRD_OFF       3          /* third cells */
 #define GH_MAP_BYTES       16384      /* the bits of bit maps */
 #define GH_MAP_CELLS       131071     /* their cells */
 
 #define GH_STACK_TABLE     49152      /* bytes of stack: load, announce, withdraw, report */
 #define GH_STACK_IMAGE     12288      /* gh_tree_test, gh_tree_announce, gh_tree_withdraw */
+#define GH_STACK_REPAIR    163840     /* repair */
 #define GH_STACK           1024       /* the other calls */
 
 /* ---- Refusals -------------------------------------------------------------------------------------------------- */
@@ -205,7 +214,7 @@ static inline const char *gh_meaning(unsigned number)
 #define GH_INDEX(a)        ((uint32_t)((a) >> 32))                /* refused: that index */
 #define GH_REPLACED(a)     ((unsigned)((a) >> 8 & 1))             /* gh_announce, gh_tree_announce */
 #define GH_CLEARED(a)      ((unsigned)((a) >> 9 & 1))             /* accepted gh_announce and gh_withdraw */
-#define GH_COUNT(a)        ((unsigned)((a) >> 16 & 0xffff))       /* make, load, announce, withdraw, report: routes */
+#define GH_COUNT(a)        ((unsigned)((a) >> 16 & 0xffff))       /* changes and gh_report: routes */
 #define GH_NEED_SECOND(a)  ((unsigned)((a) >> 32 & 0xffff))       /* gh_report */
 #define GH_NEED_THIRD(a)   ((unsigned)((a) >> 48 & 0xffff))       /* gh_report */
 #define GH_READS(a)        ((unsigned)((a) >> 8 & 0xff))          /* gh_lookup: cells read; gh_tree_lookup: as above */
@@ -278,6 +287,24 @@ uint64_t gh_withdraw(uint32_t p1, uint32_t p2, uint32_t count,
                      uint16_t *GH_RESTRICT long1, size_t long1_len,
                      uint16_t *GH_RESTRICT long2, size_t long2_len,
                      uint32_t addr, uint32_t len);
+
+/* Puts a table right after a memory fault, whatever it holds. Looks at the first count records of the list, or to the end
+ * of its room if that is less; keeps each that is valid and larger than the last one kept, drops the others, and loads
+ * what was kept. A damaged record that is valid and very large so shuts out what follows it. Into out: the records
+ * dropped of those looked at, and how many first, second and third cells differ from before. A sound table keeps all its
+ * records; its cells may still differ, for a load numbers the chunks in order of addresses. Refusals: 1, 2; also 2 where
+ * out_len is not GH_REPAIR_WORDS; 7, 8 on the needs of what was kept. A refusal writes nothing, out neither. */
+GH_CALL
+uint64_t gh_repair(uint32_t p1, uint32_t p2, uint32_t count,
+                   uint8_t *GH_RESTRICT list, size_t list_len,
+                   uint16_t *GH_RESTRICT first, size_t first_len,
+                   uint16_t *GH_RESTRICT second, size_t second_len,
+                   uint16_t *GH_RESTRICT third, size_t third_len,
+                   uint32_t *GH_RESTRICT own2, size_t own2_len,
+                   uint32_t *GH_RESTRICT own3, size_t own3_len,
+                   uint16_t *GH_RESTRICT long1, size_t long1_len,
+                   uint16_t *GH_RESTRICT long2, size_t long2_len,
+                   uint32_t *GH_RESTRICT out, size_t out_len);
 
 /* Tells the route count and both needs of a sound table. Refusals: 1, 2, 5. */
 GH_CALL
@@ -496,6 +523,13 @@ GH_CALL
 static inline uint64_t gh_table_withdraw(struct gh_table *t, uint32_t addr, uint32_t len)
 {
     return gh_table_keep(t, gh_withdraw(t->p1, t->p2, t->count, GH_LENT(t), addr, len));
+}
+
+/* As gh_repair, into GH_REPAIR_WORDS words. */
+GH_CALL
+static inline uint64_t gh_table_repair(struct gh_table *t, uint32_t *GH_RESTRICT out)
+{
+    return gh_table_keep(t, gh_repair(t->p1, t->p2, t->count, GH_LENT(t), out, GH_REPAIR_WORDS));
 }
 
 GH_CALL

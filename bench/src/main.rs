@@ -339,6 +339,7 @@ fn changes(rounds: usize, table: &mut Table, input: &[u8], fresh: &[Route]) {
     const REPLACE: &str = "gh_announce, a hop replaced";
     const WITHDRAW: &str = "gh_withdraw";
     const LOAD: &str = "gh_load, all routes";
+    const REPAIR: &str = "gh_repair, all routes";
     let mut turn = 0;
     let shared = RefCell::new((table, &mut turn));
     let route = |turn: usize| fresh[turn % fresh.len()];
@@ -367,9 +368,13 @@ fn changes(rounds: usize, table: &mut Table, input: &[u8], fresh: &[Route]) {
         contender(LOAD, || {
             shared.borrow_mut().0.load(black_box(input)).unwrap();
         }),
+        contender(REPAIR, || {
+            black_box(shared.borrow_mut().0.repair().unwrap());
+        }),
     ];
     measure(rounds, 1, "us", false, &mut contenders);
-    for (one, limit) in [(REPORT, 4.0), (ANNOUNCE, 6.0), (REPLACE, 6.0), (WITHDRAW, 6.0), (LOAD, 10.0)] {
+    let limits = [(REPORT, 4.0), (ANNOUNCE, 6.0), (REPLACE, 6.0), (WITHDRAW, 6.0), (LOAD, 10.0), (REPAIR, 8.0)];
+    for (one, limit) in limits {
         ratio(&contenders, one, READ, Some(limit));
     }
 }

@@ -14,7 +14,7 @@ static uint16_t first[GH_FIRST_CELLS(12)], second[N * GH_SECOND_CHUNK(12, 22)], 
 static uint32_t own2[N], own3[N];
 static uint16_t long1[GH_ELEMENTS(first)], long2[GH_ELEMENTS(second)];
 static struct gh_table t = GH_TABLE(12, 22, list, first, second, third, own2, own3, long1, long2);
-static uint32_t words[GH_WORDS_FOR(N)], addrs[1000], out[1000], counts[GH_TALLY_WORDS];
+static uint32_t words[GH_WORDS_FOR(N)], addrs[1000], out[1000], counts[GH_TALLY_WORDS], told[GH_REPAIR_WORDS];
 static uint16_t hops[N];
 #define STEPS (8 * 15 + 1)
 static uint8_t steps[STEPS * GH_RECORD_BYTES];
@@ -30,6 +30,7 @@ static uint64_t make(void) { return gh_table_make(&t); }
 static uint64_t load(void) { return gh_table_load(&t, input, sizeof input); }
 static uint64_t announce(void) { return gh_table_announce(&t, here, 32, 5, GH_BEHIND); }
 static uint64_t withdraw(void) { return gh_table_withdraw(&t, here, 32); }
+static uint64_t repair(void) { return gh_table_repair(&t, told); }
 static uint64_t report(void) { return gh_table_report(&t); }
 static uint64_t lookup(void) { return gh_table_lookup(&t, here); }
 static uint64_t lookup_many(void) { return gh_table_lookup_many(&t, addrs, out, 1000); }
@@ -84,7 +85,7 @@ int main(void)
         { "nothing", nothing, STACK, 0 },
         { "make", make, GH_STACK, 0 }, { "load", load, GH_STACK_TABLE, 0 },
         { "withdraw", withdraw, GH_STACK_TABLE, 0 }, { "announce", announce, GH_STACK_TABLE, 0 },
-        { "report", report, GH_STACK_TABLE, 0 }, { "lookup", lookup, GH_STACK, 0 },
+        { "repair", repair, GH_STACK_REPAIR, 0 }, { "report", report, GH_STACK_TABLE, 0 }, { "lookup", lookup, GH_STACK, 0 },
         { "lookup_many", lookup_many, GH_STACK, 0 }, { "build", build, GH_STACK, 0 },
         { "tree_lookup", tree_lookup, GH_STACK, 0 }, { "tree_test", tree_test, GH_STACK_IMAGE, 0 },
         { "tree_withdraw", tree_withdraw, GH_STACK_IMAGE, 0 }, { "tree_announce", tree_announce, GH_STACK_IMAGE, 0 },

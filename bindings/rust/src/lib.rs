@@ -6,7 +6,8 @@
 //! record inputs directly.
 //!
 //! Every call of the library underneath is proved for every content of the buffers, and none allocates or trusts them:
-//! a table that is damaged is refused with 5 and stays as it is. A call that is refused changes nothing.
+//! a table that is damaged is refused with 5 and stays as it is, until a load or a repair puts it right. A call that is
+//! refused changes nothing.
 //!
 //! - [`TableMut`] and [`ImageMut`] are over buffers that you lend, and [`TableRef`] and [`ImageRef`] only read them.
 //! - [`Table`] and [`Image`] own their buffers. They need the feature `alloc`, which is on by default. Without it the
@@ -65,4 +66,4 @@ pub use maps::{hop, MapsMut, MapsRef, MAP_BYTES, MAP_CELLS};
 pub use owned::{Image, Maps, Table};
 pub use refusal::{Reason, Refusal};
 pub use route::{Mark, ParseRouteError, Route};
-pub use table::{Announced, Report, TableMut, TableRef, Withdrawn};
+pub use table::{Announced, Repaired, Report, TableMut, TableRef, Withdrawn};

@@ -7,7 +7,7 @@ use crate::input::Routes;
 use crate::maps::{self, MapsMut, MapsRef, MAP_BYTES, MAP_CELLS};
 use crate::refusal::Refusal;
 use crate::route::Mark;
-use crate::table::{self, Announced, Report, TableMut, TableRef, Withdrawn};
+use crate::table::{self, Announced, Repaired, Report, TableMut, TableRef, Withdrawn};
 use alloc::vec;
 use alloc::vec::Vec;
 use core::fmt;
@@ -16,7 +16,7 @@ use core::net::Ipv4Addr;
 /// A SAIL table that owns its buffers: a [`TableMut`] over vectors.
 ///
 /// The fields are open, since no content of them can do harm: a table that is not sound is refused with 5, and
-/// [`Table::load`] makes it sound again.
+/// [`Table::load`] or [`Table::repair`] makes it sound again.
 #[derive(Clone, PartialEq, Eq)]
 pub struct Table {
     pub geometry: Geometry,
@@ -137,6 +137,15 @@ impl Table {
     /// 1, 2, 3 for a length over 32, 5, 9.
     pub fn withdraw(&mut self, addr: impl Into<Ipv4Addr>, len: u8) -> Result<Withdrawn, Refusal> {
         self.lend(|t| t.withdraw(addr, len))
+    }
+
+    /// As [`TableMut::repair`].
+    ///
+    /// # Errors
+    ///
+    /// 1, 2, 7, 8.
+    pub fn repair(&mut self) -> Result<Repaired, Refusal> {
+        self.lend(|t| t.repair())
     }
 }
 

@@ -90,6 +90,11 @@ pub fn withdraw(t: &mut TableMut, addr: u32, len: u32) -> u64 {
 }
 
 #[must_use]
+pub fn repair(t: &mut TableMut, out: &mut [u32]) -> u64 {
+    unsafe { lend!(sys::gh_repair, (t.count), mut t, (out.as_mut_ptr(), out.len())) }
+}
+
+#[must_use]
 pub fn report(t: &TableRef) -> u64 {
     unsafe { lend!(sys::gh_report, t, ()) }
 }

@@ -27,6 +27,19 @@ pub struct Withdrawn {
     pub cleared: bool,
 }
 
+/// What a repair found: the records that it dropped, and how many cells of each array differ from before.
+#[derive(Clone, Copy, PartialEq, Eq, Hash, Debug)]
+pub struct Repaired {
+    /// Records dropped of those looked at.
+    pub dropped: u32,
+    /// First cells that differ from before.
+    pub first: u32,
+    /// Cells of the second pool that do.
+    pub second: u32,
+    /// Cells of the third pool that do.
+    pub third: u32,
+}
+
 /// Bit 9 of an accepted change.
 fn cleared(answer: u64) -> bool {
     answer >> 9 & 1 == 1
@@ -201,7 +214,8 @@ pub(crate) use reads;
 /// # Ok::<(), ghatumri::Refusal>(())
 /// ```
 ///
-/// No content of the fields does harm: a table that is not sound is refused with 5, and load makes it sound again.
+/// No content of the fields does harm: a table that is not sound is refused with 5, and load or repair makes it sound
+/// again.
 #[derive(PartialEq, Eq)]
 pub struct TableMut<'a> {
     pub geometry: Geometry,
@@ -297,6 +311,21 @@ impl TableMut<'_> {
         let answer = raw::withdraw(self, u32::from(addr.into()), len.into());
         let answer = self.keep(answer)?;
         Ok(Withdrawn { cleared: cleared(answer) })
+    }
+
+    /// Puts the table right after a memory fault, whatever it holds: looks at the first [`count`](TableMut::count) records
+    /// of the list, or to the end of its room if that is less, keeps each that is valid and larger than the last one kept,
+    /// and loads what was kept. A sound table keeps all its records. Takes some 152 KB of stack.
+    ///
+    /// # Errors
+    ///
+    /// 1, 2, and 7, 8 on the needs of what was kept.
+    pub fn repair(&mut self) -> Result<Repaired, Refusal> {
+        let mut out = [0; 4];
+        let answer = raw::repair(self, &mut out);
+        self.keep(answer)?;
+        let [dropped, first, second, third] = out;
+        Ok(Repaired { dropped, first, second, third })
     }
 }
 

@@ -8,3 +8,4 @@ pub mod Outs
 pub mod Named
 pub mod Casts
 pub mod ImageCalls
+pub mod Putting

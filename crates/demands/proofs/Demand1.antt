@@ -3,8 +3,8 @@
 --
 -- That every call answers for every input and ends is the language's own promise: a crate is built only where each of its functions is shown
 -- to end, and a call on offer has no `requires`. What it answers is its contract's equation; the theorems below say what the equations mean.
--- Calls that take their arrays by `&` cannot change them. For the five that change something, a refusal leaves all as it was.
--- Assumes nothing.
+-- Calls that take their arrays by `&` cannot change them. For those that change something, a refusal leaves all as it was. (A repair is in
+-- Repairs.antt, the changes of an image in Images.antt.)
 use mathlib.Core.Path.{_≡_, refl, sym, _∙_, ap, subst}
 use mathlib.Core.Logic.{_↔_}
 use mathlib.Core.Bool.{Bool, false, false≢true}
@@ -140,7 +140,7 @@ pub refused-number-tree-lookup : (words hops : List ℕ) (a : ℕ) (s : Said) �
 refused-number-tree-lookup words hops a = exactly (TreeLookup words hops a) _ _ refl (tree-judged words hops a) (tree-only words hops a)
 
 -- "The caller's state and buffers stay exactly as they were."
-parts : (o : Out) (s : Said) (t : Table) (l : Lent) → o ≡ record { said = s; table = t; lent = l } → (o .table ≡ t) × (o .lent ≡ l)
+pub parts : (o : Out) (s : Said) (t : Table) (l : Lent) → o ≡ record { said = s; table = t; lent = l } → (o .table ≡ t) × (o .lent ≡ l)
 parts o s t l e = (ap (λ (x : Out). x .table) e, ap (λ (x : Out). x .lent) e)
 
 module _ (t : Table) (l : Lent) where

@@ -7,7 +7,7 @@
 --
 -- A run is a list of calls from a fresh table, the last call first: `after t l cs` is what the last call says, and the state and all that is
 -- lent then. The fresh table has t's geometry, in arrays of l's sizes; make accepts these exactly where they are right (`Sized`).
--- docs/DEMAND3.md walks through this file.
+-- docs/DEMAND3.md walks through this file. (Runs that begin with a repaired table are in Repairs.antt.)
 use mathlib.Core.Path.{_≡_, refl, ap}
 use mathlib.Core.Logic.{⊎-elim, _≢_}
 use mathlib.Core.Bool.{true, false}

@@ -12,5 +12,6 @@ pub mod Demand3
 pub mod OneAnswer
 pub mod Basic
 pub mod Broadcasts
+pub mod Repairs
 pub mod Images
 pub mod OneImage

@@ -1,8 +1,8 @@
 -- "A call's statement determines its answer and the final contents of everything lent. Show that no second answer would satisfy it"
 --
 -- For each call on offer: two outcomes that meet its statement are equal. The statement is the predicate that is the call's `ensures`: `MeetsCALL` in
--- specs/Contract.antt of its crate, `IsRun` and `IsTally` in crate runs. (The calls on bit maps are in Basic.antt, the printing in crate print.)
--- Assumes nothing.
+-- specs/Contract.antt of its crate, `IsRun` and `IsTally` in crate runs. (The calls on bit maps are in Basic.antt, a repair
+-- is in Repairs.antt, the printing in crate print.)
 use mathlib.Core.Path.{_≡_}
 use mathlib.Core.List.{List}
 use Prim.Native.Nat.{ℕ}

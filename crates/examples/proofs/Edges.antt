@@ -6,6 +6,16 @@ use Rattle.examples.proofs.EdgesLookups.{lookups-hold}
 use Rattle.examples.proofs.EdgesChanges.{blank-hold, runs-hold}
 use Rattle.examples.proofs.EdgesImages.{images-hold}
 use Rattle.examples.proofs.EdgesTreeChanges.{tree-changes-hold}
+use Rattle.examples.proofs.EdgesRepairs.{repairs-hold}
 
 pub edges-hold : Edges
-edges-hold = record { sizes-of = sizes-hold; inputs-of = inputs-hold; lookups-of = lookups-hold; blank-of = blank-hold; runs-of = runs-hold; images-of = images-hold; tree-changes-of = tree-changes-hold }
+edges-hold = record {
+  sizes-of = sizes-hold;
+  inputs-of = inputs-hold;
+  lookups-of = lookups-hold;
+  blank-of = blank-hold;
+  runs-of = runs-hold;
+  images-of = images-hold;
+  tree-changes-of = tree-changes-hold;
+  repairs-of = repairs-hold;
+}

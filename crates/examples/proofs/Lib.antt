@@ -9,6 +9,7 @@ pub mod EdgesInputs
 pub mod EdgesLookups
 pub mod EdgesChanges
 pub mod EdgesImages
+pub mod EdgesRepairs
 pub mod EdgesTreeChanges
 pub mod TreeChanges
 pub mod Edges
@@ -23,3 +24,4 @@ pub mod NotFresh
 pub mod NotByNeed
 pub mod NotHeld
 pub mod Broadcasts
+pub mod Repairs

@@ -86,15 +86,15 @@ use Rattle.examples.proofs.Starred.{sized, starred-hold}
 use Rattle.examples.proofs.TableA.{goodA}
 
 -- a line of the examples
-line : (k : ℕ) → answer (getD starred k (last [] gives accepted []) .asked) ≡ getD (map (λ (x : Line Asked). x .expected) starred) k (answer (last []))
+pub line : (k : ℕ) → answer (getD starred k (last [] gives accepted []) .asked) ≡ getD (map (λ (x : Line Asked). x .expected) starred) k (answer (last []))
 unfolding Hold
 line k = sym (List·getD-map (λ (x : Line Asked). answer (x .asked)) starred k (last [] gives accepted [])) ∙ ap (λ (ss : List Said). getD ss k (answer (last []))) starred-hold
 
 -- the table and the arrays after a run
-abbrev t : List Call → Table
+abbrev pub t : List Call → Table
 t cs = after table arrays cs .table
 
-abbrev l : List Call → Lent
+abbrev pub l : List Call → Lent
 l cs = after table arrays cs .lent
 
 -- what a call says after a run on which nothing stands

@@ -1,4 +1,4 @@
--- The limits of documents 01 and 02, each on both sides: every line of the six topics holds.
+-- The limits of documents 01 and 02, each on both sides: every line of the topics holds.
 use Rattle.examples.specs.Lines.{Hold}
 use Rattle.examples.specs.Blank as blank
 use Rattle.examples.specs.EdgesSizes as sizes
@@ -7,6 +7,7 @@ use Rattle.examples.specs.EdgesLookups as lookups
 use Rattle.examples.specs.EdgesChanges as changes
 use Rattle.examples.specs.EdgesImages as images
 use Rattle.examples.specs.EdgesTreeChanges as treeChanges
+use Rattle.examples.specs.EdgesRepairs as repairs
 
 pub record Edges : Type 0 where
   pub sizes-of : Hold blank.answer sizes.edges
@@ -16,3 +17,4 @@ pub record Edges : Type 0 where
   pub runs-of : Hold changes.answer changes.runEdges
   pub images-of : Hold images.answer images.edges
   pub tree-changes-of : Hold treeChanges.answer treeChanges.edges
+  pub repairs-of : Hold repairs.answer repairs.edges

@@ -7,5 +7,6 @@ pub mod EdgesInputs
 pub mod EdgesLookups
 pub mod EdgesChanges
 pub mod EdgesImages
+pub mod EdgesRepairs
 pub mod Edges
 pub mod EdgesTreeChanges

@@ -5,3 +5,4 @@ mod Reports
 pub mod Hops
 pub mod Casts
 pub mod ImageAnswers
+pub mod Putting

@@ -5,3 +5,4 @@ pub mod Hops
 pub mod ImageAnswers
 pub mod Parts
 pub mod Casts
+pub mod Repairs

@@ -17,6 +17,7 @@ ghost use Rattle.packing.specs.Pack.{packReport, packChange, packBuilt, 
 pub mod broadcasts;
 pub mod images;
 pub mod maps;
+pub mod repairs;
 
 use routes::input::Got;
 use routes::input::Input;

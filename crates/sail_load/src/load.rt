@@ -29,7 +29,7 @@ pub struct Changed {
 }
 
 // Whether n good records find room: 6, 7 or 8 where they do not, and else 0.
-fn weigh(g: Geometry, input: &[u8], n: usize, room: usize, most2: usize, most3: usize) -> u8
+pub fn weigh(g: Geometry, input: &[u8], n: usize, room: usize, most2: usize, most3: usize) -> u8
     requires { ⌜ Weighs g (now input) n ⌝ }
     ensures { λ r. ⌜ r ≡ loadFault (terms g room most2 most3) (routesOf (now (input .entry)) n) ⌝ }
 {

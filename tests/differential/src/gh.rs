@@ -181,6 +181,10 @@ pub fn withdraw(p1: u32, p2: u32, count: u32, t: &mut Six, addr: u32, len: u32) 
     raw::withdraw(&mut t.lend_mut(p1, p2, count), addr, len)
 }
 
+pub fn repair(p1: u32, p2: u32, count: u32, t: &mut Six, out: &mut [u32]) -> u64 {
+    raw::repair(&mut t.lend_mut(p1, p2, count), out)
+}
+
 pub fn report(p1: u32, p2: u32, count: u32, t: &Six) -> u64 {
     raw::report(&t.lend(p1, p2, count))
 }

@@ -4,4 +4,5 @@ pub mod basic;
 pub mod broadcast;
 pub mod gen;
 pub mod plain;
+pub mod repair;
 pub mod tree_change;

@@ -5,6 +5,7 @@ use crate::gh::{self, Fenced, Six};
 use crate::run::Run;
 use differential::gen::{cut, edges, Rng};
 use differential::plain::{self, number, records, Lent, Route};
+use differential::repair;
 
 #[derive(Clone, Debug)]
 pub enum Call {
@@ -13,6 +14,8 @@ pub enum Call {
     /// Address, length, hop and mark, as wide as the boundary takes them.
     Announce(u32, u32, u32, u32),
     Withdraw(u32, u32),
+    /// The number of words for what is told.
+    Repair(usize),
     Report,
     /// The addresses, and the length of the array for the answers.
     LookupMany(Vec<u32>, usize),
@@ -98,6 +101,22 @@ impl Pair {
                 let is = gh::withdraw(p1, p2, count, &mut self.library, *addr, *len);
                 ("withdraw", is, plain::withdraw(p1, p2, count, &mut self.plain, *addr, *len))
             }
+            Call::Repair(room) => {
+                let filled: Vec<u32> = (0..*room as u32).map(|k| !k).collect();
+                let mut out = Fenced::new(&filled);
+                let mut out_should = filled;
+                let is = gh::repair(p1, p2, count, &mut self.library, &mut out);
+                let should = repair::repair(p1, p2, count, &mut self.plain, &mut out_should);
+                if let Some(what) = out.differs("out", &out_should) {
+                    run.fault(&what, &|| self.tell(&format!("{call:?}")));
+                }
+                if number(is) == 0 {
+                    self.count_repaired(run, &out);
+                } else if number(is) == 2 && number(plain::report(p1, p2, count, &self.plain)) != 2 {
+                    run.count("repair", "2 by words");
+                }
+                ("repair", is, should)
+            }
             Call::Report => {
                 let is = gh::report(p1, p2, count, &self.library);
                 ("report", is, plain::report(p1, p2, count, &self.plain))
@@ -137,13 +156,13 @@ impl Pair {
         }
         if changes {
             self.count = (is >> 16) as u32 & 0xFFFF;
-            self.account(run, call, is);
+            self.account(run, call, count, is);
         }
         is
     }
 
     /// After an accepted change: which routes stand now, and whether the list holds exactly these.
-    fn account(&mut self, run: &mut Run, call: &Call, answer: u64) {
+    fn account(&mut self, run: &mut Run, call: &Call, count: u32, answer: u64) {
         let mut standing = self.standing.take().unwrap_or_default();
         match call {
             Call::Make => standing.clear(),
@@ -197,6 +216,7 @@ impl Pair {
                     run.count("withdraw", "third closed");
                 }
             }
+            Call::Repair(_) => standing = repair::kept(count, &self.before.list).0,
             Call::Report | Call::LookupMany(..) => {}
         }
         let mut list = records(&standing);
@@ -215,6 +235,21 @@ impl Pair {
     fn told_cleared(&self, run: &mut Run, call: &Call, answer: u64, cleared: bool) {
         if (answer >> 9 & 1 == 1) != cleared {
             run.fault("cleared is told wrongly", &|| self.tell(&format!("{call:?}")));
+        }
+    }
+
+    /// Which of the four numbers a repair told.
+    fn count_repaired(&self, run: &mut Run, told: &[u32]) {
+        for (label, &n) in ["dropped", "first differ", "second differ", "third differ"].into_iter().zip(told) {
+            if n != 0 {
+                run.count("repair", label);
+            }
+        }
+        if told.iter().all(|&n| n == 0) {
+            run.count("repair", "nothing found");
+        } else if self.standing.is_some() {
+            // A run numbered the chunks otherwise than a load does, and no record was dropped.
+            run.count("repair", "sound and cells differ");
         }
     }
 
@@ -314,7 +349,9 @@ impl Pair {
         }
         for addr in edges(routes) {
             run.lookups += 2;
-            if plain::walk_counts(self.p1, self.p2, lent, addr) != plain::walk_counts(self.p1, self.p2, &fresh.plain, addr) {
+            if plain::walk_counts(self.p1, self.p2, lent, addr)
+                != plain::walk_counts(self.p1, self.p2, &fresh.plain, addr)
+            {
                 run.fault("a fresh load has other counts on an address's walk", &told);
             }
             if gh::lookup(self.p1, self.p2, self.count, &self.library, addr)

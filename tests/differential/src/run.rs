@@ -80,11 +80,17 @@ fn say(answer: u64) -> String {
 }
 
 /// What a run of full length meets. Numbers are refusals, 0 is accepted, `at` is with an index.
-const MUST_HAPPEN: [(&str, &str); 20] = [
+const MUST_HAPPEN: [(&str, &str); 21] = [
     ("make", "0, 1, 2"),
     ("load", "0, 1, 2, 3 at, 4 at, 6, 7, 8, 10 at"),
     ("announce", "0, 1, 2, 3, 4, 5, 6, 7, 8, 10, replaced, added and cleared, replaced and cleared, mark alone, room and chunks full, second opened, third opened, hole filled, wide length, wide hop, wide mark"),
     ("withdraw", "0, 1, 2, 3, 5, 9, cleared, second closed, third closed, under a cover, wide length"),
+    (
+        "repair",
+        "0, 1, 2, 2 by words, 7, 8, dropped, first differ, second differ, third differ, nothing found, \
+         sound and cells differ, first cells harmed, second cells harmed, third cells harmed, owners harmed, \
+         counts harmed, route count harmed, list harmed",
+    ),
     ("report", "0, 1, 2, 5"),
     ("lookup", "0, 1, 2, 5, hop in 1, hop in 2, hop in 3, no route in 1, no route in 2, no route in 3"),
     ("lookup_many", "0, 1, 2"),

@@ -7,6 +7,7 @@ use differential::gen::{
     asked_hop, asked_loose_prefix, asked_mark, cut, damaged_input, loose, mark, spread, tidy, wide, Field, Rng,
 };
 use differential::plain::{geometry_ok, need, number, records, size2, size3, Lent, Route};
+use differential::repair::memory_fault;
 
 /// All geometries, the cheap and the named ones more often.
 fn geometry(rng: &mut Rng) -> (u32, u32) {
@@ -116,12 +117,18 @@ fn to_load(rng: &mut Rng, field: &Field, t: &Pair) -> Call {
     Call::Load(input)
 }
 
+/// A repair, now and then with another number of words than it must have.
+fn to_repair(rng: &mut Rng) -> Call {
+    Call::Repair(if rng.one_in(12) { *rng.pick(&[0, 3, 5]) } else { 4 })
+}
+
 /// Any call, also where the table is not sound.
 fn any_call(rng: &mut Rng, field: &Field, t: &Pair, standing: &[Route]) -> Call {
-    match rng.below(12) {
+    match rng.below(14) {
         0..=3 => to_announce(rng, field, standing),
         4..=6 => to_withdraw(rng, field, standing),
         7 | 8 => Call::Report,
+        12 | 13 => to_repair(rng),
         9 => {
             // From sixteen addresses on the library takes them by turns.
             let n = rng.range(0, 40);
@@ -229,7 +236,7 @@ fn one_step(run: &mut Run, rng: &mut Rng, field: &Field, t: &mut Pair, growing: 
 }
 
 /// Damages the arrays or the count at one to three places, makes some calls, and puts the table right again: as it
-/// was, or by a load or a make, which read nothing of it.
+/// was, by a repair, or by a load or a make, which read nothing of it.
 fn damaged(run: &mut Run, rng: &mut Rng, field: &Field, t: &mut Pair, standing: &[Route]) {
     let (good, count) = (t.plain.clone(), t.count);
     for _ in 0..*rng.pick(&[1, 1, 1, 1, 2, 3]) {
@@ -253,6 +260,25 @@ fn damaged(run: &mut Run, rng: &mut Rng, field: &Field, t: &mut Pair, standing: 
         }
         1 => {
             t.step(run, &Call::Make);
+        }
+        2..=5 => {
+            // Of harm for this very call, too; and a second time, which finds nothing.
+            if rng.one_in(2) {
+                let harmed = memory_fault(rng, t.p1, t.p2, &mut t.count, &mut t.plain);
+                run.count("repair", harmed);
+                t.look_again();
+            } else if rng.one_in(4) && 8 * t.plain.room() == t.plain.list.len() {
+                // A list of other routes, which may want more chunks than there are.
+                let other = records(&field.routes(rng, t.plain.room()));
+                let n = other.len().min(t.plain.list.len());
+                t.plain.list[..n].copy_from_slice(&other[..n]);
+                t.count = n as u32 / 8;
+                t.look_again();
+            }
+            let call = to_repair(rng);
+            t.step(run, &call);
+            t.step(run, &Call::Repair(4));
+            t.step(run, &Call::Report);
         }
         _ => {}
     }
@@ -469,6 +495,10 @@ pub fn large(run: &mut Run, rng: &mut Rng, kind: u64) {
     Harm { p1, p2, count: &mut t.count, t: &mut t.plain }.one(rng);
     t.look_again();
     t.step(run, &Call::Report);
+    if rng.one_in(2) {
+        t.step(run, &Call::Repair(4));
+        t.step(run, &Call::Report);
+    }
     t.count = count;
     t.step(run, &Call::Load(records(&routes[..routes.len() / 2])));
     t.look_around(run, rng, 400);

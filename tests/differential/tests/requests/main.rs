@@ -8,6 +8,7 @@ mod counts;
 mod host_bits;
 mod mark;
 mod one_image;
+mod repair;
 mod tree_change;
 
 fn ip(a: u8, b: u8, c: u8, d: u8) -> u32 {

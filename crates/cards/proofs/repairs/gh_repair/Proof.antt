@@ -1,0 +1,66 @@
+-- `cards::repairs::gh_repair`. The sizes and the words are judged first; then it is what the repair says and leaves.
+use mathlib.Core.Path.{refl, sym, _∙_}
+use borrow.Author.Needs.{needs}
+use Rattle.packing.proofs.Putting.{fault-none}
+use Rattle.cards.proofs.Putting.{repair-off, repair-on}
+use Rattle.cards.proofs.repairs.gh_repair.Statement.{statement}
+use Rattle.cards.proofs.repairs.gh_repair.Tie as tie
+
+-- Places, each seen from a later one: after `words_fault`; where nothing speaks against it; after `repair`; after `tell`.
+abbrev judged : tie.Else1 → tie.After-words-fault
+judged c = c .before
+
+abbrev clear : tie.After-repair → tie.Else1
+clear c = c .before .before .before .before .before .before .before .before .before
+
+abbrev put : tie.After-tell → tie.After-repair
+put c =
+    c .before .before .before .before .before .before .before .before .before .before .before .before .before .before .before .before .before .before .before
+
+refused : tie.Need-returns
+refused c = let w = c .before in repair-off _ _ _ _ _ (w .before .sizes .ensures) (w .words-fault .ensures) (c .if1 .taken) _ refl
+
+tell-requires : tie.Need-tell-requires
+tell-requires c κs =
+    let d = c .before .before .before .before .before .before .before .before .before in
+    let e = clear (d .before .before .before .before .before .before .before .before .before) in
+    fault-none _ _ (sym (judged e .words-fault .ensures) ∙ e .if1 .left) .1
+
+returns-2 : tie.Need-returns-2
+returns-2 c =
+    let told = c .before .before .before in
+    let r = put told in
+    let e = clear r in
+    let w = judged e in
+    repair-on _ _ _ _ _ (w .before .sizes .ensures) (w .words-fault .ensures) (e .if1 .left)
+    _ _ _ (r .repair .ensures) _ (told .tell .ensures) _ (c .repaired .ensures)
+
+pub gh-repair-spec : {M : Type 1} → statement M
+gh-repair-spec =
+    tie.close
+    (tie.spec
+    (λ c κs. search needs)
+    (λ c κs. search needs)
+    (λ c. search needs)
+    (λ c. search needs)
+    (λ c. search needs)
+    (λ c. search needs)
+    (λ c. search needs)
+    (λ c. search needs)
+    (λ c. search needs)
+    (λ c. search needs)
+    (λ c. search needs)
+    refused
+    (λ c κs. search needs)
+    tell-requires
+    (λ c κs. search needs)
+    (λ c. search needs)
+    (λ c. search needs)
+    (λ c. search needs)
+    (λ c. search needs)
+    (λ c. search needs)
+    (λ c. search needs)
+    (λ c. search needs)
+    (λ c. search needs)
+    (λ c. search needs)
+    returns-2)

@@ -1,0 +1,18 @@
+-- `repair::repair::done`. Each number fits 32 bits.
+use mathlib.Core.Path.{refl}
+use native.Mathlib.Omega.{arith}
+use Rattle.repair.specs.Answers.{saysRepaired}
+use Rattle.repair.proofs.repair.done.Statement.{statement}
+use Rattle.repair.proofs.repair.done.Tie as tie
+
+pub done-spec : {M : Type 1} → statement M
+unfolding saysRepaired
+done-spec =
+    tie.close
+    (tie.spec
+    (λ c. omega (arith, c .before .pre .fewer))
+    (λ c. record { fits = omega (arith, c .before .pre .few) })
+    (λ c. record { fits = c .before .before .pre .first })
+    (λ c. record { fits = c .before .before .before .pre .second })
+    (λ c. record { fits = c .before .before .before .before .pre .third })
+    (λ c. refl))

@@ -1,0 +1,4 @@
+// A table put right after a memory fault.
+pub mod differs;
+pub mod keep;
+pub mod repair;
