@@ -6,6 +6,8 @@ pub mod Exact
 pub mod Serves
 pub mod Steps
 pub mod Answers
+pub mod Neighbours
+pub mod Stretches
 pub mod OneAnswer
 pub mod AsBuilt
 pub mod Visits

@@ -1,13 +1,23 @@
 // The test of an image: its bases in one pass, then its nodes from the root down, its hops, and zeros after the last used. Once the bases are
 // those of the fixed order no two child arrays share a node, so the way down meets each node once, whatever the arrays hold.
+pub mod bases;
+
+use crate::bases::after_children;
+use crate::bases::differ;
+use crate::bases::first_child;
+use crate::bases::shape;
+use crate::bases::wide;
 use tree_build::fill;
+ghost use mathlib.Core.Bool.{true};
 ghost use mathlib.Core.Path.{_≡_};
 ghost use Prim.Native.Nat.{_+_, _*_, _/_, _^_, _≤_, _<_};
 ghost use lib.ListN.{length};
 ghost use lib.Count.{ones};
+ghost use Rattle.routes.specs.Input.{hopFine};
 ghost use Rattle.tree_same.specs.Order.{ints};
 ghost use Rattle.tree_check.specs.Contract.{MeetsTreeTest};
-ghost use Rattle.tree_check.specs.WellFormed.{ordered, nodeOk, childrenOk, rootOk, hopsFineTo, blankFrom, wellFormed, nodesIf};
+ghost use Rattle.tree_check.specs.WellFormed.{ordered, childrenOk, rootOk, hopsFineTo, blankFrom, wellFormed, nodesIf};
+ghost use Rattle.tree_check.specs.Stretches.{Flagged, Lent, Stretch, Rooted};
 
 // What the test answers: the nodes and the hops in use, or that the image is not well formed.
 pub enum Tested {
@@ -15,77 +25,56 @@ pub enum Tested {
     Broken,
 }
 
-fn wide(x: u32) -> usize
-    ensures { λ r. ⌜ (r ≡ x) × (r < 2 ^ 32) ⌝ }
+// Whether each node of a stretch at depth 8 has bit 0 alone. No early end, so that it can be done several nodes at a time.
+fn ends_ok(words: &[u32], first: usize, n: usize) -> bool
+    requires { ⌜ Lent (now words) first n ⌝ }
+    ensures { λ r. ⌜ r ≡ childrenOk 0 n (now (words .entry)) first ⌝ }
 {
-    x as usize
+    let end = first + n;
+    let mut bad: u32 = 0;
+    let mut at = first;
+    while at < end {
+        bad += differ(words[3 * at], 1);
+        at += 1;
+    }
+    bad == 0
 }
 
-// How many children the word of a node names.
-fn children(word: u32) -> u32
-    ensures { λ r. ⌜ (r ≡ ones (word / 2 ^ 16)) × (r ≤ 16) ⌝ }
+// How many nodes of an array are tested in one stretch.
+fn stretch(n: usize) -> usize
+    ensures { λ r. ⌜ (r ≤ n) × (0 < n → 0 < r) ⌝ }
 {
-    u32::count_ones(word >> 16)
+    if n < 1024 {
+        return n;
+    }
+    1024
 }
 
-// The nodes in use, if the bases of each are those of the fixed order; 0 if not.
-pub fn shape(words: &[u32]) -> usize
-    ensures { λ r. ⌜ (r ≡ nodesIf (ordered (now (words .entry))) (now (words .entry))) × (3 * r ≤ length (now (words .entry))) ⌝ }
+// Nodes side by side are well formed when their own bitmaps are and their child arrays are, which stand side by side too. What holds of own bitmaps at
+// every depth is known from the pass over all nodes.
+pub fn nodes_ok(words: &[u32], first: usize, n: usize, left: u32) -> bool
+    requires { ⌜ Stretch (now words) first n left × (0 < n) ⌝ }
+    ensures { λ r. ⌜ r ≡ childrenOk left n (now (words .entry)) first ⌝ }
 {
-    let lent = words.len() / 3;
-    let mut i: usize = 0;
-    let mut t: usize = 1;
-    let mut h: usize = 0;
-    while i < t {
-        if i >= lent {
-            return 0;
-        }
-        if wide(words[3 * i + 1]) != t {
-            return 0;
-        }
-        if wide(words[3 * i + 2]) != h {
-            return 0;
-        }
-        let word = words[3 * i];
-        t += wide(children(word));
-        h += wide(bits::ones_below(word, 15));
-        i += 1;
-    }
-    i
-}
-
-// A node is well formed when its own bitmaps are and its child array is.
-pub fn node_ok(words: &[u32], at: usize, left: u32) -> bool
-    requires { ⌜ left ≤ 8 ⌝ }
-    ensures { λ r. ⌜ r ≡ nodeOk left (now (words .entry)) at ⌝ }
-{
-    if at >= words.len() / 3 {
-        return false;
-    }
-    let word = words[3 * at];
-    let first = words[3 * at + 1];
-    if bits::is_set(word, 15) {
-        return false;
-    }
     if left == 0 {
-        return word == 1;
+        return ends_ok(words, first, n);
     }
-    if word == 0 {
-        return false;
-    }
-    children_ok(words, wide(first), children(word), left - 1)
+    let from = first_child(words, first);
+    let to = after_children(words, first + n - 1);
+    children_ok(words, from, to - from, left - 1)
 }
 
-// A child array is well formed when each of its nodes is.
-pub fn children_ok(words: &[u32], first: usize, n: u32, left: u32) -> bool
-    requires { ⌜ (left ≤ 8) × (n ≤ 16) × (first + n < 2 ^ 40) ⌝ }
+// A child array, or several side by side, is well formed when each of its nodes is: those of its first stretch, and the others.
+pub fn children_ok(words: &[u32], first: usize, n: usize, left: u32) -> bool
+    requires { ⌜ Stretch (now words) first n left ⌝ }
     ensures { λ r. ⌜ r ≡ childrenOk left n (now (words .entry)) first ⌝ }
 {
     if n == 0 {
         return true;
     }
-    if node_ok(words, first, left) {
-        children_ok(words, first + 1, n - 1, left)
+    let m = stretch(n);
+    if nodes_ok(words, first, m, left) {
+        children_ok(words, first + m, n - m, left)
     } else {
         false
     }
@@ -93,13 +82,19 @@ pub fn children_ok(words: &[u32], first: usize, n: u32, left: u32) -> bool
 
 // The root may be bare.
 fn root_ok(words: &[u32]) -> bool
-    requires { ⌜ 0 < length (now words) ⌝ }
+    requires { ⌜ Rooted (now words) ⌝ }
     ensures { λ r. ⌜ r ≡ rootOk (now (words .entry)) ⌝ }
 {
-    if words[0] == 0 {
+    let word = words[0];
+    if word == 0 {
         return true;
     }
-    node_ok(words, 0, 8)
+    if bits::is_set(word, 15) {
+        return false;
+    }
+    let from = first_child(words, 0);
+    let to = after_children(words, 0);
+    children_ok(words, from, to - from, 7)
 }
 
 // The hops of the first n nodes: the hop base of the last one and its own.
@@ -110,22 +105,31 @@ pub fn hops_in(words: &[u32], n: usize) -> usize
     wide(words[3 * (n - 1) + 2]) + wide(bits::ones_below(words[3 * (n - 1)], 15))
 }
 
-// Whether the first k hops are 1 to 32,767 each.
+// 0 where a number is a hop, 1 to 32,767, and 1 where it is not.
+fn off_hop(hop: u16) -> u16
+    ensures { λ r. ⌜ Flagged r (hopFine hop ≡ true) ⌝ }
+{
+    if hop == 0 {
+        return 1;
+    }
+    if hop > 32767 {
+        return 1;
+    }
+    0
+}
+
+// Whether the first k hops are 1 to 32,767 each. No early end, as above.
 fn hops_fine(hops: &[u16], k: usize) -> bool
-    requires { ⌜ k ≤ length (now hops) ⌝ }
+    requires { ⌜ (k ≤ length (now hops)) × (k ≤ 4096) ⌝ }
     ensures { λ r. ⌜ r ≡ hopsFineTo (now (hops .entry)) k ⌝ }
 {
+    let mut bad: u16 = 0;
     let mut j: usize = 0;
     while j < k {
-        if hops[j] == 0 {
-            return false;
-        }
-        if hops[j] > 32767 {
-            return false;
-        }
+        bad += off_hop(hops[j]);
         j += 1;
     }
-    true
+    bad == 0
 }
 
 // Whether zeros stand from place k on.

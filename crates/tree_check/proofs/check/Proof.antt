@@ -1,5 +1,5 @@
 -- Each step that fails is one of the parts of `wellFormed`, and where none fails all of them hold.
-use Rattle.tree_check.proofs.Steps.{kept, check-none, check-root, check-room, check-few, check-hops, check-words-after, check-hops-after, check-passes}
+use Rattle.tree_check.proofs.Steps.{kept, check-rooted, check-counted, check-none, check-root, check-room, check-few, check-hops, check-words-after, check-hops-after, check-passes}
 use borrow.Author.Needs.{needs}
 use Rattle.tree_check.proofs.check.Statement.{statement}
 use Rattle.tree_check.proofs.check.Tie as tie
@@ -10,7 +10,7 @@ returns-8 c =
     let fine = words-blank .before .before in
     let counted = fine .before .before .before in
     let root = counted .before .before in
-    check-passes _ _ _ (root .before .before .shape .ensures .0) (root .before .if1 .left) _ (counted .hops-in .ensures)
+    check-passes _ _ _ (root .before .before .shape .ensures) (root .before .if1 .left) _ (counted .hops-in .ensures)
     (kept _ _ (root .root-ok .ensures) (counted .before .if2 .left)) (fine .before .before .if3 .left) (fine .before .if4 .left)
     (kept _ _ (fine .hops-fine .ensures) (words-blank .before .if5 .left)) (kept _ _ (words-blank .blank-words .ensures) (c .before .before .if6 .left))
     (kept _ _ (c .before .blank-hops .ensures) (c .if7 .left))
@@ -21,9 +21,9 @@ check-spec =
     (tie.spec
     (λ c κs. search needs)
     (λ c. search check-none)
-    (λ c κs. search needs)
+    (λ c κs. check-rooted _ _ (c .before .shape .ensures) (c .if1 .left))
     (λ c. search check-root)
-    (λ c κs. search needs)
+    (λ c κs. check-counted _ _ (c .before .before .before .shape .ensures) (c .before .before .if1 .left))
     (λ c. search check-room)
     (λ c. search check-few)
     (λ c κs. search needs)

@@ -1,15 +1,64 @@
--- A bare root passes; any other is a node with eight levels below it.
-use Rattle.tree_check.proofs.Steps.{root-bare, root-node}
-use mathlib.Core.Path.{_∙_}
+-- A bare root passes; any other is a node with eight levels below it, and what holds of the other nodes' own bitmaps is looked at here.
+use mathlib.Core.Path.{sym, _∙_}
+use native.Mathlib.Omega.{arith}
 use borrow.Author.Needs.{needs}
+use Rattle.tree_check.proofs.Stretches.{root-bare, root-high, root-order, root-stretch, root-kids, rooted-lent}
 use Rattle.tree_check.proofs.root_ok.Statement.{statement}
 use Rattle.tree_check.proofs.root_ok.Tie as tie
+
+shared-slice-read-word : tie.Need-shared-slice-read-word
+shared-slice-read-word c = omega (arith, rooted-lent _ (c .before .before .pre))
+
+returns : tie.Need-returns
+returns c = root-bare (c .before .before .before .args .words .now) (c .if1 .taken)
+
+is-set-requires : tie.Need-is-set-requires
+is-set-requires c κs = search needs
+
+returns-2 : tie.Need-returns-2
+returns-2 c = root-high (c .before .before .before .before .before .args .words .now) (c .before .before .if1 .left) (sym (c .before .is-set .ensures) ∙ c .if2 .taken)
+
+first-child-requires : tie.Need-first-child-requires
+first-child-requires c κs = omega (arith, rooted-lent _ (c .before .before .before .before .before .pre))
+
+after-children-requires : tie.Need-after-children-requires
+after-children-requires c κs = omega (arith, rooted-lent _ (c .before .before .before .before .before .before .pre))
+
+sub-children-ok : tie.Need-sub-children-ok
+sub-children-ok c =
+    let at = c .before in
+    let high = at .before in
+    let bare = high .before .before in
+    root-order _ (bare .if1 .left) (bare .before .before .before .pre) (sym (high .before .is-set .ensures) ∙ high .if2 .left) _ _ (at .first-child .ensures .0)
+    (c .after-children .ensures)
+
+children-ok-requires : tie.Need-children-ok-requires
+children-ok-requires c κs =
+    let at = c .before in
+    let high = at .before in
+    let bare = high .before .before in
+    root-stretch _ (bare .if1 .left) (bare .before .before .before .pre) (sym (high .before .is-set .ensures) ∙ high .if2 .left) _ _
+    (at .first-child .ensures .0) (c .after-children .ensures)
+
+returns-3 : tie.Need-returns-3
+returns-3 c =
+    let ended = c .before in
+    let at = ended .before in
+    let high = at .before in
+    let bare = high .before .before in
+    root-kids _ (bare .if1 .left) (bare .before .before .before .pre) (sym (high .before .is-set .ensures) ∙ high .if2 .left) _ _
+    (at .first-child .ensures .0) (ended .after-children .ensures) _ (c .children-ok .ensures)
 
 pub root-ok-spec : {M : Type 1} → statement M
 root-ok-spec =
     tie.close
     (tie.spec
-    (λ c. search needs)
-    (λ c. search root-bare)
-    (λ c κs. search needs)
-    (λ c. c .node-ok .ensures ∙ root-node _ (c .before .if1 .left)))
+    shared-slice-read-word
+    returns
+    is-set-requires
+    returns-2
+    first-child-requires
+    after-children-requires
+    sub-children-ok
+    children-ok-requires
+    returns-3)

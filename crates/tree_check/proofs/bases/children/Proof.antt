@@ -2,8 +2,8 @@
 use native.Mathlib.Omega.{arith}
 use borrow.Author.Needs.{needs}
 use lib.Count.{ones-le}
-use Rattle.tree_check.proofs.children.Statement.{statement}
-use Rattle.tree_check.proofs.children.Tie as tie
+use Rattle.tree_check.proofs.bases.children.Statement.{statement}
+use Rattle.tree_check.proofs.bases.children.Tie as tie
 
 pub children-spec : {M : Type 1} → statement M
 children-spec =

@@ -1,0 +1,42 @@
+-- A well-formed image ends where the way to the first children does; so where that is no end, or the order is not kept up to it, there is none.
+use native.Mathlib.Omega.{arith}
+use Rattle.tree_check.proofs.Neighbours.{shape-none, shape-past, shape-many, shape-is, shape-not}
+use borrow.Author.Needs.{needs}
+use Rattle.tree_check.proofs.bases.shape.Statement.{statement}
+use Rattle.tree_check.proofs.bases.shape.Tie as tie
+use Rattle.tree_check.proofs.bases.shape.Reads as reads
+use Rattle.tree_check.proofs.bases.shape.Lts as lts
+use Rattle.tree_check.proofs.bases.in_order.Reads as in-order-reads
+use Rattle.tree_check.proofs.bases.nodes_in.Reads as nodes-in-reads
+
+nodes-in-requires : tie.Need-nodes-in-requires
+nodes-in-requires c κs = search needs
+
+returns : tie.Need-returns
+returns c = shape-none _ _ (c .before .nodes-in .ensures) (c .if1 .taken)
+
+returns-2 : tie.Need-returns-2
+returns-2 c = shape-past _ _ (c .before .before .nodes-in .ensures) (c .if2 .taken)
+
+returns-3 : tie.Need-returns-3
+returns-3 c =
+    let ended = c .before .before .before in
+    shape-many _ _ (ended .nodes-in .ensures) (λ j. ended .before .shared-slice-known .given j .fits) (c .if3 .taken)
+
+in-order-requires : tie.Need-in-order-requires
+in-order-requires c κs = search needs
+
+returns-4 : tie.Need-returns-4
+returns-4 c =
+    let told = c .before in
+    shape-is _ _ (told .before .before .before .before .nodes-in .ensures) _ (told .in-order .ensures) (omega (arith, told .before .if3 .left)) (c .if4 .taken)
+
+returns-5 : tie.Need-returns-5
+returns-5 c =
+    let told = c .before in
+    shape-not _ _ (told .before .before .before .before .nodes-in .ensures) _ (told .in-order .ensures) (c .if4 .left)
+
+pub shape-spec : {M : Type 1} → statement M
+shape-spec =
+    tie.close
+    (tie.spec nodes-in-requires returns returns-2 returns-3 in-order-requires returns-4 returns-5)
