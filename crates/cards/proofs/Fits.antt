@@ -31,13 +31,13 @@ use Rattle.sail.specs.Walk.{leafSaid, hopSaid, lookupSaid}
 use Rattle.sail.specs.declared.table.Table.{Table}
 use Rattle.sail.proofs.Sounds.{chunks-need}
 use Rattle.sail_theory.specs.Calls.{made, loaded, cutRoute, cleared, telling, announced, withdrawn, reported}
-use Rattle.sail_theory.proofs.Chunks.{used-le}
+use Rattle.sail_theory.proofs.owners.Chunks.{used-le}
 use Rattle.sail.specs.Cases.{Sizing, v1, v2, v3, Lookup}
 use Rattle.sail_theory.specs.Cases.{Make, Announce, Withdraw, Load, Report}
-use Rattle.sail_theory.proofs.Judged.{make-judged, announce-judged, withdraw-judged, load-judged, report-judged}
-use Rattle.sail_theory.proofs.Cleared.{announce-said, announce-accepts, announce-holds, withdraw-said, withdraw-accepts, withdraw-holds}
-use Rattle.sail_theory.proofs.Fresh.{make-said, make-holds, accepted-sized}
-use Rattle.sail_theory.proofs.Loads.{load-said, load-holds}
+use Rattle.sail_theory.proofs.calls.SomeCase.{make-judged, announce-judged, withdraw-judged, load-judged, report-judged}
+use Rattle.sail_theory.proofs.calls.Cleared.{announce-said, announce-accepts, announce-holds, withdraw-said, withdraw-accepts, withdraw-holds}
+use Rattle.sail_theory.proofs.calls.Make.{make-said, make-holds, accepted-sized}
+use Rattle.sail_theory.proofs.calls.Load.{load-said, load-holds}
 use Rattle.tree.specs.Image.{nodeNeed}
 use Rattle.tree.specs.Reads.{TreeAnswer}
 use Rattle.tree.specs.Walk.{treeSaid}

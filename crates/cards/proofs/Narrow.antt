@@ -22,7 +22,7 @@ use Rattle.sail.specs.Lent.{Lent}
 use Rattle.sail.specs.Sizes.{sizesFault}
 use Rattle.sail.specs.declared.table.Table.{Table}
 use Rattle.sail_theory.specs.Calls.{route, out, orSay, announceSaid, withdrawFault, withdrawSaid, cutRoute, announced, withdrawn}
-use Rattle.sail_theory.proofs.Cleared.{announce-off, withdraw-off}
+use Rattle.sail_theory.proofs.calls.Cleared.{announce-off, withdraw-off}
 use Rattle.cards.specs.Narrow.{AlikeOver}
 
 -- where it is the same over a limit, a number may be narrowed to a type that has room for one over the limit

@@ -32,11 +32,11 @@ use Rattle.sail.specs.declared.lookup.Found.the-variants as found
 use Rattle.sail.proofs.Answers.{found-injective}
 use Rattle.sail_theory.specs.Calls.{Out, made, cutRoute, cleared, telling, announced, withdrawn, loaded, reported}
 use Rattle.sail_theory.specs.Cases.{Make, Announce, Withdraw, Load, Report}
-use Rattle.sail_theory.proofs.Judged.{make-judged, announce-judged, withdraw-judged, load-judged, report-judged}
-use Rattle.sail_theory.proofs.Only.{make-only, announce-only, withdraw-only, load-only, report-only}
-use Rattle.sail_theory.proofs.Cleared.{telling-once, announce-said, announce-refused, withdraw-said, withdraw-refused}
-use Rattle.sail_theory.proofs.Fresh.{make-said, make-refused}
-use Rattle.sail_theory.proofs.Loads.{load-said, load-refused}
+use Rattle.sail_theory.proofs.calls.SomeCase.{make-judged, announce-judged, withdraw-judged, load-judged, report-judged}
+use Rattle.sail_theory.proofs.calls.OneCase.{make-only, announce-only, withdraw-only, load-only, report-only}
+use Rattle.sail_theory.proofs.calls.Cleared.{telling-once, announce-said, announce-refused, withdraw-said, withdraw-refused}
+use Rattle.sail_theory.proofs.calls.Make.{make-said, make-refused}
+use Rattle.sail_theory.proofs.calls.Load.{load-said, load-refused}
 use Rattle.tree.specs.Walk.{saysTreeFound, treeSaid}
 use Rattle.tree.specs.declared.TreeFound.{TreeFound}
 use Rattle.tree.specs.declared.TreeFound.the-variants as treeFound

@@ -31,19 +31,19 @@ use Rattle.sail.proofs.Sounds.{standing-good}
 use Rattle.sail_theory.specs.Render.{roomOf}
 use Rattle.sail_theory.specs.Calls.{termsOf, inputRoutes, Out, made, announced, withdrawn, loaded}
 use Rattle.sail_theory.specs.Facts.{SameSize}
-use Rattle.sail_theory.specs.Runs.{announceAll, AllAdded, Call, after, worked, would, Formed, Carries, standingAfter, AsFresh}
+use Rattle.sail_theory.specs.CallRuns.{announceAll, AllAdded, Call, after, worked, would, Formed, Carries, standingAfter, AsFresh}
 use Rattle.sail_theory.specs.Alters.{Alters}
-use Rattle.sail_theory.proofs.Cleared.{announce-refused, announce-alters, withdraw-refused, withdraw-alters}
-use Rattle.sail_theory.proofs.Fresh.{accepted-sized}
-use Rattle.sail_theory.proofs.Loads as loads
-use Rattle.sail_theory.proofs.Runs as runs
-use Rattle.sail_theory.proofs.Anew as anew
-use Rattle.sail_theory.proofs.Wanting as wanting
+use Rattle.sail_theory.proofs.calls.Cleared.{announce-refused, announce-alters, withdraw-refused, withdraw-alters}
+use Rattle.sail_theory.proofs.calls.Make.{accepted-sized}
+use Rattle.sail_theory.proofs.calls.Load as loads
+use Rattle.sail_theory.proofs.runs.AfterRun as runs
+use Rattle.sail_theory.proofs.runs.AsFresh as anew
+use Rattle.sail_theory.proofs.runs.WantOfChunks as wanting
 use Rattle.demands.specs.Served.{uncounted}
 use Rattle.demands.proofs.Elsewhere.{announce-elsewhere, withdraw-elsewhere}
 use Rattle.demands.specs.Replies.{reply}
 use Rattle.demands.proofs.Replies as replies
-use Rattle.sail_theory.specs.Wants.{ByNeed, ForChunks}
+use Rattle.sail_theory.specs.WantOfChunks.{ByNeed, ForChunks}
 use Rattle.demands.proofs.Wants.{wanting-exact, chunks-formed}
 
 module _ (t : Table) (l : Lent) (z : Sized (t .geometry) l) where

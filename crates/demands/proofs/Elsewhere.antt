@@ -19,7 +19,7 @@ use Rattle.sail.specs.declared.table.Table.{Table}
 use Rattle.sail.proofs.Sounds.{standing-good, sail-serves}
 use Rattle.sail_theory.specs.Calls.{Out, cutRoute, announced, withdrawn}
 use Rattle.sail_theory.specs.Facts.{Holds}
-use Rattle.sail_theory.proofs.Cleared.{announce-welcome, announce-refused, announce-holds, withdraw-farewell, withdraw-refused, withdraw-holds}
+use Rattle.sail_theory.proofs.calls.Cleared.{announce-welcome, announce-refused, announce-holds, withdraw-farewell, withdraw-refused, withdraw-holds}
 use Rattle.demands.specs.Served.{uncounted}
 use Rattle.demands.proofs.Demand2.{hop-alone}
 

@@ -12,7 +12,7 @@ use Rattle.sail.specs.Walk.{lookupSaid}
 use Rattle.sail.specs.declared.table.Table.{Table}
 use Rattle.sail_theory.specs.Calls.{loaded}
 use Rattle.sail_theory.specs.Facts.{SameSize}
-use Rattle.sail_theory.specs.Runs.{Call, worked, Carries, AsFresh}
+use Rattle.sail_theory.specs.CallRuns.{Call, worked, Carries, AsFresh}
 use Rattle.repair_theory.specs.Repair.{kept, repaired}
 use Rattle.repair_theory.specs.Cases.{Repair}
 use Rattle.repair_theory.specs.Onwards.{onwards, asRun}

@@ -10,13 +10,13 @@ use Rattle.sail.specs.declared.table.Table.{Table}
 use Rattle.sail.proofs.Fitting.{none-is}
 use Rattle.sail_theory.specs.Calls.{Terms, termsOf, announceSaid, withdrawSaid, loadSaid}
 use Rattle.demands.specs.Replies.{reply, stood}
-use Rattle.sail_theory.specs.Runs.{Call, announce, withdraw, load, done, after}
-use Rattle.sail_theory.proofs.Tells.{sound-tells}
-use Rattle.sail_theory.proofs.Cleared.{announce-said, withdraw-said}
-use Rattle.sail_theory.proofs.Fresh.{make-holds}
-use Rattle.sail_theory.proofs.Sizes.{terms-same}
-use Rattle.sail_theory.proofs.Loads.{load-said}
-use Rattle.sail_theory.proofs.Runs.{run-is, run-list}
+use Rattle.sail_theory.specs.CallRuns.{Call, announce, withdraw, load, done, after}
+use Rattle.sail_theory.proofs.places.SoundTest.{sound-tells}
+use Rattle.sail_theory.proofs.calls.Cleared.{announce-said, withdraw-said}
+use Rattle.sail_theory.proofs.calls.Make.{make-holds}
+use Rattle.sail_theory.proofs.calls.SameSizes.{terms-same}
+use Rattle.sail_theory.proofs.calls.Load.{load-said}
+use Rattle.sail_theory.proofs.runs.AfterRun.{run-is, run-list}
 
 -- a call on a sound table
 pub done-says : (t : Table) (l : Lent) → Sound t l → (c : Call) → done t l c .said ≡ reply (termsOf t l) (standing t l) c

@@ -18,13 +18,13 @@ use Rattle.sail.specs.Sound.{standing}
 use Rattle.sail.specs.declared.table.Table.{Table}
 use Rattle.sail_theory.specs.Render.{roomOf}
 use Rattle.sail_theory.specs.Calls.{Terms, cutRoute, telling}
-use Rattle.sail_theory.specs.Runs.{Call, announce, withdraw, load, done, Formed}
+use Rattle.sail_theory.specs.CallRuns.{Call, announce, withdraw, load, done, Formed}
 use Rattle.sail.specs.Cases.{Sizing}
 use Rattle.sail_theory.specs.Cases.{Announce, Withdraw, Readable, Load}
-use Rattle.sail_theory.proofs.Judged.{announce-judged, withdraw-judged, load-judged}
-use Rattle.sail_theory.proofs.Cleared.{announce-said, withdraw-said}
-use Rattle.sail_theory.proofs.Loads.{load-said}
-use Rattle.sail_theory.specs.Wants.{Wanting, ByNeed, ForChunks}
+use Rattle.sail_theory.proofs.calls.SomeCase.{announce-judged, withdraw-judged, load-judged}
+use Rattle.sail_theory.proofs.calls.Cleared.{announce-said, withdraw-said}
+use Rattle.sail_theory.proofs.calls.Load.{load-said}
+use Rattle.sail_theory.specs.WantOfChunks.{Wanting, ByNeed, ForChunks}
 
 pub wanting-exact : {m : Terms} {rs : List Route} {s : Said} → Wanting m rs s → ByNeed m rs s
 wanting-exact (Wanting.second x) = record {

@@ -9,7 +9,7 @@ use Rattle.routes.specs.Said.{Said, accepted, andThen, accepts}
 use Rattle.routes.specs.declared.Route.{Route}
 use Rattle.standing.specs.Standing.{stands}
 use Rattle.sail_theory.specs.Calls.{Terms, announceFault, withdrawFault, loadFault, orSay, inputRoutes, cutRoute, cleared, telling}
-use Rattle.sail_theory.specs.Runs.{Call, announce, withdraw, load, would}
+use Rattle.sail_theory.specs.CallRuns.{Call, announce, withdraw, load, would}
 
 -- what a call says where the routes rs stand, on these terms
 unfoldable pub reply : Terms → List Route → Call → Said

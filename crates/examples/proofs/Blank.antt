@@ -22,14 +22,14 @@ use Rattle.sail.specs.Sound.{Sound, freshTable}
 use Rattle.sail.specs.Walk.{cell1}
 use Rattle.sail.specs.declared.geometry.Geometry.{Geometry}
 use Rattle.sail.proofs.Fitting.{Fault, fault-is}
-use Rattle.sail_theory.specs.Test.{sound?}
+use Rattle.sail_theory.specs.SoundTest.{sound?}
 use Rattle.sail_theory.specs.Calls.{Terms, termsOf, announceFault, withdrawFault, loadFault, orSay, inputRoutes, cutRoute, cleared, telling}
 use Rattle.sail_theory.specs.Calls.{makeSaid, announceSaid, withdrawSaid, loadSaid, reported}
 use Rattle.sail.specs.Cases.{Sizing, Lookup}
-use Rattle.sail_theory.proofs.Tells.{sound-tells}
-use Rattle.sail_theory.proofs.Cleared.{announce-said, withdraw-said}
-use Rattle.sail_theory.proofs.Fresh.{make-said}
-use Rattle.sail_theory.proofs.Loads.{load-said}
+use Rattle.sail_theory.proofs.places.SoundTest.{sound-tells}
+use Rattle.sail_theory.proofs.calls.Cleared.{announce-said, withdraw-said}
+use Rattle.sail_theory.proofs.calls.Make.{make-said}
+use Rattle.sail_theory.proofs.calls.Load.{load-said}
 use Rattle.demands.proofs.Lookups.{lookup-only}
 use Rattle.examples.specs.Blank.{Lengths, zeros, Asked, make, load, announce, withdraw, report, lookup, answer}
 

@@ -23,9 +23,9 @@ use Rattle.sail.specs.Sound.{standing, freshTable}
 use Rattle.sail.specs.declared.geometry.Geometry.{Geometry}
 use Rattle.sail.proofs.Fitting.{Fault, fault-is}
 use Rattle.sail_theory.specs.Calls.{Terms, Out, announceFault, withdrawFault, loadFault, chunksFault}
-use Rattle.sail_theory.specs.Runs.{Call, after}
-use Rattle.sail_theory.proofs.Fresh.{make-is}
-use Rattle.sail_theory.proofs.Runs.{run-is, run-sound}
+use Rattle.sail_theory.specs.CallRuns.{Call, after}
+use Rattle.sail_theory.proofs.calls.Make.{make-is}
+use Rattle.sail_theory.proofs.runs.AfterRun.{run-is, run-sound}
 use Rattle.demands.specs.Replies.{reply, stood}
 use Rattle.demands.proofs.Replies.{run-says, run-stood}
 use Rattle.examples.specs.Lines.{Hold}

@@ -15,7 +15,7 @@ use Rattle.routes.specs.Record.{routesOf, GoodInput}
 use Rattle.routes.specs.Said.{accepted, refused, accepts}
 use Rattle.routes.proofs.Meaning.{input-good}
 use Rattle.sail.specs.Walk.{lookupSaid, saysFound}
-use Rattle.sail_theory.specs.Runs.{after}
+use Rattle.sail_theory.specs.CallRuns.{after}
 use Rattle.basic.specs.Maps.{mapPlace, bitFor}
 use Rattle.basic.specs.Calls.{saysBasicFound, saysBasicAnswer, basicSaid, basicMany}
 use Rattle.basic.specs.Contract.{MeetsBasicLookup, MeetsBasicMany}

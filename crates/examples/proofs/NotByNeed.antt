@@ -8,7 +8,7 @@ use native.Mathlib.Omega.{arith}
 use Rattle.routes.specs.Said.{accepted, refused}
 use Rattle.sail.specs.Geometry.{standardGeo}
 use Rattle.sail_theory.specs.Calls.{Terms}
-use Rattle.sail_theory.specs.Wants.{ByNeed}
+use Rattle.sail_theory.specs.WantOfChunks.{ByNeed}
 use Rattle.examples.proofs.TableA.{routesA, need2, need3}
 
 abbrev terms : ℕ → ℕ → Terms

@@ -19,7 +19,7 @@ use Rattle.sail.specs.Sound.{cellsRead}
 use Rattle.sail.specs.Walk.{hopSaid, lookupSaid}
 use Rattle.sail.proofs.Sounds.{sail-serves}
 use Rattle.sail_theory.specs.Calls.{out}
-use Rattle.sail_theory.specs.Runs.{AsFresh}
+use Rattle.sail_theory.specs.CallRuns.{AsFresh}
 use Rattle.sail.specs.Cases.{Lookup}
 use Rattle.demands.proofs.Lookups.{lookup-only}
 use Rattle.examples.specs.Lines.{ip}

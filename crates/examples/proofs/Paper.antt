@@ -26,13 +26,13 @@ use Rattle.sail.specs.declared.table.Table.{Table}
 use Rattle.sail.proofs.Sounds.{sail-serves}
 use Rattle.sail_theory.specs.Render.{shown}
 use Rattle.sail_theory.specs.Calls.{Owners, opened, settled, kept, ownersOf, noOwners, termsOf, announceSaid, withdrawSaid, loadSaid, inputRoutes, Out, leaving, adding, taking, cutRoute, cleared, told, announced, withdrawn, loaded, reported}
-use Rattle.sail_theory.specs.Runs.{Call, announce, withdraw, load, done, after, would}
+use Rattle.sail_theory.specs.CallRuns.{Call, announce, withdraw, load, done, after, would}
 use Rattle.sail_theory.specs.Cases.{Report}
-use Rattle.sail_theory.proofs.Only.{report-only}
-use Rattle.sail_theory.proofs.Fresh.{make-is}
-use Rattle.sail_theory.proofs.Pools.{shows-shown}
-use Rattle.sail_theory.proofs.Cleared.{telling-accepts}
-use Rattle.sail_theory.proofs.Runs.{run-is}
+use Rattle.sail_theory.proofs.calls.OneCase.{report-only}
+use Rattle.sail_theory.proofs.calls.Make.{make-is}
+use Rattle.sail_theory.proofs.places.Pools.{shows-shown}
+use Rattle.sail_theory.proofs.calls.Cleared.{telling-accepts}
+use Rattle.sail_theory.proofs.runs.AfterRun.{run-is}
 use Rattle.demands.specs.Replies.{reply, stood}
 use Rattle.demands.proofs.Replies.{run-says, run-stood}
 

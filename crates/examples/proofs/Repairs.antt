@@ -15,8 +15,8 @@ use Rattle.sail.specs.Sizes.{sizesFault}
 use Rattle.sail.specs.Sound.{freshTable}
 use Rattle.sail.specs.declared.table.Table.{Table}
 use Rattle.sail_theory.specs.Calls.{out, loaded}
-use Rattle.sail_theory.specs.Runs.{done, after}
-use Rattle.sail_theory.proofs.Runs.{run-is}
+use Rattle.sail_theory.specs.CallRuns.{done, after}
+use Rattle.sail_theory.proofs.runs.AfterRun.{run-is}
 use Rattle.repair_theory.specs.Repair.{repairSaid, repaired}
 use Rattle.repair_theory.specs.Leaves.{untouched, Spared}
 use Rattle.repair_theory.proofs.Differs.{differ-same, differ-one}

@@ -31,9 +31,9 @@ use Rattle.sail.specs.declared.geometry.Geometry.{Geometry}
 use Rattle.sail.specs.declared.table.Table.{Table}
 use Rattle.sail_theory.specs.Render.{shown}
 use Rattle.sail_theory.specs.Calls.{Terms, termsOf, grant, openAt, settled, keep, chunksFault, announceFault, withdrawFault, loadFault, orSay, makeSaid, Out}
-use Rattle.sail_theory.specs.Runs.{Call, after}
-use Rattle.sail_theory.proofs.Fresh.{make-is}
-use Rattle.sail_theory.proofs.Runs.{run-is, run-sound}
+use Rattle.sail_theory.specs.CallRuns.{Call, after}
+use Rattle.sail_theory.proofs.calls.Make.{make-is}
+use Rattle.sail_theory.proofs.runs.AfterRun.{run-is, run-sound}
 use Rattle.bits.specs.Bit.{packed}
 use Rattle.tree.specs.Parts.{picked, gather}
 use Rattle.tree.specs.Image.{bitHop, setBit, word, kids, hopsOf, level, upTo, wordsFrom, words, imageBy}

@@ -24,7 +24,7 @@ use Rattle.sail.specs.declared.table.Table.{Table}
 use Rattle.sail_theory.specs.Render.{rendered}
 use Rattle.sail_theory.specs.Calls.{Owners, grant, openAt, settled, noOwners, stateOf, lentOf}
 use Rattle.sail_theory.specs.Facts.{Loadable, Holds}
-use Rattle.sail_theory.proofs.Loads.{loadable-holds}
+use Rattle.sail_theory.proofs.calls.Load.{loadable-holds}
 use Rattle.routes.specs.ListA.{listA}
 
 pub goodA : inputSaid listA ≡ accepted (5 ∷ [])

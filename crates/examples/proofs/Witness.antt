@@ -40,11 +40,11 @@ use Rattle.sail.specs.declared.table.Table.{Table}
 use Rattle.sail.specs.declared.lookup.Found.the-variants as found
 use Rattle.sail.proofs.Fresh.{fresh-sound}
 use Rattle.sail_theory.specs.Calls.{route, termsOf, withdrawFault, Out, out, made, announced, withdrawn, loaded, reported}
-use Rattle.sail_theory.specs.Runs.{Call, announce, withdraw, load, done, after, worked, would, Formed, standingAfter, AsFresh}
+use Rattle.sail_theory.specs.CallRuns.{Call, announce, withdraw, load, done, after, worked, would, Formed, standingAfter, AsFresh}
 use Rattle.sail_theory.specs.Render.{roomOf}
-use Rattle.sail_theory.proofs.Cleared.{telling-once, announce-said, announce-off}
-use Rattle.sail_theory.proofs.Fresh.{make-said, make-is}
-use Rattle.sail_theory.proofs.Sizes.{size-refl}
+use Rattle.sail_theory.proofs.calls.Cleared.{telling-once, announce-said, announce-off}
+use Rattle.sail_theory.proofs.calls.Make.{make-said, make-is}
+use Rattle.sail_theory.proofs.calls.SameSizes.{size-refl}
 use Rattle.sail_sound.specs.Report.{saysReported}
 use Rattle.sail_sound.specs.Contract.{MeetsReport}
 use Rattle.sail_sound.specs.declared.report.Reported.the-variants as ofReport
@@ -74,7 +74,7 @@ use Rattle.tree_build.specs.declared.Built.the-variants as ofBuild
 use Rattle.tree_build.proofs.Serves.{built-serves}
 use Rattle.demands.specs.Replies.{reply, stood}
 use Rattle.demands.proofs.Replies.{run-says, run-stood}
-use Rattle.sail_theory.specs.Wants.{ByNeed, ForChunks}
+use Rattle.sail_theory.specs.WantOfChunks.{ByNeed, ForChunks}
 use Rattle.demands.specs.Served.{uncounted, ReadBack}
 use Rattle.demands.proofs.Demand2 as demand2
 use Rattle.demands.proofs.Demand3 as demand3

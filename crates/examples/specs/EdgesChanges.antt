@@ -6,8 +6,8 @@ use Rattle.sail.specs.Geometry.{standardGeo, smallGeo}
 use Rattle.sail.specs.Sound.{freshTable}
 use Rattle.sail.specs.declared.geometry.Geometry.{Geometry}
 use Rattle.sail_theory.specs.Calls.{route, reported}
-use Rattle.sail_theory.specs.Runs.{Call, after}
-use Rattle.sail_theory.specs.Runs as call
+use Rattle.sail_theory.specs.CallRuns.{Call, after}
+use Rattle.sail_theory.specs.CallRuns as call
 use Rattle.examples.specs.Lines.{ip, Line, _gives_}
 use Rattle.examples.specs.Blank as blank
 use Rattle.examples.specs.Blank.{Lengths, lengths, zeros}

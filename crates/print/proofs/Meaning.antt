@@ -18,8 +18,8 @@ use Rattle.sail.specs.Sizes.{Sized}
 use Rattle.sail_theory.specs.Calls.{inputRoutes, loadSaid, loaded}
 use Rattle.sail.specs.Cases.{Sizing}
 use Rattle.sail_theory.specs.Cases.{Readable, Load}
-use Rattle.sail_theory.proofs.Judged.{load-judged}
-use Rattle.sail_theory.proofs.Loads.{accepted-loadable, load-said, load-holds}
+use Rattle.sail_theory.proofs.calls.SomeCase.{load-judged}
+use Rattle.sail_theory.proofs.calls.Load.{accepted-loadable, load-said, load-holds}
 use Rattle.text.specs.Digits.{digitsIn, digitsOf}
 use Rattle.text.specs.Text.{ascii, labelled, headLine, routeLines, tableText, saidText}
 use Rattle.text.proofs.Writes.{wrote-front}

@@ -13,8 +13,8 @@ use Rattle.sail.specs.Sound.{Sound, standing}
 use Rattle.sail.specs.declared.table.Table.{Table}
 use Rattle.sail_theory.specs.Calls.{Out, out, loaded, reported}
 use Rattle.sail_theory.specs.Cases.{Report}
-use Rattle.sail_theory.proofs.Only.{report-only}
-use Rattle.sail_theory.proofs.Loads.{load-holds}
+use Rattle.sail_theory.proofs.calls.OneCase.{report-only}
+use Rattle.sail_theory.proofs.calls.Load.{load-holds}
 use Rattle.sail_load.specs.Answers.{saysLoaded}
 use Rattle.sail_load.specs.declared.load.Loaded.{Loaded}
 use Rattle.sail_load.specs.declared.load.Loaded.the-variants.{Done, Refused, RefusedAt}

@@ -15,9 +15,9 @@ use Rattle.sail.specs.Geometry.{bits2, bits3}
 use Rattle.sail.specs.Lent.{Lent, Cells}
 use Rattle.sail.specs.Level.{always, itself, liveIn, partOf, entry, chunksOf, noChunks, level1, level2, level3}
 use Rattle.sail.specs.declared.geometry.Geometry.{Geometry}
-use Rattle.sail_theory.proofs.Places.{chunk-lt, live-owner}
-use Rattle.sail_theory.proofs.Frames.{top-bounded, below-bounded}
-use Rattle.sail_theory.proofs.Rendered.{last-fits}
+use Rattle.sail_theory.proofs.places.Places.{chunk-lt, live-owner}
+use Rattle.sail_theory.proofs.frames.LevelFrame.{top-bounded, below-bounded}
+use Rattle.sail_theory.proofs.places.Rendered.{last-fits}
 use Rattle.sail_owners.specs.Owners.{owners}
 use Rattle.sail_paint.specs.Paint.{standsFor, Above, Hangs}
 use Rattle.sail_paint.proofs.Places.{stands-itself, stands-part}

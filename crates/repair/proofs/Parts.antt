@@ -18,8 +18,8 @@ use Rattle.routes.specs.declared.Route.{Route}
 use Rattle.plan.specs.Plan.{plan}
 use Rattle.sail.specs.Level.{Level, Chunks, chunkFor, deep, entry}
 use Rattle.sail_theory.specs.Render.{shown, block, pool, Fits}
-use Rattle.sail_theory.proofs.Chunks.{chunk-at}
-use Rattle.sail_theory.proofs.Pools.{shown-node, shown-leaf}
+use Rattle.sail_theory.proofs.owners.Chunks.{chunk-at}
+use Rattle.sail_theory.proofs.places.Pools.{shown-node, shown-leaf}
 use Rattle.repair_theory.specs.Repair.{differ}
 use Rattle.repair.specs.Differs.{offAt, offName}
 

@@ -16,8 +16,8 @@ use Rattle.sail.specs.declared.table.Table.{Table}
 use Rattle.sail_calls.proofs.Judges.{or-said}
 use Rattle.sail_theory.specs.Calls.{Owners, settled, noOwners, inputRoutes, termsOf, chunksFault, Out, out, lentOf, loaded}
 use Rattle.sail_theory.specs.Facts.{Loadable}
-use Rattle.sail_theory.specs.Runs.{Carries}
-use Rattle.sail_theory.proofs.Loads.{Fronts, settles, fronts-none}
+use Rattle.sail_theory.specs.CallRuns.{Carries}
+use Rattle.sail_theory.proofs.calls.Load.{Fronts, settles, fronts-none}
 use Rattle.sail_load.specs.Answers.{saysLoaded}
 use Rattle.sail_load.specs.declared.load.Loaded.{Loaded}
 use Rattle.repair_theory.specs.Repair.{keptOf, looked, kept, keptBytes, reloaded, differ, dropped, changes, repairSaid, repaired}

@@ -20,7 +20,7 @@ use Rattle.sail_theory.specs.Calls.{termsOf, chunksFault, orSay, makeSaid}
 use Rattle.sail_theory.specs.Facts.{Loadable}
 use Rattle.sail.specs.Cases.{Sizing}
 use Rattle.sail_theory.specs.Cases.{Make}
-use Rattle.sail_theory.proofs.Only.{make-only}
+use Rattle.sail_theory.proofs.calls.OneCase.{make-only}
 use Rattle.repair_theory.specs.Repair.{kept, changes, repairSaid}
 use Rattle.repair_theory.specs.Cases.{Repair}
 use Rattle.repair_theory.proofs.Looks.{kept-good, kept-room}

@@ -12,12 +12,12 @@ use Rattle.sail.specs.Sound.{Sound, standing}
 use Rattle.sail.specs.declared.table.Table.{Table}
 use Rattle.sail_theory.specs.Calls.{Out, made, loaded}
 use Rattle.sail_theory.specs.Facts.{SameSize}
-use Rattle.sail_theory.specs.Runs.{Call, done, after, worked, Carries, AsFresh}
-use Rattle.sail_theory.proofs.Fresh.{make-holds}
-use Rattle.sail_theory.proofs.Sizes.{load-blind}
-use Rattle.sail_theory.proofs.Loads.{load-said}
-use Rattle.sail_theory.proofs.Runs as runs
-use Rattle.sail_theory.proofs.Anew.{run-as-fresh}
+use Rattle.sail_theory.specs.CallRuns.{Call, done, after, worked, Carries, AsFresh}
+use Rattle.sail_theory.proofs.calls.Make.{make-holds}
+use Rattle.sail_theory.proofs.calls.SameSizes.{load-blind}
+use Rattle.sail_theory.proofs.calls.Load.{load-said}
+use Rattle.sail_theory.proofs.runs.AfterRun as runs
+use Rattle.sail_theory.proofs.runs.AsFresh.{run-as-fresh}
 use Rattle.repair_theory.specs.Repair.{keptBytes, repaired}
 use Rattle.repair_theory.specs.Onwards.{onwards, Same, asRun}
 use Rattle.repair_theory.proofs.Judged.{accepted-loadable}

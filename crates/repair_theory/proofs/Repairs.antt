@@ -18,14 +18,14 @@ use Rattle.sail.specs.declared.table.Table.{Table}
 use Rattle.sail.proofs.Sounds.{chunks-need}
 use Rattle.sail_theory.specs.Calls.{settled, noOwners, inputRoutes, loadSaid, Out, stateOf, lentOf, loaded}
 use Rattle.sail_theory.specs.Facts.{SameSize, Holds, Loadable}
-use Rattle.sail_theory.specs.Runs.{Carries}
-use Rattle.sail_theory.proofs.Chunks.{used-le}
+use Rattle.sail_theory.specs.CallRuns.{Carries}
+use Rattle.sail_theory.proofs.owners.Chunks.{used-le}
 use Rattle.sail_theory.specs.Cases.{Readable, Load}
-use Rattle.sail_theory.proofs.Only.{load-only}
-use Rattle.sail_theory.proofs.Accepted.{outcome-said, outcome-refused}
-use Rattle.sail_theory.proofs.Sizes.{size-refl, size-trans, sized-same, load-blind}
-use Rattle.sail_theory.proofs.Loads.{load-is, load-said, load-holds, loadable-said, loadable-holds, accepted-loadable}
-use Rattle.sail_theory.proofs.Anew.{carried, same-lookups}
+use Rattle.sail_theory.proofs.calls.OneCase.{load-only}
+use Rattle.sail_theory.proofs.calls.Outcomes.{outcome-said, outcome-refused}
+use Rattle.sail_theory.proofs.calls.SameSizes.{size-refl, size-trans, sized-same, load-blind}
+use Rattle.sail_theory.proofs.calls.Load.{load-is, load-said, load-holds, loadable-said, loadable-holds, accepted-loadable}
+use Rattle.sail_theory.proofs.runs.AsFresh.{carried, same-lookups}
 use Rattle.repair_theory.specs.Repair.{looked, kept, keptBytes, reloaded, differ, dropped, changes, repairSaid, repaired}
 use Rattle.repair_theory.specs.Cases.{Repair}
 use Rattle.repair_theory.specs.Leaves.{Loads, SoundKeeps, untouched, Spared, undone}

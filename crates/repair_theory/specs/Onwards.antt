@@ -4,7 +4,7 @@ use mathlib.Core.Path.{_≡_}
 use Rattle.sail.specs.Lent.{Lent}
 use Rattle.sail.specs.declared.table.Table.{Table}
 use Rattle.sail_theory.specs.Calls.{Out}
-use Rattle.sail_theory.specs.Runs.{Call, load, done}
+use Rattle.sail_theory.specs.CallRuns.{Call, load, done}
 use Rattle.repair_theory.specs.Repair.{keptBytes}
 
 -- what a run of calls leaves that begins with what o left; the last call stands first

@@ -1,20 +1,17 @@
--- A list of routes by its places: the routes of records, and the bytes of routes. Assumes nothing.
-use mathlib.Core.Path.{_≡_, refl, sym, ap, ap₂, _∙_, subst}
+-- A list of routes by its places: the routes of records, and the bytes of routes.
+use mathlib.Core.Path.{_≡_, refl, sym, _∙_, subst}
 use mathlib.Core.Logic.{_⊎_, inl, inr}
-use mathlib.Core.Bool.{Bool, true, false, cond}
-use mathlib.Core.List.{List, [], _∷_, List·Memᴰ, List·Memᴰ·head, List·Memᴰ·tail, List·Memᴰ·cases-cons, List·Memᴰ·not-nil}
-use Prim.Native.Nat.{ℕ, zero, suc, _+_, _-_, _*_, _/_, _%_, _^_, _≤_, _<_, suc-le-suc, zero-le}
-use native.Mathlib.Nat.{not-suc-le-zero, le-of-suc-le-suc, add-zero, add-assoc}
+use mathlib.Core.List.{List, [], _∷_, _++_, List·Memᴰ, List·Memᴰ·head, List·Memᴰ·tail, List·Memᴰ·cases-cons, List·Memᴰ·not-nil}
+use Prim.Native.Nat.{ℕ, zero, suc, _+_, _-_, _*_, _/_, _%_, _≤_, _<_, suc-le-suc, zero-le}
+use native.Mathlib.Nat.{not-suc-le-zero, le-of-suc-le-suc}
 use native.Mathlib.Omega.{arith}
-use lib.Dec.{ltb, lit<}
 use lib.ListN.{length, getD}
 use lib.Seq.{ext-getD}
 use borrow.Author.Tests.{lt-ltb, le-ltb}
-use Rattle.bits.specs.Tab.{tabulate}
 use Rattle.bits.proofs.Tests.{below?}
-use Rattle.bits.proofs.Tabs.{length-tabulate, getD-tabulate, is-tabulate}
+use Rattle.bits.proofs.Tabs.{length-tabulate, getD-tabulate, is-tabulate, tabulate-snoc}
 use Rattle.routes.specs.Route.{key, Fine, Good}
-use Rattle.routes.specs.Record.{word32, word16, recordAt, bytesOf, routesOf, noRoute, written, Ranged, Records, Listed}
+use Rattle.routes.specs.Record.{recordAt, bytesOf, routesOf, noRoute, written, Ranged, Records, Listed}
 use Rattle.routes.specs.declared.Route.{Route}
 use Rattle.routes.proofs.Goods.{good-fine}
 use Rattle.routes.proofs.Puts.{bytes-read}
@@ -83,6 +80,11 @@ module _ (s : List ℕ) (n : ℕ) where
       nth-good (routesOf s n)
       (λ k l. let h : k < n = rw length-routes at l in rw (nth-route k h) (r .each k h))
       (λ i j l u. let h : j < n = rw length-routes at u in rw (nth-route i (omega arith), nth-route j h) (r .rises i j l h))
+
+-- one record more
+pub routes-snoc : (s : List ℕ) (n : ℕ) → routesOf s (suc n) ≡ routesOf s n ++ (recordAt s n ∷ [])
+unfolding routesOf
+routes-snoc s n = tabulate-snoc n (recordAt s)
 
 pub fine-ranged : (r : Route) → Fine r → Ranged r
 fine-ranged r f = record {

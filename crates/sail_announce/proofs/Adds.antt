@@ -32,11 +32,11 @@ use Rattle.sail_theory.specs.Render.{find}
 use Rattle.sail_theory.specs.Calls.{opening, route, announceSaid, Out, out, adding, told, announced}
 use Rattle.sail.specs.Level.{chunksOf, level1, level2}
 use Rattle.sail_theory.specs.Facts.{Welcome}
-use Rattle.sail_theory.proofs.Accepted.{adding-is}
-use Rattle.sail_theory.proofs.Changes.{ready1, welcome-fits2}
-use Rattle.sail_theory.proofs.Grown.{length-open}
-use Rattle.sail_theory.proofs.Pools.{length-pool, pool-shows}
-use Rattle.sail_theory.proofs.Cleared.{announce-off}
+use Rattle.sail_theory.proofs.calls.Outcomes.{adding-is}
+use Rattle.sail_theory.proofs.calls.ChangeHolds.{ready1, welcome-fits2}
+use Rattle.sail_theory.proofs.owners.OpenAt.{length-open}
+use Rattle.sail_theory.proofs.places.Pools.{length-pool, pool-shows}
+use Rattle.sail_theory.proofs.calls.Cleared.{announce-off}
 use Rattle.sail_paint.specs.Stale.{Repainted, AsAsked}
 use Rattle.sail_paint.specs.Pending.{Pending}
 use Rattle.sail_change.specs.Opening.{Openable}

@@ -1,6 +1,6 @@
 -- Two answers of announce that are told the same are the same. Assumes nothing.
 use mathlib.Core.Path.{_≡_, ap}
-use Rattle.sail_theory.proofs.Cleared.{bit-once}
+use Rattle.sail_theory.proofs.calls.Cleared.{bit-once}
 use Rattle.sail_announce.specs.Answers.{saysAnnounce}
 use Rattle.sail_announce.specs.declared.answers.Announce.{Announce}
 use Rattle.sail_announce.specs.declared.answers.Announce.the-variants as announce

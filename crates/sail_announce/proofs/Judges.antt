@@ -29,11 +29,11 @@ use Rattle.sail.specs.declared.table.Table.{Table}
 use Rattle.sail_theory.specs.Calls.{announceSaid}
 use Rattle.sail_theory.specs.Facts.{Welcome}
 use Rattle.sail_theory.specs.Cases.{Proper, Roomy, Announce}
-use Rattle.sail_theory.proofs.Only.{announce-only}
-use Rattle.sail_theory.proofs.Accepted.{replaced-welcome}
-use Rattle.sail_theory.proofs.Wants.{Enough, seven as second-chunks, eight as third-chunks}
-use Rattle.sail_theory.proofs.Chunks.{used-le}
-use Rattle.sail_theory.proofs.Needs.{need-more, need-same}
+use Rattle.sail_theory.proofs.calls.OneCase.{announce-only}
+use Rattle.sail_theory.proofs.calls.Outcomes.{replaced-welcome}
+use Rattle.sail_theory.proofs.owners.UsedNeed.{Enough, seven as second-chunks, eight as third-chunks}
+use Rattle.sail_theory.proofs.owners.Chunks.{used-le}
+use Rattle.standing.proofs.NeedAfter.{need-more, need-same}
 use Rattle.sail_sound.specs.Test.{Tried}
 use Rattle.sail_change.specs.Chunks.{alone}
 use Rattle.sail_calls.specs.Judge.{Judged}

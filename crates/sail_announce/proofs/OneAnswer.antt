@@ -3,7 +3,7 @@ use mathlib.Core.Path.{_≡_}
 use Prim.Native.Nat.{ℕ}
 use Rattle.sail.specs.Lent.{Lent}
 use Rattle.sail.specs.declared.table.Table.{Table}
-use Rattle.sail_theory.proofs.OneEnd.{one-end}
+use Rattle.sail_theory.proofs.calls.OneEnd.{one-end}
 use Rattle.sail_announce.specs.Answers.{saysAnnounce}
 use Rattle.sail_announce.specs.Contract.{MeetsAnnounce}
 use Rattle.sail_announce.specs.declared.answers.Announced.{Announced}

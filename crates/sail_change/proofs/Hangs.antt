@@ -17,7 +17,7 @@ use Rattle.routes.specs.declared.Route.{Route}
 use Rattle.plan.specs.Paint.{filled, Range}
 use Rattle.sail.specs.Level.{chunksOf}
 use Rattle.sail_theory.specs.Render.{find}
-use Rattle.sail_theory.proofs.Chunks.{chunk-is, chunk-none}
+use Rattle.sail_theory.proofs.owners.Chunks.{chunk-is, chunk-none}
 use Rattle.sail_change.specs.Chunks.{hung, closed, blanked, alone, Closing}
 
 -- no owner before c is o

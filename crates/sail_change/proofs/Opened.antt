@@ -22,14 +22,14 @@ use Rattle.sail.proofs.Sounds.{standing-good}
 use Rattle.sail_theory.specs.Render.{find, Fits, roomOf}
 use Rattle.sail_theory.specs.Calls.{opening}
 use Rattle.sail_theory.specs.Facts.{Welcome}
-use Rattle.sail_theory.proofs.Chunks.{chunk-at}
-use Rattle.sail_theory.proofs.Places.{top-apart, top-served, live-owner}
-use Rattle.sail_theory.proofs.Pools.{shows-fits}
-use Rattle.sail_theory.proofs.Stores.{unhung}
-use Rattle.sail_theory.proofs.Frames.{below-same}
-use Rattle.sail_theory.proofs.Grown.{Space, Ready, length-open, open-stays, open-fits, open-short, open-had, open-new, ready-below, find-hung}
-use Rattle.sail_theory.proofs.Changes.{ready1, ready2}
-use Rattle.sail_theory.proofs.Altered.{announce-frame}
+use Rattle.sail_theory.proofs.owners.Chunks.{chunk-at}
+use Rattle.sail_theory.proofs.places.Places.{top-apart, top-served, live-owner}
+use Rattle.sail_theory.proofs.places.Pools.{shows-fits}
+use Rattle.sail_theory.proofs.owners.GrantKeep.{unhung}
+use Rattle.sail_theory.proofs.frames.LevelFrame.{below-same}
+use Rattle.sail_theory.proofs.owners.OpenAt.{Space, Ready, length-open, open-stays, open-fits, open-short, open-had, open-new, ready-below, find-hung}
+use Rattle.sail_theory.proofs.calls.ChangeHolds.{ready1, ready2}
+use Rattle.sail_theory.proofs.frames.TableFrame.{announce-frame}
 use Rattle.sail_paint.specs.Stale.{meets}
 use Rattle.sail_change.specs.Chunks.{hung, alone, Free}
 use Rattle.sail_change.specs.Opening.{Openable}

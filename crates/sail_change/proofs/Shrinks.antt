@@ -25,12 +25,12 @@ use Rattle.sail.proofs.Sounds.{standing-good}
 use Rattle.sail_theory.specs.Render.{find, Fits, roomOf}
 use Rattle.sail_theory.specs.Calls.{keep, route}
 use Rattle.sail_theory.specs.Facts.{Farewell}
-use Rattle.sail_theory.proofs.Frames.{below-same}
-use Rattle.sail_theory.proofs.Needs.{stands-long}
-use Rattle.sail_theory.proofs.Stores.{length-keep, kept-was, keep-closed, keep-stores, Losing}
-use Rattle.sail_theory.proofs.Owners.{kept-over}
-use Rattle.sail_theory.proofs.Changes.{farewell-fits2, farewell-fits3, losing1, losing2, less}
-use Rattle.sail_theory.proofs.Altered.{withdraw-frame}
+use Rattle.sail_theory.proofs.frames.LevelFrame.{below-same}
+use Rattle.standing.proofs.NeedAfter.{stands-long}
+use Rattle.sail_theory.proofs.owners.GrantKeep.{length-keep, kept-was, keep-closed, keep-stores, Losing}
+use Rattle.sail_theory.proofs.owners.StillFit.{kept-over}
+use Rattle.sail_theory.proofs.calls.ChangeHolds.{farewell-fits2, farewell-fits3, losing1, losing2, less}
+use Rattle.sail_theory.proofs.frames.TableFrame.{withdraw-frame}
 use Rattle.sail_change.specs.Chunks.{closed, blanked, alone, Closing}
 use Rattle.sail_change.proofs.Hangs.{alone-longer}
 use Rattle.sail_change.proofs.Shuts.{closed-held, closed-blank}

@@ -20,9 +20,9 @@ use Rattle.sail.specs.Level.{Level, Chunks, entry, chunksOf, below}
 use Rattle.sail.specs.Sound.{Clear}
 use Rattle.sail_theory.specs.Render.{pool, Fits}
 use Rattle.sail_theory.specs.Alters.{NoneUnder, Framed}
-use Rattle.sail_theory.proofs.Frames.{none-outside, none-other, below-same}
-use Rattle.sail_theory.proofs.Places.{chunk-lt, live-owner}
-use Rattle.sail_theory.proofs.Pools.{pool-shown}
+use Rattle.sail_theory.proofs.frames.LevelFrame.{none-outside, none-other, below-same}
+use Rattle.sail_theory.proofs.places.Places.{chunk-lt, live-owner}
+use Rattle.sail_theory.proofs.places.Pools.{pool-shown}
 use Rattle.sail_paint.specs.Stale.{meets, staleBelow, Right}
 
 -- no address under the prefix lies in a cell that does not meet it, nor in the cells of deeper levels that lie in that cell

@@ -17,9 +17,9 @@ use Rattle.sail.specs.Sound.{Shows, Sound, standing}
 use Rattle.sail.specs.declared.geometry.Geometry.{Geometry}
 use Rattle.sail.specs.declared.table.Table.{Table}
 use Rattle.sail.proofs.Places.{names-exactly}
-use Rattle.sail_theory.proofs.Mids.{slot-down, short-down}
-use Rattle.sail_theory.proofs.Places.{LiveFor, top-served, below-served}
-use Rattle.sail_theory.proofs.Pools.{shown-node, shows-fits, shows-shown}
+use Rattle.standing.proofs.TwoLevels.{slot-down, short-down}
+use Rattle.sail_theory.proofs.places.Places.{LiveFor, top-served, below-served}
+use Rattle.sail_theory.proofs.places.Pools.{shown-node, shows-fits, shows-shown}
 use Rattle.sail_change.specs.Trail.{Told, Serving, Trailed}
 
 -- a place is small

@@ -15,7 +15,7 @@ use Rattle.sail.specs.Sizes.{Sized, Celled}
 use Rattle.sail.specs.declared.geometry.Geometry.{Geometry}
 use Rattle.sail_theory.specs.Render.{rendered}
 use Rattle.sail_theory.specs.Alters.{Frame}
-use Rattle.sail_theory.proofs.Pools.{pool-shown}
+use Rattle.sail_theory.proofs.places.Pools.{pool-shown}
 use Rattle.sail_paint.specs.Stale.{meets, staleBelow, Right, Stale, Repainted, AsAsked}
 use Rattle.sail_paint.proofs.Rights.{repainted-asked}
 use Rattle.sail_change.proofs.Still.{meets-none, Held, held-right}

@@ -25,10 +25,10 @@ use Rattle.sail.specs.Geometry.{bits2}
 use Rattle.sail.specs.Level.{Level, Chunks, deep, entry, chunksOf, level1, level2}
 use Rattle.sail.specs.Sound.{Shows, Clear, Counted}
 use Rattle.sail.specs.declared.geometry.Geometry.{Geometry}
-use Rattle.sail_theory.proofs.Places.{Apart, top-apart, below-apart}
-use Rattle.sail_theory.proofs.Pools.{shows-fits}
-use Rattle.sail_theory.proofs.Rendered.{top-clear}
-use Rattle.sail_theory.proofs.Mids.{long-down, slot-down}
+use Rattle.sail_theory.proofs.places.Places.{Apart, top-apart, below-apart}
+use Rattle.sail_theory.proofs.places.Pools.{shows-fits}
+use Rattle.sail_theory.proofs.places.Rendered.{top-clear}
+use Rattle.standing.proofs.TwoLevels.{long-down, slot-down}
 use Rattle.sail_counts.specs.Counted.{Counts}
 use Rattle.sail_counts.specs.Test.{idle, Idle, lenIn, cellIn, Tallied, Led, Countable, root}
 use Rattle.sail_counts.proofs.Leads.{Leads, first-leads, second-leads}

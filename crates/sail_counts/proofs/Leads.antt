@@ -14,9 +14,9 @@ use Rattle.sail.specs.Geometry.{bits2, Valid}
 use Rattle.sail.specs.Level.{Level, entry, chunksOf, top, level1, level2}
 use Rattle.sail.specs.Sound.{Shows}
 use Rattle.sail.specs.declared.geometry.Geometry.{Geometry}
-use Rattle.sail_theory.proofs.Mids.{slot-down}
-use Rattle.sail_theory.proofs.Places.{LiveFor, top-served, below-served}
-use Rattle.sail_theory.proofs.Pools.{shown-node, shows-fits, shows-shown}
+use Rattle.standing.proofs.TwoLevels.{slot-down}
+use Rattle.sail_theory.proofs.places.Places.{LiveFor, top-served, below-served}
+use Rattle.sail_theory.proofs.places.Pools.{shown-node, shows-fits, shows-shown}
 use Rattle.sail_counts.specs.Tick.{placeIn, secondAt}
 use Rattle.sail_counts.specs.Test.{root}
 

@@ -11,12 +11,11 @@ use Rattle.bits.specs.Tab.{tabulate}
 use Rattle.bits.proofs.Tests.{both}
 use Rattle.routes.specs.Record.{recordAt, routesOf}
 use Rattle.routes.specs.declared.Route.{Route}
-use Rattle.routes.proofs.Rows.{length-routes, nth-route}
+use Rattle.routes.proofs.Rows.{length-routes, nth-route, routes-snoc}
 use Rattle.counts.specs.Counts.{OneMore}
 use Rattle.counts.proofs.Changed.{many-snoc}
 use Rattle.sail.specs.Geometry.{bits2}
 use Rattle.sail.specs.declared.geometry.Geometry.{Geometry}
-use Rattle.sail_theory.proofs.Counting.{routes-snoc}
 use Rattle.sail_counts.specs.Counted.{Counts}
 use Rattle.sail_counts.specs.Tick.{Tickable, Moved, Uncounted}
 use Rattle.sail_counts.specs.declared.tick.Left.{Left}

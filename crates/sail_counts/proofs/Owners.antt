@@ -18,11 +18,11 @@ use Rattle.counts.specs.Counts.{howMany}
 use Rattle.counts.proofs.Many.{many-none}
 use Rattle.sail.specs.Level.{Level, Chunks, deep, chunksOf, below}
 use Rattle.sail_theory.specs.Calls.{openAt, keep}
-use Rattle.sail_theory.proofs.Mids.{short-down}
-use Rattle.sail_theory.proofs.Places.{part-up}
-use Rattle.sail_theory.proofs.Owners.{Closed}
-use Rattle.sail_theory.proofs.Stores.{keep-closed}
-use Rattle.sail_theory.proofs.Grown.{Ready, length-open, open-short, open-had, open-new}
+use Rattle.standing.proofs.TwoLevels.{short-down}
+use Rattle.sail_theory.proofs.places.Places.{part-up}
+use Rattle.sail_theory.proofs.owners.StillFit.{Closed}
+use Rattle.sail_theory.proofs.owners.GrantKeep.{keep-closed}
+use Rattle.sail_theory.proofs.owners.OpenAt.{Ready, length-open, open-short, open-had, open-new}
 use Rattle.sail.specs.Sound.{Counted}
 
 -- from k to k′ the owner of c stays; or c is opened or closed, and hangs from a cell that no longer route has

@@ -19,9 +19,9 @@ use Rattle.sail.specs.Level.{Level, entry, chunksOf, level1, level2}
 use Rattle.sail.specs.Sound.{Shows, Counted}
 use Rattle.sail.specs.declared.geometry.Geometry.{Geometry}
 use Rattle.sail_theory.specs.Calls.{openAt, keep}
-use Rattle.sail_theory.proofs.Places.{LiveFor, Apart, top-apart, top-served, below-apart}
-use Rattle.sail_theory.proofs.Pools.{shows-fits}
-use Rattle.sail_theory.proofs.Grown.{Ready}
+use Rattle.sail_theory.proofs.places.Places.{LiveFor, Apart, top-apart, top-served, below-apart}
+use Rattle.sail_theory.proofs.places.Pools.{shows-fits}
+use Rattle.sail_theory.proofs.owners.OpenAt.{Ready}
 use Rattle.sail_theory.specs.Render.{longs}
 use Rattle.sail_counts.specs.Counted.{Counts}
 use Rattle.sail_counts.specs.Tick.{ticked, secondAt, Ticks, Tickable, Moved}

@@ -18,7 +18,7 @@ use Rattle.counts.specs.Counts.{howMany, OneMore}
 use Rattle.counts.proofs.Many.{many-le, many-none, many-some}
 use Rattle.counts.proofs.Changed.{more-own, more-other, more-short}
 use Rattle.sail.specs.Level.{Level}
-use Rattle.sail_theory.proofs.Places.{LiveFor, Apart}
+use Rattle.sail_theory.proofs.places.Places.{LiveFor, Apart}
 use Rattle.sail.specs.Sound.{Counted}
 use Rattle.sail_counts.specs.Tick.{step, ticked, leftAt, Ticks}
 

@@ -17,8 +17,8 @@ use Rattle.chain.specs.Words.{wordAt, wordsOf, routesIn}
 use Rattle.chain.specs.Cover.{Room, Ready}
 use Rattle.chain.proofs.Decodes.{words-routes, records-words}
 use Rattle.plan.proofs.Tells.{is-no, is-yes, tells-same, refuted, passed}
-use Rattle.sail_theory.specs.Test.{listed?}
-use Rattle.sail_theory.proofs.Tells.{listed-tells}
+use Rattle.sail_theory.specs.SoundTest.{listed?}
+use Rattle.sail_theory.proofs.places.SoundTest.{listed-tells}
 use Rattle.sail_list.specs.List.{AllRight, Zeros, ChainRoom, Chained}
 
 module _ (s : List ℕ) (n : ℕ) where

@@ -19,7 +19,7 @@ use Rattle.sail.specs.declared.geometry.Geometry.{Geometry}
 use Rattle.sail.specs.declared.table.Table.{Table}
 use Rattle.sail_theory.specs.Render.{roomOf}
 use Rattle.sail_theory.specs.Calls.{chunksFault, loadFault, loadSaid, out, loaded, inputRoutes}
-use Rattle.sail_theory.proofs.Loads.{accepted-loadable, loadable-said, load-is, load-off}
+use Rattle.sail_theory.proofs.calls.Load.{accepted-loadable, loadable-said, load-is, load-off}
 use Rattle.sail_load.specs.Answers.{saysLoaded}
 use Rattle.sail_load.specs.Weigh.{terms, Weighs}
 use Rattle.sail_load.specs.Renew.{Renewable, anew}

@@ -4,7 +4,7 @@ use mathlib.Core.Path.{_≡_}
 use Prim.Native.Nat.{ℕ}
 use Rattle.sail.specs.Lent.{Lent}
 use Rattle.sail.specs.declared.table.Table.{Table}
-use Rattle.sail_theory.proofs.OneEnd.{one-end}
+use Rattle.sail_theory.proofs.calls.OneEnd.{one-end}
 use Rattle.sail_load.specs.Answers.{saysLoaded}
 use Rattle.sail_load.specs.Contract.{MeetsLoad}
 use Rattle.sail_load.specs.declared.load.Changed.{Changed}

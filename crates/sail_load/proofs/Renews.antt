@@ -28,11 +28,11 @@ use Rattle.sail_paint.specs.Pending.{Pending}
 use Rattle.sail_paint.proofs.Rights.{repainted-asked}
 use Rattle.sail_theory.specs.Render.{rendered, Fits, roomOf}
 use Rattle.sail_theory.specs.Calls.{Owners, settled, noOwners, inputRoutes}
-use Rattle.sail_theory.proofs.Places.{chunk-lt, live-owner}
-use Rattle.sail_theory.proofs.Pools.{length-pool, pool-shows}
-use Rattle.sail_theory.proofs.Ends.{any-some}
+use Rattle.sail_theory.proofs.places.Places.{chunk-lt, live-owner}
+use Rattle.sail_theory.proofs.places.Pools.{length-pool, pool-shows}
+use Rattle.standing.proofs.ListParts.{any-some}
 use Rattle.sail.proofs.Fresh.{zeros}
-use Rattle.sail_theory.proofs.Loads.{Fronts, fronts-none, settles}
+use Rattle.sail_theory.proofs.calls.Load.{Fronts, fronts-none, settles}
 use Rattle.sail_make.specs.Fill.{padded}
 use Rattle.sail_counts.specs.Counted.{Counts}
 use Rattle.sail_counts.specs.Tick.{Uncounted}

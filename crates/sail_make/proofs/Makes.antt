@@ -10,7 +10,7 @@ use Rattle.sail.specs.Sound.{freshTable, freshLent}
 use Rattle.sail.specs.declared.table.Table.{Table}
 use Rattle.plan.specs.Paint.{filled}
 use Rattle.sail_theory.specs.Calls.{orSay, makeSaid, out, made}
-use Rattle.sail_theory.proofs.Fresh.{make-is, make-off}
+use Rattle.sail_theory.proofs.calls.Make.{make-is, make-off}
 use Rattle.sail_make.specs.Answers.{saysMade}
 use Rattle.sail_make.specs.declared.Made.{Made}
 use Rattle.sail_make.specs.declared.Made.the-variants.{Done, Refused}

@@ -2,7 +2,7 @@
 use mathlib.Core.Path.{_≡_}
 use Rattle.sail.specs.Lent.{Lent}
 use Rattle.sail.specs.declared.table.Table.{Table}
-use Rattle.sail_theory.proofs.OneEnd.{one-end}
+use Rattle.sail_theory.proofs.calls.OneEnd.{one-end}
 use Rattle.sail_make.specs.Answers.{saysMade}
 use Rattle.sail_make.specs.Contract.{MeetsMake}
 use Rattle.sail_make.specs.declared.Fresh.{Fresh}

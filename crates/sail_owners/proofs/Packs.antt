@@ -19,7 +19,7 @@ use Rattle.sail.specs.Level.{Level, chunksOf, level1}
 use Rattle.sail.specs.declared.geometry.Geometry.{Geometry}
 use Rattle.sail_theory.specs.Render.{find}
 use Rattle.sail_theory.specs.Calls.{openAt}
-use Rattle.sail_theory.proofs.Chunks.{chunk-is, chunk-none, chunk-before}
+use Rattle.sail_theory.proofs.owners.Chunks.{chunk-is, chunk-none, chunk-before}
 use Rattle.sail_owners.specs.Owners.{Past, LastIs, Hangs, stays, goes, Hung, Chunk, Next, none, hung, Taken, secondFor, Opens, Opened}
 use Rattle.sail_owners.specs.declared.owners.Pass.{Pass}
 use Rattle.sail_owners.specs.declared.owners.Passes.{Passes}

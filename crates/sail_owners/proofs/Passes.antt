@@ -20,11 +20,11 @@ use Rattle.sail_theory.specs.Render.{find}
 use Rattle.sail_theory.specs.Calls.{opening, settled, noOwners, inputRoutes}
 use Rattle.sail.specs.Level.{Level, chunksOf, level1}
 use Rattle.sail_theory.specs.Facts.{Loadable}
-use Rattle.sail_theory.proofs.Ends.{good-next}
+use Rattle.standing.proofs.ListParts.{good-next}
 use Rattle.sail.proofs.Fresh.{zeros}
-use Rattle.sail_theory.proofs.Chunks.{chunk-is, chunk-le}
-use Rattle.sail_theory.proofs.Passing.{Passing, passing, settled-snoc, next-free, climbs1, climbs2}
-use Rattle.sail_theory.proofs.Ascends.{Climbs, step-had, step-new}
+use Rattle.sail_theory.proofs.owners.Chunks.{chunk-is, chunk-le}
+use Rattle.sail_owners.proofs.LoadPass.{Passing, passing, settled-snoc, next-free, climbs1, climbs2}
+use Rattle.sail_owners.proofs.RisingOwners.{Climbs, step-had, step-new}
 use Rattle.sail_owners.specs.Owners.{owners, Past, LastIs, Moved, stays, goes, Next, Step, none, hung, Taken, secondFor, Opens, Opened, Ownable}
 use Rattle.sail_owners.specs.declared.owners.Pass.{Pass}
 use Rattle.sail_owners.specs.declared.owners.Passes.{Passes}

@@ -1,4 +1,4 @@
--- What counting the chunks that routes need asks for. Assumes nothing.
+-- What counting the chunks that routes need asks for.
 use mathlib.Core.List.{List}
 use Prim.Native.Nat.{ℕ, _≤_}
 use Rattle.routes.specs.Record.{Records}

@@ -13,7 +13,7 @@ use Rattle.bits.proofs.Tests.{decided, both, and-split, same}
 use Rattle.routes.specs.declared.Route.{Route}
 use Rattle.plan.specs.Paint.{between}
 use Rattle.sail.specs.Level.{partOf, entry}
-use Rattle.sail_theory.proofs.Places.{chunk-lt}
+use Rattle.sail_theory.proofs.places.Places.{chunk-lt}
 use Rattle.sail_paint.specs.Stale.{meets}
 use Rattle.sail_paint.specs.Paint.{overpainted, standsFor, staleIn, staleOf, Above, Part, ChunkOf, Pool}
 use Rattle.sail_paint.proofs.Places.{block-is}

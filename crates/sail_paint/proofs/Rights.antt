@@ -21,11 +21,11 @@ use Rattle.sail.specs.Level.{Level, Chunks, chunkFor, deep, itself, partOf, ent
 use Rattle.sail.specs.Sound.{Clear}
 use Rattle.sail.specs.declared.geometry.Geometry.{Geometry}
 use Rattle.sail_theory.specs.Render.{shown, laidOver, Fits}
-use Rattle.sail_theory.proofs.Chunks.{chunk-at}
-use Rattle.sail_theory.proofs.Places.{chunk-lt, live-owner}
-use Rattle.sail_theory.proofs.Rendered.{top-clear, last-fits}
-use Rattle.sail_theory.proofs.Frames.{top-bounded, below-bounded}
-use Rattle.sail_theory.proofs.Pools.{length-laid, laid-at, shown-leaf, shown-node, laid-rendered}
+use Rattle.sail_theory.proofs.owners.Chunks.{chunk-at}
+use Rattle.sail_theory.proofs.places.Places.{chunk-lt, live-owner}
+use Rattle.sail_theory.proofs.places.Rendered.{top-clear, last-fits}
+use Rattle.sail_theory.proofs.frames.LevelFrame.{top-bounded, below-bounded}
+use Rattle.sail_theory.proofs.places.Pools.{length-laid, laid-at, shown-leaf, shown-node, laid-rendered}
 use Rattle.sail_paint.specs.Stale.{meets, staleBelow, Right, Stale, Repainted, AsAsked}
 use Rattle.sail_paint.specs.Paint.{overpainted, stampedBy, stamped, standsFor, staleIn, Above, FirstCells, Pool, Stamps}
 use Rattle.sail_paint.proofs.Places.{stands-itself, stands-part}

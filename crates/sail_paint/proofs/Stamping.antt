@@ -12,7 +12,7 @@ use borrow.Author.Tests.{lt-ltb, le-ltb, eqb-true, eqb-false}
 use Rattle.bits.proofs.Tests.{decided, below?, equal?}
 use Rattle.bits.proofs.Tabs.{length-tabulate, getD-tabulate, is-tabulate, tabulate-ext, set-tabulate}
 use Rattle.sail.specs.Level.{chunkFor, entry}
-use Rattle.sail_theory.proofs.Chunks.{chunk-at, chunk-before, chunk-is, chunk-none}
+use Rattle.sail_theory.proofs.owners.Chunks.{chunk-at, chunk-before, chunk-is, chunk-none}
 use Rattle.sail_paint.specs.Paint.{chunks, stampedBy, Stamps}
 
 -- what is stamped over x at place q, of the first m chunks

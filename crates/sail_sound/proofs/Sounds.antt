@@ -29,7 +29,7 @@ use Rattle.sail.specs.declared.table.Table.{Table}
 use Rattle.sail.proofs.Fitting.{celled-of}
 use Rattle.sail_counts.specs.Counted.{Counts}
 use Rattle.sail_counts.specs.Test.{Countable}
-use Rattle.sail_theory.proofs.Places.{chunk-lt, live-owner, chunk-live, chunk-part}
+use Rattle.sail_theory.proofs.places.Places.{chunk-lt, live-owner, chunk-live, chunk-part}
 use Rattle.sail_pool.specs.Pool.{chunkOf, PoolOk, FreeAll}
 use Rattle.sail_sound.specs.Test.{root, PassedAll, Beside, PassedTable}
 use Rattle.sail_pool.proofs.Cells.{Cell, cell-as, right-cell, cells-right, part-at}

@@ -12,8 +12,8 @@ use Rattle.sail.specs.Lent.{Lent, cellsOf}
 use Rattle.sail.specs.Sizes.{Sized}
 use Rattle.sail.specs.Sound.{Sound}
 use Rattle.sail.specs.declared.table.Table.{Table}
-use Rattle.sail_theory.specs.Test.{sound?}
-use Rattle.sail_theory.proofs.Tells.{sound-tells}
+use Rattle.sail_theory.specs.SoundTest.{sound?}
+use Rattle.sail_theory.proofs.places.SoundTest.{sound-tells}
 use Rattle.sail_list.specs.List.{Chained, Scratch}
 use Rattle.sail_sound.specs.Test.{PassedTable, Tried}
 use Rattle.plan.proofs.Tells.{refuted, passed}

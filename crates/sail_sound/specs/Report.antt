@@ -9,7 +9,7 @@ use Rattle.sail.specs.Lent.{Lent}
 use Rattle.sail.specs.Sizes.{sizesFault}
 use Rattle.sail.specs.Sound.{Sound}
 use Rattle.sail.specs.declared.table.Table.{Table}
-use Rattle.sail_theory.specs.Test.{sound?}
+use Rattle.sail_theory.specs.SoundTest.{sound?}
 use Rattle.sail_sound.specs.declared.report.Reported.{Reported}
 use Rattle.sail_sound.specs.declared.report.Reported.the-variants.{Standing, Refused}
 

@@ -1,4 +1,4 @@
--- What a change of one prefix may alter. Assumes nothing.
+-- What a change of one prefix may alter.
 use mathlib.Core.Bool.{true}
 use mathlib.Core.List.{List}
 use mathlib.Core.Path.{_≡_}

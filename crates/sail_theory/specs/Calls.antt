@@ -1,5 +1,5 @@
 -- The calls that change a table. Each is a function from the state and what is lent at entry to what it says, the state and what is lent
--- at exit, for every state and every contents. Assumes nothing.
+-- at exit, for every state and every contents.
 use mathlib.Core.Bool.{Bool, not, cond}
 use mathlib.Core.List.{List, [], _∷_, map}
 use mathlib.Core.Path.{_≡_}
@@ -22,7 +22,7 @@ use Rattle.sail.specs.Sound.{standing, freshTable, freshLent}
 use Rattle.sail.specs.declared.geometry.Geometry.{Geometry}
 use Rattle.sail.specs.declared.table.Table.{Table}
 use Rattle.sail_theory.specs.Render.{find, rendered, roomOf}
-use Rattle.sail_theory.specs.Test.{sound?}
+use Rattle.sail_theory.specs.SoundTest.{sound?}
 
 -- Owners.
 
@@ -87,7 +87,7 @@ abbrev pub route : ℕ → ℕ → ℕ → ℕ → Route
 route a len hop mark = record { addr = a; len = len; mark = mark; hop = hop }
 
 -- 5, 6, 7, 8, after the route by itself is good; a replacement never meets 6 to 8. `ok` tells whether the table is sound: it is `sound?`, which is
--- true exactly where `Sound` holds (`sound-tells`, proofs/Tells.antt)
+-- true exactly where `Sound` holds (`sound-tells`, proofs/places/SoundTest.antt)
 unfoldable pub announceFault : Bool → Terms → List Route → Route → ℕ
 announceFault ok m rs r =
     cond (not ok) 5

@@ -27,7 +27,7 @@ pub data Make (t : Table) (l : Lent) : Said → Type 0 where
   done : Sized (t .geometry) l → Make t l (accepted [])
 
 -- announce: 1, 2; what is wrong with the route by itself (3, 4, 10); 5, 6, 7, 8. A replacement never meets 6 to 8. This and withdraw are of the
--- prefix that is meant: the calls clear the bits after the length (proofs/Cleared.antt)
+-- prefix that is meant: the calls clear the bits after the length (proofs/calls/Cleared.antt)
 module _ (t : Table) (l : Lent) (r : Route) where
   abbrev rs : List Route
   rs = standing t l

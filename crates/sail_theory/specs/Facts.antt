@@ -1,5 +1,5 @@
 -- What holds where a call is accepted, as facts. A program's test of its arguments hands these on, and the part that changes the table
--- rests on them. Assumes nothing.
+-- rests on them.
 use mathlib.Core.Bool.{true}
 use mathlib.Core.List.{List}
 use mathlib.Core.Path.{_≡_}

@@ -1,6 +1,6 @@
 -- Two answers of withdraw that are told the same are the same. Assumes nothing.
 use mathlib.Core.Path.{_≡_, ap}
-use Rattle.sail_theory.proofs.Cleared.{bit-once}
+use Rattle.sail_theory.proofs.calls.Cleared.{bit-once}
 use Rattle.sail_withdraw.specs.Answers.{saysWithdraw}
 use Rattle.sail_withdraw.specs.declared.answers.Withdraw.{Withdraw}
 use Rattle.sail_withdraw.specs.declared.answers.Withdraw.the-variants as withdraw

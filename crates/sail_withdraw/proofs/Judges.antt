@@ -16,7 +16,7 @@ use Rattle.sail.specs.declared.table.Table.{Table}
 use Rattle.sail_theory.specs.Calls.{withdrawSaid}
 use Rattle.sail_theory.specs.Facts.{Farewell}
 use Rattle.sail_theory.specs.Cases.{Withdraw}
-use Rattle.sail_theory.proofs.Only.{withdraw-only}
+use Rattle.sail_theory.proofs.calls.OneCase.{withdraw-only}
 use Rattle.sail_sound.specs.Test.{Tried}
 use Rattle.sail_calls.specs.Judge.{Judged}
 use Rattle.sail_sound.proofs.Tries.{tried-sound}

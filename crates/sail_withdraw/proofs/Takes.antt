@@ -29,10 +29,10 @@ use Rattle.sail_theory.specs.Render.{find, longs}
 use Rattle.sail_theory.specs.Calls.{keep, withdrawSaid, Out, out, taking, told, withdrawn}
 use Rattle.sail.specs.Level.{Level, chunksOf, below, level1, level2}
 use Rattle.sail_theory.specs.Facts.{Farewell}
-use Rattle.sail_theory.proofs.Stores.{length-keep, Losing}
-use Rattle.sail_theory.proofs.Changes.{losing1, losing2}
-use Rattle.sail_theory.proofs.Accepted.{count-removed, taking-is}
-use Rattle.sail_theory.proofs.Cleared.{withdraw-off}
+use Rattle.sail_theory.proofs.owners.GrantKeep.{length-keep, Losing}
+use Rattle.sail_theory.proofs.calls.ChangeHolds.{losing1, losing2}
+use Rattle.sail_theory.proofs.calls.Outcomes.{count-removed, taking-is}
+use Rattle.sail_theory.proofs.calls.Cleared.{withdraw-off}
 use Rattle.sail_paint.specs.Stale.{Repainted}
 use Rattle.sail_change.specs.Chunks.{alone, closed, blanked, Closing}
 use Rattle.sail_paint.specs.Pending.{Pending}

@@ -10,3 +10,6 @@ pub mod Frame
 pub mod Only
 pub mod Standing
 pub mod Changed
+pub mod ListParts
+pub mod NeedAfter
+pub mod TwoLevels

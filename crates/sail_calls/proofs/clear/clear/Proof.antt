@@ -2,7 +2,7 @@
 use mathlib.Core.Path.{sym}
 use native.Mathlib.Omega.{arith}
 use borrow.Author.Needs.{needs}
-use Rattle.sail_theory.proofs.Cleared.{cut-over}
+use Rattle.sail_theory.proofs.calls.Cleared.{cut-over}
 use Rattle.sail_calls.proofs.clear.clear.Statement.{statement}
 use Rattle.sail_calls.proofs.clear.clear.Tie as tie
 

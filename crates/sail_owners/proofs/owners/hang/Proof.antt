@@ -1,4 +1,4 @@
--- `sail_owners::owners::hang` meets its contract. Assumes nothing.
+-- `sail_owners::owners::hang`: the last chunk has the owner already, or the lowest free chunk gets it.
 use mathlib.Core.Path.{sym, _∙_}
 use mathlib.Core.Bool.{true≢false}
 use borrow.Author.Needs.{needs}
@@ -12,12 +12,14 @@ returns c = hung-had _ _ _ (c .before .before .before .before .pre) (c .before .
 slice-write-own : tie.Need-slice-write-own
 slice-write-own c =
     let asked = c .before .before .before in
-    room _ _ _ (asked .before .before .before .pre) (λ e. true≢false (sym (asked .last-is .ensures .1 e) ∙ c .before .before .if1 .left)) _ (c .next-free .ensures .0)
+    let start = asked .before .before .before in
+    room _ _ _ (start .pre) (λ e. true≢false (sym (asked .last-is .ensures .1 e) ∙ c .before .before .if1 .left)) _ (c .next-free .ensures .0)
 
 returns-2 : tie.Need-returns-2
 returns-2 c =
     let asked = c .before .before .before in
-    hung-new _ _ _ (asked .before .before .before .pre) (λ e. true≢false (sym (asked .last-is .ensures .1 e) ∙ c .before .before .if1 .left)) _ (c .next-free .ensures .0)
+    let start = asked .before .before .before in
+    hung-new _ _ _ (start .pre) (λ e. true≢false (sym (asked .last-is .ensures .1 e) ∙ c .before .before .if1 .left)) _ (c .next-free .ensures .0)
 
 pub hang-spec : {M : Type 1} → statement M
 hang-spec =

@@ -1,4 +1,4 @@
--- `sail_owners::owners::open_for` meets its contract. Assumes nothing.
+-- `sail_owners::owners::open_for`: the chunks of a route, by its length: none, a second, or a second and a third that hangs from it.
 use native.Mathlib.Omega.{arith}
 use borrow.Author.Needs.{needs}
 use Rattle.sail_owners.proofs.Packs.{slot-small, hangs-second, opened-none, chunk-second, opened-second, hangs-third, opened-third}
@@ -17,22 +17,26 @@ hang-requires c κs = hangs-second _ _ _ _ _ (c .before .before .before .before 
 returns-2 : tie.Need-returns-2
 returns-2 c =
     let first = c .before .before .before in
-    opened-second _ _ _ _ _ (first .before .before .before .before .before .before .before .before .before .pre) (omega arith) _ (first .before .slot .ensures) _ _ (first .hang .ensures) (omega arith)
+    opened-second _ _ _ _ _ (first .before .before .before .before .before .before .before .before .before .pre) (omega arith) _
+    (first .before .slot .ensures) _ _ (first .hang .ensures) (omega arith)
 
 place-requires : tie.Need-place-requires
 place-requires c κs =
     let first = c .before .before .before .before in
-    chunk-second _ _ _ _ _ (first .before .before .before .before .before .before .before .before .before .pre) (omega arith) _ (first .before .slot .ensures) _ _ (first .hang .ensures) (first .hang .kept .0)
+    chunk-second _ _ _ _ _ (first .before .before .before .before .before .before .before .before .before .pre) (omega arith) _
+    (first .before .slot .ensures) _ _ (first .hang .ensures) (first .hang .kept .0)
 
 hang-requires-2 : tie.Need-hang-requires-2
 hang-requires-2 c κs =
     let first = c .before .before .before .before .before in
-    hangs-third _ _ _ _ _ (first .before .before .before .before .before .before .before .before .before .pre) (omega arith) _ (first .before .slot .ensures) _ _ (first .hang .ensures) (omega arith) _ (c .place .ensures .0)
+    hangs-third _ _ _ _ _ (first .before .before .before .before .before .before .before .before .before .pre) (omega arith) _
+    (first .before .slot .ensures) _ _ (first .hang .ensures) (omega arith) _ (c .place .ensures .0)
 
 returns-3 : tie.Need-returns-3
 returns-3 c =
     let first = c .before .before .before .before .before .before .before .before in
-    opened-third _ _ _ _ _ (first .before .before .before .before .before .before .before .before .before .pre) (omega arith) _ (first .before .slot .ensures) _ _ (first .hang .ensures) (omega arith) _ (c .before .before .before .place .ensures .0) _ _ (c .before .before .hang2 .ensures)
+    opened-third _ _ _ _ _ (first .before .before .before .before .before .before .before .before .before .pre) (omega arith) _
+    (first .before .slot .ensures) _ _ (first .hang .ensures) (omega arith) _ (c .before .before .before .place .ensures .0) _ _ (c .before .before .hang2 .ensures)
 
 pub open-for-spec : {M : Type 1} → statement M
 open-for-spec =

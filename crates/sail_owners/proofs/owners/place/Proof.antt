@@ -1,4 +1,5 @@
--- `sail_owners::owners::place` meets its contract. Assumes nothing.
+-- `sail_owners::owners::place`: the place of an address in a second chunk. The numbers stay below 4,194,304, since there are at most 4,096 chunks of
+-- 1,024 cells.
 use native.Mathlib.Omega.{arith}
 use borrow.Author.Needs.{needs}
 use Rattle.sail_owners.proofs.Packs.{place-at, place-few}
@@ -17,4 +18,6 @@ place-spec =
     (λ c. search needs)
     (λ c. record { fits = omega (arith, place-few _ _ (c .slot .result) _ (c .before .before .pre) (c .before .second-chunk .ensures)) })
     (λ c. record { fits = omega (arith, place-few _ _ (c .slot .result) _ (c .before .before .pre) (c .before .second-chunk .ensures)) })
-    (λ c. (place-at _ _ _ _ _ (c .slot .ensures) (c .before .second-chunk .ensures), place-few _ _ _ _ (c .before .before .pre) (c .before .second-chunk .ensures))))
+    (λ c.
+    let size = c .before .second-chunk .ensures in
+    (place-at _ _ _ _ _ (c .slot .ensures) size, place-few _ _ _ _ (c .before .before .pre) size)))

@@ -1,0 +1,4 @@
+-- What holds after any run of calls.
+pub mod AfterRun
+pub mod AsFresh
+pub mod WantOfChunks
