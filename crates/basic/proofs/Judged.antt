@@ -21,7 +21,7 @@ use Rattle.routes.specs.declared.Route.{Route}
 use Rattle.routes.proofs.Goods.{good-fine}
 use Rattle.routes.specs.Cases.{Passes}
 use Rattle.routes.proofs.Meaning.{hop-true, true-hop, good-input}
-use Rattle.routes.proofs.Cases.{check-only, good-whole, bad-stops, by-input}
+use Rattle.routes.proofs.Judged.{check-only, good-whole, bad-stops, by-input}
 use Rattle.routes.proofs.Rows.{records-good}
 use Rattle.standing.specs.Cells.{covers, Best}
 use Rattle.standing.specs.Down.{down}

@@ -2,25 +2,29 @@
 -- (`one-level`): that is argued once, for a level. So the walk goes down through the records themselves, and ends at the longest route that
 -- covers the address.
 use mathlib.Core.Path.{_≡_, refl, sym, ap, ap₂, _∙_, subst}
-use mathlib.Core.Logic.{_⊎_, inl, inr}
-use mathlib.Core.Bool.{Bool, true, cond}
-use mathlib.Core.List.{List}
-use Prim.Native.Nat.{ℕ, zero, suc, _+_, _-_, _*_, _/_, _^_, _≤_, _<_}
+use mathlib.Core.Logic.{_⊎_, inl, inr, _↔_}
+use mathlib.Core.Bool.{Bool, false, cond}
+use mathlib.Core.List.{List, [], List·Memᴰ}
+use Prim.Native.Nat.{ℕ, zero, suc, _-_, _^_, _≤_, _<_}
 use native.Mathlib.Omega.{arith}
 use lib.Dec.{ltb}
 use lib.ListN.{length, getD, List·getD-eq-default}
-use borrow.Author.Tests.{lt-ltb}
+use borrow.Author.Tests.{lt-ltb, ne-eqb}
 use Rattle.bits.specs.Slot.{slot}
 use Rattle.bits.proofs.Slots.{slot-lt}
 use Rattle.bits.proofs.Tests.{below?}
 use Rattle.bits.proofs.Tabs.{length-tabulate, getD-tabulate}
 use Rattle.routes.specs.Route.{Good}
+use Rattle.routes.specs.Said.{Said, accepted}
 use Rattle.routes.specs.declared.Route.{Route}
 use Rattle.routes.proofs.Goods.{good-fine}
 use Rattle.routes.proofs.Meaning.{true-hop}
-use Rattle.standing.specs.Cells.{here, first, orElse, best, Longest, Best}
+use Rattle.standing.specs.Cells.{here, covers, first, orElse, best, Longest, Best}
+use Rattle.standing.specs.Served.{hopSaid, uncounted}
 use Rattle.standing.specs.Down.{orNext, down}
 use Rattle.standing.proofs.Longest.{First, first-is, here-make, best-is}
+use Rattle.standing.proofs.Only.{covers-none}
+use Rattle.standing.proofs.Served.{longest-best}
 use Rattle.standing.proofs.Prefixes.{first-here, first-absent}
 use Rattle.standing.proofs.Downs.{down-same, down-best}
 use Rattle.basic.specs.Maps.{mapPlace, mapCell, mapCells, mapBits, isSetAt, MapSizes}
@@ -121,3 +125,21 @@ module _ (rs : List Route) (good : Good rs) (a : ℕ) (bound : a < 2 ^ 32) where
       go (suc h) e (Best.one w) =
           let f = down-hop 33 h e in
           rw (true-hop h (f .0) (f .1)) (Serves.hop h (subst (Longest rs 32 a) (best-of (suc h) e) w))
+
+-- Of each address one thing is said: the hop of `best`, without a count.
+module _ (rs : List Route) (good : Good rs) (a : ℕ) where
+  pub serves-best : (n : ℕ) {s : Said} → Serves rs a s → s ≡ uncounted (hopSaid n (best rs 32 a))
+  unfolding hopSaid
+  serves-best n (Serves.hop h w) = let b = longest-best rs good a w in rw (b .0, ne-eqb h 0 (λ z. omega (arith, b .1)))
+  serves-best n (Serves.none k) = rw (covers-none rs good 32 a k)
+
+  pub serves-once : {s u : Said} → Serves rs a s → Serves rs a u → s ≡ u
+  serves-once v w = serves-best 0 v ∙ sym (serves-best 0 w)
+
+  -- no hop is said exactly where no route covers
+  pub serves-none : {s : Said} → Serves rs a s → (s ≡ accepted []) ↔ ((r : Route) → List·Memᴰ r rs → covers 32 a r ≡ false)
+  serves-none v = ((λ e. go v e), (λ none. serves-once v (Serves.none none)))
+    where
+      go : {s : Said} → Serves rs a s → s ≡ accepted [] → (r : Route) → List·Memᴰ r rs → covers 32 a r ≡ false
+      go (Serves.hop h w) e = absurd (let z : _≡_ {A = ℕ} 0 1 = cc in omega arith)
+      go (Serves.none k) e = k

@@ -2,7 +2,7 @@
 use mathlib.Core.Path.{_≡_, refl, ap, _∙_}
 use mathlib.Core.Bool.{true, false, true≢false, false≢true}
 use mathlib.Core.List.{List, []}
-use Prim.Native.Nat.{ℕ, _*_, _/_}
+use Prim.Native.Nat.{ℕ, _/_}
 use native.Mathlib.Omega.{arith}
 use lib.ListN.{length}
 use Rattle.routes.specs.Record.{routesOf, GoodInput, routesIn}
@@ -14,8 +14,7 @@ use Rattle.basic.specs.declared.check.Ready.{Ready}
 use Rattle.basic.specs.declared.check.Ready.the-variants as ready
 use Rattle.basic.specs.declared.check.BasicAnswer.the-variants as answer
 use Rattle.basic.proofs.Checks.{ready-means, said-good, said-refused, said-number}
-use Rattle.basic.proofs.Judged.{unready-only, unready-refuses, prepared-only, ready-judged}
-use Rattle.basic_build.specs.Built.{MapsOut, mapsOut, mapsAfter, basicBuilt, Filled, BasicBuild}
+use Rattle.basic_build.specs.Built.{MapsOut, mapsOut, mapsAfter, basicBuilt, Filled}
 
 pub filled-in : (s : List ℕ) (n : ℕ) → GoodInput s n → (ys zs : List ℕ) → zs ≡ mapCells (routesOf s n) → ys ≡ mapBits zs → Filled (routesIn s) ys zs
 filled-in s n ok ys zs e q =
@@ -67,20 +66,3 @@ module _ (s bs cs : List ℕ) where
       go (Said.accepted vs) t = absurd (true≢false t)
       go (Said.refused n) t = (refl, refl)
       go (Said.refusedAt n k) t = (refl, refl)
-
-  -- it says exactly what stands beside the condition that holds
-  pub build-only : (x : Said) → BasicBuild s bs cs x → basicBuilt s bs cs .said ≡ x
-  unfolding basicBuilt
-  build-only _ (BasicBuild.unready x u) = rw (unready-only s bs cs x u) (off x (unready-refuses u))
-    where
-      off : (x : Said) → accepts x ≡ false → mapsAfter x (routesIn s) bs cs .said ≡ x
-      off (Said.accepted vs) h = absurd (true≢false h)
-      off (Said.refused n) h = refl
-      off (Said.refusedAt n k) h = refl
-  build-only x (BasicBuild.done p) = rw (prepared-only s bs cs p)
-
-  pub build-judged : BasicBuild s bs cs (basicBuilt s bs cs .said)
-  build-judged = ready-judged s bs cs (BasicBuild s bs cs (basicBuilt s bs cs .said)) (λ x u. told (BasicBuild.unready x u)) (λ p. told (BasicBuild.done p))
-    where
-      told : {x : Said} → BasicBuild s bs cs x → BasicBuild s bs cs (basicBuilt s bs cs .said)
-      told c = rw (build-only _ c) c

@@ -9,7 +9,7 @@ use Rattle.routes.specs.Said.{Said}
 use Rattle.routes.proofs.Meaning.{input-checked}
 use Rattle.broadcast.specs.Cast.{castSaid}
 use Rattle.broadcast.specs.Meaning.{Casting}
-use Rattle.broadcast.proofs.Casts.{cast-judged}
+use Rattle.broadcast.proofs.Judged.{cast-judged}
 use Rattle.packing.specs.Unpack.{Fits}
 use Rattle.packing.specs.Parts.{parts}
 use Rattle.packing.specs.Casts.{packCast, unpackCast, CastFits, castParts}

@@ -1,5 +1,5 @@
 -- What the calls say has room in their answers. Nothing is supposed but what the boundary's types give: cells of 16 bits (`Cells`), and
--- for the index of a record an input shorter than 2^35 bytes, so that it has fewer than 2^32 records. Assumes nothing.
+-- for the index of a record an input shorter than 2^35 bytes, so that it has fewer than 2^32 records.
 use mathlib.Core.Path.{_≡_, refl, _∙_, ap}
 use mathlib.Core.Logic.{_⊎_, inl, inr}
 use mathlib.Core.Bool.{Bool, true, false, cond, true≢false}
@@ -27,7 +27,8 @@ use Rattle.lists.proofs.Places.{place-le}
 use Rattle.sail.specs.Lent.{Lent}
 use Rattle.sail.specs.Level.{chunksOf}
 use Rattle.sail.specs.Sound.{standing}
-use Rattle.sail.specs.Walk.{leafSaid, hopSaid, lookupSaid}
+use Rattle.standing.specs.Served.{hopSaid}
+use Rattle.sail.specs.Walk.{leafSaid, lookupSaid}
 use Rattle.sail.specs.declared.table.Table.{Table}
 use Rattle.sail.proofs.Sounds.{chunks-need}
 use Rattle.sail_theory.specs.Calls.{made, loaded, cutRoute, cleared, telling, announced, withdrawn, reported}
@@ -44,12 +45,12 @@ use Rattle.tree.specs.Walk.{treeSaid}
 use Rattle.tree.proofs.Needs.{nodes-most}
 use Rattle.tree.proofs.ReadCounts.{tree-answers}
 use Rattle.tree_build.specs.Built.{built}
-use Rattle.routes.proofs.Cases.{good-whole}
+use Rattle.routes.proofs.Judged.{good-whole, route-judged}
 use Rattle.runs.specs.Cases.{RunChecked}
-use Rattle.demands.proofs.Inputs.{run-judged, route-judged}
-use Rattle.demands.proofs.Lookups.{lookup-judged}
+use Rattle.runs.proofs.Judged.{run-judged}
+use Rattle.sail.proofs.Judged.{lookup-judged}
 use Rattle.tree_build.specs.Cases.{Build}
-use Rattle.demands.proofs.Builds.{build-judged}
+use Rattle.tree_build.proofs.Judged.{build-judged}
 use Rattle.packing.specs.Unpack.{Fits, FoundFits, ReportFits, BuiltFits, RunFits, RouteFits, AnnounceFits, WithdrawFits, DoneFits, Cells}
 
 -- 1 and 2

@@ -14,7 +14,7 @@ use Rattle.basic.specs.Calls.{basicSaid, packHop, hopWord, Many, many, basicMan
 use Rattle.basic.specs.Meaning.{Unready, Prepared, BasicLookup, BasicLookups}
 use Rattle.basic.proofs.Judged.{unready-refuses, not-both, lookup-judged, many-judged, many-words}
 use Rattle.basic_build.specs.Built.{MapsOut, mapsOut, basicBuilt, BasicBuild}
-use Rattle.basic_build.proofs.Answers.{build-judged}
+use Rattle.basic_build.proofs.Judged.{build-judged}
 use Rattle.packing.specs.Pack.{packNone}
 use Rattle.packing.specs.Unpack.{unpackNone, Fits}
 use Rattle.packing.specs.Hops.{unpackHop, HopFits, NoneFits}

@@ -3,7 +3,7 @@
 -- the routes then standing are the same, in whichever order they came."
 --
 -- A run is a list of calls from a build, the last call first: `after s ws hs cs` is what the last call says, and both arrays then, where the input s
--- was built into ws and hs. What these held before a build is free. Assumes nothing.
+-- was built into ws and hs. What these held before a build is free.
 use mathlib.Core.Path.{_≡_}
 use mathlib.Core.Logic.{_↔_}
 use mathlib.Core.Bool.{true, false, cond}
@@ -19,12 +19,12 @@ use Rattle.tree_build.specs.Built.{built}
 use Rattle.tree_same.specs.Listed.{routesHeld}
 use Rattle.tree_same.specs.OneImage.{SameRoutes, Builds, SameArrays, SameUsed}
 use Rattle.tree_same.proofs.OneImage as builds
+use Rattle.tree_check.specs.Cases.{Narrow}
 use Rattle.tree_check.specs.WellFormed.{wellFormed}
 use Rattle.tree_change.specs.Cases.{Left}
 use Rattle.tree_runs.specs.Runs.{Call, after, standingAfter, worked, would}
 use Rattle.tree_runs.proofs.Runs as runs
 use Rattle.tree_runs.proofs.Same as same
-use Rattle.demands.specs.Images.{Narrow}
 
 -- ---- two builds
 

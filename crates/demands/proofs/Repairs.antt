@@ -5,6 +5,7 @@ use mathlib.Core.Bool.{true, false}
 use mathlib.Core.List.{List}
 use Prim.Native.Nat.{ℕ, _^_, _<_}
 use Rattle.routes.specs.Said.{Said, accepts}
+use Rattle.routes.proofs.Judged.{exactly}
 use Rattle.standing.specs.Standing.{routeAt}
 use Rattle.sail.specs.Lent.{Lent}
 use Rattle.sail.specs.Sound.{Sound, standing, cellsRead}
@@ -13,6 +14,7 @@ use Rattle.sail.specs.declared.table.Table.{Table}
 use Rattle.sail_theory.specs.Calls.{loaded}
 use Rattle.sail_theory.specs.Facts.{SameSize}
 use Rattle.sail_theory.specs.CallRuns.{Call, worked, Carries, AsFresh}
+use Rattle.sail_theory.proofs.calls.Refusals.{leaves}
 use Rattle.repair_theory.specs.Repair.{kept, repaired}
 use Rattle.repair_theory.specs.Cases.{Repair}
 use Rattle.repair_theory.specs.Onwards.{onwards, asRun}
@@ -24,7 +26,6 @@ use Rattle.repair.specs.Contract.{MeetsRepair}
 use Rattle.repair.specs.declared.repair.Changed.{Changed}
 use Rattle.repair.proofs.OneAnswer as answer
 use Rattle.demands.specs.Served.{Served}
-use Rattle.demands.proofs.Demand1.{exactly, parts}
 use Rattle.demands.proofs.Demand2.{sail-serves}
 
 module _ (t : Table) (l : Lent) where
@@ -34,7 +35,7 @@ module _ (t : Table) (l : Lent) where
 
   -- "The caller's state and buffers stay exactly as they were."
   pub refused-leaves-all-repair : accepts (repaired t l .said) ≡ false → (repaired t l .table ≡ t) × (repaired t l .lent ≡ l)
-  refused-leaves-all-repair e = parts _ _ t l (repairs.refused-leaves-all-repair t l e)
+  refused-leaves-all-repair e = leaves _ _ t l (repairs.refused-leaves-all-repair t l e)
 
   -- "Show that no second answer would satisfy it."
   pub one-answer-repair : (x y : Changed) (u v : Lent) → MeetsRepair t l x u → MeetsRepair t l y v → (x ≡ y) × (u ≡ v)

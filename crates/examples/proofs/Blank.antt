@@ -30,7 +30,7 @@ use Rattle.sail_theory.proofs.places.SoundTest.{sound-tells}
 use Rattle.sail_theory.proofs.calls.Cleared.{announce-said, withdraw-said}
 use Rattle.sail_theory.proofs.calls.Make.{make-said}
 use Rattle.sail_theory.proofs.calls.Load.{load-said}
-use Rattle.demands.proofs.Lookups.{lookup-only}
+use Rattle.sail.proofs.Judged.{lookup-only}
 use Rattle.examples.specs.Blank.{Lengths, zeros, Asked, make, load, announce, withdraw, report, lookup, answer}
 
 -- 1, 2 or 0, by the lengths

@@ -26,8 +26,8 @@ use Rattle.sail_theory.specs.Calls.{Terms, Out, announceFault, withdrawFault, l
 use Rattle.sail_theory.specs.CallRuns.{Call, after}
 use Rattle.sail_theory.proofs.calls.Make.{make-is}
 use Rattle.sail_theory.proofs.runs.AfterRun.{run-is, run-sound}
-use Rattle.demands.specs.Replies.{reply, stood}
-use Rattle.demands.proofs.Replies.{run-says, run-stood}
+use Rattle.sail_theory.specs.Replies.{reply, stood}
+use Rattle.sail_theory.proofs.runs.Replies.{run-says, run-stood}
 use Rattle.examples.specs.Lines.{Hold}
 use Rattle.examples.specs.Blank as blank
 use Rattle.examples.specs.Blank.{Lengths, zeros}

@@ -17,7 +17,8 @@ use Rattle.routes.specs.Said.{Said}
 use Rattle.sail.specs.Geometry.{bits2, bits3, validGeo}
 use Rattle.sail.specs.Level.{View, whole, noChunks}
 use Rattle.sail.specs.Sizes.{sizesFit, sizesFault}
-use Rattle.sail.specs.Walk.{place, cell2, cell3, hopSaid, stepSaid, oneOf, walkSaid, foundSaid, lookupSaid}
+use Rattle.standing.specs.Served.{hopSaid}
+use Rattle.sail.specs.Walk.{place, cell2, cell3, stepSaid, oneOf, walkSaid, foundSaid, lookupSaid}
 use Rattle.sail.specs.declared.geometry.Geometry.{Geometry}
 use Rattle.examples.specs.Lines.{Hold}
 use Rattle.examples.specs.EdgesLookups.{Content, many2, many3, arrays, Asked, lookup, answer, edges}

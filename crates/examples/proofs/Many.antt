@@ -20,7 +20,7 @@ use Rattle.routes.specs.Said.{accepted, refused, refusedAt}
 use Rattle.routes.specs.declared.Route.{Route}
 use Rattle.routes.specs.Cases.{WrongRoute, WrongRecord, RightRecord, Checked}
 use Rattle.routes.proofs.Meaning.{good-input}
-use Rattle.routes.proofs.Cases.{check-only}
+use Rattle.routes.proofs.Judged.{check-only}
 use Rattle.routes.proofs.Rows.{nth-good, length-written, record-written, routes-written, written-listed}
 use Rattle.standing.specs.Cells.{need}
 use Rattle.sail_theory.specs.Calls.{inputRoutes}

@@ -25,8 +25,8 @@ use Rattle.basic.specs.declared.lookup.BasicFound.the-variants as found
 use Rattle.basic.proofs.Judged.{lookup-only, many-only}
 use Rattle.basic_build.specs.Built.{basicBuilt, BasicBuild}
 use Rattle.basic_build.specs.Contract.{MeetsBasicBuild}
-use Rattle.basic_build.proofs.Answers.{build-only}
-use Rattle.demands.specs.Served.{uncounted}
+use Rattle.basic_build.proofs.Judged.{build-only}
+use Rattle.standing.specs.Served.{uncounted}
 use Rattle.demands.proofs.Basic.{table-as-maps}
 use Rattle.routes.specs.ListA.{listA}
 use Rattle.examples.specs.Lines.{ip}

@@ -20,7 +20,8 @@ use Rattle.sail.specs.Lent.{Lent}
 use Rattle.sail.specs.Level.{Level, liveIn, entry, chunksOf, level1, level2}
 use Rattle.sail.specs.Sizes.{Sized}
 use Rattle.sail.specs.Sound.{Sound, standing, cellsRead, freshLent}
-use Rattle.sail.specs.Walk.{hopSaid, lookupSaid}
+use Rattle.standing.specs.Served.{hopSaid}
+use Rattle.sail.specs.Walk.{lookupSaid}
 use Rattle.sail.specs.declared.geometry.Geometry.{Geometry}
 use Rattle.sail.specs.declared.table.Table.{Table}
 use Rattle.sail.proofs.Sounds.{sail-serves}
@@ -33,8 +34,8 @@ use Rattle.sail_theory.proofs.calls.Make.{make-is}
 use Rattle.sail_theory.proofs.places.Pools.{shows-shown}
 use Rattle.sail_theory.proofs.calls.Cleared.{telling-accepts}
 use Rattle.sail_theory.proofs.runs.AfterRun.{run-is}
-use Rattle.demands.specs.Replies.{reply, stood}
-use Rattle.demands.proofs.Replies.{run-says, run-stood}
+use Rattle.sail_theory.specs.Replies.{reply, stood}
+use Rattle.sail_theory.proofs.runs.Replies.{run-says, run-stood}
 
 pub record Paper : Type 0 where
   pub geometry : Geometry

@@ -26,7 +26,7 @@ use Rattle.sail.specs.Geometry.{standardGeo, bits2, bits3, validGeo}
 use Rattle.sail.specs.Level.{chunkFor, liveIn, entry}
 use Rattle.sail.specs.Lent.{Lent}
 use Rattle.sail.specs.Sizes.{sizesFit, sizesFault, Sized}
-use Rattle.sail.specs.Walk.{hopSaid}
+use Rattle.standing.specs.Served.{hopSaid}
 use Rattle.sail.specs.declared.geometry.Geometry.{Geometry}
 use Rattle.sail.specs.declared.table.Table.{Table}
 use Rattle.sail_theory.specs.Render.{shown}
@@ -43,8 +43,8 @@ use Rattle.tree.specs.Reads.{treeReads}
 use Rattle.tree.specs.Walk.{told}
 use Rattle.tree_build.specs.Built.{madeOf, built}
 use Rattle.tree_build.proofs.Serves.{built-serves}
-use Rattle.demands.specs.Replies.{reply, stood}
-use Rattle.demands.proofs.Replies.{run-says, run-stood}
+use Rattle.sail_theory.specs.Replies.{reply, stood}
+use Rattle.sail_theory.proofs.runs.Replies.{run-says, run-stood}
 use Rattle.routes.specs.ListA.{listA}
 use Rattle.examples.specs.Starred.{table, arrays, bare, image, Asked, last, lookup, report, listed, first, second, owner2, owner3, count1, count2, make, input, build, lastNode, hops, tree, answer, starred}
 use Rattle.examples.specs.Lines.{Hold}

@@ -4,7 +4,7 @@ use mathlib.Core.Path.{_≡_, refl, sym, _∙_, ap, ap₂, subst}
 use mathlib.Core.Logic.{_⊎_, inl, inr}
 use mathlib.Core.Bool.{true, false}
 use mathlib.Core.List.{List, [], _∷_, map}
-use Prim.Native.Nat.{ℕ, _+_, _*_, _/_, _^_, _≤_, _<_}
+use Prim.Native.Nat.{ℕ, _+_, _/_, _^_, _≤_, _<_}
 use native.Mathlib.Omega.{arith}
 use lib.Dec.{ltb}
 use lib.ListN.{getD, length, replicate, length-replicate, length-map, List·getD-map, List·getD-eq-default}
@@ -22,7 +22,7 @@ use Rattle.routes.specs.Route.{key, keyOf, plain, Good}
 use Rattle.routes.specs.Said.{Said, accepted, refused, accepts}
 use Rattle.routes.specs.declared.Route.{Route}
 use Rattle.routes.specs.Cases.{Passes}
-use Rattle.routes.proofs.Cases.{good-whole}
+use Rattle.routes.proofs.Judged.{good-whole}
 use Rattle.routes.proofs.Meaning.{input-checked}
 use Rattle.routes.proofs.Rows.{length-routes, records-good, listed-nth}
 use Rattle.standing.specs.Cells.{any}
@@ -56,13 +56,13 @@ use Rattle.tree_change.specs.declared.Announced.the-variants as ofAnnounce
 use Rattle.tree_change.specs.declared.Withdrawn.the-variants as ofWithdraw
 use Rattle.tree_change.proofs.Answers.{is-fine}
 use Rattle.tree_change.proofs.Cases.{case-announced}
-use Rattle.demands.specs.Images.{Narrow}
+use Rattle.tree_check.specs.Cases.{Narrow}
 use Rattle.tree_build.specs.Cases.{Build}
-use Rattle.demands.proofs.Builds.{build-only}
+use Rattle.tree_build.proofs.Judged.{build-only}
 use Rattle.examples.specs.Lines.{ip, Line, _gives_, Hold}
 use Rattle.examples.specs.EdgesInputs.{many}
 use Rattle.examples.specs.EdgesTreeChanges as changes
-use Rattle.examples.specs.EdgesTreeChanges.{put, take, changed, imageIn, answer, edges}
+use Rattle.examples.specs.EdgesTreeChanges.{take, changed, imageIn, answer, edges}
 use Rattle.examples.proofs.EdgesTreeChanges.{tree-changes-hold}
 use Rattle.examples.proofs.Many.{nth, many-good, many-routes}
 

@@ -18,7 +18,7 @@ use Rattle.standing.specs.Cells as cells
 use Rattle.routes.specs.Record.{recordAt, routesOf, written, routesIn}
 use Rattle.routes.specs.Input.{properPrefix, hopFine, routeFault, inOrder, faultAt, inputSaid}
 use Rattle.routes.specs.Said.{Said, accepted, refused, accepts}
-use Rattle.routes.specs.Answers.{saysInput, saysGot, routeSaid}
+use Rattle.routes.specs.Answers.{saysInput, saysGot, routeSaid, ReadBack}
 use Rattle.routes.specs.Contract.{MeetsCheckInput, MeetsRouteAt}
 use Rattle.standing.specs.Standing.{routeAt}
 use Rattle.routes.specs.declared.input.Input.the-variants as ofInput
@@ -72,10 +72,10 @@ use Rattle.tree_build.specs.Built.{saysBuilt, madeOf, built}
 use Rattle.tree_build.specs.Contract.{MeetsBuild}
 use Rattle.tree_build.specs.declared.Built.the-variants as ofBuild
 use Rattle.tree_build.proofs.Serves.{built-serves}
-use Rattle.demands.specs.Replies.{reply, stood}
-use Rattle.demands.proofs.Replies.{run-says, run-stood}
+use Rattle.sail_theory.specs.Replies.{reply, stood}
+use Rattle.sail_theory.proofs.runs.Replies.{run-says, run-stood}
 use Rattle.sail_theory.specs.WantOfChunks.{ByNeed, ForChunks}
-use Rattle.demands.specs.Served.{uncounted, ReadBack}
+use Rattle.standing.specs.Served.{uncounted}
 use Rattle.demands.proofs.Demand2 as demand2
 use Rattle.demands.proofs.Demand3 as demand3
 use Rattle.examples.specs.Lines.{ip, Line, _gives_, Hold}

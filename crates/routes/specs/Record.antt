@@ -53,6 +53,10 @@ noRoute = record { addr = 0; len = 0; mark = 0; hop = 0 }
 unfoldable pub written : List Route → ℕ → List ℕ
 written rs room = tabulate (room * 8) (λ j. cond (ltb (j / 8) (length rs)) (getD (bytesOf (getD rs (j / 8) noRoute)) (j % 8) 0) 0)
 
+-- n records of s, from record j on
+abbrev pub part : List ℕ → ℕ → ℕ → List ℕ
+part s j n = take (n * 8) (drop (j * 8) s)
+
 -- numbers that a record has room for
 pub record Ranged (r : Route) : Type 0 where
   pub addr-fits : r .addr < 2 ^ 32

@@ -1,5 +1,4 @@
 -- What a run is: each record inside the prefix and no other, and a good list of its own. And what each way through `run_check` and `run` says.
--- Assumes nothing.
 use mathlib.Core.Path.{_≡_, refl, sym, ap, _∙_, subst}
 use mathlib.Core.Logic.{_↔_}
 use mathlib.Core.List.{List, [], _∷_}
@@ -7,58 +6,25 @@ use mathlib.Core.Bool.{Bool, true, false, not, cond, true≢false}
 use Prim.Native.Nat.{ℕ, _+_, _-_, _*_, _/_, _%_, _^_, _≤_, _<_}
 use native.Mathlib.Omega.{arith}
 use lib.Pow.{pow-pos, pow-mono}
-use lib.ListN.{length, getD, take, drop, length-drop}
+use lib.ListN.{length, getD, take, drop}
 use lib.Dec.{eqb}
 use borrow.Author.Tests.{not-true, not-false}
-use lib.Seq.{getD-take, getD-drop, length-take-le}
 use denote.Ref.{RefT, ptr, now}
 use Rattle.bits.specs.Slot.{slot, cut}
 use Rattle.bits.proofs.Slots.{shl-one, cut-le, cut-gt, cut-more, cut-in, cut-slot, slot-of}
 use Rattle.bits.proofs.Tests.{untrue}
 use Rattle.routes.specs.Route.{key, keyOf, Prefix}
-use Rattle.routes.specs.Record.{recordAt, Records}
+use Rattle.routes.specs.Record.{recordAt, part, Records}
 use Rattle.routes.specs.Said.{Said, accepted, refused, refusedAt, andThen, accepts}
 use Rattle.routes.specs.Input.{properPrefix, inputSaid}
 use Rattle.routes.specs.Cases.{Checked, ragged, stopped, many, good}
-use Rattle.routes.proofs.Meaning.{prefix-true, true-prefix, input-good, good-input, input-checked}
+use Rattle.routes.proofs.Parts.{part-record, part-good}
+use Rattle.routes.proofs.Meaning.{prefix-true, true-prefix, input-good, input-checked}
 use Rattle.lists.specs.Place.{placeOf}
-use Rattle.runs.specs.Run.{part, pastKey, runStart, runEnd, runCount, runSaid, saysRunCheck, runOf, runAt, IsRun}
+use Rattle.runs.specs.Run.{pastKey, runStart, runEnd, runCount, runSaid, saysRunCheck, runOf, runAt, IsRun}
 use Rattle.runs.specs.declared.run.RunCheck.{RunCheck}
 use Rattle.runs.specs.declared.run.RunCheck.the-variants as check
 use Rattle.lists.proofs.Places.{place-le, place-before, place-after, place-mono}
-
--- a part of a list of records is a list of records
-module _ (s : List ℕ) (i n : ℕ) where
-  part-byte : (x y : ℕ) → x < n * 8 → i * 8 + x ≡ y → getD (part s i n) x 0 ≡ getD s y 0
-  part-byte x y l e = getD-take (n * 8) (drop (i * 8) s) x 0 l ∙ getD-drop (i * 8) s x 0 ∙ ap (λ (z : ℕ). getD s z 0) e
-
-  pub part-record : (j : ℕ) → j < n → recordAt (part s i n) j ≡ recordAt s (i + j)
-  unfolding recordAt
-  part-record j l =
-      cc (
-        part-byte (j * 8) ((i + j) * 8) (omega arith) (omega arith),
-        part-byte (j * 8 + 1) ((i + j) * 8 + 1) (omega arith) (omega arith),
-        part-byte (j * 8 + 2) ((i + j) * 8 + 2) (omega arith) (omega arith),
-        part-byte (j * 8 + 3) ((i + j) * 8 + 3) (omega arith) (omega arith),
-        part-byte (j * 8 + 4) ((i + j) * 8 + 4) (omega arith) (omega arith),
-        part-byte (j * 8 + 5) ((i + j) * 8 + 5) (omega arith) (omega arith),
-        part-byte (j * 8 + 6) ((i + j) * 8 + 6) (omega arith) (omega arith),
-        part-byte (j * 8 + 6 + 1) ((i + j) * 8 + 6 + 1) (omega arith) (omega arith),
-      )
-
-  pub part-length : i * 8 + n * 8 ≤ length s → length (part s i n) ≡ n * 8
-  part-length h = length-take-le (n * 8) (drop (i * 8) s) (rw (length-drop (i * 8) s) (omega arith))
-
-  -- a part of good records is a good input
-  pub part-good : (m : ℕ) → i + n ≤ m → Records s m → inputSaid (part s i n) ≡ accepted (n ∷ [])
-  part-good m u r =
-      let w = part-length (omega (arith, r .room)) in
-      good-input (part s i n) n w (record {
-        room = omega arith;
-        few = omega (arith, r .few);
-        each = λ k l. rw (part-record k l) (r .each (i + k) (omega arith));
-        rises = λ j k l h. rw (part-record j (omega arith), part-record k h) (r .rises (i + j) (i + k) (omega arith) (omega arith));
-      })
 
 -- which keys lie inside a prefix
 module _ (p n : ℕ) (outer : Prefix p n) (a l : ℕ) (inner : Prefix a l) where

@@ -1,20 +1,17 @@
--- The run under a prefix, and what the check beside it says. Assumes nothing.
+-- The run under a prefix, and what the check beside it says.
 use Prim.Native.Nat.{ℕ, _+_, _-_, _*_, _/_, _^_}
 use mathlib.Core.Path.{_≡_}
 use mathlib.Core.Bool.{cond}
 use mathlib.Core.List.{List, [], _∷_}
-use lib.ListN.{length, take, drop}
+use lib.ListN.{length}
 use denote.Ref.{RefT, ptr, now}
 use Rattle.routes.specs.Route.{keyOf}
+use Rattle.routes.specs.Record.{part}
 use Rattle.routes.specs.Said.{Said, accepted, refused, refusedAt, andThen, accepts}
 use Rattle.routes.specs.Input.{properPrefix, inputSaid}
 use Rattle.lists.specs.Place.{placeOf}
 use Rattle.runs.specs.declared.run.RunCheck.{RunCheck}
 use Rattle.runs.specs.declared.run.RunCheck.the-variants as check
-
--- n records of s, from record j on
-abbrev pub part : List ℕ → ℕ → ℕ → List ℕ
-part s j n = take (n * 8) (drop (j * 8) s)
 
 -- the key of the first address after a prefix: every record inside the prefix is before it, and every later one is not
 abbrev pub pastKey : ℕ → ℕ → ℕ

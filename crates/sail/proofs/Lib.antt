@@ -4,6 +4,7 @@ pub mod Fitting
 pub mod Words
 pub mod Steps
 pub mod ReadCells
+pub mod Judged
 pub mod Answers
 pub mod OneAnswer
 pub mod Places

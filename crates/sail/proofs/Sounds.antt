@@ -19,12 +19,14 @@ use Rattle.routes.specs.Record.{routesOf}
 use Rattle.routes.specs.Said.{accepted}
 use Rattle.routes.specs.declared.Route.{Route}
 use Rattle.standing.proofs.Only.{none-covers, covers-none}
+use Rattle.standing.proofs.Served.{none-hop}
 use Rattle.routes.proofs.Rows.{records-good}
 use Rattle.counts.specs.Counts.{howMany}
 use Rattle.sail.specs.Lent.{Lent}
 use Rattle.sail.specs.Level.{whole, chunksOf, level2, level3}
 use Rattle.sail.specs.Sizes.{sizesFault}
-use Rattle.sail.specs.Walk.{oneOf, hopSaid, foundSaid, lookupSaid, lastCell, cell1, place2, walkCounts}
+use Rattle.standing.specs.Served.{hopSaid}
+use Rattle.sail.specs.Walk.{oneOf, foundSaid, lookupSaid, lastCell, cell1, place2, walkCounts}
 use Rattle.sail.specs.Reads.{ReadsFirst, ReadsSecond, ReadsThird}
 use Rattle.sail.specs.Sound.{standing, Sound, cellsRead, used}
 use Rattle.sail.specs.declared.geometry.Geometry.{Geometry}
@@ -40,10 +42,6 @@ hop-none n h e = go (decided (eqb h 0)) e
     go : (eqb h 0 ≡ true) ⊎ (eqb h 0 ≡ false) → cond (eqb h 0) (accepted (n ∷ [])) (accepted (n ∷ h ∷ [])) ≡ accepted (n ∷ []) → h ≡ 0
     go (inl q) e = eqb-true h 0 q
     go (inr q) e = let f : accepted (n ∷ h ∷ []) ≡ accepted (n ∷ []) = rw q at e in cc
-
-none-hop : (n : ℕ) → hopSaid n 0 ≡ accepted (n ∷ [])
-unfolding hopSaid
-none-hop n = refl
 
 bit-le : (b : Bool) → bit b ≤ 1
 bit-le true = omega arith

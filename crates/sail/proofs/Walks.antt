@@ -21,7 +21,8 @@ use Rattle.standing.proofs.Levels.{best-slot}
 use Rattle.sail.specs.Geometry.{bits2, bits3, Valid}
 use Rattle.sail.specs.Level.{Level, View, always, itself, inUse, level1, level2, level3}
 use Rattle.sail.specs.Sound.{Serves}
-use Rattle.sail.specs.Walk.{place, cell1, place2, cell2, place3, cell3, lastCell, hopSaid, stepSaid, shut, walkSaid}
+use Rattle.standing.specs.Served.{hopSaid}
+use Rattle.sail.specs.Walk.{place, cell1, place2, cell2, place3, cell3, lastCell, stepSaid, shut, walkSaid}
 use Rattle.sail.specs.Reads.{Leads, ReadsSecond, ReadsThird}
 use Rattle.sail.proofs.Steps.{step-leaf, step-on}
 use Rattle.sail.specs.declared.geometry.Geometry.{Geometry}

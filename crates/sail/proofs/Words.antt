@@ -7,7 +7,8 @@ use native.Mathlib.Omega.{arith}
 use borrow.Author.Tests.{eq-eqb, ne-eqb}
 use Rattle.bits.proofs.Tests.{below?}
 use Rattle.routes.specs.Said.{Said, accepted, refused}
-use Rattle.sail.specs.Walk.{hopSaid, leafSaid}
+use Rattle.standing.specs.Served.{hopSaid}
+use Rattle.sail.specs.Walk.{leafSaid}
 use Rattle.sail.specs.Word.{packed, packFound, saidOf, Word}
 
 pub word-of : (w : ℕ) (s t : Said) → s ≡ t → Word w s → Word w t

@@ -7,6 +7,7 @@ use lib.Dec.{eqb, leb}
 use lib.ListN.{length, getD}
 use Rattle.bits.specs.Slot.{slot}
 use Rattle.routes.specs.Said.{Said, refused, hopAfter, noRouteAfter}
+use Rattle.standing.specs.Served.{hopSaid}
 use Rattle.sail.specs.Geometry.{bits2, bits3}
 use Rattle.sail.specs.Lent.{Lent}
 use Rattle.sail.specs.Level.{View, whole}
@@ -49,10 +50,6 @@ unfoldable pub walkCounts : Geometry → Lent → ℕ → List ℕ
 walkCounts g l a =
     getD (l .long1) (slot (g .p1) a) 0
     ∷ cond (leb 32768 (cell1 g (whole l) a)) [] (getD (l .long2) (place2 g (whole l) a) 0 ∷ [])
-
--- after n cells were read: n and the hop; n alone where the hop is 0, which is no route
-unfoldable pub hopSaid : ℕ → ℕ → Said
-hopSaid n h = cond (eqb h 0) (noRouteAfter n) (hopAfter n h)
 
 -- "A cell with its top bit set is a leaf: the low 15 bits are the hop, 0 for no route"
 abbrev pub leafSaid : ℕ → ℕ → Said

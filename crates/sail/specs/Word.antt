@@ -6,7 +6,7 @@ use lib.Dec.{eqb}
 use Rattle.routes.specs.Said.{Said, refused}
 unfoldable pub use Rattle.routes.specs.Said.{packed}
 pub use Rattle.routes.specs.Said.{value}
-use Rattle.sail.specs.Walk.{hopSaid}
+use Rattle.standing.specs.Served.{hopSaid}
 
 -- a lookup's reads in bits 8 to 15, its hop in 16 to 31
 abbrev pub packFound : Said → ℕ

@@ -9,3 +9,4 @@ pub mod Load
 pub mod SameSizes
 pub mod OneEnd
 pub mod WrongCalls
+pub mod Refusals

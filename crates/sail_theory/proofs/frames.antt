@@ -3,3 +3,4 @@ pub mod LevelFrame
 pub mod PlacesRead
 pub mod TableFrame
 pub mod Outside
+pub mod Elsewhere

@@ -2,3 +2,5 @@
 pub mod AfterRun
 pub mod AsFresh
 pub mod WantOfChunks
+pub mod Replies
+pub mod ForChunks

@@ -4,6 +4,7 @@ pub mod Render
 pub mod Calls
 pub mod Facts
 pub mod Cases
+pub mod Replies
 pub mod Alters
 pub mod SoundTest
 pub mod CallRuns

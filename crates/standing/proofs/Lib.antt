@@ -8,6 +8,7 @@ pub mod Prefixes
 pub mod Downs
 pub mod Frame
 pub mod Only
+pub mod Served
 pub mod Standing
 pub mod Changed
 pub mod ListParts

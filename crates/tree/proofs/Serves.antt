@@ -18,8 +18,12 @@ use Rattle.bits.proofs.Tests.{decided, both, and-split, fails}
 use Rattle.routes.specs.Route.{Good}
 use Rattle.standing.specs.Cells.{here, any, first, orElse, best}
 use Rattle.routes.specs.declared.Route.{Route}
+use Rattle.routes.specs.Said.{Said}
 use Rattle.standing.specs.Down.{orNext, down}
+use Rattle.standing.specs.Served.{Served, hopSaid}
+use Rattle.standing.proofs.Served.{best-served}
 use Rattle.standing.proofs.Levels.{any-mono}
+use Rattle.tree.specs.Reads.{counted, treeReads}
 use Rattle.tree.specs.Walk.{told, treeSaid}
 use Rattle.tree.specs.Image.{Node, node, nodes, words, hops, imageBy, imageOf, through, nodeStands, hopFor, nodeNeed, onPath}
 use Rattle.tree.proofs.Counts.{count-all, count-cut}
@@ -146,6 +150,14 @@ image-serves rs w h a g l room space =
     walk-longest (nodeStands rs) (hopFor rs) _ _ a l
     (image-holds (nodeStands rs) (hopFor rs) (agree rs g) w h room (omega (arith, hops-need rs g)) 8 0 0 0 (omega (arith, ap length up)) (ap (λ (x : List Node). getD x 0 (node 0 0)) up))
     ∙ ap₂ told (sym (best-longest rs 32 a g (omega arith)) ∙ ap (best rs 32) (div-one a)) (path-count rs a)
+
+-- what is told so is served, with the count by the routes
+pub told-said : (h n : ℕ) → told h n ≡ hopSaid (counted h n) h
+unfolding told hopSaid
+told-said h n = refl
+
+pub told-served : (rs : List Route) → Good rs → (a : ℕ) {s : Said} → s ≡ told (best rs 32 a) (onPath rs a) → Served rs a (treeReads rs a) s
+told-served rs g a e = rw (e ∙ told-said (best rs 32 a) (onPath rs a)) (best-served rs g a (treeReads rs a))
 
 -- every word after the last node, and every hop after the last used, is zero
 pub words-after : (rs : List Route) (w h j : ℕ) → 3 * nodeNeed rs ≤ j → getD (imageOf rs w h .words) j 0 ≡ 0

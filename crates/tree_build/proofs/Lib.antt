@@ -12,3 +12,4 @@ pub mod Levels
 pub mod Answers
 pub mod OneAnswer
 pub mod Serves
+pub mod Judged

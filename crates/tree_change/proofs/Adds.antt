@@ -6,7 +6,6 @@ use mathlib.Core.List.{List}
 use Prim.Native.Nat.{ℕ, suc, _+_, _*_, _/_, _%_, _^_, _≤_, _<_}
 use native.Mathlib.Numerals.{add-one}
 use native.Mathlib.Omega.{arith}
-use lib.Count.{ones}
 use lib.Dec.{ltb}
 use lib.ListN.{length}
 use borrow.Author.Tests.{ltb-false}
@@ -14,9 +13,9 @@ use Rattle.bits.specs.Slot.{slot}
 use Rattle.routes.specs.declared.Route.{Route}
 use Rattle.standing.specs.Standing.{insert}
 use Rattle.standing.proofs.Standing.{insert-good}
-use Rattle.tree.specs.Node.{bitsOf, baseOf, isSet}
+use Rattle.tree.specs.Node.{bitsOf, isSet}
 use Rattle.tree.specs.Image.{node, inner, nodeStands, hopFor}
-use Rattle.tree_same.specs.Read.{reached}
+use Rattle.tree_same.specs.Read.{reached, hopPlace}
 use Rattle.tree_same.specs.Holding.{Holding}
 use Rattle.tree_same.specs.Listed.{routesHeld}
 use Rattle.tree_same.proofs.Back.{Shaped}
@@ -165,7 +164,7 @@ module _ {ws₀ hs : List ℕ} {n k x₀ m₀ a len h b : ℕ} (r : Addable ws�
         few = omega (arith, new .found .few-hops);
       }
 
-      pub grow-done : {ws′ hs′ : List ℕ} → HopPut ws ws′ hs hs′ nodes x b (baseOf ws x + ones (bitsOf ws x % 2 ^ b)) h
+      pub grow-done : {ws′ hs′ : List ℕ} → HopPut ws ws′ hs hs′ nodes x b (hopPlace ws x b) h
           → Become (insert (route a len h) rs) ws₀ hs ws′ hs′ nodes
       grow-done {ws′} {hs′} e =
           let p = put-holds m path (mid-shape (g .mid)) (g .mid .holds) e (end-stands (g .mid)) (g .at) (new .fine .hop-one) in

@@ -16,20 +16,21 @@ use Rattle.standing.proofs.Standing.{insert-good, insert-replaces}
 use Rattle.tree.specs.Image.{Image, imageOf, onPath, nodeStands, hopFor, nodeNeed}
 use Rattle.tree.specs.Walk.{told, treeSaid}
 use Rattle.tree.proofs.Needs.{hops-need}
-use Rattle.tree.proofs.Serves.{image-serves}
+use Rattle.tree.proofs.Serves.{image-serves, told-served}
 use Rattle.tree_build.specs.Built.{Out, built}
 use Rattle.tree_same.specs.Holding.{Holding}
 use Rattle.tree_same.specs.Listed.{routesHeld}
 use Rattle.tree_same.proofs.Same.{fits, image-held}
 use Rattle.tree_same.proofs.Holdings.{image-holding}
+use Rattle.tree_check.specs.Buildable.{inputOf}
 use Rattle.tree_check.specs.WellFormed.{used, wellFormed}
 use Rattle.tree_check.proofs.Meaning.{well-formed-is, is-well-formed}
 use Rattle.tree_check.proofs.Held.{held-image}
 use Rattle.tree_check.proofs.Builds.{image-formed}
-use Rattle.tree_check.proofs.Exact.{inputOf, input-built, made-fits}
+use Rattle.tree_check.proofs.Exact.{input-built, made-fits}
 use Rattle.tree_hold.proofs.Undone.{image-sizes}
 use Rattle.tree_change.specs.Changed.{route, imageAnnounced, imageWithdrawn}
-use Rattle.tree_change.specs.Cases.{Asked, routesWith, routesWithout, put-in, Left}
+use Rattle.tree_change.specs.Cases.{Asked, routesWith, routesWithout, put-in, Left, Anew}
 use Rattle.tree_change.proofs.Answers.{is-fine}
 use Rattle.tree_change.proofs.Needs.{same-nodes}
 use Rattle.tree_change.proofs.Cases.{its-fit, case-announced, announce-put}
@@ -64,6 +65,14 @@ module _ {rs : List Route} {ws hs : List ℕ} {o : Out} (l : Left rs ws hs o) wh
   change-serves a u =
       ap₂ (λ (x y : List ℕ). treeSaid x y a) (l .words) (l .hops)
       ∙ image-serves rs (length ws) (length hs) a (l .fit .good) u (omega (arith, l .fit .nodes)) (l .fit .hops)
+
+  pub change-anew : Anew rs ws hs o
+  change-anew = record {
+    as-build = change-as-build;
+    stands = change-stands;
+    passes = change-formed;
+    serves = λ x u. told-served rs (l .fit .good) x (change-serves x u);
+  }
 
   pub change-sizes : (length (o .words) ≡ length ws) × (length (o .hops) ≡ length hs)
   change-sizes =

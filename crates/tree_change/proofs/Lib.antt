@@ -12,6 +12,7 @@ pub mod Answers
 pub mod Cases
 pub mod OneAnswer
 pub mod Takes
+pub mod Judged
 pub mod Fresh
 pub mod Frame
 pub mod Untouched

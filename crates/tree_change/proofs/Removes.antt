@@ -7,7 +7,6 @@ use mathlib.Core.List.{List}
 use Prim.Native.Nat.{ℕ, zero, suc, _+_, _-_, _*_, _/_, _%_, _^_, _≤_, _<_}
 use native.Mathlib.Numerals.{add-one}
 use native.Mathlib.Omega.{arith}
-use lib.Count.{ones}
 use lib.Dec.{eqb, ltb}
 use lib.ListN.{getD}
 use borrow.Author.Tests.{eq-eqb, eqb-true, lt-ltb, ltb-true}
@@ -16,9 +15,9 @@ use Rattle.bits.proofs.Tests.{decided, and-split, both, untrue}
 use Rattle.routes.specs.Route.{keyOf}
 use Rattle.routes.specs.declared.Route.{Route}
 use Rattle.standing.specs.Standing.{remove}
-use Rattle.tree.specs.Node.{bitsOf, childOf, baseOf, isSet, childAt}
+use Rattle.tree.specs.Node.{bitsOf, childOf, isSet, childAt}
 use Rattle.tree.specs.Image.{node, word, nodeStands, hopFor}
-use Rattle.tree_same.specs.Read.{reached, leads}
+use Rattle.tree_same.specs.Read.{reached, leads, hopPlace}
 use Rattle.tree_same.specs.Order.{ints, Order, standsAt}
 use Rattle.tree_same.specs.Holding.{Holding}
 use Rattle.tree_same.specs.Listed.{routesHeld}
@@ -90,7 +89,7 @@ module _ {ws₀ hs₀ : List ℕ} {n x a len b : ℕ} (k : ℕ) (r : Standing ws
 
   -- the place of the hop
   abbrev place : ℕ
-  place = baseOf ws₀ x + ones (bitsOf ws₀ x % 2 ^ b)
+  place = hopPlace ws₀ x b
 
   pub shrink-start : {ws hs : List ℕ} → HopPut ws ws₀ hs hs₀ n x b place (getD hs₀ place 0)
       → Midway (remove (keyOf a len) (routesHeld ws₀ hs₀)) a (len / 4) ws hs n k

@@ -3,28 +3,26 @@ use mathlib.Core.Path.{_≡_, refl, sym, _∙_, ap, ap₂, subst}
 use mathlib.Core.Logic.{_⊎_, inl, inr}
 use mathlib.Core.Bool.{Bool, true}
 use mathlib.Core.List.{List}
-use Prim.Native.Nat.{ℕ, _+_, _*_, _/_, _%_, _^_, _≤_, _<_}
+use Prim.Native.Nat.{ℕ, _*_, _/_, _≤_, _<_}
 use native.Mathlib.Omega.{arith}
 use lib.Dec.{ltb}
 use lib.ListN.{length, getD, set, length-set}
 use borrow.Author.Tests.{ltb-true}
-use lib.Count.{ones}
 use Rattle.bits.specs.Slot.{slot}
 use Rattle.bits.proofs.Tests.{below?}
 use Rattle.routes.specs.Route.{Fine}
 use Rattle.routes.specs.declared.Route.{Route}
 use Rattle.standing.specs.Standing.{insert}
 use Rattle.standing.proofs.Standing.{insert-good}
-use Rattle.tree.specs.Node.{bitsOf, baseOf}
 use Rattle.tree.specs.Image.{node, bitHop, inner, nodeStands, hopFor}
-use Rattle.tree_same.specs.Read.{reached}
+use Rattle.tree_same.specs.Read.{reached, hopPlace}
 use Rattle.tree_same.specs.Order.{standsAt}
 use Rattle.tree_same.specs.Holding.{Holding}
 use Rattle.tree_same.specs.Listed.{routesHeld}
 use Rattle.tree_same.proofs.Back.{Shaped}
 use Rattle.tree_hold.specs.More.{downTo, withHop}
 use Rattle.tree_hold.proofs.Each.{past}
-use Rattle.tree_hold.proofs.Taken.{lenAt, bitsAt, hopPlace}
+use Rattle.tree_hold.proofs.Taken.{lenAt, bitsAt}
 use Rattle.tree_hold.proofs.Replaced.{replace-holds}
 use Rattle.tree_hold.proofs.Paths.{insert-nodes, insert-hops, stands-hop}
 use Rattle.tree_change.specs.Changed.{route}
@@ -67,7 +65,7 @@ module _ {ws hs : List ℕ} {n k x a len b : ℕ} (r : Standing ws hs n k x a le
     fine : Fine (route a len h)
     fine = record { prefix = r .prefix; hop-one = some; hop-ok = most; mark-ok = omega arith }
 
-    pub replace-done : (y : ℕ) → y ≡ baseOf ws x + ones (bitsOf ws x % 2 ^ b) → Become (insert (route a len h) rs) ws hs ws (set hs y h) n
+    pub replace-done : (y : ℕ) → y ≡ hopPlace ws x b → Become (insert (route a len h) rs) ws hs ws (set hs y h) n
     replace-done y e =
         let q : y ≡ hopPlace ws (reached ws deep path) b = e ∙ ap (λ (z : ℕ). hopPlace ws z b) (r .way .at) in
         let p = replace-holds deep path b h shape (r .bit .small) its-node its-bit some (r .found .holds) in
@@ -83,7 +81,7 @@ module _ {ws hs : List ℕ} {n k x a len b : ℕ} (r : Standing ws hs n k x a le
         refl (length-set hs y h)
 
     -- a hop stands there, so the place is lent
-    pub replace-room : (y : ℕ) → y ≡ baseOf ws x + ones (bitsOf ws x % 2 ^ b) → y < length hs
+    pub replace-room : (y : ℕ) → y ≡ hopPlace ws x b → y < length hs
     unfolding bitHop
     replace-room y e = go (below? y (length hs))
       where

@@ -25,7 +25,7 @@ use Rattle.tree_check.proofs.Meaning.{well-formed-is}
 use Rattle.tree_check.proofs.Held.{held-holds, held-image}
 use Rattle.tree_hold.specs.More.{downTo, withHop}
 use Rattle.tree_hold.proofs.Paths.{insert-hops, stands-hop}
-use Rattle.tree_change.specs.Changed.{route, imageAnnounced, imageWithdrawn, hopPlace}
+use Rattle.tree_change.specs.Changed.{route, imageAnnounced, imageWithdrawn, prefixPlace}
 use Rattle.tree_change.specs.Cases.{Asked, routesWith, Left}
 use Rattle.tree_change.proofs.Answers.{is-fine}
 use Rattle.tree_change.proofs.Cases.{its-fit, announce-put}
@@ -87,7 +87,7 @@ module _ (ws hs : List ℕ) (a len h : ℕ) (narrow : (j : ℕ) → getD ws j 0 
   others = out-again (route a len h) rs fine good
 
   -- the cells of the new image below the place are those of the other routes
-  new-cells : (j : ℕ) → j < hopPlace (after .words) len (slot len a) → getD (after .hops) j 0 ≡ cells (remove (keyOf a len) rs) (length hs) j
+  new-cells : (j : ℕ) → j < prefixPlace (after .words) len (slot len a) → getD (after .hops) j 0 ≡ cells (remove (keyOf a len) rs) (length hs) j
   new-cells j l =
       cells-shared rs′ a len good′ (fine .prefix) stood′ held′ j l ∙ ap₂ (λ (n : ℕ) (x : List Route). cells x n j) (sizes .1) others
 
@@ -95,33 +95,33 @@ module _ (ws hs : List ℕ) (a len h : ℕ) (narrow : (j : ℕ) → getD ws j 0 
   held = held-holds ws hs (used ws) (well-formed-is ws hs (asked .image)) narrow
 
   -- and so are those of the old one
-  old-cells : (stands (keyOf a len) rs ≡ true) ⊎ (stands (keyOf a len) rs ≡ false) → (j : ℕ) → j < hopPlace (after .words) len (slot len a)
+  old-cells : (stands (keyOf a len) rs ≡ true) ⊎ (stands (keyOf a len) rs ≡ false) → (j : ℕ) → j < prefixPlace (after .words) len (slot len a)
       → getD hs j 0 ≡ cells (remove (keyOf a len) rs) (length hs) j
   unfolding imageBy
   old-cells (inl s) j l = cells-shared rs a len good (fine .prefix) s held j (rw same-place l)
     where
-      same-place : hopPlace ws len (slot len a) ≡ hopPlace (after .words) len (slot len a)
+      same-place : prefixPlace ws len (slot len a) ≡ prefixPlace (after .words) len (slot len a)
       same-place =
           place-shared rs a len good (fine .prefix) s held
           ∙ sym (place-shared rs′ a len good′ (fine .prefix) stood′ held′ ∙ shared)
         where
-          shared : hopPlace (base (remove (keyOf a len) rs′) a len (length (after .words)) (length (after .hops))) len (slot len a)
-              ≡ hopPlace (base (remove (keyOf a len) rs) a len (length ws) (length hs)) len (slot len a)
+          shared : prefixPlace (base (remove (keyOf a len) rs′) a len (length (after .words)) (length (after .hops))) len (slot len a)
+              ≡ prefixPlace (base (remove (keyOf a len) rs) a len (length ws) (length hs)) len (slot len a)
           shared =
-              ap₂ (λ (m n : ℕ). hopPlace (base (remove (keyOf a len) rs′) a len m n) len (slot len a)) (sizes .0) (sizes .1)
-              ∙ ap (λ (x : List Route). hopPlace (base x a len (length ws) (length hs)) len (slot len a)) others
+              ap₂ (λ (m n : ℕ). prefixPlace (base (remove (keyOf a len) rs′) a len m n) len (slot len a)) (sizes .0) (sizes .1)
+              ∙ ap (λ (x : List Route). prefixPlace (base x a len (length ws) (length hs)) len (slot len a)) others
   old-cells (inr s) j l =
       ap (λ (v : List ℕ). getD v j 0) (held-image ws hs (used ws) (well-formed-is ws hs (asked .image)) narrow .1)
       ∙ ap (λ (x : List Route). cells x (length hs) j) (sym (remove-absent (keyOf a len) rs s))
 
-  pub announce-hops-before : (j : ℕ) → j < hopPlace (after .words) len (slot len a) → getD (after .hops) j 0 ≡ getD hs j 0
+  pub announce-hops-before : (j : ℕ) → j < prefixPlace (after .words) len (slot len a) → getD (after .hops) j 0 ≡ getD hs j 0
   announce-hops-before j l = new-cells j l ∙ sym (old-cells (decided (stands (keyOf a len) rs)) j l)
 
 module _ (ws hs : List ℕ) (a len : ℕ) (narrow : (j : ℕ) → getD ws j 0 < 2 ^ 32) (ok : accepts (imageWithdrawn ws hs a len .said) ≡ true) where
   taken : Taken ws hs a len narrow
   taken = withdraw-taken ws hs a len narrow ok
 
-  pub withdraw-hops-before : (j : ℕ) → j < hopPlace ws len (slot len a) → getD (imageWithdrawn ws hs a len .hops) j 0 ≡ getD hs j 0
+  pub withdraw-hops-before : (j : ℕ) → j < prefixPlace ws len (slot len a) → getD (imageWithdrawn ws hs a len .hops) j 0 ≡ getD hs j 0
   unfolding imageBy
   withdraw-hops-before j l =
       ap (λ (o : Out). getD (o .hops) j 0) (taken .told)

@@ -2,9 +2,8 @@
 -- a fresh build of the routes then standing, into the same arrays. A refusal leaves both arrays as they were.
 use mathlib.Core.Bool.{not, cond}
 use mathlib.Core.List.{List, [], _∷_}
-use Prim.Native.Nat.{ℕ, _+_, _/_, _%_, _^_}
+use Prim.Native.Nat.{ℕ, _/_}
 use lib.Dec.{ltb}
-use lib.Count.{ones}
 use lib.ListN.{length}
 use Rattle.bits.specs.Count.{bit}
 use Rattle.routes.specs.Input.{properPrefix, hopFine}
@@ -12,9 +11,8 @@ use Rattle.routes.specs.Route.{keyOf, key}
 use Rattle.routes.specs.Said.{Said, accepted, refused, refusedAt}
 use Rattle.routes.specs.declared.Route.{Route}
 use Rattle.standing.specs.Standing.{stands, insert, remove}
-use Rattle.tree.specs.Node.{bitsOf, baseOf}
 use Rattle.tree_build.specs.Built.{Out, out, madeOf}
-use Rattle.tree_same.specs.Read.{reached, pathOf, bitFor}
+use Rattle.tree_same.specs.Read.{reached, hopPlace, pathOf, bitFor}
 use Rattle.tree_same.specs.Listed.{routesHeld}
 use Rattle.tree_check.specs.WellFormed.{wellFormed}
 use Rattle.tree_change.specs.declared.Announced.{Announced}
@@ -74,6 +72,6 @@ imageWithdrawn ws hs a len =
     (cond (not (wellFormed ws hs)) (out (refused 13) ws hs)
     (imageTaken ws hs a len))
 
--- the place of the hop of the prefix of length l whose bits are q: the hop base of its node and the internal ones below its bit
-abbrev pub hopPlace : List ℕ → ℕ → ℕ → ℕ
-hopPlace ws l q = baseOf ws (reached ws (l / 4) (pathOf l q)) + ones (bitsOf ws (reached ws (l / 4) (pathOf l q)) % 2 ^ bitFor l q)
+-- the place of the hop of the prefix of length l whose bits are q
+abbrev pub prefixPlace : List ℕ → ℕ → ℕ → ℕ
+prefixPlace ws l q = hopPlace ws (reached ws (l / 4) (pathOf l q)) (bitFor l q)

@@ -3,12 +3,12 @@
 use mathlib.Core.Path.{_≡_, refl, sym, _∙_, ap, ap₂}
 use mathlib.Core.List.{List, [], _∷_}
 use mathlib.Core.Bool.{true}
-use Prim.Native.Nat.{ℕ, _+_, _*_, _/_, _%_, _^_, _≤_, _<_}
+use Prim.Native.Nat.{ℕ, _/_, _^_, _≤_, _<_}
 use native.Mathlib.Omega.{arith}
 use lib.ListN.{length, getD}
 use borrow.Author.Tests.{le-ltb}
 use Rattle.routes.specs.Said.{Said, accepted}
-use Rattle.routes.specs.Record.{routesOf, written, routesIn}
+use Rattle.routes.specs.Record.{routesOf, routesIn}
 use Rattle.routes.specs.Route.{Good}
 use Rattle.routes.specs.declared.Route.{Route}
 use Rattle.routes.specs.Cases.{Checked, ragged, stopped, many, good}
@@ -19,15 +19,12 @@ use Rattle.tree_build.specs.Built.{Out, out, madeOf, afterInput, built}
 use Rattle.tree_build.proofs.Serves.{built-accepts}
 use Rattle.tree_same.specs.Listed.{routesHeld}
 use Rattle.tree_check.specs.WellFormed.{used, wellFormed}
-use Rattle.tree_check.specs.Buildable.{Buildable}
+use Rattle.tree_check.specs.Buildable.{inputOf, Buildable}
 use Rattle.tree_check.proofs.Meaning.{well-formed-is, is-well-formed}
 use Rattle.tree_check.proofs.Builds.{image-formed}
 use Rattle.tree_check.proofs.Held.{held-good, held-image, held-nodes, held-hops}
 
--- the input of a good list of routes
-abbrev pub inputOf : List Route → List ℕ
-inputOf rs = written rs (length rs)
-
+-- the input of a good list has its routes
 pub input-routes : (rs : List Route) → Good rs → routesIn (inputOf rs) ≡ rs
 input-routes rs g =
     let d : length (inputOf rs) / 8 ≡ length rs = omega (arith, length-written rs (length rs)) in

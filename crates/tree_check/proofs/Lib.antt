@@ -10,4 +10,5 @@ pub mod Neighbours
 pub mod Stretches
 pub mod OneAnswer
 pub mod AsBuilt
+pub mod Judged
 pub mod Visits

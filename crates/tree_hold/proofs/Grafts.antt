@@ -23,7 +23,7 @@ use Rattle.tree.proofs.Counts.{count-mono, count-less}
 use Rattle.tree.proofs.Nodes.{set-inner, set-child}
 use Rattle.tree.proofs.Lies.{inner-cases}
 use Rattle.tree_build.proofs.Marks.{word-bits}
-use Rattle.tree_same.specs.Read.{reached}
+use Rattle.tree_same.specs.Read.{reached, hopPlace}
 use Rattle.tree_same.specs.Order.{exts, ints, Order, standsAt}
 use Rattle.tree_same.specs.Holding.{Holding}
 use Rattle.tree_same.proofs.Back.{Shaped, set-is}
@@ -356,17 +356,17 @@ module _ {st : ℕ → ℕ → Bool} {hop : ℕ → ℕ → ℕ} {ws ws′ hs : 
       go (inr t) = rw (t .0, t .1, new-at) (g .bits .new ∙ new-word)
 
   put′ : (a b k : ℕ) → standsAt st′ a b ≡ true → k < 15 → inner hop (node a b) k ≡ true
-      → getD hs (baseOf ws′ (reached ws′ a b) + ones (bitsOf ws′ (reached ws′ a b) % 2 ^ k)) 0 ≡ bitHop hop (node a b) k
+      → getD hs (hopPlace ws′ (reached ws′ a b) k) 0 ≡ bitHop hop (node a b) k
   put′ a b k e l s = go (stands-now a b e)
     where
       same : standsAt st a b ≡ true → (reached ws a b < y) ⊎ (y ≤ reached ws a b)
-          → baseOf ws′ (moved y (reached ws a b)) + ones (bitsOf ws′ (moved y (reached ws a b)) % 2 ^ k) ≡ baseOf ws (reached ws a b) + ones (bitsOf ws (reached ws a b) % 2 ^ k)
+          → baseOf ws′ (moved y (reached ws a b)) + ones (bitsOf ws′ (moved y (reached ws a b)) % 2 ^ k) ≡ hopPlace ws (reached ws a b) k
       same t (inl v) = rw (moved-low y (reached ws a b) v) (omega (arith, g .base-below (reached ws a b) v, low-at (g .bits) (reached ws a b) v k (omega arith)))
       same t (inr v) =
           let i = stands-found st hop ws hs n fits h a b t .0 in
           rw (moved-high y (reached ws a b) v, g .base-above (reached ws a b) v i, g .bits .above (reached ws a b) v i) refl
 
-      go : (standsAt st a b ≡ true) ⊎ ((a ≡ suc m) × (b ≡ p * 16 + c)) → getD hs (baseOf ws′ (reached ws′ a b) + ones (bitsOf ws′ (reached ws′ a b) % 2 ^ k)) 0 ≡ bitHop hop (node a b) k
+      go : (standsAt st a b ≡ true) ⊎ ((a ≡ suc m) × (b ≡ p * 16 + c)) → getD hs (hopPlace ws′ (reached ws′ a b) k) 0 ≡ bitHop hop (node a b) k
       go (inl t) = rw (leads-moved a b t, same t (below? (reached ws a b) y)) (h .put a b k t l s)
       go (inr t) = absurd (true≢false (sym s ∙ ap₂ (λ (d i : ℕ). inner hop (node d i) k) (t .0) (t .1) ∙ no-hop k l))
 

@@ -12,9 +12,10 @@ use Rattle.bits.proofs.Tests.{below?}
 use Rattle.bits.proofs.Packed.{rank-count}
 use Rattle.lists.specs.Edit.{drawn}
 use Rattle.lists.proofs.EditMoves.{length-drawn, drawn-in, drawn-before, drawn-after}
-use Rattle.tree.specs.Node.{bitsOf, baseOf, isSet}
+use Rattle.tree.specs.Node.{bitsOf, isSet}
 use Rattle.tree.proofs.Counts.{count-mono}
 use Rattle.tree_build.specs.Run.{WithBit}
+use Rattle.tree_same.specs.Read.{hopPlace}
 use Rattle.tree_same.specs.Order.{ints}
 use Rattle.tree_check.proofs.Held.{bit-of, ints-next, ints-mono}
 use Rattle.tree_hold.specs.Moves.{each}
@@ -28,7 +29,7 @@ low-le w b l =
     rw (rank-count w (isSet w) b (λ i u. bit-of w i), rank-count w (isSet w) 15 (λ i u. bit-of w i))
     (subst (λ (k : ℕ). count (isSet w) b ≤ count (isSet w) k) e (count-mono (isSet w) b (15 - b)))
 
-module _ {ws hs : List ℕ} {n k x b : ℕ} (r : Puttable ws hs n k x b) (y : ℕ) (place : y ≡ baseOf ws x + ones (bitsOf ws x % 2 ^ b)) where
+module _ {ws hs : List ℕ} {n k x b : ℕ} (r : Puttable ws hs n k x b) (y : ℕ) (place : y ≡ hopPlace ws x b) where
   pub put-inside : y ≤ k
   put-inside =
       omega (

@@ -1,19 +1,17 @@
 -- A hop taken away: an image with a hop is what putting it makes of the image without it.
 use mathlib.Core.Path.{_≡_, refl, sym, _∙_, ap, subst}
-use mathlib.Core.Logic.{_⊎_}
-use mathlib.Core.Bool.{Bool, true, false, _&&_, true≢false}
+use mathlib.Core.Bool.{Bool, true, false}
 use mathlib.Core.List.{List}
-use Prim.Native.Nat.{ℕ, _+_, _-_, _*_, _/_, _%_, _^_, _≤_, _<_}
+use Prim.Native.Nat.{ℕ, _+_, _-_, _*_, _^_, _≤_, _<_}
 use native.Mathlib.Omega.{arith}
 use lib.Dec.{ltb}
-use lib.ListN.{length, set}
-use lib.Count.{ones}
+use lib.ListN.{length}
 use Rattle.bits.specs.Count.{bit}
-use Rattle.tree.specs.Node.{bitsOf, baseOf}
-use Rattle.tree.specs.Image.{node, innerLen, bitHop, inner, nodes, hops, Image, imageBy}
+use Rattle.tree.specs.Node.{bitsOf}
+use Rattle.tree.specs.Image.{node, innerLen, bitHop, nodes, hops, Image, imageBy}
 use Rattle.tree.proofs.Nodes.{inner-bit}
 use Rattle.tree_build.proofs.Marks.{with-bit}
-use Rattle.tree_same.specs.Read.{reached}
+use Rattle.tree_same.specs.Read.{reached, hopPlace}
 use Rattle.tree_same.specs.Order.{ints, standsAt}
 use Rattle.tree_same.specs.Holding.{Holding}
 use Rattle.tree_same.proofs.Back.{Shaped, set-is}
@@ -32,10 +30,6 @@ lenAt m b = 4 * m + innerLen b
 
 abbrev pub bitsAt : ℕ → ℕ → ℕ
 bitsAt p b = p * 2 ^ innerLen b + (b + 1 - 2 ^ innerLen b)
-
--- the place of its hop
-abbrev pub hopPlace : List ℕ → ℕ → ℕ → ℕ
-hopPlace ws x b = baseOf ws x + ones (bitsOf ws x % 2 ^ b)
 
 module _ {st : ℕ → ℕ → Bool} {hop : ℕ → ℕ → ℕ} (m p b h : ℕ) (fits : Shaped st hop) (small : b < 15) (stood : standsAt st m p ≡ true)
     (none : bitHop hop (node m p) b ≡ 0) (some : 0 < h) where

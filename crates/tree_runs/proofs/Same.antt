@@ -16,10 +16,11 @@ use Rattle.tree_build.specs.Built.{Out, built}
 use Rattle.tree_same.specs.Listed.{routesHeld}
 use Rattle.tree_same.specs.OneImage.{Builds, SameArrays, SameUsed}
 use Rattle.tree_same.proofs.OneImage.{used-part-same}
+use Rattle.tree_check.specs.Buildable.{inputOf}
 use Rattle.tree_check.specs.WellFormed.{used, wellFormed}
 use Rattle.tree_check.proofs.Meaning.{well-formed-is}
 use Rattle.tree_check.proofs.Held.{held-image}
-use Rattle.tree_check.proofs.Exact.{inputOf, input-routes, input-built, made-fits}
+use Rattle.tree_check.proofs.Exact.{input-routes, input-built, made-fits}
 use Rattle.tree_change.specs.Cases.{Left}
 use Rattle.tree_change.proofs.Fresh.{change-as-build}
 use Rattle.tree_runs.specs.Runs.{Call, after, standingAfter, worked}

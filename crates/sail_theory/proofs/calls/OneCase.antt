@@ -16,7 +16,7 @@ use Rattle.standing.specs.Standing.{stands, insert}
 use Rattle.routes.specs.declared.Route.{Route}
 use Rattle.routes.specs.Cases.{WrongRoute}
 use Rattle.routes.proofs.Meaning.{prefix-true, true-prefix, wrong-fault, fine-fault, good-input}
-use Rattle.routes.proofs.Cases.{check-only, bad-stops}
+use Rattle.routes.proofs.Judged.{check-only, bad-stops}
 use Rattle.routes.proofs.Rows.{length-routes}
 use Rattle.sail.specs.Lent.{Lent}
 use Rattle.sail.specs.Sizes.{sizesFault}

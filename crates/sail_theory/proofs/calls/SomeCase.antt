@@ -20,7 +20,7 @@ use Rattle.routes.specs.declared.Route.{Route}
 use Rattle.routes.proofs.Rows.{length-routes, records-good}
 use Rattle.routes.specs.Cases.{Passes, BadInput}
 use Rattle.routes.proofs.Meaning.{prefix-true, true-prefix, RouteChecked, route-checked}
-use Rattle.routes.proofs.Cases.{good-whole, bad-stops, by-input}
+use Rattle.routes.proofs.Judged.{good-whole, bad-stops, by-input}
 use Rattle.sail.specs.Cases.{Sizing}
 use Rattle.sail.specs.Lent.{Lent}
 use Rattle.sail.specs.Sizes.{sizesFault, Sized}

@@ -19,7 +19,8 @@ use Rattle.sail.specs.Lent.{Lent}
 use Rattle.sail.specs.Level.{chunksOf, level1}
 use Rattle.sail.specs.Sizes.{Sized}
 use Rattle.sail.specs.Sound.{Sound, standing, used, cellsRead}
-use Rattle.sail.specs.Walk.{hopSaid, lookupSaid, walkCounts}
+use Rattle.standing.specs.Served.{hopSaid}
+use Rattle.sail.specs.Walk.{lookupSaid, walkCounts}
 use Rattle.sail.specs.declared.geometry.Geometry.{Geometry}
 use Rattle.sail.specs.declared.table.Table.{Table}
 use Rattle.sail.proofs.Sounds.{standing-good, sail-serves, chunks-need, counts-serve}

@@ -1,7 +1,7 @@
 -- `cards::inputs::gh_tally` meets its contract: the words stored so far are the first counts. Assumes nothing.
 use native.Mathlib.Omega.{arith}
 use Prim.Native.Nat.{ℕ, _+_, _-_, _≤_, _<_}
-use mathlib.Core.Path.{_≡_, refl, sym, ap, _∙_}
+use mathlib.Core.Path.{_≡_, refl, ap, _∙_}
 use lib.ListN.{length, getD, length-set}
 use Rattle.bits.proofs.Tabs.{stored-more}
 use Rattle.cards.proofs.Laws.{tally-short, tally-all, tally-length}

@@ -1,16 +1,18 @@
--- The cases of the check of an input exclude each other, so what it says follows from the case that holds. And an input is either bad, with
--- what its check says, or good, with its number of records.
-use mathlib.Core.Path.{_≡_, refl, sym, _∙_}
-use mathlib.Core.Logic.{_⊎_, inl, inr}
+-- What the check of an input and `route_at` say: what stands beside the case that holds (specs/Cases.antt), and nothing else. The cases exclude
+-- each other. An input is either bad, with what its check says, or good, with its number of records.
+use mathlib.Core.Path.{_≡_, refl, sym, _∙_, subst}
+use mathlib.Core.Logic.{_⊎_, inl, inr, _↔_}
 use mathlib.Core.Bool.{false, true≢false}
 use mathlib.Core.List.{List, [], _∷_}
 use Prim.Native.Nat.{ℕ, _*_, _/_, _≤_, _<_}
 use native.Mathlib.Omega.{arith}
 use lib.ListN.{length}
+use borrow.Author.Tests.{lt-ltb, le-ltb}
 use Rattle.bits.proofs.Tests.{below?}
 use Rattle.routes.specs.Record.{Records}
 use Rattle.routes.specs.Input.{inputSaid}
-use Rattle.routes.specs.Cases.{WrongRoute, WrongRecord, RightRecord, Checked, BadInput, Passes}
+use Rattle.routes.specs.Answers.{routeSaid}
+use Rattle.routes.specs.Cases.{WrongRoute, WrongRecord, RightRecord, Checked, BadInput, Passes, RouteRead}
 use Rattle.routes.specs.Said.{Said, accepted, refused, refusedAt, andThen, accepts}
 use Rattle.routes.specs.declared.Route.{Route}
 use Rattle.routes.proofs.Meaning.{wrong-fine, wrong-fault, records-right, input-checked, input-good}
@@ -31,7 +33,8 @@ one-wrong (WrongRecord.order g h l) (WrongRecord.itself w) = absurd (wrong-fine 
 one-wrong (WrongRecord.order g h l) (WrongRecord.order g′ h′ l′) = refl
 
 -- the first record at which something is wrong is one record, and one thing is wrong with it
-one-stop : (s : List ℕ) (j k f g : ℕ) → ((i : ℕ) → i < j → RightRecord s i) → WrongRecord s j f → ((i : ℕ) → i < k → RightRecord s i) → WrongRecord s k g → refusedAt f j ≡ refusedAt g k
+one-stop : (s : List ℕ) (j k f g : ℕ) → ((i : ℕ) → i < j → RightRecord s i) → WrongRecord s j f → ((i : ℕ) → i < k → RightRecord s i)
+    → WrongRecord s k g → refusedAt f j ≡ refusedAt g k
 one-stop s j k f g a v b w = go (below? j k) (below? k j)
   where
     go : (j < k) ⊎ (k ≤ j) → (k < j) ⊎ (j ≤ k) → refusedAt f j ≡ refusedAt g k
@@ -86,3 +89,28 @@ by-input s P bad ok = go (input-checked s)
     go (Checked.stopped k f z l b x p) = bad _ (record { checked = Checked.stopped k f z l b x p; not-accepted = refl })
     go (Checked.many z b m) = bad _ (record { checked = Checked.many z b m; not-accepted = refl })
     go (Checked.good n e r) = ok n (Checked.good n e r)
+
+-- route_at: after the input's refusals, the record of that index, or none
+module _ (s : List ℕ) (k : ℕ) where
+  good-many : (n : ℕ) → Passes s n → length s / 8 ≡ n
+  good-many n g = let w = good-whole s n g .0 in omega arith
+
+  pub route-only : (x : Said) → RouteRead s k x → routeSaid s k ≡ x
+  unfolding routeSaid
+  route-only _ (RouteRead.bad-input x b) = rw (check-only s x (b .checked)) (bad-stops x _ (b .not-accepted))
+  route-only x (RouteRead.there n g h) = rw (check-only s _ g, lt-ltb k (length s / 8) (rw (good-many n g) h))
+  route-only x (RouteRead.past n g h) = rw (check-only s _ g, le-ltb k (length s / 8) (rw (good-many n g) h))
+
+  pub route-judged : RouteRead s k (routeSaid s k)
+  route-judged = by-input s (λ x. RouteRead s k (routeSaid s k)) (λ x b. told (RouteRead.bad-input x b)) (λ n g. at n g (below? k n))
+    where
+      told : {x : Said} → RouteRead s k x → RouteRead s k (routeSaid s k)
+      told c = rw (route-only _ c) c
+
+      at : (n : ℕ) → Passes s n → (k < n) ⊎ (n ≤ k) → RouteRead s k (routeSaid s k)
+      at n g (inl h) = told (RouteRead.there n g h)
+      at n g (inr h) = told (RouteRead.past n g h)
+
+-- A call that says y says s exactly where the case beside s holds, for any list of cases P: one case holds, and from each follows what is said.
+pub exactly : (P : Said → Type 0) (x y : Said) → x ≡ y → P y → ((s : Said) → P s → y ≡ s) → (s : Said) → (x ≡ s) ↔ P s
+exactly P x y q h only s = ((λ e. subst P (sym q ∙ e) h), (λ c. q ∙ only s c))

@@ -1,5 +1,5 @@
--- Lookup in an image, whatever it holds, says what stands beside the case that holds (`TreeLookup` in crate tree, specs/Cases.antt), and nothing
--- else. Assumes nothing.
+-- What a lookup says in an image, whatever it holds: what stands beside the case that holds (`TreeLookup`, specs/Cases.antt), and nothing else. By
+-- the depth of the walk: a node is out of the words, has its bit 15 set, or is right.
 use mathlib.Core.Path.{_≡_, refl, sym, _∙_}
 use mathlib.Core.Logic.{_⊎_, inl, inr}
 use mathlib.Core.Bool.{true, false, true≢false}
@@ -12,11 +12,13 @@ use Rattle.bits.proofs.Tests.{decided, below?, untrue}
 use Rattle.routes.specs.Input.{hopFine}
 use Rattle.routes.specs.Said.{Said, refused}
 use Rattle.routes.proofs.Meaning.{hop-true, true-hop}
 use Rattle.tree.specs.Node.{bitsOf, childOf, isSet, sound, nibbleOf, childAt}
 use Rattle.tree.specs.Cases.{Fetched, RightNode, Walked, TreeLookup}
-use Rattle.tree.specs.Walk.{told, fetchedFrom, lastMatch, innerMatch, walkFrom, treeSaid}
+use Rattle.tree.specs.Walk.{told, fetchedFrom, lastMatch, innerMatch, walkFrom, saysTreeFound, treeSaid}
+use Rattle.tree.specs.declared.TreeFound.{TreeFound}
+use Rattle.tree.specs.declared.TreeFound.the-variants as treeFound
 use Rattle.tree.specs.declared.Place.{Place}
 use Rattle.tree.specs.declared.Place.the-variants.{Nowhere, At}
 
 -- the one hop that is read after n nodes, at the place of the deepest match; where it is answered, the count is one more
 module _ (hs : List ℕ) (n : ℕ) where
@@ -24,7 +26,8 @@ module _ (hs : List ℕ) (n : ℕ) where
   unfolding fetchedFrom told
   fetched-only Fetched.no-match = refl
   fetched-only (Fetched.beyond h l) = rw (le-ltb h (length hs) l)
-  fetched-only (Fetched.bad-hop h l b) = rw (lt-ltb h (length hs) l, untrue (hopFine (getD hs h 0)) (λ e. let k = hop-true (getD hs h 0) e in b (k .0) (k .1)))
+  fetched-only (Fetched.bad-hop h l b) =
+      rw (lt-ltb h (length hs) l, untrue (hopFine (getD hs h 0)) (λ e. let k = hop-true (getD hs h 0) e in b (k .0) (k .1)))
   fetched-only (Fetched.match h l a b) = rw (lt-ltb h (length hs) l, true-hop (getD hs h 0) a b, ne-eqb (getD hs h 0) 0 (λ z. omega arith))
 
   fetched-judged : (p : Place) → Fetched hs n p (fetchedFrom hs n p)
@@ -34,7 +37,8 @@ module _ (hs : List ℕ) (n : ℕ) where
       told′ : {s : Said} → Fetched hs n (At h) s → Fetched hs n (At h) (fetchedFrom hs n (At h))
       told′ c = rw (fetched-only c) c
 
-      go : (h < length hs) ⊎ (length hs ≤ h) → (hopFine (getD hs h 0) ≡ true) ⊎ (hopFine (getD hs h 0) ≡ false) → Fetched hs n (At h) (fetchedFrom hs n (At h))
+      go : (h < length hs) ⊎ (length hs ≤ h) → (hopFine (getD hs h 0) ≡ true) ⊎ (hopFine (getD hs h 0) ≡ false)
+          → Fetched hs n (At h) (fetchedFrom hs n (At h))
       go (inr l) e = told′ (Fetched.beyond h l)
       go (inl l) (inl e) = let k = hop-true (getD hs h 0) e in told′ (Fetched.match h l (k .0) (k .1))
       go (inl l) (inr e) = told′ (Fetched.bad-hop h l (λ a b. true≢false (sym (true-hop (getD hs h 0) a b) ∙ e)))
@@ -81,7 +85,8 @@ module _ (ws hs : List ℕ) (a : ℕ) where
 
   walked-judged : (d i : ℕ) (best : Place) → Walked ws hs a d i best (walkFrom d ws hs a i best)
   walked-judged zero i best =
-      by-node i _ (λ l. told′ (Walked.lost zero i best l)) (λ l e. told′ (Walked.marked zero i best l e)) (λ r. told′ (Walked.deepest i best _ r (fetched-judged hs 9 (lastMatch ws i best))))
+      by-node i _ (λ l. told′ (Walked.lost zero i best l)) (λ l e. told′ (Walked.marked zero i best l e))
+      (λ r. told′ (Walked.deepest i best _ r (fetched-judged hs 9 (lastMatch ws i best))))
     where
       told′ : {s : Said} → Walked ws hs a zero i best s → Walked ws hs a zero i best (walkFrom zero ws hs a i best)
       told′ c = rw (walked-only c) c
@@ -92,8 +97,10 @@ module _ (ws hs : List ℕ) (a : ℕ) where
       told′ : {s : Said} → Walked ws hs a (suc d) i best s → Walked ws hs a (suc d) i best (walkFrom (suc d) ws hs a i best)
       told′ c = rw (walked-only c) c
 
-      next : RightNode ws hs a i → Walked ws hs a d (down d i) (innerMatch ws i (nibbleOf a d) best) (walkFrom d ws hs a (down d i) (innerMatch ws i (nibbleOf a d) best))
-          → (isSet (bitsOf ws i) (16 + nibbleOf a d) ≡ true) ⊎ (isSet (bitsOf ws i) (16 + nibbleOf a d) ≡ false) → Walked ws hs a (suc d) i best (walkFrom (suc d) ws hs a i best)
+      next : RightNode ws hs a i
+          → Walked ws hs a d (down d i) (innerMatch ws i (nibbleOf a d) best) (walkFrom d ws hs a (down d i) (innerMatch ws i (nibbleOf a d) best))
+          → (isSet (bitsOf ws i) (16 + nibbleOf a d) ≡ true) ⊎ (isSet (bitsOf ws i) (16 + nibbleOf a d) ≡ false)
+          → Walked ws hs a (suc d) i best (walkFrom (suc d) ws hs a i best)
       next r w (inl e) = told′ (Walked.goes-on d i best _ r e w)
       next r w (inr e) = told′ (Walked.ends d i best _ r e (fetched-judged hs (8 - d) (innerMatch ws i (nibbleOf a d) best)))
 
@@ -104,3 +111,10 @@ module _ (ws hs : List ℕ) (a : ℕ) where
   pub tree-only : (s : Said) → TreeLookup ws hs a s → treeSaid ws hs a ≡ s
   unfolding treeSaid
   tree-only s w = walked-only w
+
+-- what is refused is 13, and the code's answer is then `Broken`
+pub refused-broken : (r : TreeFound) (n : ℕ) → saysTreeFound r ≡ refused n → (n ≡ 13) × (r ≡ treeFound.Broken)
+unfolding saysTreeFound
+refused-broken (treeFound.Hop h k) n e = absurd (let z : _≡_ {A = ℕ} 0 1 = cc in omega arith)
+refused-broken (treeFound.NoRoute k) n e = absurd (let z : _≡_ {A = ℕ} 0 1 = cc in omega arith)
+refused-broken treeFound.Broken n e = (cc, refl)

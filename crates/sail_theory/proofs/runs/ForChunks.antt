@@ -1,10 +1,9 @@
--- Refusals for want of chunks, 7 and 8 (`ByNeed`, `ForChunks` in crate sail_theory, specs/Wants.antt): exactly when the routes that would stand need
--- more, and of well-formed changes alone. Assumes nothing.
-use mathlib.Core.Path.{_≡_, refl}
-use mathlib.Core.Logic.{_↔_}
+-- Refusals for want of chunks, 7 and 8 (`ByNeed`, `ForChunks`, specs/WantOfChunks.antt): exactly when the routes that would stand need more, since what is
+-- wanting decides what is said (`want-of-chunks`); and of well-formed changes alone, since every other case says another number.
+use mathlib.Core.Path.{_≡_, refl, ap}
 use mathlib.Core.Bool.{Bool, true, false≢true}
-use mathlib.Core.List.{List}
-use Prim.Native.Nat.{ℕ, _/_, _≤_, _<_}
+use mathlib.Core.List.{List, _∷_}
+use Prim.Native.Nat.{ℕ, _/_, _≤_}
 use native.Mathlib.Omega.{arith}
 use lib.ListN.{length}
 use Rattle.bits.specs.Slot.{cut}
@@ -14,19 +13,22 @@ use Rattle.standing.proofs.Changed.{insert-adds}
 use Rattle.routes.specs.Cases.{WrongRoute, Checked}
 use Rattle.routes.proofs.Meaning.{good-input}
 use Rattle.sail.specs.Lent.{Lent}
+use Rattle.sail.specs.Sizes.{Sized}
 use Rattle.sail.specs.Sound.{standing}
 use Rattle.sail.specs.declared.table.Table.{Table}
 use Rattle.sail_theory.specs.Render.{roomOf}
-use Rattle.sail_theory.specs.Calls.{Terms, cutRoute, telling}
-use Rattle.sail_theory.specs.CallRuns.{Call, announce, withdraw, load, done, Formed}
+use Rattle.sail_theory.specs.Calls.{Terms, termsOf, cutRoute, telling}
+use Rattle.sail_theory.specs.CallRuns.{Call, announce, withdraw, load, done, after, would, Formed, standingAfter}
 use Rattle.sail.specs.Cases.{Sizing}
 use Rattle.sail_theory.specs.Cases.{Announce, Withdraw, Readable, Load}
 use Rattle.sail_theory.proofs.calls.SomeCase.{announce-judged, withdraw-judged, load-judged}
 use Rattle.sail_theory.proofs.calls.Cleared.{announce-said, withdraw-said}
 use Rattle.sail_theory.proofs.calls.Load.{load-said}
+use Rattle.sail_theory.proofs.runs.AfterRun.{run-is}
+use Rattle.sail_theory.proofs.runs.WantOfChunks.{want-of-chunks}
 use Rattle.sail_theory.specs.WantOfChunks.{Wanting, ByNeed, ForChunks}
 
-pub wanting-exact : {m : Terms} {rs : List Route} {s : Said} → Wanting m rs s → ByNeed m rs s
+wanting-exact : {m : Terms} {rs : List Route} {s : Said} → Wanting m rs s → ByNeed m rs s
 wanting-exact (Wanting.second x) = record {
   seven = ((λ e. x), (λ y. refl));
   eight = ((λ e. absurd (let q : _≡_ {A = ℕ} 7 8 = cc in omega arith)), (λ y. absurd (omega (arith, y .0))));
@@ -60,7 +62,8 @@ input-never s _ (Checked.good n z r) w = w
 
 module _ (t : Table) (l : Lent) where
   -- whether bits were cleared is told of what is accepted alone
-  announce-formed : (b : Bool) (r : Route) {s : Said} → Announce t l (cutRoute r) s → ForChunks (telling b s) → Formed (announce r) (standing t l) (roomOf l)
+  announce-formed : (b : Bool) (r : Route) {s : Said} → Announce t l (cutRoute r) s → ForChunks (telling b s)
+      → Formed (announce r) (standing t l) (roomOf l)
   announce-formed b r (Announce.sizing n h) w = absurd (small h w)
   announce-formed b r (Announce.wrong n z h) w = absurd (wrong-never h w)
   announce-formed b r (Announce.unsound z f h) w = absurd (omega (arith, w .0))
@@ -89,8 +92,20 @@ module _ (t : Table) (l : Lent) where
   load-formed input (Load.done r k) w = absurd w
 
   -- in any state
-  pub chunks-formed : (c : Call) → ForChunks (done t l c .said) → Formed c (standing t l) (roomOf l)
+  chunks-formed : (c : Call) → ForChunks (done t l c .said) → Formed c (standing t l) (roomOf l)
   unfolding done
   chunks-formed (announce r) w = announce-formed _ r (announce-judged t l (cutRoute r)) (rw (announce-said t l r) at w)
-  chunks-formed (withdraw a len) w = absurd (withdraw-never _ (cut len a) len (withdraw-judged t l (cut len a) len) (rw (withdraw-said t l a len) at w))
+  chunks-formed (withdraw a len) w =
+      absurd (withdraw-never _ (cut len a) len (withdraw-judged t l (cut len a) len) (rw (withdraw-said t l a len) at w))
   chunks-formed (load input) w = load-formed input (load-judged t l input) (rw (load-said t l input) at w)
+
+-- after a run
+module _ (t : Table) (l : Lent) (z : Sized (t .geometry) l) (cs : List Call) (c : Call) where
+  pub run-by-need : Formed c (standingAfter t l cs) (roomOf l) → ByNeed (termsOf t l) (would c (standingAfter t l cs)) (after t l (c ∷ cs) .said)
+  run-by-need f = wanting-exact (want-of-chunks t l z cs c f)
+
+  pub run-formed : ForChunks (after t l (c ∷ cs) .said) → Formed c (standingAfter t l cs) (roomOf l)
+  unfolding after
+  run-formed w =
+      let room : roomOf (after t l cs .lent) ≡ roomOf l = ap (λ (n : ℕ). n / 8) (run-is t l z cs .size .list) in
+      rw room at (chunks-formed (after t l cs .table) (after t l cs .lent) c w)

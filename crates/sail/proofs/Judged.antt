@@ -1,5 +1,5 @@
--- Lookup in a table, sound or not, says what stands beside the case that holds (`Lookup` in crate sail, specs/Cases.antt), and nothing else. Assumes
--- nothing.
+-- What a lookup says, in a table sound or not: what stands beside the case that holds (`Lookup`, specs/Cases.antt), and nothing else. A cell is a
+-- leaf, a chunk's number, or neither, so each step of the walk has three ways on.
 use mathlib.Core.Path.{_≡_, refl, _∙_}
 use mathlib.Core.Logic.{_⊎_, inl, inr}
 use Prim.Native.Nat.{ℕ, _≤_, _<_}
@@ -63,7 +63,8 @@ module _ (t : Table) (l : Lent) (a : ℕ) where
   abbrev many3 : ℕ
   many3 = length (l .own3)
 
-  sized-said : Sized g l → lookupSaid t l a ≡ stepSaid 1 (oneOf many2) (v1 t l a) (stepSaid 2 (oneOf many3) (v2 t l a) (stepSaid 3 shut (v3 t l a) (refused 5)))
+  sized-said : Sized g l → lookupSaid t l a
+      ≡ stepSaid 1 (oneOf many2) (v1 t l a) (stepSaid 2 (oneOf many3) (v2 t l a) (stepSaid 3 shut (v3 t l a) (refused 5)))
   unfolding lookupSaid foundSaid walkSaid
   sized-said z = rw (eq-eqb (sizesFault g l) 0 (none-is g l z))
 
@@ -76,28 +77,37 @@ module _ (t : Table) (l : Lent) (a : ℕ) where
   sizing-said (Sizing.size v h) (Fault.limits k) e = absurd (k v)
   sizing-said (Sizing.size v h) (Fault.size w k) e = rw e
 
+  two-chunks : Sized g l → Leads (v1 t l a) many2 → Leads (v2 t l a) many3 → lookupSaid t l a ≡ stepSaid 3 shut (v3 t l a) (refused 5)
+  two-chunks z k j = sized-said z ∙ at-chunk 1 many2 (v1 t l a) _ k ∙ at-chunk 2 many3 (v2 t l a) _ j
+
   pub lookup-only : (s : Said) → Lookup t l a s → lookupSaid t l a ≡ s
   lookup-only s (Lookup.sizing n h) = sizing-said h (fault-is g l) refl
   lookup-only s (Lookup.first-leaf z h) = sized-said z ∙ at-leaf 1 many2 (v1 t l a) _ h
   lookup-only s (Lookup.first-stray z h) = sized-said z ∙ at-stray 1 many2 (v1 t l a) _ h
   lookup-only s (Lookup.second-leaf z k h) = sized-said z ∙ at-chunk 1 many2 (v1 t l a) _ k ∙ at-leaf 2 many3 (v2 t l a) _ h
   lookup-only s (Lookup.second-stray z k h) = sized-said z ∙ at-chunk 1 many2 (v1 t l a) _ k ∙ at-stray 2 many3 (v2 t l a) _ h
-  lookup-only s (Lookup.third-is-leaf z k j h) = sized-said z ∙ at-chunk 1 many2 (v1 t l a) _ k ∙ at-chunk 2 many3 (v2 t l a) _ j ∙ third-leaf (v3 t l a) h
-  lookup-only s (Lookup.third-no-leaf z k j h) = sized-said z ∙ at-chunk 1 many2 (v1 t l a) _ k ∙ at-chunk 2 many3 (v2 t l a) _ j ∙ third-low (v3 t l a) h
+  lookup-only s (Lookup.third-is-leaf z k j h) = two-chunks z k j ∙ third-leaf (v3 t l a) h
+  lookup-only s (Lookup.third-no-leaf z k j h) = two-chunks z k j ∙ third-low (v3 t l a) h
 
   pub lookup-judged : Lookup t l a (lookupSaid t l a)
   lookup-judged = go (fault-is g l)
     where
-      told : {s : Said} → Lookup t l a s → Lookup t l a (lookupSaid t l a)
+      Its : Type 0
+      Its = Lookup t l a (lookupSaid t l a)
+
+      told : {s : Said} → Lookup t l a s → Its
       told c = rw (lookup-only _ c) c
 
-      last : Sized g l → Leads (v1 t l a) many2 → Leads (v2 t l a) many3 → (v3 t l a < 32768) ⊎ (32768 ≤ v3 t l a) → Lookup t l a (lookupSaid t l a)
+      last : Sized g l → Leads (v1 t l a) many2 → Leads (v2 t l a) many3 → (v3 t l a < 32768) ⊎ (32768 ≤ v3 t l a) → Its
       last z k j (inl h) = told (Lookup.third-no-leaf z k j h)
       last z k j (inr h) = told (Lookup.third-is-leaf z k j h)
 
-      go : {m : ℕ} → Fault g l m → Lookup t l a (lookupSaid t l a)
+      second : Sized g l → Leads (v1 t l a) many2 → Its
+      second z k =
+          by-cell (v2 t l a) many3 Its (λ h. told (Lookup.second-leaf z k h)) (λ h. told (Lookup.second-stray z k h))
+          (λ j. last z k j (below? (v3 t l a) 32768))
+
+      go : {m : ℕ} → Fault g l m → Its
       go (Fault.limits h) = told (Lookup.sizing 1 (Sizing.limits h))
       go (Fault.size v h) = told (Lookup.sizing 2 (Sizing.size v h))
-      go (Fault.none z) =
-          by-cell (v1 t l a) many2 (Lookup t l a (lookupSaid t l a)) (λ h. told (Lookup.first-leaf z h)) (λ h. told (Lookup.first-stray z h))
-          (λ k. by-cell (v2 t l a) many3 (Lookup t l a (lookupSaid t l a)) (λ h. told (Lookup.second-leaf z k h)) (λ h. told (Lookup.second-stray z k h)) (λ j. last z k j (below? (v3 t l a) 32768)))
+      go (Fault.none z) = by-cell (v1 t l a) many2 Its (λ h. told (Lookup.first-leaf z h)) (λ h. told (Lookup.first-stray z h)) (second z)
