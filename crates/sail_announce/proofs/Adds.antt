@@ -39,9 +39,9 @@ use Rattle.sail_theory.proofs.places.Pools.{length-pool, pool-shows}
 use Rattle.sail_theory.proofs.calls.Cleared.{announce-off}
 use Rattle.sail_paint.specs.Stale.{Repainted, AsAsked}
 use Rattle.sail_paint.specs.Pending.{Pending}
-use Rattle.sail_change.specs.Opening.{Openable}
-use Rattle.sail_change.proofs.Opened.{openable, welcome-underway}
-use Rattle.sail_change.proofs.Underway.{underway-stale, underway-asked}
+use Rattle.sail_chunks.specs.Opening.{Openable}
+use Rattle.sail_chunks.proofs.Opened.{openable, welcome-underway}
+use Rattle.sail_chunks.proofs.Underway.{underway-stale, underway-asked}
 use Rattle.sail_calls.specs.Judge.{Judged}
 use Rattle.sail_counts.specs.Counted.{Counts}
 use Rattle.sail_counts.proofs.Tallies.{Guided, up-tickable, up-counts, open-counts, as-counts, counts-are}

@@ -35,10 +35,10 @@ use Rattle.sail_theory.proofs.owners.UsedNeed.{Enough, seven as second-chunks, 
 use Rattle.sail_theory.proofs.owners.Chunks.{used-le}
 use Rattle.standing.proofs.NeedAfter.{need-more, need-same}
 use Rattle.sail_sound.specs.Test.{Tried}
-use Rattle.sail_change.specs.Chunks.{alone}
+use Rattle.sail_chunks.specs.Chunks.{alone}
 use Rattle.sail_calls.specs.Judge.{Judged}
-use Rattle.sail_change.specs.Opening.{Opens}
-use Rattle.sail_change.specs.declared.opening.Opening.{Opening}
+use Rattle.sail_chunks.specs.Opening.{Opens}
+use Rattle.sail_chunks.specs.declared.opening.Opening.{Opening}
 use Rattle.sail_sound.proofs.Tries.{tried-sound}
 use Rattle.sail_calls.proofs.Judges.{judged-off, judged-on, or-said}
 

@@ -16,7 +16,7 @@ use Rattle.sail.specs.Geometry.{bits2, bits3}
 use Rattle.sail.specs.Lent.{cells}
 use Rattle.sail.specs.Sizes.{Celled}
 use Rattle.sail.specs.declared.geometry.Geometry.{Geometry}
-use Rattle.sail_pool.specs.Pool.{PoolOk, HookedPool, FreeAll, FirstCells, Chunked, Pooled}
+use Rattle.sail_cells_test.specs.Pool.{PoolOk, HookedPool, FreeAll, FirstCells, Chunked, Pooled}
 use Rattle.sail_sound.specs.Test.{root, Passed, PassedAll}
 
 -- no owner in a right pool names a place past the pool above

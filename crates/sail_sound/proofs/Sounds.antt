@@ -30,10 +30,10 @@ use Rattle.sail.proofs.Fitting.{celled-of}
 use Rattle.sail_counts.specs.Counted.{Counts}
 use Rattle.sail_counts.specs.Test.{Countable}
 use Rattle.sail_theory.proofs.places.Places.{chunk-lt, live-owner, chunk-live, chunk-part}
-use Rattle.sail_pool.specs.Pool.{chunkOf, PoolOk, FreeAll}
+use Rattle.sail_cells_test.specs.Pool.{chunkOf, PoolOk, FreeAll}
 use Rattle.sail_sound.specs.Test.{root, PassedAll, Beside, PassedTable}
-use Rattle.sail_pool.proofs.Cells.{Cell, cell-as, right-cell, cells-right, part-at}
-use Rattle.sail_pool.proofs.Chunks.{chunk-room}
+use Rattle.sail_cells_test.proofs.Cells.{Cell, cell-as, right-cell, cells-right, part-at}
+use Rattle.sail_cells_test.proofs.Chunks.{chunk-room}
 
 -- each live cell of a level is as the routes ask
 abbrev Asked : List Route → Level → List ℕ → List ℕ → Type 0

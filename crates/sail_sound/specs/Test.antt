@@ -14,7 +14,7 @@ use Rattle.sail.specs.Sound.{Sound}
 use Rattle.sail.specs.declared.geometry.Geometry.{Geometry}
 use Rattle.sail.specs.declared.table.Table.{Table}
 use Rattle.sail_theory.specs.SoundTest.{sound?}
-use Rattle.sail_pool.specs.Pool.{HookedPool, FreeAll}
+use Rattle.sail_cells_test.specs.Pool.{HookedPool, FreeAll}
 
 -- the first cells as one chunk, whose owner is 1
 abbrev pub root : List ℕ

@@ -8,12 +8,12 @@ ghost use Rattle.sail_list.specs.List.{Scratch};
 ghost use Rattle.sail_sound.specs.Test.{Passed, PassedAll, Beside, PassedTable, Tried};
 use sail::geometry::Geometry;
 use sail::table::Table;
+use sail_cells_test::first_ok;
+use sail_cells_test::free_all;
+use sail_cells_test::hung_all;
 use sail_counts::test::counts_ok;
 use sail_list::chained;
 use sail_list::list_ok;
-use sail_pool::first_ok;
-use sail_pool::free_all;
-use sail_pool::hung_all;
 
 // The live cells of the three levels beside the routes of the words. The first cells are one chunk, whose owner is 1; a third
 // cell names no chunk.

@@ -34,14 +34,14 @@ use Rattle.sail_theory.proofs.calls.ChangeHolds.{losing1, losing2}
 use Rattle.sail_theory.proofs.calls.Outcomes.{count-removed, taking-is}
 use Rattle.sail_theory.proofs.calls.Cleared.{withdraw-off}
 use Rattle.sail_paint.specs.Stale.{Repainted}
-use Rattle.sail_change.specs.Chunks.{alone, closed, blanked, Closing}
+use Rattle.sail_chunks.specs.Chunks.{alone, closed, blanked, Closing}
 use Rattle.sail_paint.specs.Pending.{Pending}
-use Rattle.sail_change.specs.Trail.{Told, Serving, Trailed}
-use Rattle.sail_change.proofs.Hangs.{alone-longer}
-use Rattle.sail_change.proofs.Openings.{told-one, told-chunk}
-use Rattle.sail_change.proofs.Shrinks.{was-long, keep-closes, closing, farewell-underway}
-use Rattle.sail_change.proofs.Trails.{serving-of}
-use Rattle.sail_change.proofs.Underway.{underway-stale, underway-asked}
+use Rattle.sail_chunks.specs.Trail.{Told, Serving, Trailed}
+use Rattle.sail_chunks.proofs.Hangs.{alone-longer}
+use Rattle.sail_chunks.proofs.Openings.{told-one, told-chunk}
+use Rattle.sail_chunks.proofs.Shrinks.{was-long, keep-closes, closing, farewell-underway}
+use Rattle.sail_chunks.proofs.Trails.{serving-of}
+use Rattle.sail_chunks.proofs.Underway.{underway-stale, underway-asked}
 use Rattle.sail_calls.specs.Judge.{Judged}
 use Rattle.sail_counts.specs.Counted.{Counts}
 use Rattle.sail_counts.specs.Tick.{Tickable, Moved}

@@ -19,8 +19,8 @@ use sail::table::Table;
 use sail::table::sizes;
 use sail_calls::clear::clear;
 use sail_calls::renew::renew;
-use sail_change::chunks::close;
-use sail_change::trail::follow;
+use sail_chunks::chunks::close;
+use sail_chunks::trail::follow;
 use sail_counts::tick::tick;
 use sail_sound::test::sound;
 

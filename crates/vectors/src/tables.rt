@@ -3,8 +3,8 @@ use sail::geometry::Geometry;
 use sail::lookup;
 use sail::table::Table;
 use sail_sound::report;
-use words::list;
-use words::table;
+use vectors_shared::list;
+use vectors_shared::table;
 
 // A lookup of 10.1.2.200 and the report.
 fn judge(

@@ -2,7 +2,7 @@
 use tree_change::Announced;
 use tree_change::Withdrawn;
 use tree_check::Tested;
-use words::print;
+use vectors_shared::print;
 
 fn sizes(nodes: u32, hops: u32) {
     print::text(b" nodes");

@@ -1,6 +1,6 @@
 // Whether what is lent is the table of one route: two sets of the eight arrays compared.
 use routes::Route;
-use words::print;
+use vectors_shared::print;
 
 fn same8(a: &[u8], b: &[u8]) -> bool {
     if a.len() != b.len() {

@@ -1,5 +1,5 @@
 // Arrays compared cell by cell, and what is printed of it: the cells in which they differ, or that they are the same.
-use words::print;
+use vectors_shared::print;
 
 // Whether the list begins with the others.
 pub fn words_begin(list: &[u32], others: &[u32]) -> bool {

@@ -2,8 +2,8 @@
 use crate::compare;
 use tree_change::announce;
 use tree_change::withdraw;
-use words::list;
-use words::print;
+use vectors_shared::list;
+use vectors_shared::print;
 ghost use Prim.Native.Nat.{_≤_};
 
 // One of list A's routes.

@@ -1,6 +1,6 @@
 -- `sail_announce::judge_room`: each way has its law.
 use borrow.Author.Needs.{needs}
-use Rattle.sail_change.proofs.Trails.{serving-of}
+use Rattle.sail_chunks.proofs.Trails.{serving-of}
 use Rattle.sail_announce.proofs.Judges.{room-stands, room-full, room-second, room-third, room-enough}
 use Rattle.sail_announce.proofs.judge_room.Statement.{statement}
 use Rattle.sail_announce.proofs.judge_room.Tie as tie

@@ -1,0 +1,238 @@
+// The test of cells: blocks and chunks of them beside the routes. The same functions serve every level and every chunk
+// size. Scratch for the plan of a block is lent to them.
+ghost use mathlib.Core.Path.{_≡_};
+ghost use Prim.Native.Nat.{_+_, _-_, _*_, _%_, _^_, _≤_, _<_};
+ghost use lib.ListN.{length, getD};
+ghost use Rattle.bits.specs.Tab.{Tells};
+ghost use Rattle.chain.specs.Words.{routesIn};
+ghost use Rattle.plan.specs.Part.{Right, Zero};
+ghost use Rattle.sail.specs.Geometry.{Power};
+ghost use Rattle.sail_cells_test.specs.Pool.{partAt, Hung, HookedChunk, HookedPool, Free, FreeAll, Chunked, Blocked, FirstCells, Stands, Hooks, Hook, Hanging, Pooled};
+use chain::place::shifted;
+use plan::part::zero;
+use plan::under::right_under;
+
+// How many cells a block has whose places take d bits.
+fn size(d: u32) -> usize
+    requires { ⌜ d ≤ 10 ⌝ }
+    ensures { λ r. ⌜ Power r d 1024 ⌝ }
+{
+    1usize << d
+}
+
+fn wide(x: u16) -> usize
+    ensures { λ r. ⌜ (r ≡ x) × (r < 65536) ⌝ }
+{
+    x as usize
+}
+
+fn wide_owner(x: u32) -> usize
+    ensures { λ r. ⌜ (r ≡ x) × (r < 4294967296) ⌝ }
+{
+    x as usize
+}
+
+// Whether the 2^d cells from place a on are as the routes ask for the cells of level p that lie in cell i of level p - d.
+// The cell at place a has the owner number o; `want` is room for the plan.
+pub fn block_ok(
+    ws: &[u64],
+    par: &[u16],
+    p: u32,
+    d: u32,
+    i: u64,
+    cells: &[u16],
+    a: usize,
+    o: usize,
+    below: &[u32],
+    want: &mut [u16],
+) -> bool
+    requires { ⌜ Blocked (now ws) (now par) p d i (now cells) a o (now want) ⌝ }
+    ensures { λ r. ⌜ Tells r (Right (routesIn (now (ws .entry))) p (i * 2 ^ d) (partAt (now (cells .entry)) a (2 ^ d)) (now (below .entry)) o (2 ^ d)) ⌝ }
+{
+    let n = size(d);
+    let e = a + n;
+    let base = shifted(i, p - d, d) as usize;
+    let part = &cells[a..e];
+    right_under(ws, par, p - d, i, p, base, part, o, &mut want[..n], below)
+}
+
+// Whether the first cells, which are those of level p, are as the routes ask. They are gone through in blocks of 1,024;
+// the first of them has the owner number o.
+pub fn first_ok(
+    ws: &[u64],
+    par: &[u16],
+    p: u32,
+    first: &[u16],
+    o: usize,
+    below: &[u32],
+    want: &mut [u16],
+) -> bool
+    requires { ⌜ FirstCells (now ws) (now par) p (now first) o (now want) ⌝ }
+    ensures { λ r. ⌜ Tells r (Right (routesIn (now (ws .entry))) p 0 (now (first .entry)) (now (below .entry)) o (length (now (first .entry)))) ⌝ }
+{
+    let n = first.len() / 1024;
+    let mut b = 0;
+    while b < n {
+        let a = b * 1024;
+        if !block_ok(ws, par, p, 10, b as u64, first, a, o + a, below, want) {
+            return false;
+        }
+        b += 1;
+    }
+    true
+}
+
+// Where chunk c begins.
+fn start(c: usize, d: u32) -> usize
+    requires { ⌜ (c < 4096) × (d ≤ 10) ⌝ }
+    ensures { λ r. ⌜ (r ≡ c * 2 ^ d) × (r < 4194304) ⌝ }
+{
+    c << d
+}
+
+// Whether the n cells from place a on are zero.
+pub fn free_ok(cells: &[u16], a: usize, n: usize) -> bool
+    requires { ⌜ a + n ≤ length (now cells) ⌝ }
+    ensures { λ r. ⌜ Tells r (Zero (partAt (now (cells .entry)) a n)) ⌝ }
+{
+    let e = a + n;
+    zero(&cells[a..e])
+}
+
+// Whether the cell at place q of the pool above names chunk c, and the chunk is as the routes ask for the cells of level p
+// that lie in cell i of level p - d. The chunk's first cell has the owner number o.
+pub fn hung_ok(
+    ws: &[u64],
+    par: &[u16],
+    p: u32,
+    d: u32,
+    above: &[u16],
+    q: usize,
+    i: u64,
+    cells: &[u16],
+    c: usize,
+    o: usize,
+    below: &[u32],
+    want: &mut [u16],
+) -> bool
+    requires { ⌜ Hanging (now ws) (now par) p d (now above) q i (now cells) c o (now want) ⌝ }
+    ensures { λ r. ⌜ Tells r (Hung (routesIn (now (ws .entry))) p d (now (above .entry)) (now (cells .entry)) (now (below .entry)) c o q i) ⌝ }
+{
+    if wide(above[q]) != c + 1 {
+        return false;
+    }
+    block_ok(ws, par, p, d, i, cells, start(c, d), o, below, want)
+}
+
+// The cell that place q of a pool stands for, where its chunk has 2^e cells and the owner x.
+fn stands_for(x: u32, q: usize, e: u32) -> u64
+    requires { ⌜ Stands x e ⌝ }
+    ensures { λ r. ⌜ (r ≡ (x - 1) * 2 ^ e + q % 2 ^ e) × (r < 2 ^ 63) ⌝ }
+{
+    (((x - 1) as u64) << e) + (q as u64) % (1u64 << e)
+}
+
+// 1 + the cell that place q of a pool of n places stands for, and 0 where it is no place or its chunk is free. The pool's
+// chunks have 2^e cells and the owners `up`.
+fn hook(up: &[u32], e: u32, n: usize, q: usize) -> u64
+    requires { ⌜ Hooks (now up) e n ⌝ }
+    ensures { λ r. ⌜ Hook (now (up .entry)) e n q r ⌝ }
+{
+    if n <= q {
+        return 0;
+    }
+    let k = q >> e;
+    let x = up[k];
+    if x == 0 {
+        return 0;
+    }
+    1 + stands_for(x, q, e)
+}
+
+// Whether chunk c of a pool is free, or hangs from the pool above and is right. The cells of the pool above lie in chunks of
+// 2^e, whose owners are `up`.
+fn chunk_ok(
+    ws: &[u64],
+    par: &[u16],
+    p: u32,
+    d: u32,
+    up: &[u32],
+    e: u32,
+    above: &[u16],
+    cells: &[u16],
+    own: &[u32],
+    c: usize,
+    below: &[u32],
+    want: &mut [u16],
+) -> bool
+    requires { ⌜ Pooled (now ws) (now par) p d (now up) e (now above) (now cells) (now own) (now want) ⌝ }
+    requires { ⌜ c < length (now own) ⌝ }
+    ensures { λ r. ⌜ Tells r (HookedChunk (routesIn (now (ws .entry))) p d (now (up .entry)) e (now (above .entry)) (now (cells .entry)) (now (below .entry)) c (getD (now (own .entry)) c 0)) ⌝ }
+{
+    let a = start(c, d);
+    let o = wide_owner(own[c]);
+    if o == 0 {
+        return true;
+    }
+    let q = o - 1;
+    let i = hook(up, e, above.len(), q);
+    if i == 0 {
+        return false;
+    }
+    let j = i - 1;
+    hung_ok(ws, par, p, d, above, q, j, cells, c, 1 + a, below, want)
+}
+
+// Whether each chunk in use of a pool is right. The cells of free chunks are not read.
+pub fn hung_all(
+    ws: &[u64],
+    par: &[u16],
+    p: u32,
+    d: u32,
+    up: &[u32],
+    e: u32,
+    above: &[u16],
+    cells: &[u16],
+    own: &[u32],
+    below: &[u32],
+    want: &mut [u16],
+) -> bool
+    requires { ⌜ Pooled (now ws) (now par) p d (now up) e (now above) (now cells) (now own) (now want) ⌝ }
+    ensures { λ r. ⌜ Tells r (HookedPool (routesIn (now (ws .entry))) p d (now (up .entry)) e (now (above .entry)) (now (own .entry)) (now (cells .entry)) (now (below .entry))) ⌝ }
+{
+    let mut c = 0;
+    while c < own.len() {
+        if !chunk_ok(ws, par, p, d, up, e, above, cells, own, c, below, want) {
+            return false;
+        }
+        c += 1;
+    }
+    true
+}
+
+// Whether chunk c of a pool of chunks of 2^d cells is in use, or zero.
+fn free_chunk(d: u32, cells: &[u16], own: &[u32], c: usize) -> bool
+    requires { ⌜ Chunked d (now own) (now cells) ⌝ }
+    requires { ⌜ c < length (now own) ⌝ }
+    ensures { λ r. ⌜ Tells r (Free d (now (cells .entry)) c (getD (now (own .entry)) c 0)) ⌝ }
+{
+    if own[c] != 0 {
+        return true;
+    }
+    free_ok(cells, start(c, d), size(d))
+}
+
+// Whether each free chunk of a pool is zero. The cells of chunks in use are not read.
+pub fn free_all(d: u32, cells: &[u16], own: &[u32]) -> bool
+    requires { ⌜ Chunked d (now own) (now cells) ⌝ }
+    ensures { λ r. ⌜ Tells r (FreeAll d (now (own .entry)) (now (cells .entry))) ⌝ }
+{
+    let mut c = 0;
+    while c < own.len() {
+        if !free_chunk(d, cells, own, c) {
+            return false;
+        }
+        c += 1;
+    }
+    true
+}

@@ -1,0 +1,61 @@
+-- `sail_chunks::opening::open`. The second chunk that serves the route is known before the owners change: the one that is opened, or the one there.
+use native.Mathlib.Omega.{arith}
+use borrow.Author.Needs.{needs}
+use Rattle.sail_chunks.proofs.Openings.{hang-second, hang-third, opened-second, opened-third, slot-small}
+use Rattle.sail_chunks.proofs.opening.open.Statement.{statement}
+use Rattle.sail_chunks.proofs.opening.open.Tie as tie
+
+-- Places, each seen from the next one: where it starts, after `to_open`, after `chunk_for`, and after the first `hang`.
+abbrev start : tie.After-to-open → tie.Start
+start c = c .before .before .before .before .before .before .before .before .before
+
+abbrev asked : tie.After-chunk-for → tie.After-to-open
+asked c = c .before .before
+
+abbrev chosen : tie.After-hang → tie.After-chunk-for
+chosen c = c .before .before .before .before
+
+to-open-requires : tie.Need-to-open-requires
+to-open-requires c κs = let s = c .before .before .before .before .before .before .before .before in s .pre .serving
+
+chunk-for-requires : tie.Need-chunk-for-requires
+chunk-for-requires c κs = let o = c .before in record { small = o .to-open .ensures .few; few = start o .pre .serving .few2 }
+
+place-requires : tie.Need-place-requires
+place-requires c κs = record { valid = start (asked c) .pre .serving .valid; few = c .chunk-for .ensures .1 }
+
+add-hang : tie.Need-add-hang
+add-hang c = let s = start (c .before .before .before .before .before) in omega (arith, slot-small _ _ _ (s .pre .serving .valid) (s .pre .fine .prefix .addr-ok) (c .slot .ensures))
+
+hang-requires : tie.Need-hang-requires
+hang-requires c κs = let o = c .before .before .before .before .before in hang-second _ _ _ _ _ _ _ (start o .pre) _ (o .to-open .ensures)
+
+hang-requires-2 : tie.Need-hang-requires-2
+hang-requires-2 c κs = let o = c .before .before .before .before .before .before .before .before .before in hang-third _ _ _ _ _ _ _ (start o .pre) _ (o .to-open .ensures)
+
+returns : tie.Need-returns
+returns c =
+    let hung = c .before .before .before .before .before .before in
+    let chunk = chosen hung in
+    let o = asked chunk in (
+      opened-second _ _ _ _ _ _ _ (start o .pre) _ (o .to-open .ensures) _ _ (hung .before .slot .ensures) (hung .hang .ensures),
+      opened-third _ _ _ _ _ _ _ (start o .pre) _ (o .to-open .ensures) _ (chunk .chunk-for .ensures .0)
+          _ _ (hung .before .before .before .place .ensures .0) (c .before .before .hang2 .ensures),
+    )
+
+pub open-spec : {M : Type 1} → statement M
+open-spec =
+    tie.close
+    (tie.spec
+    to-open-requires
+    chunk-for-requires
+    place-requires
+    (λ c κs. search needs)
+    add-hang
+    hang-requires
+    (λ c. search needs)
+    (λ c. search needs)
+    hang-requires-2
+    (λ c. search needs)
+    (λ c. search needs)
+    returns)
