@@ -5,5 +5,6 @@ pub mod Masks
 pub mod Ones
 pub mod Searches
 pub mod Tabs
+pub mod Tells
 pub mod Counts
 pub mod Packed

@@ -42,6 +42,13 @@ pub cut-gt : (l a : ℕ) → a < cut l a + 2 ^ (32 - l)
 unfolding cut
 cut-gt l a = lt-div-mul-add (pow-pos (32 - l))
 
+-- no bit comes after the 32nd
+pub cut-over : (l a : ℕ) → 32 ≤ l → cut l a ≡ a
+unfolding cut
+cut-over l a h =
+    let e : 32 - l ≡ 0 = omega arith in
+    ap (λ (x : ℕ). a / 2 ^ x * 2 ^ x) e ∙ omega arith
+
 -- an address that is clear after l bits is clear after more
 pub cut-more : (l m a : ℕ) → l ≤ m → m ≤ 32 → cut l a ≡ a → cut m a ≡ a
 unfolding cut

@@ -3,3 +3,4 @@ pub mod Decodes
 pub mod Places
 pub mod Runs
 pub mod Chains
+pub mod Fronts

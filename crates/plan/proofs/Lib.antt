@@ -3,7 +3,6 @@ pub mod Plans
 pub mod Runs
 pub mod Fills
 pub mod Ranges
-pub mod Tells
 pub mod Settles
 pub mod Rights
 pub mod Unders

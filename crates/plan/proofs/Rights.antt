@@ -13,7 +13,7 @@ use Rattle.standing.specs.Cells.{long, best}
 use Rattle.routes.specs.declared.Route.{Route}
 use Rattle.plan.specs.Plan.{plan, planned}
 use Rattle.plan.specs.Part.{Names, Matches, Right}
-use Rattle.plan.proofs.Tells.{tells-same}
+use Rattle.bits.proofs.Tells.{tells-same}
 
 module _ (rs : List Route) (p base : ℕ) (part own : List ℕ) (o n : ℕ) where
   pub length-planned : length (planned rs p base n) ≡ n

@@ -19,7 +19,7 @@ use Rattle.chain.specs.Words.{routeOf, routesIn}
 use Rattle.plan.specs.Plan.{planFrom, plannedFrom}
 use Rattle.plan.specs.Part.{Names, Named, settled, Settled, Matches}
 use Rattle.plan.proofs.Plans.{any-snoc}
-use Rattle.plan.proofs.Tells.{is-no, is-yes, tells-same}
+use Rattle.bits.proofs.Tells.{is-no, is-yes, tells-same}
 
 -- v beside the owner of the chunk that it numbers
 pub names-tested : (v o c x : ℕ) (own : List ℕ) → c ≡ v → (c ≡ 0 → ⊥) → c ≤ length own → x ≡ getD own (c - 1) 0 → Tells (eqb x o) (Names v own o)

@@ -13,7 +13,7 @@ use Rattle.sail.specs.Lent.{Lent, cells}
 use Rattle.sail.specs.Sizes.{sizesFault, SizesTold}
 use Rattle.sail.specs.declared.geometry.Geometry.{Geometry}
 use Rattle.sail.specs.declared.table.Table.{Table}
-use Rattle.sail_calls.proofs.Judges.{or-said}
+use Rattle.sail_theory.proofs.Judges.{or-said}
 use Rattle.sail_theory.specs.Calls.{Owners, settled, noOwners, inputRoutes, termsOf, chunksFault, Out, out, lentOf, loaded}
 use Rattle.sail_theory.specs.Facts.{Loadable}
 use Rattle.sail_theory.specs.CallRuns.{Carries}

@@ -10,6 +10,7 @@ use Rattle.bits.specs.Count.{count}
 use Rattle.routes.specs.declared.Route.{Route}
 use Rattle.chain.specs.Words.{routesIn}
 use Rattle.chain.specs.Cover.{Ready}
+use Rattle.chain.specs.List.{Scratch}
 use Rattle.plan.specs.Plan.{plan}
 use Rattle.sail.specs.Lent.{Lent, Cells, cells}
 use Rattle.sail.specs.Level.{chunksOf, level1, level2}
@@ -17,7 +18,6 @@ use Rattle.sail.specs.Sizes.{Celled}
 use Rattle.sail.specs.declared.geometry.Geometry.{Geometry}
 use Rattle.sail_theory.specs.Render.{Fits, rendered}
 use Rattle.sail_theory.specs.Calls.{Owners, settled, inputRoutes}
-use Rattle.sail_list.specs.List.{Scratch}
 use Rattle.sail_owners.specs.Owners.{owners, Ownable}
 use Rattle.sail_paint.specs.Paint.{Part, ChunkOf, Pool}
 use Rattle.repair_theory.specs.Repair.{differ}

@@ -109,7 +109,8 @@ record-checked s k = go (route-checked (recordAt s k)) (decided (inOrder s k))
         let n = not-order s k o in
         rw (eq-eqb _ 0 z, o) (RecordChecked.wrong (omega arith) (WrongRecord.order g (n .0) (n .1)))
 
-right-fault : (s : List ℕ) (k : ℕ) → RightRecord s k → faultAt s k ≡ 0
+-- a record without fault is right, and one that is right has none
+pub right-fault : (s : List ℕ) (k : ℕ) → RightRecord s k → faultAt s k ≡ 0
 unfolding faultAt
 right-fault s k r = rw (eq-eqb (routeFault (recordAt s k)) 0 (fine-fault (recordAt s k) (r .fine))) (go (decided (inOrder s k)))
   where
@@ -117,7 +118,7 @@ right-fault s k r = rw (eq-eqb (routeFault (recordAt s k)) 0 (fine-fault (record
     go (inl o) = rw o
     go (inr o) = let n = not-order s k o in let l = r .after (n .0) in absurd (omega (arith, n .1))
 
-fault-right : (s : List ℕ) (k : ℕ) → faultAt s k ≡ 0 → RightRecord s k
+pub fault-right : (s : List ℕ) (k : ℕ) → faultAt s k ≡ 0 → RightRecord s k
 fault-right s k e = go (record-checked s k)
   where
     go : RecordChecked s k (faultAt s k) → RightRecord s k

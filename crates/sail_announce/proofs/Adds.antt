@@ -42,7 +42,7 @@ use Rattle.sail_paint.specs.Pending.{Pending}
 use Rattle.sail_chunks.specs.Opening.{Openable}
 use Rattle.sail_chunks.proofs.Opened.{openable, welcome-underway}
 use Rattle.sail_chunks.proofs.Underway.{underway-stale, underway-asked}
-use Rattle.sail_calls.specs.Judge.{Judged}
+use Rattle.sail_theory.specs.Judge.{Judged}
 use Rattle.sail_counts.specs.Counted.{Counts}
 use Rattle.sail_counts.proofs.Tallies.{Guided, up-tickable, up-counts, open-counts, as-counts, counts-are}
 use Rattle.sail_announce.specs.Answers.{saysAnnounce}

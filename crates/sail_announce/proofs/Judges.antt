@@ -36,11 +36,11 @@ use Rattle.sail_theory.proofs.owners.Chunks.{used-le}
 use Rattle.standing.proofs.NeedAfter.{need-more, need-same}
 use Rattle.sail_sound.specs.Test.{Tried}
 use Rattle.sail_chunks.specs.Chunks.{alone}
-use Rattle.sail_calls.specs.Judge.{Judged}
+use Rattle.sail_theory.specs.Judge.{Judged}
 use Rattle.sail_chunks.specs.Opening.{Opens}
 use Rattle.sail_chunks.specs.declared.opening.Opening.{Opening}
 use Rattle.sail_sound.proofs.Tries.{tried-sound}
-use Rattle.sail_calls.proofs.Judges.{judged-off, judged-on, or-said}
+use Rattle.sail_theory.proofs.Judges.{judged-off, judged-on, or-said}
 
 -- a limit that the chunks in use keep is exceeded exactly where a chunk is to be opened and as many as the limit are in use
 over : (rs : List Route) (r : Route) (p : ℕ) (own : List ℕ) → Enough rs p own → Fine r → (limit : ℕ) → used own ≤ limit → (alone rs p (r .addr) (r .len) && leb limit (used own)) ≡ ltb limit (need (insert r rs) p)

@@ -13,7 +13,7 @@ ghost use Rattle.sail.specs.Sound.{used};
 ghost use Rattle.sail_theory.specs.Calls.{announceSaid, out, adding, told};
 ghost use Rattle.sail_theory.specs.Facts.{Welcome};
 ghost use Rattle.sail_theory.specs.Cases.{Proper};
-ghost use Rattle.sail_calls.specs.Judge.{Judged};
+ghost use Rattle.sail_theory.specs.Judge.{Judged};
 ghost use Rattle.sail_announce.specs.Answers.{saysAnnounce};
 ghost use Rattle.sail_announce.specs.Contract.{MeetsAnnounce};
 ghost use Rattle.sail_announce.specs.Booked.{Bookable, Booked};
@@ -27,15 +27,15 @@ use lists::edit::Put;
 use lists::place::place;
 use routes::Route;
 use routes::input;
+use routes::prefix::clear_after;
 use routes::record;
 use sail::geometry::Geometry;
 use sail::table::Table;
 use sail::table::sizes;
-use sail_calls::clear::clear;
-use sail_calls::renew::renew;
 use sail_chunks::opening::open;
 use sail_chunks::opening::to_open;
 use sail_counts::tick::tick;
+use sail_paint::from_list::repaint_from_list;
 use sail_sound::report::in_use;
 use sail_sound::test::sound;
 
@@ -168,7 +168,7 @@ fn add(
     open(t, r, list, first, second, own2, own3);
     let p = edit::insert(list, n, r);
     let m = count_with(p, n);
-    renew(
+    repaint_from_list(
         g,
         list,
         m,
@@ -211,7 +211,7 @@ pub fn announce(
 ) -> Announced
     ensures { λ r. ⌜ MeetsAnnounce t (lent (now (list .entry)) (now (first .entry)) (now (second .entry)) (now (third .entry)) (now (own2 .entry)) (now (own3 .entry)) (now (long1 .entry)) (now (long2 .entry))) addr len hop mark r (lent (now (list .exit)) (now (first .exit)) (now (second .exit)) (now (third .exit)) (now (own2 .exit)) (now (own3 .exit)) (now (long1 .exit)) (now (long2 .exit))) ⌝ }
 {
-    let a = clear(addr, len);
+    let a = clear_after(addr, len);
     let r = Route {
         addr: a,
         len,

@@ -14,7 +14,7 @@ use Rattle.bits.proofs.Slots.{shl-one}
 use Rattle.routes.specs.declared.Route.{Route}
 use Rattle.plan.specs.Part.{Right, Zero}
 use Rattle.plan.specs.Under.{Tested}
-use Rattle.plan.proofs.Tells.{is-yes, refuted, passed}
+use Rattle.bits.proofs.Tells.{is-yes, refuted, passed}
 use Rattle.sail.specs.Geometry.{Power}
 use Rattle.sail_cells_test.specs.Pool.{partAt, Blocked, FirstCells, Stands}
 use Rattle.sail_cells_test.proofs.Cells.{UpTo, none-yet, one-more, part-in}

@@ -12,7 +12,7 @@ use borrow.Author.Tests.{lt-ltb, le-ltb, ltb-true}
 use Rattle.bits.specs.Tab.{Tells}
 use Rattle.routes.specs.declared.Route.{Route}
 use Rattle.plan.specs.Part.{Right, Zero}
-use Rattle.plan.proofs.Tells.{is-no, is-yes, tells-same}
+use Rattle.bits.proofs.Tells.{is-no, is-yes, tells-same}
 use Rattle.sail.specs.Geometry.{Power}
 use Rattle.sail.specs.Level.{itself, liveIn, partOf, entry}
 use Rattle.sail_cells_test.specs.Pool.{partAt, Hung, HookedChunk, Free, Chunked, Stands, Hooks, Hook, Hanging, Pooled}

@@ -20,7 +20,7 @@ use Rattle.counts.specs.Counts.{howMany}
 use Rattle.counts.proofs.Many.{many-none}
 use Rattle.chain.specs.Words.{routeOf, routesIn, Words}
 use Rattle.chain.specs.Cover.{addrIn}
-use Rattle.plan.proofs.Tells.{tells-same, refuted, passed}
+use Rattle.bits.proofs.Tells.{tells-same, refuted, passed}
 use Rattle.sail.specs.Geometry.{bits2}
 use Rattle.sail.specs.Level.{Level, Chunks, deep, entry, chunksOf, level1, level2}
 use Rattle.sail.specs.Sound.{Shows, Clear, Counted}

@@ -21,7 +21,7 @@ use Rattle.chain.specs.Words.{routeOf, keyIn, routesIn, Words}
 use Rattle.chain.specs.Place.{underKey, RunFrom, Run}
 use Rattle.chain.specs.Cover.{addrIn}
 use Rattle.chain.proofs.Places.{keys}
-use Rattle.plan.proofs.Tells.{is-no, is-yes}
+use Rattle.bits.proofs.Tells.{is-no, is-yes}
 use Rattle.sail_counts.specs.Tick.{placeIn}
 use Rattle.sail_counts.specs.Test.{idle, lenIn, cellIn, Told, Tallied, Goes, RunTold}
 

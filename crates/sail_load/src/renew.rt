@@ -8,6 +8,7 @@ use sail_make::fill::fill16;
 use sail_make::fill::put_list;
 use sail_make::fill::zero32;
 use sail_owners::owners::settle_owners;
+use sail_paint::from_list::repaint_from_list;
 
 // The list, the owners, the cells and the counts. Every cell lies under the prefix of no bits, so all of them are painted.
 pub fn renew(
@@ -35,6 +36,6 @@ pub fn renew(
     zero32(own2);
     zero32(own3);
     settle_owners(g, input, own2, own3);
-    sail_calls::renew::renew(g, input, n, 0, 0, first, second, third, own2, own3);
+    repaint_from_list(g, input, n, 0, 0, first, second, third, own2, own3);
     count_all(g, input, n, first, own2, long1, long2);
 }

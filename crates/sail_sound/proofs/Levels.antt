@@ -11,7 +11,7 @@ use Rattle.bits.specs.Tab.{Tells}
 use Rattle.routes.specs.declared.Route.{Route}
 use Rattle.chain.specs.Cover.{Ready}
 use Rattle.plan.specs.Part.{Right}
-use Rattle.plan.proofs.Tells.{tells-same, refuted, passed}
+use Rattle.bits.proofs.Tells.{tells-same, refuted, passed}
 use Rattle.sail.specs.Geometry.{bits2, bits3}
 use Rattle.sail.specs.Lent.{cells}
 use Rattle.sail.specs.Sizes.{Celled}

@@ -18,7 +18,7 @@ use Rattle.routes.proofs.Rows.{records-good}
 use Rattle.standing.proofs.Need.{none-longer}
 use Rattle.chain.specs.Cover.{Ready}
 use Rattle.chain.specs.Words.{routesIn}
-use Rattle.plan.proofs.Tells.{tells-same, refuted, passed}
+use Rattle.bits.proofs.Tells.{tells-same, refuted, passed}
 use Rattle.sail.specs.Geometry.{bits2}
 use Rattle.sail.specs.Lent.{Lent, Cells, cells, cellsOf}
 use Rattle.sail.specs.Level.{Level, deep, always, itself, liveIn, partOf, entry, chunksOf, below, level1, level2, level3}

@@ -8,16 +8,16 @@ use Rattle.bits.specs.Tab.{Tells}
 use Rattle.bits.proofs.Tests.{same}
 use Rattle.routes.specs.Record.{Listed}
 use Rattle.chain.specs.Words.{routesIn}
+use Rattle.chain.specs.List.{Chained, Scratch}
+use Rattle.chain.proofs.Fronts.{front-routes}
 use Rattle.sail.specs.Lent.{Lent, cellsOf}
 use Rattle.sail.specs.Sizes.{Sized}
 use Rattle.sail.specs.Sound.{Sound}
 use Rattle.sail.specs.declared.table.Table.{Table}
 use Rattle.sail_theory.specs.SoundTest.{sound?}
 use Rattle.sail_theory.proofs.places.SoundTest.{sound-tells}
-use Rattle.sail_list.specs.List.{Chained, Scratch}
 use Rattle.sail_sound.specs.Test.{PassedTable, Tried}
-use Rattle.plan.proofs.Tells.{refuted, passed}
-use Rattle.sail_list.proofs.Fronts.{front-routes}
+use Rattle.bits.proofs.Tells.{refuted, passed}
 use Rattle.sail_sound.proofs.Sounds.{tells-sound}
 
 -- what tells whether a table is sound is the test by which the calls are defined
@@ -32,9 +32,12 @@ pub tried-sound : (t : Table) (l : Lent) (b : Bool) → Tried b t l → not b �
 tried-sound t l b k e = passed (k .tells) e
 
 -- the levels and the counts beside the words of the list
-pub table-tried : (t : Table) (l : Lent) (z : Sized (t .geometry) l) (b : Bool) (told : Tells b (Listed (l .list) (t .count))) (e : not b ≡ false) (ws par : List ℕ) (room : Scratch ws par)
-    (words : List ℕ) (kept : length words ≡ length (take (t .count) ws)) (chain : List ℕ) (k : Chained (l .list) (length (take (t .count) ws)) words chain) (r : Bool)
-    → Tells r (PassedTable (routesIn (take (t .count) (words ++ drop (t .count) ws))) (t .geometry) (cellsOf l) (l .long1) (l .long2)) → Tried r t l
-table-tried t l z b told e ws par room words kept chain k r x =
-    let x′ = rw (front-routes (l .list) (t .count) b told e ws par room words kept chain k) at x in
-    tried t l r (tells-sound t l z (passed told e) r x′)
+module _ (t : Table) (l : Lent) (z : Sized (t .geometry) l) (listed : Listed (l .list) (t .count)) (ws par : List ℕ) (room : Scratch ws par) where
+  abbrev n : ℕ
+  n = t .count
+
+  pub table-tried : (words : List ℕ) → length words ≡ length (take n ws) → (chain : List ℕ)
+      → Chained (l .list) (length (take n ws)) words chain → (r : Bool)
+      → Tells r (PassedTable (routesIn (take n (words ++ drop n ws))) (t .geometry) (cellsOf l) (l .long1) (l .long2)) → Tried r t l
+  table-tried words kept chain k r x =
+      tried t l r (tells-sound t l z listed r (rw (front-routes (l .list) n listed ws par room words kept chain k) at x))

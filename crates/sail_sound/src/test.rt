@@ -2,18 +2,18 @@
 ghost use Rattle.bits.specs.Tab.{Tells};
 ghost use Rattle.chain.specs.Words.{routesIn};
 ghost use Rattle.chain.specs.Cover.{Ready};
+ghost use Rattle.chain.specs.List.{Scratch};
 ghost use Rattle.sail.specs.Lent.{lent, cells};
 ghost use Rattle.sail.specs.Sizes.{Sized, Celled};
-ghost use Rattle.sail_list.specs.List.{Scratch};
 ghost use Rattle.sail_sound.specs.Test.{Passed, PassedAll, Beside, PassedTable, Tried};
+use chain::list::chained;
+use lists::test::list_ok;
 use sail::geometry::Geometry;
 use sail::table::Table;
 use sail_cells_test::first_ok;
 use sail_cells_test::free_all;
 use sail_cells_test::hung_all;
 use sail_counts::test::counts_ok;
-use sail_list::chained;
-use sail_list::list_ok;
 
 // The live cells of the three levels beside the routes of the words. The first cells are one chunk, whose owner is 1; a third
 // cell names no chunk.

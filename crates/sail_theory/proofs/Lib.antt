@@ -1,4 +1,5 @@
 -- Theorems on tables and on the calls that change them.
+pub mod Judges
 pub mod places
 pub mod owners
 pub mod frames

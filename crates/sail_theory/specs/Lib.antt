@@ -6,6 +6,7 @@ pub mod Facts
 pub mod Cases
 pub mod Replies
 pub mod Alters
+pub mod Judge
 pub mod SoundTest
 pub mod CallRuns
 pub mod WantOfChunks

@@ -18,9 +18,9 @@ use Rattle.sail_theory.specs.Facts.{Farewell}
 use Rattle.sail_theory.specs.Cases.{Withdraw}
 use Rattle.sail_theory.proofs.calls.OneCase.{withdraw-only}
 use Rattle.sail_sound.specs.Test.{Tried}
-use Rattle.sail_calls.specs.Judge.{Judged}
+use Rattle.sail_theory.specs.Judge.{Judged}
 use Rattle.sail_sound.proofs.Tries.{tried-sound}
-use Rattle.sail_calls.proofs.Judges.{judged-off, judged-on, or-said}
+use Rattle.sail_theory.proofs.Judges.{judged-off, judged-on, or-said}
 
 module _ (t : Table) (l : Lent) (a len : ℕ) where
   abbrev Left : ℕ → Type 0

@@ -42,7 +42,7 @@ use Rattle.sail_chunks.proofs.Openings.{told-one, told-chunk}
 use Rattle.sail_chunks.proofs.Shrinks.{was-long, keep-closes, closing, farewell-underway}
 use Rattle.sail_chunks.proofs.Trails.{serving-of}
 use Rattle.sail_chunks.proofs.Underway.{underway-stale, underway-asked}
-use Rattle.sail_calls.specs.Judge.{Judged}
+use Rattle.sail_theory.specs.Judge.{Judged}
 use Rattle.sail_counts.specs.Counted.{Counts}
 use Rattle.sail_counts.specs.Tick.{Tickable, Moved}
 use Rattle.sail_counts.specs.declared.tick.Left.{Left}

@@ -3,7 +3,7 @@ ghost use mathlib.Core.Path.{_≡_};
 ghost use Rattle.sail.specs.Lent.{lent};
 ghost use Rattle.sail_theory.specs.Calls.{withdrawSaid, out, taking, told};
 ghost use Rattle.sail_theory.specs.Facts.{Farewell};
-ghost use Rattle.sail_calls.specs.Judge.{Judged};
+ghost use Rattle.sail_theory.specs.Judge.{Judged};
 ghost use Rattle.sail_withdraw.specs.Answers.{saysWithdraw};
 ghost use Rattle.sail_withdraw.specs.Contract.{MeetsWithdraw};
 
@@ -14,14 +14,14 @@ use crate::answers::Withdrawn;
 use lists::edit;
 use lists::place::place;
 use routes::input;
+use routes::prefix::clear_after;
 use routes::record;
 use sail::table::Table;
 use sail::table::sizes;
-use sail_calls::clear::clear;
-use sail_calls::renew::renew;
 use sail_chunks::chunks::close;
 use sail_chunks::trail::follow;
 use sail_counts::tick::tick;
+use sail_paint::from_list::repaint_from_list;
 use sail_sound::test::sound;
 
 // The number with which the withdrawal is refused, by the first condition that holds; 0 where it is accepted.
@@ -100,7 +100,7 @@ fn take(
         (v.second - 1) as usize,
         32 - p2,
     );
-    renew(
+    repaint_from_list(
         g,
         list,
         m,
@@ -140,7 +140,7 @@ pub fn withdraw(
 ) -> Withdrawn
     ensures { λ r. ⌜ MeetsWithdraw t (lent (now (list .entry)) (now (first .entry)) (now (second .entry)) (now (third .entry)) (now (own2 .entry)) (now (own3 .entry)) (now (long1 .entry)) (now (long2 .entry))) addr len r (lent (now (list .exit)) (now (first .exit)) (now (second .exit)) (now (third .exit)) (now (own2 .exit)) (now (own3 .exit)) (now (long1 .exit)) (now (long2 .exit))) ⌝ }
 {
-    let a = clear(addr, len);
+    let a = clear_after(addr, len);
     let z = judge_withdraw(
         t,
         list,

@@ -9,7 +9,7 @@ returns : tie.Need-returns
 returns c =
     let judged = c .before in
     let clear = judged .before .before .before .before .before .before .before .before .before in
-    announce-refused _ _ _ _ _ _ _ (clear .clear .ensures) _ (judged .judge-announce .ensures) (c .if1 .taken)
+    announce-refused _ _ _ _ _ _ _ (clear .clear-after .ensures) _ (judged .judge-announce .ensures) (c .if1 .taken)
 
 add-requires : tie.Need-add-requires
 add-requires c κs =
@@ -20,7 +20,7 @@ returns-2 : tie.Need-returns-2
 returns-2 c =
     let added = c .before .before .before .before .before .before .before .before .before .before .before .before .before .before .before .before in
     let clear = added .before .before .before .before .before .before .before .before .before .before .before .before .before .before .before .before .before .before .before in
-    announce-cleared _ _ _ _ _ _ _ (clear .clear .ensures) _ refl _ (added .add .ensures)
+    announce-cleared _ _ _ _ _ _ _ (clear .clear-after .ensures) _ refl _ (added .add .ensures)
 
 pub announce-spec : {M : Type 1} → statement M
 announce-spec =

@@ -4,7 +4,7 @@ use native.Mathlib.Omega.{arith}
 use borrow.Author.Count.{below-none, below-more}
 use borrow.Author.Needs.{needs}
 use lib.ListN.{length, getD}
-use Rattle.plan.proofs.Tells.{is-yes, refuted, passed}
+use Rattle.bits.proofs.Tells.{is-yes, refuted, passed}
 use Rattle.sail_cells_test.specs.Pool.{Free}
 use Rattle.sail_cells_test.proofs.free_all.Statement.{statement}
 use Rattle.sail_cells_test.proofs.free_all.Tie as tie

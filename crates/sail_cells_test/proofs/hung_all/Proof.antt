@@ -1,5 +1,5 @@
 -- `sail_cells_test::hung_all` meets its contract. Assumes nothing.
-use Rattle.plan.proofs.Tells.{is-yes, refuted, passed}
+use Rattle.bits.proofs.Tells.{is-yes, refuted, passed}
 use Rattle.sail_cells_test.proofs.Chunks.{still-pooled}
 use mathlib.Core.Path.{_≡_}
 use Prim.Native.Nat.{ℕ, _-_, _≤_, _<_}

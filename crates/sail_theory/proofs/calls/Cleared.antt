@@ -2,8 +2,8 @@
 -- on the bits that were cleared.
 use mathlib.Core.Path.{_≡_, refl, sym, _∙_, ap, ap₂}
 use mathlib.Core.Logic.{_⊎_, inl, inr, _↔_, _≢_}
-use mathlib.Core.Bool.{Bool, true, false, true≢false, false≢true}
-use mathlib.Core.List.{List}
+use mathlib.Core.Bool.{Bool, true, false, not, true≢false, false≢true}
+use mathlib.Core.List.{List, _∷_}
 use Prim.Native.Nat.{ℕ, zero, suc, _-_, _*_, _/_, _%_, _^_, _≤_, _<_}
 use native.Mathlib.Nat.{le-refl, le-step, zero-mul}
 use native.Mathlib.Omega.{arith}
@@ -49,13 +49,6 @@ no-prefix l a u h = go (below? 32 l)
     go : (32 < l) ⊎ (l ≤ 32) → 32 < l
     go (inl x) = x
     go (inr x) = absurd (h (cut-prefix l a x u))
-
--- no bit comes after the 32nd
-pub cut-over : (l a : ℕ) → 32 ≤ l → cut l a ≡ a
-unfolding cut
-cut-over l a h =
-    let e : 32 - l ≡ 0 = omega arith in
-    ap (λ (x : ℕ). a / 2 ^ x * 2 ^ x) e ∙ omega arith
 
 -- where no bit is set after the length, none is cleared
 pub none-cleared : (l a : ℕ) → cut l a ≡ a → cleared l a ≡ false

@@ -2,7 +2,7 @@
 -- the arrays, which are compared with what is rendered.
 use mathlib.Core.Path.{_≡_, _∙_, ap}
 use mathlib.Core.Logic.{_⊎_, inl, inr}
-use mathlib.Core.Bool.{Bool, true, false, not, _&&_, _||_, cond}
+use mathlib.Core.Bool.{Bool, true, false, not, _&&_, _||_}
 use mathlib.Core.List.{List}
 use Prim.Native.Nat.{ℕ, suc, _-_, _*_, _%_, _≤_, _<_}
 use native.Mathlib.Omega.{arith}
@@ -12,11 +12,9 @@ use borrow.Author.Tests.{ltb-true, leb-true, eqb-true, eqb-false, lt-ltb, le-leb
 use Rattle.bits.specs.Tab.{Tells, every, same}
 use Rattle.bits.proofs.Tests.{decided, both, and-split, or-split}
 use Rattle.bits.proofs.Tabs.{every-true, true-every, same-true, true-same}
-use Rattle.routes.specs.Route.{key}
-use Rattle.routes.specs.Record.{recordAt, Listed}
-use Rattle.routes.specs.Input.{routeFault, inOrder, faultAt}
-use Rattle.routes.specs.Cases.{RightRecord}
-use Rattle.routes.proofs.Meaning.{RecordChecked, right, wrong, record-checked, fine-fault, right-records, records-right}
+use Rattle.routes.specs.Record.{Listed}
+use Rattle.routes.specs.Input.{faultAt}
+use Rattle.routes.proofs.Meaning.{right-fault, fault-right, right-records, records-right}
 use Rattle.routes.specs.declared.Route.{Route}
 use Rattle.sail.specs.Lent.{Lent}
 use Rattle.sail.specs.Level.{Level, Chunks, chunkFor, deep}
@@ -28,26 +26,6 @@ use Rattle.sail.proofs.Fitting.{Fault, none, limits, size, none-is, fault-is}
 use Rattle.sail_theory.specs.Render.{asAsked, Fits, Rendered}
 use Rattle.sail_theory.specs.SoundTest.{listed?, owns?, fits?, sound?}
 use Rattle.sail_theory.proofs.places.Rendered.{sound-rendered, rendered-sound}
-
--- a record without fault is right, and one that is right has none
-fault-right : (s : List ℕ) (k : ℕ) → faultAt s k ≡ 0 → RightRecord s k
-fault-right s k e = go (record-checked s k)
-  where
-    go : RecordChecked s k (faultAt s k) → RightRecord s k
-    go (right z r) = r
-    go (wrong p w) = absurd (omega arith)
-
-ordered : (s : List ℕ) (k : ℕ) → RightRecord s k → inOrder s k ≡ true
-unfolding inOrder
-ordered s k r = go (decided (eqb k 0))
-  where
-    go : (eqb k 0 ≡ true) ⊎ (eqb k 0 ≡ false) → cond (eqb k 0) true (ltb (key (recordAt s (k - 1))) (key (recordAt s k))) ≡ true
-    go (inl z) = rw z
-    go (inr z) = let n = eqb-false k 0 z in rw z (lt-ltb _ _ (r .after (omega arith)))
-
-right-fault : (s : List ℕ) (k : ℕ) → RightRecord s k → faultAt s k ≡ 0
-unfolding faultAt
-right-fault s k r = rw (eq-eqb (routeFault (recordAt s k)) 0 (fine-fault (recordAt s k) (r .fine)), ordered s k r)
 
 -- the test, as it is defined
 abbrev tested : List ℕ → ℕ → Bool

@@ -8,7 +8,7 @@ use lib.Seq.{ext-getD}
 use borrow.Author.Needs.{needs}
 use borrow.Author.Count.{below-none}
 use Rattle.bits.specs.Tab.{Tells}
-use Rattle.plan.proofs.Tells.{is-no, is-yes, tells-same, tells-none, tells-more}
+use Rattle.bits.proofs.Tells.{is-no, is-yes, tells-same, tells-none, tells-more}
 use Rattle.plan.proofs.part.matches_all.Statement.{statement}
 use Rattle.plan.proofs.part.matches_all.Tie as tie
 

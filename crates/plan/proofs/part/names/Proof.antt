@@ -1,6 +1,6 @@
 -- `plan::part::names` meets its contract. Assumes nothing.
 use native.Mathlib.Omega.{arith}
-use Rattle.plan.proofs.Tells.{is-no}
+use Rattle.bits.proofs.Tells.{is-no}
 use Rattle.plan.proofs.Settles.{names-tested}
 use borrow.Author.Needs.{needs}
 use Rattle.plan.proofs.part.names.Statement.{statement}

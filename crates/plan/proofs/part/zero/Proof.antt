@@ -6,7 +6,7 @@ use lib.ListN.{length, getD}
 use borrow.Author.Needs.{needs}
 use borrow.Author.Count.{below-none}
 use Rattle.bits.specs.Tab.{Tells}
-use Rattle.plan.proofs.Tells.{is-yes, tells-same, tells-none, tells-more}
+use Rattle.bits.proofs.Tells.{is-yes, tells-same, tells-none, tells-more}
 use Rattle.plan.proofs.part.zero.Statement.{statement}
 use Rattle.plan.proofs.part.zero.Tie as tie
 

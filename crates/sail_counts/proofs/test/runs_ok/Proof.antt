@@ -4,7 +4,7 @@ use native.Mathlib.Omega.{arith}
 use borrow.Author.Count.{below-none, below-more}
 use borrow.Author.Needs.{needs}
 use lib.ListN.{length}
-use Rattle.plan.proofs.Tells.{is-yes, refuted, passed}
+use Rattle.bits.proofs.Tells.{is-yes, refuted, passed}
 use Rattle.sail_counts.specs.Test.{RunTold}
 use Rattle.sail_counts.proofs.Runs.{all-told, told-run}
 use Rattle.sail_counts.proofs.test.runs_ok.Statement.{statement}

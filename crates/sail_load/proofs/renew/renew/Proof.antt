@@ -33,10 +33,10 @@ own2-empty c = c .before .before .before .before
 abbrev own3-empty : tie.After-settle-owners → tie.After-zero322
 own3-empty c = c .before .before .before .before .before
 
-abbrev owned : tie.After-renew → tie.After-settle-owners
+abbrev owned : tie.After-repaint-from-list → tie.After-settle-owners
 owned c = c .before .before .before .before .before .before .before .before .before .before
 
-abbrev painted : tie.After-count-all → tie.After-renew
+abbrev painted : tie.After-count-all → tie.After-repaint-from-list
 painted c = c .before .before .before .before .before .before .before .before .before .before .before
 
 abbrev counted : tie.After-slice-known22 → tie.After-count-all
@@ -52,8 +52,8 @@ settle-owners-requires c κs =
     let s = start (listed (second-empty (third-empty (long1-empty (long2-empty o2))))) in
     ownable _ _ _ (s .pre) _ _ (o2 .zero32 .ensures) (o3 .zero322 .ensures)
 
-renew-requires : tie.Need-renew-requires
-renew-requires c κs =
+repaint-requires : tie.Need-repaint-from-list-requires
+repaint-requires c κs =
     let o = c .before .before .before .before .before .before .before .before .before in
     let o3 = own3-empty o in
     let o2 = own2-empty o3 in
@@ -79,25 +79,25 @@ count-all-requires c κs =
     let input = list .before .before .before .before .before .before .before .before .before .before .before in
     uncounted _ _ _ (s .pre) _ _ (o2 .zero32 .ensures) (o3 .zero322 .ensures) _ _ _ _ (second .fill16 .ensures) (third .fill162 .ensures)
     (o .settle-owners .ensures)
-    (λ j. omega (arith, input .shared-slice-known .given j)) _ _ _ _ (list .put-list .ensures) (p .renew .ensures)
+    (λ j. omega (arith, input .shared-slice-known .given j)) _ _ _ _ (list .put-list .ensures) (p .repaint-from-list .ensures)
     _ _ (l1 .fill163 .ensures) (l2 .fill164 .ensures)
 
 same-list : tie.Need-same-length
 same-list c = listed (second-empty (third-empty (long1-empty (long2-empty (own2-empty (own3-empty (owned (painted (counted c))))))))) .put-list .kept .0
 
 same-first : tie.Need-same-length-2
-same-first c = painted (counted c) .renew .kept .1 .1 .1 .1 .1 .0
+same-first c = painted (counted c) .repaint-from-list .kept .1 .1 .1 .1 .1 .0
 
 same-second : tie.Need-same-length-3
 same-second c =
     let p = painted (counted c) in
-    p .renew .kept .1 .1 .1 .1 .1 .1 .0
+    p .repaint-from-list .kept .1 .1 .1 .1 .1 .1 .0
     ∙ second-empty (third-empty (long1-empty (long2-empty (own2-empty (own3-empty (owned p)))))) .fill16 .kept .0
 
 same-third : tie.Need-same-length-4
 same-third c =
     let p = painted (counted c) in
-    p .renew .kept .1 .1 .1 .1 .1 .1 .1 .0 ∙ third-empty (long1-empty (long2-empty (own2-empty (own3-empty (owned p))))) .fill162 .kept .0
+    p .repaint-from-list .kept .1 .1 .1 .1 .1 .1 .1 .0 ∙ third-empty (long1-empty (long2-empty (own2-empty (own3-empty (owned p))))) .fill162 .kept .0
 
 same-own2 : tie.Need-same-length-5
 same-own2 c =
@@ -135,7 +135,7 @@ returns c =
     let input = list .before .before .before .before .before .before .before .before .before .before .before in
     renews _ _ _ (s .pre) _ _ (o2 .zero32 .ensures) (o3 .zero322 .ensures) _ _ _ _ (second .fill16 .ensures) (third .fill162 .ensures)
     (o .settle-owners .ensures)
-    (λ j. omega (arith, input .shared-slice-known .given j)) _ _ _ _ (list .put-list .ensures) (p .renew .ensures)
+    (λ j. omega (arith, input .shared-slice-known .given j)) _ _ _ _ (list .put-list .ensures) (p .repaint-from-list .ensures)
     _ _ (l1 .fill163 .ensures) (l2 .fill164 .ensures)
     _ _ (n .count-all .ensures) (n .count-all .kept .1 .1 .1 .1 .1 .0) (n .count-all .kept .1 .1 .1 .1 .1 .1 .0)
 
@@ -151,7 +151,7 @@ renew-spec =
     (λ c κs. tt)
     (λ c κs. tt)
     settle-owners-requires
-    renew-requires
+    repaint-requires
     count-all-requires
     same-list
     same-first
