@@ -3,11 +3,11 @@ use mathlib.Core.Path.{_≡_, refl, sym, ap, ap₂, _∙_, subst}
 use mathlib.Core.Logic.{_⊎_, inl, inr, _≢_}
 use mathlib.Core.Bool.{Bool, true, false, true≢false}
 use mathlib.Core.List.{List}
-use Prim.Native.Nat.{ℕ, zero, suc, _+_, _-_, _*_, _%_, _^_, _≤_, _<_}
+use Prim.Native.Nat.{ℕ, suc, _+_, _-_, _*_, _%_, _^_, _≤_, _<_}
 use native.Mathlib.Nat.{eq-or-lt-of-le, mod-eq-of-lt}
 use native.Mathlib.Omega.{arith}
 use lib.Pow.{pow-mono}
-use lib.ListN.{length, getD, set, length-set, List·getD-eq-default}
+use lib.ListN.{length, getD, set, replicate, length-set, length-replicate, getD-replicate, List·getD-eq-default}
 use lib.Seq.{getD-set-same, getD-set-other}
 use borrow.Author.Tests.{le-leb, lt-leb, lt-ltb, le-ltb}
 use Rattle.bits.specs.Slot.{slot}
@@ -26,7 +26,7 @@ use Rattle.standing.proofs.Longest.{First, first-is, here-parts, here-make}
 use Rattle.standing.proofs.Prefixes.{one-key}
 use Rattle.basic.specs.Maps.{mapPlace, levelOf, prefixOf, mapCell, mapCells, hopThere, mapBits}
 use Rattle.basic.proofs.Places.{place-bound, level-place, prefix-place, level-le, place-prefix}
-use Rattle.basic_build.specs.Built.{Blank, withRoute}
+use Rattle.basic_build.specs.Built.{withRoute}
 
 -- one route
 module _ (cs : List ℕ) (r : Route) (l : ℕ) (e : l ≡ r .len) where
@@ -48,11 +48,11 @@ pub record PutTo (s : List ℕ) (k : ℕ) (cs : List ℕ) : Type 0 where
   pub put : (j : ℕ) → j < k → recordAt s j .len ≤ 16 → getD cs (placeAt s j) 0 ≡ recordAt s j .hop
   pub rest : (i : ℕ) → i < 131071 → ((j : ℕ) → j < k → recordAt s j .len ≤ 16 → placeAt s j ≢ i) → getD cs i 0 ≡ 0
 
-pub put-none : (s : List ℕ) (m : ℕ) (cs : List ℕ) → Blank m cs → m ≡ 131071 → PutTo s 0 cs
+pub put-none : (s : List ℕ) (m : ℕ) (cs : List ℕ) → cs ≡ replicate m 0 → m ≡ 131071 → PutTo s 0 cs
 put-none s m cs b e = record {
-  size = b .size ∙ e;
+  size = ap length b ∙ length-replicate m 0 ∙ e;
   put = λ j l h. absurd (omega arith);
-  rest = λ i l h. b .zero i (rw e l);
+  rest = λ i l h. ap (λ (x : List ℕ). getD x i 0) b ∙ getD-replicate {A = ℕ} m i 0 0 (rw e l);
 }
 
 module _ (s : List ℕ) (n : ℕ) (ok : Records s n) where

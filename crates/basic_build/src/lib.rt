@@ -3,6 +3,7 @@ use basic::check::BasicAnswer;
 use basic::check::Ready;
 use basic::check::check;
 use basic::maps::place;
+use buffers::fill::fill16;
 use routes::Route;
 use routes::record;
 ghost use mathlib.Core.Path.{_≡_};
@@ -12,20 +13,8 @@ ghost use Rattle.bits.specs.Bit.{packed};
 ghost use Rattle.bits.specs.Count.{bit};
 ghost use Rattle.routes.specs.Record.{Records, routesOf, GoodInput, routesIn};
 ghost use Rattle.basic.specs.Maps.{MapSizes, hopThere, mapCells, mapBits};
-ghost use Rattle.basic_build.specs.Built.{Blank, withRoute, Filled};
+ghost use Rattle.basic_build.specs.Built.{withRoute, Filled};
 ghost use Rattle.basic_build.specs.Contract.{MeetsBasicBuild};
-
-// Every cell is set to 0.
-fn clear(cells: &mut [u16])
-    ensures { λ _. ⌜ Blank (length (now (cells .entry))) (now (cells .exit)) ⌝ }
-{
-    let n = cells.len();
-    let mut k = 0;
-    while k < n {
-        cells[k] = 0;
-        k += 1;
-    }
-}
 
 // The hop of a route of at most 16 bits goes into its cell.
 fn put(cells: &mut [u16], r: Route)
@@ -44,7 +33,7 @@ fn put_cells(list: &[u8], n: usize, cells: &mut [u16])
     requires { ⌜ Records (now list) n × (length (now cells) ≡ 131071) ⌝ }
     ensures { λ _. ⌜ now (cells .exit) ≡ mapCells (routesOf (now (list .entry)) n) ⌝ }
 {
-    clear(cells);
+    fill16(cells, 0);
     let mut k = 0;
     while k < n {
         put(cells, record::read_record(list, k));

@@ -8,3 +8,4 @@ pub mod Tabs
 pub mod Tells
 pub mod Counts
 pub mod Packed
+pub mod Tells

@@ -4,7 +4,8 @@ ghost use Prim.Native.Nat.{_*_, _≤_};
 ghost use lib.ListN.{length};
 ghost use Rattle.bits.specs.Tab.{Tells};
 ghost use Rattle.routes.specs.Record.{Listed};
-ghost use Rattle.lists.specs.Test.{AllRight, Zeros};
+ghost use Rattle.lists.specs.Test.{AllRight};
+use buffers::zeros::zeros8;
 
 // Whether each of the first n records is right.
 fn all_right(list: &[u8], n: usize) -> bool
@@ -19,23 +20,6 @@ fn all_right(list: &[u8], n: usize) -> bool
         k += 1;
     }
     true
-}
-
-// Whether every byte from a place on is zero. No early end, so that it can be done many bytes at a time.
-fn zeros_from(list: &[u8], at: usize) -> bool
-    requires { ⌜ at ≤ length (now list) ⌝ }
-    ensures { λ r. ⌜ Tells r (Zeros (now (list .entry)) at (length (now (list .entry)))) ⌝ }
-{
-    let mut all = true;
-    let mut j = at;
-    while j < list.len() {
-        let b = list[j];
-        j += 1;
-        if b != 0 {
-            all = false;
-        }
-    }
-    all
 }
 
 // Whether the list holds n routes and nothing else.
@@ -54,5 +38,5 @@ pub fn list_ok(list: &[u8], n: usize) -> bool
     if !all_right(list, n) {
         return false;
     }
-    zeros_from(list, n * 8)
+    zeros8(list, n * 8, list.len())
 }

@@ -21,8 +21,9 @@ use Rattle.routes.specs.declared.Route.{Route}
 use Rattle.chain.specs.Words.{routeOf, routesIn, Words}
 use Rattle.chain.proofs.Decodes.{words-part, words-good}
 use Rattle.plan.specs.Plan.{planFrom, plannedFrom}
-use Rattle.plan.specs.Paint.{between, filled, paintCell, painted, Paints}
-use Rattle.plan.proofs.Fills.{Place, below, inside, above, place, between-in, between-below, between-above}
+use Rattle.plan.specs.Paint.{paintCell, painted, Paints}
+use Rattle.buffers.specs.Fill.{between, filled}
+use Rattle.buffers.proofs.Ranges.{Place, below, inside, above, place, between-in, between-below, between-above}
 use Rattle.plan.proofs.Plans.{plan-snoc}
 
 -- c / 2 ^ k is q where c is one of the 2 ^ k numbers from q * 2 ^ k on

@@ -39,10 +39,6 @@ pub record Right (rs : List Route) (p base : ℕ) (part own : List ℕ) (o n : �
   pub leaf : (j : ℕ) → j < n → long rs p (base + j) ≡ false → getD part j 0 ≡ 32768 + best rs p (base + j)
   pub node : (j : ℕ) → j < n → long rs p (base + j) ≡ true → Names (getD part j 0) own (o + j)
 
--- every cell is 0
-pub record Zero (part : List ℕ) : Type 0 where
-  pub each : (j : ℕ) → j < length part → getD part j 0 ≡ 0
-
 -- a part and the room for its plan, at a level, with owner numbers of 32 bits from o on
 pub record Beside (p o : ℕ) (part want : List ℕ) : Type 0 where
   pub deep : p ≤ 32

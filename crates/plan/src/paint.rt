@@ -7,19 +7,8 @@ ghost use lib.Dec.{ltb};
 ghost use lib.ListN.{length};
 ghost use Rattle.chain.specs.Words.{routeOf, routesIn};
 ghost use Rattle.plan.specs.Plan.{plannedFrom};
-ghost use Rattle.plan.specs.Paint.{filled, painted, Range, Paints, Plans};
-
-// Sets every element from `from` up to `to` to v.
-pub fn fill(out: &mut [u16], from: usize, to: usize, v: u16)
-    requires { ⌜ Range from to (length (now out)) ⌝ }
-    ensures { λ _. ⌜ now (out .exit) ≡ filled (now (out .entry)) from to v ⌝ }
-{
-    let mut i = from;
-    while i < to {
-        out[i] = v;
-        i += 1;
-    }
-}
+ghost use Rattle.plan.specs.Paint.{painted, Paints, Plans};
+use buffers::fill::fill_range16;
 
 // How far x lies past base, at most n.
 fn clip(x: usize, base: usize, n: usize) -> usize
@@ -67,7 +56,7 @@ pub fn paint_one(w: u64, p: u32, base: usize, out: &mut [u16])
     let cell = ((w / 4294967296) >> (32 - p)) as usize;
     let end = cell + span(p, len);
     let v = ink(p, len, (w % 65536) as u16);
-    fill(out, clip(cell, base, n), clip(end, base, n), v);
+    fill_range16(out, clip(cell, base, n), clip(end, base, n), v);
 }
 
 // The cells of level p from base on, as many as `out` has: the hop h everywhere, and the routes over it in list order.
@@ -77,7 +66,7 @@ pub fn plan_words(ws: &[u64], h: u16, p: u32, base: usize, out: &mut [u16])
 {
     let n = out.len();
     let m = ws.len();
-    fill(out, 0, n, 32768 + h);
+    fill_range16(out, 0, n, 32768 + h);
     let mut k = 0;
     while k < m {
         k += 1;

@@ -1,6 +1,6 @@
 // A part of lent cells beside its plan. The plan has 0 for each cell that names a chunk. Such cells are settled route by
 // route: their plan becomes what they hold, and each must name a chunk that names it back. One plain comparison of the
-// whole part then does the rest. Loops over cells have no early end, so that they can be done many cells at a time.
+// whole part then does the rest.
 ghost use mathlib.Core.Path.{_≡_};
 ghost use Prim.Native.Nat.{_+_, _<_};
 ghost use lib.ListN.{length};
@@ -8,8 +8,9 @@ ghost use Rattle.bits.specs.Tab.{Tells};
 ghost use Rattle.standing.specs.Cells.{within, long};
 ghost use Rattle.chain.specs.Words.{routeOf, routesIn};
 ghost use Rattle.plan.specs.Plan.{plannedFrom};
-ghost use Rattle.plan.specs.Part.{Names, Settled, Matches, Zero, Beside, Judges};
+ghost use Rattle.plan.specs.Part.{Names, Settled, Matches, Beside, Judges};
 use super::paint::plan_words;
+use buffers::same::same16;
 
 fn wide(x: u16) -> usize
     ensures { λ r. ⌜ (r ≡ x) × (r < 65536) ⌝ }
@@ -35,42 +36,6 @@ pub fn names(v: u16, own: &[u32], o: usize) -> bool
         return false;
     }
     wide_owner(own[c - 1]) == o
-}
-
-// Whether two lists of cells are the same.
-pub fn matches_all(cells: &[u16], want: &[u16]) -> bool
-    ensures { λ r. ⌜ Tells r (now (cells .entry) ≡ now (want .entry)) ⌝ }
-{
-    if cells.len() != want.len() {
-        return false;
-    }
-    let mut same = true;
-    let mut j = 0;
-    while j < cells.len() {
-        let a = cells[j];
-        let b = want[j];
-        j += 1;
-        if a != b {
-            same = false;
-        }
-    }
-    same
-}
-
-// Whether every cell is 0.
-pub fn zero(part: &[u16]) -> bool
-    ensures { λ r. ⌜ Tells r (Zero (now (part .entry))) ⌝ }
-{
-    let mut all = true;
-    let mut j = 0;
-    while j < part.len() {
-        let v = part[j];
-        j += 1;
-        if v != 0 {
-            all = false;
-        }
-    }
-    all
 }
 
 // The cell that the route of a word lies within, where it is one of the part: its plan becomes what it holds. Says
@@ -149,5 +114,5 @@ pub fn as_planned(
     if !settle(run, p, base, part, o, want, own) {
         return false;
     }
-    matches_all(part, want)
+    same16(part, want)
 }

@@ -12,7 +12,7 @@ use borrow.Rule.Slice.PartMut.{mid-len}
 use Rattle.bits.specs.Tab.{Tells}
 use Rattle.bits.proofs.Slots.{shl-one}
 use Rattle.routes.specs.declared.Route.{Route}
-use Rattle.plan.specs.Part.{Right, Zero}
+use Rattle.plan.specs.Part.{Right}
 use Rattle.plan.specs.Under.{Tested}
 use Rattle.bits.proofs.Tells.{is-yes, refuted, passed}
 use Rattle.sail.specs.Geometry.{Power}
@@ -55,10 +55,6 @@ module _ (ws par : List ℕ) (p d i : ℕ) (cells : List ℕ) (a o : ℕ) (want 
         let e : a + n - a ≡ 2 ^ d = omega arith in
         let m : length (take n want) ≡ 2 ^ d = omega (arith, plan-room) in
         rw (e, f .0, m) at t
-
--- a part of n cells
-pub free-tells : (cells : List ℕ) (a n : ℕ) (b : Bool) → Tells b (Zero (take (a + n - a) (drop a cells))) → Tells b (Zero (partAt cells a n))
-free-tells cells a n b t = let e : a + n - a ≡ n = omega arith in rw e at t
 
 -- the first cells, block by block
 module _ (ws par : List ℕ) (p : ℕ) (first : List ℕ) (o : ℕ) (want : List ℕ) (h : FirstCells ws par p first o want) where

@@ -11,7 +11,9 @@ use lib.Pow.{pow-pos, pow-mono, pow-add}
 use borrow.Author.Tests.{lt-ltb, le-ltb, ltb-true}
 use Rattle.bits.specs.Tab.{Tells}
 use Rattle.routes.specs.declared.Route.{Route}
-use Rattle.plan.specs.Part.{Right, Zero}
+use Rattle.buffers.specs.Fill.{Range}
+use Rattle.buffers.specs.Zeros.{Zeros}
+use Rattle.plan.specs.Part.{Right}
 use Rattle.bits.proofs.Tells.{is-no, is-yes, tells-same}
 use Rattle.sail.specs.Geometry.{Power}
 use Rattle.sail.specs.Level.{itself, liveIn, partOf, entry}
@@ -122,10 +124,10 @@ module _ (d : ℕ) (own cells : List ℕ) (c : ℕ) where
   used-free n = is-yes (record { zero = λ e. absurd (n e) })
 
   module _ (a : ℕ) (s : (a ≡ c * 2 ^ d) × (a < 4194304)) (n : ℕ) (w : Power n d 1024) where
-    pub free-room : Chunked d own cells → c < length own → a + n ≤ length cells
-    free-room h l = omega (arith, chunk-room c (length own) (2 ^ d) l)
+    pub free-room : Chunked d own cells → c < length own → Range a (a + n) (length cells)
+    free-room h l = record { rises = omega arith; fits = omega (arith, chunk-room c (length own) (2 ^ d) l) }
 
-    pub free-zero : getD own c 0 ≡ 0 → (b : Bool) → Tells b (Zero (partAt cells a n)) → Tells b (Free d cells c (getD own c 0))
+    pub free-zero : getD own c 0 ≡ 0 → (b : Bool) → Tells b (Zeros cells a (a + n)) → Tells b (Free d cells c (getD own c 0))
     free-zero e b t = let t′ = rw (s .0, w .is) at t in tells-same (λ z. record { zero = λ _. z }) (λ f. f .zero e) t′
 
 -- a pool, chunk by chunk

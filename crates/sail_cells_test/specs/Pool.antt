@@ -5,9 +5,10 @@ use mathlib.Core.Bool.{Bool, true, false}
 use mathlib.Core.List.{List}
 use Prim.Native.Nat.{ℕ, suc, _+_, _-_, _*_, _^_, _≤_, _<_}
 use lib.ListN.{length, getD, take, drop}
+use Rattle.buffers.specs.Zeros.{Zeros}
 use Rattle.routes.specs.declared.Route.{Route}
 use Rattle.chain.specs.Cover.{Ready}
-use Rattle.plan.specs.Part.{Right, Zero}
+use Rattle.plan.specs.Part.{Right}
 use Rattle.sail.specs.Level.{itself, liveIn, partOf, entry}
 
 -- n cells from place a on
@@ -35,7 +36,7 @@ pub record PoolOk (rs : List Route) (p d : ℕ) (above : List ℕ) (live : ℕ �
 
 -- chunk c, whose owner is o, is in use or zero
 pub record Free (d : ℕ) (cells : List ℕ) (c o : ℕ) : Type 0 where
-  pub zero : o ≡ 0 → Zero (chunkOf d cells c)
+  pub zero : o ≡ 0 → Zeros cells (c * 2 ^ d) (c * 2 ^ d + 2 ^ d)
 
 pub record FreeAll (d : ℕ) (own cells : List ℕ) : Type 0 where
   pub each : (c : ℕ) → c < length own → Free d cells c (getD own c 0)

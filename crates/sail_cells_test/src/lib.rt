@@ -5,11 +5,11 @@ ghost use Prim.Native.Nat.{_+_, _-_, _*_, _%_, _^_, _≤_, _<_};
 ghost use lib.ListN.{length, getD};
 ghost use Rattle.bits.specs.Tab.{Tells};
 ghost use Rattle.chain.specs.Words.{routesIn};
-ghost use Rattle.plan.specs.Part.{Right, Zero};
+ghost use Rattle.plan.specs.Part.{Right};
 ghost use Rattle.sail.specs.Geometry.{Power};
 ghost use Rattle.sail_cells_test.specs.Pool.{partAt, Hung, HookedChunk, HookedPool, Free, FreeAll, Chunked, Blocked, FirstCells, Stands, Hooks, Hook, Hanging, Pooled};
+use buffers::zeros::zeros16;
 use chain::place::shifted;
-use plan::part::zero;
 use plan::under::right_under;
 
 // How many cells a block has whose places take d bits.
@@ -88,15 +88,6 @@ fn start(c: usize, d: u32) -> usize
     ensures { λ r. ⌜ (r ≡ c * 2 ^ d) × (r < 4194304) ⌝ }
 {
     c << d
-}
-
-// Whether the n cells from place a on are zero.
-pub fn free_ok(cells: &[u16], a: usize, n: usize) -> bool
-    requires { ⌜ a + n ≤ length (now cells) ⌝ }
-    ensures { λ r. ⌜ Tells r (Zero (partAt (now (cells .entry)) a n)) ⌝ }
-{
-    let e = a + n;
-    zero(&cells[a..e])
 }
 
 // Whether the cell at place q of the pool above names chunk c, and the chunk is as the routes ask for the cells of level p
@@ -219,7 +210,9 @@ fn free_chunk(d: u32, cells: &[u16], own: &[u32], c: usize) -> bool
     if own[c] != 0 {
         return true;
     }
-    free_ok(cells, start(c, d), size(d))
+    let a = start(c, d);
+    let e = a + size(d);
+    zeros16(cells, a, e)
 }
 
 // Whether each free chunk of a pool is zero. The cells of chunks in use are not read.

@@ -14,7 +14,7 @@ use Rattle.bits.specs.Slot.{slot}
 use Rattle.bits.proofs.Tests.{equal?, below?, decided, and-split}
 use Rattle.standing.specs.Cells.{long}
 use Rattle.routes.specs.declared.Route.{Route}
-use Rattle.plan.specs.Paint.{filled, Range}
+use Rattle.buffers.specs.Fill.{filled, Range}
 use Rattle.sail.specs.Level.{chunksOf}
 use Rattle.sail_theory.specs.Render.{find}
 use Rattle.sail_theory.proofs.owners.Chunks.{chunk-is, chunk-none}

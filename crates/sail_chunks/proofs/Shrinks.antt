@@ -14,7 +14,7 @@ use Rattle.standing.specs.Cells.{long}
 use Rattle.standing.specs.Standing.{remove}
 use Rattle.routes.specs.declared.Route.{Route}
 use Rattle.standing.proofs.Changed.{remove-long}
-use Rattle.plan.specs.Paint.{filled}
+use Rattle.buffers.specs.Fill.{filled}
 use Rattle.sail.specs.Geometry.{bits2, bits3}
 use Rattle.sail.specs.Lent.{Lent, cells}
 use Rattle.sail.specs.Level.{Level, deep, entry, chunksOf, below, level1, level2}

@@ -14,8 +14,8 @@ use lib.Seq.{getD-set-same, getD-set-other}
 use borrow.Author.Tests.{ltb-true}
 use Rattle.bits.proofs.Tests.{equal?}
 use Rattle.bits.proofs.Tabs.{getD-tabulate}
-use Rattle.plan.specs.Paint.{between, filled}
-use Rattle.plan.proofs.Fills.{between-in, between-below, between-above, Place, below, inside, above, place}
+use Rattle.buffers.specs.Fill.{between, filled}
+use Rattle.buffers.proofs.Ranges.{between-in, between-below, between-above, Place, below, inside, above, place}
 use Rattle.sail.specs.Level.{liveIn, entry}
 use Rattle.sail_chunks.specs.Chunks.{closed, blanked}
 

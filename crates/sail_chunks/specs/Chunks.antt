@@ -8,7 +8,7 @@ use lib.ListN.{length, set}
 use Rattle.bits.specs.Slot.{slot}
 use Rattle.standing.specs.Cells.{long}
 use Rattle.routes.specs.declared.Route.{Route}
-use Rattle.plan.specs.Paint.{filled}
+use Rattle.buffers.specs.Fill.{filled}
 use Rattle.sail_theory.specs.Render.{find}
 
 -- the lowest free chunk with the owner o

@@ -4,8 +4,8 @@ ghost use Prim.Native.Nat.{_≤_};
 ghost use lib.ListN.{length};
 ghost use Rattle.sail_theory.specs.Render.{find};
 ghost use Rattle.sail_chunks.specs.Chunks.{hung, closed, blanked, Free, Closing};
+use buffers::fill::fill_range16;
 use chain::place::shifted;
-use plan::paint::fill;
 
 // The first chunk whose owner is o, counted from 0; as many as there are where none has it. So 0 gives the lowest free one.
 pub fn chunk_named(own: &[u32], o: u32) -> usize
@@ -42,6 +42,6 @@ pub fn close(own: &mut [u32], cells: &mut [u16], closes: bool, c: usize, d: u32)
         own[c] = 0;
         let a = shifted(c as u64, 12, d) as usize;
         let n = shifted(1, 1, d) as usize;
-        fill(cells, a, a + n, 0);
+        fill_range16(cells, a, a + n, 0);
     }
 }

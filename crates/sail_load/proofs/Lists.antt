@@ -11,7 +11,7 @@ use Rattle.bits.proofs.Tabs.{length-tabulate, getD-tabulate}
 use Rattle.routes.specs.Record.{written}
 use Rattle.routes.proofs.Rows.{length-routes, length-written, byte-written, zero-written, listed-written}
 use Rattle.sail_theory.specs.Calls.{inputRoutes}
-use Rattle.sail_make.specs.Fill.{padded}
+use Rattle.buffers.specs.Fill.{padded}
 use Rattle.sail_load.specs.Renew.{Readable}
 
 module _ (s : List ℕ) (bytes : (j : ℕ) → getD s j 0 < 256) (good : Readable s) where

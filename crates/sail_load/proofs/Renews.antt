@@ -33,7 +33,7 @@ use Rattle.sail_theory.proofs.places.Pools.{length-pool, pool-shows}
 use Rattle.standing.proofs.ListParts.{any-some}
 use Rattle.sail.proofs.Fresh.{zeros}
 use Rattle.sail_theory.proofs.calls.Load.{Fronts, fronts-none, settles}
-use Rattle.sail_make.specs.Fill.{padded}
+use Rattle.buffers.specs.Fill.{padded}
 use Rattle.sail_counts.specs.Counted.{Counts}
 use Rattle.sail_counts.specs.Tick.{Uncounted}
 use Rattle.sail_counts.proofs.Tallies.{counts-are}

@@ -2,11 +2,11 @@
 ghost use mathlib.Core.Path.{_≡_};
 ghost use Rattle.sail.specs.Lent.{lent};
 ghost use Rattle.sail_load.specs.Renew.{Renewable, anew};
+use buffers::fill::fill16;
+use buffers::fill::put8;
+use buffers::fill::zero32;
 use sail::table::Table;
 use sail_counts::tick::count_all;
-use sail_make::fill::fill16;
-use sail_make::fill::put_list;
-use sail_make::fill::zero32;
 use sail_owners::owners::settle_owners;
 use sail_paint::from_list::repaint_from_list;
 
@@ -28,7 +28,7 @@ pub fn renew(
 {
     let g = t.geometry;
     let n = input.len() / 8;
-    put_list(list, input);
+    put8(list, input);
     fill16(second, 0);
     fill16(third, 0);
     fill16(long1, 0);

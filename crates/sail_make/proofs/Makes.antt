@@ -8,13 +8,11 @@ use Rattle.sail.specs.Lent.{Lent, lent}
 use Rattle.sail.specs.Sizes.{SizesTold}
 use Rattle.sail.specs.Sound.{freshTable, freshLent}
 use Rattle.sail.specs.declared.table.Table.{Table}
-use Rattle.plan.specs.Paint.{filled}
 use Rattle.sail_theory.specs.Calls.{orSay, makeSaid, out, made}
 use Rattle.sail_theory.proofs.calls.Make.{make-is, make-off}
 use Rattle.sail_make.specs.Answers.{saysMade}
 use Rattle.sail_make.specs.declared.Made.{Made}
 use Rattle.sail_make.specs.declared.Made.the-variants.{Done, Refused}
-use Rattle.sail_make.proofs.Fills.{filled-whole}
 
 -- a number that is not 0 is a refusal
 pub or-refused : (n : ℕ) (s : Said) → (n ≡ 0 → ⊥) → orSay n s ≡ refused n
@@ -22,14 +20,13 @@ or-refused zero s h = absurd (h refl)
 or-refused (suc n) s h = refl
 
 pub blanked : (l : Lent) (list first second third own2 own3 long1 long2 : List ℕ)
-    → list ≡ filled (l .list) 0 (length (l .list)) 0 → first ≡ replicate (length (l .first)) 32768 → second ≡ replicate (length (l .second)) 0
+    → list ≡ replicate (length (l .list)) 0 → first ≡ replicate (length (l .first)) 32768 → second ≡ replicate (length (l .second)) 0
     → third ≡ replicate (length (l .third)) 0 → own2 ≡ replicate (length (l .own2)) 0 → own3 ≡ replicate (length (l .own3)) 0
     → long1 ≡ replicate (length (l .long1)) 0 → long2 ≡ replicate (length (l .long2)) 0
     → lent list first second third own2 own3 long1 long2 ≡ freshLent l
 unfolding freshLent
 blanked l list first second third own2 own3 long1 long2 a b c d e f g h =
-    let z = a ∙ filled-whole (l .list) (length (l .list)) 0 refl in
-    λ i. record { list = z i; first = b i; second = c i; third = d i; own2 = e i; own3 = f i; long1 = g i; long2 = h i }
+    λ i. record { list = a i; first = b i; second = c i; third = d i; own2 = e i; own3 = f i; long1 = g i; long2 = h i }
 
 module _ (t : Table) (l : Lent) (z : ℕ) (check : SizesTold z (t .geometry) l) where
   pub make-refuses : (z ≡ 0 → ⊥) → out (saysMade (Refused z)) t l ≡ made t l

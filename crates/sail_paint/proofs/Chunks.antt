@@ -11,7 +11,7 @@ use lib.ListN.{length, getD}
 use borrow.Author.Tests.{not-true, not-false, eqb-true, eqb-false, lt-ltb, le-ltb, ltb-true}
 use Rattle.bits.proofs.Tests.{decided, both, and-split, same}
 use Rattle.routes.specs.declared.Route.{Route}
-use Rattle.plan.specs.Paint.{between}
+use Rattle.buffers.specs.Fill.{between}
 use Rattle.sail.specs.Level.{partOf, entry}
 use Rattle.sail_theory.proofs.places.Places.{chunk-lt}
 use Rattle.sail_paint.specs.Stale.{meets}

@@ -8,8 +8,8 @@ use lib.ListN.{length}
 use lib.Pow.{pow-add}
 use Rattle.bits.specs.Slot.{slot}
 use Rattle.routes.specs.declared.Route.{Route}
-use Rattle.plan.specs.Paint.{between}
-use Rattle.plan.proofs.Fills.{Place, below, inside, above, place, between-in, between-below, between-above}
+use Rattle.buffers.specs.Fill.{between}
+use Rattle.buffers.proofs.Ranges.{Place, below, inside, above, place, between-in, between-below, between-above}
 use Rattle.sail.specs.Level.{itself}
 use Rattle.sail_paint.specs.Stale.{meets}
 use Rattle.sail_paint.specs.Paint.{overpainted, Part, FirstCells, BlockEnd}

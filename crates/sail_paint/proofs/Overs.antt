@@ -11,9 +11,9 @@ use borrow.Rule.Slice.PartMut.{midOf, postOf, putMid, same-len-mid, mid-len, pos
 use Rattle.bits.proofs.Tests.{decided}
 use Rattle.bits.proofs.Tabs.{length-tabulate, getD-tabulate, tabulate-ext, is-tabulate}
 use Rattle.routes.specs.declared.Route.{Route}
-use Rattle.plan.specs.Paint.{between}
+use Rattle.buffers.specs.Fill.{between}
 use Rattle.plan.specs.Plan.{plan, planned}
-use Rattle.plan.proofs.Fills.{Place, below, inside, above, place, between-in, between-below, between-above}
+use Rattle.buffers.proofs.Ranges.{Place, below, inside, above, place, between-in, between-below, between-above}
 use Rattle.sail_paint.specs.Paint.{overpainted}
 
 module _ (rs : List Route) (p : ℕ) where

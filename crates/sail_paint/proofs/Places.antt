@@ -14,7 +14,7 @@ use Rattle.bits.specs.Slot.{slot}
 use Rattle.bits.proofs.Slots.{shl-one, slot-lt, cut-is}
 use Rattle.bits.proofs.Tests.{both, and-split, same}
 use Rattle.routes.specs.Route.{Prefix}
-use Rattle.plan.specs.Paint.{between}
+use Rattle.buffers.specs.Fill.{between}
 use Rattle.sail.specs.Level.{itself, partOf, entry}
 use Rattle.sail_paint.specs.Stale.{meets}
 use Rattle.sail_paint.specs.Paint.{standsFor, Above}

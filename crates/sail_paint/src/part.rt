@@ -2,7 +2,7 @@
 ghost use mathlib.Core.Path.{_≡_};
 ghost use Prim.Native.Nat.{_+_, _-_, _^_, _≤_, _<_};
 ghost use Rattle.chain.specs.Words.{routesIn};
-ghost use Rattle.plan.specs.Paint.{between};
+ghost use Rattle.buffers.specs.Fill.{between};
 ghost use Rattle.sail.specs.Level.{itself};
 ghost use Rattle.sail_paint.specs.Stale.{meets};
 ghost use Rattle.sail_paint.specs.Paint.{overpainted, Part, FirstCells, BlockEnd};

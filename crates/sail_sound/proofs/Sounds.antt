@@ -9,7 +9,6 @@ use lib.Arith.{digits-lt, digits-div}
 use lib.ListN.{length, getD}
 use lib.Pow.{pow-pos}
 use borrow.Author.Tests.{le-ltb, ltb-false}
-use borrow.Rule.Slice.PartMut.{mid-len}
 use Rattle.bits.specs.Tab.{Tells}
 use Rattle.routes.specs.declared.Route.{Route}
 use Rattle.routes.specs.Record.{Listed}
@@ -33,7 +32,6 @@ use Rattle.sail_theory.proofs.places.Places.{chunk-lt, live-owner, chunk-live, 
 use Rattle.sail_cells_test.specs.Pool.{chunkOf, PoolOk, FreeAll}
 use Rattle.sail_sound.specs.Test.{root, PassedAll, Beside, PassedTable}
 use Rattle.sail_cells_test.proofs.Cells.{Cell, cell-as, right-cell, cells-right, part-at}
-use Rattle.sail_cells_test.proofs.Chunks.{chunk-room}
 
 -- each live cell of a level is as the routes ask
 abbrev Asked : List Route → Level → List ℕ → List ℕ → Type 0
@@ -71,14 +69,6 @@ module _ (rs : List Route) (v : Level) (p : ℕ) (above own cells low : List ℕ
   abbrev d : ℕ
   d = p - v .bits
 
-  in-pool : (c : ℕ) → c < length own → c * 2 ^ d + 2 ^ d ≤ length cells
-  in-pool c l = omega (arith, chunk-room c (length own) (2 ^ d) l)
-
-  chunk-long : (c : ℕ) → c < length own → length (chunkOf d cells c) ≡ 2 ^ d
-  chunk-long c l =
-      let e : c * 2 ^ d + 2 ^ d - c * 2 ^ d ≡ 2 ^ d = omega arith in
-      rw e at (mid-len (c * 2 ^ d) (c * 2 ^ d + 2 ^ d) cells (in-pool c l))
-
   module _ (k : PoolOk rs p d above (v .live) (v .at) own cells low) where
     pub pool-asked : Asked rs (below v (chunksOf own) p) cells low
     pool-asked q l u =
@@ -99,17 +89,19 @@ module _ (rs : List Route) (v : Level) (p : ℕ) (above own cells low : List ℕ
         let c = chunk-lt d (length own) q l in
         let j = mod-lt q (pow-pos d) in
         let free : getD own (q / 2 ^ d) 0 ≡ 0 = omega (arith, ltb-false 0 (getD own (q / 2 ^ d) 0) e) in
-        ap (entry cells) (sym (div-add-mod' q (2 ^ d))) ∙ sym (part-at cells (q / 2 ^ d * 2 ^ d) (2 ^ d) (q % 2 ^ d) j) ∙ k .each (q / 2 ^ d) c .zero
-        free .each (q % 2 ^ d) (rw (chunk-long (q / 2 ^ d) c) j);
+        let g : q / 2 ^ d * 2 ^ d + q % 2 ^ d ≡ q = div-add-mod' q (2 ^ d) in
+        k .each (q / 2 ^ d) c .zero free .each q (omega arith) (omega arith);
   }
 
   pub clear-free : Clear (below v (chunksOf own) p) (entry cells) → FreeAll d own cells
   clear-free clear = record {
     each = λ c l. record {
       zero = λ e. record {
-        each = λ j u.
-            let m : j < 2 ^ d = rw (chunk-long c l) at u in
-            part-at cells (c * 2 ^ d) (2 ^ d) j m ∙ clear .blank (c * 2 ^ d + j) (digits-lt l m)
+        each = λ q a b.
+            let j = q - c * 2 ^ d in
+            let m : j < 2 ^ d = omega arith in
+            let g : q ≡ c * 2 ^ d + j = omega arith in
+            ap (entry cells) g ∙ clear .blank (c * 2 ^ d + j) (digits-lt l m)
             (le-ltb 0 (getD own ((c * 2 ^ d + j) / 2 ^ d) 0) (omega (arith, e, ap (entry own) (digits-div c m))));
       };
     };

@@ -16,7 +16,7 @@ use Rattle.standing.specs.Standing.{stands, remove}
 use Rattle.routes.specs.declared.Route.{Route}
 use Rattle.lists.specs.Edit.{Edited, edited, removed, removing, countWithout, Holds}
 use Rattle.lists.proofs.EditHolds.{remove-holds}
-use Rattle.plan.specs.Paint.{filled}
+use Rattle.buffers.specs.Fill.{filled}
 use Rattle.counts.specs.Counts.{OneMore}
 use Rattle.counts.proofs.Changed.{many-remove}
 use Rattle.sail.specs.Geometry.{bits2, bits3, Valid}

@@ -1,10 +1,12 @@
 // An image made in lent arrays that have the room for it. The words serve as the queue of nodes: a node that waits holds its depth
 // and the start and the end of its run in the place of its three words.
 use crate::run;
+use buffers::fill::fill16;
+use buffers::fill::zero32;
 use routes::record;
 ghost use mathlib.Core.Path.{_≡_};
 ghost use Prim.Native.Nat.{_+_, _*_, _^_, _≤_, _<_};
-ghost use lib.ListN.{length, replicate};
+ghost use lib.ListN.{length};
 ghost use Rattle.tree_build.specs.Queue.{put3, HopsReady, HopsPut, KidsReady, KidsPut, Room, State, Next, Filled};
 
 fn long(x: u32) -> usize
@@ -91,35 +93,13 @@ fn step(list: &[u8], words: &mut [u32], hops: &mut [u16], i: usize, t: usize, h:
     }
 }
 
-fn clear_words(words: &mut [u32])
-    ensures { λ _. ⌜ now (words .exit) ≡ replicate (length (now (words .entry))) 0 ⌝ }
-{
-    let n = words.len();
-    let mut k: usize = 0;
-    while k < n {
-        words[k] = 0;
-        k += 1;
-    }
-}
-
-fn clear_hops(hops: &mut [u16])
-    ensures { λ _. ⌜ now (hops .exit) ≡ replicate (length (now (hops .entry))) 0 ⌝ }
-{
-    let n = hops.len();
-    let mut k: usize = 0;
-    while k < n {
-        hops[k] = 0;
-        k += 1;
-    }
-}
-
 // Zeros, and the root, which waits with the whole list.
 fn start(list: &[u8], words: &mut [u32], hops: &mut [u16])
     requires { ⌜ Room (now list) (length (now words)) (length (now hops)) ⌝ }
     ensures { λ _. ⌜ State (now (list .entry)) (now (words .exit)) (now (hops .exit)) 0 1 0 ⌝ }
 {
-    clear_words(words);
-    clear_hops(hops);
+    zero32(words);
+    fill16(hops, 0);
     put_node(words, 0, 0, 0, narrow(list.len() / 8));
 }
 

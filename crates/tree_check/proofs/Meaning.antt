@@ -14,6 +14,7 @@ use Rattle.bits.specs.Tab.{every}
 use Rattle.bits.proofs.Searches.{firstOf-is, firstOf-le, firstOf-before}
 use Rattle.bits.proofs.Tests.{both, and-split, or-split, below?}
 use Rattle.bits.proofs.Tabs.{every-true, true-every}
+use Rattle.buffers.specs.Zeros.{Zeros}
 use Rattle.routes.specs.Input.{hopFine}
 use Rattle.routes.proofs.Meaning.{hop-true, true-hop}
 use Rattle.tree.specs.Node.{bitsOf, childOf, baseOf}
@@ -67,25 +68,31 @@ from-all p (suc n) first h =
 
 -- ---- zeros after
 
-pub blank-is : (xs : List ℕ) (k : ℕ) → blankFrom xs k ≡ true → (j : ℕ) → k ≤ j → getD xs j 0 ≡ 0
+pub blank-zeros : (xs : List ℕ) (k : ℕ) → blankFrom xs k ≡ true → Zeros xs k (length xs)
 unfolding blankFrom
+blank-zeros xs k e = record {
+  each = λ j l u. or j l (or-split (ltb j k) (eqb (getD xs j 0) 0) (every-true (λ i. ltb i k || eqb (getD xs i 0) 0) (length xs) e j u));
+}
+  where
+    or : (j : ℕ) → k ≤ j → (ltb j k ≡ true) ⊎ (eqb (getD xs j 0) 0 ≡ true) → getD xs j 0 ≡ 0
+    or j l (inl t) = absurd (omega (arith, ltb-true j k t))
+    or j l (inr t) = eqb-true _ 0 t
+
+pub zeros-blank : (xs : List ℕ) (k : ℕ) → Zeros xs k (length xs) → blankFrom xs k ≡ true
+unfolding blankFrom
+zeros-blank xs k z = true-every (λ i. ltb i k || eqb (getD xs i 0) 0) (length xs) (λ i l. go i l (below? i k))
+  where
+    go : (i : ℕ) → i < length xs → (i < k) ⊎ (k ≤ i) → (ltb i k || eqb (getD xs i 0) 0) ≡ true
+    go i l (inl u) = rw (lt-ltb i k u)
+    go i l (inr u) = rw (le-ltb i k u) (eq-eqb _ 0 (z .each i u l))
+
+-- past the end there is nothing else
+blank-is : (xs : List ℕ) (k : ℕ) → blankFrom xs k ≡ true → (j : ℕ) → k ≤ j → getD xs j 0 ≡ 0
 blank-is xs k e j l = go (below? j (length xs))
   where
-    or : (ltb j k ≡ true) ⊎ (eqb (getD xs j 0) 0 ≡ true) → getD xs j 0 ≡ 0
-    or (inl t) = absurd (omega (arith, ltb-true j k t))
-    or (inr t) = eqb-true _ 0 t
-
     go : (j < length xs) ⊎ (length xs ≤ j) → getD xs j 0 ≡ 0
-    go (inl u) = or (or-split (ltb j k) (eqb (getD xs j 0) 0) (every-true (λ i. ltb i k || eqb (getD xs i 0) 0) (length xs) e j u))
+    go (inl u) = blank-zeros xs k e .each j l u
     go (inr u) = List·getD-eq-default xs 0 {n = j} u
-
-pub is-blank : (xs : List ℕ) (k : ℕ) → ((j : ℕ) → k ≤ j → getD xs j 0 ≡ 0) → blankFrom xs k ≡ true
-unfolding blankFrom
-is-blank xs k h = true-every (λ i. ltb i k || eqb (getD xs i 0) 0) (length xs) (λ i l. go i (below? i k))
-  where
-    go : (i : ℕ) → (i < k) ⊎ (k ≤ i) → (ltb i k || eqb (getD xs i 0) 0) ≡ true
-    go i (inl u) = rw (lt-ltb i k u)
-    go i (inr u) = rw (le-ltb i k u) (eq-eqb _ 0 (h i u))
 
 -- ---- all parts
 
@@ -128,7 +135,7 @@ is-well-formed ws hs n w =
     rw (o .0)
     (both (o .1) (both (root (w .root))
     (both (both (le-leb _ _ (w .room)) (both (le-leb _ _ (w .few)) (true-every (λ k. hopFine (getD hs k 0)) (ints ws n) (λ k l. true-hop (getD hs k 0) (w .hop k l .0) (w .hop k l .1)))))
-    (both (is-blank ws (3 * n) (w .words-after)) (is-blank hs (ints ws n) (w .hops-after))))))
+    (both (zeros-blank ws (3 * n) (record { each = λ j l u. w .words-after j l })) (zeros-blank hs (ints ws n) (record { each = λ j l u. w .hops-after j l }))))))
   where
     root : (bitsOf ws 0 ≡ 0) ⊎ (nodeOk 8 ws 0 ≡ true) → rootOk ws ≡ true
     root (inl t) = rw (eq-eqb (bitsOf ws 0) 0 t)

@@ -7,6 +7,8 @@ use crate::bases::differ;
 use crate::bases::first_child;
 use crate::bases::shape;
 use crate::bases::wide;
+use buffers::zeros::zeros16;
+use buffers::zeros::zeros32;
 use tree_build::fill;
 ghost use mathlib.Core.Bool.{true};
 ghost use mathlib.Core.Path.{_≡_};
@@ -16,7 +18,7 @@ ghost use lib.Count.{ones};
 ghost use Rattle.routes.specs.Input.{hopFine};
 ghost use Rattle.tree_same.specs.Order.{ints};
 ghost use Rattle.tree_check.specs.Contract.{MeetsTreeTest};
-ghost use Rattle.tree_check.specs.WellFormed.{ordered, childrenOk, rootOk, hopsFineTo, blankFrom, wellFormed, nodesIf};
+ghost use Rattle.tree_check.specs.WellFormed.{ordered, childrenOk, rootOk, hopsFineTo, wellFormed, nodesIf};
 ghost use Rattle.tree_check.specs.Stretches.{Flagged, Lent, Stretch, Rooted};
 
 // What the test answers: the nodes and the hops in use, or that the image is not well formed.
@@ -132,33 +134,6 @@ fn hops_fine(hops: &[u16], k: usize) -> bool
     bad == 0
 }
 
-// Whether zeros stand from place k on.
-fn blank_words(words: &[u32], k: usize) -> bool
-    ensures { λ r. ⌜ r ≡ blankFrom (now (words .entry)) k ⌝ }
-{
-    let mut j = k;
-    while j < words.len() {
-        if words[j] != 0 {
-            return false;
-        }
-        j += 1;
-    }
-    true
-}
-
-fn blank_hops(hops: &[u16], k: usize) -> bool
-    ensures { λ r. ⌜ r ≡ blankFrom (now (hops .entry)) k ⌝ }
-{
-    let mut j = k;
-    while j < hops.len() {
-        if hops[j] != 0 {
-            return false;
-        }
-        j += 1;
-    }
-    true
-}
-
 // The test of the whole image: the nodes in use, which are never 0, if it is well formed; 0 if not.
 pub fn check(words: &[u32], hops: &[u16]) -> usize
     ensures { λ r. ⌜ r ≡ nodesIf (wellFormed (now (words .entry)) (now (hops .entry))) (now (words .entry)) ⌝ }
@@ -180,10 +155,10 @@ pub fn check(words: &[u32], hops: &[u16]) -> usize
     if !hops_fine(hops, k) {
         return 0;
     }
-    if !blank_words(words, 3 * n) {
+    if !zeros32(words, 3 * n, words.len()) {
         return 0;
     }
-    if !blank_hops(hops, k) {
+    if !zeros16(hops, k, hops.len()) {
         return 0;
     }
     n

@@ -1,4 +1,4 @@
--- `sail_cells_test::free_chunk` meets its contract. Assumes nothing.
+-- A chunk in use passes unread; the cells of a free one are looked at.
 use borrow.Author.Needs.{needs}
 use Rattle.sail_cells_test.proofs.Chunks.{used-free, free-room, free-zero}
 use Rattle.sail_cells_test.proofs.free_chunk.Statement.{statement}
@@ -7,8 +7,8 @@ use Rattle.sail_cells_test.proofs.free_chunk.Tie as tie
 returns : tie.Need-returns
 returns c = search used-free
 
-free-ok-requires : tie.Need-free-ok-requires
-free-ok-requires c κs = search free-room
+zeros16-requires : tie.Need-zeros16-requires
+zeros16-requires c κs = search free-room
 
 returns-2 : tie.Need-returns-2
 returns-2 c = search free-zero
@@ -22,5 +22,6 @@ free-chunk-spec =
     returns
     (λ c κs. search needs)
     (λ c κs. search needs)
-    free-ok-requires
+    (λ c. search needs)
+    zeros16-requires
     returns-2)

@@ -1,5 +1,4 @@
 -- `sail_make::blank`: the arrays are written one after the other.
-use borrow.Author.Needs.{needs}
 use Rattle.sail_make.proofs.Makes.{blanked}
 use Rattle.sail_make.proofs.blank.Statement.{statement}
 use Rattle.sail_make.proofs.blank.Tie as tie
@@ -21,7 +20,7 @@ pub blank-spec : {M : Type 1} → statement M
 blank-spec =
     tie.close
     (tie.spec
-    (λ c κs. search needs)
+    (λ c κs. tt)
     (λ c κs. tt)
     (λ c κs. tt)
     (λ c κs. tt)

@@ -26,7 +26,7 @@ plan-words-spec =
     (λ c. search needs)
     (λ c κs. search needs)
     (λ c. let a = c .before .before .before .before .before .before .args in
-    (search needs, c .before .before .fill .ensures ∙ words-none (a .h) (now (a .out)) (now (a .ws)) (a .p) (a .base)))
+    (search needs, c .before .before .fill-range16 .ensures ∙ words-none (a .h) (now (a .out)) (now (a .ws)) (a .p) (a .base)))
     (λ c. search needs)
     (λ c. search needs)
     (λ c. search needs)

@@ -9,10 +9,10 @@ use Rattle.sail_load.proofs.renew.renew.Tie as tie
 -- Places, each seen from the next one: where it starts; after the list is put; after the second pool, the third, the counts of both levels, the
 -- owners of the second and those of the third are emptied; after the owners are filled; after the cells are painted; and after the routes are
 -- counted, seen from the end.
-abbrev start : tie.After-put-list → tie.Start
+abbrev start : tie.After-put8 → tie.Start
 start c = c .before .before .before .before .before .before .before .before .before .before .before .before
 
-abbrev listed : tie.After-fill16 → tie.After-put-list
+abbrev listed : tie.After-fill16 → tie.After-put8
 listed c = c .before .before .before .before
 
 abbrev second-empty : tie.After-fill162 → tie.After-fill16
@@ -42,8 +42,8 @@ painted c = c .before .before .before .before .before .before .before .before .b
 abbrev counted : tie.After-slice-known22 → tie.After-count-all
 counted c = c .before .before .before .before
 
-put-list-requires : tie.Need-put-list-requires
-put-list-requires c κs = let s = c .before .before .before .before .before .before .before .before .before .before .before in fits-list _ _ _ (s .pre)
+put8-requires : tie.Need-put8-requires
+put8-requires c κs = let s = c .before .before .before .before .before .before .before .before .before .before .before in fits-list _ _ _ (s .pre)
 
 settle-owners-requires : tie.Need-settle-owners-requires
 settle-owners-requires c κs =
@@ -79,11 +79,11 @@ count-all-requires c κs =
     let input = list .before .before .before .before .before .before .before .before .before .before .before in
     uncounted _ _ _ (s .pre) _ _ (o2 .zero32 .ensures) (o3 .zero322 .ensures) _ _ _ _ (second .fill16 .ensures) (third .fill162 .ensures)
     (o .settle-owners .ensures)
-    (λ j. omega (arith, input .shared-slice-known .given j)) _ _ _ _ (list .put-list .ensures) (p .repaint-from-list .ensures)
+    (λ j. omega (arith, input .shared-slice-known .given j)) _ _ _ _ (list .put8 .ensures) (p .repaint-from-list .ensures)
     _ _ (l1 .fill163 .ensures) (l2 .fill164 .ensures)
 
 same-list : tie.Need-same-length
-same-list c = listed (second-empty (third-empty (long1-empty (long2-empty (own2-empty (own3-empty (owned (painted (counted c))))))))) .put-list .kept .0
+same-list c = listed (second-empty (third-empty (long1-empty (long2-empty (own2-empty (own3-empty (owned (painted (counted c))))))))) .put8 .kept .0
 
 same-first : tie.Need-same-length-2
 same-first c = painted (counted c) .repaint-from-list .kept .1 .1 .1 .1 .1 .0
@@ -135,7 +135,7 @@ returns c =
     let input = list .before .before .before .before .before .before .before .before .before .before .before in
     renews _ _ _ (s .pre) _ _ (o2 .zero32 .ensures) (o3 .zero322 .ensures) _ _ _ _ (second .fill16 .ensures) (third .fill162 .ensures)
     (o .settle-owners .ensures)
-    (λ j. omega (arith, input .shared-slice-known .given j)) _ _ _ _ (list .put-list .ensures) (p .repaint-from-list .ensures)
+    (λ j. omega (arith, input .shared-slice-known .given j)) _ _ _ _ (list .put8 .ensures) (p .repaint-from-list .ensures)
     _ _ (l1 .fill163 .ensures) (l2 .fill164 .ensures)
     _ _ (n .count-all .ensures) (n .count-all .kept .1 .1 .1 .1 .1 .0) (n .count-all .kept .1 .1 .1 .1 .1 .1 .0)
 
@@ -143,7 +143,7 @@ pub renew-spec : {M : Type 1} → statement M
 renew-spec =
     tie.close
     (tie.spec
-    put-list-requires
+    put8-requires
     (λ c κs. tt)
     (λ c κs. tt)
     (λ c κs. tt)

@@ -5,7 +5,7 @@ use native.Mathlib.Omega.{arith}
 use lib.ListN.{length}
 use lib.Pow.{shr-le}
 use Rattle.chain.specs.Words.{routesIn}
-use Rattle.plan.specs.Paint.{between}
+use Rattle.buffers.specs.Fill.{between}
 use Rattle.sail.specs.Level.{itself}
 use Rattle.sail_paint.specs.Paint.{overpainted}
 use Rattle.sail_paint.proofs.Overs.{length-over}
