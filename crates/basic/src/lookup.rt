@@ -2,7 +2,7 @@
 use crate::check::Ready;
 use crate::check::check;
 use crate::maps::mapped;
-use crate::maps::wide;
+use bits::widen::half_to_word;
 use longest::longest_record;
 use routes::input::hop_ok;
 use routes::record;
@@ -48,7 +48,7 @@ pub fn walk(input: &[u8], n: usize, bits: &[u8], cells: &[u16], addr: u32) -> u3
     let k = longest_record(input, n, addr, 17);
     if k != 0 {
         let r = record::read_record(input, k - 1);
-        return 1 + wide(r.hop);
+        return 1 + half_to_word(r.hop);
     }
     down(bits, cells, addr)
 }

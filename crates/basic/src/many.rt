@@ -5,8 +5,8 @@ use crate::check::check;
 use crate::lookup::BasicFound;
 use crate::lookup::told;
 use crate::lookup::walk;
-use crate::maps::wide;
-use routes::record;
+use bits::widen::byte_to_word;
+use bits::widen::half_to_word;
 ghost use mathlib.Core.Path.{_≡_};
 ghost use lib.ListN.{length};
 ghost use Rattle.routes.specs.Record.{GoodInput};
@@ -19,10 +19,10 @@ fn word(f: BasicFound) -> u32
     ensures { λ r. ⌜ r ≡ hopWord (saysBasicFound f) ⌝ }
 {
     match f {
-        BasicFound::Hop(h) => wide(h) * 65536,
+        BasicFound::Hop(h) => half_to_word(h) * 65536,
         BasicFound::NoRoute => 0,
-        BasicFound::RefusedAt(z, _) => record::wide(z) + 256,
-        BasicFound::Refused(z) => record::wide(z),
+        BasicFound::RefusedAt(z, _) => byte_to_word(z) + 256,
+        BasicFound::Refused(z) => byte_to_word(z),
     }
 }
 

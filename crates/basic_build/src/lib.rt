@@ -3,6 +3,7 @@ use basic::check::BasicAnswer;
 use basic::check::Ready;
 use basic::check::check;
 use basic::maps::place;
+use bits::widen::byte_to_word;
 use buffers::fill::fill16;
 use routes::Route;
 use routes::record;
@@ -21,7 +22,7 @@ fn put(cells: &mut [u16], r: Route)
     requires { ⌜ length (now cells) ≡ 131071 ⌝ }
     ensures { λ _. ⌜ now (cells .exit) ≡ withRoute r (now (cells .entry)) ⌝ }
 {
-    let len = record::wide(r.len);
+    let len = byte_to_word(r.len);
     if len <= 16 {
         let i = place(len, r.addr);
         cells[i] = r.hop;

@@ -8,4 +8,3 @@ pub mod Tabs
 pub mod Tells
 pub mod Counts
 pub mod Packed
-pub mod Tells

@@ -2,7 +2,7 @@
 use mathlib.Core.Path.{_≡_, refl, sym, ap, _∙_}
 use mathlib.Core.Bool.{Bool, true, false, false≢true}
 use mathlib.Core.List.{List, [], _∷_}
-use Prim.Native.Nat.{ℕ, zero, suc, _+_, _-_, _*_, _/_, _%_, _^_, _<_, _≤_, suc-le-suc, zero-le}
+use Prim.Native.Nat.{ℕ, zero, suc, _+_, _-_, _*_, _/_, _^_, _<_, _≤_, suc-le-suc, zero-le}
 use native.Mathlib.Nat.{not-suc-le-zero, le-of-suc-le-suc, mul-le-mul-right, mul-assoc, div-mul-le-self}
 use native.Mathlib.Decide.{decLt}
 use native.Mathlib.Omega.{arith}
@@ -19,7 +19,7 @@ use Rattle.standing.specs.Cells.{covers, best, lastHop}
 use Rattle.routes.specs.declared.Route.{Route}
 use Rattle.standing.proofs.Longest.{cover-parts}
 use Rattle.standing.proofs.Paint.{best-last}
-use Rattle.chain.specs.Words.{routeOf, routesIn, Words}
+use Rattle.chain.specs.Words.{addrOf, lenOf, hopOf, routeOf, routesIn, Words}
 use Rattle.chain.specs.Place.{Placed, Between, underKey, RunFrom}
 use Rattle.chain.specs.Cover.{addrIn, LastCover, Parents, Climb, Heads, Ready}
 use Rattle.chain.proofs.Decodes.{words-good}
@@ -27,11 +27,11 @@ use Rattle.chain.proofs.Places.{keys, place-rises}
 
 -- the code's test
 module _ (w p i : ℕ) where
-  pub too-long : p < w / 16777216 % 256 → false ≡ covers p i (routeOf w)
-  too-long h = simp (lt-leb (w / 16777216 % 256) p h)
+  pub too-long : p < lenOf w → false ≡ covers p i (routeOf w)
+  too-long h = simp (lt-leb (lenOf w) p h)
 
-  pub tested : w / 16777216 % 256 ≤ p → eqb (w / 4294967296 / 2 ^ (32 - w / 16777216 % 256)) (i / 2 ^ (p - w / 16777216 % 256)) ≡ covers p i (routeOf w)
-  tested h = simp (le-leb (w / 16777216 % 256) p h)
+  pub tested : lenOf w ≤ p → eqb (addrOf w / 2 ^ (32 - lenOf w)) (i / 2 ^ (p - lenOf w)) ≡ covers p i (routeOf w)
+  tested h = simp (le-leb (lenOf w) p h)
 
 -- the slot of a level above
 slot-above : (l p a : ℕ) → l ≤ p → p ≤ 32 → slot p a / 2 ^ (p - l) ≡ slot l a
@@ -57,7 +57,7 @@ module _ {ws par : List ℕ} {j p i : ℕ} (c : Climb ws par j p i) where
   -- a word that covers the cell covers the address of each word between
   covers-on : (r m : ℕ) → r < m → m < j → covers p i (routeOf (getD ws r 0)) ≡ true → covers 32 (addrIn ws m) (routeOf (getD ws r 0)) ≡ true
   covers-on r m l u e =
-      let len = getD ws r 0 / 16777216 % 256 in
+      let len = lenOf (getD ws r 0) in
       let t = cover-parts p i (routeOf (getD ws r 0)) e in
       let k = keys ws (c .words) m r l (omega (arith, c .to)) in
       let n : addrIn ws r ≤ addrIn ws m = omega arith in
@@ -146,7 +146,7 @@ module _ (f : Route → Bool) where
   last-none (w ∷ ws) d h = rw (h 0 (suc-le-suc zero-le), lastHop) (last-none ws d (λ k l. h (suc k) (suc-le-suc l)))
 
   last-one : (ws : List ℕ) (d n : ℕ) → n < length ws → f (routeOf (getD ws n 0)) ≡ true → ((k : ℕ) → n < k → k < length ws → f (routeOf (getD ws k 0)) ≡ false)
-      → lastHop f (routesIn ws) d ≡ getD ws n 0 % 65536
+      → lastHop f (routesIn ws) d ≡ hopOf (getD ws n 0)
   unfolding lastHop
   last-one [] d n l e h = absurd (not-suc-le-zero l)
   last-one (w ∷ ws) d zero l e h = rw (e, lastHop) (last-none ws _ (λ k u. h (suc k) (suc-le-suc zero-le) (suc-le-suc u)))
@@ -199,10 +199,10 @@ module _ {ws par : List ℕ} {lo p i : ℕ} (ready : Ready ws par) (start : RunF
       in-list : m - 1 < length ws
       in-list = omega (arith, last .to, pl .to)
 
-      pub one-best : getD ws (m - 1) 0 % 65536 ≡ best (routesIn ws) p i
+      pub one-best : hopOf (getD ws (m - 1) 0) ≡ best (routesIn ws) p i
       one-best =
           sym (last-one (covers p i) ws 0 (m - 1) in-list (last .one (omega arith)) (λ k a u. none-after k (omega arith) u))
           ∙ best-last (routesIn ws) p i (words-good ws (ready .words))
 
-      pub one-small : getD ws (m - 1) 0 % 65536 < 32768
+      pub one-small : hopOf (getD ws (m - 1) 0) < 32768
       one-small = omega (arith, ready .words .fine (m - 1) in-list .hop-ok)

@@ -2,7 +2,7 @@
 use mathlib.Core.Path.{_≡_, ap, _∙_}
 use mathlib.Core.Logic.{_⊎_, inl, inr}
 use mathlib.Core.List.{List, [], _∷_, List·Memᴰ, List·Memᴰ·cases-cons, List·Memᴰ·not-nil}
-use Prim.Native.Nat.{ℕ, suc, _+_, _-_, _/_, _%_, _<_, _≤_, suc-le-suc}
+use Prim.Native.Nat.{ℕ, suc, _+_, _-_, _<_, _≤_, suc-le-suc}
 use native.Mathlib.Nat.{add-suc}
 use native.Mathlib.Decide.{decLt}
 use native.Mathlib.Omega.{arith}
@@ -14,7 +14,8 @@ use Rattle.routes.specs.Route.{key, Good}
 use Rattle.routes.specs.Record.{recordAt, routesOf, noRoute, Ranged, Records}
 use Rattle.routes.specs.declared.Route.{Route}
 use Rattle.routes.proofs.Rows.{fine-ranged}
-use Rattle.chain.specs.Words.{wordAt, wordsOf, routeOf, keyIn, routesIn, Words}
+use Rattle.bits.specs.Bytes.{above2, byte}
+use Rattle.chain.specs.Words.{wordAt, wordsOf, addrOf, lenOf, hopOf, routeOf, keyIn, routesIn, Words}
 
 -- the first k of a list are those of f
 abbrev pub Filled : (ℕ → ℕ) → List ℕ → ℕ → Type 0
@@ -44,10 +45,10 @@ word-route s k f =
     let h = f .hop-fits in
     let w = wordAt s k in
     let r = recordAt s k in
-    let ea : w / 4294967296 ≡ r .addr = omega arith in
-    let el : w / 16777216 % 256 ≡ r .len = omega arith in
-    let em : w / 65536 % 256 ≡ r .mark = omega arith in
-    let eh : w % 65536 ≡ r .hop = omega arith in
+    let ea : addrOf w ≡ r .addr = omega arith in
+    let el : lenOf w ≡ r .len = omega arith in
+    let em : byte (above2 w) ≡ r .mark = omega arith in
+    let eh : hopOf w ≡ r .hop = omega arith in
     rw (ea, el, em, eh)
 
 module _ (s : List ℕ) (n : ℕ) (good : Records s n) where

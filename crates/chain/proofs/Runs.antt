@@ -2,7 +2,7 @@
 use mathlib.Core.Path.{_≡_, sym, ap, _∙_}
 use mathlib.Core.Bool.{true, false}
 use mathlib.Core.List.{List}
-use Prim.Native.Nat.{ℕ, _+_, _-_, _*_, _/_, _%_, _^_, _<_, _≤_}
+use Prim.Native.Nat.{ℕ, _+_, _-_, _*_, _^_, _<_, _≤_}
 use native.Mathlib.Decide.{decLt}
 use native.Mathlib.Omega.{arith}
 use lib.ListN.{length, getD}
@@ -12,7 +12,7 @@ use Rattle.bits.specs.Slot.{slot, cut}
 use Rattle.bits.proofs.Tests.{both, and-split, untrue}
 use Rattle.bits.proofs.Slots.{cut-is, cut-le, cut-more}
 use Rattle.standing.specs.Cells.{within}
-use Rattle.chain.specs.Words.{routeOf, Words}
+use Rattle.chain.specs.Words.{lenOf, routeOf, Words}
 use Rattle.chain.specs.Place.{Placed, underKey, RunFrom, Run}
 use Rattle.chain.specs.Cover.{addrIn}
 use Rattle.chain.proofs.Places.{keys}
@@ -40,7 +40,7 @@ module _ {ws : List ℕ} {p i lo : ℕ} (good : Words ws) (start : RunFrom ws p 
       let n : i * 2 ^ (32 - p) ≤ addrIn ws j = omega arith in
       omega (arith, shr-mono (32 - p) n, shl-shr i (32 - p))
 
-  within-parts : (j : ℕ) → within p i (routeOf (getD ws j 0)) ≡ true → (p < getD ws j 0 / 16777216 % 256) × (slot p (addrIn ws j) ≡ i)
+  within-parts : (j : ℕ) → within p i (routeOf (getD ws j 0)) ≡ true → (p < lenOf (getD ws j 0)) × (slot p (addrIn ws j) ≡ i)
   within-parts j t = let a = and-split _ _ t in (ltb-true _ _ (a .0), eqb-true _ _ (a .1))
 
   before-run : (j : ℕ) → j < lo → within p i (routeOf (getD ws j 0)) ≡ false
@@ -50,10 +50,10 @@ module _ {ws : List ℕ} {p i lo : ℕ} (good : Words ws) (start : RunFrom ws p 
       omega (arith, e .0, cut-le p (addrIn ws j), pl .below j a))
 
   -- a route of at most p bits with the bits of the cell stands before the place
-  longer : (j : ℕ) → lo ≤ j → j < length ws → slot p (addrIn ws j) ≡ i → p < getD ws j 0 / 16777216 % 256
-  longer j a b e = go (decLt p (getD ws j 0 / 16777216 % 256))
+  longer : (j : ℕ) → lo ≤ j → j < length ws → slot p (addrIn ws j) ≡ i → p < lenOf (getD ws j 0)
+  longer j a b e = go (decLt p (lenOf (getD ws j 0)))
     where
-      go : Dec (p < getD ws j 0 / 16777216 % 256) → p < getD ws j 0 / 16777216 % 256
+      go : Dec (p < lenOf (getD ws j 0)) → p < lenOf (getD ws j 0)
       go (yes d) = d
       go (no d) =
           let c = cut-more _ p (addrIn ws j) (omega arith) (start .level) (good .fine j b .prefix .clear) in

@@ -2,16 +2,16 @@
 use mathlib.Core.Path.{_≡_}
 use mathlib.Core.Bool.{true, false}
 use mathlib.Core.List.{List}
-use Prim.Native.Nat.{ℕ, _+_, _-_, _*_, _/_, _<_, _≤_}
+use Prim.Native.Nat.{ℕ, _+_, _-_, _*_, _<_, _≤_}
 use lib.ListN.{length, getD}
 use Rattle.bits.specs.Slot.{slot}
 use Rattle.standing.specs.Cells.{covers}
-use Rattle.chain.specs.Words.{routeOf, Words}
+use Rattle.chain.specs.Words.{addrOf, routeOf, Words}
 use Rattle.chain.specs.Place.{Placed}
 
 -- the address of word k
 abbrev pub addrIn : List ℕ → ℕ → ℕ
-addrIn ws k = getD ws k 0 / 4294967296
+addrIn ws k = addrOf (getD ws k 0)
 
 -- r is 1 + the last of the words before j that covers cell i of level p; 0 where none does
 pub record LastCover (ws : List ℕ) (j p i r : ℕ) : Type 0 where

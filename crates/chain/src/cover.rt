@@ -4,29 +4,25 @@ ghost use Prim.Native.Nat.{_/_, _%_, _<_, _≤_};
 ghost use lib.ListN.{length};
 ghost use Rattle.bits.specs.Slot.{slot};
 ghost use Rattle.standing.specs.Cells.{covers, best};
-ghost use Rattle.chain.specs.Words.{routeOf, routesIn};
+ghost use Rattle.chain.specs.Words.{lenOf, routeOf, routesIn};
 ghost use Rattle.chain.specs.Place.{Placed, InLevel, RunFrom};
 ghost use Rattle.chain.specs.Cover.{LastCover, Parents, Climb, Room, Ready};
 use super::place::place_between;
 use super::place::place_on;
 use super::place::under_key;
+use bits::bytes;
+use bits::widen::half_to_index;
 
 // Whether the route of a word covers cell i of level p.
 fn covering(w: u64, p: u32, i: u64) -> bool
-    requires { ⌜ (p ≤ 32) × (w / 16777216 % 256 ≤ 32) ⌝ }
+    requires { ⌜ (p ≤ 32) × (lenOf w ≤ 32) ⌝ }
     ensures { λ r. ⌜ r ≡ covers p i (routeOf w) ⌝ }
 {
-    let len = (w / 16777216 % 256) as u32;
+    let len = (w / bytes::THREE % bytes::ONE) as u32;
     if p < len {
         return false;
     }
-    (w / 4294967296) >> (32 - len) == i >> (p - len)
-}
-
-fn wide(x: u16) -> usize
-    ensures { λ r. ⌜ (r ≡ x) × (r < 65536) ⌝ }
-{
-    x as usize
+    (w / bytes::FOUR) >> (32 - len) == i >> (p - len)
 }
 
 // The last of the words before j that covers cell i of level p: 1 + its place, or 0. It is j - 1, or stands in that
@@ -41,7 +37,7 @@ pub fn last_cover(ws: &[u64], par: &[u16], j: usize, p: u32, i: u64) -> usize
         if covering(ws[k], p, i) {
             return m;
         }
-        m = wide(par[k]);
+        m = half_to_index(par[k]);
     }
     0
 }
@@ -53,7 +49,7 @@ fn parents(ws: &[u64], par: &mut [u16])
 {
     let mut k = 0;
     while k < ws.len() {
-        let m = last_cover(ws, &par[..k], k, 32, ws[k] / 4294967296);
+        let m = last_cover(ws, &par[..k], k, 32, ws[k] / bytes::FOUR);
         par[k] = m as u16;
         k += 1;
     }
@@ -68,7 +64,7 @@ fn heads(ws: &[u64], par: &mut [u16])
     let mut m = 0;
     let mut b: usize = 0;
     while b < 257 {
-        m = place_on(ws, m, (b as u64) * 4294967296);
+        m = place_on(ws, m, (b as u64) * bytes::FOUR);
         par[4096 + b] = m as u16;
         b += 1;
     }
@@ -89,8 +85,8 @@ pub fn place_from(ws: &[u64], par: &[u16], key: u64) -> usize
     requires { ⌜ key < 1099511627776 ⌝ }
     ensures { λ r. ⌜ Placed (now (ws .entry)) key r ⌝ }
 {
-    let b = 4096 + (key / 4294967296) as usize;
-    place_between(ws, wide(par[b]), wide(par[b + 1]), key)
+    let b = 4096 + (key / bytes::FOUR) as usize;
+    place_between(ws, half_to_index(par[b]), half_to_index(par[b + 1]), key)
 }
 
 // Where the run under cell i of level p begins.
@@ -112,7 +108,7 @@ pub fn inherited(ws: &[u64], par: &[u16], lo: usize, p: u32, i: u64) -> u16
     if m == 0 {
         return 0;
     }
-    (ws[m - 1] % 65536) as u16
+    (ws[m - 1] % bytes::TWO) as u16
 }
 
 // The same, where nothing is known of the run.

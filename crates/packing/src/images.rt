@@ -1,8 +1,8 @@
 // The answers of the test and the changes of an image.
-use crate::byte;
 use crate::flag;
 use crate::narrow;
-use crate::word;
+use bits::widen::byte_to_long;
+use bits::widen::word_to_long;
 use tree_change::Announced;
 use tree_change::Withdrawn;
 use tree_check::Tested;
@@ -18,7 +18,7 @@ ghost use Rattle.packing.specs.ImageAnswers.{packImage};
 fn used(replaced: bool, nodes: u32, hops: u32) -> u64
     ensures { λ r. ⌜ r ≡ bit replaced * 256 + hops % 65536 * 65536 + nodes * 2 ^ 32 ⌝ }
 {
-    flag(replaced) * 256 + narrow(word(hops)) * 65536 + word(nodes) * 4294967296
+    flag(replaced) * 256 + narrow(word_to_long(hops)) * 65536 + word_to_long(nodes) * 4294967296
 }
 
 pub fn tested(a: Tested) -> u64
@@ -36,7 +36,7 @@ pub fn announced(a: Announced) -> u64
     match a {
         Announced::Added(nodes, hops) => used(false, nodes, hops),
         Announced::Replaced(nodes, hops) => used(true, nodes, hops),
-        Announced::Refused(z) => byte(z),
+        Announced::Refused(z) => byte_to_long(z),
     }
 }
 
@@ -45,6 +45,6 @@ pub fn withdrawn(a: Withdrawn) -> u64
 {
     match a {
         Withdrawn::Removed(nodes, hops) => used(false, nodes, hops),
-        Withdrawn::Refused(z) => byte(z),
+        Withdrawn::Refused(z) => byte_to_long(z),
     }
 }

@@ -19,6 +19,9 @@ pub mod images;
 pub mod maps;
 pub mod repairs;
 
+use bits::widen::byte_to_long;
+use bits::widen::half_to_long;
+use bits::widen::word_to_long;
 use routes::input::Got;
 use routes::input::Input;
 use runs::run::RunCheck;
@@ -30,25 +33,7 @@ use sail_withdraw::answers::Withdraw;
 use tree::TreeFound;
 use tree_build::Built;
 
-// Numbers, each with the bits that it fills.
-fn byte(x: u8) -> u64
-    ensures { λ r. ⌜ (r ≡ x) × (r < 256) ⌝ }
-{
-    x as u64
-}
-
-fn half(x: u16) -> u64
-    ensures { λ r. ⌜ (r ≡ x) × (r < 65536) ⌝ }
-{
-    x as u64
-}
-
-fn word(x: u32) -> u64
-    ensures { λ r. ⌜ (r ≡ x) × (r < 2 ^ 32) ⌝ }
-{
-    x as u64
-}
-
+// The low 16 bits of a number.
 fn narrow(x: u64) -> u64
     ensures { λ r. ⌜ (r ≡ x % 65536) × (r < 65536) ⌝ }
 {
@@ -59,7 +44,7 @@ fn narrow(x: u64) -> u64
 fn refused_at(n: u8, k: usize) -> u64
     ensures { λ r. ⌜ r ≡ n + 256 + k % 2 ^ 32 * 2 ^ 32 ⌝ }
 {
-    byte(n) + 256 + (k as u64) % 4294967296 * 4294967296
+    byte_to_long(n) + 256 + (k as u64) % 4294967296 * 4294967296
 }
 
 fn flag(b: bool) -> u64
@@ -75,7 +60,7 @@ fn flag(b: bool) -> u64
 fn changed(cleared: bool, replaced: bool, count: u32) -> u64
     ensures { λ r. ⌜ r ≡ bit cleared * 512 + bit replaced * 256 + count * 65536 ⌝ }
 {
-    flag(cleared) * 512 + flag(replaced) * 256 + word(count) * 65536
+    flag(cleared) * 512 + flag(replaced) * 256 + word_to_long(count) * 65536
 }
 
 pub fn reported(a: Reported) -> u64
@@ -87,11 +72,11 @@ pub fn reported(a: Reported) -> u64
             second,
             third,
         } => {
-            narrow(word(routes)) * 65536
-                + narrow(word(second)) * 4294967296
-                + narrow(word(third)) * 281474976710656
+            narrow(word_to_long(routes)) * 65536
+                + narrow(word_to_long(second)) * 4294967296
+                + narrow(word_to_long(third)) * 281474976710656
         }
-        Reported::Refused(z) => byte(z),
+        Reported::Refused(z) => byte_to_long(z),
     }
 }
 
@@ -100,7 +85,7 @@ pub fn made(a: Made, count: u32) -> u64
 {
     match a {
         Made::Done => changed(false, false, count),
-        Made::Refused(z) => byte(z),
+        Made::Refused(z) => byte_to_long(z),
     }
 }
 
@@ -109,7 +94,7 @@ pub fn loaded(a: Loaded, count: u32) -> u64
 {
     match a {
         Loaded::Done => changed(false, false, count),
-        Loaded::Refused(z) => byte(z),
+        Loaded::Refused(z) => byte_to_long(z),
         Loaded::RefusedAt(z, k) => refused_at(z, k),
     }
 }
@@ -120,7 +105,7 @@ pub fn announced(a: Announce, count: u32) -> u64
     match a {
         Announce::Added(c) => changed(c, false, count),
         Announce::Replaced(c) => changed(c, true, count),
-        Announce::Refused(z) => byte(z),
+        Announce::Refused(z) => byte_to_long(z),
     }
 }
 
@@ -129,7 +114,7 @@ pub fn withdrawn(a: Withdraw, count: u32) -> u64
 {
     match a {
         Withdraw::Removed(c) => changed(c, false, count),
-        Withdraw::Refused(z) => byte(z),
+        Withdraw::Refused(z) => byte_to_long(z),
     }
 }
 
@@ -137,8 +122,8 @@ pub fn tree_found(f: TreeFound) -> u64
     ensures { λ r. ⌜ r ≡ packFound (saysTreeFound f) ⌝ }
 {
     match f {
-        TreeFound::Hop(h, n) => word(n) * 256 + half(h) * 65536,
-        TreeFound::NoRoute(n) => word(n) * 256,
+        TreeFound::Hop(h, n) => word_to_long(n) * 256 + half_to_long(h) * 65536,
+        TreeFound::NoRoute(n) => word_to_long(n) * 256,
         TreeFound::Broken => 13,
     }
 }
@@ -147,9 +132,10 @@ pub fn built(a: Built) -> u64
     ensures { λ r. ⌜ r ≡ packBuilt (saysBuilt a) ⌝ }
 {
     match a {
-        Built::Made(nodes, hops) => narrow(word(hops)) * 65536 + word(nodes) * 4294967296,
+        Built::Made(nodes, hops) => narrow(word_to_long(hops)) * 65536
+            + word_to_long(nodes) * 4294967296,
         Built::RefusedAt(z, k) => refused_at(z, k),
-        Built::Refused(z) => byte(z),
+        Built::Refused(z) => byte_to_long(z),
     }
 }
 
@@ -181,10 +167,10 @@ pub fn got(a: Got) -> u64
 {
     match a {
         Got::One(r) => {
-            byte(r.len) % 128 * 256
-                + byte(r.mark) % 2 * 32768
-                + half(r.hop) * 65536
-                + word(r.addr) * 4294967296
+            byte_to_long(r.len) % 128 * 256
+                + byte_to_long(r.mark) % 2 * 32768
+                + half_to_long(r.hop) * 65536
+                + word_to_long(r.addr) * 4294967296
         }
         Got::Nothing => 0,
         Got::Refused(z, k) => refused_at(z, k),

@@ -1,9 +1,9 @@
 // The answers of the calls on bit maps.
-use crate::byte;
-use crate::half;
 use crate::refused_at;
 use basic::check::BasicAnswer;
 use basic::lookup::BasicFound;
+use bits::widen::byte_to_long;
+use bits::widen::half_to_long;
 ghost use mathlib.Core.Path.{_≡_};
 ghost use Rattle.basic.specs.Calls.{saysBasicFound, saysBasicAnswer, packHop};
 ghost use Rattle.packing.specs.Pack.{packNone};
@@ -12,10 +12,10 @@ pub fn hop_found(a: BasicFound) -> u64
     ensures { λ r. ⌜ r ≡ packHop (saysBasicFound a) ⌝ }
 {
     match a {
-        BasicFound::Hop(h) => half(h) * 65536,
+        BasicFound::Hop(h) => half_to_long(h) * 65536,
         BasicFound::NoRoute => 0,
         BasicFound::RefusedAt(z, k) => refused_at(z, k),
-        BasicFound::Refused(z) => byte(z),
+        BasicFound::Refused(z) => byte_to_long(z),
     }
 }
 
@@ -25,6 +25,6 @@ pub fn answered(a: BasicAnswer) -> u64
     match a {
         BasicAnswer::Done => 0,
         BasicAnswer::RefusedAt(z, k) => refused_at(z, k),
-        BasicAnswer::Refused(z) => byte(z),
+        BasicAnswer::Refused(z) => byte_to_long(z),
     }
 }

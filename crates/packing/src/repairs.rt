@@ -1,6 +1,6 @@
 // The answer of a repair: a number, and four words beside it.
-use crate::byte;
-use crate::word;
+use bits::widen::byte_to_long;
+use bits::widen::word_to_long;
 use repair::repair::Repaired;
 ghost use mathlib.Core.Path.{_≡_};
 ghost use lib.ListN.{length};
@@ -29,8 +29,8 @@ pub fn repaired(a: Repaired, count: u32) -> u64
             first: _,
             second: _,
             third: _,
-        } => word(count) * 65536,
-        Repaired::Refused(z) => byte(z),
+        } => word_to_long(count) * 65536,
+        Repaired::Refused(z) => byte_to_long(z),
     }
 }
 

@@ -18,7 +18,7 @@ use Rattle.bits.proofs.Tabs.{length-tabulate, getD-tabulate, tabulate-ext}
 use Rattle.routes.specs.Route.{Fine, Good}
 use Rattle.standing.specs.Cells.{covers, within, any, lastHop}
 use Rattle.routes.specs.declared.Route.{Route}
-use Rattle.chain.specs.Words.{routeOf, routesIn, Words}
+use Rattle.chain.specs.Words.{addrOf, lenOf, hopOf, routeOf, routesIn, Words}
 use Rattle.chain.proofs.Decodes.{words-part, words-good}
 use Rattle.plan.specs.Plan.{planFrom, plannedFrom}
 use Rattle.plan.specs.Paint.{paintCell, painted, Paints}
@@ -89,10 +89,10 @@ module _ (r : Route) (p : ℕ) (fine : Fine r) (hp : p ≤ 32) where
       tabulate-ext (length l) _ _ (λ j g. rw (clipped cell end base (length l) j (omega arith) g) (painted-cell (base + j) (getD l j 0)))
 
 -- the code's range and value
-pub painted-by : (w p base : ℕ) (l after : List ℕ) (s v from to : ℕ) → Paints w p → s ≡ 2 ^ (p - w / 16777216 % 256)
-    → v ≡ cond (ltb p (w / 16777216 % 256)) 0 (32768 + w % 65536)
-    → from ≡ min (w / 4294967296 / 2 ^ (32 - p) - base) (length l)
-    → to ≡ min (w / 4294967296 / 2 ^ (32 - p) + s - base) (length l)
+pub painted-by : (w p base : ℕ) (l after : List ℕ) (s v from to : ℕ) → Paints w p → s ≡ 2 ^ (p - lenOf w)
+    → v ≡ cond (ltb p (lenOf w)) 0 (32768 + hopOf w)
+    → from ≡ min (addrOf w / 2 ^ (32 - p) - base) (length l)
+    → to ≡ min (addrOf w / 2 ^ (32 - p) + s - base) (length l)
     → after ≡ filled l from to v → after ≡ painted l p base (routeOf w)
 painted-by w p base l after s v from to q es ev ef et e = e ∙ rw (ef, et, es, ev) (painted-range (routeOf w) p (q .fine) (q .deep) l base)
 

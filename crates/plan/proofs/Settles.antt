@@ -3,7 +3,7 @@ use mathlib.Core.Path.{_≡_, refl, sym, ap, subst, _∙_}
 use mathlib.Core.Logic.{_⊎_, inl, inr}
 use mathlib.Core.Bool.{Bool, true, false, cond, not, _||_, or-true, false≢true}
 use mathlib.Core.List.{List, map-append}
-use Prim.Native.Nat.{ℕ, _+_, _-_, _/_, _%_, _^_, _<_, _≤_}
+use Prim.Native.Nat.{ℕ, _+_, _-_, _/_, _^_, _<_, _≤_}
 use native.Mathlib.Numerals.{add-one}
 use native.Mathlib.Omega.{arith}
 use lib.Dec.{eqb}
@@ -15,7 +15,7 @@ use Rattle.bits.proofs.Tabs.{length-tabulate, getD-tabulate, tabulate-ext, is-t
 use Rattle.bits.proofs.Tests.{decided, or-split}
 use Rattle.standing.specs.Cells.{within, any, long, covers, lastHop}
 use Rattle.routes.specs.declared.Route.{Route}
-use Rattle.chain.specs.Words.{routeOf, routesIn}
+use Rattle.chain.specs.Words.{addrOf, lenOf, routeOf, routesIn}
 use Rattle.plan.specs.Plan.{planFrom, plannedFrom}
 use Rattle.plan.specs.Part.{Names, Named, settled, Settled, Matches}
 use Rattle.plan.proofs.Plans.{any-snoc}
@@ -111,27 +111,27 @@ module _ (part own : List ℕ) (o : ℕ) (want : List ℕ) where
 -- one word: the cells of the part that its route lies within
 module _ (w p base : ℕ) (part own : List ℕ) (o : ℕ) (want : List ℕ) where
   abbrev cell : ℕ
-  cell = w / 4294967296 / 2 ^ (32 - p)
+  cell = addrOf w / 2 ^ (32 - p)
 
   abbrev hit : ℕ → Bool
   hit j = within p (base + j) (routeOf w)
 
-  missed : p < w / 16777216 % 256 → ((j : ℕ) → j < length want → cell ≡ base + j → ⊥) → Settled hit part own o want want true
-  missed h n = settled-none part own o want hit (λ j l. rw (lt-ltb p (w / 16777216 % 256) h) (ne-eqb cell (base + j) (n j l)))
+  missed : p < lenOf w → ((j : ℕ) → j < length want → cell ≡ base + j → ⊥) → Settled hit part own o want want true
+  missed h n = settled-none part own o want hit (λ j l. rw (lt-ltb p (lenOf w) h) (ne-eqb cell (base + j) (n j l)))
 
   -- it is no longer than the level; its cell lies before the part, or after it, or in it
-  pub one-short : w / 16777216 % 256 ≤ p → Settled hit part own o want want true
-  one-short h = settled-none part own o want hit (λ j l. rw (le-ltb p (w / 16777216 % 256) h))
+  pub one-short : lenOf w ≤ p → Settled hit part own o want want true
+  one-short h = settled-none part own o want hit (λ j l. rw (le-ltb p (lenOf w) h))
 
-  pub one-below : p < w / 16777216 % 256 → cell < base → Settled hit part own o want want true
+  pub one-below : p < lenOf w → cell < base → Settled hit part own o want want true
   one-below h m = missed h (λ j l e. omega arith)
 
-  pub one-above : p < w / 16777216 % 256 → base ≤ cell → length want ≤ cell - base → Settled hit part own o want want true
+  pub one-above : p < lenOf w → base ≤ cell → length want ≤ cell - base → Settled hit part own o want want true
   one-above h m q = missed h (λ j l e. omega arith)
 
-  pub one-in : (b : Bool) → p < w / 16777216 % 256 → base ≤ cell → cell - base < length want → Tells b (Names (getD part (cell - base) 0) own (o + (cell - base)))
+  pub one-in : (b : Bool) → p < lenOf w → base ≤ cell → cell - base < length want → Tells b (Names (getD part (cell - base) 0) own (o + (cell - base)))
       → Settled hit part own o want (set want (cell - base) (getD part (cell - base) 0)) b
-  one-in b h m u t = settled-one part own o want hit (cell - base) b u (λ j l. rw (lt-ltb p (w / 16777216 % 256) h) (go j (decided (eqb j (cell - base))))) t
+  one-in b h m u t = settled-one part own o want hit (cell - base) b u (λ j l. rw (lt-ltb p (lenOf w) h) (go j (decided (eqb j (cell - base))))) t
     where
       go : (j : ℕ) → (eqb j (cell - base) ≡ true) ⊎ (eqb j (cell - base) ≡ false) → eqb cell (base + j) ≡ eqb j (cell - base)
       go j (inl e) = let q : j ≡ cell - base = eqb-true j (cell - base) e in eq-eqb cell (base + j) (omega arith) ∙ sym e

@@ -8,6 +8,7 @@ ghost use lib.ListN.{length};
 ghost use Rattle.chain.specs.Words.{routeOf, routesIn};
 ghost use Rattle.plan.specs.Plan.{plannedFrom};
 ghost use Rattle.plan.specs.Paint.{painted, Paints, Plans};
+use bits::bytes;
 use buffers::fill::fill_range16;
 
 // How far x lies past base, at most n.
@@ -52,10 +53,10 @@ pub fn paint_one(w: u64, p: u32, base: usize, out: &mut [u16])
     ensures { λ _. ⌜ now (out .exit) ≡ painted (now (out .entry)) p base (routeOf w) ⌝ }
 {
     let n = out.len();
-    let len = (w / 16777216 % 256) as u32;
-    let cell = ((w / 4294967296) >> (32 - p)) as usize;
+    let len = (w / bytes::THREE % bytes::ONE) as u32;
+    let cell = ((w / bytes::FOUR) >> (32 - p)) as usize;
     let end = cell + span(p, len);
-    let v = ink(p, len, (w % 65536) as u16);
+    let v = ink(p, len, (w % bytes::TWO) as u16);
     fill_range16(out, clip(cell, base, n), clip(end, base, n), v);
 }
 

@@ -2,7 +2,7 @@
 // route: their plan becomes what they hold, and each must name a chunk that names it back. One plain comparison of the
 // whole part then does the rest.
 ghost use mathlib.Core.Path.{_≡_};
-ghost use Prim.Native.Nat.{_+_, _<_};
+ghost use Prim.Native.Nat.{_+_};
 ghost use lib.ListN.{length};
 ghost use Rattle.bits.specs.Tab.{Tells};
 ghost use Rattle.standing.specs.Cells.{within, long};
@@ -10,32 +10,23 @@ ghost use Rattle.chain.specs.Words.{routeOf, routesIn};
 ghost use Rattle.plan.specs.Plan.{plannedFrom};
 ghost use Rattle.plan.specs.Part.{Names, Settled, Matches, Beside, Judges};
 use super::paint::plan_words;
+use bits::bytes;
+use bits::widen::half_to_index;
+use bits::widen::word_to_index;
 use buffers::same::same16;
-
-fn wide(x: u16) -> usize
-    ensures { λ r. ⌜ (r ≡ x) × (r < 65536) ⌝ }
-{
-    x as usize
-}
-
-fn wide_owner(x: u32) -> usize
-    ensures { λ r. ⌜ r ≡ x ⌝ }
-{
-    x as usize
-}
 
 // Whether v is the number, from 1, of a chunk whose owner number is o.
 pub fn names(v: u16, own: &[u32], o: usize) -> bool
     ensures { λ r. ⌜ Tells r (Names v (now (own .entry)) o) ⌝ }
 {
-    let c = wide(v);
+    let c = half_to_index(v);
     if c == 0 {
         return false;
     }
     if own.len() < c {
         return false;
     }
-    wide_owner(own[c - 1]) == o
+    word_to_index(own[c - 1]) == o
 }
 
 // The cell that the route of a word lies within, where it is one of the part: its plan becomes what it holds. Says
@@ -53,11 +44,11 @@ pub fn settle_one(
     ensures { λ r. ⌜ Settled (λ j. within p (base + j) (routeOf w)) (now (part .entry)) (now (own .entry)) o (now (want .entry)) (now (want .exit)) r ⌝ }
 {
     let n = want.len();
-    let len = (w / 16777216 % 256) as u32;
+    let len = (w / bytes::THREE % bytes::ONE) as u32;
     if len <= p {
         return true;
     }
-    let cell = ((w / 4294967296) >> (32 - p)) as usize;
+    let cell = ((w / bytes::FOUR) >> (32 - p)) as usize;
     if cell < base {
         return true;
     }

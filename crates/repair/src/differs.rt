@@ -1,7 +1,7 @@
 // How many cells of a table differ from those that a load of an input would leave, counted before anything is written. Each
 // block of cells is compared with its plan, free chunks with 0; and a cell that is to name a chunk with that chunk's number,
 // by one pass over the owners that the load would leave.
-ghost use Prim.Native.Nat.{_+_, _-_, _*_, _^_, _≤_};
+ghost use Prim.Native.Nat.{_+_, _-_, _*_, _^_};
 ghost use mathlib.Core.Path.{_≡_};
 ghost use lib.ListN.{length, getD};
 ghost use Rattle.chain.specs.Words.{routesIn};
@@ -13,6 +13,7 @@ ghost use Rattle.sail_paint.specs.Paint.{standsFor};
 ghost use Rattle.sail_theory.specs.Calls.{inputRoutes};
 ghost use Rattle.repair.specs.Differs.{offPlan, offZero, offAt, offName, Counted, Differing, wanted, freshOwners};
 ghost use Rattle.repair.specs.Differs.{Blocked, Firsts, Chunked, Pooled, Named, Owned, Countable, Roomy};
+use bits::widen::half_to_index;
 use chain::list::chained;
 use chain::place::shifted;
 use plan::under::plan_under;
@@ -159,12 +160,6 @@ fn off_pool(
     m
 }
 
-fn wide(x: u16) -> usize
-    ensures { λ r. ⌜ r ≡ x ⌝ }
-{
-    x as usize
-}
-
 // How many chunks in use have a number, from 1, that the cell which they hang from does not hold.
 fn off_names(cells: &[u16], own: &[u32]) -> usize
     requires { ⌜ Named (now own) (now cells) ⌝ }
@@ -177,7 +172,7 @@ fn off_names(cells: &[u16], own: &[u32]) -> usize
         let o = seen(own, c);
         c += 1;
         if o != 0 {
-            if wide(cells[o - 1]) != c {
+            if half_to_index(cells[o - 1]) != c {
                 m += 1;
             }
         }

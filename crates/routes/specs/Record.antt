@@ -5,6 +5,7 @@ use mathlib.Core.List.{List, [], _∷_, _++_}
 use mathlib.Core.Path.{_≡_}
 use lib.Dec.{ltb}
 use lib.ListN.{length, getD, take, drop}
+use Rattle.bits.specs.Bytes.{above1, above2, above3, byte}
 use Rattle.bits.specs.Tab.{tabulate}
 use Rattle.routes.specs.Route.{key, Fine}
 use Rattle.routes.specs.declared.Route.{Route}
@@ -28,14 +29,14 @@ recordAt s k = record {
 -- the eight bytes of a route
 unfoldable pub bytesOf : Route → List ℕ
 bytesOf r =
-    r .addr / 16777216
-    ∷ r .addr / 65536 % 256
-    ∷ r .addr / 256 % 256
-    ∷ r .addr % 256
+    above3 (r .addr)
+    ∷ byte (above2 (r .addr))
+    ∷ byte (above1 (r .addr))
+    ∷ byte (r .addr)
     ∷ r .len
     ∷ r .mark
-    ∷ r .hop / 256
-    ∷ r .hop % 256
+    ∷ above1 (r .hop)
+    ∷ byte (r .hop)
     ∷ []
 
 -- s with record k made r

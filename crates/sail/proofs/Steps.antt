@@ -18,40 +18,49 @@ use Rattle.sail.specs.Geometry.{bits2, bits3}
 use Rattle.sail.specs.Lent.{Lent}
 use Rattle.sail.specs.Level.{whole}
 use Rattle.sail.specs.Sizes.{sizesFault, Sized, SizesTold}
-use Rattle.sail.specs.Pool.{Inside, Chunk}
+use Rattle.sail.specs.Pool.{Numbered, SecondChunk, Chunk}
 use Rattle.sail.specs.Walk.{place, cell2, cell3, leafSaid, stepSaid, oneOf, shut, walkSaid, foundSaid, lookupSaid}
 use Rattle.sail.specs.Word.{Word, saidOf}
 use Rattle.sail.specs.declared.geometry.Geometry.{Geometry}
 use Rattle.sail.specs.declared.table.Table.{Table}
 use Rattle.sail.proofs.Words.{word-of, word-five}
 
--- the place lies in the pool
+-- a place lies among its chunks
+pub place-lt : (n c k i : ℕ) → 1 ≤ c → c ≤ n → place k c i < n * 2 ^ k
+place-lt n c k i a b = digits-lt (omega arith) (mod-lt i (pow-pos k))
+
 pub place-in : (m n c k i : ℕ) → Chunk m n c k → place k c i < m
-place-in m n c k i h =
-    let a : (c - 1) * 2 ^ k + i % 2 ^ k < n * 2 ^ k = digits-lt (omega arith) (mod-lt i (pow-pos k)) in
-    omega arith
+place-in m n c k i h = omega (arith, place-lt n c k i (h .one) (h .last))
 
--- where a chunk begins, by a shift
-pub begin-is : (c k : ℕ) → c ≤ 4096 → k ≤ 10 → (c - 1) * 2 ^ k % 2 ^ 64 ≡ (c - 1) * 2 ^ k
-begin-is c k h l = shl-exact 12 k 64 (omega arith) (omega arith)
+-- a place, by shifts
+module _ (c d i : ℕ) (h : Numbered c d) where
+  size-is : 1 * 2 ^ d % 2 ^ 64 ≡ 2 ^ d
+  size-is = shl-one 64 d (omega arith)
 
-pub place-fits : (c k x : ℕ) → Inside c k x → (c - 1) * 2 ^ k % 2 ^ 64 + x < 2 ^ 64
-place-fits c k x h =
-    let a : (c - 1) * 2 ^ k + x < 4096 * 2 ^ k = digits-lt (omega arith) (h .inside) in
-    omega (arith, begin-is c k (h .last) (h .size), mul-le-mul-left 4096 (pow-mono (h .size)))
+  start-is : (c - 1) * 2 ^ d % 2 ^ 64 ≡ (c - 1) * 2 ^ d
+  start-is = shl-exact 32 d 64 (omega arith) (omega arith)
 
--- a place in a chunk, by a remainder
-pub inside-is : (c k i : ℕ) → 1 ≤ c → c ≤ 4096 → k ≤ 10 → Inside c k (i % (1 * 2 ^ k % 2 ^ 64))
-inside-is c k i a b h = record { one = a; last = b; size = h; inside = rw (shl-one 64 k (omega arith)) (mod-lt i (pow-pos k)) }
+  pub size-some : 0 < 1 * 2 ^ d % 2 ^ 64
+  size-some = omega (arith, size-is, pow-pos d)
 
-pub size-some : (k : ℕ) → k ≤ 10 → 0 < 1 * 2 ^ k % 2 ^ 64
-size-some k h = omega (arith, shl-one 64 k (omega arith), pow-pos k)
+  pub place-is : ((c - 1) * 2 ^ d % 2 ^ 64 + i % (1 * 2 ^ d % 2 ^ 64) ≡ place d c i)
+      × ((c - 1) * 2 ^ d % 2 ^ 64 + i % (1 * 2 ^ d % 2 ^ 64) < 281474976710656)
+  place-is =
+      let e : (c - 1) * 2 ^ d % 2 ^ 64 + i % (1 * 2 ^ d % 2 ^ 64) ≡ place d c i = rw (start-is, size-is) in
+      (e, omega (arith, e, place-lt 4294967296 c d i (h .one) (h .few), mul-le-mul-left 4294967296 (pow-mono (h .size))))
 
-pub place-is : (c k i r : ℕ) → k ≤ 10 → r ≡ (c - 1) * 2 ^ k + i % (1 * 2 ^ k % 2 ^ 64) → r ≡ place k c i
-place-is c k i r h e = e ∙ ap (λ (y : ℕ). (c - 1) * 2 ^ k + i % y) (shl-one 64 k (omega arith))
+pub chunk-numbered : (m n c k : ℕ) → Chunk m n c k → Numbered c k
+chunk-numbered m n c k h = record { one = h .one; few = omega arith; size = omega arith }
 
-pub reads-in : (m n c k i r : ℕ) → Chunk m n c k → r ≡ (c - 1) * 2 ^ k + i % (1 * 2 ^ k % 2 ^ 64) → r < m
-reads-in m n c k i r h e = omega (arith, place-is c k i r (h .size) e, place-in m n c k i h)
+-- the second cell of an address
+module _ (g : Geometry) (c : ℕ) (h : SecondChunk g c) where
+  pub second-numbered : Numbered c (bits2 g)
+  second-numbered = let v = h .valid in record { one = h .one; few = omega arith; size = omega arith }
+
+  pub second-is : (a i r : ℕ) → i ≡ slot (g .p2) a → r ≡ place (bits2 g) c i → (r ≡ place (bits2 g) c (slot (g .p2) a)) × (r < 67108864)
+  second-is a i r e f =
+      let z = mul-le-mul-left 65536 (pow-mono (h .valid .near)) in
+      (f ∙ ap (place (bits2 g) c) e, omega (arith, f, place-lt 65536 c (bits2 g) i (h .one) (h .few)))
 
 -- a chunk's number
 pub named : (m v : ℕ) → oneOf m v ≡ true → (1 ≤ v) × (v ≤ m)

@@ -22,6 +22,7 @@ pub mod answers;
 
 use crate::answers::Announce;
 use crate::answers::Announced;
+use bits::widen::byte_to_word;
 use lists::edit;
 use lists::edit::Put;
 use lists::place::place;
@@ -173,7 +174,7 @@ fn add(
         list,
         m,
         r.addr,
-        record::wide(r.len),
+        byte_to_word(r.len),
         first,
         second,
         third,

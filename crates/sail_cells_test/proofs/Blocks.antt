@@ -3,20 +3,19 @@ use mathlib.Core.Path.{_≡_, sym, ap, _∙_}
 use mathlib.Core.Bool.{Bool, true, false, not}
 use mathlib.Core.List.{List}
 use Prim.Native.Nat.{ℕ, _+_, _-_, _*_, _/_, _%_, _^_, _≤_, _<_}
-use native.Mathlib.Nat.{mod-lt, mul-le-mul}
+use native.Mathlib.Nat.{mul-le-mul}
 use native.Mathlib.Omega.{arith}
 use lib.ListN.{length, take, drop}
-use lib.Pow.{pow-add, pow-pos, pow-mono, shl-exact}
+use lib.Pow.{pow-add, pow-mono, shl-exact}
 use lib.Seq.{length-take-le}
 use borrow.Rule.Slice.PartMut.{mid-len}
 use Rattle.bits.specs.Tab.{Tells}
-use Rattle.bits.proofs.Slots.{shl-one}
 use Rattle.routes.specs.declared.Route.{Route}
 use Rattle.plan.specs.Part.{Right}
 use Rattle.plan.specs.Under.{Tested}
 use Rattle.bits.proofs.Tells.{is-yes, refuted, passed}
 use Rattle.sail.specs.Geometry.{Power}
-use Rattle.sail_cells_test.specs.Pool.{partAt, Blocked, FirstCells, Stands}
+use Rattle.sail_cells_test.specs.Pool.{partAt, Blocked, FirstCells}
 use Rattle.sail_cells_test.proofs.Cells.{UpTo, none-yet, one-more, part-in}
 
 -- the place of a chunk, by a shift
@@ -98,22 +97,3 @@ module _ (ws par : List ℕ) (p : ℕ) (first : List ℕ) (o : ℕ) (want : List
         let e = powers in
         let s : b * 1024 ≡ length first = omega arith in
         is-yes (rw s at f)
-
--- the cell that a place stands for, by shifts
-module _ (x q e : ℕ) (h : Stands x e) where
-  size-is : 1 * 2 ^ e % 2 ^ 64 ≡ 2 ^ e
-  size-is = shl-one 64 e (omega arith)
-
-  pub size-some : 0 < 1 * 2 ^ e % 2 ^ 64
-  size-some = omega (arith, size-is, pow-pos e)
-
-  cell-is : (x - 1) * 2 ^ e % 2 ^ 64 ≡ (x - 1) * 2 ^ e
-  cell-is = shl-exact 16 e 64 (omega arith) (omega arith)
-
-  pub stands-is : ((x - 1) * 2 ^ e % 2 ^ 64 + q % (1 * 2 ^ e % 2 ^ 64) ≡ (x - 1) * 2 ^ e + q % 2 ^ e) × ((x - 1) * 2 ^ e % 2 ^ 64 + q % (1 * 2 ^ e % 2 ^ 64) < 2 ^ 63)
-  stands-is =
-      let m = mod-lt q size-some in
-      let z = pow-mono (h .small) in
-      let a : x - 1 ≤ 65536 = omega arith in
-      let u = mul-le-mul a z in
-      (rw (cell-is, size-is), omega (arith, cell-is, size-is))

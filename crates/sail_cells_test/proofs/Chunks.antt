@@ -1,8 +1,8 @@
 -- A chunk in use, and a free one, as the code tests them. Assumes nothing.
-use mathlib.Core.Path.{_≡_, sym, _∙_}
+use mathlib.Core.Path.{_≡_, sym, ap, _∙_}
 use mathlib.Core.Bool.{Bool, true, false, true≢false}
 use mathlib.Core.List.{List}
-use Prim.Native.Nat.{ℕ, suc, _+_, _-_, _*_, _/_, _%_, _^_, _≤_, _<_}
+use Prim.Native.Nat.{ℕ, suc, _+_, _-_, _*_, _/_, _^_, _≤_, _<_}
 use native.Mathlib.Nat.{mod-lt, div-lt-iff-lt-mul, mul-le-mul-right, add-mul, one-mul}
 use native.Mathlib.Omega.{arith}
 use lib.Arith.{digits-lt}
@@ -17,7 +17,9 @@ use Rattle.plan.specs.Part.{Right}
 use Rattle.bits.proofs.Tells.{is-no, is-yes, tells-same}
 use Rattle.sail.specs.Geometry.{Power}
 use Rattle.sail.specs.Level.{itself, liveIn, partOf, entry}
-use Rattle.sail_cells_test.specs.Pool.{partAt, Hung, HookedChunk, Free, Chunked, Stands, Hooks, Hook, Hanging, Pooled}
+use Rattle.sail.specs.Pool.{Numbered}
+use Rattle.sail.specs.Walk.{place}
+use Rattle.sail_cells_test.specs.Pool.{partAt, Hung, HookedChunk, Free, Chunked, Hooks, Hook, Hanging, Pooled}
 
 -- the answers of `hung_ok`
 module _ (rs : List Route) (p d : ℕ) (above cells below : List ℕ) (c o q i v : ℕ) where
@@ -38,15 +40,20 @@ module _ (up : List ℕ) (e n q : ℕ) where
   pub hook-free : getD up (q / 2 ^ e) 0 ≡ 0 → Hook up e n q 0
   hook-free z = record { none = λ y u. le-ltb 0 (getD up (q / 2 ^ e) 0) (omega arith); inside = λ u. absurd (omega arith); lives = λ u. absurd (omega arith); cell = λ u. absurd (omega arith) }
 
-  pub hook-at : q < n → (getD up (q / 2 ^ e) 0 ≡ 0 → ⊥) → (r : ℕ) → (r ≡ (getD up (q / 2 ^ e) 0 - 1) * 2 ^ e + q % 2 ^ e) × (r < 2 ^ 63) → Hook up e n q (1 + r)
-  hook-at l z r f = record { none = λ y u. absurd (omega arith); inside = λ u. l; lives = λ u. lt-ltb 0 (getD up (q / 2 ^ e) 0) (omega (arith, z)); cell = λ u. omega arith }
+  pub hook-at : q < n → (x : ℕ) → x ≡ getD up (q / 2 ^ e) 0 → (x ≡ 0 → ⊥) → (r : ℕ) → r ≡ place e x q → Hook up e n q (1 + r)
+  hook-at l x i z r f = record {
+    none = λ y u. absurd (omega arith);
+    inside = λ u. l;
+    lives = λ u. lt-ltb 0 (getD up (q / 2 ^ e) 0) (omega (arith, z));
+    cell = λ u. let g : 1 + r - 1 ≡ r = omega arith in g ∙ f ∙ ap (λ (y : ℕ). place e y q) i;
+  }
 
   module _ (h : Hooks up e n) where
     pub up-room : q < n → q / 2 ^ e < length up
     up-room l = div-lt-iff-lt-mul (pow-pos e) .1 (omega arith)
 
-    pub stands : (getD up (q / 2 ^ e) 0 ≡ 0 → ⊥) → Stands (getD up (q / 2 ^ e) 0) e
-    stands z = record { one = omega (arith, z); few = h .owners (q / 2 ^ e); small = h .small }
+    pub owner-numbered : (x : ℕ) → x ≡ getD up (q / 2 ^ e) 0 → (x ≡ 0 → ⊥) → Numbered x e
+    owner-numbered x i z = record { one = omega (arith, z); few = omega (arith, h .owners (q / 2 ^ e)); size = h .small }
 
 -- the chunk begins and ends in its pool
 pub chunk-room : (c n k : ℕ) → c < n → c * k + k ≤ n * k

@@ -84,12 +84,6 @@ pub record Hanging (ws par : List ℕ) (p d : ℕ) (above : List ℕ) (q i : ℕ
   pub place : q < length above
   pub number : c < 4096
 
--- an owner and the size of its chunk
-pub record Stands (x e : ℕ) : Type 0 where
-  pub one : 1 ≤ x
-  pub few : x ≤ 65536
-  pub small : e ≤ 16
-
 -- a pool of n places, by the owners of its chunks of 2 ^ e cells
 pub record Hooks (up : List ℕ) (e n : ℕ) : Type 0 where
   pub small : e ≤ 16

@@ -1,16 +1,19 @@
 // The test of cells: blocks and chunks of them beside the routes. The same functions serve every level and every chunk
 // size. Scratch for the plan of a block is lent to them.
 ghost use mathlib.Core.Path.{_≡_};
-ghost use Prim.Native.Nat.{_+_, _-_, _*_, _%_, _^_, _≤_, _<_};
+ghost use Prim.Native.Nat.{_+_, _*_, _^_, _≤_, _<_};
 ghost use lib.ListN.{length, getD};
 ghost use Rattle.bits.specs.Tab.{Tells};
 ghost use Rattle.chain.specs.Words.{routesIn};
 ghost use Rattle.plan.specs.Part.{Right};
 ghost use Rattle.sail.specs.Geometry.{Power};
-ghost use Rattle.sail_cells_test.specs.Pool.{partAt, Hung, HookedChunk, HookedPool, Free, FreeAll, Chunked, Blocked, FirstCells, Stands, Hooks, Hook, Hanging, Pooled};
+ghost use Rattle.sail_cells_test.specs.Pool.{partAt, Hung, HookedChunk, HookedPool, Free, FreeAll, Chunked, Blocked, FirstCells, Hooks, Hook, Hanging, Pooled};
+use bits::widen::half_to_index;
+use bits::widen::word_to_index;
 use buffers::zeros::zeros16;
 use chain::place::shifted;
 use plan::under::right_under;
+use sail::place::place;
 
 // How many cells a block has whose places take d bits.
 fn size(d: u32) -> usize
@@ -18,18 +21,6 @@ fn size(d: u32) -> usize
     ensures { λ r. ⌜ Power r d 1024 ⌝ }
 {
     1usize << d
-}
-
-fn wide(x: u16) -> usize
-    ensures { λ r. ⌜ (r ≡ x) × (r < 65536) ⌝ }
-{
-    x as usize
-}
-
-fn wide_owner(x: u32) -> usize
-    ensures { λ r. ⌜ (r ≡ x) × (r < 4294967296) ⌝ }
-{
-    x as usize
 }
 
 // Whether the 2^d cells from place a on are as the routes ask for the cells of level p that lie in cell i of level p - d.
@@ -109,18 +100,10 @@ pub fn hung_ok(
     requires { ⌜ Hanging (now ws) (now par) p d (now above) q i (now cells) c o (now want) ⌝ }
     ensures { λ r. ⌜ Tells r (Hung (routesIn (now (ws .entry))) p d (now (above .entry)) (now (cells .entry)) (now (below .entry)) c o q i) ⌝ }
 {
-    if wide(above[q]) != c + 1 {
+    if half_to_index(above[q]) != c + 1 {
         return false;
     }
     block_ok(ws, par, p, d, i, cells, start(c, d), o, below, want)
-}
-
-// The cell that place q of a pool stands for, where its chunk has 2^e cells and the owner x.
-fn stands_for(x: u32, q: usize, e: u32) -> u64
-    requires { ⌜ Stands x e ⌝ }
-    ensures { λ r. ⌜ (r ≡ (x - 1) * 2 ^ e + q % 2 ^ e) × (r < 2 ^ 63) ⌝ }
-{
-    (((x - 1) as u64) << e) + (q as u64) % (1u64 << e)
 }
 
 // 1 + the cell that place q of a pool of n places stands for, and 0 where it is no place or its chunk is free. The pool's
@@ -133,11 +116,11 @@ fn hook(up: &[u32], e: u32, n: usize, q: usize) -> u64
         return 0;
     }
     let k = q >> e;
-    let x = up[k];
+    let x = word_to_index(up[k]);
     if x == 0 {
         return 0;
     }
-    1 + stands_for(x, q, e)
+    1 + place(x, e, q) as u64
 }
 
 // Whether chunk c of a pool is free, or hangs from the pool above and is right. The cells of the pool above lie in chunks of
@@ -161,7 +144,7 @@ fn chunk_ok(
     ensures { λ r. ⌜ Tells r (HookedChunk (routesIn (now (ws .entry))) p d (now (up .entry)) e (now (above .entry)) (now (cells .entry)) (now (below .entry)) c (getD (now (own .entry)) c 0)) ⌝ }
 {
     let a = start(c, d);
-    let o = wide_owner(own[c]);
+    let o = word_to_index(own[c]);
     if o == 0 {
         return true;
     }

@@ -3,7 +3,7 @@ use mathlib.Core.Path.{_≡_, sym, _∙_, ap}
 use mathlib.Core.Logic.{_⊎_, inl, inr}
 use mathlib.Core.Bool.{Bool, true, false, _&&_, cond}
 use mathlib.Core.List.{List}
-use Prim.Native.Nat.{ℕ, suc, _+_, _-_, _*_, _%_, _^_, _≤_, _<_}
+use Prim.Native.Nat.{ℕ, suc, _+_, _-_, _^_, _≤_, _<_}
 use native.Mathlib.Numerals.{add-one}
 use native.Mathlib.Omega.{arith}
 use lib.Dec.{ltb, leb}
@@ -17,6 +17,7 @@ use Rattle.standing.specs.Cells.{long}
 use Rattle.routes.specs.declared.Route.{Route}
 use Rattle.sail.specs.Geometry.{bits2, Valid}
 use Rattle.sail.specs.Level.{Level, chunksOf, level1, level2}
+use Rattle.sail.specs.Walk.{place}
 use Rattle.sail.specs.declared.geometry.Geometry.{Geometry}
 use Rattle.sail_theory.specs.Render.{find}
 use Rattle.sail_theory.specs.Calls.{opening}
@@ -98,7 +99,7 @@ module _ (g : Geometry) (rs : List Route) (r : Route) (first second own2 own3 : 
       go (inr d) = rw (k .chunk h d)
 
   pub opened-third : (c : ℕ) → c ≡ cond (o .second) (find own2 0) (o .chunk) → (q : ℕ) (own : List ℕ)
-      → q ≡ c * 2 ^ bits2 g + slot (g .p2) (r .addr) % 2 ^ bits2 g → own ≡ hung (o .third) (q + 1) own3
+      → q ≡ place (bits2 g) (c + 1) (slot (g .p2) (r .addr)) → own ≡ hung (o .third) (q + 1) own3
       → own ≡ opening (level2 g (chunksOf next2)) own3 r
   unfolding hung
   opened-third c z q own e h =
@@ -109,7 +110,7 @@ module _ (g : Geometry) (rs : List Route) (r : Route) (first second own2 own3 : 
       go (inl y) =
           let v = w .serving .valid in
           let u = alone-longer rs (g .p2) (r .addr) (r .len) (sym (k .third) ∙ y) in
-          let n : c ≡ find next2 (suc (slot (g .p1) (r .addr))) = served-by c z (omega arith) in
+          let n : c + 1 - 1 ≡ find next2 (suc (slot (g .p1) (r .addr))) = omega (arith, served-by c z (omega arith)) in
           ap (λ (x : ℕ). hung (o .third) x own3) (add-one q ∙ ap suc (e ∙ rw n))
 
 -- the owner of a second chunk is small

@@ -2,18 +2,18 @@
 use mathlib.Core.Path.{_≡_, sym, _∙_, ap}
 use mathlib.Core.Bool.{true, false, not, true≢false}
 use mathlib.Core.List.{List}
-use Prim.Native.Nat.{ℕ, _+_, _-_, _*_, _%_, _^_, _≤_, _<_}
-use native.Mathlib.Nat.{mul-le-mul, mod-lt}
+use Prim.Native.Nat.{ℕ, _+_, _*_, _%_, _^_, _≤_, _<_}
 use native.Mathlib.Omega.{arith}
 use lib.ListN.{getD, length}
 use borrow.Author.Tests.{le-leb, lt-leb, not-true, not-false}
 use Rattle.bits.specs.Slot.{slot}
 use Rattle.standing.specs.Cells.{long}
 use Rattle.routes.specs.declared.Route.{Route}
-use Rattle.sail.specs.Geometry.{bits2, Power}
+use Rattle.sail.specs.Geometry.{bits2}
 use Rattle.sail.specs.Lent.{Lent}
 use Rattle.sail.specs.Level.{Level, entry, chunksOf, level1, level2}
 use Rattle.sail.specs.Sound.{Shows, Sound, standing}
+use Rattle.sail.specs.Walk.{place}
 use Rattle.sail.specs.declared.geometry.Geometry.{Geometry}
 use Rattle.sail.specs.declared.table.Table.{Table}
 use Rattle.sail.proofs.Places.{names-exactly}
@@ -21,13 +21,6 @@ use Rattle.standing.proofs.TwoLevels.{slot-down, short-down}
 use Rattle.sail_theory.proofs.places.Places.{LiveFor, top-served, below-served}
 use Rattle.sail_theory.proofs.places.Pools.{shown-node, shows-fits, shows-shown}
 use Rattle.sail_chunks.specs.Trail.{Told, Serving, Trailed}
-
--- a place is small
-pub place-bound : (n d c i : ℕ) → c < 65536 → Power n d 1024 → (c * n ≤ 67108864) × (i % n < 1024)
-place-bound n d c i h p = (omega (arith, mul-le-mul (let z : c ≤ 65536 = omega arith in z) (p .few)), omega (arith, mod-lt i (p .some), p .few))
-
-pub place-is : (n d c i x : ℕ) → c < 65536 → Power n d 1024 → x ≡ i → (c * n + x % n ≡ c * 2 ^ d + i % 2 ^ d) × (c * n + x % n < 67109888)
-place-is n d c i x h p e = let b = place-bound n d c x h p in (rw (e, p .is), omega (arith, b .0, b .1))
 
 -- in a sound table they do
 pub serving-of : (t : Table) (l : Lent) → Sound t l → Serving (t .geometry) (standing t l) (l .first) (l .second) (l .own2) (l .own3)
@@ -75,7 +68,7 @@ module _ (g : Geometry) (rs : List Route) (first second own2 own3 : List ℕ) (s
       pub named-small : (1 ≤ x) × (x ≤ 4096)
       named-small = let n = s .shows1 .node (slot (g .p1) a) (served1 .inside) (served1 .used) deeper in rw e (n .one, omega (arith, n .last, s .few2))
 
-      module _ (q : ℕ) (p : q ≡ (x - 1) * 2 ^ bits2 g + slot (g .p2) a % 2 ^ bits2 g) where
+      module _ (q : ℕ) (p : q ≡ place (bits2 g) x (slot (g .p2) a)) where
         is-place : q ≡ level2 g (chunksOf own2) .serving a
         is-place = let n = first-told .node deeper in p ∙ ap (λ (y : ℕ). y * 2 ^ bits2 g + slot (g .p2) a % 2 ^ bits2 g) (omega arith)
 

@@ -2,7 +2,7 @@
 use mathlib.Core.Bool.{true, not}
 use mathlib.Core.List.{List}
 use mathlib.Core.Path.{_≡_}
-use Prim.Native.Nat.{ℕ, suc, _*_, _^_, _≤_, _<_}
+use Prim.Native.Nat.{ℕ, suc, _*_, _^_, _≤_}
 use lib.Dec.{leb}
 use lib.ListN.{length}
 use Rattle.bits.specs.Slot.{slot}
@@ -34,8 +34,3 @@ pub record Serving (g : Geometry) (rs : List Route) (first second own2 own3 : Li
 pub record Trailed (g : Geometry) (rs : List Route) (own2 own3 : List ℕ) (a x1 x2 : ℕ) : Type 0 where
   pub first : Told rs (level1 g) own2 a x1
   pub second : Told rs (level2 g (chunksOf own2)) own3 a x2
-
--- a chunk of a second pool
-pub record Chunk (g : Geometry) (c : ℕ) : Type 0 where
-  pub valid : Valid g
-  pub few : c < 65536

@@ -12,9 +12,9 @@ ghost use Rattle.sail_chunks.specs.Opening.{Named, Openable, Opens};
 use crate::chunks::chunk_named;
 use crate::chunks::hang;
 use crate::trail::follow;
-use crate::trail::place;
+use bits::widen::byte_to_word;
 use routes::Route;
-use routes::record::wide;
+use sail::place::second_place;
 use sail::table::Table;
 
 // Whether a second and whether a third chunk is to be opened; and the second chunk that serves the prefix, from 0, where one
@@ -60,7 +60,7 @@ pub fn to_open(
     ensures { λ r. ⌜ Opens (t .geometry) (routesOf (now (list .entry)) (t .count)) (now (own2 .entry)) addr len r ⌝ }
 {
     let g = t.geometry;
-    let l = wide(len);
+    let l = byte_to_word(len);
     let v = follow(t, list, first, second, own2, own3, addr);
     let two = leaf_under(v.first, g.p1, l);
     let three = leaf_under(v.second, g.p2, l);
@@ -89,7 +89,7 @@ pub fn open(
     let addr = r.addr;
     let o = to_open(t, list, first, second, own2, own3, addr, r.len);
     let c = chunk_for(o.second, o.chunk, own2);
-    let q = place(g, c, addr);
+    let q = second_place(g, c + 1, addr);
     hang(own2, o.second, bits::slot(g.p1, addr) + 1);
     hang(own3, o.third, q as u32 + 1);
 }

@@ -22,8 +22,10 @@ use Rattle.chain.specs.Place.{underKey, RunFrom, Run}
 use Rattle.chain.specs.Cover.{addrIn}
 use Rattle.chain.proofs.Places.{keys}
 use Rattle.bits.proofs.Tells.{is-no, is-yes}
+use Rattle.sail.specs.Pool.{Numbered}
+use Rattle.sail.specs.Walk.{place}
 use Rattle.sail_counts.specs.Tick.{placeIn}
-use Rattle.sail_counts.specs.Test.{idle, lenIn, cellIn, Told, Tallied, Goes, RunTold}
+use Rattle.sail_counts.specs.Test.{idle, lenIn, cellIn, Told, Tallied, Goes, RunTold, Led}
 
 -- the answers of `idle_count`
 module _ (v n : ℕ) where
@@ -135,24 +137,32 @@ module _ (ws : List ℕ) (p k : ℕ) (longer : p < lenIn ws k) (b : Bool) (t : T
   pub run-from : Words ws → p ≤ 32 → k < length ws → RunFrom ws p (cellIn ws p k) k
   run-from good level l = run-begins ws good p level k l longer no-run
 
--- a place under another name has a count
-pub counted-there : (q q′ n : ℕ) → q ≡ q′ → q′ < n → q < n
-counted-there q q′ n e l = omega arith
-
 -- the answers of `run_ok`
 module _ (ws : List ℕ) (p d : ℕ) (above counts : List ℕ) (k : ℕ) where
   pub run-on : (b : Bool) → Tells b (Goes ws p (cellIn ws p k) k) → b ≡ true → Tells true (RunTold ws p d above counts k)
   run-on b t e = is-yes (record { begins = λ z n. absurd (n (t .0 e)) })
 
-  pub run-told : (longer : p < lenIn ws k) (b : Bool) (t : Tells b (Goes ws p (cellIn ws p k) k)) (off : b ≡ false) (q n end : ℕ)
-      → q ≡ placeIn d above (cellIn ws p k) → n ≡ getD counts q 0 → Run ws p (cellIn ws p k) k end
-      → Tells (eqb n (end - k)) (RunTold ws p d above counts k)
-  run-told longer b t off q n end at is run =
-      let m = run-many ws p (cellIn ws p k) k end run in
-      let c : n ≡ getD counts (placeIn d above (cellIn ws p k)) 0 = is ∙ ap (λ (x : ℕ). getD counts x 0) at in (
-        λ e. record { begins = λ _ _. record { count = sym c ∙ eqb-true n (end - k) e ∙ sym m } },
-        λ w. eq-eqb n (end - k) (c ∙ w .begins longer (no-run ws p k longer b t off) .count ∙ m),
-      )
+  -- the word is longer than p, and v is the cell above that names the chunk of its cell
+  module _ (w : Led ws p d above counts) (l : k < length ws) (longer : p < lenIn ws k) (v : ℕ)
+      (is-cell : (v ≡ getD above (cellIn ws p k / 2 ^ d) 0) × (v < 65536)) where
+    pub names-numbered : Numbered v d
+    names-numbered = record { one = rw (is-cell .0) (w .some k l longer); few = omega (arith, is-cell .1); size = w .small }
+
+    module _ (q : ℕ) (at : q ≡ place d v (cellIn ws p k)) where
+      place-of : q ≡ placeIn d above (cellIn ws p k)
+      place-of = at ∙ ap (λ (x : ℕ). place d x (cellIn ws p k)) (is-cell .0)
+
+      pub counted-there : q < length counts
+      counted-there = omega (arith, place-of, w .inside k l longer)
+
+      pub run-told : (b : Bool) (t : Tells b (Goes ws p (cellIn ws p k) k)) (off : b ≡ false) (n end : ℕ)
+          → n ≡ getD counts q 0 → Run ws p (cellIn ws p k) k end → Tells (eqb n (end - k)) (RunTold ws p d above counts k)
+      run-told b t off n end is run =
+          let m = run-many ws p (cellIn ws p k) k end run in
+          let c : n ≡ getD counts (placeIn d above (cellIn ws p k)) 0 = is ∙ ap (λ (x : ℕ). getD counts x 0) place-of in (
+            λ e. record { begins = λ _ _. record { count = sym c ∙ eqb-true n (end - k) e ∙ sym m } },
+            λ r. eq-eqb n (end - k) (c ∙ r .begins longer (no-run ws p k longer b t off) .count ∙ m),
+          )
 
 -- where the cells of all runs are counted, those of all long words are: a word that begins no run lies in the cell of the word before it
 pub all-told : (ws : List ℕ) (p d : ℕ) (above counts : List ℕ) → ((k : ℕ) → k < length ws → RunTold ws p d above counts k) → Tallied ws p d above counts

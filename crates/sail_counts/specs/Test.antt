@@ -2,13 +2,13 @@
 use mathlib.Core.Bool.{Bool, true, _||_}
 use mathlib.Core.List.{List, [], _∷_}
 use mathlib.Core.Path.{_≡_}
-use Prim.Native.Nat.{ℕ, _+_, _-_, _*_, _/_, _%_, _^_, _≤_, _<_}
+use Prim.Native.Nat.{ℕ, _+_, _-_, _*_, _/_, _^_, _≤_, _<_}
 use lib.Dec.{eqb, leb}
 use lib.ListN.{length, getD}
 use Rattle.bits.specs.Slot.{slot}
 use Rattle.standing.specs.Cells.{within}
 use Rattle.counts.specs.Counts.{howMany}
-use Rattle.chain.specs.Words.{routeOf, routesIn, Words}
+use Rattle.chain.specs.Words.{lenOf, routeOf, routesIn, Words}
 use Rattle.chain.specs.Cover.{addrIn}
 use Rattle.sail.specs.Geometry.{bits2, Valid}
 use Rattle.sail.specs.Level.{entry, chunksOf, level1, level2}
@@ -26,7 +26,7 @@ pub record Idle (cells counts : List ℕ) : Type 0 where
 
 -- the length of word k, and its cell of level p
 abbrev pub lenIn : List ℕ → ℕ → ℕ
-lenIn ws k = getD ws k 0 / 16777216 % 256
+lenIn ws k = lenOf (getD ws k 0)
 
 abbrev pub cellIn : List ℕ → ℕ → ℕ → ℕ
 cellIn ws p k = slot p (addrIn ws k)

@@ -3,18 +3,16 @@ use mathlib.Core.Bool.{true, false}
 use mathlib.Core.List.{List}
 use mathlib.Core.Logic.{_⊎_, inl, inr}
 use mathlib.Core.Path.{_≡_, refl, sym, ap, _∙_}
-use Prim.Native.Nat.{ℕ, _+_, _-_, _*_, _/_, _%_, _^_, _≤_, _<_}
-use native.Mathlib.Nat.{mod-lt, mul-le-mul-left, mul-le-mul-right}
+use Prim.Native.Nat.{ℕ, _+_, _-_, _/_, _%_, _^_, _≤_, _<_}
 use native.Mathlib.Omega.{arith}
-use lib.Arith.{digits-lt}
 use lib.Dec.{leb, eqb}
 use lib.ListN.{length, getD, set}
-use lib.Pow.{pow-pos, pow-mono, shl-exact}
 use lib.Seq.{set-getD}
 use borrow.Author.Tests.{le-leb, lt-leb, eq-eqb, ne-eqb}
 use Rattle.bits.specs.Slot.{slot}
-use Rattle.bits.proofs.Slots.{shl-one, slot-lt}
+use Rattle.bits.proofs.Slots.{slot-lt}
 use Rattle.bits.proofs.Tests.{below?}
+use Rattle.sail.specs.Pool.{Chunk}
 use Rattle.sail.specs.Walk.{place, oneOf}
 use Rattle.sail_many.specs.Words.{cellWord, chunkOf, word2, word3, thirdWord, put, Firsts, Whole, Points}
 
@@ -22,19 +20,9 @@ use Rattle.sail_many.specs.Words.{cellWord, chunkOf, word2, word3, third
 pub first-there : (p1 n a : ℕ) → Firsts p1 n → a < 2 ^ 32 → slot p1 a < n
 first-there p1 n a h b = omega (arith, slot-lt p1 a (omega arith) b)
 
--- a place in a pool, by a shift and a remainder
-module _ (n m k c i : ℕ) (h : Whole n m k) (b : c < m) where
-  begins : c * 2 ^ k % 2 ^ 64 ≡ c * 2 ^ k
-  begins = shl-exact 12 k 64 (omega arith) (omega arith)
-
-  pub spot-is : c * 2 ^ k % 2 ^ 64 + i % (1 * 2 ^ k % 2 ^ 64) ≡ place k (c + 1) i
-  spot-is = rw (begins, shl-one 64 k (omega arith)) (ap (λ (x : ℕ). x * 2 ^ k + i % 2 ^ k) (omega arith))
-
-  pub spot-in : c * 2 ^ k % 2 ^ 64 + i % (1 * 2 ^ k % 2 ^ 64) < n
-  spot-in = rw (begins, shl-one 64 k (omega arith)) (omega (arith, digits-lt b (mod-lt i (pow-pos k))))
-
-  pub spot-small : c * 2 ^ k % 2 ^ 64 + i % (1 * 2 ^ k % 2 ^ 64) < 4096 * 1024
-  spot-small = omega (arith, spot-in, mul-le-mul-right (2 ^ k) (h .few), mul-le-mul-left 4096 (pow-mono (h .size)))
+-- a chunk that is one of a pool's
+pub chunk-of : (n m k c : ℕ) → Whole n m k → c < m → Chunk n m (c + 1) k
+chunk-of n m k c h b = record { cells = h .cells; one = omega arith; last = omega arith; few = h .few; size = h .size }
 
 -- one step of a word, by where it leads
 module _ (p1 p2 : ℕ) (second : List ℕ) (m a w v : ℕ) (e : chunkOf w ≡ v) where

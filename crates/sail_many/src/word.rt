@@ -5,6 +5,7 @@ ghost use lib.ListN.{length, getD};
 ghost use Rattle.bits.specs.Slot.{slot};
 ghost use Rattle.sail.specs.Walk.{place};
 ghost use Rattle.sail_many.specs.Words.{cellWord, word3, step1, step2, step3, put, Firsts, Below, Whole, Points, Spot};
+use sail::place::place;
 
 // The word of a cell that was read as the n-th. A leaf's is the answer. Any other's has its top bit set.
 fn word(v: u16, n: u32) -> u32
@@ -26,7 +27,7 @@ fn fetch(pool: &[u16], chunks: usize, c: usize, k: u32, i: u32) -> u16
     requires { ⌜ Whole (length (now pool)) chunks k × (c < chunks) ⌝ }
     ensures { λ r. ⌜ r ≡ getD (now (pool .entry)) (place k (c + 1) i) 0 ⌝ }
 {
-    let at = (c << k) + (i as usize) % (1 << k);
+    let at = place(c + 1, k, i as usize);
     pool[at]
 }
 

@@ -2,10 +2,9 @@
 use mathlib.Core.Path.{_≡_, refl, sym, _∙_, ap}
 use mathlib.Core.Logic.{_⊎_, inl, inr, _≢_}
 use mathlib.Core.List.{List}
-use Prim.Native.Nat.{ℕ, suc, _+_, _-_, _*_, _%_, _^_, _≤_, _<_}
+use Prim.Native.Nat.{ℕ, suc, _+_, _-_, _≤_, _<_}
 use native.Mathlib.Omega.{arith}
 use native.Mathlib.Numerals.{add-one}
-use native.Mathlib.Nat.{mod-lt, mul-le-mul-right}
 use lib.ListN.{length, getD, set, length-set}
 use lib.Pow.{pow-mono}
 use lib.Seq.{getD-set-same, getD-set-other}
@@ -14,13 +13,15 @@ use Rattle.bits.specs.Slot.{slot}
 use Rattle.bits.proofs.Slots.{slot-lt}
 use Rattle.bits.proofs.Tests.{equal?}
 use Rattle.routes.specs.declared.Route.{Route}
-use Rattle.sail.specs.Geometry.{bits2, Power}
+use Rattle.sail.specs.Geometry.{bits2}
 use Rattle.sail.specs.Level.{Level, chunksOf, level1}
+use Rattle.sail.specs.Pool.{SecondChunk}
+use Rattle.sail.specs.Walk.{place}
 use Rattle.sail.specs.declared.geometry.Geometry.{Geometry}
 use Rattle.sail_theory.specs.Render.{find}
 use Rattle.sail_theory.specs.Calls.{openAt}
 use Rattle.sail_theory.proofs.owners.Chunks.{chunk-is, chunk-none, chunk-before}
-use Rattle.sail_owners.specs.Owners.{Past, LastIs, Hangs, stays, goes, Hung, Chunk, Next, none, hung, Taken, secondFor, Opens, Opened}
+use Rattle.sail_owners.specs.Owners.{Past, LastIs, Hangs, stays, goes, Hung, Next, none, hung, Taken, secondFor, Opens, Opened}
 use Rattle.sail_owners.specs.declared.owners.Pass.{Pass}
 use Rattle.sail_owners.specs.declared.owners.Passes.{Passes}
 
@@ -52,15 +53,6 @@ module _ (own : List ℕ) (u : Pass) (o : ℕ) (h : Hangs own u o) where
       inside = rw length-set (omega (arith, room));
       last = rw f (omega (arith, h .new e .1));
     }
-
--- the place of an address in a chunk of the second pool, where a chunk has d cells
-pub place-few : (g : Geometry) (c x d : ℕ) → Chunk g c → Power d (bits2 g) 1024 → (c - 1) * d + x % d < 4194304
-place-few g c x d k w =
-    omega (arith, mod-lt x (w .some), k .one, w .few, k .few, mul-le-mul-right {m = c - 1} {n = 4095} d (omega (arith, k .few)))
-
-pub place-at : (g : Geometry) (c x d a : ℕ) → x ≡ slot (g .p2) a → Power d (bits2 g) 1024
-    → (c - 1) * d + x % d ≡ (c - 1) * 2 ^ bits2 g + slot (g .p2) a % 2 ^ bits2 g
-place-at g c x d a e w = rw (e, w .is)
 
 -- The chunk of a route at one level. A route that is no longer than the level opens none.
 pub taken-none : (v : Level) (r : Route) (u : Pass) (own : List ℕ) → Next v r u own → r .len ≤ v .bits → Taken v r own u u own
@@ -97,7 +89,7 @@ module _ (g : Geometry) (r : Route) (u : Passes) (own2 own3 : List ℕ) (o : Ope
     hangs-second = may-hang (level1 g) r (u .second) own2 (o .second) h q2 cell
 
     module _ (own2′ : List ℕ) (s2 : Pass) (now : Hung own2 (u .second) (q2 + 1) own2′ s2) where
-      pub chunk-second : length own2′ ≡ length own2 → Chunk g (s2 .last)
+      pub chunk-second : length own2′ ≡ length own2 → SecondChunk g (s2 .last)
       chunk-second e = record { valid = o .valid; one = omega (arith, now .last); few = omega (arith, now .inside, o .few2) }
 
       second : Taken (level1 g) r own2 (u .second) s2 own2′
@@ -107,7 +99,7 @@ module _ (g : Geometry) (r : Route) (u : Passes) (own2 own3 : List ℕ) (o : Ope
       opened-second k = record { second = second; third = no-third k }
 
       -- where the third chunk hangs
-      module _ (k : g .p2 < r .len) (q3 : ℕ) (at : q3 ≡ (s2 .last - 1) * 2 ^ bits2 g + slot (g .p2) (r .addr) % 2 ^ bits2 g) where
+      module _ (k : g .p2 < r .len) (q3 : ℕ) (at : q3 ≡ place (bits2 g) (s2 .last) (slot (g .p2) (r .addr))) where
         place-is : q3 ≡ secondFor g r own2 .serving (r .addr)
         place-is =
             let last = here (level1 g) r (u .second) own2 (o .second) h q2 cell own2′ s2 now .last in

@@ -49,12 +49,6 @@ pub record Hung (own : List ℕ) (u : Pass) (o : ℕ) (own′ : List ℕ) (r : P
   pub inside : r .last ≤ length own′
   pub last : suc (find own′ o) ≡ r .last
 
--- a chunk of the second pool, counted from 1
-pub record Chunk (g : Geometry) (c : ℕ) : Type 0 where
-  pub valid : Valid g
-  pub one : 1 ≤ c
-  pub few : c ≤ 4096
-
 -- The route r comes after all those that the owners of a level's chunks serve. Where it is longer than the level, its place may get a chunk;
 -- and that chunk is the one which announcing r opens.
 pub record Next (v : Level) (r : Route) (u : Pass) (own : List ℕ) : Type 0 where

@@ -1,19 +1,18 @@
 // The owners of a load, in one pass over its records. The routes ascend, and so do the places that chunks hang from: a
 // route's chunk is the last one opened, or the next that is free.
 ghost use mathlib.Core.Path.{_≡_};
-ghost use Prim.Native.Nat.{_+_, _-_, _*_, _%_, _^_, _≤_, _<_};
+ghost use Prim.Native.Nat.{_≤_};
 ghost use lib.ListN.{length};
-ghost use Rattle.bits.specs.Slot.{slot};
 ghost use Rattle.bits.specs.Tab.{Tells};
-ghost use Rattle.sail.specs.Geometry.{bits2};
 ghost use Rattle.sail_theory.specs.Render.{find};
 ghost use Rattle.sail_theory.specs.Calls.{inputRoutes, settled};
-ghost use Rattle.sail_owners.specs.Owners.{owners, Past, LastIs, Hangs, Hung, Chunk, Opens, Opened, Ownable};
+ghost use Rattle.sail_owners.specs.Owners.{owners, Past, LastIs, Hangs, Hung, Opens, Opened, Ownable};
 use bits::slot;
+use bits::widen::byte_to_word;
 use routes::Route;
 use routes::record::read_record;
-use routes::record::wide;
 use sail::geometry::Geometry;
+use sail::place::second_place;
 
 // How far the pass over a pool has come: the last chunk that it opened, from 1, or 0; and the first chunk, from 0, that may be
 // free.
@@ -69,15 +68,6 @@ fn hang(own: &mut [u32], u: Pass, o: u32) -> Pass
     }
 }
 
-// The place of the second pool that serves an address, in chunk c, counted from 1.
-fn place(g: Geometry, c: usize, addr: u32) -> u32
-    requires { ⌜ Chunk g c ⌝ }
-    ensures { λ r. ⌜ (r ≡ (c - 1) * 2 ^ bits2 g + slot (g .p2) addr % 2 ^ bits2 g) × (r < 4194304) ⌝ }
-{
-    let d = g.second_chunk();
-    ((c - 1) * d + (slot(g.p2, addr) as usize) % d) as u32
-}
-
 // Opens the chunks of a route that comes after all those before it.
 fn open_for(g: Geometry, r: Route, u: Passes, own2: &mut [u32], own3: &mut [u32]) -> Passes
     requires { ⌜ Opens g r u (now own2) (now own3) ⌝ }
@@ -86,7 +76,7 @@ fn open_for(g: Geometry, r: Route, u: Passes, own2: &mut [u32], own3: &mut [u32]
     let p1 = g.p1;
     let p2 = g.p2;
     let a = r.addr;
-    let len = wide(r.len);
+    let len = byte_to_word(r.len);
     if len <= p1 {
         return u;
     }
@@ -96,7 +86,7 @@ fn open_for(g: Geometry, r: Route, u: Passes, own2: &mut [u32], own3: &mut [u32]
     if len <= p2 {
         return Passes { second, third: at3 };
     }
-    let third = hang(own3, at3, place(g, second.last, a) + 1);
+    let third = hang(own3, at3, second_place(g, second.last, a) as u32 + 1);
     Passes { second, third }
 }
 

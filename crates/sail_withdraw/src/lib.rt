@@ -11,6 +11,7 @@ pub mod answers;
 
 use crate::answers::Withdraw;
 use crate::answers::Withdrawn;
+use bits::widen::byte_to_word;
 use lists::edit;
 use lists::place::place;
 use routes::input;
@@ -105,7 +106,7 @@ fn take(
         list,
         m,
         addr,
-        record::wide(len),
+        byte_to_word(len),
         first,
         second,
         third,

@@ -2,12 +2,13 @@
 use mathlib.Core.Path.{_≡_, sym}
 use mathlib.Core.Bool.{Bool, true, false, cond}
 use mathlib.Core.List.{List, [], _∷_, _++_, append-assoc, append-nil}
-use Prim.Native.Nat.{ℕ, _+_, _/_, _%_, _^_, _≤_, _<_}
+use Prim.Native.Nat.{ℕ, _+_, _^_, _≤_, _<_}
 use native.Mathlib.Numerals.{add-one}
 use native.Mathlib.Omega.{arith}
 use lib.Dec.{eqb}
 use lib.ListN.{length, length-append}
 use borrow.Author.Tests.{eq-eqb, ne-eqb}
+use Rattle.bits.specs.Bytes.{above1, above2, above3, byte}
 use Rattle.bits.specs.Tab.{tabulate}
 use Rattle.bits.proofs.Tabs.{tabulate-snoc}
 use Rattle.routes.specs.declared.Route.{Route}
@@ -20,7 +21,7 @@ use Rattle.text.proofs.Digits.{digits-few}
 use Rattle.text.proofs.Writes.{wrote-none, wrote-more}
 
 -- lengths
-pub length-dotted : (a : ℕ) → length (dotted a) ≡ length (digitsOf (a / 16777216)) + (1 + length (digitsOf (a / 65536 % 256))) + (1 + length (digitsOf (a / 256 % 256))) + (1 + length (digitsOf (a % 256)))
+pub length-dotted : (a : ℕ) → length (dotted a) ≡ length (digitsOf (above3 a)) + (1 + length (digitsOf (byte (above2 a)))) + (1 + length (digitsOf (byte (above1 a)))) + (1 + length (digitsOf (byte a)))
 unfolding dotted labelled ascii
 length-dotted a = simp length-append (omega arith)
 
@@ -36,7 +37,7 @@ length-head n s t = simp length-append (omega arith)
 dotted-few : (a : ℕ) → a < 2 ^ 32 → length (dotted a) ≤ 15
 dotted-few a h =
     rw length-dotted
-    (omega (arith, digits-few 2 (a / 16777216) (omega arith), digits-few 2 (a / 65536 % 256) (omega arith), digits-few 2 (a / 256 % 256) (omega arith), digits-few 2 (a % 256) (omega arith)))
+    (omega (arith, digits-few 2 (above3 a) (omega arith), digits-few 2 (byte (above2 a)) (omega arith), digits-few 2 (byte (above1 a)) (omega arith), digits-few 2 (byte a) (omega arith)))
 
 mark-few : (m : ℕ) → length (markText m) ≤ 9
 unfolding markText ascii

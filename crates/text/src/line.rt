@@ -1,5 +1,6 @@
 // Lines: a route's, a table's, and a refusal's.
 use crate::put;
+use bits::bytes;
 use routes::Route;
 ghost use Prim.Native.Nat.{_≤_};
 ghost use lib.ListN.{length};
@@ -14,10 +15,10 @@ pub fn put_address(out: &mut [u8], at: usize, addr: u32) -> usize
     ensures { λ r. ⌜ Wrote (now (out .entry)) at (dotted addr) r (now (out .exit)) ⌝ }
 {
     let a = addr as u64;
-    let p = put::put_number(out, at, a / 16777216);
-    let q = put::put_labelled(out, p, b".", a / 65536 % 256);
-    let r = put::put_labelled(out, q, b".", a / 256 % 256);
-    put::put_labelled(out, r, b".", a % 256)
+    let p = put::put_number(out, at, a / bytes::THREE);
+    let q = put::put_labelled(out, p, b".", a / bytes::TWO % bytes::ONE);
+    let r = put::put_labelled(out, q, b".", a / bytes::ONE % bytes::ONE);
+    put::put_labelled(out, r, b".", a % bytes::ONE)
 }
 
 // That the network is attached, where the mark is 1.

@@ -1,10 +1,11 @@
 // Lookup in a tree bitmap image: three words for each node, and the hops beside them.
 ghost use mathlib.Core.Path.{_≡_};
-ghost use Prim.Native.Nat.{_+_, _%_, _^_, _≤_, _<_};
+ghost use Prim.Native.Nat.{_≤_, _<_};
 ghost use lib.Count.{ones};
 ghost use Rattle.tree.specs.Node.{nibbleOf, tryBit, deepestOf, betterOf, childAt};
 ghost use Rattle.tree.specs.Walk.{saysTreeFound, fetchedFrom};
 ghost use Rattle.tree.specs.Contract.{MeetsTreeLookup};
+use bits::widen::word_to_index;
 
 // Where the hop of the deepest match stands among the hops.
 pub enum Place {
@@ -18,12 +19,6 @@ pub enum TreeFound {
     Hop(u16, u32),
     NoRoute(u32),
     Broken,
-}
-
-fn wide(x: u32) -> usize
-    ensures { λ r. ⌜ (r ≡ x) × (r < 2 ^ 32) ⌝ }
-{
-    x as usize
 }
 
 // The four bits of an address that have 4 * d bits below them.
@@ -72,7 +67,7 @@ fn better(word: u32, base: u32, b: u32, best: Place) -> Place
     if b == 15 {
         return best;
     }
-    Place::At(wide(base) + wide(bits::ones_below(word, b)))
+    Place::At(word_to_index(base) + word_to_index(bits::ones_below(word, b)))
 }
 
 // The place of the child at four bits.
@@ -80,7 +75,7 @@ fn child(word: u32, base: u32, v: u32) -> usize
     requires { ⌜ v < 16 ⌝ }
     ensures { λ r. ⌜ r ≡ childAt word base v ⌝ }
 {
-    wide(base) + wide(bits::ones_below(word >> 16, v))
+    word_to_index(base) + word_to_index(bits::ones_below(word >> 16, v))
 }
 
 // The one hop that is read, after all nodes. Where it is answered, its fetch counts one more.

@@ -1,6 +1,8 @@
 // An image made in lent arrays that have the room for it. The words serve as the queue of nodes: a node that waits holds its depth
 // and the start and the end of its run in the place of its three words.
 use crate::run;
+use bits::widen::byte_to_word;
+use bits::widen::word_to_index;
 use buffers::fill::fill16;
 use buffers::fill::zero32;
 use routes::record;
@@ -8,12 +10,6 @@ ghost use mathlib.Core.Path.{_≡_};
 ghost use Prim.Native.Nat.{_+_, _*_, _^_, _≤_, _<_};
 ghost use lib.ListN.{length};
 ghost use Rattle.tree_build.specs.Queue.{put3, HopsReady, HopsPut, KidsReady, KidsPut, Room, State, Next, Filled};
-
-fn long(x: u32) -> usize
-    ensures { λ r. ⌜ (r ≡ x) × (r < 2 ^ 32) ⌝ }
-{
-    x as usize
-}
 
 // A number that fits a word.
 pub fn narrow(x: usize) -> u32
@@ -42,10 +38,10 @@ fn put_hops(list: &[u8], hops: &mut [u16], m: u32, a: usize, e: usize, word: u32
     while k < e {
         let r = record::read_record(list, k);
         k += 1;
-        let len = record::wide(r.len);
+        let len = byte_to_word(r.len);
         if len < 4 * (m + 1) {
             let below = bits::ones_below(word, run::place(r.addr, len, m));
-            hops[base + long(below)] = r.hop;
+            hops[base + word_to_index(below)] = r.hop;
         }
     }
 }
@@ -59,12 +55,18 @@ fn put_kids(list: &[u8], words: &mut [u32], m: u32, a: usize, e: usize, word: u3
     while k < e {
         let from = k;
         let r = record::read_record(list, from);
-        if record::wide(r.len) < 4 * (m + 1) {
+        if byte_to_word(r.len) < 4 * (m + 1) {
             k += 1;
         } else {
             k = run::run_end(list, m + 1, from, e);
             let below = bits::ones_below(word >> 16, bits::slot(4 * (m + 1), r.addr) % 16);
-            put_node(words, t + long(below), m + 1, narrow(from), narrow(k));
+            put_node(
+                words,
+                t + word_to_index(below),
+                m + 1,
+                narrow(from),
+                narrow(k),
+            );
         }
     }
 }
@@ -81,15 +83,15 @@ fn step(list: &[u8], words: &mut [u32], hops: &mut [u16], i: usize, t: usize, h:
     ensures { λ r. ⌜ State (now (list .entry)) (now (words .exit)) (now (hops .exit)) (i + 1) (r .nodes) (r .hops) ⌝ }
 {
     let m = words[3 * i];
-    let a = long(words[3 * i + 1]);
-    let e = long(words[3 * i + 2]);
+    let a = word_to_index(words[3 * i + 1]);
+    let e = word_to_index(words[3 * i + 2]);
     let word = run::node_word(list, m, a, e);
     put_hops(list, hops, m, a, e, word, h);
     put_kids(list, words, m, a, e, word, t);
     put_node(words, i, word, narrow(t), narrow(h));
     Sizes {
-        nodes: t + long(bits::ones_below(word >> 16, 16)),
-        hops: h + long(bits::ones_below(word, 15)),
+        nodes: t + word_to_index(bits::ones_below(word >> 16, 16)),
+        hops: h + word_to_index(bits::ones_below(word, 15)),
     }
 }
 

@@ -1,4 +1,5 @@
 // The run of a node: the records whose routes pass through it, and the bit of the node at which each lies.
+use bits::widen::byte_to_word;
 use routes::record;
 ghost use mathlib.Core.Path.{_≡_};
 ghost use Prim.Native.Nat.{_+_, _*_, _≤_, _<_};
@@ -13,7 +14,7 @@ pub fn passes(list: &[u8], k: usize, m: u32, path: u32) -> bool
     ensures { λ r. ⌜ r ≡ through m path (recordAt (now (list .entry)) k) ⌝ }
 {
     let r = record::read_record(list, k);
-    if record::wide(r.len) < 4 * m {
+    if byte_to_word(r.len) < 4 * m {
         return false;
     }
     bits::slot(4 * m, r.addr) == path
@@ -65,7 +66,7 @@ pub fn node_word(list: &[u8], m: u32, a: usize, e: usize) -> u32
     let mut k = a;
     while k < e {
         let r = record::read_record(list, k);
-        word = with_bit(word, place(r.addr, record::wide(r.len), m));
+        word = with_bit(word, place(r.addr, byte_to_word(r.len), m));
         k += 1;
     }
     word

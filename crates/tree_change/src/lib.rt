@@ -3,13 +3,13 @@
 pub mod change;
 pub mod path;
 
+use bits::widen::byte_to_word;
+use bits::widen::word_to_index;
 use routes::input;
-use routes::record;
 use tree_build::fill;
 use tree_check::check;
 use tree_check::hops_in;
 ghost use mathlib.Core.Path.{_≡_};
-ghost use Prim.Native.Nat.{_^_, _<_};
 ghost use Rattle.routes.specs.Route.{Fine, Prefix};
 ghost use Rattle.tree_build.specs.Built.{out};
 ghost use Rattle.tree_change.specs.Changed.{saysAnnounced, saysWithdrawn, route, imagePut, imageTaken};
@@ -29,12 +29,6 @@ pub enum Withdrawn {
     Refused(u8),
 }
 
-fn wide(x: u32) -> usize
-    ensures { λ r. ⌜ (r ≡ x) × (r < 2 ^ 32) ⌝ }
-{
-    x as usize
-}
-
 // A prefix that does not stand: 6 where 4,096 routes stand, 11 where too few whole nodes are lent, 12 where too few hops are.
 fn put_new(
     words: &mut [u32],
@@ -50,7 +44,7 @@ fn put_new(
     requires { ⌜ New (now words) (now hops) n k (from .at) (from .depth) addr len hop b ⌝ }
     ensures { λ r. ⌜ out (saysAnnounced r) (now (words .exit)) (now (hops .exit)) ≡ imagePut (now (words .entry)) (now (hops .entry)) addr len hop ⌝ }
 {
-    let more = wide(len / 4 - from.depth);
+    let more = word_to_index(len / 4 - from.depth);
     if k >= 4096 {
         return Announced::Refused(6);
     }
@@ -109,7 +103,7 @@ pub fn announce(words: &mut [u32], hops: &mut [u16], addr: u32, len: u8, hop: u1
     if n == 0 {
         return Announced::Refused(13);
     }
-    put(words, hops, n, addr, record::wide(len), hop)
+    put(words, hops, n, addr, byte_to_word(len), hop)
 }
 
 // Takes a prefix out of an image. A refusal leaves both arrays as they were.
@@ -123,5 +117,5 @@ pub fn withdraw(words: &mut [u32], hops: &mut [u16], addr: u32, len: u8) -> With
     if n == 0 {
         return Withdrawn::Refused(13);
     }
-    take(words, hops, n, addr, record::wide(len))
+    take(words, hops, n, addr, byte_to_word(len))
 }

@@ -6,7 +6,7 @@ use crate::bases::after_children;
 use crate::bases::differ;
 use crate::bases::first_child;
 use crate::bases::shape;
-use crate::bases::wide;
+use bits::widen::word_to_index;
 use buffers::zeros::zeros16;
 use buffers::zeros::zeros32;
 use tree_build::fill;
@@ -104,7 +104,7 @@ pub fn hops_in(words: &[u32], n: usize) -> usize
     requires { ⌜ (0 < n) × (3 * n ≤ length (now words)) × (n ≡ nodesIf (ordered (now words)) (now words)) ⌝ }
     ensures { λ r. ⌜ r ≡ ints (now (words .entry)) n ⌝ }
 {
-    wide(words[3 * (n - 1) + 2]) + wide(bits::ones_below(words[3 * (n - 1)], 15))
+    word_to_index(words[3 * (n - 1) + 2]) + word_to_index(bits::ones_below(words[3 * (n - 1)], 15))
 }
 
 // 0 where a number is a hop, 1 to 32,767, and 1 where it is not.

@@ -1,6 +1,7 @@
 // Edits of an image in place: a node or a hop more, or one less. Each leaves exactly the image of the routes with it or without it.
 pub mod moves;
 
+use bits::widen::word_to_index;
 use tree_build::fill;
 use tree_build::run;
 ghost use mathlib.Core.Path.{_≡_};
@@ -12,12 +13,6 @@ ghost use Rattle.tree_build.specs.Run.{WithBit};
 ghost use Rattle.tree_same.specs.Read.{hopPlace};
 ghost use Rattle.tree_hold.specs.Edits.{Grafted, Pruned, HopPut, HopTaken, Prunable, Takable};
 ghost use Rattle.tree_edit.specs.Small.{GraftReady, PutReady};
-
-fn wide(x: u32) -> usize
-    ensures { λ r. ⌜ (r ≡ x) × (r < 2 ^ 32) ⌝ }
-{
-    x as usize
-}
 
 // A word with a bit cleared that is set.
 fn without_bit(word: u32, b: u32) -> u32
@@ -32,7 +27,7 @@ pub fn child_place(words: &[u32], x: usize, c: u32) -> usize
     requires { ⌜ (3 * x + 3 ≤ length (now words)) × (c < 16) ⌝ }
     ensures { λ r. ⌜ (r ≡ childAt (bitsOf (now (words .entry)) x) (childOf (now (words .entry)) x) c) × (r < 2 ^ 33) ⌝ }
 {
-    wide(words[3 * x + 1]) + wide(bits::ones_below(words[3 * x] >> 16, c))
+    word_to_index(words[3 * x + 1]) + word_to_index(bits::ones_below(words[3 * x] >> 16, c))
 }
 
 // The place of the hop at the internal bit b of node x: the hop base and the internal ones below the bit.
@@ -40,7 +35,7 @@ pub fn hop_place(words: &[u32], x: usize, b: u32) -> usize
     requires { ⌜ (3 * x + 3 ≤ length (now words)) × (b < 15) ⌝ }
     ensures { λ r. ⌜ (r ≡ hopPlace (now (words .entry)) x b) × (r < 2 ^ 33) ⌝ }
 {
-    wide(words[3 * x + 2]) + wide(bits::ones_below(words[3 * x], b))
+    word_to_index(words[3 * x + 2]) + word_to_index(bits::ones_below(words[3 * x], b))
 }
 
 // An empty child c under node x of n nodes and k hops; answers its place. The empty node is written after the last one and a gap opened at

@@ -1,4 +1,6 @@
 // A linear search over the records of a list: what a table must answer, from document 01's words alone.
+use bits::widen::byte_to_word;
+use bits::widen::half_to_long;
 use routes::Route;
 use routes::record;
 use sail::table::Table;
@@ -36,7 +38,7 @@ fn better(r: Route, best: Route, addr: u32) -> Route {
     if r.len < best.len {
         return best;
     }
-    if agree(record::wide(r.len), r.addr, addr) {
+    if agree(byte_to_word(r.len), r.addr, addr) {
         return r;
     }
     best
@@ -62,7 +64,7 @@ fn longest(list: &[u8], n: usize, addr: u32) -> Route
 
 // Whether a route is longer than p and has the address's first p bits.
 fn deeper(r: Route, p: u32, addr: u32) -> bool {
-    if record::wide(r.len) <= p {
+    if byte_to_word(r.len) <= p {
         return false;
     }
     agree(p, r.addr, addr)
@@ -83,12 +85,6 @@ fn more(list: &[u8], n: usize, p: u32, addr: u32) -> u64
     0
 }
 
-fn wide(hop: u16) -> u64
-    ensures { λ r. ⌜ r ≤ 65535 ⌝ }
-{
-    hop as u64
-}
-
 // Hop and cells as one number: four times the hop, and the cells.
 pub fn answer(t: Table, list: &[u8], addr: u32) -> u64 {
     let g = t.geometry;
@@ -96,5 +92,5 @@ pub fn answer(t: Table, list: &[u8], addr: u32) -> u64 {
     let r = longest(list, n, addr);
     let second = more(list, n, g.p1, addr);
     let third = more(list, n, g.p2, addr);
-    wide(r.hop) * 4 + 1 + second + third
+    half_to_long(r.hop) * 4 + 1 + second + third
 }

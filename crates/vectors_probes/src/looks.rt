@@ -1,6 +1,7 @@
 // Lookups in a table, many at a time, each compared with a linear search over the table's list.
 use crate::draw;
 use crate::linear;
+use bits::widen::byte_to_word;
 use routes::Route;
 use routes::record;
 use sail::lookup;
@@ -80,7 +81,7 @@ fn compare(
 
 // How many addresses a prefix of this length has, modulo 2^32.
 fn size(len: u8) -> u32 {
-    let l = record::wide(len);
+    let l = byte_to_word(len);
     if l == 0 {
         return 0;
     }

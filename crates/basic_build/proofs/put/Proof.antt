@@ -4,8 +4,8 @@ use borrow.Author.Needs.{needs}
 use Rattle.basic_build.proofs.put.Statement.{statement}
 use Rattle.basic_build.proofs.put.Tie as tie
 
-wide-requires : tie.Need-wide-requires
-wide-requires c κs = search needs
+byte-to-word-requires : tie.Need-byte-to-word-requires
+byte-to-word-requires c κs = search needs
 
 place-requires : tie.Need-place-requires
 place-requires c κs = search needs
@@ -29,7 +29,7 @@ pub put-spec : {M : Type 1} → statement M
 put-spec =
     tie.close
     (tie.spec
-    wide-requires
+    byte-to-word-requires
     place-requires
     mul-cells
     slice-write-cells

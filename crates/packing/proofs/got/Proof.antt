@@ -31,7 +31,7 @@ got-spec =
     (λ c. search needs)
     (λ c κs. search needs)
     (λ c. search needs)
-    (λ c. route-packs _ _ _ _ _ _ (c .before .before .before .before .before .a .given .1) (c .before .before .before .byte .ensures .0) (c .before .before .byte2 .ensures .0) (c .before .half .ensures .0) (c .word .ensures .0))
+    (λ c. route-packs _ _ _ _ _ _ (c .before .before .before .before .before .a .given .1) (c .before .before .before .byte-to-long .ensures .0) (c .before .before .byte-to-long2 .ensures .0) (c .before .half-to-long .ensures .0) (c .word-to-long .ensures .0))
     (λ c. omega (arith, ap (λ (x : Got). packRoute (saysGot x)) (c .enum-told .given .1)))
     (λ c. omega (arith, ap (λ (x : Got). packRoute (saysGot x)) (c .before .before .a2 .given .1)))
     (λ c. omega (arith, ap (λ (x : Got). packRoute (saysGot x)) (c .enum-told2 .given .1))))

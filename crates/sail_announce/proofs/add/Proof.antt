@@ -36,7 +36,7 @@ repaint-requires c κs =
     let in-list = c .before .before .before .before .before .before .before .before .before .before in
     let chunks = opened in-list in
     add-pending _ _ _ (start chunks .pre) _ _ (in-list .insert .ensures) _ (c .before .before .before .before .before .before .before .count-with .ensures .0)
-    _ _ (chunks .«open» .ensures .0) (chunks .«open» .ensures .1) _ (c .before .before .before .before .before .wide .ensures .0)
+    _ _ (chunks .«open» .ensures .0) (chunks .«open» .ensures .1) _ (c .before .before .before .before .before .byte-to-word .ensures .0)
 
 count-in-requires : tie.Need-count-in-requires
 count-in-requires c κs =

@@ -12,7 +12,7 @@ hung-ok-spec =
     (λ c. search needs)
     (λ c κs. search needs)
     (λ c. search needs)
-    (λ c. not-named _ _ _ _ _ _ _ _ _ _ _ (c .if1 .taken) (c .before .wide .ensures))
+    (λ c. not-named _ _ _ _ _ _ _ _ _ _ _ (c .if1 .taken) (c .before .half-to-index .ensures))
     (λ c κs. search needs)
     (λ c κs. search needs)
     (λ c. search needs)

@@ -62,7 +62,7 @@ repaint-requires c κs =
     take-pending _ _ _ _ (start f .pre) _ _ (m .remove .ensures) _ _ _ (n .tick .ensures) (n .tick .kept .1 .1 .1 .1 .0) (n .tick .kept .1 .1 .1 .1 .1 .0)
     _ _ (f .follow .ensures) _ _ _ _
     (second .close .ensures .0) (second .close .ensures .1) (third .close2 .ensures .0) (third .close2 .ensures .1)
-    _ (w .wide .ensures .0)
+    _ (w .byte-to-word .ensures .0)
 
 same-list : tie.Need-same-length
 same-list c = removed (counted (second-closed (third-closed (c .before .before .before .before .before .before)))) .remove .kept .0

@@ -10,14 +10,14 @@ place-requires c κs = search needs
 is-set-requires : tie.Need-is-set-requires
 is-set-requires c κs = search needs
 
-mul-wide : tie.Need-mul-wide
-mul-wide c = search needs
+mul-half-to-word : tie.Need-mul-half-to-word
+mul-half-to-word c = search needs
 
-shared-slice-read-wide : tie.Need-shared-slice-read-wide
-shared-slice-read-wide c = search needs
+shared-slice-read-half-to-word : tie.Need-shared-slice-read-half-to-word
+shared-slice-read-half-to-word c = search needs
 
-wide-requires : tie.Need-wide-requires
-wide-requires c κs = search needs
+half-to-word-requires : tie.Need-half-to-word-requires
+half-to-word-requires c κs = search needs
 
 add-result : tie.Need-add-result
 add-result c = search needs
@@ -25,7 +25,7 @@ add-result c = search needs
 returns : tie.Need-returns
 returns c =
     let at = c .before .before .before .before .place .ensures .0 in
-    mapped-set _ _ _ _ _ _ at (c .before .before .before .is-set .ensures) _ (c .before .before .if1 .taken) (c .wide .ensures)
+    mapped-set _ _ _ _ _ _ at (c .before .before .before .is-set .ensures) _ (c .before .before .if1 .taken) (c .half-to-word .ensures)
 
 returns-2 : tie.Need-returns-2
 returns-2 c = mapped-clear _ _ _ _ _ _ (c .before .before .place .ensures .0) (c .before .is-set .ensures) (c .if1 .left)
@@ -36,9 +36,9 @@ mapped-spec =
     (tie.spec
     place-requires
     is-set-requires
-    mul-wide
-    shared-slice-read-wide
-    wide-requires
+    mul-half-to-word
+    shared-slice-read-half-to-word
+    half-to-word-requires
     add-result
     returns
     returns-2)

@@ -24,8 +24,8 @@ used-requires-2 c κs = search needs
 enum-known-a-3 : tie.Need-enum-known-a-3
 enum-known-a-3 c = search needs
 
-byte-requires : tie.Need-byte-requires
-byte-requires c κs = search needs
+byte-to-long-requires : tie.Need-byte-to-long-requires
+byte-to-long-requires c κs = search needs
 
 returns : tie.Need-returns
 unfolding saysAnnounced packed
@@ -48,7 +48,7 @@ announced-spec =
     enum-known-a-2
     used-requires-2
     enum-known-a-3
-    byte-requires
+    byte-to-long-requires
     returns
     returns-2
     returns-3)

@@ -18,8 +18,8 @@ used-requires c κs = search needs
 enum-known-a-2 : tie.Need-enum-known-a-2
 enum-known-a-2 c = search needs
 
-byte-requires : tie.Need-byte-requires
-byte-requires c κs = search needs
+byte-to-long-requires : tie.Need-byte-to-long-requires
+byte-to-long-requires c κs = search needs
 
 returns : tie.Need-returns
 unfolding saysWithdrawn packed
@@ -36,6 +36,6 @@ withdrawn-spec =
     enum-known-a
     used-requires
     enum-known-a-2
-    byte-requires
+    byte-to-long-requires
     returns
     returns-2)

@@ -21,8 +21,8 @@ refused-at-requires c κs = search needs
 enum-known-a-2 : tie.Need-enum-known-a-2
 enum-known-a-2 c = search needs
 
-byte-requires : tie.Need-byte-requires
-byte-requires c κs = search needs
+byte-to-long-requires : tie.Need-byte-to-long-requires
+byte-to-long-requires c κs = search needs
 
 returns : tie.Need-returns
 unfolding saysBasicAnswer packed
@@ -44,7 +44,7 @@ answered-spec =
     enum-known-a
     refused-at-requires
     enum-known-a-2
-    byte-requires
+    byte-to-long-requires
     returns
     returns-2
     returns-3)

@@ -11,8 +11,8 @@ use Rattle.packing.proofs.maps.hop_found.Tie as tie
 enum-known-a : tie.Need-enum-known-a
 enum-known-a c = search needs
 
-half-requires : tie.Need-half-requires
-half-requires c κs = search needs
+half-to-long-requires : tie.Need-half-to-long-requires
+half-to-long-requires c κs = search needs
 
 mul-result : tie.Need-mul-result
 mul-result c = search needs
@@ -29,8 +29,8 @@ refused-at-requires c κs = search needs
 enum-known-a-3 : tie.Need-enum-known-a-3
 enum-known-a-3 c = search needs
 
-byte-requires : tie.Need-byte-requires
-byte-requires c κs = search needs
+byte-to-long-requires : tie.Need-byte-to-long-requires
+byte-to-long-requires c κs = search needs
 
 returns : tie.Need-returns
 unfolding saysBasicFound packed
@@ -53,13 +53,13 @@ hop-found-spec =
     tie.close
     (tie.spec
     enum-known-a
-    half-requires
+    half-to-long-requires
     mul-result
     enum-told
     enum-known-a-2
     refused-at-requires
     enum-known-a-3
-    byte-requires
+    byte-to-long-requires
     returns
     returns-2
     returns-3

@@ -11,4 +11,4 @@ prefix-ok-spec =
     (λ c κs. search needs)
     (λ c. search too-long)
     (λ c κs. search needs)
-    (λ c. tested _ _ _ (c .before .before .wide .ensures .0) (c .before .if1 .left) (c .before .before .before .fits .addr .fits) _ (c .cut .ensures)))
+    (λ c. tested _ _ _ (c .before .before .byte-to-word .ensures .0) (c .before .if1 .left) (c .before .before .before .fits .addr .fits) _ (c .cut .ensures)))

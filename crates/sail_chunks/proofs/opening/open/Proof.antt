@@ -21,8 +21,15 @@ to-open-requires c κs = let s = c .before .before .before .before .before .befo
 chunk-for-requires : tie.Need-chunk-for-requires
 chunk-for-requires c κs = let o = c .before in record { small = o .to-open .ensures .few; few = start o .pre .serving .few2 }
 
-place-requires : tie.Need-place-requires
-place-requires c κs = record { valid = start (asked c) .pre .serving .valid; few = c .chunk-for .ensures .1 }
+add-second-place : tie.Need-add-second-place
+add-second-place c = omega (arith, c .chunk-for .ensures .1)
+
+second-place-requires : tie.Need-second-place-requires
+second-place-requires c κs = record {
+  valid = start (asked c) .pre .serving .valid;
+  one = omega arith;
+  few = omega (arith, c .chunk-for .ensures .1);
+}
 
 add-hang : tie.Need-add-hang
 add-hang c = let s = start (c .before .before .before .before .before) in omega (arith, slot-small _ _ _ (s .pre .serving .valid) (s .pre .fine .prefix .addr-ok) (c .slot .ensures))
@@ -40,7 +47,7 @@ returns c =
     let o = asked chunk in (
       opened-second _ _ _ _ _ _ _ (start o .pre) _ (o .to-open .ensures) _ _ (hung .before .slot .ensures) (hung .hang .ensures),
       opened-third _ _ _ _ _ _ _ (start o .pre) _ (o .to-open .ensures) _ (chunk .chunk-for .ensures .0)
-          _ _ (hung .before .before .before .place .ensures .0) (c .before .before .hang2 .ensures),
+          _ _ (hung .before .before .before .second-place .ensures .0) (c .before .before .hang2 .ensures),
     )
 
 pub open-spec : {M : Type 1} → statement M
@@ -49,7 +56,8 @@ open-spec =
     (tie.spec
     to-open-requires
     chunk-for-requires
-    place-requires
+    add-second-place
+    second-place-requires
     (λ c κs. search needs)
     add-hang
     hang-requires

@@ -10,7 +10,7 @@ sub-t14 c = let followed = c .before .before .before in named-first _ _ _ _ _ _ 
 returns : tie.Need-returns
 returns c =
     let followed = c .before .before .before in
-    opens-is _ _ _ _ _ _ _ (followed .follow .ensures) _ _ (followed .before .wide .ensures .0) (search needs) _ _ (c .before .before .leaf-under .ensures)
+    opens-is _ _ _ _ _ _ _ (followed .follow .ensures) _ _ (followed .before .byte-to-word .ensures .0) (search needs) _ _ (c .before .before .leaf-under .ensures)
     (c .before .leaf-under2 .ensures)
 
 pub to-open-spec : {M : Type 1} → statement M

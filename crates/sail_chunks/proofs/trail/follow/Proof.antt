@@ -18,29 +18,29 @@ first-read c = let i = c .before in let s = start i in first-there _ _ _ _ _ _ (
 returns : tie.Need-returns
 returns c = let i = c .before .before in let s = start i in trail-short _ _ _ _ _ _ (s .pre) _ (s .fits .addr .fits) _ (i .slot .ensures) (c .if1 .taken)
 
-sub-place : tie.Need-sub-place
-sub-place c = let i = indexed c in let s = start i in named-small _ _ _ _ _ _ (s .pre) _ (s .fits .addr .fits) _ (i .slot .ensures) (c .if1 .left) .0
+cast-second-place : tie.Need-cast-second-place
+cast-second-place c = omega (arith, c .if1 .left)
 
-place-requires : tie.Need-place-requires
-place-requires c κs =
+second-place-requires : tie.Need-second-place-requires
+second-place-requires c κs =
     let i = indexed c in
     let s = start i in
     let small = named-small _ _ _ _ _ _ (s .pre) _ (s .fits .addr .fits) _ (i .slot .ensures) (c .if1 .left) in
-    record { valid = s .pre .valid; few = omega arith }
+    record { valid = s .pre .valid; one = small .0; few = omega (arith, small .1) }
 
 second-read : tie.Need-shared-slice-read-t15
 second-read c =
     let placed = c .before in
     let i = indexed (placed .before) in
     let s = start i in
-    second-there _ _ _ _ _ _ (s .pre) _ (s .fits .addr .fits) _ (i .slot .ensures) (placed .before .if1 .left) _ (placed .place .ensures .0)
+    second-there _ _ _ _ _ _ (s .pre) _ (s .fits .addr .fits) _ (i .slot .ensures) (placed .before .if1 .left) _ (placed .second-place .ensures .0)
 
 returns-2 : tie.Need-returns-2
 returns-2 c =
     let placed = c .before in
     let i = indexed (placed .before) in
     let s = start i in
-    trail-long _ _ _ _ _ _ (s .pre) _ (s .fits .addr .fits) _ (i .slot .ensures) (placed .before .if1 .left) _ (placed .place .ensures .0)
+    trail-long _ _ _ _ _ _ (s .pre) _ (s .fits .addr .fits) _ (i .slot .ensures) (placed .before .if1 .left) _ (placed .second-place .ensures .0)
 
 pub follow-spec : {M : Type 1} → statement M
 follow-spec =
@@ -51,9 +51,8 @@ follow-spec =
     (λ c. search needs)
     first-read
     returns
-    sub-place
-    (λ c. search needs)
-    place-requires
+    cast-second-place
+    second-place-requires
     (λ c. search needs)
     second-read
     returns-2)

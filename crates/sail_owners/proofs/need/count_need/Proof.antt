@@ -34,7 +34,7 @@ count-need-spec =
     let read = c .before .before .before .before .before in
     let l = read .before .before .loop in
     let q = read .before .before .before .before .pre in
-    let cell = c .before .wide64 .ensures ∙ c .before .before .slot .ensures in (
+    let cell = c .before .word-to-long .ensures .0 ∙ c .before .before .slot .ensures in (
       omega arith,
       omega arith,
       counted-new _ _ _ _ _ _ (q .records) (omega arith) (q .level) (l .inv .2) _ (read .read-record .ensures) (omega arith) _ cell (c .if2 .taken),
@@ -44,7 +44,7 @@ count-need-spec =
     let read = c .before .before .before .before .before in
     let l = read .before .before .loop in
     let q = read .before .before .before .before .pre in
-    let cell = c .before .wide64 .ensures ∙ c .before .before .slot .ensures in (
+    let cell = c .before .word-to-long .ensures .0 ∙ c .before .before .slot .ensures in (
       omega arith,
       omega arith,
       counted-had _ _ _ _ _ _ (q .records) (omega arith) (q .level) (l .inv .2) _ (read .read-record .ensures) (omega arith) _ cell (c .if2 .left),

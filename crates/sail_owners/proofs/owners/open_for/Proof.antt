@@ -20,8 +20,8 @@ returns-2 c =
     opened-second _ _ _ _ _ (first .before .before .before .before .before .before .before .before .before .pre) (omega arith) _
     (first .before .slot .ensures) _ _ (first .hang .ensures) (omega arith)
 
-place-requires : tie.Need-place-requires
-place-requires c κs =
+second-place-requires : tie.Need-second-place-requires
+second-place-requires c κs =
     let first = c .before .before .before .before in
     chunk-second _ _ _ _ _ (first .before .before .before .before .before .before .before .before .before .pre) (omega arith) _
     (first .before .slot .ensures) _ _ (first .hang .ensures) (first .hang .kept .0)
@@ -30,13 +30,13 @@ hang-requires-2 : tie.Need-hang-requires-2
 hang-requires-2 c κs =
     let first = c .before .before .before .before .before in
     hangs-third _ _ _ _ _ (first .before .before .before .before .before .before .before .before .before .pre) (omega arith) _
-    (first .before .slot .ensures) _ _ (first .hang .ensures) (omega arith) _ (c .place .ensures .0)
+    (first .before .slot .ensures) _ _ (first .hang .ensures) (omega arith) _ (c .second-place .ensures .0)
 
 returns-3 : tie.Need-returns-3
 returns-3 c =
     let first = c .before .before .before .before .before .before .before .before in
     opened-third _ _ _ _ _ (first .before .before .before .before .before .before .before .before .before .pre) (omega arith) _
-    (first .before .slot .ensures) _ _ (first .hang .ensures) (omega arith) _ (c .before .before .before .place .ensures .0) _ _ (c .before .before .hang2 .ensures)
+    (first .before .slot .ensures) _ _ (first .hang .ensures) (omega arith) _ (c .before .before .before .second-place .ensures .0) _ _ (c .before .before .hang2 .ensures)
 
 pub open-for-spec : {M : Type 1} → statement M
 open-for-spec =
@@ -49,8 +49,9 @@ open-for-spec =
     hang-requires
     (λ c. search needs)
     returns-2
-    place-requires
-    (λ c. search needs)
+    second-place-requires
+    (λ c. omega (arith, c .second-place .ensures .1))
+    (λ c. omega (arith, c .second-place .ensures .1))
     hang-requires-2
     (λ c. search needs)
     (λ c. search needs)
