@@ -9,7 +9,7 @@ use bits::widen::byte_to_word;
 use bits::widen::half_to_word;
 
 // The place of the first l bits of an address: those of all shorter prefixes come before it.
-pub fn place(l: u32, addr: u32) -> usize
+pub fn map_place(l: u32, addr: u32) -> usize
     requires { ⌜ l ≤ 16 ⌝ }
     ensures { λ r. ⌜ (r ≡ mapPlace l (slot l addr)) × (r < 131071) ⌝ }
 {
@@ -29,7 +29,7 @@ pub fn mapped(bits: &[u8], cells: &[u16], addr: u32, l: u32) -> u32
     requires { ⌜ MapSizes (length (now bits)) (length (now cells)) × (l ≤ 16) ⌝ }
     ensures { λ r. ⌜ (r ≡ mapped (now (bits .entry)) (now (cells .entry)) addr l) × (r ≤ 65536) ⌝ }
 {
-    let i = place(l, addr);
+    let i = map_place(l, addr);
     if is_set(bits, i) {
         return 1 + half_to_word(cells[i]);
     }

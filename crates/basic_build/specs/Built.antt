@@ -37,7 +37,7 @@ unfoldable pub withRoute : Route → List ℕ → List ℕ
 withRoute r cells = cond (leb (r .len) 16) (set cells (mapPlace (r .len) (slot (r .len) (r .addr))) (r .hop)) cells
 
 -- the arrays are the maps of these routes
-pub record Filled (rs : List Route) (bs cs : List ℕ) : Type 0 where
+pub record MapsFilled (rs : List Route) (bs cs : List ℕ) : Type 0 where
   pub bits : bs ≡ mapBits (mapCells rs)
   pub cells : cs ≡ mapCells rs
 

@@ -11,7 +11,7 @@ use lib.Dec.{eqb, ltb, leb}
 use borrow.Author.Tests.{ltb-true, ltb-false, leb-true, eqb-true, eqb-false, lt-ltb, eq-eqb, ne-eqb}
 use Rattle.bits.specs.Count.{bit, count}
 use lib.ListN.{getD, length}
-use Rattle.bits.proofs.Tests.{decided, both, and-split, or-split, or-none, fails, same}
+use Rattle.bits.proofs.Bools.{decided, both, and-split, or-split, or-none, fails, same}
 
 pub count-ext : (f g : ℕ → Bool) (n : ℕ) → ((i : ℕ) → i < n → f i ≡ g i) → count f n ≡ count g n
 unfolding count

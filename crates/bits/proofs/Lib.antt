@@ -1,5 +1,5 @@
 -- Laws that everything above cites.
-pub mod Tests
+pub mod Bools
 pub mod Slots
 pub mod Masks
 pub mod Ones

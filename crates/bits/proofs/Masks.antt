@@ -12,7 +12,7 @@ use lib.Pow.{pow-pos, pow-mono, pow-add, shr-lt, shr-shr, shl-shr, low, high, on
 use Rattle.bits.specs.Bit.{bitAt}
 use Rattle.bits.specs.Count.{bit}
 use Rattle.bits.specs.Slot.{slot, cut, mask}
-use Rattle.bits.proofs.Tests.{decided}
+use Rattle.bits.proofs.Bools.{decided}
 
 pub mask-zero : (l : ℕ) → l ≡ 0 → 0 ≡ mask l
 unfolding mask

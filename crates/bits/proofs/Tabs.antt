@@ -12,7 +12,7 @@ use lib.Seq.{take-at, drop-at, ext-getD, getD-set-same, getD-set-other}
 use borrow.Author.Count.{below-more}
 use borrow.Author.Tests.{eqb-true, eqb-false, eq-eqb}
 use Rattle.bits.specs.Tab.{tabulate, every, same}
-use Rattle.bits.proofs.Tests.{decided, both, and-split}
+use Rattle.bits.proofs.Bools.{decided, both, and-split}
 
 module _ {ℓ} {A : Type ℓ} where
   pub length-tabulate : (n : ℕ) (f : ℕ → A) → length (tabulate n f) ≡ n

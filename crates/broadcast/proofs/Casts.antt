@@ -10,7 +10,7 @@ use lib.Dec.{eqb, leb}
 use lib.ListN.{length}
 use borrow.Author.Tests.{eqb-true, eq-eqb, ne-eqb, leb-true, le-leb}
 use Rattle.bits.specs.Count.{bit}
-use Rattle.bits.proofs.Tests.{decided, below?, and-split, both, or-split, untrue}
+use Rattle.bits.proofs.Bools.{decided, below?, and-split, both, or-split, untrue}
 use Rattle.longest.specs.Best.{bestRoute, LongestRoute, BestRoute}
 use Rattle.longest.proofs.Bests.{best-route-is, best-route-only}
 use Rattle.routes.specs.Input.{inputSaid}

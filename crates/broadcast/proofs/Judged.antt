@@ -5,7 +5,7 @@ use mathlib.Core.Logic.{_⊎_, inl, inr, _↔_, _≢_}
 use mathlib.Core.Bool.{true, false, true≢false}
 use mathlib.Core.List.{List}
 use Prim.Native.Nat.{ℕ}
-use Rattle.bits.proofs.Tests.{decided, equal?, untrue}
+use Rattle.bits.proofs.Bools.{decided, equal?, untrue}
 use Rattle.routes.specs.Input.{inputSaid}
 use Rattle.routes.specs.Record.{GoodInput, routesIn}
 use Rattle.routes.specs.Said.{Said, accepts}

@@ -2,5 +2,5 @@
 pub mod Highs
 pub mod Casts
 pub mod Judged
-pub mod Answers
+pub mod BroadcastReturns
 pub mod OneAnswer

@@ -9,7 +9,7 @@ use native.Mathlib.Omega.{arith}
 use lib.Dec.{ltb, eqb}
 use lib.ListN.{length, getD, set, length-set, List·getD-eq-default}
 use borrow.Author.Tests.{lt-ltb, le-ltb, eq-eqb, ne-eqb}
-use Rattle.bits.proofs.Tests.{below?, equal?}
+use Rattle.bits.proofs.Bools.{below?, equal?}
 use Rattle.bits.proofs.Tabs.{length-tabulate, getD-tabulate, tabulate-ext, is-tabulate, set-tabulate}
 use Rattle.buffers.specs.Fill.{between, filled, copied, padded}
 use Rattle.buffers.proofs.Ranges.{between-in, between-below}
@@ -63,5 +63,5 @@ padded-is l s h =
     go i k u (inl b) = rw (between-below (length s) (length (copied l s (length s))) i b) (getD-copied l s (length s) i k b)
     go i k u (inr b) = rw (between-in (length s) (length (copied l s (length s))) i b u) (sym (List·getD-eq-default s 0 b))
 
-pub put-is : (l s x y : List ℕ) → length s ≤ length l → x ≡ copied l s (length s) → y ≡ filled x (length s) (length x) 0 → y ≡ padded s (length l)
-put-is l s x y h e f = f ∙ rw e (padded-is l s h)
+pub copied-is : (l s x y : List ℕ) → length s ≤ length l → x ≡ copied l s (length s) → y ≡ filled x (length s) (length x) 0 → y ≡ padded s (length l)
+copied-is l s x y h e f = f ∙ rw e (padded-is l s h)

@@ -12,20 +12,20 @@ use lib.Seq.{ext-getD}
 use borrow.Author.Tests.{eq-eqb, ne-eqb}
 use Rattle.bits.proofs.Tabs.{length-tabulate, getD-tabulate, tabulate-ext, is-tabulate, set-tabulate}
 use Rattle.buffers.specs.Fill.{between, filled, allSet}
-use Rattle.buffers.proofs.Ranges.{Place, below, inside, above, place, between-in, between-below, between-above}
+use Rattle.buffers.proofs.Ranges.{Side, below, inside, above, side, between-in, between-below, between-above}
 
 none : (from j v x : ℕ) → x ≡ cond (between from from j) v x
-none from j v x = go (place from from j)
+none from j v x = go (side from from j)
   where
-    go : Place from from j → x ≡ cond (between from from j) v x
+    go : Side from from j → x ≡ cond (between from from j) v x
     go (below a) = rw (between-below from from j a)
     go (inside a b) = omega arith
     go (above a b) = rw (between-above from from j b)
 
 more : (from i j v x : ℕ) → from ≤ i → cond (eqb j i) v (cond (between from i j) v x) ≡ cond (between from (i + 1) j) v x
-more from i j v x h = go (place from i j) (decLe j i)
+more from i j v x h = go (side from i j) (decLe j i)
   where
-    go : Place from i j → Dec (j ≤ i) → cond (eqb j i) v (cond (between from i j) v x) ≡ cond (between from (i + 1) j) v x
+    go : Side from i j → Dec (j ≤ i) → cond (eqb j i) v (cond (between from i j) v x) ≡ cond (between from (i + 1) j) v x
     go (below a) d = rw (ne-eqb j i (omega arith), between-below from i j a, between-below from (i + 1) j a)
     go (inside a b) d = rw (ne-eqb j i (omega arith), between-in from i j a b, between-in from (i + 1) j a (omega arith))
     go (above a b) (yes d) = rw (eq-eqb j i (omega arith), between-in from (i + 1) j a (omega arith))

@@ -22,15 +22,15 @@ between-above from to i a = go (leb from i)
     go false = refl
 
 -- where i stands
-pub data Place (from to i : ℕ) : Type 0 where
-  below : i < from → Place from to i
-  inside : from ≤ i → i < to → Place from to i
-  above : from ≤ i → to ≤ i → Place from to i
+pub data Side (from to i : ℕ) : Type 0 where
+  below : i < from → Side from to i
+  inside : from ≤ i → i < to → Side from to i
+  above : from ≤ i → to ≤ i → Side from to i
 
-pub place : (from to i : ℕ) → Place from to i
-place from to i = go (decLe from i) (decLt i to)
+pub side : (from to i : ℕ) → Side from to i
+side from to i = go (decLe from i) (decLt i to)
   where
-    go : Dec (from ≤ i) → Dec (i < to) → Place from to i
+    go : Dec (from ≤ i) → Dec (i < to) → Side from to i
     go (yes a) (yes b) = inside a b
     go (yes a) (no b) = above a (omega arith)
     go (no a) q = below (omega arith)

@@ -1,7 +1,7 @@
 -- For each exported call: a caller that reads the packed answer by the header's fields has exactly what the call inside says. So two calls
 -- whose packed answers are equal say the same (`packed-once` of Unpacks, with two of these). Assumes nothing.
 --
--- What is supposed is what the boundary's types give: cells of 16 bits (`Cells`). And for the index of a refusal an input shorter than 2^35
+-- What is supposed is what the boundary's types give: cells of 16 bits (`Cells16`). And for the index of a refusal an input shorter than 2^35
 -- bytes, which is 32 GiB: a longer one has an index of more than 32 bits.
 use mathlib.Core.Path.{_≡_, refl, _∙_, ap}
 use mathlib.Core.Bool.{Bool, true, false, cond, false≢true}
@@ -29,18 +29,18 @@ use Rattle.tree.specs.Walk.{treeSaid}
 use Rattle.tree_build.specs.Built.{built}
 use Rattle.sail.specs.Word.{packFound}
 use Rattle.packing.specs.Pack.{packReport, packRun, packNone, packRoute}
-use Rattle.packing.specs.Unpack.{refusalOf, unpacked, noValues, unpackFound, unpackReport, unpackBuilt, unpackRun, unpackRoute, unpackAnnounce, unpackWithdraw, unpackDone, unpackNone, countOf, Cells}
+use Rattle.packing.specs.Unpack.{refusalOf, unpacked, noValues, unpackFound, unpackReport, unpackBuilt, unpackRun, unpackRoute, unpackAnnounce, unpackWithdraw, unpackDone, unpackNone, countOf, Cells16}
 use Rattle.cards.specs.Cards.{cardOf, imageCardOf, wordsCard, tallyCard, lowFound, manyCard}
 use Rattle.packing.proofs.Unpacks.{found-read, report-read, built-read, run-read, route-read, announce-read, withdraw-read, done-read, none-read, announce-count, withdraw-count, done-count, found-low}
 use Rattle.cards.proofs.Fits.{input-fits, run-fits, route-fits, built-fits, tree-fits, lookup-fits, report-fits, make-few, make-fits, load-few, load-fits, announce-few, announce-fits, withdraw-few, withdraw-fits}
 
 -- Tables.
 module _ (t : Table) (l : Lent) where
-  pub gh-lookup-read : Cells l → (a : ℕ) → unpackFound (packFound (lookupSaid t l a)) ≡ lookupSaid t l a
+  pub gh-lookup-read : Cells16 l → (a : ℕ) → unpackFound (packFound (lookupSaid t l a)) ≡ lookupSaid t l a
   gh-lookup-read cells a = found-read 0 (omega arith) _ (lookup-fits t l cells a)
 
   -- the low 32 bits are all of it
-  pub gh-lookup-many-read : Cells l → (a : ℕ) → unpackFound (lowFound t l a) ≡ lookupSaid t l a
+  pub gh-lookup-many-read : Cells16 l → (a : ℕ) → unpackFound (lowFound t l a) ≡ lookupSaid t l a
   gh-lookup-many-read cells a =
       let h = found-low (lookupSaid t l a) (lookup-fits t l cells a) in
       let e : lowFound t l a ≡ packFound (lookupSaid t l a) = omega arith in

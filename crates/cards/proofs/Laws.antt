@@ -12,7 +12,7 @@ use Rattle.bits.specs.Count.{count}
 use Rattle.bits.specs.Tab.{tabulate}
 use Rattle.routes.specs.Said.{Said, accepts}
 use Rattle.routes.specs.Input.{inputSaid}
-use Rattle.routes.specs.Answers.{saysInput}
+use Rattle.routes.specs.Answers.{meansInput}
 use Rattle.runs.specs.Tally.{IsTally, tallyOf, lengthsOf, hasLength}
 use Rattle.runs.specs.declared.tally.Tallied.{Tallied}
 use Rattle.sail.specs.Geometry.{standardGeo}
@@ -23,7 +23,7 @@ use Rattle.sail.specs.declared.geometry.Geometry.{Geometry}
 use Rattle.sail.specs.declared.table.Table.{Table}
 use Rattle.sail.proofs.Steps.{look-on, look-not}
 use Rattle.sail_many.specs.Words.{answerAt}
-use Rattle.sail_many.proofs.Answers.{answer-is}
+use Rattle.sail_many.proofs.LookupWords.{answer-is}
 use Rattle.sail_theory.specs.Calls.{route, Out, out, announced, withdrawn}
 use Rattle.tree_build.specs.Built as tree
 use Rattle.sail.specs.Word.{packed, packFound, Word}
@@ -44,7 +44,7 @@ module _ (t : Table) (l : Lent) (a len n : ℕ) (e : n ≡ min len 255) (s : Sai
   pub withdraw-card : out s t′ l′ ≡ withdrawn t l a n → r ≡ packChange (t′ .count) s → card r l′ ≡ cardOf (withdrawn t l a len)
   withdraw-card is = card-is s t′ l′ _ r (is ∙ withdrawn-narrow t l a len n e)
 
-pub image-card-is : (s : Said) (ws hs : List ℕ) (o : tree.Out) (r : ℕ) → tree.out s ws hs ≡ o → r ≡ packBuilt s → imageCard r ws hs ≡ imageCardOf o
+pub image-card-is : (s : Said) (ws hs : List ℕ) (o : tree.ImageOut) (r : ℕ) → tree.imageOut s ws hs ≡ o → r ≡ packBuilt s → imageCard r ws hs ≡ imageCardOf o
 unfolding imageCardOf
 image-card-is s ws hs o r e q = ap (λ (x : ℕ). imageCard x ws hs) q ∙ ap imageCardOf e
 
@@ -103,7 +103,7 @@ module _ (s xs : List ℕ) where
   tally-short n = rw (ne-eqb (length xs) 33 n)
 
   pub tally-all : length xs ≡ 33 → (t : Tallied) → IsTally s t → (ys : List ℕ) → length ys ≡ 33 → length (t .counts) ≡ 33
-      → ((k : ℕ) → k < 33 → getD ys k 0 ≡ getD (t .counts) k 0) → (r : ℕ) → r ≡ packNone (saysInput (t .answer)) → wordsCard r ys ≡ tallyCard s xs
+      → ((k : ℕ) → k < 33 → getD ys k 0 ≡ getD (t .counts) k 0) → (r : ℕ) → r ≡ packNone (meansInput (t .answer)) → wordsCard r ys ≡ tallyCard s xs
   unfolding tallyCard
   tally-all n t is ys m c h r q =
       rw (eq-eqb (length xs) 33 n)

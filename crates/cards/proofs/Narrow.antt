@@ -10,7 +10,7 @@ use Prim.Native.Nat.{ℕ, zero, suc, _<_, _≤_, min}
 use native.Mathlib.Omega.{arith}
 use borrow.Author.Tests.{lt-leb}
 use Rattle.bits.specs.Slot.{cut}
-use Rattle.bits.proofs.Tests.{decided, below?}
+use Rattle.bits.proofs.Bools.{decided, below?}
 use Rattle.routes.specs.Route.{Prefix}
 use Rattle.routes.specs.Input.{properPrefix}
 use Rattle.routes.specs.Said.{Said, refused, accepts}

@@ -40,7 +40,7 @@ pub record ImageCard : Type 0 where
 abbrev pub imageCard : ℕ → List ℕ → List ℕ → ImageCard
 imageCard r ws hs = record { answer = r; words = ws; hops = hs }
 
-unfoldable pub imageCardOf : tree.Out → ImageCard
+unfoldable pub imageCardOf : tree.ImageOut → ImageCard
 imageCardOf o = imageCard (packBuilt (o .said)) (o .words) (o .hops)
 
 -- an answer, and one array

@@ -7,8 +7,8 @@ use lib.ListN.{length, take, drop}
 use lib.Seq.{length-take-le, length-front, take-at}
 use Rattle.bits.proofs.Tabs.{length-tabulate}
 use Rattle.routes.specs.Record.{routesOf, Listed}
-use Rattle.chain.specs.Words.{wordAt, wordsOf, routesIn}
-use Rattle.chain.specs.Cover.{Room, Ready}
+use Rattle.chain.specs.Words.{wordAt, wordsOf, routesOfWords}
+use Rattle.chain.specs.Cover.{WordsRoom, ChainReady}
 use Rattle.chain.specs.List.{ChainRoom, Chained, Scratch}
 use Rattle.chain.proofs.Decodes.{words-routes, records-words}
 
@@ -18,15 +18,15 @@ module _ (s ws par : List ℕ) (r : ChainRoom s ws par) (words : List ℕ) (are 
   unfolding wordsOf
   long = length-tabulate (length ws) (wordAt s)
 
-  pub words-room : Room words par
+  pub words-room : WordsRoom words par
   words-room = rw are (record {
     words = records-words s (length ws) (r .records);
     few = omega (arith, long, r .records .few);
     room = r .room;
   })
 
-  pub words-chained : (chain : List ℕ) → Ready words chain → Chained s (length ws) words chain
-  words-chained chain k = record { routes = ap routesIn are ∙ words-routes s (length ws) (r .records); ready = k }
+  pub words-chained : (chain : List ℕ) → ChainReady words chain → Chained s (length ws) words chain
+  words-chained chain k = record { routes = ap routesOfWords are ∙ words-routes s (length ws) (r .records); ready = k }
 
 -- a list of n routes, and room for the words of any list
 module _ (s : List ℕ) (n : ℕ) (listed : Listed s n) (ws par : List ℕ) (room : Scratch ws par) where
@@ -50,8 +50,8 @@ module _ (s : List ℕ) (n : ℕ) (listed : Listed s n) (ws par : List ℕ) (roo
     front-room = count-room ∙ sym kept ∙ ap length (sym front)
 
     module _ (chain : List ℕ) (k : Chained s (length (take n ws)) words chain) where
-      pub front-ready : Ready (take n (words ++ drop n ws)) chain
+      pub front-ready : ChainReady (take n (words ++ drop n ws)) chain
       front-ready = rw front (k .ready)
 
-      pub front-routes : routesIn (take n (words ++ drop n ws)) ≡ routesOf s n
+      pub front-routes : routesOfWords (take n (words ++ drop n ws)) ≡ routesOf s n
       front-routes = rw (front, k .routes, ← count-room)

@@ -4,8 +4,8 @@ use mathlib.Core.List.{List}
 use Prim.Native.Nat.{ℕ}
 use lib.ListN.{length}
 use Rattle.routes.specs.Record.{routesOf, Records}
-use Rattle.chain.specs.Words.{routesIn}
-use Rattle.chain.specs.Cover.{Ready}
+use Rattle.chain.specs.Words.{routesOfWords}
+use Rattle.chain.specs.Cover.{ChainReady}
 
 -- good records, and room for as many words as there are, their parents and the heads
 pub record ChainRoom (s ws par : List ℕ) : Type 0 where
@@ -14,8 +14,8 @@ pub record ChainRoom (s ws par : List ℕ) : Type 0 where
 
 -- the words of the first n records, with their chain
 pub record Chained (s : List ℕ) (n : ℕ) (ws par : List ℕ) : Type 0 where
-  pub routes : routesIn ws ≡ routesOf s n
-  pub ready : Ready ws par
+  pub routes : routesOfWords ws ≡ routesOf s n
+  pub ready : ChainReady ws par
 
 -- room for the words of any list, and for their chain
 pub record Scratch (ws par : List ℕ) : Type 0 where

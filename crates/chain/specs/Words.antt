@@ -27,18 +27,18 @@ lenOf w = byte (above3 w)
 abbrev pub hopOf : ℕ → ℕ
 hopOf w = half w
 
-abbrev pub routeOf : ℕ → Route
-routeOf w = record { addr = addrOf w; len = lenOf w; mark = byte (above2 w); hop = hopOf w }
+abbrev pub routeOfWord : ℕ → Route
+routeOfWord w = record { addr = addrOf w; len = lenOf w; mark = byte (above2 w); hop = hopOf w }
 
 -- the key of a word's route: its address and its length
 abbrev pub keyIn : ℕ → ℕ
 keyIn w = above3 w
 
 -- the routes of these words
-abbrev pub routesIn : List ℕ → List Route
-routesIn ws = map routeOf ws
+abbrev pub routesOfWords : List ℕ → List Route
+routesOfWords ws = map routeOfWord ws
 
 -- each word is of a fine route, and the keys rise
 pub record Words (ws : List ℕ) : Type 0 where
-  pub fine : (k : ℕ) → k < length ws → Fine (routeOf (getD ws k 0))
+  pub fine : (k : ℕ) → k < length ws → Fine (routeOfWord (getD ws k 0))
   pub rises : (k : ℕ) → suc k < length ws → keyIn (getD ws k 0) < keyIn (getD ws (suc k) 0)

@@ -4,9 +4,9 @@ ghost use Prim.Native.Nat.{_/_, _%_, _<_, _≤_};
 ghost use lib.ListN.{length};
 ghost use Rattle.bits.specs.Slot.{slot};
 ghost use Rattle.standing.specs.Cells.{covers, best};
-ghost use Rattle.chain.specs.Words.{lenOf, routeOf, routesIn};
-ghost use Rattle.chain.specs.Place.{Placed, InLevel, RunFrom};
-ghost use Rattle.chain.specs.Cover.{LastCover, Parents, Climb, Room, Ready};
+ghost use Rattle.chain.specs.Words.{lenOf, routeOfWord, routesOfWords};
+ghost use Rattle.chain.specs.Place.{KeysBelow, InLevel, RunFrom};
+ghost use Rattle.chain.specs.Cover.{LastCover, Parents, Climb, WordsRoom, ChainReady};
 use super::place::place_between;
 use super::place::place_on;
 use super::place::under_key;
@@ -16,7 +16,7 @@ use bits::widen::half_to_index;
 // Whether the route of a word covers cell i of level p.
 fn covering(w: u64, p: u32, i: u64) -> bool
     requires { ⌜ (p ≤ 32) × (lenOf w ≤ 32) ⌝ }
-    ensures { λ r. ⌜ r ≡ covers p i (routeOf w) ⌝ }
+    ensures { λ r. ⌜ r ≡ covers p i (routeOfWord w) ⌝ }
 {
     let len = (w / bytes::THREE % bytes::ONE) as u32;
     if p < len {
@@ -44,7 +44,7 @@ pub fn last_cover(ws: &[u64], par: &[u16], j: usize, p: u32, i: u64) -> usize
 
 // The parent of each word.
 fn parents(ws: &[u64], par: &mut [u16])
-    requires { ⌜ Room (now ws) (now par) ⌝ }
+    requires { ⌜ WordsRoom (now ws) (now par) ⌝ }
     ensures { λ _. ⌜ Parents (now (ws .entry)) (now (par .exit)) (length (now (ws .entry))) ⌝ }
 {
     let mut k = 0;
@@ -57,9 +57,9 @@ fn parents(ws: &[u64], par: &mut [u16])
 
 // The heads, after the parents. Each is looked for from the one before on.
 fn heads(ws: &[u64], par: &mut [u16])
-    requires { ⌜ Room (now ws) (now par) ⌝ }
+    requires { ⌜ WordsRoom (now ws) (now par) ⌝ }
     requires { ⌜ Parents (now ws) (now par) (length (now ws)) ⌝ }
-    ensures { λ _. ⌜ Ready (now (ws .entry)) (now (par .exit)) ⌝ }
+    ensures { λ _. ⌜ ChainReady (now (ws .entry)) (now (par .exit)) ⌝ }
 {
     let mut m = 0;
     let mut b: usize = 0;
@@ -72,8 +72,8 @@ fn heads(ws: &[u64], par: &mut [u16])
 
 // The parents and the heads.
 pub fn ready(ws: &[u64], par: &mut [u16])
-    requires { ⌜ Room (now ws) (now par) ⌝ }
-    ensures { λ _. ⌜ Ready (now (ws .entry)) (now (par .exit)) ⌝ }
+    requires { ⌜ WordsRoom (now ws) (now par) ⌝ }
+    ensures { λ _. ⌜ ChainReady (now (ws .entry)) (now (par .exit)) ⌝ }
 {
     parents(ws, par);
     heads(ws, par);
@@ -81,9 +81,9 @@ pub fn ready(ws: &[u64], par: &mut [u16])
 
 // How many words have a smaller key, by halving between two heads.
 pub fn place_from(ws: &[u64], par: &[u16], key: u64) -> usize
-    requires { ⌜ Ready (now ws) (now par) ⌝ }
+    requires { ⌜ ChainReady (now ws) (now par) ⌝ }
     requires { ⌜ key < 1099511627776 ⌝ }
-    ensures { λ r. ⌜ Placed (now (ws .entry)) key r ⌝ }
+    ensures { λ r. ⌜ KeysBelow (now (ws .entry)) key r ⌝ }
 {
     let b = 4096 + (key / bytes::FOUR) as usize;
     place_between(ws, half_to_index(par[b]), half_to_index(par[b + 1]), key)
@@ -91,7 +91,7 @@ pub fn place_from(ws: &[u64], par: &[u16], key: u64) -> usize
 
 // Where the run under cell i of level p begins.
 pub fn run_start(ws: &[u64], par: &[u16], p: u32, i: u64) -> usize
-    requires { ⌜ Ready (now ws) (now par) ⌝ }
+    requires { ⌜ ChainReady (now ws) (now par) ⌝ }
     requires { ⌜ InLevel p i ⌝ }
     ensures { λ r. ⌜ RunFrom (now (ws .entry)) p i r ⌝ }
 {
@@ -100,9 +100,9 @@ pub fn run_start(ws: &[u64], par: &[u16], p: u32, i: u64) -> usize
 
 // The hop of the longest route of at most p bits that covers cell i; the run under the cell begins at lo.
 pub fn inherited(ws: &[u64], par: &[u16], lo: usize, p: u32, i: u64) -> u16
-    requires { ⌜ Ready (now ws) (now par) ⌝ }
+    requires { ⌜ ChainReady (now ws) (now par) ⌝ }
     requires { ⌜ RunFrom (now ws) p i lo ⌝ }
-    ensures { λ r. ⌜ (r ≡ best (routesIn (now (ws .entry))) p i) × (r < 32768) ⌝ }
+    ensures { λ r. ⌜ (r ≡ best (routesOfWords (now (ws .entry))) p i) × (r < 32768) ⌝ }
 {
     let m = last_cover(ws, par, lo, p, i);
     if m == 0 {
@@ -113,18 +113,18 @@ pub fn inherited(ws: &[u64], par: &[u16], lo: usize, p: u32, i: u64) -> u16
 
 // The same, where nothing is known of the run.
 pub fn longest_at(ws: &[u64], par: &[u16], p: u32, i: u64) -> u16
-    requires { ⌜ Ready (now ws) (now par) ⌝ }
+    requires { ⌜ ChainReady (now ws) (now par) ⌝ }
     requires { ⌜ InLevel p i ⌝ }
-    ensures { λ r. ⌜ (r ≡ best (routesIn (now (ws .entry))) p i) × (r < 32768) ⌝ }
+    ensures { λ r. ⌜ (r ≡ best (routesOfWords (now (ws .entry))) p i) × (r < 32768) ⌝ }
 {
     inherited(ws, par, run_start(ws, par, p, i), p, i)
 }
 
 // The hop of the longest route of at most p bits that covers an address.
 pub fn longest(ws: &[u64], par: &[u16], p: u32, addr: u32) -> u16
-    requires { ⌜ Ready (now ws) (now par) ⌝ }
+    requires { ⌜ ChainReady (now ws) (now par) ⌝ }
     requires { ⌜ p ≤ 32 ⌝ }
-    ensures { λ r. ⌜ (r ≡ best (routesIn (now (ws .entry))) p (slot p addr)) × (r < 32768) ⌝ }
+    ensures { λ r. ⌜ (r ≡ best (routesOfWords (now (ws .entry))) p (slot p addr)) × (r < 32768) ⌝ }
 {
     longest_at(ws, par, p, (addr as u64) >> (32 - p))
 }

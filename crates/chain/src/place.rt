@@ -4,14 +4,14 @@ ghost use mathlib.Core.Path.{_≡_};
 ghost use Prim.Native.Nat.{_+_, _*_, _^_, _<_, _≤_};
 ghost use lib.ListN.{length};
 ghost use Rattle.chain.specs.Words.{Words};
-ghost use Rattle.chain.specs.Place.{Placed, Between, underKey, InLevel, RunFrom, Run};
+ghost use Rattle.chain.specs.Place.{KeysBelow, Between, underKey, InLevel, RunFrom, Run};
 use bits::bytes;
 use bits::widen::word_to_long;
 
 // How many words have a smaller key, by halving, where that is known to be no less than from and no more than to.
 pub fn place_between(ws: &[u64], from: usize, to: usize, key: u64) -> usize
     requires { ⌜ Between (now ws) key from to ⌝ }
-    ensures { λ r. ⌜ Placed (now (ws .entry)) key r ⌝ }
+    ensures { λ r. ⌜ KeysBelow (now (ws .entry)) key r ⌝ }
 {
     let mut lo = from;
     let mut hi = to;
@@ -29,7 +29,7 @@ pub fn place_between(ws: &[u64], from: usize, to: usize, key: u64) -> usize
 // How many words have a smaller key.
 pub fn place(ws: &[u64], key: u64) -> usize
     requires { ⌜ Words (now ws) ⌝ }
-    ensures { λ r. ⌜ Placed (now (ws .entry)) key r ⌝ }
+    ensures { λ r. ⌜ KeysBelow (now (ws .entry)) key r ⌝ }
 {
     place_between(ws, 0, ws.len(), key)
 }
@@ -37,7 +37,7 @@ pub fn place(ws: &[u64], key: u64) -> usize
 // As place, by going on from a place that is no later.
 pub fn place_on(ws: &[u64], from: usize, key: u64) -> usize
     requires { ⌜ Between (now ws) key from (length (now ws)) ⌝ }
-    ensures { λ r. ⌜ Placed (now (ws .entry)) key r ⌝ }
+    ensures { λ r. ⌜ KeysBelow (now (ws .entry)) key r ⌝ }
 {
     let mut k = from;
     while k < ws.len() {

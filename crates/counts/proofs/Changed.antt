@@ -9,7 +9,7 @@ use lib.Dec.{eqb, ltb}
 use borrow.Author.Tests.{ltb-true, eqb-true, lt-ltb, le-ltb, eq-eqb, ne-eqb}
 use Rattle.bits.specs.Count.{bit}
 use Rattle.bits.specs.Slot.{slot}
-use Rattle.bits.proofs.Tests.{decided, or-none}
+use Rattle.bits.proofs.Bools.{decided, or-none}
 use Rattle.routes.specs.Route.{key, keyOf, Fine, Good}
 use Rattle.routes.specs.declared.Route.{Route}
 use Rattle.routes.proofs.Goods.{key-parts}

@@ -19,27 +19,27 @@ use Rattle.sail.specs.Walk.{lookupSaid}
 use Rattle.sail.specs.declared.table.Table.{Table}
 use Rattle.sail.proofs.Sounds as sounds
 use Rattle.basic.specs.Maps.{isSetAt}
-use Rattle.basic.specs.Calls.{saysBasicFound, basicSaid, hopWord, basicMany}
+use Rattle.basic.specs.Calls.{meansBasicFound, basicSaid, hopWord, basicMany}
 use Rattle.basic.specs.Contract.{MeetsBasicLookup, MeetsBasicMany}
-use Rattle.basic.specs.Meaning.{MapsOf, Serves, BasicLookup, BasicLookups}
+use Rattle.basic.specs.Meaning.{MapsOf, MapsServe, BasicLookup, BasicLookups}
 use Rattle.basic.specs.declared.check.BasicAnswer.{BasicAnswer}
 use Rattle.basic.specs.declared.lookup.BasicFound.{BasicFound}
 use Rattle.basic.specs.declared.lookup.BasicFound.the-variants as found
-use Rattle.basic.proofs.Answers.{refused-leaves-words, basic-found-injective}
+use Rattle.basic.proofs.LookupReturns.{refused-leaves-words, basic-found-injective}
 use Rattle.basic.proofs.OneAnswer as lookup
 use Rattle.basic.proofs.Serves.{serves-best, serves-once, serves-none}
 use Rattle.basic.proofs.Judged.{lookup-only, lookup-judged, many-only, many-judged, many-words}
 use Rattle.basic_build.specs.Built.{basicBuilt, BasicBuild}
 use Rattle.basic_build.specs.Contract.{MeetsBasicBuild}
-use Rattle.basic_build.proofs.Answers.{refused-leaves}
+use Rattle.basic_build.proofs.BuildReturns.{refused-leaves}
 use Rattle.basic_build.proofs.Judged.{build-only, build-judged}
 use Rattle.basic_build.proofs.OneAnswer as build
 use Rattle.basic_build.proofs.Serves as worth
 
 -- Demand 1. "A refusal is never a hop": the answer of a lookup that is refused is the number alone.
-pub refused-no-hop-basic : (input bits cells : List ℕ) (a : ℕ) (r : BasicFound) → saysBasicFound r ≡ basicSaid input bits cells a
+pub refused-no-hop-basic : (input bits cells : List ℕ) (a : ℕ) (r : BasicFound) → meansBasicFound r ≡ basicSaid input bits cells a
     → (n : ℕ) → basicSaid input bits cells a ≡ refused n → r ≡ found.Refused n
-unfolding saysBasicFound
+unfolding meansBasicFound
 refused-no-hop-basic input bits cells a r e n q = basic-found-injective r (found.Refused n) (e ∙ q)
 
 -- "It carries its number": in order, with the failure of those before
@@ -70,7 +70,7 @@ module _ (input bits cells : List ℕ) where
 -- Demand 2. "For every good record input, the arrays built from it and every address, its hop equals that of the covering rule."
 module _ (input bits cells : List ℕ) (e : accepts (basicBuilt input bits cells .said) ≡ true) where
   pub basic-serves : (a : ℕ) → a < 2 ^ 32
-      → Serves (routesIn input) a (basicSaid input (basicBuilt input bits cells .bits) (basicBuilt input bits cells .cells) a)
+      → MapsServe (routesIn input) a (basicSaid input (basicBuilt input bits cells .bits) (basicBuilt input bits cells .cells) a)
   basic-serves = worth.basic-serves input bits cells e
 
   -- the arrays, bit by bit and cell by cell
@@ -82,7 +82,7 @@ module _ (input bits cells : List ℕ) (e : accepts (basicBuilt input bits cells
   last-bit-zero = basic-built .last
 
 -- of each address one thing is said: the hop alone, without a count
-pub basic-served-once : (rs : List Route) → Good rs → (a : ℕ) {s u : Said} → Serves rs a s → Serves rs a u → s ≡ u
+pub basic-served-once : (rs : List Route) → Good rs → (a : ℕ) {s u : Said} → MapsServe rs a s → MapsServe rs a u → s ≡ u
 basic-served-once rs g a = serves-once rs g a
 
 module _ (input bits cells : List ℕ) (e : accepts (basicBuilt input bits cells .said) ≡ true) (a : ℕ) (h : a < 2 ^ 32) where

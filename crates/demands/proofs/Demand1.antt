@@ -25,12 +25,12 @@ use Rattle.runs.specs.Tally.{tallyOf}
 use Rattle.runs.proofs.Runs.{run-refused}
 use Rattle.runs.proofs.Tallies.{tally-refused}
 use Rattle.sail.specs.Lent.{Lent}
-use Rattle.sail.specs.Walk.{lookupSaid, saysFound}
+use Rattle.sail.specs.Walk.{lookupSaid, meansFound}
 use Rattle.sail.specs.declared.table.Table.{Table}
 use Rattle.sail.specs.declared.lookup.Found.{Found}
 use Rattle.sail.specs.declared.lookup.Found.the-variants as found
-use Rattle.sail.proofs.Answers.{found-injective}
-use Rattle.sail_theory.specs.Calls.{made, cutRoute, cleared, telling, announced, withdrawn, loaded, reported}
+use Rattle.sail.proofs.Injective.{found-injective}
+use Rattle.sail_theory.specs.Calls.{made, cutRoute, cleared, withFlag, announced, withdrawn, loaded, reported}
 use Rattle.sail_theory.specs.Cases.{Make, Announce, Withdraw, Load, Report}
 use Rattle.sail_theory.proofs.calls.SomeCase.{make-judged, announce-judged, withdraw-judged, load-judged, report-judged}
 use Rattle.sail_theory.proofs.calls.OneCase.{make-only, announce-only, withdraw-only, load-only, report-only}
@@ -38,7 +38,7 @@ use Rattle.sail_theory.proofs.calls.Cleared.{announce-said, withdraw-said}
 use Rattle.sail_theory.proofs.calls.Make.{make-said}
 use Rattle.sail_theory.proofs.calls.Load.{load-said}
 use Rattle.sail_theory.proofs.calls.Refusals.{told-exactly, make-leaves, load-leaves, announce-leaves, withdraw-leaves}
-use Rattle.tree.specs.Walk.{saysTreeFound, treeSaid}
+use Rattle.tree.specs.Walk.{meansTreeFound, treeSaid}
 use Rattle.tree.specs.declared.TreeFound.{TreeFound}
 use Rattle.tree.specs.declared.TreeFound.the-variants as treeFound
 use Rattle.tree_build.specs.Built.{built}
@@ -62,12 +62,12 @@ pub refused-at-no-values : (n k : ℕ) (vs : List ℕ) → refusedAt n k ≡ acc
 refused-at-no-values n k vs e = let z : _≡_ {A = ℕ} 0 1 = cc in omega arith
 
 -- so the answer of a lookup that is refused is the number alone
-pub refused-no-hop-lookup : (t : Table) (l : Lent) (a : ℕ) (r : Found) → saysFound r ≡ lookupSaid t l a → (n : ℕ) → lookupSaid t l a ≡ refused n → r ≡ found.Refused n
-unfolding saysFound
+pub refused-no-hop-lookup : (t : Table) (l : Lent) (a : ℕ) (r : Found) → meansFound r ≡ lookupSaid t l a → (n : ℕ) → lookupSaid t l a ≡ refused n → r ≡ found.Refused n
+unfolding meansFound
 refused-no-hop-lookup t l a r e n q = found-injective r (found.Refused n) (e ∙ q)
 
 -- and in an image that number is 13
-pub refused-no-hop-tree : (ws hs : List ℕ) (a : ℕ) (r : TreeFound) → saysTreeFound r ≡ treeSaid ws hs a → (n : ℕ) → treeSaid ws hs a ≡ refused n → (n ≡ 13) × (r ≡ treeFound.Broken)
+pub refused-no-hop-tree : (ws hs : List ℕ) (a : ℕ) (r : TreeFound) → meansTreeFound r ≡ treeSaid ws hs a → (n : ℕ) → treeSaid ws hs a ≡ refused n → (n ≡ 13) × (r ≡ treeFound.Broken)
 refused-no-hop-tree ws hs a r e n q = refused-broken r n (e ∙ q)
 
 -- a refused tally holds 33 zeros, and a refused run is the empty part at the list's start
@@ -107,12 +107,12 @@ module _ (t : Table) (l : Lent) where
 
   -- announce: 1, 2, 3, 4, 10, 5, 6, 7, 8; a replacement never meets 6 to 8. The conditions are on the route with its bits after the length
   -- cleared, and what is accepted says first whether any were
-  pub refused-number-announce : (r : Route) (s : Said) → (announced t l r .said ≡ telling (cleared (r .len) (r .addr)) s) ↔ Announce t l (cutRoute r) s
+  pub refused-number-announce : (r : Route) (s : Said) → (announced t l r .said ≡ withFlag (cleared (r .len) (r .addr)) s) ↔ Announce t l (cutRoute r) s
   refused-number-announce r =
       told-exactly _ (Announce t l (cutRoute r)) _ _ (announce-said t l r) (announce-judged t l (cutRoute r)) (announce-only t l (cutRoute r))
 
   -- withdraw: 1, 2, 3, 5, 9, of the cleared prefix
-  pub refused-number-withdraw : (a len : ℕ) (s : Said) → (withdrawn t l a len .said ≡ telling (cleared len a) s) ↔ Withdraw t l (cut len a) len s
+  pub refused-number-withdraw : (a len : ℕ) (s : Said) → (withdrawn t l a len .said ≡ withFlag (cleared len a) s) ↔ Withdraw t l (cut len a) len s
   refused-number-withdraw a len =
       told-exactly _ (Withdraw t l (cut len a) len) _ _ (withdraw-said t l a len) (withdraw-judged t l (cut len a) len) (withdraw-only t l (cut len a) len)
 

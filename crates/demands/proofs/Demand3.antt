@@ -30,7 +30,7 @@ use Rattle.sail.proofs.Sounds.{standing-good}
 use Rattle.sail_theory.specs.Render.{roomOf}
 use Rattle.sail_theory.specs.Calls.{termsOf, inputRoutes, made, announced, withdrawn, loaded}
 use Rattle.sail_theory.specs.Facts.{SameSize}
-use Rattle.sail_theory.specs.CallRuns.{announceAll, AllAdded, Call, after, worked, would, Formed, Carries, standingAfter, AsFresh}
+use Rattle.sail_theory.specs.CallRuns.{announceAll, AllAdded, Call, after, heldByCalls, routesAfter, Formed, Carries, standingAfter, AsFresh}
 use Rattle.sail_theory.specs.Alters.{Alters}
 use Rattle.sail_theory.proofs.calls.Make.{accepted-sized}
 use Rattle.sail_theory.proofs.calls.Load as loads
@@ -49,14 +49,14 @@ module _ (t : Table) (l : Lent) (z : Sized (t .geometry) l) where
 
   -- "Which routes stand after a run is worked out from its accepted calls alone": for each prefix, by its key, what stands is what the last
   -- accepted call that speaks of it said, its mark included.
-  pub run-standing : (cs : List Call) (k : ℕ) → routeAt k (standingAfter t l cs) ≡ worked t l cs k
+  pub run-standing : (cs : List Call) (k : ℕ) → routeAt k (standingAfter t l cs) ≡ heldByCalls t l cs k
   run-standing = runs.run-standing t l z
 
   -- "And the list then holds exactly those, in order": it ascends, and is the only ascending list that holds them.
   pub run-in-order : (cs : List Call) → Good (standingAfter t l cs)
   run-in-order cs = standing-good (after t l cs .table) (after t l cs .lent) (run-sound cs)
 
-  pub run-only : (cs : List Call) (rs : List Route) → Good rs → ((k : ℕ) → routeAt k rs ≡ worked t l cs k) → standingAfter t l cs ≡ rs
+  pub run-only : (cs : List Call) (rs : List Route) → Good rs → ((k : ℕ) → routeAt k rs ≡ heldByCalls t l cs k) → standingAfter t l cs ≡ rs
   run-only = runs.run-only t l z
 
   -- What each call of a run says, "refused ones among them", follows from the routes that stand, the geometry, the room of the list and the
@@ -78,7 +78,7 @@ module _ (t : Table) (l : Lent) (z : Sized (t .geometry) l) where
 
   -- "A well-formed change for which the list has room is refused for want of chunks exactly when the routes that would then stand need more than
   -- were lent": with 7 or 8, by these needs, and else it is accepted
-  pub want-of-chunks : (cs : List Call) (c : Call) → Formed c (standingAfter t l cs) (roomOf l) → ByNeed (termsOf t l) (would c (standingAfter t l cs)) (after t l (c ∷ cs) .said)
+  pub want-of-chunks : (cs : List Call) (c : Call) → Formed c (standingAfter t l cs) (roomOf l) → ByNeed (termsOf t l) (routesAfter c (standingAfter t l cs)) (after t l (c ∷ cs) .said)
   want-of-chunks = run-by-need t l z
 
   -- and no other call is refused with 7 or 8.

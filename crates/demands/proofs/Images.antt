@@ -29,8 +29,8 @@ use Rattle.tree_check.proofs.OneAnswer as test
 use Rattle.tree_change.specs.Cases.{routesWith, routesWithout, TreeAnnounce, TreeWithdraw, Anew}
 use Rattle.tree_change.specs.Changed.{prefixPlace, imageAnnounced, imageWithdrawn}
 use Rattle.tree_change.specs.Contract.{MeetsTreeAnnounce, MeetsTreeWithdraw}
-use Rattle.tree_change.specs.declared.Announced.{Announced}
-use Rattle.tree_change.specs.declared.Withdrawn.{Withdrawn}
+use Rattle.tree_change.specs.declared.TreeAnnounced.{TreeAnnounced}
+use Rattle.tree_change.specs.declared.TreeWithdrawn.{TreeWithdrawn}
 use Rattle.tree_change.proofs.Cases.{announce-leaves}
 use Rattle.tree_change.proofs.Takes.{withdraw-leaves}
 use Rattle.tree_change.proofs.Judged.{tree-announce-judged, tree-announce-only, tree-withdraw-judged, tree-withdraw-only}
@@ -97,10 +97,10 @@ module _ (words hops : List ℕ) where
   pub one-answer-tree-test : (x y : Tested) → MeetsTreeTest words hops x → MeetsTreeTest words hops y → x ≡ y
   one-answer-tree-test = test.one-answer-tree-test words hops
 
-  pub one-answer-tree-announce : (addr len hop : ℕ) (x y : Announced) (ws ws′ hs hs′ : List ℕ)
+  pub one-answer-tree-announce : (addr len hop : ℕ) (x y : TreeAnnounced) (ws ws′ hs hs′ : List ℕ)
       → MeetsTreeAnnounce words hops addr len hop x ws hs → MeetsTreeAnnounce words hops addr len hop y ws′ hs′ → (x ≡ y) × (ws ≡ ws′) × (hs ≡ hs′)
   one-answer-tree-announce = change.one-answer-tree-announce words hops
 
-  pub one-answer-tree-withdraw : (addr len : ℕ) (x y : Withdrawn) (ws ws′ hs hs′ : List ℕ)
+  pub one-answer-tree-withdraw : (addr len : ℕ) (x y : TreeWithdrawn) (ws ws′ hs hs′ : List ℕ)
       → MeetsTreeWithdraw words hops addr len x ws hs → MeetsTreeWithdraw words hops addr len y ws′ hs′ → (x ≡ y) × (ws ≡ ws′) × (hs ≡ hs′)
   one-answer-tree-withdraw = change.one-answer-tree-withdraw words hops

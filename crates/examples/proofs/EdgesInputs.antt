@@ -12,7 +12,7 @@ use Rattle.bits.specs.Slot.{cut}
 use Rattle.bits.specs.Search.{firstFrom, firstOf}
 use Rattle.bits.specs.Tab.{tabulate}
 use Rattle.bits.specs.Count.{count}
-use Rattle.bits.proofs.Tests.{and-split, below?}
+use Rattle.bits.proofs.Bools.{and-split, below?}
 use Rattle.routes.specs.Record.{recordAt}
 use Rattle.routes.specs.Input.{properPrefix, hopFine, routeFault, inOrder, faultAt, inputSaid}
 use Rattle.routes.specs.Answers.{routeSaid}

@@ -11,7 +11,7 @@ use lib.ListN.{getD, length, replicate, length-replicate}
 use borrow.Author.Tests.{lt-leb, le-leb, le-ltb}
 use Rattle.bits.specs.Slot.{cut}
 use Rattle.bits.specs.Tab.{tabulate}
-use Rattle.bits.proofs.Tests.{below?}
+use Rattle.bits.proofs.Bools.{below?}
 use Rattle.bits.proofs.Tabs.{length-tabulate, getD-tabulate}
 use Rattle.routes.specs.Route.{Prefix, Fine, Good}
 use Rattle.routes.specs.Record.{recordAt, Records, written, noRoute}

@@ -14,7 +14,7 @@ use Rattle.standing.specs.Standing.{remove}
 use Rattle.routes.specs.declared.Route.{Route}
 use Rattle.routes.proofs.Rows.{length-routes}
 use Rattle.counts.specs.Counts.{howMany}
-use Rattle.bits.proofs.Tests.{decided}
+use Rattle.bits.proofs.Bools.{decided}
 use Rattle.sail.specs.Geometry.{bits2}
 use Rattle.sail.specs.Lent.{Lent}
 use Rattle.sail.specs.Level.{Level, liveIn, entry, chunksOf, level1, level2}
@@ -26,8 +26,8 @@ use Rattle.sail.specs.declared.geometry.Geometry.{Geometry}
 use Rattle.sail.specs.declared.table.Table.{Table}
 use Rattle.sail.proofs.Sounds.{sail-serves}
 use Rattle.sail_theory.specs.Render.{shown}
-use Rattle.sail_theory.specs.Calls.{Owners, opened, settled, kept, ownersOf, noOwners, termsOf, announceSaid, withdrawSaid, loadSaid, inputRoutes, Out, leaving, adding, taking, cutRoute, cleared, told, announced, withdrawn, loaded, reported}
-use Rattle.sail_theory.specs.CallRuns.{Call, announce, withdraw, load, done, after, would}
+use Rattle.sail_theory.specs.Calls.{Owners, opened, ownersAfter, ownersKept, ownersOf, noOwners, termsOf, announceSaid, withdrawSaid, loadSaid, inputRoutes, Out, leaving, adding, taking, cutRoute, cleared, outWithFlag, announced, withdrawn, loaded, reported}
+use Rattle.sail_theory.specs.CallRuns.{Call, announce, withdraw, load, done, after, routesAfter}
 use Rattle.sail_theory.specs.Cases.{Report}
 use Rattle.sail_theory.proofs.calls.OneCase.{report-only}
 use Rattle.sail_theory.proofs.calls.Make.{make-is}
@@ -96,8 +96,8 @@ module _ (t : Table) (l : Lent) (s : Sound t l) where
 -- the owners after an accepted call, where the routes rs stand with the owners o; `none` are the owners of a fresh table
 abbrev owned : Geometry → Owners → Call → List Route → Owners → Owners
 owned g none (announce r) rs o = opened g o (cutRoute r)
-owned g none (withdraw a len) rs o = kept g (remove (keyOf (cut len a) len) rs) o
-owned g none (load input) rs o = settled g none (inputRoutes input)
+owned g none (withdraw a len) rs o = ownersKept g (remove (keyOf (cut len a) len) rs) o
+owned g none (load input) rs o = ownersAfter g none (inputRoutes input)
 
 -- a call leaves these owners where it is accepted, and else those that were
 leaves-owners : (s : Said) (t : Table) (l : Lent) (rs : List Route) (o : Owners) → ownersOf (leaving s t l rs o .lent) ≡ cond (accepts (leaving s t l rs o .said)) o (ownersOf l)
@@ -107,18 +107,18 @@ leaves-owners (refusedAt n k) t l rs o = refl
 
 -- whether bits were cleared is told beside it
 told-owners : (b : Bool) (s : Said) (t : Table) (l : Lent) (rs : List Route) (o : Owners)
-    → ownersOf (leaving s t l rs o .lent) ≡ cond (accepts (told b (leaving s t l rs o) .said)) o (ownersOf l)
+    → ownersOf (leaving s t l rs o .lent) ≡ cond (accepts (outWithFlag b (leaving s t l rs o) .said)) o (ownersOf l)
 told-owners b s t l rs o = leaves-owners s t l rs o ∙ ap (λ (c : Bool). cond c o (ownersOf l)) (sym (telling-accepts b (leaving s t l rs o .said)))
 
 done-owners : (t : Table) (l : Lent) (c : Call) → ownersOf (done t l c .lent) ≡ cond (accepts (done t l c .said)) (owned (t .geometry) (noOwners l) c (standing t l) (ownersOf l)) (ownersOf l)
 unfolding done announced adding withdrawn taking loaded
 done-owners t l (announce r) =
-    told-owners (cleared (r .len) (r .addr)) (announceSaid t l (cutRoute r)) t l (would (announce r) (standing t l))
+    told-owners (cleared (r .len) (r .addr)) (announceSaid t l (cutRoute r)) t l (routesAfter (announce r) (standing t l))
     (owned (t .geometry) (noOwners l) (announce r) (standing t l) (ownersOf l))
 done-owners t l (withdraw a len) =
-    told-owners (cleared len a) (withdrawSaid t l (cut len a) len) t l (would (withdraw a len) (standing t l))
+    told-owners (cleared len a) (withdrawSaid t l (cut len a) len) t l (routesAfter (withdraw a len) (standing t l))
     (owned (t .geometry) (noOwners l) (withdraw a len) (standing t l) (ownersOf l))
-done-owners t l (load input) = leaves-owners (loadSaid t l input) t l (would (load input) (standing t l)) (owned (t .geometry) (noOwners l) (load input) (standing t l) (ownersOf l))
+done-owners t l (load input) = leaves-owners (loadSaid t l input) t l (routesAfter (load input) (standing t l)) (owned (t .geometry) (noOwners l) (load input) (standing t l) (ownersOf l))
 
 module _ (t : Table) (l : Lent) (z : Sized (t .geometry) l) where
   -- the owners after a run

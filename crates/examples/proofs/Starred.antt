@@ -13,7 +13,7 @@ use Rattle.bits.specs.Slot.{cut}
 use Rattle.bits.specs.Search.{firstFrom, firstOf}
 use Rattle.bits.specs.Tab.{tabulate}
 use Rattle.bits.specs.Count.{count}
-use Rattle.bits.proofs.Tests.{and-split}
+use Rattle.bits.proofs.Bools.{and-split}
 use Rattle.standing.specs.Cells.{any, best, need}
 use Rattle.standing.specs.Cells as cells
 use Rattle.routes.specs.Record.{recordAt, routesOf, noRoute, routesIn}
@@ -30,17 +30,17 @@ use Rattle.standing.specs.Served.{hopSaid}
 use Rattle.sail.specs.declared.geometry.Geometry.{Geometry}
 use Rattle.sail.specs.declared.table.Table.{Table}
 use Rattle.sail_theory.specs.Render.{shown}
-use Rattle.sail_theory.specs.Calls.{Terms, termsOf, grant, openAt, settled, keep, chunksFault, announceFault, withdrawFault, loadFault, orSay, makeSaid, Out}
+use Rattle.sail_theory.specs.Calls.{Terms, termsOf, grant, openAt, ownersAfter, keep, chunksFault, announceFault, withdrawFault, loadFault, orSay, makeSaid, Out}
 use Rattle.sail_theory.specs.CallRuns.{Call, after}
 use Rattle.sail_theory.proofs.calls.Make.{make-is}
 use Rattle.sail_theory.proofs.runs.AfterRun.{run-is, run-sound}
-use Rattle.bits.specs.Bit.{packed}
+use Rattle.bits.specs.Bit.{packedBits}
 use Rattle.tree.specs.Parts.{picked, gather}
 use Rattle.tree.specs.Image.{bitHop, setBit, word, kids, hopsOf, level, upTo, wordsFrom, words, imageBy}
 use Rattle.counts.specs.Counts.{howMany}
 use Rattle.tree.specs.Image as ofImage
 use Rattle.tree.specs.Reads.{treeReads}
-use Rattle.tree.specs.Walk.{told}
+use Rattle.tree.specs.Walk.{treeHopSaid}
 use Rattle.tree_build.specs.Built.{madeOf, built}
 use Rattle.tree_build.proofs.Serves.{built-serves}
 use Rattle.sail_theory.specs.Replies.{reply, stood}
@@ -191,7 +191,7 @@ unfolding image built madeOf listA inputSaid firstOf firstFrom faultAt routeFaul
 built-A = refl
 
 tree-agrees : (a : ℕ) → ltb a (2 ^ 32) ≡ true → answer (tree a) ≡ paper (tree a)
-unfolding answer paper image told hopSaid
+unfolding answer paper image treeHopSaid hopSaid
 tree-agrees a e = built-serves listA (replicate 21 0) (replicate 5 0) (7 ∷ 5 ∷ []) a built-A (ltb-true a (2 ^ 32) e)
 
 agrees : (q : Asked) → serves q ≡ true → answer q ≡ paper q
@@ -214,11 +214,11 @@ agrees hops e = refl
 agrees (tree a) e = tree-agrees a e
 
 serve-all : allServe answer paper serves agrees starred ≡ true
-unfolding allServe serves starred onPaper ownedBy stood reply inputSaid listA firstOf firstFrom faultAt routeFault inOrder properPrefix hopFine recordAt cut announceFault loadFault chunksFault arrays table routesOf tabulate need any insert settled openAt grant chunkFor
+unfolding allServe serves starred onPaper ownedBy stood reply inputSaid listA firstOf firstFrom faultAt routeFault inOrder properPrefix hopFine recordAt cut announceFault loadFault chunksFault arrays table routesOf tabulate need any insert ownersAfter openAt grant chunkFor
 serve-all = refl
 
 on-paper : Hold paper starred
-unfolding Hold starred paper onPaper ownedBy stood reply inputSaid listA firstOf firstFrom faultAt routeFault inOrder properPrefix hopFine recordAt cut announceFault withdrawFault loadFault chunksFault arrays table routesOf tabulate need any howMany best cells.first insert remove settled openAt grant keep chunkFor shown hopSaid validGeo image built madeOf count packed picked gather bitHop setBit word kids hopsOf level upTo wordsFrom words ofImage.hops imageBy
+unfolding Hold starred paper onPaper ownedBy stood reply inputSaid listA firstOf firstFrom faultAt routeFault inOrder properPrefix hopFine recordAt cut announceFault withdrawFault loadFault chunksFault arrays table routesOf tabulate need any howMany best cells.first insert remove ownersAfter openAt grant keep chunkFor shown hopSaid validGeo image built madeOf count packedBits picked gather bitHop setBit word kids hopsOf level upTo wordsFrom words ofImage.hops imageBy
 on-paper = refl
 
 pub starred-hold : Hold answer starred

@@ -4,7 +4,7 @@ use Prim.Native.Nat.{ℕ, _+_, _^_}
 use lib.ListN.{replicate}
 use Rattle.routes.specs.ListA.{listA}
 use Rattle.routes.specs.Said.{Said, accepted, refused}
-use Rattle.tree_build.specs.Built.{Out, built}
+use Rattle.tree_build.specs.Built.{ImageOut, built}
 use Rattle.tree_change.specs.Changed.{imageAnnounced, imageWithdrawn}
 use Rattle.examples.specs.Lines.{ip, Line, _gives_}
 use Rattle.examples.specs.EdgesInputs.{rec}
@@ -14,12 +14,12 @@ pub data Change : Type 0 where
   put : ℕ → ℕ → ℕ → Change
   take : ℕ → ℕ → Change
 
-unfoldable pub changed : List ℕ → List ℕ → Change → Out
+unfoldable pub changed : List ℕ → List ℕ → Change → ImageOut
 changed ws hs (put a len h) = imageAnnounced ws hs a len h
 changed ws hs (take a len) = imageWithdrawn ws hs a len
 
 -- the image that an input builds into so many words and hops
-unfoldable pub imageIn : List ℕ → ℕ → ℕ → Out
+unfoldable pub imageIn : List ℕ → ℕ → ℕ → ImageOut
 imageIn input w h = built input (replicate w 0) (replicate h 0)
 
 -- what a change of such an image says, and the words and the hops that it leaves; and what it says of words and hops of any content

@@ -33,7 +33,7 @@ unfoldable pub bare : Geometry → Lent
 bare g = lent [] (replicate (2 ^ g .p1) 0) [] [] [] [] (replicate (2 ^ g .p1) 0) []
 
 -- list A's image, in as much as it needs
-unfoldable pub image : building.Out
+unfoldable pub image : building.ImageOut
 image = building.built listA (replicate 21 0) (replicate 5 0)
 
 -- Runs from the fresh table; the last call stands first.

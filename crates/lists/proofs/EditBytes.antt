@@ -6,7 +6,7 @@ use Prim.Native.Nat.{ℕ, zero, suc, _+_, _-_, _*_, _/_, _%_, _≤_, _<_}
 use native.Mathlib.Omega.{arith}
 use lib.ListN.{length, getD, set, take, drop, length-append, length-drop, length-set, List·getD-append, List·getD-eq-default}
 use lib.Seq.{ext-getD, getD-set-same, getD-set-other, getD-take, getD-drop, length-take-le, getD-append-add}
-use Rattle.bits.proofs.Tests.{below?, equal?}
+use Rattle.bits.proofs.Bools.{below?, equal?}
 use Rattle.routes.specs.Route.{key, Good}
 use Rattle.standing.specs.Standing.{insert, remove}
 use Rattle.routes.specs.Record.{recordAt, bytesOf, putAt, routesOf, noRoute, written, Listed}

@@ -10,7 +10,7 @@ use lib.ListN.{length, getD, set, take, drop, length-drop, drop-of-length-le, Li
 use lib.Seq.{drop-cons, split-at, set-split, length-take-le, getD-take, getD-drop, getD-append-add, getD-at}
 use lib.Dec.{ltb}
 use borrow.Author.Tests.{eqb-true, eq-eqb, ne-eqb}
-use Rattle.bits.proofs.Tests.{decided, or-none, below?}
+use Rattle.bits.proofs.Bools.{decided, or-none, below?}
 use Rattle.routes.specs.Route.{key, Good}
 use Rattle.standing.specs.Cells.{any}
 use Rattle.standing.specs.Standing.{isAt, stands, insert, remove}

@@ -5,4 +5,4 @@ pub mod EditRoutes
 pub mod EditBytes
 pub mod EditPlaces
 pub mod EditHolds
-pub mod Tests
+pub mod ListTest

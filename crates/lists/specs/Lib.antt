@@ -1,4 +1,4 @@
 -- What the crate's contracts speak of.
 pub mod Place
 pub mod Edit
-pub mod Test
+pub mod ListTest

@@ -4,13 +4,13 @@ ghost use Prim.Native.Nat.{_*_, _≤_};
 ghost use lib.ListN.{length};
 ghost use Rattle.bits.specs.Tab.{Tells};
 ghost use Rattle.routes.specs.Record.{Listed};
-ghost use Rattle.lists.specs.Test.{AllRight};
+ghost use Rattle.lists.specs.ListTest.{NoFaults};
 use buffers::zeros::zeros8;
 
 // Whether each of the first n records is right.
 fn all_right(list: &[u8], n: usize) -> bool
     requires { ⌜ n * 8 ≤ length (now list) ⌝ }
-    ensures { λ r. ⌜ Tells r (AllRight (now (list .entry)) n) ⌝ }
+    ensures { λ r. ⌜ Tells r (NoFaults (now (list .entry)) n) ⌝ }
 {
     let mut k = 0;
     while k < n {

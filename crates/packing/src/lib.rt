@@ -2,15 +2,15 @@
 ghost use mathlib.Core.Path.{_≡_};
 ghost use Prim.Native.Nat.{_+_, _*_, _%_, _^_, _≤_, _<_};
 ghost use Rattle.bits.specs.Count.{bit};
-ghost use Rattle.sail_make.specs.Answers.{saysMade};
-ghost use Rattle.sail_load.specs.Answers.{saysLoaded};
-ghost use Rattle.sail_announce.specs.Answers.{saysAnnounce};
-ghost use Rattle.sail_withdraw.specs.Answers.{saysWithdraw};
-ghost use Rattle.sail_sound.specs.Report.{saysReported};
-ghost use Rattle.routes.specs.Answers.{saysInput, saysGot};
-ghost use Rattle.runs.specs.Run.{saysRunCheck};
-ghost use Rattle.tree.specs.Walk.{saysTreeFound};
-ghost use Rattle.tree_build.specs.Built.{saysBuilt};
+ghost use Rattle.sail_make.specs.Answers.{meansMade};
+ghost use Rattle.sail_load.specs.Answers.{meansLoaded};
+ghost use Rattle.sail_announce.specs.Answers.{meansAnnounce};
+ghost use Rattle.sail_withdraw.specs.Answers.{meansWithdraw};
+ghost use Rattle.sail_sound.specs.Report.{meansReported};
+ghost use Rattle.routes.specs.Answers.{meansInput, meansGot};
+ghost use Rattle.runs.specs.Run.{meansRunCheck};
+ghost use Rattle.tree.specs.Walk.{meansTreeFound};
+ghost use Rattle.tree_build.specs.Built.{meansBuilt};
 ghost use Rattle.sail.specs.Word.{packFound};
 ghost use Rattle.packing.specs.Pack.{packReport, packChange, packBuilt, packRun, packNone, packRoute};
 
@@ -64,7 +64,7 @@ fn changed(cleared: bool, replaced: bool, count: u32) -> u64
 }
 
 pub fn reported(a: Reported) -> u64
-    ensures { λ r. ⌜ r ≡ packReport (saysReported a) ⌝ }
+    ensures { λ r. ⌜ r ≡ packReport (meansReported a) ⌝ }
 {
     match a {
         Reported::Standing {
@@ -81,7 +81,7 @@ pub fn reported(a: Reported) -> u64
 }
 
 pub fn made(a: Made, count: u32) -> u64
-    ensures { λ r. ⌜ r ≡ packChange count (saysMade a) ⌝ }
+    ensures { λ r. ⌜ r ≡ packChange count (meansMade a) ⌝ }
 {
     match a {
         Made::Done => changed(false, false, count),
@@ -90,7 +90,7 @@ pub fn made(a: Made, count: u32) -> u64
 }
 
 pub fn loaded(a: Loaded, count: u32) -> u64
-    ensures { λ r. ⌜ r ≡ packChange count (saysLoaded a) ⌝ }
+    ensures { λ r. ⌜ r ≡ packChange count (meansLoaded a) ⌝ }
 {
     match a {
         Loaded::Done => changed(false, false, count),
@@ -100,7 +100,7 @@ pub fn loaded(a: Loaded, count: u32) -> u64
 }
 
 pub fn announced(a: Announce, count: u32) -> u64
-    ensures { λ r. ⌜ r ≡ packChange count (saysAnnounce a) ⌝ }
+    ensures { λ r. ⌜ r ≡ packChange count (meansAnnounce a) ⌝ }
 {
     match a {
         Announce::Added(c) => changed(c, false, count),
@@ -110,7 +110,7 @@ pub fn announced(a: Announce, count: u32) -> u64
 }
 
 pub fn withdrawn(a: Withdraw, count: u32) -> u64
-    ensures { λ r. ⌜ r ≡ packChange count (saysWithdraw a) ⌝ }
+    ensures { λ r. ⌜ r ≡ packChange count (meansWithdraw a) ⌝ }
 {
     match a {
         Withdraw::Removed(c) => changed(c, false, count),
@@ -119,7 +119,7 @@ pub fn withdrawn(a: Withdraw, count: u32) -> u64
 }
 
 pub fn tree_found(f: TreeFound) -> u64
-    ensures { λ r. ⌜ r ≡ packFound (saysTreeFound f) ⌝ }
+    ensures { λ r. ⌜ r ≡ packFound (meansTreeFound f) ⌝ }
 {
     match f {
         TreeFound::Hop(h, n) => word_to_long(n) * 256 + half_to_long(h) * 65536,
@@ -129,7 +129,7 @@ pub fn tree_found(f: TreeFound) -> u64
 }
 
 pub fn built(a: Built) -> u64
-    ensures { λ r. ⌜ r ≡ packBuilt (saysBuilt a) ⌝ }
+    ensures { λ r. ⌜ r ≡ packBuilt (meansBuilt a) ⌝ }
 {
     match a {
         Built::Made(nodes, hops) => narrow(word_to_long(hops)) * 65536
@@ -140,7 +140,7 @@ pub fn built(a: Built) -> u64
 }
 
 pub fn run(a: RunCheck) -> u64
-    ensures { λ r. ⌜ r ≡ packRun (saysRunCheck a) ⌝ }
+    ensures { λ r. ⌜ r ≡ packRun (meansRunCheck a) ⌝ }
 {
     match a {
         RunCheck::Run { start, count } => {
@@ -153,7 +153,7 @@ pub fn run(a: RunCheck) -> u64
 }
 
 pub fn input(a: Input) -> u64
-    ensures { λ r. ⌜ r ≡ packNone (saysInput a) ⌝ }
+    ensures { λ r. ⌜ r ≡ packNone (meansInput a) ⌝ }
 {
     match a {
         Input::Good(_) => 0,
@@ -163,7 +163,7 @@ pub fn input(a: Input) -> u64
 }
 
 pub fn got(a: Got) -> u64
-    ensures { λ r. ⌜ r ≡ packRoute (saysGot a) ⌝ }
+    ensures { λ r. ⌜ r ≡ packRoute (meansGot a) ⌝ }
 {
     match a {
         Got::One(r) => {

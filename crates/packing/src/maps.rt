@@ -5,11 +5,11 @@ use basic::lookup::BasicFound;
 use bits::widen::byte_to_long;
 use bits::widen::half_to_long;
 ghost use mathlib.Core.Path.{_≡_};
-ghost use Rattle.basic.specs.Calls.{saysBasicFound, saysBasicAnswer, packHop};
+ghost use Rattle.basic.specs.Calls.{meansBasicFound, meansBasicAnswer, packHop};
 ghost use Rattle.packing.specs.Pack.{packNone};
 
 pub fn hop_found(a: BasicFound) -> u64
-    ensures { λ r. ⌜ r ≡ packHop (saysBasicFound a) ⌝ }
+    ensures { λ r. ⌜ r ≡ packHop (meansBasicFound a) ⌝ }
 {
     match a {
         BasicFound::Hop(h) => half_to_long(h) * 65536,
@@ -20,7 +20,7 @@ pub fn hop_found(a: BasicFound) -> u64
 }
 
 pub fn answered(a: BasicAnswer) -> u64
-    ensures { λ r. ⌜ r ≡ packNone (saysBasicAnswer a) ⌝ }
+    ensures { λ r. ⌜ r ≡ packNone (meansBasicAnswer a) ⌝ }
 {
     match a {
         BasicAnswer::Done => 0,

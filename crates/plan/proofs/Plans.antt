@@ -9,7 +9,7 @@ use borrow.Author.Tests.{ltb-true, eqb-true}
 use Rattle.bits.specs.Slot.{slot}
 use Rattle.bits.proofs.Slots.{slot-up, cut-le, cut-slot}
 use Rattle.bits.proofs.Tabs.{tabulate-ext}
-use Rattle.bits.proofs.Tests.{and-split, untrue}
+use Rattle.bits.proofs.Bools.{and-split, untrue}
 use Rattle.routes.specs.Route.{key, Fine, Good}
 use Rattle.standing.specs.Cells.{covers, within, any, long, lastHop}
 use Rattle.routes.specs.declared.Route.{Route}

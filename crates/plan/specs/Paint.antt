@@ -7,7 +7,7 @@ use Rattle.bits.specs.Tab.{tabulate}
 use Rattle.routes.specs.Route.{Fine}
 use Rattle.standing.specs.Cells.{covers, within}
 use Rattle.routes.specs.declared.Route.{Route}
-use Rattle.chain.specs.Words.{routeOf, Words}
+use Rattle.chain.specs.Words.{routeOfWord, Words}
 
 -- cell i of level p, which holds v, with a route painted over it
 unfoldable pub paintCell : Route → ℕ → ℕ → ℕ → ℕ
@@ -19,7 +19,7 @@ painted l p base r = tabulate (length l) (λ j. paintCell r p (base + j) (getD l
 
 -- the word of a fine route, and a level
 pub record Paints (w p : ℕ) : Type 0 where
-  pub fine : Fine (routeOf w)
+  pub fine : Fine (routeOfWord w)
   pub deep : p ≤ 32
 
 -- words of fine routes in order, a level, and a hop of 15 bits

@@ -5,7 +5,7 @@ ghost use mathlib.Core.Bool.{cond};
 ghost use Prim.Native.Nat.{_+_, _-_, _^_, _≤_, min};
 ghost use lib.Dec.{ltb};
 ghost use lib.ListN.{length};
-ghost use Rattle.chain.specs.Words.{routeOf, routesIn};
+ghost use Rattle.chain.specs.Words.{routeOfWord, routesOfWords};
 ghost use Rattle.plan.specs.Plan.{plannedFrom};
 ghost use Rattle.plan.specs.Paint.{painted, Paints, Plans};
 use bits::bytes;
@@ -50,7 +50,7 @@ fn ink(p: u32, len: u32, hop: u16) -> u16
 // Paints the route of a word over the block of cells of level p that starts at base.
 pub fn paint_one(w: u64, p: u32, base: usize, out: &mut [u16])
     requires { ⌜ Paints w p ⌝ }
-    ensures { λ _. ⌜ now (out .exit) ≡ painted (now (out .entry)) p base (routeOf w) ⌝ }
+    ensures { λ _. ⌜ now (out .exit) ≡ painted (now (out .entry)) p base (routeOfWord w) ⌝ }
 {
     let n = out.len();
     let len = (w / bytes::THREE % bytes::ONE) as u32;
@@ -63,7 +63,7 @@ pub fn paint_one(w: u64, p: u32, base: usize, out: &mut [u16])
 // The cells of level p from base on, as many as `out` has: the hop h everywhere, and the routes over it in list order.
 pub fn plan_words(ws: &[u64], h: u16, p: u32, base: usize, out: &mut [u16])
     requires { ⌜ Plans (now ws) h p ⌝ }
-    ensures { λ _. ⌜ now (out .exit) ≡ plannedFrom h (routesIn (now (ws .entry))) p base (length (now (out .entry))) ⌝ }
+    ensures { λ _. ⌜ now (out .exit) ≡ plannedFrom h (routesOfWords (now (ws .entry))) p base (length (now (out .entry))) ⌝ }
 {
     let n = out.len();
     let m = ws.len();

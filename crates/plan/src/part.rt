@@ -6,9 +6,9 @@ ghost use Prim.Native.Nat.{_+_};
 ghost use lib.ListN.{length};
 ghost use Rattle.bits.specs.Tab.{Tells};
 ghost use Rattle.standing.specs.Cells.{within, long};
-ghost use Rattle.chain.specs.Words.{routeOf, routesIn};
+ghost use Rattle.chain.specs.Words.{routeOfWord, routesOfWords};
 ghost use Rattle.plan.specs.Plan.{plannedFrom};
-ghost use Rattle.plan.specs.Part.{Names, Settled, Matches, Beside, Judges};
+ghost use Rattle.plan.specs.Part.{NamesBack, Settled, Matches, Beside, Judges};
 use super::paint::plan_words;
 use bits::bytes;
 use bits::widen::half_to_index;
@@ -17,7 +17,7 @@ use buffers::same::same16;
 
 // Whether v is the number, from 1, of a chunk whose owner number is o.
 pub fn names(v: u16, own: &[u32], o: usize) -> bool
-    ensures { λ r. ⌜ Tells r (Names v (now (own .entry)) o) ⌝ }
+    ensures { λ r. ⌜ Tells r (NamesBack v (now (own .entry)) o) ⌝ }
 {
     let c = half_to_index(v);
     if c == 0 {
@@ -41,7 +41,7 @@ pub fn settle_one(
     own: &[u32],
 ) -> bool
     requires { ⌜ Beside p o (now part) (now want) ⌝ }
-    ensures { λ r. ⌜ Settled (λ j. within p (base + j) (routeOf w)) (now (part .entry)) (now (own .entry)) o (now (want .entry)) (now (want .exit)) r ⌝ }
+    ensures { λ r. ⌜ Settled (λ j. within p (base + j) (routeOfWord w)) (now (part .entry)) (now (own .entry)) o (now (want .entry)) (now (want .exit)) r ⌝ }
 {
     let n = want.len();
     let len = (w / bytes::THREE % bytes::ONE) as u32;
@@ -72,7 +72,7 @@ pub fn settle(
     own: &[u32],
 ) -> bool
     requires { ⌜ Beside p o (now part) (now want) ⌝ }
-    ensures { λ r. ⌜ Settled (λ j. long (routesIn (now (run .entry))) p (base + j)) (now (part .entry)) (now (own .entry)) o (now (want .entry)) (now (want .exit)) r ⌝ }
+    ensures { λ r. ⌜ Settled (λ j. long (routesOfWords (now (run .entry))) p (base + j)) (now (part .entry)) (now (own .entry)) o (now (want .entry)) (now (want .exit)) r ⌝ }
 {
     let mut ok = true;
     let mut k = 0;
@@ -99,7 +99,7 @@ pub fn as_planned(
     own: &[u32],
 ) -> bool
     requires { ⌜ Judges (now run) h p o (now part) (now want) ⌝ }
-    ensures { λ r. ⌜ Tells r (Matches (now (part .entry)) o (plannedFrom h (routesIn (now (run .entry))) p base (length (now (want .entry)))) (now (own .entry))) ⌝ }
+    ensures { λ r. ⌜ Tells r (Matches (now (part .entry)) o (plannedFrom h (routesOfWords (now (run .entry))) p base (length (now (want .entry)))) (now (own .entry))) ⌝ }
 {
     plan_words(run, h, p, base, want);
     if !settle(run, p, base, part, o, want, own) {

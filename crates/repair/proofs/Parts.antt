@@ -12,7 +12,7 @@ use borrow.Author.Tests.{ltb-true, lt-ltb, ne-eqb}
 use Rattle.bits.specs.Count.{bit, count}
 use Rattle.bits.proofs.Counts.{count-ext, Matched, count-matched}
 use Rattle.bits.proofs.Tabs.{getD-tabulate}
-use Rattle.bits.proofs.Tests.{decided, both, and-split}
+use Rattle.bits.proofs.Bools.{decided, both, and-split}
 use Rattle.standing.specs.Cells.{best}
 use Rattle.routes.specs.declared.Route.{Route}
 use Rattle.plan.specs.Plan.{plan}

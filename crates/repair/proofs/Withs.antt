@@ -7,7 +7,7 @@ use native.Mathlib.Omega.{arith}
 use lib.ListN.{length, take, drop, replicate, length-replicate, replicate-append-replicate}
 use lib.Seq.{take-at}
 use Rattle.routes.specs.Record.{Listed}
-use Rattle.chain.specs.Words.{routesIn}
+use Rattle.chain.specs.Words.{routesOfWords}
 use Rattle.chain.specs.List.{ChainRoom, Chained}
 use Rattle.chain.proofs.Fronts as fronts
 use Rattle.sail.specs.Geometry.{bits2, bits3}
@@ -17,12 +17,12 @@ use Rattle.sail.specs.Sizes.{Celled}
 use Rattle.sail.specs.declared.geometry.Geometry.{Geometry}
 use Rattle.sail_owners.specs.Owners.{owners, Ownable}
 use Rattle.sail_theory.specs.Render.{Fits}
-use Rattle.sail_theory.specs.Calls.{Owners, settled, inputRoutes}
-use Rattle.repair.specs.Differs.{Owned, Differing, wanted, freshOwners, Countable, Roomy}
+use Rattle.sail_theory.specs.Calls.{Owners, ownersAfter, inputRoutes}
+use Rattle.repair.specs.Differs.{Owned, Differing, wanted, freshOwners, DiffReady, Roomy}
 use Rattle.repair.specs.declared.differs.Differs.{Differs}
 
 module _ (g : Geometry) (input first second third own2 own3 ws par want : List ℕ) (h : Roomy g input first second third own2 own3 ws par want) where
-  abbrev k : Countable g input (length own2) (length own3) first second third
+  abbrev k : DiffReady g input (length own2) (length own3) first second third
   k = h .countable
 
   pub owners-ask : Ownable g input own2 own3
@@ -51,13 +51,13 @@ module _ (g : Geometry) (input first second third own2 own3 ws par want : List �
     front-room = fronts.front-room input n listed ws par (h .scratch) words kept
 
     module _ (chain : List ℕ) (made : Chained input (length (take n ws)) words chain) (after2 after3 : List ℕ)
-        (settles : owners after2 after3 ≡ settled g (owners own2 own3) (inputRoutes input)) where
-      routes : routesIn (take n (words ++ drop n ws)) ≡ inputRoutes input
+        (settles : owners after2 after3 ≡ ownersAfter g (owners own2 own3) (inputRoutes input)) where
+      routes : routesOfWords (take n (words ++ drop n ws)) ≡ inputRoutes input
       routes = fronts.front-routes input n listed ws par (h .scratch) words kept chain made
 
       -- the owners are those of the load
       owned : owners after2 after3 ≡ freshOwners g input (length own2) (length own3)
-      owned = settles ∙ (λ i. settled g (owners (h .none2 i) (h .none3 i)) (inputRoutes input))
+      owned = settles ∙ (λ i. ownersAfter g (owners (h .none2 i) (h .none3 i)) (inputRoutes input))
 
       module _ (same2 : length after2 ≡ length own2) (same3 : length after3 ≡ length own3) where
         celled : Celled g (cells first second third after2 after3)
@@ -83,7 +83,7 @@ module _ (g : Geometry) (input first second third own2 own3 ws par want : List �
           room = h .room;
         }
 
-      pub all-differ : (r : Differs) → Differing r first second third (wanted g (routesIn (take n (words ++ drop n ws))) (owners after2 after3))
+      pub all-differ : (r : Differs) → Differing r first second third (wanted g (routesOfWords (take n (words ++ drop n ws))) (owners after2 after3))
           → Differing r first second third (wanted g (inputRoutes input) (freshOwners g input (length own2) (length own3)))
       all-differ r d = subst (λ (o : Owners). Differing r first second third (wanted g (inputRoutes input) o)) owned (rw routes at d)
 
@@ -100,7 +100,7 @@ zeros-front m j h =
 zeros-length : (m j : ℕ) → j ≤ m → length (take j (zeros m)) ≡ j
 zeros-length m j h = ap length (zeros-front m j h) ∙ length-replicate j 0
 
-module _ (g : Geometry) (input : List ℕ) (n2 n3 : ℕ) (first second third : List ℕ) (k : Countable g input n2 n3 first second third) where
+module _ (g : Geometry) (input : List ℕ) (n2 n3 : ℕ) (first second third : List ℕ) (k : DiffReady g input n2 n3 first second third) where
   pub own-few2 : n2 ≤ 4096
   own-few2 = omega (arith, k .celled .few2, length-replicate {A = ℕ} n2 0)
 

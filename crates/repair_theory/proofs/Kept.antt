@@ -10,7 +10,7 @@ use lib.Dec.{eqb, leb}
 use lib.ListN.{length}
 use borrow.Author.Tests.{eqb-true, leb-true, eq-eqb, le-leb}
 use Rattle.bits.specs.Tab.{tabulate}
-use Rattle.bits.proofs.Tests.{decided, both, and-split, untrue}
+use Rattle.bits.proofs.Bools.{decided, both, and-split, untrue}
 use Rattle.bits.proofs.Tabs.{tabulate-snoc}
 use Rattle.routes.specs.Route.{key, Fine, Good}
 use Rattle.routes.specs.Record.{recordAt, routesOf}

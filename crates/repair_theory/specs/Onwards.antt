@@ -13,7 +13,7 @@ onwards o [] = o
 onwards o (c ∷ cs) = done (onwards o cs .table) (onwards o cs .lent) c
 
 -- the state and all that is lent are the same
-pub record Same (o p : Out) : Type 0 where
+pub record SameOut (o p : Out) : Type 0 where
   pub table : o .table ≡ p .table
   pub lent : o .lent ≡ p .lent
 

@@ -12,7 +12,7 @@ use borrow.Author.Tests.{eqb-true, eqb-false, ltb-true, ltb-false, leb-true, leb
 use Rattle.bits.specs.Slot.{cut}
 use Rattle.bits.specs.Search.{firstOf}
 use Rattle.bits.proofs.Searches.{firstOf-le, firstOf-before, firstOf-at, firstOf-is}
-use Rattle.bits.proofs.Tests.{decided, below?, both, and-split, untrue}
+use Rattle.bits.proofs.Bools.{decided, below?, both, and-split, untrue}
 use Rattle.routes.specs.Route.{key, Prefix, Fine}
 use Rattle.routes.specs.Record.{recordAt, Records}
 use Rattle.routes.specs.Said.{Said, accepted, refused, refusedAt}

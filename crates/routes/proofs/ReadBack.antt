@@ -15,7 +15,7 @@ use Rattle.routes.specs.Said.{accepted}
 use Rattle.routes.specs.declared.Route.{Route}
 use Rattle.routes.proofs.Meaning.{input-checked}
 use Rattle.routes.proofs.Judged.{route-only}
-use Rattle.routes.proofs.Rows.{Place, listed-nth, length-routes, nth-route}
+use Rattle.routes.proofs.Rows.{StandsAt, listed-nth, length-routes, nth-route}
 use Rattle.routes.proofs.Parts.{part-record, part-good}
 
 pub read-back : (bytes : List ℕ) (n : ℕ) → inputSaid bytes ≡ accepted (n ∷ []) → ReadBack bytes (routesOf bytes n)
@@ -31,7 +31,7 @@ read-back bytes n e = record {
     reads : (k : ℕ) → k < n → routeSaid bytes k ≡ accepted (valuesOf (getD (routesOf bytes n) k noRoute))
     reads k l = route-only bytes k _ (RouteRead.there n good l) ∙ ap (λ (r : Route). accepted (valuesOf r)) (sym (nth-route bytes n k l))
 
-    at : (r : Route) → Place (routesOf bytes n) r → (k : ℕ) × (k < length (routesOf bytes n)) × (routeSaid bytes k ≡ accepted (valuesOf r))
+    at : (r : Route) → StandsAt (routesOf bytes n) r → (k : ℕ) × (k < length (routesOf bytes n)) × (routeSaid bytes k ≡ accepted (valuesOf r))
     at r p = (p .place, p .inside, reads (p .place) (rw length-routes at (p .inside)) ∙ ap (λ (x : Route). accepted (valuesOf x)) (p .holds))
 
 -- the first n records

@@ -8,7 +8,7 @@ use native.Mathlib.Omega.{arith}
 use lib.ListN.{length, getD}
 use lib.Seq.{ext-getD}
 use borrow.Author.Tests.{lt-ltb, le-ltb}
-use Rattle.bits.proofs.Tests.{below?}
+use Rattle.bits.proofs.Bools.{below?}
 use Rattle.bits.proofs.Tabs.{length-tabulate, getD-tabulate, is-tabulate, tabulate-snoc}
 use Rattle.routes.specs.Route.{key, Fine, Good}
 use Rattle.routes.specs.Record.{recordAt, bytesOf, routesOf, noRoute, written, Ranged, Records, Listed}
@@ -22,16 +22,16 @@ nth-listed [] k h = absurd (not-suc-le-zero h)
 nth-listed (r ∷ rs) zero h = List·Memᴰ·head refl
 nth-listed (r ∷ rs) (suc k) h = List·Memᴰ·tail (nth-listed rs k (le-of-suc-le-suc h))
 
-pub record Place (rs : List Route) (r : Route) : Type 0 where
+pub record StandsAt (rs : List Route) (r : Route) : Type 0 where
   pub place : ℕ
   pub inside : place < length rs
   pub holds : getD rs place noRoute ≡ r
 
-pub listed-nth : (rs : List Route) (r : Route) → List·Memᴰ r rs → Place rs r
+pub listed-nth : (rs : List Route) (r : Route) → List·Memᴰ r rs → StandsAt rs r
 listed-nth [] r m = absurd (List·Memᴰ·not-nil m)
 listed-nth (x ∷ xs) r m = go (List·Memᴰ·cases-cons m) (listed-nth xs r)
   where
-    go : (r ≡ x) ⊎ List·Memᴰ r xs → (List·Memᴰ r xs → Place xs r) → Place (x ∷ xs) r
+    go : (r ≡ x) ⊎ List·Memᴰ r xs → (List·Memᴰ r xs → StandsAt xs r) → StandsAt (x ∷ xs) r
     go (inl q) ih = record { place = 0; inside = suc-le-suc zero-le; holds = sym q }
     go (inr k) ih = let p = ih k in record { place = suc (p .place); inside = suc-le-suc (p .inside); holds = p .holds }
 

@@ -15,21 +15,21 @@ use Rattle.routes.specs.declared.input.Got.{Got}
 use Rattle.routes.specs.declared.input.Got.the-variants as got
 
 -- a good input tells its number of records
-unfoldable pub saysInput : Input → Said
-saysInput (input.Good n) = accepted (n ∷ [])
-saysInput (input.Refused f k) = refusedAt f k
-saysInput input.TooMany = refused 6
+unfoldable pub meansInput : Input → Said
+meansInput (input.Good n) = accepted (n ∷ [])
+meansInput (input.Refused f k) = refusedAt f k
+meansInput input.TooMany = refused 6
 
 -- a route's values: address, length, mark, hop
 abbrev pub valuesOf : Route → List ℕ
 valuesOf r = r .addr ∷ r .len ∷ r .mark ∷ r .hop ∷ []
 
 -- no values where there is no such record
-unfoldable pub saysGot : Got → Said
-saysGot (got.One r) = accepted (valuesOf r)
-saysGot got.Nothing = accepted []
-saysGot (got.Refused f k) = refusedAt f k
-saysGot got.TooMany = refused 6
+unfoldable pub meansGot : Got → Said
+meansGot (got.One r) = accepted (valuesOf r)
+meansGot got.Nothing = accepted []
+meansGot (got.Refused f k) = refusedAt f k
+meansGot got.TooMany = refused 6
 
 -- the input's refusals first; then the record of that index, if there is one
 unfoldable pub routeSaid : List ℕ → ℕ → Said

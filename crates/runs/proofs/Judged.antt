@@ -4,7 +4,7 @@ use mathlib.Core.Logic.{_⊎_, inl, inr}
 use mathlib.Core.Bool.{true, false, true≢false}
 use mathlib.Core.List.{List}
 use Prim.Native.Nat.{ℕ}
-use Rattle.bits.proofs.Tests.{decided}
+use Rattle.bits.proofs.Bools.{decided}
 use Rattle.routes.specs.Input.{properPrefix}
 use Rattle.routes.specs.Cases.{Passes}
 use Rattle.routes.specs.Said.{Said}

@@ -12,7 +12,7 @@ use borrow.Author.Tests.{not-true, not-false}
 use denote.Ref.{RefT, ptr, now}
 use Rattle.bits.specs.Slot.{slot, cut}
 use Rattle.bits.proofs.Slots.{shl-one, cut-le, cut-gt, cut-more, cut-in, cut-slot, slot-of}
-use Rattle.bits.proofs.Tests.{untrue}
+use Rattle.bits.proofs.Bools.{untrue}
 use Rattle.routes.specs.Route.{key, keyOf, Prefix}
 use Rattle.routes.specs.Record.{recordAt, part, Records}
 use Rattle.routes.specs.Said.{Said, accepted, refused, refusedAt, andThen, accepts}
@@ -21,7 +21,7 @@ use Rattle.routes.specs.Cases.{Checked, ragged, stopped, many, good}
 use Rattle.routes.proofs.Parts.{part-record, part-good}
 use Rattle.routes.proofs.Meaning.{prefix-true, true-prefix, input-good, input-checked}
 use Rattle.lists.specs.Place.{placeOf}
-use Rattle.runs.specs.Run.{pastKey, runStart, runEnd, runCount, runSaid, saysRunCheck, runOf, runAt, IsRun}
+use Rattle.runs.specs.Run.{pastKey, runStart, runEnd, runCount, runSaid, meansRunCheck, runOf, runAt, IsRun}
 use Rattle.runs.specs.declared.run.RunCheck.{RunCheck}
 use Rattle.runs.specs.declared.run.RunCheck.the-variants as check
 use Rattle.lists.proofs.Places.{place-le, place-before, place-after, place-mono}
@@ -162,23 +162,23 @@ size-is x l e h = (shl-one 64 (32 - x) (omega arith) ∙ ap (λ (y : ℕ). 2 ^ (
 -- what each way through `run_check` says
 module _ (s : List ℕ) (a l : ℕ) where
   module _ (n : ℕ) (e : inputSaid s ≡ accepted (n ∷ [])) (b : Bool) (t : b ≡ properPrefix a l) where
-    pub says-no-prefix : not b ≡ true → saysRunCheck check.NoPrefix ≡ runSaid s a l
-    unfolding saysRunCheck runSaid
+    pub says-no-prefix : not b ≡ true → meansRunCheck check.NoPrefix ≡ runSaid s a l
+    unfolding meansRunCheck runSaid
     says-no-prefix h = rw (e, ← t, not-true b h)
 
-    pub says-run : (x y j k : ℕ) → not b ≡ false → x ≡ placeOf s n j → j ≡ keyOf a l → y ≡ placeOf s n k → k ≡ pastKey a l → saysRunCheck (check.Run x (y - x)) ≡ runSaid s a l
-    unfolding saysRunCheck runSaid
+    pub says-run : (x y j k : ℕ) → not b ≡ false → x ≡ placeOf s n j → j ≡ keyOf a l → y ≡ placeOf s n k → k ≡ pastKey a l → meansRunCheck (check.Run x (y - x)) ≡ runSaid s a l
+    unfolding meansRunCheck runSaid
     says-run x y j k h p q p′ q′ =
         let w = input-good s n e .0 in
         let d : length s / 8 ≡ n = omega arith in
         rw (e, ← t, not-false b h, d, p, p′, q, q′)
 
-  pub says-refused : (f k : ℕ) → inputSaid s ≡ refusedAt f k → saysRunCheck (check.Refused f k) ≡ runSaid s a l
-  unfolding saysRunCheck runSaid
+  pub says-refused : (f k : ℕ) → inputSaid s ≡ refusedAt f k → meansRunCheck (check.Refused f k) ≡ runSaid s a l
+  unfolding meansRunCheck runSaid
   says-refused f k e = rw e
 
-  pub says-many : inputSaid s ≡ refused 6 → saysRunCheck check.TooMany ≡ runSaid s a l
-  unfolding saysRunCheck runSaid
+  pub says-many : inputSaid s ≡ refused 6 → meansRunCheck check.TooMany ≡ runSaid s a l
+  unfolding meansRunCheck runSaid
   says-many e = rw e
 
 -- what `run` hands back
@@ -205,13 +205,13 @@ readRun (accepted vs) = check.Run (getD vs 0 0) (getD vs 1 0)
 readRun (refused n) = cond (eqb n 3) check.NoPrefix check.TooMany
 readRun (refusedAt f k) = check.Refused f k
 
-read-run : (x : RunCheck) → readRun (saysRunCheck x) ≡ x
-unfolding saysRunCheck readRun
+read-run : (x : RunCheck) → readRun (meansRunCheck x) ≡ x
+unfolding meansRunCheck readRun
 read-run (check.Run start count) = refl
 read-run (check.Refused f k) = refl
 read-run check.TooMany = refl
 read-run check.NoPrefix = refl
 
 -- two answers that are told the same are the same
-pub run-check-injective : (x y : RunCheck) → saysRunCheck x ≡ saysRunCheck y → x ≡ y
+pub run-check-injective : (x y : RunCheck) → meansRunCheck x ≡ meansRunCheck y → x ≡ y
 run-check-injective x y e = sym (read-run x) ∙ ap readRun e ∙ read-run y

@@ -12,14 +12,14 @@ use lib.ListN.{length, getD, set, replicate}
 use borrow.Author.Tests.{eqb-true, eqb-false, eq-eqb, ne-eqb}
 use Rattle.bits.specs.Tab.{tabulate}
 use Rattle.bits.specs.Count.{bit, count}
-use Rattle.bits.proofs.Tests.{decided, below?}
+use Rattle.bits.proofs.Bools.{decided, below?}
 use Rattle.bits.proofs.Counts.{count-ext}
 use Rattle.bits.proofs.Tabs.{getD-tabulate, tabulate-ext, set-tabulate}
 use Rattle.routes.specs.Route.{plain}
 use Rattle.routes.specs.Record.{recordAt, Records}
 use Rattle.routes.specs.Said.{accepted, accepts}
 use Rattle.routes.specs.Input.{inputSaid}
-use Rattle.routes.specs.Answers.{saysInput}
+use Rattle.routes.specs.Answers.{meansInput}
 use Rattle.routes.specs.declared.Route.{Route}
 use Rattle.routes.specs.declared.input.Input.{Input}
 use Rattle.routes.specs.declared.input.Input.the-variants as input
@@ -85,10 +85,10 @@ module _ (s : List ℕ) where
   unfolding tallyOf
   tally-refused e = rw e
 
-  pub is-tally : (i : Input) (n : ℕ) (cs : List ℕ) → saysInput i ≡ inputSaid s → i ≡ input.Good n → cs ≡ lengthsOf s n → IsTally s (record { answer = input.Good n; counts = cs })
-  is-tally i n cs e q c = record { answered = ap saysInput (sym q) ∙ e; counted = c ∙ sym (tally-good n (told-good s i e n q)) }
+  pub is-tally : (i : Input) (n : ℕ) (cs : List ℕ) → meansInput i ≡ inputSaid s → i ≡ input.Good n → cs ≡ lengthsOf s n → IsTally s (record { answer = input.Good n; counts = cs })
+  is-tally i n cs e q c = record { answered = ap meansInput (sym q) ∙ e; counted = c ∙ sym (tally-good n (told-good s i e n q)) }
 
-  pub no-tally : (i : Input) → saysInput i ≡ inputSaid s → accepts (saysInput i) ≡ false → IsTally s (record { answer = i; counts = replicate 33 0 })
+  pub no-tally : (i : Input) → meansInput i ≡ inputSaid s → accepts (meansInput i) ≡ false → IsTally s (record { answer = i; counts = replicate 33 0 })
   no-tally i e q = record { answered = e; counted = sym (tally-refused (ap accepts (sym e) ∙ q)) }
 
 -- sums

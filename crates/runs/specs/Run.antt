@@ -32,11 +32,11 @@ unfoldable pub runSaid : List ℕ → ℕ → ℕ → Said
 runSaid s a l =
     andThen (inputSaid s) (cond (properPrefix a l) (accepted (runStart s a l ∷ runCount s a l ∷ [])) (refused 3))
 
-unfoldable pub saysRunCheck : RunCheck → Said
-saysRunCheck (check.Run start count) = accepted (start ∷ count ∷ [])
-saysRunCheck (check.Refused f k) = refusedAt f k
-saysRunCheck check.TooMany = refused 6
-saysRunCheck check.NoPrefix = refused 3
+unfoldable pub meansRunCheck : RunCheck → Said
+meansRunCheck (check.Run start count) = accepted (start ∷ count ∷ [])
+meansRunCheck (check.Refused f k) = refusedAt f k
+meansRunCheck check.TooMany = refused 6
+meansRunCheck check.NoPrefix = refused 3
 
 -- the records of the run; none where it is refused
 unfoldable pub runOf : List ℕ → ℕ → ℕ → List ℕ

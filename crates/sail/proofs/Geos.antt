@@ -8,7 +8,7 @@ use lib.Pow.{pow-pos, pow-mono}
 use borrow.Author.Tests.{leb-true, le-leb}
 use Rattle.bits.specs.Tab.{Tells}
 use Rattle.bits.proofs.Slots.{shl-one}
-use Rattle.bits.proofs.Tests.{both, and-split}
+use Rattle.bits.proofs.Bools.{both, and-split}
 use Rattle.sail.specs.Geometry.{bits2, validGeo, Valid, Power}
 use Rattle.sail.specs.declared.geometry.Geometry.{Geometry}
 

@@ -5,7 +5,7 @@ pub mod Words
 pub mod Steps
 pub mod ReadCells
 pub mod Judged
-pub mod Answers
+pub mod Injective
 pub mod OneAnswer
 pub mod Places
 pub mod Walks

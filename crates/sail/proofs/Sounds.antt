@@ -12,7 +12,7 @@ use borrow.Author.Tests.{le-leb, lt-leb, eq-eqb, eqb-true}
 use Rattle.bits.specs.Slot.{slot}
 use Rattle.bits.specs.Count.{bit}
 use Rattle.bits.proofs.Slots.{slot-lt}
-use Rattle.bits.proofs.Tests.{both, decided}
+use Rattle.bits.proofs.Bools.{both, decided}
 use Rattle.routes.specs.Route.{Good}
 use Rattle.standing.specs.Cells.{covers, long, best, need}
 use Rattle.routes.specs.Record.{routesOf}

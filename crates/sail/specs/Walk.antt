@@ -19,8 +19,8 @@ use Rattle.sail.specs.declared.lookup.Found.the-variants.{Hop, NoRoute, 
 
 -- "Chunk c begins at cell (c - 1) times the chunk size": the place, in a pool of chunks of 2 ^ d cells, of the cell in chunk c that
 -- serves cell i of its level
-abbrev pub place : ℕ → ℕ → ℕ → ℕ
-place d c i = (c - 1) * 2 ^ d + i % 2 ^ d
+abbrev pub cellPlace : ℕ → ℕ → ℕ → ℕ
+cellPlace d c i = (c - 1) * 2 ^ d + i % 2 ^ d
 
 -- the cells that the walk for the address a may read, and where the second and the third stand in their pools
 module _ (g : Geometry) (t : View) (a : ℕ) where
@@ -28,13 +28,13 @@ module _ (g : Geometry) (t : View) (a : ℕ) where
   cell1 = t .first (slot (g .p1) a)
 
   abbrev pub place2 : ℕ
-  place2 = place (bits2 g) cell1 (slot (g .p2) a)
+  place2 = cellPlace (bits2 g) cell1 (slot (g .p2) a)
 
   abbrev pub cell2 : ℕ
   cell2 = t .second place2
 
   abbrev pub place3 : ℕ
-  place3 = place (bits3 g) cell2 a
+  place3 = cellPlace (bits3 g) cell2 a
 
   abbrev pub cell3 : ℕ
   cell3 = t .third place3
@@ -85,7 +85,7 @@ lookupSaid t l a =
     (refused (sizesFault (t .geometry) l))
 
 -- what the code's answer says
-unfoldable pub saysFound : Found → Said
-saysFound (Hop h n) = hopAfter n h
-saysFound (NoRoute n) = noRouteAfter n
-saysFound (Refused k) = refused k
+unfoldable pub meansFound : Found → Said
+meansFound (Hop h n) = hopAfter n h
+meansFound (NoRoute n) = noRouteAfter n
+meansFound (Refused k) = refused k

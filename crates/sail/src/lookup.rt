@@ -5,11 +5,11 @@ ghost use lib.ListN.{length, getD};
 ghost use Rattle.sail.specs.Lent.{lent};
 ghost use Rattle.sail.specs.Sizes.{Sized};
 ghost use Rattle.sail.specs.Pool.{Chunk};
-ghost use Rattle.sail.specs.Walk.{place, oneOf, leafSaid, foundSaid, saysFound};
+ghost use Rattle.sail.specs.Walk.{cellPlace, oneOf, leafSaid, foundSaid, meansFound};
 ghost use Rattle.sail.specs.Contract.{MeetsLookup};
 ghost use Rattle.sail.specs.Word.{Word, saidOf};
 use crate::geometry::Geometry;
-use crate::place::place;
+use crate::place::cell_place;
 use crate::table::Table;
 
 // What a lookup finds: a hop or no route, each with the count of cells read; or a refusal's number.
@@ -37,9 +37,9 @@ fn opens(v: u16, chunks: usize) -> bool
 // The cell in chunk c, of a pool of so many chunks of 2^k cells, that serves cell i of its level.
 fn cell(pool: &[u16], chunks: usize, c: u16, k: u32, i: u32) -> u16
     requires { ⌜ Chunk (length (now pool)) chunks c k ⌝ }
-    ensures { λ r. ⌜ r ≡ getD (now (pool .entry)) (place k c i) 0 ⌝ }
+    ensures { λ r. ⌜ r ≡ getD (now (pool .entry)) (cellPlace k c i) 0 ⌝ }
 {
-    let at = place(c as usize, k, i as usize);
+    let at = cell_place(c as usize, k, i as usize);
     pool[at]
 }
 
@@ -84,7 +84,7 @@ pub fn walk(
 
 // What a word says.
 fn said(w: u32) -> Found
-    ensures { λ r. ⌜ saysFound r ≡ saidOf w ⌝ }
+    ensures { λ r. ⌜ meansFound r ≡ saidOf w ⌝ }
 {
     if w % 256 != 0 {
         return Found::Refused((w % 256) as u8);

@@ -10,7 +10,7 @@ use lib.Dec.{ltb, leb}
 use lib.ListN.{length}
 use borrow.Author.Tests.{ltb-true, ltb-false, lt-ltb, le-ltb, lt-leb, le-leb, not-true}
 use Rattle.bits.specs.Slot.{slot}
-use Rattle.bits.proofs.Tests.{decided, below?}
+use Rattle.bits.proofs.Bools.{decided, below?}
 use Rattle.routes.specs.Route.{key, Fine}
 use Rattle.standing.specs.Cells.{long, need}
 use Rattle.routes.specs.Input.{routeFault}
@@ -27,19 +27,19 @@ use Rattle.sail.specs.Level.{chunksOf}
 use Rattle.sail.specs.Sound.{standing, used}
 use Rattle.sail.specs.declared.table.Table.{Table}
 use Rattle.sail_theory.specs.Calls.{announceSaid}
-use Rattle.sail_theory.specs.Facts.{Welcome}
+use Rattle.sail_theory.specs.Facts.{Announceable}
 use Rattle.sail_theory.specs.Cases.{Proper, Roomy, Announce}
 use Rattle.sail_theory.proofs.calls.OneCase.{announce-only}
 use Rattle.sail_theory.proofs.calls.Outcomes.{replaced-welcome}
 use Rattle.sail_theory.proofs.owners.UsedNeed.{Enough, seven as second-chunks, eight as third-chunks}
 use Rattle.sail_theory.proofs.owners.Chunks.{used-le}
 use Rattle.standing.proofs.NeedAfter.{need-more, need-same}
-use Rattle.sail_sound.specs.Test.{Tried}
+use Rattle.sail_sound.specs.TableTest.{Tried}
 use Rattle.sail_chunks.specs.Chunks.{alone}
 use Rattle.sail_theory.specs.Judge.{Judged}
-use Rattle.sail_chunks.specs.Opening.{Opens}
+use Rattle.sail_chunks.specs.ToOpen.{Opens}
 use Rattle.sail_chunks.specs.declared.opening.Opening.{Opening}
-use Rattle.sail_sound.proofs.Tries.{tried-sound}
+use Rattle.sail_sound.proofs.TableTest.{tried-sound}
 use Rattle.sail_theory.proofs.Judges.{judged-off, judged-on, or-said}
 
 -- a limit that the chunks in use keep is exceeded exactly where a chunk is to be opened and as many as the limit are in use
@@ -62,7 +62,7 @@ module _ (t : Table) (l : Lent) (r : Route) where
   rs = standing t l
 
   abbrev Told : ℕ → Type 0
-  Told n = Judged n (announceSaid t l r) (Welcome t l r)
+  Told n = Judged n (announceSaid t l r) (Announceable t l r)
 
   off : (n : ℕ) → 1 ≤ n → Announce t l r (refused n) → Told n
   off n h x = judged-off n _ _ h (announce-only t l r (refused n) x)

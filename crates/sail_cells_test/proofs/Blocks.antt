@@ -15,7 +15,7 @@ use Rattle.plan.specs.Part.{Right}
 use Rattle.plan.specs.Under.{Tested}
 use Rattle.bits.proofs.Tells.{is-yes, refuted, passed}
 use Rattle.sail.specs.Geometry.{Power}
-use Rattle.sail_cells_test.specs.Pool.{partAt, Blocked, FirstCells}
+use Rattle.sail_cells_test.specs.Pool.{partAt, Blocked, FirstTestReady}
 use Rattle.sail_cells_test.proofs.Cells.{UpTo, none-yet, one-more, part-in}
 
 -- the place of a chunk, by a shift
@@ -56,7 +56,7 @@ module _ (ws par : List ℕ) (p d i : ℕ) (cells : List ℕ) (a o : ℕ) (want 
         rw (e, f .0, m) at t
 
 -- the first cells, block by block
-module _ (ws par : List ℕ) (p : ℕ) (first : List ℕ) (o : ℕ) (want : List ℕ) (h : FirstCells ws par p first o want) where
+module _ (ws par : List ℕ) (p : ℕ) (first : List ℕ) (o : ℕ) (want : List ℕ) (h : FirstTestReady ws par p first o want) where
   powers : 2 ^ p ≡ 2 ^ (p - 10) * 1024
   powers = let e : p ≡ p - 10 + 10 = omega arith in ap (λ (n : ℕ). 2 ^ n) e ∙ pow-add 2 (p - 10) 10
 

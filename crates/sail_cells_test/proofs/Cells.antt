@@ -9,13 +9,13 @@ use lib.ListN.{getD, drop}
 use lib.Seq.{getD-take, getD-drop}
 use Rattle.standing.specs.Cells.{long, best}
 use Rattle.routes.specs.declared.Route.{Route}
-use Rattle.plan.specs.Part.{Names, Right}
+use Rattle.plan.specs.Part.{NamesBack, Right}
 use Rattle.sail_cells_test.specs.Pool.{partAt}
 
 -- the cell that stands for cell i of level p holds v, and has the owner number o
 pub record Cell (rs : List Route) (p i v : ℕ) (own : List ℕ) (o : ℕ) : Type 0 where
   pub leaf : long rs p i ≡ false → v ≡ 32768 + best rs p i
-  pub node : long rs p i ≡ true → Names v own o
+  pub node : long rs p i ≡ true → NamesBack v own o
 
 module _ (rs : List Route) (p : ℕ) (own : List ℕ) where
   -- the same cell, otherwise put

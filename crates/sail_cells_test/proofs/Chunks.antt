@@ -18,37 +18,37 @@ use Rattle.bits.proofs.Tells.{is-no, is-yes, tells-same}
 use Rattle.sail.specs.Geometry.{Power}
 use Rattle.sail.specs.Level.{itself, liveIn, partOf, entry}
 use Rattle.sail.specs.Pool.{Numbered}
-use Rattle.sail.specs.Walk.{place}
-use Rattle.sail_cells_test.specs.Pool.{partAt, Hung, HookedChunk, Free, Chunked, Hooks, Hook, Hanging, Pooled}
+use Rattle.sail.specs.Walk.{cellPlace}
+use Rattle.sail_cells_test.specs.Pool.{partAt, OwnedRight, OwnedChunk, FreeIsZero, Chunked, OwnerCellReady, OwnerCell, OwnedReady, Pooled}
 
 -- the answers of `hung_ok`
 module _ (rs : List Route) (p d : ℕ) (above cells below : List ℕ) (c o q i v : ℕ) where
-  pub not-named : (v ≡ c + 1 → ⊥) → (v ≡ getD above q 0) × (v < 65536) → Tells false (Hung rs p d above cells below c o q i)
+  pub not-named : (v ≡ c + 1 → ⊥) → (v ≡ getD above q 0) × (v < 65536) → Tells false (OwnedRight rs p d above cells below c o q i)
   not-named n at = is-no (λ k. n (omega (arith, k .named)))
 
   pub named-tells : v ≡ c + 1 → (v ≡ getD above q 0) × (v < 65536) → q < length above → (a : ℕ) → (a ≡ c * 2 ^ d) × (a < 4194304) → (b : Bool)
-      → Tells b (Right rs p (i * 2 ^ d) (partAt cells a (2 ^ d)) below o (2 ^ d)) → Tells b (Hung rs p d above cells below c o q i)
+      → Tells b (Right rs p (i * 2 ^ d) (partAt cells a (2 ^ d)) below o (2 ^ d)) → Tells b (OwnedRight rs p d above cells below c o q i)
   named-tells e at u a s b t =
       let t′ = rw (s .0) at t in
       tells-same (λ r. record { inside = u; named = omega arith; right = r }) (λ k. k .right) t′
 
 -- the answers of `hook`
 module _ (up : List ℕ) (e n q : ℕ) where
-  pub hook-past : n ≤ q → Hook up e n q 0
+  pub hook-past : n ≤ q → OwnerCell up e n q 0
   hook-past l = record { none = λ z u. absurd (omega arith); inside = λ u. absurd (omega arith); lives = λ u. absurd (omega arith); cell = λ u. absurd (omega arith) }
 
-  pub hook-free : getD up (q / 2 ^ e) 0 ≡ 0 → Hook up e n q 0
+  pub hook-free : getD up (q / 2 ^ e) 0 ≡ 0 → OwnerCell up e n q 0
   hook-free z = record { none = λ y u. le-ltb 0 (getD up (q / 2 ^ e) 0) (omega arith); inside = λ u. absurd (omega arith); lives = λ u. absurd (omega arith); cell = λ u. absurd (omega arith) }
 
-  pub hook-at : q < n → (x : ℕ) → x ≡ getD up (q / 2 ^ e) 0 → (x ≡ 0 → ⊥) → (r : ℕ) → r ≡ place e x q → Hook up e n q (1 + r)
+  pub hook-at : q < n → (x : ℕ) → x ≡ getD up (q / 2 ^ e) 0 → (x ≡ 0 → ⊥) → (r : ℕ) → r ≡ cellPlace e x q → OwnerCell up e n q (1 + r)
   hook-at l x i z r f = record {
     none = λ y u. absurd (omega arith);
     inside = λ u. l;
     lives = λ u. lt-ltb 0 (getD up (q / 2 ^ e) 0) (omega (arith, z));
-    cell = λ u. let g : 1 + r - 1 ≡ r = omega arith in g ∙ f ∙ ap (λ (y : ℕ). place e y q) i;
+    cell = λ u. let g : 1 + r - 1 ≡ r = omega arith in g ∙ f ∙ ap (λ (y : ℕ). cellPlace e y q) i;
   }
 
-  module _ (h : Hooks up e n) where
+  module _ (h : OwnerCellReady up e n) where
     pub up-room : q < n → q / 2 ^ e < length up
     up-room l = div-lt-iff-lt-mul (pow-pos e) .1 (omega arith)
 
@@ -63,7 +63,7 @@ chunk-room c n k l =
 
 -- what `chunk_ok` knows, and its answers
 module _ (ws par : List ℕ) (p d : ℕ) (up : List ℕ) (e : ℕ) (above cells own want : List ℕ) (h : Pooled ws par p d up e above cells own want) where
-  pub hooks : Hooks up e (length above)
+  pub hooks : OwnerCellReady up e (length above)
   hooks = record { small = h .near; owners = λ c. omega (arith, h .owners c, pow-mono (h .high)); places = h .places }
 
   module _ (c : ℕ) (l : c < length own) where
@@ -79,7 +79,7 @@ module _ (ws par : List ℕ) (p d : ℕ) (up : List ℕ) (e : ℕ) (above cells 
           let f : p - d ≡ h .top + e = omega arith in
           rw (f, pow-add) (digits-lt m (mod-lt q (pow-pos e)))
 
-      pub hangs : (q r : ℕ) → (r ≡ 0 → ⊥) → Hook up e (length above) q r → Hanging ws par p d above q (r - 1) cells c (1 + a) want
+      pub hangs : (q r : ℕ) → (r ≡ 0 → ⊥) → OwnerCell up e (length above) q r → OwnedReady ws par p d above q (r - 1) cells c (1 + a) want
       hangs q r n k =
           let z = pow-mono (h .small) in
           let u : 0 < r = omega (arith, n) in
@@ -100,20 +100,20 @@ module _ (ws par : List ℕ) (p d : ℕ) (up : List ℕ) (e : ℕ) (above cells 
 
 module _ (rs : List Route) (p d : ℕ) (up : List ℕ) (e : ℕ) (above cells below : List ℕ) (c x o : ℕ) (is : (o ≡ x) × (o < 4294967296)) where
   abbrev Whole : Type 0
-  Whole = HookedChunk rs p d up e above cells below c x
+  Whole = OwnedChunk rs p d up e above cells below c x
 
   pub free-passes : o ≡ 0 → Tells true Whole
   free-passes z = is-yes (record { lives = λ q k. absurd (omega arith); hangs = λ q k. absurd (omega arith) })
 
   module _ (a : ℕ) (s : (a ≡ c * 2 ^ d) × (a < 4194304)) where
-    module _ (used : o ≡ 0 → ⊥) (r : ℕ) (k : Hook up e (length above) (o - 1) r) where
+    module _ (used : o ≡ 0 → ⊥) (r : ℕ) (k : OwnerCell up e (length above) (o - 1) r) where
       owner : x ≡ suc (o - 1)
       owner = omega (arith, used)
 
       pub nowhere : r ≡ 0 → Tells false Whole
       nowhere z = is-no (λ w. true≢false (sym (w .lives (o - 1) owner) ∙ k .none z (w .hangs (o - 1) owner .inside)))
 
-      pub used-tells : (r ≡ 0 → ⊥) → (b : Bool) → Tells b (Hung rs p d above cells below c (1 + a) (o - 1) (r - 1)) → Tells b Whole
+      pub used-tells : (r ≡ 0 → ⊥) → (b : Bool) → Tells b (OwnedRight rs p d above cells below c (1 + a) (o - 1) (r - 1)) → Tells b Whole
       used-tells n b t =
           let u : 0 < r = omega (arith, n) in
           let m : 1 + a ≡ suc (c * 2 ^ d) = omega arith in
@@ -127,14 +127,14 @@ module _ (rs : List Route) (p d : ℕ) (up : List ℕ) (e : ℕ) (above cells be
 
 -- the answers of `free_chunk`
 module _ (d : ℕ) (own cells : List ℕ) (c : ℕ) where
-  pub used-free : (getD own c 0 ≡ 0 → ⊥) → Tells true (Free d cells c (getD own c 0))
+  pub used-free : (getD own c 0 ≡ 0 → ⊥) → Tells true (FreeIsZero d cells c (getD own c 0))
   used-free n = is-yes (record { zero = λ e. absurd (n e) })
 
   module _ (a : ℕ) (s : (a ≡ c * 2 ^ d) × (a < 4194304)) (n : ℕ) (w : Power n d 1024) where
     pub free-room : Chunked d own cells → c < length own → Range a (a + n) (length cells)
     free-room h l = record { rises = omega arith; fits = omega (arith, chunk-room c (length own) (2 ^ d) l) }
 
-    pub free-zero : getD own c 0 ≡ 0 → (b : Bool) → Tells b (Zeros cells a (a + n)) → Tells b (Free d cells c (getD own c 0))
+    pub free-zero : getD own c 0 ≡ 0 → (b : Bool) → Tells b (Zeros cells a (a + n)) → Tells b (FreeIsZero d cells c (getD own c 0))
     free-zero e b t = let t′ = rw (s .0, w .is) at t in tells-same (λ z. record { zero = λ _. z }) (λ f. f .zero e) t′
 
 -- a pool, chunk by chunk

@@ -4,16 +4,16 @@ ghost use mathlib.Core.Path.{_≡_};
 ghost use Prim.Native.Nat.{_+_, _*_, _^_, _≤_, _<_};
 ghost use lib.ListN.{length, getD};
 ghost use Rattle.bits.specs.Tab.{Tells};
-ghost use Rattle.chain.specs.Words.{routesIn};
+ghost use Rattle.chain.specs.Words.{routesOfWords};
 ghost use Rattle.plan.specs.Part.{Right};
 ghost use Rattle.sail.specs.Geometry.{Power};
-ghost use Rattle.sail_cells_test.specs.Pool.{partAt, Hung, HookedChunk, HookedPool, Free, FreeAll, Chunked, Blocked, FirstCells, Hooks, Hook, Hanging, Pooled};
+ghost use Rattle.sail_cells_test.specs.Pool.{partAt, OwnedRight, OwnedChunk, OwnedPool, FreeIsZero, FreeAll, Chunked, Blocked, FirstTestReady, OwnerCellReady, OwnerCell, OwnedReady, Pooled};
 use bits::widen::half_to_index;
 use bits::widen::word_to_index;
 use buffers::zeros::zeros16;
 use chain::place::shifted;
 use plan::under::right_under;
-use sail::place::place;
+use sail::place::cell_place;
 
 // How many cells a block has whose places take d bits.
 fn size(d: u32) -> usize
@@ -38,7 +38,7 @@ pub fn block_ok(
     want: &mut [u16],
 ) -> bool
     requires { ⌜ Blocked (now ws) (now par) p d i (now cells) a o (now want) ⌝ }
-    ensures { λ r. ⌜ Tells r (Right (routesIn (now (ws .entry))) p (i * 2 ^ d) (partAt (now (cells .entry)) a (2 ^ d)) (now (below .entry)) o (2 ^ d)) ⌝ }
+    ensures { λ r. ⌜ Tells r (Right (routesOfWords (now (ws .entry))) p (i * 2 ^ d) (partAt (now (cells .entry)) a (2 ^ d)) (now (below .entry)) o (2 ^ d)) ⌝ }
 {
     let n = size(d);
     let e = a + n;
@@ -58,8 +58,8 @@ pub fn first_ok(
     below: &[u32],
     want: &mut [u16],
 ) -> bool
-    requires { ⌜ FirstCells (now ws) (now par) p (now first) o (now want) ⌝ }
-    ensures { λ r. ⌜ Tells r (Right (routesIn (now (ws .entry))) p 0 (now (first .entry)) (now (below .entry)) o (length (now (first .entry)))) ⌝ }
+    requires { ⌜ FirstTestReady (now ws) (now par) p (now first) o (now want) ⌝ }
+    ensures { λ r. ⌜ Tells r (Right (routesOfWords (now (ws .entry))) p 0 (now (first .entry)) (now (below .entry)) o (length (now (first .entry)))) ⌝ }
 {
     let n = first.len() / 1024;
     let mut b = 0;
@@ -83,7 +83,7 @@ fn start(c: usize, d: u32) -> usize
 
 // Whether the cell at place q of the pool above names chunk c, and the chunk is as the routes ask for the cells of level p
 // that lie in cell i of level p - d. The chunk's first cell has the owner number o.
-pub fn hung_ok(
+pub fn owned_ok(
     ws: &[u64],
     par: &[u16],
     p: u32,
@@ -97,8 +97,8 @@ pub fn hung_ok(
     below: &[u32],
     want: &mut [u16],
 ) -> bool
-    requires { ⌜ Hanging (now ws) (now par) p d (now above) q i (now cells) c o (now want) ⌝ }
-    ensures { λ r. ⌜ Tells r (Hung (routesIn (now (ws .entry))) p d (now (above .entry)) (now (cells .entry)) (now (below .entry)) c o q i) ⌝ }
+    requires { ⌜ OwnedReady (now ws) (now par) p d (now above) q i (now cells) c o (now want) ⌝ }
+    ensures { λ r. ⌜ Tells r (OwnedRight (routesOfWords (now (ws .entry))) p d (now (above .entry)) (now (cells .entry)) (now (below .entry)) c o q i) ⌝ }
 {
     if half_to_index(above[q]) != c + 1 {
         return false;
@@ -108,9 +108,9 @@ pub fn hung_ok(
 
 // 1 + the cell that place q of a pool of n places stands for, and 0 where it is no place or its chunk is free. The pool's
 // chunks have 2^e cells and the owners `up`.
-fn hook(up: &[u32], e: u32, n: usize, q: usize) -> u64
-    requires { ⌜ Hooks (now up) e n ⌝ }
-    ensures { λ r. ⌜ Hook (now (up .entry)) e n q r ⌝ }
+fn owner_cell(up: &[u32], e: u32, n: usize, q: usize) -> u64
+    requires { ⌜ OwnerCellReady (now up) e n ⌝ }
+    ensures { λ r. ⌜ OwnerCell (now (up .entry)) e n q r ⌝ }
 {
     if n <= q {
         return 0;
@@ -120,7 +120,7 @@ fn hook(up: &[u32], e: u32, n: usize, q: usize) -> u64
     if x == 0 {
         return 0;
     }
-    1 + place(x, e, q) as u64
+    1 + cell_place(x, e, q) as u64
 }
 
 // Whether chunk c of a pool is free, or hangs from the pool above and is right. The cells of the pool above lie in chunks of
@@ -141,7 +141,7 @@ fn chunk_ok(
 ) -> bool
     requires { ⌜ Pooled (now ws) (now par) p d (now up) e (now above) (now cells) (now own) (now want) ⌝ }
     requires { ⌜ c < length (now own) ⌝ }
-    ensures { λ r. ⌜ Tells r (HookedChunk (routesIn (now (ws .entry))) p d (now (up .entry)) e (now (above .entry)) (now (cells .entry)) (now (below .entry)) c (getD (now (own .entry)) c 0)) ⌝ }
+    ensures { λ r. ⌜ Tells r (OwnedChunk (routesOfWords (now (ws .entry))) p d (now (up .entry)) e (now (above .entry)) (now (cells .entry)) (now (below .entry)) c (getD (now (own .entry)) c 0)) ⌝ }
 {
     let a = start(c, d);
     let o = word_to_index(own[c]);
@@ -149,16 +149,16 @@ fn chunk_ok(
         return true;
     }
     let q = o - 1;
-    let i = hook(up, e, above.len(), q);
+    let i = owner_cell(up, e, above.len(), q);
     if i == 0 {
         return false;
     }
     let j = i - 1;
-    hung_ok(ws, par, p, d, above, q, j, cells, c, 1 + a, below, want)
+    owned_ok(ws, par, p, d, above, q, j, cells, c, 1 + a, below, want)
 }
 
 // Whether each chunk in use of a pool is right. The cells of free chunks are not read.
-pub fn hung_all(
+pub fn owned_all(
     ws: &[u64],
     par: &[u16],
     p: u32,
@@ -172,7 +172,7 @@ pub fn hung_all(
     want: &mut [u16],
 ) -> bool
     requires { ⌜ Pooled (now ws) (now par) p d (now up) e (now above) (now cells) (now own) (now want) ⌝ }
-    ensures { λ r. ⌜ Tells r (HookedPool (routesIn (now (ws .entry))) p d (now (up .entry)) e (now (above .entry)) (now (own .entry)) (now (cells .entry)) (now (below .entry))) ⌝ }
+    ensures { λ r. ⌜ Tells r (OwnedPool (routesOfWords (now (ws .entry))) p d (now (up .entry)) e (now (above .entry)) (now (own .entry)) (now (cells .entry)) (now (below .entry))) ⌝ }
 {
     let mut c = 0;
     while c < own.len() {
@@ -188,7 +188,7 @@ pub fn hung_all(
 fn free_chunk(d: u32, cells: &[u16], own: &[u32], c: usize) -> bool
     requires { ⌜ Chunked d (now own) (now cells) ⌝ }
     requires { ⌜ c < length (now own) ⌝ }
-    ensures { λ r. ⌜ Tells r (Free d (now (cells .entry)) c (getD (now (own .entry)) c 0)) ⌝ }
+    ensures { λ r. ⌜ Tells r (FreeIsZero d (now (cells .entry)) c (getD (now (own .entry)) c 0)) ⌝ }
 {
     if own[c] != 0 {
         return true;

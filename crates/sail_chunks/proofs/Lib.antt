@@ -1,9 +1,9 @@
 -- Laws that the proofs of the functions cite.
-pub mod Hangs
+pub mod ChunkOwners
 pub mod Still
-pub mod Shuts
+pub mod ClosedCells
 pub mod Underway
-pub mod Opened
-pub mod Shrinks
+pub mod AnnounceUnderway
+pub mod WithdrawUnderway
 pub mod Trails
-pub mod Openings
+pub mod ToOpen

@@ -14,7 +14,7 @@ use lib.Pow.{pow-pos}
 use borrow.Author.Tests.{leb-true, leb-false, eqb-false}
 use Rattle.bits.specs.Slot.{slot}
 use Rattle.bits.proofs.Slots.{slot-up}
-use Rattle.bits.proofs.Tests.{decided}
+use Rattle.bits.proofs.Bools.{decided}
 use Rattle.routes.specs.declared.Route.{Route}
 use Rattle.sail.specs.Level.{Level, Chunks, entry, chunksOf, below}
 use Rattle.sail.specs.Sound.{Clear}
@@ -23,7 +23,7 @@ use Rattle.sail_theory.specs.Alters.{NoneUnder, Framed}
 use Rattle.sail_theory.proofs.frames.LevelFrame.{none-outside, none-other, below-same}
 use Rattle.sail_theory.proofs.places.Places.{chunk-lt, live-owner}
 use Rattle.sail_theory.proofs.places.Pools.{pool-shown}
-use Rattle.sail_paint.specs.Stale.{meets, staleBelow, Right}
+use Rattle.sail_paint.specs.Stale.{meets, staleBelow, RightButStale}
 
 -- no address under the prefix lies in a cell that does not meet it, nor in the cells of deeper levels that lie in that cell
 pub meets-none : (a len p i : ℕ) → len ≤ 32 → p ≤ 32 → meets a len p i ≡ false → NoneUnder a len p i
@@ -41,7 +41,7 @@ none-below a len p d p′ i j k h l n x s e u =
 
 -- The chunks that hang from a level and their cells, of p bits, while a change at the prefix is under way. Before it the level is v, the owners
 -- are `own` and the cells `was`; now it is v′, with `own′` and `now`, and rs are the routes that then stand.
-pub record Held (rs : List Route) (a len : ℕ) (v v′ : Level) (p : ℕ) (own own′ was now : List ℕ) : Type 0 where
+pub record PoolUnderway (rs : List Route) (a len : ℕ) (v v′ : Level) (p : ℕ) (own own′ was now : List ℕ) : Type 0 where
   pub bits : v′ .bits ≡ v .bits
   pub many : length own′ ≡ length own
   pub size : length now ≡ length was
@@ -55,7 +55,7 @@ pub record Held (rs : List Route) (a len : ℕ) (v v′ : Level) (p : ℕ) (own 
 -- So a cell is right that is live and not stale: its chunk has kept its owner, no address under the prefix lies in it, and the frame of the
 -- change says that it asks what it asked.
 module _ (rs : List Route) (a len : ℕ) (short : len ≤ 32) (v v′ : Level) (p : ℕ) (low : v .bits ≤ p) (top : p ≤ 32) (own own′ was now : List ℕ)
-    (w : Held rs a len v v′ p own own′ was now)
+    (w : PoolUnderway rs a len v v′ p own own′ was now)
     (j : Chunks) (frame : Framed a len (below v (chunksOf own) p) (below v′ (chunksOf own′) p) was (pool rs (below v′ (chunksOf own′) p) j)) where
   module _ (q : ℕ) (l : q < below v′ (chunksOf own′) p .places) (u : below v′ (chunksOf own′) p .live q ≡ true)
       (n : staleBelow a len v′ (chunksOf own′) p q ≡ false) where
@@ -89,5 +89,5 @@ module _ (rs : List Route) (a len : ℕ) (short : len ≤ 32) (v v′ : Level) (
         (below-same v v′ (chunksOf own) (chunksOf own′) p q (w .bits) same (λ z e. let y : x ≡ z = omega (arith, kept .0) in rw y at (sym (kept .1))))
         (λ _. none-below a len (v .bits) (p - v .bits) p _ _ (omega arith) top (mod-lt q (pow-pos (p - v .bits))) none)
 
-  pub held-right : Right rs (below v′ (chunksOf own′) p) j (staleBelow a len v′ (chunksOf own′) p) now
+  pub held-right : RightButStale rs (below v′ (chunksOf own′) p) j (staleBelow a len v′ (chunksOf own′) p) now
   held-right = record { right = λ q l u n. w .held q l u ∙ sym (stays q l u n) ∙ pool-shown rs (below v′ (chunksOf own′) p) j q l u }

@@ -13,14 +13,14 @@ use Rattle.sail.specs.Geometry.{bits2}
 use Rattle.sail.specs.Lent.{Lent}
 use Rattle.sail.specs.Level.{Level, entry, chunksOf, level1, level2}
 use Rattle.sail.specs.Sound.{Shows, Sound, standing}
-use Rattle.sail.specs.Walk.{place}
+use Rattle.sail.specs.Walk.{cellPlace}
 use Rattle.sail.specs.declared.geometry.Geometry.{Geometry}
 use Rattle.sail.specs.declared.table.Table.{Table}
 use Rattle.sail.proofs.Places.{names-exactly}
 use Rattle.standing.proofs.TwoLevels.{slot-down, short-down}
 use Rattle.sail_theory.proofs.places.Places.{LiveFor, top-served, below-served}
 use Rattle.sail_theory.proofs.places.Pools.{shown-node, shows-fits, shows-shown}
-use Rattle.sail_chunks.specs.Trail.{Told, Serving, Trailed}
+use Rattle.sail_chunks.specs.Trail.{CellTells, Serving, Trailed}
 
 -- in a sound table they do
 pub serving-of : (t : Table) (l : Lent) → Sound t l → Serving (t .geometry) (standing t l) (l .first) (l .second) (l .own2) (l .own3)
@@ -30,7 +30,7 @@ serving-of t l s =
 
 -- the cell at the place that serves an address, in a level whose cells are right
 told : (rs : List Route) (v : Level) (cells : ℕ → ℕ) (own : List ℕ) → length own ≤ 4096 → Shows rs v (chunksOf own) cells → (a : ℕ) → LiveFor v a
-    → Told rs v own a (cells (v .serving a))
+    → CellTells rs v own a (cells (v .serving a))
 told rs v cells own few s a p = record {
   leaf = names-exactly rs v (chunksOf own) cells s (omega arith) (v .serving a) (p .inside) (p .used) ∙ ap (λ (i : ℕ). not (long rs (v .bits) i)) (p .stands);
   node = λ d. shows-shown rs v (chunksOf own) cells s (v .serving a) (p .inside) (p .used) ∙ shown-node rs v (chunksOf own) (v .serving a) (rw (p .stands) d);
@@ -47,7 +47,7 @@ module _ (g : Geometry) (rs : List Route) (first second own2 own3 : List ℕ) (s
     abbrev x : ℕ
     x = getD first i 0
 
-    first-told : Told rs (level1 g) own2 a x
+    first-told : CellTells rs (level1 g) own2 a x
     first-told = rw e (told rs (level1 g) (entry first) own2 (s .few2) (s .shows1) a served1)
 
     -- the first cell is a leaf
@@ -68,7 +68,7 @@ module _ (g : Geometry) (rs : List Route) (first second own2 own3 : List ℕ) (s
       pub named-small : (1 ≤ x) × (x ≤ 4096)
       named-small = let n = s .shows1 .node (slot (g .p1) a) (served1 .inside) (served1 .used) deeper in rw e (n .one, omega (arith, n .last, s .few2))
 
-      module _ (q : ℕ) (p : q ≡ place (bits2 g) x (slot (g .p2) a)) where
+      module _ (q : ℕ) (p : q ≡ cellPlace (bits2 g) x (slot (g .p2) a)) where
         is-place : q ≡ level2 g (chunksOf own2) .serving a
         is-place = let n = first-told .node deeper in p ∙ ap (λ (y : ℕ). y * 2 ^ bits2 g + slot (g .p2) a % 2 ^ bits2 g) (omega arith)
 

@@ -7,8 +7,8 @@ use native.Mathlib.Omega.{arith}
 use lib.ListN.{getD}
 use Rattle.routes.specs.Route.{Prefix}
 use Rattle.routes.specs.declared.Route.{Route}
-use Rattle.chain.specs.Words.{routesIn}
-use Rattle.chain.specs.Cover.{Ready}
+use Rattle.chain.specs.Words.{routesOfWords}
+use Rattle.chain.specs.Cover.{ChainReady}
 use Rattle.sail.specs.Lent.{Lent, Cells}
 use Rattle.sail.specs.Level.{Chunks, chunksOf, noChunks, level1, level2, level3}
 use Rattle.sail.specs.Sizes.{Sized, Celled}
@@ -16,9 +16,9 @@ use Rattle.sail.specs.declared.geometry.Geometry.{Geometry}
 use Rattle.sail_theory.specs.Render.{rendered}
 use Rattle.sail_theory.specs.Alters.{Frame}
 use Rattle.sail_theory.proofs.places.Pools.{pool-shown}
-use Rattle.sail_paint.specs.Stale.{meets, staleBelow, Right, Stale, Repainted, AsAsked}
+use Rattle.sail_paint.specs.Stale.{meets, staleBelow, RightButStale, Stale, Repainted, AsAsked}
 use Rattle.sail_paint.proofs.Rights.{repainted-asked}
-use Rattle.sail_chunks.proofs.Still.{meets-none, Held, held-right}
+use Rattle.sail_chunks.proofs.Still.{meets-none, PoolUnderway, held-right}
 
 -- l is what was lent before the change, u the cells and owners under way, and rs the routes that then stand
 pub record Underway (g : Geometry) (a len : ℕ) (rs : List Route) (l : Lent) (u : Cells) : Type 0 where
@@ -27,8 +27,8 @@ pub record Underway (g : Geometry) (a len : ℕ) (rs : List Route) (l : Lent) (u
   pub room : ℕ
   pub frame : Frame g a len l (rendered g room rs (u .own2) (u .own3))
   pub first : u .first ≡ l .first
-  pub second : Held rs a len (level1 g) (level1 g) (g .p2) (l .own2) (u .own2) (l .second) (u .second)
-  pub third : Held rs a len (level2 g (chunksOf (l .own2))) (level2 g (chunksOf (u .own2))) 32 (l .own3) (u .own3) (l .third) (u .third)
+  pub second : PoolUnderway rs a len (level1 g) (level1 g) (g .p2) (l .own2) (u .own2) (l .second) (u .second)
+  pub third : PoolUnderway rs a len (level2 g (chunksOf (l .own2))) (level2 g (chunksOf (u .own2))) 32 (l .own3) (u .own3) (l .third) (u .third)
 
 module _ (g : Geometry) (a len : ℕ) (rs : List Route) (l : Lent) (u : Cells) (w : Underway g a len rs l u) where
   still-celled : Celled g u
@@ -49,7 +49,7 @@ module _ (g : Geometry) (a len : ℕ) (rs : List Route) (l : Lent) (u : Cells) (
   abbrev k3 : Chunks
   k3 = chunksOf (u .own3)
 
-  right1 : Right rs (level1 g) k2 (meets a len (g .p1)) (u .first)
+  right1 : RightButStale rs (level1 g) k2 (meets a len (g .p1)) (u .first)
   right1 = record {
     right = λ q i e m.
         let v = w .sized .valid in
@@ -58,19 +58,19 @@ module _ (g : Geometry) (a len : ℕ) (rs : List Route) (l : Lent) (u : Cells) (
         ∙ pool-shown rs (level1 g) k2 q i e;
   }
 
-  right2 : Right rs (level2 g k2) k3 (staleBelow a len (level1 g) k2 (g .p2)) (u .second)
+  right2 : RightButStale rs (level2 g k2) k3 (staleBelow a len (level1 g) k2 (g .p2)) (u .second)
   right2 =
       let v = w .sized .valid in
       held-right rs a len (w .prefix .len-ok) (level1 g) (level1 g) (g .p2) (omega arith) (omega arith) _ _ _ _ (w .second) k3 (w .frame .second)
 
-  right3 : Right rs (level3 g k2 k3) noChunks (staleBelow a len (level2 g k2) k3 32) (u .third)
+  right3 : RightButStale rs (level3 g k2 k3) noChunks (staleBelow a len (level2 g k2) k3 32) (u .third)
   right3 =
       let v = w .sized .valid in
       held-right rs a len (w .prefix .len-ok) (level2 g (chunksOf (l .own2))) (level2 g k2) 32 (omega arith) (omega arith) _ _ _ _ (w .third) noChunks
       (w .frame .third)
 
   -- the routes of the words are those that then stand
-  pub underway-stale : (ws par : List ℕ) → Ready ws par → routesIn ws ≡ rs → Stale g ws par a len u
+  pub underway-stale : (ws par : List ℕ) → ChainReady ws par → routesOfWords ws ≡ rs → Stale g ws par a len u
   underway-stale ws par ready e = record {
     ready = ready;
     celled = still-celled;

@@ -12,19 +12,19 @@ use Rattle.buffers.specs.Fill.{filled}
 use Rattle.sail_theory.specs.Render.{find}
 
 -- the lowest free chunk with the owner o
-unfoldable pub hung : Bool → ℕ → List ℕ → List ℕ
-hung opens o own = cond opens (set own (find own 0) o) own
+unfoldable pub withOwner : Bool → ℕ → List ℕ → List ℕ
+withOwner opens o own = cond opens (set own (find own 0) o) own
 
 -- chunk c without an owner
-unfoldable pub closed : Bool → ℕ → List ℕ → List ℕ
-closed closes c own = cond closes (set own c 0) own
+unfoldable pub withoutOwner : Bool → ℕ → List ℕ → List ℕ
+withoutOwner closes c own = cond closes (set own c 0) own
 
 -- and its 2 ^ d cells
 unfoldable pub blanked : Bool → ℕ → ℕ → List ℕ → List ℕ
 blanked closes c d cells = cond closes (filled cells (c * 2 ^ d) (c * 2 ^ d + 2 ^ d) 0) cells
 
 -- where a chunk is to be opened, one is free
-pub record Free (opens : Bool) (own : List ℕ) : Type 0 where
+pub record FreeToOpen (opens : Bool) (own : List ℕ) : Type 0 where
   pub some : opens ≡ true → find own 0 < length own
 
 -- where chunk c is to be closed, it is one of a pool of chunks of 2 ^ d cells

@@ -16,7 +16,7 @@ use Rattle.sail_theory.specs.Render.{find}
 
 -- The cell x that an address has at a level is a leaf exactly where no longer route has the address's bits. Where one has, x is the number of
 -- the chunk that hangs from the place that serves the address.
-pub record Told (rs : List Route) (v : Level) (own : List ℕ) (a x : ℕ) : Type 0 where
+pub record CellTells (rs : List Route) (v : Level) (own : List ℕ) (a x : ℕ) : Type 0 where
   pub leaf : leb 32768 x ≡ not (long rs (v .bits) (slot (v .bits) a))
   pub node : long rs (v .bits) (slot (v .bits) a) ≡ true → x ≡ suc (find own (suc (v .serving a)))
 
@@ -32,5 +32,5 @@ pub record Serving (g : Geometry) (rs : List Route) (first second own2 own3 : Li
 
 -- the first and the second cell of the address a
 pub record Trailed (g : Geometry) (rs : List Route) (own2 own3 : List ℕ) (a x1 x2 : ℕ) : Type 0 where
-  pub first : Told rs (level1 g) own2 a x1
-  pub second : Told rs (level2 g (chunksOf own2)) own3 a x2
+  pub first : CellTells rs (level1 g) own2 a x1
+  pub second : CellTells rs (level2 g (chunksOf own2)) own3 a x2

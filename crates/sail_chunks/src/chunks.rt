@@ -3,7 +3,7 @@ ghost use mathlib.Core.Path.{_≡_};
 ghost use Prim.Native.Nat.{_≤_};
 ghost use lib.ListN.{length};
 ghost use Rattle.sail_theory.specs.Render.{find};
-ghost use Rattle.sail_chunks.specs.Chunks.{hung, closed, blanked, Free, Closing};
+ghost use Rattle.sail_chunks.specs.Chunks.{withOwner, withoutOwner, blanked, FreeToOpen, Closing};
 use buffers::fill::fill_range16;
 use chain::place::shifted;
 
@@ -22,9 +22,9 @@ pub fn chunk_named(own: &[u32], o: u32) -> usize
 }
 
 // The lowest free chunk gets the owner o, where one is to be opened.
-pub fn hang(own: &mut [u32], opens: bool, o: u32)
-    requires { ⌜ Free opens (now own) ⌝ }
-    ensures { λ _. ⌜ now (own .exit) ≡ hung opens o (now (own .entry)) ⌝ }
+pub fn set_owner(own: &mut [u32], opens: bool, o: u32)
+    requires { ⌜ FreeToOpen opens (now own) ⌝ }
+    ensures { λ _. ⌜ now (own .exit) ≡ withOwner opens o (now (own .entry)) ⌝ }
 {
     if opens {
         let c = chunk_named(own, 0);
@@ -35,7 +35,7 @@ pub fn hang(own: &mut [u32], opens: bool, o: u32)
 // Chunk c of a pool of chunks of 2^d cells, where it is to be closed: its owner and its cells become 0.
 pub fn close(own: &mut [u32], cells: &mut [u16], closes: bool, c: usize, d: u32)
     requires { ⌜ Closing closes (now own) (now cells) c d ⌝ }
-    ensures owner { λ _. ⌜ now (own .exit) ≡ closed closes c (now (own .entry)) ⌝ }
+    ensures owner { λ _. ⌜ now (own .exit) ≡ withoutOwner closes c (now (own .entry)) ⌝ }
     ensures blank { λ _. ⌜ now (cells .exit) ≡ blanked closes c d (now (cells .entry)) ⌝ }
 {
     if closes {

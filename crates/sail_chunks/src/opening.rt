@@ -8,9 +8,9 @@ ghost use Rattle.sail_theory.specs.Render.{find};
 ghost use Rattle.sail_theory.specs.Calls.{opening};
 ghost use Rattle.sail.specs.Level.{chunksOf, level1, level2};
 ghost use Rattle.sail_chunks.specs.Trail.{Serving};
-ghost use Rattle.sail_chunks.specs.Opening.{Named, Openable, Opens};
+ghost use Rattle.sail_chunks.specs.ToOpen.{ChunkForReady, Openable, Opens};
 use crate::chunks::chunk_named;
-use crate::chunks::hang;
+use crate::chunks::set_owner;
 use crate::trail::follow;
 use bits::widen::byte_to_word;
 use routes::Route;
@@ -37,7 +37,7 @@ fn leaf_under(v: u16, p: u32, len: u32) -> bool
 
 // The chunk that is to be opened, the lowest free one, or the one that is there.
 fn chunk_for(opens: bool, c: usize, own: &[u32]) -> usize
-    requires { ⌜ Named c (now own) ⌝ }
+    requires { ⌜ ChunkForReady c (now own) ⌝ }
     ensures { λ r. ⌜ (r ≡ cond opens (find (now (own .entry)) 0) c) × (r < 65536) ⌝ }
 {
     if opens {
@@ -90,6 +90,6 @@ pub fn open(
     let o = to_open(t, list, first, second, own2, own3, addr, r.len);
     let c = chunk_for(o.second, o.chunk, own2);
     let q = second_place(g, c + 1, addr);
-    hang(own2, o.second, bits::slot(g.p1, addr) + 1);
-    hang(own3, o.third, q as u32 + 1);
+    set_owner(own2, o.second, bits::slot(g.p1, addr) + 1);
+    set_owner(own3, o.third, q as u32 + 1);
 }

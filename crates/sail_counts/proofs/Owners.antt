@@ -11,7 +11,7 @@ use lib.ListN.{getD, length, set}
 use lib.Seq.{getD-set-same, getD-set-other}
 use borrow.Author.Tests.{ltb-true, ltb-false, lt-ltb, le-ltb}
 use Rattle.bits.specs.Slot.{slot}
-use Rattle.bits.proofs.Tests.{decided, below?, equal?}
+use Rattle.bits.proofs.Bools.{decided, below?, equal?}
 use Rattle.standing.specs.Cells.{long}
 use Rattle.routes.specs.declared.Route.{Route}
 use Rattle.counts.specs.Counts.{howMany}
@@ -22,7 +22,7 @@ use Rattle.standing.proofs.TwoLevels.{short-down}
 use Rattle.sail_theory.proofs.places.Places.{part-up}
 use Rattle.sail_theory.proofs.owners.StillFit.{Closed}
 use Rattle.sail_theory.proofs.owners.GrantKeep.{keep-closed}
-use Rattle.sail_theory.proofs.owners.OpenAt.{Ready, length-open, open-short, open-had, open-new}
+use Rattle.sail_theory.proofs.owners.OpenAt.{OpenReady, length-open, open-short, open-had, open-new}
 use Rattle.sail.specs.Sound.{Counted}
 
 -- from k to k′ the owner of c stays; or c is opened or closed, and hangs from a cell that no longer route has
@@ -61,7 +61,7 @@ module _ (rs : List Route) (v : Level) (p : ℕ) (h : v .bits ≤ p) (u : p ≤ 
       blank q l e (went x y z n) = c .true-there q l (lt-ltb 0 (k .own (q / 2 ^ d)) (omega arith)) ∙ none-under k q x y n
 
 -- a chunk is opened for a route that comes: no longer route had its cell
-module _ (rs : List Route) (r : Route) (v : Level) (own : List ℕ) (c : ℕ) (w : Ready rs r v own c) where
+module _ (rs : List Route) (r : Route) (v : Level) (own : List ℕ) (c : ℕ) (w : OpenReady rs r v own c) where
   open-turned : (j : ℕ) → Turned rs v (chunksOf own) (chunksOf (openAt v own c r)) j
   open-turned j = go (below? (v .bits) (r .len)) (decided (long rs (v .bits) (slot (v .bits) (r .addr))))
     where

@@ -9,9 +9,9 @@ use lib.ListN.{getD, set}
 use Rattle.bits.specs.Slot.{slot}
 use Rattle.sail.specs.Geometry.{bits2}
 use Rattle.sail.specs.Pool.{SecondChunk}
-use Rattle.sail.specs.Walk.{place}
+use Rattle.sail.specs.Walk.{cellPlace}
 use Rattle.sail.specs.declared.geometry.Geometry.{Geometry}
-use Rattle.sail_counts.specs.Tick.{step, ticked, leftAt, secondAt, Ticks, Ticked, Tickable, Moved}
+use Rattle.sail_counts.specs.Tick.{step, ticked, leftAt, secondAt, Ticks, Ticked, Tickable, CountsMoved}
 
 -- one count, up or down
 pub step-up : (up : Bool) (n : ℕ) → up ≡ true → n + 1 ≡ step up n
@@ -37,7 +37,7 @@ first-named g a len first long1 long2 up i e w v f = record { valid = w .valid; 
 
 -- both levels
 module _ (g : Geometry) (a len : ℕ) (first long1 long2 : List ℕ) (up : Bool) (l i v q : ℕ)
-    (is-len : l ≡ len) (is-slot : i ≡ slot (g .p1) a) (is-cell : v ≡ getD first i 0) (is-place : q ≡ place (bits2 g) v (slot (g .p2) a)) where
+    (is-len : l ≡ len) (is-slot : i ≡ slot (g .p1) a) (is-cell : v ≡ getD first i 0) (is-place : q ≡ cellPlace (bits2 g) v (slot (g .p2) a)) where
   here : q ≡ secondAt g first a
   here = is-place ∙ rw (is-cell, is-slot)
 
@@ -48,5 +48,5 @@ module _ (g : Geometry) (a len : ℕ) (first long1 long2 : List ℕ) (up : Bool)
   ticks-two w = rw (is-len, here) (w .ticks2)
 
   pub moved : (long1′ long2′ : List ℕ) (x y : ℕ) → Ticked (ltb (g .p1) l) up i long1 long1′ x → Ticked (ltb (g .p2) l) up q long2 long2′ y
-      → Moved g a len first long1 long2 up long1′ long2′ (record { first = x; second = y })
+      → CountsMoved g a len first long1 long2 up long1′ long2′ (record { first = x; second = y })
   moved long1′ long2′ x y t u = record { one = rw (is-len, is-slot) at t; two = rw (is-len, here) at u }

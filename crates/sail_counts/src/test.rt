@@ -6,14 +6,14 @@ ghost use mathlib.Core.Bool.{cond};
 ghost use Prim.Native.Nat.{_≤_, _<_};
 ghost use lib.ListN.{length};
 ghost use Rattle.bits.specs.Tab.{Tells};
-ghost use Rattle.chain.specs.Words.{routesIn};
+ghost use Rattle.chain.specs.Words.{routesOfWords};
 ghost use Rattle.sail_counts.specs.Counted.{Counts};
-ghost use Rattle.sail_counts.specs.Test.{idle, Idle, Goes, RunTold, Tallied, Led, Countable};
+ghost use Rattle.sail_counts.specs.CountsTest.{idle, Idle, Goes, RunTold, Tallied, Led, Countable};
 use bits::bytes;
 use bits::widen::half_to_index;
 use chain::place::run_end;
 use sail::geometry::Geometry;
-use sail::place::place;
+use sail::place::cell_place;
 
 // The count n of a cell that holds v, where it names no chunk, and else 0.
 fn idle_count(v: u16, n: u16) -> u16
@@ -76,7 +76,7 @@ fn run_ok(ws: &[u64], k: usize, p: u32, d: u32, above: &[u16], counts: &[u16]) -
     if goes_on(ws, k, p, i) {
         return true;
     }
-    let q = place(half_to_index(above[(i >> d) as usize]), d, i as usize);
+    let q = cell_place(half_to_index(above[(i >> d) as usize]), d, i as usize);
     half_to_index(counts[q]) == run_end(ws, k, p, i) - k
 }
 
@@ -108,7 +108,7 @@ pub fn counts_ok(
     long2: &[u16],
 ) -> bool
     requires { ⌜ Countable (now ws) g (now first) (now second) (now own2) (now own3) (now long1) (now long2) ⌝ }
-    ensures { λ r. ⌜ Tells r (Counts (routesIn (now (ws .entry))) g (now (own2 .entry)) (now (long1 .entry)) (now (long2 .entry))) ⌝ }
+    ensures { λ r. ⌜ Tells r (Counts (routesOfWords (now (ws .entry))) g (now (own2 .entry)) (now (long1 .entry)) (now (long2 .entry))) ⌝ }
 {
     let p1 = g.p1;
     let p2 = g.p2;

@@ -2,7 +2,7 @@
 ghost use mathlib.Core.Path.{_≡_};
 ghost use Rattle.routes.specs.Record.{routesOf};
 ghost use Rattle.sail_counts.specs.Counted.{Counts};
-ghost use Rattle.sail_counts.specs.Tick.{step, Steps, Ticks, Ticked, Tickable, Moved, Uncounted};
+ghost use Rattle.sail_counts.specs.Tick.{step, Steps, Ticks, Ticked, Tickable, CountsMoved, Uncounted};
 use bits::widen::byte_to_word;
 use bits::widen::half_to_index;
 use routes::record::read_record;
@@ -51,7 +51,7 @@ pub fn tick(
     up: bool,
 ) -> Left
     requires { ⌜ Tickable g addr len (now first) (now long1) (now long2) up ⌝ }
-    ensures { λ r. ⌜ Moved g addr len (now (first .entry)) (now (long1 .entry)) (now (long2 .entry)) up (now (long1 .exit)) (now (long2 .exit)) r ⌝ }
+    ensures { λ r. ⌜ CountsMoved g addr len (now (first .entry)) (now (long1 .entry)) (now (long2 .entry)) up (now (long1 .exit)) (now (long2 .exit)) r ⌝ }
 {
     let p1 = g.p1;
     let p2 = g.p2;

@@ -4,7 +4,7 @@ use Rattle.routes.specs.Said.{Said, accepted, refused, refusedAt}
 use Rattle.sail_load.specs.declared.load.Loaded.{Loaded}
 use Rattle.sail_load.specs.declared.load.Loaded.the-variants as loaded
 
-unfoldable pub saysLoaded : Loaded → Said
-saysLoaded loaded.Done = accepted []
-saysLoaded (loaded.Refused n) = refused n
-saysLoaded (loaded.RefusedAt n k) = refusedAt n k
+unfoldable pub meansLoaded : Loaded → Said
+meansLoaded loaded.Done = accepted []
+meansLoaded (loaded.Refused n) = refused n
+meansLoaded (loaded.RefusedAt n k) = refusedAt n k

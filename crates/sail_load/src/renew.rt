@@ -7,11 +7,11 @@ use buffers::fill::put8;
 use buffers::fill::zero32;
 use sail::table::Table;
 use sail_counts::tick::count_all;
-use sail_owners::owners::settle_owners;
+use sail_owners::owners::open_all;
 use sail_paint::from_list::repaint_from_list;
 
 // The list, the owners, the cells and the counts. Every cell lies under the prefix of no bits, so all of them are painted.
-pub fn renew(
+pub fn write_table(
     t: Table,
     input: &[u8],
     list: &mut [u8],
@@ -35,7 +35,7 @@ pub fn renew(
     fill16(long2, 0);
     zero32(own2);
     zero32(own3);
-    settle_owners(g, input, own2, own3);
+    open_all(g, input, own2, own3);
     repaint_from_list(g, input, n, 0, 0, first, second, third, own2, own3);
     count_all(g, input, n, first, own2, long1, long2);
 }

@@ -9,9 +9,9 @@ use lib.Seq.{getD-set-same, getD-set-other}
 use borrow.Author.Count.{below-more}
 use Rattle.bits.specs.Tab.{tabulate}
 use Rattle.bits.proofs.Tabs.{is-tabulate}
-use Rattle.bits.proofs.Tests.{below?}
+use Rattle.bits.proofs.Bools.{below?}
 use Rattle.sail.specs.Geometry.{standardGeo}
-use Rattle.sail_many.specs.Words.{step1, step2, step3, answerAt, put, turned, Flowing, Flows, Swept, Range, Spot, Ready}
+use Rattle.sail_many.specs.Words.{step1, step2, step3, answerAt, put, turned, Flowing, Flows, Swept, AddrRange, Spot, LevelsReady}
 
 module _ (f : ℕ → ℕ → ℕ) (j : ℕ) (out : List ℕ) where
   pub length-put : length (put f j out) ≡ length out
@@ -55,7 +55,7 @@ pub swept-all : (f : ℕ → ℕ → ℕ) (from i to : ℕ) (out ys : List ℕ) 
 swept-all f from i to out ys a b s = let e : i ≡ to = omega arith in rw e at s
 
 -- a place in the range is one of an address
-pub spot-at : (f : ℕ → ℕ → ℕ) (from i to : ℕ) (ads out ys : List ℕ) → Range from to ads out → Swept f from i out ys → i < to → Spot i ads ys
+pub spot-at : (f : ℕ → ℕ → ℕ) (from i to : ℕ) (ads out ys : List ℕ) → AddrRange from to ads out → Swept f from i out ys → i < to → Spot i ads ys
 spot-at f from i to ads out ys r s h = record { inside = omega (arith, r .inside); even = s .size ∙ r .even }
 
 -- a turn
@@ -140,7 +140,7 @@ abbrev s2 : ℕ
 s2 = standardGeo .p2
 
 module _ (p1 p2 : ℕ) (e1 : p1 ≡ s1) (e2 : p2 ≡ s2) (first second : List ℕ) (m2 : ℕ) (third : List ℕ) (m3 : ℕ) where
-  pub ready-standard : Ready p1 p2 first second m2 third m3 → Ready s1 s2 first second m2 third m3
+  pub ready-standard : LevelsReady p1 p2 first second m2 third m3 → LevelsReady s1 s2 first second m2 third m3
   ready-standard h = rw (e1, e2) at h
 
   pub standard-pair : (ads : List ℕ) (j : ℕ) (out xs ys : List ℕ)

@@ -1,4 +1,4 @@
--- Load in one pass, as a program makes it. After the routes xs the owners are `settled` of xs, and rise. The next route opens a chunk exactly where
+-- Load in one pass, as a program makes it. After the routes xs the owners are `ownersAfter` of xs, and rise. The next route opens a chunk exactly where
 -- the last chunk that was opened hangs elsewhere; then it takes the next number.
 use mathlib.Core.Path.{_≡_, refl, sym, _∙_, ap}
 use mathlib.Core.Logic.{_⊎_, inl, inr, _≢_}
@@ -8,14 +8,14 @@ use native.Mathlib.Omega.{arith}
 use native.Mathlib.Nat.{le-refl}
 use lib.ListN.{getD, length, set, length-set}
 use lib.Seq.{getD-set-same, getD-set-other}
-use Rattle.bits.proofs.Tests.{below?, equal?}
+use Rattle.bits.proofs.Bools.{below?, equal?}
 use Rattle.routes.specs.declared.Route.{Route}
 use Rattle.sail.specs.Lent.{Lent}
 use Rattle.sail.specs.Level.{chunksOf, entry, level1, level2}
 use Rattle.sail.specs.declared.geometry.Geometry.{Geometry}
 use Rattle.sail.specs.declared.table.Table.{Table}
 use Rattle.sail_theory.specs.Render.{find}
-use Rattle.sail_theory.specs.Calls.{Owners, opened, settled, noOwners}
+use Rattle.sail_theory.specs.Calls.{Owners, opened, ownersAfter, noOwners}
 use Rattle.sail_theory.specs.Facts.{Loadable}
 use Rattle.sail_theory.proofs.owners.Chunks.{chunk-at, chunk-before, chunk-is, chunk-none}
 use Rattle.standing.proofs.ListParts.{good-below}
@@ -23,8 +23,8 @@ use Rattle.sail_theory.proofs.calls.Load.{Fronts, fronts-next, fronts-none, fro
 use Rattle.sail_owners.proofs.RisingOwners.{Rising, Climbs, rise, climbs-below, top-rises, zero-rising}
 
 -- one route more
-pub settled-snoc : (g : Geometry) (o : Owners) (xs : List Route) (r : Route) → settled g o (xs ++ (r ∷ [])) ≡ opened g (settled g o xs) r
-unfolding settled
+pub settled-snoc : (g : Geometry) (o : Owners) (xs : List Route) (r : Route) → ownersAfter g o (xs ++ (r ∷ [])) ≡ opened g (ownersAfter g o xs) r
+unfolding ownersAfter
 settled-snoc g o [] r = refl
 settled-snoc g o (x ∷ xs) r = settled-snoc g (opened g o x) xs r
 
@@ -90,15 +90,15 @@ module _ (t : Table) (l : Lent) (xs : List Route) (r : Route) (ys : List Route) 
   }
 
 pass-on : (t : Table) (l : Lent) (ys xs zs : List Route) (o : Owners) → Passing t l xs (ys ++ zs) o
-    → Passing t l (xs ++ ys) zs (settled (t .geometry) o ys)
-unfolding settled
+    → Passing t l (xs ++ ys) zs (ownersAfter (t .geometry) o ys)
+unfolding ownersAfter
 pass-on t l [] xs zs o p = rw append-nil p
 pass-on t l (r ∷ ys) xs zs o p =
     let next = pass-next t l xs r (ys ++ zs) o p in
     rw (← append-assoc xs (r ∷ []) ys) (pass-on t l ys (xs ++ (r ∷ [])) zs (opened (t .geometry) o r) next)
 
 -- By induction over the routes that came: no owners rise, and those of one route more do, since it climbs at both levels.
-pub passing : (t : Table) (l : Lent) (xs ys : List Route) → Loadable t l (xs ++ ys) → Passing t l xs ys (settled (t .geometry) (noOwners l) xs)
+pub passing : (t : Table) (l : Lent) (xs ys : List Route) → Loadable t l (xs ++ ys) → Passing t l xs ys (ownersAfter (t .geometry) (noOwners l) xs)
 passing t l xs ys w = pass-on t l xs [] ys (noOwners l) (record {
   fronts = fronts-none t l (xs ++ ys) w;
   rises2 = zero-rising (length (l .own2));

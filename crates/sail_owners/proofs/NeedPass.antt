@@ -11,7 +11,7 @@ use lib.Dec.{eqb, ltb}
 use lib.Pow.{shr-mono}
 use borrow.Author.Tests.{le-ltb, lt-ltb, eqb-true, eq-eqb}
 use Rattle.bits.specs.Slot.{slot}
-use Rattle.bits.proofs.Tests.{decided, and-split, or-split, untrue}
+use Rattle.bits.proofs.Bools.{decided, and-split, or-split, untrue}
 use Rattle.routes.specs.Route.{key, Fine, Good}
 use Rattle.standing.specs.Cells.{any, within, long, need}
 use Rattle.standing.specs.Standing.{insert}

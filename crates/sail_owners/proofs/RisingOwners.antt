@@ -14,7 +14,7 @@ use lib.Pow.{pow-pos, shr-mono}
 use lib.Seq.{getD-set-other, getD-set-same, set-out}
 use borrow.Author.Tests.{eqb-true, lt-ltb}
 use Rattle.bits.specs.Slot.{slot}
-use Rattle.bits.proofs.Tests.{decided, and-split, equal?, below?}
+use Rattle.bits.proofs.Bools.{decided, and-split, equal?, below?}
 use Rattle.routes.specs.Route.{key}
 use Rattle.standing.specs.Cells.{within, long}
 use Rattle.standing.specs.Standing.{insert}
@@ -28,7 +28,7 @@ use Rattle.standing.proofs.ListParts.{insert-end, any-some}
 use Rattle.sail_theory.proofs.places.Places.{chunk-lt, live-owner, part-up}
 use Rattle.sail_theory.proofs.owners.StillFit.{chunk-found}
 use Rattle.sail_theory.proofs.owners.GrantKeep.{grant-had, grant-new, had?}
-use Rattle.sail_theory.proofs.owners.OpenAt.{Ready, open-stays, open-fits, open-new, not-long}
+use Rattle.sail_theory.proofs.owners.OpenAt.{OpenReady, open-stays, open-fits, open-new, not-long}
 use Rattle.sail.proofs.Fresh.{zeros}
 
 -- a chunk before one in use is in use, and its owner is smaller
@@ -172,7 +172,7 @@ module _ (rs : List Route) (v : Level) (own : List ℕ) (p : ℕ) (f : Fits rs v
 
 -- One record more, after all others: r may be announced at the level, whose places rise, and whose chunks' owners do.
 pub record Climbs (xs : List Route) (r : Route) (v : Level) (own : List ℕ) : Type 0 where
-  pub ready : Ready xs r v own (find own 0)
+  pub ready : OpenReady xs r v own (find own 0)
   pub last : (s : Route) → List·Memᴰ s xs → key s < key r
   pub rises : Rises v
   pub rising : Rising own
@@ -214,7 +214,7 @@ module _ (xs : List Route) (r : Route) (v : Level) (own : List ℕ) (w : Climbs 
       go (inl e) = rw e (grant-rising own q (w .rising) (topmost e))
       go (inr e) = rw e (w .rising)
 
-  pub climbs-below : (p : ℕ) (low : List ℕ) → Ready xs r (below v (chunksOf own′) p) low (find low 0) → Rising low
+  pub climbs-below : (p : ℕ) (low : List ℕ) → OpenReady xs r (below v (chunksOf own′) p) low (find low 0) → Rising low
       → Climbs xs r (below v (chunksOf own′) p) low
   climbs-below p low s up = record {
     ready = s;

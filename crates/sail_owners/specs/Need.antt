@@ -4,6 +4,6 @@ use Prim.Native.Nat.{ℕ, _≤_}
 use Rattle.routes.specs.Record.{Records}
 
 -- n good records, and a level
-pub record Counts (s : List ℕ) (n p : ℕ) : Type 0 where
+pub record NeedReady (s : List ℕ) (n p : ℕ) : Type 0 where
   pub records : Records s n
   pub level : p ≤ 32

@@ -3,7 +3,7 @@ ghost use mathlib.Core.Path.{_≡_};
 ghost use Prim.Native.Nat.{_≤_};
 ghost use Rattle.standing.specs.Cells.{need};
 ghost use Rattle.routes.specs.Record.{routesOf};
-ghost use Rattle.sail_owners.specs.Need.{Counts};
+ghost use Rattle.sail_owners.specs.Need.{NeedReady};
 use bits::slot;
 use bits::widen::byte_to_word;
 use bits::widen::word_to_long;
@@ -13,7 +13,7 @@ use routes::record::read_record;
 // of one cell stand together, but for records that are not longer than p: so a cell is new where it is not that of the
 // last record longer than p. `last` is 1 + that cell.
 pub fn count_need(list: &[u8], n: usize, p: u32) -> usize
-    requires { ⌜ Counts (now list) n p ⌝ }
+    requires { ⌜ NeedReady (now list) n p ⌝ }
     ensures { λ r. ⌜ (r ≡ need (routesOf (now (list .entry)) n) p) × (r ≤ n) ⌝ }
 {
     let mut m = 0;

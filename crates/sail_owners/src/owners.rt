@@ -5,8 +5,8 @@ ghost use Prim.Native.Nat.{_≤_};
 ghost use lib.ListN.{length};
 ghost use Rattle.bits.specs.Tab.{Tells};
 ghost use Rattle.sail_theory.specs.Render.{find};
-ghost use Rattle.sail_theory.specs.Calls.{inputRoutes, settled};
-ghost use Rattle.sail_owners.specs.Owners.{owners, Past, LastIs, Hangs, Hung, Opens, Opened, Ownable};
+ghost use Rattle.sail_theory.specs.Calls.{inputRoutes, ownersAfter};
+ghost use Rattle.sail_owners.specs.Owners.{owners, Past, LastIs, MayOwn, HasOwner, OpenForReady, Opened, Ownable};
 use bits::slot;
 use bits::widen::byte_to_word;
 use routes::Route;
@@ -53,9 +53,9 @@ fn next_free(own: &[u32], from: usize) -> usize
 }
 
 // A chunk has the owner o: the last one opened, or the next that is free.
-fn hang(own: &mut [u32], u: Pass, o: u32) -> Pass
-    requires { ⌜ Hangs (now own) u o ⌝ }
-    ensures { λ r. ⌜ Hung (now (own .entry)) u o (now (own .exit)) r ⌝ }
+fn own_chunk(own: &mut [u32], u: Pass, o: u32) -> Pass
+    requires { ⌜ MayOwn (now own) u o ⌝ }
+    ensures { λ r. ⌜ HasOwner (now (own .entry)) u o (now (own .exit)) r ⌝ }
 {
     if last_is(own, u.last, o) {
         return u;
@@ -70,7 +70,7 @@ fn hang(own: &mut [u32], u: Pass, o: u32) -> Pass
 
 // Opens the chunks of a route that comes after all those before it.
 fn open_for(g: Geometry, r: Route, u: Passes, own2: &mut [u32], own3: &mut [u32]) -> Passes
-    requires { ⌜ Opens g r u (now own2) (now own3) ⌝ }
+    requires { ⌜ OpenForReady g r u (now own2) (now own3) ⌝ }
     ensures { λ v. ⌜ Opened g r (now (own2 .entry)) (now (own3 .entry)) u v (now (own2 .exit)) (now (own3 .exit)) ⌝ }
 {
     let p1 = g.p1;
@@ -82,18 +82,18 @@ fn open_for(g: Geometry, r: Route, u: Passes, own2: &mut [u32], own3: &mut [u32]
     }
     let at2 = u.second;
     let at3 = u.third;
-    let second = hang(own2, at2, slot(p1, a) + 1);
+    let second = own_chunk(own2, at2, slot(p1, a) + 1);
     if len <= p2 {
         return Passes { second, third: at3 };
     }
-    let third = hang(own3, at3, second_place(g, second.last, a) as u32 + 1);
+    let third = own_chunk(own3, at3, second_place(g, second.last, a) as u32 + 1);
     Passes { second, third }
 }
 
 // The owners after each record of the input is announced in order, where none was before.
-pub fn settle_owners(g: Geometry, input: &[u8], own2: &mut [u32], own3: &mut [u32])
+pub fn open_all(g: Geometry, input: &[u8], own2: &mut [u32], own3: &mut [u32])
     requires { ⌜ Ownable g (now input) (now own2) (now own3) ⌝ }
-    ensures { λ _. ⌜ owners (now (own2 .exit)) (now (own3 .exit)) ≡ settled g (owners (now (own2 .entry)) (now (own3 .entry))) (inputRoutes (now (input .entry))) ⌝ }
+    ensures { λ _. ⌜ owners (now (own2 .exit)) (now (own3 .exit)) ≡ ownersAfter g (owners (now (own2 .entry)) (now (own3 .entry))) (inputRoutes (now (input .entry))) ⌝ }
 {
     let n = input.len() / 8;
     let none = Pass { last: 0, free: 0 };

@@ -9,7 +9,7 @@ use native.Mathlib.Omega.{arith}
 use lib.Dec.{eqb, ltb}
 use lib.ListN.{length, getD}
 use borrow.Author.Tests.{not-true, not-false, eqb-true, eqb-false, lt-ltb, le-ltb, ltb-true}
-use Rattle.bits.proofs.Tests.{decided, both, and-split, same}
+use Rattle.bits.proofs.Bools.{decided, both, and-split, same}
 use Rattle.routes.specs.declared.Route.{Route}
 use Rattle.buffers.specs.Fill.{between}
 use Rattle.sail.specs.Level.{partOf, entry}
@@ -20,7 +20,7 @@ use Rattle.sail_paint.proofs.Places.{block-is}
 use Rattle.sail_paint.proofs.Overs.{length-over, over-none, over-ext, over-more}
 
 -- the chunks before c of a pool are painted
-pub record Pooled (rs : List Route) (a len l p d e : ℕ) (up own cells₀ : List ℕ) (c : ℕ) (cells : List ℕ) : Type 0 where
+pub record PaintedTo (rs : List Route) (a len l p d e : ℕ) (up own cells₀ : List ℕ) (c : ℕ) (cells : List ℕ) : Type 0 where
   pub is : cells ≡ overpainted rs p (λ q. ltb (q / 2 ^ d) c && staleIn a len l d (standsFor e up) (entry own) q) (partOf (entry own) d (standsFor e up)) cells₀
 
 module _ (rs : List Route) (a len l p d e : ℕ) (up : List ℕ) where
@@ -61,11 +61,11 @@ module _ (rs : List Route) (a len l p d e : ℕ) (up : List ℕ) where
     abbrev upTo : ℕ → ℕ → Bool
     upTo c q = ltb (q / 2 ^ d) c && staleIn a len l d at (entry own) q
 
-    pub pool-none : Pooled rs a len l p d e up own cells₀ 0 cells₀
+    pub pool-none : PaintedTo rs a len l p d e up own cells₀ 0 cells₀
     pool-none = record { is = over-none rs p (upTo 0) _ cells₀ (λ q k. rw (le-ltb (q / 2 ^ d) 0 (omega arith))) }
 
-    pub pool-more : (c o : ℕ) (cells after : List ℕ) → (o ≡ getD own c 0) × (o < 4294967296) → Pooled rs a len l p d e up own cells₀ c cells
-        → after ≡ overpainted rs p (staleOf a len l d at c o) (partOf (λ _. o) d at) cells → Pooled rs a len l p d e up own cells₀ (c + 1) after
+    pub pool-more : (c o : ℕ) (cells after : List ℕ) → (o ≡ getD own c 0) × (o < 4294967296) → PaintedTo rs a len l p d e up own cells₀ c cells
+        → after ≡ overpainted rs p (staleOf a len l d at c o) (partOf (λ _. o) d at) cells → PaintedTo rs a len l p d e up own cells₀ (c + 1) after
     pool-more c o cells after o-is was eq = record {
       is =
           eq ∙ ap (overpainted rs p (staleOf a len l d at c o) (partOf (λ _. o) d at)) (was .is)
@@ -94,13 +94,13 @@ module _ (rs : List Route) (a len l p d e : ℕ) (up : List ℕ) where
                 more : (x : ℕ) → (x ≡ c → ⊥) → ltb x (c + 1) ≡ ltb x c
                 more x n = same (ltb x (c + 1)) (ltb x c) (λ t. let w = ltb-true x (c + 1) t in lt-ltb x c (omega arith)) (λ t. let w = ltb-true x c t in lt-ltb x (c + 1) (omega arith))
 
-    pub pool-all : (c : ℕ) (cells : List ℕ) → length own ≤ c → length cells₀ ≡ length own * 2 ^ d → Pooled rs a len l p d e up own cells₀ c cells → cells ≡ overpainted rs p (staleIn a len l d at (entry own)) (partOf (entry own) d at) cells₀
+    pub pool-all : (c : ℕ) (cells : List ℕ) → length own ≤ c → length cells₀ ≡ length own * 2 ^ d → PaintedTo rs a len l p d e up own cells₀ c cells → cells ≡ overpainted rs p (staleIn a len l d at (entry own)) (partOf (entry own) d at) cells₀
     pool-all c cells u size was =
         was .is ∙ over-ext rs p (upTo c) (staleIn a len l d at (entry own)) _ _ cells₀
         (λ q k. rw (lt-ltb (q / 2 ^ d) c (let z = chunk-lt d (length own) q (rw size at k) in omega arith)))
         (λ q k t. refl)
 
-    pub length-pooled : (c : ℕ) (cells : List ℕ) → Pooled rs a len l p d e up own cells₀ c cells → length cells ≡ length cells₀
+    pub length-pooled : (c : ℕ) (cells : List ℕ) → PaintedTo rs a len l p d e up own cells₀ c cells → length cells ≡ length cells₀
     length-pooled c cells was = ap length (was .is) ∙ length-over rs p (upTo c) (partOf (entry own) d at) cells₀
 
 -- what painting one chunk asks

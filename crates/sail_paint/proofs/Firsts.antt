@@ -9,27 +9,27 @@ use lib.Pow.{pow-add}
 use Rattle.bits.specs.Slot.{slot}
 use Rattle.routes.specs.declared.Route.{Route}
 use Rattle.buffers.specs.Fill.{between}
-use Rattle.buffers.proofs.Ranges.{Place, below, inside, above, place, between-in, between-below, between-above}
+use Rattle.buffers.proofs.Ranges.{Side, below, inside, above, side, between-in, between-below, between-above}
 use Rattle.sail.specs.Level.{itself}
 use Rattle.sail_paint.specs.Stale.{meets}
-use Rattle.sail_paint.specs.Paint.{overpainted, Part, FirstCells, BlockEnd}
+use Rattle.sail_paint.specs.Paint.{overpainted, Part, FirstPaintReady, BlockEnd}
 use Rattle.sail_paint.proofs.Places.{between-parts, range-is, range-fits}
 use Rattle.sail_paint.proofs.Overs.{length-over, over-none, over-ext, over-more}
 
 -- no cell is between a and a
 none-between : (a q : ℕ) → between a a q ≡ false
-none-between a q = go (place a a q)
+none-between a q = go (side a a q)
   where
-    go : Place a a q → between a a q ≡ false
+    go : Side a a q → between a a q ≡ false
     go (below l) = between-below a a q l
     go (inside l u) = absurd (omega arith)
     go (above l u) = between-above a a q u
 
 -- one block more
 grown : (a lo hi q : ℕ) → a ≤ lo → lo ≤ hi → between lo hi q ≡ false → between a hi q ≡ between a lo q
-grown a lo hi q l u n = go (place a lo q) (place lo hi q)
+grown a lo hi q l u n = go (side a lo q) (side lo hi q)
   where
-    go : Place a lo q → Place lo hi q → between a hi q ≡ between a lo q
+    go : Side a lo q → Side lo hi q → between a hi q ≡ between a lo q
     go (below x) z = rw (between-below a lo q x) (between-below a hi q x)
     go (inside x y) z = rw (between-in a lo q x y) (between-in a hi q x (omega arith))
     go (above x y) (below z) = absurd (omega arith)
@@ -48,7 +48,7 @@ module _ (rs : List Route) (p : ℕ) (first₀ : List ℕ) (from : ℕ) where
       (λ q k t. let s = between-parts lo hi q t in (between-in from hi q (omega (arith, s .0)) (s .1), omega (arith, s .0)))
       (λ q k t. grown from lo hi q l u t)
 
-module _ (ws par : List ℕ) (p a len : ℕ) (first₀ : List ℕ) (h : FirstCells ws par p a len first₀) where
+module _ (ws par : List ℕ) (p a len : ℕ) (first₀ : List ℕ) (h : FirstPaintReady ws par p a len first₀) where
   powers : 2 ^ p ≡ 2 ^ (p - 10) * 1024
   powers = let e : p ≡ p - 10 + 10 = let z = h .low in omega arith in ap (λ (n : ℕ). 2 ^ n) e ∙ pow-add 2 (p - 10) 10
 

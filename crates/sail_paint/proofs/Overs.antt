@@ -8,12 +8,12 @@ use native.Mathlib.Omega.{arith}
 use lib.ListN.{length, getD, take, List·getD-append}
 use lib.Seq.{length-take-le, getD-take, getD-drop, getD-append-add}
 use borrow.Rule.Slice.PartMut.{midOf, postOf, putMid, same-len-mid, mid-len, post-is}
-use Rattle.bits.proofs.Tests.{decided}
+use Rattle.bits.proofs.Bools.{decided}
 use Rattle.bits.proofs.Tabs.{length-tabulate, getD-tabulate, tabulate-ext, is-tabulate}
 use Rattle.routes.specs.declared.Route.{Route}
 use Rattle.buffers.specs.Fill.{between}
 use Rattle.plan.specs.Plan.{plan, planned}
-use Rattle.buffers.proofs.Ranges.{Place, below, inside, above, place, between-in, between-below, between-above}
+use Rattle.buffers.proofs.Ranges.{Side, below, inside, above, side, between-in, between-below, between-above}
 use Rattle.sail_paint.specs.Paint.{overpainted}
 
 module _ (rs : List Route) (p : ℕ) where
@@ -70,7 +70,7 @@ module _ (rs : List Route) (p : ℕ) where
     past : (j : ℕ) → getD (putMid a (e - a) cells ys) (a + j) 0 ≡ getD (ys ++ postOf a (e - a) cells) j 0
     past j = ap (λ (x : ℕ). getD (putMid a (e - a) cells ys) (x + j) 0) (sym front) ∙ getD-append-add (take a cells) (ys ++ postOf a (e - a) cells) j 0
 
-    put-at : (q : ℕ) → Place a e q → getD (putMid a (e - a) cells ys) q 0 ≡ cond (between a e q) (plan rs p (base + (q - a))) (getD cells q 0)
+    put-at : (q : ℕ) → Side a e q → getD (putMid a (e - a) cells ys) q 0 ≡ cond (between a e q) (plan rs p (base + (q - a))) (getD cells q 0)
     put-at q (below l) = rw (between-below a e q l) (List·getD-append (take a cells) _ 0 q (rw front l) ∙ getD-take a cells q 0 l)
     put-at q (inside l u) =
         let z : a + (q - a) ≡ q = omega arith in
@@ -85,4 +85,4 @@ module _ (rs : List Route) (p : ℕ) where
 
     pub part-over : putMid a (e - a) cells ys ≡ overpainted rs p (between a e) (λ q. base + (q - a)) cells
     unfolding overpainted
-    part-over = is-tabulate 0 (putMid a (e - a) cells ys) (length cells) _ (same-len-mid a (e - a) cells ys (size ∙ sym (mid-len a e cells fits))) (λ q l. put-at q (place a e q))
+    part-over = is-tabulate 0 (putMid a (e - a) cells ys) (length cells) _ (same-len-mid a (e - a) cells ys (size ∙ sym (mid-len a e cells fits))) (λ q l. put-at q (side a e q))

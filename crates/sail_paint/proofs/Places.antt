@@ -12,12 +12,12 @@ use lib.Pow.{pow-add, pow-pos, shl-shr}
 use borrow.Author.Tests.{leb-true, ltb-true, eqb-true, le-leb, lt-leb, lt-ltb, eq-eqb}
 use Rattle.bits.specs.Slot.{slot}
 use Rattle.bits.proofs.Slots.{slot-lt, cut-is}
-use Rattle.bits.proofs.Tests.{both, and-split, same}
+use Rattle.bits.proofs.Bools.{both, and-split, same}
 use Rattle.routes.specs.Route.{Prefix}
 use Rattle.buffers.specs.Fill.{between}
 use Rattle.sail.specs.Level.{itself, partOf, entry}
 use Rattle.sail.specs.Pool.{Numbered}
-use Rattle.sail.specs.Walk.{place}
+use Rattle.sail.specs.Walk.{cellPlace}
 use Rattle.sail_paint.specs.Stale.{meets}
 use Rattle.sail_paint.specs.Paint.{standsFor, Above}
 
@@ -37,8 +37,8 @@ module _ (up : List ℕ) (e q v : ℕ) (some : e ≡ 0 → ⊥) (is : (v ≡ get
   pub owner-numbered : Above up e q → Numbered v e
   owner-numbered h = record { one = omega (arith, is .0, h .owned (omega (arith, some))); few = omega (arith, is .1); size = omega (arith, h .small) }
 
-  pub stands-is : (r : ℕ) → r ≡ place e v q → r ≡ standsFor e up q
-  stands-is r f = f ∙ ap (λ (x : ℕ). place e x q) (is .0) ∙ sym (stands-part e up q some)
+  pub stands-is : (r : ℕ) → r ≡ cellPlace e v q → r ≡ standsFor e up q
+  stands-is r f = f ∙ ap (λ (x : ℕ). cellPlace e x q) (is .0) ∙ sym (stands-part e up q some)
 
 -- the code's test
 pub meets-under : (a len p i : ℕ) → len ≤ p → eqb (i / 2 ^ (p - len)) (a / 2 ^ (32 - len)) ≡ meets a len p i

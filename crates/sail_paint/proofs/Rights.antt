@@ -8,10 +8,10 @@ use native.Mathlib.Omega.{arith}
 use lib.ListN.{length, getD}
 use lib.Seq.{ext-getD}
 use borrow.Author.Tests.{lt-ltb, le-ltb}
-use Rattle.bits.proofs.Tests.{decided, below?, and-split}
+use Rattle.bits.proofs.Bools.{decided, below?, and-split}
 use Rattle.standing.specs.Cells.{long, best}
 use Rattle.routes.specs.declared.Route.{Route}
-use Rattle.chain.specs.Words.{routesIn}
+use Rattle.chain.specs.Words.{routesOfWords}
 use Rattle.chain.proofs.Decodes.{words-good}
 use Rattle.plan.specs.Plan.{plan}
 use Rattle.sail.specs.Geometry.{bits2}
@@ -26,8 +26,8 @@ use Rattle.sail_theory.proofs.places.Places.{chunk-lt, live-owner}
 use Rattle.sail_theory.proofs.places.Rendered.{top-clear, last-fits}
 use Rattle.sail_theory.proofs.frames.LevelFrame.{top-bounded, below-bounded}
 use Rattle.sail_theory.proofs.places.Pools.{length-laid, laid-at, shown-leaf, shown-node, laid-rendered}
-use Rattle.sail_paint.specs.Stale.{meets, staleBelow, Right, Stale, Repainted, AsAsked}
-use Rattle.sail_paint.specs.Paint.{overpainted, stampedBy, stamped, standsFor, staleIn, Above, FirstCells, Pool, Stamps}
+use Rattle.sail_paint.specs.Stale.{meets, staleBelow, RightButStale, Stale, Repainted, AsAsked}
+use Rattle.sail_paint.specs.Paint.{overpainted, stampedBy, stamped, standsFor, staleIn, Above, FirstPaintReady, Pool, Stamps}
 use Rattle.sail_paint.proofs.Places.{stands-itself, stands-part}
 use Rattle.sail_paint.proofs.Overs.{length-over, over-at}
 use Rattle.sail_paint.proofs.Stamping.{stampAt, length-stamped, stamped-at, stamp-none}
@@ -39,7 +39,7 @@ plan-leaf rs p i e = rw e
 
 -- A level whose chunks fit, and whose live cells are right but for stale ones. These are painted, and the numbers of chunks stamped over all.
 module _ (rs : List Route) (v : Level) (k : Chunks) (f : Fits rs v k) (stale : ℕ → Bool) (lives : (q : ℕ) → stale q ≡ true → v .live q ≡ true)
-    (cells : List ℕ) (size : length cells ≡ v .places) (is : Right rs v k stale cells) where
+    (cells : List ℕ) (size : length cells ≡ v .places) (is : RightButStale rs v k stale cells) where
   abbrev painted : List ℕ
   painted = overpainted rs (v .bits) stale (v .at) cells
 
@@ -92,7 +92,7 @@ level-stamps rs v own few f now size = record { few = few; inside = λ c q k o. 
 
 module _ (g : Geometry) (ws par : List ℕ) (a len : ℕ) (l : Cells) (s : Stale g ws par a len l) where
   abbrev rs : List Route
-  rs = routesIn ws
+  rs = routesOfWords ws
 
   abbrev k2 : Chunks
   k2 = chunksOf (l .own2)
@@ -107,7 +107,7 @@ module _ (g : Geometry) (ws par : List ℕ) (a len : ℕ) (l : Cells) (s : Stale
   v3 = level3 g k2 k3
 
   -- What is asked at each step.
-  pub first-asks : FirstCells ws par (g .p1) a len (l .first)
+  pub first-asks : FirstPaintReady ws par (g .p1) a len (l .first)
   first-asks = let v = s .celled .valid in record { ready = s .ready; prefix = s .prefix; low = omega arith; deep = omega arith; cells = s .celled .cells1 }
 
   pub first-stamps : (now : List ℕ) → length now ≡ length (l .first) → Stamps (l .own2) now

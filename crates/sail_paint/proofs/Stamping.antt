@@ -9,7 +9,7 @@ use native.Mathlib.Omega.{arith}
 use lib.Dec.{eqb, ltb}
 use lib.ListN.{length, getD, set}
 use borrow.Author.Tests.{lt-ltb, le-ltb, eqb-true, eqb-false}
-use Rattle.bits.proofs.Tests.{decided, below?, equal?}
+use Rattle.bits.proofs.Bools.{decided, below?, equal?}
 use Rattle.bits.proofs.Tabs.{length-tabulate, getD-tabulate, is-tabulate, tabulate-ext, set-tabulate}
 use Rattle.sail.specs.Level.{chunkFor, entry}
 use Rattle.sail_theory.proofs.owners.Chunks.{chunk-at, chunk-before, chunk-is, chunk-none}

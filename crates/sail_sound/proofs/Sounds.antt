@@ -15,8 +15,8 @@ use Rattle.routes.specs.Record.{Listed}
 use Rattle.routes.specs.Route.{Good}
 use Rattle.routes.proofs.Rows.{records-good}
 use Rattle.standing.proofs.Need.{none-longer}
-use Rattle.chain.specs.Cover.{Ready}
-use Rattle.chain.specs.Words.{routesIn}
+use Rattle.chain.specs.Cover.{ChainReady}
+use Rattle.chain.specs.Words.{routesOfWords}
 use Rattle.bits.proofs.Tells.{tells-same, refuted, passed}
 use Rattle.sail.specs.Geometry.{bits2}
 use Rattle.sail.specs.Lent.{Lent, Cells, cells, cellsOf}
@@ -27,10 +27,10 @@ use Rattle.sail.specs.declared.geometry.Geometry.{Geometry}
 use Rattle.sail.specs.declared.table.Table.{Table}
 use Rattle.sail.proofs.Fitting.{celled-of}
 use Rattle.sail_counts.specs.Counted.{Counts}
-use Rattle.sail_counts.specs.Test.{Countable}
+use Rattle.sail_counts.specs.CountsTest.{Countable}
 use Rattle.sail_theory.proofs.places.Places.{chunk-lt, live-owner, chunk-live, chunk-part}
 use Rattle.sail_cells_test.specs.Pool.{chunkOf, PoolOk, FreeAll}
-use Rattle.sail_sound.specs.Test.{root, PassedAll, Beside, PassedTable}
+use Rattle.sail_sound.specs.TableTest.{root, PassedAll, CountsBeside, PassedTable}
 use Rattle.sail_cells_test.proofs.Cells.{Cell, cell-as, right-cell, cells-right, part-at}
 
 -- each live cell of a level is as the routes ask
@@ -207,7 +207,7 @@ module _ (rs : List Route) (g : Geometry) (l : Cells) (s : Celled g l) where
       third-asked q i u = record { leaf = λ e. third .leaf q i u; node = λ e. absurd (true≢false (sym e ∙ none-longer rs _ good)) }
 
   -- what the test of the counts rests on
-  pub countable : (ws par : List ℕ) → Ready ws par → routesIn ws ≡ rs → (long1 long2 : List ℕ) → Beside (l .first) (l .second) long1 long2 → PassedAll rs g l
+  pub countable : (ws par : List ℕ) → ChainReady ws par → routesOfWords ws ≡ rs → (long1 long2 : List ℕ) → CountsBeside (l .first) (l .second) long1 long2 → PassedAll rs g l
       → Countable ws g (l .first) (l .second) (l .own2) (l .own3) long1 long2
   countable ws par ready e long1 long2 z k = record {
     words = ready .words;
@@ -261,7 +261,7 @@ module _ (t : Table) (l : Lent) (s : Sized (t .geometry) l) (h : Listed (l .list
   tells-sound b = tells-same passed-sound sound-passed
 
 -- as many counts as cells
-pub beside-of : (g : Geometry) (l : Lent) → Sized g l → Beside (l .first) (l .second) (l .long1) (l .long2)
+pub beside-of : (g : Geometry) (l : Lent) → Sized g l → CountsBeside (l .first) (l .second) (l .long1) (l .long2)
 beside-of g l s = record { counts1 = s .counts1 ∙ sym (s .cells1); counts2 = s .counts2 }
 
 -- the answers of `table_ok`

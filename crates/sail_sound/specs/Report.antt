@@ -18,11 +18,11 @@ unfoldable pub tableFault : Table → Lent → ℕ
 tableFault t l = cond (eqb (sizesFault (t .geometry) l) 0) (cond (sound? t l) 0 5) (sizesFault (t .geometry) l)
 
 -- the number, and what holds where it is 0
-pub record Judged (r : ℕ) (t : Table) (l : Lent) : Type 0 where
+pub record ReportJudged (r : ℕ) (t : Table) (l : Lent) : Type 0 where
   pub number : r ≡ tableFault t l
   pub facts : r ≡ 0 → Sound t l
 
 -- what the code's answer says: the route count and both needs
-unfoldable pub saysReported : Reported → Said
-saysReported (Standing n second third) = accepted (n ∷ second ∷ third ∷ [])
-saysReported (Refused k) = refused k
+unfoldable pub meansReported : Reported → Said
+meansReported (Standing n second third) = accepted (n ∷ second ∷ third ∷ [])
+meansReported (Refused k) = refused k

@@ -47,21 +47,21 @@ after t l (c ∷ cs) = done (after t l cs .table) (after t l cs .lent) c
 
 -- what stands for the prefix with key k after an accepted call, where `before` stood for it; announcements and withdrawals speak of the
 -- cleared prefix
-abbrev pub says : Call → ℕ → Held → Held
-says (announce r) k before = cond (eqb (key (cutRoute r)) k) (stood (cutRoute r)) before
-says (withdraw a len) k before = cond (eqb (keyOf (cut len a) len) k) absent before
-says (load input) k before = routeAt k (inputRoutes input)
+abbrev pub heldAfter : Call → ℕ → Held → Held
+heldAfter (announce r) k before = cond (eqb (key (cutRoute r)) k) (stood (cutRoute r)) before
+heldAfter (withdraw a len) k before = cond (eqb (keyOf (cut len a) len) k) absent before
+heldAfter (load input) k before = routeAt k (inputRoutes input)
 
 -- "Which routes stand after a run is worked out from its accepted calls alone"
-unfoldable pub worked : Table → Lent → List Call → ℕ → Held
-worked t l [] k = absent
-worked t l (c ∷ cs) k = cond (accepts (after t l (c ∷ cs) .said)) (says c k (worked t l cs k)) (worked t l cs k)
+unfoldable pub heldByCalls : Table → Lent → List Call → ℕ → Held
+heldByCalls t l [] k = absent
+heldByCalls t l (c ∷ cs) k = cond (accepts (after t l (c ∷ cs) .said)) (heldAfter c k (heldByCalls t l cs k)) (heldByCalls t l cs k)
 
 -- the routes that would stand after the call, where rs stand
-abbrev pub would : Call → List Route → List Route
-would (announce r) rs = insert (cutRoute r) rs
-would (withdraw a len) rs = remove (keyOf (cut len a) len) rs
-would (load input) rs = inputRoutes input
+abbrev pub routesAfter : Call → List Route → List Route
+routesAfter (announce r) rs = insert (cutRoute r) rs
+routesAfter (withdraw a len) rs = remove (keyOf (cut len a) len) rs
+routesAfter (load input) rs = inputRoutes input
 
 -- a well-formed change for which a list of this room has room, where rs stand
 abbrev pub Formed : Call → List Route → ℕ → Type 0

@@ -19,7 +19,7 @@ use Rattle.sail.specs.Sound.{Sound, standing}
 use Rattle.sail.specs.declared.table.Table.{Table}
 use Rattle.sail_theory.specs.Render.{roomOf}
 use Rattle.sail_theory.specs.Calls.{inputRoutes}
-use Rattle.sail_theory.specs.Facts.{Farewell, Loadable}
+use Rattle.sail_theory.specs.Facts.{Withdrawable, Loadable}
 
 -- make: 1, 2
 pub data Make (t : Table) (l : Lent) : Said → Type 0 where
@@ -63,7 +63,7 @@ pub data Withdraw (t : Table) (l : Lent) (a len : ℕ) : Said → Type 0 where
   bad-prefix : Sized (t .geometry) l → (Prefix a len → ⊥) → Withdraw t l a len (refused 3)
   unsound : Sized (t .geometry) l → Prefix a len → (Sound t l → ⊥) → Withdraw t l a len (refused 5)
   absent : Prefix a len → Sound t l → stands (keyOf a len) (standing t l) ≡ false → Withdraw t l a len (refused 9)
-  removed : Farewell t l a len → Withdraw t l a len (accepted [])
+  removed : Withdrawable t l a len → Withdraw t l a len (accepted [])
 
 -- load: 1, 2, the input's with its index, 6, 7, 8
 module _ (t : Table) (l : Lent) (input : List ℕ) where

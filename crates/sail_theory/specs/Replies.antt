@@ -9,20 +9,20 @@ use Rattle.routes.specs.Input.{routeFault, inputSaid}
 use Rattle.routes.specs.Said.{Said, accepted, andThen, accepts}
 use Rattle.routes.specs.declared.Route.{Route}
 use Rattle.standing.specs.Standing.{stands}
-use Rattle.sail_theory.specs.Calls.{Terms, announceFault, withdrawFault, loadFault, orSay, inputRoutes, cutRoute, cleared, telling}
-use Rattle.sail_theory.specs.CallRuns.{Call, announce, withdraw, load, would}
+use Rattle.sail_theory.specs.Calls.{Terms, announceFault, withdrawFault, loadFault, orSay, inputRoutes, cutRoute, cleared, withFlag}
+use Rattle.sail_theory.specs.CallRuns.{Call, announce, withdraw, load, routesAfter}
 
 -- what a call says where the routes rs stand, on these terms
 unfoldable pub reply : Terms → List Route → Call → Said
 reply m rs (announce r) =
-    telling (cleared (r .len) (r .addr))
+    withFlag (cleared (r .len) (r .addr))
     (orSay (routeFault (cutRoute r))
     (orSay (announceFault true m rs (cutRoute r))
     (accepted (bit (stands (key (cutRoute r)) rs) ∷ []))))
-reply m rs (withdraw a len) = telling (cleared len a) (orSay (withdrawFault true rs (cut len a) len) (accepted []))
+reply m rs (withdraw a len) = withFlag (cleared len a) (orSay (withdrawFault true rs (cut len a) len) (accepted []))
 reply m rs (load input) = andThen (inputSaid input) (orSay (loadFault m (inputRoutes input)) (accepted []))
 
 -- the routes that stand after a run; the last call stands first
 unfoldable pub stood : Terms → List Call → List Route
 stood m [] = []
-stood m (c ∷ cs) = cond (accepts (reply m (stood m cs) c)) (would c (stood m cs)) (stood m cs)
+stood m (c ∷ cs) = cond (accepts (reply m (stood m cs) c)) (routesAfter c (stood m cs)) (stood m cs)

@@ -1,10 +1,10 @@
 // Withdraw: a route is taken out of a table.
 ghost use mathlib.Core.Path.{_≡_};
 ghost use Rattle.sail.specs.Lent.{lent};
-ghost use Rattle.sail_theory.specs.Calls.{withdrawSaid, out, taking, told};
-ghost use Rattle.sail_theory.specs.Facts.{Farewell};
+ghost use Rattle.sail_theory.specs.Calls.{withdrawSaid, out, taking, outWithFlag};
+ghost use Rattle.sail_theory.specs.Facts.{Withdrawable};
 ghost use Rattle.sail_theory.specs.Judge.{Judged};
-ghost use Rattle.sail_withdraw.specs.Answers.{saysWithdraw};
+ghost use Rattle.sail_withdraw.specs.Answers.{meansWithdraw};
 ghost use Rattle.sail_withdraw.specs.Contract.{MeetsWithdraw};
 
 pub mod answers;
@@ -39,7 +39,7 @@ fn judge_withdraw(
     addr: u32,
     len: u8,
 ) -> u8
-    ensures { λ r. ⌜ Judged r (withdrawSaid t (lent (now (list .entry)) (now (first .entry)) (now (second .entry)) (now (third .entry)) (now (own2 .entry)) (now (own3 .entry)) (now (long1 .entry)) (now (long2 .entry))) addr len) (Farewell t (lent (now (list .entry)) (now (first .entry)) (now (second .entry)) (now (third .entry)) (now (own2 .entry)) (now (own3 .entry)) (now (long1 .entry)) (now (long2 .entry))) addr len) ⌝ }
+    ensures { λ r. ⌜ Judged r (withdrawSaid t (lent (now (list .entry)) (now (first .entry)) (now (second .entry)) (now (third .entry)) (now (own2 .entry)) (now (own3 .entry)) (now (long1 .entry)) (now (long2 .entry))) addr len) (Withdrawable t (lent (now (list .entry)) (now (first .entry)) (now (second .entry)) (now (third .entry)) (now (own2 .entry)) (now (own3 .entry)) (now (long1 .entry)) (now (long2 .entry))) addr len) ⌝ }
 {
     let s = sizes(t, list, first, second, third, own2, own3, long1, long2);
     if s != 0 {
@@ -76,8 +76,8 @@ fn take(
     len: u8,
     cleared: bool,
 ) -> Withdrawn
-    requires { ⌜ Farewell t (lent (now list) (now first) (now second) (now third) (now own2) (now own3) (now long1) (now long2)) addr len ⌝ }
-    ensures { λ r. ⌜ out (saysWithdraw (r .answer)) (r .table) (lent (now (list .exit)) (now (first .exit)) (now (second .exit)) (now (third .exit)) (now (own2 .exit)) (now (own3 .exit)) (now (long1 .exit)) (now (long2 .exit))) ≡ told cleared (taking t (lent (now (list .entry)) (now (first .entry)) (now (second .entry)) (now (third .entry)) (now (own2 .entry)) (now (own3 .entry)) (now (long1 .entry)) (now (long2 .entry))) addr len) ⌝ }
+    requires { ⌜ Withdrawable t (lent (now list) (now first) (now second) (now third) (now own2) (now own3) (now long1) (now long2)) addr len ⌝ }
+    ensures { λ r. ⌜ out (meansWithdraw (r .answer)) (r .table) (lent (now (list .exit)) (now (first .exit)) (now (second .exit)) (now (third .exit)) (now (own2 .exit)) (now (own3 .exit)) (now (long1 .exit)) (now (long2 .exit))) ≡ outWithFlag cleared (taking t (lent (now (list .entry)) (now (first .entry)) (now (second .entry)) (now (third .entry)) (now (own2 .entry)) (now (own3 .entry)) (now (long1 .entry)) (now (long2 .entry))) addr len) ⌝ }
 {
     let g = t.geometry;
     let p1 = g.p1;

@@ -9,7 +9,7 @@ use lib.Dec.{eqb, ltb}
 use lib.ListN.{length}
 use borrow.Author.Tests.{eqb-true, ne-eqb}
 use Rattle.bits.specs.Slot.{slot}
-use Rattle.bits.proofs.Tests.{decided, or-none}
+use Rattle.bits.proofs.Bools.{decided, or-none}
 use Rattle.routes.specs.Route.{key, keyOf, Good}
 use Rattle.standing.specs.Cells.{any, long}
 use Rattle.standing.specs.Standing.{isAt, stands, insert, remove}

@@ -11,7 +11,7 @@ use borrow.Author.Tests.{ltb-true, eqb-true}
 use Rattle.standing.specs.Cells.{here, within, any, first, orElse, long, best}
 use Rattle.routes.specs.declared.Route.{Route}
 use Rattle.bits.specs.Slot.{slot}
-use Rattle.bits.proofs.Tests.{and-split, untrue}
+use Rattle.bits.proofs.Bools.{and-split, untrue}
 use Rattle.bits.proofs.Slots.{half-pow}
 
 -- no test that fails at the routes of this prefix tells the two lists apart

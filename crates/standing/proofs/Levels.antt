@@ -12,7 +12,7 @@ use Rattle.standing.specs.Cells.{here, within, any, first, orElse, long,
 use Rattle.routes.specs.declared.Route.{Route}
 use Rattle.bits.specs.Slot.{slot}
 use Rattle.bits.proofs.Slots.{slot-up, half-pow}
-use Rattle.bits.proofs.Tests.{both, and-split, or-split, or-none, fails}
+use Rattle.bits.proofs.Bools.{both, and-split, or-split, or-none, fails}
 
 -- a test that passes at some route, and one that is weaker
 pub any-mono : (f g : Route → Bool) (rs : List Route) → ((r : Route) → f r ≡ true → g r ≡ true) → any f rs ≡ true → any g rs ≡ true

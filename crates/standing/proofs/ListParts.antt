@@ -8,7 +8,7 @@ use mathlib.Core.List.{Memᴰ·append-left, Memᴰ·append-right}
 use Prim.Native.Nat.{ℕ, _<_}
 use native.Mathlib.Omega.{arith}
 use borrow.Author.Tests.{ne-eqb}
-use Rattle.bits.proofs.Tests.{or-split}
+use Rattle.bits.proofs.Bools.{or-split}
 use Rattle.routes.specs.Route.{key, Fine, Good}
 use Rattle.standing.specs.Cells.{any}
 use Rattle.standing.specs.Standing.{stands, insert}

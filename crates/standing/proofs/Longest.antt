@@ -11,7 +11,7 @@ use borrow.Author.Tests.{leb-true, le-leb, eqb-true, eq-eqb}
 use Rattle.standing.specs.Cells.{here, covers, first, orElse, best, Best}
 use Rattle.routes.specs.declared.Route.{Route}
 use Rattle.bits.specs.Slot.{slot}
-use Rattle.bits.proofs.Tests.{and-split, both, untrue, decided}
+use Rattle.bits.proofs.Bools.{and-split, both, untrue, decided}
 use Rattle.bits.proofs.Slots.{half-pow}
 
 -- what `first` finds

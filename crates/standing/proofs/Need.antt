@@ -13,7 +13,7 @@ use Rattle.routes.specs.declared.Route.{Route}
 use Rattle.bits.specs.Slot.{slot}
 use Rattle.bits.specs.Count.{bit, count}
 use Rattle.bits.proofs.Slots.{slot-lt}
-use Rattle.bits.proofs.Tests.{decided, and-split, or-split, same}
+use Rattle.bits.proofs.Bools.{decided, and-split, or-split, same}
 use Rattle.bits.proofs.Counts.{count-ext, without, count-without}
 
 none-long : (p n : ℕ) → 0 ≡ count (long [] p) n

@@ -8,7 +8,7 @@ use native.Mathlib.Omega.{arith}
 use lib.Dec.{eqb, ltb}
 use borrow.Author.Tests.{eqb-true, eq-eqb}
 use Rattle.bits.specs.Slot.{slot}
-use Rattle.bits.proofs.Tests.{decided, both, and-split, or-split, untrue, equal?}
+use Rattle.bits.proofs.Bools.{decided, both, and-split, or-split, untrue, equal?}
 use Rattle.bits.proofs.Slots.{slot-lt}
 use Rattle.bits.proofs.Counts.{count-ext, without, without-same, without-other, count-without, count-into}
 use Rattle.routes.specs.Route.{key, Fine, Good}

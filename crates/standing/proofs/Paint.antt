@@ -10,7 +10,7 @@ use Rattle.routes.specs.Route.{key, Fine, Good}
 use Rattle.standing.specs.Cells.{covers, best, Best, lastHop}
 use Rattle.routes.specs.declared.Route.{Route}
 use Rattle.bits.specs.Slot.{slot, cut}
-use Rattle.bits.proofs.Tests.{decided}
+use Rattle.bits.proofs.Bools.{decided}
 use Rattle.bits.proofs.Slots.{slot-up, cut-le, cut-is}
 use Rattle.routes.proofs.Goods.{good-fine}
 use Rattle.standing.proofs.Longest.{cover-parts, best-is}

@@ -12,7 +12,7 @@ use borrow.Author.Tests.{ltb-true, ltb-false, eqb-true, eqb-false, lt-ltb, le-lt
 use Rattle.routes.specs.Route.{key, keyOf, Fine, Good}
 use Rattle.standing.specs.Cells.{any, first, long, within}
 use Rattle.routes.specs.declared.Route.{Route}
-use Rattle.bits.proofs.Tests.{decided, or-split}
+use Rattle.bits.proofs.Bools.{decided, or-split}
 use Rattle.standing.proofs.Frame.{SameBut}
 use Rattle.standing.specs.Standing.{isAt, stands, insert, remove, Held, absent, stood, routeAt}
 use Rattle.routes.proofs.Goods.{key-parts}

@@ -8,7 +8,7 @@ use native.Mathlib.Omega.{arith}
 use lib.Pow.{pow-add}
 use Rattle.bits.specs.Slot.{slot}
 use Rattle.bits.proofs.Slots.{slot-up}
-use Rattle.bits.proofs.Tests.{fails}
+use Rattle.bits.proofs.Bools.{fails}
 use Rattle.standing.specs.Cells.{long}
 use Rattle.routes.specs.declared.Route.{Route}
 use Rattle.standing.proofs.Levels.{long-up}

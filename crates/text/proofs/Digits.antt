@@ -10,7 +10,7 @@ use lib.Dec.{ltb}
 use lib.ListN.{length, getD, take, length-append, List·getD-append}
 use lib.Seq.{take-all, take-suc, length-take-le, getD-take, getD-append-seam}
 use borrow.Author.Tests.{lt-ltb, le-ltb}
-use Rattle.bits.proofs.Tests.{below?}
+use Rattle.bits.proofs.Bools.{below?}
 use Rattle.text.specs.Digits.{valueAfter, Decimal, digitsIn, digitsOf}
 
 -- how digits go: one below 10, else those of n / 10 and one more

@@ -16,7 +16,7 @@ use Rattle.routes.specs.Record.{recordAt, routesOf, Ranged}
 use Rattle.routes.proofs.Rows.{length-routes}
 use Rattle.text.specs.Digits.{digitsOf}
 use Rattle.text.specs.Text.{ascii, labelled, dotted, markText, routeLine, routeLines, headLine, tableText}
-use Rattle.text.specs.Wrote.{Room, Wrote}
+use Rattle.text.specs.Wrote.{TextRoom, Wrote}
 use Rattle.text.proofs.Digits.{digits-few}
 use Rattle.text.proofs.Writes.{wrote-none, wrote-more}
 
@@ -58,7 +58,7 @@ head-few n s t hn hs ht = rw length-head (omega (arith, digits-few 19 n (omega a
 
 -- a mark's text, by the test of the mark
 module _ {o : List ℕ} {at m : ℕ} where
-  pub attached-room : m ≡ 1 → Room o at (markText m) → Room o at (ascii " attached")
+  pub attached-room : m ≡ 1 → TextRoom o at (markText m) → TextRoom o at (ascii " attached")
   unfolding markText
   attached-room e r = rw (eq-eqb m 1 e) at r
 
@@ -66,7 +66,7 @@ module _ {o : List ℕ} {at m : ℕ} where
   unfolding markText
   attached-wrote e w = rw (eq-eqb m 1 e) w
 
-  pub behind-wrote : (m ≡ 1 → ⊥) → Room o at (markText m) → Wrote o at (markText m) at o
+  pub behind-wrote : (m ≡ 1 → ⊥) → TextRoom o at (markText m) → Wrote o at (markText m) at o
   unfolding markText
   behind-wrote h r = rw (ne-eqb m 1 h) (wrote-none (omega (arith, r .room)))
 

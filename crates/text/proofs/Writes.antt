@@ -8,8 +8,8 @@ use native.Mathlib.Numerals.{add-one}
 use native.Mathlib.Omega.{arith}
 use lib.ListN.{length, getD, take, drop, set, length-set, length-append, length-drop, length-take, drop-of-length-le}
 use lib.Seq.{length-take-le, take-all, take-suc, take-at, drop-at, drop-drop, sets-eq}
-use Rattle.bits.proofs.Tests.{below?}
-use Rattle.text.specs.Wrote.{spelled, Room, Wrote}
+use Rattle.bits.proofs.Bools.{below?}
+use Rattle.text.specs.Wrote.{spelled, TextRoom, Wrote}
 
 -- a text with room for it leaves the buffer's length as it was
 length-spelled : (o : List ℕ) (at : ℕ) (t : List ℕ) → at + length t ≤ length o → length (spelled o at t) ≡ length o
@@ -54,7 +54,7 @@ module _ {o : List ℕ} {at : ℕ} where
   unfolding spelled
   wrote-none h = record { ends = omega arith; inside = h; holds = sets-eq [] o at (omega arith) }
 
-  pub wrote-one : {b : ℕ} → Room o at (b ∷ []) → Wrote o at (b ∷ []) (at + 1) (set o at b)
+  pub wrote-one : {b : ℕ} → TextRoom o at (b ∷ []) → Wrote o at (b ∷ []) (at + 1) (set o at b)
   unfolding spelled
   wrote-one {b} r = record { ends = refl; inside = rw length-set (r .room); holds = sets-eq (b ∷ []) o at (r .room) }
 
@@ -62,10 +62,10 @@ module _ {o : List ℕ} {at : ℕ} where
   wrote-more {s} {t} u v = record { ends = rw length-append (omega (arith, u .ends, v .ends)); inside = v .inside; holds = cc (spelled-more o at s t) }
 
   -- room for two texts is room for each
-  pub room-first : (s t : List ℕ) → Room o at (s ++ t) → Room o at s
+  pub room-first : (s t : List ℕ) → TextRoom o at (s ++ t) → TextRoom o at s
   room-first s t r = record { room = omega (arith, simp length-append at (r .room)) }
 
-  pub room-then : (s t : List ℕ) {m : ℕ} {o₁ : List ℕ} → Room o at (s ++ t) → Wrote o at s m o₁ → Room o₁ m t
+  pub room-then : (s t : List ℕ) {m : ℕ} {o₁ : List ℕ} → TextRoom o at (s ++ t) → Wrote o at s m o₁ → TextRoom o₁ m t
   room-then s t r w =
       let l = rw length-append at (r .room) in
       let k = ap length (w .holds) ∙ length-spelled o at s (omega arith) in

@@ -13,18 +13,18 @@ use borrow.Author.Tests.{lt-ltb, le-ltb, ltb-true, ltb-false}
 use Rattle.bits.specs.Bit.{bitAt}
 use Rattle.bits.specs.Count.{bit, count}
 use Rattle.tree.specs.Node.{bitsOf, childOf, baseOf, childAt}
-use Rattle.tree.specs.Parts.{before, padded}
+use Rattle.tree.specs.Parts.{before, zeroPadded}
 use Rattle.tree.specs.Image.{Node, node, bitHop, child, inner, word, kids, hopsOf, nodes, words, hops}
 use Rattle.tree.proofs.Counts.{count-less}
 use Rattle.bits.proofs.Packed.{rank-count, upper-count}
 use Rattle.tree.proofs.Parts.{picked-length, picked-at, gather-at}
 use Rattle.tree.proofs.Nodes.{nodes-fix, words-length, words-at, inner-bit, clear-bit, child-bit}
-use Rattle.tree.proofs.Longest.{NodeOf, NoneBelow, Holds}
+use Rattle.tree.proofs.Longest.{NodeOf, NoneBelow, SubtreeHolds}
 
-pub pad-length : (n : ℕ) (xs : List ℕ) → length xs ≤ n → length (padded n xs) ≡ n
+pub pad-length : (n : ℕ) (xs : List ℕ) → length xs ≤ n → length (zeroPadded n xs) ≡ n
 pad-length n xs h = simp (length-append, length-replicate) (omega arith)
 
-pub pad-at : (n : ℕ) (xs : List ℕ) (i : ℕ) → i < length xs → getD (padded n xs) i 0 ≡ getD xs i 0
+pub pad-at : (n : ℕ) (xs : List ℕ) (i : ℕ) → i < length xs → getD (zeroPadded n xs) i 0 ≡ getD xs i 0
 pad-at n xs i h = List·getD-append xs (replicate (n - length xs) 0) 0 i h
 
 pub zeros : (k j : ℕ) → _≡_ {A = ℕ} (getD (replicate k 0) j 0) 0
@@ -32,10 +32,10 @@ zeros zero j = refl
 zeros (suc k) zero = refl
 zeros (suc k) (suc j) = zeros k j
 
-pub pad-past : (n : ℕ) (xs : List ℕ) (j : ℕ) → length xs ≤ j → getD (padded n xs) j 0 ≡ 0
+pub pad-past : (n : ℕ) (xs : List ℕ) (j : ℕ) → length xs ≤ j → getD (zeroPadded n xs) j 0 ≡ 0
 pad-past n xs j l =
     let e : j ≡ length xs + (j - length xs) = omega arith in
-    ap (λ (k : ℕ). getD (padded n xs) k 0) e ∙ getD-append-add xs (replicate (n - length xs) 0) (j - length xs) 0 ∙ zeros (n - length xs) (j - length xs)
+    ap (λ (k : ℕ). getD (zeroPadded n xs) k 0) e ∙ getD-append-add xs (replicate (n - length xs) 0) (j - length xs) 0 ∙ zeros (n - length xs) (j - length xs)
 
 bit-on : (b : Bool) → bit b ≡ 1 → b ≡ true
 bit-on true e = refl
@@ -97,10 +97,10 @@ hop-place st hop i n b l e t o =
 
 module _ (st : ℕ → ℕ → Bool) (hop : ℕ → ℕ → ℕ) (ok : Agree st hop) (w h : ℕ) (room : 3 * length (nodes st) ≤ w) (space : length (hops st hop) ≤ h) where
   abbrev ws : List ℕ
-  ws = padded w (words st hop)
+  ws = zeroPadded w (words st hop)
 
   abbrev hs : List ℕ
-  hs = padded h (hops st hop)
+  hs = zeroPadded h (hops st hop)
 
   abbrev ns : List Node
   ns = nodes st
@@ -162,8 +162,8 @@ module _ (st : ℕ → ℕ → Bool) (hop : ℕ → ℕ → ℕ) (ok : Agree st 
       go zero f = refl
       go (suc x) f = absurd (true≢false (sym (f (omega arith)) ∙ rw e z))
 
-  pub image-holds : (d m i p : ℕ) → i < length ns → getD ns i (node 0 0) ≡ node m p → Holds st hop ws hs d m i p
-  unfolding Holds
+  pub image-holds : (d m i p : ℕ) → i < length ns → getD ns i (node 0 0) ≡ node m p → SubtreeHolds st hop ws hs d m i p
+  unfolding SubtreeHolds
   image-holds zero m i p l e = node-of 1 m i p (omega arith) l e
   image-holds (suc d) m i p l e =
       let n = node m p in

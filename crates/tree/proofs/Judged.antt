@@ -8,13 +8,13 @@ use Prim.Native.Nat.{ℕ, zero, suc, _+_, _-_, _/_, _≤_, _<_}
 use native.Mathlib.Omega.{arith}
 use lib.ListN.{length, getD}
 use borrow.Author.Tests.{lt-ltb, le-ltb, ne-eqb}
-use Rattle.bits.proofs.Tests.{decided, below?, untrue}
+use Rattle.bits.proofs.Bools.{decided, below?, untrue}
 use Rattle.routes.specs.Input.{hopFine}
 use Rattle.routes.specs.Said.{Said, refused}
 use Rattle.routes.proofs.Meaning.{hop-true, true-hop}
 use Rattle.tree.specs.Node.{bitsOf, childOf, isSet, sound, nibbleOf, childAt}
 use Rattle.tree.specs.Cases.{Fetched, RightNode, Walked, TreeLookup}
-use Rattle.tree.specs.Walk.{told, fetchedFrom, lastMatch, innerMatch, walkFrom, saysTreeFound, treeSaid}
+use Rattle.tree.specs.Walk.{treeHopSaid, fetchedFrom, lastMatch, innerMatch, walkFrom, meansTreeFound, treeSaid}
 use Rattle.tree.specs.declared.TreeFound.{TreeFound}
 use Rattle.tree.specs.declared.TreeFound.the-variants as treeFound
 use Rattle.tree.specs.declared.Place.{Place}
@@ -23,7 +23,7 @@ use Rattle.tree.specs.declared.Place.the-variants.{Nowhere, At}
 -- the one hop that is read after n nodes, at the place of the deepest match; where it is answered, the count is one more
 module _ (hs : List ℕ) (n : ℕ) where
   fetched-only : {p : Place} {s : Said} → Fetched hs n p s → fetchedFrom hs n p ≡ s
-  unfolding fetchedFrom told
+  unfolding fetchedFrom treeHopSaid
   fetched-only Fetched.no-match = refl
   fetched-only (Fetched.beyond h l) = rw (le-ltb h (length hs) l)
   fetched-only (Fetched.bad-hop h l b) =
@@ -113,8 +113,8 @@ module _ (ws hs : List ℕ) (a : ℕ) where
   tree-only s w = walked-only w
 
 -- what is refused is 13, and the code's answer is then `Broken`
-pub refused-broken : (r : TreeFound) (n : ℕ) → saysTreeFound r ≡ refused n → (n ≡ 13) × (r ≡ treeFound.Broken)
-unfolding saysTreeFound
+pub refused-broken : (r : TreeFound) (n : ℕ) → meansTreeFound r ≡ refused n → (n ≡ 13) × (r ≡ treeFound.Broken)
+unfolding meansTreeFound
 refused-broken (treeFound.Hop h k) n e = absurd (let z : _≡_ {A = ℕ} 0 1 = cc in omega arith)
 refused-broken (treeFound.NoRoute k) n e = absurd (let z : _≡_ {A = ℕ} 0 1 = cc in omega arith)
 refused-broken treeFound.Broken n e = (cc, refl)

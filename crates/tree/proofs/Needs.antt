@@ -10,7 +10,7 @@ use lib.Dec.{ltb, leb}
 use lib.ListN.{length, getD, length-append}
 use borrow.Author.Tests.{lt-ltb, leb-true, leb-false}
 use Rattle.bits.specs.Count.{bit, count}
-use Rattle.bits.proofs.Tests.{decided, untrue}
+use Rattle.bits.proofs.Bools.{decided, untrue}
 use Rattle.routes.specs.Route.{Good}
 use Rattle.standing.specs.Cells.{here, any, first, orElse}
 use Rattle.routes.specs.declared.Route.{Route}

@@ -13,7 +13,7 @@ use lib.Dec.{ltb}
 use lib.ListN.{length, getD, take, length-append, List·getD-append}
 use lib.Seq.{getD-append-add, getD-at, take-length}
 use borrow.Author.Tests.{ltb-true, ltb-false}
-use Rattle.bits.proofs.Tests.{decided}
+use Rattle.bits.proofs.Bools.{decided}
 use Rattle.bits.specs.Count.{bit, count}
 use Rattle.tree.specs.Parts.{picked, gather, before}
 use Rattle.tree.proofs.Counts.{count-less}

@@ -16,7 +16,7 @@ use Rattle.bits.specs.Count.{count}
 use Rattle.bits.specs.Search.{firstOf}
 use Rattle.bits.proofs.Counts.{count-matched}
 use Rattle.bits.proofs.Searches.{firstOf-is, firstOf-at, firstOf-before}
-use Rattle.bits.proofs.Tests.{below?}
+use Rattle.bits.proofs.Bools.{below?}
 use Rattle.routes.specs.Route.{Good}
 use Rattle.routes.specs.declared.Route.{Route}
 use Rattle.tree.specs.Node.{bitsOf, childOf, baseOf, childAt}

@@ -14,7 +14,7 @@ use borrow.Author.Tests.{leb-true, le-leb, lt-leb, eqb-true, eq-eqb}
 use Rattle.bits.specs.Slot.{slot}
 use Rattle.bits.specs.Count.{count}
 use Rattle.bits.proofs.Slots.{slot-up}
-use Rattle.bits.proofs.Tests.{decided, both, and-split, fails}
+use Rattle.bits.proofs.Bools.{decided, both, and-split, fails}
 use Rattle.routes.specs.Route.{Good}
 use Rattle.standing.specs.Cells.{here, any, first, orElse, best}
 use Rattle.routes.specs.declared.Route.{Route}
@@ -24,7 +24,7 @@ use Rattle.standing.specs.Served.{Served, hopSaid}
 use Rattle.standing.proofs.Served.{best-served}
 use Rattle.standing.proofs.Levels.{any-mono}
 use Rattle.tree.specs.Reads.{counted, treeReads}
-use Rattle.tree.specs.Walk.{told, treeSaid}
+use Rattle.tree.specs.Walk.{treeHopSaid, treeSaid}
 use Rattle.tree.specs.Image.{Node, node, nodes, words, hops, imageBy, imageOf, through, nodeStands, hopFor, nodeNeed, onPath}
 use Rattle.tree.proofs.Counts.{count-all, count-cut}
 use Rattle.tree.proofs.Nodes.{up-next, words-length}
@@ -143,20 +143,20 @@ path-count rs a = reads-count (λ m. nodeStands rs (m + 1) (slot (4 * (m + 1)) a
 -- every address, on the image of a good list in arrays with room for it: the hop of the longest route that covers the address, or no
 -- route where that is 0, told after the nodes that stand on its path
 pub image-serves : (rs : List Route) (w h a : ℕ) → Good rs → a < 2 ^ 32 → 3 * nodeNeed rs ≤ w → length rs ≤ h
-    → treeSaid (imageOf rs w h .words) (imageOf rs w h .hops) a ≡ told (best rs 32 a) (onPath rs a)
+    → treeSaid (imageOf rs w h .words) (imageOf rs w h .hops) a ≡ treeHopSaid (best rs 32 a) (onPath rs a)
 unfolding imageBy
 image-serves rs w h a g l room space =
     let up = up-next (nodeStands rs) 8 in
     walk-longest (nodeStands rs) (hopFor rs) _ _ a l
     (image-holds (nodeStands rs) (hopFor rs) (agree rs g) w h room (omega (arith, hops-need rs g)) 8 0 0 0 (omega (arith, ap length up)) (ap (λ (x : List Node). getD x 0 (node 0 0)) up))
-    ∙ ap₂ told (sym (best-longest rs 32 a g (omega arith)) ∙ ap (best rs 32) (div-one a)) (path-count rs a)
+    ∙ ap₂ treeHopSaid (sym (best-longest rs 32 a g (omega arith)) ∙ ap (best rs 32) (div-one a)) (path-count rs a)
 
 -- what is told so is served, with the count by the routes
-pub told-said : (h n : ℕ) → told h n ≡ hopSaid (counted h n) h
-unfolding told hopSaid
+pub told-said : (h n : ℕ) → treeHopSaid h n ≡ hopSaid (counted h n) h
+unfolding treeHopSaid hopSaid
 told-said h n = refl
 
-pub told-served : (rs : List Route) → Good rs → (a : ℕ) {s : Said} → s ≡ told (best rs 32 a) (onPath rs a) → Served rs a (treeReads rs a) s
+pub told-served : (rs : List Route) → Good rs → (a : ℕ) {s : Said} → s ≡ treeHopSaid (best rs 32 a) (onPath rs a) → Served rs a (treeReads rs a) s
 told-served rs g a e = rw (e ∙ told-said (best rs 32 a) (onPath rs a)) (best-served rs g a (treeReads rs a))
 
 -- every word after the last node, and every hop after the last used, is zero

@@ -21,5 +21,5 @@ before F (x ∷ xs) zero = 0
 before F (x ∷ xs) (suc i) = length (F x) + before F xs i
 
 -- the list and zeros after it, n in all
-abbrev pub padded : ℕ → List ℕ → List ℕ
-padded n xs = xs ++ replicate (n - length xs) 0
+abbrev pub zeroPadded : ℕ → List ℕ → List ℕ
+zeroPadded n xs = xs ++ replicate (n - length xs) 0

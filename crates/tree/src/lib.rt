@@ -3,7 +3,7 @@ ghost use mathlib.Core.Path.{_≡_};
 ghost use Prim.Native.Nat.{_≤_, _<_};
 ghost use lib.Count.{ones};
 ghost use Rattle.tree.specs.Node.{nibbleOf, tryBit, deepestOf, betterOf, childAt};
-ghost use Rattle.tree.specs.Walk.{saysTreeFound, fetchedFrom};
+ghost use Rattle.tree.specs.Walk.{meansTreeFound, fetchedFrom};
 ghost use Rattle.tree.specs.Contract.{MeetsTreeLookup};
 use bits::widen::word_to_index;
 
@@ -81,7 +81,7 @@ fn child(word: u32, base: u32, v: u32) -> usize
 // The one hop that is read, after all nodes. Where it is answered, its fetch counts one more.
 fn fetch(hops: &[u16], best: Place, read: u32) -> TreeFound
     requires { ⌜ read ≤ 9 ⌝ }
-    ensures { λ r. ⌜ saysTreeFound r ≡ fetchedFrom (now (hops .entry)) read best ⌝ }
+    ensures { λ r. ⌜ meansTreeFound r ≡ fetchedFrom (now (hops .entry)) read best ⌝ }
 {
     let with_fetch = read + 1;
     match best {

@@ -10,7 +10,7 @@ use lib.Count.{ones}
 use lib.ListN.{length, getD, set, length-set}
 use lib.Seq.{getD-set-same, getD-set-other}
 use Rattle.bits.specs.Count.{count}
-use Rattle.bits.proofs.Tests.{below?}
+use Rattle.bits.proofs.Bools.{below?}
 use Rattle.routes.specs.Record.{recordAt}
 use Rattle.routes.specs.declared.Route.{Route}
 use Rattle.tree.specs.Image.{bitHop, word}
@@ -19,9 +19,9 @@ use Rattle.bits.proofs.Packed.{rank-count, upper-count}
 use Rattle.tree.proofs.Nodes.{inner-bit, child-bit}
 use Rattle.standing.proofs.Prefixes.{one-key}
 use Rattle.tree.proofs.Lies.{atBit, bitOf, bit-at}
-use Rattle.tree_build.specs.Run.{standsIn, hopIn, pathAt, nodeAt, placeOf, innerIn, childIn, wordIn}
+use Rattle.tree_build.specs.NodeRuns.{standsIn, hopIn, pathAt, nodeAt, nodeBit, innerIn, childIn, wordIn}
 use Rattle.tree_build.specs.Queue.{HopsReady, HopsPut}
-use Rattle.tree_build.proofs.Runs.{short}
+use Rattle.tree_build.proofs.NodeRuns.{short}
 use Rattle.tree_build.proofs.Words.{its-place, own-bit, bit-own}
 
 -- the ones of a node's word below a bit
@@ -60,7 +60,7 @@ hops-skip s m a base k old new r w h is ew l = record {
 }
 
 module _ (s : List ℕ) (m a e base k word : ℕ) (old new : List ℕ) (ready : HopsReady s m a e word base old) (h : HopsTo s m a base k old new) (l : a ≤ k) (u : k < e)
-    (r : Route) (is : r ≡ recordAt s k) (w : ℕ) (ew : w ≡ r .len) (ends : w < 4 * (m + 1)) (b : ℕ) (eb : b ≡ placeOf m (r .addr) w) (o : ℕ) (eo : o ≡ ones (word % 2 ^ b)) (j : ℕ) (ej : j ≡ o) where
+    (r : Route) (is : r ≡ recordAt s k) (w : ℕ) (ew : w ≡ r .len) (ends : w < 4 * (m + 1)) (b : ℕ) (eb : b ≡ nodeBit m (r .addr) w) (o : ℕ) (eo : o ≡ ones (word % 2 ^ b)) (j : ℕ) (ej : j ≡ o) where
   ends-here : recordAt s k .len < 4 * (m + 1)
   ends-here = omega (arith, ap (λ (y : Route). y .len) is)
 

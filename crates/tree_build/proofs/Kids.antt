@@ -10,16 +10,16 @@ use lib.Count.{ones}
 use lib.ListN.{length, getD}
 use Rattle.bits.specs.Count.{count}
 use Rattle.bits.specs.Slot.{slot}
-use Rattle.bits.proofs.Tests.{below?, untrue}
+use Rattle.bits.proofs.Bools.{below?, untrue}
 use Rattle.routes.specs.Record.{recordAt}
 use Rattle.routes.specs.declared.Route.{Route}
 use Rattle.tree.specs.Image.{Node, node}
 use Rattle.tree.proofs.Counts.{count-less}
 use Rattle.tree.proofs.Lies.{pass-parts, pass-make, kidOf}
-use Rattle.tree_build.specs.Run.{pathAt, nodeAt, throughAt, Run, NodeRun, RunEnd, childIn, wordIn}
+use Rattle.tree_build.specs.NodeRuns.{pathAt, nodeAt, throughAt, ThroughRun, NodeRun, RunEnd, childIn, wordIn}
 use Rattle.tree_build.specs.Queue.{put3, Waits, KidsReady, KidsPut}
 use Rattle.tree_build.proofs.Stores.{put3-length, put3-other, put3-at}
-use Rattle.tree_build.proofs.Runs.{short, child-run}
+use Rattle.tree_build.proofs.NodeRuns.{short, child-run}
 use Rattle.tree_build.proofs.Words.{own-kid, kid-own}
 use Rattle.tree_build.proofs.Hops.{child-ones, apart}
 
@@ -98,7 +98,7 @@ module _ (s : List ℕ) (m a e t k word : ℕ) (old new : List ℕ) (ready : Kid
   kid-room = omega (arith, place-is, less, ready .room, h .same)
 
   module _ (z : ℕ) (end : RunEnd s (m + 1) k e z) (from upto : ℕ) (ef : from ≡ k) (eu : upto ≡ z) (new′ : List ℕ) (en : new′ ≡ put3 new (t + j) (m + 1) from upto) where
-    run : Run s (m + 1) (pathAt s (m + 1) k) k z
+    run : ThroughRun s (m + 1) (pathAt s (m + 1) k) k z
     run =
         child-run s (ready .node .records) m (pathAt s m a) a e k z (ready .node .run) l u goes-on
         (λ y v g. untrue _ (λ o. h .clean y k v g (omega arith) u goes-on o)) end

@@ -13,7 +13,7 @@ use Rattle.bits.specs.Count.{count}
 use Rattle.bits.specs.Search.{firstOf}
 use Rattle.bits.proofs.Counts.{count-matched}
 use Rattle.bits.proofs.Searches.{firstOf-is, firstOf-before}
-use Rattle.bits.proofs.Tests.{both, and-split, equal?, untrue}
+use Rattle.bits.proofs.Bools.{both, and-split, equal?, untrue}
 use Rattle.routes.specs.Record.{recordAt, Records, routesIn}
 use Rattle.tree.specs.Image.{Node, node, level, upTo}
 use Rattle.tree.specs.Levels.{LevelOf}
@@ -21,9 +21,9 @@ use Rattle.tree.proofs.Counts.{count-all}
 use Rattle.tree.proofs.Levels.{level-is}
 use Rattle.tree.proofs.Lies.{pass-parts, pass-make}
 use Rattle.tree.proofs.Ranks.{first-found}
-use Rattle.tree_build.specs.Run.{standsIn, pathAt, throughAt}
+use Rattle.tree_build.specs.NodeRuns.{standsIn, pathAt, throughAt}
 use Rattle.tree_build.specs.Count.{freshAt, nodesTo}
-use Rattle.tree_build.proofs.Runs.{good-list, stands-at, stands-by, convex}
+use Rattle.tree_build.proofs.NodeRuns.{good-list, stands-at, stands-by, convex}
 
 module _ (s : List ℕ) (good : Records s (length s / 8)) (d : ℕ) where
   abbrev m : ℕ

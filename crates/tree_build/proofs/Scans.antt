@@ -14,7 +14,7 @@ use Rattle.bits.specs.Count.{bit, count}
 use Rattle.routes.specs.Record.{recordAt}
 use Rattle.routes.specs.declared.Route.{Route}
 use Rattle.tree.specs.Image.{through}
-use Rattle.tree_build.specs.Run.{pathAt, throughAt, RunEnd}
+use Rattle.tree_build.specs.NodeRuns.{pathAt, throughAt, RunEnd}
 use Rattle.tree_build.specs.Count.{freshAt, nodesTo}
 
 -- whether a route passes through a node, from its length and its first bits

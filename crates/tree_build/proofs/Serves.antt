@@ -6,7 +6,7 @@ use Prim.Native.Nat.{ℕ, _*_, _/_, _^_, _≤_, _<_}
 use native.Mathlib.Omega.{arith}
 use lib.ListN.{length}
 use borrow.Author.Tests.{lt-ltb, le-ltb}
-use Rattle.bits.proofs.Tests.{below?}
+use Rattle.bits.proofs.Bools.{below?}
 use Rattle.routes.specs.Route.{Good}
 use Rattle.standing.specs.Cells.{best}
 use Rattle.routes.specs.Record.{Records, routesIn}
@@ -16,11 +16,11 @@ use Rattle.routes.specs.declared.Route.{Route}
 use Rattle.routes.specs.Cases.{Checked, ragged, stopped, many, good}
 use Rattle.routes.proofs.Meaning.{input-checked}
 use Rattle.tree.specs.Image.{nodeNeed, onPath}
-use Rattle.tree.specs.Walk.{told, treeSaid}
+use Rattle.tree.specs.Walk.{treeHopSaid, treeSaid}
 use Rattle.tree.proofs.Serves.{image-serves}
 use Rattle.tree_build.specs.Built.{madeOf, afterInput, built}
 use Rattle.tree_build.specs.Cases.{AcceptedBuild}
-use Rattle.tree_build.proofs.Runs.{good-list}
+use Rattle.tree_build.proofs.NodeRuns.{good-list}
 
 made-accepts : (rs : List Route) (ws hs vs : List ℕ) → Good rs → madeOf rs ws hs .said ≡ accepted vs → AcceptedBuild rs ws hs vs (madeOf rs ws hs)
 unfolding madeOf
@@ -54,7 +54,7 @@ built-accepts s ws hs vs e = go (input-checked s) e
 
 -- every address, after an accepted build: the hop of the longest route that covers it, or no route, told after the nodes on its path
 pub built-serves : (s ws hs vs : List ℕ) (a : ℕ) → built s ws hs .said ≡ accepted vs → a < 2 ^ 32
-    → treeSaid (built s ws hs .words) (built s ws hs .hops) a ≡ told (best (routesIn s) 32 a) (onPath (routesIn s) a)
+    → treeSaid (built s ws hs .words) (built s ws hs .hops) a ≡ treeHopSaid (best (routesIn s) 32 a) (onPath (routesIn s) a)
 built-serves s ws hs vs a e l =
     let k = built-accepts s ws hs vs e in
     rw (k .words, k .hops) (image-serves (routesIn s) (length ws) (length hs) a (k .good-routes) l (k .nodes-room) (k .hops-room))

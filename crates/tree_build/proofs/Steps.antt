@@ -9,7 +9,7 @@ use native.Mathlib.Omega.{arith}
 use lib.Count.{ones}
 use lib.ListN.{length, getD}
 use Rattle.bits.specs.Count.{count}
-use Rattle.bits.proofs.Tests.{below?}
+use Rattle.bits.proofs.Bools.{below?}
 use Rattle.routes.specs.Record.{Records, routesIn}
 use Rattle.tree.specs.Parts.{before, gather}
 use Rattle.tree.specs.Image.{Node, node, bitHop, inner, child, kids, hopsOf, hops}
@@ -20,10 +20,10 @@ use Rattle.tree.proofs.Parts.{picked-length, before-next, before-le, before-mon
 use Rattle.tree.proofs.Nodes.{nodes-fix, depth-lt}
 use Rattle.tree.proofs.Holds.{child-place}
 use Rattle.tree.proofs.Serves.{agree}
-use Rattle.tree_build.specs.Run.{standsIn, hopIn, pathAt, nodeAt, Run, NodeRun, innerIn, childIn, wordIn}
-use Rattle.tree_build.specs.Queue.{put3, Waits, HopsReady, HopsPut, KidsReady, KidsPut, nodesIn, nodeIn, kidsBefore, hopsBefore, State, Next}
+use Rattle.tree_build.specs.NodeRuns.{standsIn, hopIn, pathAt, nodeAt, ThroughRun, NodeRun, innerIn, childIn, wordIn}
+use Rattle.tree_build.specs.Queue.{put3, Waits, HopsReady, HopsPut, KidsReady, KidsPut, nodesIn, nodeIn, kidsBefore, hopsBefore, State, NodeWaits}
 use Rattle.tree_build.proofs.Stores.{put3-length, put3-other, put3-at}
-use Rattle.tree_build.proofs.Runs.{good-list}
+use Rattle.tree_build.proofs.NodeRuns.{good-list}
 use Rattle.tree_build.proofs.Hops.{inner-ones, child-ones}
 use Rattle.tree_build.proofs.Kids.{waits-still}
 
@@ -54,7 +54,7 @@ hop-le : (s : List ℕ) (i : ℕ) → hopsBefore s i ≤ length (hops (standsIn 
 hop-le s i = omega (arith, before-le (hopsOf (hopIn s)) (nodesIn s) i, hops-are s)
 
 -- the state with a node that waits
-pub state-waits : (s ws hs : List ℕ) (i t h : ℕ) → State s ws hs i t h → i < t → Next s ws hs i t h
+pub state-waits : (s ws hs : List ℕ) (i t h : ℕ) → State s ws hs i t h → i < t → NodeWaits s ws hs i t h
 state-waits s ws hs i t h now l =
     let room = now .room in
     let le = tail-le s (room .records) i in
@@ -66,7 +66,7 @@ state-waits s ws hs i t h now l =
       hop-fits = omega (arith, room .hops-fit, hop-le s i, now .hop);
     }
 
-module _ (s ws hs : List ℕ) (i t h : ℕ) (next : Next s ws hs i t h) where
+module _ (s ws hs : List ℕ) (i t h : ℕ) (next : NodeWaits s ws hs i t h) where
   now : State s ws hs i t h
   now = next .now
 
@@ -94,11 +94,11 @@ module _ (s ws hs : List ℕ) (i t h : ℕ) (next : Next s ws hs i t h) where
     node-run =
         let qp : nodeIn s i .path ≡ pathAt s m a = ap (λ (n : Node). n .path) node-is in
         let qe : w .stop ≡ e = sym (ee ∙ w .upto) in
-        let r : Run s (nodeIn s i .depth) (nodeIn s i .path) (w .start) (w .stop) = w .run in
+        let r : ThroughRun s (nodeIn s i .depth) (nodeIn s i .path) (w .start) (w .stop) = w .run in
         record {
           records = good;
           deep = omega (arith, depth-lt (standsIn s) 9 i (node 0 0) here, qm);
-          run = subst (λ (x : ℕ). Run s m (pathAt s m a) a x) qe (subst (λ (x : ℕ). Run s m (pathAt s m a) x (w .stop)) qa (subst (λ (x : ℕ). Run s m x (w .start) (w .stop)) qp (subst (λ (x : ℕ). Run s x (nodeIn s i .path) (w .start) (w .stop)) qm r)));
+          run = subst (λ (x : ℕ). ThroughRun s m (pathAt s m a) a x) qe (subst (λ (x : ℕ). ThroughRun s m (pathAt s m a) x (w .stop)) qa (subst (λ (x : ℕ). ThroughRun s m x (w .start) (w .stop)) qp (subst (λ (x : ℕ). ThroughRun s x (nodeIn s i .path) (w .start) (w .stop)) qm r)));
         }
 
     kids-next : kidsBefore s (i + 1) ≡ kidsBefore s i + count (childIn s m a) 16

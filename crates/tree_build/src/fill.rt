@@ -9,7 +9,7 @@ use routes::record;
 ghost use mathlib.Core.Path.{_≡_};
 ghost use Prim.Native.Nat.{_+_, _*_, _^_, _≤_, _<_};
 ghost use lib.ListN.{length};
-ghost use Rattle.tree_build.specs.Queue.{put3, HopsReady, HopsPut, KidsReady, KidsPut, Room, State, Next, Filled};
+ghost use Rattle.tree_build.specs.Queue.{put3, HopsReady, HopsPut, KidsReady, KidsPut, ImageRoom, State, NodeWaits, ImageFilled};
 
 // A number that fits a word.
 pub fn narrow(x: usize) -> u32
@@ -40,7 +40,7 @@ fn put_hops(list: &[u8], hops: &mut [u16], m: u32, a: usize, e: usize, word: u32
         k += 1;
         let len = byte_to_word(r.len);
         if len < 4 * (m + 1) {
-            let below = bits::ones_below(word, run::place(r.addr, len, m));
+            let below = bits::ones_below(word, run::node_bit(r.addr, len, m));
             hops[base + word_to_index(below)] = r.hop;
         }
     }
@@ -79,7 +79,7 @@ pub struct Sizes {
 
 // The node at i is taken from the queue and gets its words; its hops are put from h on, and its children wait from t on.
 fn step(list: &[u8], words: &mut [u32], hops: &mut [u16], i: usize, t: usize, h: usize) -> Sizes
-    requires { ⌜ Next (now list) (now words) (now hops) i t h ⌝ }
+    requires { ⌜ NodeWaits (now list) (now words) (now hops) i t h ⌝ }
     ensures { λ r. ⌜ State (now (list .entry)) (now (words .exit)) (now (hops .exit)) (i + 1) (r .nodes) (r .hops) ⌝ }
 {
     let m = words[3 * i];
@@ -97,7 +97,7 @@ fn step(list: &[u8], words: &mut [u32], hops: &mut [u16], i: usize, t: usize, h:
 
 // Zeros, and the root, which waits with the whole list.
 fn start(list: &[u8], words: &mut [u32], hops: &mut [u16])
-    requires { ⌜ Room (now list) (length (now words)) (length (now hops)) ⌝ }
+    requires { ⌜ ImageRoom (now list) (length (now words)) (length (now hops)) ⌝ }
     ensures { λ _. ⌜ State (now (list .entry)) (now (words .exit)) (now (hops .exit)) 0 1 0 ⌝ }
 {
     zero32(words);
@@ -106,9 +106,9 @@ fn start(list: &[u8], words: &mut [u32], hops: &mut [u16])
 }
 
 // The whole image, node by node.
-pub fn fill(list: &[u8], words: &mut [u32], hops: &mut [u16])
-    requires { ⌜ Room (now list) (length (now words)) (length (now hops)) ⌝ }
-    ensures { λ _. ⌜ Filled (now (list .entry)) (now (words .entry)) (now (hops .entry)) (now (words .exit)) (now (hops .exit)) ⌝ }
+pub fn fill_image(list: &[u8], words: &mut [u32], hops: &mut [u16])
+    requires { ⌜ ImageRoom (now list) (length (now words)) (length (now hops)) ⌝ }
+    ensures { λ _. ⌜ ImageFilled (now (list .entry)) (now (words .entry)) (now (hops .entry)) (now (words .exit)) (now (hops .exit)) ⌝ }
 {
     start(list, words, hops);
     let mut i: usize = 0;

@@ -4,16 +4,16 @@ use mathlib.Core.Path.{_≡_, refl, sym, _∙_, ap}
 use mathlib.Core.Bool.{false, true≢false}
 use mathlib.Core.List.{List}
 use Prim.Native.Nat.{ℕ, _≤_}
-use Rattle.bits.proofs.Tests.{untrue}
+use Rattle.bits.proofs.Bools.{untrue}
 use Rattle.routes.specs.Input.{properPrefix, hopFine}
 use Rattle.routes.specs.Route.{Prefix}
 use Rattle.routes.specs.Said.{Said}
 use Rattle.routes.proofs.Meaning.{prefix-true, true-prefix, hop-true, true-hop}
-use Rattle.tree_build.specs.Built.{Out}
+use Rattle.tree_build.specs.Built.{ImageOut}
 use Rattle.tree_check.specs.Cases.{Narrow}
 use Rattle.tree_check.proofs.Exact.{passes-builds, builds-passes}
 use Rattle.tree_check.proofs.Judged.{not-built, no-image}
-use Rattle.tree_change.specs.Cases.{Asked, Announcing, Withdrawing, Offered, TreeAnnounce, TreeWithdraw}
+use Rattle.tree_change.specs.Cases.{ImageAsked, Announcing, Withdrawing, Offered, TreeAnnounce, TreeWithdraw}
 use Rattle.tree_change.specs.Changed.{imageAnnounced, imageWithdrawn}
 use Rattle.tree_change.proofs.Cases.{case-announced, announce-cases}
 use Rattle.tree_change.proofs.Takes.{case-withdrawn, withdraw-cases}
@@ -33,19 +33,19 @@ no-hop h n = untrue (hopFine h) (λ t. let k = hop-true h t in n (k .0) (k .1))
 module _ (ws hs : List ℕ) (narrow : Narrow ws) where
   -- announce: 3, 4, 13, 6, 11, 12
   module _ (a len h : ℕ) where
-    abbrev announced : Out
+    abbrev announced : ImageOut
     announced = imageAnnounced ws hs a len h
 
-    offered : Asked ws hs a len h → Offered ws hs a len h
+    offered : ImageAsked ws hs a len h → Offered ws hs a len h
     offered k =
         let f = hop-true h (k .hop) in
         record { prefix = prefix-true a len (k .prefix); hop-one = f .0; hop-ok = f .1; image = passes-builds ws hs narrow (k .image) }
 
-    asked : Offered ws hs a len h → Asked ws hs a len h
+    asked : Offered ws hs a len h → ImageAsked ws hs a len h
     asked k = record { prefix = true-prefix a len (k .prefix); hop = true-hop h (k .hop-one) (k .hop-ok); image = builds-passes ws hs (k .image) }
 
-    is-said : {o : Out} → Announcing ws hs a len h o → announced .said ≡ o .said
-    is-said c = ap (λ (x : Out). x .said) (case-announced ws hs a len h _ c)
+    is-said : {o : ImageOut} → Announcing ws hs a len h o → announced .said ≡ o .said
+    is-said c = ap (λ (x : ImageOut). x .said) (case-announced ws hs a len h _ c)
 
     pub tree-announce-only : (s : Said) → TreeAnnounce ws hs a len h s → announced .said ≡ s
     tree-announce-only _ (TreeAnnounce.bad-prefix n) = is-said (Announcing.wrong-prefix (no-prefix a len n))
@@ -59,7 +59,7 @@ module _ (ws hs : List ℕ) (narrow : Narrow ws) where
     pub tree-announce-judged : TreeAnnounce ws hs a len h (announced .said)
     tree-announce-judged = go (announce-cases ws hs a len h _ .0 refl)
       where
-        go : {o : Out} → Announcing ws hs a len h o → TreeAnnounce ws hs a len h (o .said)
+        go : {o : ImageOut} → Announcing ws hs a len h o → TreeAnnounce ws hs a len h (o .said)
         go (Announcing.wrong-prefix e) = TreeAnnounce.bad-prefix (improper a len e)
         go (Announcing.wrong-hop e f) = TreeAnnounce.bad-hop (prefix-true a len e) (not-fine h f)
         go (Announcing.wrong-image e f g) =
@@ -72,11 +72,11 @@ module _ (ws hs : List ℕ) (narrow : Narrow ws) where
 
   -- withdraw: 3, 13, 9
   module _ (a len : ℕ) where
-    abbrev withdrawn : Out
+    abbrev withdrawn : ImageOut
     withdrawn = imageWithdrawn ws hs a len
 
-    is-told : {o : Out} → Withdrawing ws hs a len o → withdrawn .said ≡ o .said
-    is-told c = ap (λ (x : Out). x .said) (case-withdrawn ws hs a len narrow _ c)
+    is-told : {o : ImageOut} → Withdrawing ws hs a len o → withdrawn .said ≡ o .said
+    is-told c = ap (λ (x : ImageOut). x .said) (case-withdrawn ws hs a len narrow _ c)
 
     pub tree-withdraw-only : (s : Said) → TreeWithdraw ws hs a len s → withdrawn .said ≡ s
     tree-withdraw-only _ (TreeWithdraw.bad-prefix n) = is-told (Withdrawing.no-prefix (no-prefix a len n))
@@ -87,7 +87,7 @@ module _ (ws hs : List ℕ) (narrow : Narrow ws) where
     pub tree-withdraw-judged : TreeWithdraw ws hs a len (withdrawn .said)
     tree-withdraw-judged = go (withdraw-cases ws hs a len narrow _ .0 refl)
       where
-        go : {o : Out} → Withdrawing ws hs a len o → TreeWithdraw ws hs a len (o .said)
+        go : {o : ImageOut} → Withdrawing ws hs a len o → TreeWithdraw ws hs a len (o .said)
         go (Withdrawing.no-prefix e) = TreeWithdraw.bad-prefix (improper a len e)
         go (Withdrawing.no-image e f) = TreeWithdraw.bad-image (prefix-true a len e) (not-built ws hs f)
         go (Withdrawing.no-route e f g) = TreeWithdraw.absent (prefix-true a len e) (passes-builds ws hs narrow f) g

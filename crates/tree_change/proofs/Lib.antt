@@ -8,7 +8,7 @@ pub mod Bares
 pub mod Without
 pub mod Removes
 pub mod Needs
-pub mod Answers
+pub mod ChangeReturns
 pub mod Cases
 pub mod OneAnswer
 pub mod Takes

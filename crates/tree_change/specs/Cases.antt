@@ -15,50 +15,50 @@ use Rattle.standing.specs.Standing.{stands, insert, remove}
 use Rattle.tree.specs.Image.{nodeNeed, imageOf}
 use Rattle.tree.specs.Reads.{treeReads}
 use Rattle.tree.specs.Walk.{treeSaid}
-use Rattle.tree_build.specs.Built.{Out, out, built}
+use Rattle.tree_build.specs.Built.{ImageOut, imageOut, built}
 use Rattle.tree_same.specs.Listed.{routesHeld}
 use Rattle.tree_check.specs.Buildable.{inputOf, Buildable}
 use Rattle.tree_check.specs.WellFormed.{wellFormed}
-use Rattle.tree_change.specs.Changed.{route}
+use Rattle.tree_change.specs.Changed.{unmarkedRoute}
 
 -- a proper prefix, a fine hop and a well-formed image
-pub record Asked (ws hs : List ℕ) (a len h : ℕ) : Type 0 where
+pub record ImageAsked (ws hs : List ℕ) (a len h : ℕ) : Type 0 where
   pub prefix : properPrefix a len ≡ true
   pub hop : hopFine h ≡ true
   pub image : wellFormed ws hs ≡ true
 
 -- the routes then standing
 abbrev pub routesWith : List ℕ → List ℕ → ℕ → ℕ → ℕ → List Route
-routesWith ws hs a len h = insert (route a len h) (routesHeld ws hs)
+routesWith ws hs a len h = insert (unmarkedRoute a len h) (routesHeld ws hs)
 
 abbrev pub routesWithout : List ℕ → List ℕ → ℕ → ℕ → List Route
 routesWithout ws hs a len = remove (keyOf a len) (routesHeld ws hs)
 
 -- the image of these routes in arrays as long as these, told with the values vs
-abbrev pub imageIn : List Route → List ℕ → List ℕ → List ℕ → Out
-imageIn rs ws hs vs = out (accepted vs) (imageOf rs (length ws) (length hs) .words) (imageOf rs (length ws) (length hs) .hops)
+abbrev pub imageIn : List Route → List ℕ → List ℕ → List ℕ → ImageOut
+imageIn rs ws hs vs = imageOut (accepted vs) (imageOf rs (length ws) (length hs) .words) (imageOf rs (length ws) (length hs) .hops)
 
-pub data Announcing (ws hs : List ℕ) (a len h : ℕ) : Out → Type 0 where
-  wrong-prefix : properPrefix a len ≡ false → Announcing ws hs a len h (out (refused 3) ws hs)
-  wrong-hop : properPrefix a len ≡ true → hopFine h ≡ false → Announcing ws hs a len h (out (refused 4) ws hs)
-  wrong-image : properPrefix a len ≡ true → hopFine h ≡ true → wellFormed ws hs ≡ false → Announcing ws hs a len h (out (refused 13) ws hs)
-  too-many : Asked ws hs a len h → 4096 < length (routesWith ws hs a len h) → Announcing ws hs a len h (out (refused 6) ws hs)
-  nodes-short : Asked ws hs a len h → length (routesWith ws hs a len h) ≤ 4096 → length ws / 3 < nodeNeed (routesWith ws hs a len h)
-      → Announcing ws hs a len h (out (refused 11) ws hs)
-  hops-short : Asked ws hs a len h → length (routesWith ws hs a len h) ≤ 4096 → nodeNeed (routesWith ws hs a len h) ≤ length ws / 3
-      → length hs < length (routesWith ws hs a len h) → Announcing ws hs a len h (out (refused 12) ws hs)
-  put-in : Asked ws hs a len h → length (routesWith ws hs a len h) ≤ 4096 → nodeNeed (routesWith ws hs a len h) ≤ length ws / 3
+pub data Announcing (ws hs : List ℕ) (a len h : ℕ) : ImageOut → Type 0 where
+  wrong-prefix : properPrefix a len ≡ false → Announcing ws hs a len h (imageOut (refused 3) ws hs)
+  wrong-hop : properPrefix a len ≡ true → hopFine h ≡ false → Announcing ws hs a len h (imageOut (refused 4) ws hs)
+  wrong-image : properPrefix a len ≡ true → hopFine h ≡ true → wellFormed ws hs ≡ false → Announcing ws hs a len h (imageOut (refused 13) ws hs)
+  too-many : ImageAsked ws hs a len h → 4096 < length (routesWith ws hs a len h) → Announcing ws hs a len h (imageOut (refused 6) ws hs)
+  nodes-short : ImageAsked ws hs a len h → length (routesWith ws hs a len h) ≤ 4096 → length ws / 3 < nodeNeed (routesWith ws hs a len h)
+      → Announcing ws hs a len h (imageOut (refused 11) ws hs)
+  hops-short : ImageAsked ws hs a len h → length (routesWith ws hs a len h) ≤ 4096 → nodeNeed (routesWith ws hs a len h) ≤ length ws / 3
+      → length hs < length (routesWith ws hs a len h) → Announcing ws hs a len h (imageOut (refused 12) ws hs)
+  put-in : ImageAsked ws hs a len h → length (routesWith ws hs a len h) ≤ 4096 → nodeNeed (routesWith ws hs a len h) ≤ length ws / 3
       → length (routesWith ws hs a len h) ≤ length hs
       → Announcing ws hs a len h
       (imageIn (routesWith ws hs a len h) ws hs
       (bit (stands (keyOf a len) (routesHeld ws hs)) ∷ nodeNeed (routesWith ws hs a len h) ∷ length (routesWith ws hs a len h) ∷ []))
 
 -- (11 and 12 cannot be met: the routes left need no more)
-pub data Withdrawing (ws hs : List ℕ) (a len : ℕ) : Out → Type 0 where
-  no-prefix : properPrefix a len ≡ false → Withdrawing ws hs a len (out (refused 3) ws hs)
-  no-image : properPrefix a len ≡ true → wellFormed ws hs ≡ false → Withdrawing ws hs a len (out (refused 13) ws hs)
+pub data Withdrawing (ws hs : List ℕ) (a len : ℕ) : ImageOut → Type 0 where
+  no-prefix : properPrefix a len ≡ false → Withdrawing ws hs a len (imageOut (refused 3) ws hs)
+  no-image : properPrefix a len ≡ true → wellFormed ws hs ≡ false → Withdrawing ws hs a len (imageOut (refused 13) ws hs)
   no-route : properPrefix a len ≡ true → wellFormed ws hs ≡ true → stands (keyOf a len) (routesHeld ws hs) ≡ false
-      → Withdrawing ws hs a len (out (refused 9) ws hs)
+      → Withdrawing ws hs a len (imageOut (refused 9) ws hs)
   taken-out : properPrefix a len ≡ true → wellFormed ws hs ≡ true → stands (keyOf a len) (routesHeld ws hs) ≡ true
       → Withdrawing ws hs a len (imageIn (routesWithout ws hs a len) ws hs (nodeNeed (routesWithout ws hs a len) ∷ length (routesWithout ws hs a len) ∷ []))
 
@@ -71,7 +71,7 @@ pub record Fitted (rs : List Route) (ws hs : List ℕ) : Type 0 where
 
 -- What an accepted change of ws and hs leaves: the image of such a list, none of whose routes has a mark. What follows from it is shown once for
 -- announce and withdraw (proofs/Fresh.antt).
-pub record Left (rs : List Route) (ws hs : List ℕ) (o : Out) : Type 0 where
+pub record ImageLeft (rs : List Route) (ws hs : List ℕ) (o : ImageOut) : Type 0 where
   pub fit : Fitted rs ws hs
   pub unmarked : map plain rs ≡ rs
   pub words : o .words ≡ imageOf rs (length ws) (length hs) .words
@@ -112,7 +112,7 @@ pub data TreeWithdraw (ws hs : List ℕ) (a len : ℕ) : Said → Type 0 where
 
 -- An image after an accepted change: it is a fresh build of the routes then standing, these are the routes that are then read out of it, it passes
 -- the test again, and it serves every address by them.
-pub record Anew (rs : List Route) (ws hs : List ℕ) (o : Out) : Type 0 where
+pub record Anew (rs : List Route) (ws hs : List ℕ) (o : ImageOut) : Type 0 where
   pub as-build : (o .words ≡ built (inputOf rs) ws hs .words) × (o .hops ≡ built (inputOf rs) ws hs .hops)
   pub stands : routesHeld (o .words) (o .hops) ≡ rs
   pub passes : wellFormed (o .words) (o .hops) ≡ true

@@ -13,7 +13,7 @@ use lib.Count.{ones}
 use borrow.Author.Tests.{lt-ltb, le-ltb, ltb-true, eq-eqb, ne-eqb}
 use Rattle.bits.specs.Bit.{bitAt}
 use Rattle.bits.specs.Count.{bit, count}
-use Rattle.bits.proofs.Tests.{both, below?, untrue}
+use Rattle.bits.proofs.Bools.{both, below?, untrue}
 use Rattle.routes.specs.Route.{Good}
 use Rattle.routes.specs.declared.Route.{Route}
 use Rattle.routes.proofs.Goods.{good-fine}

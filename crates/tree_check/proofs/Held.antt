@@ -16,7 +16,7 @@ use Rattle.bits.specs.Bit.{bitAt}
 use Rattle.bits.specs.Slot.{slot}
 use Rattle.bits.specs.Count.{bit, count}
 use Rattle.bits.proofs.Slots.{slot-up, half-pow}
-use Rattle.bits.proofs.Tests.{decided, both, and-split, below?, untrue, same}
+use Rattle.bits.proofs.Bools.{decided, both, and-split, below?, untrue, same}
 use Rattle.routes.specs.Route.{Good}
 use Rattle.routes.specs.declared.Route.{Route}
 use Rattle.routes.proofs.Goods.{good-fine}
@@ -35,7 +35,7 @@ use Rattle.tree_same.specs.Order.{standsAt, exts, ints}
 use Rattle.tree_same.specs.Holding.{Holding}
 use Rattle.tree_same.specs.Listed.{listed, routesHeld}
 use Rattle.tree_same.proofs.Lists.{Hopping, listed-good, listed-hop}
-use Rattle.tree_same.proofs.Back.{set-is, parts-of}
+use Rattle.tree_same.proofs.Back.{bit-set-is, parts-of}
 use Rattle.tree_same.proofs.Holdings.{nodes-are, hops-are, holds-image}
 use Rattle.tree_same.proofs.Same.{hopping}
 use Rattle.tree_check.specs.WellFormed.{allFrom, nodeOk}

@@ -5,7 +5,7 @@ use mathlib.Core.Logic.{_⊎_, inl, inr}
 use mathlib.Core.Bool.{true, false, true≢false}
 use mathlib.Core.List.{List}
 use Prim.Native.Nat.{ℕ}
-use Rattle.bits.proofs.Tests.{decided, untrue}
+use Rattle.bits.proofs.Bools.{decided, untrue}
 use Rattle.routes.specs.Said.{Said}
 use Rattle.tree_check.specs.Answers.{tested}
 use Rattle.tree_check.specs.Buildable.{Buildable}

@@ -5,7 +5,7 @@ pub mod Held
 pub mod Exact
 pub mod Serves
 pub mod Steps
-pub mod Answers
+pub mod TestReturns
 pub mod Neighbours
 pub mod Stretches
 pub mod OneAnswer

@@ -12,21 +12,21 @@ use borrow.Author.Tests.{leb-true, leb-false, le-leb, lt-leb, ltb-true, lt-ltb, 
 use Rattle.bits.specs.Search.{firstOf}
 use Rattle.bits.specs.Tab.{every}
 use Rattle.bits.proofs.Searches.{firstOf-is, firstOf-le, firstOf-before}
-use Rattle.bits.proofs.Tests.{both, and-split, or-split, below?}
+use Rattle.bits.proofs.Bools.{both, and-split, or-split, below?}
 use Rattle.bits.proofs.Tabs.{every-true, true-every}
 use Rattle.buffers.specs.Zeros.{Zeros}
 use Rattle.routes.specs.Input.{hopFine}
 use Rattle.routes.proofs.Meaning.{hop-true, true-hop}
 use Rattle.tree.specs.Node.{bitsOf, childOf, baseOf}
 use Rattle.tree_same.specs.Order.{exts, ints, Order}
-use Rattle.tree_check.specs.WellFormed.{closed, used, basesAt, ordered, allFrom, nodeOk, rootOk, hopsIn, hopsOk, blankFrom, wellFormed}
+use Rattle.tree_check.specs.WellFormed.{closed, nodesUsed, basesAt, ordered, allFrom, nodeOk, rootOk, hopsIn, hopsOk, blankFrom, wellFormed}
 
 pub not-true : (b : Bool) → not b ≡ true → b ≡ false
 not-true true e = absurd (false≢true e)
 not-true false e = refl
 
-pub ordered-is : (ws : List ℕ) → ordered ws ≡ true → Order ws (used ws)
-unfolding ordered used
+pub ordered-is : (ws : List ℕ) → ordered ws ≡ true → Order ws (nodesUsed ws)
+unfolding ordered nodesUsed
 ordered-is ws e =
     let s = and-split (closed ws (firstOf (closed ws) (length ws / 3))) (every (basesAt ws) (firstOf (closed ws) (length ws / 3))) e in
     let each = every-true (basesAt ws) (firstOf (closed ws) (length ws / 3)) (s .1) in
@@ -39,11 +39,11 @@ ordered-is ws e =
     }
 
 -- the number of nodes in use
-pub used-is : (ws : List ℕ) (n : ℕ) → n ≤ length ws / 3 → ((i : ℕ) → i < n → i < 1 + exts ws i) → (n < length ws / 3 → 1 + exts ws n ≤ n) → used ws ≡ n
-unfolding used
+pub used-is : (ws : List ℕ) (n : ℕ) → n ≤ length ws / 3 → ((i : ℕ) → i < n → i < 1 + exts ws i) → (n < length ws / 3 → 1 + exts ws n ≤ n) → nodesUsed ws ≡ n
+unfolding nodesUsed
 used-is ws n l f w = firstOf-is (closed ws) (length ws / 3) n l (λ j u. lt-leb _ _ (f j u)) (λ u. le-leb _ _ (w u))
 
-pub is-ordered : (ws : List ℕ) (n : ℕ) → Order ws n → (used ws ≡ n) × (ordered ws ≡ true)
+pub is-ordered : (ws : List ℕ) (n : ℕ) → Order ws n → (nodesUsed ws ≡ n) × (ordered ws ≡ true)
 unfolding ordered
 is-ordered ws n o =
     let u = used-is ws n (o .lent) (o .fewest) (λ l. o .whole) in
@@ -105,13 +105,13 @@ pub record WellFormed (ws hs : List ℕ) (n : ℕ) : Type 0 where
   pub words-after : (j : ℕ) → 3 * n ≤ j → getD ws j 0 ≡ 0
   pub hops-after : (j : ℕ) → ints ws n ≤ j → getD hs j 0 ≡ 0
 
-pub well-formed-is : (ws hs : List ℕ) → wellFormed ws hs ≡ true → WellFormed ws hs (used ws)
+pub well-formed-is : (ws hs : List ℕ) → wellFormed ws hs ≡ true → WellFormed ws hs (nodesUsed ws)
 unfolding wellFormed hopsOk
 well-formed-is ws hs e =
     let a = and-split (ordered ws) _ e in
     let b = and-split (rootOk ws) _ (a .1) in
-    let c = and-split _ (blankFrom ws (3 * used ws) && blankFrom hs (hopsIn ws)) (b .1) in
-    let d = and-split (blankFrom ws (3 * used ws)) (blankFrom hs (hopsIn ws)) (c .1) in
+    let c = and-split _ (blankFrom ws (3 * nodesUsed ws) && blankFrom hs (hopsIn ws)) (b .1) in
+    let d = and-split (blankFrom ws (3 * nodesUsed ws)) (blankFrom hs (hopsIn ws)) (c .1) in
     let f = and-split (leb (hopsIn ws) (length hs)) _ (c .0) in
     let g = and-split (leb (hopsIn ws) 4096) (every (λ k. hopFine (getD hs k 0)) (hopsIn ws)) (f .1) in
     record {
@@ -120,7 +120,7 @@ well-formed-is ws hs e =
       room = leb-true _ _ (f .0);
       few = leb-true _ _ (g .0);
       hop = λ k l. hop-true (getD hs k 0) (every-true (λ i. hopFine (getD hs i 0)) (hopsIn ws) (g .1) k l);
-      words-after = blank-is ws (3 * used ws) (d .0);
+      words-after = blank-is ws (3 * nodesUsed ws) (d .0);
       hops-after = blank-is hs (hopsIn ws) (d .1);
     }
   where

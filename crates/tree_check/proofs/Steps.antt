@@ -10,14 +10,14 @@ use lib.ListN.{length, getD}
 use lib.Count.{ones}
 use borrow.Author.Tests.{leb-true, le-leb, lt-ltb, le-ltb, eqb-true, eq-eqb, ne-eqb}
 use Rattle.bits.specs.Tab.{every, Tells}
-use Rattle.bits.proofs.Tests.{decided, both, and-split, untrue, below?, same}
+use Rattle.bits.proofs.Bools.{decided, both, and-split, untrue, below?, same}
 use Rattle.bits.proofs.Tabs.{every-true, true-every}
 use Rattle.buffers.specs.Zeros.{Zeros}
 use Rattle.routes.specs.Input.{hopFine}
 use Rattle.tree.specs.Node.{bitsOf, childOf, baseOf, isSet, sound}
 use Rattle.tree_same.specs.Order.{exts, ints, Order}
-use Rattle.tree_check.specs.WellFormed.{used, ordered, allFrom, nodeOk, childrenOk, rootOk, hopsIn, hopsOk, hopsFineTo, blankFrom, wellFormed, nodesIf}
-use Rattle.tree_check.specs.Stretches.{Flagged, Own, Shaped, Rooted}
+use Rattle.tree_check.specs.WellFormed.{nodesUsed, ordered, allFrom, nodeOk, childrenOk, rootOk, hopsIn, hopsOk, hopsFineTo, blankFrom, wellFormed, nodesIf}
+use Rattle.tree_check.specs.Stretches.{Flagged, Own, NodesShaped, Rooted}
 use Rattle.tree_check.proofs.Meaning.{not-true, ordered-is, used-is, is-ordered, blank-zeros, zeros-blank}
 
 -- ---- hops and zeros
@@ -59,7 +59,7 @@ hops-last ws n x y l e ex ey = go (decided (ordered ws))
     go : (ordered ws ≡ true) ⊎ (ordered ws ≡ false) → x + y ≡ ints ws n
     go (inr z) = absurd (omega (arith, rw z at e))
     go (inl t) =
-        let u : n ≡ used ws = rw t at e in
+        let u : n ≡ nodesUsed ws = rw t at e in
         let o = subst (Order ws) (sym u) (ordered-is ws t) in
         let q : n ≡ suc (n - 1) = omega arith in
         subst (λ (k : ℕ). x + y ≡ ints ws k) (sym q) (omega (arith, o .base (n - 1) (omega arith)))
@@ -67,15 +67,15 @@ hops-last ws n x y l e ex ey = go (decided (ordered ws))
 -- ---- the whole test
 
 -- what an `if !r` that is passed by says
-pub kept : (r b : Bool) → r ≡ b → not r ≡ false → b ≡ true
-kept true b q f = sym q
-kept false b q f = absurd (true≢false f)
+pub not-failed : (r b : Bool) → r ≡ b → not r ≡ false → b ≡ true
+not-failed true b q f = sym q
+not-failed false b q f = absurd (true≢false f)
 
-module _ (ws : List ℕ) (n : ℕ) (s : Shaped ws n) (z : n ≡ 0 → ⊥) where
-  its-order : (ordered ws ≡ true) × (used ws ≡ n)
+module _ (ws : List ℕ) (n : ℕ) (s : NodesShaped ws n) (z : n ≡ 0 → ⊥) where
+  its-order : (ordered ws ≡ true) × (nodesUsed ws ≡ n)
   its-order = go (decided (ordered ws))
     where
-      go : (ordered ws ≡ true) ⊎ (ordered ws ≡ false) → (ordered ws ≡ true) × (used ws ≡ n)
+      go : (ordered ws ≡ true) ⊎ (ordered ws ≡ false) → (ordered ws ≡ true) × (nodesUsed ws ≡ n)
       go (inl t) = (t, sym (rw t at (s .some z)))
       go (inr t) = absurd (z (rw t at (s .some z)))
 
@@ -89,7 +89,7 @@ module _ (ws : List ℕ) (n : ℕ) (s : Shaped ws n) (z : n ≡ 0 → ⊥) where
   pub check-counted : (0 < n) × (3 * n ≤ length ws) × (n ≡ nodesIf (ordered ws) ws)
   check-counted = (omega (arith, z), s .lent, s .some z)
 
-module _ (ws hs : List ℕ) (n : ℕ) (s : Shaped ws n) where
+module _ (ws hs : List ℕ) (n : ℕ) (s : NodesShaped ws n) where
   pub check-none : n ≡ 0 → 0 ≡ nodesIf (wellFormed ws hs) ws
   check-none z = rw (s .none z hs) refl
 
@@ -97,13 +97,13 @@ module _ (ws hs : List ℕ) (n : ℕ) (s : Shaped ws n) where
     fails-by : (wellFormed ws hs ≡ true → ⊥) → 0 ≡ nodesIf (wellFormed ws hs) ws
     fails-by f = rw (untrue (wellFormed ws hs) f)
 
-    parts : wellFormed ws hs ≡ true → (rootOk ws ≡ true) × (hopsOk ws hs ≡ true) × (blankFrom ws (3 * used ws) ≡ true) × (blankFrom hs (hopsIn ws) ≡ true)
+    parts : wellFormed ws hs ≡ true → (rootOk ws ≡ true) × (hopsOk ws hs ≡ true) × (blankFrom ws (3 * nodesUsed ws) ≡ true) × (blankFrom hs (hopsIn ws) ≡ true)
     unfolding wellFormed
     parts w =
         let a = and-split (ordered ws) _ w in
         let b = and-split (rootOk ws) _ (a .1) in
         let c = and-split (hopsOk ws hs) _ (b .1) in
-        let d = and-split (blankFrom ws (3 * used ws)) _ (c .1) in
+        let d = and-split (blankFrom ws (3 * nodesUsed ws)) _ (c .1) in
         (b .0, c .0, d .0, d .1)
 
     pub check-root : (r : Bool) → r ≡ rootOk ws → not r ≡ true → 0 ≡ nodesIf (wellFormed ws hs) ws
@@ -141,7 +141,7 @@ module _ (ws hs : List ℕ) (n : ℕ) (s : Shaped ws n) where
       unfolding wellFormed hopsOk
       check-passes r a b c d f =
           let h : hopsOk ws hs ≡ true = rw its-hops (both (le-leb k (length hs) a) (both (le-leb k 4096 b) c)) in
-          let x : blankFrom ws (3 * used ws) ≡ true = rw (its-order ws n s z .1) (zeros-blank ws (3 * n) d) in
+          let x : blankFrom ws (3 * nodesUsed ws) ≡ true = rw (its-order ws n s z .1) (zeros-blank ws (3 * n) d) in
           let y : blankFrom hs (hopsIn ws) ≡ true = rw its-hops (zeros-blank hs k f) in
           let w : wellFormed ws hs ≡ true = both (its-order ws n s z .0) (both r (both h (both x y))) in
           rw w (sym (its-order ws n s z .1))

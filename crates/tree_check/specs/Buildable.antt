@@ -6,7 +6,7 @@ use lib.ListN.{length}
 use Rattle.routes.specs.Record.{written}
 use Rattle.routes.specs.Said.{accepted}
 use Rattle.routes.specs.declared.Route.{Route}
-use Rattle.tree_build.specs.Built.{out, built}
+use Rattle.tree_build.specs.Built.{imageOut, built}
 
 -- the input of a list of routes
 abbrev pub inputOf : List Route → List ℕ
@@ -17,4 +17,4 @@ pub record Buildable (ws hs : List ℕ) : Type 0 where
   pub input : List ℕ
   pub nodes : ℕ
   pub routes : ℕ
-  pub builds : (ws₀ hs₀ : List ℕ) → length ws₀ ≡ length ws → length hs₀ ≡ length hs → built input ws₀ hs₀ ≡ out (accepted (nodes ∷ routes ∷ [])) ws hs
+  pub builds : (ws₀ hs₀ : List ℕ) → length ws₀ ≡ length ws → length hs₀ ≡ length hs → built input ws₀ hs₀ ≡ imageOut (accepted (nodes ∷ routes ∷ [])) ws hs

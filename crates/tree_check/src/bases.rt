@@ -8,7 +8,7 @@ ghost use lib.Count.{ones};
 ghost use Rattle.bits.specs.Tab.{Tells};
 ghost use Rattle.tree.specs.Node.{bitsOf, childOf};
 ghost use Rattle.tree_same.specs.Order.{Order};
-ghost use Rattle.tree_check.specs.Stretches.{Flagged, OwnBits, Own, EndsAt, Nodes, Begun, UpTo, Shaped};
+ghost use Rattle.tree_check.specs.Stretches.{Flagged, OwnBits, Own, EndsAt, Nodes, Begun, UpTo, NodesShaped};
 
 // How many children the word of a node names.
 pub fn children(word: u32) -> u32
@@ -112,7 +112,7 @@ fn in_order(words: &[u32], n: usize) -> bool
 // The nodes in use, if the bases and the own bitmaps of each are right; 0 if not, and 0 for what is no image for other reasons: no image has more
 // than 32,769 nodes.
 pub fn shape(words: &[u32]) -> usize
-    ensures { λ r. ⌜ Shaped (now (words .entry)) r ⌝ }
+    ensures { λ r. ⌜ NodesShaped (now (words .entry)) r ⌝ }
 {
     let n = nodes_in(words);
     if n == 0 {

@@ -19,7 +19,7 @@ ghost use Rattle.routes.specs.Input.{hopFine};
 ghost use Rattle.tree_same.specs.Order.{ints};
 ghost use Rattle.tree_check.specs.Contract.{MeetsTreeTest};
 ghost use Rattle.tree_check.specs.WellFormed.{ordered, childrenOk, rootOk, hopsFineTo, wellFormed, nodesIf};
-ghost use Rattle.tree_check.specs.Stretches.{Flagged, Lent, Stretch, Rooted};
+ghost use Rattle.tree_check.specs.Stretches.{Flagged, StretchLent, Stretch, Rooted};
 
 // What the test answers: the nodes and the hops in use, or that the image is not well formed.
 pub enum Tested {
@@ -29,7 +29,7 @@ pub enum Tested {
 
 // Whether each node of a stretch at depth 8 has bit 0 alone. No early end, so that it can be done several nodes at a time.
 fn ends_ok(words: &[u32], first: usize, n: usize) -> bool
-    requires { ⌜ Lent (now words) first n ⌝ }
+    requires { ⌜ StretchLent (now words) first n ⌝ }
     ensures { λ r. ⌜ r ≡ childrenOk 0 n (now (words .entry)) first ⌝ }
 {
     let end = first + n;

@@ -10,9 +10,9 @@ use lib.Bits.{bitXor, or-zero-l, xor-zero-r, xor-self, xor-lt, xor-shr, xor-mod}
 use lib.Pow.{pow-pos, shr-le}
 use borrow.Author.Tests.{eq-eqb, ne-eqb, eqb-true}
 use Rattle.bits.specs.Bit.{bitAt}
-use Rattle.bits.proofs.Tests.{equal?}
+use Rattle.bits.proofs.Bools.{equal?}
 use Rattle.tree.specs.Node.{isSet}
-use Rattle.tree_build.specs.Run.{WithBit}
+use Rattle.tree_build.specs.NodeRuns.{WithBit}
 use Rattle.tree_build.proofs.Marks.{with-bit}
 
 -- the bits of a power of 2

@@ -9,10 +9,10 @@ use lib.Seq.{getD-set-other}
 use Rattle.lists.specs.Edit.{drawn}
 use Rattle.lists.proofs.EditMoves.{length-drawn}
 use Rattle.tree.specs.Node.{bitsOf, childOf, isSet, childAt}
-use Rattle.tree_build.specs.Run.{WithBit}
+use Rattle.tree_build.specs.NodeRuns.{WithBit}
 use Rattle.tree_build.specs.Queue.{put3}
 use Rattle.tree_build.proofs.Stores.{put3-length}
-use Rattle.tree_same.specs.Read.{hopPlace}
+use Rattle.tree_same.specs.Read.{hopPlaceAt}
 use Rattle.tree_check.proofs.Held.{fewer-ints, ints-next, ints-mono}
 use Rattle.tree_hold.specs.Moves.{each}
 use Rattle.tree_hold.specs.Edits.{Grafted, Prunable, HopPut, HopTaken, Takable}
@@ -106,7 +106,7 @@ module _ {ws : List ℕ} {n k x c : ℕ} (r : Prunable ws n k x c) (y v : ℕ) (
 
 -- ---- a hop put
 
-module _ {ws hs : List ℕ} {n k x b : ℕ} (r : PutReady ws hs n k x b) (y : ℕ) (place : y ≡ hopPlace ws x b) where
+module _ {ws hs : List ℕ} {n k x b : ℕ} (r : PutReady ws hs n k x b) (y : ℕ) (place : y ≡ hopPlaceAt ws x b) where
   pub put-open : (y ≤ k) × (k + 1 ≤ length hs)
   put-open = (put-inside (r .able) y place, r .able .room)
 
@@ -123,7 +123,7 @@ module _ {ws hs : List ℕ} {n k x b : ℕ} (r : PutReady ws hs n k x b) (y : �
     put-store = omega (arith, ap length eh, length-drawn hs (λ j. j - 1) (y + 1) (k + 1), put-open .0, r .able .room)
 
     pub put-leaves : (w1 : List ℕ) → w1 ≡ each (λ z. z + 1) ws 2 (x + 1) n → (v h : ℕ) → WithBit (bitsOf ws x) b v
-        → HopPut ws (set w1 (3 * x) v) hs (set h1 y h) n x b (hopPlace ws x b) h
+        → HopPut ws (set w1 (3 * x) v) hs (set h1 y h) n x b (hopPlaceAt ws x b) h
     put-leaves w1 ew v h bit =
         rw (ew, eh)
         (subst (λ (z : ℕ). HopPut ws (set (each (λ z. z + 1) ws 2 (x + 1) n) (3 * x) v) hs (set (drawn hs (y + 1) (k + 1) (λ j. j - 1)) y h) n x b z h) place
@@ -131,7 +131,7 @@ module _ {ws hs : List ℕ} {n k x b : ℕ} (r : PutReady ws hs n k x b) (y : �
 
 -- ---- and taken away
 
-module _ {ws hs : List ℕ} {n k x b : ℕ} (r : Takable ws hs n k x b) (y v : ℕ) (place : y ≡ hopPlace ws x b) (bit : WithBit v b (bitsOf ws x))
+module _ {ws hs : List ℕ} {n k x b : ℕ} (r : Takable ws hs n k x b) (y v : ℕ) (place : y ≡ hopPlaceAt ws x b) (bit : WithBit v b (bitsOf ws x))
     (free : isSet v b ≡ false) (fits : v < 2 ^ 32) where
   pub take-lower : Lowerable (set ws (3 * x) v) 2 (x + 1) n
   take-lower = record {

@@ -9,8 +9,8 @@ ghost use mathlib.Core.Bool.{true, false};
 ghost use Prim.Native.Nat.{_+_, _*_, _^_, _≤_, _<_};
 ghost use lib.ListN.{length};
 ghost use Rattle.tree.specs.Node.{bitsOf, childOf, isSet, childAt};
-ghost use Rattle.tree_build.specs.Run.{WithBit};
-ghost use Rattle.tree_same.specs.Read.{hopPlace};
+ghost use Rattle.tree_build.specs.NodeRuns.{WithBit};
+ghost use Rattle.tree_same.specs.Read.{hopPlaceAt};
 ghost use Rattle.tree_hold.specs.Edits.{Grafted, Pruned, HopPut, HopTaken, Prunable, Takable};
 ghost use Rattle.tree_edit.specs.Small.{GraftReady, PutReady};
 
@@ -33,7 +33,7 @@ pub fn child_place(words: &[u32], x: usize, c: u32) -> usize
 // The place of the hop at the internal bit b of node x: the hop base and the internal ones below the bit.
 pub fn hop_place(words: &[u32], x: usize, b: u32) -> usize
     requires { ⌜ (3 * x + 3 ≤ length (now words)) × (b < 15) ⌝ }
-    ensures { λ r. ⌜ (r ≡ hopPlace (now (words .entry)) x b) × (r < 2 ^ 33) ⌝ }
+    ensures { λ r. ⌜ (r ≡ hopPlaceAt (now (words .entry)) x b) × (r < 2 ^ 33) ⌝ }
 {
     word_to_index(words[3 * x + 2]) + word_to_index(bits::ones_below(words[3 * x], b))
 }
@@ -70,7 +70,7 @@ pub fn prune(words: &mut [u32], n: usize, k: usize, x: usize, c: u32)
 // The hop h at the internal bit b of node x, of n nodes and k hops.
 pub fn put_hop(words: &mut [u32], hops: &mut [u16], n: usize, k: usize, x: usize, b: u32, h: u16)
     requires { ⌜ PutReady (now words) (now hops) n k x b ⌝ }
-    ensures { λ _. ⌜ HopPut (now (words .entry)) (now (words .exit)) (now (hops .entry)) (now (hops .exit)) n x b (hopPlace (now (words .entry)) x b) h ⌝ }
+    ensures { λ _. ⌜ HopPut (now (words .entry)) (now (words .exit)) (now (hops .entry)) (now (hops .exit)) n x b (hopPlaceAt (now (words .entry)) x b) h ⌝ }
 {
     let word = words[3 * x];
     let y = hop_place(words, x, b);

@@ -10,13 +10,13 @@ use lib.Seq.{getD-set-same, getD-set-other}
 use lib.Pow.{shr-mod}
 use lib.Count.{ones}
 use Rattle.bits.specs.Count.{count}
-use Rattle.bits.proofs.Tests.{below?}
+use Rattle.bits.proofs.Bools.{below?}
 use Rattle.bits.proofs.Packed.{upper-count}
 use Rattle.lists.specs.Edit.{drawn}
 use Rattle.lists.proofs.EditMoves.{length-drawn, drawn-in, drawn-before, drawn-after}
 use Rattle.tree.specs.Node.{bitsOf, childOf, baseOf, isSet, childAt}
 use Rattle.tree.proofs.Counts.{count-mono}
-use Rattle.tree_build.specs.Run.{WithBit}
+use Rattle.tree_build.specs.NodeRuns.{WithBit}
 use Rattle.tree_build.specs.Queue.{put3}
 use Rattle.tree_build.proofs.Stores.{put3-length, put3-other, put3-at}
 use Rattle.tree_same.specs.Order.{exts, ints, Order}

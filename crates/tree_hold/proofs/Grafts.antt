@@ -14,7 +14,7 @@ use lib.Count.{ones}
 use borrow.Author.Tests.{lt-ltb, le-ltb, eq-eqb, ne-eqb, eqb-true, ltb-true}
 use Rattle.bits.specs.Bit.{bitAt}
 use Rattle.bits.specs.Count.{bit, count}
-use Rattle.bits.proofs.Tests.{both, and-split, or-split, below?, equal?, untrue}
+use Rattle.bits.proofs.Bools.{both, and-split, or-split, below?, equal?, untrue}
 use Rattle.bits.proofs.Packed.{packed-bit}
 use Rattle.tree.specs.Node.{bitsOf, childOf, baseOf, isSet, childAt}
 use Rattle.tree.specs.Image.{Node, node, innerLen, bitHop, inner, child, setBit, word}
@@ -23,10 +23,10 @@ use Rattle.tree.proofs.Counts.{count-mono, count-less}
 use Rattle.tree.proofs.Nodes.{set-inner, set-child}
 use Rattle.tree.proofs.Lies.{inner-cases}
 use Rattle.tree_build.proofs.Marks.{word-bits}
-use Rattle.tree_same.specs.Read.{reached, hopPlace}
+use Rattle.tree_same.specs.Read.{reached, hopPlaceAt}
 use Rattle.tree_same.specs.Order.{exts, ints, Order, standsAt}
 use Rattle.tree_same.specs.Holding.{Holding}
-use Rattle.tree_same.proofs.Back.{Shaped, set-is}
+use Rattle.tree_same.proofs.Back.{Shaped, bit-set-is}
 use Rattle.tree_same.proofs.Holdings.{stands-found}
 use Rattle.tree_check.proofs.Held.{fewer-exts, exts-next, exts-mono}
 use Rattle.tree_hold.specs.More.{also}
@@ -198,7 +198,7 @@ module _ {st : ℕ → ℕ → Bool} {hop : ℕ → ℕ → ℕ} {ws ws′ hs : 
       let q : a + 1 ≡ suc a = omega arith in
       let k : bitAt (bitsOf ws (reached ws a b)) (16 + d) ≡ bit (st (suc a) (b * 16 + d)) =
       rw (h .right a b e) (packed-bit (setBit st hop (node a b)) 32 (16 + d) (omega arith) ∙ ap bit (set-child st hop (node a b) d ∙ ap (λ (z : ℕ). st z (b * 16 + d)) q)) in
-      set-is _ (16 + d) _ k
+      bit-set-is _ (16 + d) _ k
 
   -- every path leads one place further from y on
   pub leads-moved : (a b : ℕ) → standsAt st a b ≡ true → reached ws′ a b ≡ moved y (reached ws a b)
@@ -356,17 +356,17 @@ module _ {st : ℕ → ℕ → Bool} {hop : ℕ → ℕ → ℕ} {ws ws′ hs : 
       go (inr t) = rw (t .0, t .1, new-at) (g .bits .new ∙ new-word)
 
   put′ : (a b k : ℕ) → standsAt st′ a b ≡ true → k < 15 → inner hop (node a b) k ≡ true
-      → getD hs (hopPlace ws′ (reached ws′ a b) k) 0 ≡ bitHop hop (node a b) k
+      → getD hs (hopPlaceAt ws′ (reached ws′ a b) k) 0 ≡ bitHop hop (node a b) k
   put′ a b k e l s = go (stands-now a b e)
     where
       same : standsAt st a b ≡ true → (reached ws a b < y) ⊎ (y ≤ reached ws a b)
-          → baseOf ws′ (moved y (reached ws a b)) + ones (bitsOf ws′ (moved y (reached ws a b)) % 2 ^ k) ≡ hopPlace ws (reached ws a b) k
+          → baseOf ws′ (moved y (reached ws a b)) + ones (bitsOf ws′ (moved y (reached ws a b)) % 2 ^ k) ≡ hopPlaceAt ws (reached ws a b) k
       same t (inl v) = rw (moved-low y (reached ws a b) v) (omega (arith, g .base-below (reached ws a b) v, low-at (g .bits) (reached ws a b) v k (omega arith)))
       same t (inr v) =
           let i = stands-found st hop ws hs n fits h a b t .0 in
           rw (moved-high y (reached ws a b) v, g .base-above (reached ws a b) v i, g .bits .above (reached ws a b) v i) refl
 
-      go : (standsAt st a b ≡ true) ⊎ ((a ≡ suc m) × (b ≡ p * 16 + c)) → getD hs (hopPlace ws′ (reached ws′ a b) k) 0 ≡ bitHop hop (node a b) k
+      go : (standsAt st a b ≡ true) ⊎ ((a ≡ suc m) × (b ≡ p * 16 + c)) → getD hs (hopPlaceAt ws′ (reached ws′ a b) k) 0 ≡ bitHop hop (node a b) k
       go (inl t) = rw (leads-moved a b t, same t (below? (reached ws a b) y)) (h .put a b k t l s)
       go (inr t) = absurd (true≢false (sym s ∙ ap₂ (λ (d i : ℕ). inner hop (node d i) k) (t .0) (t .1) ∙ no-hop k l))
 

@@ -8,14 +8,14 @@ use lib.ListN.{length, getD, set, length-set}
 use lib.Seq.{getD-set-same, getD-set-other}
 use lib.Count.{ones}
 use Rattle.bits.specs.Count.{count}
-use Rattle.bits.proofs.Tests.{below?}
+use Rattle.bits.proofs.Bools.{below?}
 use Rattle.bits.proofs.Packed.{rank-count}
 use Rattle.lists.specs.Edit.{drawn}
 use Rattle.lists.proofs.EditMoves.{length-drawn, drawn-in, drawn-before, drawn-after}
 use Rattle.tree.specs.Node.{bitsOf, isSet}
 use Rattle.tree.proofs.Counts.{count-mono}
-use Rattle.tree_build.specs.Run.{WithBit}
-use Rattle.tree_same.specs.Read.{hopPlace}
+use Rattle.tree_build.specs.NodeRuns.{WithBit}
+use Rattle.tree_same.specs.Read.{hopPlaceAt}
 use Rattle.tree_same.specs.Order.{ints}
 use Rattle.tree_check.proofs.Held.{bit-of, ints-next, ints-mono}
 use Rattle.tree_hold.specs.Moves.{each}
@@ -29,7 +29,7 @@ low-le w b l =
     rw (rank-count w (isSet w) b (λ i u. bit-of w i), rank-count w (isSet w) 15 (λ i u. bit-of w i))
     (subst (λ (k : ℕ). count (isSet w) b ≤ count (isSet w) k) e (count-mono (isSet w) b (15 - b)))
 
-module _ {ws hs : List ℕ} {n k x b : ℕ} (r : Puttable ws hs n k x b) (y : ℕ) (place : y ≡ hopPlace ws x b) where
+module _ {ws hs : List ℕ} {n k x b : ℕ} (r : Puttable ws hs n k x b) (y : ℕ) (place : y ≡ hopPlaceAt ws x b) where
   pub put-inside : y ≤ k
   put-inside =
       omega (

@@ -11,7 +11,7 @@ use lib.ListN.{length}
 use borrow.Author.Tests.{eq-eqb, eqb-true, le-leb, lt-leb, leb-true, lt-ltb, ltb-true}
 use Rattle.bits.specs.Slot.{slot, cut}
 use Rattle.bits.proofs.Slots.{slot-up, slot-zero, cut-slot}
-use Rattle.bits.proofs.Tests.{decided, both, and-split, or-split, equal?, same, untrue}
+use Rattle.bits.proofs.Bools.{decided, both, and-split, or-split, equal?, same, untrue}
 use Rattle.routes.specs.Route.{key, keyOf, Prefix, Fine, Good}
 use Rattle.routes.specs.declared.Route.{Route}
 use Rattle.routes.proofs.Goods.{good-fine, key-parts}

@@ -11,7 +11,7 @@ use lib.Pow.{shr-mod}
 use lib.Count.{ones}
 use borrow.Author.Tests.{eq-eqb, ne-eqb}
 use Rattle.bits.specs.Bit.{bitAt}
-use Rattle.bits.proofs.Tests.{below?, equal?}
+use Rattle.bits.proofs.Bools.{below?, equal?}
 use Rattle.bits.proofs.Counts.{count-ext, without, without-other, without-same, count-without}
 use Rattle.bits.proofs.Packed.{rank-count, upper-count}
 use Rattle.tree.specs.Node.{bitsOf, isSet}

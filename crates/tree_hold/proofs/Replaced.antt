@@ -9,9 +9,9 @@ use lib.Dec.{eqb}
 use lib.ListN.{length, getD, set, length-set}
 use lib.Seq.{getD-set-same, getD-set-other}
 use borrow.Author.Tests.{eq-eqb, eqb-true, ltb-true}
-use Rattle.bits.proofs.Tests.{decided, below?, equal?, and-split}
+use Rattle.bits.proofs.Bools.{decided, below?, equal?, and-split}
 use Rattle.tree.specs.Image.{node, bitHop, inner}
-use Rattle.tree_same.specs.Read.{reached, hopPlace}
+use Rattle.tree_same.specs.Read.{reached, hopPlaceAt}
 use Rattle.tree_same.specs.Order.{ints, standsAt}
 use Rattle.tree_same.specs.Holding.{Holding}
 use Rattle.tree_same.proofs.Back.{Shaped}
@@ -76,7 +76,7 @@ module _ {st : ℕ → ℕ → Bool} {hop : ℕ → ℕ → ℕ} {ws hs : List �
   x = reached ws m p
 
   abbrev y : ℕ
-  y = hopPlace ws x b
+  y = hopPlaceAt ws x b
 
   abbrev l : ℕ
   l = lenAt m b

@@ -12,18 +12,18 @@ use lib.Seq.{ext-getD}
 use borrow.Author.Tests.{ne-eqb}
 use Rattle.bits.specs.Bit.{bitAt}
 use Rattle.bits.specs.Count.{bit}
-use Rattle.bits.proofs.Tests.{below?, equal?}
+use Rattle.bits.proofs.Bools.{below?, equal?}
 use Rattle.tree.specs.Node.{bitsOf, childOf, baseOf, isSet, childAt}
-use Rattle.tree.specs.Parts.{padded}
+use Rattle.tree.specs.Parts.{zeroPadded}
 use Rattle.tree.specs.Image.{node, child, nodes, words, hops, Image, imageBy}
 use Rattle.tree.proofs.Nodes.{child-bit, words-length}
 use Rattle.tree.proofs.Holds.{pad-length}
-use Rattle.tree_build.specs.Run.{WithBit}
+use Rattle.tree_build.specs.NodeRuns.{WithBit}
 use Rattle.tree_build.proofs.Marks.{with-bit, word-bits}
 use Rattle.tree_same.specs.Read.{reached}
 use Rattle.tree_same.specs.Order.{ints, standsAt}
 use Rattle.tree_same.specs.Holding.{Holding}
-use Rattle.tree_same.proofs.Back.{Shaped, set-is}
+use Rattle.tree_same.proofs.Back.{Shaped, bit-set-is}
 use Rattle.tree_same.proofs.Holdings.{nodes-are, hops-are, holds-image, stands-found, image-holding}
 use Rattle.tree_check.proofs.Held.{bit-of}
 use Rattle.tree_hold.specs.More.{also}
@@ -117,7 +117,7 @@ same-held {st} {hop} {ws} {vs} {hs} {gs} {n} {m} nine a b e f =
     (i .0 ∙ ap (λ (x : Image). x .words) q ∙ sym (j .0), i .1 ∙ ap (λ (x : Image). x .hops) q ∙ sym (j .1))
 
 -- a list that fills its room
-full : (xs : List ℕ) → padded (length xs) xs ≡ xs
+full : (xs : List ℕ) → zeroPadded (length xs) xs ≡ xs
 full xs = let z : length xs - length xs ≡ 0 = omega arith in ap (λ (k : ℕ). xs ++ replicate k 0) z ∙ append-nil xs
 
 pub image-sizes : (st : ℕ → ℕ → Bool) (hop : ℕ → ℕ → ℕ) (w h : ℕ) → 3 * length (nodes st) ≤ w → length (hops st hop) ≤ h
@@ -161,7 +161,7 @@ module _ {st : ℕ → ℕ → Bool} {hop : ℕ → ℕ → ℕ} (m p c : ℕ) (
       words = held-words (fits .agree .nine) held;
       parent = inside;
       small = small;
-      free = set-is (bitsOf (old .words) x) (16 + c) false (ap (λ (z : ℕ). bitAt z (16 + c)) (held .right m p stood) ∙ child-bit st hop (node m p) c small ∙ ap bit none);
+      free = bit-set-is (bitsOf (old .words) x) (16 + c) false (ap (λ (z : ℕ). bitAt z (16 + c)) (held .right m p stood) ∙ child-bit st hop (node m p) c small ∙ ap bit none);
       room = omega (arith, sizes .0);
     }
 
@@ -193,7 +193,7 @@ module _ {st : ℕ → ℕ → Bool} {hop : ℕ → ℕ → ℕ} (m p c : ℕ) (
       let s = sizes w h (omega arith) (omega arith) in
       let k : length (hops st′ hop) ≡ length (hops st hop) =
       sym (hops-are st′ hop _ _ _ also-nine g) ∙ same-ints w h (omega arith) (omega arith) ∙ hops-are st hop _ _ _ (fits .agree .nine) (held w h (omega arith) (omega arith)) in
-      sym (full (hops st′ hop)) ∙ ap (λ (z : ℕ). padded z (hops st′ hop)) (k ∙ sym (s .1)) ∙ sym i ∙ full (hops st hop)
+      sym (full (hops st′ hop)) ∙ ap (λ (z : ℕ). zeroPadded z (hops st′ hop)) (k ∙ sym (s .1)) ∙ sym i ∙ full (hops st hop)
 
   -- and taking the node away leaves the image without it
   module _ {ws ws′ hs : List ℕ} {n x₁ y : ℕ} (h : Holding st′ hop ws′ hs (n + 1)) (g : Grafted ws ws′ n x₁ c y) (at : x₁ ≡ reached ws′ m p) where

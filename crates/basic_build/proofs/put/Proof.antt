@@ -7,8 +7,8 @@ use Rattle.basic_build.proofs.put.Tie as tie
 byte-to-word-requires : tie.Need-byte-to-word-requires
 byte-to-word-requires c κs = search needs
 
-place-requires : tie.Need-place-requires
-place-requires c κs = search needs
+map-place-requires : tie.Need-map-place-requires
+map-place-requires c κs = search needs
 
 mul-cells : tie.Need-mul-cells
 mul-cells c = search needs
@@ -30,7 +30,7 @@ put-spec =
     tie.close
     (tie.spec
     byte-to-word-requires
-    place-requires
+    map-place-requires
     mul-cells
     slice-write-cells
     same-length

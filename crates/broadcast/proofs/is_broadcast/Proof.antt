@@ -1,5 +1,5 @@
 -- `broadcast::is_broadcast`: one law for each answer, over the longest record that covers the address.
-use Rattle.broadcast.proofs.Answers.{no-cover, not-attached, too-long, its-prefix, ends-there}
+use Rattle.broadcast.proofs.BroadcastReturns.{no-cover, not-attached, too-long, its-prefix, ends-there}
 use borrow.Author.Needs.{needs}
 use Rattle.broadcast.proofs.is_broadcast.Statement.{statement}
 use Rattle.broadcast.proofs.is_broadcast.Tie as tie

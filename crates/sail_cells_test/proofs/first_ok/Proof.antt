@@ -4,14 +4,14 @@ use Prim.Native.Nat.{_*_, _-_, _≤_}
 use native.Mathlib.Omega.{arith}
 use borrow.Author.Needs.{needs}
 use lib.ListN.{length}
-use Rattle.chain.specs.Words.{routesIn}
+use Rattle.chain.specs.Words.{routesOfWords}
 use Rattle.sail_cells_test.proofs.Cells.{UpTo}
 use Rattle.sail_cells_test.proofs.Blocks.{block-of-first, first-none, first-more, first-off, first-all}
 use Rattle.sail_cells_test.proofs.first_ok.Statement.{statement}
 use Rattle.sail_cells_test.proofs.first_ok.Tie as tie
 
 abbrev Inv-loop : tie.InvT-loop
-Inv-loop ws par p first o below want₀ n b₀ want b = (b ≤ n) × (length want ≡ 1024) × UpTo (routesIn ws) p below first o (b * 1024)
+Inv-loop ws par p first o below want₀ n b₀ want b = (b ≤ n) × (length want ≡ 1024) × UpTo (routesOfWords ws) p below first o (b * 1024)
 
 abbrev μ-loop : tie.MeasureT-loop
 μ-loop ws par p first o below want₀ n b₀ want b = n - b

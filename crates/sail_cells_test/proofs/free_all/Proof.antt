@@ -5,12 +5,12 @@ use borrow.Author.Count.{below-none, below-more}
 use borrow.Author.Needs.{needs}
 use lib.ListN.{length, getD}
 use Rattle.bits.proofs.Tells.{is-yes, refuted, passed}
-use Rattle.sail_cells_test.specs.Pool.{Free}
+use Rattle.sail_cells_test.specs.Pool.{FreeIsZero}
 use Rattle.sail_cells_test.proofs.free_all.Statement.{statement}
 use Rattle.sail_cells_test.proofs.free_all.Tie as tie
 
 abbrev Inv-loop : tie.InvT-loop
-Inv-loop d cells own c₀ c = (c ≤ length own) × ((k : ℕ) → k < c → Free d cells k (getD own k 0))
+Inv-loop d cells own c₀ c = (c ≤ length own) × ((k : ℕ) → k < c → FreeIsZero d cells k (getD own k 0))
 
 abbrev μ-loop : tie.MeasureT-loop
 μ-loop d cells own c₀ c = length own - c

@@ -1,5 +1,5 @@
 -- `sail_make::blank`: the arrays are written one after the other.
-use Rattle.sail_make.proofs.Makes.{blanked}
+use Rattle.sail_make.proofs.Makes.{blank-made}
 use Rattle.sail_make.proofs.blank.Statement.{statement}
 use Rattle.sail_make.proofs.blank.Tie as tie
 
@@ -13,7 +13,7 @@ returns c =
     let second = third .before .before .before .before in
     let first = second .before .before .before .before in
     let list = first .before .before .before .before in
-    blanked _ _ _ _ _ _ _ _ _ (list .zero8 .ensures) (first .fill16 .ensures) (second .fill162 .ensures) (third .fill163 .ensures)
+    blank-made _ _ _ _ _ _ _ _ _ (list .zero8 .ensures) (first .fill16 .ensures) (second .fill162 .ensures) (third .fill163 .ensures)
     (own2 .zero32 .ensures) (own3 .zero322 .ensures) (long1 .fill164 .ensures) (long2 .fill165 .ensures)
 
 pub blank-spec : {M : Type 1} → statement M

@@ -25,8 +25,8 @@ use Rattle.sail.specs.declared.geometry.Geometry.{Geometry}
 use Rattle.sail.specs.declared.table.Table.{Table}
 use Rattle.sail.proofs.Sounds.{standing-good}
 use Rattle.sail_theory.specs.Render.{find, Fits, roomOf, Rendered}
-use Rattle.sail_theory.specs.Calls.{Owners, opened, kept, ownersOf, stateOf, lentOf}
-use Rattle.sail_theory.specs.Facts.{SameSize, Holds, Welcome, Farewell}
+use Rattle.sail_theory.specs.Calls.{Owners, opened, ownersKept, ownersOf, stateOf, lentOf}
+use Rattle.sail_theory.specs.Facts.{SameSize, TableHolds, Announceable, Withdrawable}
 use Rattle.sail_theory.proofs.owners.Chunks.{chunk-at, used-free}
 use Rattle.sail_theory.proofs.places.Rendered.{sound-rendered, Renders, render-standing, render-sized, render-sound}
 use Rattle.sail_theory.proofs.owners.GrantKeep.{length-keep, keep-closed, Losing}
@@ -34,7 +34,7 @@ use Rattle.standing.proofs.NeedAfter.{need-more}
 use Rattle.standing.proofs.TwoLevels.{slot-down, long-down}
 use Rattle.sail_theory.proofs.places.Places.{LiveFor, top-served, below-served, top-apart, below-apart}
 use Rattle.sail_theory.proofs.owners.StillFit.{fits-kept, below-kept}
-use Rattle.sail_theory.proofs.owners.OpenAt.{Space, Ready, length-open, open-fits, ready-below}
+use Rattle.sail_theory.proofs.owners.OpenAt.{Space, OpenReady, length-open, open-fits, ready-below}
 use Rattle.sail_theory.proofs.owners.UsedNeed.{Enough, seven, eight}
 
 -- Arrays of these sizes can be rendered for the routes rs and the owners o: the routes are good and within the room, and as many owners as there
@@ -81,7 +81,7 @@ module _ (t : Table) (l : Lent) (rs : List Route) (o : Owners) (k : Fitting t l 
     counts2 = sized .counts2 ∙ seconds ∙ sym (z .counts2);
   }
 
-  pub render-holds : Holds t l rs (stateOf t rs) (lentOf t l rs o)
+  pub render-holds : TableHolds t l rs (stateOf t rs) (lentOf t l rs o)
   render-holds = record {
     sound = render-sound (t .geometry) (roomOf l) rs (o .own2) (o .own3) renders (k .fits2) (k .fits3);
     routes = render-standing (t .geometry) (roomOf l) rs (o .own2) (o .own3) renders;
@@ -99,7 +99,7 @@ module _ (rs : List Route) (r : Route) (v : Level) (own : List ℕ) (w : Enough 
       (h, chunk-at (chunksOf own) 0 h)
 
 -- an announcement that is accepted: it may be made at the first level, and after that at the second
-module _ (t : Table) (l : Lent) (r : Route) (w : Welcome t l r) where
+module _ (t : Table) (l : Lent) (r : Route) (w : Announceable t l r) where
   abbrev g : Geometry
   g = t .geometry
 
@@ -115,7 +115,7 @@ module _ (t : Table) (l : Lent) (r : Route) (w : Welcome t l r) where
   valid : Valid g
   valid = w .sound .sized .valid
 
-  pub ready1 : Ready rs r (level1 g) (l .own2) (find (l .own2) 0)
+  pub ready1 : OpenReady rs r (level1 g) (l .own2) (find (l .own2) 0)
   ready1 =
       let v = valid in
       record {
@@ -127,7 +127,7 @@ module _ (t : Table) (l : Lent) (r : Route) (w : Welcome t l r) where
         space = enough-space rs r (level1 g) (l .own2) (seven t l (w .sound)) (w .fine) (w .enough2);
       }
 
-  pub ready2 : Ready rs r (level2 g (chunksOf (now .own2))) (l .own3) (find (l .own3) 0)
+  pub ready2 : OpenReady rs r (level2 g (chunksOf (now .own2))) (l .own3) (find (l .own3) 0)
   ready2 =
       let v = valid in
       ready-below rs r (level1 g) (l .own2) (find (l .own2) 0) ready1 (g .p2) (omega arith) (omega arith) (l .own3) (find (l .own3) 0) (is .fits3)
@@ -139,7 +139,7 @@ module _ (t : Table) (l : Lent) (r : Route) (w : Welcome t l r) where
   pub welcome-fits3 : Fits (insert r rs) (level2 g (chunksOf (now .own2))) (chunksOf (now .own3))
   welcome-fits3 = open-fits rs r (level2 g (chunksOf (now .own2))) (l .own3) (find (l .own3) 0) ready2
 
-  pub welcome-holds : Holds t l (insert r rs) (stateOf t (insert r rs)) (lentOf t l (insert r rs) now)
+  pub welcome-holds : TableHolds t l (insert r rs) (stateOf t (insert r rs)) (lentOf t l (insert r rs) now)
   welcome-holds = render-holds t l (insert r rs) now (record {
     sized = w .sound .sized;
     good = insert-good r rs (w .fine) (standing-good t l (w .sound));
@@ -151,12 +151,12 @@ module _ (t : Table) (l : Lent) (r : Route) (w : Welcome t l r) where
   })
 
 -- a withdrawal that is accepted
-module _ (t : Table) (l : Lent) (a len : ℕ) (w : Farewell t l a len) where
+module _ (t : Table) (l : Lent) (a len : ℕ) (w : Withdrawable t l a len) where
   abbrev left : List Route
   left = remove (keyOf a len) (standing t l)
 
   abbrev then : Owners
-  then = kept (t .geometry) left (ownersOf l)
+  then = ownersKept (t .geometry) left (ownersOf l)
 
   was : Rendered t l
   was = sound-rendered t l (w .sound)
@@ -203,7 +203,7 @@ module _ (t : Table) (l : Lent) (a len : ℕ) (w : Farewell t l a len) where
   fewer : length left ≤ roomOf l
   fewer = omega (arith, remove-length (keyOf a len) (standing t l), length-routes (l .list) (t .count), w .sound .listed .records .room)
 
-  pub farewell-holds : Holds t l left (stateOf t left) (lentOf t l left then)
+  pub farewell-holds : TableHolds t l left (stateOf t left) (lentOf t l left then)
   farewell-holds = render-holds t l left then (record {
     sized = w .sound .sized;
     good = remove-good (keyOf a len) (standing t l) (standing-good t l (w .sound));

@@ -15,7 +15,7 @@ use Rattle.bits.specs.Count.{bit}
 use Rattle.bits.specs.Slot.{cut}
 use Rattle.bits.proofs.Masks.{cut-bits}
 use Rattle.bits.proofs.Slots.{cut-le, cut-cut}
-use Rattle.bits.proofs.Tests.{below?}
+use Rattle.bits.proofs.Bools.{below?}
 use Rattle.routes.specs.Route.{keyOf, Prefix, Fine}
 use Rattle.routes.specs.Said.{Said, accepted, refused, refusedAt, accepts}
 use Rattle.routes.specs.declared.Route.{Route}
@@ -28,8 +28,8 @@ use Rattle.sail.specs.Sound.{standing}
 use Rattle.sail.specs.declared.table.Table.{Table}
 use Rattle.sail_theory.specs.Alters.{Alters}
 use Rattle.sail_theory.specs.Calls.{opened, ownersOf, announceSaid, withdrawSaid, Out, out, lentOf, adding, taking}
-use Rattle.sail_theory.specs.Calls.{cutRoute, cleared, telling, told, announced, withdrawn}
-use Rattle.sail_theory.specs.Facts.{Holds, Welcome, Farewell}
+use Rattle.sail_theory.specs.Calls.{cutRoute, cleared, withFlag, outWithFlag, announced, withdrawn}
+use Rattle.sail_theory.specs.Facts.{TableHolds, Announceable, Withdrawable}
 use Rattle.sail.specs.Cases.{Sizing}
 use Rattle.sail_theory.specs.Cases.{Announce, Withdraw}
 use Rattle.sail_theory.proofs.calls.SomeCase.{announce-judged, withdraw-judged}
@@ -71,12 +71,12 @@ cleared-bits l a = (
 )
 
 -- What is said, with whether bits were cleared.
-pub telling-accepts : (b : Bool) (s : Said) → accepts (telling b s) ≡ accepts s
+pub telling-accepts : (b : Bool) (s : Said) → accepts (withFlag b s) ≡ accepts s
 telling-accepts b (accepted vs) = refl
 telling-accepts b (refused n) = refl
 telling-accepts b (refusedAt n k) = refl
 
-pub telling-off : (b : Bool) (s : Said) → accepts s ≡ false → telling b s ≡ s
+pub telling-off : (b : Bool) (s : Said) → accepts s ≡ false → withFlag b s ≡ s
 telling-off b (accepted vs) e = absurd (true≢false e)
 telling-off b (refused n) e = refl
 telling-off b (refusedAt n k) e = refl
@@ -88,7 +88,7 @@ bit-once true false e = absurd (omega arith)
 bit-once false true e = absurd (omega arith)
 bit-once false false e = refl
 
-pub telling-once : (b : Bool) (s u : Said) → telling b s ≡ telling b u → s ≡ u
+pub telling-once : (b : Bool) (s u : Said) → withFlag b s ≡ withFlag b u → s ≡ u
 telling-once b (accepted vs) (accepted ws) e = cc
 telling-once b (accepted vs) (refused n) e = cc
 telling-once b (accepted vs) (refusedAt n k) e = cc
@@ -117,26 +117,26 @@ module _ (t : Table) (l : Lent) (r : Route) where
   abbrev rs : List Route
   rs = standing t l
 
-  pub announce-said : announced t l r .said ≡ telling b (announceSaid t l c)
+  pub announce-said : announced t l r .said ≡ withFlag b (announceSaid t l c)
   unfolding announced
-  announce-said = ap (telling b) (adding-said t l c)
+  announce-said = ap (withFlag b) (adding-said t l c)
 
   pub announce-accepts : accepts (announced t l r .said) ≡ accepts (announceSaid t l c)
   announce-accepts = ap accepts announce-said ∙ telling-accepts b (announceSaid t l c)
 
-  pub announce-welcome : accepts (announced t l r .said) ≡ true → Welcome t l c
+  pub announce-welcome : accepts (announced t l r .said) ≡ true → Announceable t l c
   announce-welcome e = accepted-welcome t l c (sym announce-accepts ∙ e)
 
   -- Refused: the number alone, and all as it was. (The number is that of the first condition that holds: `announce-judged`.)
   pub announce-off : (s : Said) → announceSaid t l c ≡ s → accepts s ≡ false → announced t l r ≡ out s t l
   unfolding announced
-  announce-off s q e = ap (told b) (adding-off t l c s q e) ∙ ap (λ (x : Said). out x t l) (telling-off b s e)
+  announce-off s q e = ap (outWithFlag b) (adding-off t l c s q e) ∙ ap (λ (x : Said). out x t l) (telling-off b s e)
 
   pub announce-refused : accepts (announced t l r .said) ≡ false → announced t l r ≡ out (announceSaid t l c) t l
   announce-refused e = announce-off (announceSaid t l c) refl (sym announce-accepts ∙ e)
 
   -- Accepted: sound, and the list holds the routes with the cleared one inserted
-  pub announce-holds : accepts (announced t l r .said) ≡ true → Holds t l (insert c rs) (announced t l r .table) (announced t l r .lent)
+  pub announce-holds : accepts (announced t l r .said) ≡ true → TableHolds t l (insert c rs) (announced t l r .table) (announced t l r .lent)
   unfolding announced
   announce-holds e = adding-holds t l c (announce-welcome e)
 
@@ -162,7 +162,7 @@ module _ (t : Table) (l : Lent) (r : Route) where
   pub three-is-length-announce : r .addr < 2 ^ 32 → (announced t l r .said ≡ refused 3) ↔ (Sized (t .geometry) l × (32 < r .len))
   three-is-length-announce h = (
     (λ e. go (announce-judged t l c) (telling-once b _ (refused 3) (sym announce-said ∙ e))),
-    (λ w. announce-said ∙ ap (telling b) (announce-only t l c _ (Announce.wrong 3 (w .0) (WrongRoute.prefix (λ p. omega (arith, p .len-ok, w .1)))))),
+    (λ w. announce-said ∙ ap (withFlag b) (announce-only t l c _ (Announce.wrong 3 (w .0) (WrongRoute.prefix (λ p. omega (arith, p .len-ok, w .1)))))),
   )
     where
       wrong : {n : ℕ} → WrongRoute c n → n ≡ 3 → 32 < r .len
@@ -181,45 +181,45 @@ module _ (t : Table) (l : Lent) (r : Route) where
       go (Announce.added w x y) e = absurd (false≢true (sym (ap accepts e)))
 
   -- a fine route has no bit to clear
-  pub announce-fine : Fine r → announced t l r ≡ told false (adding t l r)
+  pub announce-fine : Fine r → announced t l r ≡ outWithFlag false (adding t l r)
   unfolding announced
   announce-fine f =
       let same : c ≡ r = ap (λ (x : ℕ). record { addr = x; len = r .len; mark = r .mark; hop = r .hop }) (f .prefix .clear) in
-      ap₂ (λ (x : Bool) (y : Route). told x (adding t l y)) (none-cleared (r .len) (r .addr) (f .prefix .clear)) same
+      ap₂ (λ (x : Bool) (y : Route). outWithFlag x (adding t l y)) (none-cleared (r .len) (r .addr) (f .prefix .clear)) same
 
   -- A route and its cut are announced alike: one outcome, told with the flag and without. A cut address is its own cut
-  pub clear-same-announce : (o : Out) × (announced t l r ≡ told b o) × (announced t l c ≡ told false o)
+  pub clear-same-announce : (o : Out) × (announced t l r ≡ outWithFlag b o) × (announced t l c ≡ outWithFlag false o)
   unfolding announced
   clear-same-announce =
       let e = cut-cut (r .len) (r .addr) in
       let at : ℕ → Route = λ a. record { addr = a; len = r .len; mark = r .mark; hop = r .hop } in
-      (adding t l c, refl, ap₂ (λ (x : Bool) (a : ℕ). told x (adding t l (at a))) (none-cleared (r .len) (c .addr) e) e)
+      (adding t l c, refl, ap₂ (λ (x : Bool) (a : ℕ). outWithFlag x (adding t l (at a))) (none-cleared (r .len) (c .addr) e) e)
 
 -- withdraw, in the same way
 module _ (t : Table) (l : Lent) (a len : ℕ) where
   abbrev p : ℕ
   p = cut len a
 
-  pub withdraw-said : withdrawn t l a len .said ≡ telling (cleared len a) (withdrawSaid t l p len)
+  pub withdraw-said : withdrawn t l a len .said ≡ withFlag (cleared len a) (withdrawSaid t l p len)
   unfolding withdrawn
-  withdraw-said = ap (telling (cleared len a)) (taking-said t l p len)
+  withdraw-said = ap (withFlag (cleared len a)) (taking-said t l p len)
 
   pub withdraw-accepts : accepts (withdrawn t l a len .said) ≡ accepts (withdrawSaid t l p len)
   withdraw-accepts = ap accepts withdraw-said ∙ telling-accepts (cleared len a) (withdrawSaid t l p len)
 
-  pub withdraw-farewell : accepts (withdrawn t l a len .said) ≡ true → Farewell t l p len
+  pub withdraw-farewell : accepts (withdrawn t l a len .said) ≡ true → Withdrawable t l p len
   withdraw-farewell e = accepted-farewell t l p len (sym withdraw-accepts ∙ e)
 
   pub withdraw-off : (s : Said) → withdrawSaid t l p len ≡ s → accepts s ≡ false → withdrawn t l a len ≡ out s t l
   unfolding withdrawn
-  withdraw-off s q e = ap (told (cleared len a)) (taking-off t l p len s q e) ∙ ap (λ (x : Said). out x t l) (telling-off (cleared len a) s e)
+  withdraw-off s q e = ap (outWithFlag (cleared len a)) (taking-off t l p len s q e) ∙ ap (λ (x : Said). out x t l) (telling-off (cleared len a) s e)
 
   pub withdraw-refused : accepts (withdrawn t l a len .said) ≡ false → withdrawn t l a len ≡ out (withdrawSaid t l p len) t l
   withdraw-refused e = withdraw-off (withdrawSaid t l p len) refl (sym withdraw-accepts ∙ e)
 
   -- Accepted: sound, and the list holds the routes with that of the cleared prefix removed
   pub withdraw-holds : accepts (withdrawn t l a len .said) ≡ true
-      → Holds t l (remove (keyOf p len) (standing t l)) (withdrawn t l a len .table) (withdrawn t l a len .lent)
+      → TableHolds t l (remove (keyOf p len) (standing t l)) (withdrawn t l a len .table) (withdrawn t l a len .lent)
   unfolding withdrawn
   withdraw-holds e = taking-holds t l p len (withdraw-farewell e)
 
@@ -230,7 +230,7 @@ module _ (t : Table) (l : Lent) (a len : ℕ) where
   pub three-is-length-withdraw : a < 2 ^ 32 → (withdrawn t l a len .said ≡ refused 3) ↔ (Sized (t .geometry) l × (32 < len))
   three-is-length-withdraw h = (
     (λ e. go (withdraw-judged t l p len) (telling-once (cleared len a) _ (refused 3) (sym withdraw-said ∙ e))),
-    (λ w. withdraw-said ∙ ap (telling (cleared len a)) (withdraw-only t l p len _ (Withdraw.bad-prefix (w .0) (λ q. omega (arith, q .len-ok, w .1))))),
+    (λ w. withdraw-said ∙ ap (withFlag (cleared len a)) (withdraw-only t l p len _ (Withdraw.bad-prefix (w .0) (λ q. omega (arith, q .len-ok, w .1))))),
   )
     where
       go : {s : Said} → Withdraw t l p len s → s ≡ refused 3 → Sized (t .geometry) l × (32 < len)
@@ -240,8 +240,8 @@ module _ (t : Table) (l : Lent) (a len : ℕ) where
       go (Withdraw.absent q k x) e = absurd (omega (arith, number-is 9 e))
       go (Withdraw.removed w) e = absurd (false≢true (sym (ap accepts e)))
 
-  pub clear-same-withdraw : (o : Out) × (withdrawn t l a len ≡ told (cleared len a) o) × (withdrawn t l p len ≡ told false o)
+  pub clear-same-withdraw : (o : Out) × (withdrawn t l a len ≡ outWithFlag (cleared len a) o) × (withdrawn t l p len ≡ outWithFlag false o)
   unfolding withdrawn
   clear-same-withdraw =
       let e = cut-cut len a in
-      (taking t l p len, refl, ap₂ (λ (x : Bool) (y : ℕ). told x (taking t l y len)) (none-cleared len p e) e)
+      (taking t l p len, refl, ap₂ (λ (x : Bool) (y : ℕ). outWithFlag x (taking t l y len)) (none-cleared len p e) e)

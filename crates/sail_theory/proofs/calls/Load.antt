@@ -17,13 +17,13 @@ use Rattle.sail.specs.Sizes.{Sized}
 use Rattle.sail.specs.declared.geometry.Geometry.{Geometry}
 use Rattle.sail.specs.declared.table.Table.{Table}
 use Rattle.sail_theory.specs.Render.{find, Fits, roomOf}
-use Rattle.sail_theory.specs.Calls.{Owners, opened, settled, ownersOf, noOwners, inputRoutes, loadSaid, Out, out, stateOf, lentOf}
-use Rattle.sail_theory.specs.Calls.{made, adding, told, announced, loaded}
-use Rattle.sail_theory.specs.Facts.{Holds, Welcome, Loadable}
+use Rattle.sail_theory.specs.Calls.{Owners, opened, ownersAfter, ownersOf, noOwners, inputRoutes, loadSaid, Out, out, stateOf, lentOf}
+use Rattle.sail_theory.specs.Calls.{made, adding, outWithFlag, announced, loaded}
+use Rattle.sail_theory.specs.Facts.{TableHolds, Announceable, Loadable}
 use Rattle.sail_theory.specs.CallRuns.{announceAll, AllAdded}
 use Rattle.standing.proofs.ListParts.{good-front, good-next, good-below, insert-end, none-stands, any-front}
 use Rattle.standing.proofs.NeedAfter.{need-mono}
-use Rattle.sail_theory.proofs.owners.OpenAt.{Ready, length-open}
+use Rattle.sail_theory.proofs.owners.OpenAt.{OpenReady, length-open}
 use Rattle.sail_theory.specs.Cases.{Readable, Load}
 use Rattle.sail_theory.proofs.calls.SomeCase.{load-judged}
 use Rattle.sail_theory.proofs.calls.OneCase.{load-only}
@@ -75,7 +75,7 @@ module _ (t : Table) (l : Lent) (xs : List Route) (r : Route) (ys : List Route) 
       let good : Good (xs′ ++ ys) = rw regroup (f .good) in
       rw (ended, ← regroup) (need-mono xs′ (xs′ ++ ys) p h (good-front xs′ ys good) good (λ i e. any-front (within p i) xs′ ys e))
 
-  now : Holds t l xs u v
+  now : TableHolds t l xs u v
   now = render-holds t l xs o (record {
     sized = f .sized;
     good = good-front xs (r ∷ ys) (f .good);
@@ -92,7 +92,7 @@ module _ (t : Table) (l : Lent) (xs : List Route) (r : Route) (ys : List Route) 
   owners : ownersOf v ≡ o
   owners = refl
 
-  welcome : Welcome u v r
+  welcome : Announceable u v r
   welcome =
       let k = f .sized .valid in
       record {
@@ -104,10 +104,10 @@ module _ (t : Table) (l : Lent) (xs : List Route) (r : Route) (ys : List Route) 
       }
 
   -- it may be announced at both levels
-  pub fronts-ready1 : Ready xs r (level1 g) (o .own2) (find (o .own2) 0)
+  pub fronts-ready1 : OpenReady xs r (level1 g) (o .own2) (find (o .own2) 0)
   fronts-ready1 = rw (now .routes) at (ready1 u v r welcome)
 
-  pub fronts-ready2 : Ready xs r (level2 g (chunksOf (opened g o r .own2))) (o .own3) (find (o .own3) 0)
+  pub fronts-ready2 : OpenReady xs r (level2 g (chunksOf (opened g o r .own2))) (o .own3) (find (o .own3) 0)
   fronts-ready2 = rw (now .routes) at (ready2 u v r welcome)
 
   -- it is added, and its chunks opened
@@ -115,7 +115,7 @@ module _ (t : Table) (l : Lent) (xs : List Route) (r : Route) (ys : List Route) 
   next =
       let is : adding u v r ≡ record { said = accepted (0 ∷ []); table = stateOf t xs′; lent = lentOf t l xs′ (opened g o r) }
       = adding-is u v r welcome ∙ rw (now .routes, none-stands (key r) xs below, ended, same-room) in
-      announce-fine u v r fine ∙ ap (told false) is
+      announce-fine u v r fine ∙ ap (outWithFlag false) is
 
   pub fronts-next : Fronts t l xs′ ys (opened g o r)
   fronts-next = record {
@@ -136,12 +136,12 @@ start s t l xs o = record { said = s; table = stateOf t xs; lent = lentOf t l xs
 
 pub record Settles (s : Said) (t : Table) (l : Lent) (xs ys : List Route) (o : Owners) : Type 0 where
   pub table : announceAll (start s t l xs o) ys .table ≡ stateOf t (xs ++ ys)
-  pub lent : announceAll (start s t l xs o) ys .lent ≡ lentOf t l (xs ++ ys) (settled (t .geometry) o ys)
+  pub lent : announceAll (start s t l xs o) ys .lent ≡ lentOf t l (xs ++ ys) (ownersAfter (t .geometry) o ys)
   pub added : AllAdded (start s t l xs o) ys
-  pub ends : Fronts t l (xs ++ ys) [] (settled (t .geometry) o ys)
+  pub ends : Fronts t l (xs ++ ys) [] (ownersAfter (t .geometry) o ys)
 
 pub settles : (s : Said) (t : Table) (l : Lent) (ys xs : List Route) (o : Owners) → Fronts t l xs ys o → Settles s t l xs ys o
-unfolding announceAll AllAdded settled
+unfolding announceAll AllAdded ownersAfter
 settles s t l [] xs o f = record { table = rw append-nil; lent = rw append-nil; added = tt; ends = rw append-nil f }
 settles s t l (r ∷ ys) xs o f = go (settles (accepted (0 ∷ 0 ∷ [])) t l ys (xs ++ (r ∷ [])) (opened (t .geometry) o r) (fronts-next t l xs r ys o f))
   where
@@ -151,7 +151,7 @@ settles s t l (r ∷ ys) xs o f = go (settles (accepted (0 ∷ 0 ∷ [])) t l ys
     go : Settles (accepted (0 ∷ 0 ∷ [])) t l (xs ++ (r ∷ [])) ys (opened (t .geometry) o r) → Settles s t l xs (r ∷ ys) o
     go k =
         let step = next t l xs r ys o f in
-        let owners : Owners = settled (t .geometry) (opened (t .geometry) o r) ys in
+        let owners : Owners = ownersAfter (t .geometry) (opened (t .geometry) o r) ys in
         record {
           table = ap {B = Table} (λ (x : Out). announceAll x ys .table) step ∙ k .table ∙ ap (stateOf t) re;
           lent = ap {B = Lent} (λ (x : Out). announceAll x ys .lent) step ∙ k .lent ∙ ap (λ (x : List Route). lentOf t l x owners) re;
@@ -179,9 +179,9 @@ module _ (t : Table) (l : Lent) (rs : List Route) (w : Loadable t l rs) where
 
   -- what a load of these routes leaves
   abbrev owned : Owners
-  owned = settled (t .geometry) (noOwners l) rs
+  owned = ownersAfter (t .geometry) (noOwners l) rs
 
-  pub loadable-holds : Holds t l rs (stateOf t rs) (lentOf t l rs owned)
+  pub loadable-holds : TableHolds t l rs (stateOf t rs) (lentOf t l rs owned)
   loadable-holds =
       let e = whole .ends in
       render-holds t l rs owned (record {
@@ -221,7 +221,7 @@ module _ (t : Table) (l : Lent) (input : List ℕ) where
   loadable-said w k = load-only t l input _ (Load.done w k)
 
   pub load-is : Readable t l input → Loadable t l rs
-      → loaded t l input ≡ out (accepted []) (stateOf t rs) (lentOf t l rs (settled (t .geometry) (noOwners l) rs))
+      → loaded t l input ≡ out (accepted []) (stateOf t rs) (lentOf t l rs (ownersAfter (t .geometry) (noOwners l) rs))
   unfolding loaded
   load-is w k = rw (loadable-said w k)
 
@@ -242,8 +242,8 @@ module _ (t : Table) (l : Lent) (input : List ℕ) where
     ok : Readable t l input × Loadable t l rs
     ok = accepted-loadable (sym (ap accepts load-said) ∙ e)
 
-    pub load-holds : Holds t l rs (loaded t l input .table) (loaded t l input .lent)
-    load-holds = subst (λ (o : Out). Holds t l rs (o .table) (o .lent)) (sym (load-is (ok .0) (ok .1))) (loadable-holds t l rs (ok .1))
+    pub load-holds : TableHolds t l rs (loaded t l input .table) (loaded t l input .lent)
+    load-holds = subst (λ (o : Out). TableHolds t l rs (o .table) (o .lent)) (sym (load-is (ok .0) (ok .1))) (loadable-holds t l rs (ok .1))
 
     -- "Load equals make and then announcing each record in order, where it is accepted"
     pub load-as-announces : (loaded t l input .table ≡ announceAll (made t l) rs .table) × (loaded t l input .lent ≡ announceAll (made t l) rs .lent)

@@ -23,7 +23,7 @@ use Rattle.sail.specs.declared.table.Table.{Table}
 use Rattle.sail.proofs.Fresh.{zeros, best-none}
 use Rattle.sail_theory.specs.Render.{pool, longs, Fits, roomOf}
 use Rattle.sail_theory.specs.Calls.{noOwners, makeSaid, Out, lentOf, made}
-use Rattle.sail_theory.specs.Facts.{Holds}
+use Rattle.sail_theory.specs.Facts.{TableHolds}
 use Rattle.sail_theory.proofs.places.Pools.{length-pool, pool-clear, pool-leaf}
 use Rattle.sail_theory.specs.Cases.{Make}
 use Rattle.sail_theory.proofs.calls.SomeCase.{make-judged}
@@ -91,9 +91,9 @@ module _ (t : Table) (l : Lent) (z : Sized (t .geometry) l) where
   unfolding made
   make-is = rw (make-only t l _ (Make.done z))
 
-  pub make-holds : Holds t l [] (made t l .table) (made t l .lent)
+  pub make-holds : TableHolds t l [] (made t l .table) (made t l .lent)
   unfolding Good
-  make-holds = subst (λ (o : Out). Holds t l [] (o .table) (o .lent)) (sym make-is) (rw fresh-rendered (render-holds t l [] (noOwners l) (record {
+  make-holds = subst (λ (o : Out). TableHolds t l [] (o .table) (o .lent)) (sym make-is) (rw fresh-rendered (render-holds t l [] (noOwners l) (record {
     sized = z;
     good = tt;
     roomy = omega arith;

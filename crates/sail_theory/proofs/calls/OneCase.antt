@@ -8,7 +8,7 @@ use lib.Dec.{leb, ltb}
 use lib.ListN.{length}
 use borrow.Author.Tests.{lt-leb, le-leb, lt-ltb, le-ltb}
 use Rattle.bits.specs.Count.{bit}
-use Rattle.bits.proofs.Tests.{untrue}
+use Rattle.bits.proofs.Bools.{untrue}
 use Rattle.routes.specs.Route.{key, Prefix}
 use Rattle.routes.specs.Input.{properPrefix, routeFault}
 use Rattle.routes.specs.Said.{Said, accepted, refused}

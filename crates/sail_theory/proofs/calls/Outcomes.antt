@@ -8,7 +8,7 @@ use Prim.Native.Nat.{ℕ, suc, _≤_}
 use native.Mathlib.Omega.{arith}
 use lib.ListN.{length}
 use Rattle.bits.specs.Count.{bit}
-use Rattle.bits.proofs.Tests.{decided}
+use Rattle.bits.proofs.Bools.{decided}
 use Rattle.routes.specs.Route.{keyOf, key}
 use Rattle.routes.specs.Said.{Said, accepted, refused, refusedAt, accepts}
 use Rattle.standing.specs.Cells.{need}
@@ -23,8 +23,8 @@ use Rattle.sail.specs.Sound.{Sound, standing}
 use Rattle.sail.specs.declared.table.Table.{Table}
 use Rattle.sail.proofs.Sounds.{standing-good, chunks-need}
 use Rattle.sail_theory.specs.Render.{roomOf}
-use Rattle.sail_theory.specs.Calls.{opened, kept, ownersOf, announceSaid, withdrawSaid, Out, out, outcome, stateOf, lentOf, adding, taking}
-use Rattle.sail_theory.specs.Facts.{Holds, Welcome, Farewell}
+use Rattle.sail_theory.specs.Calls.{opened, ownersKept, ownersOf, announceSaid, withdrawSaid, Out, out, outcome, stateOf, lentOf, adding, taking}
+use Rattle.sail_theory.specs.Facts.{TableHolds, Announceable, Withdrawable}
 use Rattle.sail_theory.proofs.owners.Chunks.{used-le}
 use Rattle.standing.proofs.NeedAfter.{need-same, stands-long}
 use Rattle.sail_theory.specs.Cases.{Proper, Announce, Withdraw}
@@ -67,7 +67,7 @@ module _ (t : Table) (l : Lent) (r : Route) where
   within-room s = omega (arith, length-routes (l .list) (t .count), s .listed .records .room)
 
   -- a replacement needs no chunk more
-  pub replaced-welcome : Proper t l r → stands (key r) rs ≡ true → Welcome t l r
+  pub replaced-welcome : Proper t l r → stands (key r) rs ≡ true → Announceable t l r
   replaced-welcome p e =
       let s = p .sound in
       let v = s .sized .valid in
@@ -84,10 +84,10 @@ module _ (t : Table) (l : Lent) (r : Route) where
       }
 
   -- accepted exactly where the route is welcome
-  pub accepted-welcome : accepts (announceSaid t l r) ≡ true → Welcome t l r
+  pub accepted-welcome : accepts (announceSaid t l r) ≡ true → Announceable t l r
   accepted-welcome e = go (announce-judged t l r) e
     where
-      go : {s : Said} → Announce t l r s → accepts s ≡ true → Welcome t l r
+      go : {s : Said} → Announce t l r s → accepts s ≡ true → Announceable t l r
       go (Announce.sizing n h) e = absurd (false≢true e)
       go (Announce.wrong n z h) e = absurd (false≢true e)
       go (Announce.unsound z f h) e = absurd (false≢true e)
@@ -103,7 +103,7 @@ module _ (t : Table) (l : Lent) (r : Route) where
         enough3 = y;
       }
 
-  pub welcome-said : Welcome t l r → announceSaid t l r ≡ accepted (bit (stands (key r) rs) ∷ [])
+  pub welcome-said : Announceable t l r → announceSaid t l r ≡ accepted (bit (stands (key r) rs) ∷ [])
   welcome-said w = go (decided (stands (key r) rs))
     where
       go : (stands (key r) rs ≡ true) ⊎ (stands (key r) rs ≡ false) → announceSaid t l r ≡ accepted (bit (stands (key r) rs) ∷ [])
@@ -116,7 +116,7 @@ module _ (t : Table) (l : Lent) (r : Route) where
           }) (w .enough2) (w .enough3)))
 
   -- what is then left
-  pub adding-is : Welcome t l r
+  pub adding-is : Announceable t l r
       → adding t l r ≡ out (accepted (bit (stands (key r) rs) ∷ [])) (stateOf t (insert r rs)) (lentOf t l (insert r rs) (opened (t .geometry) (ownersOf l) r))
   unfolding adding
   adding-is w = rw (welcome-said w)
@@ -131,32 +131,32 @@ module _ (t : Table) (l : Lent) (r : Route) where
   adding-off s q e = rw q (outcome-refused s t l _ _ e)
 
   -- Accepted: sound, and the list holds the routes with this one inserted
-  pub adding-holds : Welcome t l r → Holds t l (insert r rs) (adding t l r .table) (adding t l r .lent)
-  adding-holds w = subst (λ (o : Out). Holds t l (insert r rs) (o .table) (o .lent)) (sym (adding-is w)) (welcome-holds t l r w)
+  pub adding-holds : Announceable t l r → TableHolds t l (insert r rs) (adding t l r .table) (adding t l r .lent)
+  adding-holds w = subst (λ (o : Out). TableHolds t l (insert r rs) (o .table) (o .lent)) (sym (adding-is w)) (welcome-holds t l r w)
 
 module _ (t : Table) (l : Lent) (a len : ℕ) where
   abbrev left : List Route
   left = remove (keyOf a len) (standing t l)
 
-  pub accepted-farewell : accepts (withdrawSaid t l a len) ≡ true → Farewell t l a len
+  pub accepted-farewell : accepts (withdrawSaid t l a len) ≡ true → Withdrawable t l a len
   accepted-farewell e = go (withdraw-judged t l a len) e
     where
-      go : {s : Said} → Withdraw t l a len s → accepts s ≡ true → Farewell t l a len
+      go : {s : Said} → Withdraw t l a len s → accepts s ≡ true → Withdrawable t l a len
       go (Withdraw.sizing n h) e = absurd (false≢true e)
       go (Withdraw.bad-prefix z h) e = absurd (false≢true e)
       go (Withdraw.unsound z p h) e = absurd (false≢true e)
       go (Withdraw.absent p k h) e = absurd (false≢true e)
       go (Withdraw.removed w) e = w
 
-  pub farewell-said : Farewell t l a len → withdrawSaid t l a len ≡ accepted []
+  pub farewell-said : Withdrawable t l a len → withdrawSaid t l a len ≡ accepted []
   farewell-said w = withdraw-only t l a len _ (Withdraw.removed w)
 
-  pub taking-is : Farewell t l a len
-      → taking t l a len ≡ out (accepted []) (stateOf t left) (lentOf t l left (kept (t .geometry) left (ownersOf l)))
+  pub taking-is : Withdrawable t l a len
+      → taking t l a len ≡ out (accepted []) (stateOf t left) (lentOf t l left (ownersKept (t .geometry) left (ownersOf l)))
   unfolding taking
   taking-is w = rw (farewell-said w)
 
-  pub count-removed : Farewell t l a len → suc (stateOf t left .count) ≡ t .count
+  pub count-removed : Withdrawable t l a len → suc (stateOf t left .count) ≡ t .count
   count-removed w = remove-takes (keyOf a len) (standing t l) (standing-good t l (w .sound)) (w .old) ∙ length-routes (l .list) (t .count)
 
   pub taking-said : taking t l a len .said ≡ withdrawSaid t l a len
@@ -168,5 +168,5 @@ module _ (t : Table) (l : Lent) (a len : ℕ) where
   taking-off s q e = rw q (outcome-refused s t l _ _ e)
 
   -- Accepted: sound, and the list holds the routes with those of this prefix removed
-  pub taking-holds : Farewell t l a len → Holds t l left (taking t l a len .table) (taking t l a len .lent)
-  taking-holds w = subst (λ (o : Out). Holds t l left (o .table) (o .lent)) (sym (taking-is w)) (farewell-holds t l a len w)
+  pub taking-holds : Withdrawable t l a len → TableHolds t l left (taking t l a len .table) (taking t l a len .lent)
+  taking-holds w = subst (λ (o : Out). TableHolds t l left (o .table) (o .lent)) (sym (taking-is w)) (farewell-holds t l a len w)

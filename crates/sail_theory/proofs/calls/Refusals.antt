@@ -9,14 +9,14 @@ use Rattle.routes.specs.Said.{Said, accepts}
 use Rattle.routes.specs.declared.Route.{Route}
 use Rattle.sail.specs.Lent.{Lent}
 use Rattle.sail.specs.declared.table.Table.{Table}
-use Rattle.sail_theory.specs.Calls.{Out, out, made, telling, announced, withdrawn, loaded}
+use Rattle.sail_theory.specs.Calls.{Out, out, made, withFlag, announced, withdrawn, loaded}
 use Rattle.sail_theory.proofs.calls.Cleared.{telling-once, announce-refused, withdraw-refused}
 use Rattle.sail_theory.proofs.calls.Make.{make-refused}
 use Rattle.sail_theory.proofs.calls.Load.{load-refused}
 
-pub told-exactly : (b : Bool) (P : Said → Type 0) (x y : Said) → x ≡ telling b y → P y → ((s : Said) → P s → y ≡ s)
-    → (s : Said) → (x ≡ telling b s) ↔ P s
-told-exactly b P x y q h only s = ((λ e. subst P (telling-once b y s (sym q ∙ e)) h), (λ c. q ∙ ap (telling b) (only s c)))
+pub told-exactly : (b : Bool) (P : Said → Type 0) (x y : Said) → x ≡ withFlag b y → P y → ((s : Said) → P s → y ≡ s)
+    → (s : Said) → (x ≡ withFlag b s) ↔ P s
+told-exactly b P x y q h only s = ((λ e. subst P (telling-once b y s (sym q ∙ e)) h), (λ c. q ∙ ap (withFlag b) (only s c)))
 
 -- the state and all that is lent are as they were
 abbrev Left : Out → Table → Lent → Type 0

@@ -13,7 +13,7 @@ use Rattle.sail.specs.Sizes.{sizesFit, sizesFault, Sized}
 use Rattle.sail.specs.Sound.{freshTable, freshLent}
 use Rattle.sail.specs.declared.geometry.Geometry.{Geometry}
 use Rattle.sail.specs.declared.table.Table.{Table}
-use Rattle.sail_theory.specs.Calls.{settled, noOwners, Terms, termsOf, loadFault, orSay, makeSaid, loadSaid, inputRoutes, Out, stateOf, lentOf, loaded}
+use Rattle.sail_theory.specs.Calls.{ownersAfter, noOwners, Terms, termsOf, loadFault, orSay, makeSaid, loadSaid, inputRoutes, Out, stateOf, lentOf, loaded}
 use Rattle.sail_theory.specs.Facts.{SameSize}
 use Rattle.sail_theory.proofs.calls.Outcomes.{outcome-accepted}
 
@@ -83,8 +83,8 @@ module _ (t : Table) (l : Lent) (u : Table) (v : Lent) (geo : u .geometry ≡ t 
     unfolding loadSaid
     load-says = ap₂ (λ (n : ℕ) (m : Terms). orSay n (andThen (inputSaid input) (orSay (loadFault m rs) (accepted [])))) fault-same terms-same
 
-    same : _≡_ {A = Out} (record { said = loadSaid u v input; table = stateOf u rs; lent = lentOf u v rs (settled (u .geometry) (noOwners v) rs) })
-        (record { said = loadSaid t l input; table = stateOf t rs; lent = lentOf t l rs (settled (t .geometry) (noOwners l) rs) })
+    same : _≡_ {A = Out} (record { said = loadSaid u v input; table = stateOf u rs; lent = lentOf u v rs (ownersAfter (u .geometry) (noOwners v) rs) })
+        (record { said = loadSaid t l input; table = stateOf t rs; lent = lentOf t l rs (ownersAfter (t .geometry) (noOwners l) rs) })
     same = rw (load-says, geo, s .list, none-same)
 
     pub load-blind : accepts (loadSaid t l input) ≡ true → loaded u v input ≡ loaded t l input

@@ -10,7 +10,7 @@ use lib.Dec.{ltb, leb}
 use lib.ListN.{length}
 use borrow.Author.Tests.{lt-leb, le-leb, lt-ltb, le-ltb}
 use Rattle.bits.specs.Count.{bit}
-use Rattle.bits.proofs.Tests.{decided, below?}
+use Rattle.bits.proofs.Bools.{decided, below?}
 use Rattle.routes.specs.Route.{keyOf, key, Fine}
 use Rattle.standing.specs.Cells.{need}
 use Rattle.routes.specs.Input.{properPrefix, routeFault}

@@ -7,7 +7,7 @@ use mathlib.Core.List.{List}
 use Prim.Native.Nat.{ℕ, _/_, _^_, _<_}
 use native.Mathlib.Omega.{arith}
 use Rattle.bits.specs.Slot.{slot, cut}
-use Rattle.bits.proofs.Tests.{decided}
+use Rattle.bits.proofs.Bools.{decided}
 use Rattle.standing.specs.Cells.{best}
 use Rattle.routes.specs.Said.{Said, accepts}
 use Rattle.routes.specs.declared.Route.{Route}
@@ -23,7 +23,7 @@ use Rattle.sail.specs.declared.table.Table.{Table}
 use Rattle.sail.proofs.Sounds.{standing-good, sail-serves}
 use Rattle.sail_theory.specs.Alters.{Alters}
 use Rattle.sail_theory.specs.Calls.{Out, cutRoute, announced, withdrawn}
-use Rattle.sail_theory.specs.Facts.{Holds}
+use Rattle.sail_theory.specs.Facts.{TableHolds}
 use Rattle.sail_theory.proofs.calls.Cleared.{announce-welcome, announce-refused, announce-holds, announce-alters}
 use Rattle.sail_theory.proofs.calls.Cleared.{withdraw-farewell, withdraw-refused, withdraw-holds, withdraw-alters}
 
@@ -35,7 +35,7 @@ module _ (t : Table) (l : Lent) (a len x : ℕ) (small : x < 2 ^ 32) (off : slot
   same-best : (rs rs′ : List Route) → SameBut a len rs rs′ → best rs 32 x ≡ best rs′ 32 x
   same-best rs rs′ b = frame-best a len rs rs′ b 32 x (λ k e c. off (ap (λ (n : ℕ). x / 2 ^ n) (omega arith) ∙ c))
 
-  changed : Sound t l → (rs : List Route) (u : Table) (v : Lent) → Holds t l rs u v → SameBut a len (standing t l) rs → hopBy t l x u v
+  changed : Sound t l → (rs : List Route) (u : Table) (v : Lent) → TableHolds t l rs u v → SameBut a len (standing t l) rs → hopBy t l x u v
   changed s rs u v h b =
       ap uncounted (sail-serves u v (h .sound) x small)
       ∙ hop-alone _ (cellsRead (t .geometry) (standing t l) x) (best (standing u v) 32 x)

@@ -11,14 +11,14 @@ use lib.Arith.{digits-lt, digits-div}
 use lib.Pow.{pow-pos, pow-add}
 use Rattle.bits.specs.Slot.{slot}
 use Rattle.bits.proofs.Slots.{slot-up}
-use Rattle.bits.proofs.Tests.{decided}
+use Rattle.bits.proofs.Bools.{decided}
 use Rattle.bits.proofs.Tabs.{getD-tabulate}
 use Rattle.standing.specs.Cells.{best}
 use Rattle.routes.specs.declared.Route.{Route}
 use Rattle.standing.proofs.Frame.{SameBut, frame-long, frame-best}
 use Rattle.sail.specs.Level.{Level, Chunks, chunkFor, deep, leafAt, top, below}
 use Rattle.sail_theory.specs.Render.{shown, block, pool, Fits}
-use Rattle.sail_theory.specs.Alters.{NoneUnder, Same, Framed}
+use Rattle.sail_theory.specs.Alters.{NoneUnder, SamePlace, Framed}
 use Rattle.standing.proofs.TwoLevels.{pow-down}
 use Rattle.sail_theory.proofs.owners.Chunks.{chunk-at}
 use Rattle.sail_theory.proofs.places.Places.{chunk-lt, live-owner}
@@ -69,7 +69,7 @@ below-bounded rs v k p h f b q l e =
 
 -- a place below stands where it stood where its chunk keeps its owner, and that stands where it stood
 pub below-same : (v v′ : Level) (k k′ : Chunks) (p q : ℕ) → v′ .bits ≡ v .bits → k′ .own (q / 2 ^ (p - v .bits)) ≡ k .own (q / 2 ^ (p - v .bits))
-    → ((z : ℕ) → k .own (q / 2 ^ (p - v .bits)) ≡ suc z → v′ .at z ≡ v .at z) → Same (below v k p) (below v′ k′ p) q
+    → ((z : ℕ) → k .own (q / 2 ^ (p - v .bits)) ≡ suc z → v′ .at z ≡ v .at z) → SamePlace (below v k p) (below v′ k′ p) q
 below-same v v′ k k′ p q b o a = record {
   live = rw (b, o);
   at = λ e. rw (b, o, a _ (live-owner v k p q e));
@@ -77,7 +77,7 @@ below-same v v′ k k′ p q b o a = record {
 
 -- From the level v with the chunks k to v′ with k′, where the routes rs become rs′: the same places, and a chunk keeps its owner where that
 -- is deep still.
-pub record Moved (rs rs′ : List Route) (v v′ : Level) (k k′ : Chunks) : Type 0 where
+pub record LevelMoved (rs rs′ : List Route) (v v′ : Level) (k k′ : Chunks) : Type 0 where
   pub few : v .bits ≤ 32
   pub bounded : Bounded v
   pub bits : v′ .bits ≡ v .bits
@@ -87,7 +87,7 @@ pub record Moved (rs rs′ : List Route) (v v′ : Level) (k k′ : Chunks) : Ty
   pub many : k′ .many ≡ k .many
   pub stay : (c q : ℕ) → k .own c ≡ suc q → deep rs′ v q ≡ true → k′ .own c ≡ suc q
 
-module _ (rs rs′ : List Route) (v v′ : Level) (k k′ : Chunks) (m : Moved rs rs′ v v′ k k′) where
+module _ (rs rs′ : List Route) (v v′ : Level) (k k′ : Chunks) (m : LevelMoved rs rs′ v v′ k k′) where
   -- a chunk that keeps its owner keeps its number
   chunk-stays : (q : ℕ) → q < v .places → v .live q ≡ true → deep rs v q ≡ true → deep rs′ v q ≡ true → chunkFor k′ (suc q) ≡ chunkFor k (suc q)
   chunk-stays q l u d d′ =
@@ -110,7 +110,7 @@ module _ (rs rs′ : List Route) (v v′ : Level) (k k′ : Chunks) (m : Moved r
       same-best : (q : ℕ) → q < v .places → v .live q ≡ true → NoneUnder a len (v .bits) (v .at q) → best rs′ (v .bits) (v .at q) ≡ best rs (v .bits) (v .at q)
       same-best q l e n = sym (frame-best a len rs rs′ but (v .bits) (v .at q) (under a len (v .bits) (v .at q) (m .few) (m .bounded q l e) n))
 
-      go : (q : ℕ) → q < v .places → Same v v′ q → (v .live q ≡ true → NoneUnder a len (v .bits) (v .at q)) → (v .live q ≡ true) ⊎ (v .live q ≡ false)
+      go : (q : ℕ) → q < v .places → SamePlace v v′ q → (v .live q ≡ true → NoneUnder a len (v .bits) (v .at q)) → (v .live q ≡ true) ⊎ (v .live q ≡ false)
           → (deep rs v q ≡ true) ⊎ (deep rs v q ≡ false)
           → cond (v′ .live q) (cond (deep rs′ v′ q) (suc (chunkFor k′ (suc q))) (leafAt rs′ v′ q)) 0
           ≡ cond (v .live q) (cond (deep rs v q) (suc (chunkFor k (suc q))) (leafAt rs v q)) 0

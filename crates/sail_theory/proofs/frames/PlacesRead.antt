@@ -14,7 +14,7 @@ use Rattle.sail.specs.Geometry.{bits2, bits3, Valid}
 use Rattle.sail.specs.Lent.{Lent}
 use Rattle.sail.specs.Level.{Level, Chunks, entry, chunksOf, whole, below, level1, level2, level3}
 use Rattle.sail.specs.Sound.{Shows, Sound, standing}
-use Rattle.sail.specs.Walk.{place, cell2}
+use Rattle.sail.specs.Walk.{cellPlace, cell2}
 use Rattle.sail.specs.Reads.{Leads, ReadsSecond, ReadsThird}
 use Rattle.sail.specs.declared.geometry.Geometry.{Geometry}
 use Rattle.sail.specs.declared.table.Table.{Table}
@@ -33,7 +33,7 @@ module _ (rs : List Route) (v : Level) (k : Chunks) (cells : ℕ → ℕ) (s : S
   owner-stands = sym (part-up v k p q) ∙ ap (λ (j : ℕ). j / 2 ^ d) is ∙ sym (slot-down (v .bits) p x h u)
 
   stands-named : (z : ℕ) → z < v .places → v .live z ≡ true → v .at z ≡ slot (v .bits) x
-      → (cells z ≡ suc (q / 2 ^ d)) × (cells z ≤ k .many) × (place d (cells z) (slot p x) ≡ q)
+      → (cells z ≡ suc (q / 2 ^ d)) × (cells z ≤ k .many) × (cellPlace d (cells z) (slot p x) ≡ q)
   stands-named z zl lz above =
       let c = chunk-lt d (k .many) q l in
       let o = s .owned (q / 2 ^ d) (k .own (q / 2 ^ d) - 1) c (live-owner v k p q e) in
@@ -62,7 +62,7 @@ module _ (t : Table) (l : Lent) (s : Sound t l) (x : ℕ) (small : x < 2 ^ 32) w
   cell1 = getD (l .first) (slot (g .p1) x) 0
 
   named2 : (q : ℕ) → q < v2 .places → v2 .live q ≡ true → v2 .at q ≡ slot (g .p2) x
-      → (cell1 ≡ suc (q / 2 ^ bits2 g)) × (cell1 ≤ length (l .own2)) × (place (bits2 g) cell1 (slot (g .p2) x) ≡ q)
+      → (cell1 ≡ suc (q / 2 ^ bits2 g)) × (cell1 ≤ length (l .own2)) × (cellPlace (bits2 g) cell1 (slot (g .p2) x) ≡ q)
   named2 q h e p =
       let v = valid in
       stands-named (standing t l) (level1 g) (chunksOf (l .own2)) (entry (l .first)) (s .serves .first) (top-apart (g .p1)) (g .p2) x (omega arith)
@@ -89,5 +89,5 @@ module _ (t : Table) (l : Lent) (s : Sound t l) (x : ℕ) (small : x < 2 ^ 32) w
       record {
         goes = leads (two .0) (two .1) (s .sized .few2);
         on = subst (λ (j : ℕ). Leads j (length (l .own3))) (sym here) (leads (three .0) (three .1) (s .sized .few3));
-        there = ap₂ (place (bits3 g)) here (sym (div-one x)) ∙ three .2;
+        there = ap₂ (cellPlace (bits3 g)) here (sym (div-one x)) ∙ three .2;
       }

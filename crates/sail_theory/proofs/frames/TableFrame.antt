@@ -23,9 +23,9 @@ use Rattle.sail.specs.declared.geometry.Geometry.{Geometry}
 use Rattle.sail.specs.declared.table.Table.{Table}
 use Rattle.sail.proofs.Sounds.{standing-good}
 use Rattle.sail_theory.specs.Render.{find, Rendered}
-use Rattle.sail_theory.specs.Calls.{Owners, grant, openAt, opening, opened, kept, ownersOf, Out, lentOf, adding, taking}
-use Rattle.sail_theory.specs.Facts.{Welcome, Farewell}
-use Rattle.sail_theory.specs.Alters.{Alters, NoneUnder, Same, Frame}
+use Rattle.sail_theory.specs.Calls.{Owners, grant, openAt, opening, opened, ownersKept, ownersOf, Out, lentOf, adding, taking}
+use Rattle.sail_theory.specs.Facts.{Announceable, Withdrawable}
+use Rattle.sail_theory.specs.Alters.{Alters, NoneUnder, SamePlace, Frame}
 use Rattle.sail_theory.proofs.owners.Chunks.{chunk-before}
 use Rattle.sail_theory.proofs.places.Places.{chunk-lt, live-owner}
 use Rattle.sail_theory.proofs.places.Rendered.{sound-rendered, listed-good, last-fits}
@@ -34,7 +34,7 @@ use Rattle.sail_theory.proofs.owners.GrantKeep.{length-keep, kept-was, 
 use Rattle.sail_theory.proofs.owners.OpenAt.{length-open, open-stays}
 use Rattle.sail_theory.proofs.calls.ChangeHolds.{welcome-fits2, welcome-fits3, farewell-fits2, farewell-fits3, less}
 use Rattle.sail_theory.proofs.calls.Outcomes.{adding-is, taking-is}
-use Rattle.sail_theory.proofs.frames.LevelFrame.{Moved, framed, top-bounded, below-bounded, below-same}
+use Rattle.sail_theory.proofs.frames.LevelFrame.{LevelMoved, framed, top-bounded, below-bounded, below-same}
 use Rattle.sail_theory.proofs.frames.PlacesRead.{reads-second, reads-third}
 
 -- an owner that is kept is the same
@@ -50,26 +50,26 @@ abbrev third : Geometry → Owners → Level
 third g o = level3 g (chunksOf (o .own2)) (chunksOf (o .own3))
 
 -- owners that are in use before and after are the same; and a second chunk above a third chunk that stays has its owner still
-pub record Kept (g : Geometry) (l u : Lent) : Type 0 where
+pub record OwnersStay (g : Geometry) (l u : Lent) : Type 0 where
   pub same2 : (c : ℕ) → inUse (entry (u .own2)) c ≡ inUse (entry (l .own2)) c → getD (u .own2) c 0 ≡ getD (l .own2) c 0
   pub same3 : (c : ℕ) → inUse (entry (u .own3)) c ≡ inUse (entry (l .own3)) c → getD (u .own3) c 0 ≡ getD (l .own3) c 0
   pub over : (c q : ℕ) → c < length (l .own3) → getD (l .own3) c 0 ≡ suc q → getD (u .own3) c 0 ≡ suc q
       → getD (u .own2) (q / 2 ^ bits2 g) 0 ≡ getD (l .own2) (q / 2 ^ bits2 g) 0
 
 -- so a place stands where it stood where its chunk keeps its owner
-module _ (g : Geometry) (l u : Lent) (o : Kept g l u) where
+module _ (g : Geometry) (l u : Lent) (o : OwnersStay g l u) where
   pub kept-same2 : (q : ℕ) → getD (u .own2) (q / 2 ^ bits2 g) 0 ≡ getD (l .own2) (q / 2 ^ bits2 g) 0
-      → Same (second g (ownersOf l)) (second g (ownersOf u)) q
+      → SamePlace (second g (ownersOf l)) (second g (ownersOf u)) q
   kept-same2 q e = below-same (level1 g) (level1 g) (chunksOf (l .own2)) (chunksOf (u .own2)) (g .p2) q refl e (λ z _. refl)
 
   pub kept-same3 : (q : ℕ) → q < length (l .own3) * 2 ^ bits3 g → getD (u .own3) (q / 2 ^ bits3 g) 0 ≡ getD (l .own3) (q / 2 ^ bits3 g) 0
-      → Same (third g (ownersOf l)) (third g (ownersOf u)) q
+      → SamePlace (third g (ownersOf l)) (third g (ownersOf u)) q
   kept-same3 q h e = below-same (second g (ownersOf l)) (second g (ownersOf u)) (chunksOf (l .own3)) (chunksOf (u .own3)) 32 q refl e
       (λ z y. ap (λ (x : ℕ). (x - 1) * 2 ^ bits2 g + z % 2 ^ bits2 g) (o .over _ z (chunk-lt (bits3 g) (length (l .own3)) q h) y (e ∙ y)))
 
 -- From the frame by cells to the paper's words: a live place that stands for the cell of an address is read by its lookup, so where no lookup
 -- of an address under the prefix reads the place, no such address lies in its cell.
-frame-alters : (t : Table) (l : Lent) → Sound t l → (a len : ℕ) (u : Lent) → Frame (t .geometry) a len l u → Kept (t .geometry) l u
+frame-alters : (t : Table) (l : Lent) → Sound t l → (a len : ℕ) (u : Lent) → Frame (t .geometry) a len l u → OwnersStay (t .geometry) l u
     → Alters (t .geometry) a len l u
 unfolding NoneUnder
 frame-alters t l s a len u f o = record {
@@ -86,11 +86,11 @@ frame-alters t l s a len u f o = record {
 
 -- what moves at the first level and at the second, where the routes become rs′ and the owners o
 abbrev Moves1 : Table → Lent → List Route → Owners → Type 0
-Moves1 t l rs′ o = Moved (standing t l) rs′ (level1 (t .geometry)) (level1 (t .geometry)) (chunksOf (l .own2)) (chunksOf (o .own2))
+Moves1 t l rs′ o = LevelMoved (standing t l) rs′ (level1 (t .geometry)) (level1 (t .geometry)) (chunksOf (l .own2)) (chunksOf (o .own2))
 
 abbrev Moves2 : Table → Lent → List Route → Owners → Type 0
 Moves2 t l rs′ o =
-    Moved (standing t l) rs′ (second (t .geometry) (ownersOf l)) (second (t .geometry) o) (chunksOf (l .own3)) (chunksOf (o .own3))
+    LevelMoved (standing t l) rs′ (second (t .geometry) (ownersOf l)) (second (t .geometry) o) (chunksOf (l .own3)) (chunksOf (o .own3))
 
 -- A change of one prefix: good routes that differ from those that stand at that prefix alone, and what moves at both levels.
 record Change (t : Table) (l : Lent) (a len : ℕ) (rs′ : List Route) (o : Owners) : Type 0 where
@@ -103,7 +103,7 @@ record Change (t : Table) (l : Lent) (a len : ℕ) (rs′ : List Route) (o : Own
 
 -- The frame of the table is that of its three levels. Nothing hangs from the third, so its move follows from that of the second.
 module _ (t : Table) (l : Lent) (a len : ℕ) (rs′ : List Route) (o : Owners) (w : Change t l a len rs′ o) where
-  moves3 : Moved (standing t l) rs′ (third (t .geometry) (ownersOf l)) (third (t .geometry) o) noChunks noChunks
+  moves3 : LevelMoved (standing t l) rs′ (third (t .geometry) (ownersOf l)) (third (t .geometry) o) noChunks noChunks
   moves3 =
       let v = w .is .sized .valid in
       let v2 = second (t .geometry) (ownersOf l) in
@@ -125,8 +125,8 @@ module _ (t : Table) (l : Lent) (a len : ℕ) (rs′ : List Route) (o : Owners) 
     third = rw (w .is .is-third) (framed _ _ _ _ _ _ moves3 a len (w .small) (w .but));
   }
 
--- Announce: a chunk in use keeps its owner, so each level moves as `Moved` asks.
-module _ (t : Table) (l : Lent) (r : Route) (w : Welcome t l r) where
+-- Announce: a chunk in use keeps its owner, so each level moves as `LevelMoved` asks.
+module _ (t : Table) (l : Lent) (r : Route) (w : Announceable t l r) where
   abbrev g : Geometry
   g = t .geometry
 
@@ -181,7 +181,7 @@ module _ (t : Table) (l : Lent) (r : Route) (w : Welcome t l r) where
     moves2 = announce-moved2;
   })
 
-  pub announce-kept : Kept g l now
+  pub announce-kept : OwnersStay g l now
   announce-kept = record {
     same2 = λ c e. same-owner _ _ (λ x. open-stays (level1 g) (l .own2) r c x) e;
     same3 = λ c e. same-owner _ _ (λ x. open-stays (second g o) (l .own3) r c x) e;
@@ -193,16 +193,16 @@ module _ (t : Table) (l : Lent) (r : Route) (w : Welcome t l r) where
   welcome-alters : Alters g (r .addr) (r .len) l now
   welcome-alters = frame-alters t l (w .sound) (r .addr) (r .len) now announce-frame announce-kept
 
-pub adding-alters : (t : Table) (l : Lent) (r : Route) → Welcome t l r → Alters (t .geometry) (r .addr) (r .len) l (adding t l r .lent)
+pub adding-alters : (t : Table) (l : Lent) (r : Route) → Announceable t l r → Alters (t .geometry) (r .addr) (r .len) l (adding t l r .lent)
 adding-alters t l r w = subst (λ (o : Out). Alters (t .geometry) (r .addr) (r .len) l (o .lent)) (sym (adding-is t l r w)) (welcome-alters t l r w)
 
 -- Withdraw: a chunk keeps its owner where that is deep still, and no route that is left is longer where none was.
-module _ (t : Table) (l : Lent) (a len : ℕ) (w : Farewell t l a len) where
+module _ (t : Table) (l : Lent) (a len : ℕ) (w : Withdrawable t l a len) where
   abbrev left : List Route
   left = remove (keyOf a len) (standing t l)
 
   abbrev then : Owners
-  then = kept (t .geometry) left (ownersOf l)
+  then = ownersKept (t .geometry) left (ownersOf l)
 
   abbrev gone : Lent
   gone = lentOf t l left then
@@ -249,7 +249,7 @@ module _ (t : Table) (l : Lent) (a len : ℕ) (w : Farewell t l a len) where
     moves2 = withdraw-moved2;
   })
 
-  pub withdraw-kept : Kept (t .geometry) l gone
+  pub withdraw-kept : OwnersStay (t .geometry) l gone
   withdraw-kept =
       let v = w .sound .sized .valid in
       let v1 : Level = level1 (t .geometry) in
@@ -267,7 +267,7 @@ module _ (t : Table) (l : Lent) (a len : ℕ) (w : Farewell t l a len) where
   farewell-alters : Alters (t .geometry) a len l gone
   farewell-alters = frame-alters t l (w .sound) a len gone withdraw-frame withdraw-kept
 
-pub taking-alters : (t : Table) (l : Lent) (a len : ℕ) → Farewell t l a len → Alters (t .geometry) a len l (taking t l a len .lent)
+pub taking-alters : (t : Table) (l : Lent) (a len : ℕ) → Withdrawable t l a len → Alters (t .geometry) a len l (taking t l a len .lent)
 taking-alters t l a len w = subst (λ (o : Out). Alters (t .geometry) a len l (o .lent)) (sym (taking-is t l a len w)) (farewell-alters t l a len w)
 
 -- "A newly opened chunk takes the lowest free number": c was free and is in use, so no chunk before it was free

@@ -11,7 +11,7 @@ use lib.ListN.{getD, length, List·getD-eq-default}
 use borrow.Author.Tests.{eqb-true, eqb-false, eq-eqb, ne-eqb, lt-ltb}
 use Rattle.bits.specs.Count.{bit, count}
 use Rattle.bits.proofs.Searches.{firstOf-is, firstOf-le, firstOf-before, firstOf-at}
-use Rattle.bits.proofs.Tests.{below?}
+use Rattle.bits.proofs.Bools.{below?}
 use Rattle.sail.specs.Level.{Chunks, chunkFor, inUse, chunksOf}
 use Rattle.sail_theory.specs.Render.{find}
 

@@ -11,7 +11,7 @@ use lib.ListN.{getD, length, set}
 use lib.Seq.{getD-set-same, getD-set-other}
 use borrow.Author.Tests.{ltb-true, lt-ltb, le-ltb}
 use Rattle.bits.specs.Slot.{slot}
-use Rattle.bits.proofs.Tests.{decided, untrue, equal?}
+use Rattle.bits.proofs.Bools.{decided, untrue, equal?}
 use Rattle.routes.specs.Route.{Fine, Good}
 use Rattle.standing.specs.Cells.{long}
 use Rattle.standing.specs.Standing.{insert}
@@ -54,7 +54,7 @@ Space rs r v own c = ltb (v .bits) (r .len) ≡ true → long rs (v .bits) (slot
 
 -- r may be announced at the level: the chunks that hang from it fit the routes that stand, a live place serves r where it is longer than the
 -- level, and where a chunk has to be opened, c is free
-pub record Ready (rs : List Route) (r : Route) (v : Level) (own : List ℕ) (c : ℕ) : Type 0 where
+pub record OpenReady (rs : List Route) (r : Route) (v : Level) (own : List ℕ) (c : ℕ) : Type 0 where
   pub fine : Fine r
   pub good : Good rs
   pub fits : Fits rs v (chunksOf own)
@@ -62,7 +62,7 @@ pub record Ready (rs : List Route) (r : Route) (v : Level) (own : List ℕ) (c :
   pub served : ltb (v .bits) (r .len) ≡ true → LiveFor v (r .addr)
   pub space : Space rs r v own c
 
-module _ (rs : List Route) (r : Route) (v : Level) (own : List ℕ) (c : ℕ) (w : Ready rs r v own c) where
+module _ (rs : List Route) (r : Route) (v : Level) (own : List ℕ) (c : ℕ) (w : OpenReady rs r v own c) where
   abbrev q : ℕ
   q = v .serving (r .addr)
 
@@ -127,7 +127,7 @@ module _ (rs : List Route) (r : Route) (v : Level) (own : List ℕ) (c : ℕ) (w
 
   -- then r may be announced at the level below
   pub ready-below : (p : ℕ) → v .bits ≤ p → p ≤ 32 → (low : List ℕ) (b : ℕ) → Fits rs (below v (chunksOf own) p) (chunksOf low)
-      → Space rs r (below v (chunksOf own′) p) low b → Ready rs r (below v (chunksOf own′) p) low b
+      → Space rs r (below v (chunksOf own′) p) low b → OpenReady rs r (below v (chunksOf own′) p) low b
   ready-below p h u low b f s = record {
     fine = w .fine;
     good = w .good;

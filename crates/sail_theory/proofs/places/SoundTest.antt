@@ -10,7 +10,7 @@ use lib.Dec.{eqb, ltb, leb}
 use lib.ListN.{getD, length}
 use borrow.Author.Tests.{ltb-true, leb-true, eqb-true, eqb-false, lt-ltb, le-leb, eq-eqb}
 use Rattle.bits.specs.Tab.{Tells, every, same}
-use Rattle.bits.proofs.Tests.{decided, both, and-split, or-split}
+use Rattle.bits.proofs.Bools.{decided, both, and-split, or-split}
 use Rattle.bits.proofs.Tabs.{every-true, true-every, same-true, true-same}
 use Rattle.routes.specs.Record.{Listed}
 use Rattle.routes.specs.Input.{faultAt}

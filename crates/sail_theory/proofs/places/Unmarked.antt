@@ -9,7 +9,7 @@ use Rattle.standing.proofs.Marks.{long-plain, best-plain}
 use Rattle.sail.specs.Level.{Level, Chunks, chunkFor, chunksOf, noChunks, level1, level2, level3}
 use Rattle.sail.specs.declared.geometry.Geometry.{Geometry}
 use Rattle.sail_theory.specs.Render.{shown, block, pool, rendered}
-use Rattle.sail_theory.specs.Calls.{Owners, openAt, opened, settled}
+use Rattle.sail_theory.specs.Calls.{Owners, openAt, opened, ownersAfter}
 use Rattle.sail_theory.specs.Facts.{SameCells}
 
 module _ (rs : List Route) (v : Level) (k : Chunks) where
@@ -31,7 +31,7 @@ cells-unmarked g room rs own2 own3 = record {
 }
 
 -- the owners after each of the routes is announced
-pub owners-unmarked : (g : Geometry) (o : Owners) (rs : List Route) → settled g o (map plain rs) ≡ settled g o rs
-unfolding settled openAt
+pub owners-unmarked : (g : Geometry) (o : Owners) (rs : List Route) → ownersAfter g o (map plain rs) ≡ ownersAfter g o rs
+unfolding ownersAfter openAt
 owners-unmarked g o [] = refl
 owners-unmarked g o (r ∷ rs) = owners-unmarked g (opened g o r) rs

@@ -7,7 +7,7 @@ use mathlib.Core.Bool.{true, false, cond}
 use mathlib.Core.List.{List, [], _∷_}
 use Prim.Native.Nat.{ℕ, _/_}
 use Rattle.bits.specs.Slot.{cut}
-use Rattle.bits.proofs.Tests.{decided}
+use Rattle.bits.proofs.Bools.{decided}
 use Rattle.routes.specs.Said.{accepts}
 use Rattle.routes.specs.Route.{keyOf, Good}
 use Rattle.routes.specs.Record.{written}
@@ -21,8 +21,8 @@ use Rattle.sail.specs.declared.table.Table.{Table}
 use Rattle.sail.proofs.Sounds.{standing-good}
 use Rattle.sail_theory.specs.Render.{roomOf}
 use Rattle.sail_theory.specs.Calls.{Out, made, cutRoute, announced, withdrawn, loaded}
-use Rattle.sail_theory.specs.Facts.{SameSize, Holds}
-use Rattle.sail_theory.specs.CallRuns.{Call, announce, withdraw, load, done, after, says, worked, would}
+use Rattle.sail_theory.specs.Facts.{SameSize, TableHolds}
+use Rattle.sail_theory.specs.CallRuns.{Call, announce, withdraw, load, done, after, heldAfter, heldByCalls, routesAfter}
 use Rattle.sail_theory.proofs.calls.Cleared.{announce-refused, announce-holds, withdraw-refused, withdraw-holds}
 use Rattle.sail_theory.proofs.calls.Make.{make-holds}
 use Rattle.sail_theory.proofs.calls.SameSizes.{size-refl, size-trans}
@@ -34,9 +34,9 @@ pub record Leaves (t : Table) (l : Lent) (c : Call) (o : Out) : Type 0 where
   pub sound : Sound (o .table) (o .lent)
   pub geometry : o .table .geometry ≡ t .geometry
   pub size : SameSize l (o .lent)
-  pub list-so : standing (o .table) (o .lent) ≡ cond (accepts (o .said)) (would c (standing t l)) (standing t l)
+  pub list-so : standing (o .table) (o .lent) ≡ cond (accepts (o .said)) (routesAfter c (standing t l)) (standing t l)
   pub bytes-so : l .list ≡ written (standing t l) (roomOf l) → o .lent .list ≡ written (standing (o .table) (o .lent)) (roomOf l)
-  pub says-so : (k : ℕ) → routeAt k (standing (o .table) (o .lent)) ≡ cond (accepts (o .said)) (says c k (routeAt k (standing t l))) (routeAt k (standing t l))
+  pub says-so : (k : ℕ) → routeAt k (standing (o .table) (o .lent)) ≡ cond (accepts (o .said)) (heldAfter c k (routeAt k (standing t l))) (routeAt k (standing t l))
 
 module _ (t : Table) (l : Lent) (s : Sound t l) (c : Call) (o : Out) where
   refused-leaves : accepts (o .said) ≡ false → o .table ≡ t → o .lent ≡ l → Leaves t l c o
@@ -49,8 +49,8 @@ module _ (t : Table) (l : Lent) (s : Sound t l) (c : Call) (o : Out) where
     says-so = λ k. rw (e, p, q);
   }
 
-  holds-leaves : accepts (o .said) ≡ true → Holds t l (would c (standing t l)) (o .table) (o .lent)
-      → ((k : ℕ) → routeAt k (would c (standing t l)) ≡ says c k (routeAt k (standing t l))) → Leaves t l c o
+  holds-leaves : accepts (o .said) ≡ true → TableHolds t l (routesAfter c (standing t l)) (o .table) (o .lent)
+      → ((k : ℕ) → routeAt k (routesAfter c (standing t l)) ≡ heldAfter c k (routeAt k (standing t l))) → Leaves t l c o
   holds-leaves e h so = record {
     sound = h .sound;
     geometry = h .geometry;
@@ -106,11 +106,11 @@ module _ (t : Table) (l : Lent) (z : Sized (t .geometry) l) where
     pub geometry : after t l cs .table .geometry ≡ t .geometry
     pub size : SameSize l (after t l cs .lent)
     pub bytes-so : after t l cs .lent .list ≡ written (standing (after t l cs .table) (after t l cs .lent)) (roomOf l)
-    pub stands-so : (k : ℕ) → routeAt k (standing (after t l cs .table) (after t l cs .lent)) ≡ worked t l cs k
+    pub stands-so : (k : ℕ) → routeAt k (standing (after t l cs .table) (after t l cs .lent)) ≡ heldByCalls t l cs k
 
   -- by induction: a fresh table is sound and nothing stands in it, and each call leaves what `Leaves` says of a sound table
   pub run-is : (cs : List Call) → RunIs cs
-  unfolding after worked
+  unfolding after heldByCalls
   run-is [] =
       let h = make-holds t l z in
       record { sound = h .sound; geometry = h .geometry; size = h .size; bytes-so = rw (h .routes) (h .list); stands-so = made-says t l z }
@@ -136,17 +136,17 @@ module _ (t : Table) (l : Lent) (z : Sized (t .geometry) l) where
   run-sound cs = run-is cs .sound
 
   -- the list holds exactly the routes of the accepted calls; being in order, it is the only such list
-  pub run-standing : (cs : List Call) (k : ℕ) → routeAt k (standing (after t l cs .table) (after t l cs .lent)) ≡ worked t l cs k
+  pub run-standing : (cs : List Call) (k : ℕ) → routeAt k (standing (after t l cs .table) (after t l cs .lent)) ≡ heldByCalls t l cs k
   run-standing cs = run-is cs .stands-so
 
   -- from call to call: what is accepted changes the list as it says, and what is refused does not
   pub run-list : (c : Call) (cs : List Call) → standing (after t l (c ∷ cs) .table) (after t l (c ∷ cs) .lent)
       ≡ cond (accepts (after t l (c ∷ cs) .said))
-      (would c (standing (after t l cs .table) (after t l cs .lent)))
+      (routesAfter c (standing (after t l cs .table) (after t l cs .lent)))
       (standing (after t l cs .table) (after t l cs .lent))
   unfolding after
   run-list c cs = leaves (after t l cs .table) (after t l cs .lent) (run-sound cs) c .list-so
 
-  pub run-only : (cs : List Call) (rs : List Route) → Good rs → ((k : ℕ) → routeAt k rs ≡ worked t l cs k)
+  pub run-only : (cs : List Call) (rs : List Route) → Good rs → ((k : ℕ) → routeAt k rs ≡ heldByCalls t l cs k)
       → standing (after t l cs .table) (after t l cs .lent) ≡ rs
   run-only cs rs h e = same-standing _ rs (standing-good _ _ (run-sound cs)) h (λ k. run-standing cs k ∙ sym (e k))

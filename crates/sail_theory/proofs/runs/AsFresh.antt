@@ -26,7 +26,7 @@ use Rattle.sail.specs.declared.table.Table.{Table}
 use Rattle.sail.proofs.Sounds.{standing-good, sail-serves, chunks-need, counts-serve}
 use Rattle.sail_theory.specs.Render.{roomOf, longs}
 use Rattle.sail_theory.specs.Calls.{inputRoutes, Out, loaded}
-use Rattle.sail_theory.specs.Facts.{SameSize, Holds, Loadable}
+use Rattle.sail_theory.specs.Facts.{SameSize, TableHolds, Loadable}
 use Rattle.sail_theory.specs.CallRuns.{Call, after, Carries, AsFresh}
 use Rattle.sail_theory.proofs.owners.Chunks.{used-le}
 use Rattle.sail_theory.specs.Cases.{Readable}
@@ -104,9 +104,9 @@ module _ (t : Table) (l : Lent) (s : Sound t l) (u : Table) (v : Lent) (geo : u 
   fresh-accepted : accepts (loaded u v input .said) ≡ true
   fresh-accepted = rw (load-is u v input readable loadable)
 
-  fresh-holds : Holds u v (inputRoutes input) (loaded u v input .table) (loaded u v input .lent)
+  fresh-holds : TableHolds u v (inputRoutes input) (loaded u v input .table) (loaded u v input .lent)
   fresh-holds =
-      subst (λ (o : Out). Holds u v (inputRoutes input) (o .table) (o .lent)) (sym (load-is u v input readable loadable))
+      subst (λ (o : Out). TableHolds u v (inputRoutes input) (o .table) (o .lent)) (sym (load-is u v input readable loadable))
       (loadable-holds u v (inputRoutes input) loadable)
 
   -- it is sound, of the same geometry, and holds the same routes

@@ -17,8 +17,8 @@ use Rattle.sail.specs.Sizes.{Sized}
 use Rattle.sail.specs.Sound.{standing}
 use Rattle.sail.specs.declared.table.Table.{Table}
 use Rattle.sail_theory.specs.Render.{roomOf}
-use Rattle.sail_theory.specs.Calls.{Terms, termsOf, cutRoute, telling}
-use Rattle.sail_theory.specs.CallRuns.{Call, announce, withdraw, load, done, after, would, Formed, standingAfter}
+use Rattle.sail_theory.specs.Calls.{Terms, termsOf, cutRoute, withFlag}
+use Rattle.sail_theory.specs.CallRuns.{Call, announce, withdraw, load, done, after, routesAfter, Formed, standingAfter}
 use Rattle.sail.specs.Cases.{Sizing}
 use Rattle.sail_theory.specs.Cases.{Announce, Withdraw, Readable, Load}
 use Rattle.sail_theory.proofs.calls.SomeCase.{announce-judged, withdraw-judged, load-judged}
@@ -62,7 +62,7 @@ input-never s _ (Checked.good n z r) w = w
 
 module _ (t : Table) (l : Lent) where
   -- whether bits were cleared is told of what is accepted alone
-  announce-formed : (b : Bool) (r : Route) {s : Said} → Announce t l (cutRoute r) s → ForChunks (telling b s)
+  announce-formed : (b : Bool) (r : Route) {s : Said} → Announce t l (cutRoute r) s → ForChunks (withFlag b s)
       → Formed (announce r) (standing t l) (roomOf l)
   announce-formed b r (Announce.sizing n h) w = absurd (small h w)
   announce-formed b r (Announce.wrong n z h) w = absurd (wrong-never h w)
@@ -73,7 +73,7 @@ module _ (t : Table) (l : Lent) where
   announce-formed b r (Announce.third k x y) w = (k .proper .fine, omega (arith, insert-adds (cutRoute r) (standing t l) (k .new), k .room))
   announce-formed b r (Announce.added k x y) w = absurd w
 
-  withdraw-never : (b : Bool) (a len : ℕ) {s : Said} → Withdraw t l a len s → ForChunks (telling b s) → ⊥
+  withdraw-never : (b : Bool) (a len : ℕ) {s : Said} → Withdraw t l a len s → ForChunks (withFlag b s) → ⊥
   withdraw-never b a len (Withdraw.sizing n h) w = small h w
   withdraw-never b a len (Withdraw.bad-prefix z h) w = omega (arith, w .0)
   withdraw-never b a len (Withdraw.unsound z p h) w = omega (arith, w .0)
@@ -101,7 +101,7 @@ module _ (t : Table) (l : Lent) where
 
 -- after a run
 module _ (t : Table) (l : Lent) (z : Sized (t .geometry) l) (cs : List Call) (c : Call) where
-  pub run-by-need : Formed c (standingAfter t l cs) (roomOf l) → ByNeed (termsOf t l) (would c (standingAfter t l cs)) (after t l (c ∷ cs) .said)
+  pub run-by-need : Formed c (standingAfter t l cs) (roomOf l) → ByNeed (termsOf t l) (routesAfter c (standingAfter t l cs)) (after t l (c ∷ cs) .said)
   run-by-need f = wanting-exact (want-of-chunks t l z cs c f)
 
   pub run-formed : ForChunks (after t l (c ∷ cs) .said) → Formed c (standingAfter t l cs) (roomOf l)

@@ -12,7 +12,7 @@ use lib.ListN.{length}
 use borrow.Author.Tests.{lt-ltb, le-ltb}
 use Rattle.bits.specs.Count.{bit}
 use Rattle.bits.specs.Slot.{cut}
-use Rattle.bits.proofs.Tests.{decided, below?}
+use Rattle.bits.proofs.Bools.{decided, below?}
 use Rattle.routes.specs.Route.{keyOf, key}
 use Rattle.standing.specs.Cells.{within, need}
 use Rattle.routes.specs.Said.{Said, accepted}
@@ -29,9 +29,9 @@ use Rattle.sail.specs.declared.table.Table.{Table}
 use Rattle.sail.proofs.Sounds.{standing-good, chunks-need}
 use Rattle.sail_theory.specs.Render.{roomOf}
 use Rattle.sail_theory.specs.Calls.{Terms, termsOf, chunksFault, inputRoutes, orSay, announceSaid}
-use Rattle.sail_theory.specs.Calls.{cutRoute, cleared, telling, announced, withdrawn, loaded}
+use Rattle.sail_theory.specs.Calls.{cutRoute, cleared, withFlag, announced, withdrawn, loaded}
 use Rattle.sail_theory.specs.WantOfChunks.{Wanting}
-use Rattle.sail_theory.specs.CallRuns.{Call, announce, withdraw, load, done, after, would, Formed}
+use Rattle.sail_theory.specs.CallRuns.{Call, announce, withdraw, load, done, after, routesAfter, Formed}
 use Rattle.sail_theory.proofs.owners.Chunks.{used-le}
 use Rattle.standing.proofs.NeedAfter.{need-mono}
 use Rattle.sail_theory.specs.Cases.{Proper}
@@ -54,7 +54,7 @@ wanting m rs vs = go (below? (m .most2) (need rs (m .geometry .p1))) (below? (m 
     go (inr x) (inr y) = rw (le-ltb _ _ x, le-ltb _ _ y) (Wanting.neither x y vs)
 
 -- whether bits were cleared is told beside it
-wanting-told : {m : Terms} {rs : List Route} {s : Said} (b : Bool) → Wanting m rs s → Wanting m rs (telling b s)
+wanting-told : {m : Terms} {rs : List Route} {s : Said} (b : Bool) → Wanting m rs s → Wanting m rs (withFlag b s)
 wanting-told b (Wanting.second x) = Wanting.second x
 wanting-told b (Wanting.third x y) = Wanting.third x y
 wanting-told b (Wanting.neither x y vs) = Wanting.neither x y (bit b ∷ vs)
@@ -100,7 +100,7 @@ module _ (t : Table) (l : Lent) (s : Sound t l) where
       rw (load-said t l input ∙ said, le-ltb (roomOf l) (length input / 8) (rw m at (f .2)))
       (wanting (termsOf t l) (inputRoutes input) [])
 
-  pub change-wants : (c : Call) → Formed c rs (roomOf l) → Wanting (termsOf t l) (would c rs) (done t l c .said)
+  pub change-wants : (c : Call) → Formed c rs (roomOf l) → Wanting (termsOf t l) (routesAfter c rs) (done t l c .said)
   unfolding done
   change-wants (announce r) f = announce-wants r f
   change-wants (withdraw a len) f = withdraw-wants a len f
@@ -109,7 +109,7 @@ module _ (t : Table) (l : Lent) (s : Sound t l) where
 -- After any run, by the chunks that were lent: the run leaves a sound table on the same terms.
 pub want-of-chunks : (t : Table) (l : Lent) → Sized (t .geometry) l → (cs : List Call) (c : Call)
     → Formed c (standing (after t l cs .table) (after t l cs .lent)) (roomOf l)
-    → Wanting (termsOf t l) (would c (standing (after t l cs .table) (after t l cs .lent))) (after t l (c ∷ cs) .said)
+    → Wanting (termsOf t l) (routesAfter c (standing (after t l cs .table) (after t l cs .lent))) (after t l (c ∷ cs) .said)
 unfolding after
 want-of-chunks t l z cs c f =
     let w = run-is t l z cs in

@@ -1,5 +1,5 @@
 -- `sail_withdraw::judge_withdraw` meets its contract. Assumes nothing.
-use Rattle.sail_sound.proofs.Tries.{tried-sound}
+use Rattle.sail_sound.proofs.TableTest.{tried-sound}
 use Rattle.sail_withdraw.proofs.Judges.{leave-sizes, leave-prefix, leave-sound, leave-stands, leave-absent}
 use borrow.Author.Needs.{needs}
 use Rattle.sail_withdraw.proofs.judge_withdraw.Statement.{statement}

@@ -1,6 +1,6 @@
 -- The refusals in their order; where the image is well formed, what is put to its routes.
 use mathlib.Core.Path.{refl}
-use Rattle.tree_change.proofs.Answers.{is-formed, announced-three, announced-four, passed-route, announced-broken, announced-formed}
+use Rattle.tree_change.proofs.ChangeReturns.{is-formed, announced-three, announced-four, passed-route, announced-broken, announced-formed}
 use Rattle.tree_change.proofs.announce.Statement.{statement}
 use Rattle.tree_change.proofs.announce.Tie as tie
 

@@ -1,6 +1,6 @@
 -- Each refusal is one of the definition's; where none is met there is room, and the routes then stand.
 use borrow.Author.Needs.{needs}
-use Rattle.tree_change.proofs.Answers.{told-six, told-eleven, told-twelve, add-ready, add-few, told-added}
+use Rattle.tree_change.proofs.ChangeReturns.{told-six, told-eleven, told-twelve, add-ready, add-few, told-added}
 use Rattle.tree_change.proofs.put_new.Statement.{statement}
 use Rattle.tree_change.proofs.put_new.Tie as tie
 

@@ -1,6 +1,6 @@
 -- The refusals in their order; where the image is well formed, what is taken from its routes.
 use mathlib.Core.Path.{refl}
-use Rattle.tree_change.proofs.Answers.{is-formed, withdrawn-three, passed-prefix, withdrawn-broken, withdrawn-formed}
+use Rattle.tree_change.proofs.ChangeReturns.{is-formed, withdrawn-three, passed-prefix, withdrawn-broken, withdrawn-formed}
 use Rattle.tree_change.proofs.withdraw.Statement.{statement}
 use Rattle.tree_change.proofs.withdraw.Tie as tie
 

@@ -1,6 +1,6 @@
 -- One law for each case of the answer.
 use borrow.Author.Needs.{needs}
-use Rattle.basic.proofs.Answers.{word-hop, word-none, word-index, word-number}
+use Rattle.basic.proofs.LookupReturns.{word-hop, word-none, word-index, word-number}
 use Rattle.basic.proofs.many.word.Statement.{statement}
 use Rattle.basic.proofs.many.word.Tie as tie
 

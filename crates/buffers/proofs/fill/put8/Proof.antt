@@ -1,6 +1,6 @@
 -- The bytes are copied, and what stands after them is zeroed.
 use borrow.Author.Needs.{needs}
-use Rattle.buffers.proofs.Copies.{put-is}
+use Rattle.buffers.proofs.Copies.{copied-is}
 use Rattle.buffers.proofs.fill.put8.Statement.{statement}
 use Rattle.buffers.proofs.fill.put8.Tie as tie
 
@@ -11,4 +11,4 @@ put8-spec =
     (λ c κs. search needs)
     (λ c κs. search needs)
     (λ c. search needs)
-    (λ c. search put-is))
+    (λ c. search copied-is))

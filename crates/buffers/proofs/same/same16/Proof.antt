@@ -4,12 +4,12 @@ use native.Mathlib.Omega.{arith}
 use lib.ListN.{length}
 use borrow.Author.Needs.{needs}
 use Rattle.bits.specs.Tab.{Tells}
-use Rattle.buffers.proofs.Sames.{Agree, other-length, agree-none, agree-stop, agree-more, agree-all}
+use Rattle.buffers.proofs.Sames.{AgreeTo, other-length, agree-none, agree-stop, agree-more, agree-all}
 use Rattle.buffers.proofs.same.same16.Statement.{statement}
 use Rattle.buffers.proofs.same.same16.Tie as tie
 
 abbrev Inv-loop : tie.InvT-loop
-Inv-loop cells others same₀ j₀ same j = (j ≤ length cells) × Tells same (Agree cells others j)
+Inv-loop cells others same₀ j₀ same j = (j ≤ length cells) × Tells same (AgreeTo cells others j)
 
 abbrev μ-loop : tie.MeasureT-loop
 μ-loop cells others same₀ j₀ same j = length cells - j

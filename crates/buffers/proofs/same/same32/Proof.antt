@@ -4,12 +4,12 @@ use native.Mathlib.Omega.{arith}
 use lib.ListN.{length}
 use borrow.Author.Needs.{needs}
 use Rattle.bits.specs.Tab.{Tells}
-use Rattle.buffers.proofs.Sames.{Agree, other-length, agree-none, agree-stop, agree-more, agree-all}
+use Rattle.buffers.proofs.Sames.{AgreeTo, other-length, agree-none, agree-stop, agree-more, agree-all}
 use Rattle.buffers.proofs.same.same32.Statement.{statement}
 use Rattle.buffers.proofs.same.same32.Tie as tie
 
 abbrev Inv-loop : tie.InvT-loop
-Inv-loop words others same₀ j₀ same j = (j ≤ length words) × Tells same (Agree words others j)
+Inv-loop words others same₀ j₀ same j = (j ≤ length words) × Tells same (AgreeTo words others j)
 
 abbrev μ-loop : tie.MeasureT-loop
 μ-loop words others same₀ j₀ same j = length words - j

@@ -1,6 +1,6 @@
 -- `cards::lookups::look_each` meets its contract. Assumes nothing.
 use borrow.Author.Needs.{needs}
-use Rattle.sail_many.proofs.Answers.{ready}
+use Rattle.sail_many.proofs.LookupWords.{ready}
 use Rattle.cards.proofs.Laws.{many-not, many-uneven, many-answers}
 use Rattle.cards.proofs.lookups.look_each.Statement.{statement}
 use Rattle.cards.proofs.lookups.look_each.Tie as tie

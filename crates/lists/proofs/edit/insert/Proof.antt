@@ -1,12 +1,12 @@
 -- `lists::edit::insert` meets its contract. Assumes nothing.
-use Rattle.lists.specs.Edit.{saysPut}
+use Rattle.lists.specs.Edit.{meansPut}
 use borrow.Author.Needs.{needs}
 use Rattle.lists.proofs.EditPlaces.{replace-fits, insert-fits, put-told}
 use Rattle.lists.proofs.edit.insert.Statement.{statement}
 use Rattle.lists.proofs.edit.insert.Tie as tie
 
 pub insert-spec : {M : Type 1} → statement M
-unfolding saysPut
+unfolding meansPut
 insert-spec =
     tie.close
     (tie.spec

@@ -1,7 +1,7 @@
 -- `lists::test::list_ok`. Each test that fails refutes one part of `Listed`; those that pass give all of it.
 use native.Mathlib.Omega.{arith}
 use Rattle.bits.proofs.Tells.{is-no}
-use Rattle.lists.proofs.Tests.{not-right, then-zeros}
+use Rattle.lists.proofs.ListTest.{not-right, then-zeros}
 use borrow.Author.Needs.{needs}
 use Rattle.lists.proofs.test.list_ok.Statement.{statement}
 use Rattle.lists.proofs.test.list_ok.Tie as tie

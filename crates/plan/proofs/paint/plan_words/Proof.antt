@@ -5,14 +5,14 @@ use lib.ListN.{length, take}
 use lib.Seq.{take-all}
 use denote.Ref.{now}
 use borrow.Author.Needs.{needs}
-use Rattle.chain.specs.Words.{routesIn}
+use Rattle.chain.specs.Words.{routesOfWords}
 use Rattle.plan.specs.Plan.{plannedFrom}
 use Rattle.plan.proofs.Ranges.{words-none, words-more, length-planned-from}
 use Rattle.plan.proofs.paint.plan_words.Statement.{statement}
 use Rattle.plan.proofs.paint.plan_words.Tie as tie
 
 abbrev Inv-loop : tie.InvT-loop
-Inv-loop ws h p base out₀ n m k₀ out k = (k ≤ length ws) × (out ≡ plannedFrom h (routesIn (take k ws)) p base n)
+Inv-loop ws h p base out₀ n m k₀ out k = (k ≤ length ws) × (out ≡ plannedFrom h (routesOfWords (take k ws)) p base n)
 
 abbrev μ-loop : tie.MeasureT-loop
 μ-loop ws h p base out₀ n m k₀ out k = length ws - k

@@ -5,14 +5,14 @@ use lib.ListN.{length, take}
 use denote.Ref.{now}
 use borrow.Author.Needs.{needs}
 use Rattle.standing.specs.Cells.{long}
-use Rattle.chain.specs.Words.{routesIn}
+use Rattle.chain.specs.Words.{routesOfWords}
 use Rattle.plan.specs.Part.{Settled}
 use Rattle.plan.proofs.Settles.{settled-length, run-none, run-no, run-yes, run-all}
 use Rattle.plan.proofs.part.settle.Statement.{statement}
 use Rattle.plan.proofs.part.settle.Tie as tie
 
 abbrev Inv-loop : tie.InvT-loop
-Inv-loop run p base part o want₀ own ok₀ k₀ want ok k = (k ≤ length run) × Settled (λ j. long (routesIn (take k run)) p (base + j)) part own o want₀ want ok
+Inv-loop run p base part o want₀ own ok₀ k₀ want ok k = (k ≤ length run) × Settled (λ j. long (routesOfWords (take k run)) p (base + j)) part own o want₀ want ok
 
 abbrev μ-loop : tie.MeasureT-loop
 μ-loop run p base part o want₀ own ok₀ k₀ want ok k = length run - k

@@ -8,7 +8,7 @@ use borrow.Author.Needs.{needs}
 use Rattle.bits.specs.Count.{count}
 use Rattle.sail.specs.Level.{entry}
 use Rattle.repair.specs.Differs.{offName}
-use Rattle.repair.proofs.Counts.{count-start, counted, name-none, name-off, name-same}
+use Rattle.repair.proofs.Counts.{count-start, count-done, name-none, name-off, name-same}
 use Rattle.repair.proofs.differs.off_names.Statement.{statement}
 use Rattle.repair.proofs.differs.off_names.Tie as tie
 
@@ -55,7 +55,7 @@ free c =
     (omega arith, omega arith, n)
 
 returns : tie.Need-returns Inv-loop μ-loop
-returns c = let l = c .before .loop in counted _ _ _ _ (l .inv .0) (c .loop-test .left) (l .inv .1) (l .inv .2)
+returns c = let l = c .before .loop in count-done _ _ _ _ (l .inv .0) (c .loop-test .left) (l .inv .1) (l .inv .2)
 
 pub off-names-spec : {M : Type 1} → statement M
 off-names-spec =

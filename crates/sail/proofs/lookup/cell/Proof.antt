@@ -12,6 +12,6 @@ cell-spec =
     tie.close
     (tie.spec
     (λ c κs. chunk-numbered _ _ _ _ (c .before .pre))
-    (λ c. let s = c .before .before in omega (arith, c .place .ensures .0, place-in _ _ _ _ (s .args .i) (s .pre)))
-    (λ c. let s = c .before .before .before in omega (arith, c .before .place .ensures .0, place-in _ _ _ _ (s .args .i) (s .pre)))
-    (λ c. let s = c .before .before .before in ap (λ (j : ℕ). getD (s .args .pool .now) j 0) (c .before .place .ensures .0)))
+    (λ c. let s = c .before .before in omega (arith, c .cell-place .ensures .0, place-in _ _ _ _ (s .args .i) (s .pre)))
+    (λ c. let s = c .before .before .before in omega (arith, c .before .cell-place .ensures .0, place-in _ _ _ _ (s .args .i) (s .pre)))
+    (λ c. let s = c .before .before .before in ap (λ (j : ℕ). getD (s .args .pool .now) j 0) (c .before .cell-place .ensures .0)))

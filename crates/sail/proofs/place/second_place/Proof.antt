@@ -13,4 +13,4 @@ second-place-spec =
     (λ c κs. let v = c .before .pre .valid in omega arith)
     (λ c. search needs)
     (λ c κs. second-numbered _ _ (c .before .before .pre))
-    (λ c. second-is _ _ (c .before .before .before .pre) _ _ _ (c .before .slot .ensures) (c .place .ensures .0)))
+    (λ c. second-is _ _ (c .before .before .before .pre) _ _ _ (c .before .slot .ensures) (c .cell-place .ensures .0)))

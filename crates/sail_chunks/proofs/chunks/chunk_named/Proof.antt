@@ -3,7 +3,7 @@ use Prim.Native.Nat.{_≤_, _-_}
 use borrow.Author.Count.{below-none, below-more}
 use borrow.Author.Needs.{needs}
 use lib.ListN.{length}
-use Rattle.sail_chunks.proofs.Hangs.{Others, named-here, named-nowhere}
+use Rattle.sail_chunks.proofs.ChunkOwners.{Others, named-here, named-nowhere}
 use Rattle.sail_chunks.proofs.chunks.chunk_named.Statement.{statement}
 use Rattle.sail_chunks.proofs.chunks.chunk_named.Tie as tie
 

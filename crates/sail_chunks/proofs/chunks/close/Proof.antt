@@ -1,7 +1,7 @@
 -- `sail_chunks::chunks::close` meets its contract. Assumes nothing.
 use native.Mathlib.Omega.{arith}
 use mathlib.Core.Path.{refl}
-use Rattle.sail_chunks.proofs.Hangs.{close-range, close-on, close-off}
+use Rattle.sail_chunks.proofs.ChunkOwners.{close-range, close-on, close-off}
 use borrow.Author.Needs.{needs}
 use Rattle.sail_chunks.proofs.chunks.close.Statement.{statement}
 use Rattle.sail_chunks.proofs.chunks.close.Tie as tie

@@ -1,5 +1,5 @@
 -- `sail_chunks::opening::chunk_for` meets its contract. Assumes nothing.
-use Rattle.sail_chunks.proofs.Openings.{chunk-free, chunk-had}
+use Rattle.sail_chunks.proofs.ToOpen.{chunk-free, chunk-had}
 use borrow.Author.Needs.{needs}
 use Rattle.sail_chunks.proofs.opening.chunk_for.Statement.{statement}
 use Rattle.sail_chunks.proofs.opening.chunk_for.Tie as tie

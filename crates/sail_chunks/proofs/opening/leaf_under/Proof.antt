@@ -1,5 +1,5 @@
 -- `sail_chunks::opening::leaf_under` meets its contract. Assumes nothing.
-use Rattle.sail_chunks.proofs.Openings.{leaf-longer, leaf-shorter}
+use Rattle.sail_chunks.proofs.ToOpen.{leaf-longer, leaf-shorter}
 use Rattle.sail_chunks.proofs.opening.leaf_under.Statement.{statement}
 use Rattle.sail_chunks.proofs.opening.leaf_under.Tie as tie
 

@@ -1,7 +1,7 @@
 -- `sail_chunks::opening::open`. The second chunk that serves the route is known before the owners change: the one that is opened, or the one there.
 use native.Mathlib.Omega.{arith}
 use borrow.Author.Needs.{needs}
-use Rattle.sail_chunks.proofs.Openings.{hang-second, hang-third, opened-second, opened-third, slot-small}
+use Rattle.sail_chunks.proofs.ToOpen.{hang-second, hang-third, opened-second, opened-third, slot-small}
 use Rattle.sail_chunks.proofs.opening.open.Statement.{statement}
 use Rattle.sail_chunks.proofs.opening.open.Tie as tie
 
@@ -31,23 +31,23 @@ second-place-requires c κs = record {
   few = omega (arith, c .chunk-for .ensures .1);
 }
 
-add-hang : tie.Need-add-hang
-add-hang c = let s = start (c .before .before .before .before .before) in omega (arith, slot-small _ _ _ (s .pre .serving .valid) (s .pre .fine .prefix .addr-ok) (c .slot .ensures))
+add-set-owner : tie.Need-add-set-owner
+add-set-owner c = let s = start (c .before .before .before .before .before) in omega (arith, slot-small _ _ _ (s .pre .serving .valid) (s .pre .fine .prefix .addr-ok) (c .slot .ensures))
 
-hang-requires : tie.Need-hang-requires
-hang-requires c κs = let o = c .before .before .before .before .before in hang-second _ _ _ _ _ _ _ (start o .pre) _ (o .to-open .ensures)
+set-owner-requires : tie.Need-set-owner-requires
+set-owner-requires c κs = let o = c .before .before .before .before .before in hang-second _ _ _ _ _ _ _ (start o .pre) _ (o .to-open .ensures)
 
-hang-requires-2 : tie.Need-hang-requires-2
-hang-requires-2 c κs = let o = c .before .before .before .before .before .before .before .before .before in hang-third _ _ _ _ _ _ _ (start o .pre) _ (o .to-open .ensures)
+set-owner-requires-2 : tie.Need-set-owner-requires-2
+set-owner-requires-2 c κs = let o = c .before .before .before .before .before .before .before .before .before in hang-third _ _ _ _ _ _ _ (start o .pre) _ (o .to-open .ensures)
 
 returns : tie.Need-returns
 returns c =
     let hung = c .before .before .before .before .before .before in
     let chunk = chosen hung in
     let o = asked chunk in (
-      opened-second _ _ _ _ _ _ _ (start o .pre) _ (o .to-open .ensures) _ _ (hung .before .slot .ensures) (hung .hang .ensures),
+      opened-second _ _ _ _ _ _ _ (start o .pre) _ (o .to-open .ensures) _ _ (hung .before .slot .ensures) (hung .set-owner .ensures),
       opened-third _ _ _ _ _ _ _ (start o .pre) _ (o .to-open .ensures) _ (chunk .chunk-for .ensures .0)
-          _ _ (hung .before .before .before .second-place .ensures .0) (c .before .before .hang2 .ensures),
+          _ _ (hung .before .before .before .second-place .ensures .0) (c .before .before .set-owner2 .ensures),
     )
 
 pub open-spec : {M : Type 1} → statement M
@@ -59,11 +59,11 @@ open-spec =
     add-second-place
     second-place-requires
     (λ c κs. search needs)
-    add-hang
-    hang-requires
+    add-set-owner
+    set-owner-requires
     (λ c. search needs)
     (λ c. search needs)
-    hang-requires-2
+    set-owner-requires-2
     (λ c. search needs)
     (λ c. search needs)
     returns)

@@ -1,6 +1,6 @@
 -- `sail_chunks::opening::to_open` meets its contract.
 use borrow.Author.Needs.{needs}
-use Rattle.sail_chunks.proofs.Openings.{named-first, opens-is}
+use Rattle.sail_chunks.proofs.ToOpen.{named-first, opens-is}
 use Rattle.sail_chunks.proofs.opening.to_open.Statement.{statement}
 use Rattle.sail_chunks.proofs.opening.to_open.Tie as tie
 

@@ -8,7 +8,7 @@ use lib.Dec.{eqb}
 use lib.ListN.{length}
 use Rattle.bits.specs.Tab.{Tells}
 use Rattle.bits.proofs.Tells.{is-yes, tells-same}
-use Rattle.sail_counts.proofs.Runs.{Quiet, most-new, most-old}
+use Rattle.sail_counts.proofs.CountRuns.{Quiet, most-new, most-old}
 use Rattle.sail_counts.proofs.test.idle_ok.Statement.{statement}
 use Rattle.sail_counts.proofs.test.idle_ok.Tie as tie
 

@@ -1,6 +1,6 @@
 -- `sail_counts::test::run_ok`. The cell above is read first; it leads to the count, and the run of words says what that should be.
 use borrow.Author.Needs.{needs}
-use Rattle.sail_counts.proofs.Runs.{run-on, run-from, run-told, counted-there, names-numbered}
+use Rattle.sail_counts.proofs.CountRuns.{run-on, run-from, run-told, counted-there, names-numbered}
 use Rattle.sail_counts.proofs.test.run_ok.Statement.{statement}
 use Rattle.sail_counts.proofs.test.run_ok.Tie as tie
 
@@ -21,8 +21,8 @@ shared-slice-read-half-to-index c =
     let start = tested .before .before .before .before .before in
     start .pre .0 .there _ (start .pre .1) (tested .if1 .left)
 
-place-requires : tie.Need-place-requires
-place-requires c κs =
+cell-place-requires : tie.Need-cell-place-requires
+cell-place-requires c κs =
     let tested = c .before .before .before .before in
     let start = tested .before .before .before .before .before in
     names-numbered _ _ _ _ _ _ (start .pre .0) (start .pre .1) (tested .if1 .left) _ (c .half-to-index .ensures)
@@ -31,14 +31,14 @@ mul-half-to-index-2 : tie.Need-mul-half-to-index-2
 mul-half-to-index-2 c =
     let tested = c .before .before .before .before .before in
     let start = tested .before .before .before .before .before in
-    let l = counted-there _ _ _ _ _ _ (start .pre .0) (start .pre .1) (tested .if1 .left) _ (c .before .half-to-index .ensures) _ (c .place .ensures .0) in
+    let l = counted-there _ _ _ _ _ _ (start .pre .0) (start .pre .1) (tested .if1 .left) _ (c .before .half-to-index .ensures) _ (c .cell-place .ensures .0) in
     search needs
 
 shared-slice-read-half-to-index-2 : tie.Need-shared-slice-read-half-to-index-2
 shared-slice-read-half-to-index-2 c =
     let tested = c .before .before .before .before .before .before in
     let start = tested .before .before .before .before .before in
-    counted-there _ _ _ _ _ _ (start .pre .0) (start .pre .1) (tested .if1 .left) _ (c .before .before .half-to-index .ensures) _ (c .before .place .ensures .0)
+    counted-there _ _ _ _ _ _ (start .pre .0) (start .pre .1) (tested .if1 .left) _ (c .before .before .half-to-index .ensures) _ (c .before .cell-place .ensures .0)
 
 run-end-requires : tie.Need-run-end-requires
 run-end-requires c κs =
@@ -56,7 +56,7 @@ returns-3 c =
     let asked = off .before in
     let tested = asked .before in
     let start = tested .before .before .before .before .before in
-    run-told _ _ _ _ _ _ (start .pre .0) (start .pre .1) (tested .if1 .left) _ (found .before .half-to-index .ensures) _ (found .place .ensures .0)
+    run-told _ _ _ _ _ _ (start .pre .0) (start .pre .1) (tested .if1 .left) _ (found .before .half-to-index .ensures) _ (found .cell-place .ensures .0)
     _ (asked .goes-on .ensures) (off .if2 .left) _ _ (c .before .half-to-index2 .ensures .0) (c .run-end .ensures)
 
 pub run-ok-spec : {M : Type 1} → statement M
@@ -76,7 +76,7 @@ run-ok-spec =
     mul-half-to-index
     shared-slice-read-half-to-index
     (λ c κs. search needs)
-    place-requires
+    cell-place-requires
     mul-half-to-index-2
     shared-slice-read-half-to-index-2
     (λ c κs. search needs)

@@ -5,8 +5,8 @@ use borrow.Author.Count.{below-none, below-more}
 use borrow.Author.Needs.{needs}
 use lib.ListN.{length}
 use Rattle.bits.proofs.Tells.{is-yes, refuted, passed}
-use Rattle.sail_counts.specs.Test.{RunTold}
-use Rattle.sail_counts.proofs.Runs.{all-told, told-run}
+use Rattle.sail_counts.specs.CountsTest.{RunTold}
+use Rattle.sail_counts.proofs.CountRuns.{all-told, told-run}
 use Rattle.sail_counts.proofs.test.runs_ok.Statement.{statement}
 use Rattle.sail_counts.proofs.test.runs_ok.Tie as tie
 

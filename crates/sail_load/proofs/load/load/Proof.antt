@@ -18,8 +18,8 @@ renewed c = c .before .before .before .before .before .before .before .before .b
 abbrev branch : tie.After-g → tie.Then1
 branch c = accepted (renewed c)
 
-renew-requires : tie.Need-renew-requires
-renew-requires c κs =
+write-table-requires : tie.Need-write-table-requires
+write-table-requires c κs =
     renewable _ _ _ _ _ (judged (c .before .before .before .before .before .before .before .before) .judge .ensures)
     (c .before .before .before .before .before .before .before .before .before .accepts .ensures) (c .before .before .before .before .before .before .before .before .if1 .taken)
 
@@ -27,7 +27,7 @@ cast-count : tie.Need-cast-count
 cast-count c = record { fits = omega (arith, few _ _ _ _ _ (judged (branch c) .judge .ensures) (branch c .before .accepts .ensures) (branch c .if1 .taken)) }
 
 returns : tie.Need-returns
-returns c = load-loads _ _ _ _ _ (judged (branch c) .judge .ensures) (branch c .before .accepts .ensures) (branch c .if1 .taken) _ (renewed c .renew .ensures)
+returns c = load-loads _ _ _ _ _ (judged (branch c) .judge .ensures) (branch c .before .accepts .ensures) (branch c .if1 .taken) _ (renewed c .write-table .ensures)
 
 returns-2 : tie.Need-returns-2
 returns-2 c = load-refuses _ _ _ _ _ (c .before .before .judge .ensures) (c .before .accepts .ensures) (c .if1 .left)
@@ -38,16 +38,16 @@ load-spec =
     (tie.spec
     (λ c κs. tt)
     (λ c κs. tt)
-    renew-requires
+    write-table-requires
     cast-count
-    (λ c. renewed c .renew .kept .1 .1 .0)
-    (λ c. renewed c .renew .kept .1 .1 .1 .0)
-    (λ c. renewed c .renew .kept .1 .1 .1 .1 .0)
-    (λ c. renewed c .renew .kept .1 .1 .1 .1 .1 .0)
-    (λ c. renewed c .renew .kept .1 .1 .1 .1 .1 .1 .0)
-    (λ c. renewed c .renew .kept .1 .1 .1 .1 .1 .1 .1 .0)
-    (λ c. renewed c .renew .kept .1 .1 .1 .1 .1 .1 .1 .1 .0)
-    (λ c. renewed c .renew .kept .1 .1 .1 .1 .1 .1 .1 .1 .1 .0)
+    (λ c. renewed c .write-table .kept .1 .1 .0)
+    (λ c. renewed c .write-table .kept .1 .1 .1 .0)
+    (λ c. renewed c .write-table .kept .1 .1 .1 .1 .0)
+    (λ c. renewed c .write-table .kept .1 .1 .1 .1 .1 .0)
+    (λ c. renewed c .write-table .kept .1 .1 .1 .1 .1 .1 .0)
+    (λ c. renewed c .write-table .kept .1 .1 .1 .1 .1 .1 .1 .0)
+    (λ c. renewed c .write-table .kept .1 .1 .1 .1 .1 .1 .1 .1 .0)
+    (λ c. renewed c .write-table .kept .1 .1 .1 .1 .1 .1 .1 .1 .1 .0)
     returns
     (λ c. refl)
     (λ c. refl)

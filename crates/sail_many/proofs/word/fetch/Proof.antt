@@ -14,8 +14,8 @@ fetch-spec =
     (tie.spec
     (λ c. omega (arith, c .before .pre .1, c .before .pre .0 .few))
     (λ c κs. chunk-numbered _ _ _ _ (chunk-of _ _ _ _ (c .before .pre .0) (c .before .pre .1)))
-    (λ c. let s = c .before .before in omega (arith, c .place .ensures .0, place-in _ _ _ _ (s .args .i) (chunk-of _ _ _ _ (s .pre .0) (s .pre .1))))
+    (λ c. let s = c .before .before in omega (arith, c .cell-place .ensures .0, place-in _ _ _ _ (s .args .i) (chunk-of _ _ _ _ (s .pre .0) (s .pre .1))))
     (λ c.
     let s = c .before .before .before in
-    omega (arith, c .before .place .ensures .0, place-in _ _ _ _ (s .args .i) (chunk-of _ _ _ _ (s .pre .0) (s .pre .1))))
-    (λ c. let s = c .before .before .before in ap (λ (j : ℕ). getD (s .args .pool .now) j 0) (c .before .place .ensures .0)))
+    omega (arith, c .before .cell-place .ensures .0, place-in _ _ _ _ (s .args .i) (chunk-of _ _ _ _ (s .pre .0) (s .pre .1))))
+    (λ c. let s = c .before .before .before in ap (λ (j : ℕ). getD (s .args .pool .now) j 0) (c .before .cell-place .ensures .0)))

@@ -5,12 +5,12 @@ use Prim.Native.Nat.{_-_, _≤_}
 use native.Mathlib.Omega.{arith}
 use borrow.Author.Needs.{needs}
 use Rattle.routes.specs.Record.{routesOf}
-use Rattle.sail_owners.proofs.Needs.{Counted, counted-none, counted-short, counted-had, counted-new}
+use Rattle.sail_owners.proofs.Needs.{NeedCounted, counted-none, counted-short, counted-had, counted-new}
 use Rattle.sail_owners.proofs.need.count_need.Statement.{statement}
 use Rattle.sail_owners.proofs.need.count_need.Tie as tie
 
 abbrev Inv-loop : tie.InvT-loop
-Inv-loop list n p m₀ last₀ k₀ m last k = (k ≤ n) × (m ≤ k) × Counted (routesOf list k) p m last
+Inv-loop list n p m₀ last₀ k₀ m last k = (k ≤ n) × (m ≤ k) × NeedCounted (routesOf list k) p m last
 
 abbrev μ-loop : tie.MeasureT-loop
 μ-loop list n p m₀ last₀ k₀ m last k = n - k

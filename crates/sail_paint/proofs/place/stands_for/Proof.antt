@@ -13,4 +13,4 @@ stands-for-spec =
     (λ c. search needs)
     (λ c κs. c .before .before .pre .chunk (omega arith))
     (λ c κs. owner-numbered _ _ _ _ (c .before .if1 .left) (c .seen .ensures) (c .before .before .before .pre))
-    (λ c. stands-is _ _ _ _ (c .before .before .if1 .left) (c .before .seen .ensures) _ (c .place .ensures .0)))
+    (λ c. stands-is _ _ _ _ (c .before .before .if1 .left) (c .before .seen .ensures) _ (c .cell-place .ensures .0)))

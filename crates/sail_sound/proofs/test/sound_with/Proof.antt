@@ -4,7 +4,7 @@ use Rattle.bits.proofs.Tells.{passed}
 use Rattle.sail.proofs.Fitting.{celled-of}
 use Rattle.chain.proofs.Fronts.{count-in, count-room, chain-room, still-in, front-room, front-ready}
 use Rattle.sail_sound.proofs.Sounds.{beside-of}
-use Rattle.sail_sound.proofs.Tries.{no-list, table-tried}
+use Rattle.sail_sound.proofs.TableTest.{no-list, table-tried}
 use borrow.Author.Needs.{needs}
 use Rattle.sail_sound.proofs.test.sound_with.Statement.{statement}
 use Rattle.sail_sound.proofs.test.sound_with.Tie as tie
