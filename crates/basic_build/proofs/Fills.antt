@@ -17,7 +17,6 @@ use Rattle.bits.proofs.Slots.{slot-lt}
 use Rattle.bits.proofs.Bools.{below?}
 use Rattle.bits.proofs.Tabs.{is-tabulate}
 use Rattle.bits.proofs.Packed.{packed-lt}
-use Rattle.routes.specs.Route.{key}
 use Rattle.routes.specs.Record.{recordAt, routesOf, Records}
 use Rattle.routes.specs.declared.Route.{Route}
 use Rattle.routes.proofs.Rows.{record-listed, listed-record}

@@ -1,17 +1,14 @@
 -- How many numbers below n pass a test, and that two tests that match one to one are passed as often.
--- Assumes nothing.
-use mathlib.Core.Path.{_≡_, refl, sym, _∙_, ap, subst}
+use mathlib.Core.Path.{_≡_, refl, sym, _∙_, ap}
 use mathlib.Core.Logic.{_⊎_, inl, inr}
-use mathlib.Core.Bool.{Bool, true, false, not, _&&_, _||_, cond, true≢false, false≢true, and-true, and-false}
-use mathlib.Core.List.{List, [], _∷_}
-use Prim.Native.Nat.{ℕ, zero, suc, _+_, _-_, _*_, _/_, _^_, _≤_, _<_, zero-le, suc-le-suc}
-use native.Mathlib.Nat.{not-suc-le-zero, le-antisymm, le-trans, eq-or-lt-of-le, le-of-suc-le-suc, lt-irrefl, add-zero, le-step, le-refl}
+use mathlib.Core.Bool.{Bool, true, false, not, _&&_, and-true, and-false}
+use Prim.Native.Nat.{ℕ, zero, suc, _+_, _-_, _≤_, _<_, zero-le}
+use native.Mathlib.Nat.{not-suc-le-zero, le-antisymm, eq-or-lt-of-le, le-of-suc-le-suc, le-step, le-refl}
 use native.Mathlib.Omega.{arith}
-use lib.Dec.{eqb, ltb, leb}
-use borrow.Author.Tests.{ltb-true, ltb-false, leb-true, eqb-true, eqb-false, lt-ltb, eq-eqb, ne-eqb}
+use lib.Dec.{eqb}
+use borrow.Author.Tests.{eq-eqb, ne-eqb}
 use Rattle.bits.specs.Count.{bit, count}
-use lib.ListN.{getD, length}
-use Rattle.bits.proofs.Bools.{decided, both, and-split, or-split, or-none, fails, same}
+use Rattle.bits.proofs.Bools.{decided}
 
 pub count-ext : (f g : ℕ → Bool) (n : ℕ) → ((i : ℕ) → i < n → f i ≡ g i) → count f n ≡ count g n
 unfolding count

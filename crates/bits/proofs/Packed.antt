@@ -1,12 +1,11 @@
 -- The bits of a packed number, and the ones below a bit.
--- Assumes nothing.
 use mathlib.Core.Path.{_≡_, refl, sym, _∙_, ap, ap₂}
 use mathlib.Core.Logic.{_⊎_, inl, inr}
 use mathlib.Core.Bool.{Bool, true, false}
 use Prim.Native.Nat.{ℕ, zero, suc, _+_, _-_, _*_, _/_, _%_, _^_, _<_}
 use native.Mathlib.Nat.{eq-or-lt-of-le, le-of-suc-le-suc, not-suc-le-zero, pow-suc, mod-eq-of-lt, mod-lt, mul-assoc, add-assoc, add-mul, le-refl, le-step}
 use native.Mathlib.Omega.{arith}
-use lib.Pow.{pow-pos, pow-add, high, low, shr-shr, split}
+use lib.Pow.{pow-pos, pow-add, high, shr-shr, split}
 use lib.Count.{ones}
 use Rattle.bits.specs.Bit.{bitAt, rank, packedBits}
 use Rattle.bits.specs.Count.{bit, count}

@@ -1,4 +1,4 @@
--- A bit of a number, how many bits below a place are set, and a number by its bits. Assumes nothing.
+-- A bit of a number, how many bits below a place are set, and a number by its bits.
 use Prim.Native.Nat.{ℕ, zero, suc, _+_, _*_, _/_, _%_, _^_}
 use mathlib.Core.Bool.{Bool}
 use Rattle.bits.specs.Count.{bit}

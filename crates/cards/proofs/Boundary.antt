@@ -1,6 +1,5 @@
 -- For each exported call: a caller that reads the packed answer by the header's fields has exactly what the call inside says. So two calls
--- whose packed answers are equal say the same (`packed-once` of Unpacks, with two of these). Assumes nothing.
---
+-- whose packed answers are equal say the same (`packed-once` of Unpacks, with two of these).
 -- What is supposed is what the boundary's types give: cells of 16 bits (`Cells16`). And for the index of a refusal an input shorter than 2^35
 -- bytes, which is 32 GiB: a longer one has an index of more than 32 bits.
 use mathlib.Core.Path.{_≡_, refl, _∙_, ap}

@@ -1,4 +1,4 @@
--- What the exported calls that write answer and leave. Assumes nothing.
+-- What the exported calls that write answer and leave.
 use mathlib.Core.Bool.{cond}
 use mathlib.Core.List.{List}
 use Prim.Native.Nat.{ℕ, _%_, _^_}

@@ -1,4 +1,4 @@
--- The chain of covering words, and that its end is the longest route that covers the cell. Assumes nothing.
+-- The chain of covering words, and that its end is the longest route that covers the cell.
 use mathlib.Core.Path.{_≡_, refl, sym, ap, _∙_}
 use mathlib.Core.Bool.{Bool, true, false, false≢true}
 use mathlib.Core.List.{List, [], _∷_}

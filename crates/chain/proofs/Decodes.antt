@@ -1,4 +1,4 @@
--- Words are their records, and the words of a good list are good. Assumes nothing.
+-- Words are their records, and the words of a good list are good.
 use mathlib.Core.Path.{_≡_, ap, _∙_}
 use mathlib.Core.Logic.{_⊎_, inl, inr}
 use mathlib.Core.List.{List, [], _∷_, List·Memᴰ, List·Memᴰ·cases-cons, List·Memᴰ·not-nil}
@@ -31,10 +31,6 @@ filled-to-more f l k v u e h j i = go (decLt j k)
 pub filled-all : (s l : List ℕ) (k n : ℕ) → length l ≡ n → n ≤ k → FilledTo (wordAt s) l k → l ≡ wordsOf s n
 unfolding wordsOf
 filled-all s l k n e u h = is-tabulate 0 l n (wordAt s) e (λ j i. h j (omega arith))
-
--- the key of a word is that of its route
-pub key-is : (w : ℕ) → key (routeOfWord w) ≡ keyIn w
-key-is w = omega arith
 
 -- a word is its record, where the record's numbers have the room of a record
 pub word-route : (s : List ℕ) (k : ℕ) → Ranged (recordAt s k) → routeOfWord (wordAt s k) ≡ recordAt s k

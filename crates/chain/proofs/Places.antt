@@ -1,8 +1,8 @@
--- Places among words. Assumes nothing.
+-- Places among words.
 use mathlib.Core.Path.{_≡_}
 use mathlib.Core.List.{List}
 use Prim.Native.Nat.{ℕ, zero, suc, _+_, _*_, _%_, _^_, _<_, _≤_}
-use native.Mathlib.Nat.{not-suc-le-zero, le-antisymm}
+use native.Mathlib.Nat.{not-suc-le-zero}
 use native.Mathlib.Decide.{decLt}
 use native.Mathlib.Omega.{arith}
 use lib.ListN.{length, getD}
@@ -53,10 +53,6 @@ place-rises ws a b r s l p q = go (decLt s r)
     go : Dec (s < r) → r ≤ s
     go (yes d) = absurd (omega (arith, p .below s d, q .above s (omega arith) (omega (arith, p .to))))
     go (no d) = omega arith
-
--- a key has one place
-pub one-place : (ws : List ℕ) (key r s : ℕ) → KeysBelow ws key r → KeysBelow ws key s → r ≡ s
-one-place ws key r s p q = le-antisymm (place-rises ws key key r s (omega arith) p q) (place-rises ws key key s r (omega arith) q p)
 
 -- a number of j digits, shifted
 pub shifted-is : (i j k : ℕ) → i < 2 ^ j → j + k ≤ 32 → (i * 2 ^ k % 2 ^ 64 ≡ i * 2 ^ k) × (i * 2 ^ k % 2 ^ 64 < 4294967296)

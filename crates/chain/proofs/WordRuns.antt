@@ -1,4 +1,4 @@
--- The run of words under a cell. Assumes nothing.
+-- The run of words under a cell.
 use mathlib.Core.Path.{_≡_, sym, ap, _∙_}
 use mathlib.Core.Bool.{true, false}
 use mathlib.Core.List.{List}

@@ -1,4 +1,4 @@
--- The last word that covers a cell, and the chain that leads to it. Assumes nothing.
+-- The last word that covers a cell, and the chain that leads to it.
 use mathlib.Core.Path.{_≡_}
 use mathlib.Core.Bool.{true, false}
 use mathlib.Core.List.{List}

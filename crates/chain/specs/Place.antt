@@ -1,4 +1,4 @@
--- Places in a list of words, by their keys. Assumes nothing.
+-- Places in a list of words, by their keys.
 use mathlib.Core.Path.{_≡_}
 use mathlib.Core.Bool.{true, false}
 use mathlib.Core.List.{List}

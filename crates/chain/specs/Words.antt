@@ -1,5 +1,4 @@
 -- A record as one word of 64 bits: its eight bytes, the first the highest. Words are in the order of their routes.
--- Assumes nothing.
 use mathlib.Core.List.{List, map}
 use Prim.Native.Nat.{ℕ, suc, _+_, _*_, _<_}
 use lib.ListN.{length, getD}

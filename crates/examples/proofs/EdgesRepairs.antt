@@ -12,7 +12,7 @@ use Rattle.routes.specs.declared.Route.{Route}
 use Rattle.standing.specs.Cells.{any, need}
 use Rattle.sail.specs.Geometry.{validGeo}
 use Rattle.sail.specs.Sizes.{sizesFit, sizesFault}
-use Rattle.sail_theory.specs.Calls.{Terms, termsOf, chunksFault, orSay}
+use Rattle.sail_theory.specs.Calls.{termsOf, chunksFault, orSay}
 use Rattle.repair_theory.specs.Repair.{keptFrom, keptOf, looked, keptRoutes, repairSaid}
 use Rattle.repair_theory.proofs.Repairs.{repair-said}
 use Rattle.examples.specs.Lines.{Hold}

@@ -1,7 +1,7 @@
 -- What is not said by need. List A needs a chunk of either pool. Where one is lent, it is neither refused with 7 nor with 8 nor with anything
 -- else; where none is, it is not accepted, and the second pool speaks first.
 use mathlib.Core.Path.{refl}
-use mathlib.Core.Bool.{true, false≢true}
+use mathlib.Core.Bool.{false≢true}
 use mathlib.Core.List.{[]}
 use Prim.Native.Nat.{ℕ}
 use native.Mathlib.Omega.{arith}

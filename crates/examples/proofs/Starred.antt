@@ -1,5 +1,5 @@
 -- The starred examples hold: the definitions give what the documents say. What is asked of a run is worked out on paper, and the rest is
--- computed. Assumes nothing.
+-- computed.
 use mathlib.Core.Path.{_≡_, refl, _∙_, ap}
 use mathlib.Core.Bool.{Bool, true, false, cond, _&&_}
 use mathlib.Core.List.{List, [], _∷_}

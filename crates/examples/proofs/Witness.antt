@@ -1,5 +1,5 @@
 -- Tables, images and calls that meet what the theorems on the demands suppose: the fresh table, list A loaded and built, and calls that are
--- refused. So none of them speaks of nothing. Assumes nothing.
+-- refused. So none of them speaks of nothing.
 use mathlib.Core.Path.{_≡_, refl, sym, _∙_, ap}
 use mathlib.Core.Logic.{_≢_}
 use mathlib.Core.Bool.{true, false, cond}

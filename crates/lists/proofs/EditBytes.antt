@@ -1,4 +1,4 @@
--- The bytes of a list after a record was put into it, or taken out of it. Assumes nothing.
+-- The bytes of a list after a record was put into it, or taken out of it.
 use mathlib.Core.Path.{_≡_, refl, sym, ap, _∙_}
 use mathlib.Core.Logic.{_⊎_, inl, inr, _≢_}
 use mathlib.Core.List.{List, _++_}

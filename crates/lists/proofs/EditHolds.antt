@@ -1,7 +1,7 @@
--- What a list holds after a change: the routes that then stand, as many as told, and no other byte. Assumes nothing.
-use mathlib.Core.Path.{_≡_, refl, subst}
+-- What a list holds after a change: the routes that then stand, as many as told, and no other byte.
+use mathlib.Core.Path.{_≡_, subst}
 use mathlib.Core.Logic.{_⊎_, inl, inr}
-use mathlib.Core.Bool.{true, false, true≢false, false≢true}
+use mathlib.Core.Bool.{true, false}
 use mathlib.Core.List.{List}
 use Prim.Native.Nat.{ℕ, _/_, _≤_}
 use native.Mathlib.Omega.{arith}
@@ -13,7 +13,7 @@ use Rattle.routes.specs.Record.{routesOf, written, Listed}
 use Rattle.routes.specs.declared.Route.{Route}
 use Rattle.standing.proofs.Standing.{insert-good, insert-replaces, remove-good, remove-length}
 use Rattle.routes.proofs.Rows.{length-routes, records-good, routes-written, written-listed}
-use Rattle.lists.specs.Edit.{Insertable, inserted, removed, meansPut, countWith, countWithout, ListHolds}
+use Rattle.lists.specs.Edit.{Insertable, inserted, removed, countWith, countWithout, ListHolds}
 use Rattle.lists.specs.declared.edit.Put.{Put}
 use Rattle.lists.specs.declared.edit.Put.the-variants as put
 use Rattle.standing.proofs.Changed.{insert-adds, remove-takes, remove-absent}
@@ -55,11 +55,3 @@ module _ (s : List ℕ) (n : ℕ) (few : length s / 8 ≤ 4096) where
       holds (remove p (routesOf s n)) (length s / 8) _ (remove-good p (routesOf s n) good) few
       (omega (arith, remove-length p (routesOf s n), length-routes s n, listed .records .room))
       (rw length-routes at (remove-count p (routesOf s n) good))
-
--- two answers that tell the same are the same
-pub meansPut-injective : (x y : Put) → meansPut x ≡ meansPut y → x ≡ y
-unfolding meansPut
-meansPut-injective put.Added put.Added e = refl
-meansPut-injective put.Added put.Replaced e = absurd (false≢true e)
-meansPut-injective put.Replaced put.Added e = absurd (true≢false e)
-meansPut-injective put.Replaced put.Replaced e = refl

@@ -1,4 +1,4 @@
--- Bytes that are drawn from other places of a list, one store at a time. Assumes nothing.
+-- Bytes that are drawn from other places of a list, one store at a time.
 use mathlib.Core.Path.{_≡_, sym, ap, _∙_}
 use mathlib.Core.Logic.{_⊎_, inl, inr, _≢_}
 use mathlib.Core.Bool.{and-false}

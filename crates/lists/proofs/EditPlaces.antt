@@ -1,4 +1,4 @@
--- What stands at the place of a key, and so which change is the right one there. Assumes nothing.
+-- What stands at the place of a key, and so which change is the right one there.
 use mathlib.Core.Path.{_≡_, refl, sym, ap, ap₂, _∙_}
 use mathlib.Core.Logic.{_⊎_, inl, inr, _≢_}
 use mathlib.Core.Bool.{Bool, true, false, true≢false}

@@ -1,5 +1,4 @@
 -- A list of records that is changed in place: how its bytes move, what a change asks, and what the list then holds.
--- Assumes nothing.
 use Prim.Native.Nat.{ℕ, _+_, _-_, _*_, _/_, _≤_, _<_}
 use mathlib.Core.Bool.{Bool, true, false, cond, _&&_}
 use mathlib.Core.List.{List}

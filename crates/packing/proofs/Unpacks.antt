@@ -1,5 +1,5 @@
 -- What is packed is read back: of every layout, for all that has room in its fields. So no two fields overlap, and no two answers are
--- packed alike. Assumes nothing.
+-- packed alike.
 use mathlib.Core.Path.{_≡_, refl, sym, _∙_, ap}
 use mathlib.Core.Bool.{true, false≢true}
 use mathlib.Core.List.{List, [], _∷_}

@@ -1,8 +1,7 @@
 -- How a caller reads a packed answer: by the fields that include/ghatumri.h names, and nothing else. And what fits the fields of each
--- layout. Assumes nothing.
+-- layout.
 use mathlib.Core.Bool.{cond}
 use mathlib.Core.List.{List, [], _∷_}
-use mathlib.Core.Path.{_≡_}
 use Prim.Native.Nat.{ℕ, _/_, _%_, _^_, _≤_, _<_}
 use lib.Dec.{eqb}
 use lib.ListN.{getD}

@@ -1,4 +1,4 @@
--- A cell of a deeper level needs only the routes under the cell that holds it, and the hop of that. Assumes nothing.
+-- A cell of a deeper level needs only the routes under the cell that holds it, and the hop of that.
 use mathlib.Core.Path.{_≡_, refl, sym, ap, _∙_}
 use mathlib.Core.Bool.{Bool, true, false, cond, true≢false}
 use mathlib.Core.List.{List, [], _∷_, List·Memᴰ, List·Memᴰ·head, List·Memᴰ·tail}
@@ -12,7 +12,6 @@ use lib.Seq.{take-nil, drop-nil}
 use lib.Pow.{shr-shr, high}
 use borrow.Author.Tests.{le-leb, lt-leb, lt-ltb, eq-eqb}
 use Rattle.bits.specs.Slot.{slot}
-use Rattle.bits.proofs.Slots.{slot-up}
 use Rattle.bits.proofs.Tabs.{tabulate-ext}
 use Rattle.bits.proofs.Bools.{both, untrue}
 use Rattle.routes.specs.Route.{key, Fine, Good}

@@ -1,4 +1,4 @@
--- A route over a block of cells touches one range of them. Assumes nothing.
+-- A route over a block of cells touches one range of them.
 use mathlib.Core.Path.{_≡_, sym, ap, _∙_}
 use mathlib.Core.Bool.{cond}
 use mathlib.Core.List.{List, [], _∷_, _++_, map-append}

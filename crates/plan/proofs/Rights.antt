@@ -1,4 +1,4 @@
--- A part matches its plan exactly where it is as the routes ask. Assumes nothing.
+-- A part matches its plan exactly where it is as the routes ask.
 use mathlib.Core.Path.{_≡_, sym, subst, _∙_}
 use mathlib.Core.Logic.{_⊎_, inl, inr}
 use mathlib.Core.Bool.{Bool, true, false, cond}

@@ -1,4 +1,4 @@
--- A plan whose zeros became what the part holds. Assumes nothing.
+-- A plan whose zeros became what the part holds.
 use mathlib.Core.Path.{_≡_, refl, sym, ap, subst, _∙_}
 use mathlib.Core.Logic.{_⊎_, inl, inr}
 use mathlib.Core.Bool.{Bool, true, false, cond, not, _||_, or-true, false≢true}

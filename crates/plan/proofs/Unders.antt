@@ -1,4 +1,4 @@
--- A block of cells that lie in a cell, from the run of words under it and the hop that it inherits. Assumes nothing.
+-- A block of cells that lie in a cell, from the run of words under it and the hop that it inherits.
 use mathlib.Core.Path.{_≡_, _∙_}
 use mathlib.Core.Bool.{Bool}
 use mathlib.Core.List.{List}

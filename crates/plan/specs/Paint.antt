@@ -1,4 +1,4 @@
--- What painting does to a block of cells, and what the functions that paint ask for. Assumes nothing.
+-- What painting does to a block of cells, and what the functions that paint ask for.
 use mathlib.Core.Bool.{cond}
 use mathlib.Core.List.{List}
 use Prim.Native.Nat.{ℕ, _+_, _≤_}

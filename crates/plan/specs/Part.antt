@@ -1,4 +1,4 @@
--- A part of lent cells beside its plan: what the soundness test asks of it. Assumes nothing.
+-- A part of lent cells beside its plan: what the soundness test asks of it.
 use mathlib.Core.Path.{_≡_}
 use mathlib.Core.Bool.{Bool, true, false, cond}
 use mathlib.Core.List.{List}

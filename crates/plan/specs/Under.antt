@@ -1,5 +1,5 @@
 -- The routes under a cell of a level, and a block of cells of a deeper level that lie in it. In the words of a good list the routes
--- under a cell are one run: `Run` of crate chain. Assumes nothing.
+-- under a cell are one run: `Run` of crate chain.
 use mathlib.Core.Bool.{cond}
 use mathlib.Core.List.{List, [], _∷_}
 use Prim.Native.Nat.{ℕ, _+_, _-_, _*_, _^_, _≤_}

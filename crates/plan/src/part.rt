@@ -1,7 +1,6 @@
 // A part of lent cells beside its plan. The plan has 0 for each cell that names a chunk. Such cells are settled route by
 // route: their plan becomes what they hold, and each must name a chunk that names it back. One plain comparison of the
 // whole part then does the rest.
-ghost use mathlib.Core.Path.{_≡_};
 ghost use Prim.Native.Nat.{_+_};
 ghost use lib.ListN.{length};
 ghost use Rattle.bits.specs.Tab.{Tells};

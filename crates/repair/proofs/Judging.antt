@@ -3,12 +3,11 @@ use mathlib.Core.Path.{_≡_, refl, sym, _∙_}
 use mathlib.Core.List.{List}
 use Prim.Native.Nat.{ℕ, _*_, _/_, _≤_, min}
 use native.Mathlib.Omega.{arith}
-use lib.Dec.{ltb}
 use lib.ListN.{length, take}
 use lib.Seq.{length-take-le}
 use borrow.Author.Tests.{le-ltb}
 use Rattle.routes.specs.Route.{Good}
-use Rattle.routes.specs.Record.{routesOf, written, Records}
+use Rattle.routes.specs.Record.{routesOf, Records}
 use Rattle.routes.specs.declared.Route.{Route}
 use Rattle.routes.proofs.Rows.{routes-written, written-listed}
 use Rattle.sail.specs.declared.table.Table.{Table}
@@ -17,7 +16,7 @@ use Rattle.sail_load.specs.Weigh.{terms, Weighs}
 use Rattle.repair_theory.specs.Repair.{keptOf}
 use Rattle.repair_theory.proofs.Kept.{kept-good}
 use Rattle.repair.specs.Keep.{Keeps, KeptIn}
-use Rattle.repair.specs.Judge.{RepairReady, KeptIs, SizesFirst}
+use Rattle.repair.specs.Judge.{RepairReady, SizesFirst}
 
 module _ (z : ℕ) (t : Table) (s : List ℕ) where
   pub judge-sizes : (n2 n3 : ℕ) (bytes : List ℕ) → (z ≡ 0 → ⊥) → SizesFirst z t s n2 n3 bytes (record { fault = z; looked = 0; kept = 0 })

@@ -2,11 +2,10 @@
 use mathlib.Core.Path.{_≡_, refl, sym, _∙_, ap}
 use mathlib.Core.Bool.{Bool}
 use mathlib.Core.List.{List}
-use Prim.Native.Nat.{ℕ, _+_, _-_, _*_, _/_, _%_, _^_, _≤_, _<_}
+use Prim.Native.Nat.{ℕ, _+_, _-_, _*_, _^_, _≤_, _<_}
 use native.Mathlib.Omega.{arith}
 use native.Mathlib.Nat.{add-mul, one-mul, mul-le-mul}
 use lib.Arith.{digits-div, digits-mod}
-use lib.Dec.{ltb}
 use lib.ListN.{length, getD, take, drop}
 use lib.Pow.{pow-mono}
 use lib.Seq.{getD-take, getD-drop}

@@ -2,19 +2,19 @@
 use mathlib.Core.Path.{_≡_, sym, _∙_, ap}
 use mathlib.Core.Logic.{_⊎_, inl, inr}
 use mathlib.Core.List.{List, [], _∷_}
-use Prim.Native.Nat.{ℕ, _-_, _*_, _/_, _^_, _≤_, _<_}
+use Prim.Native.Nat.{ℕ, _-_, _*_, _/_, _^_, _≤_}
 use native.Mathlib.Omega.{arith}
 use lib.ListN.{length, take, replicate, length-replicate}
 use Rattle.bits.proofs.Bools.{equal?}
-use Rattle.routes.specs.Said.{Said, accepted, refused}
+use Rattle.routes.specs.Said.{accepted, refused}
 use Rattle.routes.specs.declared.Route.{Route}
 use Rattle.sail.specs.Geometry.{bits2, bits3}
-use Rattle.sail.specs.Lent.{Lent, cells}
+use Rattle.sail.specs.Lent.{Lent}
 use Rattle.sail.specs.Sizes.{sizesFault, SizesTold}
 use Rattle.sail.specs.declared.geometry.Geometry.{Geometry}
 use Rattle.sail.specs.declared.table.Table.{Table}
 use Rattle.sail_theory.proofs.Judges.{or-said}
-use Rattle.sail_theory.specs.Calls.{Owners, ownersAfter, noOwners, inputRoutes, termsOf, chunksFault, Out, out, lentOf, loaded}
+use Rattle.sail_theory.specs.Calls.{ownersAfter, noOwners, inputRoutes, termsOf, chunksFault, Out, out, lentOf, loaded}
 use Rattle.sail_theory.specs.Facts.{Loadable}
 use Rattle.sail_theory.specs.CallRuns.{Carries}
 use Rattle.sail_theory.proofs.calls.Load.{Fronts, settles, fronts-none}

@@ -1,18 +1,17 @@
--- What each way through `check_input` and `route_at` says. Assumes nothing.
+-- What each way through `check_input` and `route_at` says.
 use mathlib.Core.Path.{_≡_, refl, sym, ap, _∙_}
 use mathlib.Core.List.{List, [], _∷_}
-use mathlib.Core.Bool.{Bool, true, false, not}
+use mathlib.Core.Bool.{true, false}
 use Prim.Native.Nat.{ℕ, _/_, _%_, _≤_, _<_}
 use native.Mathlib.Omega.{arith}
 use lib.ListN.{length}
-use lib.Dec.{ltb, eqb}
 use borrow.Author.Tests.{lt-ltb, le-ltb, eq-eqb, ne-eqb}
 use Rattle.bits.specs.Search.{firstOf}
 use Rattle.bits.proofs.Searches.{firstOf-is}
 use Rattle.routes.specs.Record.{recordAt}
-use Rattle.routes.specs.Said.{Said, accepted, refused, refusedAt}
-use Rattle.routes.specs.Input.{faultAt, isBad, firstBad, inputSaid}
-use Rattle.routes.specs.Answers.{meansInput, meansGot, valuesOf, routeSaid}
+use Rattle.routes.specs.Said.{accepted, refused, refusedAt}
+use Rattle.routes.specs.Input.{faultAt, isBad, inputSaid}
+use Rattle.routes.specs.Answers.{meansInput, meansGot, routeSaid}
 use Rattle.routes.specs.declared.Route.{Route}
 use Rattle.routes.proofs.Meaning.{input-good}
 use Rattle.routes.specs.declared.input.Input.{Input}

@@ -1,8 +1,7 @@
--- The bytes of a route and the route of eight bytes are each other's inverse. Assumes nothing.
+-- The bytes of a route and the route of eight bytes are each other's inverse.
 use mathlib.Core.Path.{_≡_, refl, sym, ap, _∙_}
 use mathlib.Core.List.{List}
 use Prim.Native.Nat.{ℕ, _+_, _*_, _<_}
-use native.Mathlib.Nat.{zero-mul, zero-add}
 use native.Mathlib.Omega.{arith}
 use lib.ListN.{length, getD}
 use lib.Seq.{ext-getD}

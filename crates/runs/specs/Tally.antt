@@ -1,4 +1,4 @@
--- The tally of an input. Assumes nothing.
+-- The tally of an input.
 use Prim.Native.Nat.{ℕ, zero, suc, _+_, _/_}
 use mathlib.Core.Path.{_≡_}
 use mathlib.Core.Bool.{Bool, cond}

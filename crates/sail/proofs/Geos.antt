@@ -1,4 +1,4 @@
--- Laws of geometries. Assumes nothing.
+-- Laws of geometries.
 use mathlib.Core.Path.{_≡_}
 use mathlib.Core.Bool.{true, false, _&&_, false≢true}
 use Prim.Native.Nat.{ℕ, _*_, _%_, _^_, _≤_, _<_}

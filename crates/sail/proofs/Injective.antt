@@ -1,4 +1,4 @@
--- Two answers of lookup that are told the same are the same. Assumes nothing.
+-- Two answers of lookup that are told the same are the same.
 use mathlib.Core.Path.{_≡_}
 use Rattle.sail.specs.Walk.{meansFound}
 use Rattle.sail.specs.declared.lookup.Found.{Found}

@@ -1,4 +1,4 @@
--- The walk step by step, as the code takes it. Assumes nothing.
+-- The walk step by step, as the code takes it.
 use mathlib.Core.Path.{_≡_, refl, sym, ap, _∙_}
 use mathlib.Core.Bool.{Bool, true, false, not}
 use mathlib.Core.Logic.{_⊎_, inl, inr}

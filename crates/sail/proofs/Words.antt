@@ -1,4 +1,4 @@
--- A lookup's word: of a leaf, of a refusal, and read back. Assumes nothing.
+-- A lookup's word: of a leaf, of a refusal, and read back.
 use mathlib.Core.List.{[], _∷_}
 use mathlib.Core.Logic.{_⊎_, inl, inr}
 use mathlib.Core.Path.{_≡_, refl, ap, _∙_}

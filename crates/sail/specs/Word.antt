@@ -1,7 +1,7 @@
 -- What a lookup says as one number, which fits 32 bits. A refusal is packed the same everywhere (`packed`).
 use mathlib.Core.Bool.{cond}
 use mathlib.Core.Path.{_≡_}
-use Prim.Native.Nat.{ℕ, _+_, _*_, _/_, _%_, _^_}
+use Prim.Native.Nat.{ℕ, _+_, _*_, _/_, _%_}
 use lib.Dec.{eqb}
 use Rattle.routes.specs.Said.{Said, refused}
 unfoldable pub use Rattle.routes.specs.Said.{packed}

@@ -1,4 +1,4 @@
--- Blocks of cells: what their test rests on, and the first cells by blocks. Assumes nothing.
+-- Blocks of cells: what their test rests on, and the first cells by blocks.
 use mathlib.Core.Path.{_≡_, sym, ap, _∙_}
 use mathlib.Core.Bool.{Bool, true, false, not}
 use mathlib.Core.List.{List}

@@ -1,4 +1,4 @@
--- A part of cells, cell by cell. Assumes nothing.
+-- A part of cells, cell by cell.
 use mathlib.Core.Path.{_≡_, sym, ap, _∙_}
 use mathlib.Core.Bool.{true, false}
 use mathlib.Core.List.{List}

@@ -1,4 +1,4 @@
--- A chunk in use, and a free one, as the code tests them. Assumes nothing.
+-- A chunk in use, and a free one, as the code tests them.
 use mathlib.Core.Path.{_≡_, sym, ap, _∙_}
 use mathlib.Core.Bool.{Bool, true, false, true≢false}
 use mathlib.Core.List.{List}

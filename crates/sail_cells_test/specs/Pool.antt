@@ -1,5 +1,5 @@
 -- Pools of chunks, as the test goes through them: a chunk in use hangs from a cell that names it and is as the routes ask; and, beside it, a
--- free chunk is zero. Assumes nothing.
+-- free chunk is zero.
 use mathlib.Core.Path.{_≡_}
 use mathlib.Core.Bool.{Bool, true, false}
 use mathlib.Core.List.{List}

@@ -13,7 +13,7 @@ use Rattle.bits.proofs.Bools.{decided}
 use Rattle.standing.specs.Cells.{long}
 use Rattle.routes.specs.declared.Route.{Route}
 use Rattle.counts.specs.Counts.{howMany, OneMore}
-use Rattle.counts.proofs.Stored.{tallies-counted, counted-tallies}
+use Rattle.counts.proofs.Stored.{counted-tallies}
 use Rattle.sail.specs.Geometry.{bits2, Valid}
 use Rattle.sail.specs.Level.{Level, entry, chunksOf, level1, level2}
 use Rattle.sail.specs.Sound.{Shows, Counted}
@@ -156,9 +156,6 @@ module _ (g : Geometry) (valid : Valid g) (rs : List Route) (own2 long1 long2 : 
     counted-tallies rs (g .p1) (2 ^ g .p1) _ _ long1 h (c .first),
     counted-tallies rs (g .p2) (length own2 * 2 ^ bits2 g) _ _ long2 k (c .second),
   )
-
-pub tallies-counts : (g : Geometry) (rs : List Route) (own2 : List ℕ) → Counts rs g own2 (longs rs (level1 g)) (longs rs (level2 g (chunksOf own2)))
-tallies-counts g rs own2 = record { first = tallies-counted rs _ _ _ _; second = tallies-counted rs _ _ _ _ }
 
 -- no routes: every count is 0
 pub none-counts : (g : Geometry) (own2 long1 long2 : List ℕ) → ((q : ℕ) → getD long1 q 0 ≡ 0) → ((q : ℕ) → getD long2 q 0 ≡ 0) → Counts [] g own2 long1 long2

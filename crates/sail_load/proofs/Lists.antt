@@ -1,4 +1,4 @@
--- The list that load leaves: the input's bytes are those of its routes. Assumes nothing.
+-- The list that load leaves: the input's bytes are those of its routes.
 use mathlib.Core.Path.{_≡_, sym, _∙_, ap}
 use mathlib.Core.Logic.{_⊎_, inl, inr}
 use mathlib.Core.List.{List}

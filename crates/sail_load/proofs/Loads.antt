@@ -1,4 +1,4 @@
--- What load says, and what it leaves. Assumes nothing.
+-- What load says, and what it leaves.
 use mathlib.Core.Path.{_≡_, refl, sym, _∙_, ap}
 use mathlib.Core.Bool.{Bool, true, false}
 use mathlib.Core.List.{List, [], _∷_}

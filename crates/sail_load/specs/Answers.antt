@@ -1,4 +1,4 @@
--- What load says: its answer, in document 01's terms. Assumes nothing.
+-- What load says: its answer, in document 01's terms.
 use mathlib.Core.List.{[]}
 use Rattle.routes.specs.Said.{Said, accepted, refused, refusedAt}
 use Rattle.sail_load.specs.declared.load.Loaded.{Loaded}

@@ -1,4 +1,4 @@
--- What writing a table anew asks for. Assumes nothing.
+-- What writing a table anew asks for.
 use mathlib.Core.List.{List}
 use mathlib.Core.Path.{_≡_}
 use Prim.Native.Nat.{ℕ, _*_, _/_}

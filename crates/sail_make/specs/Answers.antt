@@ -1,4 +1,4 @@
--- What make says: its answer, in document 01's terms. Assumes nothing.
+-- What make says: its answer, in document 01's terms.
 use mathlib.Core.List.{[]}
 use Rattle.routes.specs.Said.{Said, accepted, refused}
 use Rattle.sail_make.specs.declared.Made.{Made}

@@ -1,12 +1,11 @@
--- Words of many addresses: steps at one place, passes over a range, and turns. Assumes nothing.
+-- Words of many addresses: steps at one place, passes over a range, and turns.
 use mathlib.Core.List.{List}
 use mathlib.Core.Logic.{_⊎_, inl, inr}
-use mathlib.Core.Path.{_≡_, refl, sym, ap, _∙_}
+use mathlib.Core.Path.{_≡_, refl, ap, _∙_}
 use Prim.Native.Nat.{ℕ, _+_, _≤_, _<_}
 use native.Mathlib.Omega.{arith}
-use lib.ListN.{length, getD, set, length-set}
+use lib.ListN.{length, getD, length-set}
 use lib.Seq.{getD-set-same, getD-set-other}
-use borrow.Author.Count.{below-more}
 use Rattle.bits.specs.Tab.{tabulate}
 use Rattle.bits.proofs.Tabs.{is-tabulate}
 use Rattle.bits.proofs.Bools.{below?}

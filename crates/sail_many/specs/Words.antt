@@ -1,4 +1,4 @@
--- Addresses on their way through a table: the word that stands for each is that of the cell last read for it. Assumes nothing.
+-- Addresses on their way through a table: the word that stands for each is that of the cell last read for it.
 use mathlib.Core.Bool.{cond}
 use mathlib.Core.List.{List}
 use mathlib.Core.Logic.{_⊎_}

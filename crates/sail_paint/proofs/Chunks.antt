@@ -1,4 +1,4 @@
--- The chunks of a pool that hang from cells which meet a prefix, painted one by one. Assumes nothing.
+-- The chunks of a pool that hang from cells which meet a prefix, painted one by one.
 use mathlib.Core.Path.{_≡_, refl, sym, ap, _∙_}
 use mathlib.Core.Logic.{_⊎_, inl, inr}
 use mathlib.Core.Bool.{Bool, true, false, not, _&&_, and-true, and-false}

@@ -1,4 +1,4 @@
--- The first cells that meet a prefix, painted block by block. Assumes nothing.
+-- The first cells that meet a prefix, painted block by block.
 use mathlib.Core.Path.{_≡_, refl, sym, ap, _∙_}
 use mathlib.Core.Bool.{Bool, false, true≢false}
 use mathlib.Core.List.{List}

@@ -1,4 +1,4 @@
--- Cells that are painted over: by their elements, twice, and as a part of a list. Assumes nothing.
+-- Cells that are painted over: by their elements, twice, and as a part of a list.
 use mathlib.Core.Path.{_≡_, refl, sym, ap, _∙_}
 use mathlib.Core.Logic.{_⊎_, inl, inr}
 use mathlib.Core.Bool.{Bool, true, false, cond}

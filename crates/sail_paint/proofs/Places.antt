@@ -1,4 +1,4 @@
--- Where chunks hang, and which cells meet a prefix. Assumes nothing.
+-- Where chunks hang, and which cells meet a prefix.
 use mathlib.Core.Path.{_≡_, refl, sym, ap, _∙_}
 use mathlib.Core.Bool.{true, cond}
 use mathlib.Core.List.{List}

@@ -1,4 +1,4 @@
--- The numbers of chunks, stamped one by one into the cells that they hang from. Assumes nothing.
+-- The numbers of chunks, stamped one by one into the cells that they hang from.
 use mathlib.Core.Path.{_≡_, refl, sym, _∙_}
 use mathlib.Core.Logic.{_⊎_, inl, inr, _≢_}
 use mathlib.Core.Bool.{true, false, cond}

@@ -1,5 +1,5 @@
 -- How the stale cells are made right: painted as planned, and then the numbers of chunks stamped over them. And what the functions that
--- do so ask for. Assumes nothing.
+-- do so ask for.
 use mathlib.Core.Bool.{Bool, _&&_, cond}
 use mathlib.Core.List.{List}
 use mathlib.Core.Path.{_≡_}

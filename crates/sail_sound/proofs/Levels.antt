@@ -1,4 +1,4 @@
--- What the test of each level rests on: the sizes of what is lent. Assumes nothing.
+-- What the test of each level rests on: the sizes of what is lent.
 use mathlib.Core.Path.{_≡_}
 use mathlib.Core.Bool.{Bool, true, false, not}
 use mathlib.Core.List.{List, []}

@@ -1,4 +1,4 @@
--- The judgement and the report as the code makes them. Assumes nothing.
+-- The judgement and the report as the code makes them.
 use mathlib.Core.Path.{_≡_, refl, sym, ap, ap₂, _∙_}
 use mathlib.Core.Bool.{Bool, true, false, not, cond}
 use mathlib.Core.List.{List, [], _∷_}

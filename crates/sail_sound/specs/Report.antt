@@ -1,4 +1,4 @@
--- What is wrong with a table, and the report. Assumes nothing.
+-- What is wrong with a table, and the report.
 use mathlib.Core.Bool.{cond}
 use mathlib.Core.List.{[], _∷_}
 use mathlib.Core.Path.{_≡_}

@@ -1,4 +1,4 @@
--- Two answers of withdraw that are told the same are the same. Assumes nothing.
+-- Two answers of withdraw that are told the same are the same.
 use mathlib.Core.Path.{_≡_, ap}
 use Rattle.sail_theory.proofs.calls.Cleared.{bit-once}
 use Rattle.sail_withdraw.specs.Answers.{meansWithdraw}

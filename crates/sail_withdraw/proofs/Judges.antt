@@ -1,4 +1,4 @@
--- What the judge of a withdrawal answers. Assumes nothing.
+-- What the judge of a withdrawal answers.
 use mathlib.Core.Path.{_≡_, sym, _∙_}
 use mathlib.Core.Bool.{Bool, true, false, not, true≢false}
 use Prim.Native.Nat.{ℕ, _≤_}

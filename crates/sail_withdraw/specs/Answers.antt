@@ -1,4 +1,4 @@
--- What each case of the answer of withdraw says. Assumes nothing.
+-- What each case of the answer of withdraw says.
 use mathlib.Core.List.{[], _∷_}
 use Rattle.bits.specs.Count.{bit}
 use Rattle.routes.specs.Said.{Said, accepted, refused}

@@ -1,4 +1,4 @@
--- The digits of a number are the one list that is the number in decimal, and there are few of them. Assumes nothing.
+-- The digits of a number are the one list that is the number in decimal, and there are few of them.
 use mathlib.Core.Path.{_≡_, refl, sym, ap, _∙_, subst}
 use mathlib.Core.Logic.{_⊎_, inl, inr, ⊎-elim}
 use mathlib.Core.Bool.{true}

@@ -1,4 +1,4 @@
--- How long lines are, and a list's lines one by one. Assumes nothing.
+-- How long lines are, and a list's lines one by one.
 use mathlib.Core.Path.{_≡_, sym}
 use mathlib.Core.Bool.{Bool, true, false, cond}
 use mathlib.Core.List.{List, [], _∷_, _++_, append-assoc, append-nil}

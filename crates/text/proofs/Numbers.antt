@@ -1,4 +1,4 @@
--- A number's digits in a buffer: one below 10, else those of its tenth part and one more. Assumes nothing.
+-- A number's digits in a buffer: one below 10, else those of its tenth part and one more.
 use mathlib.Core.Path.{_≡_}
 use mathlib.Core.List.{List, [], _∷_}
 use Prim.Native.Nat.{ℕ, _+_, _/_, _%_, _≤_, _<_}

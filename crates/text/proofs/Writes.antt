@@ -1,4 +1,4 @@
--- Texts in a lent buffer, one after the other. Assumes nothing.
+-- Texts in a lent buffer, one after the other.
 use mathlib.Core.Path.{_≡_, refl, sym, ap, _∙_}
 use mathlib.Core.Logic.{_⊎_, inl, inr}
 use mathlib.Core.List.{List, [], _∷_, _++_, append-assoc, append-nil}

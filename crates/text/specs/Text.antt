@@ -1,4 +1,4 @@
--- The text that is printed of a table, and of a refusal. Assumes nothing.
+-- The text that is printed of a table, and of a refusal.
 use Prim.Native.Nat.{ℕ}
 use Prim.Native.Char.{code}
 use Prim.Native.String.{String, [] as none, _∷_ as more}

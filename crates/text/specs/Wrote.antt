@@ -1,4 +1,4 @@
--- What a call writes into a lent buffer. Assumes nothing.
+-- What a call writes into a lent buffer.
 use Prim.Native.Nat.{ℕ, _+_, _*_, _≤_}
 use mathlib.Core.List.{List, _++_}
 use mathlib.Core.Path.{_≡_}

@@ -1,4 +1,4 @@
--- Laws of how many numbers below n pass a test. Assumes nothing.
+-- Laws of how many numbers below n pass a test.
 use mathlib.Core.Path.{_≡_, refl, ap}
 use mathlib.Core.Logic.{_⊎_, inl, inr}
 use mathlib.Core.Bool.{Bool, true, false}

@@ -1,5 +1,5 @@
 -- An image holds its routes: every node stands at the place that its parent names, and every hop at the place that its bit names.
--- Both places are a base and the ones below a bit, and both are the place in the fixed order. Assumes nothing.
+-- Both places are a base and the ones below a bit, and both are the place in the fixed order.
 use mathlib.Core.Path.{_≡_, refl, sym, _∙_, ap}
 use mathlib.Core.Bool.{Bool, true, false, true≢false}
 use mathlib.Core.List.{List}

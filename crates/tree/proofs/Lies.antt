@@ -1,5 +1,4 @@
 -- A route that passes through a node lies at one bit of it: at an internal bit, or at the extending bit of one child.
--- Assumes nothing.
 use mathlib.Core.Path.{_≡_, refl, sym, _∙_, ap, subst}
 use mathlib.Core.Logic.{_⊎_, inl, inr}
 use mathlib.Core.Bool.{Bool, true, false, _||_, or-true, false≢true}

@@ -1,5 +1,5 @@
 -- Where an image holds routes, each at the bit of its node, the walk finds the longest route that matches. Routes are given here by
--- their hops: `R l q` is the hop of the route of length l whose bits are q, and 0 where there is none. Assumes nothing.
+-- their hops: `R l q` is the hop of the route of length l whose bits are q, and 0 where there is none.
 use mathlib.Core.Path.{_≡_, refl, sym, ap, subst, _∙_}
 use mathlib.Core.Bool.{Bool, true, false, not, cond}
 use mathlib.Core.Logic.{_⊎_, inl, inr, ⊎-elim}

@@ -16,7 +16,7 @@ use Rattle.standing.specs.Cells.{here, any, first, orElse}
 use Rattle.routes.specs.declared.Route.{Route}
 use Rattle.routes.proofs.Goods.{good-fine}
 use Rattle.tree.specs.Parts.{picked, gather}
-use Rattle.tree.specs.Image.{Node, node, innerLen, bitHop, inner, child, kids, hopsOf, level, upTo, nodes, hops, through, nodeStands, hopFor, nodeNeed}
+use Rattle.tree.specs.Image.{Node, node, innerLen, bitHop, inner, child, kids, hopsOf, level, upTo, hops, through, nodeStands, hopFor, nodeNeed}
 use Rattle.tree.proofs.Counts.{count-none, count-one}
 use Rattle.tree.proofs.Parts.{picked-length, gather-append}
 use Rattle.tree.proofs.Levels.{level-is}

@@ -1,6 +1,5 @@
 -- Laws of lists by their parts. The rank lemma: what is picked at a number stands after as many as were picked below it, and
 -- what an element gives stands after all that comes from the elements before it.
--- Assumes nothing.
 use mathlib.Core.Path.{_≡_, refl, sym, _∙_, ap}
 use mathlib.Core.Logic.{_⊎_, inl, inr}
 use mathlib.Core.Bool.{Bool, true, false, cond}

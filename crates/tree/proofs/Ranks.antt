@@ -1,5 +1,5 @@
 -- The place of a node in document 01's order: all nodes of a lesser depth come before it, and then the nodes of its depth whose path
--- is less than its own. The child base and the extending ones below give a child just this place. Assumes nothing.
+-- is less than its own. The child base and the extending ones below give a child just this place.
 use mathlib.Core.Path.{_≡_, refl, sym, _∙_, ap, subst}
 use mathlib.Core.Logic.{_⊎_, inl, inr}
 use mathlib.Core.Bool.{Bool, true, true≢false}
@@ -21,7 +21,7 @@ use Rattle.routes.specs.Route.{Good}
 use Rattle.routes.specs.declared.Route.{Route}
 use Rattle.tree.specs.Node.{bitsOf, childOf, baseOf, childAt}
 use Rattle.tree.specs.Parts.{before}
-use Rattle.tree.specs.Image.{Node, node, inner, hopsOf, level, upTo, nodes, hops, imageBy, imageOf, nodeStands, hopFor, nodeNeed}
+use Rattle.tree.specs.Image.{Node, node, inner, hopsOf, level, upTo, nodes, imageBy, imageOf, nodeStands, hopFor, nodeNeed}
 use Rattle.tree.specs.Levels.{LevelOf}
 use Rattle.tree.proofs.Counts.{count-all}
 use Rattle.bits.proofs.Packed.{rank-count}

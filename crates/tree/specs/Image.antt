@@ -1,6 +1,5 @@
 -- The tree bitmap image of routes. It is a function of two things that are read off the routes: which nodes stand, `st m p` for
 -- the path p of 4 * m bits, and their hops, `hop l q` for the route of length l whose bits are q, 0 where there is none.
--- Assumes nothing.
 use mathlib.Core.Bool.{Bool, false, cond, _&&_}
 use mathlib.Core.List.{List, [], _∷_, _++_}
 use Prim.Native.Nat.{ℕ, zero, suc, _+_, _-_, _*_, _^_}

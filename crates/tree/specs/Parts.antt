@@ -1,4 +1,4 @@
--- Lists by their parts. Assumes nothing.
+-- Lists by their parts.
 use mathlib.Core.Bool.{Bool, cond}
 use mathlib.Core.List.{List, [], _∷_, _++_}
 use Prim.Native.Nat.{ℕ, zero, suc, _+_, _-_}

@@ -1,4 +1,4 @@
--- What a lookup says, for every content of the words and the hops. All nodes are read first, then one hop. Assumes nothing.
+-- What a lookup says, for every content of the words and the hops. All nodes are read first, then one hop.
 use Prim.Native.Nat.{ℕ, zero, suc, _+_, _-_}
 use mathlib.Core.Bool.{cond, _&&_}
 use mathlib.Core.List.{List}

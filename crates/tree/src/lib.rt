@@ -1,7 +1,6 @@
 // Lookup in a tree bitmap image: three words for each node, and the hops beside them.
 ghost use mathlib.Core.Path.{_≡_};
 ghost use Prim.Native.Nat.{_≤_, _<_};
-ghost use lib.Count.{ones};
 ghost use Rattle.tree.specs.Node.{nibbleOf, tryBit, deepestOf, betterOf, childAt};
 ghost use Rattle.tree.specs.Walk.{meansTreeFound, fetchedFrom};
 ghost use Rattle.tree.specs.Contract.{MeetsTreeLookup};

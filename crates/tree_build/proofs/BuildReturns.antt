@@ -1,4 +1,4 @@
--- What each answer of a build says, and what it leaves. Assumes nothing.
+-- What each answer of a build says, and what it leaves.
 use mathlib.Core.Path.{_≡_, sym, _∙_, ap, subst}
 use mathlib.Core.List.{List}
 use Prim.Native.Nat.{ℕ, _/_, _≤_, _<_}

@@ -1,4 +1,4 @@
--- The hops of a node, put one by one at their places. Assumes nothing.
+-- The hops of a node, put one by one at their places.
 use mathlib.Core.Path.{_≡_, refl, sym, _∙_, ap, subst}
 use mathlib.Core.Logic.{_⊎_, inl, inr, ⊎-elim}
 use mathlib.Core.Bool.{Bool, true}

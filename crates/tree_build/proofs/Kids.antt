@@ -1,4 +1,4 @@
--- The children of a node, put one by one at their places, where each waits with its run. Assumes nothing.
+-- The children of a node, put one by one at their places, where each waits with its run.
 use mathlib.Core.Path.{_≡_, refl, sym, _∙_, ap, subst}
 use mathlib.Core.Logic.{_⊎_, inl, inr, ⊎-elim}
 use mathlib.Core.Bool.{true}

@@ -1,4 +1,4 @@
--- The nodes are counted right: each node below the root is fresh at one record, the first of its run. Assumes nothing.
+-- The nodes are counted right: each node below the root is fresh at one record, the first of its run.
 use mathlib.Core.Path.{_≡_, refl, sym, _∙_, ap, ap₂, subst}
 use mathlib.Core.Logic.{_⊎_, inl, inr}
 use mathlib.Core.Bool.{true, false, not, cond, true≢false}

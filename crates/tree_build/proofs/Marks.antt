@@ -1,4 +1,4 @@
--- Bits that are set in a word, and the word that has exactly the bits of a test. Assumes nothing.
+-- Bits that are set in a word, and the word that has exactly the bits of a test.
 use mathlib.Core.Path.{_≡_, refl, sym, _∙_, ap, ap₂}
 use mathlib.Core.Logic.{_⊎_, inl, inr}
 use mathlib.Core.Bool.{Bool, true, false, cond}

@@ -1,4 +1,4 @@
--- Runs of good records: what stands, the hop of a prefix, and the run of a child. Assumes nothing.
+-- Runs of good records: what stands, the hop of a prefix, and the run of a child.
 use mathlib.Core.Path.{_≡_, refl, sym, _∙_, ap, subst}
 use mathlib.Core.Logic.{_⊎_, inl, inr}
 use mathlib.Core.Bool.{true, false, true≢false}

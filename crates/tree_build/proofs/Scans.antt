@@ -1,4 +1,4 @@
--- What the tests of a record say, and the search for the end of a run. Assumes nothing.
+-- What the tests of a record say, and the search for the end of a run.
 use mathlib.Core.Path.{_≡_, refl, sym, _∙_, ap, ap₂}
 use mathlib.Core.Logic.{_⊎_, inl, inr}
 use mathlib.Core.Bool.{Bool, true, false, not}
@@ -13,7 +13,6 @@ use Rattle.bits.specs.Slot.{slot}
 use Rattle.bits.specs.Count.{bit, count}
 use Rattle.routes.specs.Record.{recordAt}
 use Rattle.routes.specs.declared.Route.{Route}
-use Rattle.tree.specs.Image.{through}
 use Rattle.tree_build.specs.NodeRuns.{pathAt, throughAt, RunEnd}
 use Rattle.tree_build.specs.Count.{freshAt, nodesTo}
 

@@ -1,8 +1,8 @@
--- What a build is worth: the image that it leaves serves every address, and a refusal leaves all as it was. Assumes nothing.
+-- What a build is worth: the image that it leaves serves every address, and a refusal leaves all as it was.
 use mathlib.Core.Path.{_≡_, refl, subst}
 use mathlib.Core.Logic.{_⊎_, inl, inr}
 use mathlib.Core.List.{List, [], _∷_}
-use Prim.Native.Nat.{ℕ, _*_, _/_, _^_, _≤_, _<_}
+use Prim.Native.Nat.{ℕ, _/_, _^_, _≤_, _<_}
 use native.Mathlib.Omega.{arith}
 use lib.ListN.{length}
 use borrow.Author.Tests.{lt-ltb, le-ltb}

@@ -1,4 +1,4 @@
--- One step of the queue: the node at its head is made, its hops are put, and its children wait at its end. Assumes nothing.
+-- One step of the queue: the node at its head is made, its hops are put, and its children wait at its end.
 use mathlib.Core.Path.{_≡_, refl, sym, _∙_, ap, ap₂, subst}
 use mathlib.Core.Logic.{_⊎_, inl, inr}
 use mathlib.Core.Bool.{true, false}
@@ -11,7 +11,7 @@ use lib.ListN.{length, getD}
 use Rattle.bits.specs.Count.{count}
 use Rattle.bits.proofs.Bools.{below?}
 use Rattle.routes.specs.Record.{Records, routesIn}
-use Rattle.tree.specs.Parts.{before, gather}
+use Rattle.tree.specs.Parts.{gather}
 use Rattle.tree.specs.Image.{Node, node, bitHop, inner, child, kids, hopsOf, hops}
 use Rattle.tree.specs.Image as image
 use Rattle.tree.specs.Done.{Done}

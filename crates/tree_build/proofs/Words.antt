@@ -1,4 +1,4 @@
--- The word of a node has exactly the bits at which the records of its run lie. Assumes nothing.
+-- The word of a node has exactly the bits at which the records of its run lie.
 use mathlib.Core.Path.{_≡_, sym, _∙_, ap, subst}
 use mathlib.Core.Logic.{_⊎_, inl, inr}
 use mathlib.Core.Bool.{Bool, true, false, cond, true≢false, false≢true}
@@ -15,7 +15,7 @@ use Rattle.bits.specs.Count.{bit}
 use Rattle.bits.proofs.Bools.{decided, below?}
 use Rattle.routes.specs.Record.{recordAt}
 use Rattle.routes.specs.declared.Route.{Route}
-use Rattle.tree.specs.Image.{node, bitHop, child, setBit, word}
+use Rattle.tree.specs.Image.{bitHop, setBit, word}
 use Rattle.tree.proofs.Nodes.{set-inner, set-child}
 use Rattle.tree.proofs.Lies.{pass-parts, up-pass, kidOf, kid-at, kid-is, bitOf, bit-at, bit-pass, bit-is}
 use Rattle.tree_build.specs.NodeRuns.{standsIn, hopIn, pathAt, nodeAt, NodeRun, nodeBit, nodeBitAt, WithBit, innerIn, childIn, wordIn}

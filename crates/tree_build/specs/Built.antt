@@ -1,4 +1,4 @@
--- What a build answers, and what the two arrays then hold. Assumes nothing.
+-- What a build answers, and what the two arrays then hold.
 use mathlib.Core.Bool.{cond}
 use mathlib.Core.List.{List, [], _∷_}
 use Prim.Native.Nat.{ℕ, _/_}

@@ -1,4 +1,4 @@
--- How many nodes the records of an input need, counted record by record. Assumes nothing.
+-- How many nodes the records of an input need, counted record by record.
 use mathlib.Core.Bool.{Bool, true, not, cond, _&&_}
 use mathlib.Core.List.{List}
 use Prim.Native.Nat.{ℕ, zero, suc, _+_, _-_, _*_}

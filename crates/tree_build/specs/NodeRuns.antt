@@ -1,4 +1,4 @@
--- The run of a node: the records whose routes pass through it. Assumes nothing.
+-- The run of a node: the records whose routes pass through it.
 use mathlib.Core.Bool.{Bool, true, false, cond}
 use mathlib.Core.List.{List}
 use mathlib.Core.Path.{_≡_}

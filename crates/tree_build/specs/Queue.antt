@@ -1,5 +1,4 @@
 -- The words while an image is made: nodes that are done, and after them nodes that wait with the run of their records.
--- Assumes nothing.
 use mathlib.Core.Bool.{true}
 use mathlib.Core.List.{List}
 use mathlib.Core.Path.{_≡_}

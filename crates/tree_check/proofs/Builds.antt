@@ -1,15 +1,14 @@
 -- What a build leaves is well formed: a node that stands has some route in it or below it, and so a bit set.
 use mathlib.Core.Path.{_≡_, refl, sym, _∙_, ap, subst}
 use mathlib.Core.Logic.{_⊎_, inl, inr}
-use mathlib.Core.Bool.{Bool, true, false, cond, not, _&&_, true≢false}
+use mathlib.Core.Bool.{Bool, true, false, cond, not}
 use mathlib.Core.List.{List, [], _∷_, List·Memᴰ, List·Memᴰ·head}
 use Prim.Native.Nat.{ℕ, zero, suc, _+_, _-_, _*_, _/_, _%_, _^_, _≤_, _<_}
 use native.Mathlib.Nat.{div-eq-of-lt}
 use native.Mathlib.Omega.{arith}
-use lib.Dec.{eqb, ltb}
+use lib.Dec.{ltb}
 use lib.Pow.{shr-le, pow-lt}
 use lib.ListN.{length, getD}
-use lib.Count.{ones}
 use borrow.Author.Tests.{lt-ltb, le-ltb, ltb-true, eq-eqb, ne-eqb}
 use Rattle.bits.specs.Bit.{bitAt}
 use Rattle.bits.specs.Count.{bit, count}
@@ -19,7 +18,7 @@ use Rattle.routes.specs.declared.Route.{Route}
 use Rattle.routes.proofs.Goods.{good-fine}
 use Rattle.standing.specs.Cells.{any, first}
 use Rattle.tree.specs.Node.{bitsOf, childOf, baseOf, sound}
-use Rattle.tree.specs.Parts.{gather, before}
+use Rattle.tree.specs.Parts.{before}
 use Rattle.tree.specs.Image.{Node, node, innerLen, bitHop, inner, child, setBit, word, kids, hopsOf, nodes, words, hops, imageBy, imageOf, through, nodeStands, hopFor, nodeNeed}
 use Rattle.tree.proofs.Counts.{count-hit}
 use Rattle.tree.proofs.Parts.{picked-length, gather-split}

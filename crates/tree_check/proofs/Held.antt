@@ -2,13 +2,13 @@
 -- the nodes that paths lead to are those that stand.
 use mathlib.Core.Path.{_≡_, refl, sym, _∙_, ap, subst}
 use mathlib.Core.Logic.{_⊎_, inl, inr}
-use mathlib.Core.Bool.{Bool, true, false, cond, not, _&&_, true≢false, false≢true}
-use mathlib.Core.List.{List, [], _∷_}
+use mathlib.Core.Bool.{Bool, true, false, cond, not, _&&_, true≢false}
+use mathlib.Core.List.{List}
 use Prim.Native.Nat.{ℕ, zero, suc, _+_, _-_, _*_, _/_, _%_, _^_, _≤_, _<_}
 use native.Mathlib.Nat.{mod-lt, add-zero, mul-le-mul-right, pow-suc, add-mul, one-mul}
 use native.Mathlib.Omega.{arith}
 use lib.Dec.{eqb, ltb, leb}
-use lib.Pow.{split, pow-pos, pow-add, shr-shr, shr-mod, high, low}
+use lib.Pow.{pow-pos, pow-add, shr-shr, shr-mod, high, low}
 use lib.ListN.{length, getD}
 use lib.Count.{ones}
 use borrow.Author.Tests.{lt-ltb, ltb-true, leb-true, le-leb, lt-leb, eqb-true, eq-eqb}
@@ -20,9 +20,8 @@ use Rattle.bits.proofs.Bools.{decided, both, and-split, below?, untrue, same}
 use Rattle.routes.specs.Route.{Good}
 use Rattle.routes.specs.declared.Route.{Route}
 use Rattle.routes.proofs.Goods.{good-fine}
-use Rattle.standing.specs.Cells.{here}
 use Rattle.tree.specs.Node.{bitsOf, childOf, baseOf, isSet, sound, childAt}
-use Rattle.tree.specs.Image.{node, innerLen, bitHop, inner, child, setBit, word, nodes, words, hops, imageOf, through, nodeStands, hopFor, nodeNeed}
+use Rattle.tree.specs.Image.{node, innerLen, bitHop, inner, child, setBit, word, words, hops, imageOf, through, nodeStands, hopFor, nodeNeed}
 use Rattle.tree.proofs.Counts.{count-less}
 use Rattle.bits.proofs.Packed.{rank-count, upper-count}
 use Rattle.tree.proofs.Needs.{hops-need}
@@ -33,9 +32,9 @@ use Rattle.tree_build.proofs.Marks.{word-bits}
 use Rattle.tree_same.specs.Read.{reached, leads, hopAt, pathOf, bitFor, readOut}
 use Rattle.tree_same.specs.Order.{standsAt, exts, ints}
 use Rattle.tree_same.specs.Holding.{Holding}
-use Rattle.tree_same.specs.Listed.{listed, routesHeld}
+use Rattle.tree_same.specs.Listed.{routesHeld}
 use Rattle.tree_same.proofs.Lists.{Hopping, listed-good, listed-hop}
-use Rattle.tree_same.proofs.Back.{bit-set-is, parts-of}
+use Rattle.tree_same.proofs.Back.{parts-of}
 use Rattle.tree_same.proofs.Holdings.{nodes-are, hops-are, holds-image}
 use Rattle.tree_same.proofs.Same.{hopping}
 use Rattle.tree_check.specs.WellFormed.{allFrom, nodeOk}

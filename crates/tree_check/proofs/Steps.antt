@@ -1,24 +1,24 @@
 -- What the steps of the test say: of each return, why its answer is that of the definition.
 use mathlib.Core.Path.{_≡_, refl, sym, _∙_, ap, subst}
 use mathlib.Core.Logic.{_⊎_, inl, inr}
-use mathlib.Core.Bool.{Bool, true, false, cond, not, _&&_, _||_, true≢false}
+use mathlib.Core.Bool.{Bool, true, false, not, _&&_, true≢false}
 use mathlib.Core.List.{List}
-use Prim.Native.Nat.{ℕ, zero, suc, _+_, _-_, _*_, _/_, _%_, _^_, _≤_, _<_}
+use Prim.Native.Nat.{ℕ, suc, _+_, _-_, _*_, _%_, _^_, _≤_, _<_}
 use native.Mathlib.Omega.{arith}
-use lib.Dec.{eqb, ltb, leb}
+use lib.Dec.{eqb, leb}
 use lib.ListN.{length, getD}
 use lib.Count.{ones}
-use borrow.Author.Tests.{leb-true, le-leb, lt-ltb, le-ltb, eqb-true, eq-eqb, ne-eqb}
-use Rattle.bits.specs.Tab.{every, Tells}
+use borrow.Author.Tests.{leb-true, le-leb, eqb-true, eq-eqb}
+use Rattle.bits.specs.Tab.{Tells}
 use Rattle.bits.proofs.Bools.{decided, both, and-split, untrue, below?, same}
 use Rattle.bits.proofs.Tabs.{every-true, true-every}
 use Rattle.buffers.specs.Zeros.{Zeros}
 use Rattle.routes.specs.Input.{hopFine}
-use Rattle.tree.specs.Node.{bitsOf, childOf, baseOf, isSet, sound}
-use Rattle.tree_same.specs.Order.{exts, ints, Order}
-use Rattle.tree_check.specs.WellFormed.{nodesUsed, ordered, allFrom, nodeOk, childrenOk, rootOk, hopsIn, hopsOk, hopsFineTo, blankFrom, wellFormed, nodesIf}
+use Rattle.tree.specs.Node.{bitsOf, baseOf}
+use Rattle.tree_same.specs.Order.{ints, Order}
+use Rattle.tree_check.specs.WellFormed.{nodesUsed, ordered, rootOk, hopsIn, hopsOk, hopsFineTo, blankFrom, wellFormed, nodesIf}
 use Rattle.tree_check.specs.Stretches.{Flagged, Own, NodesShaped, Rooted}
-use Rattle.tree_check.proofs.Meaning.{not-true, ordered-is, used-is, is-ordered, blank-zeros, zeros-blank}
+use Rattle.tree_check.proofs.Meaning.{not-true, ordered-is, blank-zeros, zeros-blank}
 
 -- ---- hops and zeros
 

@@ -13,7 +13,7 @@ use borrow.Author.Tests.{lt-ltb, eqb-true, eq-eqb, ne-eqb}
 use Rattle.bits.proofs.Bools.{both, and-split, below?, same, untrue}
 use Rattle.tree.specs.Node.{bitsOf, childOf, isSet, sound}
 use Rattle.tree_same.specs.Order.{exts, Order}
-use Rattle.tree_check.specs.WellFormed.{nodesUsed, ordered, allFrom, nodeOk, childrenOk, rootOk}
+use Rattle.tree_check.specs.WellFormed.{nodesUsed, allFrom, nodeOk, childrenOk, rootOk}
 use Rattle.tree_check.specs.Stretches.{Flagged, OwnBits, Own, Stretch, Rooted}
 use Rattle.tree_check.proofs.Meaning.{not-true, ordered-is, all-from, from-all}
 use Rattle.tree_check.proofs.Held.{exts-next, exts-mono}

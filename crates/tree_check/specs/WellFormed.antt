@@ -1,7 +1,7 @@
 -- When words and hops are an image that some record input builds, as document 02 has it in m: the bases are those of the fixed order, the
 -- nodes are well formed from the root down, the hops in use are hops, and zeros stand after the last used.
 use mathlib.Core.Bool.{Bool, true, cond, not, _&&_, _||_}
-use mathlib.Core.List.{List, [], _∷_}
+use mathlib.Core.List.{List}
 use Prim.Native.Nat.{ℕ, zero, suc, _+_, _*_, _/_, _^_}
 use lib.Dec.{eqb, ltb, leb}
 use lib.ListN.{length, getD}

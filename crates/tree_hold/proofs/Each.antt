@@ -9,7 +9,6 @@ use lib.Dec.{eqb, leb, ltb}
 use lib.ListN.{length, getD, set, List·getD-eq-default}
 use lib.Seq.{ext-getD}
 use borrow.Author.Tests.{eq-eqb, ne-eqb, eqb-true, le-leb, leb-true, lt-ltb, ltb-true}
-use Rattle.bits.specs.Tab.{tabulate}
 use Rattle.bits.proofs.Bools.{both, and-split, below?, equal?, untrue, same}
 use Rattle.bits.proofs.Tabs.{length-tabulate, getD-tabulate, tabulate-ext, set-tabulate}
 use Rattle.lists.specs.Edit.{drawn}

@@ -15,7 +15,7 @@ use Rattle.bits.proofs.Bools.{decided, both, and-split, or-split, equal?, same,
 use Rattle.routes.specs.Route.{key, keyOf, Prefix, Fine, Good}
 use Rattle.routes.specs.declared.Route.{Route}
 use Rattle.routes.proofs.Goods.{good-fine, key-parts}
-use Rattle.standing.specs.Cells.{here, any, first, orElse}
+use Rattle.standing.specs.Cells.{here, orElse}
 use Rattle.standing.specs.Standing.{isAt, stands, absent, stood, routeAt, insert, remove}
 use Rattle.standing.proofs.Standing.{one-prefix, insert-mem, insert-good, insert-stands, insert-but, remove-good, remove-stands, same-standing}
 use Rattle.tree.specs.Image.{through, nodeStands, hopFor, nodes, hops}

@@ -1,4 +1,4 @@
--- `packing::built` meets its contract. Assumes nothing.
+-- `packing::built` meets its contract.
 use mathlib.Core.Path.{ap}
 use native.Mathlib.Omega.{arith}
 use Rattle.tree_build.specs.Built.{meansBuilt}

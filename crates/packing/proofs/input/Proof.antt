@@ -1,4 +1,4 @@
--- `packing::input` meets its contract. Assumes nothing.
+-- `packing::input` meets its contract.
 use mathlib.Core.Path.{ap}
 use native.Mathlib.Omega.{arith}
 use Rattle.routes.specs.Answers.{meansInput}

@@ -1,4 +1,4 @@
--- `packing::loaded` meets its contract. Assumes nothing.
+-- `packing::loaded` meets its contract.
 use mathlib.Core.Path.{ap}
 use native.Mathlib.Omega.{arith}
 use Rattle.sail_load.specs.Answers.{meansLoaded}

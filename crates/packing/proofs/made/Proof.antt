@@ -1,4 +1,4 @@
--- `packing::made` meets its contract. Assumes nothing.
+-- `packing::made` meets its contract.
 use mathlib.Core.Path.{ap}
 use native.Mathlib.Omega.{arith}
 use Rattle.sail_make.specs.Answers.{meansMade}

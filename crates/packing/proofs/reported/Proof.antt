@@ -1,4 +1,4 @@
--- `packing::reported` meets its contract. Assumes nothing.
+-- `packing::reported` meets its contract.
 use mathlib.Core.Path.{ap}
 use native.Mathlib.Omega.{arith}
 use Rattle.sail_sound.specs.Report.{meansReported}

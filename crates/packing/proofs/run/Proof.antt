@@ -1,4 +1,4 @@
--- `packing::run` meets its contract. Assumes nothing.
+-- `packing::run` meets its contract.
 use mathlib.Core.Path.{ap}
 use native.Mathlib.Omega.{arith}
 use Rattle.runs.specs.Run.{meansRunCheck}

@@ -1,4 +1,4 @@
--- `packing::tree_found` meets its contract. Assumes nothing.
+-- `packing::tree_found` meets its contract.
 use mathlib.Core.Path.{ap}
 use native.Mathlib.Omega.{arith}
 use Rattle.tree.specs.Walk.{meansTreeFound}

@@ -1,4 +1,4 @@
--- `sail_announce::answer_of` meets its contract. Assumes nothing.
+-- `sail_announce::answer_of`. What putting a route into the list answers for the table, where bits were cleared or not.
 use mathlib.Core.Path.{refl}
 use Rattle.lists.specs.Edit.{meansPut}
 use Rattle.sail_announce.specs.Answers.{meansAnnounce}

@@ -1,4 +1,4 @@
--- `sail_announce::count_with` meets its contract. Assumes nothing.
+-- `sail_announce::count_with`. How many routes stand after one was put into n.
 use mathlib.Core.Path.{refl}
 use Rattle.lists.specs.Edit.{meansPut}
 use borrow.Author.Needs.{needs}

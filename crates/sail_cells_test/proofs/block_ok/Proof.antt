@@ -1,4 +1,5 @@
--- `sail_cells_test::block_ok` meets its contract. Assumes nothing.
+-- `sail_cells_test::block_ok`. Whether the 2^d cells from place a on are as the routes ask for the cells of level p that lie in cell i of level p -
+-- d.
 use Rattle.sail_cells_test.proofs.Blocks.{plan-room, block-tested, block-tells}
 use borrow.Author.Needs.{needs}
 use Rattle.sail_cells_test.proofs.block_ok.Statement.{statement}

@@ -1,4 +1,4 @@
--- `sail_cells_test::chunk_ok` meets its contract. Assumes nothing.
+-- `sail_cells_test::chunk_ok`. Whether chunk c of a pool is free, or hangs from the pool above and is right.
 use Rattle.sail_cells_test.proofs.Chunks.{hooks, hangs, free-passes, nowhere, used-tells}
 use borrow.Author.Needs.{needs}
 use Rattle.sail_cells_test.proofs.chunk_ok.Statement.{statement}

@@ -1,4 +1,4 @@
--- `sail_cells_test::first_ok` meets its contract. Assumes nothing.
+-- `sail_cells_test::first_ok`. Whether the first cells, which are those of level p, are as the routes ask.
 use mathlib.Core.Path.{_≡_}
 use Prim.Native.Nat.{_*_, _-_, _≤_}
 use native.Mathlib.Omega.{arith}

@@ -1,4 +1,4 @@
--- `sail_cells_test::free_all` meets its contract. The invariant: each free chunk passed is zero. Assumes nothing.
+-- `sail_cells_test::free_all`: The invariant: each free chunk passed is zero.
 use Prim.Native.Nat.{ℕ, _-_, _≤_, _<_}
 use native.Mathlib.Omega.{arith}
 use borrow.Author.Count.{below-none, below-more}

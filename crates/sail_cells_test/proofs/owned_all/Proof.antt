@@ -1,4 +1,4 @@
--- `sail_cells_test::owned_all` meets its contract. Assumes nothing.
+-- `sail_cells_test::owned_all`. Whether each chunk in use of a pool is right.
 use Rattle.bits.proofs.Tells.{is-yes, refuted, passed}
 use Rattle.sail_cells_test.proofs.Chunks.{still-pooled}
 use mathlib.Core.Path.{_≡_}

@@ -1,4 +1,5 @@
--- `sail_cells_test::owned_ok` meets its contract. Assumes nothing.
+-- `sail_cells_test::owned_ok`. Whether the cell at place q of the pool above names chunk c, and the chunk is as the routes ask for the cells of level
+-- p that lie in cell i of level p - d.
 use Rattle.sail_cells_test.proofs.Chunks.{not-named, named-tells}
 use borrow.Author.Needs.{needs}
 use Rattle.sail_cells_test.proofs.owned_ok.Statement.{statement}

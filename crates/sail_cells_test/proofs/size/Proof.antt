@@ -1,4 +1,4 @@
--- `sail_cells_test::size` meets its contract. Assumes nothing.
+-- `sail_cells_test::size`. How many cells a block has whose places take d bits.
 use native.Mathlib.Omega.{arith}
 use Rattle.sail.proofs.Geos.{power}
 use borrow.Author.Needs.{needs}

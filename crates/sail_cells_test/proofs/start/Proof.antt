@@ -1,4 +1,4 @@
--- `sail_cells_test::start` meets its contract. Assumes nothing.
+-- `sail_cells_test::start`. Where chunk c begins.
 use Rattle.sail_cells_test.proofs.Blocks.{start-is}
 use borrow.Author.Needs.{needs}
 use Rattle.sail_cells_test.proofs.start.Statement.{statement}

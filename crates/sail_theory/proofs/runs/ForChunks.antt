@@ -1,7 +1,7 @@
 -- Refusals for want of chunks, 7 and 8 (`ByNeed`, `ForChunks`, specs/WantOfChunks.antt): exactly when the routes that would stand need more, since what is
 -- wanting decides what is said (`want-of-chunks`); and of well-formed changes alone, since every other case says another number.
 use mathlib.Core.Path.{_≡_, refl, ap}
-use mathlib.Core.Bool.{Bool, true, false≢true}
+use mathlib.Core.Bool.{Bool, false≢true}
 use mathlib.Core.List.{List, _∷_}
 use Prim.Native.Nat.{ℕ, _/_, _≤_}
 use native.Mathlib.Omega.{arith}

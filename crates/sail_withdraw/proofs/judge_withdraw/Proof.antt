@@ -1,4 +1,4 @@
--- `sail_withdraw::judge_withdraw` meets its contract. Assumes nothing.
+-- `sail_withdraw::judge_withdraw`. The number with which the withdrawal is refused, by the first condition that holds; 0 where it is accepted.
 use Rattle.sail_sound.proofs.TableTest.{tried-sound}
 use Rattle.sail_withdraw.proofs.Judges.{leave-sizes, leave-prefix, leave-sound, leave-stands, leave-absent}
 use borrow.Author.Needs.{needs}

@@ -1,4 +1,4 @@
--- `tree_build::build` meets its contract. Assumes nothing.
+-- `tree_build::build`. Builds the image of a record input.
 use Rattle.tree_build.proofs.BuildReturns.{good-input, after-good, after-refused, after-many}
 use borrow.Author.Needs.{needs}
 use Rattle.tree_build.proofs.build.Statement.{statement}

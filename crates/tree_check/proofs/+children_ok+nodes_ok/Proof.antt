@@ -1,6 +1,5 @@
 -- The test of nodes calls the test of their child arrays and back. What falls: a fixed number, more than the nodes of any image, for each level left
 -- below, and in an array one for each node left.
-use mathlib.Core.Path.{_≡_, sym, _∙_}
 use Prim.Native.Nat.{_+_, _*_}
 use native.Mathlib.Omega.{arith}
 use borrow.Author.Needs.{needs}

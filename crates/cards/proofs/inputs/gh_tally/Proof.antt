@@ -1,6 +1,6 @@
--- `cards::inputs::gh_tally` meets its contract: the words stored so far are the first counts. Assumes nothing.
+-- `cards::inputs::gh_tally`: the words stored so far are the first counts.
 use native.Mathlib.Omega.{arith}
-use Prim.Native.Nat.{ℕ, _+_, _-_, _≤_, _<_}
+use Prim.Native.Nat.{ℕ, _-_, _≤_, _<_}
 use mathlib.Core.Path.{_≡_, refl, ap, _∙_}
 use lib.ListN.{length, getD, length-set}
 use Rattle.bits.proofs.Tabs.{stored-more}

@@ -1,4 +1,4 @@
--- `cards::lookups::look_each` meets its contract. Assumes nothing.
+-- `cards::lookups::look_each`. Many lookups with one check of geometry and sizes.
 use borrow.Author.Needs.{needs}
 use Rattle.sail_many.proofs.LookupWords.{ready}
 use Rattle.cards.proofs.Laws.{many-not, many-uneven, many-answers}

@@ -1,4 +1,4 @@
--- `chain::cover::heads` meets its contract. The invariant: the heads below b stand, and every word before m has a smaller first byte. Assumes nothing.
+-- `chain::cover::heads`: The invariant: the heads below b stand, and every word before m has a smaller first byte.
 use mathlib.Core.Path.{_≡_, refl, _∙_}
 use Prim.Native.Nat.{_-_, _*_, _≤_}
 use lib.ListN.{length, length-set}

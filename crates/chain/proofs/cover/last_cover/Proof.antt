@@ -1,5 +1,4 @@
--- `chain::cover::last_cover` meets its contract. The invariant: only words before m are left. The measure is m.
--- Assumes nothing.
+-- `chain::cover::last_cover`: The invariant: only words before m are left. The measure is m.
 use Prim.Native.Nat.{_-_}
 use native.Mathlib.Omega.{arith}
 use borrow.Author.Needs.{needs}

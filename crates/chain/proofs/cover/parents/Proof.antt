@@ -1,4 +1,4 @@
--- `chain::cover::parents` meets its contract. The invariant: the first k parents stand. Assumes nothing.
+-- `chain::cover::parents`: The invariant: the first k parents stand.
 use mathlib.Core.Path.{_≡_, refl, sym}
 use Prim.Native.Nat.{_-_, _≤_}
 use lib.ListN.{length, length-set}

@@ -1,4 +1,4 @@
--- `chain::place::run_end` meets its contract. The invariant: the words from lo up to k have the bits of the cell. Assumes nothing.
+-- `chain::place::run_end`: The invariant: the words from lo up to k have the bits of the cell.
 use denote.Ref.{now}
 use Prim.Native.Nat.{_-_, _≤_}
 use lib.ListN.{length}

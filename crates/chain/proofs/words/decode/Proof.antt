@@ -1,4 +1,4 @@
--- `chain::words::decode` meets its contract. The invariant: the first k words stand. Assumes nothing.
+-- `chain::words::decode`: The invariant: the first k words stand.
 use mathlib.Core.Path.{_≡_, refl}
 use Prim.Native.Nat.{_-_, _≤_}
 use lib.ListN.{length, length-set}

@@ -1,4 +1,4 @@
--- `lists::edit::insert` meets its contract. Assumes nothing.
+-- `lists::edit::insert`. `r` is put into the list's n records, over the route of its prefix where one stands.
 use Rattle.lists.specs.Edit.{meansPut}
 use borrow.Author.Needs.{needs}
 use Rattle.lists.proofs.EditPlaces.{replace-fits, insert-fits, put-told}

@@ -1,4 +1,4 @@
--- `lists::edit::insert_at` meets its contract. Assumes nothing.
+-- `lists::edit::insert_at`. `r` becomes record k of the list's n records, and those from k on stand one place further.
 use borrow.Author.Needs.{needs}
 use Rattle.lists.proofs.EditBytes.{inserted-at}
 use Rattle.lists.proofs.edit.insert_at.Statement.{statement}

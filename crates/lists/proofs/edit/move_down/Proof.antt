@@ -1,4 +1,4 @@
--- `lists::edit::move_down` meets its contract. The invariant: the bytes before `at` are moved. Assumes nothing.
+-- `lists::edit::move_down`: The invariant: the bytes before `at` are moved.
 use mathlib.Core.Path.{_≡_, refl}
 use Prim.Native.Nat.{_-_, _≤_}
 use native.Mathlib.Omega.{arith}

@@ -1,4 +1,4 @@
--- `lists::edit::move_up` meets its contract. The invariant: the bytes from `at` on are moved. Assumes nothing.
+-- `lists::edit::move_up`: The invariant: the bytes from `at` on are moved.
 use mathlib.Core.Path.{_≡_, refl}
 use Prim.Native.Nat.{_≤_}
 use native.Mathlib.Omega.{arith}

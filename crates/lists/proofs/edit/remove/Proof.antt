@@ -1,4 +1,4 @@
--- `lists::edit::remove` meets its contract. Assumes nothing.
+-- `lists::edit::remove`. The route of a prefix is taken out of the list's n records.
 use borrow.Author.Needs.{needs}
 use Rattle.lists.proofs.EditPlaces.{remove-fits, removed-told, nothing-told}
 use Rattle.lists.proofs.edit.remove.Statement.{statement}

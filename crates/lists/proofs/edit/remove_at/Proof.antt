@@ -1,4 +1,4 @@
--- `lists::edit::remove_at` meets its contract. Assumes nothing.
+-- `lists::edit::remove_at`. Record k is taken out of the list's n records: those after it stand one place nearer, and the last becomes zero bytes.
 use borrow.Author.Needs.{needs}
 use Rattle.lists.proofs.EditBytes.{removed-at}
 use Rattle.lists.proofs.edit.remove_at.Statement.{statement}

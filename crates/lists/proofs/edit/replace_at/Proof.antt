@@ -1,4 +1,4 @@
--- `lists::edit::replace_at` meets its contract. Assumes nothing.
+-- `lists::edit::replace_at`. `r` takes the place of record k, which has its prefix.
 use borrow.Author.Needs.{needs}
 use Rattle.lists.proofs.EditBytes.{replaced-at}
 use Rattle.lists.proofs.edit.replace_at.Statement.{statement}

@@ -1,4 +1,4 @@
--- `plan::paint::plan_words` meets its contract. Assumes nothing.
+-- `plan::paint::plan_words`. The cells of level p from base on, as many as `out` has: the hop h everywhere, and the routes over it in list order.
 use mathlib.Core.Path.{_≡_, ap, _∙_}
 use Prim.Native.Nat.{_≤_, _-_}
 use lib.ListN.{length, take}

@@ -1,4 +1,4 @@
--- `plan::part::names` meets its contract. Assumes nothing.
+-- `plan::part::names`. Whether v is the number, from 1, of a chunk whose owner number is o.
 use native.Mathlib.Omega.{arith}
 use Rattle.bits.proofs.Tells.{is-no}
 use Rattle.plan.proofs.Settles.{names-tested}

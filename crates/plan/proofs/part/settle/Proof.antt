@@ -1,4 +1,4 @@
--- `plan::part::settle` meets its contract. Assumes nothing.
+-- `plan::part::settle`. The same for each word of a run, in any order.
 use Prim.Native.Nat.{_+_, _-_, _≤_}
 use native.Mathlib.Omega.{arith}
 use lib.ListN.{length, take}

@@ -1,4 +1,4 @@
--- `routes::input::prefix_ok` meets its contract. Assumes nothing.
+-- `routes::input::prefix_ok`. Whether a prefix has at most 32 bits, and no bit set after them.
 use Rattle.routes.proofs.Faults.{too-long, tested}
 use borrow.Author.Needs.{needs}
 use Rattle.routes.proofs.input.prefix_ok.Statement.{statement}

@@ -1,4 +1,4 @@
--- `routes::input::route_at` meets its contract: each arm has its law. Assumes nothing.
+-- `routes::input::route_at`: each arm has its law.
 use native.Mathlib.Omega.{arith}
 use Rattle.routes.proofs.Meaning.{input-good}
 use Rattle.routes.proofs.Inputs.{told-good, told-refused, told-many, got-one, got-nothing, got-refused, got-many}

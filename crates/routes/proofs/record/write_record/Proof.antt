@@ -1,4 +1,4 @@
--- `routes::record::write_record` meets its contract. Assumes nothing.
+-- `routes::record::write_record`. Record k of the list is made `r`, and nothing else changes.
 use mathlib.Core.Path.{_∙_}
 use lib.ListN.{length-set}
 use native.Mathlib.Omega.{arith}

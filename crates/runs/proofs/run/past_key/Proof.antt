@@ -1,4 +1,4 @@
--- `runs::run::past_key` meets its contract. Assumes nothing.
+-- `runs::run::past_key`. The key of the first address after a prefix.
 use native.Mathlib.Omega.{arith}
 use Rattle.runs.proofs.Runs.{size-is}
 use borrow.Author.Needs.{needs}

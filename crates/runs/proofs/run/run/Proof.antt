@@ -1,4 +1,4 @@
--- `runs::run::run` meets its contract: the part that the check found, or the empty part at the start. Assumes nothing.
+-- `runs::run::run`: the part that the check found, or the empty part at the start.
 use mathlib.Core.Path.{_≡_, refl, sym, ap, _∙_}
 use mathlib.Core.Logic.{⊎-elim}
 use mathlib.Core.List.{[], _∷_}

@@ -1,4 +1,4 @@
--- `runs::run::run_check` meets its contract: each arm has its law. Assumes nothing.
+-- `runs::run::run_check`: each arm has its law.
 use mathlib.Core.Path.{_≡_, sym, _∙_}
 use mathlib.Core.List.{[], _∷_}
 use borrow.Author.Tests.{not-false}

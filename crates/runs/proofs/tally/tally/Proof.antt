@@ -1,4 +1,4 @@
--- `runs::tally::tally` meets its contract: each arm has its law. Assumes nothing.
+-- `runs::tally::tally`: each arm has its law.
 use mathlib.Core.Path.{ap}
 use Rattle.routes.specs.Answers.{meansInput}
 use Rattle.routes.specs.declared.input.Input.{Input}

@@ -1,4 +1,4 @@
--- `sail::lookup::lookup` meets its contract. Assumes nothing.
+-- `sail::lookup::lookup`. The hop of the longest route that covers the address, with the count of cells read.
 use borrow.Author.Needs.{needs}
 use Rattle.sail.specs.Walk.{meansFound}
 use Rattle.sail.proofs.Steps.{look-found, look-not}

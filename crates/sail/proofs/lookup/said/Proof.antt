@@ -1,4 +1,4 @@
--- `sail::lookup::said` meets its contract. Assumes nothing.
+-- `sail::lookup::said`. What a word says.
 use borrow.Author.Needs.{needs}
 use Rattle.sail.specs.Walk.{meansFound}
 use Rattle.sail.proofs.Words.{says-number, says-none, says-hop}

@@ -1,4 +1,4 @@
--- `sail_chunks::chunks::chunk_named` meets its contract. Assumes nothing.
+-- `sail_chunks::chunks::chunk_named`. The first chunk whose owner is o, counted from 0; as many as there are where none has it.
 use Prim.Native.Nat.{_≤_, _-_}
 use borrow.Author.Count.{below-none, below-more}
 use borrow.Author.Needs.{needs}

@@ -1,4 +1,4 @@
--- `sail_chunks::chunks::close` meets its contract. Assumes nothing.
+-- `sail_chunks::chunks::close`. Chunk c of a pool of chunks of 2^d cells, where it is to be closed: its owner and its cells become 0.
 use native.Mathlib.Omega.{arith}
 use mathlib.Core.Path.{refl}
 use Rattle.sail_chunks.proofs.ChunkOwners.{close-range, close-on, close-off}

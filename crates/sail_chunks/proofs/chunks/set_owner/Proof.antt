@@ -1,4 +1,4 @@
--- `sail_chunks::chunks::set_owner` meets its contract. Assumes nothing.
+-- `sail_chunks::chunks::set_owner`. The lowest free chunk gets the owner o, where one is to be opened.
 use native.Mathlib.Omega.{arith}
 use mathlib.Core.Path.{refl}
 use Rattle.sail_chunks.proofs.ChunkOwners.{hang-on, hang-off}

@@ -1,4 +1,4 @@
--- `sail_chunks::opening::chunk_for` meets its contract. Assumes nothing.
+-- `sail_chunks::opening::chunk_for`. The chunk that is to be opened, the lowest free one, or the one that is there.
 use Rattle.sail_chunks.proofs.ToOpen.{chunk-free, chunk-had}
 use borrow.Author.Needs.{needs}
 use Rattle.sail_chunks.proofs.opening.chunk_for.Statement.{statement}

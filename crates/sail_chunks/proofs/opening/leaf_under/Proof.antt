@@ -1,4 +1,4 @@
--- `sail_chunks::opening::leaf_under` meets its contract. Assumes nothing.
+-- `sail_chunks::opening::leaf_under`. Whether a prefix longer than p has a leaf in its cell of level p.
 use Rattle.sail_chunks.proofs.ToOpen.{leaf-longer, leaf-shorter}
 use Rattle.sail_chunks.proofs.opening.leaf_under.Statement.{statement}
 use Rattle.sail_chunks.proofs.opening.leaf_under.Tie as tie

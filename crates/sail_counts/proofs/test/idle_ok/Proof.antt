@@ -1,5 +1,4 @@
--- `sail_counts::test::idle_ok` meets its contract. The invariant: the largest count is 0 exactly where each idle cell passed counts 0.
-use mathlib.Core.Path.{_≡_}
+-- `sail_counts::test::idle_ok`: The invariant: the largest count is 0 exactly where each idle cell passed counts 0.
 use Prim.Native.Nat.{_-_, _≤_}
 use native.Mathlib.Omega.{arith}
 use borrow.Author.Count.{below-none}

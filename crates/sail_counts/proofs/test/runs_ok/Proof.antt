@@ -1,4 +1,4 @@
--- `sail_counts::test::runs_ok` meets its contract. The invariant: the cell of each run that began before word k has its true count.
+-- `sail_counts::test::runs_ok`: The invariant: the cell of each run that began before word k has its true count.
 use Prim.Native.Nat.{ℕ, _-_, _≤_, _<_}
 use native.Mathlib.Omega.{arith}
 use borrow.Author.Count.{below-none, below-more}

@@ -1,4 +1,4 @@
--- `sail_load::load::accepts` meets its contract. Assumes nothing.
+-- `sail_load::load::accepts` meets its contract.
 use borrow.Author.Needs.{needs}
 use Rattle.sail_load.specs.Answers.{meansLoaded}
 use Rattle.sail_load.proofs.load.accepts.Statement.{statement}

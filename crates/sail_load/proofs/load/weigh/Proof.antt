@@ -1,4 +1,4 @@
--- `sail_load::load::weigh` meets its contract. Assumes nothing.
+-- `sail_load::load::weigh`. Whether n good records find room: 6, 7 or 8 where they do not, and else 0.
 use borrow.Author.Needs.{needs}
 use Rattle.sail_load.proofs.Loads.{weigh-six, weigh-seven, weigh-eight, weigh-none}
 use Rattle.sail_load.proofs.load.weigh.Statement.{statement}

@@ -1,7 +1,7 @@
--- `sail_many::pass::read_firsts` meets its contract: the words so far went one step on. Assumes nothing.
+-- `sail_many::pass::read_firsts`: the words so far went one step on.
 use borrow.Author.Needs.{needs}
 use native.Mathlib.Omega.{arith}
-use Prim.Native.Nat.{ℕ, _-_, _≤_}
+use Prim.Native.Nat.{_-_, _≤_}
 use Rattle.sail_many.proofs.Flows.{swept-none, swept-more, swept-all, spot-at}
 use Rattle.sail_many.specs.Words.{step1, Swept}
 use Rattle.sail_many.proofs.pass.read_firsts.Statement.{statement}

@@ -1,4 +1,4 @@
--- `sail_many::word::read_first` meets its contract. Assumes nothing.
+-- `sail_many::word::read_first`. The first cell is read.
 use borrow.Author.Needs.{needs}
 use Rattle.sail_many.proofs.Words.{put-is}
 use Rattle.sail_many.proofs.word.read_first.Statement.{statement}

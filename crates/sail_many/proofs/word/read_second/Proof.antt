@@ -1,4 +1,4 @@
--- `sail_many::word::read_second` meets its contract. Assumes nothing.
+-- `sail_many::word::read_second`. The second cell is read where the first leads to one.
 use borrow.Author.Needs.{needs}
 use native.Mathlib.Omega.{arith}
 use Rattle.sail_many.proofs.Words.{put-is, put-not, goes-down, goes-not}

@@ -1,4 +1,4 @@
--- `sail_many::word::read_third` meets its contract. Assumes nothing.
+-- `sail_many::word::read_third`. The third cell is read where the second leads to one, and what leads nowhere is refused.
 use borrow.Author.Needs.{needs}
 use Rattle.sail_many.proofs.Words.{put-is, put-not, stays}
 use Rattle.sail_many.proofs.word.read_third.Statement.{statement}

@@ -1,4 +1,4 @@
--- `sail_paint::pool::stamp` meets its contract. Assumes nothing.
+-- `sail_paint::pool::stamp`. The number of each chunk in use, from 1, into the cell that it hangs from.
 use mathlib.Core.Path.{_≡_, ap, _∙_}
 use Prim.Native.Nat.{_-_, _≤_}
 use native.Mathlib.Omega.{arith}

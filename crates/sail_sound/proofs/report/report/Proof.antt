@@ -1,4 +1,4 @@
--- `sail_sound::report::report` meets its contract. Assumes nothing.
+-- `sail_sound::report::report` meets its contract.
 use Rattle.sail_sound.specs.Report.{meansReported}
 use Rattle.sail_sound.proofs.Reports.{report-not, report-on}
 use borrow.Author.Needs.{needs}

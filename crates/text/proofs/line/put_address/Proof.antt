@@ -1,4 +1,4 @@
--- `text::line::put_address` meets its contract. Assumes nothing.
+-- `text::line::put_address`. An address, as four numbers with points between them.
 use Rattle.text.specs.Text.{dotted, labelled, ascii}
 use native.Mathlib.Omega.{arith}
 use Rattle.text.proofs.Writes.{wrote-more}

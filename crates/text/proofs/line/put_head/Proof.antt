@@ -1,4 +1,4 @@
--- `text::line::put_head` meets its contract. Assumes nothing.
+-- `text::line::put_head`. A table's first line.
 use Rattle.text.specs.Text.{headLine, labelled, ascii}
 use native.Mathlib.Omega.{arith}
 use Rattle.text.proofs.Writes.{wrote-more}

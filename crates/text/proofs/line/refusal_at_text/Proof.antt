@@ -1,4 +1,4 @@
--- `text::line::refusal_at_text` meets its contract. Assumes nothing.
+-- `text::line::refusal_at_text`. The line of a refusal with the index of a record.
 use Rattle.text.specs.Text.{saidText, labelled, ascii}
 use native.Mathlib.Omega.{arith}
 use Rattle.text.proofs.Writes.{wrote-more}

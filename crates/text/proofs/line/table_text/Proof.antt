@@ -1,4 +1,4 @@
--- `text::line::table_text` meets its contract. The invariant: the lines of the first k records are written, and there is room for the others. Assumes nothing.
+-- `text::line::table_text`: The invariant: the lines of the first k records are written, and there is room for the others.
 use mathlib.Core.Path.{_≡_, refl}
 use Prim.Native.Nat.{_+_, _-_, _*_, _≤_}
 use native.Mathlib.Omega.{arith}

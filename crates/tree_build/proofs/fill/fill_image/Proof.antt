@@ -1,4 +1,4 @@
--- `tree_build::fill::fill_image` meets its contract. Assumes nothing.
+-- `tree_build::fill::fill_image`. The whole image, node by node.
 use mathlib.Core.Path.{_≡_, refl}
 use Prim.Native.Nat.{_-_}
 use native.Mathlib.Omega.{arith}

@@ -1,4 +1,4 @@
--- `tree_build::fill::step` meets its contract. Assumes nothing.
+-- `tree_build::fill::step`. The node at i is taken from the queue and gets its words; its hops are put from h on, and its children wait from t on.
 use mathlib.Core.Path.{refl, _∙_}
 use Rattle.tree_build.proofs.Steps.{node-run, hops-ready, kids-ready, node-room, state-next}
 use borrow.Author.Needs.{needs}

@@ -1,4 +1,4 @@
--- `tree_build::run::node_bit` meets its contract. Assumes nothing.
+-- `tree_build::run::node_bit`. The bit of a node of depth m at which a route that passes through it lies.
 use native.Mathlib.Omega.{arith}
 use Rattle.tree_build.proofs.Marks.{some, inner-place, outer-place}
 use borrow.Author.Needs.{needs}

@@ -1,4 +1,4 @@
--- `tree_build::run::run_end` meets its contract. Assumes nothing.
+-- `tree_build::run::run_end`. Where the run of the node of depth m that begins with record a ends: at e, or before.
 use Prim.Native.Nat.{_-_, _≤_, _<_}
 use native.Mathlib.Omega.{arith}
 use borrow.Author.Needs.{needs}

@@ -1,4 +1,4 @@
--- `vectors_probes::draw::pick` meets its contract. Assumes nothing.
+-- `vectors_probes::draw::pick`. One of the first n numbers.
 use native.Mathlib.Nat.{mod-lt}
 use borrow.Author.Needs.{needs}
 use Rattle.vectors_probes.proofs.draw.pick.Statement.{statement}

@@ -1,6 +1,5 @@
--- `vectors_probes::linear::more` is safe and ends. Assumes nothing.
+-- `vectors_probes::linear::more` is safe and ends.
 use Prim.Native.Nat.{_-_, _≤_}
-use native.Mathlib.Omega.{arith}
 use borrow.Author.Needs.{needs}
 use Rattle.vectors_probes.proofs.linear.more.Statement.{statement}
 use Rattle.vectors_probes.proofs.linear.more.Tie as tie

@@ -1,4 +1,4 @@
--- `vectors_probes::linear::records` is safe and ends. Assumes nothing.
+-- `vectors_probes::linear::records` is safe and ends.
 use mathlib.Core.Path.{sym}
 use lib.Seq.{length-take-le}
 use borrow.Author.Needs.{needs}

@@ -1,6 +1,5 @@
--- `vectors_probes::looks::drawn` is safe and ends. Assumes nothing.
+-- `vectors_probes::looks::drawn` is safe and ends.
 use Prim.Native.Nat.{_-_, _≤_}
-use native.Mathlib.Omega.{arith}
 use borrow.Author.Needs.{needs}
 use Rattle.vectors_probes.proofs.looks.drawn.Statement.{statement}
 use Rattle.vectors_probes.proofs.looks.drawn.Tie as tie

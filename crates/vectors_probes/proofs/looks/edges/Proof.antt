@@ -1,6 +1,5 @@
--- `vectors_probes::looks::edges` is safe and ends. Assumes nothing.
+-- `vectors_probes::looks::edges` is safe and ends.
 use Prim.Native.Nat.{_-_, _≤_, _*_}
-use native.Mathlib.Omega.{arith}
 use lib.ListN.{length}
 use borrow.Author.Needs.{needs}
 use Rattle.vectors_probes.proofs.looks.edges.Statement.{statement}

@@ -1,7 +1,6 @@
 -- `vectors_runs::play::play` is safe and ends.
 use mathlib.Core.Path.{_≡_}
 use Prim.Native.Nat.{_-_, _≤_}
-use native.Mathlib.Omega.{arith}
 use lib.ListN.{length}
 use borrow.Author.Needs.{needs}
 use Rattle.vectors_runs.proofs.play.play.Statement.{statement}

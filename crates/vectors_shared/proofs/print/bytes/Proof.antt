@@ -1,6 +1,5 @@
--- `vectors_shared::print::bytes` is safe and ends. Assumes nothing.
+-- `vectors_shared::print::bytes` is safe and ends.
 use Prim.Native.Nat.{_-_, _≤_}
-use native.Mathlib.Omega.{arith}
 use lib.ListN.{length}
 use borrow.Author.Needs.{needs}
 use Rattle.vectors_shared.proofs.print.bytes.Statement.{statement}
