@@ -45,7 +45,8 @@ module _ (p : ℕ → Bool) where
   first-at zero k u = absurd (omega arith)
   first-at (suc d) k u = go (p k) refl (first-at d (suc k)) u
     where
-      go : (b : Bool) → p k ≡ b → (firstFrom p d (suc k) < suc k + d → p (firstFrom p d (suc k)) ≡ true) → cond b k (firstFrom p d (suc k)) < k + suc d → p (cond b k (firstFrom p d (suc k))) ≡ true
+      go : (b : Bool) → p k ≡ b → (firstFrom p d (suc k) < suc k + d → p (firstFrom p d (suc k)) ≡ true) → cond b k
+          (firstFrom p d (suc k)) < k + suc d → p (cond b k (firstFrom p d (suc k))) ≡ true
       go true e ih u = e
       go false e ih u = ih (omega arith)
 

@@ -1,7 +1,20 @@
 -- Laws of the first bits of an address. Callers of `cut` rest on these, and not on how it is computed.
 use mathlib.Core.Path.{_≡_, refl, sym, ap, _∙_}
 use Prim.Native.Nat.{ℕ, suc, _+_, _-_, _*_, _/_, _%_, _^_, _≤_, _<_}
-use native.Mathlib.Nat.{one-mul, add-mul, mul-assoc, zero-mul, mod-eq-of-lt, div-eq-of-lt, div-mul-le-self, lt-div-mul-add, div-eq-of-lt-le, mul-le-mul-right, div-div-eq-div-mul, pow-succ'}
+use native.Mathlib.Nat.{
+  one-mul,
+  add-mul,
+  mul-assoc,
+  zero-mul,
+  mod-eq-of-lt,
+  div-eq-of-lt,
+  div-mul-le-self,
+  lt-div-mul-add,
+  div-eq-of-lt-le,
+  mul-le-mul-right,
+  div-div-eq-div-mul,
+  pow-succ',
+}
 use native.Mathlib.Omega.{arith}
 use lib.Pow.{pow-lt, pow-pos, pow-add, shr-lt, shr-mono, shl-shr, shr-shr}
 use Rattle.bits.specs.Slot.{slot, cut}

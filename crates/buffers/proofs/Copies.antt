@@ -59,7 +59,8 @@ padded-is l s h =
     let u : i < length (copied l s (length s)) = rw length-copied k in
     getD-tabulate {A = ℕ} (length (copied l s (length s))) _ i 0 u ∙ go i k u (below? i (length s)))
   where
-    go : (i : ℕ) → i < length l → i < length (copied l s (length s)) → (i < length s) ⊎ (length s ≤ i) → cond (between (length s) (length (copied l s (length s))) i) 0 (getD (copied l s (length s)) i 0) ≡ getD s i 0
+    go : (i : ℕ) → i < length l → i < length (copied l s (length s)) → (i < length s) ⊎ (length s ≤ i) → cond
+        (between (length s) (length (copied l s (length s))) i) 0 (getD (copied l s (length s)) i 0) ≡ getD s i 0
     go i k u (inl b) = rw (between-below (length s) (length (copied l s (length s))) i b) (getD-copied l s (length s) i k b)
     go i k u (inr b) = rw (between-in (length s) (length (copied l s (length s))) i b u) (sym (List·getD-eq-default s 0 b))
 

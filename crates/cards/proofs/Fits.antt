@@ -116,7 +116,8 @@ module _ (s : List ℕ) (short : length s < 2 ^ 35) where
       go (RouteRead.there n g h) =
           let f = good-whole s n g .1 .each k h in
           let r = recordAt s k in
-          FitsWord.values _ (RouteFits.one (r .addr) (r .len) (r .mark) (r .hop) (f .prefix .addr-ok) (omega (arith, f .prefix .len-ok)) (omega (arith, f .mark-ok)) (f .hop-one) (omega (arith, f .hop-ok)))
+          FitsWord.values _ (RouteFits.one (r .addr) (r .len) (r .mark) (r .hop) (f .prefix .addr-ok) (omega (arith, f .prefix .len-ok))
+          (omega (arith, f .mark-ok)) (f .hop-one) (omega (arith, f .hop-ok)))
       go (RouteRead.past n g h) = FitsWord.values [] RouteFits.nothing
 
   pub built-fits : (ws hs : List ℕ) → FitsWord (2 ^ 32) BuiltFits (built s ws hs .said)
@@ -148,7 +149,8 @@ leaf-fits : (n v : ℕ) → n < 2 ^ 8 → v < 2 ^ 16 → FitsWord 0 FoundFits (l
 unfolding hopSaid
 leaf-fits n v a b = go (decided (eqb (v - 32768) 0))
   where
-    go : (eqb (v - 32768) 0 ≡ true) ⊎ (eqb (v - 32768) 0 ≡ false) → FitsWord 0 FoundFits (cond (eqb (v - 32768) 0) (accepted (n ∷ [])) (accepted (n ∷ (v - 32768) ∷ [])))
+    go : (eqb (v - 32768) 0 ≡ true) ⊎ (eqb (v - 32768) 0 ≡ false) → FitsWord 0 FoundFits
+        (cond (eqb (v - 32768) 0) (accepted (n ∷ [])) (accepted (n ∷ (v - 32768) ∷ [])))
     go (inl e) = rw e (FitsWord.values _ (FoundFits.none n a))
     go (inr e) = let z = eqb-false (v - 32768) 0 e in rw e (FitsWord.values _ (FoundFits.hop n (v - 32768) a (omega arith) (omega arith)))
 
@@ -177,7 +179,8 @@ module _ (t : Table) (l : Lent) where
           let u = chunks-need t l s in
           let x = used-le (chunksOf (l .own2)) in
           let y = used-le (chunksOf (l .own3)) in
-          FitsWord.values _ (ReportFits.report (t .count) (need (standing t l) (t .geometry .p1)) (need (standing t l) (t .geometry .p2)) (omega arith) (omega (arith, u .0, s .sized .few2)) (omega (arith, u .1, s .sized .few3)))
+          FitsWord.values _ (ReportFits.report (t .count) (need (standing t l) (t .geometry .p1)) (need (standing t l) (t .geometry .p2))
+          (omega arith) (omega (arith, u .0, s .sized .few2)) (omega (arith, u .1, s .sized .few3)))
 
   -- Changes: where one is accepted, a sound table stands, so there are at most 4,096 routes.
   pub make-few : accepts (made t l .said) ≡ true → made t l .table .count ≤ 4096

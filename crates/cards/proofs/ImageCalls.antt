@@ -76,7 +76,8 @@ module _ (ws hs : List ℕ) (a : ℕ) where
     unfolding changedCardOf
     tree-announce-card h m q is p = ap (λ (x : ℕ). imageCard x ws′ hs′) p ∙ ap changedCardOf (is ∙ image-announced-narrow len h n m e q)
 
-    pub tree-withdraw-card : tree.imageOut s ws′ hs′ ≡ imageWithdrawn ws hs a n → r ≡ packBuilt s → imageCard r ws′ hs′ ≡ imageCardOf (imageWithdrawn ws hs a len)
+    pub tree-withdraw-card : tree.imageOut s ws′ hs′ ≡ imageWithdrawn ws hs a n → r ≡ packBuilt s → imageCard r ws′ hs′ ≡ imageCardOf
+        (imageWithdrawn ws hs a len)
     tree-withdraw-card is = image-card-is s ws′ hs′ _ r (is ∙ image-withdrawn-narrow len n e)
 
 -- ---- what is said has room, and is read back
@@ -96,7 +97,8 @@ module _ (ws hs : List ℕ) (words : Words32 ws) where
   unfolding tested
   test-fits = go (decided (wellFormed ws hs))
     where
-      go : (wellFormed ws hs ≡ true) ⊎ (wellFormed ws hs ≡ false) → FitsWord 0 BuiltFits (cond (wellFormed ws hs) (accepted (nodesUsed ws ∷ hopsIn ws ∷ [])) (refused 13))
+      go : (wellFormed ws hs ≡ true) ⊎ (wellFormed ws hs ≡ false) → FitsWord 0 BuiltFits
+          (cond (wellFormed ws hs) (accepted (nodesUsed ws ∷ hopsIn ws ∷ [])) (refused 13))
       go (inl t) = let f = formed-few t in rw t (FitsWord.values _ (BuiltFits.image (nodesUsed ws) (hopsIn ws) (omega (arith, f .0)) (omega (arith, f .1))))
       go (inr t) = rw t (FitsWord.number 13 (omega arith) (omega arith))
 
@@ -122,7 +124,8 @@ module _ (ws hs : List ℕ) (words : Words32 ws) where
         go (Announcing.hops-short k l u v) = FitsWord.number 12 (omega arith) (omega arith)
         go (Announcing.put-in k l u v) =
             let m = nodes-most (routesWith ws hs a len h) (with-good k) l in
-            FitsWord.values _ (ImageFits.which _ (nodeNeed (routesWith ws hs a len h)) (length (routesWith ws hs a len h)) (bit-low (stands (keyOf a len) (routesHeld ws hs))) (omega arith) (omega arith))
+            FitsWord.values _ (ImageFits.which _ (nodeNeed (routesWith ws hs a len h)) (length (routesWith ws hs a len h))
+            (bit-low (stands (keyOf a len) (routesHeld ws hs))) (omega arith) (omega arith))
 
     pub gh-tree-announce-read : unpackImage (changedCardOf (imageAnnounced ws hs a len h) .answer) ≡ imageAnnounced ws hs a len h .said
     unfolding changedCardOf
@@ -143,7 +146,8 @@ module _ (ws hs : List ℕ) (words : Words32 ws) where
         go (Withdrawing.taken-out e f g) =
             let r = left-fit ws hs a len (words .each) f g in
             let m = nodes-most (routesWithout ws hs a len) (r .good) (r .few) in
-            FitsWord.values _ (BuiltFits.image (nodeNeed (routesWithout ws hs a len)) (length (routesWithout ws hs a len)) (omega arith) (omega (arith, r .few)))
+            FitsWord.values _ (BuiltFits.image (nodeNeed (routesWithout ws hs a len)) (length (routesWithout ws hs a len)) (omega arith)
+            (omega (arith, r .few)))
 
     pub gh-tree-withdraw-read : unpackBuilt (imageCardOf (imageWithdrawn ws hs a len) .answer) ≡ imageWithdrawn ws hs a len .said
     unfolding imageCardOf

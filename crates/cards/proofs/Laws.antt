@@ -72,8 +72,10 @@ module _ (t : Table) (l : Lent) (ads xs : List ℕ) (r : ℕ) (told : SizesTold 
       (ap (wordsCard 0) (is-tabulate 0 ys (length ads) (λ (k : ℕ). lowWalk (t .geometry) l (getD ads k 0)) m h))
 
   -- the words of addresses that went their way through cells of 16 bits
-  pub many-answers : r ≡ 0 → length xs ≡ length ads → ((i : ℕ) → getD (l .first) i 0 < 65536) → ((i : ℕ) → getD (l .second) i 0 < 65536) → ((i : ℕ) → getD (l .third) i 0 < 65536) → (ys : List ℕ)
-      → ys ≡ tabulate (length ads) (answerAt (t .geometry .p1) (t .geometry .p2) (l .first) (l .second) (length (l .own2)) (l .third) (length (l .own3)) ads) → wordsCard 0 ys ≡ manyCard t l ads xs
+  pub many-answers : r ≡ 0 → length xs ≡ length ads → ((i : ℕ) → getD (l .first) i 0 < 65536) → ((i : ℕ) → getD (l .second) i 0 < 65536) →
+      ((i : ℕ) → getD (l .third) i 0 < 65536) → (ys : List ℕ)
+      → ys ≡ tabulate (length ads) (answerAt (t .geometry .p1) (t .geometry .p2) (l .first) (l .second) (length (l .own2)) (l .third)
+      (length (l .own3)) ads) → wordsCard 0 ys ≡ manyCard t l ads xs
   many-answers e n b1 b2 b3 ys q =
       many-all e n ys (ap length q ∙ length-tabulate (length ads) _)
       (λ k h. ap (λ (zs : List ℕ). getD zs k 0) q ∙ getD-tabulate (length ads) _ k 0 h

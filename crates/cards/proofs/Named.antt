@@ -24,8 +24,32 @@ use Rattle.basic.specs.Calls.{basicSaid, packHop, basicMany}
 use Rattle.basic_build.specs.Built.{basicBuilt}
 use Rattle.packing.specs.Pack.{packReport, packRun, packNone, packRoute}
 use Rattle.packing.specs.Unpack.{Cells16}
-use Rattle.packing.specs.Parts.{refusalParts, parts, foundParts, reportParts, builtParts, runParts, routeParts, announceParts, withdrawParts, doneParts, hopParts, noParts}
-use Rattle.packing.proofs.Parts.{found-parts, report-parts, built-parts, run-parts, route-parts, announce-parts, withdraw-parts, done-parts, hop-parts, none-parts}
+use Rattle.packing.specs.Parts.{
+  refusalParts,
+  parts,
+  foundParts,
+  reportParts,
+  builtParts,
+  runParts,
+  routeParts,
+  announceParts,
+  withdrawParts,
+  doneParts,
+  hopParts,
+  noParts,
+}
+use Rattle.packing.proofs.Parts.{
+  found-parts,
+  report-parts,
+  built-parts,
+  run-parts,
+  route-parts,
+  announce-parts,
+  withdraw-parts,
+  done-parts,
+  hop-parts,
+  none-parts,
+}
 use Rattle.cards.specs.Cards.{cardOf, imageCardOf, wordsCard, tallyCard, lowFound, manyCard}
 use Rattle.cards.specs.Maps.{mapsCardOf, hopsCard}
 use Rattle.cards.proofs.Fits.{input-fits, run-fits, route-fits, built-fits, tree-fits, lookup-fits, report-fits}

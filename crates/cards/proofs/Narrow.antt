@@ -84,7 +84,8 @@ module _ (t : Table) (l : Lent) where
   -- 3 for a length over 32; 4 for a hop over 32,767, or 3 where that comes first; 10 for a mark over 1, or 3 or 4 where that comes first
   pub announced-long : (a hop mark : ℕ) → AlikeOver 32 (λ (len : ℕ). announced t l (route a len hop mark))
   announced-long a hop mark x y h k =
-      wrong-alike (route a x hop mark) (route a y hop mark) (WrongRoute.prefix (λ p. omega (arith, p .len-ok))) (WrongRoute.prefix (λ p. omega (arith, p .len-ok)))
+      wrong-alike (route a x hop mark) (route a y hop mark) (WrongRoute.prefix (λ p. omega (arith, p .len-ok)))
+      (WrongRoute.prefix (λ p. omega (arith, p .len-ok)))
 
   pub announced-high : (a len mark : ℕ) → AlikeOver 32767 (λ (hop : ℕ). announced t l (route a len hop mark))
   announced-high a len mark x y h k = go (prefix? (cut len a) len)

@@ -67,7 +67,8 @@ module _ {ws par : List ℕ} {j p i : ℕ} (c : Climb ws par j p i) where
       both (le-leb len 32 (omega (arith, t .0))) (eq-eqb _ _ f)
 
   -- from a word that does not cover the cell on to its parent
-  module _ (m x : ℕ) (b : Bool) (left : LeftBelow ws j p i m) (z : 0 < m) (test : b ≡ covers p i (routeOfWord (getD ws (m - 1) 0))) (fails : b ≡ false) (q : x ≡ getD par (m - 1) 0) where
+  module _ (m x : ℕ) (b : Bool) (left : LeftBelow ws j p i m) (z : 0 < m) (test : b ≡ covers p i (routeOfWord (getD ws (m - 1) 0)))
+      (fails : b ≡ false) (q : x ≡ getD par (m - 1) 0) where
     parent : LastCover ws (m - 1) 32 (addrIn ws (m - 1)) (getD par (m - 1) 0)
     parent = c .parents .each (m - 1) (omega (arith, left .to))
 
@@ -145,7 +146,8 @@ module _ (f : Route → Bool) where
   last-none [] d h = refl
   last-none (w ∷ ws) d h = rw (h 0 (suc-le-suc zero-le), lastHop) (last-none ws d (λ k l. h (suc k) (suc-le-suc l)))
 
-  last-one : (ws : List ℕ) (d n : ℕ) → n < length ws → f (routeOfWord (getD ws n 0)) ≡ true → ((k : ℕ) → n < k → k < length ws → f (routeOfWord (getD ws k 0)) ≡ false)
+  last-one : (ws : List ℕ) (d n : ℕ) → n < length ws → f (routeOfWord (getD ws n 0)) ≡ true →
+      ((k : ℕ) → n < k → k < length ws → f (routeOfWord (getD ws k 0)) ≡ false)
       → lastHop f (routesOfWords ws) d ≡ hopOf (getD ws n 0)
   unfolding lastHop
   last-one [] d n l e h = absurd (not-suc-le-zero l)
@@ -182,7 +184,13 @@ module _ {ws par : List ℕ} {lo p i : ℕ} (ready : ChainReady ws par) (start :
 
   none-past : (k : ℕ) → lo ≤ k → k < length ws → covers p i (routeOfWord (getD ws k 0)) ≡ false
   none-past k a b = untrue _ (λ t.
-      omega (arith, cover-start p i (routeOfWord (getD ws k 0)) (ready .words .fine k b) (start .level) t, cover-parts p i (routeOfWord (getD ws k 0)) t .0, pl .above k a b))
+      omega (
+        arith,
+        cover-start p i (routeOfWord (getD ws k 0)) (ready .words .fine k b) (start .level) t,
+        cover-parts p i
+            (routeOfWord (getD ws k 0)) t .0,
+        pl .above k a b,
+      ))
 
   module _ {m : ℕ} (last : LastCover ws lo p i m) where
     none-after : (k : ℕ) → m ≤ k → k < length ws → covers p i (routeOfWord (getD ws k 0)) ≡ false

@@ -79,7 +79,8 @@ tail-words w ws good = record { fine = λ k u. good .fine (suc k) (suc-le-suc u)
 -- each route of good words is past what is before the first
 past-first : (ws : List ℕ) → Words ws → (b : ℕ) → (0 < length ws → b < keyIn (getD ws 0 0)) → (s : Route) → List·Memᴰ s (routesOfWords ws) → b < key s
 past-first [] good b h s m = absurd (List·Memᴰ·not-nil m)
-past-first (w ∷ ws) good b h s m = go (List·Memᴰ·cases-cons m) (past-first ws (tail-words w ws good) b (λ l. omega (arith, h (omega arith), good .rises 0 (suc-le-suc l))) s)
+past-first (w ∷ ws) good b h s m = go (List·Memᴰ·cases-cons m)
+    (past-first ws (tail-words w ws good) b (λ l. omega (arith, h (omega arith), good .rises 0 (suc-le-suc l))) s)
   where
     go : (s ≡ routeOfWord w) ⊎ List·Memᴰ s (routesOfWords ws) → (List·Memᴰ s (routesOfWords ws) → b < key s) → b < key s
     go (inl q) ih = omega (arith, ap key q, h (omega arith))

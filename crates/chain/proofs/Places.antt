@@ -44,7 +44,14 @@ all-between ws key good = record { words = good; from = omega arith; to = omega 
 
 -- the place of a smaller key is where to go on from
 pub on-from : (ws : List ℕ) (a b r : ℕ) → a ≤ b → Words ws → KeysBelow ws a r → Between ws b r (length ws)
-on-from ws a b r l good p = record { words = good; from = p .to; to = omega arith; below = λ j u. omega (arith, p .below j u); above = λ j h u. absurd (omega arith) }
+on-from ws a b r l good p = record {
+  words = good;
+  from = p .to;
+  to = omega arith;
+  below = λ j u. omega
+      (arith, p .below j u);
+  above = λ j h u. absurd (omega arith);
+}
 
 -- a greater key has a later place
 pub place-rises : (ws : List ℕ) (a b r s : ℕ) → a ≤ b → KeysBelow ws a r → KeysBelow ws b s → r ≤ s

@@ -62,12 +62,14 @@ pub refused-at-no-values : (n k : ℕ) (vs : List ℕ) → refusedAt n k ≡ acc
 refused-at-no-values n k vs e = let z : _≡_ {A = ℕ} 0 1 = cc in omega arith
 
 -- so the answer of a lookup that is refused is the number alone
-pub refused-no-hop-lookup : (t : Table) (l : Lent) (a : ℕ) (r : Found) → meansFound r ≡ lookupSaid t l a → (n : ℕ) → lookupSaid t l a ≡ refused n → r ≡ found.Refused n
+pub refused-no-hop-lookup : (t : Table) (l : Lent) (a : ℕ) (r : Found) → meansFound r ≡ lookupSaid t l a → (n : ℕ) → lookupSaid t l a ≡ refused n → r
+    ≡ found.Refused n
 unfolding meansFound
 refused-no-hop-lookup t l a r e n q = found-injective r (found.Refused n) (e ∙ q)
 
 -- and in an image that number is 13
-pub refused-no-hop-tree : (ws hs : List ℕ) (a : ℕ) (r : TreeFound) → meansTreeFound r ≡ treeSaid ws hs a → (n : ℕ) → treeSaid ws hs a ≡ refused n → (n ≡ 13) × (r ≡ treeFound.Broken)
+pub refused-no-hop-tree : (ws hs : List ℕ) (a : ℕ) (r : TreeFound) → meansTreeFound r ≡ treeSaid ws hs a → (n : ℕ) → treeSaid ws hs a ≡ refused n →
+    (n ≡ 13) × (r ≡ treeFound.Broken)
 refused-no-hop-tree ws hs a r e n q = refused-broken r n (e ∙ q)
 
 -- a refused tally holds 33 zeros, and a refused run is the empty part at the list's start
@@ -139,8 +141,10 @@ module _ (t : Table) (l : Lent) where
   pub refused-leaves-all-announce : (r : Route) → accepts (announced t l r .said) ≡ false → (announced t l r .table ≡ t) × (announced t l r .lent ≡ l)
   refused-leaves-all-announce = announce-leaves t l
 
-  pub refused-leaves-all-withdraw : (a len : ℕ) → accepts (withdrawn t l a len .said) ≡ false → (withdrawn t l a len .table ≡ t) × (withdrawn t l a len .lent ≡ l)
+  pub refused-leaves-all-withdraw : (a len : ℕ) → accepts (withdrawn t l a len .said) ≡ false → (withdrawn t l a len .table ≡ t) ×
+      (withdrawn t l a len .lent ≡ l)
   refused-leaves-all-withdraw = withdraw-leaves t l
 
-pub refused-leaves-all-build : (input words hops : List ℕ) → accepts (built input words hops .said) ≡ false → (built input words hops .words ≡ words) × (built input words hops .hops ≡ hops)
+pub refused-leaves-all-build : (input words hops : List ℕ) → accepts (built input words hops .said) ≡ false → (built input words hops .words ≡ words)
+    × (built input words hops .hops ≡ hops)
 refused-leaves-all-build input words hops e = refused-leaves input words hops (λ vs q. false≢true (sym e ∙ ap accepts q))

@@ -78,7 +78,8 @@ module _ (t : Table) (l : Lent) (z : Sized (t .geometry) l) where
 
   -- "A well-formed change for which the list has room is refused for want of chunks exactly when the routes that would then stand need more than
   -- were lent": with 7 or 8, by these needs, and else it is accepted
-  pub want-of-chunks : (cs : List Call) (c : Call) → Formed c (standingAfter t l cs) (roomOf l) → ByNeed (termsOf t l) (routesAfter c (standingAfter t l cs)) (after t l (c ∷ cs) .said)
+  pub want-of-chunks : (cs : List Call) (c : Call) → Formed c (standingAfter t l cs) (roomOf l) → ByNeed (termsOf t l)
+      (routesAfter c (standingAfter t l cs)) (after t l (c ∷ cs) .said)
   want-of-chunks = run-by-need t l z
 
   -- and no other call is refused with 7 or 8.

@@ -52,7 +52,8 @@ pub one-answer-route-at : (bytes : List ℕ) (index : ℕ) (x y : Got) → Meets
 one-answer-route-at = routes.one-answer-route-at
 
 -- a part of the list is its elements and its place; a reference has nothing else that a program can see
-pub one-answer-run : (list : RefT (List ℕ)) (addr len : ℕ) (x y : RefT (List ℕ)) → IsRun list x addr len → IsRun list y addr len → (now x ≡ now y) × (ptr x ≡ ptr y)
+pub one-answer-run : (list : RefT (List ℕ)) (addr len : ℕ) (x y : RefT (List ℕ)) → IsRun list x addr len → IsRun list y addr len → (now x ≡ now y) ×
+    (ptr x ≡ ptr y)
 one-answer-run = runs.one-answer-run
 
 pub one-answer-run-check : (list : List ℕ) (addr len : ℕ) (x y : RunCheck) → MeetsRunCheck list addr len x → MeetsRunCheck list addr len y → x ≡ y

@@ -56,11 +56,13 @@ module _ (s ws hs : List ℕ) (n k : ℕ) (b : Builds s ws hs n k) where
 
   -- From call to call.
   pub image-run-list : (c : ImageCall) (cs : List ImageCall)
-      → imageStandingAfter s ws hs (c ∷ cs) ≡ cond (accepts (imageAfter s ws hs (c ∷ cs) .said)) (imageRoutesAfter c (imageStandingAfter s ws hs cs)) (imageStandingAfter s ws hs cs)
+      → imageStandingAfter s ws hs (c ∷ cs) ≡ cond (accepts (imageAfter s ws hs (c ∷ cs) .said)) (imageRoutesAfter c (imageStandingAfter s ws hs cs))
+      (imageStandingAfter s ws hs cs)
   image-run-list = runs.image-run-list s ws hs n k b
 
   -- A refused call leaves both arrays.
-  pub image-run-refused : (c : ImageCall) (cs : List ImageCall) → accepts (imageAfter s ws hs (c ∷ cs) .said) ≡ false → SameArrays (imageAfter s ws hs (c ∷ cs)) (imageAfter s ws hs cs)
+  pub image-run-refused : (c : ImageCall) (cs : List ImageCall) → accepts (imageAfter s ws hs (c ∷ cs) .said) ≡ false → SameArrays
+      (imageAfter s ws hs (c ∷ cs)) (imageAfter s ws hs cs)
   image-run-refused = runs.image-run-refused s ws hs n k b
 
 -- ---- two runs

@@ -28,11 +28,13 @@ unfoldable pub link : List ℕ
 link = 192 ∷ 0 ∷ 2 ∷ 0 ∷ 31 ∷ 1 ∷ 0 ∷ 1 ∷ []
 
 older : castSaid 1 link (ip 192 0 2 1) ≡ accepted (1 ∷ [])
-unfolding castSaid versionFine inputSaid firstOf firstFrom faultAt routeFault inOrder properPrefix hopFine recordAt cut routesOf tabulate isBroadcast castOf bestRoute lastLen highest link
+unfolding castSaid versionFine inputSaid firstOf firstFrom faultAt routeFault inOrder properPrefix hopFine recordAt cut routesOf tabulate isBroadcast
+    castOf bestRoute lastLen highest link
 older = refl
 
 newer : castSaid 2 link (ip 192 0 2 1) ≡ accepted (0 ∷ [])
-unfolding castSaid versionFine inputSaid firstOf firstFrom faultAt routeFault inOrder properPrefix hopFine recordAt cut routesOf tabulate isBroadcast castOf bestRoute lastLen highest link
+unfolding castSaid versionFine inputSaid firstOf firstFrom faultAt routeFault inOrder properPrefix hopFine recordAt cut routesOf tabulate isBroadcast
+    castOf bestRoute lastLen highest link
 newer = refl
 
 -- its upper address is where the rules differ

@@ -43,7 +43,8 @@ unfolding allServe blankEdges
 blank-served = refl
 
 blank-on-paper : Hold ofBlank.paper blankEdges
-unfolding Hold blankEdges ofBlank.paper validGeo sizesFit announceFault withdrawFault loadFault chunksFault properPrefix hopFine cut inputSaid firstOf firstFrom faultAt routeFault inOrder recordAt routesOf tabulate need any
+unfolding Hold blankEdges ofBlank.paper validGeo sizesFit announceFault withdrawFault loadFault chunksFault properPrefix hopFine cut inputSaid
+    firstOf firstFrom faultAt routeFault inOrder recordAt routesOf tabulate need any
 blank-on-paper = refl
 
 pub blank-hold : Hold blank.answer blankEdges
@@ -96,7 +97,8 @@ unfolding allServe runEdges serves validGeo sizesFit
 served = refl
 
 on-paper : Hold paper runEdges
-unfolding Hold runEdges paper stood reply inputSaid firstOf firstFrom faultAt routeFault inOrder properPrefix hopFine recordAt cut announceFault withdrawFault loadFault chunksFault routesOf tabulate need any insert remove
+unfolding Hold runEdges paper stood reply inputSaid firstOf firstFrom faultAt routeFault inOrder properPrefix hopFine recordAt cut announceFault
+    withdrawFault loadFault chunksFault routesOf tabulate need any insert remove
 on-paper = refl
 
 pub runs-hold : Hold answer runEdges

@@ -23,5 +23,7 @@ use Rattle.examples.specs.Lines.{Hold}
 use Rattle.examples.specs.EdgesImages.{answer, edges}
 
 pub images-hold : Hold answer edges
-unfolding Hold edges answer ones treeSaid walkFrom sound tryBit deepestOf betterOf fetchedFrom treeHopSaid hopFine built madeOf inputSaid firstOf firstFrom faultAt routeFault inOrder properPrefix recordAt cut routesOf tabulate any cells.first picked gather kids level upTo count packedBits bitHop setBit word hopsOf wordsFrom words ofImage.hops imageBy tested wellFormed ordered nodesUsed exts ints every allFrom nodeOk hopsOk blankFrom
+unfolding Hold edges answer ones treeSaid walkFrom sound tryBit deepestOf betterOf fetchedFrom treeHopSaid hopFine built madeOf inputSaid firstOf
+    firstFrom faultAt routeFault inOrder properPrefix recordAt cut routesOf tabulate any cells.first picked gather kids level upTo count packedBits
+    bitHop setBit word hopsOf wordsFrom words ofImage.hops imageBy tested wellFormed ordered nodesUsed exts ints every allFrom nodeOk hopsOk blankFrom
 images-hold = refl

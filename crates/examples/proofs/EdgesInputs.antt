@@ -109,7 +109,8 @@ unfolding allServe edges serves
 served = refl
 
 on-paper : Hold paper edges
-unfolding Hold edges paper inputSaid firstOf firstFrom faultAt routeFault inOrder properPrefix hopFine recordAt cut routeSaid runSaid placeOf tallyOf lengthsOf tabulate count
+unfolding Hold edges paper inputSaid firstOf firstFrom faultAt routeFault inOrder properPrefix hopFine recordAt cut routeSaid runSaid placeOf tallyOf
+    lengthsOf tabulate count
 on-paper = refl
 
 pub inputs-hold : Hold answer edges

@@ -68,7 +68,8 @@ paper (lookup h a) = walkSaid (h .geometry) (oneOf (h .chunks2)) (oneOf (h .chun
 
 -- where the sizes are right
 abbrev fault : Content → ℕ
-fault h = cond (validGeo (h .geometry)) (cond (sizesFit (h .geometry) 0 (2 ^ h .geometry .p1) (many2 h) (many3 h) (h .chunks2) (h .chunks3) (2 ^ h .geometry .p1) (many2 h)) 0 2) 1
+fault h = cond (validGeo (h .geometry)) (cond (sizesFit (h .geometry) 0 (2 ^ h .geometry .p1) (many2 h) (many3 h) (h .chunks2) (h .chunks3)
+    (2 ^ h .geometry .p1) (many2 h)) 0 2) 1
 
 unfoldable serves : Asked → Bool
 serves (lookup h a) = eqb (fault h) 0

@@ -67,13 +67,15 @@ accepted-so (accepted vs) e = (vs, refl)
 accepted-so (Said.refused n) e = absurd (false≢true e)
 accepted-so (Said.refusedAt n k) e = absurd (false≢true e)
 
-agree-after : (i : List ℕ) (w h : ℕ) (c : Change) → accepts (imageIn i w h .said) ≡ true → changed (imageIn i w h .words) (imageIn i w h .hops) c ≡ after i w h c
+agree-after : (i : List ℕ) (w h : ℕ) (c : Change) → accepts (imageIn i w h .said) ≡ true → changed (imageIn i w h .words) (imageIn i w h .hops) c
+    ≡ after i w h c
 unfolding imageIn
 agree-after i w h c e =
     let v = accepted-so (built i (replicate w 0) (replicate h 0) .said) e in
     let k = built-accepts i (replicate w 0) (replicate h 0) (v .0) (v .1) in
     by-routes (map plain (routesIn i)) _ _ c (built-passes i (replicate w 0) (replicate h 0) (v .0) (v .1))
-    (ap₂ routesHeld (k .words) (k .hops) ∙ image-held (routesIn i) (length (replicate w 0)) (length (replicate h 0)) (k .good-routes) (k .nodes-room) (k .hops-room))
+    (ap₂ routesHeld (k .words) (k .hops) ∙ image-held (routesIn i) (length (replicate w 0)) (length (replicate h 0)) (k .good-routes) (k .nodes-room)
+    (k .hops-room))
 
 agrees : (q : Asked) → serves q ≡ true → answer q ≡ paper q
 unfolding serves answer paper
@@ -83,11 +85,15 @@ agrees (changes.hopsOf i w h c) e = ap (λ (o : ImageOut). accepted (o .hops)) (
 agrees (changes.any ws hs c) e = refl
 
 served : allServe answer paper serves agrees edges ≡ true
-unfolding allServe edges serves imageIn listA built madeOf inputSaid firstOf firstFrom faultAt routeFault inOrder properPrefix hopFine recordAt cut routesOf tabulate cells.any cells.first picked gather kids level upTo
+unfolding allServe edges serves imageIn listA built madeOf inputSaid firstOf firstFrom faultAt routeFault inOrder properPrefix hopFine recordAt cut
+    routesOf tabulate cells.any cells.first picked gather kids level upTo
 served = refl
 
 on-paper : Hold paper edges
-unfolding Hold edges paper changedBy changed imageAnnounced imageWithdrawn putTo takenFrom insert remove imageIn listA built madeOf inputSaid firstOf firstFrom faultAt routeFault inOrder properPrefix hopFine recordAt cut routesOf tabulate cells.any cells.first picked gather kids level upTo count packedBits bitHop setBit word hopsOf wordsFrom words ofImage.hops imageBy ones sound wellFormed ordered nodesUsed exts ints every allFrom nodeOk hopsOk blankFrom
+unfolding Hold edges paper changedBy changed imageAnnounced imageWithdrawn putTo takenFrom insert remove imageIn listA built madeOf inputSaid firstOf
+    firstFrom faultAt routeFault inOrder properPrefix hopFine recordAt cut routesOf tabulate cells.any cells.first picked gather kids level upTo
+    count packedBits bitHop setBit word hopsOf wordsFrom words ofImage.hops imageBy ones sound wellFormed ordered nodesUsed exts ints every allFrom
+    nodeOk hopsOk blankFrom
 on-paper = refl
 
 pub tree-changes-hold : Hold answer edges

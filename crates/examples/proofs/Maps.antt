@@ -55,7 +55,8 @@ builds-A = build-only listA noBits noCells (accepted []) (BasicBuild.done prepar
 -- and say at every address what its table says
 pub same-maps : (a : ℕ) → a < 2 ^ 32 → uncounted (lookupSaid (after table arrays loadedA .table) (after table arrays loadedA .lent) a)
     ≡ basicSaid listA (basicBuilt listA noBits noCells .bits) (basicBuilt listA noBits noCells .cells) a
-same-maps a h = table-as-maps listA noBits noCells (ap accepts builds-A) a h (after table arrays loadedA .table) (after table arrays loadedA .lent) soundA same-routes
+same-maps a h = table-as-maps listA noBits noCells (ap accepts builds-A) a h (after table arrays loadedA .table)
+    (after table arrays loadedA .lent) soundA same-routes
 
 pub maps-57 : basicSaid listA (basicBuilt listA noBits noCells .bits) (basicBuilt listA noBits noCells .cells) (ip 10 1 2 200) ≡ accepted (57 ∷ [])
 unfolding meansFound
@@ -86,7 +87,8 @@ level-0 = record { short = omega arith; set = refl; none-longer = λ k l u. abov
 
 pub refused-maps : basicSaid [] oneBit noCells 0 ≡ refused 13
 unfolding mapPlace routesOf tabulate
-refused-maps = lookup-only [] oneBit noCells 0 (refused 13) (BasicLookup.broken prepared-none (λ r m l. absurd (List·Memᴰ·not-nil m)) 0 level-0 (λ l u. omega arith))
+refused-maps = lookup-only [] oneBit noCells 0 (refused 13)
+    (BasicLookup.broken prepared-none (λ r m l. absurd (List·Memᴰ·not-nil m)) 0 level-0 (λ l u. omega arith))
 
 -- One answer: outcomes that meet the statements.
 pub maps-A : MeetsBasicBuild listA noBits noCells answer.Done (basicBuilt listA noBits noCells .bits) (basicBuilt listA noBits noCells .cells)

@@ -42,7 +42,8 @@ hs x = replicate 1 x
 
 -- 10.0.0.0/8 to 20, the same attached, and to 21
 three : Builds (one 0 20) (ws 0) (hs 0) 3 1 × Builds (one 1 20) (ws 7) (hs 7) 3 1 × Builds (one 0 21) (ws 8) (hs 8) 3 1
-unfolding built madeOf inputSaid firstOf firstFrom faultAt routeFault inOrder properPrefix hopFine recordAt cut routesOf tabulate any cells.first picked gather kids level upTo
+unfolding built madeOf inputSaid firstOf firstFrom faultAt routeFault inOrder properPrefix hopFine recordAt cut routesOf tabulate any cells.first
+    picked gather kids level upTo
 three = (record { said = refl }, record { said = refl }, record { said = refl })
 
 abbrev to : ℕ → List Route

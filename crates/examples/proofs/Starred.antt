@@ -30,7 +30,21 @@ use Rattle.standing.specs.Served.{hopSaid}
 use Rattle.sail.specs.declared.geometry.Geometry.{Geometry}
 use Rattle.sail.specs.declared.table.Table.{Table}
 use Rattle.sail_theory.specs.Render.{shown}
-use Rattle.sail_theory.specs.Calls.{Terms, termsOf, grant, openAt, ownersAfter, keep, chunksFault, announceFault, withdrawFault, loadFault, orSay, makeSaid, Out}
+use Rattle.sail_theory.specs.Calls.{
+  Terms,
+  termsOf,
+  grant,
+  openAt,
+  ownersAfter,
+  keep,
+  chunksFault,
+  announceFault,
+  withdrawFault,
+  loadFault,
+  orSay,
+  makeSaid,
+  Out,
+}
 use Rattle.sail_theory.specs.CallRuns.{Call, after}
 use Rattle.sail_theory.proofs.calls.Make.{make-is}
 use Rattle.sail_theory.proofs.runs.AfterRun.{run-is, run-sound}
@@ -46,10 +60,52 @@ use Rattle.tree_build.proofs.Serves.{built-serves}
 use Rattle.sail_theory.specs.Replies.{reply, stood}
 use Rattle.sail_theory.proofs.runs.Replies.{run-says, run-stood}
 use Rattle.routes.specs.ListA.{listA}
-use Rattle.examples.specs.Starred.{table, arrays, bare, image, Asked, last, lookup, report, listed, first, second, owner2, owner3, count1, count2, make, input, build, lastNode, hops, tree, answer, starred}
+use Rattle.examples.specs.Starred.{
+  table,
+  arrays,
+  bare,
+  image,
+  Asked,
+  last,
+  lookup,
+  report,
+  listed,
+  first,
+  second,
+  owner2,
+  owner3,
+  count1,
+  count2,
+  make,
+  input,
+  build,
+  lastNode,
+  hops,
+  tree,
+  answer,
+  starred,
+}
 use Rattle.examples.specs.Lines.{Hold}
 use Rattle.examples.proofs.Lines.{allServe, lines-hold}
-use Rattle.examples.proofs.Paper.{Paper, paperOf, lookupOn, reportOn, firstOn, secondOn, count1On, count2On, lookup-on, report-on, first-on, second-on, count1-on, count2-on, ownedBy, onPaper, run-paper}
+use Rattle.examples.proofs.Paper.{
+  Paper,
+  paperOf,
+  lookupOn,
+  reportOn,
+  firstOn,
+  secondOn,
+  count1On,
+  count2On,
+  lookup-on,
+  report-on,
+  first-on,
+  second-on,
+  count1-on,
+  count2-on,
+  ownedBy,
+  onPaper,
+  run-paper,
+}
 
 -- what is lent has the right sizes
 pub sized : Sized (table .geometry) arrays
@@ -148,7 +204,8 @@ module _ (cs : List Call) where
       let o : l .own2 ≡ page cs .owners .own2 = ap (λ (p : Paper). p .owners .own2) asPaper in
       let m : length (l .own2) ≡ 1 = run-is table arrays sized cs .size .chunks2 in
       let s = and-split (ltb q 256) (liveIn (entry (page cs .owners .own2)) 8 q) e in
-      ap (λ (v : ℕ). accepted (v ∷ [])) (second-on t l (run-sound table arrays sized cs) q (rw (n, m) (ltb-true q 256 (s .0))) (rw (n, o) (s .1)) ∙ ap (secondOn q) asPaper)
+      ap (λ (v : ℕ). accepted (v ∷ [])) (second-on t l (run-sound table arrays sized cs) q (rw (n, m) (ltb-true q 256 (s .0))) (rw (n, o) (s .1))
+      ∙ ap (secondOn q) asPaper)
 
   owner2-agrees : (c : ℕ) → answer (owner2 cs c) ≡ paper (owner2 cs c)
   unfolding answer paper
@@ -179,7 +236,8 @@ last-agrees (c ∷ cs) = run-says table arrays sized c cs ∙ ap (λ (rs : List 
 -- bare arrays have the right sizes in every geometry that is within the limits
 make-agrees : (g : Geometry) → answer (make g) ≡ paper (make g)
 unfolding answer paper makeSaid sizesFault sizesFit bare
-make-agrees g = rw (length-replicate {A = ℕ} (2 ^ g .p1) 0, eq-eqb (2 ^ g .p1) (2 ^ g .p1) refl, zero-mul (2 ^ bits2 g), zero-mul (2 ^ bits3 g)) (go (validGeo g))
+make-agrees g = rw (length-replicate {A = ℕ} (2 ^ g .p1) 0, eq-eqb (2 ^ g .p1) (2 ^ g .p1) refl, zero-mul (2 ^ bits2 g), zero-mul (2 ^ bits3 g))
+    (go (validGeo g))
   where
     go : (b : Bool) → orSay (cond b 0 1) (accepted []) ≡ cond b (accepted []) (refused 1)
     go true = refl
@@ -187,7 +245,8 @@ make-agrees g = rw (length-replicate {A = ℕ} (2 ^ g .p1) 0, eq-eqb (2 ^ g .p1)
 
 -- the build of list A is accepted
 built-A : image .said ≡ accepted (7 ∷ 5 ∷ [])
-unfolding image built madeOf listA inputSaid firstOf firstFrom faultAt routeFault inOrder properPrefix hopFine recordAt cut routesOf tabulate any cells.first picked gather kids level upTo
+unfolding image built madeOf listA inputSaid firstOf firstFrom faultAt routeFault inOrder properPrefix hopFine recordAt cut routesOf tabulate any
+    cells.first picked gather kids level upTo
 built-A = refl
 
 tree-agrees : (a : ℕ) → ltb a (2 ^ 32) ≡ true → answer (tree a) ≡ paper (tree a)
@@ -214,11 +273,15 @@ agrees hops e = refl
 agrees (tree a) e = tree-agrees a e
 
 serve-all : allServe answer paper serves agrees starred ≡ true
-unfolding allServe serves starred onPaper ownedBy stood reply inputSaid listA firstOf firstFrom faultAt routeFault inOrder properPrefix hopFine recordAt cut announceFault loadFault chunksFault arrays table routesOf tabulate need any insert ownersAfter openAt grant chunkFor
+unfolding allServe serves starred onPaper ownedBy stood reply inputSaid listA firstOf firstFrom faultAt routeFault inOrder properPrefix hopFine
+    recordAt cut announceFault loadFault chunksFault arrays table routesOf tabulate need any insert ownersAfter openAt grant chunkFor
 serve-all = refl
 
 on-paper : Hold paper starred
-unfolding Hold starred paper onPaper ownedBy stood reply inputSaid listA firstOf firstFrom faultAt routeFault inOrder properPrefix hopFine recordAt cut announceFault withdrawFault loadFault chunksFault arrays table routesOf tabulate need any howMany best cells.first insert remove ownersAfter openAt grant keep chunkFor shown hopSaid validGeo image built madeOf count packedBits picked gather bitHop setBit word kids hopsOf level upTo wordsFrom words ofImage.hops imageBy
+unfolding Hold starred paper onPaper ownedBy stood reply inputSaid listA firstOf firstFrom faultAt routeFault inOrder properPrefix hopFine recordAt
+    cut announceFault withdrawFault loadFault chunksFault arrays table routesOf tabulate need any howMany best cells.first insert remove ownersAfter
+    openAt grant keep chunkFor shown hopSaid validGeo image built madeOf count packedBits picked gather bitHop setBit word kids hopsOf level upTo
+    wordsFrom words ofImage.hops imageBy
 on-paper = refl
 
 pub starred-hold : Hold answer starred

@@ -87,7 +87,8 @@ settled-A = refl
 abbrev loadedState : Table
 loadedState = stateOf (freshTable standardGeo) routesA
 
-holds : TableHolds (freshTable standardGeo) blank routesA loadedState (lentOf (freshTable standardGeo) blank routesA (ownersAfter standardGeo (noOwners blank) routesA))
+holds : TableHolds (freshTable standardGeo) blank routesA loadedState
+    (lentOf (freshTable standardGeo) blank routesA (ownersAfter standardGeo (noOwners blank) routesA))
 holds = loadable-holds (freshTable standardGeo) blank routesA loadable
 
 pub sound-A : Sound stateA lentA

@@ -67,7 +67,8 @@ use Rattle.examples.proofs.EdgesTreeChanges.{tree-changes-hold}
 use Rattle.examples.proofs.Many.{nth, many-good, many-routes}
 
 -- a line of the table of changes
-line : (k : ℕ) → answer (getD edges k (changes.any [] [] (take 0 0) gives accepted []) .asked) ≡ getD (map (λ (x : Line changes.Asked). x .expected) edges) k (answer (changes.any [] [] (take 0 0)))
+line : (k : ℕ) → answer (getD edges k (changes.any [] [] (take 0 0) gives accepted []) .asked) ≡ getD
+    (map (λ (x : Line changes.Asked). x .expected) edges) k (answer (changes.any [] [] (take 0 0)))
 unfolding Hold
 line k =
     sym (List·getD-map (λ (x : Line changes.Asked). answer (x .asked)) edges k (changes.any [] [] (take 0 0) gives accepted []))
@@ -81,15 +82,18 @@ abbrev hs : List ℕ
 hs = imageIn listA 39 6 .hops
 
 pub built-39 : built listA (replicate 39 0) (replicate 6 0) .said ≡ accepted (7 ∷ 5 ∷ [])
-unfolding listA built madeOf inputSaid firstOf firstFrom faultAt routeFault inOrder properPrefix hopFine recordAt cut routesOf tabulate any cells.first picked gather kids level upTo
+unfolding listA built madeOf inputSaid firstOf firstFrom faultAt routeFault inOrder properPrefix hopFine recordAt cut routesOf tabulate any
+    cells.first picked gather kids level upTo
 built-39 = refl
 
 low-words : every (λ j. ltb (getD ws j 0) (2 ^ 32)) 39 ≡ true
-unfolding every imageIn listA built madeOf inputSaid firstOf firstFrom faultAt routeFault inOrder properPrefix hopFine recordAt cut routesOf tabulate any cells.first picked gather kids level upTo count packedBits bitHop setBit word hopsOf wordsFrom words imageBy
+unfolding every imageIn listA built madeOf inputSaid firstOf firstFrom faultAt routeFault inOrder properPrefix hopFine recordAt cut routesOf tabulate
+    any cells.first picked gather kids level upTo count packedBits bitHop setBit word hopsOf wordsFrom words imageBy
 low-words = refl
 
 as-long : length ws ≡ 39
-unfolding imageIn listA built madeOf inputSaid firstOf firstFrom faultAt routeFault inOrder properPrefix hopFine recordAt cut routesOf tabulate any cells.first picked gather kids level upTo count packedBits bitHop setBit word wordsFrom words imageBy
+unfolding imageIn listA built madeOf inputSaid firstOf firstFrom faultAt routeFault inOrder properPrefix hopFine recordAt cut routesOf tabulate any
+    cells.first picked gather kids level upTo count packedBits bitHop setBit word wordsFrom words imageBy
 as-long = refl
 
 pub narrow-A : Narrow ws
@@ -217,22 +221,27 @@ module _ (n : ℕ) (few : n ≤ 4096) where
       let k = built-accepts (many n) (replicate 98307 0) (replicate 4097 0) _ builds in
       let a = length-replicate {A = ℕ} 98307 0 in
       let b = length-replicate {A = ℕ} 4097 0 in
-      let z = image-sizes (nodeStands (routesIn (many n))) (hopFor (routesIn (many n))) (length {A = ℕ} (replicate 98307 0)) (length {A = ℕ} (replicate 4097 0)) (k .nodes-room) (omega (arith, hops-need (routesIn (many n)) its-good, k .hops-room)) in
+      let z = image-sizes (nodeStands (routesIn (many n))) (hopFor (routesIn (many n))) (length {A = ℕ} (replicate 98307 0))
+      (length {A = ℕ} (replicate 4097 0)) (k .nodes-room) (omega (arith, hops-need (routesIn (many n)) its-good, k .hops-room)) in
       (ap length (k .words) ∙ z .0 ∙ a, ap length (k .hops) ∙ z .1 ∙ b)
 
   -- with one more they still are a good list, which needs at most 32,769 nodes
   with-good : Good (routesWith (image .words) (image .hops) 0 0 5)
-  with-good = insert-good (unmarkedRoute 0 0 5) _ (is-fine 0 0 5 (asked .prefix) (asked .hop)) (subst Good (sym holds) (plain-good (routesIn (many n)) its-good))
+  with-good = insert-good (unmarkedRoute 0 0 5) _ (is-fine 0 0 5 (asked .prefix) (asked .hop))
+      (subst Good (sym holds) (plain-good (routesIn (many n)) its-good))
 
   with-one : n < 4096 → imageAnnounced (image .words) (image .hops) 0 0 5 .said
-      ≡ accepted (bit (stands (keyOf 0 0) (routesHeld (image .words) (image .hops))) ∷ nodeNeed (routesWith (image .words) (image .hops) 0 0 5) ∷ length (routesWith (image .words) (image .hops) 0 0 5) ∷ [])
+      ≡ accepted (bit (stands (keyOf 0 0) (routesHeld (image .words) (image .hops))) ∷ nodeNeed
+      (routesWith (image .words) (image .hops) 0 0 5) ∷ length (routesWith (image .words) (image .hops) 0 0 5) ∷ [])
   with-one l =
       let m = nodes-most (routesWith (image .words) (image .hops) 0 0 5) with-good (omega (arith, one-more)) in
-      ap (λ (o : ImageOut). o .said) (case-announced _ _ 0 0 5 _ (Announcing.put-in asked (omega (arith, one-more)) (omega (arith, sizes .0)) (omega (arith, one-more, sizes .1))))
+      ap (λ (o : ImageOut). o .said) (case-announced _ _ 0 0 5 _
+      (Announcing.put-in asked (omega (arith, one-more)) (omega (arith, sizes .0)) (omega (arith, one-more, sizes .1))))
 
 -- 4,095 stand, and one more is taken; 4,096 stand, and it is not
 pub taken-4096 : accepts (imageAnnounced (image 4095 (omega arith) .words) (image 4095 (omega arith) .hops) 0 0 5 .said) ≡ true
 taken-4096 = ap accepts (with-one 4095 (omega arith) (omega arith))
 
 pub refused-six : imageAnnounced (image 4096 (omega arith) .words) (image 4096 (omega arith) .hops) 0 0 5 .said ≡ refused 6
-refused-six = ap (λ (o : ImageOut). o .said) (case-announced _ _ 0 0 5 _ (Announcing.too-many (asked 4096 (omega arith)) (omega (arith, one-more 4096 (omega arith)))))
+refused-six = ap (λ (o : ImageOut). o .said) (case-announced _ _ 0 0 5 _
+    (Announcing.too-many (asked 4096 (omega arith)) (omega (arith, one-more 4096 (omega arith)))))

@@ -88,7 +88,8 @@ use Rattle.examples.proofs.TableA.{goodA}
 -- a line of the examples
 pub line : (k : ℕ) → answer (getD starred k (last [] gives accepted []) .asked) ≡ getD (map (λ (x : Line Asked). x .expected) starred) k (answer (last []))
 unfolding Hold
-line k = sym (List·getD-map (λ (x : Line Asked). answer (x .asked)) starred k (last [] gives accepted [])) ∙ ap (λ (ss : List Said). getD ss k (answer (last []))) starred-hold
+line k = sym (List·getD-map (λ (x : Line Asked). answer (x .asked)) starred k (last [] gives accepted [])) ∙ ap
+    (λ (ss : List Said). getD ss k (answer (last []))) starred-hold
 
 -- the table and the arrays after a run
 abbrev pub t : List Call → Table
@@ -183,7 +184,8 @@ pub makes : accepts (made table arrays .said) ≡ true
 makes = ap (λ (o : Out). accepts (o .said)) (make-is table arrays sized)
 
 -- what stands after each run is a list as `run-only` speaks of,
-pub stands-in-order : (cs : List Call) → Good (standingAfter table arrays cs) × ((k : ℕ) → routeAt k (standingAfter table arrays cs) ≡ heldByCalls table arrays cs k)
+pub stands-in-order : (cs : List Call) → Good (standingAfter table arrays cs) ×
+    ((k : ℕ) → routeAt k (standingAfter table arrays cs) ≡ heldByCalls table arrays cs k)
 stands-in-order cs = (demand3.run-in-order table arrays sized cs, demand3.run-standing table arrays sized cs)
 
 -- after each run there is a fresh load to compare with, into the arrays themselves,
@@ -198,7 +200,8 @@ wantedA = rw (line 34) (omega arith, omega arith)
 pub formed-announce : Formed (announce (route (ip 10 2 2 0) 24 45 0)) (standingAfter table arrays entered) (roomOf arrays)
 formed-announce = demand3.want-formed table arrays sized entered (announce (route (ip 10 2 2 0) 24 45 0)) wantedA
 
-pub needed : ByNeed (termsOf table arrays) (routesAfter (announce (route (ip 10 2 2 0) 24 45 0)) (standingAfter table arrays entered)) (after table arrays other .said)
+pub needed : ByNeed (termsOf table arrays) (routesAfter (announce (route (ip 10 2 2 0) 24 45 0)) (standingAfter table arrays entered))
+    (after table arrays other .said)
 needed = demand3.want-of-chunks table arrays sized entered (announce (route (ip 10 2 2 0) 24 45 0)) formed-announce
 
 -- a withdrawal and a load that are well-formed,
@@ -329,7 +332,8 @@ abbrev pub hostImage : building.ImageOut
 hostImage = built host (replicate 27 0) (replicate 1 0)
 
 host-built : hostImage .said ≡ accepted (9 ∷ 1 ∷ [])
-unfolding host built madeOf inputSaid firstOf firstFrom faultAt routeFault inOrder properPrefix hopFine recordAt cut routesOf tabulate any cells.first picked gather kids level upTo
+unfolding host built madeOf inputSaid firstOf firstFrom faultAt routeFault inOrder properPrefix hopFine recordAt cut routesOf tabulate any
+    cells.first picked gather kids level upTo
 host-built = refl
 
 host-told : walk.treeHopSaid (best (routesIn host) 32 (ip 10 1 2 200)) (onPath (routesIn host) (ip 10 1 2 200)) ≡ accepted (10 ∷ 57 ∷ [])
@@ -346,4 +350,9 @@ tree-broken a = sym (refused-tree a)
 
 pub built-A : MeetsBuild listA (replicate 21 0) (replicate 5 0) (ofBuild.Made 7 5) (image .words) (image .hops)
 unfolding image meansBuilt
-built-A i = record { said = sym builtA i; words = built listA (replicate 21 0) (replicate 5 0) .words; hops = built listA (replicate 21 0) (replicate 5 0) .hops }
+built-A i = record {
+  said = sym builtA i;
+  words = built listA (replicate 21 0) (replicate 5 0) .words;
+  hops = built listA (replicate 21 0)
+      (replicate 5 0) .hops;
+}

@@ -71,7 +71,8 @@ edges =
     ∷ (any [] [] (put 0 0 1) gives refused 13)
     -- "its words and hops then equal a fresh build, into the same arrays": 10.1.2.200/32 to 70 brings two nodes at the end
     ∷ (wordsOf listA 28 7 (put (ip 10 1 2 200) 32 70)
-    gives accepted ((2 ^ 16 + 1) ∷ 1 ∷ 0 ∷ 2 ^ 26 ∷ 2 ∷ 1 ∷ (2 ^ 16 + 1) ∷ 3 ∷ 1 ∷ 2 ^ 17 ∷ 4 ∷ 2 ∷ (2 ^ 16 + 1) ∷ 5 ∷ 2 ∷ 2 ^ 18 ∷ 6 ∷ 3 ∷ (2 ^ 28 + 5) ∷ 7 ∷ 3 ∷ 2 ^ 24 ∷ 8 ∷ 5 ∷ 1 ∷ 9 ∷ 5 ∷ 0 ∷ []))
+    gives accepted ((2 ^ 16 + 1) ∷ 1 ∷ 0 ∷ 2 ^ 26 ∷ 2 ∷ 1 ∷ (2 ^ 16 + 1) ∷ 3 ∷ 1 ∷ 2 ^ 17 ∷ 4 ∷ 2 ∷ (2 ^ 16 + 1) ∷ 5 ∷ 2 ∷ 2 ^ 18 ∷ 6 ∷ 3 ∷
+    (2 ^ 28 + 5) ∷ 7 ∷ 3 ∷ 2 ^ 24 ∷ 8 ∷ 5 ∷ 1 ∷ 9 ∷ 5 ∷ 0 ∷ []))
     ∷ (hopsOf listA 28 7 (put (ip 10 1 2 200) 32 70) gives accepted (6 ∷ 20 ∷ 31 ∷ 44 ∷ 57 ∷ 70 ∷ 0 ∷ []))
     -- a hop put in early: those after it move, and the hop bases after its node are one more
     ∷ (hopsOf listA 21 6 (put 0 1 9) gives accepted (6 ∷ 9 ∷ 20 ∷ 31 ∷ 44 ∷ 57 ∷ []))

@@ -75,7 +75,8 @@ tight = announce (route (ip 10 1 2 0) 24 45 0) ∷ loose
 abbrev pub away : List Call
 away = withdraw (ip 10 1 2 9) 24 ∷ tight
 
--- What is asked: after a run, what its last call says, a lookup, the report, a route of its list, a cell, an owner, a count; what make says of a geometry; what the check of an
+-- What is asked: after a run, what its last call says, a lookup, the report, a route of its list, a cell, an owner, a count; what make says of a
+-- geometry; what the check of an
 -- input says; and of list A's image, what the build says, its last node, its hops, and a lookup in it.
 pub data Asked : Type 0 where
   last : List Call → Asked

@@ -43,7 +43,8 @@ module _ (s : List ℕ) (n : ℕ) (few : length s / 8 ≤ 4096) where
   insert-holds r ok =
       let good = records-good s n (ok .listed .records) in
       let e : length (insert r (routesOf s n)) ≡ countWith (stands (key r) (routesOf s n)) n = rw length-routes at (insert-count r (routesOf s n) good) in
-      holds (insert r (routesOf s n)) (length s / 8) _ (insert-good r (routesOf s n) (ok .fine) good) few (rw e (go (decided (stands (key r) (routesOf s n))))) e
+      holds (insert r (routesOf s n)) (length s / 8) _ (insert-good r (routesOf s n) (ok .fine) good) few
+      (rw e (go (decided (stands (key r) (routesOf s n))))) e
     where
       go : (stands (key r) (routesOf s n) ≡ true) ⊎ (stands (key r) (routesOf s n) ≡ false) → countWith (stands (key r) (routesOf s n)) n ≤ length s / 8
       go (inl e) = rw e (omega (arith, ok .listed .records .room))

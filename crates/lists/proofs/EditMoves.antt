@@ -67,7 +67,8 @@ module _ (s : List ℕ) (from : ℕ → ℕ) where
 pub up-step : (s : List ℕ) (at e : ℕ) → 0 < at → at ≤ e → e + 8 ≤ length s
     → set (movedUp s at e) (at - 1 + 8) (getD (movedUp s at e) (at - 1) 0) ≡ movedUp s (at - 1) e
 up-step s at e z l h =
-    let v : getD (movedUp s at e) (at - 1) 0 ≡ getD s (at - 1 + 8 - 8) 0 = drawn-before s _ (at + 8) (e + 8) (at - 1) (omega arith) (omega arith) ∙ ap (λ (x : ℕ). getD s x 0) (omega arith) in
+    let v : getD (movedUp s at e) (at - 1) 0 ≡ getD s (at - 1 + 8 - 8) 0 = drawn-before s _ (at + 8) (e + 8) (at - 1) (omega arith) (omega arith)
+    ∙ ap (λ (x : ℕ). getD s x 0) (omega arith) in
     let q : at + 8 ≡ at - 1 + 8 + 1 = omega arith in
     ap (λ (x : ℕ). set (movedUp s at e) (at - 1 + 8) x) v
     ∙ ap (λ (b : ℕ). set (drawn s b (e + 8) (λ j. j - 8)) (at - 1 + 8) (getD s (at - 1 + 8 - 8) 0)) q

@@ -20,7 +20,8 @@ use Rattle.standing.proofs.Standing.{insert-before, insert-same, insert-after}
 use Rattle.routes.proofs.Rows.{good-rises}
 
 -- routes of smaller keys stay before the new one
-past : (r : Route) (rs : List Route) (k : ℕ) → k ≤ length rs → ((i : ℕ) → i < k → key (getD rs i noRoute) < key r) → insert r rs ≡ take k rs ++ insert r (drop k rs)
+past : (r : Route) (rs : List Route) (k : ℕ) → k ≤ length rs → ((i : ℕ) → i < k → key (getD rs i noRoute) < key r) → insert r rs
+    ≡ take k rs ++ insert r (drop k rs)
 past r rs zero l h = refl
 past r [] (suc k) l h = absurd (not-suc-le-zero l)
 past r (x ∷ xs) (suc k) l h =
@@ -83,7 +84,8 @@ unfolding remove
 remove-append p [] ys = refl
 remove-append p (x ∷ xs) ys = go (isAt p x) (remove-append p xs ys)
   where
-    go : (b : Bool) → remove p (xs ++ ys) ≡ remove p xs ++ remove p ys → cond b (remove p (xs ++ ys)) (x ∷ remove p (xs ++ ys)) ≡ cond b (remove p xs) (x ∷ remove p xs) ++ remove p ys
+    go : (b : Bool) → remove p (xs ++ ys) ≡ remove p xs ++ remove p ys → cond b (remove p (xs ++ ys)) (x ∷ remove p (xs ++ ys)) ≡ cond b
+        (remove p xs) (x ∷ remove p xs) ++ remove p ys
     go true e = e
     go false e = rw e
 
@@ -96,7 +98,8 @@ without : (rs : List Route) (k : ℕ) → Good rs → k < length rs → remove (
 without rs k good l =
     ap (remove p) (split-at rs k noRoute l)
     ∙ remove-append p (take k rs) (getD rs k noRoute ∷ drop (suc k) rs)
-    ∙ ap₂ (λ (x y : List Route). x ++ y) (absent (take k rs) (λ i u. first i (rw (length-take-le k rs (omega arith)) at u))) (remove-head p _ _ refl ∙ absent (drop (suc k) rs) rest)
+    ∙ ap₂ (λ (x y : List Route). x ++ y) (absent (take k rs) (λ i u. first i (rw (length-take-le k rs (omega arith)) at u)))
+    (remove-head p _ _ refl ∙ absent (drop (suc k) rs) rest)
   where
     p : ℕ
     p = key (getD rs k noRoute)

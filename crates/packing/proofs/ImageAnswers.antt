@@ -31,7 +31,8 @@ image-fields b nodes hops x h i j e =
       kept = r;
     }
 
-image-values : (b nodes hops x : ℕ) → b < 2 → nodes < 2 ^ 32 → hops < 2 ^ 16 → x ≡ packImage (accepted (b ∷ nodes ∷ hops ∷ [])) → ReadsAccepted imageValues x (b ∷ nodes ∷ hops ∷ [])
+image-values : (b nodes hops x : ℕ) → b < 2 → nodes < 2 ^ 32 → hops < 2 ^ 16 → x ≡ packImage (accepted (b ∷ nodes ∷ hops ∷ []))
+    → ReadsAccepted imageValues x (b ∷ nodes ∷ hops ∷ [])
 unfolding imageValues
 image-values b nodes hops x h i j e =
     let f = image-fields b nodes hops x h i j e in

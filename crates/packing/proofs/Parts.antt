@@ -12,7 +12,20 @@ use Rattle.basic.specs.Calls.{packHop}
 use Rattle.packing.specs.Pack.{packReport, packChange, packBuilt, packRun, packNone, packRoute}
 use Rattle.packing.specs.Unpack.{field, FitsWord, FoundFits, ReportFits, BuiltFits, RunFits, RouteFits, AnnounceFits, WithdrawFits, DoneFits}
 use Rattle.packing.specs.Hops.{HopFits}
-use Rattle.packing.specs.Parts.{refusalParts, parts, foundParts, reportParts, builtParts, runParts, routeParts, announceParts, withdrawParts, doneParts, hopParts, noParts}
+use Rattle.packing.specs.Parts.{
+  refusalParts,
+  parts,
+  foundParts,
+  reportParts,
+  builtParts,
+  runParts,
+  routeParts,
+  announceParts,
+  withdrawParts,
+  doneParts,
+  hopParts,
+  noParts,
+}
 use Rattle.packing.proofs.Unpacks.{field-is}
 
 -- Refusals, the same in all layouts.
@@ -81,7 +94,8 @@ run-sum j n x a b e =
     let q : n % 65536 ≡ n = mod-eq-of-lt b in
     record { none = omega arith; sum = rw (f, g) (omega arith) }
 
-route-sum : (a len mark hop x : ℕ) → a < 2 ^ 32 → len < 2 ^ 7 → mark < 2 → hop < 2 ^ 16 → x ≡ packRoute (accepted (a ∷ len ∷ mark ∷ hop ∷ [])) → Sums routeParts x
+route-sum : (a len mark hop x : ℕ) → a < 2 ^ 32 → len < 2 ^ 7 → mark < 2 → hop < 2 ^ 16 → x ≡ packRoute (accepted (a ∷ len ∷ mark ∷ hop ∷ []))
+    → Sums routeParts x
 unfolding packed routeParts
 route-sum a len mark hop x i j n m e =
     let u : len % 128 ≡ len = mod-eq-of-lt j in

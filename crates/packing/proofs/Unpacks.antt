@@ -11,7 +11,38 @@ use borrow.Author.Tests.{eq-eqb, ne-eqb}
 use Rattle.routes.specs.Said.{Said, accepted, refused, refusedAt, andThen, accepts}
 use Rattle.sail.specs.Word.{packed, value, packFound}
 use Rattle.packing.specs.Pack.{packReport, packChange, packBuilt, packRun, packNone, packRoute}
-use Rattle.packing.specs.Unpack.{field, refusalOf, unpacked, foundValues, unpackFound, reportValues, unpackReport, builtValues, unpackBuilt, runValues, unpackRun, routeValues, unpackRoute, announceValues, unpackAnnounce, withdrawValues, unpackWithdraw, noValues, unpackDone, unpackNone, countOf, FitsWord, FoundFits, ReportFits, BuiltFits, RunFits, RouteFits, AnnounceFits, WithdrawFits, DoneFits}
+use Rattle.packing.specs.Unpack.{
+  field,
+  refusalOf,
+  unpacked,
+  foundValues,
+  unpackFound,
+  reportValues,
+  unpackReport,
+  builtValues,
+  unpackBuilt,
+  runValues,
+  unpackRun,
+  routeValues,
+  unpackRoute,
+  announceValues,
+  unpackAnnounce,
+  withdrawValues,
+  unpackWithdraw,
+  noValues,
+  unpackDone,
+  unpackNone,
+  countOf,
+  FitsWord,
+  FoundFits,
+  ReportFits,
+  BuiltFits,
+  RunFits,
+  RouteFits,
+  AnnounceFits,
+  WithdrawFits,
+  DoneFits,
+}
 
 -- A field is read whatever stands below it and above it. (Most of those below `omega` does by itself; the highest fields it does not.)
 pub field-is : (low width below v above x : ℕ) → below < 2 ^ low → v < 2 ^ width → x ≡ (above * 2 ^ width + v) * 2 ^ low + below → field low width x ≡ v
@@ -69,7 +100,8 @@ no-hop-read n x a e =
     let g : field 16 16 x ≡ 0 = omega arith in
     record { none = omega arith; back = rw (f, g) }
 
-report-values : (n y z x : ℕ) → n < 2 ^ 16 → y < 2 ^ 16 → z < 2 ^ 16 → x ≡ packReport (accepted (n ∷ y ∷ z ∷ [])) → ReadsAccepted reportValues x (n ∷ y ∷ z ∷ [])
+report-values : (n y z x : ℕ) → n < 2 ^ 16 → y < 2 ^ 16 → z < 2 ^ 16 → x ≡ packReport (accepted (n ∷ y ∷ z ∷ [])) → ReadsAccepted reportValues x
+    (n ∷ y ∷ z ∷ [])
 unfolding packed reportValues
 report-values n y z x a b c e =
     let f : field 16 16 x ≡ n = omega arith in

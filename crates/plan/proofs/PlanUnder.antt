@@ -102,10 +102,12 @@ unfolding under
 under-run l i [] lo n f g h = rw (drop-nil lo, take-nil n)
 under-run l i (r ∷ rs) (suc lo) n f g h =
     let e : within l i r ≡ false = f zero (omega arith) (omega arith) in
-    rw e (under-run l i rs lo n (λ j a b. f (suc j) (omega arith) (omega arith)) (λ j a b c. g (suc j) (omega arith) (omega arith) (omega arith)) (λ j a b. h (suc j) (omega arith) (omega arith)))
+    rw e (under-run l i rs lo n (λ j a b. f (suc j) (omega arith) (omega arith)) (λ j a b c. g (suc j) (omega arith) (omega arith) (omega arith))
+    (λ j a b. h (suc j) (omega arith) (omega arith)))
 under-run l i (r ∷ rs) zero (suc n) f g h =
     let e : within l i r ≡ true = g zero (omega arith) (omega arith) (omega arith) in
-    rw e (ap {B = List Route} (λ t. r ∷ t) (under-run l i rs zero n (λ j a b. absurd (not-suc-le-zero a)) (λ j a b c. g (suc j) (omega arith) (omega arith) (omega arith)) (λ j a b. h (suc j) (omega arith) (omega arith))))
+    rw e (ap {B = List Route} (λ t. r ∷ t) (under-run l i rs zero n (λ j a b. absurd (not-suc-le-zero a))
+    (λ j a b c. g (suc j) (omega arith) (omega arith) (omega arith)) (λ j a b. h (suc j) (omega arith) (omega arith))))
 under-run l i (r ∷ rs) zero zero f g h =
     let e : within l i r ≡ false = h zero (omega arith) (omega arith) in
     rw e (under-run l i rs zero zero (λ j a b. absurd (not-suc-le-zero a)) (λ j a b c. absurd (omega arith)) (λ j a b. h (suc j) (omega arith) (omega arith)))

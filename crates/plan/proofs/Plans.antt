@@ -60,7 +60,8 @@ module _ (p i : ℕ) (r : Route) where
   unfolding any Good
   none-before [] g c = refl
   none-before (x ∷ rs) g c =
-      let w = untrue (within p i x) (λ t. true≢false (sym c ∙ none-after p i x r (g .0) (good-fine (rs ++ (r ∷ [])) (g .2) r (at-end rs r)) (g .1 r (at-end rs r)) t)) in
+      let w = untrue (within p i x) (λ t. true≢false
+      (sym c ∙ none-after p i x r (g .0) (good-fine (rs ++ (r ∷ [])) (g .2) r (at-end rs r)) (g .1 r (at-end rs r)) t)) in
       rw w (none-before rs (g .2) c)
 
   -- one route more is painted over the cell

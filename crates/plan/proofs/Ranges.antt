@@ -80,7 +80,13 @@ module _ (r : Route) (p : ℕ) (fine : Fine r) (hp : p ≤ 32) where
       go (yes l) =
           let z : p - r .len ≡ 0 = omega arith in
           rw (z, lt-ltb p (r .len) l, lt-leb (r .len) p l, eqb-one cell c)
-      go (no l) = rw (le-ltb p (r .len) (omega arith), le-leb (r .len) p (omega arith), eqb-div (slot (r .len) (r .addr)) (p - r .len) c, first-cell (omega arith))
+      go (no l) = rw (
+        le-ltb p (r .len) (omega arith),
+        le-leb (r .len) p (omega arith),
+        eqb-div (slot (r .len) (r .addr)) (p - r .len) c,
+        first-cell
+            (omega arith),
+      )
 
   painted-range : (l : List ℕ) (base : ℕ)
       → filled l (min (cell - base) (length l)) (min (end - base) (length l)) (cond (ltb p (r .len)) 0 (32768 + r .hop)) ≡ painted l p base r
@@ -129,7 +135,8 @@ unfolding painted plannedFrom
 words-more ws good h p base m k out after l was e =
     let z : k + 1 - 1 ≡ k = omega arith in
     e ∙ rw (z, was, length-tabulate m _, add-one, take-suc ws k 0 l, map-append)
-    (tabulate-ext m _ _ (λ j u. rw (getD-tabulate {A = ℕ} m _ j 0) (sym (plan-snoc p (base + j) (routeOfWord (getD ws k 0)) h (routesOfWords (take k ws)) first))))
+    (tabulate-ext m _ _ (λ j u. rw (getD-tabulate {A = ℕ} m _ j 0)
+    (sym (plan-snoc p (base + j) (routeOfWord (getD ws k 0)) h (routesOfWords (take k ws)) first))))
   where
     first : Good (routesOfWords (take k ws) ++ (routeOfWord (getD ws k 0) ∷ []))
     first =

@@ -41,7 +41,8 @@ module _ (rs : List Route) (p base : ℕ) (part own : List ℕ) (o n : ℕ) wher
       leaf j l z (inl e) = absurd (z (plan-at j true l e))
       leaf j l z (inr e) = r .leaf j l e ∙ sym (plan-at j false l e)
 
-      node : (j : ℕ) → j < n → getD (planned rs p base n) j 0 ≡ 0 → (long rs p (base + j) ≡ true) ⊎ (long rs p (base + j) ≡ false) → NamesBack (getD part j 0) own (o + j)
+      node : (j : ℕ) → j < n → getD (planned rs p base n) j 0 ≡ 0 → (long rs p (base + j) ≡ true) ⊎ (long rs p (base + j) ≡ false) → NamesBack
+          (getD part j 0) own (o + j)
       node j l z (inl e) = r .node j l e
       node j l z (inr e) = let v = plan-at j false l e in absurd (omega arith)
 

@@ -32,7 +32,8 @@ length-settled : (f : ℕ → Bool) (part want : List ℕ) → length (settled f
 unfolding settled
 length-settled f part want = length-tabulate (length want) _
 
-pub settled-length : {f : ℕ → Bool} {part own : List ℕ} {o : ℕ} {want after : List ℕ} {b : Bool} → Settled f part own o want after b → length after ≡ length want
+pub settled-length : {f : ℕ → Bool} {part own : List ℕ} {o : ℕ} {want after : List ℕ} {b : Bool} → Settled f part own o want after b → length after
+    ≡ length want
 settled-length {f} {part} {own} {o} {want} s = ap length (s .becomes) ∙ length-settled f part want
 
 module _ (part own : List ℕ) (o : ℕ) (want : List ℕ) where
@@ -45,7 +46,8 @@ module _ (part own : List ℕ) (o : ℕ) (want : List ℕ) where
   }
 
   -- cell x alone passes
-  pub settled-one : (f : ℕ → Bool) (x : ℕ) (b : Bool) → x < length want → ((j : ℕ) → j < length want → f j ≡ eqb j x) → Tells b (NamesBack (getD part x 0) own (o + x))
+  pub settled-one : (f : ℕ → Bool) (x : ℕ) (b : Bool) → x < length want → ((j : ℕ) → j < length want → f j ≡ eqb j x) → Tells b
+      (NamesBack (getD part x 0) own (o + x))
       → Settled f part own o want (set want x (getD part x 0)) b
   unfolding settled
   settled-one f x b u h t = record {
@@ -152,7 +154,8 @@ module _ (run : List ℕ) (p base : ℕ) (part own : List ℕ) (o : ℕ) (want :
   unfolding any
   run-none = settled-none part own o want (by 0) (λ j l. refl)
 
-  module _ (k : ℕ) (mid after : List ℕ) (ok b : Bool) (l : k < length run) (was : Settled (by k) part own o want mid ok) (one : Settled (at k) part own o mid after b) where
+  module _ (k : ℕ) (mid after : List ℕ) (ok b : Bool) (l : k < length run) (was : Settled (by k) part own o want mid ok)
+      (one : Settled (at k) part own o mid after b) where
     pub run-no : not b ≡ true → Settled (by (k + 1)) part own o want after false
     run-no e = settled-as part own o want _ _ after false (λ j. by-more k j l) (then-no part own o want (by k) (at k) mid after ok b was one (not-true b e))
 

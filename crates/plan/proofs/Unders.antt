@@ -17,7 +17,8 @@ use Rattle.plan.specs.Under.{Block}
 use Rattle.plan.proofs.PlanUnder.{planned-run}
 use Rattle.plan.proofs.Rights.{tells-right}
 
-module _ (ws par : List ℕ) (l i p base n lo hi h : ℕ) (b : Block ws par l i p base n) (run : Run ws l i lo hi) (is : (h ≡ best (routesOfWords ws) l i) × (h < 32768)) where
+module _ (ws par : List ℕ) (l i p base n lo hi h : ℕ) (b : Block ws par l i p base n) (run : Run ws l i lo hi)
+    (is : (h ≡ best (routesOfWords ws) l i) × (h < 32768)) where
   abbrev part-run : List ℕ
   part-run = take (hi - lo) (drop lo ws)
 

@@ -48,7 +48,8 @@ module _ (ws par : List ℕ) (l p : ℕ) (up : List ℕ) (e o : ℕ) (cells : Li
         counted-as r _ _ _ (2 ^ (p - l)) is-size
         (λ j u. rw (lt-ltb 0 o (omega (arith, some)), digits-mod c u, from, cell, begins)) k
 
-    pub chunk-block : (some : o ≡ 0 → ⊥) (i base : ℕ) → i ≡ standsFor e up (o - 1) → base ≡ i * 2 ^ (p - l) → DiffBlockReady ws par l i p base cells a (a + n) want
+    pub chunk-block : (some : o ≡ 0 → ⊥) (i base : ℕ) → i ≡ standsFor e up (o - 1) → base ≡ i * 2 ^ (p - l)
+        → DiffBlockReady ws par l i p base cells a (a + n) want
     chunk-block some i base cell from = record {
       part = chunk-part ws par 0 l p up e o cells c (h .chunk) some i a base n cell begins size from;
       small = omega (arith, is-size, pow-mono (h .chunk .levels .small));

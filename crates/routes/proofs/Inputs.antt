@@ -41,11 +41,23 @@ module _ (s : List ℕ) where
     module _ (u : k ≤ length s / 8) (l : length s / 8 ≤ k) where
       pub too-many : 4096 < length s / 8 → meansInput input.TooMany ≡ inputSaid s
       unfolding inputSaid meansInput
-      too-many m = simp (eq-eqb (length s % 8) 0 whole, first-is u (λ (a : k < length s / 8). absurd (omega arith)), le-ltb k (length s / 8) l, lt-ltb 4096 (length s / 8) m)
+      too-many m = simp (
+        eq-eqb (length s % 8) 0 whole,
+        first-is u (λ (a : k < length s / 8). absurd (omega arith)),
+        le-ltb k
+            (length s / 8) l,
+        lt-ltb 4096 (length s / 8) m,
+      )
 
       pub good : length s / 8 ≤ 4096 → meansInput (input.Good (length s / 8)) ≡ inputSaid s
       unfolding inputSaid meansInput
-      good m = simp (eq-eqb (length s % 8) 0 whole, first-is u (λ (a : k < length s / 8). absurd (omega arith)), le-ltb k (length s / 8) l, le-ltb 4096 (length s / 8) m)
+      good m = simp (
+        eq-eqb (length s % 8) 0 whole,
+        first-is u (λ (a : k < length s / 8). absurd (omega arith)),
+        le-ltb k
+            (length s / 8) l,
+        le-ltb 4096 (length s / 8) m,
+      )
 
 -- what a caller of `check_input` knows in each arm
 module _ (s : List ℕ) (i : Input) (e : meansInput i ≡ inputSaid s) where

@@ -52,10 +52,12 @@ pub route-checked : (r : Route) → RouteChecked r (routeFault r)
 unfolding routeFault
 route-checked r = go (decided (properPrefix (r .addr) (r .len))) (decided (hopFine (r .hop))) (below? 1 (r .mark))
   where
-    go : (properPrefix (r .addr) (r .len) ≡ true) ⊎ (properPrefix (r .addr) (r .len) ≡ false) → (hopFine (r .hop) ≡ true) ⊎ (hopFine (r .hop) ≡ false) → (1 < r .mark) ⊎ (r .mark ≤ 1)
+    go : (properPrefix (r .addr) (r .len) ≡ true) ⊎ (properPrefix (r .addr) (r .len) ≡ false) → (hopFine (r .hop) ≡ true) ⊎
+        (hopFine (r .hop) ≡ false) → (1 < r .mark) ⊎ (r .mark ≤ 1)
         → RouteChecked r (cond (not (properPrefix (r .addr) (r .len))) 3 (cond (not (hopFine (r .hop))) 4 (cond (ltb 1 (r .mark)) 10 0)))
     go (inr p) h s = rw p (wrong (omega arith) (WrongRoute.prefix (false-prefix (r .addr) (r .len) p)))
-    go (inl p) (inr h) s = rw (p, h) (wrong (omega arith) (WrongRoute.hop (prefix-true (r .addr) (r .len) p) (λ l u. true≢false (sym (true-hop (r .hop) l u) ∙ h))))
+    go (inl p) (inr h) s = rw (p, h) (wrong (omega arith)
+        (WrongRoute.hop (prefix-true (r .addr) (r .len) p) (λ l u. true≢false (sym (true-hop (r .hop) l u) ∙ h))))
     go (inl p) (inl h) (inl s) =
         let b = hop-true (r .hop) h in
         rw (p, h, lt-ltb 1 (r .mark) s) (wrong (omega arith) (WrongRoute.mark (prefix-true (r .addr) (r .len) p) (b .0) (b .1) s))
@@ -91,7 +93,8 @@ not-order : (s : List ℕ) (k : ℕ) → inOrder s k ≡ false → (0 < k) × (k
 unfolding inOrder
 not-order s k e = go (decided (eqb k 0)) e
   where
-    go : (eqb k 0 ≡ true) ⊎ (eqb k 0 ≡ false) → cond (eqb k 0) true (ltb (key (recordAt s (k - 1))) (key (recordAt s k))) ≡ false → (0 < k) × (key (recordAt s k) ≤ key (recordAt s (k - 1)))
+    go : (eqb k 0 ≡ true) ⊎ (eqb k 0 ≡ false) → cond (eqb k 0) true (ltb (key (recordAt s (k - 1))) (key (recordAt s k))) ≡ false → (0 < k) ×
+        (key (recordAt s k) ≤ key (recordAt s (k - 1)))
     go (inl z) h = absurd (true≢false (rw z at h))
     go (inr z) h =
         let n = eqb-false k 0 z in
@@ -159,7 +162,8 @@ input-checked s = go (decided (eqb (length s % 8) 0)) (decided (ltb k n)) (decid
     before j l = fault-right s j (bad-is s j (firstOf-before (isBad s) n j l))
 
     go : (eqb (length s % 8) 0 ≡ true) ⊎ (eqb (length s % 8) 0 ≡ false) → (ltb k n ≡ true) ⊎ (ltb k n ≡ false) → (ltb 4096 n ≡ true) ⊎ (ltb 4096 n ≡ false)
-        → Checked s (cond (not (eqb (length s % 8) 0)) (refusedAt 10 n) (cond (ltb k n) (refusedAt (faultAt s k) k) (cond (ltb 4096 n) (refused 6) (accepted (n ∷ [])))))
+        → Checked s (cond (not (eqb (length s % 8) 0)) (refusedAt 10 n)
+        (cond (ltb k n) (refusedAt (faultAt s k) k) (cond (ltb 4096 n) (refused 6) (accepted (n ∷ [])))))
     go (inr w) b m = rw w (Checked.ragged (eqb-false (length s % 8) 0 w))
     go (inl w) (inl b) m = rw (w, b) (at (record-checked s k))
       where
@@ -195,5 +199,6 @@ unfolding inputSaid
 good-input s n w r =
     let d : length s / 8 ≡ n = omega arith in
     let m : length s % 8 ≡ 0 = omega arith in
-    let f : firstOf (isBad s) n ≡ n = firstOf-is (isBad s) n n (omega arith) (λ j l. rw (eq-eqb (faultAt s j) 0 (right-fault s j (records-right s n r j l)))) (λ l. absurd (omega arith)) in
+    let f : firstOf (isBad s) n ≡ n = firstOf-is (isBad s) n n (omega arith)
+    (λ j l. rw (eq-eqb (faultAt s j) 0 (right-fault s j (records-right s n r j l)))) (λ l. absurd (omega arith)) in
     rw (d, eq-eqb (length s % 8) 0 m, f, le-ltb n n (omega arith), le-ltb 4096 n (r .few))

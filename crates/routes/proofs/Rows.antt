@@ -36,7 +36,8 @@ listed-nth (x ∷ xs) r m = go (List·Memᴰ·cases-cons m) (listed-nth xs r)
     go (inr k) ih = let p = ih k in record { place = suc (p .place); inside = suc-le-suc (p .inside); holds = p .holds }
 
 -- a list is good when each route is fine and the keys rise from place to place
-pub nth-good : (rs : List Route) → ((k : ℕ) → k < length rs → Fine (getD rs k noRoute)) → ((i j : ℕ) → i < j → j < length rs → key (getD rs i noRoute) < key (getD rs j noRoute)) → Good rs
+pub nth-good : (rs : List Route) → ((k : ℕ) → k < length rs → Fine (getD rs k noRoute)) →
+    ((i j : ℕ) → i < j → j < length rs → key (getD rs i noRoute) < key (getD rs j noRoute)) → Good rs
 unfolding Good
 nth-good [] f h = tt
 nth-good (r ∷ rs) f h = (
@@ -99,7 +100,8 @@ pub length-written : (rs : List Route) (room : ℕ) → length (written rs room)
 unfolding written
 length-written rs room = length-tabulate (room * 8) _
 
-pub byte-written : (rs : List Route) (room k m : ℕ) → k < length rs → length rs ≤ room → m < 8 → getD (written rs room) (k * 8 + m) 0 ≡ getD (bytesOf (getD rs k noRoute)) m 0
+pub byte-written : (rs : List Route) (room k m : ℕ) → k < length rs → length rs ≤ room → m < 8 → getD (written rs room) (k * 8 + m) 0 ≡ getD
+    (bytesOf (getD rs k noRoute)) m 0
 unfolding written
 byte-written rs room k m h l b =
     let d : (k * 8 + m) / 8 ≡ k = omega arith in
@@ -142,8 +144,10 @@ record-bytes s k b (suc (suc zero)) h = omega (arith, b (k * 8), b (k * 8 + 1), 
 record-bytes s k b (suc (suc (suc zero))) h = omega (arith, b (k * 8), b (k * 8 + 1), b (k * 8 + 2), b (k * 8 + 3))
 record-bytes s k b (suc (suc (suc (suc zero)))) h = refl
 record-bytes s k b (suc (suc (suc (suc (suc zero))))) h = refl
-record-bytes s k b (suc (suc (suc (suc (suc (suc zero)))))) h = let z : k * 8 + 6 + 1 ≡ k * 8 + 7 = omega arith in rw z (omega (arith, b (k * 8 + 6), b (k * 8 + 7)))
-record-bytes s k b (suc (suc (suc (suc (suc (suc (suc zero))))))) h = let z : k * 8 + 6 + 1 ≡ k * 8 + 7 = omega arith in rw z (omega (arith, b (k * 8 + 6), b (k * 8 + 7)))
+record-bytes s k b (suc (suc (suc (suc (suc (suc zero)))))) h = let z : k * 8 + 6 + 1 ≡ k * 8 + 7 = omega arith in rw z
+    (omega (arith, b (k * 8 + 6), b (k * 8 + 7)))
+record-bytes s k b (suc (suc (suc (suc (suc (suc (suc zero))))))) h = let z : k * 8 + 6 + 1 ≡ k * 8 + 7 = omega arith in rw z
+    (omega (arith, b (k * 8 + 6), b (k * 8 + 7)))
 record-bytes s k b (suc (suc (suc (suc (suc (suc (suc (suc m)))))))) h = absurd (omega arith)
 
 -- a list that holds routes is what they write
@@ -156,7 +160,8 @@ listed-written s n b t =
     go : (j : ℕ) → j < length s → (j / 8 < n) ⊎ (n ≤ j / 8) → getD s j 0 ≡ getD (written (routesOf s n) (length s / 8)) j 0
     go j h (inl l) =
         let e : j / 8 * 8 + j % 8 ≡ j = omega arith in
-        let x = byte-written (routesOf s n) (length s / 8) (j / 8) (j % 8) (rw length-routes l) (rw length-routes (omega (arith, t .records .room))) (omega arith) in
+        let x = byte-written (routesOf s n) (length s / 8) (j / 8) (j % 8) (rw length-routes l) (rw length-routes (omega (arith, t .records .room)))
+        (omega arith) in
         let y = record-bytes s (j / 8) b (j % 8) (omega arith) in
         rw (nth-route s n (j / 8) l, y, e) at (sym x)
     go j h (inr l) = t .zeros j (omega arith) h ∙ sym (zero-written (routesOf s n) (length s / 8) j (rw length-routes (omega arith)) (omega (arith, t .whole)))

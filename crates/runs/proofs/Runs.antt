@@ -82,9 +82,11 @@ module _ (s : List ℕ) (a l : ℕ) where
 
   pub run-accepted : (start count : ℕ) → runSaid s a l ≡ accepted (start ∷ count ∷ []) → Ran s a l start count
   unfolding runSaid
-  run-accepted start count e = go (and-passed (inputSaid s) (cond (properPrefix a l) (accepted (runStart s a l ∷ runCount s a l ∷ [])) (refused 3)) (start ∷ count ∷ []) e)
+  run-accepted start count e = go (and-passed (inputSaid s) (cond (properPrefix a l) (accepted (runStart s a l ∷ runCount s a l ∷ [])) (refused 3))
+      (start ∷ count ∷ []) e)
     where
-      go : Passed (inputSaid s) (cond (properPrefix a l) (accepted (runStart s a l ∷ runCount s a l ∷ [])) (refused 3)) (start ∷ count ∷ []) → Ran s a l start count
+      go : Passed (inputSaid s) (cond (properPrefix a l) (accepted (runStart s a l ∷ runCount s a l ∷ [])) (refused 3)) (start ∷ count ∷ [])
+          → Ran s a l start count
       go (passed us e q) =
           let c = cond-passed (properPrefix a l) _ _ 3 q in
           let d = c .1 in
@@ -130,7 +132,8 @@ module _ (s : List ℕ) (a l : ℕ) where
     run-exact k u =
         let f = ran .records .each k u .prefix in
         let past = pastKey a l in (
-          (λ h. inside a l (ran .prefix) (recordAt s k .addr) (recordAt s k .len) f (run-after k (h .0) u) (place-before s (length s / 8) past k (rw ends at (h .1)))),
+          (λ h. inside a l (ran .prefix) (recordAt s k .addr) (recordAt s k .len) f (run-after k (h .0) u)
+              (place-before s (length s / 8) past k (rw ends at (h .1)))),
           (λ h.
               let w = contained a l (ran .prefix) (recordAt s k .addr) (recordAt s k .len) f (h .0) (h .1) in
               let low : ¬ (k < start) = λ x. omega (arith, run-before k x) in
@@ -139,9 +142,11 @@ module _ (s : List ℕ) (a l : ℕ) where
         )
 
     -- where no record lies inside, the run is empty and stands before the first record that isn't smaller
-    pub run-empty : ((k : ℕ) → k < length s / 8 → l ≤ recordAt s k .len → slot l (recordAt s k .addr) ≡ slot l a → ⊥) → (count ≡ 0) × (start ≡ placeOf s (length s / 8) (keyOf a l))
+    pub run-empty : ((k : ℕ) → k < length s / 8 → l ≤ recordAt s k .len → slot l (recordAt s k .addr) ≡ slot l a → ⊥) → (count ≡ 0) ×
+        (start ≡ placeOf s (length s / 8) (keyOf a l))
     run-empty none =
-        let no : ¬ (0 < count) = λ (h : 0 < count). let w = run-exact start (omega (arith, run-room)) .0 (omega arith, omega arith) in none start (omega (arith, run-room)) (w .0) (w .1) in
+        let no : ¬ (0 < count) = λ (h : 0 < count). let w = run-exact start (omega (arith, run-room)) .0 (omega arith, omega arith) in none start
+        (omega (arith, run-room)) (w .0) (w .1) in
         (omega arith, ran .starts)
 
     pub run-is : runOf s a l ≡ part s start count
@@ -166,7 +171,8 @@ module _ (s : List ℕ) (a l : ℕ) where
     unfolding meansRunCheck runSaid
     says-no-prefix h = rw (e, ← t, not-true b h)
 
-    pub says-run : (x y j k : ℕ) → not b ≡ false → x ≡ placeOf s n j → j ≡ keyOf a l → y ≡ placeOf s n k → k ≡ pastKey a l → meansRunCheck (check.Run x (y - x)) ≡ runSaid s a l
+    pub says-run : (x y j k : ℕ) → not b ≡ false → x ≡ placeOf s n j → j ≡ keyOf a l → y ≡ placeOf s n k → k ≡ pastKey a l → meansRunCheck
+        (check.Run x (y - x)) ≡ runSaid s a l
     unfolding meansRunCheck runSaid
     says-run x y j k h p q p′ q′ =
         let w = input-good s n e .0 in
@@ -183,7 +189,8 @@ module _ (s : List ℕ) (a l : ℕ) where
 
 -- what `run` hands back
 module _ (list r : RefT (List ℕ)) (a l : ℕ) where
-  pub is-run : (start count : ℕ) → runSaid (now list) a l ≡ accepted (start ∷ count ∷ []) → (x y : ℕ) → ptr r ≡ (ptr list .0, x + ptr list .1) → now r ≡ take (y - x) (drop x (now list)) → x ≡ start * 8 → y ≡ start * 8 + count * 8 → IsRun list r a l
+  pub is-run : (start count : ℕ) → runSaid (now list) a l ≡ accepted (start ∷ count ∷ []) → (x y : ℕ) → ptr r ≡ (ptr list .0, x + ptr list .1)
+      → now r ≡ take (y - x) (drop x (now list)) → x ≡ start * 8 → y ≡ start * 8 + count * 8 → IsRun list r a l
   unfolding runAt
   is-run start count e x y p q u v =
       let n : y - x ≡ count * 8 = omega arith in

@@ -25,7 +25,11 @@ not-told h = ((λ e. absurd (false≢true e)), (λ p. absurd (h p)))
 -- the test of a geometry and its facts say the same
 pub valid-is : (g : Geometry) → Tells (validGeo g) (Valid g)
 unfolding validGeo
-valid-is g = (facts, λ v. both (le-leb _ _ (v .p1-low)) (both (le-leb _ _ (v .p1-high)) (both (le-leb _ _ (v .p2-low)) (both (le-leb _ _ (v .p2-high)) (le-leb _ _ (v .near))))))
+valid-is g = (
+  facts,
+  λ v. both (le-leb _ _ (v .p1-low))
+      (both (le-leb _ _ (v .p1-high)) (both (le-leb _ _ (v .p2-low)) (both (le-leb _ _ (v .p2-high)) (le-leb _ _ (v .near))))),
+)
   where
     facts : (leb 12 (g .p1) && (leb (g .p1) 16 && (leb 22 (g .p2) && (leb (g .p2) 26 && leb (bits2 g) 10)))) ≡ true → Valid g
     facts e =

@@ -106,7 +106,8 @@ module _ (t : Table) (l : Lent) (s : Sound t l) where
   pub second-served : (q : ℕ) → q < length (l .second) → level2 g (chunksOf (l .own2)) .live q ≡ true → (a : ℕ) × (a < 2 ^ 32) × ReadsSecond g (whole l) a q
   second-served q h e = second-read rs g (whole l) (s .sized .valid) standing-good (s .serves) few2 q (rw (s .sized .cells2) at h) e
 
-  pub third-served : (q : ℕ) → q < length (l .third) → level3 g (chunksOf (l .own2)) (chunksOf (l .own3)) .live q ≡ true → (a : ℕ) × (a < 2 ^ 32) × ReadsThird g (whole l) a q
+  pub third-served : (q : ℕ) → q < length (l .third) → level3 g (chunksOf (l .own2)) (chunksOf (l .own3)) .live q ≡ true → (a : ℕ) × (a < 2 ^ 32)
+      × ReadsThird g (whole l) a q
   third-served q h e = third-read rs g (whole l) (s .sized .valid) standing-good (s .serves) few2 few3 q (rw (s .sized .cells3) at h) e
 
   -- the counts on the walk of an address are how many routes longer than each level have its bits

@@ -109,7 +109,8 @@ wraps-below m v r e f g = go (below? r m) (below? r (2 ^ 64 - 1))
 
 -- the code's three cells: the first by the address's first bits, the second and the third by their places in the pools
 module _ (g : Geometry) (l : Lent) (a : ℕ) (sized : Sized g l) where
-  steps : (v1 v2 v3 : ℕ) → v1 ≡ getD (l .first) (slot (g .p1) a) 0 → v2 ≡ getD (l .second) (cellPlace (bits2 g) v1 (slot (g .p2) a)) 0 → v3 ≡ getD (l .third) (cellPlace (bits3 g) v2 a) 0
+  steps : (v1 v2 v3 : ℕ) → v1 ≡ getD (l .first) (slot (g .p1) a) 0 → v2 ≡ getD (l .second) (cellPlace (bits2 g) v1 (slot (g .p2) a)) 0 → v3 ≡ getD
+      (l .third) (cellPlace (bits3 g) v2 a) 0
       → stepSaid 1 (oneOf (length (l .own2))) v1 (stepSaid 2 (oneOf (length (l .own3))) v2 (stepSaid 3 shut v3 (refused 5))) ≡ foundSaid g l a
   unfolding foundSaid walkSaid
   steps v1 v2 v3 e1 e2 e3 =
@@ -126,7 +127,8 @@ module _ (g : Geometry) (l : Lent) (a : ℕ) (sized : Sized g l) where
       off1 n = word-five _ (step-off 1 _ v1 _ low1 (closed b1 _ o1 n) ∙ steps v1 _ _ e1 refl refl)
 
       module _ (on1 : not b1 ≡ false) (v2 : ℕ) (e2 : v2 ≡ getD (l .second) (cellPlace (bits2 g) v1 (slot (g .p2) a)) 0) where
-        down1 : (v3 : ℕ) → v3 ≡ getD (l .third) (cellPlace (bits3 g) v2 a) 0 → stepSaid 2 (oneOf (length (l .own3))) v2 (stepSaid 3 shut v3 (refused 5)) ≡ foundSaid g l a
+        down1 : (v3 : ℕ) → v3 ≡ getD (l .third) (cellPlace (bits3 g) v2 a) 0 → stepSaid 2 (oneOf (length (l .own3))) v2
+            (stepSaid 3 shut v3 (refused 5)) ≡ foundSaid g l a
         down1 v3 e3 = step-on 1 _ v1 _ low1 (opened b1 _ o1 on1) ∙ steps v1 v2 v3 e1 e2 e3
 
         pub leaf2 : (w : ℕ) → 32768 ≤ v2 → Word w (leafSaid 2 v2) → Word w (foundSaid g l a)

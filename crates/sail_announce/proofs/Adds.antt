@@ -59,7 +59,8 @@ module _ (t : Table) (l : Lent) (a len hop mark x : ℕ) (e : x ≡ cut len a) w
   announce-refused z k h = sym (announce-off t l (route a len hop mark) (refused z) (rw e at (k .off h)) refl)
 
   -- what is added is the cleared route, and bits were cleared where the address is another
-  pub announce-cleared : (c : Bool) → c ≡ not (eqb x a) → (o : Out) → o ≡ outWithFlag c (adding t l (route x len hop mark)) → o ≡ announced t l (route a len hop mark)
+  pub announce-cleared : (c : Bool) → c ≡ not (eqb x a) → (o : Out) → o ≡ outWithFlag c (adding t l (route x len hop mark)) → o ≡ announced t l
+      (route a len hop mark)
   unfolding announced
   announce-cleared c f o q = q ∙ rw (f, e)
 
@@ -143,7 +144,8 @@ module _ (t : Table) (l : Lent) (r : Route) (w : Announceable t l r) where
         }
 
         before : Counts rs g own2′ (l .long1) (l .long2)
-        before = open-counts g valid rs (l .own2) (l .long1) (l .long2) (record { first = w .sound .counted1; second = w .sound .counted2 }) r (find (l .own2) 0)
+        before = open-counts g valid rs (l .own2) (l .long1) (l .long2) (record { first = w .sound .counted1; second = w .sound .counted2 }) r
+            (find (l .own2) 0)
             (ready1 t l r w)
 
         -- one more record exactly where the prefix did not stand
@@ -174,10 +176,12 @@ module _ (t : Table) (l : Lent) (r : Route) (w : Announceable t l r) where
                   up-counts g (insert r rs) (r .addr) (r .len) first own2′ (l .long1) (l .long2) guided rs (insert r rs) (new e) before long1 long2 left moved
               go (same e a b) =
                   rw (a, b)
-                  (as-counts g valid rs own2′ (l .long1) (l .long2) before (insert r rs) (many-replace r rs (w .fine) good (not-false (stands (key r) rs) (sym added-is ∙ e))))
+                  (as-counts g valid rs own2′ (l .long1) (l .long2) before (insert r rs)
+                  (many-replace r rs (w .fine) good (not-false (stands (key r) rs) (sym added-is ∙ e))))
 
           module _ (n : Announce) (c : Bool) (q : meansAnnounce n ≡ accepted (bit c ∷ bit (meansPut p) ∷ [])) where
-            pub add-done : out (meansAnnounce n) (record { geometry = g; count = m }) (lent s first second third own2 own3 long1 long2) ≡ outWithFlag c (adding t l r)
+            pub add-done : out (meansAnnounce n) (record { geometry = g; count = m }) (lent s first second third own2 own3 long1 long2)
+                ≡ outWithFlag c (adding t l r)
             add-done =
                 let are = counts-are g valid (insert r rs) own2′ long1 long2 counts (e1 ∙ w .sound .sized .counts1) (e2 ∙ many2) in
                 rw (q, stood, count-is, list-is, asked .is-first, asked .is-second, asked .is-third, o2, o3, are .0, are .1)

@@ -43,19 +43,23 @@ use Rattle.sail_sound.proofs.TableTest.{tried-sound}
 use Rattle.sail_theory.proofs.Judges.{judged-off, judged-on, or-said}
 
 -- a limit that the chunks in use keep is exceeded exactly where a chunk is to be opened and as many as the limit are in use
-over : (rs : List Route) (r : Route) (p : ℕ) (own : List ℕ) → Enough rs p own → Fine r → (limit : ℕ) → used own ≤ limit → (alone rs p (r .addr) (r .len) && leb limit (used own)) ≡ ltb limit (need (insert r rs) p)
+over : (rs : List Route) (r : Route) (p : ℕ) (own : List ℕ) → Enough rs p own → Fine r → (limit : ℕ) → used own ≤ limit →
+    (alone rs p (r .addr) (r .len) && leb limit (used own)) ≡ ltb limit (need (insert r rs) p)
 unfolding alone
 over rs r p own w fine limit h = go (decided (ltb p (r .len))) (decided (long rs p (slot p (r .addr)))) (below? (used own) limit)
   where
     same-need : (ltb p (r .len) ≡ true → long rs p (slot p (r .addr)) ≡ true) → false ≡ ltb limit (need (insert r rs) p)
     same-need f = sym (le-ltb limit (need (insert r rs) p) (omega (arith, w .counted, need-same r rs fine (w .good) p (w .small) f)))
 
-    go : (ltb p (r .len) ≡ true) ⊎ (ltb p (r .len) ≡ false) → (long rs p (slot p (r .addr)) ≡ true) ⊎ (long rs p (slot p (r .addr)) ≡ false) → (used own < limit) ⊎ (limit ≤ used own)
+    go : (ltb p (r .len) ≡ true) ⊎ (ltb p (r .len) ≡ false) → (long rs p (slot p (r .addr)) ≡ true) ⊎ (long rs p (slot p (r .addr)) ≡ false) →
+        (used own < limit) ⊎ (limit ≤ used own)
         → ((ltb p (r .len) && not (long rs p (slot p (r .addr)))) && leb limit (used own)) ≡ ltb limit (need (insert r rs) p)
     go (inr e) d z = rw e (same-need (λ y. absurd (true≢false (sym y ∙ e))))
     go (inl e) (inl d) z = rw (e, d) (same-need (λ _. d))
-    go (inl e) (inr d) (inl z) = rw (e, d, lt-leb limit (used own) z) (sym (le-ltb limit (need (insert r rs) p) (omega (arith, w .counted, need-more r rs fine (w .good) p (w .small) e d))))
-    go (inl e) (inr d) (inr z) = rw (e, d, le-leb limit (used own) z) (sym (lt-ltb limit (need (insert r rs) p) (omega (arith, w .counted, need-more r rs fine (w .good) p (w .small) e d))))
+    go (inl e) (inr d) (inl z) = rw (e, d, lt-leb limit (used own) z)
+        (sym (le-ltb limit (need (insert r rs) p) (omega (arith, w .counted, need-more r rs fine (w .good) p (w .small) e d))))
+    go (inl e) (inr d) (inr z) = rw (e, d, le-leb limit (used own) z)
+        (sym (lt-ltb limit (need (insert r rs) p) (omega (arith, w .counted, need-more r rs fine (w .good) p (w .small) e d))))
 
 module _ (t : Table) (l : Lent) (r : Route) where
   abbrev rs : List Route
@@ -84,10 +88,12 @@ module _ (t : Table) (l : Lent) (r : Route) where
 
       -- the test of a pool tells whether the need exceeds it
       seven : (c : Bool) → c ≡ (o .second && leb (length (l .own2)) (used (l .own2))) → c ≡ ltb (length (l .own2)) (need (insert r rs) (t .geometry .p1))
-      seven c z = z ∙ rw (k .second) (over rs r (t .geometry .p1) (l .own2) (second-chunks t l (p .sound)) (p .fine) (length (l .own2)) (used-le (chunksOf (l .own2))))
+      seven c z = z ∙ rw (k .second) (over rs r (t .geometry .p1) (l .own2) (second-chunks t l (p .sound)) (p .fine) (length (l .own2))
+          (used-le (chunksOf (l .own2))))
 
       eight : (c : Bool) → c ≡ (o .third && leb (length (l .own3)) (used (l .own3))) → c ≡ ltb (length (l .own3)) (need (insert r rs) (t .geometry .p2))
-      eight c z = z ∙ rw (k .third) (over rs r (t .geometry .p2) (l .own3) (third-chunks t l (p .sound)) (p .fine) (length (l .own3)) (used-le (chunksOf (l .own3))))
+      eight c z = z ∙ rw (k .third) (over rs r (t .geometry .p2) (l .own3) (third-chunks t l (p .sound)) (p .fine) (length (l .own3))
+          (used-le (chunksOf (l .own3))))
 
       module _ (c : Bool) (z : c ≡ (o .second && leb (length (l .own2)) (used (l .own2)))) where
         pub room-second : c ≡ true → Told 7

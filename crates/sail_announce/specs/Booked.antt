@@ -12,5 +12,6 @@ pub record Bookable (added : Bool) (g : Geometry) (r : Route) (first long1 long2
   pub ticks : added ≡ true → Tickable g (r .addr) (r .len) first long1 long2 true
 
 pub data Booked (added : Bool) (g : Geometry) (r : Route) (first long1 long2 long1′ long2′ : List ℕ) : Type 0 where
-  more : added ≡ true → (left : Left) → CountsMoved g (r .addr) (r .len) first long1 long2 true long1′ long2′ left → Booked added g r first long1 long2 long1′ long2′
+  more : added ≡ true → (left : Left) → CountsMoved g (r .addr) (r .len) first long1 long2 true long1′ long2′ left
+      → Booked added g r first long1 long2 long1′ long2′
   same : added ≡ false → long1′ ≡ long1 → long2′ ≡ long2 → Booked added g r first long1 long2 long1′ long2′

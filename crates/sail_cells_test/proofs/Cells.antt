@@ -52,7 +52,8 @@ module _ (rs : List Route) (p : ℕ) (own cells : List ℕ) (o : ℕ) where
       go j l (no u) =
           let m : j - a < n = omega arith in
           let e : a + (j - a) ≡ j = omega arith in
-          cell-as rs p own (omega arith) (part-at cells a n (j - a) m ∙ ap (λ (x : ℕ). getD cells x 0) e) (omega arith) (right-cell rs p own a (partAt cells a n) (o + a) n k (j - a) m)
+          cell-as rs p own (omega arith) (part-at cells a n (j - a) m ∙ ap (λ (x : ℕ). getD cells x 0) e) (omega arith)
+          (right-cell rs p own a (partAt cells a n) (o + a) n k (j - a) m)
 
   pub part-in : (a n m : ℕ) → a + n ≤ m → UpTo m → PartAt a n
   part-in a n m l f = cells-right rs p own a (partAt cells a n) (o + a) n (λ j u.

@@ -35,10 +35,22 @@ module _ (rs : List Route) (p d : ℕ) (above cells below : List ℕ) (c o q i v
 -- the answers of `hook`
 module _ (up : List ℕ) (e n q : ℕ) where
   pub hook-past : n ≤ q → OwnerCell up e n q 0
-  hook-past l = record { none = λ z u. absurd (omega arith); inside = λ u. absurd (omega arith); lives = λ u. absurd (omega arith); cell = λ u. absurd (omega arith) }
+  hook-past l = record {
+    none = λ z u. absurd (omega arith);
+    inside = λ u. absurd (omega arith);
+    lives = λ u. absurd
+        (omega arith);
+    cell = λ u. absurd (omega arith);
+  }
 
   pub hook-free : getD up (q / 2 ^ e) 0 ≡ 0 → OwnerCell up e n q 0
-  hook-free z = record { none = λ y u. le-ltb 0 (getD up (q / 2 ^ e) 0) (omega arith); inside = λ u. absurd (omega arith); lives = λ u. absurd (omega arith); cell = λ u. absurd (omega arith) }
+  hook-free z = record {
+    none = λ y u. le-ltb 0 (getD up (q / 2 ^ e) 0) (omega arith);
+    inside = λ u. absurd (omega arith);
+    lives = λ u. absurd
+        (omega arith);
+    cell = λ u. absurd (omega arith);
+  }
 
   pub hook-at : q < n → (x : ℕ) → x ≡ getD up (q / 2 ^ e) 0 → (x ≡ 0 → ⊥) → (r : ℕ) → r ≡ cellPlace e x q → OwnerCell up e n q (1 + r)
   hook-at l x i z r f = record {

@@ -35,7 +35,8 @@ leaf-longer v p len h = rw (lt-ltb p len h)
 pub leaf-shorter : (v p len : ℕ) → len ≤ p → false ≡ (ltb p len && leb 32768 v)
 leaf-shorter v p len h = rw (le-ltb p len h)
 
-pub chunk-free : (b : Bool) (v c : ℕ) (own : List ℕ) → ChunkForReady v own → b ≡ true → c ≡ find own 0 → c ≤ length own → (c ≡ cond b (find own 0) v) × (c < 65536)
+pub chunk-free : (b : Bool) (v c : ℕ) (own : List ℕ) → ChunkForReady v own → b ≡ true → c ≡ find own 0 → c ≤ length own → (c ≡ cond b (find own 0) v)
+    × (c < 65536)
 chunk-free b v c own n h e l = let f = n .few in (rw h e, omega arith)
 
 pub chunk-had : (b : Bool) (v : ℕ) (own : List ℕ) → ChunkForReady v own → b ≡ false → (v ≡ cond b (find own 0) v) × (v < 65536)
@@ -105,7 +106,8 @@ module _ (g : Geometry) (rs : List Route) (r : Route) (first second own2 own3 : 
   opened-third c z q own e h =
       h ∙ go (decided (o .third)) ∙ rw (k .third) (sym (open-hung rs r (level2 g (chunksOf next2)) own3 (second-ready g rs r first second own2 own3 w)))
     where
-      go : (o .third ≡ true) ⊎ (o .third ≡ false) → withOwner (o .third) (q + 1) own3 ≡ withOwner (o .third) (suc (level2 g (chunksOf next2) .serving (r .addr))) own3
+      go : (o .third ≡ true) ⊎ (o .third ≡ false) → withOwner (o .third) (q + 1) own3 ≡ withOwner (o .third)
+          (suc (level2 g (chunksOf next2) .serving (r .addr))) own3
       go (inr y) = rw y
       go (inl y) =
           let v = w .serving .valid in

@@ -69,7 +69,8 @@ module _ (t : Table) (l : Lent) (a len : ℕ) (w : Withdrawable t l a len) where
   -- a prefix that stands has its cells long
   pub was-long : (p : ℕ) → p < len → long rs p (slot p a) ≡ true
   was-long p h =
-      stands-long (route a len 1 0) rs (record { prefix = w .prefix; hop-one = omega arith; hop-ok = omega arith; mark-ok = omega arith }) (standing-good t l (w .sound)) (w .old) p (lt-ltb p len h)
+      stands-long (route a len 1 0) rs (record { prefix = w .prefix; hop-one = omega arith; hop-ok = omega arith; mark-ok = omega arith })
+      (standing-good t l (w .sound)) (w .old) p (lt-ltb p len h)
 
   -- and a level that is as long as the prefix keeps them
   same-long : (p : ℕ) → ltb p len ≡ false → long left p (slot p a) ≡ long rs p (slot p a)
@@ -117,7 +118,8 @@ module _ (t : Table) (l : Lent) (a len : ℕ) (w : Withdrawable t l a len) where
         held = λ q l u. closed-held closes own cells chunk (p - v .bits) one q (inside q l) (rw (bits, keep-closes) at u);
         clear = record {
           blank = λ q l u.
-              closed-blank closes own cells chunk (p - v .bits) one q (inside q l) (λ e. clear .blank q (rw (bits, length-keep) at l) e) (rw (bits, keep-closes) at u);
+              closed-blank closes own cells chunk (p - v .bits) one q (inside q l) (λ e. clear .blank q (rw (bits, length-keep) at l) e)
+              (rw (bits, keep-closes) at u);
         };
       }
         where
@@ -142,7 +144,8 @@ module _ (t : Table) (l : Lent) (a len : ℕ) (w : Withdrawable t l a len) where
       let o = kept-over rs left (less t l a len w) (level1 g) (chunksOf (l .own2)) (chunksOf own2′) (g .p2) (omega arith) (omega arith) shut x lives d in
       sym (below-same (level1 g) (level1 g) (chunksOf (l .own2)) (chunksOf own2′) (g .p2) x refl o (λ y _. refl) .at lives)
 
-  pub farewell-underway : Underway g a len left l (cells (l .first) (blanked (alone left (g .p1) a len) (find (l .own2) (suc (slot (g .p1) a))) (bits2 g) (l .second))
+  pub farewell-underway : Underway g a len left l (cells (l .first)
+      (blanked (alone left (g .p1) a len) (find (l .own2) (suc (slot (g .p1) a))) (bits2 g) (l .second))
       (blanked (alone left (g .p2) a len) (find (l .own3) (suc (v2 .serving a))) (bits3 g) (l .third)) own2′ own3′)
   farewell-underway = record {
     sized = w .sound .sized;

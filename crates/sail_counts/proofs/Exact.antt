@@ -165,7 +165,8 @@ module _ (ws : List ℕ) (g : Geometry) (first second own2 own3 long1 long2 : Li
     shows = w .shows2;
     clear = w .clear2;
     few = omega (arith, w .few3);
-    apart = below-apart (routesOfWords ws) v1 (chunksOf own2) (g .p2) (shows-fits (routesOfWords ws) v1 (chunksOf own2) (entry first) (w .shows1)) (top-apart (g .p1));
+    apart = below-apart (routesOfWords ws) v1 (chunksOf own2) (g .p2) (shows-fits (routesOfWords ws) v1 (chunksOf own2) (entry first) (w .shows1))
+        (top-apart (g .p1));
     size = w .cells2;
     leads = λ a s e.
         let z = w .valid in

@@ -19,7 +19,12 @@ module _ (s : List ℕ) (bytes : (j : ℕ) → getD s j 0 < 256) (good : Readabl
   n = length s / 8
 
   itself : s ≡ written (inputRoutes s) n
-  itself = listed-written s n bytes (record { records = good .records; whole = omega (arith, good .whole); zeros = λ j a b. absurd (omega (arith, good .whole)) })
+  itself = listed-written s n bytes (record {
+    records = good .records;
+    whole = omega (arith, good .whole);
+    zeros = λ j a b. absurd
+        (omega (arith, good .whole));
+  })
 
   pub padded-written : (room : ℕ) → n ≤ room → padded s (room * 8) ≡ written (inputRoutes s) room
   unfolding padded

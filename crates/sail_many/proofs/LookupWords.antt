@@ -56,7 +56,8 @@ answers-by : (g : Geometry) (l : Lent) (a w x : ℕ) → w ≡ x → x < 2 ^ 32 
 answers-by g l a w x e f h = record { is = rw e h; fits = omega arith }
 
 -- cells are of 16 bits
-module _ (g : Geometry) (l : Lent) (a : ℕ) (sized : Sized g l) (b1 : (i : ℕ) → getD (l .first) i 0 < 65536) (b2 : (i : ℕ) → getD (l .second) i 0 < 65536) (b3 : (i : ℕ) → getD (l .third) i 0 < 65536) where
+module _ (g : Geometry) (l : Lent) (a : ℕ) (sized : Sized g l) (b1 : (i : ℕ) → getD (l .first) i 0 < 65536)
+    (b2 : (i : ℕ) → getD (l .second) i 0 < 65536) (b3 : (i : ℕ) → getD (l .third) i 0 < 65536) where
   abbrev pub answer : ℕ
   answer = word3 (g .p2) (l .third) (length (l .own3)) a (word2 (g .p1) (g .p2) (l .second) (length (l .own2)) a (word1 (g .p1) (l .first) a))
 
@@ -83,38 +84,45 @@ module _ (g : Geometry) (l : Lent) (a : ℕ) (sized : Sized g l) (b1 : (i : ℕ)
       second-off : oneOf (length (l .own3)) v2 ≡ false → Answers g l a answer
       second-off o =
           answers-by g l a answer 5
-          (to3 _ (last-not _ _ _ _ _ (node-high 2 v2 f2 (omega arith) low2) (node-reads 2 v2 f2 (omega arith)) v2 (node-chunk 2 v2 f2 (omega arith) low2) o)) (omega arith)
+          (to3 _ (last-not _ _ _ _ _ (node-high 2 v2 f2 (omega arith) low2) (node-reads 2 v2 f2 (omega arith)) v2
+          (node-chunk 2 v2 f2 (omega arith) low2) o)) (omega arith)
           (off2 g l a sized v1 e1 (oneOf (length (l .own2)) v1) refl low1 closed1 v2 e2 (oneOf (length (l .own3)) v2) refl low2 (ap not o))
 
       module _ (on2 : oneOf (length (l .own3)) v2 ≡ true) (v3 : ℕ) (e3 : v3 ≡ getD (l .third) (cellPlace (bits3 g) v2 a) 0) (f3 : v3 < 65536) where
         third-leaf : 32768 ≤ v3 → Answers g l a answer
         third-leaf h =
             answers-by g l a answer (cellWord 3 v3)
-            (to3 _ (last-leaf _ _ _ _ _ (node-high 2 v2 f2 (omega arith) low2) (node-reads 2 v2 f2 (omega arith)) v2 (node-chunk 2 v2 f2 (omega arith) low2) on2 v3 e3 h)) (omega arith)
-            (leaf3 g l a sized v1 e1 (oneOf (length (l .own2)) v1) refl low1 closed1 v2 e2 (oneOf (length (l .own3)) v2) refl low2 (ap not on2) v3 e3 (cellWord 3 v3) h (leaf-is 3 v3 f3 (omega arith) h))
+            (to3 _ (last-leaf _ _ _ _ _ (node-high 2 v2 f2 (omega arith) low2) (node-reads 2 v2 f2 (omega arith)) v2
+            (node-chunk 2 v2 f2 (omega arith) low2) on2 v3 e3 h)) (omega arith)
+            (leaf3 g l a sized v1 e1 (oneOf (length (l .own2)) v1) refl low1 closed1 v2 e2 (oneOf (length (l .own3)) v2) refl low2 (ap not on2) v3 e3
+            (cellWord 3 v3) h (leaf-is 3 v3 f3 (omega arith) h))
 
         third-off : v3 < 32768 → Answers g l a answer
         third-off h =
             answers-by g l a answer 5
-            (to3 _ (last-off _ _ _ _ _ (node-high 2 v2 f2 (omega arith) low2) (node-reads 2 v2 f2 (omega arith)) v2 (node-chunk 2 v2 f2 (omega arith) low2) on2 v3 e3 h)) (omega arith)
+            (to3 _ (last-off _ _ _ _ _ (node-high 2 v2 f2 (omega arith) low2) (node-reads 2 v2 f2 (omega arith)) v2
+            (node-chunk 2 v2 f2 (omega arith) low2) on2 v3 e3 h)) (omega arith)
             (off3 g l a sized v1 e1 (oneOf (length (l .own2)) v1) refl low1 closed1 v2 e2 (oneOf (length (l .own3)) v2) refl low2 (ap not on2) v3 e3 h)
 
   module _ (v1 : ℕ) (e1 : v1 ≡ getD (l .first) (slot (g .p1) a) 0) (f1 : v1 < 65536) where
     -- the word of the first cell stays
-    at1 : (x : ℕ) → oneOf (length (l .own2)) (chunkOfWord (cellWord 1 v1)) ≡ false → word3 (g .p2) (l .third) (length (l .own3)) a (cellWord 1 v1) ≡ x → answer ≡ x
+    at1 : (x : ℕ) → oneOf (length (l .own2)) (chunkOfWord (cellWord 1 v1)) ≡ false → word3 (g .p2) (l .third) (length (l .own3)) a (cellWord 1 v1)
+        ≡ x → answer ≡ x
     at1 x o e =
         ap (λ (v : ℕ). word3 (g .p2) (l .third) (length (l .own3)) a (word2 (g .p1) (g .p2) (l .second) (length (l .own2)) a (cellWord 1 v))) (sym e1)
         ∙ ap (word3 (g .p2) (l .third) (length (l .own3)) a) (down-not (g .p1) (g .p2) (l .second) (length (l .own2)) a (cellWord 1 v1) _ refl o) ∙ e
 
     first-leaf : 32768 ≤ v1 → Answers g l a answer
     first-leaf h =
-        answers-by g l a answer (cellWord 1 v1) (at1 _ (ap (oneOf (length (l .own2))) (leaf-none 1 v1 f1 (omega arith) h)) (last-stays _ _ _ _ _ (leaf-low 1 v1 f1 (omega arith) h))) (omega arith)
+        answers-by g l a answer (cellWord 1 v1) (at1 _ (ap (oneOf (length (l .own2))) (leaf-none 1 v1 f1 (omega arith) h))
+        (last-stays _ _ _ _ _ (leaf-low 1 v1 f1 (omega arith) h))) (omega arith)
         (leaf1 g l a sized v1 e1 (cellWord 1 v1) h (leaf-is 1 v1 f1 (omega arith) h))
 
     first-off : v1 < 32768 → oneOf (length (l .own2)) v1 ≡ false → Answers g l a answer
     first-off h o =
         answers-by g l a answer 5
-        (at1 _ (ap (oneOf (length (l .own2))) (node-chunk 1 v1 f1 (omega arith) h) ∙ o) (last-early _ _ _ _ _ (node-high 1 v1 f1 (omega arith) h) (λ q. omega (arith, node-reads 1 v1 f1 (omega arith))))) (omega arith)
+        (at1 _ (ap (oneOf (length (l .own2))) (node-chunk 1 v1 f1 (omega arith) h) ∙ o)
+        (last-early _ _ _ _ _ (node-high 1 v1 f1 (omega arith) h) (λ q. omega (arith, node-reads 1 v1 f1 (omega arith))))) (omega arith)
         (off1 g l a sized v1 e1 (oneOf (length (l .own2)) v1) refl h (ap not o))
 
   pub answer-is : Answers g l a answer
@@ -129,11 +137,13 @@ module _ (g : Geometry) (l : Lent) (a : ℕ) (sized : Sized g l) (b1 : (i : ℕ)
       v3 : ℕ
       v3 = getD (l .third) (cellPlace (bits3 g) v2 a) 0
 
-      go3 : v1 < 32768 → oneOf (length (l .own2)) v1 ≡ true → v2 < 32768 → oneOf (length (l .own3)) v2 ≡ true → (v3 < 32768) ⊎ (32768 ≤ v3) → Answers g l a answer
+      go3 : v1 < 32768 → oneOf (length (l .own2)) v1 ≡ true → v2 < 32768 → oneOf (length (l .own3)) v2 ≡ true → (v3 < 32768) ⊎ (32768 ≤ v3)
+          → Answers g l a answer
       go3 h o i p (inl j) = third-off v1 v2 refl h o refl (b2 _) i p v3 refl (b3 _) j
       go3 h o i p (inr j) = third-leaf v1 v2 refl h o refl (b2 _) i p v3 refl (b3 _) j
 
-      go2 : v1 < 32768 → oneOf (length (l .own2)) v1 ≡ true → (v2 < 32768) ⊎ (32768 ≤ v2) → (oneOf (length (l .own3)) v2 ≡ true) ⊎ (oneOf (length (l .own3)) v2 ≡ false) → Answers g l a answer
+      go2 : v1 < 32768 → oneOf (length (l .own2)) v1 ≡ true → (v2 < 32768) ⊎ (32768 ≤ v2) → (oneOf (length (l .own3)) v2 ≡ true) ⊎
+          (oneOf (length (l .own3)) v2 ≡ false) → Answers g l a answer
       go2 h o (inr i) _ = second-leaf v1 v2 refl h o refl (b2 _) i
       go2 h o (inl i) (inr p) = second-off v1 v2 refl h o refl (b2 _) i p
       go2 h o (inl i) (inl p) = go3 h o i p (below? v3 32768)

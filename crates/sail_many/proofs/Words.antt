@@ -77,7 +77,8 @@ module _ (m w c : ℕ) (e : Points c w) (few : m ≤ 4096) where
       go (inr f) = rw (lt-leb 1 (chunkOfWord w) (omega arith))
 
   -- a step, as the code takes it
-  pub goes-down : (p1 p2 : ℕ) (second : List ℕ) (a : ℕ) → c < m → (v : ℕ) → v ≡ getD second (cellPlace (p2 - p1) (c + 1) (slot p2 a)) 0 → (x : ℕ) → x ≡ cellWord 2 v → x ≡ word2 p1 p2 second m a w
+  pub goes-down : (p1 p2 : ℕ) (second : List ℕ) (a : ℕ) → c < m → (v : ℕ) → v ≡ getD second (cellPlace (p2 - p1) (c + 1) (slot p2 a)) 0 → (x : ℕ) → x
+      ≡ cellWord 2 v → x ≡ word2 p1 p2 second m a w
   goes-down p1 p2 second a b v q x z = z ∙ ap (cellWord 2) q ∙ sym (down-on p1 p2 second m a w (c + 1) (leads-is b) (leads-on b))
 
   pub goes-not : (p1 p2 : ℕ) (second : List ℕ) (a : ℕ) → m ≤ c → w ≡ word2 p1 p2 second m a w

@@ -5,11 +5,11 @@ ghost use Prim.Native.Nat.{_+_, _*_, _≤_, _<_};
 ghost use lib.ListN.{length};
 ghost use Rattle.bits.specs.Tab.{tabulate};
 ghost use Rattle.sail_many.specs.Words.{step1, step2, step3, turned, answerAt, LevelsReady, Flows};
-use crate::pass::read_seconds;
 use crate::pass::read_firsts;
+use crate::pass::read_seconds;
 use crate::pass::read_thirds;
-use crate::word::read_second;
 use crate::word::read_first;
+use crate::word::read_second;
 use crate::word::read_third;
 use sail::geometry::Geometry;
 

@@ -2,8 +2,8 @@
 ghost use Prim.Native.Nat.{_-_, _≤_};
 ghost use lib.ListN.{length};
 ghost use Rattle.sail_many.specs.Words.{step1, step2, step3, Firsts, Below, Whole, AddrRange, Swept};
-use crate::word::read_second;
 use crate::word::read_first;
+use crate::word::read_second;
 use crate::word::read_third;
 
 pub fn read_firsts(p1: u32, first: &[u16], addrs: &[u32], out: &mut [u32], from: usize, to: usize)

@@ -25,7 +25,23 @@ use Rattle.sail.proofs.Fresh.{zeros}
 use Rattle.sail_theory.proofs.owners.Chunks.{chunk-is, chunk-le}
 use Rattle.sail_owners.proofs.LoadPass.{Passing, passing, settled-snoc, next-free, climbs1, climbs2}
 use Rattle.sail_owners.proofs.RisingOwners.{Climbs, step-had, step-new}
-use Rattle.sail_owners.specs.Owners.{owners, Past, LastIs, OwnersMoved, stays, goes, Next, Step, none, hung, Taken, secondFor, OpenForReady, Opened, Ownable}
+use Rattle.sail_owners.specs.Owners.{
+  owners,
+  Past,
+  LastIs,
+  OwnersMoved,
+  stays,
+  goes,
+  Next,
+  Step,
+  none,
+  hung,
+  Taken,
+  secondFor,
+  OpenForReady,
+  Opened,
+  Ownable,
+}
 use Rattle.sail_owners.specs.declared.owners.Pass.{Pass}
 use Rattle.sail_owners.specs.declared.owners.Passes.{Passes}
 
@@ -137,7 +153,8 @@ module _ (g : Geometry) (input start2 start3 : List ℕ) (w : Ownable g input st
   blank = λ i. record { own2 = sym (w .none2) i; own3 = sym (w .none3) i }
 
   -- before the first
-  pub passed-none : OwnersPassed g input start2 start3 0 start2 start3 (record { second = record { last = 0; free = 0 }; third = record { last = 0; free = 0 } })
+  pub passed-none : OwnersPassed g input start2 start3 0 start2 start3
+      (record { second = record { last = 0; free = 0 }; third = record { last = 0; free = 0 } })
   unfolding ownersAfter
   passed-none = record { is = refl; second = none-reached start2 (w .none2); third = none-reached start3 (w .none3) }
 

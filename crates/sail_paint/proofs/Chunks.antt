@@ -43,7 +43,8 @@ module _ (rs : List Route) (a len l p d e : ℕ) (up : List ℕ) where
         over-none rs p _ _ cells (λ q k. rw (z, and-false (ltb 0 o)) (and-false (eqb (q / 2 ^ d) c)))
 
     -- or it is painted
-    pub chunk-over : (i from base n : ℕ) (b : Bool) (after : List ℕ) → (o ≡ 0 → ⊥) → i ≡ at (o - 1) → b ≡ meets a len l i → not b ≡ false → from ≡ c * 2 ^ d → n ≡ 1 * 2 ^ d → base ≡ i * 2 ^ d
+    pub chunk-over : (i from base n : ℕ) (b : Bool) (after : List ℕ) → (o ≡ 0 → ⊥) → i ≡ at (o - 1) → b ≡ meets a len l i → not b ≡ false → from
+        ≡ c * 2 ^ d → n ≡ 1 * 2 ^ d → base ≡ i * 2 ^ d
         → after ≡ overpainted rs p (between from (from + n)) (λ q. base + (q - from)) cells → after ≡ Wanted
     chunk-over i from base n b after some ei is t ef en eb was =
         let z : meets a len l (at (o - 1)) ≡ true = ap (meets a len l) (sym ei) ∙ sym is ∙ not-false b t in
@@ -92,9 +93,11 @@ module _ (rs : List Route) (a len l p d e : ℕ) (up : List ℕ) where
             go (inr y) = ap (λ (b : Bool). b && staleIn a len l d at (entry own) q) (more (q / 2 ^ d) (eqb-false (q / 2 ^ d) c y))
               where
                 more : (x : ℕ) → (x ≡ c → ⊥) → ltb x (c + 1) ≡ ltb x c
-                more x n = same (ltb x (c + 1)) (ltb x c) (λ t. let w = ltb-true x (c + 1) t in lt-ltb x c (omega arith)) (λ t. let w = ltb-true x c t in lt-ltb x (c + 1) (omega arith))
+                more x n = same (ltb x (c + 1)) (ltb x c) (λ t. let w = ltb-true x (c + 1) t in lt-ltb x c (omega arith))
+                    (λ t. let w = ltb-true x c t in lt-ltb x (c + 1) (omega arith))
 
-    pub pool-all : (c : ℕ) (cells : List ℕ) → length own ≤ c → length cells₀ ≡ length own * 2 ^ d → PaintedTo rs a len l p d e up own cells₀ c cells → cells ≡ overpainted rs p (staleIn a len l d at (entry own)) (partOf (entry own) d at) cells₀
+    pub pool-all : (c : ℕ) (cells : List ℕ) → length own ≤ c → length cells₀ ≡ length own * 2 ^ d → PaintedTo rs a len l p d e up own cells₀ c cells
+        → cells ≡ overpainted rs p (staleIn a len l d at (entry own)) (partOf (entry own) d at) cells₀
     pool-all c cells u size was =
         was .is ∙ over-ext rs p (upTo c) (staleIn a len l d at (entry own)) _ _ cells₀
         (λ q k. rw (lt-ltb (q / 2 ^ d) c (let z = chunk-lt d (length own) q (rw size at k) in omega arith)))
@@ -113,7 +116,8 @@ module _ (ws par : List ℕ) (len l p : ℕ) (up : List ℕ) (e o : ℕ) (cells 
       let z = h .levels in
       (rw is (h .hangs .cell (o - 1) (omega arith)), omega arith)
 
-  pub chunk-part : (i from base n : ℕ) → i ≡ standsFor e up (o - 1) → from ≡ c * 2 ^ (p - l) → n ≡ 1 * 2 ^ (p - l) → base ≡ i * 2 ^ (p - l) → Part ws par l i p base cells from (from + n)
+  pub chunk-part : (i from base n : ℕ) → i ≡ standsFor e up (o - 1) → from ≡ c * 2 ^ (p - l) → n ≡ 1 * 2 ^ (p - l) → base ≡ i * 2 ^ (p - l)
+      → Part ws par l i p base cells from (from + n)
   chunk-part i from base n is ef en eb =
       let z = h .levels in
       let w = h .inside in
@@ -132,7 +136,8 @@ module _ (ws par : List ℕ) (len l p : ℕ) (up : List ℕ) (e o : ℕ) (cells 
       }
 
 -- and each chunk of a pool has it
-pub pool-chunk : (ws par : List ℕ) (len l p : ℕ) (up : List ℕ) (e : ℕ) (own cells₀ cells : List ℕ) (c o : ℕ) → Pool ws par len l p up e own cells₀ → length cells ≡ length cells₀ → c < length own → (o ≡ getD own c 0) × (o < 4294967296)
+pub pool-chunk : (ws par : List ℕ) (len l p : ℕ) (up : List ℕ) (e : ℕ) (own cells₀ cells : List ℕ) (c o : ℕ) → Pool ws par len l p up e own cells₀
+    → length cells ≡ length cells₀ → c < length own → (o ≡ getD own c 0) × (o < 4294967296)
     → ChunkOf ws par len l p up e o cells c
 pool-chunk ws par len l p up e own cells₀ cells c o h n k is = record {
   levels = h .levels;

@@ -53,7 +53,8 @@ module _ (ws par : List ℕ) (p a len : ℕ) (first₀ : List ℕ) (h : FirstPai
   powers = let e : p ≡ p - 10 + 10 = let z = h .low in omega arith in ap (λ (n : ℕ). 2 ^ n) e ∙ pow-add 2 (p - 10) 10
 
   -- a block lies in one cell of level p - 10
-  pub first-part : (rs : List Route) (f : ℕ → Bool) (first : List ℕ) (from end lo hi : ℕ) → from ≡ slot p a → end ≡ from + 2 ^ (p - len) → first ≡ overpainted rs p f itself first₀ → BlockEnd lo end hi
+  pub first-part : (rs : List Route) (f : ℕ → Bool) (first : List ℕ) (from end lo hi : ℕ) → from ≡ slot p a → end ≡ from + 2 ^ (p - len) → first
+      ≡ overpainted rs p f itself first₀ → BlockEnd lo end hi
       → Part ws par (p - 10) (lo / 1024) p lo first lo hi
   first-part rs f first from end lo hi s e was b =
       let k : p - (p - 10) ≡ 10 = let z = h .low in omega arith in
@@ -73,7 +74,8 @@ module _ (ws par : List ℕ) (p a len : ℕ) (first₀ : List ℕ) (h : FirstPai
         };
       }
 
-  pub first-all : (rs : List Route) (first : List ℕ) (from end lo : ℕ) → from ≡ slot p a → end ≡ from + 2 ^ (p - len) → lo ≤ end → end ≤ lo → first ≡ overpainted rs p (between from lo) itself first₀
+  pub first-all : (rs : List Route) (first : List ℕ) (from end lo : ℕ) → from ≡ slot p a → end ≡ from + 2 ^ (p - len) → lo ≤ end → end ≤ lo → first
+      ≡ overpainted rs p (between from lo) itself first₀
       → first ≡ overpainted rs p (meets a len p) itself first₀
   first-all rs first from end lo s e l u was =
       let z : lo ≡ slot p a + 2 ^ (p - len) = omega arith in

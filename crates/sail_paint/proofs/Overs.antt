@@ -21,7 +21,8 @@ module _ (rs : List Route) (p : ℕ) where
   unfolding overpainted
   length-over f at cells = length-tabulate (length cells) _
 
-  pub over-at : (f : ℕ → Bool) (at : ℕ → ℕ) (cells : List ℕ) (q : ℕ) → q < length cells → getD (overpainted rs p f at cells) q 0 ≡ cond (f q) (plan rs p (at q)) (getD cells q 0)
+  pub over-at : (f : ℕ → Bool) (at : ℕ → ℕ) (cells : List ℕ) (q : ℕ) → q < length cells → getD (overpainted rs p f at cells) q 0 ≡ cond (f q)
+      (plan rs p (at q)) (getD cells q 0)
   unfolding overpainted
   over-at f at cells q l = getD-tabulate (length cells) _ q 0 l
 
@@ -31,12 +32,14 @@ module _ (rs : List Route) (p : ℕ) where
   over-none f at cells h = is-tabulate 0 cells (length cells) _ refl (λ q l. rw (h q l))
 
   -- another test that says the same, and other cells that are the same where it passes
-  pub over-ext : (f g : ℕ → Bool) (at at′ : ℕ → ℕ) (cells : List ℕ) → ((q : ℕ) → q < length cells → f q ≡ g q) → ((q : ℕ) → q < length cells → g q ≡ true → at q ≡ at′ q)
+  pub over-ext : (f g : ℕ → Bool) (at at′ : ℕ → ℕ) (cells : List ℕ) → ((q : ℕ) → q < length cells → f q ≡ g q) →
+      ((q : ℕ) → q < length cells → g q ≡ true → at q ≡ at′ q)
       → overpainted rs p f at cells ≡ overpainted rs p g at′ cells
   unfolding overpainted
   over-ext f g at at′ cells h k = tabulate-ext (length cells) _ _ (λ q l. rw (h q l) (go q (decided (g q)) (k q l)))
     where
-      go : (q : ℕ) → (g q ≡ true) ⊎ (g q ≡ false) → (g q ≡ true → at q ≡ at′ q) → cond (g q) (plan rs p (at q)) (getD cells q 0) ≡ cond (g q) (plan rs p (at′ q)) (getD cells q 0)
+      go : (q : ℕ) → (g q ≡ true) ⊎ (g q ≡ false) → (g q ≡ true → at q ≡ at′ q) → cond (g q) (plan rs p (at q)) (getD cells q 0) ≡ cond (g q)
+          (plan rs p (at′ q)) (getD cells q 0)
       go q (inl e) w = rw (w e)
       go q (inr e) w = rw e
 
@@ -47,7 +50,8 @@ module _ (rs : List Route) (p : ℕ) where
   unfolding overpainted
   over-more f g h at at′ cells new old =
       rw (length-tabulate (length cells) _)
-      (tabulate-ext (length cells) _ _ (λ q l. ap (cond (g q) (plan rs p (at′ q))) (getD-tabulate (length cells) _ q 0 l) ∙ go q (decided (g q)) (new q l) (old q l)))
+      (tabulate-ext (length cells) _ _ (λ q l. ap (cond (g q) (plan rs p (at′ q))) (getD-tabulate (length cells) _ q 0 l) ∙ go q (decided (g q))
+      (new q l) (old q l)))
     where
       go : (q : ℕ) → (g q ≡ true) ⊎ (g q ≡ false) → (g q ≡ true → (h q ≡ true) × (at′ q ≡ at q)) → (g q ≡ false → h q ≡ f q)
           → cond (g q) (plan rs p (at′ q)) (cond (f q) (plan rs p (at q)) (getD cells q 0)) ≡ cond (h q) (plan rs p (at q)) (getD cells q 0)
@@ -75,7 +79,8 @@ module _ (rs : List Route) (p : ℕ) where
     put-at q (inside l u) =
         let z : a + (q - a) ≡ q = omega arith in
         let w : q - a < length ys = omega (arith, size) in
-        rw (between-in a e q l u) (ap (λ (x : ℕ). getD (putMid a (e - a) cells ys) x 0) (sym z) ∙ past (q - a) ∙ List·getD-append ys _ 0 (q - a) w ∙ part-at (q - a) (omega arith))
+        rw (between-in a e q l u) (ap (λ (x : ℕ). getD (putMid a (e - a) cells ys) x 0) (sym z) ∙ past (q - a) ∙ List·getD-append ys _ 0 (q - a) w
+        ∙ part-at (q - a) (omega arith))
     put-at q (above l u) =
         let z : a + (length ys + (q - e)) ≡ q = omega (arith, size) in
         let w : e + (q - e) ≡ q = omega arith in
@@ -85,4 +90,5 @@ module _ (rs : List Route) (p : ℕ) where
 
     pub part-over : putMid a (e - a) cells ys ≡ overpainted rs p (between a e) (λ q. base + (q - a)) cells
     unfolding overpainted
-    part-over = is-tabulate 0 (putMid a (e - a) cells ys) (length cells) _ (same-len-mid a (e - a) cells ys (size ∙ sym (mid-len a e cells fits))) (λ q l. put-at q (side a e q))
+    part-over = is-tabulate 0 (putMid a (e - a) cells ys) (length cells) _ (same-len-mid a (e - a) cells ys (size ∙ sym (mid-len a e cells fits)))
+        (λ q l. put-at q (side a e q))

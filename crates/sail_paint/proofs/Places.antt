@@ -102,7 +102,8 @@ module _ (a len p : ℕ) (ok : Prefix a len) (deep : p ≤ 32) where
           let s = slot-lt len a (ok .len-ok) (ok .addr-ok) in
           let m = mul-le-mul-right (2 ^ (p - len)) (let l : slot len a + 1 ≤ 2 ^ len = omega arith in l) in
           let e : 2 ^ len * 2 ^ (p - len) ≡ 2 ^ p = sym (pow-add 2 len (p - len)) ∙ ap (λ (x : ℕ). 2 ^ x) (omega arith) in
-          let f : (slot len a + 1) * 2 ^ (p - len) ≡ slot len a * 2 ^ (p - len) + 2 ^ (p - len) = add-mul _ 1 _ ∙ ap (λ (x : ℕ). slot len a * 2 ^ (p - len) + x) (one-mul _) in
+          let f : (slot len a + 1) * 2 ^ (p - len) ≡ slot len a * 2 ^ (p - len) + 2 ^ (p - len) = add-mul _ 1 _ ∙ ap
+          (λ (x : ℕ). slot len a * 2 ^ (p - len) + x) (one-mul _) in
           omega (arith, first-is h)
       go (no h) =
           let z : p - len ≡ 0 = omega arith in

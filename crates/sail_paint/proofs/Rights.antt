@@ -164,13 +164,17 @@ module _ (g : Geometry) (ws par : List ℕ) (a len : ℕ) (l : Cells) (s : Stale
       e′ ∙ ap (stamped (l .own2)) e
       ∙ level-right rs (level1 g) k2 (s .fits2) (meets a len (g .p1)) (λ q t. refl) (l .first) (s .celled .cells1) (s .right1)
 
-  pub second-is : (now after : List ℕ) → now ≡ poolPainted rs a len (g .p1) (g .p2) (standsFor 0 (l .own2)) (l .own2) (l .second) → after ≡ stamped (l .own3) now
+  pub second-is : (now after : List ℕ) → now ≡ poolPainted rs a len (g .p1) (g .p2) (standsFor 0 (l .own2)) (l .own2) (l .second) → after ≡ stamped
+      (l .own3) now
       → after ≡ laidOver rs v2 k3 (l .second)
   second-is now after e e′ =
-      e′ ∙ ap (stamped (l .own3)) (e ∙ pool-as rs a len (g .p1) (g .p2) (standsFor 0 (l .own2)) itself (l .own2) (l .second) (λ q. sym (stands-itself 0 (l .own2) q refl)))
-      ∙ level-right rs v2 k3 (s .fits3) (staleBelow a len (level1 g) k2 (g .p2)) (λ q t. and-split (v2 .live q) _ t .0) (l .second) (s .celled .cells2) (s .right2)
+      e′ ∙ ap (stamped (l .own3)) (e ∙ pool-as rs a len (g .p1) (g .p2) (standsFor 0 (l .own2)) itself (l .own2) (l .second)
+      (λ q. sym (stands-itself 0 (l .own2) q refl)))
+      ∙ level-right rs v2 k3 (s .fits3) (staleBelow a len (level1 g) k2 (g .p2)) (λ q t. and-split (v2 .live q) _ t .0) (l .second)
+      (s .celled .cells2) (s .right2)
 
-  pub third-is : (after : List ℕ) → after ≡ poolPainted rs a len (g .p2) 32 (standsFor (bits2 g) (l .own2)) (l .own3) (l .third) → after ≡ laidOver rs v3 noChunks (l .third)
+  pub third-is : (after : List ℕ) → after ≡ poolPainted rs a len (g .p2) 32 (standsFor (bits2 g) (l .own2)) (l .own3) (l .third) → after
+      ≡ laidOver rs v3 noChunks (l .third)
   third-is after e =
       e ∙ pool-as rs a len (g .p2) 32 (standsFor (bits2 g) (l .own2)) (v2 .at) (l .own3) (l .third) (λ q. stands-part (bits2 g) (l .own2) q some2)
       ∙ stamp-none (noChunks .own) _

@@ -42,7 +42,8 @@ pub record Stale (g : Geometry) (ws par : List ℕ) (a len : ℕ) (l : Cells) : 
   pub fits2 : Fits (routesOfWords ws) (level1 g) (chunksOf (l .own2))
   pub fits3 : Fits (routesOfWords ws) (level2 g (chunksOf (l .own2))) (chunksOf (l .own3))
   pub right1 : RightButStale (routesOfWords ws) (level1 g) (chunksOf (l .own2)) (meets a len (g .p1)) (l .first)
-  pub right2 : RightButStale (routesOfWords ws) (level2 g (chunksOf (l .own2))) (chunksOf (l .own3)) (staleBelow a len (level1 g) (chunksOf (l .own2)) (g .p2)) (l .second)
+  pub right2 : RightButStale (routesOfWords ws) (level2 g (chunksOf (l .own2))) (chunksOf (l .own3))
+      (staleBelow a len (level1 g) (chunksOf (l .own2)) (g .p2)) (l .second)
   pub right3 : RightButStale (routesOfWords ws) (level3 g (chunksOf (l .own2)) (chunksOf (l .own3))) noChunks
       (staleBelow a len (level2 g (chunksOf (l .own2))) (chunksOf (l .own3)) 32) (l .third)
 

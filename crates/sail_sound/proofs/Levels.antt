@@ -20,7 +20,8 @@ use Rattle.sail_cells_test.specs.Pool.{PoolOk, OwnedPool, FreeAll, FirstTestRea
 use Rattle.sail_sound.specs.TableTest.{root, Passed, PassedAll}
 
 -- no owner in a right pool names a place past the pool above
-pool-owners : (rs : List Route) (p d : ℕ) (above : List ℕ) (live : ℕ → Bool) (at : ℕ → ℕ) (own cells below : List ℕ) → PoolOk rs p d above live at own cells below → (c : ℕ) → getD own c 0 ≤ length above
+pool-owners : (rs : List Route) (p d : ℕ) (above : List ℕ) (live : ℕ → Bool) (at : ℕ → ℕ) (own cells below : List ℕ)
+    → PoolOk rs p d above live at own cells below → (c : ℕ) → getD own c 0 ≤ length above
 pool-owners rs p d above live at own cells below k c = go (decLt c (length own)) (decLt 0 (getD own c 0))
   where
     go : Dec (c < length own) → Dec (0 < getD own c 0) → getD own c 0 ≤ length above
@@ -32,7 +33,8 @@ root-owner : (c : ℕ) → getD root c 0 ≤ 2 ^ 0
 root-owner zero = omega arith
 root-owner (suc c) = omega arith
 
-module _ (ws par : List ℕ) (ready : ChainReady ws par) (g : Geometry) (first second third own2 own3 : List ℕ) (s : Celled g (cells first second third own2 own3)) (want : List ℕ) (room : length want ≡ 1024) where
+module _ (ws par : List ℕ) (ready : ChainReady ws par) (g : Geometry) (first second third own2 own3 : List ℕ)
+    (s : Celled g (cells first second third own2 own3)) (want : List ℕ) (room : length want ≡ 1024) where
   pub first-cells : FirstTestReady ws par (g .p1) first 1 want
   first-cells =
       let v = s .valid in
@@ -85,7 +87,8 @@ module _ (g : Geometry) (first second third own2 own3 : List ℕ) (s : Celled g 
   chunked3 = let v = s .valid in record { small = omega arith; few = s .few3; chunks = s .cells3 }
 
 -- the answers of `live_ok`
-module _ (rs : List Route) (g : Geometry) (first second third own2 own3 : List ℕ) (b : Bool) (right : Tells b (Right rs (g .p1) 0 first own2 1 (length first))) where
+module _ (rs : List Route) (g : Geometry) (first second third own2 own3 : List ℕ) (b : Bool)
+    (right : Tells b (Right rs (g .p1) 0 first own2 1 (length first))) where
   pub first-fails : not b ≡ true → Tells false (Passed rs g (cells first second third own2 own3))
   first-fails n = refuted right n (λ h. h .cells1)
 
@@ -93,11 +96,13 @@ module _ (rs : List Route) (g : Geometry) (first second third own2 own3 : List �
     pub second-fails : not c ≡ true → Tells false (Passed rs g (cells first second third own2 own3))
     second-fails n = refuted pool n (λ h. h .pool2)
 
-    pub third-tells : not b ≡ false → not c ≡ false → (r : Bool) → Tells r (OwnedPool rs 32 (bits3 g) own2 (bits2 g) second own3 third []) → Tells r (Passed rs g (cells first second third own2 own3))
+    pub third-tells : not b ≡ false → not c ≡ false → (r : Bool) → Tells r (OwnedPool rs 32 (bits3 g) own2 (bits2 g) second own3 third []) → Tells r
+        (Passed rs g (cells first second third own2 own3))
     third-tells m n r = tells-same (λ k. record { cells1 = passed right m; pool2 = passed pool n; pool3 = k }) (λ h. h .pool3)
 
 -- and those of `levels_ok`
-module _ (rs : List Route) (g : Geometry) (first second third own2 own3 : List ℕ) (b : Bool) (live : Tells b (Passed rs g (cells first second third own2 own3))) where
+module _ (rs : List Route) (g : Geometry) (first second third own2 own3 : List ℕ) (b : Bool)
+    (live : Tells b (Passed rs g (cells first second third own2 own3))) where
   pub live-fails : not b ≡ true → Tells false (PassedAll rs g (cells first second third own2 own3))
   live-fails n = refuted live n (λ h. h .live)
 
@@ -105,5 +110,6 @@ module _ (rs : List Route) (g : Geometry) (first second third own2 own3 : List �
     pub free-fails : not c ≡ true → Tells false (PassedAll rs g (cells first second third own2 own3))
     free-fails n = refuted free n (λ h. h .free2)
 
-    pub free-tells : not b ≡ false → not c ≡ false → (r : Bool) → Tells r (FreeAll (bits3 g) own3 third) → Tells r (PassedAll rs g (cells first second third own2 own3))
+    pub free-tells : not b ≡ false → not c ≡ false → (r : Bool) → Tells r (FreeAll (bits3 g) own3 third) → Tells r
+        (PassedAll rs g (cells first second third own2 own3))
     free-tells m n r = tells-same (λ k. record { live = passed live m; free2 = passed free n; free3 = k }) (λ h. h .free3)

@@ -207,7 +207,8 @@ module _ (rs : List Route) (g : Geometry) (l : Cells) (s : Celled g l) where
       third-asked q i u = record { leaf = λ e. third .leaf q i u; node = λ e. absurd (true≢false (sym e ∙ none-longer rs _ good)) }
 
   -- what the test of the counts rests on
-  pub countable : (ws par : List ℕ) → ChainReady ws par → routesOfWords ws ≡ rs → (long1 long2 : List ℕ) → CountsBeside (l .first) (l .second) long1 long2 → PassedAll rs g l
+  pub countable : (ws par : List ℕ) → ChainReady ws par → routesOfWords ws ≡ rs → (long1 long2 : List ℕ) → CountsBeside (l .first)
+      (l .second) long1 long2 → PassedAll rs g l
       → Countable ws g (l .first) (l .second) (l .own2) (l .own3) long1 long2
   countable ws par ready e long1 long2 z k = record {
     words = ready .words;

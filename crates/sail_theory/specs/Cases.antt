@@ -78,7 +78,8 @@ module _ (t : Table) (l : Lent) (input : List ℕ) where
     bad-input : (s : Said) → Sized (t .geometry) l → BadInput input s → Load s
     full : Readable → roomOf l < length input / 8 → Load (refused 6)
     second : Readable → length input / 8 ≤ roomOf l → length (l .own2) < need (inputRoutes input) (t .geometry .p1) → Load (refused 7)
-    third : Readable → length input / 8 ≤ roomOf l → need (inputRoutes input) (t .geometry .p1) ≤ length (l .own2) → length (l .own3) < need (inputRoutes input) (t .geometry .p2) → Load (refused 8)
+    third : Readable → length input / 8 ≤ roomOf l → need (inputRoutes input) (t .geometry .p1) ≤ length (l .own2) → length (l .own3) < need
+        (inputRoutes input) (t .geometry .p2) → Load (refused 8)
     done : Readable → Loadable t l (inputRoutes input) → Load (accepted [])
 
 -- report: 1, 2, 5

@@ -21,11 +21,13 @@ use Rattle.text.proofs.Digits.{digits-few}
 use Rattle.text.proofs.Writes.{wrote-none, wrote-more}
 
 -- lengths
-pub length-dotted : (a : ℕ) → length (dotted a) ≡ length (digitsOf (above3 a)) + (1 + length (digitsOf (byte (above2 a)))) + (1 + length (digitsOf (byte (above1 a)))) + (1 + length (digitsOf (byte a)))
+pub length-dotted : (a : ℕ) → length (dotted a) ≡ length (digitsOf (above3 a)) + (1 + length (digitsOf (byte (above2 a)))) +
+    (1 + length (digitsOf (byte (above1 a)))) + (1 + length (digitsOf (byte a)))
 unfolding dotted labelled ascii
 length-dotted a = simp length-append (omega arith)
 
-pub length-line : (r : Route) → length (routeLine r) ≡ length (dotted (r .addr)) + (1 + length (digitsOf (r .len))) + (1 + length (digitsOf (r .hop))) + length (markText (r .mark)) + 1
+pub length-line : (r : Route) → length (routeLine r) ≡ length (dotted (r .addr)) + (1 + length (digitsOf (r .len))) +
+    (1 + length (digitsOf (r .hop))) + length (markText (r .mark)) + 1
 unfolding routeLine labelled ascii
 length-line r = simp length-append (omega arith)
 
@@ -37,7 +39,14 @@ length-head n s t = simp length-append (omega arith)
 dotted-few : (a : ℕ) → a < 2 ^ 32 → length (dotted a) ≤ 15
 dotted-few a h =
     rw length-dotted
-    (omega (arith, digits-few 2 (above3 a) (omega arith), digits-few 2 (byte (above2 a)) (omega arith), digits-few 2 (byte (above1 a)) (omega arith), digits-few 2 (byte a) (omega arith)))
+    (omega (
+      arith,
+      digits-few 2 (above3 a) (omega arith),
+      digits-few 2 (byte (above2 a)) (omega arith),
+      digits-few 2 (byte (above1 a))
+          (omega arith),
+      digits-few 2 (byte a) (omega arith),
+    ))
 
 mark-few : (m : ℕ) → length (markText m) ≤ 9
 unfolding markText ascii
@@ -51,7 +60,14 @@ pub line-few : (r : Route) → Ranged r → length (routeLine r) ≤ 35
 line-few r ok =
     let l = ok .len-fits in
     let h = ok .hop-fits in
-    rw length-line (omega (arith, dotted-few (r .addr) (ok .addr-fits), digits-few 2 (r .len) (omega arith), digits-few 4 (r .hop) (omega arith), mark-few (r .mark)))
+    rw length-line (omega (
+      arith,
+      dotted-few (r .addr) (ok .addr-fits),
+      digits-few 2 (r .len) (omega arith),
+      digits-few 4 (r .hop)
+          (omega arith),
+      mark-few (r .mark),
+    ))
 
 pub head-few : (n s t : ℕ) → n < 2 ^ 64 → s < 2 ^ 32 → t < 2 ^ 32 → length (headLine n s t) ≤ 63
 head-few n s t hn hs ht = rw length-head (omega (arith, digits-few 19 n (omega arith), digits-few 9 s (omega arith), digits-few 9 t (omega arith)))
@@ -84,10 +100,12 @@ pub lines-none : (s : List ℕ) {o : List ℕ} {at : ℕ} → at ≤ length o �
 unfolding routesOf tabulate routeLines
 lines-none s h = wrote-none h
 
-pub lines-wrote : (s : List ℕ) (k : ℕ) (r : Route) {o o₁ o₂ : List ℕ} {at m n : ℕ} → r ≡ recordAt s k → Wrote o at (routeLines (routesOf s k)) m o₁ → Wrote o₁ m (routeLine r) n o₂ → Wrote o at (routeLines (routesOf s (k + 1))) n o₂
+pub lines-wrote : (s : List ℕ) (k : ℕ) (r : Route) {o o₁ o₂ : List ℕ} {at m n : ℕ} → r ≡ recordAt s k → Wrote o at (routeLines (routesOf s k)) m o₁
+    → Wrote o₁ m (routeLine r) n o₂ → Wrote o at (routeLines (routesOf s (k + 1))) n o₂
 lines-wrote s k r e u v = rw (lines-more s k, ← e) (wrote-more u v)
 
-pub table-wrote : (s : List ℕ) (n k x y : ℕ) {o o₁ o₂ : List ℕ} {m q : ℕ} → k ≤ n → n ≤ k → Wrote o 0 (headLine n x y) m o₁ → Wrote o₁ m (routeLines (routesOf s k)) q o₂ → Wrote o 0 (tableText (routesOf s n) x y) q o₂
+pub table-wrote : (s : List ℕ) (n k x y : ℕ) {o o₁ o₂ : List ℕ} {m q : ℕ} → k ≤ n → n ≤ k → Wrote o 0 (headLine n x y) m o₁ → Wrote o₁ m
+    (routeLines (routesOf s k)) q o₂ → Wrote o 0 (tableText (routesOf s n) x y) q o₂
 unfolding tableText
 table-wrote s n k x y l g u v =
     let e : k ≡ n = omega arith in

@@ -17,7 +17,8 @@ module _ {o : List ℕ} {at n d : ℕ} where
   pub last-room : {m : ℕ} {o₁ : List ℕ} → 10 ≤ n → d ≡ 48 + n % 10 → TextRoom o at (digitsOf n) → Wrote o at (digitsOf (n / 10)) m o₁ → TextRoom o₁ m (d ∷ [])
   last-room h e r w = room-then (digitsOf (n / 10)) (d ∷ []) (rw (digits-more n h, ← e) at r) w
 
-  pub last-wrote : {m k : ℕ} {o₁ o₂ : List ℕ} → 10 ≤ n → d ≡ 48 + n % 10 → Wrote o at (digitsOf (n / 10)) m o₁ → Wrote o₁ m (d ∷ []) k o₂ → Wrote o at (digitsOf n) k o₂
+  pub last-wrote : {m k : ℕ} {o₁ o₂ : List ℕ} → 10 ≤ n → d ≡ 48 + n % 10 → Wrote o at (digitsOf (n / 10)) m o₁ → Wrote o₁ m (d ∷ []) k o₂
+      → Wrote o at (digitsOf n) k o₂
   last-wrote h e u v = rw (digits-more n h, ← e) (wrote-more u v)
 
 pub front-room : {o : List ℕ} {at n : ℕ} → 10 ≤ n → TextRoom o at (digitsOf n) → TextRoom o at (digitsOf (n / 10))

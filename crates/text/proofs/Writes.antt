@@ -35,7 +35,8 @@ module _ (o : List ℕ) (at : ℕ) (s t : List ℕ) where
       go : (length o < at) ⊎ (at ≤ length o) → drop (at + length s + length t) (take at o ++ s ++ drop (at + length s) o) ≡ drop (at + length s + length t) o
       go (inl h) =
           rw (drop-of-length-le o {i = at + length s + length t} (omega arith))
-          (drop-of-length-le (take at o ++ s ++ drop (at + length s) o) {i = at + length s + length t} (simp (length-append, length-take, length-drop) (omega arith)))
+          (drop-of-length-le (take at o ++ s ++ drop (at + length s) o) {i = at + length s + length t}
+          (simp (length-append, length-take, length-drop) (omega arith)))
       go (inr h) =
           sym (drop-drop (length t) (at + length s) (take at o ++ s ++ drop (at + length s) o))
           ∙ rw (drop-at (take at o ++ s) (drop (at + length s) o) (at + length s) (simp (length-append, length-take) (omega arith)))
@@ -72,7 +73,8 @@ module _ {o : List ℕ} {at : ℕ} where
       record { room = omega (arith, w .ends) }
 
   -- words that are written byte by byte
-  pub wrote-next : (w : List ℕ) (i : ℕ) {m n : ℕ} {o₁ o₂ : List ℕ} → i < length w → Wrote o at (take i w) m o₁ → Wrote o₁ m (getD w i 0 ∷ []) n o₂ → Wrote o at (take (i + 1) w) n o₂
+  pub wrote-next : (w : List ℕ) (i : ℕ) {m n : ℕ} {o₁ o₂ : List ℕ} → i < length w → Wrote o at (take i w) m o₁ → Wrote o₁ m (getD w i 0 ∷ []) n o₂
+      → Wrote o at (take (i + 1) w) n o₂
   wrote-next w i h u v = rw (add-one i, take-suc w i 0 h) (wrote-more u v)
 
   pub wrote-all : (w : List ℕ) (i : ℕ) {m : ℕ} {o₁ : List ℕ} → length w ≤ i → Wrote o at (take i w) m o₁ → Wrote o at w m o₁

@@ -25,7 +25,8 @@ unfolding count
 count-hit f zero j h = absurd (not-suc-le-zero h)
 count-hit f (suc n) j h = go (decided (f n)) (decided (ltb j (count f n))) (count-hit f n j)
   where
-    go : (f n ≡ true) ⊎ (f n ≡ false) → (ltb j (count f n) ≡ true) ⊎ (ltb j (count f n) ≡ false) → (j < count f n → (c : ℕ) × (c < n) × (f c ≡ true) × (count f c ≡ j))
+    go : (f n ≡ true) ⊎ (f n ≡ false) → (ltb j (count f n) ≡ true) ⊎ (ltb j (count f n) ≡ false) →
+        (j < count f n → (c : ℕ) × (c < n) × (f c ≡ true) × (count f c ≡ j))
         → (c : ℕ) × (c < suc n) × (f c ≡ true) × (count f c ≡ j)
     go e (inl l) ih = let r = ih (ltb-true j (count f n) l) in (r .0, omega (arith, r .1), r .2, r .3)
     go (inl e) (inr l) ih = (n, omega arith, e, omega (arith, ltb-false j (count f n) l, ap bit e))

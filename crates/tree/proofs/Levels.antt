@@ -76,7 +76,8 @@ module _ (st : ℕ → ℕ → Bool) where
       go : (x : From m i) (y : From m j) → ((i j : ℕ) → i < j → j < length (level st m) → on m i .path < on m j .path) → on (suc m) i .path < on (suc m) j .path
       go x y ih = rw (x .path, y .path) (order (decided (ltb (x .parent) (y .parent))) (decided (ltb (y .parent) (x .parent))))
         where
-          order : (ltb (x .parent) (y .parent) ≡ true) ⊎ (ltb (x .parent) (y .parent) ≡ false) → (ltb (y .parent) (x .parent) ≡ true) ⊎ (ltb (y .parent) (x .parent) ≡ false)
+          order : (ltb (x .parent) (y .parent) ≡ true) ⊎ (ltb (x .parent) (y .parent) ≡ false) → (ltb (y .parent) (x .parent) ≡ true) ⊎
+              (ltb (y .parent) (x .parent) ≡ false)
               → on m (x .parent) .path * 16 + x .nibble < on m (y .parent) .path * 16 + y .nibble
           order (inl t) o = omega (arith, ih (x .parent) (y .parent) (ltb-true _ _ t) (y .there), x .small)
           order (inr t) (inl o) =

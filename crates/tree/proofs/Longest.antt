@@ -114,7 +114,8 @@ module _ (R : Hops) (ws hs : List ℕ) (a m i p : ℕ) (best : Place) (r : Rep h
   unfolding betterOf
   none-rep = r
 
-  own-rep : (t : ℕ) → 0 < t → NodeOf R ws hs t m i p → Rep hs (betterOf (bitsOf ws i) (baseOf ws i) (tryBit (bitsOf ws i) 0 15) best) (orNext (R (4 * m) p) (longest R a (4 * m)))
+  own-rep : (t : ℕ) → 0 < t → NodeOf R ws hs t m i p → Rep hs (betterOf (bitsOf ws i) (baseOf ws i) (tryBit (bitsOf ws i) 0 15) best)
+      (orNext (R (4 * m) p) (longest R a (4 * m)))
   own-rep t h k =
       let e : 4 * m + 0 ≡ 4 * m = omega arith in
       let f : p * 1 + 0 ≡ p = omega arith in
@@ -127,7 +128,8 @@ module _ (R : Hops) (ws hs : List ℕ) (a m i p : ℕ) (best : Place) (r : Rep h
       rw (next R a 33 (4 * m) p (omega arith) q) (own-rep 1 (omega arith) k)
 
   -- a node above: the four inner lengths
-  inner-rep : NodeOf R ws hs 4 m i p → (e v : ℕ) → m + suc e ≡ 8 → v < 16 → a / 2 ^ (4 * e) ≡ p * 16 + v → Rep hs (betterOf (bitsOf ws i) (baseOf ws i) (deepestOf (bitsOf ws i) v) best) (longest R a (4 * m + 4))
+  inner-rep : NodeOf R ws hs 4 m i p → (e v : ℕ) → m + suc e ≡ 8 → v < 16 → a / 2 ^ (4 * e) ≡ p * 16 + v → Rep hs
+      (betterOf (bitsOf ws i) (baseOf ws i) (deepestOf (bitsOf ws i) v) best) (longest R a (4 * m + 4))
   unfolding deepestOf
   inner-rep k e v d h x =
       rw (
@@ -144,9 +146,11 @@ module _ (R : Hops) (ws hs : List ℕ) (a m i p : ℕ) (best : Place) (r : Rep h
 -- where nothing lies below, no longer route matches
 below-zero : (R : Hops) (a m e l : ℕ) → m + suc e ≡ 8 → NoneBelow R m (a / 2 ^ (4 * e)) → 4 * (m + 1) ≤ l → l ≤ 32 → R l (a / 2 ^ (32 - l)) ≡ 0
 below-zero R a m e l d none h t =
-    none l (a / 2 ^ (32 - l)) h t (let q : (32 - l) + (l - 4 * (m + 1)) ≡ 4 * e = omega arith in shr-shr a (32 - l) (l - 4 * (m + 1)) ∙ ap (λ (k : ℕ). a / 2 ^ k) q)
+    none l (a / 2 ^ (32 - l)) h t (let q : (32 - l) + (l - 4 * (m + 1)) ≡ 4 * e = omega arith in shr-shr a (32 - l) (l - 4 * (m + 1)) ∙ ap
+    (λ (k : ℕ). a / 2 ^ k) q)
 
-no-longer : (R : Hops) (a m e : ℕ) → m + suc e ≡ 8 → NoneBelow R m (a / 2 ^ (4 * e)) → (k : ℕ) → 4 * (m + 1) ≤ k → k ≤ 33 → longest R a k ≡ longest R a (4 * m + 4)
+no-longer : (R : Hops) (a m e : ℕ) → m + suc e ≡ 8 → NoneBelow R m (a / 2 ^ (4 * e)) → (k : ℕ) → 4 * (m + 1) ≤ k → k ≤ 33 → longest R a k
+    ≡ longest R a (4 * m + 4)
 no-longer R a m e d none zero h t = absurd (omega arith)
 no-longer R a m e d none (suc l) h t =
     ⊎-elim
@@ -184,7 +188,8 @@ module _ (st : ℕ → ℕ → Bool) (R : Hops) (ws hs : List ℕ) (a : ℕ) whe
       rep = inner-rep R ws hs a m i p best r (k .0) d (a / 2 ^ (4 * d) % 16) e (omega arith) path
 
       go : (st (m + 1) (a / 2 ^ (4 * d)) ≡ true) ⊎ (st (m + 1) (a / 2 ^ (4 * d)) ≡ false)
-          → ((j : ℕ) (b : Place) → SubtreeHolds st R ws hs d (m + 1) j (a / 2 ^ (4 * d)) → Rep hs b (longest R a (4 * (m + 1))) → walkFrom d ws hs a j b ≡ treeHopSaid (longest R a 33) (readsFrom st a d (m + 1)))
+          → ((j : ℕ) (b : Place) → SubtreeHolds st R ws hs d (m + 1) j (a / 2 ^ (4 * d)) → Rep hs b (longest R a (4 * (m + 1)))
+          → walkFrom d ws hs a j b ≡ treeHopSaid (longest R a 33) (readsFrom st a d (m + 1)))
           → walkFrom (suc d) ws hs a i best ≡ treeHopSaid (longest R a 33) (cond (st (m + 1) (a / 2 ^ (4 * d))) (readsFrom st a d (m + 1)) (m + 1))
       go (inl o) ih =
           let kid = k .1 (a / 2 ^ (4 * d) % 16) (omega arith) (rw path at o) in
@@ -192,17 +197,20 @@ module _ (st : ℕ → ℕ → Bool) (R : Hops) (ws hs : List ℕ) (a : ℕ) whe
           let j : ℕ = childAt (bitsOf ws i) (childOf ws i) (a / 2 ^ (4 * d) % 16) in
           let b : Place = betterOf (bitsOf ws i) (baseOf ws i) (deepestOf (bitsOf ws i) (a / 2 ^ (4 * d) % 16)) best in
           rw o
-          (sym (walk-down ws hs a (suc d) i best _ refl (k .0 .here) _ refl (not-set (bitsOf ws i) 15 (k .0 .clear)) (λ (y : suc d ≡ 0). omega arith) _ nib _ refl b refl _ refl j (ap not (eq-eqb _ 1 (kid .0))) refl)
+          (sym (walk-down ws hs a (suc d) i best _ refl (k .0 .here) _ refl (not-set (bitsOf ws i) 15 (k .0 .clear))
+          (λ (y : suc d ≡ 0). omega arith) _ nib _ refl b refl _ refl j (ap not (eq-eqb _ 1 (kid .0))) refl)
           ∙ ap (λ (n : ℕ). walkFrom n ws hs a j b) less
           ∙ ih j b (subst (λ (y : ℕ). SubtreeHolds st R ws hs d (m + 1) j y) (sym path) (kid .1)) (rw deeper rep))
       go (inr z) ih =
           let none = k .2 (a / 2 ^ (4 * d) % 16) (omega arith) (rw path at z) in
           let n : 8 - (suc d - 1) ≡ m + 1 = omega arith in
           rw z
-          (sym (walk-stop ws hs a (suc d) i best _ refl (k .0 .here) _ refl (not-set (bitsOf ws i) 15 (k .0 .clear)) (λ (y : suc d ≡ 0). omega arith) _ nib _ refl _ refl _ refl _ (ap not (not-set (bitsOf ws i) (16 + a / 2 ^ (4 * d) % 16) (none .0)))
+          (sym (walk-stop ws hs a (suc d) i best _ refl (k .0 .here) _ refl (not-set (bitsOf ws i) 15 (k .0 .clear))
+          (λ (y : suc d ≡ 0). omega arith) _ nib _ refl _ refl _ refl _ (ap not (not-set (bitsOf ws i) (16 + a / 2 ^ (4 * d) % 16) (none .0)))
           (rw n (sym (fetched hs (m + 1) _ _ (rw (no-longer R a m d e (rw path (none .1)) 33 (omega arith) (omega arith)) rep))))))
 
 -- Where the image holds the routes R, the walk answers with the hop of the longest route that matches, and with the nodes on the address's path.
-pub walk-longest : (st : ℕ → ℕ → Bool) (R : Hops) (ws hs : List ℕ) (a : ℕ) → a < 2 ^ 32 → SubtreeHolds st R ws hs 8 0 0 0 → treeSaid ws hs a ≡ treeHopSaid (longest R a 33) (readsFrom st a 8 0)
+pub walk-longest : (st : ℕ → ℕ → Bool) (R : Hops) (ws hs : List ℕ) (a : ℕ) → a < 2 ^ 32 → SubtreeHolds st R ws hs 8 0 0 0 → treeSaid ws hs a
+    ≡ treeHopSaid (longest R a 33) (readsFrom st a 8 0)
 unfolding treeSaid down
 walk-longest st R ws hs a h k = found st R ws hs a 8 0 0 0 Nowhere refl (omega arith) k refl

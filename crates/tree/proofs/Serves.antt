@@ -55,7 +55,8 @@ here-passes m l q r lo hi e =
     let c : slot l (r .addr) ≡ q = eqb-true (slot l (r .addr)) q (s .1) in
     let k : 4 * m + (l - 4 * m) ≡ l = omega arith in
     both (le-leb (4 * m) (r .len) (omega arith))
-    (eq-eqb _ _ (sym (slot-up (4 * m) (l - 4 * m) (r .addr) (omega arith)) ∙ ap (λ (x : ℕ). slot x (r .addr) / 2 ^ (l - 4 * m)) k ∙ ap (λ (x : ℕ). x / 2 ^ (l - 4 * m)) c))
+    (eq-eqb _ _ (sym (slot-up (4 * m) (l - 4 * m) (r .addr) (omega arith)) ∙ ap (λ (x : ℕ). slot x (r .addr) / 2 ^ (l - 4 * m)) k ∙ ap
+    (λ (x : ℕ). x / 2 ^ (l - 4 * m)) c))
 
 pub agree : (rs : List Route) → Good rs → Agree (nodeStands rs) (hopFor rs)
 agree rs g = record {
@@ -124,7 +125,8 @@ module _ (t : ℕ → Bool) (down : (i : ℕ) → i < 7 → t (i + 1) ≡ true �
           rw (← here-is, z) (omega (arith, count-all t m all))
 
 pub path-count : (rs : List Route) (a : ℕ) → readsFrom (nodeStands rs) a 8 0 ≡ onPath rs a
-path-count rs a = reads-count (λ m. nodeStands rs (m + 1) (slot (4 * (m + 1)) a)) down (nodeStands rs) a (λ i l. refl) 8 0 refl (λ i l. absurd (not-suc-le-zero l))
+path-count rs a = reads-count (λ m. nodeStands rs (m + 1) (slot (4 * (m + 1)) a)) down (nodeStands rs) a (λ i l. refl) 8 0 refl
+    (λ i l. absurd (not-suc-le-zero l))
   where
     down : (i : ℕ) → i < 7 → nodeStands rs (i + 1 + 1) (slot (4 * (i + 1 + 1)) a) ≡ true → nodeStands rs (i + 1) (slot (4 * (i + 1)) a) ≡ true
     down i l = any-mono (through (i + 1 + 1) (slot (4 * (i + 1 + 1)) a)) (through (i + 1) (slot (4 * (i + 1)) a)) rs one
@@ -138,7 +140,8 @@ path-count rs a = reads-count (λ m. nodeStands rs (m + 1) (slot (4 * (m + 1)) a
         one r e =
             let s = and-split (leb (4 * (i + 1 + 1)) (r .len)) (eqb (slot (4 * (i + 1 + 1)) (r .addr)) (slot (4 * (i + 1 + 1)) a)) e in
             both (le-leb (4 * (i + 1)) (r .len) (omega (arith, leb-true (4 * (i + 1 + 1)) (r .len) (s .0))))
-            (eq-eqb (slot (4 * (i + 1)) (r .addr)) (slot (4 * (i + 1)) a) (sym (up (r .addr)) ∙ ap (λ (x : ℕ). x / 2 ^ 4) (eqb-true (slot (4 * (i + 1 + 1)) (r .addr)) (slot (4 * (i + 1 + 1)) a) (s .1)) ∙ up a))
+            (eq-eqb (slot (4 * (i + 1)) (r .addr)) (slot (4 * (i + 1)) a)
+            (sym (up (r .addr)) ∙ ap (λ (x : ℕ). x / 2 ^ 4) (eqb-true (slot (4 * (i + 1 + 1)) (r .addr)) (slot (4 * (i + 1 + 1)) a) (s .1)) ∙ up a))
 
 -- every address, on the image of a good list in arrays with room for it: the hop of the longest route that covers the address, or no
 -- route where that is 0, told after the nodes that stand on its path
@@ -148,7 +151,8 @@ unfolding imageBy
 image-serves rs w h a g l room space =
     let up = up-next (nodeStands rs) 8 in
     walk-longest (nodeStands rs) (hopFor rs) _ _ a l
-    (image-holds (nodeStands rs) (hopFor rs) (agree rs g) w h room (omega (arith, hops-need rs g)) 8 0 0 0 (omega (arith, ap length up)) (ap (λ (x : List Node). getD x 0 (node 0 0)) up))
+    (image-holds (nodeStands rs) (hopFor rs) (agree rs g) w h room (omega (arith, hops-need rs g)) 8 0 0 0 (omega (arith, ap length up))
+    (ap (λ (x : List Node). getD x 0 (node 0 0)) up))
     ∙ ap₂ treeHopSaid (sym (best-longest rs 32 a g (omega arith)) ∙ ap (best rs 32) (div-one a)) (path-count rs a)
 
 -- what is told so is served, with the count by the routes

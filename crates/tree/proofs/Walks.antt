@@ -98,18 +98,23 @@ module _ (ws hs : List ℕ) (a d i : ℕ) (best : Place) (said : Said) (walks : 
       unfolding sound
       is-sound = rw (lt-ltb i (length ws / 3) p, ← e, h)
 
-      pub walk-last : d ≡ 0 → (b : ℕ) (x : Place) (r : Said) → b ≡ tryBit (bitsOf ws i) 0 15 → x ≡ betterOf (bitsOf ws i) (baseOf ws i) b best → r ≡ fetchedFrom hs 9 x → r ≡ said
+      pub walk-last : d ≡ 0 → (b : ℕ) (x : Place) (r : Said) → b ≡ tryBit (bitsOf ws i) 0 15 → x ≡ betterOf (bitsOf ws i) (baseOf ws i) b best → r
+          ≡ fetchedFrom hs 9 x → r ≡ said
       unfolding walkFrom
       walk-last z b x r eb ex er =
           let q : fetchedFrom hs 9 (lastMatch ws i best) ≡ walkFrom d ws hs a i best = rw (z, is-sound) in
           rw (er, ex, eb) q ∙ walks
 
-      module _ (z : d ≡ 0 → ⊥) (v : ℕ) (ev : v ≡ nibbleOf a (d - 1)) (b : ℕ) (eb : b ≡ deepestOf (bitsOf ws i) v) (x : Place) (ex : x ≡ betterOf (bitsOf ws i) (baseOf ws i) b best) (s : Bool) (es : s ≡ isSet (bitsOf ws i) (16 + v)) where
+      module _ (z : d ≡ 0 → ⊥) (v : ℕ) (ev : v ≡ nibbleOf a (d - 1)) (b : ℕ) (eb : b ≡ deepestOf (bitsOf ws i) v) (x : Place)
+          (ex : x ≡ betterOf (bitsOf ws i) (baseOf ws i) b best) (s : Bool) (es : s ≡ isSet (bitsOf ws i) (16 + v)) where
         walk-inner : cond s (walkFrom (d - 1) ws hs a (childAt (bitsOf ws i) (childOf ws i) v) x) (fetchedFrom hs (8 - (d - 1)) x) ≡ said
         unfolding walkFrom
         walk-inner =
             let q : suc (d - 1) ≡ d = omega arith in
-            rw (es, ex, eb, ev) (ap (λ (t : Bool). cond t (cond (isSet (bitsOf ws i) (16 + nibbleOf a (d - 1))) (walkFrom (d - 1) ws hs a (childAt (bitsOf ws i) (childOf ws i) (nibbleOf a (d - 1))) (innerMatch ws i (nibbleOf a (d - 1)) best)) (fetchedFrom hs (8 - (d - 1)) (innerMatch ws i (nibbleOf a (d - 1)) best))) (refused 13)) (sym is-sound)
+            rw (es, ex, eb, ev) (ap (λ (t : Bool). cond t
+            (cond (isSet (bitsOf ws i) (16 + nibbleOf a (d - 1)))
+            (walkFrom (d - 1) ws hs a (childAt (bitsOf ws i) (childOf ws i) (nibbleOf a (d - 1))) (innerMatch ws i (nibbleOf a (d - 1)) best))
+            (fetchedFrom hs (8 - (d - 1)) (innerMatch ws i (nibbleOf a (d - 1)) best))) (refused 13)) (sym is-sound)
             ∙ ap (λ (k : ℕ). walkFrom k ws hs a i best) q) ∙ walks
 
         pub walk-stop : (r : Said) → not s ≡ true → r ≡ fetchedFrom hs (8 - (d - 1)) x → r ≡ said

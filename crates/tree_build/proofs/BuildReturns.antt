@@ -57,7 +57,11 @@ module _ (s : List ℕ) (n : ℕ) (ok : GoodInput s n) (x : ℕ) (ex : (x ≡ no
   module _ (l : x ≤ length ws / 3) where
     pub few-hops : length hs < n → imageOut (meansBuilt (Refused 12)) ws hs ≡ madeOf (routesIn s) ws hs
     unfolding madeOf meansBuilt
-    few-hops u = rw (le-ltb (length ws / 3) (nodeNeed (routesIn s)) (omega (arith, nodes-are)), lt-ltb (length hs) (length (routesIn s)) (omega (arith, routes-are)))
+    few-hops u = rw (
+      le-ltb (length ws / 3) (nodeNeed (routesIn s)) (omega (arith, nodes-are)),
+      lt-ltb (length hs) (length (routesIn s))
+          (omega (arith, routes-are)),
+    )
 
     module _ (u : n ≤ length hs) where
       pub roomy : ImageRoom s (length ws) (length hs)
@@ -72,10 +76,19 @@ module _ (s : List ℕ) (n : ℕ) (ok : GoodInput s n) (x : ℕ) (ex : (x ≡ no
             hops-fit = omega (arith, h, routes-are, ok .records .few);
           }
 
-      pub made : (ws′ hs′ : List ℕ) → ImageFilled s ws hs ws′ hs′ → (a b : ℕ) → a ≡ x → b ≡ n → imageOut (meansBuilt (Made a b)) ws′ hs′ ≡ madeOf (routesIn s) ws hs
+      pub made : (ws′ hs′ : List ℕ) → ImageFilled s ws hs ws′ hs′ → (a b : ℕ) → a ≡ x → b ≡ n → imageOut (meansBuilt (Made a b)) ws′ hs′ ≡ madeOf
+          (routesIn s) ws hs
       unfolding madeOf meansBuilt
       made ws′ hs′ f a b ea eb =
-          rw (le-ltb (length ws / 3) (nodeNeed (routesIn s)) (omega (arith, nodes-are)), le-ltb (length hs) (length (routesIn s)) (omega (arith, routes-are)), f .words, f .hops, ea ∙ nodes-are, eb ∙ sym routes-are)
+          rw (
+            le-ltb (length ws / 3) (nodeNeed (routesIn s)) (omega (arith, nodes-are)),
+            le-ltb (length hs) (length (routesIn s))
+                (omega (arith, routes-are)),
+            f .words,
+            f .hops,
+            ea ∙ nodes-are,
+            eb ∙ sym routes-are,
+          )
 
 -- the arms of the input's check
 module _ (s : List ℕ) (i : Input) (e : meansInput i ≡ inputSaid s) (ws hs : List ℕ) where

@@ -60,7 +60,16 @@ module _ (s : List ℕ) (w h : ℕ) (room : ImageRoom s w h) (ws₀ hs : List �
       waits =
           let at = put3-at ws₀ 0 0 0 n root-room in
           rw eq
-          record { start = 0; stop = length s / 8; depth = at .0; from = at .1; upto = at .2 ∙ en; is = ap (node 0) (sym (root-path s (room .records) (room .whole))); run = root-run s (room .records) }
+          record {
+            start = 0;
+            stop = length s / 8;
+            depth = at .0;
+            from = at .1;
+            upto = at .2 ∙ en;
+            is = ap (node 0)
+                (sym (root-path s (room .records) (room .whole)));
+            run = root-run s (room .records);
+          }
 
 -- when no node waits
 module _ (s ws hs : List ℕ) (i t h : ℕ) (now : State s ws hs i t h) (l : t ≤ i) where

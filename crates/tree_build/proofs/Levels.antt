@@ -93,7 +93,8 @@ module _ (s : List ℕ) (good : Records s (length s / 8)) (d : ℕ) where
         p .0,
         fresh-make (firstIn j) (subst (λ (x : ℕ). throughAt s m x (firstIn j) ≡ true) (sym q) (p .1))
             (λ u. subst (λ (x : ℕ). throughAt s m x (firstIn j - 1) ≡ false) (sym q) (firstOf-before (throughAt s m (path j)) n (firstIn j - 1) (omega arith))),
-        firstOf-is (λ i. eqb (path i) (pathAt s m (firstIn j))) (length ns) j (omega arith) (λ i u. ne-eqb _ _ (λ (e : path i ≡ pathAt s m (firstIn j)). omega (arith, is .rises i j u l, q))) (λ u. eq-eqb _ _ (sym q)),
+        firstOf-is (λ i. eqb (path i) (pathAt s m (firstIn j))) (length ns) j (omega arith)
+            (λ i u. ne-eqb _ _ (λ (e : path i ≡ pathAt s m (firstIn j)). omega (arith, is .rises i j u l, q))) (λ u. eq-eqb _ _ (sym q)),
       )
 
   pub level-size : count (freshAt s m) n ≡ length ns

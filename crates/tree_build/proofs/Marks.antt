@@ -33,7 +33,8 @@ bit-pow b k = go (equal? k b) (below? k b)
         let e : b ≡ 1 + (b - suc k) + k = omega arith in
         let p : 2 ^ b ≡ 2 ^ (1 + (b - suc k)) * 2 ^ k = ap (λ (x : ℕ). 2 ^ x) e ∙ pow-add 2 (1 + (b - suc k)) k in
         rw (ne-eqb k b n)
-        (ap (λ (x : ℕ). x / 2 ^ k % 2) p ∙ ap (λ (x : ℕ). x % 2) (shl-shr (2 ^ (1 + (b - suc k))) k) ∙ ap (λ (x : ℕ). x % 2) (pow-add 2 1 (b - suc k)) ∙ omega arith)
+        (ap (λ (x : ℕ). x / 2 ^ k % 2) p ∙ ap (λ (x : ℕ). x % 2) (shl-shr (2 ^ (1 + (b - suc k))) k) ∙ ap (λ (x : ℕ). x % 2)
+        (pow-add 2 1 (b - suc k)) ∙ omega arith)
     go (inr n) (inr l) = rw (ne-eqb k b n) (ap (λ (x : ℕ). x % 2) (div-eq-of-lt (pow-lt {i = b} {j = k} (omega arith))))
 
 or-bit : (x : ℕ) (t : Bool) → x < 2 → bitOr x (bit t) ≡ cond t 1 x
@@ -45,7 +46,8 @@ or-bit x false h = or-zero-r x
 pub with-bit : (w b : ℕ) → w < 2 ^ 32 → b < 32 → WithBit w b (bitOr w ((1 * 2 ^ b) % 2 ^ 32))
 with-bit w b h l = record {
   fits = or-lt 32 w _ h (mod-lt (1 * 2 ^ b) (pow-pos 32));
-  bits = λ k. ap (λ (x : ℕ). bitAt (bitOr w x) k) (shl-one 32 b l) ∙ bit-or w (2 ^ b) k ∙ ap (bitOr (bitAt w k)) (bit-pow b k) ∙ or-bit (bitAt w k) (eqb k b) (omega arith);
+  bits = λ k. ap (λ (x : ℕ). bitAt (bitOr w x) k) (shl-one 32 b l) ∙ bit-or w (2 ^ b) k ∙ ap (bitOr (bitAt w k)) (bit-pow b k) ∙ or-bit (bitAt w k)
+      (eqb k b) (omega arith);
 }
 
 -- a number is its bits
@@ -71,7 +73,8 @@ module _ (m len : ℕ) (low : 4 * m ≤ len) (short : len < 4 * (m + 1)) where
       → ((1 * 2 ^ (len - 4 * m)) % 2 ^ 32 - 1 + bitAnd x ((1 * 2 ^ (len - 4 * m)) % 2 ^ 32 - 1) ≡ nodeBit m addr len)
       × ((1 * 2 ^ (len - 4 * m)) % 2 ^ 32 - 1 + bitAnd x ((1 * 2 ^ (len - 4 * m)) % 2 ^ 32 - 1) < 32)
   unfolding nodeBit
-  inner-place addr x e = rw (size .0, e, and-mask, lt-ltb len (4 * (m + 1)) short) (refl, omega (arith, size .2, mod-lt (slot len addr) (pow-pos (len - 4 * m))))
+  inner-place addr x e = rw (size .0, e, and-mask, lt-ltb len (4 * (m + 1)) short)
+      (refl, omega (arith, size .2, mod-lt (slot len addr) (pow-pos (len - 4 * m))))
 
 pub outer-place : (m addr len : ℕ) → 4 * (m + 1) ≤ len → (x : ℕ) → x ≡ slot (4 * (m + 1)) addr → (16 + x % 16 ≡ nodeBit m addr len) × (16 + x % 16 < 32)
 unfolding nodeBit

@@ -68,7 +68,8 @@ module _ (s : List ℕ) (good : Records s (length s / 8)) where
       go (inr t) = pass-make m p (recordAt s j) t same
       go (inl t) =
           let top : 4 * m ≤ 32 = omega (arith, pi .0, short i (omega arith)) in
-          let clear : cut (4 * m) (recordAt s j .addr) ≡ recordAt s j .addr = cut-more (recordAt s j .len) (4 * m) (recordAt s j .addr) (omega arith) top (good .each j (omega arith) .prefix .clear) in
+          let clear : cut (4 * m) (recordAt s j .addr) ≡ recordAt s j .addr = cut-more (recordAt s j .len) (4 * m) (recordAt s j .addr)
+          (omega arith) top (good .each j (omega arith) .prefix .clear) in
           let equal : cut (4 * m) (recordAt s j .addr) ≡ cut (4 * m) (recordAt s i .addr) =
           cut-is (4 * m) (recordAt s j .addr) ∙ ap (λ (x : ℕ). x * 2 ^ (32 - 4 * m)) (same ∙ sym (pi .1)) ∙ sym (cut-is (4 * m) (recordAt s i .addr)) in
           absurd (omega (arith, clear, equal, cut-le (4 * m) (recordAt s i .addr), good .rises i j a (omega arith), pi .0))
@@ -86,7 +87,8 @@ module _ (s : List ℕ) (good : Records s (length s / 8)) where
   module _ (m p a e x r : ℕ) (run : ThroughRun s m p a e) (low : a ≤ x) (high : x < e) (long : 4 * (m + 1) ≤ recordAt s x .len)
       (none : (y : ℕ) → a ≤ y → y < x → throughAt s (m + 1) (pathAt s (m + 1) x) y ≡ false) (end : RunEnd s (m + 1) x e r) where
     its-path : pathAt s (m + 1) x ≡ p * 16 + kidOf m (recordAt s x)
-    its-path = pass-parts (m + 1) (p * 16 + kidOf m (recordAt s x)) (recordAt s x) (kid-at m p (recordAt s x) (short x (omega (arith, run .last))) (run .inside x low high) long) .1
+    its-path = pass-parts (m + 1) (p * 16 + kidOf m (recordAt s x)) (recordAt s x)
+        (kid-at m p (recordAt s x) (short x (omega (arith, run .last))) (run .inside x low high) long) .1
 
     own : throughAt s (m + 1) (pathAt s (m + 1) x) x ≡ true
     own = pass-make (m + 1) (pathAt s (m + 1) x) (recordAt s x) long refl
@@ -97,7 +99,8 @@ module _ (s : List ℕ) (good : Records s (length s / 8)) where
       last = omega (arith, end .high, run .last);
       inside = λ k l u. inside k u (eq-or-lt-of-le l);
       only = λ k l t.
-          let w = run .only k l (up-pass m p (kidOf m (recordAt s x)) (recordAt s k) (omega arith) (short k l) (subst (λ (y : ℕ). throughAt s (m + 1) y k ≡ true) its-path t)) in
+          let w = run .only k l (up-pass m p (kidOf m (recordAt s x)) (recordAt s k) (omega arith) (short k l)
+          (subst (λ (y : ℕ). throughAt s (m + 1) y k ≡ true) its-path t)) in
           (from k t w (below? k x), upto k l t w (below? k r));
     }
       where

@@ -86,7 +86,8 @@ module _ (s : List ℕ) (n : ℕ) where
 
   pub depth-counted : (m x y : ℕ) → x ≡ nodesTo s n m → y ≡ count (freshAt s (m + 1)) n → x + y ≡ nodesTo s n (m + 1)
   unfolding nodesTo
-  depth-counted m x y e f = ap₂ (λ (u v : ℕ). u + v) e f ∙ ap (λ (z : ℕ). nodesTo s n m + count (freshAt s z) n) (add-one m) ∙ ap (nodesTo s n) (sym (add-one m))
+  depth-counted m x y e f = ap₂ (λ (u v : ℕ). u + v) e f ∙ ap (λ (z : ℕ). nodesTo s n m + count (freshAt s z) n) (add-one m) ∙ ap (nodesTo s n)
+      (sym (add-one m))
 
   pub depths-counted : (m x : ℕ) → m ≤ 8 → 8 ≤ m → x ≤ 1 + m * 4096 → x ≡ nodesTo s n m → (x ≡ nodesTo s n 8) × (x ≤ 32769)
   depths-counted m x l u h e = let q : m ≡ 8 = omega arith in (rw q at e, omega arith)

@@ -26,9 +26,11 @@ made-accepts : (rs : List Route) (ws hs vs : List ℕ) → Good rs → madeOf rs
 unfolding madeOf
 made-accepts rs ws hs vs g e = go (below? (length ws / 3) (nodeNeed rs)) (below? (length hs) (length rs))
   where
-    go : (length ws / 3 < nodeNeed rs) ⊎ (nodeNeed rs ≤ length ws / 3) → (length hs < length rs) ⊎ (length rs ≤ length hs) → AcceptedBuild rs ws hs vs (madeOf rs ws hs)
+    go : (length ws / 3 < nodeNeed rs) ⊎ (nodeNeed rs ≤ length ws / 3) → (length hs < length rs) ⊎ (length rs ≤ length hs)
+        → AcceptedBuild rs ws hs vs (madeOf rs ws hs)
     go (inl l) v = absurd (let f : refused 11 ≡ accepted vs = rw (lt-ltb (length ws / 3) (nodeNeed rs) l) at e in let z : _≡_ {A = ℕ} 0 1 = cc in omega arith)
-    go (inr l) (inl v) = absurd (let f : refused 12 ≡ accepted vs = rw (le-ltb (length ws / 3) (nodeNeed rs) l, lt-ltb (length hs) (length rs) v) at e in let z : _≡_ {A = ℕ} 0 1 = cc in omega arith)
+    go (inr l) (inl v) = absurd (let f : refused 12 ≡ accepted vs = rw
+        (le-ltb (length ws / 3) (nodeNeed rs) l, lt-ltb (length hs) (length rs) v) at e in let z : _≡_ {A = ℕ} 0 1 = cc in omega arith)
     go (inr l) (inr v) =
         let f : accepted (nodeNeed rs ∷ length rs ∷ []) ≡ accepted vs = rw (le-ltb (length ws / 3) (nodeNeed rs) l, le-ltb (length hs) (length rs) v) at e in
         record {
@@ -64,11 +66,13 @@ pub refused-leaves : (s ws hs : List ℕ) → ((vs : List ℕ) → built s ws hs
 unfolding built madeOf
 refused-leaves s ws hs n = go (inputSaid s) n
   where
-    made : ((vs : List ℕ) → madeOf (routesIn s) ws hs .said ≡ accepted vs → ⊥) → (length ws / 3 < nodeNeed (routesIn s)) ⊎ (nodeNeed (routesIn s) ≤ length ws / 3) → (length hs < length (routesIn s)) ⊎ (length (routesIn s) ≤ length hs)
+    made : ((vs : List ℕ) → madeOf (routesIn s) ws hs .said ≡ accepted vs → ⊥) → (length ws / 3 < nodeNeed (routesIn s)) ⊎
+        (nodeNeed (routesIn s) ≤ length ws / 3) → (length hs < length (routesIn s)) ⊎ (length (routesIn s) ≤ length hs)
         → (madeOf (routesIn s) ws hs .words ≡ ws) × (madeOf (routesIn s) ws hs .hops ≡ hs)
     made k (inl l) v = rw (lt-ltb (length ws / 3) (nodeNeed (routesIn s)) l) (refl, refl)
     made k (inr l) (inl v) = rw (le-ltb (length ws / 3) (nodeNeed (routesIn s)) l, lt-ltb (length hs) (length (routesIn s)) v) (refl, refl)
-    made k (inr l) (inr v) = absurd (k (nodeNeed (routesIn s) ∷ length (routesIn s) ∷ []) (rw (le-ltb (length ws / 3) (nodeNeed (routesIn s)) l, le-ltb (length hs) (length (routesIn s)) v) refl))
+    made k (inr l) (inr v) = absurd (k (nodeNeed (routesIn s) ∷ length (routesIn s) ∷ [])
+        (rw (le-ltb (length ws / 3) (nodeNeed (routesIn s)) l, le-ltb (length hs) (length (routesIn s)) v) refl))
 
     go : (x : Said) → ((vs : List ℕ) → afterInput x s ws hs .said ≡ accepted vs → ⊥) → (afterInput x s ws hs .words ≡ ws) × (afterInput x s ws hs .hops ≡ hs)
     go (accepted vs) k = made k (below? (length ws / 3) (nodeNeed (routesIn s))) (below? (length hs) (length (routesIn s)))

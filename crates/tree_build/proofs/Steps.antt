@@ -98,14 +98,19 @@ module _ (s ws hs : List ℕ) (i t h : ℕ) (next : NodeWaits s ws hs i t h) whe
         record {
           records = good;
           deep = omega (arith, depth-lt (standsIn s) 9 i (node 0 0) here, qm);
-          run = subst (λ (x : ℕ). ThroughRun s m (pathAt s m a) a x) qe (subst (λ (x : ℕ). ThroughRun s m (pathAt s m a) x (w .stop)) qa (subst (λ (x : ℕ). ThroughRun s m x (w .start) (w .stop)) qp (subst (λ (x : ℕ). ThroughRun s x (nodeIn s i .path) (w .start) (w .stop)) qm r)));
+          run = subst (λ (x : ℕ). ThroughRun s m (pathAt s m a) a x) qe
+              (subst (λ (x : ℕ). ThroughRun s m (pathAt s m a) x (w .stop)) qa
+              (subst (λ (x : ℕ). ThroughRun s m x (w .start) (w .stop)) qp
+              (subst (λ (x : ℕ). ThroughRun s x (nodeIn s i .path) (w .start) (w .stop)) qm r)));
         }
 
     kids-next : kidsBefore s (i + 1) ≡ kidsBefore s i + count (childIn s m a) 16
-    kids-next = before-next (kids (standsIn s)) (nodesIn s) i (node 0 0) here ∙ ap (λ (x : ℕ). kidsBefore s i + x) (kids-count s (nodeIn s i) ∙ ap (λ (n : Node). count (child (standsIn s) n) 16) node-is)
+    kids-next = before-next (kids (standsIn s)) (nodesIn s) i (node 0 0) here ∙ ap (λ (x : ℕ). kidsBefore s i + x)
+        (kids-count s (nodeIn s i) ∙ ap (λ (n : Node). count (child (standsIn s) n) 16) node-is)
 
     hops-next : hopsBefore s (i + 1) ≡ hopsBefore s i + count (innerIn s m a) 15
-    hops-next = before-next (hopsOf (hopIn s)) (nodesIn s) i (node 0 0) here ∙ ap (λ (x : ℕ). hopsBefore s i + x) (hops-count s (nodeIn s i) ∙ ap (λ (n : Node). count (inner (hopIn s) n) 15) node-is)
+    hops-next = before-next (hopsOf (hopIn s)) (nodesIn s) i (node 0 0) here ∙ ap (λ (x : ℕ). hopsBefore s i + x)
+        (hops-count s (nodeIn s i) ∙ ap (λ (n : Node). count (inner (hopIn s) n) 15) node-is)
 
     module _ (word : ℕ) (ew : word ≡ wordIn s m a) where
       pub hops-ready : HopsReady s m a e word h hs
@@ -118,7 +123,8 @@ module _ (s ws hs : List ℕ) (i t h : ℕ) (next : NodeWaits s ws hs i t h) whe
         pub node-room : 3 * i + 3 ≤ length ws₁
         node-room = omega (arith, next .whole, K .same)
 
-        module _ (t₁ h₁ : ℕ) (et : t₁ ≡ t) (eh : h₁ ≡ h) (ws′ : List ℕ) (eq : ws′ ≡ put3 ws₁ i word t₁ h₁) (t′ h′ : ℕ) (et′ : t′ ≡ ones (word / 2 ^ 16 % 2 ^ 16)) (eh′ : h′ ≡ ones (word % 2 ^ 15)) where
+        module _ (t₁ h₁ : ℕ) (et : t₁ ≡ t) (eh : h₁ ≡ h) (ws′ : List ℕ) (eq : ws′ ≡ put3 ws₁ i word t₁ h₁) (t′ h′ : ℕ)
+            (et′ : t′ ≡ ones (word / 2 ^ 16 % 2 ^ 16)) (eh′ : h′ ≡ ones (word % 2 ^ 15)) where
           more-kids : t′ ≡ count (childIn s m a) 16
           more-kids = et′ ∙ ap (λ (x : ℕ). ones (x / 2 ^ 16 % 2 ^ 16)) ew ∙ child-ones s m a 16 (omega arith)
 
@@ -148,7 +154,8 @@ module _ (s ws hs : List ℕ) (i t h : ℕ) (next : NodeWaits s ws hs i t h) whe
                 bits = at .0 ∙ ew ∙ ap (image.word (standsIn s) (hopIn s)) (sym node-is);
                 child = at .1 ∙ et ∙ now .tail;
                 base = at .2 ∙ eh ∙ now .hop;
-                put = subst (λ (n : Node). (b : ℕ) → b < 15 → inner (hopIn s) n b ≡ true → getD hs′ (hopsBefore s i + count (inner (hopIn s) n) b) 0 ≡ bitHop (hopIn s) n b) (sym node-is)
+                put = subst (λ (n : Node). (b : ℕ) → b < 15 → inner (hopIn s) n b ≡ true → getD hs′ (hopsBefore s i + count (inner (hopIn s) n) b) 0
+                    ≡ bitHop (hopIn s) n b) (sym node-is)
                     (λ b lb o. ap (λ (y : ℕ). getD hs′ (y + count (innerIn s m a) b) 0) (sym (now .hop)) ∙ H .put b lb o);
               }
           done-next x (inr u) =
@@ -161,7 +168,8 @@ module _ (s ws hs : List ℕ) (i t h : ℕ) (next : NodeWaits s ws hs i t h) whe
               }
 
           wait-next : (x : ℕ) → i + 1 ≤ x → x < t + t′ → (x < t) ⊎ (t ≤ x) → Waits s ws′ x (nodeIn s x)
-          wait-next x l u (inl v) = waits-still s ws ws′ x (nodeIn s x) (λ j p q. far j (inr (omega arith)) ∙ K .below j (omega arith)) (now .wait x (omega arith) v)
+          wait-next x l u (inl v) = waits-still s ws ws′ x (nodeIn s x) (λ j p q. far j (inr (omega arith)) ∙ K .below j (omega arith))
+              (now .wait x (omega arith) v)
           wait-next x l u (inr v) =
               let r = count-hit (childIn s m a) 16 (x - t) (omega (arith, more-kids)) in
               let g = child-place (standsIn s) (nine s good) i (nodeAt s m a) (r .0) here node-is (r .1) (r .2) in

@@ -23,7 +23,8 @@ module _ (ws : List ℕ) (x a b d : ℕ) where
       far (inl l) y u q = omega arith
       far (inr l) y u q = omega arith
 
-  pub put3-at : 3 * x + 3 ≤ length ws → (getD (put3 ws x a b d) (3 * x) 0 ≡ a) × (getD (put3 ws x a b d) (3 * x + 1) 0 ≡ b) × (getD (put3 ws x a b d) (3 * x + 2) 0 ≡ d)
+  pub put3-at : 3 * x + 3 ≤ length ws → (getD (put3 ws x a b d) (3 * x) 0 ≡ a) × (getD (put3 ws x a b d) (3 * x + 1) 0 ≡ b) ×
+      (getD (put3 ws x a b d) (3 * x + 2) 0 ≡ d)
   put3-at r = (
     getD-set-other (set (set ws (3 * x) a) (3 * x + 1) b) (3 * x + 2) (3 * x) d 0 (λ (q : 3 * x ≡ 3 * x + 2). omega arith)
         ∙ getD-set-other (set ws (3 * x) a) (3 * x + 1) (3 * x) b 0 (λ (q : 3 * x ≡ 3 * x + 1). omega arith)

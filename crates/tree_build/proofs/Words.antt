@@ -42,7 +42,8 @@ module _ (s : List ℕ) (m a e : ℕ) (its : NodeRun s m a e) where
 
   -- a record that ends in the node: its bit, and the hop there
   pub own-bit : (x : ℕ) → a ≤ x → x < e → recordAt s x .len < 4 * (m + 1)
-      → (bitOf m (recordAt s x) < 15) × (nodeBitAt s m x ≡ bitOf m (recordAt s x)) × (bitHop (hopIn s) (nodeAt s m a) (bitOf m (recordAt s x)) ≡ recordAt s x .hop) × (innerIn s m a (bitOf m (recordAt s x)) ≡ true)
+      → (bitOf m (recordAt s x) < 15) × (nodeBitAt s m x ≡ bitOf m (recordAt s x)) ×
+      (bitHop (hopIn s) (nodeAt s m a) (bitOf m (recordAt s x)) ≡ recordAt s x .hop) × (innerIn s m a (bitOf m (recordAt s x)) ≡ true)
   unfolding bitHop
   own-bit x l u w =
       let k = bit-at m p (recordAt s x) (short s (its .records) x (inside x u)) (its .run .inside x l u) w in
@@ -64,7 +65,8 @@ module _ (s : List ℕ) (m a e : ℕ) (its : NodeRun s m a e) where
 
   -- a longer record: its child
   pub own-kid : (x : ℕ) → a ≤ x → x < e → 4 * (m + 1) ≤ recordAt s x .len
-      → (nodeBitAt s m x ≡ 16 + kidOf m (recordAt s x)) × (pathAt s (m + 1) x ≡ p * 16 + kidOf m (recordAt s x)) × (childIn s m a (kidOf m (recordAt s x)) ≡ true)
+      → (nodeBitAt s m x ≡ 16 + kidOf m (recordAt s x)) × (pathAt s (m + 1) x ≡ p * 16 + kidOf m (recordAt s x)) ×
+      (childIn s m a (kidOf m (recordAt s x)) ≡ true)
   own-kid x l u w =
       let t = kid-at m p (recordAt s x) (short s (its .records) x (inside x u)) (its .run .inside x l u) w in (
         place-outer m (recordAt s x .addr) (recordAt s x .len) w,
@@ -128,7 +130,8 @@ marks-none s m a = record {
   only = λ b o. let z : 0 / 2 ^ b ≡ 0 = div-eq-of-lt (pow-pos b) in absurd (omega arith);
 }
 
-pub marks-more : (s : List ℕ) (m a k word b v : ℕ) (r : Route) (w : ℕ) → MarksTo s m a k word → a ≤ k → r ≡ recordAt s k → w ≡ r .len → b ≡ nodeBit m (r .addr) w → WithBit word b v → MarksTo s m a (k + 1) v
+pub marks-more : (s : List ℕ) (m a k word b v : ℕ) (r : Route) (w : ℕ) → MarksTo s m a k word → a ≤ k → r ≡ recordAt s k → w ≡ r .len → b ≡ nodeBit m
+    (r .addr) w → WithBit word b v → MarksTo s m a (k + 1) v
 marks-more s m a k word b v r w h l is ew eb n = record {
   fits = n .fits;
   put = λ x u v. n .bits (nodeBitAt s m x) ∙ put x u (eq-or-lt-of-le {n = x} {m = k} (omega arith)) (decided (eqb (nodeBitAt s m x) b));
@@ -138,7 +141,8 @@ marks-more s m a k word b v r w h l is ew eb n = record {
     e : b ≡ nodeBitAt s m k
     e = its-place s m k r is w ew b eb
 
-    put : (x : ℕ) → a ≤ x → (x ≡ k) ⊎ (x < k) → (eqb (nodeBitAt s m x) b ≡ true) ⊎ (eqb (nodeBitAt s m x) b ≡ false) → cond (eqb (nodeBitAt s m x) b) 1 (bitAt word (nodeBitAt s m x)) ≡ 1
+    put : (x : ℕ) → a ≤ x → (x ≡ k) ⊎ (x < k) → (eqb (nodeBitAt s m x) b ≡ true) ⊎ (eqb (nodeBitAt s m x) b ≡ false) → cond
+        (eqb (nodeBitAt s m x) b) 1 (bitAt word (nodeBitAt s m x)) ≡ 1
     put x u v (inl t) = rw t
     put x u (inr v) (inr t) = rw t (h .put x u v)
     put x u (inl q) (inr t) = absurd (true≢false (sym (eq-eqb (nodeBitAt s m x) b (ap (nodeBitAt s m) q ∙ sym e)) ∙ t))
@@ -150,9 +154,11 @@ marks-more s m a k word b v r w h l is ew eb n = record {
 pub marks-word : (s : List ℕ) (m a e k w : ℕ) → NodeRun s m a e → k ≤ e → e ≤ k → MarksTo s m a k w → w ≡ wordIn s m a
 unfolding word
 marks-word s m a e k w its l u h =
-    word-bits w (setBit (standsIn s) (hopIn s) (nodeAt s m a)) (h .fits) (λ b v. go b v (decided (setBit (standsIn s) (hopIn s) (nodeAt s m a) b)) (below? (bitAt w b) 1))
+    word-bits w (setBit (standsIn s) (hopIn s) (nodeAt s m a)) (h .fits)
+    (λ b v. go b v (decided (setBit (standsIn s) (hopIn s) (nodeAt s m a) b)) (below? (bitAt w b) 1))
   where
-    go : (b : ℕ) → b < 32 → (setBit (standsIn s) (hopIn s) (nodeAt s m a) b ≡ true) ⊎ (setBit (standsIn s) (hopIn s) (nodeAt s m a) b ≡ false) → (bitAt w b < 1) ⊎ (1 ≤ bitAt w b)
+    go : (b : ℕ) → b < 32 → (setBit (standsIn s) (hopIn s) (nodeAt s m a) b ≡ true) ⊎ (setBit (standsIn s) (hopIn s) (nodeAt s m a) b ≡ false) →
+        (bitAt w b < 1) ⊎ (1 ≤ bitAt w b)
         → bitAt w b ≡ bit (setBit (standsIn s) (hopIn s) (nodeAt s m a) b)
     go b v (inl t) o =
         let f = set-by s m a e its b v t in

@@ -49,7 +49,8 @@ module _ {rs : List Route} {ws hs ws′ hs′ : List ℕ} {n : ℕ} (b : Become 
   pub made-so : imageOut (accepted (n ∷ k ∷ [])) ws′ hs′ ≡ madeOf rs ws hs
   made-so =
       ap₂ (λ (x y : List ℕ). imageOut (accepted (n ∷ k ∷ [])) x y) (b .words) (b .hops)
-      ∙ ap₂ (λ (x y : ℕ). imageOut (accepted (x ∷ y ∷ [])) (imageOf rs (length ws) (length hs) .words) (imageOf rs (length ws) (length hs) .hops)) (b .nodes) count
+      ∙ ap₂ (λ (x y : ℕ). imageOut (accepted (x ∷ y ∷ [])) (imageOf rs (length ws) (length hs) .words) (imageOf rs (length ws) (length hs) .hops))
+      (b .nodes) count
       ∙ sym (made-fits rs ws hs (omega (arith, b .nodes)) (omega (arith, count)))
 
 -- the hops of an image are its routes
@@ -80,7 +81,8 @@ module _ {ws hs : List ℕ} {n k x m a len h b : ℕ} (r : New ws hs n k x m a l
     unfolding putTo
     put-some = rw (le-ltb 4096 (length (insert r₁ rs)) (omega (arith, one-more)), r .absent) refl
 
-    pub told-eleven : (more : ℕ) → more ≡ len / 4 - m → length ws / 3 < n + more → imageOut (meansTreeAnnounced (announced.Refused 11)) ws hs ≡ putTo rs r₁ ws hs
+    pub told-eleven : (more : ℕ) → more ≡ len / 4 - m → length ws / 3 < n + more → imageOut (meansTreeAnnounced (announced.Refused 11)) ws hs
+        ≡ putTo rs r₁ ws hs
     unfolding meansTreeAnnounced madeOf
     told-eleven more e u = sym (put-some ∙ rw (lt-ltb (length ws / 3) (nodeNeed (insert r₁ rs)) (omega (arith, new-need r))) refl)
 
@@ -115,7 +117,8 @@ module _ {ws hs : List ℕ} {n k x a len b : ℕ} (r : Standing ws hs n k x a le
       → imageOut (meansTreeAnnounced (announced.Replaced p q)) ws hs′ ≡ putTo ss (unmarkedRoute a len h) ws hs
   unfolding meansTreeAnnounced putTo
   told-replaced {hs′} g p q ep eq =
-      let c : length (insert (unmarkedRoute a len h) ss) ≡ k = insert-replaces (unmarkedRoute a len h) ss (r .found .good) (r .stood) ∙ sym (routes-are (r .found)) in
+      let c : length (insert (unmarkedRoute a len h) ss) ≡ k = insert-replaces (unmarkedRoute a len h) ss (r .found .good) (r .stood) ∙ sym
+      (routes-are (r .found)) in
       rw (le-ltb 4096 (length (insert (unmarkedRoute a len h) ss)) (omega (arith, c, r .found .few-hops)), r .stood)
       (ap₂ (λ (y z : ℕ). imageOut (accepted (1 ∷ y ∷ z ∷ [])) ws hs′) ep eq
       ∙ made-is g (r .found .holds .order .lent) k (sym c) (omega (arith, r .found .holds .room, r .found .hops)) 1)
@@ -216,7 +219,8 @@ is-fine a len h p q = let k = hop-true h q in record { prefix = prefix-true a le
 pub passed-prefix : (a len : ℕ) (t : Bool) → t ≡ properPrefix a len → not t ≡ false → (l : ℕ) → l ≡ len → Prefix a l
 passed-prefix a len t e q l el = subst (λ (z : ℕ). Prefix a z) (sym el) (prefix-true a len (not-failed t (properPrefix a len) e q))
 
-pub passed-route : (a len h : ℕ) (t u : Bool) → t ≡ properPrefix a len → not t ≡ false → u ≡ hopFine h → not u ≡ false → (l : ℕ) → l ≡ len → Fine (unmarkedRoute a l h)
+pub passed-route : (a len h : ℕ) (t u : Bool) → t ≡ properPrefix a len → not t ≡ false → u ≡ hopFine h → not u ≡ false → (l : ℕ) → l ≡ len → Fine
+    (unmarkedRoute a l h)
 passed-route a len h t u et qt eu qu l el =
     subst (λ (z : ℕ). Fine (unmarkedRoute a z h)) (sym el) (is-fine a len h (not-failed t (properPrefix a len) et qt) (not-failed u (hopFine h) eu qu))
 
@@ -226,7 +230,8 @@ module _ (ws hs : List ℕ) (a len : ℕ) where
   unfolding meansTreeAnnounced imageAnnounced
   announced-three h t e q = rw (sym e ∙ not-true t q) refl
 
-  pub withdrawn-three : (t : Bool) → t ≡ properPrefix a len → not t ≡ true → imageOut (meansTreeWithdrawn (withdrawn.Refused 3)) ws hs ≡ imageWithdrawn ws hs a len
+  pub withdrawn-three : (t : Bool) → t ≡ properPrefix a len → not t ≡ true → imageOut (meansTreeWithdrawn (withdrawn.Refused 3)) ws hs
+      ≡ imageWithdrawn ws hs a len
   unfolding meansTreeWithdrawn imageWithdrawn
   withdrawn-three t e q = rw (sym e ∙ not-true t q) refl
 
@@ -234,7 +239,8 @@ module _ (ws hs : List ℕ) (a len : ℕ) where
     pub proper : properPrefix a len ≡ true
     proper = not-failed t (properPrefix a len) et qt
 
-    pub withdrawn-broken : (n : ℕ) → n ≡ nodesIf (wellFormed ws hs) ws → n ≡ 0 → imageOut (meansTreeWithdrawn (withdrawn.Refused 13)) ws hs ≡ imageWithdrawn ws hs a len
+    pub withdrawn-broken : (n : ℕ) → n ≡ nodesIf (wellFormed ws hs) ws → n ≡ 0 → imageOut (meansTreeWithdrawn (withdrawn.Refused 13)) ws hs
+        ≡ imageWithdrawn ws hs a len
     unfolding meansTreeWithdrawn imageWithdrawn
     withdrawn-broken n e z = rw (proper, check-broken ws hs n e z) refl
 

@@ -156,4 +156,5 @@ module _ (ws hs : List ℕ) (a len : ℕ) (narrow : (j : ℕ) → getD ws j 0 < 
       let r = its-fit ws hs narrow (k .image) in
       let l = insert-replaces (unmarkedRoute a len h) (routesHeld ws hs) (r .good) s in
       let n = same-nodes (unmarkedRoute a len h) (routesHeld ws hs) (is-fine a len h (k .prefix) (k .hop)) (r .good) s in
-      ap (λ (o : ImageOut). accepts (o .said)) (case-announced ws hs a len h _ (put-in k (omega (arith, r .few)) (omega (arith, r .nodes)) (omega (arith, r .hops))))
+      ap (λ (o : ImageOut). accepts (o .said)) (case-announced ws hs a len h _
+      (put-in k (omega (arith, r .few)) (omega (arith, r .nodes)) (omega (arith, r .hops))))

@@ -145,7 +145,8 @@ fewer-nodes k rs g t = go (stands-is k rs t)
         )
 
 -- the nodes that the path of a new prefix lacks
-pub new-need : {ws hs : List ℕ} {n k x m a len h b : ℕ} → New ws hs n k x m a len h b → nodeNeed (insert (unmarkedRoute a len h) (routesHeld ws hs)) ≡ n + (len / 4 - m)
+pub new-need : {ws hs : List ℕ} {n k x m a len h b : ℕ} → New ws hs n k x m a len h b → nodeNeed (insert (unmarkedRoute a len h) (routesHeld ws hs))
+    ≡ n + (len / 4 - m)
 new-need {ws} {hs} {n} {k} {x} {m} {a} {len} {h} {b} r =
     ap (λ (s : ℕ → ℕ → Bool). length (nodes s)) (insert-nodes (unmarkedRoute a len h) (routesHeld ws hs) (r .fine) (r .found .good)) ∙ go (below? m (len / 4))
   where

@@ -70,7 +70,8 @@ module _ {ws hs : List ℕ} {n k x a len b : ℕ} (r : Standing ws hs n k x a le
         let q : y ≡ hopPlaceAt ws (reached ws deep path) b = e ∙ ap (λ (z : ℕ). hopPlaceAt ws z b) (r .way .at) in
         let p = replace-holds deep path b h shape (r .bit .small) its-node its-bit some (r .found .holds) in
         let t : withHop hop (lenAt deep b) (bitsAt path b) h ≡ hopFor (insert (unmarkedRoute a len h) rs) =
-        ap₂ (λ (u v : ℕ). withHop hop u v h) (bit-len (r .bit) short) (bit-bits (r .bit) short) ∙ sym (insert-hops (unmarkedRoute a len h) rs fine (r .found .good)) in
+        ap₂ (λ (u v : ℕ). withHop hop u v h) (bit-len (r .bit) short) (bit-bits (r .bit) short) ∙ sym
+        (insert-hops (unmarkedRoute a len h) rs fine (r .found .good)) in
         let g = insert-good (unmarkedRoute a len h) rs fine (r .found .good) in
         let s : downTo st a deep ≡ nodeStands (insert (unmarkedRoute a len h) rs) = sym (insert-nodes (unmarkedRoute a len h) rs fine (r .found .good)) in
         let o = subst (λ (z : ℕ → ℕ → ℕ). Holding st z ws (set hs (hopPlaceAt ws (reached ws deep path) b) h) n) t p in

@@ -59,7 +59,14 @@ fn put_new(
 }
 
 // A fine route and a well-formed image.
-fn put(words: &mut [u32], hops: &mut [u16], n: usize, addr: u32, len: u32, hop: u16) -> TreeAnnounced
+fn put(
+    words: &mut [u32],
+    hops: &mut [u16],
+    n: usize,
+    addr: u32,
+    len: u32,
+    hop: u16,
+) -> TreeAnnounced
     requires { ⌜ ImageFormed (now words) (now hops) n × Fine (unmarkedRoute addr len hop) ⌝ }
     ensures { λ r. ⌜ imageOut (meansTreeAnnounced r) (now (words .exit)) (now (hops .exit)) ≡ imagePut (now (words .entry)) (now (hops .entry)) addr len hop ⌝ }
 {

@@ -48,7 +48,8 @@ pub test-as-build : (s ws hs vs : List ℕ) → built s ws hs .said ≡ accepted
 test-as-build s ws hs vs e =
     let k = built-accepts s ws hs vs e in
     ap₂ tested (k .words) (k .hops)
-    ∙ image-tested (routesIn s) (k .good-routes) (length ws) (length hs) (accepted-few s ws hs vs e) (k .nodes-room) (k .hops-room) ∙ ap accepted (sym (k .values))
+    ∙ image-tested (routesIn s) (k .good-routes) (length ws) (length hs) (accepted-few s ws hs vs e) (k .nodes-room) (k .hops-room) ∙ ap accepted
+    (sym (k .values))
 
 module _ (ws hs : List ℕ) where
   pub buildable-told : (b : Buildable ws hs) → tested ws hs ≡ accepted (b .nodes ∷ b .routes ∷ [])

@@ -38,7 +38,8 @@ input-built rs ws hs g few =
     (ap (λ (x : List Route). madeOf x ws hs) (input-routes rs g))
 
 pub made-fits : (rs : List Route) (ws hs : List ℕ) → nodeNeed rs ≤ length ws / 3 → length rs ≤ length hs
-    → madeOf rs ws hs ≡ imageOut (accepted (nodeNeed rs ∷ length rs ∷ [])) (imageOf rs (length ws) (length hs) .words) (imageOf rs (length ws) (length hs) .hops)
+    → madeOf rs ws hs ≡ imageOut (accepted (nodeNeed rs ∷ length rs ∷ [])) (imageOf rs (length ws) (length hs) .words)
+    (imageOf rs (length ws) (length hs) .hops)
 unfolding madeOf
 made-fits rs ws hs a b = rw (le-ltb (length ws / 3) (nodeNeed rs) a, le-ltb (length hs) (length rs) b) refl
 
@@ -59,7 +60,8 @@ passes-builds ws hs narrow e =
           input-built (routesHeld ws hs) ws₀ hs₀ g (omega (arith, h, w .few))
           ∙ made-fits (routesHeld ws hs) ws₀ hs₀ (omega (arith, k, w .order .lent)) (omega (arith, h, w .room))
           ∙ ap₂ (λ (x y : List ℕ). imageOut (accepted (nodeNeed (routesHeld ws hs) ∷ length (routesHeld ws hs) ∷ [])) x y)
-          (ap₂ (λ (x y : ℕ). imageOf (routesHeld ws hs) x y .words) a b ∙ sym (i .0)) (ap₂ (λ (x y : ℕ). imageOf (routesHeld ws hs) x y .hops) a b ∙ sym (i .1));
+          (ap₂ (λ (x y : ℕ). imageOf (routesHeld ws hs) x y .words) a b ∙ sym (i .0))
+          (ap₂ (λ (x y : ℕ). imageOf (routesHeld ws hs) x y .hops) a b ∙ sym (i .1));
     }
 
 -- an accepted input has at most 4,096 routes
@@ -78,7 +80,8 @@ pub built-passes : (s ws hs vs : List ℕ) → built s ws hs .said ≡ accepted 
 built-passes s ws hs vs e =
     let k = built-accepts s ws hs vs e in
     rw (k .words, k .hops)
-    (is-well-formed _ _ (nodeNeed (routesIn s)) (image-formed (routesIn s) (length ws) (length hs) (k .good-routes) (accepted-few s ws hs vs e) (k .nodes-room) (k .hops-room)))
+    (is-well-formed _ _ (nodeNeed (routesIn s)) (image-formed (routesIn s) (length ws) (length hs) (k .good-routes) (accepted-few s ws hs vs e)
+    (k .nodes-room) (k .hops-room)))
 
 pub builds-passes : (ws hs : List ℕ) → Buildable ws hs → wellFormed ws hs ≡ true
 builds-passes ws hs b =
@@ -87,5 +90,6 @@ builds-passes ws hs b =
     rw e at p
 
 -- an image passes the test exactly when some record input builds it into arrays of these sizes
-pub passes-exactly : (ws hs : List ℕ) → ((j : ℕ) → getD ws j 0 < 2 ^ 32) → (wellFormed ws hs ≡ true → Buildable ws hs) × (Buildable ws hs → wellFormed ws hs ≡ true)
+pub passes-exactly : (ws hs : List ℕ) → ((j : ℕ) → getD ws j 0 < 2 ^ 32) → (wellFormed ws hs ≡ true → Buildable ws hs) ×
+    (Buildable ws hs → wellFormed ws hs ≡ true)
 passes-exactly ws hs narrow = (passes-builds ws hs narrow, builds-passes ws hs)

@@ -134,8 +134,10 @@ is-well-formed ws hs n w =
     let o = is-ordered ws n (w .order) in
     rw (o .0)
     (both (o .1) (both (root (w .root))
-    (both (both (le-leb _ _ (w .room)) (both (le-leb _ _ (w .few)) (true-every (λ k. hopFine (getD hs k 0)) (ints ws n) (λ k l. true-hop (getD hs k 0) (w .hop k l .0) (w .hop k l .1)))))
-    (both (zeros-blank ws (3 * n) (record { each = λ j l u. w .words-after j l })) (zeros-blank hs (ints ws n) (record { each = λ j l u. w .hops-after j l }))))))
+    (both (both (le-leb _ _ (w .room)) (both (le-leb _ _ (w .few))
+    (true-every (λ k. hopFine (getD hs k 0)) (ints ws n) (λ k l. true-hop (getD hs k 0) (w .hop k l .0) (w .hop k l .1)))))
+    (both (zeros-blank ws (3 * n) (record { each = λ j l u. w .words-after j l }))
+    (zeros-blank hs (ints ws n) (record { each = λ j l u. w .hops-after j l }))))))
   where
     root : (bitsOf ws 0 ≡ 0) ⊎ (nodeOk 8 ws 0 ≡ true) → rootOk ws ≡ true
     root (inl t) = rw (eq-eqb (bitsOf ws 0) 0 t)

@@ -227,7 +227,14 @@ module _ (ws : List ℕ) (n : ℕ) (k : Nodes ws n) where
 
 module _ (ws : List ℕ) (n : ℕ) (e : EndsAt ws n) where
   no-image : (wf : (hs : List ℕ) → wellFormed ws hs ≡ true → ⊥) → NodesShaped ws 0
-  no-image wf = record { lent = omega arith; few = omega arith; none = λ z hs. untrue (wellFormed ws hs) (wf hs); some = λ f. absurd (f refl); own = record { each = λ j a b. absurd (omega arith) } }
+  no-image wf = record {
+    lent = omega arith;
+    few = omega arith;
+    none = λ z hs. untrue (wellFormed ws hs) (wf hs);
+    some = λ f. absurd
+        (f refl);
+    own = record { each = λ j a b. absurd (omega arith) };
+  }
 
   -- a well-formed image has n nodes
   its-nodes : (hs : List ℕ) → wellFormed ws hs ≡ true → n ≡ nodesUsed ws

@@ -52,7 +52,8 @@ fine-all hs k j bad a b f =
     (λ t. eq-eqb bad 0 (f .of (λ i l. every-true (λ n. hopFine (getD hs n 0)) k t i (omega arith))))
 
 -- the hops of the nodes in use: the hop base of the last one and its own
-pub hops-last : (ws : List ℕ) (n x y : ℕ) → 0 < n → n ≡ nodesIf (ordered ws) ws → x ≡ baseOf ws (n - 1) → y ≡ ones (bitsOf ws (n - 1) % 2 ^ 15) → x + y ≡ ints ws n
+pub hops-last : (ws : List ℕ) (n x y : ℕ) → 0 < n → n ≡ nodesIf (ordered ws) ws → x ≡ baseOf ws (n - 1) → y ≡ ones (bitsOf ws (n - 1) % 2 ^ 15)
+    → x + y ≡ ints ws n
 unfolding ints
 hops-last ws n x y l e ex ey = go (decided (ordered ws))
   where

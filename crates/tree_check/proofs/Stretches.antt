@@ -133,7 +133,8 @@ module _ (ws : List ℕ) (n : ℕ) (o : Order ws n) where
       let first : childOf ws a ≡ 1 + exts ws a = o .child a (omega arith) in
       let next : 1 + exts ws a + ones (bitsOf ws a / 2 ^ 16) ≡ 1 + exts ws (a + 1) = omega (arith, here) in
       let joined = all-split (nodeOk e ws) (ones (bitsOf ws a / 2 ^ 16)) (d - ones (bitsOf ws a / 2 ^ 16)) (1 + exts ws a) in
-      let kids : (allFrom (nodeOk e ws) (ones (bitsOf ws a / 2 ^ 16)) (childOf ws a) && allFrom (nodeOk e ws) (d - ones (bitsOf ws a / 2 ^ 16)) (1 + exts ws (a + 1)))
+      let kids : (allFrom (nodeOk e ws) (ones (bitsOf ws a / 2 ^ 16)) (childOf ws a) && allFrom (nodeOk e ws) (d - ones (bitsOf ws a / 2 ^ 16))
+      (1 + exts ws (a + 1)))
       ≡ allFrom (nodeOk e ws) d (1 + exts ws a) =
       rw (first, sym next) (sym joined ∙ ap (λ (j : ℕ). allFrom (nodeOk e ws) j (1 + exts ws a)) r) in
       ap (λ b. (sound ws a && (not (eqb (bitsOf ws a) 0) && allFrom (nodeOk e ws) (ones (bitsOf ws a / 2 ^ 16)) (childOf ws a))) && b) rest
@@ -263,7 +264,8 @@ module _ (ws : List ℕ) (first n left : ℕ) (n0 : left ≡ 0 → ⊥) (s : Str
   pub nodes-as-kids : (b : Bool) → b ≡ childrenOk (left - 1) (to - from) ws from → b ≡ childrenOk left n ws first
   nodes-as-kids =
       as-kids ws first n left from to n0 o (s .inside) some ef et
-      (from-all (ownOk ws) n first (λ k l. bits-own ws (first + k) (omega (arith, s .inside, o .lent)) (s .own .each (first + k) (omega (arith, s .after)) (omega (arith, s .inside)))))
+      (from-all (ownOk ws) n first (λ k l. bits-own ws (first + k) (omega (arith, s .inside, o .lent))
+      (s .own .each (first + k) (omega (arith, s .after)) (omega (arith, s .inside)))))
 
 pub nodes-ends : (ws : List ℕ) (first n left : ℕ) → left ≡ 0 → (b : Bool) → b ≡ childrenOk 0 n ws first → b ≡ childrenOk left n ws first
 nodes-ends ws first n left z b e = rw z e

@@ -26,7 +26,8 @@ module _ (w b : ℕ) (fits : w < 2 ^ 32) (l : b < 32) (set : isSet w b ≡ true)
   r = bitXor w ((1 * 2 ^ b) % 2 ^ 32)
 
   xor-bit : (k : ℕ) → bitAt r k ≡ bitXor (bitAt w k) (cond (eqb k b) 1 0)
-  xor-bit k = ap (λ (x : ℕ). x % 2) (xor-shr w ((1 * 2 ^ b) % 2 ^ 32) k) ∙ xor-mod (w / 2 ^ k) ((1 * 2 ^ b) % 2 ^ 32 / 2 ^ k) 1 ∙ ap (bitXor (bitAt w k)) (one-bit b k l)
+  xor-bit k = ap (λ (x : ℕ). x % 2) (xor-shr w ((1 * 2 ^ b) % 2 ^ 32) k) ∙ xor-mod (w / 2 ^ k) ((1 * 2 ^ b) % 2 ^ 32 / 2 ^ k) 1 ∙ ap
+      (bitXor (bitAt w k)) (one-bit b k l)
 
   there : bitAt w b ≡ 1
   there = eqb-true (bitAt w b) 1 set

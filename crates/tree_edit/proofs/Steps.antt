@@ -36,7 +36,8 @@ module _ (f : ℕ → ℕ) (ws₀ ws : List ℕ) (d a i : ℕ) (word : d < 3) (e
 
 -- ---- a graft
 
-module _ {ws : List ℕ} {n k x c : ℕ} (r : GraftReady ws n k x c) (y n′ k′ : ℕ) (place : y ≡ childAt (bitsOf ws x) (childOf ws x) c) (w1 : List ℕ) (en : n′ ≡ n) (ek : k′ ≡ k)
+module _ {ws : List ℕ} {n k x c : ℕ} (r : GraftReady ws n k x c) (y n′ k′ : ℕ) (place : y ≡ childAt (bitsOf ws x) (childOf ws x) c) (w1 : List ℕ)
+    (en : n′ ≡ n) (ek : k′ ≡ k)
     (e1 : w1 ≡ put3 ws n 0 n′ k′) where
   w1-is : w1 ≡ put3 ws n 0 n k
   w1-is = e1 ∙ ap₂ (λ (u v : ℕ). put3 ws n 0 u v) en ek
@@ -74,7 +75,8 @@ module _ {ws : List ℕ} {n k x c : ℕ} (r : GraftReady ws n k x c) (y n′ k�
 
 -- ---- its reverse
 
-module _ {ws : List ℕ} {n k x c : ℕ} (r : Prunable ws n k x c) (y v : ℕ) (place : y ≡ childAt (bitsOf ws x) (childOf ws x) c) (bit : WithBit v (16 + c) (bitsOf ws x))
+module _ {ws : List ℕ} {n k x c : ℕ} (r : Prunable ws n k x c) (y v : ℕ) (place : y ≡ childAt (bitsOf ws x) (childOf ws x) c)
+    (bit : WithBit v (16 + c) (bitsOf ws x))
     (free : isSet v (16 + c) ≡ false) (fits : v < 2 ^ 32) where
   pub prune-lower : Lowerable (set ws (3 * x) v) 1 (x + 1) (n + 1)
   prune-lower = record {

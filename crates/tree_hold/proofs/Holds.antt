@@ -35,7 +35,8 @@ module _ (st st₁ : ℕ → ℕ → Bool) (hop : ℕ → ℕ → ℕ) (same : (
 
   word-same : (n : Node) → word st hop n ≡ word st₁ hop n
   unfolding word setBit
-  word-same n = ap (λ (f : ℕ → Bool). packedBits f 32) (fun-ext (λ b. ap (λ (x : Bool). cond (ltb b 15) (inner hop n b) (cond (ltb b 16) false x)) (kid (b - 16))))
+  word-same n = ap (λ (f : ℕ → Bool). packedBits f 32)
+      (fun-ext (λ b. ap (λ (x : Bool). cond (ltb b 15) (inner hop n b) (cond (ltb b 16) false x)) (kid (b - 16))))
     where
       kid : (c : ℕ) → child st n c ≡ child st₁ n c
       kid c = rw (add-one (n .depth)) (same (n .depth) (n .path * 16 + c))

@@ -97,7 +97,8 @@ module _ {ws hs : List ℕ} {n k x b : ℕ} (r : Puttable ws hs n k x b) (y : �
       child-same = λ i l. kept (3 * i + 1) (λ q. omega arith) (λ q a c. omega arith);
       base-upto = λ i l. kept (3 * i + 2) (λ q. omega arith) (λ q a c. omega arith);
       base-after = λ i l u.
-          getD-set-other w1 (3 * x) (3 * i + 2) v 0 (λ q. omega arith) ∙ each-in (λ z. z + 1) ws 2 (x + 1) n i (omega arith) (omega arith) u (omega (arith, lent));
+          getD-set-other w1 (3 * x) (3 * i + 2) v 0 (λ q. omega arith) ∙ each-in (λ z. z + 1) ws 2 (x + 1) n i (omega arith) (omega arith) u
+          (omega (arith, lent));
       rest-old = r .words .rest;
       rest = λ j l. kept j (λ q. omega (arith, r .parent)) (λ q a c. omega arith) ∙ r .words .rest j l;
       hops-below = λ j l. hop j (λ q. omega arith) ∙ drawn-before hs (λ z. z - 1) (y + 1) (k + 1) j (omega (arith, put-inside, r .room)) (omega arith);

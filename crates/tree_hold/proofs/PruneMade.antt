@@ -92,7 +92,8 @@ module _ {ws′ : List ℕ} {n k x c : ℕ} (r : Prunable ws′ n k x c) (y : �
     old-child i l u = omega (arith, lowered i l u, first (3 * i + 1) (λ e. omega arith), base-some i u)
 
     parent-bits : bitsOf ws x ≡ v
-    parent-bits = low (3 * x) (omega (arith, prune-after)) ∙ unlowered (3 * x) (λ e a b. omega arith) ∙ getD-set-same ws′ (3 * x) v 0 (omega (arith, lent, r .parent))
+    parent-bits = low (3 * x) (omega (arith, prune-after)) ∙ unlowered (3 * x) (λ e a b. omega arith) ∙ getD-set-same ws′ (3 * x) v 0
+        (omega (arith, lent, r .parent))
 
     below-bits : (i : ℕ) → i < y → (i ≡ x → ⊥) → bitsOf ws i ≡ bitsOf ws′ i
     below-bits i l h = low (3 * i) (omega arith) ∙ unlowered (3 * i) (λ e a b. omega arith) ∙ first (3 * i) (λ e. h (omega arith))
@@ -138,7 +139,8 @@ module _ {ws′ : List ℕ} {n k x c : ℕ} (r : Prunable ws′ n k x c) (y : �
       same = sym prune-long;
       lent = r .words .order .lent;
       place = same-place;
-      child-upto = λ i l. sym (low (3 * i + 1) (omega (arith, prune-after)) ∙ unlowered (3 * i + 1) (λ e a b. omega arith) ∙ first (3 * i + 1) (λ e. omega arith));
+      child-upto = λ i l. sym (low (3 * i + 1) (omega (arith, prune-after)) ∙ unlowered (3 * i + 1) (λ e a b. omega arith) ∙ first (3 * i + 1)
+          (λ e. omega arith));
       child-between = λ i l u. omega (arith, low (3 * i + 1) (omega arith), old-child i l (omega (arith, prune-inside)));
       child-new =
           r .words .order .child y (omega (arith, prune-inside)) ∙ ap (λ (z : ℕ). 1 + z) (exts-between pruned-bits y prune-after (omega arith)) ∙ omega arith;

@@ -122,7 +122,8 @@ module _ {ws′ hs′ : List ℕ} {n k x b : ℕ} (r : Takable ws′ hs′ n k x
       hop-new = refl;
       hops-above = λ j l u.
           let e : j + 1 ≡ suc j = omega arith in
-          sym (hop j (λ q. omega (arith, fewer)) ∙ drawn-in hs′ (λ z. z + 1) y k j (omega (arith, fewer, r .room)) l (omega (arith, fewer)) ∙ ap (λ (z : ℕ). getD hs′ z 0) e);
+          sym (hop j (λ q. omega (arith, fewer)) ∙ drawn-in hs′ (λ z. z + 1) y k j (omega (arith, fewer, r .room)) l (omega (arith, fewer)) ∙ ap
+          (λ (z : ℕ). getD hs′ z 0) e);
       blank-old = λ j l. blank-old j (omega (arith, fewer)) (equal? j k) (below? j (length hs′));
       blank = λ j l. r .blank j (omega (arith, fewer));
     }

@@ -27,11 +27,22 @@ use Rattle.tree_change.specs.Cases.{ImageLeft}
 use Rattle.tree_change.proofs.Cases.{announce-leaves}
 use Rattle.tree_change.proofs.Takes.{withdraw-leaves}
 use Rattle.tree_change.proofs.Fresh.{change-stands, change-sizes, announce-left, withdraw-left}
-use Rattle.tree_runs.specs.ImageRuns.{ImageCall, announce, withdraw, imageDone, imageAfter, imageStandingAfter, imageHeldAfter, imageHeldByCalls, imageRoutesAfter}
+use Rattle.tree_runs.specs.ImageRuns.{
+  ImageCall,
+  announce,
+  withdraw,
+  imageDone,
+  imageAfter,
+  imageStandingAfter,
+  imageHeldAfter,
+  imageHeldByCalls,
+  imageRoutesAfter,
+}
 use Rattle.tree_runs.proofs.Narrow.{left-narrow}
 
 -- what a change leaves of arrays as long as others, it leaves of those
-resized : {rs : List Route} {ws hs ws′ hs′ : List ℕ} {o : ImageOut} → length ws ≡ length ws′ → length hs ≡ length hs′ → ImageLeft rs ws hs o → ImageLeft rs ws′ hs′ o
+resized : {rs : List Route} {ws hs ws′ hs′ : List ℕ} {o : ImageOut} → length ws ≡ length ws′ → length hs ≡ length hs′ → ImageLeft rs ws hs o
+    → ImageLeft rs ws′ hs′ o
 resized {rs} d e l = record {
   fit = record { good = l .fit .good; few = l .fit .few; nodes = rw d at (l .fit .nodes); hops = rw e at (l .fit .hops) };
   unmarked = l .unmarked;
@@ -129,13 +140,15 @@ module _ (s ws hs : List ℕ) (n k : ℕ) (b : Builds s ws hs n k) where
       let l = resized (sym (z .0)) (sym (z .1)) (w .left) in
       record { fit = l .fit; unmarked = l .unmarked; words = l .words; hops = l .hops }
 
-  next : (c : ImageCall) (cs : List ImageCall) → RunIs cs → ImageLeaves (imageAfter s ws hs cs .words) (imageAfter s ws hs cs .hops) c (imageAfter s ws hs (c ∷ cs))
+  next : (c : ImageCall) (cs : List ImageCall) → RunIs cs → ImageLeaves (imageAfter s ws hs cs .words) (imageAfter s ws hs cs .hops) c
+      (imageAfter s ws hs (c ∷ cs))
   unfolding imageAfter
   next c cs w = leaves _ _ (lent-next cs w) c
 
   -- what stands for a prefix, if the call is accepted and if it is not
   either : (c : ImageCall) (cs : List ImageCall) → RunIs cs → (b : Bool) (j : ℕ)
-      → routeAt j (cond b (imageRoutesAfter c (imageStandingAfter s ws hs cs)) (imageStandingAfter s ws hs cs)) ≡ cond b (imageHeldAfter c j (imageHeldByCalls s ws hs cs j)) (imageHeldByCalls s ws hs cs j)
+      → routeAt j (cond b (imageRoutesAfter c (imageStandingAfter s ws hs cs)) (imageStandingAfter s ws hs cs)) ≡ cond b
+      (imageHeldAfter c j (imageHeldByCalls s ws hs cs j)) (imageHeldByCalls s ws hs cs j)
   either c cs w true j = says-so c (imageStandingAfter s ws hs cs) j ∙ ap (imageHeldAfter c j) (w .stands-so j)
   either c cs w false j = w .stands-so j
 
@@ -162,8 +175,10 @@ module _ (s ws hs : List ℕ) (n k : ℕ) (b : Builds s ws hs n k) where
 
   -- from call to call: what is accepted changes the routes as it says, and what is refused leaves both arrays
   pub image-run-list : (c : ImageCall) (cs : List ImageCall)
-      → imageStandingAfter s ws hs (c ∷ cs) ≡ cond (accepts (imageAfter s ws hs (c ∷ cs) .said)) (imageRoutesAfter c (imageStandingAfter s ws hs cs)) (imageStandingAfter s ws hs cs)
+      → imageStandingAfter s ws hs (c ∷ cs) ≡ cond (accepts (imageAfter s ws hs (c ∷ cs) .said)) (imageRoutesAfter c (imageStandingAfter s ws hs cs))
+      (imageStandingAfter s ws hs cs)
   image-run-list c cs = next c cs (run-is cs) .list-so
 
-  pub image-run-refused : (c : ImageCall) (cs : List ImageCall) → accepts (imageAfter s ws hs (c ∷ cs) .said) ≡ false → SameArrays (imageAfter s ws hs (c ∷ cs)) (imageAfter s ws hs cs)
+  pub image-run-refused : (c : ImageCall) (cs : List ImageCall) → accepts (imageAfter s ws hs (c ∷ cs) .said) ≡ false → SameArrays
+      (imageAfter s ws hs (c ∷ cs)) (imageAfter s ws hs cs)
   image-run-refused c cs = next c cs (run-is cs) .kept

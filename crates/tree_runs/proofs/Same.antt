@@ -84,7 +84,8 @@ module _ (s ws hs : List ℕ) (n k : ℕ) (b : Builds s ws hs n k) (t ws′ hs�
       ((λ e. standing-worked .0 (i .0 e)), (λ e. i .1 (standing-worked .1 e)))
 
   -- in arrays of any lengths: as many nodes and hops in use, and the same in them
-  pub runs-used-part : ((nodeNeed rs ≡ nodeNeed ss) × (length rs ≡ length ss) × SameUsed (nodeNeed rs) (length rs) (imageAfter s ws hs cs) (imageAfter t ws′ hs′ ds))
+  pub runs-used-part : ((nodeNeed rs ≡ nodeNeed ss) × (length rs ≡ length ss) × SameUsed (nodeNeed rs) (length rs) (imageAfter s ws hs cs)
+      (imageAfter t ws′ hs′ ds))
       ↔ (rs ≡ ss)
   runs-used-part =
       let o = imageAfter s ws hs cs in

@@ -39,7 +39,10 @@ imageHeldAfter (withdraw a len) k before = cond (eqb (keyOf a len) k) absent bef
 -- worked out from the input's routes, marks aside, and the accepted calls alone
 unfoldable pub imageHeldByCalls : List ℕ → List ℕ → List ℕ → List ImageCall → ℕ → Held
 imageHeldByCalls s ws hs [] k = routeAt k (map plain (routesIn s))
-imageHeldByCalls s ws hs (c ∷ cs) k = cond (accepts (imageAfter s ws hs (c ∷ cs) .said)) (imageHeldAfter c k (imageHeldByCalls s ws hs cs k)) (imageHeldByCalls s ws hs cs k)
+imageHeldByCalls s ws hs (c ∷ cs) k =
+    cond (accepts (imageAfter s ws hs (c ∷ cs) .said))
+    (imageHeldAfter c k (imageHeldByCalls s ws hs cs k))
+    (imageHeldByCalls s ws hs cs k)
 
 -- the routes that would stand after the call, where rs stand
 abbrev pub imageRoutesAfter : ImageCall → List Route → List Route

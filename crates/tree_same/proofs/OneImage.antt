@@ -29,7 +29,8 @@ use Rattle.tree_same.proofs.Same.{same-hops, images-same, images-apart}
 -- ---- the same prefixes with the same hops: the same list, marks aside
 
 -- a prefix with its hop is found again in a list that has all of the first one's
-found-again : (rs ss : List Route) → Good rs → Good ss → ((a l h : ℕ) → Has rs a l h → Has ss a l h) → (l q : ℕ) → 0 < hopFor rs l q → hopFor ss l q ≡ hopFor rs l q
+found-again : (rs ss : List Route) → Good rs → Good ss → ((a l h : ℕ) → Has rs a l h → Has ss a l h) → (l q : ℕ) → 0 < hopFor rs l q → hopFor ss l q
+    ≡ hopFor rs l q
 found-again rs ss g k f l q h =
     let w = any-is (here l q) rs (found-any (here l q) rs h) in
     let r = w .0 in
@@ -100,7 +101,8 @@ module _ (s t ws hs ws′ hs′ : List ℕ) (n k n′ k′ : ℕ) (x : Builds s 
   second-is : AcceptedBuild (routesIn t) ws′ hs′ (n′ ∷ k′ ∷ []) (built t ws′ hs′)
   second-is = built-accepts t ws′ hs′ (n′ ∷ k′ ∷ []) (y .said)
 
-  pub one-image : length ws ≡ length ws′ → length hs ≡ length hs′ → SameArrays (built s ws hs) (built t ws′ hs′) ↔ (map plain (routesIn s) ≡ map plain (routesIn t))
+  pub one-image : length ws ≡ length ws′ → length hs ≡ length hs′ → SameArrays (built s ws hs) (built t ws′ hs′) ↔
+      (map plain (routesIn s) ≡ map plain (routesIn t))
   one-image ew eh = arrays-same (routesIn s) (routesIn t) ws hs _ ws′ hs′ _ _ _ first-is second-is ew eh
 
   -- and in the words of the document: the same prefixes with the same hops
@@ -150,7 +152,8 @@ module _ (s t ws hs ws′ hs′ : List ℕ) (n k n′ k′ : ℕ) (x : Builds s 
   ss = routesIn t
 
   its-use : (ws₀ hs₀ : List ℕ) (o : ImageOut) (m j : ℕ) (qs : List Route) → AcceptedBuild qs ws₀ hs₀ (m ∷ j ∷ []) o
-      → (m ≡ nodeNeed qs) × (j ≡ length qs) × (take (3 * m) (o .words) ≡ words (nodeStands qs) (hopFor qs)) × (take j (o .hops) ≡ hops (nodeStands qs) (hopFor qs))
+      → (m ≡ nodeNeed qs) × (j ≡ length qs) × (take (3 * m) (o .words) ≡ words (nodeStands qs) (hopFor qs)) ×
+      (take j (o .hops) ≡ hops (nodeStands qs) (hopFor qs))
   its-use ws₀ hs₀ o m j qs a =
       let v = a .values in
       let p : m ≡ nodeNeed qs = cc in
@@ -175,7 +178,8 @@ module _ (s t ws hs ws′ hs′ : List ℕ) (n k n′ k′ : ℕ) (x : Builds s 
         (λ e.
             let st = plain-stands rs ss e in
             let p : n ≡ n′ = u .0 ∙ ap (λ (f : ℕ → ℕ → Bool). length (nodes f)) (st .0) ∙ sym (v .0) in
-            let q : k ≡ k′ = u .1 ∙ sym (hops-need rs (a .good-routes)) ∙ ap₂ (λ (f : ℕ → ℕ → Bool) (g : ℕ → ℕ → ℕ). length (hops f g)) (st .0) (st .1) ∙ hops-need ss (b .good-routes) ∙ sym (v .1) in (
+            let q : k ≡ k′ = u .1 ∙ sym (hops-need rs (a .good-routes)) ∙ ap₂ (λ (f : ℕ → ℕ → Bool) (g : ℕ → ℕ → ℕ). length (hops f g)) (st .0)
+            (st .1) ∙ hops-need ss (b .good-routes) ∙ sym (v .1) in (
               p,
               q,
               (

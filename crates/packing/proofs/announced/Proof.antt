@@ -22,4 +22,8 @@ announced-spec =
     (λ c κs. search needs)
     (λ c. omega (arith, ap (λ (x : Announce). packChange (c .before .before .before .before .args .count) (meansAnnounce x)) (c .before .before .a .given .1)))
     (λ c. omega (arith, ap (λ (x : Announce). packChange (c .before .before .before .before .args .count) (meansAnnounce x)) (c .before .before .a2 .given .1)))
-    (λ c. omega (arith, ap (λ (x : Announce). packChange (c .before .before .before .before .args .count) (meansAnnounce x)) (c .before .before .a3 .given .1))))
+    (λ c. omega (
+      arith,
+      ap (λ (x : Announce). packChange (c .before .before .before .before .args .count) (meansAnnounce x))
+          (c .before .before .a3 .given .1),
+    )))

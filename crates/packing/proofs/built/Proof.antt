@@ -1,4 +1,4 @@
--- `packing::built` meets its contract.
+-- `packing::built`. Each answer of build has its word.
 use mathlib.Core.Path.{ap}
 use native.Mathlib.Omega.{arith}
 use Rattle.tree_build.specs.Built.{meansBuilt}

@@ -1,4 +1,4 @@
--- `packing::input` meets its contract.
+-- `packing::input`. Each answer of the input check has its word.
 use mathlib.Core.Path.{ap}
 use native.Mathlib.Omega.{arith}
 use Rattle.routes.specs.Answers.{meansInput}

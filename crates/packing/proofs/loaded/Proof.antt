@@ -1,4 +1,4 @@
--- `packing::loaded` meets its contract.
+-- `packing::loaded`. Each answer of load has its word.
 use mathlib.Core.Path.{ap}
 use native.Mathlib.Omega.{arith}
 use Rattle.sail_load.specs.Answers.{meansLoaded}

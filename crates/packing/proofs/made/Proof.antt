@@ -1,4 +1,4 @@
--- `packing::made` meets its contract.
+-- `packing::made`. Each answer of make has its word.
 use mathlib.Core.Path.{ap}
 use native.Mathlib.Omega.{arith}
 use Rattle.sail_make.specs.Answers.{meansMade}

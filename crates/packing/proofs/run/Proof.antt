@@ -1,4 +1,4 @@
--- `packing::run` meets its contract.
+-- `packing::run`. Each answer of a run has its word.
 use mathlib.Core.Path.{ap}
 use native.Mathlib.Omega.{arith}
 use Rattle.runs.specs.Run.{meansRunCheck}

@@ -1,4 +1,4 @@
--- `packing::tree_found` meets its contract.
+-- `packing::tree_found`. Each answer of an image lookup has its word.
 use mathlib.Core.Path.{ap}
 use native.Mathlib.Omega.{arith}
 use Rattle.tree.specs.Walk.{meansTreeFound}

@@ -19,4 +19,8 @@ withdrawn-spec =
     (λ c. search needs)
     (λ c κs. search needs)
     (λ c. omega (arith, ap (λ (x : Withdraw). packChange (c .before .before .before .before .args .count) (meansWithdraw x)) (c .before .before .a .given .1)))
-    (λ c. omega (arith, ap (λ (x : Withdraw). packChange (c .before .before .before .before .args .count) (meansWithdraw x)) (c .before .before .a2 .given .1))))
+    (λ c. omega (
+      arith,
+      ap (λ (x : Withdraw). packChange (c .before .before .before .before .args .count) (meansWithdraw x))
+          (c .before .before .a2 .given .1),
+    )))

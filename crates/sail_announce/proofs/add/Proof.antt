@@ -23,7 +23,8 @@ abbrev counted : tie.After-answer-of → tie.After-count-in
 counted c = c .before .before .before .before .before
 
 open-requires : tie.Need-open-requires
-open-requires c κs = let s = c .before .before .before .before .before .before .before .before .before .before .before .before .before .before .before in add-openable _ _ _ (s .pre)
+open-requires c κs = let s = c .before .before .before .before .before .before .before .before .before .before .before .before .before .before
+    .before in add-openable _ _ _ (s .pre)
 
 insert-requires : tie.Need-insert-requires
 insert-requires c κs = add-insertable _ _ _ (start (c .before .before .before .before .before) .pre)
@@ -43,7 +44,8 @@ count-in-requires c κs =
     let cells = c .before .before .before .before .before .before .before .before .before in
     let in-list = put cells in
     let chunks = opened in-list in
-    add-bookable _ _ _ (start chunks .pre) _ _ (in-list .insert .ensures) _ (cells .before .before .before .before .before .before .before .before .count-with .ensures .0)
+    add-bookable _ _ _ (start chunks .pre) _ _ (in-list .insert .ensures) _
+    (cells .before .before .before .before .before .before .before .before .count-with .ensures .0)
     _ _ (chunks .«open» .ensures .0) (chunks .«open» .ensures .1) _ _ _ (cells .repaint-from-list .ensures)
 
 returns : tie.Need-returns
@@ -52,7 +54,8 @@ returns c =
     let cells = painted counts in
     let in-list = put cells in
     let chunks = opened in-list in
-    add-done _ _ _ (start chunks .pre) _ _ (in-list .insert .ensures) _ (cells .before .before .before .before .before .before .before .before .count-with .ensures .0)
+    add-done _ _ _ (start chunks .pre) _ _ (in-list .insert .ensures) _
+    (cells .before .before .before .before .before .before .before .before .count-with .ensures .0)
     _ _ (chunks .«open» .ensures .0) (chunks .«open» .ensures .1) _ _ _ (cells .repaint-from-list .ensures)
     _ _ (counts .count-in .ensures) (counts .count-in .kept .1 .1 .1 .1 .0) (counts .count-in .kept .1 .1 .1 .1 .1 .0) _ _ (c .answer-of .ensures)
 

@@ -14,5 +14,6 @@ judge-announce-spec =
     (λ c. search judge-route)
     (λ c κs. c .before .before .before .sizes .ensures .facts (c .before .before .if1 .left))
     (λ c. search judge-sound)
-    (λ c κs. judge-proper _ _ _ _ (c .before .before .before .before .before .sizes .ensures) (c .before .before .before .before .if1 .left) _ (c .before .before .before .route-fault .ensures) (c .before .before .if2 .left) _ (c .before .sound .ensures) (c .if3 .left))
+    (λ c κs. judge-proper _ _ _ _ (c .before .before .before .before .before .sizes .ensures) (c .before .before .before .before .if1 .left) _
+    (c .before .before .before .route-fault .ensures) (c .before .before .if2 .left) _ (c .before .sound .ensures) (c .if3 .left))
     (λ c. search needs))

@@ -15,7 +15,8 @@ chunk-ok-spec =
     (λ c. search free-passes)
     (λ c. search needs)
     (λ c κs. search hooks)
-    (λ c. nowhere _ _ _ _ _ _ _ _ _ _ _ (c .before .before .before .word-to-index .ensures) _ (c .before .before .before .before .before .start .ensures) (c .before .before .if1 .left) _ (c .before .owner-cell .ensures) (c .if2 .taken))
+    (λ c. nowhere _ _ _ _ _ _ _ _ _ _ _ (c .before .before .before .word-to-index .ensures) _
+    (c .before .before .before .before .before .start .ensures) (c .before .before .if1 .left) _ (c .before .owner-cell .ensures) (c .if2 .taken))
     (λ c. search needs)
     (λ c. search needs)
     (λ c κs. search hangs)

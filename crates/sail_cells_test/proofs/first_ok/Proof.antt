@@ -30,7 +30,12 @@ first-ok-spec =
     (λ c. search first-off)
     (λ c. search needs)
     (λ c. search needs)
-    (λ c. let l = c .before .before .before .before .before .before .loop in
-    (omega arith, search needs, first-more _ _ _ _ _ _ (c .before .before .before .before .before .before .before .before .before .before .before .before .pre) _ _ (l .b) _ (l .inv .2) (c .before .before .before .block-ok .ensures) (c .if1 .left)))
+    (λ c. let l = c .before .before .before .before .before .before .loop in (
+      omega arith,
+      search needs,
+      first-more _ _ _ _ _ _
+          (c .before .before .before .before .before .before .before .before .before .before .before .before .pre) _ _ (l .b) _ (l .inv .2)
+          (c .before .before .before .block-ok .ensures) (c .if1 .left),
+    ))
     (λ c. search needs)
     (λ c. search first-all))

@@ -13,7 +13,8 @@ use Rattle.sail_cells_test.proofs.owned_all.Statement.{statement}
 use Rattle.sail_cells_test.proofs.owned_all.Tie as tie
 
 abbrev Inv-loop : tie.InvT-loop
-Inv-loop ws par p d up e above cells own below want₀ c₀ want c = (c ≤ length own) × (length want ≡ 1024) × ((k : ℕ) → k < c → OwnedChunk (routesOfWords ws) p d up e above cells below k (getD own k 0))
+Inv-loop ws par p d up e above cells own below want₀ c₀ want c = (c ≤ length own) × (length want ≡ 1024) ×
+    ((k : ℕ) → k < c → OwnedChunk (routesOfWords ws) p d up e above cells below k (getD own k 0))
 
 abbrev μ-loop : tie.MeasureT-loop
 μ-loop ws par p d up e above cells own below want₀ c₀ want c = length own - c
@@ -25,11 +26,20 @@ owned-all-spec =
     Inv-loop
     μ-loop
     (λ c. (omega arith, c .before .before .before .before .before .before .before .before .pre .room, below-none _))
-    (λ c κs. (still-pooled _ _ _ _ _ _ _ _ _ _ (c .before .before .before .before .before .before .before .before .before .before .before .pre) _ (c .before .before .loop .inv .1), search needs))
+    (λ c κs. (
+      still-pooled _ _ _ _ _ _ _ _ _ _ (c .before .before .before .before .before .before .before .before .before .before .before .pre) _
+          (c .before .before .loop .inv .1),
+      search needs,
+    ))
     (λ c. search needs)
     (λ c. refuted (c .before .before .before .chunk-ok .ensures) (c .if1 .taken) (λ h. h .each _ (omega arith)))
     (λ c. search needs)
     (λ c. search needs)
-    (λ c. (omega arith, search needs, below-more _ _ (c .before .before .before .before .before .before .loop .inv .2) (passed (c .before .before .before .chunk-ok .ensures) (c .if1 .left))))
+    (λ c. (
+      omega arith,
+      search needs,
+      below-more _ _ (c .before .before .before .before .before .before .loop .inv .2)
+          (passed (c .before .before .before .chunk-ok .ensures) (c .if1 .left)),
+    ))
     (λ c. search needs)
     (λ c. is-yes (record { each = λ k h. c .before .loop .inv .2 k (omega arith) })))

@@ -7,7 +7,8 @@ use Rattle.sail_cells_test.proofs.owner_cell.Statement.{statement}
 use Rattle.sail_cells_test.proofs.owner_cell.Tie as tie
 
 cell-place-requires : tie.Need-cell-place-requires
-cell-place-requires c κs = let told = c .before in owner-numbered _ _ _ _ (told .before .before .before .before .pre) _ (told .word-to-index .ensures .0) (c .if2 .left)
+cell-place-requires c κs = let told = c .before in owner-numbered _ _ _ _ (told .before .before .before .before .pre) _
+    (told .word-to-index .ensures .0) (c .if2 .left)
 
 returns-2 : tie.Need-returns-2
 returns-2 c = hook-free _ _ _ _ (sym (c .before .word-to-index .ensures .0) ∙ c .if2 .taken)

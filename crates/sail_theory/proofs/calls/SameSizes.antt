@@ -13,7 +13,21 @@ use Rattle.sail.specs.Sizes.{sizesFit, sizesFault, Sized}
 use Rattle.sail.specs.Sound.{freshTable, freshLent}
 use Rattle.sail.specs.declared.geometry.Geometry.{Geometry}
 use Rattle.sail.specs.declared.table.Table.{Table}
-use Rattle.sail_theory.specs.Calls.{ownersAfter, noOwners, Terms, termsOf, loadFault, orSay, makeSaid, loadSaid, inputRoutes, Out, stateOf, lentOf, loaded}
+use Rattle.sail_theory.specs.Calls.{
+  ownersAfter,
+  noOwners,
+  Terms,
+  termsOf,
+  loadFault,
+  orSay,
+  makeSaid,
+  loadSaid,
+  inputRoutes,
+  Out,
+  stateOf,
+  lentOf,
+  loaded,
+}
 use Rattle.sail_theory.specs.Facts.{SameSize}
 use Rattle.sail_theory.proofs.calls.Outcomes.{outcome-accepted}
 

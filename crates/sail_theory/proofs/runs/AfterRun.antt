@@ -36,7 +36,8 @@ pub record Leaves (t : Table) (l : Lent) (c : Call) (o : Out) : Type 0 where
   pub size : SameSize l (o .lent)
   pub list-so : standing (o .table) (o .lent) ≡ cond (accepts (o .said)) (routesAfter c (standing t l)) (standing t l)
   pub bytes-so : l .list ≡ written (standing t l) (roomOf l) → o .lent .list ≡ written (standing (o .table) (o .lent)) (roomOf l)
-  pub says-so : (k : ℕ) → routeAt k (standing (o .table) (o .lent)) ≡ cond (accepts (o .said)) (heldAfter c k (routeAt k (standing t l))) (routeAt k (standing t l))
+  pub says-so : (k : ℕ) → routeAt k (standing (o .table) (o .lent)) ≡ cond (accepts (o .said)) (heldAfter c k (routeAt k (standing t l)))
+      (routeAt k (standing t l))
 
 module _ (t : Table) (l : Lent) (s : Sound t l) (c : Call) (o : Out) where
   refused-leaves : accepts (o .said) ≡ false → o .table ≡ t → o .lent ≡ l → Leaves t l c o

@@ -18,6 +18,10 @@ judge-withdraw-spec =
     (λ c. search needs)
     (λ c κs. search needs)
     (λ c κs. tried-sound _ _ _ (c .before .before .before .sound .ensures) (c .before .before .if3 .left) .listed .records)
-    (λ c κs. record { records = tried-sound _ _ _ (c .before .before .before .before .sound .ensures) (c .before .before .before .if3 .left) .listed .records; place = c .place .ensures .0 })
+    (λ c κs. record {
+      records = tried-sound _ _ _ (c .before .before .before .before .sound .ensures)
+          (c .before .before .before .if3 .left) .listed .records;
+      place = c .place .ensures .0;
+    })
     (λ c. search leave-stands)
     (λ c. search leave-absent))

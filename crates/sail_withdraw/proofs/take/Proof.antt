@@ -28,7 +28,8 @@ abbrev third-closed : tie.After-repaint-from-list → tie.After-close2
 third-closed c = c .before .before .before .before .before .before .before .before .before .before .before .before
 
 follow-requires : tie.Need-follow-requires
-follow-requires c κs = let s = c .before .before .before .before .before .before .before .before .before .before .before .before .before .before .before in take-serving _ _ _ _ (s .pre)
+follow-requires c κs = let s = c .before .before .before .before .before .before .before .before .before .before .before .before .before .before
+    .before in take-serving _ _ _ _ (s .pre)
 
 tick-requires : tie.Need-tick-requires
 tick-requires c κs =
@@ -126,7 +127,8 @@ take-spec =
     (n .tick .kept .1 .1 .1 .1 .1 .0) _ _ (f .follow .ensures) in
     omega (arith, z .1))
     (λ c. search needs)
-    (λ c. let v = start (followed (removed (counted (c .before .before .before .before .before .before .before .before)))) .pre .sound .sized .valid in omega arith)
+    (λ c. let v = start (followed (removed (counted (c .before .before .before .before .before .before .before .before)))) .pre .sound .sized
+    .valid in omega arith)
     close-requires-2
     (λ c κs. tt)
     repaint-requires

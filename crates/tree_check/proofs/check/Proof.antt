@@ -1,5 +1,17 @@
 -- Each step that fails is one of the parts of `wellFormed`, and where none fails all of them hold.
-use Rattle.tree_check.proofs.Steps.{not-failed, check-rooted, check-counted, check-none, check-root, check-room, check-few, check-hops, check-words-after, check-hops-after, check-passes}
+use Rattle.tree_check.proofs.Steps.{
+  not-failed,
+  check-rooted,
+  check-counted,
+  check-none,
+  check-root,
+  check-room,
+  check-few,
+  check-hops,
+  check-words-after,
+  check-hops-after,
+  check-passes,
+}
 use borrow.Author.Needs.{needs}
 use Rattle.bits.proofs.Tells.{passed}
 use Rattle.tree_check.proofs.check.Statement.{statement}

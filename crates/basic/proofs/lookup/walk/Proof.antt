@@ -23,7 +23,8 @@ returns : tie.Need-returns
 returns c =
     let input = c .before .before .before .before .before .before .before .pre .0 in
     let far = c .before .before .before .longest-record .ensures in
-    walk-long _ _ _ input _ _ _ far _ _ (c .before .before .if1 .taken) (c .before .read-record .ensures) (c .half-to-word .ensures .0) (c .half-to-word .ensures .1)
+    walk-long _ _ _ input _ _ _ far _ _ (c .before .before .if1 .taken) (c .before .read-record .ensures) (c .half-to-word .ensures .0)
+    (c .half-to-word .ensures .1)
 
 down-requires : tie.Need-down-requires
 down-requires c κs = search needs

@@ -35,8 +35,10 @@ gh-tally-spec =
       omega arith,
       simp length-set (c .before .loop .inv .1),
       c .before .loop .inv .2,
-      stored-more (λ j. getD (c .before .before .before .tally .result .counts) j 0) (c .before .loop .out) (c .before .loop .k) _ (omega arith) (c .before .loop .inv .3) refl,
+      stored-more (λ j. getD (c .before .before .before .tally .result .counts) j 0) (c .before .loop .out) (c .before .loop .k) _ (omega arith)
+          (c .before .loop .inv .3) refl,
     ))
     (λ c κs. search needs)
     (λ c. omega arith)
-    (λ c. tally-all _ _ (c .before .before .before .before .before .if1 .left) _ (c .before .before .before .before .tally .ensures) _ (c .before .before .loop .inv .1) (c .before .before .loop .inv .2) (λ j h. c .before .before .loop .inv .3 j (omega arith)) _ (c .input .ensures)))
+    (λ c. tally-all _ _ (c .before .before .before .before .before .if1 .left) _ (c .before .before .before .before .tally .ensures) _
+    (c .before .before .loop .inv .1) (c .before .before .loop .inv .2) (λ j h. c .before .before .loop .inv .3 j (omega arith)) _ (c .input .ensures)))

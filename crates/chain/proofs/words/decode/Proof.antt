@@ -29,6 +29,11 @@ decode-spec =
     (λ c. search needs)
     (λ c. search needs)
     (λ c. search needs)
-    (λ c. let l = c .before .before .loop in (omega arith, simp length-set (l .inv .1), filled-to-more (wordAt (now (c .before .before .before .before .before .args .list))) (l .out) (l .k) _ (omega arith) (c .read-word .ensures) (l .inv .2)))
+    (λ c. let l = c .before .before .loop in (
+      omega arith,
+      simp length-set (l .inv .1),
+      filled-to-more
+          (wordAt (now (c .before .before .before .before .before .args .list))) (l .out) (l .k) _ (omega arith) (c .read-word .ensures) (l .inv .2),
+    ))
     (λ c. c .before .loop .inv .1)
     (λ c. filled-all _ _ _ _ (c .before .loop .inv .1) (omega arith) (c .before .loop .inv .2)))

@@ -13,4 +13,6 @@ insert-at-spec =
     (λ c κs. search needs)
     (λ c κs. search needs)
     (λ c. search needs)
-    (λ c. rw (c .before .before .write-record .ensures, c .before .before .before .before .before .before .move-up .ensures) (inserted-at _ _ _ _ (λ i. c .before .before .before .before .before .before .before .before .slice-known .given i .fits) (c .before .before .before .before .before .before .before .before .before .pre))))
+    (λ c. rw (c .before .before .write-record .ensures, c .before .before .before .before .before .before .move-up .ensures)
+    (inserted-at _ _ _ _ (λ i. c .before .before .before .before .before .before .before .before .slice-known .given i .fits)
+    (c .before .before .before .before .before .before .before .before .before .pre))))

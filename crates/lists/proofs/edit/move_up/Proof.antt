@@ -26,6 +26,12 @@ move-up-spec =
     (λ c. omega arith)
     (λ c. omega arith)
     (λ c. omega arith)
-    (λ c. (omega arith, omega arith, simp length-set (c .before .before .loop .inv .2), rw (c .before .before .loop .inv .3) (up-step _ _ _ (omega arith) (omega arith) (omega arith))))
+    (λ c. (
+      omega arith,
+      omega arith,
+      simp length-set (c .before .before .loop .inv .2),
+      rw (c .before .before .loop .inv .3)
+          (up-step _ _ _ (omega arith) (omega arith) (omega arith)),
+    ))
     (λ c. c .before .loop .inv .2)
     (λ c. let q : c .before .loop .at ≡ c .before .before .args .a = omega arith in rw (← q) (c .before .loop .inv .3)))

@@ -10,4 +10,5 @@ replace-at-spec =
     (tie.spec
     (λ c κs. search needs)
     (λ c. search needs)
-    (λ c. rw (c .before .before .write-record .ensures) (replaced-at _ _ _ _ (λ i. c .before .before .before .before .slice-known .given i .fits) (c .before .before .before .before .before .pre))))
+    (λ c. rw (c .before .before .write-record .ensures)
+    (replaced-at _ _ _ _ (λ i. c .before .before .before .before .slice-known .given i .fits) (c .before .before .before .before .before .pre))))

@@ -35,8 +35,11 @@ plan-words-spec =
     record { fine = s .words .fine _ (search needs); deep = s .deep })
     (λ c. search needs)
     (λ c. let l = c .before .before .before .before .before .before .loop in
-    let s = c .before .before .before .before .before .before .before .before .before .before .before .before .before .pre in
-    (search needs, words-more _ (s .words) _ _ _ _ _ _ _ (c .before .before .before .before .before .loop-test .taken) (l .inv .1) (c .before .before .paint-one .ensures)))
+    let s = c .before .before .before .before .before .before .before .before .before .before .before .before .before .pre in (
+      search needs,
+      words-more _ (s .words) _ _ _ _ _ _ _ (c .before .before .before .before .before .loop-test .taken) (l .inv .1)
+          (c .before .before .paint-one .ensures),
+    ))
     (λ c. ap length (c .before .loop .inv .1) ∙ length-planned-from _ _ _ _ _)
     (λ c. let l = c .before .loop in
     let a = c .before .before .before .before .before .before .before .before .args in

@@ -6,10 +6,10 @@ use Rattle.repair.proofs.differs.count_with.Statement.{statement}
 use Rattle.repair.proofs.differs.count_with.Tie as tie
 
 -- Places, each seen from a later one: where it starts; after `settle_owners`; after `chained`.
-abbrev start : tie.After-settle-owners → tie.Start
+abbrev start : tie.After-open-all → tie.Start
 start c = c .before .before .before .before .before .before .before .before .before .before .before .before
 
-abbrev settled : tie.After-chained → tie.After-settle-owners
+abbrev settled : tie.After-chained → tie.After-open-all
 settled c = c .before .before .before .before .before .before .before
 
 abbrev made : tie.After-count-from-arg5 → tie.After-chained

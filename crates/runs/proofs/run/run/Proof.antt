@@ -14,14 +14,17 @@ use Rattle.runs.proofs.run.run.Statement.{statement}
 use Rattle.runs.proofs.run.run.Tie as tie
 
 -- what came to the `else` is no run
-not-run : (x : RunCheck) → types.Run.OneOf (1 ∷ 2 ∷ 3 ∷ []) (denote.Enum.Declared.tagOf Rattle.runs.proofs.run.RunCheck.the-type x) → accepts (meansRunCheck x) ≡ false
+not-run : (x : RunCheck) → types.Run.OneOf (1 ∷ 2 ∷ 3 ∷ []) (denote.Enum.Declared.tagOf Rattle.runs.proofs.run.RunCheck.the-type x) → accepts
+    (meansRunCheck x) ≡ false
 unfolding meansRunCheck
 not-run (Run start count) h = absurd (⊎-elim (λ (e : 0 ≡ 1). omega arith) (⊎-elim (λ (e : 0 ≡ 2). omega arith) (λ (e : 0 ≡ 3). omega arith)) h)
 not-run (Refused f k) h = refl
 not-run TooMany h = refl
 not-run NoPrefix h = refl
 
-told : (c : tie.After-known-told) → runSaid (c .before .before .before .before .before .args .list .now) (c .before .before .before .before .before .args .addr) (c .before .before .before .before .before .args .len) ≡ accepted (c .before .start .given .0 .0 ∷ c .before .start .given .0 .1 .0 ∷ [])
+told : (c : tie.After-known-told) → runSaid (c .before .before .before .before .before .args .list .now)
+    (c .before .before .before .before .before .args .addr) (c .before .before .before .before .before .args .len) ≡ accepted
+    (c .before .start .given .0 .0 ∷ c .before .start .given .0 .1 .0 ∷ [])
 unfolding meansRunCheck
 told c = sym (c .before .before .before .run-check .ensures) ∙ ap meansRunCheck (c .before .start .given .1)
 
@@ -34,7 +37,8 @@ run-spec =
     (λ c. search needs)
     (λ c. search needs)
     (λ c. search needs)
-    (λ c. no-run _ _ _ _ (ap accepts (sym (c .before .before .run-check .ensures)) ∙ not-run (c .before .before .run-check .result) (c .before .match .keys2)) refl refl)
+    (λ c. no-run _ _ _ _ (ap accepts (sym (c .before .before .run-check .ensures)) ∙ not-run (c .before .before .run-check .result)
+    (c .before .match .keys2)) refl refl)
     (λ c. omega (arith, run-room _ _ _ _ _ (told c)))
     (λ c. omega (arith, run-room _ _ _ _ _ (told c)))
     (λ c. omega (arith, run-room _ _ _ _ _ (told c)))

@@ -15,8 +15,11 @@ close-spec =
     (λ c κs. let p = c .before .before .before .pre in (omega (arith, p .one (c .if1 .taken)), omega arith))
     (λ c κs. search needs)
     (λ c. search needs)
-    (λ c κs. close-range _ _ _ _ _ (c .before .before .before .before .before .before .pre) (c .before .before .before .if1 .taken) _ _ (c .before .before .shifted .ensures .0) (c .before .shifted2 .ensures .0))
+    (λ c κs. close-range _ _ _ _ _ (c .before .before .before .before .before .before .pre) (c .before .before .before .if1 .taken) _ _
+    (c .before .before .shifted .ensures .0) (c .before .shifted2 .ensures .0))
     (λ c. search needs)
     (λ c. search needs)
-    (λ c. close-on _ _ _ _ _ _ _ _ _ (c .before .before .before .before .before .before .if1 .taken) refl (c .before .before .before .before .before .shifted .ensures .0) (c .before .before .before .before .shifted2 .ensures .0) (c .before .before .fill-range16 .ensures))
+    (λ c. close-on _ _ _ _ _ _ _ _ _ (c .before .before .before .before .before .before .if1 .taken) refl
+    (c .before .before .before .before .before .shifted .ensures .0) (c .before .before .before .before .shifted2 .ensures .0)
+    (c .before .before .fill-range16 .ensures))
     (λ c. close-off _ _ _ _ _ (c .if1 .left)))

@@ -9,5 +9,6 @@ chunk-for-spec =
     tie.close
     (tie.spec
     (λ c κs. search needs)
-    (λ c. let s = c .before .before .before in chunk-free (s .args .opens) (s .args .c) _ (s .args .own .now) (s .pre) (c .before .if1 .taken) (c .chunk-named .ensures .0) (c .chunk-named .ensures .1))
+    (λ c. let s = c .before .before .before in chunk-free (s .args .opens) (s .args .c) _ (s .args .own .now) (s .pre) (c .before .if1 .taken)
+    (c .chunk-named .ensures .0) (c .chunk-named .ensures .1))
     (λ c. let s = c .before .before in chunk-had (s .args .opens) (s .args .c) (s .args .own .now) (s .pre) (c .if1 .left)))

@@ -12,7 +12,7 @@ start c = c .before .before .before .before .before .before .before .before .bef
 abbrev asked : tie.After-chunk-for → tie.After-to-open
 asked c = c .before .before
 
-abbrev chosen : tie.After-hang → tie.After-chunk-for
+abbrev chosen : tie.After-set-owner → tie.After-chunk-for
 chosen c = c .before .before .before .before
 
 to-open-requires : tie.Need-to-open-requires
@@ -32,13 +32,15 @@ second-place-requires c κs = record {
 }
 
 add-set-owner : tie.Need-add-set-owner
-add-set-owner c = let s = start (c .before .before .before .before .before) in omega (arith, slot-small _ _ _ (s .pre .serving .valid) (s .pre .fine .prefix .addr-ok) (c .slot .ensures))
+add-set-owner c = let s = start (c .before .before .before .before .before) in omega
+    (arith, slot-small _ _ _ (s .pre .serving .valid) (s .pre .fine .prefix .addr-ok) (c .slot .ensures))
 
 set-owner-requires : tie.Need-set-owner-requires
 set-owner-requires c κs = let o = c .before .before .before .before .before in hang-second _ _ _ _ _ _ _ (start o .pre) _ (o .to-open .ensures)
 
 set-owner-requires-2 : tie.Need-set-owner-requires-2
-set-owner-requires-2 c κs = let o = c .before .before .before .before .before .before .before .before .before in hang-third _ _ _ _ _ _ _ (start o .pre) _ (o .to-open .ensures)
+set-owner-requires-2 c κs = let o = c .before .before .before .before .before .before .before .before .before in hang-third _ _ _ _ _ _ _
+    (start o .pre) _ (o .to-open .ensures)
 
 returns : tie.Need-returns
 returns c =

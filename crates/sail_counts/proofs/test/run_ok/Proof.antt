@@ -38,7 +38,8 @@ shared-slice-read-half-to-index-2 : tie.Need-shared-slice-read-half-to-index-2
 shared-slice-read-half-to-index-2 c =
     let tested = c .before .before .before .before .before .before in
     let start = tested .before .before .before .before .before in
-    counted-there _ _ _ _ _ _ (start .pre .0) (start .pre .1) (tested .if1 .left) _ (c .before .before .half-to-index .ensures) _ (c .before .cell-place .ensures .0)
+    counted-there _ _ _ _ _ _ (start .pre .0) (start .pre .1) (tested .if1 .left) _ (c .before .before .half-to-index .ensures) _
+    (c .before .cell-place .ensures .0)
 
 run-end-requires : tie.Need-run-end-requires
 run-end-requires c κs =

@@ -17,7 +17,8 @@ tick-at-requires c κs =
     let cell = two .before in
     let one = cell .before .before in
     let start = one .before .before .before .before .before in
-    ticks-one _ _ _ _ _ _ _ _ _ _ _ (one .before .byte-to-word .ensures .0) (one .slot .ensures) (cell .half-to-index .ensures .0) (two .second-place .ensures .0)
+    ticks-one _ _ _ _ _ _ _ _ _ _ _ (one .before .byte-to-word .ensures .0) (one .slot .ensures) (cell .half-to-index .ensures .0)
+    (two .second-place .ensures .0)
     (start .pre)
 
 tick-at-requires-2 : tie.Need-tick-at-requires-2
@@ -26,7 +27,8 @@ tick-at-requires-2 c κs =
     let cell = two .before in
     let one = cell .before .before in
     let start = one .before .before .before .before .before in
-    ticks-two _ _ _ _ _ _ _ _ _ _ _ (one .before .byte-to-word .ensures .0) (one .slot .ensures) (cell .half-to-index .ensures .0) (two .second-place .ensures .0)
+    ticks-two _ _ _ _ _ _ _ _ _ _ _ (one .before .byte-to-word .ensures .0) (one .slot .ensures) (cell .half-to-index .ensures .0)
+    (two .second-place .ensures .0)
     (start .pre)
 
 returns : tie.Need-returns

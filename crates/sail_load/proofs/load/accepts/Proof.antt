@@ -1,4 +1,4 @@
--- `sail_load::load::accepts` meets its contract.
+-- `sail_load::load::accepts`. What is said of an input is accepted exactly where it has no fault.
 use borrow.Author.Needs.{needs}
 use Rattle.sail_load.specs.Answers.{meansLoaded}
 use Rattle.sail_load.proofs.load.accepts.Statement.{statement}

@@ -30,10 +30,10 @@ long2-empty c = c .before .before .before .before
 abbrev own2-empty : tie.After-zero322 → tie.After-zero32
 own2-empty c = c .before .before .before .before
 
-abbrev own3-empty : tie.After-settle-owners → tie.After-zero322
+abbrev own3-empty : tie.After-open-all → tie.After-zero322
 own3-empty c = c .before .before .before .before .before
 
-abbrev owned : tie.After-repaint-from-list → tie.After-settle-owners
+abbrev owned : tie.After-repaint-from-list → tie.After-open-all
 owned c = c .before .before .before .before .before .before .before .before .before .before
 
 abbrev painted : tie.After-count-all → tie.After-repaint-from-list

@@ -23,6 +23,11 @@ read-firsts-spec =
     (λ c κs. (search needs, search spot-at))
     (λ c. omega arith)
     (λ c. omega arith)
-    (λ c. (omega arith, omega arith, swept-more _ _ _ _ _ _ (search needs) (omega arith) (c .before .before .before .before .before .loop .inv .2) (c .before .before .read-first .ensures)))
+    (λ c. (
+      omega arith,
+      omega arith,
+      swept-more _ _ _ _ _ _ (search needs) (omega arith) (c .before .before .before .before .before .loop .inv .2)
+          (c .before .before .read-first .ensures),
+    ))
     (λ c. c .before .loop .inv .2 .size)
     (λ c. swept-all _ _ _ _ _ _ (c .before .loop .inv .1) (omega arith) (c .before .loop .inv .2)))

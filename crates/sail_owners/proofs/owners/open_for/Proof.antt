@@ -9,7 +9,13 @@ returns : tie.Need-returns
 returns c = opened-none _ _ _ _ _ (c .before .before .before .before .pre) (omega arith)
 
 add-own-chunk : tie.Need-add-own-chunk
-add-own-chunk c = record { fits = omega (arith, slot-small _ _ _ _ _ (c .before .before .before .before .before .before .before .before .pre) _ (c .slot .ensures)) }
+add-own-chunk c = record {
+  fits = omega (
+    arith,
+    slot-small _ _ _ _ _ (c .before .before .before .before .before .before .before .before .pre) _
+        (c .slot .ensures),
+  );
+}
 
 own-chunk-requires : tie.Need-own-chunk-requires
 own-chunk-requires c κs = hangs-second _ _ _ _ _ (c .before .before .before .before .before .before .before .before .pre) (omega arith) _ (c .slot .ensures)
@@ -36,7 +42,8 @@ returns-3 : tie.Need-returns-3
 returns-3 c =
     let first = c .before .before .before .before .before .before .before .before in
     opened-third _ _ _ _ _ (first .before .before .before .before .before .before .before .before .before .pre) (omega arith) _
-    (first .before .slot .ensures) _ _ (first .own-chunk .ensures) (omega arith) _ (c .before .before .before .second-place .ensures .0) _ _ (c .before .before .own-chunk2 .ensures)
+    (first .before .slot .ensures) _ _ (first .own-chunk .ensures) (omega arith) _ (c .before .before .before .second-place .ensures .0) _ _
+    (c .before .before .own-chunk2 .ensures)
 
 pub open-for-spec : {M : Type 1} → statement M
 open-for-spec =

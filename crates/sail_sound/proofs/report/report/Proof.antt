@@ -1,4 +1,4 @@
--- `sail_sound::report::report` meets its contract.
+-- `sail_sound::report::report`. The sizes, then the test, then the count and the chunks in use, which are the needs of a sound table.
 use Rattle.sail_sound.specs.Report.{meansReported}
 use Rattle.sail_sound.proofs.Reports.{report-not, report-on}
 use borrow.Author.Needs.{needs}

@@ -8,7 +8,7 @@ use Rattle.sail_sound.proofs.test.live_ok.Tie as tie
 abbrev start : tie.After-first-ok → tie.Start
 start c = c .before .before .before .before .before .before .before .before .before
 
-abbrev first : tie.After-hung-all → tie.After-first-ok
+abbrev first : tie.After-owned-all → tie.After-first-ok
 first c = c .before .before .before .before .before
 
 first-ok-requires : tie.Need-first-ok-requires

@@ -25,9 +25,21 @@ fill-image-spec =
     (λ c κs. search needs)
     (λ c. (c .before .before .before .before .start .ensures, refl, refl))
     (λ c κs. search state-waits)
-    (λ c. omega (arith, node-taken _ _ _ _ _ _ (c .before .before .before .before .before .before .before .before .loop .inv .0) (c .before .before .before .before .before .before .before .loop-test .taken), c .before .before .before .before .before .before .before .before .loop .inv .0 .room .words-fit))
-    (λ c. omega (arith, node-taken _ _ _ _ _ _ (c .before .before .before .before .before .before .before .before .loop .inv .0) (c .before .before .before .before .before .before .before .loop-test .taken)))
+    (λ c. omega (
+      arith,
+      node-taken _ _ _ _ _ _ (c .before .before .before .before .before .before .before .before .loop .inv .0)
+          (c .before .before .before .before .before .before .before .loop-test .taken),
+      c .before .before .before .before .before .before .before
+          .before .loop .inv .0 .room .words-fit,
+    ))
+    (λ c. omega (
+      arith,
+      node-taken _ _ _ _ _ _ (c .before .before .before .before .before .before .before .before .loop .inv .0)
+          (c .before .before .before .before .before .before .before .loop-test .taken),
+    ))
     (λ c. (c .before .before .before .before .step .ensures, omega arith, omega arith))
     (λ c. search needs)
     (λ c. search needs)
-    (λ c. filled _ _ _ _ _ _ (c .before .loop .inv .0) (c .loop-test .left) (c .before .before .before .before .before .before .before .before .before .before .before .before .args .words .now) (c .before .before .before .before .before .before .before .before .before .before .before .before .args .hops .now) (omega arith) (omega arith)))
+    (λ c. filled _ _ _ _ _ _ (c .before .loop .inv .0) (c .loop-test .left)
+    (c .before .before .before .before .before .before .before .before .before .before .before .before .args .words .now)
+    (c .before .before .before .before .before .before .before .before .before .before .before .before .args .hops .now) (omega arith) (omega arith)))

@@ -16,7 +16,13 @@ node-bit-spec =
     (λ c. search needs)
     (λ c. search some)
     (λ c κs. search needs)
-    (λ c. record { fits = omega (arith, inner-place _ _ (c .before .before .pre .0) (c .before .if1 .taken) (c .before .before .args .addr) (c .slot .result) (c .slot .ensures) .1) })
+    (λ c. record {
+      fits = omega (
+        arith,
+        inner-place _ _ (c .before .before .pre .0) (c .before .if1 .taken) (c .before .before .args .addr)
+            (c .slot .result) (c .slot .ensures) .1,
+      );
+    })
     (λ c. inner-place _ _ (c .before .before .pre .0) (c .before .if1 .taken) _ _ (c .slot .ensures))
     (λ c. search needs)
     (λ c. search needs)
