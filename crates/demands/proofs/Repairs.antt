@@ -25,7 +25,7 @@ use Rattle.repair_theory.proofs.Onwards as onwards-on
 use Rattle.repair.specs.Contract.{MeetsRepair}
 use Rattle.repair.specs.declared.repair.RepairedTable.{RepairedTable}
 use Rattle.repair.proofs.OneAnswer as answer
-use Rattle.demands.specs.Served.{Served}
+use Rattle.standing.specs.Served.{Served}
 use Rattle.demands.proofs.Demand2.{sail-serves}
 
 module _ (t : Table) (l : Lent) where

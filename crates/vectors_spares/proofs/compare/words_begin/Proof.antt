@@ -1,0 +1,12 @@
+-- The list is at least as long as the others, so the part that is compared has as many cells as they have.
+use mathlib.Core.Path.{sym}
+use lib.Seq.{length-take-le}
+use borrow.Author.Needs.{needs}
+use Rattle.vectors_spares.proofs.compare.words_begin.Statement.{statement}
+use Rattle.vectors_spares.proofs.compare.words_begin.Tie as tie
+
+front-count : tie.Need-slice-aggregate-same32
+front-count c = sym (length-take-le _ _ (c .before .if1 .left))
+
+pub words-begin-spec : {M : Type 1} → statement M
+words-begin-spec = tie.close (tie.spec (λ c. search needs) front-count (λ c κs. search needs) (λ c. search needs))
