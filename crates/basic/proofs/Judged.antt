@@ -4,7 +4,7 @@ use mathlib.Core.Path.{_≡_, refl, sym, ap, _∙_, subst}
 use mathlib.Core.Logic.{_⊎_, inl, inr, _≢_}
 use mathlib.Core.Bool.{Bool, true, false, _&&_, true≢false, false≢true}
 use mathlib.Core.List.{List, [], _∷_, List·Memᴰ}
-use Prim.Native.Nat.{ℕ, zero, suc, _+_, _/_, _≤_, _<_}
+use Prim.Native.Nat.{ℕ, zero, suc, _/_, _≤_, _<_}
 use native.Mathlib.Nat.{eq-or-lt-of-le, le-refl, le-step, le-of-suc-le-suc}
 use native.Mathlib.Omega.{arith}
 use lib.Dec.{ltb}
@@ -12,7 +12,7 @@ use lib.ListN.{length, getD}
 use borrow.Author.Tests.{ltb-true, lt-ltb, eq-eqb, ne-eqb}
 use Rattle.bits.specs.Tab.{tabulate}
 use Rattle.bits.proofs.Tabs.{getD-tabulate}
-use Rattle.bits.proofs.Tests.{decided, equal?, and-split, both, untrue}
+use Rattle.bits.proofs.Bools.{decided, equal?, and-split, both, untrue}
 use Rattle.routes.specs.Route.{Good}
 use Rattle.routes.specs.Input.{hopFine}
 use Rattle.routes.specs.Record.{GoodInput, routesIn}
@@ -21,15 +21,15 @@ use Rattle.routes.specs.declared.Route.{Route}
 use Rattle.routes.proofs.Goods.{good-fine}
 use Rattle.routes.specs.Cases.{Passes}
 use Rattle.routes.proofs.Meaning.{hop-true, true-hop, good-input}
-use Rattle.routes.proofs.Cases.{check-only, good-whole, bad-stops, by-input}
+use Rattle.routes.proofs.Judged.{check-only, good-whole, bad-stops, by-input}
 use Rattle.routes.proofs.Rows.{records-good}
 use Rattle.standing.specs.Cells.{covers, Best}
 use Rattle.standing.specs.Down.{down}
 use Rattle.standing.proofs.Longest.{First, first-is, best-is}
 use Rattle.standing.proofs.Downs.{down-skip, down-at}
-use Rattle.basic.specs.Maps.{bitFor, cellFor}
+use Rattle.basic.specs.Maps.{mapBitFor, cellFor}
 use Rattle.basic.specs.Walk.{mapped, basicWalk, metSaid}
-use Rattle.basic.specs.Calls.{sizesFit, readySaid, basicSaid, hopWord, manyOf, manyAfter, basicMany}
+use Rattle.basic.specs.Calls.{mapSizesFit, readySaid, basicSaid, hopWord, manyOf, manyAfter, basicMany}
 use Rattle.basic.specs.Meaning.{Unready, Prepared, NoLong, FirstSet, BasicLookup, BasicLookups}
 use Rattle.basic.proofs.Checks.{fit-sizes, sizes-fit, ready-is}
 use Rattle.basic.proofs.Walks.{walk-maps, walk-list}
@@ -41,13 +41,13 @@ unready-refuses (Unready.bad-size n g h) = refl
 -- the check before every call
 module _ (s bs cs : List ℕ) where
   abbrev fits : Bool
-  fits = sizesFit (length bs) (length cs)
+  fits = mapSizesFit (length bs) (length cs)
 
   pub unready-only : (x : Said) → Unready s bs cs x → readySaid s (length bs) (length cs) ≡ x
   unfolding readySaid
   unready-only _ (Unready.bad-input x b) = rw (check-only s x (b .checked)) (bad-stops x _ (b .not-accepted))
   unready-only x (Unready.bad-size n g h) =
-      rw (good-input s n (g .whole) (g .records), untrue (sizesFit (length bs) (length cs)) (λ t. h (fit-sizes (length bs) (length cs) t)))
+      rw (good-input s n (g .whole) (g .records), untrue (mapSizesFit (length bs) (length cs)) (λ t. h (fit-sizes (length bs) (length cs) t)))
 
   pub prepared-only : Prepared s bs cs → readySaid s (length bs) (length cs) ≡ accepted (length s / 8 ∷ [])
   prepared-only p = ready-is s (length bs) (length cs) (length s / 8) (p .input) (p .sizes)
@@ -70,11 +70,11 @@ module _ (s bs cs : List ℕ) where
 
 -- one level of the maps
 module _ (bs cs : List ℕ) (a : ℕ) where
-  set-says : (l : ℕ) → bitFor bs a l ≡ true → mapped bs cs a l ≡ suc (cellFor cs a l)
+  set-says : (l : ℕ) → mapBitFor bs a l ≡ true → mapped bs cs a l ≡ suc (cellFor cs a l)
   unfolding mapped
   set-says l e = rw e
 
-  clear-says : (l : ℕ) → bitFor bs a l ≡ false → mapped bs cs a l ≡ 0
+  clear-says : (l : ℕ) → mapBitFor bs a l ≡ false → mapped bs cs a l ≡ 0
   unfolding mapped
   clear-says l e = rw e
 
@@ -85,24 +85,24 @@ module _ (bs cs : List ℕ) (a : ℕ) where
       (λ k u v. clear-says k (f .none-longer k u (omega arith)))
       ∙ set-says l (f .set)
 
-  none-says : ((l : ℕ) → l ≤ 16 → bitFor bs a l ≡ false) → down (mapped bs cs a) 17 ≡ 0
+  none-says : ((l : ℕ) → l ≤ 16 → mapBitFor bs a l ≡ false) → down (mapped bs cs a) 17 ≡ 0
   unfolding down
   none-says none = down-skip (mapped bs cs a) 0 17 (omega arith) (λ l u v. clear-says l (none l (omega arith)))
 
   -- the first of the lengths below n, from the longest on, whose bit is set
   data Met (n : ℕ) : Type 0 where
-    at : (l : ℕ) → l < n → bitFor bs a l ≡ true → ((k : ℕ) → l < k → k < n → bitFor bs a k ≡ false) → Met n
-    nowhere : ((l : ℕ) → l < n → bitFor bs a l ≡ false) → Met n
+    at : (l : ℕ) → l < n → mapBitFor bs a l ≡ true → ((k : ℕ) → l < k → k < n → mapBitFor bs a k ≡ false) → Met n
+    nowhere : ((l : ℕ) → l < n → mapBitFor bs a l ≡ false) → Met n
 
   met-below : (n : ℕ) → Met n
   met-below zero = nowhere (λ l u. absurd (omega arith))
-  met-below (suc n) = go (decided (bitFor bs a n)) (met-below n)
+  met-below (suc n) = go (decided (mapBitFor bs a n)) (met-below n)
     where
-      one-more : (k : ℕ) → (k ≡ n) ⊎ (k < n) → bitFor bs a n ≡ false → (k < n → bitFor bs a k ≡ false) → bitFor bs a k ≡ false
+      one-more : (k : ℕ) → (k ≡ n) ⊎ (k < n) → mapBitFor bs a n ≡ false → (k < n → mapBitFor bs a k ≡ false) → mapBitFor bs a k ≡ false
       one-more k (inl q) e h = rw q e
       one-more k (inr l) e h = h l
 
-      go : (bitFor bs a n ≡ true) ⊎ (bitFor bs a n ≡ false) → Met n → Met (suc n)
+      go : (mapBitFor bs a n ≡ true) ⊎ (mapBitFor bs a n ≡ false) → Met n → Met (suc n)
       go (inl e) m = at n (le-refl (suc n)) e (λ k u v. absurd (omega arith))
       go (inr e) (at l u t h) = at l (le-step u) t (λ k x y. one-more k (eq-or-lt-of-le (le-of-suc-le-suc y)) e (h k x))
       go (inr e) (nowhere h) = nowhere (λ k y. one-more k (eq-or-lt-of-le (le-of-suc-le-suc y)) e (h k))

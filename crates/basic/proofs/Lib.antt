@@ -2,7 +2,7 @@
 pub mod Places
 pub mod Walks
 pub mod Checks
-pub mod Answers
+pub mod LookupReturns
 pub mod OneAnswer
 pub mod Serves
 pub mod Judged

@@ -12,7 +12,7 @@ use lib.Pow.{pow-pos, pow-mono}
 use lib.ListN.{getD}
 use borrow.Author.Tests.{ltb-false, lt-ltb, le-ltb}
 use Rattle.bits.specs.Slot.{slot}
-use Rattle.bits.specs.Bit.{bitAt, packed}
+use Rattle.bits.specs.Bit.{bitAt, packedBits}
 use Rattle.bits.specs.Count.{bit}
 use Rattle.bits.specs.Search.{firstOf}
 use Rattle.bits.proofs.Slots.{slot-lt, shl-one}
@@ -103,7 +103,7 @@ module _ (bs cs : List ℕ) (a l i : ℕ) (b : Bool) (e : i ≡ mapPlace l (slot
 pub set-is : (cs : List ℕ) (i : ℕ) → i < 131072 → isSetAt (mapBits cs) i ≡ hopThere cs i
 unfolding mapBits
 set-is cs i h =
-    let byte = getD-tabulate 16384 (λ j. packed (λ b. hopThere cs (8 * j + b)) 8) (i / 8) 0 (omega arith) in
+    let byte = getD-tabulate 16384 (λ j. packedBits (λ b. hopThere cs (8 * j + b)) 8) (i / 8) 0 (omega arith) in
     let there : 8 * (i / 8) + i % 8 ≡ i = omega arith in
     ap (λ (w : ℕ). eqb (bitAt w (i % 8)) 1) byte
     ∙ ap (λ (w : ℕ). eqb w 1) (packed-bit (λ b. hopThere cs (8 * (i / 8) + b)) 8 (i % 8) (omega arith))

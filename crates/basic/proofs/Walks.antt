@@ -2,12 +2,12 @@
 use mathlib.Core.Path.{_≡_, sym, ap, _∙_, subst}
 use mathlib.Core.Bool.{true, false, true≢false}
 use mathlib.Core.List.{List}
-use Prim.Native.Nat.{ℕ, suc, _+_, _-_, _*_, _/_, _≤_, _<_}
+use Prim.Native.Nat.{ℕ, suc, _+_, _-_, _/_, _≤_, _<_}
 use native.Mathlib.Omega.{arith}
 use lib.ListN.{length}
 use borrow.Author.Tests.{lt-ltb, le-ltb}
 use Rattle.bits.specs.Slot.{slot}
-use Rattle.bits.proofs.Tests.{untrue}
+use Rattle.bits.proofs.Bools.{untrue}
 use Rattle.routes.specs.Route.{Good}
 use Rattle.routes.specs.Record.{recordAt, Records, GoodInput, routesIn}
 use Rattle.routes.specs.declared.Route.{Route}
@@ -18,7 +18,7 @@ use Rattle.standing.proofs.Longest.{here-parts, cover-parts}
 use Rattle.standing.proofs.Prefixes.{first-here, first-absent, here-cover, cover-here}
 use Rattle.standing.proofs.Downs.{down-none, down-some, down-skip, down-at, down-same}
 use Rattle.longest.specs.Longest.{LongestAt, LongestRecord}
-use Rattle.basic.specs.Walk.{mapped, listed, levelSays, basicWalk}
+use Rattle.basic.specs.Walk.{mapped, listSays, levelSays, basicWalk}
 use Rattle.basic.specs.Meaning.{NoLong}
 
 -- a turn of the loop down through the maps, where the levels from m on said nothing
@@ -38,7 +38,7 @@ turns-done f n m e h = let z : m ≡ 0 = omega arith in sym (e ∙ ap (down f) z
 
 -- what each length says
 module _ (rs : List Route) (bs cs : List ℕ) (a : ℕ) where
-  pub level-long : (l : ℕ) → 16 < l → levelSays rs bs cs a l ≡ listed rs a l
+  pub level-long : (l : ℕ) → 16 < l → levelSays rs bs cs a l ≡ listSays rs a l
   unfolding levelSays
   level-long l h = rw (lt-ltb 16 l h)
 
@@ -52,7 +52,7 @@ module _ (rs : List Route) (bs cs : List ℕ) (a : ℕ) where
       down-skip (levelSays rs bs cs a) 17 33 (omega arith) (λ l p q. level-long l (omega arith) ∙ silent l (omega arith) (omega arith))
       ∙ down-same _ _ 17 (λ l u. level-short l (omega arith))
     where
-      silent : (l : ℕ) → 16 < l → l ≤ 32 → listed rs a l ≡ 0
+      silent : (l : ℕ) → 16 < l → l ≤ 32 → listSays rs a l ≡ 0
       silent l h u =
           first-absent (here l (slot l a)) rs
           (λ r m. untrue (here l (slot l a) r) (λ t. true≢false (sym (here-cover a r l u t) ∙ none r m (omega (arith, here-parts l (slot l a) r t .0)))))
@@ -75,7 +75,7 @@ module _ (rs : List Route) (bs cs : List ℕ) (a : ℕ) where
           ∙ first-here l (slot l a) rs (w .route) good (w .listed) (cover-here a (w .route) (w .covering))
           ∙ ap suc (sym (w .its-hop))
 
-      silent : (k : ℕ) → l < k → k ≤ 32 → listed rs a k ≡ 0
+      silent : (k : ℕ) → l < k → k ≤ 32 → listSays rs a k ≡ 0
       silent k p q =
           first-absent (here k (slot k a)) rs
           (λ r m. untrue (here k (slot k a) r) (λ t. omega (arith, here-parts k (slot k a) r t .0, w .longest r m (here-cover a r k q t))))

@@ -17,34 +17,34 @@ use Rattle.basic.specs.declared.lookup.BasicFound.{BasicFound}
 use Rattle.basic.specs.declared.lookup.BasicFound.the-variants as found
 
 -- "16,384 bytes", "131,071 hop cells"
-unfoldable pub sizesFit : ℕ → ℕ → Bool
-sizesFit bits cells = eqb bits 16384 && eqb cells 131071
+unfoldable pub mapSizesFit : ℕ → ℕ → Bool
+mapSizesFit bits cells = eqb bits 16384 && eqb cells 131071
 
 -- "Refusals, in order: the record input's; 2 for another array size"
 unfoldable pub readySaid : List ℕ → ℕ → ℕ → Said
-readySaid s bits cells = andThen (inputSaid s) (cond (sizesFit bits cells) (accepted (length s / 8 ∷ [])) (refused 2))
+readySaid s bits cells = andThen (inputSaid s) (cond (mapSizesFit bits cells) (accepted (length s / 8 ∷ [])) (refused 2))
 
-unfoldable pub saysReady : Ready → Said
-saysReady (ready.Good n) = accepted (n ∷ [])
-saysReady (ready.RefusedAt f k) = refusedAt f k
-saysReady (ready.Refused f) = refused f
+unfoldable pub meansReady : Ready → Said
+meansReady (ready.Good n) = accepted (n ∷ [])
+meansReady (ready.RefusedAt f k) = refusedAt f k
+meansReady (ready.Refused f) = refused f
 
 -- a lookup: those, then the walk's own answer
 unfoldable pub basicSaid : List ℕ → List ℕ → List ℕ → ℕ → Said
 basicSaid s bits cells a = andThen (readySaid s (length bits) (length cells)) (metSaid (basicWalk (routesIn s) bits cells a))
 
 -- a hop; nothing where there is no route
-unfoldable pub saysBasicFound : BasicFound → Said
-saysBasicFound (found.Hop h) = accepted (h ∷ [])
-saysBasicFound found.NoRoute = accepted []
-saysBasicFound (found.RefusedAt f k) = refusedAt f k
-saysBasicFound (found.Refused f) = refused f
+unfoldable pub meansBasicFound : BasicFound → Said
+meansBasicFound (found.Hop h) = accepted (h ∷ [])
+meansBasicFound found.NoRoute = accepted []
+meansBasicFound (found.RefusedAt f k) = refusedAt f k
+meansBasicFound (found.Refused f) = refused f
 
 -- a call that fills arrays: done, or refused
-unfoldable pub saysBasicAnswer : BasicAnswer → Said
-saysBasicAnswer answer.Done = accepted []
-saysBasicAnswer (answer.RefusedAt f k) = refusedAt f k
-saysBasicAnswer (answer.Refused f) = refused f
+unfoldable pub meansBasicAnswer : BasicAnswer → Said
+meansBasicAnswer answer.Done = accepted []
+meansBasicAnswer (answer.RefusedAt f k) = refusedAt f k
+meansBasicAnswer (answer.Refused f) = refused f
 
 -- a lookup's answer as one number: its hop in bits 16 to 31, 0 there for no route
 abbrev pub packHop : Said → ℕ

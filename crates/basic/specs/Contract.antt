@@ -3,12 +3,12 @@
 use mathlib.Core.List.{List}
 use mathlib.Core.Path.{_≡_}
 use Prim.Native.Nat.{ℕ}
-use Rattle.basic.specs.Calls.{saysBasicFound, saysBasicAnswer, basicSaid, many, basicMany}
+use Rattle.basic.specs.Calls.{meansBasicFound, meansBasicAnswer, basicSaid, many, basicMany}
 use Rattle.basic.specs.declared.check.BasicAnswer.{BasicAnswer}
 use Rattle.basic.specs.declared.lookup.BasicFound.{BasicFound}
 
 abbrev pub MeetsBasicLookup : List ℕ → List ℕ → List ℕ → ℕ → BasicFound → Type 0
-MeetsBasicLookup input bits cells addr r = saysBasicFound r ≡ basicSaid input bits cells addr
+MeetsBasicLookup input bits cells addr r = meansBasicFound r ≡ basicSaid input bits cells addr
 
 abbrev pub MeetsBasicMany : List ℕ → List ℕ → List ℕ → List ℕ → List ℕ → BasicAnswer → List ℕ → Type 0
-MeetsBasicMany input bits cells addrs words r ws = many (saysBasicAnswer r) ws ≡ basicMany input bits cells addrs words
+MeetsBasicMany input bits cells addrs words r ws = many (meansBasicAnswer r) ws ≡ basicMany input bits cells addrs words

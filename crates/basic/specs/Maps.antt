@@ -6,7 +6,7 @@ use Prim.Native.Nat.{ℕ, suc, _+_, _-_, _*_, _/_, _%_, _^_}
 use lib.Dec.{ltb, eqb}
 use lib.ListN.{getD}
 use Rattle.bits.specs.Slot.{slot}
-use Rattle.bits.specs.Bit.{bitAt, packed}
+use Rattle.bits.specs.Bit.{bitAt, packedBits}
 use Rattle.bits.specs.Search.{firstOf}
 use Rattle.bits.specs.Tab.{tabulate}
 use Rattle.standing.specs.Cells.{here, first, orElse}
@@ -37,15 +37,15 @@ hopThere cells i = ltb 0 (getD cells i 0)
 
 -- "one bit for each prefix", "in 16,384 bytes, lowest bit first": it is set where the prefix's cell holds a hop. "The last bit zero": it has no cell
 unfoldable pub mapBits : List ℕ → List ℕ
-mapBits cells = tabulate 16384 (λ j. packed (λ b. hopThere cells (8 * j + b)) 8)
+mapBits cells = tabulate 16384 (λ j. packedBits (λ b. hopThere cells (8 * j + b)) 8)
 
 -- bit i of the bytes, "lowest bit first": bit i % 8, counted from the least significant, of byte i / 8
 abbrev pub isSetAt : List ℕ → ℕ → Bool
 isSetAt bits i = eqb (bitAt (getD bits (i / 8) 0) (i % 8)) 1
 
 -- the bit, and the cell, of the first l bits of the address a
-abbrev pub bitFor : List ℕ → ℕ → ℕ → Bool
-bitFor bits a l = isSetAt bits (mapPlace l (slot l a))
+abbrev pub mapBitFor : List ℕ → ℕ → ℕ → Bool
+mapBitFor bits a l = isSetAt bits (mapPlace l (slot l a))
 
 abbrev pub cellFor : List ℕ → ℕ → ℕ → ℕ
 cellFor cells a l = getD cells (mapPlace l (slot l a)) 0

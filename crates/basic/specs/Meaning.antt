@@ -10,7 +10,7 @@ use Rattle.routes.specs.Record.{GoodInput, routesIn}
 use Rattle.routes.specs.Said.{Said, accepted, refused}
 use Rattle.routes.specs.declared.Route.{Route}
 use Rattle.standing.specs.Cells.{here, covers, Longest}
-use Rattle.basic.specs.Maps.{mapPlace, isSetAt, bitFor, cellFor, MapSizes}
+use Rattle.basic.specs.Maps.{mapPlace, isSetAt, mapBitFor, cellFor, MapSizes}
 
 -- The two arrays are those of the routes rs. Every place but the last is the place of a prefix (`place-prefix`), so this says all of them
 pub record MapsOf (rs : List Route) (bits cells : List ℕ) : Type 0 where
@@ -27,9 +27,9 @@ pub record MapsOf (rs : List Route) (bits cells : List ℕ) : Type 0 where
 
 -- "its hop equals that of the covering rule": the hop of a route that covers the address, than which no route that covers it is longer; or no
 -- route, and then none covers
-pub data Serves (rs : List Route) (a : ℕ) : Said → Type 0 where
-  hop : (h : ℕ) → Longest rs 32 a h → Serves rs a (accepted (h ∷ []))
-  none : ((r : Route) → List·Memᴰ r rs → covers 32 a r ≡ false) → Serves rs a (accepted [])
+pub data MapsServe (rs : List Route) (a : ℕ) : Said → Type 0 where
+  hop : (h : ℕ) → Longest rs 32 a h → MapsServe rs a (accepted (h ∷ []))
+  none : ((r : Route) → List·Memᴰ r rs → covers 32 a r ≡ false) → MapsServe rs a (accepted [])
 
 -- What each call can say, in order, with all that then holds.
 
@@ -50,8 +50,8 @@ NoLong rs a = (r : Route) → List·Memᴰ r rs → 16 < r .len → covers 32 a 
 -- "the first set bit met on the way down": that of the first l bits, and none of more, up to 16, is set
 pub record FirstSet (bits : List ℕ) (a l : ℕ) : Type 0 where
   pub short : l ≤ 16
-  pub set : bitFor bits a l ≡ true
-  pub none-longer : (k : ℕ) → l < k → k ≤ 16 → bitFor bits a k ≡ false
+  pub set : mapBitFor bits a l ≡ true
+  pub none-longer : (k : ℕ) → l < k → k ≤ 16 → mapBitFor bits a k ≡ false
 
 -- one lookup
 pub data BasicLookup (s bits cells : List ℕ) (a : ℕ) : Said → Type 0 where
@@ -65,7 +65,7 @@ pub data BasicLookup (s bits cells : List ℕ) (a : ℕ) : Said → Type 0 where
   broken : Prepared s bits cells → NoLong (routesIn s) a → (l : ℕ) → FirstSet bits a l → (1 ≤ cellFor cells a l → cellFor cells a l ≤ 32767 → ⊥)
       → BasicLookup s bits cells a (refused 13)
   -- no bit is set, that of level 0 among them
-  no-route : Prepared s bits cells → NoLong (routesIn s) a → ((l : ℕ) → l ≤ 16 → bitFor bits a l ≡ false) → BasicLookup s bits cells a (accepted [])
+  no-route : Prepared s bits cells → NoLong (routesIn s) a → ((l : ℕ) → l ≤ 16 → mapBitFor bits a l ≡ false) → BasicLookup s bits cells a (accepted [])
 
 -- many
 pub data BasicLookups (s bits cells addrs words : List ℕ) : Said → Type 0 where

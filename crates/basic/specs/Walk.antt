@@ -9,19 +9,19 @@ use Rattle.routes.specs.Input.{hopFine}
 use Rattle.routes.specs.declared.Route.{Route}
 use Rattle.standing.specs.Cells.{here, first}
 use Rattle.standing.specs.Down.{down}
-use Rattle.basic.specs.Maps.{bitFor, cellFor}
+use Rattle.basic.specs.Maps.{mapBitFor, cellFor}
 
 -- what the maps say of the first l bits of the address a: 1 + the hop in their cell where their bit is set, and 0 where it is not
 unfoldable pub mapped : List ℕ → List ℕ → ℕ → ℕ → ℕ
-mapped bits cells a l = cond (bitFor bits a l) (suc (cellFor cells a l)) 0
+mapped bits cells a l = cond (mapBitFor bits a l) (suc (cellFor cells a l)) 0
 
 -- what the records say: 1 + the hop of the route that they are the prefix of, and 0 where there is none
-abbrev pub listed : List Route → ℕ → ℕ → ℕ
-listed rs a l = first (here l (slot l a)) rs
+abbrev pub listSays : List Route → ℕ → ℕ → ℕ
+listSays rs a l = first (here l (slot l a)) rs
 
 -- "basic SAIL for lengths 0 to 16", "find anything longer in the record list"
 unfoldable pub levelSays : List Route → List ℕ → List ℕ → ℕ → ℕ → ℕ
-levelSays rs bits cells a l = cond (ltb 16 l) (listed rs a l) (mapped bits cells a l)
+levelSays rs bits cells a l = cond (ltb 16 l) (listSays rs a l) (mapped bits cells a l)
 
 -- "It goes down from the longest length": all 33 lengths, level 0 among them
 abbrev pub basicWalk : List Route → List ℕ → List ℕ → ℕ → ℕ

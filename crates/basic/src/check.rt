@@ -2,7 +2,7 @@
 use routes::input;
 use routes::input::Input;
 ghost use mathlib.Core.Path.{_≡_};
-ghost use Rattle.basic.specs.Calls.{sizesFit, readySaid, saysReady};
+ghost use Rattle.basic.specs.Calls.{mapSizesFit, readySaid, meansReady};
 
 // So many good records and arrays of the right sizes; a refusal with the index of a record; or a refusal by its number alone.
 pub enum Ready {
@@ -20,7 +20,7 @@ pub enum BasicAnswer {
 
 // Whether the arrays have 16,384 bytes and 131,071 cells.
 fn sizes(bits: usize, cells: usize) -> bool
-    ensures { λ r. ⌜ r ≡ sizesFit bits cells ⌝ }
+    ensures { λ r. ⌜ r ≡ mapSizesFit bits cells ⌝ }
 {
     if bits != 16384 {
         return false;
@@ -30,7 +30,7 @@ fn sizes(bits: usize, cells: usize) -> bool
 
 // The input's refusals, then 2.
 pub fn check(input: &[u8], bits: usize, cells: usize) -> Ready
-    ensures { λ r. ⌜ saysReady r ≡ readySaid (now (input .entry)) bits cells ⌝ }
+    ensures { λ r. ⌜ meansReady r ≡ readySaid (now (input .entry)) bits cells ⌝ }
 {
     match input::check_input(input) {
         Input::Good(n) => {

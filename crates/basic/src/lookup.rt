@@ -2,7 +2,7 @@
 use crate::check::Ready;
 use crate::check::check;
 use crate::maps::mapped;
-use crate::maps::wide;
+use bits::widen::half_to_word;
 use longest::longest_record;
 use routes::input::hop_ok;
 use routes::record;
@@ -13,7 +13,7 @@ ghost use Rattle.routes.specs.Record.{GoodInput, routesIn};
 ghost use Rattle.standing.specs.Down.{down};
 ghost use Rattle.basic.specs.Maps.{MapSizes};
 ghost use Rattle.basic.specs.Walk.{mapped, basicWalk, metSaid};
-ghost use Rattle.basic.specs.Calls.{saysBasicFound};
+ghost use Rattle.basic.specs.Calls.{meansBasicFound};
 ghost use Rattle.basic.specs.Contract.{MeetsBasicLookup};
 
 // What a lookup finds: a hop, no route, or a refusal.
@@ -48,15 +48,15 @@ pub fn walk(input: &[u8], n: usize, bits: &[u8], cells: &[u16], addr: u32) -> u3
     let k = longest_record(input, n, addr, 17);
     if k != 0 {
         let r = record::read_record(input, k - 1);
-        return 1 + wide(r.hop);
+        return 1 + half_to_word(r.hop);
     }
     down(bits, cells, addr)
 }
 
 // What the walk's number says.
-pub fn told(w: u32) -> BasicFound
+pub fn found_of(w: u32) -> BasicFound
     requires { ⌜ w ≤ 65536 ⌝ }
-    ensures { λ r. ⌜ saysBasicFound r ≡ metSaid w ⌝ }
+    ensures { λ r. ⌜ meansBasicFound r ≡ metSaid w ⌝ }
 {
     if w == 0 {
         return BasicFound::NoRoute;
@@ -73,7 +73,7 @@ pub fn lookup(input: &[u8], bits: &[u8], cells: &[u16], addr: u32) -> BasicFound
     ensures { λ r. ⌜ MeetsBasicLookup (now (input .entry)) (now (bits .entry)) (now (cells .entry)) addr r ⌝ }
 {
     match check(input, bits.len(), cells.len()) {
-        Ready::Good(n) => told(walk(input, n, bits, cells, addr)),
+        Ready::Good(n) => found_of(walk(input, n, bits, cells, addr)),
         Ready::RefusedAt(f, k) => BasicFound::RefusedAt(f, k),
         Ready::Refused(f) => BasicFound::Refused(f),
     }

@@ -3,26 +3,26 @@ use crate::check::BasicAnswer;
 use crate::check::Ready;
 use crate::check::check;
 use crate::lookup::BasicFound;
-use crate::lookup::told;
+use crate::lookup::found_of;
 use crate::lookup::walk;
-use crate::maps::wide;
-use routes::record;
+use bits::widen::byte_to_word;
+use bits::widen::half_to_word;
 ghost use mathlib.Core.Path.{_≡_};
 ghost use lib.ListN.{length};
 ghost use Rattle.routes.specs.Record.{GoodInput};
 ghost use Rattle.basic.specs.Maps.{MapSizes};
-ghost use Rattle.basic.specs.Calls.{saysBasicFound, saysBasicAnswer, hopWord, many, manyOf};
+ghost use Rattle.basic.specs.Calls.{meansBasicFound, meansBasicAnswer, hopWord, many, manyOf};
 ghost use Rattle.basic.specs.Contract.{MeetsBasicMany};
 
 // An answer as a word: the hop in bits 16 to 31, or the refusal's number in bits 0 to 7, with bit 8 set where it has an index.
 fn word(f: BasicFound) -> u32
-    ensures { λ r. ⌜ r ≡ hopWord (saysBasicFound f) ⌝ }
+    ensures { λ r. ⌜ r ≡ hopWord (meansBasicFound f) ⌝ }
 {
     match f {
-        BasicFound::Hop(h) => wide(h) * 65536,
+        BasicFound::Hop(h) => half_to_word(h) * 65536,
         BasicFound::NoRoute => 0,
-        BasicFound::RefusedAt(z, _) => record::wide(z) + 256,
-        BasicFound::Refused(z) => record::wide(z),
+        BasicFound::RefusedAt(z, _) => byte_to_word(z) + 256,
+        BasicFound::Refused(z) => byte_to_word(z),
     }
 }
 
@@ -36,7 +36,7 @@ fn each(
     out: &mut [u32],
 ) -> BasicAnswer
     requires { ⌜ GoodInput (now input) n × MapSizes (length (now bits)) (length (now cells)) ⌝ }
-    ensures { λ r. ⌜ many (saysBasicAnswer r) (now (out .exit))
+    ensures { λ r. ⌜ many (meansBasicAnswer r) (now (out .exit))
         ≡ manyOf (now (input .entry)) (now (bits .entry)) (now (cells .entry)) (now (addrs .entry)) (now (out .entry)) ⌝ }
 {
     let m = addrs.len();
@@ -45,7 +45,7 @@ fn each(
     }
     let mut k = 0;
     while k < m {
-        out[k] = word(told(walk(input, n, bits, cells, addrs[k])));
+        out[k] = word(found_of(walk(input, n, bits, cells, addrs[k])));
         k += 1;
     }
     BasicAnswer::Done

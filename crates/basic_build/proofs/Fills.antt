@@ -3,21 +3,20 @@ use mathlib.Core.Path.{_≡_, refl, sym, ap, ap₂, _∙_, subst}
 use mathlib.Core.Logic.{_⊎_, inl, inr, _≢_}
 use mathlib.Core.Bool.{Bool, true, false, true≢false}
 use mathlib.Core.List.{List}
-use Prim.Native.Nat.{ℕ, zero, suc, _+_, _-_, _*_, _%_, _^_, _≤_, _<_}
+use Prim.Native.Nat.{ℕ, suc, _+_, _-_, _*_, _%_, _^_, _≤_, _<_}
 use native.Mathlib.Nat.{eq-or-lt-of-le, mod-eq-of-lt}
 use native.Mathlib.Omega.{arith}
 use lib.Pow.{pow-mono}
-use lib.ListN.{length, getD, set, length-set, List·getD-eq-default}
+use lib.ListN.{length, getD, set, replicate, length-set, length-replicate, getD-replicate, List·getD-eq-default}
 use lib.Seq.{getD-set-same, getD-set-other}
 use borrow.Author.Tests.{le-leb, lt-leb, lt-ltb, le-ltb}
 use Rattle.bits.specs.Slot.{slot}
-use Rattle.bits.specs.Bit.{packed}
+use Rattle.bits.specs.Bit.{packedBits}
 use Rattle.bits.specs.Count.{bit}
 use Rattle.bits.proofs.Slots.{slot-lt}
-use Rattle.bits.proofs.Tests.{below?}
+use Rattle.bits.proofs.Bools.{below?}
 use Rattle.bits.proofs.Tabs.{is-tabulate}
 use Rattle.bits.proofs.Packed.{packed-lt}
-use Rattle.routes.specs.Route.{key}
 use Rattle.routes.specs.Record.{recordAt, routesOf, Records}
 use Rattle.routes.specs.declared.Route.{Route}
 use Rattle.routes.proofs.Rows.{record-listed, listed-record}
@@ -26,7 +25,7 @@ use Rattle.standing.proofs.Longest.{First, first-is, here-parts, here-make}
 use Rattle.standing.proofs.Prefixes.{one-key}
 use Rattle.basic.specs.Maps.{mapPlace, levelOf, prefixOf, mapCell, mapCells, hopThere, mapBits}
 use Rattle.basic.proofs.Places.{place-bound, level-place, prefix-place, level-le, place-prefix}
-use Rattle.basic_build.specs.Built.{Blank, withRoute}
+use Rattle.basic_build.specs.Built.{withRoute}
 
 -- one route
 module _ (cs : List ℕ) (r : Route) (l : ℕ) (e : l ≡ r .len) where
@@ -48,11 +47,11 @@ pub record PutTo (s : List ℕ) (k : ℕ) (cs : List ℕ) : Type 0 where
   pub put : (j : ℕ) → j < k → recordAt s j .len ≤ 16 → getD cs (placeAt s j) 0 ≡ recordAt s j .hop
   pub rest : (i : ℕ) → i < 131071 → ((j : ℕ) → j < k → recordAt s j .len ≤ 16 → placeAt s j ≢ i) → getD cs i 0 ≡ 0
 
-pub put-none : (s : List ℕ) (m : ℕ) (cs : List ℕ) → Blank m cs → m ≡ 131071 → PutTo s 0 cs
+pub put-none : (s : List ℕ) (m : ℕ) (cs : List ℕ) → cs ≡ replicate m 0 → m ≡ 131071 → PutTo s 0 cs
 put-none s m cs b e = record {
-  size = b .size ∙ e;
+  size = ap length b ∙ length-replicate m 0 ∙ e;
   put = λ j l h. absurd (omega arith);
-  rest = λ i l h. b .zero i (rw e l);
+  rest = λ i l h. ap (λ (x : List ℕ). getD x i 0) b ∙ getD-replicate {A = ℕ} m i 0 0 (rw e l);
 }
 
 module _ (s : List ℕ) (n : ℕ) (ok : Records s n) where
@@ -146,7 +145,7 @@ module _ (cs : List ℕ) (i : ℕ) where
   bit-past e h = bit-clear (List·getD-eq-default cs 0 (omega arith))
 
 -- a byte, bit by bit
-module _ (f : ℕ → Bool) (b x y : ℕ) (h : b < 8) (e : x ≡ packed f b) (q : y ≡ bit (f b)) where
+module _ (f : ℕ → Bool) (b x y : ℕ) (h : b < 8) (e : x ≡ packedBits f b) (q : y ≡ bit (f b)) where
   shifted : y * 2 ^ b % 2 ^ 32 ≡ bit (f b) * 2 ^ b
   shifted = rw q (go (f b))
     where
@@ -154,24 +153,24 @@ module _ (f : ℕ → Bool) (b x y : ℕ) (h : b < 8) (e : x ≡ packed f b) (q 
       go true = mod-eq-of-lt (omega (arith, pow-mono {i = b} {j = 8} (omega arith)))
       go false = mod-eq-of-lt (omega arith)
 
-  next : x + y * 2 ^ b % 2 ^ 32 ≡ packed f (suc b)
-  unfolding packed
+  next : x + y * 2 ^ b % 2 ^ 32 ≡ packedBits f (suc b)
+  unfolding packedBits
   next = rw (shifted, e) (omega arith)
 
-  pub byte-more : x + y * 2 ^ b % 2 ^ 32 ≡ packed f (b + 1)
-  byte-more = next ∙ ap (packed f) (omega arith)
+  pub byte-more : x + y * 2 ^ b % 2 ^ 32 ≡ packedBits f (b + 1)
+  byte-more = next ∙ ap (packedBits f) (omega arith)
 
   pub byte-small : x + y * 2 ^ b % 2 ^ 32 < 256
   byte-small = rw next (omega (arith, packed-lt f (suc b), pow-mono {i = suc b} {j = 8} h))
 
-pub byte-none : (f : ℕ → Bool) → 0 ≡ packed f 0
-unfolding packed
+pub byte-none : (f : ℕ → Bool) → 0 ≡ packedBits f 0
+unfolding packedBits
 byte-none f = refl
 
-pub byte-whole : (f : ℕ → Bool) (b x : ℕ) → b ≤ 8 → 8 ≤ b → x ≡ packed f b → x ≡ packed f 8
-byte-whole f b x h l e = e ∙ ap (packed f) (omega arith)
+pub byte-whole : (f : ℕ → Bool) (b x : ℕ) → b ≤ 8 → 8 ≤ b → x ≡ packedBits f b → x ≡ packedBits f 8
+byte-whole f b x h l e = e ∙ ap (packedBits f) (omega arith)
 
 pub bytes-all : (cs bs : List ℕ) (j : ℕ) → length bs ≡ 16384 → 16384 ≤ j
-    → ((i : ℕ) → i < j → getD bs i 0 ≡ packed (λ b. hopThere cs (8 * i + b)) 8) → bs ≡ mapBits cs
+    → ((i : ℕ) → i < j → getD bs i 0 ≡ packedBits (λ b. hopThere cs (8 * i + b)) 8) → bs ≡ mapBits cs
 unfolding mapBits
-bytes-all cs bs j e l h = is-tabulate 0 bs 16384 (λ i. packed (λ b. hopThere cs (8 * i + b)) 8) e (λ i u. h i (omega arith))
+bytes-all cs bs j e l h = is-tabulate 0 bs 16384 (λ i. packedBits (λ b. hopThere cs (8 * i + b)) 8) e (λ i u. h i (omega arith))

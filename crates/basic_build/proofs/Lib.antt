@@ -1,5 +1,6 @@
 -- Laws of the build, and what it is worth.
 pub mod Fills
-pub mod Answers
+pub mod BuildReturns
+pub mod Judged
 pub mod OneAnswer
 pub mod Serves

@@ -10,11 +10,11 @@ use Rattle.routes.specs.Record.{routesIn}
 use Rattle.routes.specs.Said.{accepts}
 use Rattle.routes.proofs.Rows.{records-good}
 use Rattle.basic.specs.Calls.{basicSaid}
-use Rattle.basic.specs.Meaning.{MapsOf, Serves}
+use Rattle.basic.specs.Meaning.{MapsOf, MapsServe}
 use Rattle.basic.proofs.Checks.{ready-is}
 use Rattle.basic.proofs.Serves.{map-sizes, maps-of, maps-serve}
 use Rattle.basic_build.specs.Built.{basicBuilt}
-use Rattle.basic_build.proofs.Answers.{built-accepts}
+use Rattle.basic_build.proofs.BuildReturns.{built-accepts}
 
 module _ (s bs cs : List ℕ) (e : accepts (basicBuilt s bs cs .said) ≡ true) where
   pub built-good-routes : Good (routesIn s)
@@ -24,7 +24,7 @@ module _ (s bs cs : List ℕ) (e : accepts (basicBuilt s bs cs .said) ≡ true) 
   basic-built = rw (built-accepts s bs cs e .arrays) (maps-of (routesIn s) built-good-routes)
 
   -- "For every good record input, the arrays built from it and every address, its hop equals that of the covering rule"
-  pub basic-serves : (a : ℕ) → a < 2 ^ 32 → Serves (routesIn s) a (basicSaid s (basicBuilt s bs cs .bits) (basicBuilt s bs cs .cells) a)
+  pub basic-serves : (a : ℕ) → a < 2 ^ 32 → MapsServe (routesIn s) a (basicSaid s (basicBuilt s bs cs .bits) (basicBuilt s bs cs .cells) a)
   unfolding basicSaid
   basic-serves a b =
       let m = built-accepts s bs cs e in

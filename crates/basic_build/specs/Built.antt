@@ -2,9 +2,9 @@
 use mathlib.Core.Bool.{cond}
 use mathlib.Core.List.{List, []}
 use mathlib.Core.Path.{_≡_}
-use Prim.Native.Nat.{ℕ, _<_}
+use Prim.Native.Nat.{ℕ}
 use lib.Dec.{leb}
-use lib.ListN.{length, getD, set}
+use lib.ListN.{length, set}
 use Rattle.bits.specs.Slot.{slot}
 use Rattle.routes.specs.Record.{routesIn}
 use Rattle.routes.specs.Said.{Said, accepted, refused, refusedAt}
@@ -32,17 +32,12 @@ mapsAfter (refusedAt n k) rs bs cs = mapsOut (refusedAt n k) bs cs
 unfoldable pub basicBuilt : List ℕ → List ℕ → List ℕ → MapsOut
 basicBuilt s bs cs = mapsAfter (readySaid s (length bs) (length cs)) (routesIn s) bs cs
 
--- n cells, all of them zero
-pub record Blank (n : ℕ) (cells : List ℕ) : Type 0 where
-  pub size : length cells ≡ n
-  pub zero : (i : ℕ) → i < n → getD cells i 0 ≡ 0
-
 -- the cells with the hop of a route in its place, where it has at most 16 bits
 unfoldable pub withRoute : Route → List ℕ → List ℕ
 withRoute r cells = cond (leb (r .len) 16) (set cells (mapPlace (r .len) (slot (r .len) (r .addr))) (r .hop)) cells
 
 -- the arrays are the maps of these routes
-pub record Filled (rs : List Route) (bs cs : List ℕ) : Type 0 where
+pub record MapsFilled (rs : List Route) (bs cs : List ℕ) : Type 0 where
   pub bits : bs ≡ mapBits (mapCells rs)
   pub cells : cs ≡ mapCells rs
 

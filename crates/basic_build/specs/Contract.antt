@@ -3,9 +3,9 @@
 use mathlib.Core.List.{List}
 use mathlib.Core.Path.{_≡_}
 use Prim.Native.Nat.{ℕ}
-use Rattle.basic.specs.Calls.{saysBasicAnswer}
+use Rattle.basic.specs.Calls.{meansBasicAnswer}
 use Rattle.basic.specs.declared.check.BasicAnswer.{BasicAnswer}
 use Rattle.basic_build.specs.Built.{mapsOut, basicBuilt}
 
 abbrev pub MeetsBasicBuild : List ℕ → List ℕ → List ℕ → BasicAnswer → List ℕ → List ℕ → Type 0
-MeetsBasicBuild input bits cells r bs cs = mapsOut (saysBasicAnswer r) bs cs ≡ basicBuilt input bits cells
+MeetsBasicBuild input bits cells r bs cs = mapsOut (meansBasicAnswer r) bs cs ≡ basicBuilt input bits cells

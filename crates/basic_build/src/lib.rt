@@ -2,39 +2,29 @@
 use basic::check::BasicAnswer;
 use basic::check::Ready;
 use basic::check::check;
-use basic::maps::place;
+use basic::maps::map_place;
+use bits::widen::byte_to_word;
+use buffers::fill::fill16;
 use routes::Route;
 use routes::record;
 ghost use mathlib.Core.Path.{_≡_};
 ghost use Prim.Native.Nat.{_+_, _*_, _<_};
 ghost use lib.ListN.{length};
-ghost use Rattle.bits.specs.Bit.{packed};
+ghost use Rattle.bits.specs.Bit.{packedBits};
 ghost use Rattle.bits.specs.Count.{bit};
 ghost use Rattle.routes.specs.Record.{Records, routesOf, GoodInput, routesIn};
 ghost use Rattle.basic.specs.Maps.{MapSizes, hopThere, mapCells, mapBits};
-ghost use Rattle.basic_build.specs.Built.{Blank, withRoute, Filled};
+ghost use Rattle.basic_build.specs.Built.{withRoute, MapsFilled};
 ghost use Rattle.basic_build.specs.Contract.{MeetsBasicBuild};
-
-// Every cell is set to 0.
-fn clear(cells: &mut [u16])
-    ensures { λ _. ⌜ Blank (length (now (cells .entry))) (now (cells .exit)) ⌝ }
-{
-    let n = cells.len();
-    let mut k = 0;
-    while k < n {
-        cells[k] = 0;
-        k += 1;
-    }
-}
 
 // The hop of a route of at most 16 bits goes into its cell.
 fn put(cells: &mut [u16], r: Route)
     requires { ⌜ length (now cells) ≡ 131071 ⌝ }
     ensures { λ _. ⌜ now (cells .exit) ≡ withRoute r (now (cells .entry)) ⌝ }
 {
-    let len = record::wide(r.len);
+    let len = byte_to_word(r.len);
     if len <= 16 {
-        let i = place(len, r.addr);
+        let i = map_place(len, r.addr);
         cells[i] = r.hop;
     }
 }
@@ -44,7 +34,7 @@ fn put_cells(list: &[u8], n: usize, cells: &mut [u16])
     requires { ⌜ Records (now list) n × (length (now cells) ≡ 131071) ⌝ }
     ensures { λ _. ⌜ now (cells .exit) ≡ mapCells (routesOf (now (list .entry)) n) ⌝ }
 {
-    clear(cells);
+    fill16(cells, 0);
     let mut k = 0;
     while k < n {
         put(cells, record::read_record(list, k));
@@ -68,7 +58,7 @@ fn bit_of(cells: &[u16], i: usize) -> u32
 // Byte j: the bits of eight places, the lowest first.
 fn byte_of(cells: &[u16], j: usize) -> u8
     requires { ⌜ (length (now cells) ≡ 131071) × (j < 16384) ⌝ }
-    ensures { λ r. ⌜ r ≡ packed (λ b. hopThere (now (cells .entry)) (8 * j + b)) 8 ⌝ }
+    ensures { λ r. ⌜ r ≡ packedBits (λ b. hopThere (now (cells .entry)) (8 * j + b)) 8 ⌝ }
 {
     let mut byte = 0;
     let mut b: u32 = 0;
@@ -92,9 +82,9 @@ fn put_bits(bits: &mut [u8], cells: &[u16])
 }
 
 // Both arrays.
-fn fill(input: &[u8], n: usize, bits: &mut [u8], cells: &mut [u16])
+fn fill_maps(input: &[u8], n: usize, bits: &mut [u8], cells: &mut [u16])
     requires { ⌜ GoodInput (now input) n × MapSizes (length (now bits)) (length (now cells)) ⌝ }
-    ensures { λ _. ⌜ Filled (routesIn (now (input .entry))) (now (bits .exit)) (now (cells .exit)) ⌝ }
+    ensures { λ _. ⌜ MapsFilled (routesIn (now (input .entry))) (now (bits .exit)) (now (cells .exit)) ⌝ }
 {
     put_cells(input, n, cells);
     put_bits(bits, cells);
@@ -107,7 +97,7 @@ pub fn build(input: &[u8], bits: &mut [u8], cells: &mut [u16]) -> BasicAnswer
 {
     match check(input, bits.len(), cells.len()) {
         Ready::Good(n) => {
-            fill(input, n, bits, cells);
+            fill_maps(input, n, bits, cells);
             BasicAnswer::Done
         }
         Ready::RefusedAt(f, k) => BasicAnswer::RefusedAt(f, k),

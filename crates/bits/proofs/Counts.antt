@@ -1,17 +1,14 @@
 -- How many numbers below n pass a test, and that two tests that match one to one are passed as often.
--- Assumes nothing.
-use mathlib.Core.Path.{_≡_, refl, sym, _∙_, ap, subst}
+use mathlib.Core.Path.{_≡_, refl, sym, _∙_, ap}
 use mathlib.Core.Logic.{_⊎_, inl, inr}
-use mathlib.Core.Bool.{Bool, true, false, not, _&&_, _||_, cond, true≢false, false≢true, and-true, and-false}
-use mathlib.Core.List.{List, [], _∷_}
-use Prim.Native.Nat.{ℕ, zero, suc, _+_, _-_, _*_, _/_, _^_, _≤_, _<_, zero-le, suc-le-suc}
-use native.Mathlib.Nat.{not-suc-le-zero, le-antisymm, le-trans, eq-or-lt-of-le, le-of-suc-le-suc, lt-irrefl, add-zero, le-step, le-refl}
+use mathlib.Core.Bool.{Bool, true, false, not, _&&_, and-true, and-false}
+use Prim.Native.Nat.{ℕ, zero, suc, _+_, _-_, _≤_, _<_, zero-le}
+use native.Mathlib.Nat.{not-suc-le-zero, le-antisymm, eq-or-lt-of-le, le-of-suc-le-suc, le-step, le-refl}
 use native.Mathlib.Omega.{arith}
-use lib.Dec.{eqb, ltb, leb}
-use borrow.Author.Tests.{ltb-true, ltb-false, leb-true, eqb-true, eqb-false, lt-ltb, eq-eqb, ne-eqb}
+use lib.Dec.{eqb}
+use borrow.Author.Tests.{eq-eqb, ne-eqb}
 use Rattle.bits.specs.Count.{bit, count}
-use lib.ListN.{getD, length}
-use Rattle.bits.proofs.Tests.{decided, both, and-split, or-split, or-none, fails, same}
+use Rattle.bits.proofs.Bools.{decided}
 
 pub count-ext : (f g : ℕ → Bool) (n : ℕ) → ((i : ℕ) → i < n → f i ≡ g i) → count f n ≡ count g n
 unfolding count
@@ -33,7 +30,8 @@ unfolding count
 count-without f j zero h e = absurd (not-suc-le-zero h)
 count-without f j (suc n) h e = go (eq-or-lt-of-le (le-of-suc-le-suc h)) (count-without f j n)
   where
-    go : (j ≡ n) ⊎ (j < n) → (j < n → f j ≡ true → count f n ≡ suc (count (without f j) n)) → bit (f n) + count f n ≡ suc (bit (without f j n) + count (without f j) n)
+    go : (j ≡ n) ⊎ (j < n) → (j < n → f j ≡ true → count f n ≡ suc (count (without f j) n)) → bit (f n) + count f n ≡ suc
+        (bit (without f j n) + count (without f j) n)
     go (inl q) ih =
         let here : f n ≡ true = rw q at e in
         let gone : without f j n ≡ false = rw q (without-same f n) in
@@ -56,14 +54,16 @@ into-less P Q f m n i = record {
 into-rest : (P Q : ℕ → Bool) (f : ℕ → ℕ) (m n : ℕ) → Into P Q f (suc m) n → P m ≡ true → Into P (without Q (f m)) f m n
 into-rest P Q f m n i e = record {
   lands = λ x l. i .lands x (le-step l);
-  passes = λ x l p. without-other Q (f m) (f x) (λ (q : f x ≡ f m). let z = i .apart x m (le-step l) (le-refl (suc m)) p e q in omega arith) ∙ i .passes x (le-step l) p;
+  passes = λ x l p. without-other Q (f m) (f x) (λ (q : f x ≡ f m). let z = i .apart x m (le-step l) (le-refl (suc m)) p e q in omega arith)
+      ∙ i .passes x (le-step l) p;
   apart = λ x y l l′. i .apart x y (le-step l) (le-step l′);
 }
 
 pub count-into : (P Q : ℕ → Bool) (f : ℕ → ℕ) (m n : ℕ) → Into P Q f m n → count P m ≤ count Q n
 unfolding count
 count-into P Q f zero n i = zero-le
-count-into P Q f (suc m) n i = go (decided (P m)) (count-into P Q f m n (into-less P Q f m n i)) (λ e. count-into P (without Q (f m)) f m n (into-rest P Q f m n i e))
+count-into P Q f (suc m) n i = go (decided (P m)) (count-into P Q f m n (into-less P Q f m n i))
+    (λ e. count-into P (without Q (f m)) f m n (into-rest P Q f m n i e))
   where
     go : (P m ≡ true) ⊎ (P m ≡ false) → count P m ≤ count Q n → (P m ≡ true → count P m ≤ count (without Q (f m)) n) → bit (P m) + count P m ≤ count Q n
     go (inl e) h k = omega (arith, ap bit e, k e, count-without Q (f m) n (i .lands m (le-refl (suc m)) e) (i .passes m (le-refl (suc m)) e))

@@ -3,7 +3,7 @@ use mathlib.Core.Path.{_≡_, refl, sym, _∙_, ap}
 use mathlib.Core.Logic.{_⊎_, inl, inr}
 use mathlib.Core.Bool.{Bool, true, false, cond}
 use Prim.Native.Nat.{ℕ, suc, _+_, _-_, _*_, _/_, _%_, _^_, _≤_, _<_}
-use native.Mathlib.Nat.{mul-assoc, mod-eq-of-lt, pow-succ'}
+use native.Mathlib.Nat.{mul-assoc, mod-eq-of-lt}
 use native.Mathlib.Omega.{arith}
 use borrow.Author.Tests.{leb-true, leb-false}
 use lib.Bits.{bitAnd, and-high}
@@ -11,8 +11,8 @@ use lib.Dec.{leb}
 use lib.Pow.{pow-pos, pow-mono, pow-add, shr-lt, shr-shr, shl-shr, low, high, ones-lt, ones-split, high-ones}
 use Rattle.bits.specs.Bit.{bitAt}
 use Rattle.bits.specs.Count.{bit}
-use Rattle.bits.specs.Slot.{slot, cut, mask}
-use Rattle.bits.proofs.Tests.{decided}
+use Rattle.bits.specs.Slot.{cut, mask}
+use Rattle.bits.proofs.Bools.{decided}
 
 pub mask-zero : (l : ℕ) → l ≡ 0 → 0 ≡ mask l
 unfolding mask

@@ -1,10 +1,10 @@
--- Laws of a word's bits. Assumes nothing.
-use mathlib.Core.Path.{_≡_, refl, sym, ap, subst, _∙_}
+-- Laws of a word's bits.
+use mathlib.Core.Path.{_≡_, refl, sym, ap, _∙_}
 use Prim.Native.Nat.{ℕ, zero, suc, _+_, _-_, _*_, _/_, _%_, _^_, _≤_, _<_}
-use native.Mathlib.Nat.{mod-lt, mod-eq-of-lt, one-mul, add-comm}
+use native.Mathlib.Nat.{mod-lt, add-comm}
 use native.Mathlib.Numerals.{add-one}
 use native.Mathlib.Omega.{arith}
-use lib.Pow.{mod-pow-add, pow-pos, pow-lt}
+use lib.Pow.{mod-pow-add, pow-pos}
 use lib.Bits.{bitAnd, and-mask}
 use lib.Count.{ones, ones-cat, ones-le}
 use Rattle.bits.specs.Bit.{bitAt, rank}

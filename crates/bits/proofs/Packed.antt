@@ -1,14 +1,13 @@
 -- The bits of a packed number, and the ones below a bit.
--- Assumes nothing.
 use mathlib.Core.Path.{_≡_, refl, sym, _∙_, ap, ap₂}
 use mathlib.Core.Logic.{_⊎_, inl, inr}
 use mathlib.Core.Bool.{Bool, true, false}
 use Prim.Native.Nat.{ℕ, zero, suc, _+_, _-_, _*_, _/_, _%_, _^_, _<_}
 use native.Mathlib.Nat.{eq-or-lt-of-le, le-of-suc-le-suc, not-suc-le-zero, pow-suc, mod-eq-of-lt, mod-lt, mul-assoc, add-assoc, add-mul, le-refl, le-step}
 use native.Mathlib.Omega.{arith}
-use lib.Pow.{pow-pos, pow-add, high, low, shr-shr, split}
+use lib.Pow.{pow-pos, pow-add, high, shr-shr, split}
 use lib.Count.{ones}
-use Rattle.bits.specs.Bit.{bitAt, rank, packed}
+use Rattle.bits.specs.Bit.{bitAt, rank, packedBits}
 use Rattle.bits.specs.Count.{bit, count}
 use Rattle.bits.proofs.Ones.{ones-rank}
 
@@ -16,15 +15,15 @@ bit-lt : (b : Bool) → bit b < 2
 bit-lt true = omega arith
 bit-lt false = omega arith
 
-pub packed-lt : (f : ℕ → Bool) (n : ℕ) → packed f n < 2 ^ n
-unfolding packed
+pub packed-lt : (f : ℕ → Bool) (n : ℕ) → packedBits f n < 2 ^ n
+unfolding packedBits
 packed-lt f zero = omega arith
 packed-lt f (suc n) = go (f n) (packed-lt f n)
   where
     two : 2 ^ suc n ≡ 2 ^ n + 2 ^ n
     two = pow-suc 2 n ∙ omega arith
 
-    go : (b : Bool) → packed f n < 2 ^ n → bit b * 2 ^ n + packed f n < 2 ^ suc n
+    go : (b : Bool) → packedBits f n < 2 ^ n → bit b * 2 ^ n + packedBits f n < 2 ^ suc n
     go true h = rw two (omega arith)
     go false h = rw two (omega arith)
 
@@ -47,14 +46,14 @@ bit-low b n k x h =
         ∙ ap (λ (u : ℕ). u % 2) (high (b * 2 ^ suc z + x / 2 ^ k) k (mod-lt x (pow-pos k)))
         ∙ ap (λ (u : ℕ). (u + x / 2 ^ k) % 2) t ∙ omega arith
 
-pub packed-bit : (f : ℕ → Bool) (n k : ℕ) → k < n → bitAt (packed f n) k ≡ bit (f k)
-unfolding packed
+pub packed-bit : (f : ℕ → Bool) (n k : ℕ) → k < n → bitAt (packedBits f n) k ≡ bit (f k)
+unfolding packedBits
 packed-bit f zero k h = absurd (not-suc-le-zero h)
 packed-bit f (suc n) k h = go (eq-or-lt-of-le (le-of-suc-le-suc h)) (packed-bit f n k)
   where
-    go : (k ≡ n) ⊎ (k < n) → (k < n → bitAt (packed f n) k ≡ bit (f k)) → bitAt (bit (f n) * 2 ^ n + packed f n) k ≡ bit (f k)
+    go : (k ≡ n) ⊎ (k < n) → (k < n → bitAt (packedBits f n) k ≡ bit (f k)) → bitAt (bit (f n) * 2 ^ n + packedBits f n) k ≡ bit (f k)
     go (inl q) ih = rw q (ap (λ (x : ℕ). x % 2) (high (bit (f n)) n (packed-lt f n)) ∙ mod-eq-of-lt (bit-lt (f n)))
-    go (inr l) ih = bit-low (bit (f n)) n k (packed f n) l ∙ ih l
+    go (inr l) ih = bit-low (bit (f n)) n k (packedBits f n) l ∙ ih l
 
 -- the ones below k of a number whose bits are a test's
 pub rank-count : (w : ℕ) (f : ℕ → Bool) (k : ℕ) → ((i : ℕ) → i < k → bitAt w i ≡ bit (f i)) → ones (w % 2 ^ k) ≡ count f k

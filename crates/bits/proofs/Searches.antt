@@ -1,5 +1,5 @@
--- Laws of `firstOf`. Assumes nothing.
-use mathlib.Core.Path.{_≡_, refl, sym, ap, _∙_, subst}
+-- Laws of `firstOf`.
+use mathlib.Core.Path.{_≡_, refl, sym, _∙_}
 use mathlib.Core.Logic.{⊎-elim}
 use mathlib.Core.Bool.{Bool, true, false, cond, true≢false}
 use Prim.Native.Nat.{ℕ, zero, suc, _+_, _≤_, _<_, zero-le}
@@ -45,7 +45,8 @@ module _ (p : ℕ → Bool) where
   first-at zero k u = absurd (omega arith)
   first-at (suc d) k u = go (p k) refl (first-at d (suc k)) u
     where
-      go : (b : Bool) → p k ≡ b → (firstFrom p d (suc k) < suc k + d → p (firstFrom p d (suc k)) ≡ true) → cond b k (firstFrom p d (suc k)) < k + suc d → p (cond b k (firstFrom p d (suc k))) ≡ true
+      go : (b : Bool) → p k ≡ b → (firstFrom p d (suc k) < suc k + d → p (firstFrom p d (suc k)) ≡ true) → cond b k
+          (firstFrom p d (suc k)) < k + suc d → p (cond b k (firstFrom p d (suc k))) ≡ true
       go true e ih u = e
       go false e ih u = ih (omega arith)
 

@@ -1,9 +1,22 @@
--- Laws of the first bits of an address. Callers of `cut` rest on these, and not on how it is computed. Assumes nothing.
+-- Laws of the first bits of an address. Callers of `cut` rest on these, and not on how it is computed.
 use mathlib.Core.Path.{_≡_, refl, sym, ap, _∙_}
 use Prim.Native.Nat.{ℕ, suc, _+_, _-_, _*_, _/_, _%_, _^_, _≤_, _<_}
-use native.Mathlib.Nat.{one-mul, add-mul, mul-assoc, zero-mul, mod-eq-of-lt, div-eq-of-lt, div-mul-le-self, lt-div-mul-add, div-eq-of-lt-le, mul-le-mul-right, div-div-eq-div-mul, pow-succ'}
+use native.Mathlib.Nat.{
+  one-mul,
+  add-mul,
+  mul-assoc,
+  zero-mul,
+  mod-eq-of-lt,
+  div-eq-of-lt,
+  div-mul-le-self,
+  lt-div-mul-add,
+  div-eq-of-lt-le,
+  mul-le-mul-right,
+  div-div-eq-div-mul,
+  pow-succ',
+}
 use native.Mathlib.Omega.{arith}
-use lib.Pow.{pow-lt, pow-mono, pow-pos, pow-add, shr-lt, shr-mono, shl-shr, shr-shr}
+use lib.Pow.{pow-lt, pow-pos, pow-add, shr-lt, shr-mono, shl-shr, shr-shr}
 use Rattle.bits.specs.Slot.{slot, cut}
 
 -- a one that is shifted left, not out
@@ -42,6 +55,13 @@ pub cut-gt : (l a : ℕ) → a < cut l a + 2 ^ (32 - l)
 unfolding cut
 cut-gt l a = lt-div-mul-add (pow-pos (32 - l))
 
+-- no bit comes after the 32nd
+pub cut-over : (l a : ℕ) → 32 ≤ l → cut l a ≡ a
+unfolding cut
+cut-over l a h =
+    let e : 32 - l ≡ 0 = omega arith in
+    ap (λ (x : ℕ). a / 2 ^ x * 2 ^ x) e ∙ omega arith
+
 -- an address that is clear after l bits is clear after more
 pub cut-more : (l m a : ℕ) → l ≤ m → m ≤ 32 → cut l a ≡ a → cut m a ≡ a
 unfolding cut
@@ -67,14 +87,6 @@ cut-grows m h = mul-le-mul-right (2 ^ (32 - m)) (shr-mono (32 - m) h)
 -- fewer bits of an address are less
 pub cut-mono : (l m a : ℕ) → l ≤ m → m ≤ 32 → cut l a ≤ cut m a
 cut-mono l m a h u = omega (arith, cut-more l m (cut l a) h u (cut-cut l a), cut-grows m (cut-le l a))
-
--- fewer bits of some bits
-pub cut-of-cut : (l m a : ℕ) → l ≤ m → m ≤ 32 → cut l (cut m a) ≡ cut l a
-unfolding cut
-cut-of-cut l m a h u =
-    let e : 32 - m + (m - l) ≡ 32 - l = omega arith in
-    let by : (y : ℕ) → y / 2 ^ (32 - l) ≡ y / 2 ^ (32 - m) / 2 ^ (m - l) = λ y. ap (λ (x : ℕ). y / 2 ^ x) (sym e) ∙ sym (shr-shr y (32 - m) (m - l)) in
-    ap (λ (x : ℕ). x * 2 ^ (32 - l)) (by _ ∙ ap (λ (x : ℕ). x / 2 ^ (m - l)) (shl-shr (a / 2 ^ (32 - m)) (32 - m)) ∙ sym (by a))
 
 -- an address between a prefix and its end has that prefix
 pub cut-in : (l p a : ℕ) → cut l p ≡ p → p ≤ a → a < p + 2 ^ (32 - l) → cut l a ≡ p

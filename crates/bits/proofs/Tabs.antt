@@ -1,18 +1,18 @@
--- Laws of lists by their elements. Assumes nothing.
+-- Laws of lists by their elements.
 use mathlib.Core.Path.{_≡_, refl, sym, ap, ap₂, _∙_}
 use mathlib.Core.Logic.{_⊎_, inl, inr, ⊎-elim}
-use mathlib.Core.Bool.{Bool, true, false, _&&_, cond, false≢true}
+use mathlib.Core.Bool.{Bool, true, false, cond, false≢true}
 use mathlib.Core.List.{List, [], _∷_, _++_}
-use Prim.Native.Nat.{ℕ, zero, suc, _+_, _<_, _≤_, suc-le-suc, zero-le}
+use Prim.Native.Nat.{ℕ, zero, suc, _+_, _<_, suc-le-suc, zero-le}
 use native.Mathlib.Nat.{not-suc-le-zero, le-of-suc-le-suc, zero-add, suc-add, suc-ne-zero, suc-inj, le-step, le-refl, eq-or-lt-of-le}
 use native.Mathlib.Omega.{arith}
 use lib.Dec.{eqb}
-use lib.ListN.{length, getD, set, take, drop, length-set}
-use lib.Seq.{take-at, drop-at, ext-getD, getD-set-same, getD-set-other}
+use lib.ListN.{length, getD, set, length-set}
+use lib.Seq.{getD-set-same, getD-set-other}
 use borrow.Author.Count.{below-more}
 use borrow.Author.Tests.{eqb-true, eqb-false, eq-eqb}
 use Rattle.bits.specs.Tab.{tabulate, every, same}
-use Rattle.bits.proofs.Tests.{decided, both, and-split}
+use Rattle.bits.proofs.Bools.{decided, both, and-split}
 
 module _ {ℓ} {A : Type ℓ} where
   pub length-tabulate : (n : ℕ) (f : ℕ → A) → length (tabulate n f) ≡ n
@@ -35,12 +35,6 @@ module _ {ℓ} {A : Type ℓ} where
   unfolding tabulate
   tabulate-append zero k f = simp zero-add
   tabulate-append (suc m) k f = simp suc-add (ap {B = List A} (λ t. f zero ∷ t) (tabulate-append m k (λ i. f (suc i))))
-
-  -- a part of a table
-  pub tabulate-part : (a n r : ℕ) (f : ℕ → A) → take n (drop a (tabulate (a + (n + r)) f)) ≡ tabulate n (λ i. f (a + i))
-  tabulate-part a n r f =
-      rw (tabulate-append a (n + r) f, drop-at (tabulate a f) (tabulate (n + r) (λ i. f (a + i))) a (length-tabulate a f), tabulate-append n r (λ i. f (a + i)))
-      (take-at (tabulate n (λ i. f (a + i))) _ n (length-tabulate n _))
 
   pub tabulate-ext : (n : ℕ) (f g : ℕ → A) → ((i : ℕ) → i < n → f i ≡ g i) → tabulate n f ≡ tabulate n g
   unfolding tabulate

@@ -1,4 +1,4 @@
--- A bit of a number, how many bits below a place are set, and a number by its bits. Assumes nothing.
+-- A bit of a number, how many bits below a place are set, and a number by its bits.
 use Prim.Native.Nat.{ℕ, zero, suc, _+_, _*_, _/_, _%_, _^_}
 use mathlib.Core.Bool.{Bool}
 use Rattle.bits.specs.Count.{bit}
@@ -13,6 +13,6 @@ rank n zero = 0
 rank n (suc k) = rank n k + bitAt n k
 
 -- the number whose bit k is set exactly where k is below n and passes the test
-unfoldable pub packed : (ℕ → Bool) → ℕ → ℕ
-packed f zero = 0
-packed f (suc n) = bit (f n) * 2 ^ n + packed f n
+unfoldable pub packedBits : (ℕ → Bool) → ℕ → ℕ
+packedBits f zero = 0
+packedBits f (suc n) = bit (f n) * 2 ^ n + packedBits f n

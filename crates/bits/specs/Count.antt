@@ -1,4 +1,4 @@
--- How many numbers below n pass a test. Assumes nothing.
+-- How many numbers below n pass a test.
 use Prim.Native.Nat.{ℕ, zero, suc, _+_}
 use mathlib.Core.Bool.{Bool, true, false}
 

@@ -1,4 +1,4 @@
--- The first bits of an address of 32 bits. Assumes nothing.
+-- The first bits of an address of 32 bits.
 use Prim.Native.Nat.{ℕ, _-_, _*_, _/_, _^_}
 
 -- the first p bits of the address a, as a number: the cell of level p that a lies in

@@ -1,10 +1,14 @@
-// Bits of 32-bit numbers: the first bits of an address, and ones counted below a bit.
+// Bits of 32-bit numbers: the first bits of an address, and ones counted below a bit. And numbers of other widths: their
+// bytes, and numbers made wider.
 ghost use mathlib.Core.Path.{_≡_};
 ghost use Prim.Native.Nat.{_%_, _^_, _≤_, _<_};
 ghost use lib.Count.{ones};
 ghost use lib.Dec.{eqb};
 ghost use Rattle.bits.specs.Slot.{slot, cut, mask};
 ghost use Rattle.bits.specs.Bit.{bitAt};
+
+pub mod bytes;
+pub mod widen;
 
 // The first p bits of an address, as a number. Level 0 is set apart: no number is shifted by its whole width.
 pub fn slot(p: u32, addr: u32) -> u32

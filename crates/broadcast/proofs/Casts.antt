@@ -10,21 +10,22 @@ use lib.Dec.{eqb, leb}
 use lib.ListN.{length}
 use borrow.Author.Tests.{eqb-true, eq-eqb, ne-eqb, leb-true, le-leb}
 use Rattle.bits.specs.Count.{bit}
-use Rattle.bits.proofs.Tests.{decided, below?, equal?, and-split, both, or-split, untrue}
+use Rattle.bits.proofs.Bools.{decided, below?, and-split, both, or-split, untrue}
 use Rattle.longest.specs.Best.{bestRoute, LongestRoute, BestRoute}
 use Rattle.longest.proofs.Bests.{best-route-is, best-route-only}
 use Rattle.routes.specs.Input.{inputSaid}
 use Rattle.routes.specs.Record.{GoodInput, routesIn}
 use Rattle.routes.specs.Route.{Good}
-use Rattle.routes.specs.Said.{Said, accepted, andThen, accepts}
+use Rattle.routes.specs.Said.{Said, accepted, accepts}
 use Rattle.routes.specs.declared.Route.{Route}
 use Rattle.routes.proofs.Goods.{good-fine}
+use Rattle.routes.proofs.Judged.{bad-stops}
 use Rattle.routes.proofs.Meaning.{input-checked, good-input}
 use Rattle.routes.specs.Cases.{Checked}
 use Rattle.routes.proofs.Rows.{records-good}
 use Rattle.standing.specs.Standing.{Held, stood}
 use Rattle.broadcast.specs.Cast.{versionFine, lastLen, highest, castOf, isBroadcast, castSaid}
-use Rattle.broadcast.specs.Meaning.{Rule, Highest, LastOf, Broadcast, UpperOfTwo, Casting}
+use Rattle.broadcast.specs.Meaning.{Rule, Highest, LastOf, Broadcast, UpperOfTwo}
 use Rattle.broadcast.proofs.Highs.{highest-last, highest-one}
 
 -- the versions
@@ -36,12 +37,12 @@ version-is v e = go (or-split (eqb v 1) (eqb v 2) e)
     go (inl q) = inl (eqb-true v 1 q)
     go (inr q) = inr (eqb-true v 2 q)
 
-is-version : (v : ℕ) → (v ≡ 1) ⊎ (v ≡ 2) → versionFine v ≡ true
+pub is-version : (v : ℕ) → (v ≡ 1) ⊎ (v ≡ 2) → versionFine v ≡ true
 unfolding versionFine
 is-version v (inl e) = rw e
 is-version v (inr e) = rw e
 
-not-version : (v : ℕ) → (v ≡ 1 → ⊥) → (v ≡ 2 → ⊥) → versionFine v ≡ false
+pub not-version : (v : ℕ) → (v ≡ 1 → ⊥) → (v ≡ 2 → ⊥) → versionFine v ≡ false
 unfolding versionFine
 not-version v x y = rw (ne-eqb v 1 x, ne-eqb v 2 y)
 
@@ -65,7 +66,7 @@ len-rule v l e h = go (version-is v e)
     go (inl q) = rw q (Rule.older l (rw q at h))
     go (inr q) = rw q (Rule.newer l (rw q at h))
 
-rule-version : (v l : ℕ) → Rule v l → (v ≡ 1) ⊎ (v ≡ 2)
+pub rule-version : (v l : ℕ) → Rule v l → (v ≡ 1) ⊎ (v ≡ 2)
 rule-version _ l (Rule.older _ h) = inl refl
 rule-version _ l (Rule.newer _ h) = inr refl
 
@@ -147,23 +148,18 @@ module _ (rs : List Route) (good : Good rs) (a : ℕ) where
 
 -- what is said, in order
 module _ (s : List ℕ) (n : ℕ) (g : GoodInput s n) where
-  good-routes : Good (routesIn s)
+  pub good-routes : Good (routesIn s)
   good-routes = let e : length s / 8 ≡ n = omega (arith, g .whole) in rw e (records-good s n (g .records))
 
-  cast-told : (v a : ℕ) (b : Bool) → versionFine v ≡ true → isBroadcast v (routesIn s) a ≡ b → castSaid v s a ≡ accepted (bit b ∷ [])
+  pub cast-told : (v a : ℕ) (b : Bool) → versionFine v ≡ true → isBroadcast v (routesIn s) a ≡ b → castSaid v s a ≡ accepted (bit b ∷ [])
   unfolding castSaid
   cast-told v a b f e = rw (f, good-input s n (g .whole) (g .records), e)
 
-and-refused : (x y : Said) → accepts x ≡ false → andThen x y ≡ x
-and-refused (Said.accepted vs) y h = absurd (true≢false h)
-and-refused (Said.refused n) y h = refl
-and-refused (Said.refusedAt n k) y h = refl
-
-cast-input : (v : ℕ) (s : List ℕ) (a : ℕ) → versionFine v ≡ true → accepts (inputSaid s) ≡ false → castSaid v s a ≡ inputSaid s
+pub cast-input : (v : ℕ) (s : List ℕ) (a : ℕ) → versionFine v ≡ true → accepts (inputSaid s) ≡ false → castSaid v s a ≡ inputSaid s
 unfolding castSaid
-cast-input v s a f h = rw f (and-refused (inputSaid s) _ h)
+cast-input v s a f h = rw f (bad-stops (inputSaid s) _ h)
 
-good-or-refused : (s : List ℕ) → ((n : ℕ) × GoodInput s n) ⊎ (accepts (inputSaid s) ≡ false)
+pub good-or-refused : (s : List ℕ) → ((n : ℕ) × GoodInput s n) ⊎ (accepts (inputSaid s) ≡ false)
 good-or-refused s = go (inputSaid s) (input-checked s)
   where
     go : (x : Said) → Checked s x → ((n : ℕ) × GoodInput s n) ⊎ (accepts x ≡ false)
@@ -171,40 +167,6 @@ good-or-refused s = go (inputSaid s) (input-checked s)
     go _ (Checked.stopped k f z l b w p) = inr refl
     go _ (Checked.many z b m) = inr refl
     go _ (Checked.good n w r) = inl (n, record { records = r; whole = w })
-
-module _ (v : ℕ) (s : List ℕ) (a : ℕ) where
-  pub cast-only : (x : Said) → Casting v s a x → castSaid v s a ≡ x
-  unfolding castSaid
-  cast-only _ (Casting.bad-version x y) = rw (not-version v x y)
-  cast-only _ (Casting.bad-input w h) = cast-input v s a (is-version v w) h
-  cast-only _ (Casting.is-one n g b) =
-      let f = is-version v (rule-version v (b .route .len) (b .within)) in
-      cast-told s n g v a true f (broadcast-is (routesIn s) (good-routes s n g) a v f .1 b)
-  cast-only _ (Casting.is-none w n g h) =
-      let f = is-version v w in
-      cast-told s n g v a false f (untrue _ (λ e. h (broadcast-is (routesIn s) (good-routes s n g) a v f .0 e)))
-
-  pub cast-judged : Casting v s a (castSaid v s a)
-  cast-judged = go (equal? v 1) (equal? v 2)
-    where
-      told : {x : Said} → Casting v s a x → Casting v s a (castSaid v s a)
-      told c = rw (cast-only _ c) c
-
-      judged : (v ≡ 1) ⊎ (v ≡ 2) → ((n : ℕ) × GoodInput s n) ⊎ (accepts (inputSaid s) ≡ false) → Casting v s a (castSaid v s a)
-      judged w (inr h) = told (Casting.bad-input w h)
-      judged w (inl g) = at (decided (isBroadcast v (routesIn s) a))
-        where
-          is : (isBroadcast v (routesIn s) a ≡ true) ↔ Broadcast v (routesIn s) a
-          is = broadcast-is (routesIn s) (good-routes s (g .0) (g .1)) a v (is-version v w)
-
-          at : (isBroadcast v (routesIn s) a ≡ true) ⊎ (isBroadcast v (routesIn s) a ≡ false) → Casting v s a (castSaid v s a)
-          at (inl e) = told (Casting.is-one (g .0) (g .1) (is .0 e))
-          at (inr e) = told (Casting.is-none w (g .0) (g .1) (λ b. true≢false (sym (is .1 b) ∙ e)))
-
-      go : (v ≡ 1) ⊎ (v ≢ 1) → (v ≡ 2) ⊎ (v ≢ 2) → Casting v s a (castSaid v s a)
-      go (inl e) y = judged (inl e) (good-or-refused s)
-      go (inr x) (inl e) = judged (inr e) (good-or-refused s)
-      go (inr x) (inr y) = told (Casting.bad-version x y)
 
 -- at the upper of two addresses the older rule says that it is one, the newer that it is none
 pub upper-told : (s : List ℕ) (n a : ℕ) → GoodInput s n → UpperOfTwo (routesIn s) a

@@ -8,7 +8,7 @@ use lib.Pow.{pow-pos, pow-mono, pow-add}
 use borrow.Author.Tests.{le-leb, eq-eqb}
 use Rattle.bits.specs.Slot.{slot, mask}
 use Rattle.bits.proofs.Slots.{slot-lt, cut-is, cut-gt, cut-in, cut-slot, slot-of}
-use Rattle.bits.proofs.Tests.{both}
+use Rattle.bits.proofs.Bools.{both}
 use Rattle.routes.specs.Route.{Prefix}
 use Rattle.routes.specs.declared.Route.{Route}
 use Rattle.standing.proofs.Longest.{cover-parts}

@@ -4,7 +4,7 @@ use mathlib.Core.List.{List}
 use Prim.Native.Nat.{ℕ}
 use Rattle.broadcast.specs.Contract.{MeetsBroadcast}
 use Rattle.broadcast.specs.declared.Cast.{Cast}
-use Rattle.broadcast.proofs.Answers.{cast-injective}
+use Rattle.broadcast.proofs.BroadcastReturns.{cast-injective}
 
 pub one-answer-broadcast : (version : ℕ) (input : List ℕ) (addr : ℕ) (x y : Cast) → MeetsBroadcast version input addr x
     → MeetsBroadcast version input addr y → x ≡ y

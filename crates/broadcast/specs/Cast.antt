@@ -38,9 +38,9 @@ isBroadcast v rs a = castOf v a (bestRoute rs a)
 unfoldable pub castSaid : ℕ → List ℕ → ℕ → Said
 castSaid v s a = cond (versionFine v) (andThen (inputSaid s) (accepted (bit (isBroadcast v (routesIn s) a) ∷ []))) (refused 23)
 
-unfoldable pub saysCast : Cast → Said
-saysCast cast.Yes = accepted (1 ∷ [])
-saysCast cast.No = accepted (0 ∷ [])
-saysCast cast.NoVersion = refused 23
-saysCast (cast.Refused f k) = refusedAt f k
-saysCast cast.TooMany = refused 6
+unfoldable pub meansCast : Cast → Said
+meansCast cast.Yes = accepted (1 ∷ [])
+meansCast cast.No = accepted (0 ∷ [])
+meansCast cast.NoVersion = refused 23
+meansCast (cast.Refused f k) = refusedAt f k
+meansCast cast.TooMany = refused 6

@@ -3,8 +3,8 @@
 use mathlib.Core.List.{List}
 use mathlib.Core.Path.{_≡_}
 use Prim.Native.Nat.{ℕ}
-use Rattle.broadcast.specs.Cast.{castSaid, saysCast}
+use Rattle.broadcast.specs.Cast.{castSaid, meansCast}
 use Rattle.broadcast.specs.declared.Cast.{Cast}
 
 abbrev pub MeetsBroadcast : ℕ → List ℕ → ℕ → Cast → Type 0
-MeetsBroadcast version input addr r = saysCast r ≡ castSaid version input addr
+MeetsBroadcast version input addr r = meansCast r ≡ castSaid version input addr

@@ -1,5 +1,6 @@
 // Directed broadcast: whether an address is the highest one of the attached network that it lies in. The older rule counts networks of 0 to 31
 // bits. The newer leaves out those of 31, whose two addresses are two hosts (RFC 3021).
+use bits::widen::byte_to_word;
 use longest::longest_record;
 use routes::Route;
 use routes::input;
@@ -45,7 +46,7 @@ fn highest(r: Route) -> u32
     requires { ⌜ Prefix (r .addr) (r .len) ⌝ }
     ensures { λ h. ⌜ h ≡ highest r ⌝ }
 {
-    r.addr + (0xFFFF_FFFF - bits::mask(record::wide(r.len)))
+    r.addr + (0xFFFF_FFFF - bits::mask(byte_to_word(r.len)))
 }
 
 // Whether the longest route that covers the address is attached, not too long, and ends at it.
@@ -61,7 +62,7 @@ fn is_broadcast(version: u32, input: &[u8], n: usize, addr: u32) -> bool
     if r.mark != 1 {
         return false;
     }
-    if last_len(version) < record::wide(r.len) {
+    if last_len(version) < byte_to_word(r.len) {
         return false;
     }
     highest(r) == addr

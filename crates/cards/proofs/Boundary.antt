@@ -1,7 +1,6 @@
 -- For each exported call: a caller that reads the packed answer by the header's fields has exactly what the call inside says. So two calls
--- whose packed answers are equal say the same (`packed-once` of Unpacks, with two of these). Assumes nothing.
---
--- What is supposed is what the boundary's types give: cells of 16 bits (`Cells`). And for the index of a refusal an input shorter than 2^35
+-- whose packed answers are equal say the same (`packed-once` of Unpacks, with two of these).
+-- What is supposed is what the boundary's types give: cells of 16 bits (`Cells16`). And for the index of a refusal an input shorter than 2^35
 -- bytes, which is 32 GiB: a longer one has an index of more than 32 bits.
 use mathlib.Core.Path.{_≡_, refl, _∙_, ap}
 use mathlib.Core.Bool.{Bool, true, false, cond, false≢true}
@@ -29,18 +28,63 @@ use Rattle.tree.specs.Walk.{treeSaid}
 use Rattle.tree_build.specs.Built.{built}
 use Rattle.sail.specs.Word.{packFound}
 use Rattle.packing.specs.Pack.{packReport, packRun, packNone, packRoute}
-use Rattle.packing.specs.Unpack.{refusalOf, unpacked, noValues, unpackFound, unpackReport, unpackBuilt, unpackRun, unpackRoute, unpackAnnounce, unpackWithdraw, unpackDone, unpackNone, countOf, Cells}
+use Rattle.packing.specs.Unpack.{
+  refusalOf,
+  unpacked,
+  noValues,
+  unpackFound,
+  unpackReport,
+  unpackBuilt,
+  unpackRun,
+  unpackRoute,
+  unpackAnnounce,
+  unpackWithdraw,
+  unpackDone,
+  unpackNone,
+  countOf,
+  Cells16,
+}
 use Rattle.cards.specs.Cards.{cardOf, imageCardOf, wordsCard, tallyCard, lowFound, manyCard}
-use Rattle.packing.proofs.Unpacks.{found-read, report-read, built-read, run-read, route-read, announce-read, withdraw-read, done-read, none-read, announce-count, withdraw-count, done-count, found-low}
-use Rattle.cards.proofs.Fits.{input-fits, run-fits, route-fits, built-fits, tree-fits, lookup-fits, report-fits, make-few, make-fits, load-few, load-fits, announce-few, announce-fits, withdraw-few, withdraw-fits}
+use Rattle.packing.proofs.Unpacks.{
+  found-read,
+  report-read,
+  built-read,
+  run-read,
+  route-read,
+  announce-read,
+  withdraw-read,
+  done-read,
+  none-read,
+  announce-count,
+  withdraw-count,
+  done-count,
+  found-low,
+}
+use Rattle.cards.proofs.Fits.{
+  input-fits,
+  run-fits,
+  route-fits,
+  built-fits,
+  tree-fits,
+  lookup-fits,
+  report-fits,
+  make-few,
+  make-fits,
+  load-few,
+  load-fits,
+  announce-few,
+  announce-fits,
+  withdraw-few,
+  withdraw-fits,
+}
 
 -- Tables.
 module _ (t : Table) (l : Lent) where
-  pub gh-lookup-read : Cells l → (a : ℕ) → unpackFound (packFound (lookupSaid t l a)) ≡ lookupSaid t l a
+  pub gh-lookup-read : Cells16 l → (a : ℕ) → unpackFound (packFound (lookupSaid t l a)) ≡ lookupSaid t l a
   gh-lookup-read cells a = found-read 0 (omega arith) _ (lookup-fits t l cells a)
 
   -- the low 32 bits are all of it
-  pub gh-lookup-many-read : Cells l → (a : ℕ) → unpackFound (lowFound t l a) ≡ lookupSaid t l a
+  pub gh-lookup-many-read : Cells16 l → (a : ℕ) → unpackFound (lowFound t l a) ≡ lookupSaid t l a
   gh-lookup-many-read cells a =
       let h = found-low (lookupSaid t l a) (lookup-fits t l cells a) in
       let e : lowFound t l a ≡ packFound (lookupSaid t l a) = omega arith in
@@ -92,7 +136,8 @@ module _ (t : Table) (l : Lent) where
   gh-lookup-many-answer ads xs = go (fault-is (t .geometry) l) (eqb (length xs) (length ads))
     where
       go : {n : ℕ} → Fault (t .geometry) l n → (b : Bool)
-          → unpackNone (cond (eqb n 0) (cond b (wordsCard 0 (tabulate (length ads) (λ k. lowFound t l (getD ads k 0)))) (wordsCard 2 xs)) (wordsCard n xs) .answer)
+          → unpackNone (cond (eqb n 0) (cond b (wordsCard 0 (tabulate (length ads) (λ k. lowFound t l (getD ads k 0)))) (wordsCard 2 xs))
+          (wordsCard n xs) .answer)
           ≡ orSay n (cond b (accepted []) (refused 2))
       go (Fault.none z) true = refl
       go (Fault.none z) false = refl
@@ -120,7 +165,8 @@ module _ (s : List ℕ) (short : length s < 2 ^ 35) where
   unfolding tallyCard unpacked refusalOf noValues
   gh-tally-read xs = go (eqb (length xs) 33)
     where
-      go : (b : Bool) → unpackNone (cond b (wordsCard (packNone (inputSaid s)) (tallyOf s)) (wordsCard 2 xs) .answer) ≡ cond b (andThen (inputSaid s) (accepted [])) (refused 2)
+      go : (b : Bool) → unpackNone (cond b (wordsCard (packNone (inputSaid s)) (tallyOf s)) (wordsCard 2 xs) .answer) ≡ cond b
+          (andThen (inputSaid s) (accepted [])) (refused 2)
       go true = none-read (2 ^ 32) (omega arith) _ (inputSaid s) (input-fits s short)
       go false = refl
 

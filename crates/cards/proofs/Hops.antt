@@ -14,9 +14,9 @@ use Rattle.basic.specs.Calls.{basicSaid, packHop, hopWord, Many, many, basicMan
 use Rattle.basic.specs.Meaning.{Unready, Prepared, BasicLookup, BasicLookups}
 use Rattle.basic.proofs.Judged.{unready-refuses, not-both, lookup-judged, many-judged, many-words}
 use Rattle.basic_build.specs.Built.{MapsOut, mapsOut, basicBuilt, BasicBuild}
-use Rattle.basic_build.proofs.Answers.{build-judged}
+use Rattle.basic_build.proofs.Judged.{build-judged}
 use Rattle.packing.specs.Pack.{packNone}
-use Rattle.packing.specs.Unpack.{unpackNone, Fits}
+use Rattle.packing.specs.Unpack.{unpackNone, FitsWord}
 use Rattle.packing.specs.Hops.{unpackHop, HopFits, NoneFits}
 use Rattle.packing.proofs.Hops.{hop-read, nothing-read, word-read}
 use Rattle.cards.specs.Cards.{wordsCard}
@@ -33,39 +33,39 @@ unfolding hopsCard
 hops-card-is s ws m r e q = ap (λ (x : ℕ). wordsCard x ws) q ∙ ap hopsCard e
 
 -- the refusals before every call
-unready-fits : (P : List ℕ → Type 0) (s bs cs : List ℕ) → length s < 2 ^ 35 → {x : Said} → Unready s bs cs x → Fits (2 ^ 32) P x
+unready-fits : (P : List ℕ → Type 0) (s bs cs : List ℕ) → length s < 2 ^ 35 → {x : Said} → Unready s bs cs x → FitsWord (2 ^ 32) P x
 unready-fits P s bs cs short (Unready.bad-input x b) = refused-fits P s short (b .checked) (b .not-accepted)
-unready-fits P s bs cs short (Unready.bad-size n g h) = Fits.number 2 (omega arith) (omega arith)
+unready-fits P s bs cs short (Unready.bad-size n g h) = FitsWord.number 2 (omega arith) (omega arith)
 
 -- a lookup after them: a hop of 1 to 32,767, no route, or 13
-looked-fits : (most : ℕ) (s bs cs : List ℕ) (a : ℕ) → ((x : Said) → Unready s bs cs x → Fits most HopFits x)
-    → {x : Said} → BasicLookup s bs cs a x → Fits most HopFits x
+looked-fits : (most : ℕ) (s bs cs : List ℕ) (a : ℕ) → ((x : Said) → Unready s bs cs x → FitsWord most HopFits x)
+    → {x : Said} → BasicLookup s bs cs a x → FitsWord most HopFits x
 looked-fits most s bs cs a off (BasicLookup.unready x u) = off x u
 looked-fits most s bs cs a off (BasicLookup.in-list p h w l) =
     let f = good-fine (routesIn s) (records-good s (length s / 8) (p .input .records)) (w .route) (w .listed) in
-    Fits.values _ (HopFits.hop h (omega (arith, w .its-hop, f .hop-one)) (omega (arith, w .its-hop, f .hop-ok)))
-looked-fits most s bs cs a off (BasicLookup.met p n l f lo hi) = Fits.values _ (HopFits.hop _ lo (omega arith))
-looked-fits most s bs cs a off (BasicLookup.broken p n l f h) = Fits.number 13 (omega arith) (omega arith)
-looked-fits most s bs cs a off (BasicLookup.no-route p n h) = Fits.values [] HopFits.none
+    FitsWord.values _ (HopFits.hop h (omega (arith, w .its-hop, f .hop-one)) (omega (arith, w .its-hop, f .hop-ok)))
+looked-fits most s bs cs a off (BasicLookup.met p n l f lo hi) = FitsWord.values _ (HopFits.hop _ lo (omega arith))
+looked-fits most s bs cs a off (BasicLookup.broken p n l f h) = FitsWord.number 13 (omega arith) (omega arith)
+looked-fits most s bs cs a off (BasicLookup.no-route p n h) = FitsWord.values [] HopFits.none
 
 module _ (s : List ℕ) (short : length s < 2 ^ 35) (bs cs : List ℕ) where
-  pub maps-fits : Fits (2 ^ 32) NoneFits (basicBuilt s bs cs .said)
+  pub maps-fits : FitsWord (2 ^ 32) NoneFits (basicBuilt s bs cs .said)
   maps-fits = go (build-judged s bs cs)
     where
-      go : {x : Said} → BasicBuild s bs cs x → Fits (2 ^ 32) NoneFits x
+      go : {x : Said} → BasicBuild s bs cs x → FitsWord (2 ^ 32) NoneFits x
       go (BasicBuild.unready x u) = unready-fits NoneFits s _ _ short u
-      go (BasicBuild.done p) = Fits.values [] NoneFits.none
+      go (BasicBuild.done p) = FitsWord.values [] NoneFits.none
 
-  pub hop-fits : (a : ℕ) → Fits (2 ^ 32) HopFits (basicSaid s bs cs a)
+  pub hop-fits : (a : ℕ) → FitsWord (2 ^ 32) HopFits (basicSaid s bs cs a)
   hop-fits a = looked-fits (2 ^ 32) s bs cs a (λ x u. unready-fits HopFits s bs cs short u) (lookup-judged s bs cs a)
 
-  pub many-fits : (ads ws : List ℕ) → Fits (2 ^ 32) NoneFits (basicMany s bs cs ads ws .said)
+  pub many-fits : (ads ws : List ℕ) → FitsWord (2 ^ 32) NoneFits (basicMany s bs cs ads ws .said)
   many-fits ads ws = go (many-judged s bs cs ads ws)
     where
-      go : {x : Said} → BasicLookups s bs cs ads ws x → Fits (2 ^ 32) NoneFits x
+      go : {x : Said} → BasicLookups s bs cs ads ws x → FitsWord (2 ^ 32) NoneFits x
       go (BasicLookups.unready x u) = unready-fits NoneFits s _ _ short u
-      go (BasicLookups.uneven p n) = Fits.number 2 (omega arith) (omega arith)
-      go (BasicLookups.done p e) = Fits.values [] NoneFits.none
+      go (BasicLookups.uneven p n) = FitsWord.number 2 (omega arith) (omega arith)
+      go (BasicLookups.done p e) = FitsWord.values [] NoneFits.none
 
   pub gh-basic-build-read : unpackNone (mapsCardOf (basicBuilt s bs cs) .answer) ≡ basicBuilt s bs cs .said
   unfolding mapsCardOf

@@ -5,11 +5,10 @@ use mathlib.Core.Path.{_≡_, refl, _∙_, ap}
 use mathlib.Core.Logic.{_⊎_, inl, inr}
 use mathlib.Core.Bool.{true, false, cond}
 use mathlib.Core.List.{List, [], _∷_}
-use Prim.Native.Nat.{ℕ, _^_, _≤_, _<_, min}
+use Prim.Native.Nat.{ℕ, _≤_, _<_, min}
 use native.Mathlib.Omega.{arith}
 use lib.ListN.{length}
-use Rattle.bits.specs.Count.{bit}
-use Rattle.bits.proofs.Tests.{decided, untrue}
+use Rattle.bits.proofs.Bools.{decided, untrue}
 use Rattle.routes.specs.Input.{hopFine}
 use Rattle.routes.specs.Route.{keyOf, Good}
 use Rattle.routes.specs.Said.{Said, accepted, refused}
@@ -21,18 +20,18 @@ use Rattle.tree.proofs.Needs.{nodes-most}
 use Rattle.tree_build.specs.Built as tree
 use Rattle.tree_same.specs.Listed.{routesHeld}
 use Rattle.tree_check.specs.Answers.{tested}
-use Rattle.tree_check.specs.WellFormed.{used, hopsIn, wellFormed}
+use Rattle.tree_check.specs.WellFormed.{nodesUsed, hopsIn, wellFormed}
 use Rattle.tree_check.proofs.Meaning.{well-formed-is}
 use Rattle.tree_check.proofs.Held.{held-good, held-nodes, held-hops}
-use Rattle.tree_change.specs.Changed.{route, imageAnnounced, imageWithdrawn}
-use Rattle.tree_change.specs.Cases.{Asked, routesWith, routesWithout, Announcing, Withdrawing}
-use Rattle.tree_change.proofs.Answers.{is-fine}
+use Rattle.tree_change.specs.Changed.{unmarkedRoute, imageAnnounced, imageWithdrawn}
+use Rattle.tree_change.specs.Cases.{ImageAsked, routesWith, routesWithout, Announcing, Withdrawing}
+use Rattle.tree_change.proofs.ChangeReturns.{is-fine}
 use Rattle.tree_change.proofs.Cases.{announce-cases, its-fit}
 use Rattle.tree_change.proofs.Takes.{withdraw-cases, left-fit}
 use Rattle.packing.specs.Pack.{packBuilt}
-use Rattle.packing.specs.Unpack.{unpackBuilt, Fits, BuiltFits}
+use Rattle.packing.specs.Unpack.{unpackBuilt, FitsWord, BuiltFits}
 use Rattle.packing.specs.Parts.{parts, builtParts}
-use Rattle.packing.specs.ImageAnswers.{packImage, unpackImage, ImageFits, imageParts, Words}
+use Rattle.packing.specs.ImageAnswers.{packImage, unpackImage, ImageFits, imageParts, Words32}
 use Rattle.packing.proofs.Unpacks.{built-read}
 use Rattle.packing.proofs.Parts.{built-parts}
 use Rattle.packing.proofs.ImageAnswers.{image-read, image-parts}
@@ -72,34 +71,36 @@ module _ (ws hs : List ℕ) (a : ℕ) where
 
   -- packed answers beside what is lent
   module _ (len n : ℕ) (e : n ≡ min len 255) (s : Said) (ws′ hs′ : List ℕ) (r : ℕ) where
-    pub tree-announce-card : (h m : ℕ) → m ≡ min h 65535 → tree.out s ws′ hs′ ≡ imageAnnounced ws hs a n m → r ≡ packImage s
+    pub tree-announce-card : (h m : ℕ) → m ≡ min h 65535 → tree.imageOut s ws′ hs′ ≡ imageAnnounced ws hs a n m → r ≡ packImage s
         → imageCard r ws′ hs′ ≡ changedCardOf (imageAnnounced ws hs a len h)
     unfolding changedCardOf
     tree-announce-card h m q is p = ap (λ (x : ℕ). imageCard x ws′ hs′) p ∙ ap changedCardOf (is ∙ image-announced-narrow len h n m e q)
 
-    pub tree-withdraw-card : tree.out s ws′ hs′ ≡ imageWithdrawn ws hs a n → r ≡ packBuilt s → imageCard r ws′ hs′ ≡ imageCardOf (imageWithdrawn ws hs a len)
+    pub tree-withdraw-card : tree.imageOut s ws′ hs′ ≡ imageWithdrawn ws hs a n → r ≡ packBuilt s → imageCard r ws′ hs′ ≡ imageCardOf
+        (imageWithdrawn ws hs a len)
     tree-withdraw-card is = image-card-is s ws′ hs′ _ r (is ∙ image-withdrawn-narrow len n e)
 
 -- ---- what is said has room, and is read back
 
-module _ (ws hs : List ℕ) (words : Words ws) where
+module _ (ws hs : List ℕ) (words : Words32 ws) where
   -- a well-formed image has at most 32,769 nodes and 4,096 hops
-  formed-few : wellFormed ws hs ≡ true → (used ws ≤ 32769) × (hopsIn ws ≤ 4096)
+  formed-few : wellFormed ws hs ≡ true → (nodesUsed ws ≤ 32769) × (hopsIn ws ≤ 4096)
   formed-few t =
       let w = well-formed-is ws hs t in
-      let g = held-good ws hs (used ws) w (words .each) in
-      let n = held-nodes ws hs (used ws) w (words .each) in
-      let k = held-hops ws hs (used ws) w (words .each) in
+      let g = held-good ws hs (nodesUsed ws) w (words .each) in
+      let n = held-nodes ws hs (nodesUsed ws) w (words .each) in
+      let k = held-hops ws hs (nodesUsed ws) w (words .each) in
       let m = nodes-most (routesHeld ws hs) g (omega (arith, k, w .few)) in
       (omega (arith, n, m), w .few)
 
-  pub test-fits : Fits 0 BuiltFits (tested ws hs)
+  pub test-fits : FitsWord 0 BuiltFits (tested ws hs)
   unfolding tested
   test-fits = go (decided (wellFormed ws hs))
     where
-      go : (wellFormed ws hs ≡ true) ⊎ (wellFormed ws hs ≡ false) → Fits 0 BuiltFits (cond (wellFormed ws hs) (accepted (used ws ∷ hopsIn ws ∷ [])) (refused 13))
-      go (inl t) = let f = formed-few t in rw t (Fits.values _ (BuiltFits.image (used ws) (hopsIn ws) (omega (arith, f .0)) (omega (arith, f .1))))
-      go (inr t) = rw t (Fits.number 13 (omega arith) (omega arith))
+      go : (wellFormed ws hs ≡ true) ⊎ (wellFormed ws hs ≡ false) → FitsWord 0 BuiltFits
+          (cond (wellFormed ws hs) (accepted (nodesUsed ws ∷ hopsIn ws ∷ [])) (refused 13))
+      go (inl t) = let f = formed-few t in rw t (FitsWord.values _ (BuiltFits.image (nodesUsed ws) (hopsIn ws) (omega (arith, f .0)) (omega (arith, f .1))))
+      go (inr t) = rw t (FitsWord.number 13 (omega arith) (omega arith))
 
   pub gh-tree-test-read : unpackBuilt (packBuilt (tested ws hs)) ≡ tested ws hs
   gh-tree-test-read = built-read 0 (omega arith) _ test-fits
@@ -108,22 +109,23 @@ module _ (ws hs : List ℕ) (words : Words ws) where
   gh-tree-test-named = built-parts 0 (omega arith) _ test-fits
 
   module _ (a len h : ℕ) where
-    with-good : Asked ws hs a len h → Good (routesWith ws hs a len h)
-    with-good k = insert-good (route a len h) (routesHeld ws hs) (is-fine a len h (k .prefix) (k .hop)) (its-fit ws hs (words .each) (k .image) .good)
+    with-good : ImageAsked ws hs a len h → Good (routesWith ws hs a len h)
+    with-good k = insert-good (unmarkedRoute a len h) (routesHeld ws hs) (is-fine a len h (k .prefix) (k .hop)) (its-fit ws hs (words .each) (k .image) .good)
 
-    pub tree-announce-fits : Fits 0 ImageFits (imageAnnounced ws hs a len h .said)
+    pub tree-announce-fits : FitsWord 0 ImageFits (imageAnnounced ws hs a len h .said)
     tree-announce-fits = go (announce-cases ws hs a len h _ .0 refl)
       where
-        go : {o : tree.Out} → Announcing ws hs a len h o → Fits 0 ImageFits (o .said)
-        go (Announcing.wrong-prefix e) = Fits.number 3 (omega arith) (omega arith)
-        go (Announcing.wrong-hop e f) = Fits.number 4 (omega arith) (omega arith)
-        go (Announcing.wrong-image e f g) = Fits.number 13 (omega arith) (omega arith)
-        go (Announcing.too-many k l) = Fits.number 6 (omega arith) (omega arith)
-        go (Announcing.nodes-short k l u) = Fits.number 11 (omega arith) (omega arith)
-        go (Announcing.hops-short k l u v) = Fits.number 12 (omega arith) (omega arith)
+        go : {o : tree.ImageOut} → Announcing ws hs a len h o → FitsWord 0 ImageFits (o .said)
+        go (Announcing.wrong-prefix e) = FitsWord.number 3 (omega arith) (omega arith)
+        go (Announcing.wrong-hop e f) = FitsWord.number 4 (omega arith) (omega arith)
+        go (Announcing.wrong-image e f g) = FitsWord.number 13 (omega arith) (omega arith)
+        go (Announcing.too-many k l) = FitsWord.number 6 (omega arith) (omega arith)
+        go (Announcing.nodes-short k l u) = FitsWord.number 11 (omega arith) (omega arith)
+        go (Announcing.hops-short k l u v) = FitsWord.number 12 (omega arith) (omega arith)
         go (Announcing.put-in k l u v) =
             let m = nodes-most (routesWith ws hs a len h) (with-good k) l in
-            Fits.values _ (ImageFits.which _ (nodeNeed (routesWith ws hs a len h)) (length (routesWith ws hs a len h)) (bit-low (stands (keyOf a len) (routesHeld ws hs))) (omega arith) (omega arith))
+            FitsWord.values _ (ImageFits.which _ (nodeNeed (routesWith ws hs a len h)) (length (routesWith ws hs a len h))
+            (bit-low (stands (keyOf a len) (routesHeld ws hs))) (omega arith) (omega arith))
 
     pub gh-tree-announce-read : unpackImage (changedCardOf (imageAnnounced ws hs a len h) .answer) ≡ imageAnnounced ws hs a len h .said
     unfolding changedCardOf
@@ -134,17 +136,18 @@ module _ (ws hs : List ℕ) (words : Words ws) where
     gh-tree-announce-named = image-parts 0 (omega arith) _ tree-announce-fits
 
   module _ (a len : ℕ) where
-    pub tree-withdraw-fits : Fits 0 BuiltFits (imageWithdrawn ws hs a len .said)
+    pub tree-withdraw-fits : FitsWord 0 BuiltFits (imageWithdrawn ws hs a len .said)
     tree-withdraw-fits = go (withdraw-cases ws hs a len (words .each) _ .0 refl)
       where
-        go : {o : tree.Out} → Withdrawing ws hs a len o → Fits 0 BuiltFits (o .said)
-        go (Withdrawing.no-prefix e) = Fits.number 3 (omega arith) (omega arith)
-        go (Withdrawing.no-image e f) = Fits.number 13 (omega arith) (omega arith)
-        go (Withdrawing.no-route e f g) = Fits.number 9 (omega arith) (omega arith)
+        go : {o : tree.ImageOut} → Withdrawing ws hs a len o → FitsWord 0 BuiltFits (o .said)
+        go (Withdrawing.no-prefix e) = FitsWord.number 3 (omega arith) (omega arith)
+        go (Withdrawing.no-image e f) = FitsWord.number 13 (omega arith) (omega arith)
+        go (Withdrawing.no-route e f g) = FitsWord.number 9 (omega arith) (omega arith)
         go (Withdrawing.taken-out e f g) =
             let r = left-fit ws hs a len (words .each) f g in
             let m = nodes-most (routesWithout ws hs a len) (r .good) (r .few) in
-            Fits.values _ (BuiltFits.image (nodeNeed (routesWithout ws hs a len)) (length (routesWithout ws hs a len)) (omega arith) (omega (arith, r .few)))
+            FitsWord.values _ (BuiltFits.image (nodeNeed (routesWithout ws hs a len)) (length (routesWithout ws hs a len)) (omega arith)
+            (omega (arith, r .few)))
 
     pub gh-tree-withdraw-read : unpackBuilt (imageCardOf (imageWithdrawn ws hs a len) .answer) ≡ imageWithdrawn ws hs a len .said
     unfolding imageCardOf

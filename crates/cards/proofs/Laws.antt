@@ -2,7 +2,7 @@
 use mathlib.Core.Bool.{Bool, true, false, cond}
 use mathlib.Core.Path.{_≡_, _∙_, refl, sym, ap}
 use mathlib.Core.List.{List}
-use Prim.Native.Nat.{ℕ, _+_, _*_, _/_, _%_, _^_, _<_, min}
+use Prim.Native.Nat.{ℕ, _/_, _%_, _^_, _<_, min}
 use native.Mathlib.Omega.{arith}
 use borrow.Author.Tests.{eq-eqb, ne-eqb}
 use lib.ListN.{length, getD, replicate}
@@ -12,7 +12,7 @@ use Rattle.bits.specs.Count.{count}
 use Rattle.bits.specs.Tab.{tabulate}
 use Rattle.routes.specs.Said.{Said, accepts}
 use Rattle.routes.specs.Input.{inputSaid}
-use Rattle.routes.specs.Answers.{saysInput}
+use Rattle.routes.specs.Answers.{meansInput}
 use Rattle.runs.specs.Tally.{IsTally, tallyOf, lengthsOf, hasLength}
 use Rattle.runs.specs.declared.tally.Tallied.{Tallied}
 use Rattle.sail.specs.Geometry.{standardGeo}
@@ -23,7 +23,7 @@ use Rattle.sail.specs.declared.geometry.Geometry.{Geometry}
 use Rattle.sail.specs.declared.table.Table.{Table}
 use Rattle.sail.proofs.Steps.{look-on, look-not}
 use Rattle.sail_many.specs.Words.{answerAt}
-use Rattle.sail_many.proofs.Answers.{answer-is}
+use Rattle.sail_many.proofs.LookupWords.{answer-is}
 use Rattle.sail_theory.specs.Calls.{route, Out, out, announced, withdrawn}
 use Rattle.tree_build.specs.Built as tree
 use Rattle.sail.specs.Word.{packed, packFound, Word}
@@ -44,7 +44,7 @@ module _ (t : Table) (l : Lent) (a len n : ℕ) (e : n ≡ min len 255) (s : Sai
   pub withdraw-card : out s t′ l′ ≡ withdrawn t l a n → r ≡ packChange (t′ .count) s → card r l′ ≡ cardOf (withdrawn t l a len)
   withdraw-card is = card-is s t′ l′ _ r (is ∙ withdrawn-narrow t l a len n e)
 
-pub image-card-is : (s : Said) (ws hs : List ℕ) (o : tree.Out) (r : ℕ) → tree.out s ws hs ≡ o → r ≡ packBuilt s → imageCard r ws hs ≡ imageCardOf o
+pub image-card-is : (s : Said) (ws hs : List ℕ) (o : tree.ImageOut) (r : ℕ) → tree.imageOut s ws hs ≡ o → r ≡ packBuilt s → imageCard r ws hs ≡ imageCardOf o
 unfolding imageCardOf
 image-card-is s ws hs o r e q = ap (λ (x : ℕ). imageCard x ws hs) q ∙ ap imageCardOf e
 
@@ -72,8 +72,10 @@ module _ (t : Table) (l : Lent) (ads xs : List ℕ) (r : ℕ) (told : SizesTold 
       (ap (wordsCard 0) (is-tabulate 0 ys (length ads) (λ (k : ℕ). lowWalk (t .geometry) l (getD ads k 0)) m h))
 
   -- the words of addresses that went their way through cells of 16 bits
-  pub many-answers : r ≡ 0 → length xs ≡ length ads → ((i : ℕ) → getD (l .first) i 0 < 65536) → ((i : ℕ) → getD (l .second) i 0 < 65536) → ((i : ℕ) → getD (l .third) i 0 < 65536) → (ys : List ℕ)
-      → ys ≡ tabulate (length ads) (answerAt (t .geometry .p1) (t .geometry .p2) (l .first) (l .second) (length (l .own2)) (l .third) (length (l .own3)) ads) → wordsCard 0 ys ≡ manyCard t l ads xs
+  pub many-answers : r ≡ 0 → length xs ≡ length ads → ((i : ℕ) → getD (l .first) i 0 < 65536) → ((i : ℕ) → getD (l .second) i 0 < 65536) →
+      ((i : ℕ) → getD (l .third) i 0 < 65536) → (ys : List ℕ)
+      → ys ≡ tabulate (length ads) (answerAt (t .geometry .p1) (t .geometry .p2) (l .first) (l .second) (length (l .own2)) (l .third)
+      (length (l .own3)) ads) → wordsCard 0 ys ≡ manyCard t l ads xs
   many-answers e n b1 b2 b3 ys q =
       many-all e n ys (ap length q ∙ length-tabulate (length ads) _)
       (λ k h. ap (λ (zs : List ℕ). getD zs k 0) q ∙ getD-tabulate (length ads) _ k 0 h
@@ -103,7 +105,7 @@ module _ (s xs : List ℕ) where
   tally-short n = rw (ne-eqb (length xs) 33 n)
 
   pub tally-all : length xs ≡ 33 → (t : Tallied) → IsTally s t → (ys : List ℕ) → length ys ≡ 33 → length (t .counts) ≡ 33
-      → ((k : ℕ) → k < 33 → getD ys k 0 ≡ getD (t .counts) k 0) → (r : ℕ) → r ≡ packNone (saysInput (t .answer)) → wordsCard r ys ≡ tallyCard s xs
+      → ((k : ℕ) → k < 33 → getD ys k 0 ≡ getD (t .counts) k 0) → (r : ℕ) → r ≡ packNone (meansInput (t .answer)) → wordsCard r ys ≡ tallyCard s xs
   unfolding tallyCard
   tally-all n t is ys m c h r q =
       rw (eq-eqb (length xs) 33 n)

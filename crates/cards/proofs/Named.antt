@@ -23,9 +23,33 @@ use Rattle.tree_build.specs.Built.{built}
 use Rattle.basic.specs.Calls.{basicSaid, packHop, basicMany}
 use Rattle.basic_build.specs.Built.{basicBuilt}
 use Rattle.packing.specs.Pack.{packReport, packRun, packNone, packRoute}
-use Rattle.packing.specs.Unpack.{Cells}
-use Rattle.packing.specs.Parts.{refusalParts, parts, foundParts, reportParts, builtParts, runParts, routeParts, announceParts, withdrawParts, doneParts, hopParts, noParts}
-use Rattle.packing.proofs.Parts.{found-parts, report-parts, built-parts, run-parts, route-parts, announce-parts, withdraw-parts, done-parts, hop-parts, none-parts}
+use Rattle.packing.specs.Unpack.{Cells16}
+use Rattle.packing.specs.Parts.{
+  refusalParts,
+  parts,
+  foundParts,
+  reportParts,
+  builtParts,
+  runParts,
+  routeParts,
+  announceParts,
+  withdrawParts,
+  doneParts,
+  hopParts,
+  noParts,
+}
+use Rattle.packing.proofs.Parts.{
+  found-parts,
+  report-parts,
+  built-parts,
+  run-parts,
+  route-parts,
+  announce-parts,
+  withdraw-parts,
+  done-parts,
+  hop-parts,
+  none-parts,
+}
 use Rattle.cards.specs.Cards.{cardOf, imageCardOf, wordsCard, tallyCard, lowFound, manyCard}
 use Rattle.cards.specs.Maps.{mapsCardOf, hopsCard}
 use Rattle.cards.proofs.Fits.{input-fits, run-fits, route-fits, built-fits, tree-fits, lookup-fits, report-fits}
@@ -34,7 +58,7 @@ use Rattle.cards.proofs.Hops.{maps-fits, hop-fits, many-fits}
 
 -- Tables.
 module _ (t : Table) (l : Lent) where
-  pub gh-lookup-named : Cells l → (a : ℕ) → packFound (lookupSaid t l a) ≡ parts foundParts (packFound (lookupSaid t l a))
+  pub gh-lookup-named : Cells16 l → (a : ℕ) → packFound (lookupSaid t l a) ≡ parts foundParts (packFound (lookupSaid t l a))
   gh-lookup-named cells a = found-parts 0 (omega arith) _ (lookup-fits t l cells a)
 
   pub gh-report-named : packReport (reported t l) ≡ parts reportParts (packReport (reported t l))

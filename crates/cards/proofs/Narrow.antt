@@ -10,7 +10,7 @@ use Prim.Native.Nat.{ℕ, zero, suc, _<_, _≤_, min}
 use native.Mathlib.Omega.{arith}
 use borrow.Author.Tests.{lt-leb}
 use Rattle.bits.specs.Slot.{cut}
-use Rattle.bits.proofs.Tests.{decided, below?}
+use Rattle.bits.proofs.Bools.{decided, below?}
 use Rattle.routes.specs.Route.{Prefix}
 use Rattle.routes.specs.Input.{properPrefix}
 use Rattle.routes.specs.Said.{Said, refused, accepts}
@@ -22,7 +22,7 @@ use Rattle.sail.specs.Lent.{Lent}
 use Rattle.sail.specs.Sizes.{sizesFault}
 use Rattle.sail.specs.declared.table.Table.{Table}
 use Rattle.sail_theory.specs.Calls.{route, out, orSay, announceSaid, withdrawFault, withdrawSaid, cutRoute, announced, withdrawn}
-use Rattle.sail_theory.proofs.Cleared.{announce-off, withdraw-off}
+use Rattle.sail_theory.proofs.calls.Cleared.{announce-off, withdraw-off}
 use Rattle.cards.specs.Narrow.{AlikeOver}
 
 -- where it is the same over a limit, a number may be narrowed to a type that has room for one over the limit
@@ -84,7 +84,8 @@ module _ (t : Table) (l : Lent) where
   -- 3 for a length over 32; 4 for a hop over 32,767, or 3 where that comes first; 10 for a mark over 1, or 3 or 4 where that comes first
   pub announced-long : (a hop mark : ℕ) → AlikeOver 32 (λ (len : ℕ). announced t l (route a len hop mark))
   announced-long a hop mark x y h k =
-      wrong-alike (route a x hop mark) (route a y hop mark) (WrongRoute.prefix (λ p. omega (arith, p .len-ok))) (WrongRoute.prefix (λ p. omega (arith, p .len-ok)))
+      wrong-alike (route a x hop mark) (route a y hop mark) (WrongRoute.prefix (λ p. omega (arith, p .len-ok)))
+      (WrongRoute.prefix (λ p. omega (arith, p .len-ok)))
 
   pub announced-high : (a len mark : ℕ) → AlikeOver 32767 (λ (hop : ℕ). announced t l (route a len hop mark))
   announced-high a len mark x y h k = go (prefix? (cut len a) len)

@@ -1,4 +1,4 @@
--- What the exported calls that write answer and leave. Assumes nothing.
+-- What the exported calls that write answer and leave.
 use mathlib.Core.Bool.{cond}
 use mathlib.Core.List.{List}
 use Prim.Native.Nat.{ℕ, _%_, _^_}
@@ -40,7 +40,7 @@ pub record ImageCard : Type 0 where
 abbrev pub imageCard : ℕ → List ℕ → List ℕ → ImageCard
 imageCard r ws hs = record { answer = r; words = ws; hops = hs }
 
-unfoldable pub imageCardOf : tree.Out → ImageCard
+unfoldable pub imageCardOf : tree.ImageOut → ImageCard
 imageCardOf o = imageCard (packBuilt (o .said)) (o .words) (o .hops)
 
 -- an answer, and one array

@@ -8,5 +8,5 @@ ghost use Rattle.packing.specs.Casts.{packCast};
 pub extern "C" fn gh_broadcast(version: u32, input: &[u8], addr: u32) -> u64
     ensures { λ r. ⌜ r ≡ packCast (castSaid version (now (input .entry)) addr) ⌝ }
 {
-    packing::broadcasts::told(broadcast::broadcast(version, input, addr))
+    packing::broadcasts::cast_word(broadcast::broadcast(version, input, addr))
 }

@@ -1,8 +1,8 @@
--- The chain of covering words, and that its end is the longest route that covers the cell. Assumes nothing.
+-- The chain of covering words, and that its end is the longest route that covers the cell.
 use mathlib.Core.Path.{_≡_, refl, sym, ap, _∙_}
 use mathlib.Core.Bool.{Bool, true, false, false≢true}
 use mathlib.Core.List.{List, [], _∷_}
-use Prim.Native.Nat.{ℕ, zero, suc, _+_, _-_, _*_, _/_, _%_, _^_, _<_, _≤_, suc-le-suc, zero-le}
+use Prim.Native.Nat.{ℕ, zero, suc, _+_, _-_, _*_, _/_, _^_, _<_, _≤_, suc-le-suc, zero-le}
 use native.Mathlib.Nat.{not-suc-le-zero, le-of-suc-le-suc, mul-le-mul-right, mul-assoc, div-mul-le-self}
 use native.Mathlib.Decide.{decLt}
 use native.Mathlib.Omega.{arith}
@@ -12,26 +12,26 @@ use lib.Seq.{getD-take, getD-set-same, getD-set-other, length-take-le}
 use lib.Pow.{shr-mono, shr-le, shl-shr, pow-add}
 use borrow.Author.Tests.{lt-leb, le-leb, eq-eqb}
 use Rattle.bits.specs.Slot.{slot}
-use Rattle.bits.proofs.Tests.{both, untrue}
+use Rattle.bits.proofs.Bools.{both, untrue}
 use Rattle.bits.proofs.Slots.{slot-up, cut-is}
 use Rattle.routes.specs.Route.{Fine}
 use Rattle.standing.specs.Cells.{covers, best, lastHop}
 use Rattle.routes.specs.declared.Route.{Route}
 use Rattle.standing.proofs.Longest.{cover-parts}
 use Rattle.standing.proofs.Paint.{best-last}
-use Rattle.chain.specs.Words.{routeOf, routesIn, Words}
-use Rattle.chain.specs.Place.{Placed, Between, underKey, RunFrom}
-use Rattle.chain.specs.Cover.{addrIn, LastCover, Parents, Climb, Heads, Ready}
+use Rattle.chain.specs.Words.{addrOf, lenOf, hopOf, routeOfWord, routesOfWords, Words}
+use Rattle.chain.specs.Place.{KeysBelow, Between, underKey, RunFrom}
+use Rattle.chain.specs.Cover.{addrIn, LastCover, Parents, Climb, Heads, ChainReady}
 use Rattle.chain.proofs.Decodes.{words-good}
 use Rattle.chain.proofs.Places.{keys, place-rises}
 
 -- the code's test
 module _ (w p i : ℕ) where
-  pub too-long : p < w / 16777216 % 256 → false ≡ covers p i (routeOf w)
-  too-long h = simp (lt-leb (w / 16777216 % 256) p h)
+  pub too-long : p < lenOf w → false ≡ covers p i (routeOfWord w)
+  too-long h = simp (lt-leb (lenOf w) p h)
 
-  pub tested : w / 16777216 % 256 ≤ p → eqb (w / 4294967296 / 2 ^ (32 - w / 16777216 % 256)) (i / 2 ^ (p - w / 16777216 % 256)) ≡ covers p i (routeOf w)
-  tested h = simp (le-leb (w / 16777216 % 256) p h)
+  pub tested : lenOf w ≤ p → eqb (addrOf w / 2 ^ (32 - lenOf w)) (i / 2 ^ (p - lenOf w)) ≡ covers p i (routeOfWord w)
+  tested h = simp (le-leb (lenOf w) p h)
 
 -- the slot of a level above
 slot-above : (l p a : ℕ) → l ≤ p → p ≤ 32 → slot p a / 2 ^ (p - l) ≡ slot l a
@@ -40,25 +40,25 @@ slot-above l p a h u =
     ap (λ (n : ℕ). slot n a / 2 ^ (p - l)) (sym e) ∙ slot-up l (p - l) a (omega arith)
 
 -- only words before m are left, of those before j, that may cover the cell
-pub record Left (ws : List ℕ) (j p i m : ℕ) : Type 0 where
+pub record LeftBelow (ws : List ℕ) (j p i m : ℕ) : Type 0 where
   pub to : m ≤ j
-  pub none : (k : ℕ) → m ≤ k → k < j → covers p i (routeOf (getD ws k 0)) ≡ false
+  pub none : (k : ℕ) → m ≤ k → k < j → covers p i (routeOfWord (getD ws k 0)) ≡ false
 
-pub all-left : (ws : List ℕ) (j p i : ℕ) → Left ws j p i j
+pub all-left : (ws : List ℕ) (j p i : ℕ) → LeftBelow ws j p i j
 all-left ws j p i = record { to = omega arith; none = λ k a b. absurd (omega arith) }
 
-pub found : {ws : List ℕ} {j p i m : ℕ} → Left ws j p i m → (b : Bool) → b ≡ covers p i (routeOf (getD ws (m - 1) 0)) → b ≡ true → LastCover ws j p i m
+pub found : {ws : List ℕ} {j p i m : ℕ} → LeftBelow ws j p i m → (b : Bool) → b ≡ covers p i (routeOfWord (getD ws (m - 1) 0)) → b ≡ true → LastCover ws j p i m
 found left b e t = record { to = left .to; one = λ z. sym e ∙ t; none = left .none }
 
-pub none-left : {ws : List ℕ} {j p i m : ℕ} → Left ws j p i m → m ≤ 0 → LastCover ws j p i 0
+pub none-left : {ws : List ℕ} {j p i m : ℕ} → LeftBelow ws j p i m → m ≤ 0 → LastCover ws j p i 0
 none-left left z = record { to = omega arith; one = λ h. absurd (omega arith); none = λ k a b. left .none k (omega arith) b }
 
 module _ {ws par : List ℕ} {j p i : ℕ} (c : Climb ws par j p i) where
   -- a word that covers the cell covers the address of each word between
-  covers-on : (r m : ℕ) → r < m → m < j → covers p i (routeOf (getD ws r 0)) ≡ true → covers 32 (addrIn ws m) (routeOf (getD ws r 0)) ≡ true
+  covers-on : (r m : ℕ) → r < m → m < j → covers p i (routeOfWord (getD ws r 0)) ≡ true → covers 32 (addrIn ws m) (routeOfWord (getD ws r 0)) ≡ true
   covers-on r m l u e =
-      let len = getD ws r 0 / 16777216 % 256 in
-      let t = cover-parts p i (routeOf (getD ws r 0)) e in
+      let len = lenOf (getD ws r 0) in
+      let t = cover-parts p i (routeOfWord (getD ws r 0)) e in
       let k = keys ws (c .words) m r l (omega (arith, c .to)) in
       let n : addrIn ws r ≤ addrIn ws m = omega arith in
       let hp = c .level in
@@ -67,17 +67,18 @@ module _ {ws par : List ℕ} {j p i : ℕ} (c : Climb ws par j p i) where
       both (le-leb len 32 (omega (arith, t .0))) (eq-eqb _ _ f)
 
   -- from a word that does not cover the cell on to its parent
-  module _ (m x : ℕ) (b : Bool) (left : Left ws j p i m) (z : 0 < m) (test : b ≡ covers p i (routeOf (getD ws (m - 1) 0))) (fails : b ≡ false) (q : x ≡ getD par (m - 1) 0) where
+  module _ (m x : ℕ) (b : Bool) (left : LeftBelow ws j p i m) (z : 0 < m) (test : b ≡ covers p i (routeOfWord (getD ws (m - 1) 0)))
+      (fails : b ≡ false) (q : x ≡ getD par (m - 1) 0) where
     parent : LastCover ws (m - 1) 32 (addrIn ws (m - 1)) (getD par (m - 1) 0)
     parent = c .parents .each (m - 1) (omega (arith, left .to))
 
     pub climb-less : x < m
     climb-less = omega (arith, parent .to)
 
-    pub climb-on : Left ws j p i x
+    pub climb-on : LeftBelow ws j p i x
     climb-on = record { to = omega (arith, climb-less, left .to); none = λ k l u. go k l u (decLt k (m - 1)) (decLt k m) }
       where
-        go : (k : ℕ) → x ≤ k → k < j → Dec (k < m - 1) → Dec (k < m) → covers p i (routeOf (getD ws k 0)) ≡ false
+        go : (k : ℕ) → x ≤ k → k < j → Dec (k < m - 1) → Dec (k < m) → covers p i (routeOfWord (getD ws k 0)) ≡ false
         go k l u (yes d) f = untrue _ (λ t. false≢true (sym (parent .none k (omega arith) d) ∙ covers-on k (m - 1) d (omega (arith, left .to)) t))
         go k l u (no d) (yes f) = let g : k ≡ m - 1 = omega arith in rw g (sym test ∙ fails)
         go k l u (no d) (no f) = left .none k (omega arith) u
@@ -104,21 +105,21 @@ module _ (ws par : List ℕ) where
   pub no-heads : Heads ws par 0
   no-heads = record { each = λ j l. absurd (not-suc-le-zero l) }
 
-  pub heads-more : (b v : ℕ) → 4096 + b < length par → Placed ws (b * 4294967296) v → Heads ws par b → Heads ws (set par (4096 + b) v) (b + 1)
+  pub heads-more : (b v : ℕ) → 4096 + b < length par → KeysBelow ws (b * 4294967296) v → Heads ws par b → Heads ws (set par (4096 + b) v) (b + 1)
   heads-more b v l p h = record { each = λ j u. go j u (decLt j b) }
     where
-      go : (j : ℕ) → j < b + 1 → Dec (j < b) → Placed ws (j * 4294967296) (getD (set par (4096 + b) v) (4096 + j) 0)
+      go : (j : ℕ) → j < b + 1 → Dec (j < b) → KeysBelow ws (j * 4294967296) (getD (set par (4096 + b) v) (4096 + j) 0)
       go j u (yes d) = rw (getD-set-other par (4096 + b) (4096 + j) v 0 (λ e. omega arith)) (h .each j d)
       go j u (no d) = let e : j ≡ b = omega arith in rw (e, getD-set-same par (4096 + b) v 0 l) p
 
   -- a place lies between the heads of its first byte
-  pub head-between : (key lo hi : ℕ) → Ready ws par → key < 1099511627776
+  pub head-between : (key lo hi : ℕ) → ChainReady ws par → key < 1099511627776
       → lo ≡ getD par (4096 + key / 4294967296) 0 → hi ≡ getD par (4096 + key / 4294967296 + 1) 0 → Between ws key lo hi
   head-between key lo hi ready k e f =
       let b = key / 4294967296 in
       let g : 4096 + b + 1 ≡ 4096 + (b + 1) = omega arith in
-      let x : Placed ws (b * 4294967296) lo = rw e (ready .heads .each b (omega arith)) in
-      let y : Placed ws ((b + 1) * 4294967296) hi = rw (f ∙ ap (λ (n : ℕ). getD par n 0) g) (ready .heads .each (b + 1) (omega arith)) in
+      let x : KeysBelow ws (b * 4294967296) lo = rw e (ready .heads .each b (omega arith)) in
+      let y : KeysBelow ws ((b + 1) * 4294967296) hi = rw (f ∙ ap (λ (n : ℕ). getD par n 0) g) (ready .heads .each (b + 1) (omega arith)) in
       record {
         words = ready .words;
         from = place-rises ws (b * 4294967296) ((b + 1) * 4294967296) lo hi (omega arith) x y;
@@ -140,13 +141,14 @@ climb-self ws par k good l u ps = record {
 
 -- of a list of words, the last that passes the test, if one does
 module _ (f : Route → Bool) where
-  last-none : (ws : List ℕ) (d : ℕ) → ((k : ℕ) → k < length ws → f (routeOf (getD ws k 0)) ≡ false) → lastHop f (routesIn ws) d ≡ d
+  last-none : (ws : List ℕ) (d : ℕ) → ((k : ℕ) → k < length ws → f (routeOfWord (getD ws k 0)) ≡ false) → lastHop f (routesOfWords ws) d ≡ d
   unfolding lastHop
   last-none [] d h = refl
   last-none (w ∷ ws) d h = rw (h 0 (suc-le-suc zero-le), lastHop) (last-none ws d (λ k l. h (suc k) (suc-le-suc l)))
 
-  last-one : (ws : List ℕ) (d n : ℕ) → n < length ws → f (routeOf (getD ws n 0)) ≡ true → ((k : ℕ) → n < k → k < length ws → f (routeOf (getD ws k 0)) ≡ false)
-      → lastHop f (routesIn ws) d ≡ getD ws n 0 % 65536
+  last-one : (ws : List ℕ) (d n : ℕ) → n < length ws → f (routeOfWord (getD ws n 0)) ≡ true →
+      ((k : ℕ) → n < k → k < length ws → f (routeOfWord (getD ws k 0)) ≡ false)
+      → lastHop f (routesOfWords ws) d ≡ hopOf (getD ws n 0)
   unfolding lastHop
   last-one [] d n l e h = absurd (not-suc-le-zero l)
   last-one (w ∷ ws) d zero l e h = rw (e, lastHop) (last-none ws _ (λ k u. h (suc k) (suc-le-suc zero-le) (suc-le-suc u)))
@@ -163,8 +165,8 @@ cover-start p i r f hp e =
     ∙ ap (λ (x : ℕ). i / 2 ^ d * x) (ap (λ (x : ℕ). 2 ^ x) k ∙ pow-add 2 d (32 - p)) ∙ sym (mul-assoc _ _ _) in
     omega (arith, mul-le-mul-right (2 ^ (32 - p)) (div-mul-le-self i (2 ^ d)))
 
-module _ {ws par : List ℕ} {lo p i : ℕ} (ready : Ready ws par) (start : RunFrom ws p i lo) where
-  pl : Placed ws (underKey p i) lo
+module _ {ws par : List ℕ} {lo p i : ℕ} (ready : ChainReady ws par) (start : RunFrom ws p i lo) where
+  pl : KeysBelow ws (underKey p i) lo
   pl = start .place
 
   pub climb-placed : Climb ws par lo p i
@@ -180,29 +182,35 @@ module _ {ws par : List ℕ} {lo p i : ℕ} (ready : Ready ws par) (start : RunF
         omega (arith, shr-mono (32 - p) n, shl-shr i (32 - p));
   }
 
-  none-past : (k : ℕ) → lo ≤ k → k < length ws → covers p i (routeOf (getD ws k 0)) ≡ false
+  none-past : (k : ℕ) → lo ≤ k → k < length ws → covers p i (routeOfWord (getD ws k 0)) ≡ false
   none-past k a b = untrue _ (λ t.
-      omega (arith, cover-start p i (routeOf (getD ws k 0)) (ready .words .fine k b) (start .level) t, cover-parts p i (routeOf (getD ws k 0)) t .0, pl .above k a b))
+      omega (
+        arith,
+        cover-start p i (routeOfWord (getD ws k 0)) (ready .words .fine k b) (start .level) t,
+        cover-parts p i
+            (routeOfWord (getD ws k 0)) t .0,
+        pl .above k a b,
+      ))
 
   module _ {m : ℕ} (last : LastCover ws lo p i m) where
-    none-after : (k : ℕ) → m ≤ k → k < length ws → covers p i (routeOf (getD ws k 0)) ≡ false
+    none-after : (k : ℕ) → m ≤ k → k < length ws → covers p i (routeOfWord (getD ws k 0)) ≡ false
     none-after k a b = go (decLt k lo)
       where
-        go : Dec (k < lo) → covers p i (routeOf (getD ws k 0)) ≡ false
+        go : Dec (k < lo) → covers p i (routeOfWord (getD ws k 0)) ≡ false
         go (yes d) = last .none k a d
         go (no d) = none-past k (omega arith) b
 
-    pub none-best : m ≡ 0 → 0 ≡ best (routesIn ws) p i
-    none-best e = sym (last-none (covers p i) ws 0 (λ k l. none-after k (omega arith) l)) ∙ best-last (routesIn ws) p i (words-good ws (ready .words))
+    pub none-best : m ≡ 0 → 0 ≡ best (routesOfWords ws) p i
+    none-best e = sym (last-none (covers p i) ws 0 (λ k l. none-after k (omega arith) l)) ∙ best-last (routesOfWords ws) p i (words-good ws (ready .words))
 
     module _ (some : m ≡ 0 → ⊥) where
       in-list : m - 1 < length ws
       in-list = omega (arith, last .to, pl .to)
 
-      pub one-best : getD ws (m - 1) 0 % 65536 ≡ best (routesIn ws) p i
+      pub one-best : hopOf (getD ws (m - 1) 0) ≡ best (routesOfWords ws) p i
       one-best =
           sym (last-one (covers p i) ws 0 (m - 1) in-list (last .one (omega arith)) (λ k a u. none-after k (omega arith) u))
-          ∙ best-last (routesIn ws) p i (words-good ws (ready .words))
+          ∙ best-last (routesOfWords ws) p i (words-good ws (ready .words))
 
-      pub one-small : getD ws (m - 1) 0 % 65536 < 32768
+      pub one-small : hopOf (getD ws (m - 1) 0) < 32768
       one-small = omega (arith, ready .words .fine (m - 1) in-list .hop-ok)

@@ -1,8 +1,8 @@
--- Words are their records, and the words of a good list are good. Assumes nothing.
+-- Words are their records, and the words of a good list are good.
 use mathlib.Core.Path.{_≡_, ap, _∙_}
 use mathlib.Core.Logic.{_⊎_, inl, inr}
 use mathlib.Core.List.{List, [], _∷_, List·Memᴰ, List·Memᴰ·cases-cons, List·Memᴰ·not-nil}
-use Prim.Native.Nat.{ℕ, suc, _+_, _-_, _/_, _%_, _<_, _≤_, suc-le-suc}
+use Prim.Native.Nat.{ℕ, suc, _+_, _-_, _<_, _≤_, suc-le-suc}
 use native.Mathlib.Nat.{add-suc}
 use native.Mathlib.Decide.{decLt}
 use native.Mathlib.Omega.{arith}
@@ -14,29 +14,26 @@ use Rattle.routes.specs.Route.{key, Good}
 use Rattle.routes.specs.Record.{recordAt, routesOf, noRoute, Ranged, Records}
 use Rattle.routes.specs.declared.Route.{Route}
 use Rattle.routes.proofs.Rows.{fine-ranged}
-use Rattle.chain.specs.Words.{wordAt, wordsOf, routeOf, keyIn, routesIn, Words}
+use Rattle.bits.specs.Bytes.{above2, byte}
+use Rattle.chain.specs.Words.{wordAt, wordsOf, addrOf, lenOf, hopOf, routeOfWord, keyIn, routesOfWords, Words}
 
 -- the first k of a list are those of f
-abbrev pub Filled : (ℕ → ℕ) → List ℕ → ℕ → Type 0
-Filled f l k = (j : ℕ) → j < k → getD l j 0 ≡ f j
+abbrev pub FilledTo : (ℕ → ℕ) → List ℕ → ℕ → Type 0
+FilledTo f l k = (j : ℕ) → j < k → getD l j 0 ≡ f j
 
-pub filled-more : (f : ℕ → ℕ) (l : List ℕ) (k v : ℕ) → k < length l → v ≡ f k → Filled f l k → Filled f (set l k v) (k + 1)
-filled-more f l k v u e h j i = go (decLt j k)
+pub filled-to-more : (f : ℕ → ℕ) (l : List ℕ) (k v : ℕ) → k < length l → v ≡ f k → FilledTo f l k → FilledTo f (set l k v) (k + 1)
+filled-to-more f l k v u e h j i = go (decLt j k)
   where
     go : Dec (j < k) → getD (set l k v) j 0 ≡ f j
     go (yes d) = getD-set-other l k j v 0 (λ q. omega arith) ∙ h j d
     go (no d) = let q : j ≡ k = omega arith in rw q (getD-set-same l k v 0 u ∙ e)
 
-pub filled-all : (s l : List ℕ) (k n : ℕ) → length l ≡ n → n ≤ k → Filled (wordAt s) l k → l ≡ wordsOf s n
+pub filled-all : (s l : List ℕ) (k n : ℕ) → length l ≡ n → n ≤ k → FilledTo (wordAt s) l k → l ≡ wordsOf s n
 unfolding wordsOf
 filled-all s l k n e u h = is-tabulate 0 l n (wordAt s) e (λ j i. h j (omega arith))
 
--- the key of a word is that of its route
-pub key-is : (w : ℕ) → key (routeOf w) ≡ keyIn w
-key-is w = omega arith
-
 -- a word is its record, where the record's numbers have the room of a record
-pub word-route : (s : List ℕ) (k : ℕ) → Ranged (recordAt s k) → routeOf (wordAt s k) ≡ recordAt s k
+pub word-route : (s : List ℕ) (k : ℕ) → Ranged (recordAt s k) → routeOfWord (wordAt s k) ≡ recordAt s k
 unfolding wordAt recordAt
 word-route s k f =
     let l = f .len-fits in
@@ -44,14 +41,14 @@ word-route s k f =
     let h = f .hop-fits in
     let w = wordAt s k in
     let r = recordAt s k in
-    let ea : w / 4294967296 ≡ r .addr = omega arith in
-    let el : w / 16777216 % 256 ≡ r .len = omega arith in
-    let em : w / 65536 % 256 ≡ r .mark = omega arith in
-    let eh : w % 65536 ≡ r .hop = omega arith in
+    let ea : addrOf w ≡ r .addr = omega arith in
+    let el : lenOf w ≡ r .len = omega arith in
+    let em : byte (above2 w) ≡ r .mark = omega arith in
+    let eh : hopOf w ≡ r .hop = omega arith in
     rw (ea, el, em, eh)
 
 module _ (s : List ℕ) (n : ℕ) (good : Records s n) where
-  at-word : (k : ℕ) → k < n → routeOf (getD (wordsOf s n) k 0) ≡ recordAt s k
+  at-word : (k : ℕ) → k < n → routeOfWord (getD (wordsOf s n) k 0) ≡ recordAt s k
   unfolding wordsOf
   at-word k l = rw (getD-tabulate {A = ℕ} n (wordAt s) k 0 l) (word-route s k (fine-ranged _ (good .each k l)))
 
@@ -60,11 +57,11 @@ module _ (s : List ℕ) (n : ℕ) (good : Records s n) where
   long-words = length-tabulate n (wordAt s)
 
   -- the routes of the words are those of the records
-  pub words-routes : routesIn (wordsOf s n) ≡ routesOf s n
+  pub words-routes : routesOfWords (wordsOf s n) ≡ routesOf s n
   unfolding routesOf
   words-routes =
-      is-tabulate noRoute (routesIn (wordsOf s n)) n (recordAt s) (rw length-map long-words)
-      (λ k l. rw (List·getD-map routeOf (wordsOf s n) k 0) (at-word k l))
+      is-tabulate noRoute (routesOfWords (wordsOf s n)) n (recordAt s) (rw length-map long-words)
+      (λ k l. rw (List·getD-map routeOfWord (wordsOf s n) k 0) (at-word k l))
 
   pub records-words : Words (wordsOf s n)
   records-words = record {
@@ -80,21 +77,22 @@ tail-words : (w : ℕ) (ws : List ℕ) → Words (w ∷ ws) → Words ws
 tail-words w ws good = record { fine = λ k u. good .fine (suc k) (suc-le-suc u); rises = λ k u. good .rises (suc k) (suc-le-suc u) }
 
 -- each route of good words is past what is before the first
-past-first : (ws : List ℕ) → Words ws → (b : ℕ) → (0 < length ws → b < keyIn (getD ws 0 0)) → (s : Route) → List·Memᴰ s (routesIn ws) → b < key s
+past-first : (ws : List ℕ) → Words ws → (b : ℕ) → (0 < length ws → b < keyIn (getD ws 0 0)) → (s : Route) → List·Memᴰ s (routesOfWords ws) → b < key s
 past-first [] good b h s m = absurd (List·Memᴰ·not-nil m)
-past-first (w ∷ ws) good b h s m = go (List·Memᴰ·cases-cons m) (past-first ws (tail-words w ws good) b (λ l. omega (arith, h (omega arith), good .rises 0 (suc-le-suc l))) s)
+past-first (w ∷ ws) good b h s m = go (List·Memᴰ·cases-cons m)
+    (past-first ws (tail-words w ws good) b (λ l. omega (arith, h (omega arith), good .rises 0 (suc-le-suc l))) s)
   where
-    go : (s ≡ routeOf w) ⊎ List·Memᴰ s (routesIn ws) → (List·Memᴰ s (routesIn ws) → b < key s) → b < key s
+    go : (s ≡ routeOfWord w) ⊎ List·Memᴰ s (routesOfWords ws) → (List·Memᴰ s (routesOfWords ws) → b < key s) → b < key s
     go (inl q) ih = omega (arith, ap key q, h (omega arith))
     go (inr k) ih = ih k
 
 -- good words are of a good list
-pub words-good : (ws : List ℕ) → Words ws → Good (routesIn ws)
+pub words-good : (ws : List ℕ) → Words ws → Good (routesOfWords ws)
 unfolding Good
 words-good [] good = tt
 words-good (w ∷ ws) good = (
   good .fine 0 (omega arith),
-  past-first ws (tail-words w ws good) (key (routeOf w)) (λ l. omega (arith, good .rises 0 (suc-le-suc l))),
+  past-first ws (tail-words w ws good) (key (routeOfWord w)) (λ l. omega (arith, good .rises 0 (suc-le-suc l))),
   words-good ws (tail-words w ws good),
 )
 

@@ -1,15 +1,15 @@
--- Places among words. Assumes nothing.
+-- Places among words.
 use mathlib.Core.Path.{_≡_}
 use mathlib.Core.List.{List}
 use Prim.Native.Nat.{ℕ, zero, suc, _+_, _*_, _%_, _^_, _<_, _≤_}
-use native.Mathlib.Nat.{not-suc-le-zero, le-antisymm}
+use native.Mathlib.Nat.{not-suc-le-zero}
 use native.Mathlib.Decide.{decLt}
 use native.Mathlib.Omega.{arith}
 use lib.ListN.{length, getD}
 use lib.Pow.{shl-exact, shl-lt, pow-mono}
 use borrow.Author.Count.{below-none}
 use Rattle.chain.specs.Words.{keyIn, Words}
-use Rattle.chain.specs.Place.{Placed, Between}
+use Rattle.chain.specs.Place.{KeysBelow, Between}
 
 -- the keys rise
 pub keys : (ws : List ℕ) → Words ws → (k j : ℕ) → j < k → k < length ws → keyIn (getD ws j 0) < keyIn (getD ws k 0)
@@ -36,27 +36,30 @@ module _ {ws : List ℕ} {key lo hi : ℕ} (b : Between ws key lo hi) where
       go j l u (yes d) = omega (arith, keys ws (b .words) j mid d u)
       go j l u (no d) = let q : j ≡ mid = omega arith in rw q h
 
-  pub met : hi ≤ lo → Placed ws key lo
+  pub met : hi ≤ lo → KeysBelow ws key lo
   met h = record { to = omega (arith, b .from, b .to); below = b .below; above = λ j l. b .above j (omega arith) }
 
 pub all-between : (ws : List ℕ) (key : ℕ) → Words ws → Between ws key 0 (length ws)
 all-between ws key good = record { words = good; from = omega arith; to = omega arith; below = below-none _; above = λ j l u. absurd (omega arith) }
 
 -- the place of a smaller key is where to go on from
-pub on-from : (ws : List ℕ) (a b r : ℕ) → a ≤ b → Words ws → Placed ws a r → Between ws b r (length ws)
-on-from ws a b r l good p = record { words = good; from = p .to; to = omega arith; below = λ j u. omega (arith, p .below j u); above = λ j h u. absurd (omega arith) }
+pub on-from : (ws : List ℕ) (a b r : ℕ) → a ≤ b → Words ws → KeysBelow ws a r → Between ws b r (length ws)
+on-from ws a b r l good p = record {
+  words = good;
+  from = p .to;
+  to = omega arith;
+  below = λ j u. omega
+      (arith, p .below j u);
+  above = λ j h u. absurd (omega arith);
+}
 
 -- a greater key has a later place
-pub place-rises : (ws : List ℕ) (a b r s : ℕ) → a ≤ b → Placed ws a r → Placed ws b s → r ≤ s
+pub place-rises : (ws : List ℕ) (a b r s : ℕ) → a ≤ b → KeysBelow ws a r → KeysBelow ws b s → r ≤ s
 place-rises ws a b r s l p q = go (decLt s r)
   where
     go : Dec (s < r) → r ≤ s
     go (yes d) = absurd (omega (arith, p .below s d, q .above s (omega arith) (omega (arith, p .to))))
     go (no d) = omega arith
-
--- a key has one place
-pub one-place : (ws : List ℕ) (key r s : ℕ) → Placed ws key r → Placed ws key s → r ≡ s
-one-place ws key r s p q = le-antisymm (place-rises ws key key r s (omega arith) p q) (place-rises ws key key s r (omega arith) q p)
 
 -- a number of j digits, shifted
 pub shifted-is : (i j k : ℕ) → i < 2 ^ j → j + k ≤ 32 → (i * 2 ^ k % 2 ^ 64 ≡ i * 2 ^ k) × (i * 2 ^ k % 2 ^ 64 < 4294967296)

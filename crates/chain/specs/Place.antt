@@ -1,4 +1,4 @@
--- Places in a list of words, by their keys. Assumes nothing.
+-- Places in a list of words, by their keys.
 use mathlib.Core.Path.{_≡_}
 use mathlib.Core.Bool.{true, false}
 use mathlib.Core.List.{List}
@@ -6,10 +6,10 @@ use Prim.Native.Nat.{ℕ, _+_, _-_, _*_, _^_, _<_, _≤_}
 use lib.ListN.{length, getD}
 use Rattle.routes.specs.Route.{keyOf}
 use Rattle.standing.specs.Cells.{within}
-use Rattle.chain.specs.Words.{routeOf, keyIn, Words}
+use Rattle.chain.specs.Words.{routeOfWord, keyIn, Words}
 
 -- r words have a smaller key, and the others not
-pub record Placed (ws : List ℕ) (key r : ℕ) : Type 0 where
+pub record KeysBelow (ws : List ℕ) (key r : ℕ) : Type 0 where
   pub to : r ≤ length ws
   pub below : (j : ℕ) → j < r → keyIn (getD ws j 0) < key
   pub above : (j : ℕ) → r ≤ j → j < length ws → key ≤ keyIn (getD ws j 0)
@@ -34,12 +34,12 @@ pub record InLevel (p i : ℕ) : Type 0 where
 -- lo is where the run of words under cell i of level p begins, or would
 pub record RunFrom (ws : List ℕ) (p i lo : ℕ) : Type 0 where
   pub level : p ≤ 32
-  pub place : Placed ws (underKey p i) lo
+  pub place : KeysBelow ws (underKey p i) lo
 
 -- the words from lo up to r, and no others, are longer than p and have the bits of cell i of level p
 pub record Run (ws : List ℕ) (p i lo r : ℕ) : Type 0 where
   pub from : lo ≤ r
   pub to : r ≤ length ws
-  pub before : (j : ℕ) → j < lo → within p i (routeOf (getD ws j 0)) ≡ false
-  pub inside : (j : ℕ) → lo ≤ j → j < r → within p i (routeOf (getD ws j 0)) ≡ true
-  pub past : (j : ℕ) → r ≤ j → j < length ws → within p i (routeOf (getD ws j 0)) ≡ false
+  pub before : (j : ℕ) → j < lo → within p i (routeOfWord (getD ws j 0)) ≡ false
+  pub inside : (j : ℕ) → lo ≤ j → j < r → within p i (routeOfWord (getD ws j 0)) ≡ true
+  pub past : (j : ℕ) → r ≤ j → j < length ws → within p i (routeOfWord (getD ws j 0)) ≡ false

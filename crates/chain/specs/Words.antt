@@ -1,8 +1,8 @@
 -- A record as one word of 64 bits: its eight bytes, the first the highest. Words are in the order of their routes.
--- Assumes nothing.
 use mathlib.Core.List.{List, map}
-use Prim.Native.Nat.{ℕ, suc, _+_, _*_, _/_, _%_, _<_}
+use Prim.Native.Nat.{ℕ, suc, _+_, _*_, _<_}
 use lib.ListN.{length, getD}
+use Rattle.bits.specs.Bytes.{above2, above3, above4, byte, half}
 use Rattle.bits.specs.Tab.{tabulate}
 use Rattle.routes.specs.Route.{Fine}
 use Rattle.routes.specs.Record.{word32, word16}
@@ -16,19 +16,28 @@ wordAt s k = ((word32 s (k * 8) * 256 + getD s (k * 8 + 4) 0) * 256 + getD s (k 
 unfoldable pub wordsOf : List ℕ → ℕ → List ℕ
 wordsOf s n = tabulate n (wordAt s)
 
--- the route of a word
-abbrev pub routeOf : ℕ → Route
-routeOf w = record { addr = w / 4294967296; len = w / 16777216 % 256; mark = w / 65536 % 256; hop = w % 65536 }
+-- the route of a word, by its parts
+abbrev pub addrOf : ℕ → ℕ
+addrOf w = above4 w
 
--- the key of a word's route
+abbrev pub lenOf : ℕ → ℕ
+lenOf w = byte (above3 w)
+
+abbrev pub hopOf : ℕ → ℕ
+hopOf w = half w
+
+abbrev pub routeOfWord : ℕ → Route
+routeOfWord w = record { addr = addrOf w; len = lenOf w; mark = byte (above2 w); hop = hopOf w }
+
+-- the key of a word's route: its address and its length
 abbrev pub keyIn : ℕ → ℕ
-keyIn w = w / 16777216
+keyIn w = above3 w
 
 -- the routes of these words
-abbrev pub routesIn : List ℕ → List Route
-routesIn ws = map routeOf ws
+abbrev pub routesOfWords : List ℕ → List Route
+routesOfWords ws = map routeOfWord ws
 
 -- each word is of a fine route, and the keys rise
 pub record Words (ws : List ℕ) : Type 0 where
-  pub fine : (k : ℕ) → k < length ws → Fine (routeOf (getD ws k 0))
+  pub fine : (k : ℕ) → k < length ws → Fine (routeOfWord (getD ws k 0))
   pub rises : (k : ℕ) → suc k < length ws → keyIn (getD ws k 0) < keyIn (getD ws (suc k) 0)

@@ -4,29 +4,25 @@ ghost use Prim.Native.Nat.{_/_, _%_, _<_, _≤_};
 ghost use lib.ListN.{length};
 ghost use Rattle.bits.specs.Slot.{slot};
 ghost use Rattle.standing.specs.Cells.{covers, best};
-ghost use Rattle.chain.specs.Words.{routeOf, routesIn};
-ghost use Rattle.chain.specs.Place.{Placed, InLevel, RunFrom};
-ghost use Rattle.chain.specs.Cover.{LastCover, Parents, Climb, Room, Ready};
+ghost use Rattle.chain.specs.Words.{lenOf, routeOfWord, routesOfWords};
+ghost use Rattle.chain.specs.Place.{KeysBelow, InLevel, RunFrom};
+ghost use Rattle.chain.specs.Cover.{LastCover, Parents, Climb, WordsRoom, ChainReady};
 use super::place::place_between;
 use super::place::place_on;
 use super::place::under_key;
+use bits::bytes;
+use bits::widen::half_to_index;
 
 // Whether the route of a word covers cell i of level p.
 fn covering(w: u64, p: u32, i: u64) -> bool
-    requires { ⌜ (p ≤ 32) × (w / 16777216 % 256 ≤ 32) ⌝ }
-    ensures { λ r. ⌜ r ≡ covers p i (routeOf w) ⌝ }
+    requires { ⌜ (p ≤ 32) × (lenOf w ≤ 32) ⌝ }
+    ensures { λ r. ⌜ r ≡ covers p i (routeOfWord w) ⌝ }
 {
-    let len = (w / 16777216 % 256) as u32;
+    let len = (w / bytes::THREE % bytes::ONE) as u32;
     if p < len {
         return false;
     }
-    (w / 4294967296) >> (32 - len) == i >> (p - len)
-}
-
-fn wide(x: u16) -> usize
-    ensures { λ r. ⌜ (r ≡ x) × (r < 65536) ⌝ }
-{
-    x as usize
+    (w / bytes::FOUR) >> (32 - len) == i >> (p - len)
 }
 
 // The last of the words before j that covers cell i of level p: 1 + its place, or 0. It is j - 1, or stands in that
@@ -41,19 +37,19 @@ pub fn last_cover(ws: &[u64], par: &[u16], j: usize, p: u32, i: u64) -> usize
         if covering(ws[k], p, i) {
             return m;
         }
-        m = wide(par[k]);
+        m = half_to_index(par[k]);
     }
     0
 }
 
 // The parent of each word.
 fn parents(ws: &[u64], par: &mut [u16])
-    requires { ⌜ Room (now ws) (now par) ⌝ }
+    requires { ⌜ WordsRoom (now ws) (now par) ⌝ }
     ensures { λ _. ⌜ Parents (now (ws .entry)) (now (par .exit)) (length (now (ws .entry))) ⌝ }
 {
     let mut k = 0;
     while k < ws.len() {
-        let m = last_cover(ws, &par[..k], k, 32, ws[k] / 4294967296);
+        let m = last_cover(ws, &par[..k], k, 32, ws[k] / bytes::FOUR);
         par[k] = m as u16;
         k += 1;
     }
@@ -61,14 +57,14 @@ fn parents(ws: &[u64], par: &mut [u16])
 
 // The heads, after the parents. Each is looked for from the one before on.
 fn heads(ws: &[u64], par: &mut [u16])
-    requires { ⌜ Room (now ws) (now par) ⌝ }
+    requires { ⌜ WordsRoom (now ws) (now par) ⌝ }
     requires { ⌜ Parents (now ws) (now par) (length (now ws)) ⌝ }
-    ensures { λ _. ⌜ Ready (now (ws .entry)) (now (par .exit)) ⌝ }
+    ensures { λ _. ⌜ ChainReady (now (ws .entry)) (now (par .exit)) ⌝ }
 {
     let mut m = 0;
     let mut b: usize = 0;
     while b < 257 {
-        m = place_on(ws, m, (b as u64) * 4294967296);
+        m = place_on(ws, m, (b as u64) * bytes::FOUR);
         par[4096 + b] = m as u16;
         b += 1;
     }
@@ -76,8 +72,8 @@ fn heads(ws: &[u64], par: &mut [u16])
 
 // The parents and the heads.
 pub fn ready(ws: &[u64], par: &mut [u16])
-    requires { ⌜ Room (now ws) (now par) ⌝ }
-    ensures { λ _. ⌜ Ready (now (ws .entry)) (now (par .exit)) ⌝ }
+    requires { ⌜ WordsRoom (now ws) (now par) ⌝ }
+    ensures { λ _. ⌜ ChainReady (now (ws .entry)) (now (par .exit)) ⌝ }
 {
     parents(ws, par);
     heads(ws, par);
@@ -85,17 +81,17 @@ pub fn ready(ws: &[u64], par: &mut [u16])
 
 // How many words have a smaller key, by halving between two heads.
 pub fn place_from(ws: &[u64], par: &[u16], key: u64) -> usize
-    requires { ⌜ Ready (now ws) (now par) ⌝ }
+    requires { ⌜ ChainReady (now ws) (now par) ⌝ }
     requires { ⌜ key < 1099511627776 ⌝ }
-    ensures { λ r. ⌜ Placed (now (ws .entry)) key r ⌝ }
+    ensures { λ r. ⌜ KeysBelow (now (ws .entry)) key r ⌝ }
 {
-    let b = 4096 + (key / 4294967296) as usize;
-    place_between(ws, wide(par[b]), wide(par[b + 1]), key)
+    let b = 4096 + (key / bytes::FOUR) as usize;
+    place_between(ws, half_to_index(par[b]), half_to_index(par[b + 1]), key)
 }
 
 // Where the run under cell i of level p begins.
 pub fn run_start(ws: &[u64], par: &[u16], p: u32, i: u64) -> usize
-    requires { ⌜ Ready (now ws) (now par) ⌝ }
+    requires { ⌜ ChainReady (now ws) (now par) ⌝ }
     requires { ⌜ InLevel p i ⌝ }
     ensures { λ r. ⌜ RunFrom (now (ws .entry)) p i r ⌝ }
 {
@@ -104,31 +100,31 @@ pub fn run_start(ws: &[u64], par: &[u16], p: u32, i: u64) -> usize
 
 // The hop of the longest route of at most p bits that covers cell i; the run under the cell begins at lo.
 pub fn inherited(ws: &[u64], par: &[u16], lo: usize, p: u32, i: u64) -> u16
-    requires { ⌜ Ready (now ws) (now par) ⌝ }
+    requires { ⌜ ChainReady (now ws) (now par) ⌝ }
     requires { ⌜ RunFrom (now ws) p i lo ⌝ }
-    ensures { λ r. ⌜ (r ≡ best (routesIn (now (ws .entry))) p i) × (r < 32768) ⌝ }
+    ensures { λ r. ⌜ (r ≡ best (routesOfWords (now (ws .entry))) p i) × (r < 32768) ⌝ }
 {
     let m = last_cover(ws, par, lo, p, i);
     if m == 0 {
         return 0;
     }
-    (ws[m - 1] % 65536) as u16
+    (ws[m - 1] % bytes::TWO) as u16
 }
 
 // The same, where nothing is known of the run.
 pub fn longest_at(ws: &[u64], par: &[u16], p: u32, i: u64) -> u16
-    requires { ⌜ Ready (now ws) (now par) ⌝ }
+    requires { ⌜ ChainReady (now ws) (now par) ⌝ }
     requires { ⌜ InLevel p i ⌝ }
-    ensures { λ r. ⌜ (r ≡ best (routesIn (now (ws .entry))) p i) × (r < 32768) ⌝ }
+    ensures { λ r. ⌜ (r ≡ best (routesOfWords (now (ws .entry))) p i) × (r < 32768) ⌝ }
 {
     inherited(ws, par, run_start(ws, par, p, i), p, i)
 }
 
 // The hop of the longest route of at most p bits that covers an address.
 pub fn longest(ws: &[u64], par: &[u16], p: u32, addr: u32) -> u16
-    requires { ⌜ Ready (now ws) (now par) ⌝ }
+    requires { ⌜ ChainReady (now ws) (now par) ⌝ }
     requires { ⌜ p ≤ 32 ⌝ }
-    ensures { λ r. ⌜ (r ≡ best (routesIn (now (ws .entry))) p (slot p addr)) × (r < 32768) ⌝ }
+    ensures { λ r. ⌜ (r ≡ best (routesOfWords (now (ws .entry))) p (slot p addr)) × (r < 32768) ⌝ }
 {
     longest_at(ws, par, p, (addr as u64) >> (32 - p))
 }

@@ -4,18 +4,20 @@ ghost use mathlib.Core.Path.{_≡_};
 ghost use Prim.Native.Nat.{_+_, _*_, _^_, _<_, _≤_};
 ghost use lib.ListN.{length};
 ghost use Rattle.chain.specs.Words.{Words};
-ghost use Rattle.chain.specs.Place.{Placed, Between, underKey, InLevel, RunFrom, Run};
+ghost use Rattle.chain.specs.Place.{KeysBelow, Between, underKey, InLevel, RunFrom, Run};
+use bits::bytes;
+use bits::widen::word_to_long;
 
 // How many words have a smaller key, by halving, where that is known to be no less than from and no more than to.
 pub fn place_between(ws: &[u64], from: usize, to: usize, key: u64) -> usize
     requires { ⌜ Between (now ws) key from to ⌝ }
-    ensures { λ r. ⌜ Placed (now (ws .entry)) key r ⌝ }
+    ensures { λ r. ⌜ KeysBelow (now (ws .entry)) key r ⌝ }
 {
     let mut lo = from;
     let mut hi = to;
     while lo < hi {
         let mid = lo + (hi - lo) / 2;
-        if ws[mid] / 16777216 < key {
+        if ws[mid] / bytes::THREE < key {
             lo = mid + 1;
         } else {
             hi = mid;
@@ -27,7 +29,7 @@ pub fn place_between(ws: &[u64], from: usize, to: usize, key: u64) -> usize
 // How many words have a smaller key.
 pub fn place(ws: &[u64], key: u64) -> usize
     requires { ⌜ Words (now ws) ⌝ }
-    ensures { λ r. ⌜ Placed (now (ws .entry)) key r ⌝ }
+    ensures { λ r. ⌜ KeysBelow (now (ws .entry)) key r ⌝ }
 {
     place_between(ws, 0, ws.len(), key)
 }
@@ -35,11 +37,11 @@ pub fn place(ws: &[u64], key: u64) -> usize
 // As place, by going on from a place that is no later.
 pub fn place_on(ws: &[u64], from: usize, key: u64) -> usize
     requires { ⌜ Between (now ws) key from (length (now ws)) ⌝ }
-    ensures { λ r. ⌜ Placed (now (ws .entry)) key r ⌝ }
+    ensures { λ r. ⌜ KeysBelow (now (ws .entry)) key r ⌝ }
 {
     let mut k = from;
     while k < ws.len() {
-        if key <= ws[k] / 16777216 {
+        if key <= ws[k] / bytes::THREE {
             return k;
         }
         k += 1;
@@ -55,7 +57,7 @@ pub fn run_end(ws: &[u64], lo: usize, p: u32, i: u64) -> usize
 {
     let mut k = lo;
     while k < ws.len() {
-        if (ws[k] / 4294967296) >> (32 - p) != i {
+        if (ws[k] / bytes::FOUR) >> (32 - p) != i {
             return k;
         }
         k += 1;
@@ -71,16 +73,10 @@ pub fn shifted(i: u64, j: u32, k: u32) -> u64
     i << k
 }
 
-fn wide(x: u32) -> u64
-    ensures { λ r. ⌜ (r ≡ x) × (r < 4294967296) ⌝ }
-{
-    x as u64
-}
-
 // The least key of a route under cell i of level p.
 pub fn under_key(p: u32, i: u64) -> u64
     requires { ⌜ InLevel p i ⌝ }
     ensures { λ r. ⌜ (r ≡ underKey p i) × (r < 1099511627776) ⌝ }
 {
-    shifted(i, p, 32 - p) * 256 + (wide(p) + 1)
+    shifted(i, p, 32 - p) * bytes::ONE + (word_to_long(p) + 1)
 }

@@ -4,20 +4,18 @@ ghost use Prim.Native.Nat.{_+_, _*_, _<_, _≤_};
 ghost use lib.ListN.{length};
 ghost use Rattle.routes.specs.Record.{word32};
 ghost use Rattle.chain.specs.Words.{wordAt, wordsOf};
-
-fn wide(b: u8) -> u64
-    ensures { λ r. ⌜ (r ≡ b) × (r < 256) ⌝ }
-{
-    b as u64
-}
+use bits::bytes;
+use bits::widen::byte_to_long;
 
 // Four bytes as a number, the first the highest.
 fn four(list: &[u8], at: usize) -> u64
     requires { ⌜ at + 4 ≤ length (now list) ⌝ }
     ensures { λ r. ⌜ (r ≡ word32 (now (list .entry)) at) × (r < 4294967296) ⌝ }
 {
-    ((wide(list[at]) * 256 + wide(list[at + 1])) * 256 + wide(list[at + 2])) * 256
-        + wide(list[at + 3])
+    ((byte_to_long(list[at]) * bytes::ONE + byte_to_long(list[at + 1])) * bytes::ONE
+        + byte_to_long(list[at + 2]))
+        * bytes::ONE
+        + byte_to_long(list[at + 3])
 }
 
 // Record k as a word.
@@ -26,8 +24,10 @@ fn read_word(list: &[u8], k: usize) -> u64
     ensures { λ r. ⌜ r ≡ wordAt (now (list .entry)) k ⌝ }
 {
     let at = k * 8;
-    ((four(list, at) * 256 + wide(list[at + 4])) * 256 + wide(list[at + 5])) * 65536
-        + (wide(list[at + 6]) * 256 + wide(list[at + 6 + 1]))
+    ((four(list, at) * bytes::ONE + byte_to_long(list[at + 4])) * bytes::ONE
+        + byte_to_long(list[at + 5]))
+        * bytes::TWO
+        + (byte_to_long(list[at + 6]) * bytes::ONE + byte_to_long(list[at + 6 + 1]))
 }
 
 // As many records as out has room for, as words.

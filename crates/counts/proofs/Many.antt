@@ -12,7 +12,7 @@ use lib.ListN.{getD, length}
 use borrow.Author.Tests.{ltb-true, ltb-false, lt-ltb}
 use Rattle.bits.specs.Count.{bit, count}
 use Rattle.bits.proofs.Counts.{count-front}
-use Rattle.bits.proofs.Tests.{below?}
+use Rattle.bits.proofs.Bools.{below?}
 use Rattle.routes.specs.Record.{noRoute}
 use Rattle.routes.specs.declared.Route.{Route}
 use Rattle.standing.specs.Cells.{within, any, long}

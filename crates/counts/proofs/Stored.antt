@@ -5,7 +5,7 @@ use mathlib.Core.Bool.{Bool, true, false, cond}
 use mathlib.Core.List.{List}
 use Prim.Native.Nat.{ℕ, _<_}
 use lib.ListN.{getD, length}
-use Rattle.bits.proofs.Tests.{decided}
+use Rattle.bits.proofs.Bools.{decided}
 use Rattle.bits.proofs.Tabs.{length-tabulate, getD-tabulate, is-tabulate}
 use Rattle.routes.specs.declared.Route.{Route}
 use Rattle.counts.specs.Counts.{howMany, CountedBy, tallies}

@@ -4,13 +4,13 @@ use mathlib.Core.Logic.{_↔_}
 use mathlib.Core.List.{List}
 use Prim.Native.Nat.{ℕ}
 use Rattle.routes.specs.Said.{Said}
+use Rattle.routes.proofs.Judged.{exactly}
 use Rattle.broadcast.specs.Cast.{castSaid}
 use Rattle.broadcast.specs.Contract.{MeetsBroadcast}
 use Rattle.broadcast.specs.Meaning.{Casting}
 use Rattle.broadcast.specs.declared.Cast.{Cast}
-use Rattle.broadcast.proofs.Casts.{cast-only, cast-judged}
+use Rattle.broadcast.proofs.Judged.{cast-only, cast-judged}
 use Rattle.broadcast.proofs.OneAnswer as broadcast
-use Rattle.demands.proofs.Demand1.{exactly}
 
 -- Demand 1. "Carries its number": 23, then the input's; and after them a broadcast is told exactly where the address is one
 pub refused-number-broadcast : (version : ℕ) (input : List ℕ) (addr : ℕ) (s : Said) → (castSaid version input addr ≡ s) ↔ Casting version input addr s

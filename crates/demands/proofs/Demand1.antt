@@ -5,9 +5,9 @@
 -- to end, and a call on offer has no `requires`. What it answers is its contract's equation; the theorems below say what the equations mean.
 -- Calls that take their arrays by `&` cannot change them. For those that change something, a refusal leaves all as it was. (A repair is in
 -- Repairs.antt, the changes of an image in Images.antt.)
-use mathlib.Core.Path.{_≡_, refl, sym, _∙_, ap, subst}
+use mathlib.Core.Path.{_≡_, refl, sym, _∙_, ap}
 use mathlib.Core.Logic.{_↔_}
-use mathlib.Core.Bool.{Bool, false, false≢true}
+use mathlib.Core.Bool.{false, false≢true}
 use mathlib.Core.List.{List, []}
 use Prim.Native.Nat.{ℕ}
 use native.Mathlib.Omega.{arith}
@@ -19,37 +19,38 @@ use Rattle.routes.specs.Said.{Said, accepted, refused, refusedAt, accepts}
 use Rattle.routes.specs.declared.Route.{Route}
 use Rattle.routes.specs.Cases.{Checked, RouteRead}
 use Rattle.routes.proofs.Meaning.{input-checked}
-use Rattle.routes.proofs.Cases.{check-only}
+use Rattle.routes.proofs.Judged.{check-only, route-judged, route-only, exactly}
 use Rattle.runs.specs.Run.{runSaid, runOf, runAt}
 use Rattle.runs.specs.Tally.{tallyOf}
 use Rattle.runs.proofs.Runs.{run-refused}
 use Rattle.runs.proofs.Tallies.{tally-refused}
 use Rattle.sail.specs.Lent.{Lent}
-use Rattle.sail.specs.Walk.{lookupSaid, saysFound}
+use Rattle.sail.specs.Walk.{lookupSaid, meansFound}
 use Rattle.sail.specs.declared.table.Table.{Table}
 use Rattle.sail.specs.declared.lookup.Found.{Found}
 use Rattle.sail.specs.declared.lookup.Found.the-variants as found
-use Rattle.sail.proofs.Answers.{found-injective}
-use Rattle.sail_theory.specs.Calls.{Out, made, cutRoute, cleared, telling, announced, withdrawn, loaded, reported}
+use Rattle.sail.proofs.Injective.{found-injective}
+use Rattle.sail_theory.specs.Calls.{made, cutRoute, cleared, withFlag, announced, withdrawn, loaded, reported}
 use Rattle.sail_theory.specs.Cases.{Make, Announce, Withdraw, Load, Report}
-use Rattle.sail_theory.proofs.Judged.{make-judged, announce-judged, withdraw-judged, load-judged, report-judged}
-use Rattle.sail_theory.proofs.Only.{make-only, announce-only, withdraw-only, load-only, report-only}
-use Rattle.sail_theory.proofs.Cleared.{telling-once, announce-said, announce-refused, withdraw-said, withdraw-refused}
-use Rattle.sail_theory.proofs.Fresh.{make-said, make-refused}
-use Rattle.sail_theory.proofs.Loads.{load-said, load-refused}
-use Rattle.tree.specs.Walk.{saysTreeFound, treeSaid}
+use Rattle.sail_theory.proofs.calls.SomeCase.{make-judged, announce-judged, withdraw-judged, load-judged, report-judged}
+use Rattle.sail_theory.proofs.calls.OneCase.{make-only, announce-only, withdraw-only, load-only, report-only}
+use Rattle.sail_theory.proofs.calls.Cleared.{announce-said, withdraw-said}
+use Rattle.sail_theory.proofs.calls.Make.{make-said}
+use Rattle.sail_theory.proofs.calls.Load.{load-said}
+use Rattle.sail_theory.proofs.calls.Refusals.{told-exactly, make-leaves, load-leaves, announce-leaves, withdraw-leaves}
+use Rattle.tree.specs.Walk.{meansTreeFound, treeSaid}
 use Rattle.tree.specs.declared.TreeFound.{TreeFound}
 use Rattle.tree.specs.declared.TreeFound.the-variants as treeFound
 use Rattle.tree_build.specs.Built.{built}
 use Rattle.tree_build.proofs.Serves.{refused-leaves}
 use Rattle.runs.specs.Cases.{RunChecked}
-use Rattle.demands.proofs.Inputs.{run-judged, run-only, route-judged, route-only}
+use Rattle.runs.proofs.Judged.{run-judged, run-only}
 use Rattle.sail.specs.Cases.{Lookup}
-use Rattle.demands.proofs.Lookups.{lookup-judged, lookup-only}
+use Rattle.sail.proofs.Judged.{lookup-judged, lookup-only}
 use Rattle.tree_build.specs.Cases.{Build}
-use Rattle.demands.proofs.Builds.{build-judged, build-only}
+use Rattle.tree_build.proofs.Judged.{build-judged, build-only}
 use Rattle.tree.specs.Cases.{TreeLookup}
-use Rattle.demands.proofs.Walks.{tree-judged, tree-only}
+use Rattle.tree.proofs.Judged.{tree-judged, tree-only, refused-broken}
 
 -- "A refusal is never a hop."
 
@@ -61,19 +62,15 @@ pub refused-at-no-values : (n k : ℕ) (vs : List ℕ) → refusedAt n k ≡ acc
 refused-at-no-values n k vs e = let z : _≡_ {A = ℕ} 0 1 = cc in omega arith
 
 -- so the answer of a lookup that is refused is the number alone
-pub refused-no-hop-lookup : (t : Table) (l : Lent) (a : ℕ) (r : Found) → saysFound r ≡ lookupSaid t l a → (n : ℕ) → lookupSaid t l a ≡ refused n → r ≡ found.Refused n
-unfolding saysFound
+pub refused-no-hop-lookup : (t : Table) (l : Lent) (a : ℕ) (r : Found) → meansFound r ≡ lookupSaid t l a → (n : ℕ) → lookupSaid t l a ≡ refused n → r
+    ≡ found.Refused n
+unfolding meansFound
 refused-no-hop-lookup t l a r e n q = found-injective r (found.Refused n) (e ∙ q)
 
 -- and in an image that number is 13
-pub refused-no-hop-tree : (ws hs : List ℕ) (a : ℕ) (r : TreeFound) → saysTreeFound r ≡ treeSaid ws hs a → (n : ℕ) → treeSaid ws hs a ≡ refused n → (n ≡ 13) × (r ≡ treeFound.Broken)
-unfolding saysTreeFound
-refused-no-hop-tree ws hs a r e n q = go r (e ∙ q)
-  where
-    go : (r : TreeFound) → saysTreeFound r ≡ refused n → (n ≡ 13) × (r ≡ treeFound.Broken)
-    go (treeFound.Hop h k) e = absurd (let z : _≡_ {A = ℕ} 0 1 = cc in omega arith)
-    go (treeFound.NoRoute k) e = absurd (let z : _≡_ {A = ℕ} 0 1 = cc in omega arith)
-    go treeFound.Broken e = (cc, refl)
+pub refused-no-hop-tree : (ws hs : List ℕ) (a : ℕ) (r : TreeFound) → meansTreeFound r ≡ treeSaid ws hs a → (n : ℕ) → treeSaid ws hs a ≡ refused n →
+    (n ≡ 13) × (r ≡ treeFound.Broken)
+refused-no-hop-tree ws hs a r e n q = refused-broken r n (e ∙ q)
 
 -- a refused tally holds 33 zeros, and a refused run is the empty part at the list's start
 pub refused-tally : (bytes : List ℕ) → accepts (inputSaid bytes) ≡ false → tallyOf bytes ≡ replicate 33 0
@@ -84,12 +81,6 @@ refused-run = run-refused
 
 -- "It carries its number": a call says s exactly where the condition that stands beside s holds. The conditions are listed in document 01's
 -- order, each with the failure of those before it; so the number is that of the first that holds.
-pub exactly : (P : Said → Type 0) (x y : Said) → x ≡ y → P y → ((s : Said) → P s → y ≡ s) → (s : Said) → (x ≡ s) ↔ P s
-exactly P x y q h only s = ((λ e. subst P (sym q ∙ e) h), (λ c. q ∙ only s c))
-
--- the same of a call that tells beside s whether bits were cleared
-told-exactly : (b : Bool) (P : Said → Type 0) (x y : Said) → x ≡ telling b y → P y → ((s : Said) → P s → y ≡ s) → (s : Said) → (x ≡ telling b s) ↔ P s
-told-exactly b P x y q h only s = ((λ e. subst P (telling-once b y s (sym q ∙ e)) h), (λ c. q ∙ ap (telling b) (only s c)))
 
 -- check_input, and with it the tally: the length (10), record by record 3, 4, mark (10), order (10), then 6
 pub refused-number-check-input : (bytes : List ℕ) (s : Said) → (inputSaid bytes ≡ s) ↔ Checked bytes s
@@ -118,12 +109,12 @@ module _ (t : Table) (l : Lent) where
 
   -- announce: 1, 2, 3, 4, 10, 5, 6, 7, 8; a replacement never meets 6 to 8. The conditions are on the route with its bits after the length
   -- cleared, and what is accepted says first whether any were
-  pub refused-number-announce : (r : Route) (s : Said) → (announced t l r .said ≡ telling (cleared (r .len) (r .addr)) s) ↔ Announce t l (cutRoute r) s
+  pub refused-number-announce : (r : Route) (s : Said) → (announced t l r .said ≡ withFlag (cleared (r .len) (r .addr)) s) ↔ Announce t l (cutRoute r) s
   refused-number-announce r =
       told-exactly _ (Announce t l (cutRoute r)) _ _ (announce-said t l r) (announce-judged t l (cutRoute r)) (announce-only t l (cutRoute r))
 
   -- withdraw: 1, 2, 3, 5, 9, of the cleared prefix
-  pub refused-number-withdraw : (a len : ℕ) (s : Said) → (withdrawn t l a len .said ≡ telling (cleared len a) s) ↔ Withdraw t l (cut len a) len s
+  pub refused-number-withdraw : (a len : ℕ) (s : Said) → (withdrawn t l a len .said ≡ withFlag (cleared len a) s) ↔ Withdraw t l (cut len a) len s
   refused-number-withdraw a len =
       told-exactly _ (Withdraw t l (cut len a) len) _ _ (withdraw-said t l a len) (withdraw-judged t l (cut len a) len) (withdraw-only t l (cut len a) len)
 
@@ -140,21 +131,20 @@ pub refused-number-tree-lookup : (words hops : List ℕ) (a : ℕ) (s : Said) �
 refused-number-tree-lookup words hops a = exactly (TreeLookup words hops a) _ _ refl (tree-judged words hops a) (tree-only words hops a)
 
 -- "The caller's state and buffers stay exactly as they were."
-pub parts : (o : Out) (s : Said) (t : Table) (l : Lent) → o ≡ record { said = s; table = t; lent = l } → (o .table ≡ t) × (o .lent ≡ l)
-parts o s t l e = (ap (λ (x : Out). x .table) e, ap (λ (x : Out). x .lent) e)
-
 module _ (t : Table) (l : Lent) where
   pub refused-leaves-all-make : accepts (made t l .said) ≡ false → (made t l .table ≡ t) × (made t l .lent ≡ l)
-  refused-leaves-all-make e = parts _ _ t l (make-refused t l e)
+  refused-leaves-all-make = make-leaves t l
 
   pub refused-leaves-all-load : (input : List ℕ) → accepts (loaded t l input .said) ≡ false → (loaded t l input .table ≡ t) × (loaded t l input .lent ≡ l)
-  refused-leaves-all-load input e = parts _ _ t l (load-refused t l input e)
+  refused-leaves-all-load = load-leaves t l
 
   pub refused-leaves-all-announce : (r : Route) → accepts (announced t l r .said) ≡ false → (announced t l r .table ≡ t) × (announced t l r .lent ≡ l)
-  refused-leaves-all-announce r e = parts _ _ t l (announce-refused t l r e)
+  refused-leaves-all-announce = announce-leaves t l
 
-  pub refused-leaves-all-withdraw : (a len : ℕ) → accepts (withdrawn t l a len .said) ≡ false → (withdrawn t l a len .table ≡ t) × (withdrawn t l a len .lent ≡ l)
-  refused-leaves-all-withdraw a len e = parts _ _ t l (withdraw-refused t l a len e)
+  pub refused-leaves-all-withdraw : (a len : ℕ) → accepts (withdrawn t l a len .said) ≡ false → (withdrawn t l a len .table ≡ t) ×
+      (withdrawn t l a len .lent ≡ l)
+  refused-leaves-all-withdraw = withdraw-leaves t l
 
-pub refused-leaves-all-build : (input words hops : List ℕ) → accepts (built input words hops .said) ≡ false → (built input words hops .words ≡ words) × (built input words hops .hops ≡ hops)
+pub refused-leaves-all-build : (input words hops : List ℕ) → accepts (built input words hops .said) ≡ false → (built input words hops .words ≡ words)
+    × (built input words hops .hops ≡ hops)
 refused-leaves-all-build input words hops e = refused-leaves input words hops (λ vs q. false≢true (sym e ∙ ap accepts q))

@@ -8,43 +8,39 @@
 -- A run is a list of calls from a fresh table, the last call first: `after t l cs` is what the last call says, and the state and all that is
 -- lent then. The fresh table has t's geometry, in arrays of l's sizes; make accepts these exactly where they are right (`Sized`).
 -- docs/DEMAND3.md walks through this file. (Runs that begin with a repaired table are in Repairs.antt.)
-use mathlib.Core.Path.{_≡_, refl, ap}
-use mathlib.Core.Logic.{⊎-elim, _≢_}
-use mathlib.Core.Bool.{true, false}
+use mathlib.Core.Path.{_≡_}
+use mathlib.Core.Logic.{_≢_}
+use mathlib.Core.Bool.{true}
 use mathlib.Core.List.{List, _∷_}
-use Prim.Native.Nat.{ℕ, _/_, _^_, _<_}
+use Prim.Native.Nat.{ℕ, _^_, _<_}
 use lib.ListN.{length}
 use Rattle.bits.specs.Slot.{slot, cut}
-use Rattle.bits.proofs.Tests.{decided}
 use Rattle.routes.specs.Route.{Good}
 use Rattle.routes.specs.Record.{written}
 use Rattle.routes.specs.Said.{accepts}
+use Rattle.standing.specs.Served.{uncounted}
 use Rattle.standing.specs.Standing.{routeAt}
 use Rattle.routes.specs.declared.Route.{Route}
 use Rattle.sail.specs.Lent.{Lent}
 use Rattle.sail.specs.Sizes.{Sized}
-use Rattle.sail.specs.Sound.{Sound, standing}
+use Rattle.sail.specs.Sound.{Sound}
 use Rattle.sail.specs.Walk.{lookupSaid}
-use Rattle.sail.specs.declared.geometry.Geometry.{Geometry}
 use Rattle.sail.specs.declared.table.Table.{Table}
 use Rattle.sail.proofs.Sounds.{standing-good}
 use Rattle.sail_theory.specs.Render.{roomOf}
-use Rattle.sail_theory.specs.Calls.{termsOf, inputRoutes, Out, made, announced, withdrawn, loaded}
+use Rattle.sail_theory.specs.Calls.{termsOf, inputRoutes, made, announced, withdrawn, loaded}
 use Rattle.sail_theory.specs.Facts.{SameSize}
-use Rattle.sail_theory.specs.Runs.{announceAll, AllAdded, Call, after, worked, would, Formed, Carries, standingAfter, AsFresh}
+use Rattle.sail_theory.specs.CallRuns.{announceAll, AllAdded, Call, after, heldByCalls, routesAfter, Formed, Carries, standingAfter, AsFresh}
 use Rattle.sail_theory.specs.Alters.{Alters}
-use Rattle.sail_theory.proofs.Cleared.{announce-refused, announce-alters, withdraw-refused, withdraw-alters}
-use Rattle.sail_theory.proofs.Fresh.{accepted-sized}
-use Rattle.sail_theory.proofs.Loads as loads
-use Rattle.sail_theory.proofs.Runs as runs
-use Rattle.sail_theory.proofs.Anew as anew
-use Rattle.sail_theory.proofs.Wanting as wanting
-use Rattle.demands.specs.Served.{uncounted}
-use Rattle.demands.proofs.Elsewhere.{announce-elsewhere, withdraw-elsewhere}
-use Rattle.demands.specs.Replies.{reply}
-use Rattle.demands.proofs.Replies as replies
-use Rattle.sail_theory.specs.Wants.{ByNeed, ForChunks}
-use Rattle.demands.proofs.Wants.{wanting-exact, chunks-formed}
+use Rattle.sail_theory.proofs.calls.Make.{accepted-sized}
+use Rattle.sail_theory.proofs.calls.Load as loads
+use Rattle.sail_theory.proofs.runs.AfterRun as runs
+use Rattle.sail_theory.proofs.runs.AsFresh as anew
+use Rattle.sail_theory.proofs.frames.Elsewhere.{announce-frame, announce-elsewhere, withdraw-frame, withdraw-elsewhere}
+use Rattle.sail_theory.specs.Replies.{reply}
+use Rattle.sail_theory.proofs.runs.Replies as replies
+use Rattle.sail_theory.specs.WantOfChunks.{ByNeed, ForChunks}
+use Rattle.sail_theory.proofs.runs.ForChunks.{run-by-need, run-formed}
 
 module _ (t : Table) (l : Lent) (z : Sized (t .geometry) l) where
   -- After "any run of announcements, withdrawals and loads, refused ones among them": the table is sound.
@@ -53,14 +49,14 @@ module _ (t : Table) (l : Lent) (z : Sized (t .geometry) l) where
 
   -- "Which routes stand after a run is worked out from its accepted calls alone": for each prefix, by its key, what stands is what the last
   -- accepted call that speaks of it said, its mark included.
-  pub run-standing : (cs : List Call) (k : ℕ) → routeAt k (standingAfter t l cs) ≡ worked t l cs k
+  pub run-standing : (cs : List Call) (k : ℕ) → routeAt k (standingAfter t l cs) ≡ heldByCalls t l cs k
   run-standing = runs.run-standing t l z
 
   -- "And the list then holds exactly those, in order": it ascends, and is the only ascending list that holds them.
   pub run-in-order : (cs : List Call) → Good (standingAfter t l cs)
   run-in-order cs = standing-good (after t l cs .table) (after t l cs .lent) (run-sound cs)
 
-  pub run-only : (cs : List Call) (rs : List Route) → Good rs → ((k : ℕ) → routeAt k rs ≡ worked t l cs k) → standingAfter t l cs ≡ rs
+  pub run-only : (cs : List Call) (rs : List Route) → Good rs → ((k : ℕ) → routeAt k rs ≡ heldByCalls t l cs k) → standingAfter t l cs ≡ rs
   run-only = runs.run-only t l z
 
   -- What each call of a run says, "refused ones among them", follows from the routes that stand, the geometry, the room of the list and the
@@ -82,15 +78,13 @@ module _ (t : Table) (l : Lent) (z : Sized (t .geometry) l) where
 
   -- "A well-formed change for which the list has room is refused for want of chunks exactly when the routes that would then stand need more than
   -- were lent": with 7 or 8, by these needs, and else it is accepted
-  pub want-of-chunks : (cs : List Call) (c : Call) → Formed c (standingAfter t l cs) (roomOf l) → ByNeed (termsOf t l) (would c (standingAfter t l cs)) (after t l (c ∷ cs) .said)
-  want-of-chunks cs c f = wanting-exact (wanting.want-of-chunks t l z cs c f)
+  pub want-of-chunks : (cs : List Call) (c : Call) → Formed c (standingAfter t l cs) (roomOf l) → ByNeed (termsOf t l)
+      (routesAfter c (standingAfter t l cs)) (after t l (c ∷ cs) .said)
+  want-of-chunks = run-by-need t l z
 
   -- and no other call is refused with 7 or 8.
   pub want-formed : (cs : List Call) (c : Call) → ForChunks (after t l (c ∷ cs) .said) → Formed c (standingAfter t l cs) (roomOf l)
-  unfolding after
-  want-formed cs c w =
-      let room : roomOf (after t l cs .lent) ≡ roomOf l = ap (λ (n : ℕ). n / 8) (runs.run-is t l z cs .size .list) in
-      rw room at (chunks-formed (after t l cs .table) (after t l cs .lent) c w)
+  want-formed = run-formed t l z
 
 -- Where make is refused there is no fresh table, and so no run.
 pub made-sized : (t : Table) (l : Lent) → accepts (made t l .said) ≡ true → Sized (t .geometry) l
@@ -99,22 +93,11 @@ made-sized = accepted-sized
 -- "An announcement or withdrawal alters no cell but those that serve an address under its prefix and those in chunks that it opens or closes": in
 -- any state, and so after any run; what is refused alters nothing. The prefix is the cleared one; the same addresses lie under it as begin with
 -- the bits that were given (`slot-cut`, crate bits, proofs/Slots.antt).
-alters-none : (g : Geometry) (a len : ℕ) (l u : Lent) → u ≡ l → Alters g a len l u
-alters-none g a len l u e = rw e (record { first = λ q h n. refl; second = λ q h n o. refl; third = λ q h n o. refl })
-
 pub change-frame-announce : (t : Table) (l : Lent) (r : Route) → Alters (t .geometry) (cut (r .len) (r .addr)) (r .len) l (announced t l r .lent)
-change-frame-announce t l r =
-    ⊎-elim (announce-alters t l r)
-    (λ (e : accepts (announced t l r .said) ≡ false).
-    alters-none (t .geometry) (cut (r .len) (r .addr)) (r .len) l _ (ap (λ (o : Out). o .lent) (announce-refused t l r e)))
-    (decided (accepts (announced t l r .said)))
+change-frame-announce = announce-frame
 
 pub change-frame-withdraw : (t : Table) (l : Lent) (a len : ℕ) → Alters (t .geometry) (cut len a) len l (withdrawn t l a len .lent)
-change-frame-withdraw t l a len =
-    ⊎-elim (withdraw-alters t l a len)
-    (λ (e : accepts (withdrawn t l a len .said) ≡ false).
-    alters-none (t .geometry) (cut len a) len l _ (ap (λ (o : Out). o .lent) (withdraw-refused t l a len e)))
-    (decided (accepts (withdrawn t l a len .said)))
+change-frame-withdraw = withdraw-frame
 
 -- So the hop of no address outside the prefix changes. (Its count of cells can, where a chunk is opened or closed above it.)
 pub change-elsewhere-announce : (t : Table) (l : Lent) (r : Route) (x : ℕ) → x < 2 ^ 32 → slot (r .len) x ≢ slot (r .len) (cut (r .len) (r .addr))

@@ -1,13 +1,6 @@
--- The demands, a file for each, and what they are put together from.
-pub mod Inputs
-pub mod Lookups
-pub mod Builds
-pub mod Walks
+-- The demands, a file for each; and the demands of the calls on bit maps, of broadcasts and of images.
 pub mod Demand1
 pub mod Demand2
-pub mod Replies
-pub mod Wants
-pub mod Elsewhere
 pub mod Demand3
 pub mod OneAnswer
 pub mod Basic

@@ -29,7 +29,7 @@ use Rattle.sail_make.specs.Contract.{MeetsMake}
 use Rattle.sail_make.specs.declared.Fresh.{Fresh}
 use Rattle.sail_make.proofs.OneAnswer as make
 use Rattle.sail_load.specs.Contract.{MeetsLoad}
-use Rattle.sail_load.specs.declared.load.Changed.{Changed}
+use Rattle.sail_load.specs.declared.load.LoadedTable.{LoadedTable}
 use Rattle.sail_load.proofs.OneAnswer as load
 use Rattle.sail_announce.specs.Contract.{MeetsAnnounce}
 use Rattle.sail_announce.specs.declared.answers.Announced.{Announced}
@@ -52,7 +52,8 @@ pub one-answer-route-at : (bytes : List ℕ) (index : ℕ) (x y : Got) → Meets
 one-answer-route-at = routes.one-answer-route-at
 
 -- a part of the list is its elements and its place; a reference has nothing else that a program can see
-pub one-answer-run : (list : RefT (List ℕ)) (addr len : ℕ) (x y : RefT (List ℕ)) → IsRun list x addr len → IsRun list y addr len → (now x ≡ now y) × (ptr x ≡ ptr y)
+pub one-answer-run : (list : RefT (List ℕ)) (addr len : ℕ) (x y : RefT (List ℕ)) → IsRun list x addr len → IsRun list y addr len → (now x ≡ now y) ×
+    (ptr x ≡ ptr y)
 one-answer-run = runs.one-answer-run
 
 pub one-answer-run-check : (list : List ℕ) (addr len : ℕ) (x y : RunCheck) → MeetsRunCheck list addr len x → MeetsRunCheck list addr len y → x ≡ y
@@ -72,7 +73,7 @@ module _ (t : Table) (l : Lent) where
   pub one-answer-make : (x y : Fresh) (u v : Lent) → MeetsMake t l x u → MeetsMake t l y v → (x ≡ y) × (u ≡ v)
   one-answer-make = make.one-answer-make t l
 
-  pub one-answer-load : (input : List ℕ) (x y : Changed) (u v : Lent) → MeetsLoad t l input x u → MeetsLoad t l input y v → (x ≡ y) × (u ≡ v)
+  pub one-answer-load : (input : List ℕ) (x y : LoadedTable) (u v : Lent) → MeetsLoad t l input x u → MeetsLoad t l input y v → (x ≡ y) × (u ≡ v)
   one-answer-load = load.one-answer-load t l
 
   pub one-answer-announce : (addr len hop mark : ℕ) (x y : Announced) (u v : Lent)

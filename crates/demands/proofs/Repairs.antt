@@ -5,6 +5,7 @@ use mathlib.Core.Bool.{true, false}
 use mathlib.Core.List.{List}
 use Prim.Native.Nat.{ℕ, _^_, _<_}
 use Rattle.routes.specs.Said.{Said, accepts}
+use Rattle.routes.proofs.Judged.{exactly}
 use Rattle.standing.specs.Standing.{routeAt}
 use Rattle.sail.specs.Lent.{Lent}
 use Rattle.sail.specs.Sound.{Sound, standing, cellsRead}
@@ -12,8 +13,9 @@ use Rattle.sail.specs.Walk.{lookupSaid}
 use Rattle.sail.specs.declared.table.Table.{Table}
 use Rattle.sail_theory.specs.Calls.{loaded}
 use Rattle.sail_theory.specs.Facts.{SameSize}
-use Rattle.sail_theory.specs.Runs.{Call, worked, Carries, AsFresh}
-use Rattle.repair_theory.specs.Repair.{kept, repaired}
+use Rattle.sail_theory.specs.CallRuns.{Call, heldByCalls, Carries, AsFresh}
+use Rattle.sail_theory.proofs.calls.Refusals.{leaves}
+use Rattle.repair_theory.specs.Repair.{keptRoutes, repaired}
 use Rattle.repair_theory.specs.Cases.{Repair}
 use Rattle.repair_theory.specs.Onwards.{onwards, asRun}
 use Rattle.repair_theory.proofs.Judged.{repair-judged, repair-only}
@@ -21,10 +23,9 @@ use Rattle.repair_theory.proofs.Repairs as repairs
 use Rattle.repair_theory.proofs.Repairs.{repair-said, repair-holds}
 use Rattle.repair_theory.proofs.Onwards as onwards-on
 use Rattle.repair.specs.Contract.{MeetsRepair}
-use Rattle.repair.specs.declared.repair.Changed.{Changed}
+use Rattle.repair.specs.declared.repair.RepairedTable.{RepairedTable}
 use Rattle.repair.proofs.OneAnswer as answer
-use Rattle.demands.specs.Served.{Served}
-use Rattle.demands.proofs.Demand1.{exactly, parts}
+use Rattle.standing.specs.Served.{Served}
 use Rattle.demands.proofs.Demand2.{sail-serves}
 
 module _ (t : Table) (l : Lent) where
@@ -34,16 +35,16 @@ module _ (t : Table) (l : Lent) where
 
   -- "The caller's state and buffers stay exactly as they were."
   pub refused-leaves-all-repair : accepts (repaired t l .said) ≡ false → (repaired t l .table ≡ t) × (repaired t l .lent ≡ l)
-  refused-leaves-all-repair e = parts _ _ t l (repairs.refused-leaves-all-repair t l e)
+  refused-leaves-all-repair e = leaves _ _ t l (repairs.refused-leaves-all-repair t l e)
 
   -- "Show that no second answer would satisfy it."
-  pub one-answer-repair : (x y : Changed) (u v : Lent) → MeetsRepair t l x u → MeetsRepair t l y v → (x ≡ y) × (u ≡ v)
+  pub one-answer-repair : (x y : RepairedTable) (u v : Lent) → MeetsRepair t l x u → MeetsRepair t l y v → (x ≡ y) × (u ≡ v)
   one-answer-repair = answer.one-answer-repair t l
 
   module _ (e : accepts (repaired t l .said) ≡ true) where
     -- Demand 2: every address is then served by the kept records, the longest that covers it
     pub repair-serves : (a : ℕ) → a < 2 ^ 32
-        → Served (kept t l) a (cellsRead (t .geometry) (kept t l) a) (lookupSaid (repaired t l .table) (repaired t l .lent) a)
+        → Served (keptRoutes t l) a (cellsRead (t .geometry) (keptRoutes t l) a) (lookupSaid (repaired t l .table) (repaired t l .lent) a)
     repair-serves a b =
         let h = repair-holds t l e in
         rw (h .geometry, h .routes) at (sail-serves (repaired t l .table) (repaired t l .lent) (h .sound) a b)
@@ -54,7 +55,7 @@ module _ (t : Table) (l : Lent) where
 
     -- which routes stand is worked out from the kept records and the accepted calls alone,
     pub repair-run-standing : (cs : List Call) (k : ℕ)
-        → routeAt k (standing (onwards (repaired t l) cs .table) (onwards (repaired t l) cs .lent)) ≡ worked t l (asRun t l cs) k
+        → routeAt k (standing (onwards (repaired t l) cs .table) (onwards (repaired t l) cs .lent)) ≡ heldByCalls t l (asRun t l cs) k
     repair-run-standing = onwards-on.onwards-standing t l e
 
     -- and every address is served as by a table freshly loaded with these, in as many chunks.

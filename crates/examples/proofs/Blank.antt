@@ -9,7 +9,7 @@ use lib.ListN.{getD, replicate, length-replicate}
 use lib.Pow.{pow-pos}
 use Rattle.bits.specs.Slot.{slot, cut}
 use Rattle.bits.specs.Tab.{tabulate}
-use Rattle.bits.proofs.Tests.{untrue}
+use Rattle.bits.proofs.Bools.{untrue}
 use Rattle.routes.specs.Record.{routesOf}
 use Rattle.routes.specs.Input.{routeFault, inputSaid}
 use Rattle.routes.specs.Said.{Said, accepted, refused, andThen}
@@ -22,15 +22,15 @@ use Rattle.sail.specs.Sound.{Sound, freshTable}
 use Rattle.sail.specs.Walk.{cell1}
 use Rattle.sail.specs.declared.geometry.Geometry.{Geometry}
 use Rattle.sail.proofs.Fitting.{Fault, fault-is}
-use Rattle.sail_theory.specs.Test.{sound?}
-use Rattle.sail_theory.specs.Calls.{Terms, termsOf, announceFault, withdrawFault, loadFault, orSay, inputRoutes, cutRoute, cleared, telling}
+use Rattle.sail_theory.specs.SoundTest.{sound?}
+use Rattle.sail_theory.specs.Calls.{Terms, termsOf, announceFault, withdrawFault, loadFault, orSay, inputRoutes, cutRoute, cleared, withFlag}
 use Rattle.sail_theory.specs.Calls.{makeSaid, announceSaid, withdrawSaid, loadSaid, reported}
 use Rattle.sail.specs.Cases.{Sizing, Lookup}
-use Rattle.sail_theory.proofs.Tells.{sound-tells}
-use Rattle.sail_theory.proofs.Cleared.{announce-said, withdraw-said}
-use Rattle.sail_theory.proofs.Fresh.{make-said}
-use Rattle.sail_theory.proofs.Loads.{load-said}
-use Rattle.demands.proofs.Lookups.{lookup-only}
+use Rattle.sail_theory.proofs.places.SoundTest.{sound-tells}
+use Rattle.sail_theory.proofs.calls.Cleared.{announce-said, withdraw-said}
+use Rattle.sail_theory.proofs.calls.Make.{make-said}
+use Rattle.sail_theory.proofs.calls.Load.{load-said}
+use Rattle.sail.proofs.Judged.{lookup-only}
 use Rattle.examples.specs.Blank.{Lengths, zeros, Asked, make, load, announce, withdraw, report, lookup, answer}
 
 -- 1, 2 or 0, by the lengths
@@ -51,8 +51,8 @@ takes g n a len = orSay (fault g n) (orSay (withdrawFault false [] a len) (accep
 unfoldable pub paper : Asked → Said
 paper (make g n) = orSay (fault g n) (accepted [])
 paper (load g n input) = orSay (fault g n) (andThen (inputSaid input) (orSay (loadFault (terms g n) (inputRoutes input)) (accepted [])))
-paper (announce g n r) = telling (cleared (r .len) (r .addr)) (adds g n (cutRoute r))
-paper (withdraw g n a len) = telling (cleared len a) (takes g n (cut len a) len)
+paper (announce g n r) = withFlag (cleared (r .len) (r .addr)) (adds g n (cutRoute r))
+paper (withdraw g n a len) = withFlag (cleared len a) (takes g n (cut len a) len)
 paper (report g n) = orSay (fault g n) (refused 5)
 paper (lookup g n a) = orSay (fault g n) (refused 5)
 
@@ -122,7 +122,7 @@ pub agrees : (q : Asked) → answer q ≡ paper q
 unfolding answer paper
 agrees (make g n) = make-said (freshTable g) (zeros n) ∙ make-agrees g n
 agrees (load g n input) = load-said (freshTable g) (zeros n) input ∙ load-agrees g n input
-agrees (announce g n r) = announce-said (freshTable g) (zeros n) r ∙ ap (telling (cleared (r .len) (r .addr))) (announce-agrees g n (cutRoute r))
-agrees (withdraw g n a len) = withdraw-said (freshTable g) (zeros n) a len ∙ ap (telling (cleared len a)) (withdraw-agrees g n (cut len a) len)
+agrees (announce g n r) = announce-said (freshTable g) (zeros n) r ∙ ap (withFlag (cleared (r .len) (r .addr))) (announce-agrees g n (cutRoute r))
+agrees (withdraw g n a len) = withdraw-said (freshTable g) (zeros n) a len ∙ ap (withFlag (cleared len a)) (withdraw-agrees g n (cut len a) len)
 agrees (report g n) = report-agrees g n
 agrees (lookup g n a) = lookup-agrees g n a

@@ -16,7 +16,7 @@ use Rattle.standing.specs.Standing.{stood}
 use Rattle.longest.specs.Best.{bestRoute, LongestRoute, BestRoute}
 use Rattle.longest.proofs.Bests.{best-route-is}
 use Rattle.sail_theory.specs.Calls.{route}
-use Rattle.broadcast.specs.Cast.{versionFine, lastLen, highest, castOf, isBroadcast, castSaid, saysCast}
+use Rattle.broadcast.specs.Cast.{versionFine, lastLen, highest, castOf, isBroadcast, castSaid, meansCast}
 use Rattle.broadcast.specs.Meaning.{UpperOfTwo}
 use Rattle.broadcast.specs.declared.Cast.the-variants as cast
 use Rattle.broadcast.proofs.Casts.{rules-differ}
@@ -28,11 +28,13 @@ unfoldable pub link : List ℕ
 link = 192 ∷ 0 ∷ 2 ∷ 0 ∷ 31 ∷ 1 ∷ 0 ∷ 1 ∷ []
 
 older : castSaid 1 link (ip 192 0 2 1) ≡ accepted (1 ∷ [])
-unfolding castSaid versionFine inputSaid firstOf firstFrom faultAt routeFault inOrder properPrefix hopFine recordAt cut routesOf tabulate isBroadcast castOf bestRoute lastLen highest link
+unfolding castSaid versionFine inputSaid firstOf firstFrom faultAt routeFault inOrder properPrefix hopFine recordAt cut routesOf tabulate isBroadcast
+    castOf bestRoute lastLen highest link
 older = refl
 
 newer : castSaid 2 link (ip 192 0 2 1) ≡ accepted (0 ∷ [])
-unfolding castSaid versionFine inputSaid firstOf firstFrom faultAt routeFault inOrder properPrefix hopFine recordAt cut routesOf tabulate isBroadcast castOf bestRoute lastLen highest link
+unfolding castSaid versionFine inputSaid firstOf firstFrom faultAt routeFault inOrder properPrefix hopFine recordAt cut routesOf tabulate isBroadcast
+    castOf bestRoute lastLen highest link
 newer = refl
 
 -- its upper address is where the rules differ
@@ -47,19 +49,19 @@ upper = rules-differ link (ip 192 0 2 1) .0 rules-part
 
 -- One answer: a broadcast under the older rule, none under the newer, no such version whatever the input, and an input that is refused.
 pub cast-older : MeetsBroadcast 1 link (ip 192 0 2 1) cast.Yes
-unfolding saysCast
+unfolding meansCast
 cast-older = sym older
 
 pub cast-newer : MeetsBroadcast 2 link (ip 192 0 2 1) cast.No
-unfolding saysCast
+unfolding meansCast
 cast-newer = sym newer
 
 pub cast-version : (a : ℕ) → MeetsBroadcast 3 (1 ∷ []) a cast.NoVersion
-unfolding saysCast castSaid versionFine
+unfolding meansCast castSaid versionFine
 cast-version a = refl
 
 pub cast-refused : (a : ℕ) → MeetsBroadcast 1 (1 ∷ []) a (cast.Refused 10 0)
-unfolding saysCast castSaid versionFine inputSaid
+unfolding meansCast castSaid versionFine inputSaid
 cast-refused a = refl
 
 -- An attached network, and a host in it with a route of its own: 10.0.0.0/24 and 10.0.0.255/32.

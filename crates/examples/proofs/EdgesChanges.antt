@@ -23,11 +23,11 @@ use Rattle.sail.specs.Sound.{standing, freshTable}
 use Rattle.sail.specs.declared.geometry.Geometry.{Geometry}
 use Rattle.sail.proofs.Fitting.{Fault, fault-is}
 use Rattle.sail_theory.specs.Calls.{Terms, Out, announceFault, withdrawFault, loadFault, chunksFault}
-use Rattle.sail_theory.specs.Runs.{Call, after}
-use Rattle.sail_theory.proofs.Fresh.{make-is}
-use Rattle.sail_theory.proofs.Runs.{run-is, run-sound}
-use Rattle.demands.specs.Replies.{reply, stood}
-use Rattle.demands.proofs.Replies.{run-says, run-stood}
+use Rattle.sail_theory.specs.CallRuns.{Call, after}
+use Rattle.sail_theory.proofs.calls.Make.{make-is}
+use Rattle.sail_theory.proofs.runs.AfterRun.{run-is, run-sound}
+use Rattle.sail_theory.specs.Replies.{reply, stood}
+use Rattle.sail_theory.proofs.runs.Replies.{run-says, run-stood}
 use Rattle.examples.specs.Lines.{Hold}
 use Rattle.examples.specs.Blank as blank
 use Rattle.examples.specs.Blank.{Lengths, zeros}
@@ -43,7 +43,8 @@ unfolding allServe blankEdges
 blank-served = refl
 
 blank-on-paper : Hold ofBlank.paper blankEdges
-unfolding Hold blankEdges ofBlank.paper validGeo sizesFit announceFault withdrawFault loadFault chunksFault properPrefix hopFine cut inputSaid firstOf firstFrom faultAt routeFault inOrder recordAt routesOf tabulate need any
+unfolding Hold blankEdges ofBlank.paper validGeo sizesFit announceFault withdrawFault loadFault chunksFault properPrefix hopFine cut inputSaid
+    firstOf firstFrom faultAt routeFault inOrder recordAt routesOf tabulate need any
 blank-on-paper = refl
 
 pub blank-hold : Hold blank.answer blankEdges
@@ -96,7 +97,8 @@ unfolding allServe runEdges serves validGeo sizesFit
 served = refl
 
 on-paper : Hold paper runEdges
-unfolding Hold runEdges paper stood reply inputSaid firstOf firstFrom faultAt routeFault inOrder properPrefix hopFine recordAt cut announceFault withdrawFault loadFault chunksFault routesOf tabulate need any insert remove
+unfolding Hold runEdges paper stood reply inputSaid firstOf firstFrom faultAt routeFault inOrder properPrefix hopFine recordAt cut announceFault
+    withdrawFault loadFault chunksFault routesOf tabulate need any insert remove
 on-paper = refl
 
 pub runs-hold : Hold answer runEdges

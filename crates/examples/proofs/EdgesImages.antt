@@ -1,7 +1,7 @@
 -- Images at the limits: every line is computed.
 use mathlib.Core.Path.{refl}
 use lib.Count.{ones}
-use Rattle.bits.specs.Bit.{packed}
+use Rattle.bits.specs.Bit.{packedBits}
 use Rattle.bits.specs.Slot.{cut}
 use Rattle.bits.specs.Search.{firstFrom, firstOf}
 use Rattle.bits.specs.Tab.{tabulate, every}
@@ -14,14 +14,16 @@ use Rattle.tree.specs.Node.{sound, tryBit, deepestOf, betterOf}
 use Rattle.tree.specs.Parts.{picked, gather}
 use Rattle.tree.specs.Image.{bitHop, setBit, word, kids, hopsOf, level, upTo, wordsFrom, words, imageBy}
 use Rattle.tree.specs.Image as ofImage
-use Rattle.tree.specs.Walk.{told, fetchedFrom, walkFrom, treeSaid}
+use Rattle.tree.specs.Walk.{treeHopSaid, fetchedFrom, walkFrom, treeSaid}
 use Rattle.tree_build.specs.Built.{madeOf, built}
 use Rattle.tree_same.specs.Order.{exts, ints}
 use Rattle.tree_check.specs.Answers.{tested}
-use Rattle.tree_check.specs.WellFormed.{used, ordered, allFrom, nodeOk, hopsOk, blankFrom, wellFormed}
+use Rattle.tree_check.specs.WellFormed.{nodesUsed, ordered, allFrom, nodeOk, hopsOk, blankFrom, wellFormed}
 use Rattle.examples.specs.Lines.{Hold}
 use Rattle.examples.specs.EdgesImages.{answer, edges}
 
 pub images-hold : Hold answer edges
-unfolding Hold edges answer ones treeSaid walkFrom sound tryBit deepestOf betterOf fetchedFrom told hopFine built madeOf inputSaid firstOf firstFrom faultAt routeFault inOrder properPrefix recordAt cut routesOf tabulate any cells.first picked gather kids level upTo count packed bitHop setBit word hopsOf wordsFrom words ofImage.hops imageBy tested wellFormed ordered used exts ints every allFrom nodeOk hopsOk blankFrom
+unfolding Hold edges answer ones treeSaid walkFrom sound tryBit deepestOf betterOf fetchedFrom treeHopSaid hopFine built madeOf inputSaid firstOf
+    firstFrom faultAt routeFault inOrder properPrefix recordAt cut routesOf tabulate any cells.first picked gather kids level upTo count packedBits
+    bitHop setBit word hopsOf wordsFrom words ofImage.hops imageBy tested wellFormed ordered nodesUsed exts ints every allFrom nodeOk hopsOk blankFrom
 images-hold = refl

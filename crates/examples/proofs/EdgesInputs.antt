@@ -12,7 +12,7 @@ use Rattle.bits.specs.Slot.{cut}
 use Rattle.bits.specs.Search.{firstFrom, firstOf}
 use Rattle.bits.specs.Tab.{tabulate}
 use Rattle.bits.specs.Count.{count}
-use Rattle.bits.proofs.Tests.{and-split, below?}
+use Rattle.bits.proofs.Bools.{and-split, below?}
 use Rattle.routes.specs.Record.{recordAt}
 use Rattle.routes.specs.Input.{properPrefix, hopFine, routeFault, inOrder, faultAt, inputSaid}
 use Rattle.routes.specs.Answers.{routeSaid}
@@ -109,7 +109,8 @@ unfolding allServe edges serves
 served = refl
 
 on-paper : Hold paper edges
-unfolding Hold edges paper inputSaid firstOf firstFrom faultAt routeFault inOrder properPrefix hopFine recordAt cut routeSaid runSaid placeOf tallyOf lengthsOf tabulate count
+unfolding Hold edges paper inputSaid firstOf firstFrom faultAt routeFault inOrder properPrefix hopFine recordAt cut routeSaid runSaid placeOf tallyOf
+    lengthsOf tabulate count
 on-paper = refl
 
 pub inputs-hold : Hold answer edges

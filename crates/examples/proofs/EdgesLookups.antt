@@ -11,13 +11,14 @@ use lib.ListN.{getD, length, length-replicate}
 use borrow.Author.Tests.{lt-ltb, le-ltb}
 use Rattle.bits.specs.Slot.{slot}
 use Rattle.bits.specs.Tab.{tabulate}
-use Rattle.bits.proofs.Tests.{below?}
+use Rattle.bits.proofs.Bools.{below?}
 use Rattle.bits.proofs.Tabs.{getD-tabulate, length-tabulate}
 use Rattle.routes.specs.Said.{Said}
 use Rattle.sail.specs.Geometry.{bits2, bits3, validGeo}
 use Rattle.sail.specs.Level.{View, whole, noChunks}
 use Rattle.sail.specs.Sizes.{sizesFit, sizesFault}
-use Rattle.sail.specs.Walk.{place, cell2, cell3, hopSaid, stepSaid, oneOf, walkSaid, foundSaid, lookupSaid}
+use Rattle.standing.specs.Served.{hopSaid}
+use Rattle.sail.specs.Walk.{cellPlace, cell2, cell3, stepSaid, oneOf, walkSaid, foundSaid, lookupSaid}
 use Rattle.sail.specs.declared.geometry.Geometry.{Geometry}
 use Rattle.examples.specs.Lines.{Hold}
 use Rattle.examples.specs.EdgesLookups.{Content, many2, many3, arrays, Asked, lookup, answer, edges}
@@ -43,10 +44,10 @@ cell-of n f q = go (below? q n)
 module _ (g : Geometry) (t u : View) (a : ℕ)
     (one : (q : ℕ) → t .first q ≡ u .first q) (two : (q : ℕ) → t .second q ≡ u .second q) (three : (q : ℕ) → t .third q ≡ u .third q) where
   same2 : cell2 g t a ≡ cell2 g u a
-  same2 = two _ ∙ ap (λ (v : ℕ). u .second (place (bits2 g) v (slot (g .p2) a))) (one (slot (g .p1) a))
+  same2 = two _ ∙ ap (λ (v : ℕ). u .second (cellPlace (bits2 g) v (slot (g .p2) a))) (one (slot (g .p1) a))
 
   same3 : cell3 g t a ≡ cell3 g u a
-  same3 = three _ ∙ ap (λ (v : ℕ). u .third (place (bits3 g) v a)) same2
+  same3 = three _ ∙ ap (λ (v : ℕ). u .third (cellPlace (bits3 g) v a)) same2
 
   walk-same : (opens2 opens3 : ℕ → Bool) → walkSaid g opens2 opens3 t a ≡ walkSaid g opens2 opens3 u a
   unfolding walkSaid
@@ -67,7 +68,8 @@ paper (lookup h a) = walkSaid (h .geometry) (oneOf (h .chunks2)) (oneOf (h .chun
 
 -- where the sizes are right
 abbrev fault : Content → ℕ
-fault h = cond (validGeo (h .geometry)) (cond (sizesFit (h .geometry) 0 (2 ^ h .geometry .p1) (many2 h) (many3 h) (h .chunks2) (h .chunks3) (2 ^ h .geometry .p1) (many2 h)) 0 2) 1
+fault h = cond (validGeo (h .geometry)) (cond (sizesFit (h .geometry) 0 (2 ^ h .geometry .p1) (many2 h) (many3 h) (h .chunks2) (h .chunks3)
+    (2 ^ h .geometry .p1) (many2 h)) 0 2) 1
 
 unfoldable serves : Asked → Bool
 serves (lookup h a) = eqb (fault h) 0

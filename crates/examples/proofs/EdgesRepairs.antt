@@ -12,8 +12,8 @@ use Rattle.routes.specs.declared.Route.{Route}
 use Rattle.standing.specs.Cells.{any, need}
 use Rattle.sail.specs.Geometry.{validGeo}
 use Rattle.sail.specs.Sizes.{sizesFit, sizesFault}
-use Rattle.sail_theory.specs.Calls.{Terms, termsOf, chunksFault, orSay}
-use Rattle.repair_theory.specs.Repair.{keptFrom, keptOf, looked, kept, repairSaid}
+use Rattle.sail_theory.specs.Calls.{termsOf, chunksFault, orSay}
+use Rattle.repair_theory.specs.Repair.{keptFrom, keptOf, looked, keptRoutes, repairSaid}
 use Rattle.repair_theory.proofs.Repairs.{repair-said}
 use Rattle.examples.specs.Lines.{Hold}
 use Rattle.examples.specs.Blank.{Lengths}
@@ -61,7 +61,7 @@ module _ (q : Asked) where
   terms-so = simp length-replicate
 
   agrees : answer q ≡ paper q
-  unfolding answer paper repairSaid kept looked found
+  unfolding answer paper repairSaid keptRoutes looked found
   agrees =
       ap alone (repair-said (counting (q .geometry) (q .count)) (found (q .list) (q .lent)))
       ∙ alone-or (sizesFault (q .geometry) (found (q .list) (q .lent))) _

@@ -2,7 +2,7 @@
 use mathlib.Core.Path.{_≡_, refl, _∙_, ap₂}
 use mathlib.Core.Bool.{Bool, true, _&&_}
 use mathlib.Core.List.{List, [], _∷_, map}
-use Rattle.bits.proofs.Tests.{and-split}
+use Rattle.bits.proofs.Bools.{and-split}
 use Rattle.routes.specs.Said.{Said}
 use Rattle.examples.specs.Lines.{Line, Hold}
 

@@ -11,7 +11,7 @@ use lib.ListN.{getD, length, replicate, length-replicate}
 use borrow.Author.Tests.{lt-leb, le-leb, le-ltb}
 use Rattle.bits.specs.Slot.{cut}
 use Rattle.bits.specs.Tab.{tabulate}
-use Rattle.bits.proofs.Tests.{below?}
+use Rattle.bits.proofs.Bools.{below?}
 use Rattle.bits.proofs.Tabs.{length-tabulate, getD-tabulate}
 use Rattle.routes.specs.Route.{Prefix, Fine, Good}
 use Rattle.routes.specs.Record.{recordAt, Records, written, noRoute}
@@ -20,7 +20,7 @@ use Rattle.routes.specs.Said.{accepted, refused, refusedAt}
 use Rattle.routes.specs.declared.Route.{Route}
 use Rattle.routes.specs.Cases.{WrongRoute, WrongRecord, RightRecord, Checked}
 use Rattle.routes.proofs.Meaning.{good-input}
-use Rattle.routes.proofs.Cases.{check-only}
+use Rattle.routes.proofs.Judged.{check-only}
 use Rattle.routes.proofs.Rows.{nth-good, length-written, record-written, routes-written, written-listed}
 use Rattle.standing.specs.Cells.{need}
 use Rattle.sail_theory.specs.Calls.{inputRoutes}

@@ -14,10 +14,10 @@ use Rattle.routes.specs.Input.{inputSaid}
 use Rattle.routes.specs.Record.{routesOf, GoodInput}
 use Rattle.routes.specs.Said.{accepted, refused, accepts}
 use Rattle.routes.proofs.Meaning.{input-good}
-use Rattle.sail.specs.Walk.{lookupSaid, saysFound}
-use Rattle.sail_theory.specs.Runs.{after}
-use Rattle.basic.specs.Maps.{mapPlace, bitFor}
-use Rattle.basic.specs.Calls.{saysBasicFound, saysBasicAnswer, basicSaid, basicMany}
+use Rattle.sail.specs.Walk.{lookupSaid, meansFound}
+use Rattle.sail_theory.specs.CallRuns.{after}
+use Rattle.basic.specs.Maps.{mapPlace, mapBitFor}
+use Rattle.basic.specs.Calls.{meansBasicFound, meansBasicAnswer, basicSaid, basicMany}
 use Rattle.basic.specs.Contract.{MeetsBasicLookup, MeetsBasicMany}
 use Rattle.basic.specs.Meaning.{Prepared, FirstSet, BasicLookup, BasicLookups}
 use Rattle.basic.specs.declared.check.BasicAnswer.the-variants as answer
@@ -25,8 +25,8 @@ use Rattle.basic.specs.declared.lookup.BasicFound.the-variants as found
 use Rattle.basic.proofs.Judged.{lookup-only, many-only}
 use Rattle.basic_build.specs.Built.{basicBuilt, BasicBuild}
 use Rattle.basic_build.specs.Contract.{MeetsBasicBuild}
-use Rattle.basic_build.proofs.Answers.{build-only}
-use Rattle.demands.specs.Served.{uncounted}
+use Rattle.basic_build.proofs.Judged.{build-only}
+use Rattle.standing.specs.Served.{uncounted}
 use Rattle.demands.proofs.Basic.{table-as-maps}
 use Rattle.routes.specs.ListA.{listA}
 use Rattle.examples.specs.Lines.{ip}
@@ -55,10 +55,11 @@ builds-A = build-only listA noBits noCells (accepted []) (BasicBuild.done prepar
 -- and say at every address what its table says
 pub same-maps : (a : ℕ) → a < 2 ^ 32 → uncounted (lookupSaid (after table arrays loadedA .table) (after table arrays loadedA .lent) a)
     ≡ basicSaid listA (basicBuilt listA noBits noCells .bits) (basicBuilt listA noBits noCells .cells) a
-same-maps a h = table-as-maps listA noBits noCells (ap accepts builds-A) a h (after table arrays loadedA .table) (after table arrays loadedA .lent) soundA same-routes
+same-maps a h = table-as-maps listA noBits noCells (ap accepts builds-A) a h (after table arrays loadedA .table)
+    (after table arrays loadedA .lent) soundA same-routes
 
 pub maps-57 : basicSaid listA (basicBuilt listA noBits noCells .bits) (basicBuilt listA noBits noCells .cells) (ip 10 1 2 200) ≡ accepted (57 ∷ [])
-unfolding saysFound
+unfolding meansFound
 maps-57 = sym (same-maps (ip 10 1 2 200) (omega arith)) ∙ ap uncounted (sym found-A)
 
 -- Damaged: the bit of level 0 is set, and its cell holds no hop.
@@ -72,7 +73,7 @@ no-input = let g = input-good [] 0 refl in record { records = g .1; whole = g .0
 prepared-none : Prepared [] oneBit noCells
 prepared-none = record { input = no-input; sizes = record { bytes = ap suc (length-replicate {A = ℕ} 16383 0); hops = length-replicate {A = ℕ} 131071 0 } }
 
-clear-above : every (λ k. not (bitFor oneBit 0 (suc k))) 16 ≡ true
+clear-above : every (λ k. not (mapBitFor oneBit 0 (suc k))) 16 ≡ true
 unfolding every mapPlace
 clear-above = refl
 
@@ -80,30 +81,31 @@ level-0 : FirstSet oneBit 0 0
 unfolding mapPlace
 level-0 = record { short = omega arith; set = refl; none-longer = λ k l u. above k l u }
   where
-    above : (k : ℕ) → 0 < k → k ≤ 16 → bitFor oneBit 0 k ≡ false
+    above : (k : ℕ) → 0 < k → k ≤ 16 → mapBitFor oneBit 0 k ≡ false
     above zero l u = absurd (omega arith)
-    above (suc k) l u = not-true _ (every-true (λ j. not (bitFor oneBit 0 (suc j))) 16 clear-above k (omega arith))
+    above (suc k) l u = not-true _ (every-true (λ j. not (mapBitFor oneBit 0 (suc j))) 16 clear-above k (omega arith))
 
 pub refused-maps : basicSaid [] oneBit noCells 0 ≡ refused 13
 unfolding mapPlace routesOf tabulate
-refused-maps = lookup-only [] oneBit noCells 0 (refused 13) (BasicLookup.broken prepared-none (λ r m l. absurd (List·Memᴰ·not-nil m)) 0 level-0 (λ l u. omega arith))
+refused-maps = lookup-only [] oneBit noCells 0 (refused 13)
+    (BasicLookup.broken prepared-none (λ r m l. absurd (List·Memᴰ·not-nil m)) 0 level-0 (λ l u. omega arith))
 
 -- One answer: outcomes that meet the statements.
 pub maps-A : MeetsBasicBuild listA noBits noCells answer.Done (basicBuilt listA noBits noCells .bits) (basicBuilt listA noBits noCells .cells)
-unfolding saysBasicAnswer
+unfolding meansBasicAnswer
 maps-A i = record { said = sym builds-A i; bits = basicBuilt listA noBits noCells .bits; cells = basicBuilt listA noBits noCells .cells }
 
 pub found-in-maps : MeetsBasicLookup listA (basicBuilt listA noBits noCells .bits) (basicBuilt listA noBits noCells .cells) (ip 10 1 2 200) (found.Hop 57)
-unfolding saysBasicFound
+unfolding meansBasicFound
 found-in-maps = sym maps-57
 
 pub broken-maps : MeetsBasicLookup [] oneBit noCells 0 (found.Refused 13)
-unfolding saysBasicFound
+unfolding meansBasicFound
 broken-maps = sym refused-maps
 
 many-none : basicMany [] oneBit noCells [] [] .said ≡ accepted []
 many-none = many-only [] oneBit noCells [] [] (accepted []) (BasicLookups.done prepared-none refl)
 
 pub many-in-maps : MeetsBasicMany [] oneBit noCells [] [] answer.Done (basicMany [] oneBit noCells [] [] .words)
-unfolding saysBasicAnswer
+unfolding meansBasicAnswer
 many-in-maps i = record { said = sym many-none i; words = basicMany [] oneBit noCells [] [] .words }

@@ -5,7 +5,7 @@ use lib.ListN.{getD}
 use native.Mathlib.Omega.{arith}
 use Rattle.sail.specs.Geometry.{standardGeo}
 use Rattle.sail_theory.specs.Alters.{Alters}
-use Rattle.sail_theory.proofs.Outside.{first-outside, second-outside, third-outside}
+use Rattle.sail_theory.proofs.frames.Outside.{first-outside, second-outside, third-outside}
 use Rattle.examples.specs.Lines.{ip}
 use Rattle.examples.proofs.TableA.{lentA, sound-A}
 use Rattle.examples.proofs.NotSound.{firstIs, secondIs, thirdIs}

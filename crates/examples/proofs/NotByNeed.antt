@@ -1,14 +1,14 @@
 -- What is not said by need. List A needs a chunk of either pool. Where one is lent, it is neither refused with 7 nor with 8 nor with anything
 -- else; where none is, it is not accepted, and the second pool speaks first.
 use mathlib.Core.Path.{refl}
-use mathlib.Core.Bool.{true, false≢true}
+use mathlib.Core.Bool.{false≢true}
 use mathlib.Core.List.{[]}
 use Prim.Native.Nat.{ℕ}
 use native.Mathlib.Omega.{arith}
 use Rattle.routes.specs.Said.{accepted, refused}
 use Rattle.sail.specs.Geometry.{standardGeo}
 use Rattle.sail_theory.specs.Calls.{Terms}
-use Rattle.sail_theory.specs.Wants.{ByNeed}
+use Rattle.sail_theory.specs.WantOfChunks.{ByNeed}
 use Rattle.examples.proofs.TableA.{routesA, need2, need3}
 
 abbrev terms : ℕ → ℕ → Terms

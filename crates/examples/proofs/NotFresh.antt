@@ -16,12 +16,13 @@ use Rattle.standing.specs.Cells.{any, first, best}
 use Rattle.sail.specs.Geometry.{standardGeo}
 use Rattle.sail.specs.Sizes.{Sized}
 use Rattle.sail.specs.Sound.{cellsRead}
-use Rattle.sail.specs.Walk.{hopSaid, lookupSaid}
+use Rattle.standing.specs.Served.{hopSaid}
+use Rattle.sail.specs.Walk.{lookupSaid}
 use Rattle.sail.proofs.Sounds.{sail-serves}
 use Rattle.sail_theory.specs.Calls.{out}
-use Rattle.sail_theory.specs.Runs.{AsFresh}
+use Rattle.sail_theory.specs.CallRuns.{AsFresh}
 use Rattle.sail.specs.Cases.{Lookup}
-use Rattle.demands.proofs.Lookups.{lookup-only}
+use Rattle.sail.proofs.Judged.{lookup-only}
 use Rattle.examples.specs.Lines.{ip}
 use Rattle.routes.specs.ListA.{listA}
 use Rattle.examples.proofs.TableA.{stateA, lentA, sound-A, standing-A}

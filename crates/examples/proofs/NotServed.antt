@@ -12,7 +12,7 @@ use Rattle.routes.specs.declared.Route.{Route}
 use Rattle.standing.specs.Cells.{first, Best, best}
 use Rattle.standing.proofs.Longest.{best-is}
 use Rattle.standing.proofs.Only.{best-only, covers-none}
-use Rattle.demands.specs.Served.{Served}
+use Rattle.standing.specs.Served.{Served}
 use Rattle.examples.specs.Lines.{ip}
 use Rattle.routes.specs.ListA.{listA}
 use Rattle.examples.proofs.TableA.{routesA, routes-good}

@@ -81,7 +81,8 @@ asks-best p i = ap (λ (rs : List Route). best rs p i) standing-A
 pub wrong-geometry : Sound (record { geometry = geo 16 27; count = 5 }) lentA → ⊥
 wrong-geometry s = omega (arith, s .sized .valid .p2-high)
 
-pub one-cell-more : Sound stateA (lent (lentA .list) (0 ∷ lentA .first) (lentA .second) (lentA .third) (lentA .own2) (lentA .own3) (lentA .long1) (lentA .long2)) → ⊥
+pub one-cell-more : Sound stateA (lent (lentA .list) (0 ∷ lentA .first) (lentA .second) (lentA .third) (lentA .own2) (lentA .own3) (lentA .long1)
+    (lentA .long2)) → ⊥
 one-cell-more s = omega (arith, s .sized .cells1, in-first)
 
 -- "A list is good when the route count is at most its room and that many records pass the input checks"

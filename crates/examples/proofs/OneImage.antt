@@ -22,8 +22,8 @@ use Rattle.tree.specs.Parts.{picked, gather}
 use Rattle.tree.specs.Image.{kids, level, upTo}
 use Rattle.tree_build.specs.Built.{madeOf, built}
 use Rattle.tree_same.specs.OneImage.{Builds, SameArrays}
-use Rattle.tree_change.specs.Changed.{route, imageWithdrawn}
-use Rattle.tree_runs.specs.Runs.{Call, announce, withdraw, done, after, worked}
+use Rattle.tree_change.specs.Changed.{unmarkedRoute, imageWithdrawn}
+use Rattle.tree_runs.specs.ImageRuns.{ImageCall, announce, withdraw, imageDone, imageAfter, imageHeldByCalls}
 use Rattle.demands.proofs.OneImage.{one-image-plain, image-run-refused, runs-one-image-worked}
 use Rattle.examples.specs.Lines.{ip}
 use Rattle.examples.specs.EdgesTreeChanges.{imageIn}
@@ -42,7 +42,8 @@ hs x = replicate 1 x
 
 -- 10.0.0.0/8 to 20, the same attached, and to 21
 three : Builds (one 0 20) (ws 0) (hs 0) 3 1 × Builds (one 1 20) (ws 7) (hs 7) 3 1 × Builds (one 0 21) (ws 8) (hs 8) 3 1
-unfolding built madeOf inputSaid firstOf firstFrom faultAt routeFault inOrder properPrefix hopFine recordAt cut routesOf tabulate any cells.first picked gather kids level upTo
+unfolding built madeOf inputSaid firstOf firstFrom faultAt routeFault inOrder properPrefix hopFine recordAt cut routesOf tabulate any cells.first
+    picked gather kids level upTo
 three = (record { said = refl }, record { said = refl }, record { said = refl })
 
 abbrev to : ℕ → List Route
@@ -78,11 +79,11 @@ hop-apart e =
     omega arith
 
 -- a withdrawal of length 33 is refused, and leaves both arrays
-long-refused : accepts (after (one 0 20) (ws 0) (hs 0) (withdraw 0 33 ∷ []) .said) ≡ false
-unfolding after done imageWithdrawn properPrefix
+long-refused : accepts (imageAfter (one 0 20) (ws 0) (hs 0) (withdraw 0 33 ∷ []) .said) ≡ false
+unfolding imageAfter imageDone imageWithdrawn properPrefix
 long-refused = refl
 
-pub refused-aside : SameArrays (after (one 0 20) (ws 0) (hs 0) (withdraw 0 33 ∷ [])) (after (one 0 20) (ws 0) (hs 0) [])
+pub refused-aside : SameArrays (imageAfter (one 0 20) (ws 0) (hs 0) (withdraw 0 33 ∷ [])) (imageAfter (one 0 20) (ws 0) (hs 0) [])
 refused-aside = image-run-refused (one 0 20) (ws 0) (hs 0) 3 1 (three .0) (withdraw 0 33) [] long-refused
 
 -- ---- an accepted call: list A, and 192.0.2.0/24 announced on its image, which is another image then
@@ -96,24 +97,24 @@ hs₆ = replicate 6 0
 builtA : Builds listA ws₃₉ hs₆ 7 5
 builtA = record { said = built-39 }
 
-abbrev more : List Call
+abbrev more : List ImageCall
 more = announce (ip 192 0 2 0) 24 3 ∷ []
 
-added : accepts (after listA ws₃₉ hs₆ more .said) ≡ true
-unfolding after done imageIn
+added : accepts (imageAfter listA ws₃₉ hs₆ more .said) ≡ true
+unfolding imageAfter imageDone imageIn
 added = ap accepts added-A
 
-one-more : worked listA ws₃₉ hs₆ more (keyOf (ip 192 0 2 0) 24) ≡ stood (route (ip 192 0 2 0) 24 3)
-unfolding worked
+one-more : imageHeldByCalls listA ws₃₉ hs₆ more (keyOf (ip 192 0 2 0) 24) ≡ stood (unmarkedRoute (ip 192 0 2 0) 24 3)
+unfolding imageHeldByCalls
 one-more = rw added refl
 
-none-before : worked listA ws₃₉ hs₆ [] (keyOf (ip 192 0 2 0) 24) ≡ absent
-unfolding worked routeAt listA routesOf recordAt tabulate
+none-before : imageHeldByCalls listA ws₃₉ hs₆ [] (keyOf (ip 192 0 2 0) 24) ≡ absent
+unfolding imageHeldByCalls routeAt listA routesOf recordAt tabulate
 none-before = refl
 
-pub more-apart : SameArrays (after listA ws₃₉ hs₆ more) (after listA ws₃₉ hs₆ []) → ⊥
+pub more-apart : SameArrays (imageAfter listA ws₃₉ hs₆ more) (imageAfter listA ws₃₉ hs₆ []) → ⊥
 more-apart e =
     let w = runs-one-image-worked listA ws₃₉ hs₆ 7 5 builtA listA ws₃₉ hs₆ 7 5 builtA more [] refl refl .0 e (keyOf (ip 192 0 2 0) 24) in
-    let q : stood (route (ip 192 0 2 0) 24 3) ≡ absent = sym one-more ∙ w ∙ none-before in
+    let q : stood (unmarkedRoute (ip 192 0 2 0) 24 3) ≡ absent = sym one-more ∙ w ∙ none-before in
     let z : _≡_ {A = ℕ} 0 1 = cc in
     omega arith

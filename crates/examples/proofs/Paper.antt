@@ -14,27 +14,51 @@ use Rattle.standing.specs.Standing.{remove}
 use Rattle.routes.specs.declared.Route.{Route}
 use Rattle.routes.proofs.Rows.{length-routes}
 use Rattle.counts.specs.Counts.{howMany}
-use Rattle.bits.proofs.Tests.{decided}
+use Rattle.bits.proofs.Bools.{decided}
 use Rattle.sail.specs.Geometry.{bits2}
 use Rattle.sail.specs.Lent.{Lent}
 use Rattle.sail.specs.Level.{Level, liveIn, entry, chunksOf, level1, level2}
 use Rattle.sail.specs.Sizes.{Sized}
 use Rattle.sail.specs.Sound.{Sound, standing, cellsRead, freshLent}
-use Rattle.sail.specs.Walk.{hopSaid, lookupSaid}
+use Rattle.standing.specs.Served.{hopSaid}
+use Rattle.sail.specs.Walk.{lookupSaid}
 use Rattle.sail.specs.declared.geometry.Geometry.{Geometry}
 use Rattle.sail.specs.declared.table.Table.{Table}
 use Rattle.sail.proofs.Sounds.{sail-serves}
 use Rattle.sail_theory.specs.Render.{shown}
-use Rattle.sail_theory.specs.Calls.{Owners, opened, settled, kept, ownersOf, noOwners, termsOf, announceSaid, withdrawSaid, loadSaid, inputRoutes, Out, leaving, adding, taking, cutRoute, cleared, told, announced, withdrawn, loaded, reported}
-use Rattle.sail_theory.specs.Runs.{Call, announce, withdraw, load, done, after, would}
+use Rattle.sail_theory.specs.Calls.{
+  Owners,
+  opened,
+  ownersAfter,
+  ownersKept,
+  ownersOf,
+  noOwners,
+  termsOf,
+  announceSaid,
+  withdrawSaid,
+  loadSaid,
+  inputRoutes,
+  Out,
+  leaving,
+  adding,
+  taking,
+  cutRoute,
+  cleared,
+  outWithFlag,
+  announced,
+  withdrawn,
+  loaded,
+  reported,
+}
+use Rattle.sail_theory.specs.CallRuns.{Call, announce, withdraw, load, done, after, routesAfter}
 use Rattle.sail_theory.specs.Cases.{Report}
-use Rattle.sail_theory.proofs.Only.{report-only}
-use Rattle.sail_theory.proofs.Fresh.{make-is}
-use Rattle.sail_theory.proofs.Pools.{shows-shown}
-use Rattle.sail_theory.proofs.Cleared.{telling-accepts}
-use Rattle.sail_theory.proofs.Runs.{run-is}
-use Rattle.demands.specs.Replies.{reply, stood}
-use Rattle.demands.proofs.Replies.{run-says, run-stood}
+use Rattle.sail_theory.proofs.calls.OneCase.{report-only}
+use Rattle.sail_theory.proofs.calls.Make.{make-is}
+use Rattle.sail_theory.proofs.places.Pools.{shows-shown}
+use Rattle.sail_theory.proofs.calls.Cleared.{telling-accepts}
+use Rattle.sail_theory.proofs.runs.AfterRun.{run-is}
+use Rattle.sail_theory.specs.Replies.{reply, stood}
+use Rattle.sail_theory.proofs.runs.Replies.{run-says, run-stood}
 
 pub record Paper : Type 0 where
   pub geometry : Geometry
@@ -71,12 +95,15 @@ module _ (t : Table) (l : Lent) (s : Sound t l) where
   lookup-on = sail-serves t l s
 
   pub report-on : reported t l ≡ reportOn (paperOf t l)
-  report-on = report-only t l _ (Report.counts s) ∙ ap (λ (n : ℕ). accepted (n ∷ need (standing t l) (t .geometry .p1) ∷ need (standing t l) (t .geometry .p2) ∷ [])) (sym (length-routes (l .list) (t .count)))
+  report-on = report-only t l _ (Report.counts s) ∙ ap
+      (λ (n : ℕ). accepted (n ∷ need (standing t l) (t .geometry .p1) ∷ need (standing t l) (t .geometry .p2) ∷ []))
+      (sym (length-routes (l .list) (t .count)))
 
   pub first-on : (q : ℕ) → q < 2 ^ t .geometry .p1 → getD (l .first) q 0 ≡ firstOn q (paperOf t l)
   first-on q h = shows-shown (standing t l) (level1 (t .geometry)) (chunksOf (l .own2)) (entry (l .first)) (s .serves .first) q h refl
 
-  pub second-on : (q : ℕ) → q < length (l .own2) * 2 ^ bits2 (t .geometry) → liveIn (entry (l .own2)) (bits2 (t .geometry)) q ≡ true → getD (l .second) q 0 ≡ secondOn q (paperOf t l)
+  pub second-on : (q : ℕ) → q < length (l .own2) * 2 ^ bits2 (t .geometry) → liveIn (entry (l .own2)) (bits2 (t .geometry)) q ≡ true → getD
+      (l .second) q 0 ≡ secondOn q (paperOf t l)
   second-on q h e = shows-shown (standing t l) (level2 (t .geometry) (chunksOf (l .own2))) (chunksOf (l .own3)) (entry (l .second)) (s .serves .second) q h e
 
   pub count1-on : (q : ℕ) → q < 2 ^ t .geometry .p1 → getD (l .long1) q 0 ≡ count1On q (paperOf t l)
@@ -95,42 +122,47 @@ module _ (t : Table) (l : Lent) (s : Sound t l) where
 -- the owners after an accepted call, where the routes rs stand with the owners o; `none` are the owners of a fresh table
 abbrev owned : Geometry → Owners → Call → List Route → Owners → Owners
 owned g none (announce r) rs o = opened g o (cutRoute r)
-owned g none (withdraw a len) rs o = kept g (remove (keyOf (cut len a) len) rs) o
-owned g none (load input) rs o = settled g none (inputRoutes input)
+owned g none (withdraw a len) rs o = ownersKept g (remove (keyOf (cut len a) len) rs) o
+owned g none (load input) rs o = ownersAfter g none (inputRoutes input)
 
 -- a call leaves these owners where it is accepted, and else those that were
-leaves-owners : (s : Said) (t : Table) (l : Lent) (rs : List Route) (o : Owners) → ownersOf (leaving s t l rs o .lent) ≡ cond (accepts (leaving s t l rs o .said)) o (ownersOf l)
+leaves-owners : (s : Said) (t : Table) (l : Lent) (rs : List Route) (o : Owners) → ownersOf (leaving s t l rs o .lent) ≡ cond
+    (accepts (leaving s t l rs o .said)) o (ownersOf l)
 leaves-owners (accepted vs) t l rs o = refl
 leaves-owners (refused n) t l rs o = refl
 leaves-owners (refusedAt n k) t l rs o = refl
 
 -- whether bits were cleared is told beside it
 told-owners : (b : Bool) (s : Said) (t : Table) (l : Lent) (rs : List Route) (o : Owners)
-    → ownersOf (leaving s t l rs o .lent) ≡ cond (accepts (told b (leaving s t l rs o) .said)) o (ownersOf l)
+    → ownersOf (leaving s t l rs o .lent) ≡ cond (accepts (outWithFlag b (leaving s t l rs o) .said)) o (ownersOf l)
 told-owners b s t l rs o = leaves-owners s t l rs o ∙ ap (λ (c : Bool). cond c o (ownersOf l)) (sym (telling-accepts b (leaving s t l rs o .said)))
 
-done-owners : (t : Table) (l : Lent) (c : Call) → ownersOf (done t l c .lent) ≡ cond (accepts (done t l c .said)) (owned (t .geometry) (noOwners l) c (standing t l) (ownersOf l)) (ownersOf l)
+done-owners : (t : Table) (l : Lent) (c : Call) → ownersOf (done t l c .lent) ≡ cond (accepts (done t l c .said))
+    (owned (t .geometry) (noOwners l) c (standing t l) (ownersOf l)) (ownersOf l)
 unfolding done announced adding withdrawn taking loaded
 done-owners t l (announce r) =
-    told-owners (cleared (r .len) (r .addr)) (announceSaid t l (cutRoute r)) t l (would (announce r) (standing t l))
+    told-owners (cleared (r .len) (r .addr)) (announceSaid t l (cutRoute r)) t l (routesAfter (announce r) (standing t l))
     (owned (t .geometry) (noOwners l) (announce r) (standing t l) (ownersOf l))
 done-owners t l (withdraw a len) =
-    told-owners (cleared len a) (withdrawSaid t l (cut len a) len) t l (would (withdraw a len) (standing t l))
+    told-owners (cleared len a) (withdrawSaid t l (cut len a) len) t l (routesAfter (withdraw a len) (standing t l))
     (owned (t .geometry) (noOwners l) (withdraw a len) (standing t l) (ownersOf l))
-done-owners t l (load input) = leaves-owners (loadSaid t l input) t l (would (load input) (standing t l)) (owned (t .geometry) (noOwners l) (load input) (standing t l) (ownersOf l))
+done-owners t l (load input) = leaves-owners (loadSaid t l input) t l (routesAfter (load input) (standing t l))
+    (owned (t .geometry) (noOwners l) (load input) (standing t l) (ownersOf l))
 
 module _ (t : Table) (l : Lent) (z : Sized (t .geometry) l) where
   -- the owners after a run
   unfoldable pub ownedBy : List Call → Owners
   ownedBy [] = noOwners l
-  ownedBy (c ∷ cs) = cond (accepts (reply (termsOf t l) (stood (termsOf t l) cs) c)) (owned (t .geometry) (noOwners l) c (stood (termsOf t l) cs) (ownedBy cs)) (ownedBy cs)
+  ownedBy (c ∷ cs) = cond (accepts (reply (termsOf t l) (stood (termsOf t l) cs) c))
+      (owned (t .geometry) (noOwners l) c (stood (termsOf t l) cs) (ownedBy cs)) (ownedBy cs)
 
   fresh-owners : ownersOf (after t l [] .lent) ≡ noOwners l
   unfolding after freshLent
   fresh-owners = ap (λ (o : Out). ownersOf (o .lent)) (make-is t l z)
 
   next-owners : (c : Call) (cs : List Call) → ownersOf (after t l (c ∷ cs) .lent)
-      ≡ cond (accepts (after t l (c ∷ cs) .said)) (owned (after t l cs .table .geometry) (noOwners (after t l cs .lent)) c (standing (after t l cs .table) (after t l cs .lent)) (ownersOf (after t l cs .lent))) (ownersOf (after t l cs .lent))
+      ≡ cond (accepts (after t l (c ∷ cs) .said)) (owned (after t l cs .table .geometry) (noOwners (after t l cs .lent)) c
+      (standing (after t l cs .table) (after t l cs .lent)) (ownersOf (after t l cs .lent))) (ownersOf (after t l cs .lent))
   unfolding after
   next-owners c cs = done-owners (after t l cs .table) (after t l cs .lent) c
 

@@ -15,17 +15,17 @@ use Rattle.sail.specs.Sizes.{sizesFault}
 use Rattle.sail.specs.Sound.{freshTable}
 use Rattle.sail.specs.declared.table.Table.{Table}
 use Rattle.sail_theory.specs.Calls.{out, loaded}
-use Rattle.sail_theory.specs.Runs.{done, after}
-use Rattle.sail_theory.proofs.Runs.{run-is}
+use Rattle.sail_theory.specs.CallRuns.{done, after}
+use Rattle.sail_theory.proofs.runs.AfterRun.{run-is}
 use Rattle.repair_theory.specs.Repair.{repairSaid, repaired}
 use Rattle.repair_theory.specs.Leaves.{untouched, Spared}
 use Rattle.repair_theory.proofs.Differs.{differ-same, differ-one}
 use Rattle.repair_theory.proofs.Repairs.{repair-said, repair-undoes, repair-fresh}
-use Rattle.repair.specs.Answers.{saysRepaired}
+use Rattle.repair.specs.Answers.{meansRepaired}
 use Rattle.repair.specs.Contract.{MeetsRepair}
 use Rattle.repair.specs.declared.repair.Repaired.{Repaired}
 use Rattle.repair.specs.declared.repair.Repaired.the-variants.{Done}
-use Rattle.repair.specs.declared.repair.Changed.{Changed}
+use Rattle.repair.specs.declared.repair.RepairedTable.{RepairedTable}
 use Rattle.demands.proofs.Repairs.{one-answer-repair}
 use Rattle.examples.specs.Blank.{geo}
 use Rattle.examples.specs.Starred.{table, arrays, bare, loadedA, answer, starred}
@@ -109,11 +109,11 @@ repair-own q x =
 
 -- One answer: the table as it is, the one with a cell made another, and a refusal.
 pub repaired-A : MeetsRepair u v (record { answer = Done 0 0 0 0; table = u }) v
-unfolding saysRepaired
+unfolding meansRepaired
 repaired-A = sym repair-A
 
 pub repaired-first : (q x : ℕ) → q < 65536 → (x ≡ getD (v .first) q 0 → ⊥) → MeetsRepair u (firstSet q x) (record { answer = Done 0 1 0 0; table = u }) v
-unfolding saysRepaired
+unfolding meansRepaired
 repaired-first q x h n = sym (repair-first q x h n)
 
 pub refused-repair : accepts (repaired (freshTable (geo 16 27)) (bare (geo 16 27)) .said) ≡ false
@@ -122,7 +122,7 @@ refused-repair = ap accepts (repair-said (freshTable (geo 16 27)) (bare (geo 16 
 
 -- What the statement refuses: a repair that leaves the cell as it found it, one that does not count it, and one that tells it of the second cells
 module _ (q x : ℕ) (h : q < 65536) (n : x ≡ getD (v .first) q 0 → ⊥) where
-  pub not-left : (r : Changed) → MeetsRepair u (firstSet q x) r (firstSet q x) → ⊥
+  pub not-left : (r : RepairedTable) → MeetsRepair u (firstSet q x) r (firstSet q x) → ⊥
   not-left r m = n (same (one-answer-repair u (firstSet q x) r _ (firstSet q x) v m (repaired-first q x h n) .1))
     where
       same : firstSet q x ≡ v → x ≡ getD (v .first) q 0
@@ -131,13 +131,13 @@ module _ (q x : ℕ) (h : q < 65536) (n : x ≡ getD (v .first) q 0 → ⊥) whe
   pub not-uncounted : MeetsRepair u (firstSet q x) (record { answer = Done 0 0 0 0; table = u }) v → ⊥
   not-uncounted m =
       let e : _≡_ {A = Repaired} (Done 0 0 0 0) (Done 0 1 0 0)
-      = ap (λ (r : Changed). r .answer) (one-answer-repair u (firstSet q x) _ _ v v m (repaired-first q x h n) .0) in
+      = ap (λ (r : RepairedTable). r .answer) (one-answer-repair u (firstSet q x) _ _ v v m (repaired-first q x h n) .0) in
       let z : _≡_ {A = ℕ} 0 1 = cc in
       omega arith
 
   pub not-second : MeetsRepair u (firstSet q x) (record { answer = Done 0 0 1 0; table = u }) v → ⊥
   not-second m =
       let e : _≡_ {A = Repaired} (Done 0 0 1 0) (Done 0 1 0 0)
-      = ap (λ (r : Changed). r .answer) (one-answer-repair u (firstSet q x) _ _ v v m (repaired-first q x h n) .0) in
+      = ap (λ (r : RepairedTable). r .answer) (one-answer-repair u (firstSet q x) _ _ v v m (repaired-first q x h n) .0) in
       let z : _≡_ {A = ℕ} 0 1 = cc in
       omega arith

@@ -1,5 +1,5 @@
 -- The starred examples hold: the definitions give what the documents say. What is asked of a run is worked out on paper, and the rest is
--- computed. Assumes nothing.
+-- computed.
 use mathlib.Core.Path.{_≡_, refl, _∙_, ap}
 use mathlib.Core.Bool.{Bool, true, false, cond, _&&_}
 use mathlib.Core.List.{List, [], _∷_}
@@ -13,7 +13,7 @@ use Rattle.bits.specs.Slot.{cut}
 use Rattle.bits.specs.Search.{firstFrom, firstOf}
 use Rattle.bits.specs.Tab.{tabulate}
 use Rattle.bits.specs.Count.{count}
-use Rattle.bits.proofs.Tests.{and-split}
+use Rattle.bits.proofs.Bools.{and-split}
 use Rattle.standing.specs.Cells.{any, best, need}
 use Rattle.standing.specs.Cells as cells
 use Rattle.routes.specs.Record.{recordAt, routesOf, noRoute, routesIn}
@@ -26,30 +26,86 @@ use Rattle.sail.specs.Geometry.{standardGeo, bits2, bits3, validGeo}
 use Rattle.sail.specs.Level.{chunkFor, liveIn, entry}
 use Rattle.sail.specs.Lent.{Lent}
 use Rattle.sail.specs.Sizes.{sizesFit, sizesFault, Sized}
-use Rattle.sail.specs.Walk.{hopSaid}
+use Rattle.standing.specs.Served.{hopSaid}
 use Rattle.sail.specs.declared.geometry.Geometry.{Geometry}
 use Rattle.sail.specs.declared.table.Table.{Table}
 use Rattle.sail_theory.specs.Render.{shown}
-use Rattle.sail_theory.specs.Calls.{Terms, termsOf, grant, openAt, settled, keep, chunksFault, announceFault, withdrawFault, loadFault, orSay, makeSaid, Out}
-use Rattle.sail_theory.specs.Runs.{Call, after}
-use Rattle.sail_theory.proofs.Fresh.{make-is}
-use Rattle.sail_theory.proofs.Runs.{run-is, run-sound}
-use Rattle.bits.specs.Bit.{packed}
+use Rattle.sail_theory.specs.Calls.{
+  Terms,
+  termsOf,
+  grant,
+  openAt,
+  ownersAfter,
+  keep,
+  chunksFault,
+  announceFault,
+  withdrawFault,
+  loadFault,
+  orSay,
+  makeSaid,
+  Out,
+}
+use Rattle.sail_theory.specs.CallRuns.{Call, after}
+use Rattle.sail_theory.proofs.calls.Make.{make-is}
+use Rattle.sail_theory.proofs.runs.AfterRun.{run-is, run-sound}
+use Rattle.bits.specs.Bit.{packedBits}
 use Rattle.tree.specs.Parts.{picked, gather}
 use Rattle.tree.specs.Image.{bitHop, setBit, word, kids, hopsOf, level, upTo, wordsFrom, words, imageBy}
 use Rattle.counts.specs.Counts.{howMany}
 use Rattle.tree.specs.Image as ofImage
 use Rattle.tree.specs.Reads.{treeReads}
-use Rattle.tree.specs.Walk.{told}
+use Rattle.tree.specs.Walk.{treeHopSaid}
 use Rattle.tree_build.specs.Built.{madeOf, built}
 use Rattle.tree_build.proofs.Serves.{built-serves}
-use Rattle.demands.specs.Replies.{reply, stood}
-use Rattle.demands.proofs.Replies.{run-says, run-stood}
+use Rattle.sail_theory.specs.Replies.{reply, stood}
+use Rattle.sail_theory.proofs.runs.Replies.{run-says, run-stood}
 use Rattle.routes.specs.ListA.{listA}
-use Rattle.examples.specs.Starred.{table, arrays, bare, image, Asked, last, lookup, report, listed, first, second, owner2, owner3, count1, count2, make, input, build, lastNode, hops, tree, answer, starred}
+use Rattle.examples.specs.Starred.{
+  table,
+  arrays,
+  bare,
+  image,
+  Asked,
+  last,
+  lookup,
+  report,
+  listed,
+  first,
+  second,
+  owner2,
+  owner3,
+  count1,
+  count2,
+  make,
+  input,
+  build,
+  lastNode,
+  hops,
+  tree,
+  answer,
+  starred,
+}
 use Rattle.examples.specs.Lines.{Hold}
 use Rattle.examples.proofs.Lines.{allServe, lines-hold}
-use Rattle.examples.proofs.Paper.{Paper, paperOf, lookupOn, reportOn, firstOn, secondOn, count1On, count2On, lookup-on, report-on, first-on, second-on, count1-on, count2-on, ownedBy, onPaper, run-paper}
+use Rattle.examples.proofs.Paper.{
+  Paper,
+  paperOf,
+  lookupOn,
+  reportOn,
+  firstOn,
+  secondOn,
+  count1On,
+  count2On,
+  lookup-on,
+  report-on,
+  first-on,
+  second-on,
+  count1-on,
+  count2-on,
+  ownedBy,
+  onPaper,
+  run-paper,
+}
 
 -- what is lent has the right sizes
 pub sized : Sized (table .geometry) arrays
@@ -148,7 +204,8 @@ module _ (cs : List Call) where
       let o : l .own2 ≡ page cs .owners .own2 = ap (λ (p : Paper). p .owners .own2) asPaper in
       let m : length (l .own2) ≡ 1 = run-is table arrays sized cs .size .chunks2 in
       let s = and-split (ltb q 256) (liveIn (entry (page cs .owners .own2)) 8 q) e in
-      ap (λ (v : ℕ). accepted (v ∷ [])) (second-on t l (run-sound table arrays sized cs) q (rw (n, m) (ltb-true q 256 (s .0))) (rw (n, o) (s .1)) ∙ ap (secondOn q) asPaper)
+      ap (λ (v : ℕ). accepted (v ∷ [])) (second-on t l (run-sound table arrays sized cs) q (rw (n, m) (ltb-true q 256 (s .0))) (rw (n, o) (s .1))
+      ∙ ap (secondOn q) asPaper)
 
   owner2-agrees : (c : ℕ) → answer (owner2 cs c) ≡ paper (owner2 cs c)
   unfolding answer paper
@@ -179,7 +236,8 @@ last-agrees (c ∷ cs) = run-says table arrays sized c cs ∙ ap (λ (rs : List 
 -- bare arrays have the right sizes in every geometry that is within the limits
 make-agrees : (g : Geometry) → answer (make g) ≡ paper (make g)
 unfolding answer paper makeSaid sizesFault sizesFit bare
-make-agrees g = rw (length-replicate {A = ℕ} (2 ^ g .p1) 0, eq-eqb (2 ^ g .p1) (2 ^ g .p1) refl, zero-mul (2 ^ bits2 g), zero-mul (2 ^ bits3 g)) (go (validGeo g))
+make-agrees g = rw (length-replicate {A = ℕ} (2 ^ g .p1) 0, eq-eqb (2 ^ g .p1) (2 ^ g .p1) refl, zero-mul (2 ^ bits2 g), zero-mul (2 ^ bits3 g))
+    (go (validGeo g))
   where
     go : (b : Bool) → orSay (cond b 0 1) (accepted []) ≡ cond b (accepted []) (refused 1)
     go true = refl
@@ -187,11 +245,12 @@ make-agrees g = rw (length-replicate {A = ℕ} (2 ^ g .p1) 0, eq-eqb (2 ^ g .p1)
 
 -- the build of list A is accepted
 built-A : image .said ≡ accepted (7 ∷ 5 ∷ [])
-unfolding image built madeOf listA inputSaid firstOf firstFrom faultAt routeFault inOrder properPrefix hopFine recordAt cut routesOf tabulate any cells.first picked gather kids level upTo
+unfolding image built madeOf listA inputSaid firstOf firstFrom faultAt routeFault inOrder properPrefix hopFine recordAt cut routesOf tabulate any
+    cells.first picked gather kids level upTo
 built-A = refl
 
 tree-agrees : (a : ℕ) → ltb a (2 ^ 32) ≡ true → answer (tree a) ≡ paper (tree a)
-unfolding answer paper image told hopSaid
+unfolding answer paper image treeHopSaid hopSaid
 tree-agrees a e = built-serves listA (replicate 21 0) (replicate 5 0) (7 ∷ 5 ∷ []) a built-A (ltb-true a (2 ^ 32) e)
 
 agrees : (q : Asked) → serves q ≡ true → answer q ≡ paper q
@@ -214,11 +273,15 @@ agrees hops e = refl
 agrees (tree a) e = tree-agrees a e
 
 serve-all : allServe answer paper serves agrees starred ≡ true
-unfolding allServe serves starred onPaper ownedBy stood reply inputSaid listA firstOf firstFrom faultAt routeFault inOrder properPrefix hopFine recordAt cut announceFault loadFault chunksFault arrays table routesOf tabulate need any insert settled openAt grant chunkFor
+unfolding allServe serves starred onPaper ownedBy stood reply inputSaid listA firstOf firstFrom faultAt routeFault inOrder properPrefix hopFine
+    recordAt cut announceFault loadFault chunksFault arrays table routesOf tabulate need any insert ownersAfter openAt grant chunkFor
 serve-all = refl
 
 on-paper : Hold paper starred
-unfolding Hold starred paper onPaper ownedBy stood reply inputSaid listA firstOf firstFrom faultAt routeFault inOrder properPrefix hopFine recordAt cut announceFault withdrawFault loadFault chunksFault arrays table routesOf tabulate need any howMany best cells.first insert remove settled openAt grant keep chunkFor shown hopSaid validGeo image built madeOf count packed picked gather bitHop setBit word kids hopsOf level upTo wordsFrom words ofImage.hops imageBy
+unfolding Hold starred paper onPaper ownedBy stood reply inputSaid listA firstOf firstFrom faultAt routeFault inOrder properPrefix hopFine recordAt
+    cut announceFault withdrawFault loadFault chunksFault arrays table routesOf tabulate need any howMany best cells.first insert remove ownersAfter
+    openAt grant keep chunkFor shown hopSaid validGeo image built madeOf count packedBits picked gather bitHop setBit word kids hopsOf level upTo
+    wordsFrom words ofImage.hops imageBy
 on-paper = refl
 
 pub starred-hold : Hold answer starred

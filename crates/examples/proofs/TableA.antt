@@ -22,9 +22,9 @@ use Rattle.sail.specs.Sizes.{Sized}
 use Rattle.sail.specs.Sound.{Sound, standing, freshTable}
 use Rattle.sail.specs.declared.table.Table.{Table}
 use Rattle.sail_theory.specs.Render.{rendered}
-use Rattle.sail_theory.specs.Calls.{Owners, grant, openAt, settled, noOwners, stateOf, lentOf}
-use Rattle.sail_theory.specs.Facts.{Loadable, Holds}
-use Rattle.sail_theory.proofs.Loads.{loadable-holds}
+use Rattle.sail_theory.specs.Calls.{Owners, grant, openAt, ownersAfter, noOwners, stateOf, lentOf}
+use Rattle.sail_theory.specs.Facts.{Loadable, TableHolds}
+use Rattle.sail_theory.proofs.calls.Load.{loadable-holds}
 use Rattle.routes.specs.ListA.{listA}
 
 pub goodA : inputSaid listA ≡ accepted (5 ∷ [])
@@ -80,14 +80,15 @@ loadable : Loadable (freshTable standardGeo) blank routesA
 unfolding blank listA routesOf tabulate
 loadable = record { sized = blank-sized; good = routes-good; roomy = omega arith; enough2 = omega (arith, need2); enough3 = omega (arith, need3) }
 
-settled-A : settled standardGeo (noOwners blank) routesA ≡ ownersA
-unfolding blank listA routesOf tabulate recordAt settled openAt grant chunkFor firstOf firstFrom
+settled-A : ownersAfter standardGeo (noOwners blank) routesA ≡ ownersA
+unfolding blank listA routesOf tabulate recordAt ownersAfter openAt grant chunkFor firstOf firstFrom
 settled-A = refl
 
 abbrev loadedState : Table
 loadedState = stateOf (freshTable standardGeo) routesA
 
-holds : Holds (freshTable standardGeo) blank routesA loadedState (lentOf (freshTable standardGeo) blank routesA (settled standardGeo (noOwners blank) routesA))
+holds : TableHolds (freshTable standardGeo) blank routesA loadedState
+    (lentOf (freshTable standardGeo) blank routesA (ownersAfter standardGeo (noOwners blank) routesA))
 holds = loadable-holds (freshTable standardGeo) blank routesA loadable
 
 pub sound-A : Sound stateA lentA

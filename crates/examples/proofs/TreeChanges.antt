@@ -4,7 +4,7 @@ use mathlib.Core.Path.{_≡_, refl, sym, _∙_, ap, ap₂, subst}
 use mathlib.Core.Logic.{_⊎_, inl, inr}
 use mathlib.Core.Bool.{true, false}
 use mathlib.Core.List.{List, [], _∷_, map}
-use Prim.Native.Nat.{ℕ, _+_, _*_, _/_, _^_, _≤_, _<_}
+use Prim.Native.Nat.{ℕ, _+_, _/_, _^_, _≤_, _<_}
 use native.Mathlib.Omega.{arith}
 use lib.Dec.{ltb}
 use lib.ListN.{getD, length, replicate, length-replicate, length-map, List·getD-map, List·getD-eq-default}
@@ -14,7 +14,7 @@ use Rattle.bits.specs.Search.{firstFrom, firstOf}
 use Rattle.bits.specs.Slot.{cut}
 use Rattle.bits.specs.Tab.{tabulate, every}
 use Rattle.bits.proofs.Tabs.{every-true, getD-tabulate, length-tabulate}
-use Rattle.bits.proofs.Tests.{below?, untrue}
+use Rattle.bits.proofs.Bools.{below?, untrue}
 use Rattle.routes.specs.Input.{properPrefix, hopFine, routeFault, inOrder, faultAt, inputSaid}
 use Rattle.routes.specs.ListA.{listA}
 use Rattle.routes.specs.Record.{recordAt, Records, routesOf, routesIn, noRoute}
@@ -22,7 +22,7 @@ use Rattle.routes.specs.Route.{key, keyOf, plain, Good}
 use Rattle.routes.specs.Said.{Said, accepted, refused, accepts}
 use Rattle.routes.specs.declared.Route.{Route}
 use Rattle.routes.specs.Cases.{Passes}
-use Rattle.routes.proofs.Cases.{good-whole}
+use Rattle.routes.proofs.Judged.{good-whole}
 use Rattle.routes.proofs.Meaning.{input-checked}
 use Rattle.routes.proofs.Rows.{length-routes, records-good, listed-nth}
 use Rattle.standing.specs.Cells.{any}
@@ -35,39 +35,40 @@ use Rattle.tree.specs.Image.{nodeStands, hopFor, nodeNeed, bitHop, setBit, word
 use Rattle.tree.specs.Parts.{picked, gather}
 use Rattle.tree.proofs.Lies.{any-is}
 use Rattle.tree.proofs.Needs.{hops-need, nodes-most}
-use Rattle.bits.specs.Bit.{packed}
-use Rattle.tree_build.specs.Built.{Out, madeOf, built}
+use Rattle.bits.specs.Bit.{packedBits}
+use Rattle.tree_build.specs.Built.{ImageOut, madeOf, built}
 use Rattle.tree_build.proofs.Serves.{built-accepts}
 use Rattle.tree_same.specs.Listed.{routesHeld}
 use Rattle.tree_same.specs.Order.{exts}
 use Rattle.tree_same.proofs.Plain.{plain-good}
 use Rattle.tree_same.proofs.Same.{image-held}
 use Rattle.tree_hold.proofs.Undone.{image-sizes}
-use Rattle.tree_check.specs.Answers.{saysTested, tested}
+use Rattle.tree_check.specs.Answers.{meansTested, tested}
 use Rattle.tree_check.specs.Contract.{MeetsTreeTest}
-use Rattle.tree_check.specs.WellFormed.{used, ordered, wellFormed}
+use Rattle.tree_check.specs.WellFormed.{nodesUsed, ordered, wellFormed}
 use Rattle.tree_check.specs.declared.Tested.the-variants as ofTest
 use Rattle.tree_check.proofs.AsBuilt.{test-as-build}
 use Rattle.tree_check.proofs.Exact.{built-passes}
-use Rattle.tree_change.specs.Cases.{Asked, routesWith, Announcing}
-use Rattle.tree_change.specs.Changed.{route, saysAnnounced, saysWithdrawn, imageAnnounced, imageWithdrawn}
+use Rattle.tree_change.specs.Cases.{ImageAsked, routesWith, Announcing}
+use Rattle.tree_change.specs.Changed.{unmarkedRoute, meansTreeAnnounced, meansTreeWithdrawn, imageAnnounced, imageWithdrawn}
 use Rattle.tree_change.specs.Contract.{MeetsTreeAnnounce, MeetsTreeWithdraw}
-use Rattle.tree_change.specs.declared.Announced.the-variants as ofAnnounce
-use Rattle.tree_change.specs.declared.Withdrawn.the-variants as ofWithdraw
-use Rattle.tree_change.proofs.Answers.{is-fine}
+use Rattle.tree_change.specs.declared.TreeAnnounced.the-variants as ofAnnounce
+use Rattle.tree_change.specs.declared.TreeWithdrawn.the-variants as ofWithdraw
+use Rattle.tree_change.proofs.ChangeReturns.{is-fine}
 use Rattle.tree_change.proofs.Cases.{case-announced}
-use Rattle.demands.specs.Images.{Narrow}
+use Rattle.tree_check.specs.Cases.{Narrow}
 use Rattle.tree_build.specs.Cases.{Build}
-use Rattle.demands.proofs.Builds.{build-only}
+use Rattle.tree_build.proofs.Judged.{build-only}
 use Rattle.examples.specs.Lines.{ip, Line, _gives_, Hold}
 use Rattle.examples.specs.EdgesInputs.{many}
 use Rattle.examples.specs.EdgesTreeChanges as changes
-use Rattle.examples.specs.EdgesTreeChanges.{put, take, changed, imageIn, answer, edges}
+use Rattle.examples.specs.EdgesTreeChanges.{take, changed, imageIn, answer, edges}
 use Rattle.examples.proofs.EdgesTreeChanges.{tree-changes-hold}
 use Rattle.examples.proofs.Many.{nth, many-good, many-routes}
 
 -- a line of the table of changes
-line : (k : ℕ) → answer (getD edges k (changes.any [] [] (take 0 0) gives accepted []) .asked) ≡ getD (map (λ (x : Line changes.Asked). x .expected) edges) k (answer (changes.any [] [] (take 0 0)))
+line : (k : ℕ) → answer (getD edges k (changes.any [] [] (take 0 0) gives accepted []) .asked) ≡ getD
+    (map (λ (x : Line changes.Asked). x .expected) edges) k (answer (changes.any [] [] (take 0 0)))
 unfolding Hold
 line k =
     sym (List·getD-map (λ (x : Line changes.Asked). answer (x .asked)) edges k (changes.any [] [] (take 0 0) gives accepted []))
@@ -81,15 +82,18 @@ abbrev hs : List ℕ
 hs = imageIn listA 39 6 .hops
 
 pub built-39 : built listA (replicate 39 0) (replicate 6 0) .said ≡ accepted (7 ∷ 5 ∷ [])
-unfolding listA built madeOf inputSaid firstOf firstFrom faultAt routeFault inOrder properPrefix hopFine recordAt cut routesOf tabulate any cells.first picked gather kids level upTo
+unfolding listA built madeOf inputSaid firstOf firstFrom faultAt routeFault inOrder properPrefix hopFine recordAt cut routesOf tabulate any
+    cells.first picked gather kids level upTo
 built-39 = refl
 
 low-words : every (λ j. ltb (getD ws j 0) (2 ^ 32)) 39 ≡ true
-unfolding every imageIn listA built madeOf inputSaid firstOf firstFrom faultAt routeFault inOrder properPrefix hopFine recordAt cut routesOf tabulate any cells.first picked gather kids level upTo count packed bitHop setBit word hopsOf wordsFrom words imageBy
+unfolding every imageIn listA built madeOf inputSaid firstOf firstFrom faultAt routeFault inOrder properPrefix hopFine recordAt cut routesOf tabulate
+    any cells.first picked gather kids level upTo count packedBits bitHop setBit word hopsOf wordsFrom words imageBy
 low-words = refl
 
 as-long : length ws ≡ 39
-unfolding imageIn listA built madeOf inputSaid firstOf firstFrom faultAt routeFault inOrder properPrefix hopFine recordAt cut routesOf tabulate any cells.first picked gather kids level upTo count packed bitHop setBit word wordsFrom words imageBy
+unfolding imageIn listA built madeOf inputSaid firstOf firstFrom faultAt routeFault inOrder properPrefix hopFine recordAt cut routesOf tabulate any
+    cells.first picked gather kids level upTo count packedBits bitHop setBit word wordsFrom words imageBy
 as-long = refl
 
 pub narrow-A : Narrow ws
@@ -109,7 +113,7 @@ unfolding imageIn
 tested-A = test-as-build listA (replicate 39 0) (replicate 6 0) (7 ∷ 5 ∷ []) built-39
 
 pub refused-test : tested [] [] ≡ refused 13
-unfolding tested wellFormed ordered used firstOf firstFrom exts
+unfolding tested wellFormed ordered nodesUsed firstOf firstFrom exts
 refused-test = refl
 
 -- The changes: accepted, and refused.
@@ -135,22 +139,22 @@ refused-tree-withdraw = line 14
 
 -- One answer: outcomes that meet the statements.
 pub test-A : MeetsTreeTest ws hs (ofTest.Image 7 5)
-unfolding saysTested
+unfolding meansTested
 test-A = sym tested-A
 
 pub test-broken : MeetsTreeTest [] [] ofTest.Broken
-unfolding saysTested
+unfolding meansTested
 test-broken = sym refused-test
 
 pub announced-A : MeetsTreeAnnounce ws hs (ip 192 0 2 0) 24 3 (ofAnnounce.Added 13 6)
     (imageAnnounced ws hs (ip 192 0 2 0) 24 3 .words) (imageAnnounced ws hs (ip 192 0 2 0) 24 3 .hops)
-unfolding saysAnnounced
+unfolding meansTreeAnnounced
 announced-A i = record { said = sym added-A i; words = imageAnnounced ws hs (ip 192 0 2 0) 24 3 .words; hops = imageAnnounced ws hs (ip 192 0 2 0) 24 3 .hops }
 
 pub withdrawn-A : MeetsTreeWithdraw (imageIn listA 21 5 .words) (imageIn listA 21 5 .hops) (ip 10 1 2 128) 25 (ofWithdraw.Removed 7 4)
     (imageWithdrawn (imageIn listA 21 5 .words) (imageIn listA 21 5 .hops) (ip 10 1 2 128) 25 .words)
     (imageWithdrawn (imageIn listA 21 5 .words) (imageIn listA 21 5 .hops) (ip 10 1 2 128) 25 .hops)
-unfolding saysWithdrawn
+unfolding meansTreeWithdrawn
 withdrawn-A i = record {
   said = sym removed-A i;
   words = imageWithdrawn (imageIn listA 21 5 .words) (imageIn listA 21 5 .hops) (ip 10 1 2 128) 25 .words;
@@ -159,7 +163,7 @@ withdrawn-A i = record {
 
 -- "6 where more than 4,096 routes would stand": the image of n routes of 16 bits, in arrays with room for one hop more, and 0.0.0.0/0 announced.
 module _ (n : ℕ) (few : n ≤ 4096) where
-  abbrev image : Out
+  abbrev image : ImageOut
   image = built (many n) (replicate 98307 0) (replicate 4097 0)
 
   passes : Passes (many n) n
@@ -206,9 +210,9 @@ module _ (n : ℕ) (few : n ≤ 4096) where
   one-more =
       let e = ap length holds in
       let m : length (map plain (routesIn (many n))) ≡ length (routesIn (many n)) = length-map (routesIn (many n)) plain in
-      omega (arith, insert-adds (route 0 0 5) (routesHeld (image .words) (image .hops)) new, e, m, so-many)
+      omega (arith, insert-adds (unmarkedRoute 0 0 5) (routesHeld (image .words) (image .hops)) new, e, m, so-many)
 
-  asked : Asked (image .words) (image .hops) 0 0 5
+  asked : ImageAsked (image .words) (image .hops) 0 0 5
   unfolding properPrefix hopFine cut
   asked = record { prefix = refl; hop = refl; image = built-passes (many n) (replicate 98307 0) (replicate 4097 0) _ builds }
 
@@ -217,22 +221,27 @@ module _ (n : ℕ) (few : n ≤ 4096) where
       let k = built-accepts (many n) (replicate 98307 0) (replicate 4097 0) _ builds in
       let a = length-replicate {A = ℕ} 98307 0 in
       let b = length-replicate {A = ℕ} 4097 0 in
-      let z = image-sizes (nodeStands (routesIn (many n))) (hopFor (routesIn (many n))) (length {A = ℕ} (replicate 98307 0)) (length {A = ℕ} (replicate 4097 0)) (k .nodes-room) (omega (arith, hops-need (routesIn (many n)) its-good, k .hops-room)) in
+      let z = image-sizes (nodeStands (routesIn (many n))) (hopFor (routesIn (many n))) (length {A = ℕ} (replicate 98307 0))
+      (length {A = ℕ} (replicate 4097 0)) (k .nodes-room) (omega (arith, hops-need (routesIn (many n)) its-good, k .hops-room)) in
       (ap length (k .words) ∙ z .0 ∙ a, ap length (k .hops) ∙ z .1 ∙ b)
 
   -- with one more they still are a good list, which needs at most 32,769 nodes
   with-good : Good (routesWith (image .words) (image .hops) 0 0 5)
-  with-good = insert-good (route 0 0 5) _ (is-fine 0 0 5 (asked .prefix) (asked .hop)) (subst Good (sym holds) (plain-good (routesIn (many n)) its-good))
+  with-good = insert-good (unmarkedRoute 0 0 5) _ (is-fine 0 0 5 (asked .prefix) (asked .hop))
+      (subst Good (sym holds) (plain-good (routesIn (many n)) its-good))
 
   with-one : n < 4096 → imageAnnounced (image .words) (image .hops) 0 0 5 .said
-      ≡ accepted (bit (stands (keyOf 0 0) (routesHeld (image .words) (image .hops))) ∷ nodeNeed (routesWith (image .words) (image .hops) 0 0 5) ∷ length (routesWith (image .words) (image .hops) 0 0 5) ∷ [])
+      ≡ accepted (bit (stands (keyOf 0 0) (routesHeld (image .words) (image .hops))) ∷ nodeNeed
+      (routesWith (image .words) (image .hops) 0 0 5) ∷ length (routesWith (image .words) (image .hops) 0 0 5) ∷ [])
   with-one l =
       let m = nodes-most (routesWith (image .words) (image .hops) 0 0 5) with-good (omega (arith, one-more)) in
-      ap (λ (o : Out). o .said) (case-announced _ _ 0 0 5 _ (Announcing.put-in asked (omega (arith, one-more)) (omega (arith, sizes .0)) (omega (arith, one-more, sizes .1))))
+      ap (λ (o : ImageOut). o .said) (case-announced _ _ 0 0 5 _
+      (Announcing.put-in asked (omega (arith, one-more)) (omega (arith, sizes .0)) (omega (arith, one-more, sizes .1))))
 
 -- 4,095 stand, and one more is taken; 4,096 stand, and it is not
 pub taken-4096 : accepts (imageAnnounced (image 4095 (omega arith) .words) (image 4095 (omega arith) .hops) 0 0 5 .said) ≡ true
 taken-4096 = ap accepts (with-one 4095 (omega arith) (omega arith))
 
 pub refused-six : imageAnnounced (image 4096 (omega arith) .words) (image 4096 (omega arith) .hops) 0 0 5 .said ≡ refused 6
-refused-six = ap (λ (o : Out). o .said) (case-announced _ _ 0 0 5 _ (Announcing.too-many (asked 4096 (omega arith)) (omega (arith, one-more 4096 (omega arith)))))
+refused-six = ap (λ (o : ImageOut). o .said) (case-announced _ _ 0 0 5 _
+    (Announcing.too-many (asked 4096 (omega arith)) (omega (arith, one-more 4096 (omega arith)))))

@@ -1,5 +1,5 @@
 -- Tables, images and calls that meet what the theorems on the demands suppose: the fresh table, list A loaded and built, and calls that are
--- refused. So none of them speaks of nothing. Assumes nothing.
+-- refused. So none of them speaks of nothing.
 use mathlib.Core.Path.{_≡_, refl, sym, _∙_, ap}
 use mathlib.Core.Logic.{_≢_}
 use mathlib.Core.Bool.{true, false, cond}
@@ -18,7 +18,7 @@ use Rattle.standing.specs.Cells as cells
 use Rattle.routes.specs.Record.{recordAt, routesOf, written, routesIn}
 use Rattle.routes.specs.Input.{properPrefix, hopFine, routeFault, inOrder, faultAt, inputSaid}
 use Rattle.routes.specs.Said.{Said, accepted, refused, accepts}
-use Rattle.routes.specs.Answers.{saysInput, saysGot, routeSaid}
+use Rattle.routes.specs.Answers.{meansInput, meansGot, routeSaid, ReadBack}
 use Rattle.routes.specs.Contract.{MeetsCheckInput, MeetsRouteAt}
 use Rattle.standing.specs.Standing.{routeAt}
 use Rattle.routes.specs.declared.input.Input.the-variants as ofInput
@@ -26,7 +26,7 @@ use Rattle.routes.specs.declared.input.Got.the-variants as got
 use Rattle.routes.specs.declared.Route.{Route}
 use Rattle.routes.proofs.Meaning.{prefix-true}
 use Rattle.lists.specs.Place.{placeOf}
-use Rattle.runs.specs.Run.{runSaid, saysRunCheck, runOf, runAt, IsRun}
+use Rattle.runs.specs.Run.{runSaid, meansRunCheck, runOf, runAt, IsRun}
 use Rattle.runs.specs.Tally.{lengthsOf, tallyOf, IsTally}
 use Rattle.runs.specs.Contract.{MeetsRunCheck}
 use Rattle.runs.specs.declared.run.RunCheck.the-variants as runCheck
@@ -34,29 +34,29 @@ use Rattle.sail.specs.Geometry.{standardGeo, validGeo}
 use Rattle.sail.specs.Lent.{Lent}
 use Rattle.sail.specs.Sizes.{sizesFault}
 use Rattle.sail.specs.Sound.{Sound, standing, freshTable, freshLent}
-use Rattle.sail.specs.Walk.{lookupSaid, saysFound}
+use Rattle.sail.specs.Walk.{lookupSaid, meansFound}
 use Rattle.sail.specs.Contract.{MeetsLookup}
 use Rattle.sail.specs.declared.table.Table.{Table}
 use Rattle.sail.specs.declared.lookup.Found.the-variants as found
 use Rattle.sail.proofs.Fresh.{fresh-sound}
 use Rattle.sail_theory.specs.Calls.{route, termsOf, withdrawFault, Out, out, made, announced, withdrawn, loaded, reported}
-use Rattle.sail_theory.specs.Runs.{Call, announce, withdraw, load, done, after, worked, would, Formed, standingAfter, AsFresh}
+use Rattle.sail_theory.specs.CallRuns.{Call, announce, withdraw, load, done, after, heldByCalls, routesAfter, Formed, standingAfter, AsFresh}
 use Rattle.sail_theory.specs.Render.{roomOf}
-use Rattle.sail_theory.proofs.Cleared.{telling-once, announce-said, announce-off}
-use Rattle.sail_theory.proofs.Fresh.{make-said, make-is}
-use Rattle.sail_theory.proofs.Sizes.{size-refl}
-use Rattle.sail_sound.specs.Report.{saysReported}
+use Rattle.sail_theory.proofs.calls.Cleared.{telling-once, announce-said, announce-off}
+use Rattle.sail_theory.proofs.calls.Make.{make-said, make-is}
+use Rattle.sail_theory.proofs.calls.SameSizes.{size-refl}
+use Rattle.sail_sound.specs.Report.{meansReported}
 use Rattle.sail_sound.specs.Contract.{MeetsReport}
 use Rattle.sail_sound.specs.declared.report.Reported.the-variants as ofReport
-use Rattle.sail_make.specs.Answers.{saysMade}
+use Rattle.sail_make.specs.Answers.{meansMade}
 use Rattle.sail_make.specs.Contract.{MeetsMake}
-use Rattle.sail_load.specs.Answers.{saysLoaded}
+use Rattle.sail_load.specs.Answers.{meansLoaded}
 use Rattle.sail_load.specs.Contract.{MeetsLoad}
 use Rattle.sail_make.specs.declared.Made.the-variants as ofMake
 use Rattle.sail_load.specs.declared.load.Loaded.the-variants as ofLoad
-use Rattle.sail_announce.specs.Answers.{saysAnnounce}
+use Rattle.sail_announce.specs.Answers.{meansAnnounce}
 use Rattle.sail_announce.specs.Contract.{MeetsAnnounce}
-use Rattle.sail_withdraw.specs.Answers.{saysWithdraw}
+use Rattle.sail_withdraw.specs.Answers.{meansWithdraw}
 use Rattle.sail_withdraw.specs.Contract.{MeetsWithdraw}
 use Rattle.sail_announce.specs.declared.answers.Announce.the-variants as ofAnnounce
 use Rattle.sail_withdraw.specs.declared.answers.Withdraw.the-variants as ofWithdraw
@@ -64,18 +64,18 @@ use Rattle.tree.specs.Node.{sound}
 use Rattle.tree.specs.Parts.{picked, gather}
 use Rattle.tree.specs.Image.{kids, level, upTo, onPath}
 use Rattle.tree.specs.Walk as walk
-use Rattle.tree.specs.Walk.{walkFrom, treeSaid, saysTreeFound}
+use Rattle.tree.specs.Walk.{walkFrom, treeSaid, meansTreeFound}
 use Rattle.tree.specs.Contract.{MeetsTreeLookup}
 use Rattle.tree.specs.declared.TreeFound.the-variants as treeFound
 use Rattle.tree_build.specs.Built as building
-use Rattle.tree_build.specs.Built.{saysBuilt, madeOf, built}
+use Rattle.tree_build.specs.Built.{meansBuilt, madeOf, built}
 use Rattle.tree_build.specs.Contract.{MeetsBuild}
 use Rattle.tree_build.specs.declared.Built.the-variants as ofBuild
 use Rattle.tree_build.proofs.Serves.{built-serves}
-use Rattle.demands.specs.Replies.{reply, stood}
-use Rattle.demands.proofs.Replies.{run-says, run-stood}
-use Rattle.sail_theory.specs.Wants.{ByNeed, ForChunks}
-use Rattle.demands.specs.Served.{uncounted, ReadBack}
+use Rattle.sail_theory.specs.Replies.{reply, stood}
+use Rattle.sail_theory.proofs.runs.Replies.{run-says, run-stood}
+use Rattle.sail_theory.specs.WantOfChunks.{ByNeed, ForChunks}
+use Rattle.standing.specs.Served.{uncounted}
 use Rattle.demands.proofs.Demand2 as demand2
 use Rattle.demands.proofs.Demand3 as demand3
 use Rattle.examples.specs.Lines.{ip, Line, _gives_, Hold}
@@ -88,7 +88,8 @@ use Rattle.examples.proofs.TableA.{goodA}
 -- a line of the examples
 pub line : (k : ℕ) → answer (getD starred k (last [] gives accepted []) .asked) ≡ getD (map (λ (x : Line Asked). x .expected) starred) k (answer (last []))
 unfolding Hold
-line k = sym (List·getD-map (λ (x : Line Asked). answer (x .asked)) starred k (last [] gives accepted [])) ∙ ap (λ (ss : List Said). getD ss k (answer (last []))) starred-hold
+line k = sym (List·getD-map (λ (x : Line Asked). answer (x .asked)) starred k (last [] gives accepted [])) ∙ ap
+    (λ (ss : List Said). getD ss k (answer (last []))) starred-hold
 
 -- the table and the arrays after a run
 abbrev pub t : List Call → Table
@@ -183,7 +184,8 @@ pub makes : accepts (made table arrays .said) ≡ true
 makes = ap (λ (o : Out). accepts (o .said)) (make-is table arrays sized)
 
 -- what stands after each run is a list as `run-only` speaks of,
-pub stands-in-order : (cs : List Call) → Good (standingAfter table arrays cs) × ((k : ℕ) → routeAt k (standingAfter table arrays cs) ≡ worked table arrays cs k)
+pub stands-in-order : (cs : List Call) → Good (standingAfter table arrays cs) ×
+    ((k : ℕ) → routeAt k (standingAfter table arrays cs) ≡ heldByCalls table arrays cs k)
 stands-in-order cs = (demand3.run-in-order table arrays sized cs, demand3.run-standing table arrays sized cs)
 
 -- after each run there is a fresh load to compare with, into the arrays themselves,
@@ -198,7 +200,8 @@ wantedA = rw (line 34) (omega arith, omega arith)
 pub formed-announce : Formed (announce (route (ip 10 2 2 0) 24 45 0)) (standingAfter table arrays entered) (roomOf arrays)
 formed-announce = demand3.want-formed table arrays sized entered (announce (route (ip 10 2 2 0) 24 45 0)) wantedA
 
-pub needed : ByNeed (termsOf table arrays) (would (announce (route (ip 10 2 2 0) 24 45 0)) (standingAfter table arrays entered)) (after table arrays other .said)
+pub needed : ByNeed (termsOf table arrays) (routesAfter (announce (route (ip 10 2 2 0) 24 45 0)) (standingAfter table arrays entered))
+    (after table arrays other .said)
 needed = demand3.want-of-chunks table arrays sized entered (announce (route (ip 10 2 2 0) 24 45 0)) formed-announce
 
 -- a withdrawal and a load that are well-formed,
@@ -225,19 +228,19 @@ told : (o : Out) (s : Said) → o .said ≡ s → out s (o .table) (o .lent) ≡
 told o s e i = out (sym e i) (o .table) (o .lent)
 
 pub checked-A : MeetsCheckInput listA (ofInput.Good 5)
-unfolding saysInput
+unfolding meansInput
 checked-A = sym goodA
 
 pub route-A : MeetsRouteAt listA 4 (got.One (record { addr = ip 10 1 2 128; len = 25; mark = 0; hop = 57 }))
-unfolding saysGot routeSaid listA recordAt
+unfolding meansGot routeSaid listA recordAt
 route-A = rw goodA
 
 pub route-attached : MeetsRouteAt (10 ∷ 1 ∷ 0 ∷ 0 ∷ 16 ∷ 1 ∷ 0 ∷ 31 ∷ []) 0 (got.One (route (ip 10 1 0 0) 16 31 1))
-unfolding starred answer saysGot routeSaid recordAt
+unfolding starred answer meansGot routeSaid recordAt
 route-attached = rw (line 39)
 
 pub route-refused : (k : ℕ) → MeetsRouteAt (1 ∷ []) k (got.Refused 10 0)
-unfolding saysGot routeSaid inputSaid
+unfolding meansGot routeSaid inputSaid
 route-refused k = refl
 
 -- list A lies somewhere in memory; its run under 10.1.0.0/16 is its part from byte 16 on, there
@@ -253,7 +256,7 @@ unfolding inMemory runOf runAt runSaid inputSaid
 run-refused = record { holds = refl; stands = refl }
 
 pub run-A : MeetsRunCheck listA (ip 10 1 0 0) 16 (runCheck.Run 2 3)
-unfolding saysRunCheck runSaid listA recordAt placeOf firstOf firstFrom properPrefix cut
+unfolding meansRunCheck runSaid listA recordAt placeOf firstOf firstFrom properPrefix cut
 run-A = rw goodA
 
 -- one route of each of the lengths 0, 8, 16, 24 and 25
@@ -271,79 +274,85 @@ unfolding tallyOf lengthsOf listA inputSaid firstOf firstFrom faultAt routeFault
 tally-A = record { answered = checked-A; counted = refl }
 
 pub found-A : MeetsLookup (t loadedA) (l loadedA) (ip 10 1 2 200) (found.Hop 57 3)
-unfolding starred answer saysFound
+unfolding starred answer meansFound
 found-A = sym (line 1)
 
 pub found-refused : (a : ℕ) → MeetsLookup (freshTable (geo 16 27)) (bare (geo 16 27)) a (found.Refused 1)
-unfolding saysFound
+unfolding meansFound
 found-refused a = sym (refused-lookup a)
 
 pub reported-refused : MeetsReport (freshTable (geo 16 27)) (bare (geo 16 27)) (ofReport.Refused 1)
-unfolding saysReported
+unfolding meansReported
 reported-refused = sym refused-report
 
 pub reported-A : MeetsReport (t loadedA) (l loadedA) (ofReport.Standing 5 1 1)
-unfolding starred answer saysReported
+unfolding starred answer meansReported
 reported-A = sym (line 11)
 
 pub made-fresh : MeetsMake table arrays (record { answer = ofMake.Done; table = freshTable standardGeo }) (freshLent arrays)
-unfolding table saysMade
+unfolding table meansMade
 made-fresh = sym (make-is table arrays sized)
 
 pub loaded-A : MeetsLoad (t []) (l []) listA (record { answer = ofLoad.Done; table = t loadedA }) (l loadedA)
-unfolding starred answer after done saysLoaded
+unfolding starred answer after done meansLoaded
 loaded-A = told (loaded (t []) (l []) listA) (accepted []) (line 0)
 
 pub announced-first : MeetsAnnounce (t []) (l []) (ip 10 1 2 0) 24 44 0 (record { answer = ofAnnounce.Added false; table = t entered }) (l entered)
-unfolding starred answer after done saysAnnounce
+unfolding starred answer after done meansAnnounce
 announced-first = told (announced (t []) (l []) (route (ip 10 1 2 0) 24 44 0)) (accepted (0 ∷ 0 ∷ [])) (line 33)
 
 pub announced-other : MeetsAnnounce (t entered) (l entered) (ip 10 2 2 0) 24 45 0 (record { answer = ofAnnounce.Refused 7; table = t entered }) (l entered)
-unfolding starred answer after done saysAnnounce
+unfolding starred answer after done meansAnnounce
 announced-other =
     let said = announce-said (t entered) (l entered) (route (ip 10 2 2 0) 24 45 0) in
     sym (announce-off (t entered) (l entered) (route (ip 10 2 2 0) 24 45 0) (refused 7) (telling-once _ _ (refused 7) (sym said ∙ line 34)) refl)
 
 -- bits that were cleared are told
 pub announced-loose : MeetsAnnounce (t []) (l []) (ip 10 1 2 3) 24 44 0 (record { answer = ofAnnounce.Added true; table = t loose }) (l loose)
-unfolding starred answer after done saysAnnounce
+unfolding starred answer after done meansAnnounce
 announced-loose = told (announced (t []) (l []) (route (ip 10 1 2 3) 24 44 0)) (accepted (1 ∷ 0 ∷ [])) (line 48)
 
 pub withdrawn-loose : MeetsWithdraw (t tight) (l tight) (ip 10 1 2 9) 24 (record { answer = ofWithdraw.Removed true; table = t away }) (l away)
-unfolding starred answer after done saysWithdraw
+unfolding starred answer after done meansWithdraw
 withdrawn-loose = told (withdrawn (t tight) (l tight) (ip 10 1 2 9) 24) (accepted (1 ∷ [])) (line 52)
 
 pub withdrawn-A : MeetsWithdraw (t loadedA) (l loadedA) 0 0 (record { answer = ofWithdraw.Removed false; table = t without0 }) (l without0)
-unfolding starred answer after done saysWithdraw
+unfolding starred answer after done meansWithdraw
 withdrawn-A = told (withdrawn (t loadedA) (l loadedA) 0 0) (accepted (0 ∷ [])) (line 9)
 
 pub tree-found-A : MeetsTreeLookup (image .words) (image .hops) (ip 10 1 2 200) (treeFound.Hop 57 8)
-unfolding starred answer saysTreeFound
+unfolding starred answer meansTreeFound
 tree-found-A = sym (line 2)
 
 -- The largest count of an image is had: the image of one route of 32 bits, asked for that address, has 9 nodes on its path, and the hop.
 unfoldable pub host : List ℕ
 host = 10 ∷ 1 ∷ 2 ∷ 200 ∷ 32 ∷ 0 ∷ 0 ∷ 57 ∷ []
 
-abbrev pub hostImage : building.Out
+abbrev pub hostImage : building.ImageOut
 hostImage = built host (replicate 27 0) (replicate 1 0)
 
 host-built : hostImage .said ≡ accepted (9 ∷ 1 ∷ [])
-unfolding host built madeOf inputSaid firstOf firstFrom faultAt routeFault inOrder properPrefix hopFine recordAt cut routesOf tabulate any cells.first picked gather kids level upTo
+unfolding host built madeOf inputSaid firstOf firstFrom faultAt routeFault inOrder properPrefix hopFine recordAt cut routesOf tabulate any
+    cells.first picked gather kids level upTo
 host-built = refl
 
-host-told : walk.told (best (routesIn host) 32 (ip 10 1 2 200)) (onPath (routesIn host) (ip 10 1 2 200)) ≡ accepted (10 ∷ 57 ∷ [])
-unfolding host walk.told best routesOf recordAt tabulate any cells.first count
+host-told : walk.treeHopSaid (best (routesIn host) 32 (ip 10 1 2 200)) (onPath (routesIn host) (ip 10 1 2 200)) ≡ accepted (10 ∷ 57 ∷ [])
+unfolding host walk.treeHopSaid best routesOf recordAt tabulate any cells.first count
 host-told = refl
 
 pub tree-found-ten : MeetsTreeLookup (hostImage .words) (hostImage .hops) (ip 10 1 2 200) (treeFound.Hop 57 10)
-unfolding saysTreeFound
+unfolding meansTreeFound
 tree-found-ten = sym (built-serves host (replicate 27 0) (replicate 1 0) (9 ∷ 1 ∷ []) (ip 10 1 2 200) host-built (omega arith) ∙ host-told)
 
 pub tree-broken : (a : ℕ) → MeetsTreeLookup [] [] a treeFound.Broken
-unfolding saysTreeFound
+unfolding meansTreeFound
 tree-broken a = sym (refused-tree a)
 
 pub built-A : MeetsBuild listA (replicate 21 0) (replicate 5 0) (ofBuild.Made 7 5) (image .words) (image .hops)
-unfolding image saysBuilt
-built-A i = record { said = sym builtA i; words = built listA (replicate 21 0) (replicate 5 0) .words; hops = built listA (replicate 21 0) (replicate 5 0) .hops }
+unfolding image meansBuilt
+built-A i = record {
+  said = sym builtA i;
+  words = built listA (replicate 21 0) (replicate 5 0) .words;
+  hops = built listA (replicate 21 0)
+      (replicate 5 0) .hops;
+}

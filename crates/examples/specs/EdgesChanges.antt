@@ -6,8 +6,8 @@ use Rattle.sail.specs.Geometry.{standardGeo, smallGeo}
 use Rattle.sail.specs.Sound.{freshTable}
 use Rattle.sail.specs.declared.geometry.Geometry.{Geometry}
 use Rattle.sail_theory.specs.Calls.{route, reported}
-use Rattle.sail_theory.specs.Runs.{Call, after}
-use Rattle.sail_theory.specs.Runs as call
+use Rattle.sail_theory.specs.CallRuns.{Call, after}
+use Rattle.sail_theory.specs.CallRuns as call
 use Rattle.examples.specs.Lines.{ip, Line, _gives_}
 use Rattle.examples.specs.Blank as blank
 use Rattle.examples.specs.Blank.{Lengths, lengths, zeros}
@@ -121,8 +121,10 @@ runEdges =
     -- "a replacement never meets 6 to 8": the list is full, and no chunk is free
     ∷ (last standardGeo one (call.announce (route (ip 10 1 2 128) 25 58 0) ∷ entered) gives accepted (0 ∷ 1 ∷ []))
     -- "the number of different first-p1-bit values": two routes of one cell need one chunk, of two cells two
-    ∷ (last standardGeo (lengths 16 65536 256 0 1 0) (call.announce (route (ip 10 1 3 0) 24 45 0) ∷ call.announce (route (ip 10 1 2 0) 24 44 0) ∷ []) gives accepted (0 ∷ 0 ∷ []))
-    ∷ (last standardGeo (lengths 16 65536 256 0 1 0) (call.announce (route (ip 10 2 3 0) 24 45 0) ∷ call.announce (route (ip 10 1 2 0) 24 44 0) ∷ []) gives refused 7)
+    ∷ (last standardGeo (lengths 16 65536 256 0 1 0)
+    (call.announce (route (ip 10 1 3 0) 24 45 0) ∷ call.announce (route (ip 10 1 2 0) 24 44 0) ∷ []) gives accepted (0 ∷ 0 ∷ []))
+    ∷ (last standardGeo (lengths 16 65536 256 0 1 0)
+    (call.announce (route (ip 10 2 3 0) 24 45 0) ∷ call.announce (route (ip 10 1 2 0) 24 44 0) ∷ []) gives refused 7)
     -- 9, for a prefix of another length, and for one that is gone
     ∷ (last standardGeo one (call.withdraw (ip 10 1 2 128) 26 ∷ entered) gives refused 9)
     ∷ (last standardGeo one (call.withdraw (ip 10 1 2 128) 25 ∷ entered) gives accepted (0 ∷ []))

@@ -4,7 +4,7 @@ use Prim.Native.Nat.{ℕ, _+_, _^_}
 use lib.ListN.{replicate}
 use Rattle.routes.specs.ListA.{listA}
 use Rattle.routes.specs.Said.{Said, accepted, refused}
-use Rattle.tree_build.specs.Built.{Out, built}
+use Rattle.tree_build.specs.Built.{ImageOut, built}
 use Rattle.tree_change.specs.Changed.{imageAnnounced, imageWithdrawn}
 use Rattle.examples.specs.Lines.{ip, Line, _gives_}
 use Rattle.examples.specs.EdgesInputs.{rec}
@@ -14,12 +14,12 @@ pub data Change : Type 0 where
   put : ℕ → ℕ → ℕ → Change
   take : ℕ → ℕ → Change
 
-unfoldable pub changed : List ℕ → List ℕ → Change → Out
+unfoldable pub changed : List ℕ → List ℕ → Change → ImageOut
 changed ws hs (put a len h) = imageAnnounced ws hs a len h
 changed ws hs (take a len) = imageWithdrawn ws hs a len
 
 -- the image that an input builds into so many words and hops
-unfoldable pub imageIn : List ℕ → ℕ → ℕ → Out
+unfoldable pub imageIn : List ℕ → ℕ → ℕ → ImageOut
 imageIn input w h = built input (replicate w 0) (replicate h 0)
 
 -- what a change of such an image says, and the words and the hops that it leaves; and what it says of words and hops of any content
@@ -71,7 +71,8 @@ edges =
     ∷ (any [] [] (put 0 0 1) gives refused 13)
     -- "its words and hops then equal a fresh build, into the same arrays": 10.1.2.200/32 to 70 brings two nodes at the end
     ∷ (wordsOf listA 28 7 (put (ip 10 1 2 200) 32 70)
-    gives accepted ((2 ^ 16 + 1) ∷ 1 ∷ 0 ∷ 2 ^ 26 ∷ 2 ∷ 1 ∷ (2 ^ 16 + 1) ∷ 3 ∷ 1 ∷ 2 ^ 17 ∷ 4 ∷ 2 ∷ (2 ^ 16 + 1) ∷ 5 ∷ 2 ∷ 2 ^ 18 ∷ 6 ∷ 3 ∷ (2 ^ 28 + 5) ∷ 7 ∷ 3 ∷ 2 ^ 24 ∷ 8 ∷ 5 ∷ 1 ∷ 9 ∷ 5 ∷ 0 ∷ []))
+    gives accepted ((2 ^ 16 + 1) ∷ 1 ∷ 0 ∷ 2 ^ 26 ∷ 2 ∷ 1 ∷ (2 ^ 16 + 1) ∷ 3 ∷ 1 ∷ 2 ^ 17 ∷ 4 ∷ 2 ∷ (2 ^ 16 + 1) ∷ 5 ∷ 2 ∷ 2 ^ 18 ∷ 6 ∷ 3 ∷
+    (2 ^ 28 + 5) ∷ 7 ∷ 3 ∷ 2 ^ 24 ∷ 8 ∷ 5 ∷ 1 ∷ 9 ∷ 5 ∷ 0 ∷ []))
     ∷ (hopsOf listA 28 7 (put (ip 10 1 2 200) 32 70) gives accepted (6 ∷ 20 ∷ 31 ∷ 44 ∷ 57 ∷ 70 ∷ 0 ∷ []))
     -- a hop put in early: those after it move, and the hop bases after its node are one more
     ∷ (hopsOf listA 21 6 (put 0 1 9) gives accepted (6 ∷ 9 ∷ 20 ∷ 31 ∷ 44 ∷ 57 ∷ []))

@@ -15,7 +15,7 @@ use Rattle.sail.specs.Walk.{lookupSaid}
 use Rattle.sail.specs.declared.geometry.Geometry.{Geometry}
 use Rattle.sail.specs.declared.table.Table.{Table}
 use Rattle.sail_theory.specs.Calls.{route, makeSaid, reported}
-use Rattle.sail_theory.specs.Runs.{Call, announce, withdraw, load, after}
+use Rattle.sail_theory.specs.CallRuns.{Call, announce, withdraw, load, after}
 use Rattle.tree.specs.Walk.{treeSaid}
 use Rattle.tree_build.specs.Built as building
 use Rattle.examples.specs.Lines.{ip, Line, _gives_}
@@ -33,7 +33,7 @@ unfoldable pub bare : Geometry → Lent
 bare g = lent [] (replicate (2 ^ g .p1) 0) [] [] [] [] (replicate (2 ^ g .p1) 0) []
 
 -- list A's image, in as much as it needs
-unfoldable pub image : building.Out
+unfoldable pub image : building.ImageOut
 image = building.built listA (replicate 21 0) (replicate 5 0)
 
 -- Runs from the fresh table; the last call stands first.
@@ -75,7 +75,8 @@ tight = announce (route (ip 10 1 2 0) 24 45 0) ∷ loose
 abbrev pub away : List Call
 away = withdraw (ip 10 1 2 9) 24 ∷ tight
 
--- What is asked: after a run, what its last call says, a lookup, the report, a route of its list, a cell, an owner, a count; what make says of a geometry; what the check of an
+-- What is asked: after a run, what its last call says, a lookup, the report, a route of its list, a cell, an owner, a count; what make says of a
+-- geometry; what the check of an
 -- input says; and of list A's image, what the build says, its last node, its hops, and a lookup in it.
 pub data Asked : Type 0 where
   last : List Call → Asked

@@ -1,4 +1,4 @@
--- The bytes of a list after a record was put into it, or taken out of it. Assumes nothing.
+-- The bytes of a list after a record was put into it, or taken out of it.
 use mathlib.Core.Path.{_≡_, refl, sym, ap, _∙_}
 use mathlib.Core.Logic.{_⊎_, inl, inr, _≢_}
 use mathlib.Core.List.{List, _++_}
@@ -6,7 +6,7 @@ use Prim.Native.Nat.{ℕ, zero, suc, _+_, _-_, _*_, _/_, _%_, _≤_, _<_}
 use native.Mathlib.Omega.{arith}
 use lib.ListN.{length, getD, set, take, drop, length-append, length-drop, length-set, List·getD-append, List·getD-eq-default}
 use lib.Seq.{ext-getD, getD-set-same, getD-set-other, getD-take, getD-drop, length-take-le, getD-append-add}
-use Rattle.bits.proofs.Tests.{below?, equal?}
+use Rattle.bits.proofs.Bools.{below?, equal?}
 use Rattle.routes.specs.Route.{key, Good}
 use Rattle.standing.specs.Standing.{insert, remove}
 use Rattle.routes.specs.Record.{recordAt, bytesOf, putAt, routesOf, noRoute, written, Listed}
@@ -67,7 +67,8 @@ module _ (rs : List Route) (room : ℕ) (fits : length rs ≤ room) where
     where
       go : (q < length rs) ⊎ (length rs ≤ q) → getD (written rs room) (q * 8 + m) 0 ≡ byteOf rs q m
       go (inl u) = byte-written rs room q m u fits l
-      go (inr u) = zero-written rs room (q * 8 + m) (omega arith) (omega arith) ∙ no-bytes m ∙ ap (λ (r : Route). getD (bytesOf r) m 0) (sym (List·getD-eq-default rs noRoute u))
+      go (inr u) = zero-written rs room (q * 8 + m) (omega arith) (omega arith) ∙ no-bytes m ∙ ap (λ (r : Route). getD (bytesOf r) m 0)
+          (sym (List·getD-eq-default rs noRoute u))
 
   -- a list with the bytes of routes, record by record, is what they write
   is-written : (s : List ℕ) → length s ≡ room * 8 → ((q m : ℕ) → q < room → m < 8 → getD s (q * 8 + m) 0 ≡ byteOf rs q m) → s ≡ written rs room
@@ -113,7 +114,8 @@ inserted-at s n k r bytes ok =
     room : (k + 1) * 8 ≤ length moved
     room = rw length-drawn (omega (arith, ok .room, ok .place))
 
-    at : (q m : ℕ) → q < length s / 8 → m < 8 → (q < k) ⊎ (k ≤ q) → (q ≡ k) ⊎ (q ≢ k) → (q - 1 < n) ⊎ (n ≤ q - 1) → getD (putAt moved k r) (q * 8 + m) 0 ≡ byteOf (insert r rs) q m
+    at : (q m : ℕ) → q < length s / 8 → m < 8 → (q < k) ⊎ (k ≤ q) → (q ≡ k) ⊎ (q ≢ k) → (q - 1 < n) ⊎ (n ≤ q - 1) → getD (putAt moved k r)
+        (q * 8 + m) 0 ≡ byteOf (insert r rs) q m
     at q m h l (inl u) e p =
         put-before moved k r room (q * 8 + m) (omega arith)
         ∙ drawn-before s _ (k * 8 + 8) (n * 8 + 8) (q * 8 + m) (omega arith) (omega arith)
@@ -151,11 +153,14 @@ replaced-at s n k r bytes ok =
     at : (q m : ℕ) → q < length s / 8 → m < 8 → (q < k) ⊎ (k ≤ q) → (q ≡ k) ⊎ (q ≢ k) → getD (putAt s k r) (q * 8 + m) 0 ≡ byteOf (set rs k r) q m
     at q m h l u (inl e) = rw (e, getD-set-same rs k r noRoute place) (put-byte s k r room m l)
     at q m h l (inl u) (inr e) = put-before s k r room (q * 8 + m) (omega arith) ∙ rw (getD-set-other rs k q r noRoute e) (old s n bytes (ok .listed) q m h l)
-    at q m h l (inr u) (inr e) = put-after s k r room (q * 8 + m) (omega (arith, e)) ∙ rw (getD-set-other rs k q r noRoute e) (old s n bytes (ok .listed) q m h l)
+    at q m h l (inr u) (inr e) = put-after s k r room (q * 8 + m) (omega (arith, e)) ∙ rw (getD-set-other rs k q r noRoute e)
+        (old s n bytes (ok .listed) q m h l)
 
-pub removed-at : (s : List ℕ) (n k : ℕ) → ((j : ℕ) → getD s j 0 < 256) → RemoveAt s n k → putAt (movedDown s (k * 8) ((n - 1) * 8)) (n - 1) noRoute ≡ removed s n (key (recordAt s k))
+pub removed-at : (s : List ℕ) (n k : ℕ) → ((j : ℕ) → getD s j 0 < 256) → RemoveAt s n k → putAt (movedDown s (k * 8) ((n - 1) * 8)) (n - 1) noRoute
+    ≡ removed s n (key (recordAt s k))
 removed-at s n k bytes ok =
-    is-written (remove (key (getD rs k noRoute)) rs) (length s / 8) (omega (arith, remove-length (key (getD rs k noRoute)) rs, length-routes s n, ok .listed .records .room))
+    is-written (remove (key (getD rs k noRoute)) rs) (length s / 8)
+    (omega (arith, remove-length (key (getD rs k noRoute)) rs, length-routes s n, ok .listed .records .room))
     (putAt moved (n - 1) noRoute)
     (length-put moved (n - 1) noRoute room ∙ length-drawn s _ _ _ ∙ omega (arith, ok .listed .whole))
     (λ q m h l. at q m h l (below? q k) (below? q (n - 1)) (equal? q (n - 1)))

@@ -1,19 +1,19 @@
--- What a list holds after a change: the routes that then stand, as many as told, and no other byte. Assumes nothing.
-use mathlib.Core.Path.{_≡_, refl, subst}
+-- What a list holds after a change: the routes that then stand, as many as told, and no other byte.
+use mathlib.Core.Path.{_≡_, subst}
 use mathlib.Core.Logic.{_⊎_, inl, inr}
-use mathlib.Core.Bool.{true, false, true≢false, false≢true}
+use mathlib.Core.Bool.{true, false}
 use mathlib.Core.List.{List}
 use Prim.Native.Nat.{ℕ, _/_, _≤_}
 use native.Mathlib.Omega.{arith}
 use lib.ListN.{length}
-use Rattle.bits.proofs.Tests.{decided}
+use Rattle.bits.proofs.Bools.{decided}
 use Rattle.routes.specs.Route.{key, Good}
 use Rattle.standing.specs.Standing.{stands, insert, remove}
 use Rattle.routes.specs.Record.{routesOf, written, Listed}
 use Rattle.routes.specs.declared.Route.{Route}
 use Rattle.standing.proofs.Standing.{insert-good, insert-replaces, remove-good, remove-length}
 use Rattle.routes.proofs.Rows.{length-routes, records-good, routes-written, written-listed}
-use Rattle.lists.specs.Edit.{Insertable, inserted, removed, saysPut, countWith, countWithout, Holds}
+use Rattle.lists.specs.Edit.{Insertable, inserted, removed, countWith, countWithout, ListHolds}
 use Rattle.lists.specs.declared.edit.Put.{Put}
 use Rattle.lists.specs.declared.edit.Put.the-variants as put
 use Rattle.standing.proofs.Changed.{insert-adds, remove-takes, remove-absent}
@@ -32,34 +32,27 @@ remove-count p rs good = go (decided (stands p rs))
     go (inl e) = rw e (omega (arith, remove-takes p rs good e))
     go (inr e) = rw (e, remove-absent p rs e)
 
-holds : (rs : List Route) (room n : ℕ) → Good rs → room ≤ 4096 → length rs ≤ room → length rs ≡ n → Holds (written rs room) n rs
+holds : (rs : List Route) (room n : ℕ) → Good rs → room ≤ 4096 → length rs ≤ room → length rs ≡ n → ListHolds (written rs room) n rs
 holds rs room n good few fits e = record {
   listed = subst (λ (m : ℕ). Listed (written rs room) m) e (written-listed rs room good fits few);
   routes = subst (λ (m : ℕ). routesOf (written rs room) m ≡ rs) e (routes-written rs room good fits);
 }
 
 module _ (s : List ℕ) (n : ℕ) (few : length s / 8 ≤ 4096) where
-  pub insert-holds : (r : Route) → Insertable s n r → Holds (inserted s n r) (countWith (stands (key r) (routesOf s n)) n) (insert r (routesOf s n))
+  pub insert-holds : (r : Route) → Insertable s n r → ListHolds (inserted s n r) (countWith (stands (key r) (routesOf s n)) n) (insert r (routesOf s n))
   insert-holds r ok =
       let good = records-good s n (ok .listed .records) in
       let e : length (insert r (routesOf s n)) ≡ countWith (stands (key r) (routesOf s n)) n = rw length-routes at (insert-count r (routesOf s n) good) in
-      holds (insert r (routesOf s n)) (length s / 8) _ (insert-good r (routesOf s n) (ok .fine) good) few (rw e (go (decided (stands (key r) (routesOf s n))))) e
+      holds (insert r (routesOf s n)) (length s / 8) _ (insert-good r (routesOf s n) (ok .fine) good) few
+      (rw e (go (decided (stands (key r) (routesOf s n))))) e
     where
       go : (stands (key r) (routesOf s n) ≡ true) ⊎ (stands (key r) (routesOf s n) ≡ false) → countWith (stands (key r) (routesOf s n)) n ≤ length s / 8
       go (inl e) = rw e (omega (arith, ok .listed .records .room))
       go (inr e) = rw e (omega (arith, ok .room e))
 
-  pub remove-holds : (p : ℕ) → Listed s n → Holds (removed s n p) (countWithout (stands p (routesOf s n)) n) (remove p (routesOf s n))
+  pub remove-holds : (p : ℕ) → Listed s n → ListHolds (removed s n p) (countWithout (stands p (routesOf s n)) n) (remove p (routesOf s n))
   remove-holds p listed =
       let good = records-good s n (listed .records) in
       holds (remove p (routesOf s n)) (length s / 8) _ (remove-good p (routesOf s n) good) few
       (omega (arith, remove-length p (routesOf s n), length-routes s n, listed .records .room))
       (rw length-routes at (remove-count p (routesOf s n) good))
-
--- two answers that tell the same are the same
-pub saysPut-injective : (x y : Put) → saysPut x ≡ saysPut y → x ≡ y
-unfolding saysPut
-saysPut-injective put.Added put.Added e = refl
-saysPut-injective put.Added put.Replaced e = absurd (false≢true e)
-saysPut-injective put.Replaced put.Added e = absurd (true≢false e)
-saysPut-injective put.Replaced put.Replaced e = refl

@@ -1,4 +1,4 @@
--- Bytes that are drawn from other places of a list, one store at a time. Assumes nothing.
+-- Bytes that are drawn from other places of a list, one store at a time.
 use mathlib.Core.Path.{_≡_, sym, ap, _∙_}
 use mathlib.Core.Logic.{_⊎_, inl, inr, _≢_}
 use mathlib.Core.Bool.{and-false}
@@ -8,7 +8,7 @@ use native.Mathlib.Omega.{arith}
 use lib.ListN.{length, getD, set, length-set}
 use lib.Seq.{ext-getD, getD-set-same, getD-set-other}
 use borrow.Author.Tests.{lt-ltb, le-ltb, le-leb, lt-leb}
-use Rattle.bits.proofs.Tests.{below?, equal?}
+use Rattle.bits.proofs.Bools.{below?, equal?}
 use Rattle.bits.proofs.Tabs.{length-tabulate, getD-tabulate}
 use Rattle.lists.specs.Edit.{drawn, movedUp, movedDown}
 
@@ -67,7 +67,8 @@ module _ (s : List ℕ) (from : ℕ → ℕ) where
 pub up-step : (s : List ℕ) (at e : ℕ) → 0 < at → at ≤ e → e + 8 ≤ length s
     → set (movedUp s at e) (at - 1 + 8) (getD (movedUp s at e) (at - 1) 0) ≡ movedUp s (at - 1) e
 up-step s at e z l h =
-    let v : getD (movedUp s at e) (at - 1) 0 ≡ getD s (at - 1 + 8 - 8) 0 = drawn-before s _ (at + 8) (e + 8) (at - 1) (omega arith) (omega arith) ∙ ap (λ (x : ℕ). getD s x 0) (omega arith) in
+    let v : getD (movedUp s at e) (at - 1) 0 ≡ getD s (at - 1 + 8 - 8) 0 = drawn-before s _ (at + 8) (e + 8) (at - 1) (omega arith) (omega arith)
+    ∙ ap (λ (x : ℕ). getD s x 0) (omega arith) in
     let q : at + 8 ≡ at - 1 + 8 + 1 = omega arith in
     ap (λ (x : ℕ). set (movedUp s at e) (at - 1 + 8) x) v
     ∙ ap (λ (b : ℕ). set (drawn s b (e + 8) (λ j. j - 8)) (at - 1 + 8) (getD s (at - 1 + 8 - 8) 0)) q

@@ -1,4 +1,4 @@
--- What stands at the place of a key, and so which change is the right one there. Assumes nothing.
+-- What stands at the place of a key, and so which change is the right one there.
 use mathlib.Core.Path.{_≡_, refl, sym, ap, ap₂, _∙_}
 use mathlib.Core.Logic.{_⊎_, inl, inr, _≢_}
 use mathlib.Core.Bool.{Bool, true, false, true≢false}
@@ -8,7 +8,7 @@ use native.Mathlib.Omega.{arith}
 use lib.Dec.{eqb}
 use lib.ListN.{length, getD}
 use borrow.Author.Tests.{eqb-true, eq-eqb, ne-eqb}
-use Rattle.bits.proofs.Tests.{below?, equal?}
+use Rattle.bits.proofs.Bools.{below?, equal?}
 use Rattle.routes.specs.Route.{key}
 use Rattle.standing.specs.Standing.{stands}
 use Rattle.routes.specs.Record.{recordAt, routesOf, written, Listed}
@@ -31,7 +31,12 @@ module _ (s : List ℕ) (n k p : ℕ) (at : Placed s n k p) where
       go : (i : ℕ) → i < n → (i < k) ⊎ (k ≤ i) → (i ≡ k) ⊎ (i ≢ k) → key (recordAt s i) ≢ p
       go i v (inl u) e = λ q. omega (arith, before i u)
       go i v (inr u) (inl e) = rw e (h (rw e at v))
-      go i v (inr u) (inr e) = λ q. omega (arith, place-after s n p (at .records) k (rw (at .place) (omega arith)) (omega arith), at .records .rises k i (omega (arith, e)) v)
+      go i v (inr u) (inr e) = λ q. omega (
+        arith,
+        place-after s n p (at .records) k (rw (at .place) (omega arith))
+            (omega arith),
+        at .records .rises k i (omega (arith, e)) v,
+      )
 
   -- the tests of `stands_at`
   pub at-place : (x : ℕ) → k < n → x ≡ key (recordAt s k) → eqb x p ≡ stands p (routesOf s n)
@@ -81,7 +86,8 @@ module _ (s : List ℕ) (n k p : ℕ) (r : Route) (b : Bool) where
         after = λ u. rw (← q) (after s n k p at (sym h ∙ t) u);
       }
 
-pub put-told : (s : List ℕ) (n p : ℕ) (r : Route) (b c : Bool) (t : List ℕ) → p ≡ key r → b ≡ stands p (routesOf s n) → b ≡ c → t ≡ inserted s n r → edited c t ≡ inserting s n r
+pub put-told : (s : List ℕ) (n p : ℕ) (r : Route) (b c : Bool) (t : List ℕ) → p ≡ key r → b ≡ stands p (routesOf s n) → b ≡ c → t ≡ inserted s n r
+    → edited c t ≡ inserting s n r
 put-told s n p r b c t q h e w = rw (w, ← e, h, q)
 
 -- what `remove` hands on, and what it tells

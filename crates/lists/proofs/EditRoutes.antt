@@ -1,16 +1,15 @@
--- A route put into a good list at its place, and one taken out of it, by places. Assumes nothing.
+-- A route put into a good list at its place, and one taken out of it, by places.
 use mathlib.Core.Path.{_≡_, refl, sym, ap, ap₂, _∙_}
 use mathlib.Core.Logic.{_⊎_, inl, inr, _≢_}
-use mathlib.Core.Bool.{Bool, true, false, cond, or-true, false≢true}
+use mathlib.Core.Bool.{Bool, true, false, cond, or-true}
 use mathlib.Core.List.{List, [], _∷_, _++_}
 use Prim.Native.Nat.{ℕ, zero, suc, _+_, _-_, _≤_, _<_, suc-le-suc, zero-le}
 use native.Mathlib.Nat.{not-suc-le-zero, le-of-suc-le-suc}
 use native.Mathlib.Omega.{arith}
 use lib.ListN.{length, getD, set, take, drop, length-drop, drop-of-length-le, List·getD-append}
 use lib.Seq.{drop-cons, split-at, set-split, length-take-le, getD-take, getD-drop, getD-append-add, getD-at}
-use lib.Dec.{ltb}
-use borrow.Author.Tests.{eqb-true, eq-eqb, ne-eqb}
-use Rattle.bits.proofs.Tests.{decided, or-none, below?}
+use borrow.Author.Tests.{eq-eqb, ne-eqb}
+use Rattle.bits.proofs.Bools.{below?}
 use Rattle.routes.specs.Route.{key, Good}
 use Rattle.standing.specs.Cells.{any}
 use Rattle.standing.specs.Standing.{isAt, stands, insert, remove}
@@ -18,10 +17,11 @@ use Rattle.routes.specs.Record.{noRoute}
 use Rattle.routes.specs.declared.Route.{Route}
 use Rattle.standing.proofs.Changed.{remove-absent}
 use Rattle.standing.proofs.Standing.{insert-before, insert-same, insert-after}
-use Rattle.routes.proofs.Rows.{nth-listed, good-rises}
+use Rattle.routes.proofs.Rows.{good-rises}
 
 -- routes of smaller keys stay before the new one
-past : (r : Route) (rs : List Route) (k : ℕ) → k ≤ length rs → ((i : ℕ) → i < k → key (getD rs i noRoute) < key r) → insert r rs ≡ take k rs ++ insert r (drop k rs)
+past : (r : Route) (rs : List Route) (k : ℕ) → k ≤ length rs → ((i : ℕ) → i < k → key (getD rs i noRoute) < key r) → insert r rs
+    ≡ take k rs ++ insert r (drop k rs)
 past r rs zero l h = refl
 past r [] (suc k) l h = absurd (not-suc-le-zero l)
 past r (x ∷ xs) (suc k) l h =
@@ -84,7 +84,8 @@ unfolding remove
 remove-append p [] ys = refl
 remove-append p (x ∷ xs) ys = go (isAt p x) (remove-append p xs ys)
   where
-    go : (b : Bool) → remove p (xs ++ ys) ≡ remove p xs ++ remove p ys → cond b (remove p (xs ++ ys)) (x ∷ remove p (xs ++ ys)) ≡ cond b (remove p xs) (x ∷ remove p xs) ++ remove p ys
+    go : (b : Bool) → remove p (xs ++ ys) ≡ remove p xs ++ remove p ys → cond b (remove p (xs ++ ys)) (x ∷ remove p (xs ++ ys)) ≡ cond b
+        (remove p xs) (x ∷ remove p xs) ++ remove p ys
     go true e = e
     go false e = rw e
 
@@ -97,7 +98,8 @@ without : (rs : List Route) (k : ℕ) → Good rs → k < length rs → remove (
 without rs k good l =
     ap (remove p) (split-at rs k noRoute l)
     ∙ remove-append p (take k rs) (getD rs k noRoute ∷ drop (suc k) rs)
-    ∙ ap₂ (λ (x y : List Route). x ++ y) (absent (take k rs) (λ i u. first i (rw (length-take-le k rs (omega arith)) at u))) (remove-head p _ _ refl ∙ absent (drop (suc k) rs) rest)
+    ∙ ap₂ (λ (x y : List Route). x ++ y) (absent (take k rs) (λ i u. first i (rw (length-take-le k rs (omega arith)) at u)))
+    (remove-head p _ _ refl ∙ absent (drop (suc k) rs) rest)
   where
     p : ℕ
     p = key (getD rs k noRoute)

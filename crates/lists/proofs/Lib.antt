@@ -1,7 +1,8 @@
--- The laws of places and changes.
+-- The laws of places, of changes, and of the test.
 pub mod Places
 pub mod EditMoves
 pub mod EditRoutes
 pub mod EditBytes
 pub mod EditPlaces
 pub mod EditHolds
+pub mod ListTest

@@ -1,4 +1,4 @@
--- Laws of places in an ascending list, and what a turn of the halving keeps. Assumes nothing.
+-- Laws of places in an ascending list, and what a turn of the halving keeps.
 use mathlib.Core.Path.{_≡_, sym}
 use mathlib.Core.Logic.{⊎-elim}
 use mathlib.Core.List.{List}

@@ -1,5 +1,4 @@
 -- A list of records that is changed in place: how its bytes move, what a change asks, and what the list then holds.
--- Assumes nothing.
 use Prim.Native.Nat.{ℕ, _+_, _-_, _*_, _/_, _≤_, _<_}
 use mathlib.Core.Bool.{Bool, true, false, cond, _&&_}
 use mathlib.Core.List.{List}
@@ -79,9 +78,9 @@ abbrev pub removing : List ℕ → ℕ → ℕ → Edited
 removing s n p = edited (stands p (routesOf s n)) (removed s n p)
 
 -- whether a route of the prefix stood before
-unfoldable pub saysPut : Put → Bool
-saysPut put.Added = false
-saysPut put.Replaced = true
+unfoldable pub meansPut : Put → Bool
+meansPut put.Added = false
+meansPut put.Replaced = true
 
 -- how many routes stand with a route put in, and with one taken out, where n stood: by whether one of the prefix was among them
 abbrev pub countWith : Bool → ℕ → ℕ
@@ -91,6 +90,6 @@ abbrev pub countWithout : Bool → ℕ → ℕ
 countWithout b n = cond b (n - 1) n
 
 -- the list holds n routes, and they are rs
-pub record Holds (s : List ℕ) (n : ℕ) (rs : List Route) : Type 0 where
+pub record ListHolds (s : List ℕ) (n : ℕ) (rs : List Route) : Type 0 where
   pub listed : Listed s n
   pub routes : routesOf s n ≡ rs

@@ -1,4 +1,4 @@
--- The place of a key in a list of records. Assumes nothing.
+-- The place of a key in a list of records.
 use Prim.Native.Nat.{ℕ}
 use mathlib.Core.Bool.{Bool}
 use mathlib.Core.List.{List}

@@ -9,7 +9,7 @@ ghost use Rattle.routes.specs.Route.{key, keyOf};
 ghost use Rattle.routes.specs.Record.{recordAt, routesOf, Listed};
 ghost use Rattle.standing.specs.Standing.{stands};
 ghost use Rattle.lists.specs.Edit.{movedUp, movedDown, inserted, removed, InsertAt, ReplaceAt, RemoveAt, Placed, Insertable};
-ghost use Rattle.lists.specs.Edit.{edited, inserting, removing, saysPut};
+ghost use Rattle.lists.specs.Edit.{edited, inserting, removing, meansPut};
 
 // The bytes from `a` on and before `e` move up by one record. The last goes first, so that none is lost.
 fn move_up(list: &mut [u8], a: usize, e: usize)
@@ -91,7 +91,7 @@ pub enum Put {
 // `r` is put into the list's n records, over the route of its prefix where one stands.
 pub fn insert(list: &mut [u8], n: usize, r: Route) -> Put
     requires { ⌜ Insertable (now list) n r ⌝ }
-    ensures { λ p. ⌜ edited (saysPut p) (now (list .exit)) ≡ inserting (now (list .entry)) n r ⌝ }
+    ensures { λ p. ⌜ edited (meansPut p) (now (list .exit)) ≡ inserting (now (list .entry)) n r ⌝ }
 {
     let p = record::key_of(r.addr, r.len);
     let k = place::place(list, n, p);

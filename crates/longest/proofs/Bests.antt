@@ -9,7 +9,7 @@ use native.Mathlib.Omega.{arith}
 use lib.Dec.{ltb}
 use borrow.Author.Tests.{ltb-true, ltb-false}
 use Rattle.bits.specs.Slot.{slot}
-use Rattle.bits.proofs.Tests.{decided}
+use Rattle.bits.proofs.Bools.{decided}
 use Rattle.routes.specs.Route.{Good}
 use Rattle.routes.specs.Record.{recordAt, routesOf, GoodInput, routesIn}
 use Rattle.routes.specs.declared.Route.{Route}

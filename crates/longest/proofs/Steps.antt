@@ -5,14 +5,14 @@ use mathlib.Core.Path.{_≡_, sym, ap, _∙_}
 use mathlib.Core.Logic.{_⊎_, inl, inr, _≢_}
 use mathlib.Core.Bool.{true, false, true≢false}
 use mathlib.Core.List.{List}
-use Prim.Native.Nat.{ℕ, _+_, _-_, _*_, _/_, _^_, _≤_, _<_}
+use Prim.Native.Nat.{ℕ, _+_, _-_, _*_, _^_, _≤_, _<_}
 use native.Mathlib.Nat.{eq-or-lt-of-le, le-antisymm}
 use native.Mathlib.Omega.{arith}
 use lib.Pow.{shr-mono}
 use borrow.Author.Tests.{le-leb, eq-eqb}
 use Rattle.bits.specs.Slot.{slot, cut}
 use Rattle.bits.proofs.Slots.{cut-slot, cut-mono, cut-le, cut-is}
-use Rattle.bits.proofs.Tests.{below?, equal?, both, untrue}
+use Rattle.bits.proofs.Bools.{below?, equal?, both, untrue}
 use Rattle.routes.specs.Route.{key, keyOf}
 use Rattle.routes.specs.Record.{recordAt, Records}
 use Rattle.routes.specs.declared.Route.{Route}
@@ -24,8 +24,8 @@ use Rattle.lists.proofs.Places.{place-before, place-after}
 use Rattle.longest.specs.Longest.{LongestAt, LongestRecord, Shared}
 
 -- the records up to the first l bits b of an address, by the key p that is theirs
-pub counted : (s : List ℕ) (n a l b m p k : ℕ) → b ≡ cut l a → m ≡ l → p ≡ b * 256 + m → k ≡ placeOf s n (p + 1) → k ≡ placeOf s n (keyOf (cut l a) l + 1)
-counted s n a l b m p k eb em ep ek = ek ∙ ap (λ (x : ℕ). placeOf s n (x + 1)) (omega arith)
+pub records-to-is : (s : List ℕ) (n a l b m p k : ℕ) → b ≡ cut l a → m ≡ l → p ≡ b * 256 + m → k ≡ placeOf s n (p + 1) → k ≡ placeOf s n (keyOf (cut l a) l + 1)
+records-to-is s n a l b m p k eb em ep ek = ek ∙ ap (λ (x : ℕ). placeOf s n (x + 1)) (omega arith)
 
 -- no record of m bits or more covers the address
 pub NoneFrom : List ℕ → ℕ → ℕ → ℕ → Type 0

@@ -1,8 +1,9 @@
 // The longest record that covers an address, found in an ascending list by halving. No list is scanned, and nothing is built.
+use bits::widen::byte_to_word;
 use lists::place::place;
 use routes::record;
 ghost use mathlib.Core.Path.{_≡_};
-ghost use Prim.Native.Nat.{_+_, _*_, _≤_, _<_};
+ghost use Prim.Native.Nat.{_+_, _≤_};
 ghost use Rattle.bits.specs.Slot.{cut};
 ghost use Rattle.routes.specs.Record.{Records};
 ghost use Rattle.routes.specs.Route.{keyOf};
@@ -50,7 +51,7 @@ pub fn longest_record(list: &[u8], n: usize, addr: u32, low: u32) -> usize
             return 0;
         }
         let r = record::read_record(list, k - 1);
-        let len = record::wide(r.len);
+        let len = byte_to_word(r.len);
         let same = shared(r.addr, addr);
         if len <= same {
             if len < low {

@@ -4,10 +4,10 @@ use mathlib.Core.List.{List, [], _∷_}
 use Prim.Native.Nat.{ℕ, _^_, _≤_, _<_}
 use native.Mathlib.Omega.{arith}
 use Rattle.routes.specs.Said.{Said, accepted, packed}
-use Rattle.packing.specs.Unpack.{field, Fits}
+use Rattle.packing.specs.Unpack.{field, FitsWord}
 use Rattle.packing.specs.Parts.{parts}
 use Rattle.packing.specs.Casts.{packCast, castValues, unpackCast, CastFits, castParts}
-use Rattle.packing.proofs.Unpacks.{Reads, said-read}
+use Rattle.packing.proofs.Unpacks.{ReadsAccepted, said-read}
 use Rattle.packing.proofs.Parts.{Sums, said-parts}
 
 module _ (b x : ℕ) (h : b < 2) (e : x ≡ packCast (accepted (b ∷ []))) where
@@ -15,7 +15,7 @@ module _ (b x : ℕ) (h : b < 2) (e : x ≡ packCast (accepted (b ∷ []))) wher
   unfolding packed
   bit-8 = omega arith
 
-  cast-values : Reads castValues x (b ∷ [])
+  cast-values : ReadsAccepted castValues x (b ∷ [])
   unfolding packed castValues
   cast-values = record { none = omega arith; back = rw bit-8 }
 
@@ -24,14 +24,14 @@ module _ (b x : ℕ) (h : b < 2) (e : x ≡ packCast (accepted (b ∷ []))) wher
   cast-sum = record { none = omega arith; sum = rw bit-8 (omega arith) }
 
 module _ (most : ℕ) (few : most ≤ 2 ^ 32) where
-  pub cast-read : (s : Said) → Fits most CastFits s → unpackCast (packCast s) ≡ s
+  pub cast-read : (s : Said) → FitsWord most CastFits s → unpackCast (packCast s) ≡ s
   unfolding packed
   cast-read = said-read most few CastFits _ castValues go
     where
-      go : (vs : List ℕ) → CastFits vs → Reads castValues (packCast (accepted vs)) vs
+      go : (vs : List ℕ) → CastFits vs → ReadsAccepted castValues (packCast (accepted vs)) vs
       go _ (CastFits.which b h) = cast-values b _ h refl
 
-  pub cast-parts : (s : Said) → Fits most CastFits s → packCast s ≡ parts castParts (packCast s)
+  pub cast-parts : (s : Said) → FitsWord most CastFits s → packCast s ≡ parts castParts (packCast s)
   unfolding packed
   cast-parts = said-parts most few CastFits _ castParts go
     where

@@ -5,10 +5,10 @@ use Prim.Native.Nat.{ℕ, _+_, _*_, _%_, _^_, _≤_, _<_}
 use native.Mathlib.Nat.{mod-eq-of-lt}
 use native.Mathlib.Omega.{arith}
 use Rattle.routes.specs.Said.{Said, accepted, packed}
-use Rattle.packing.specs.Unpack.{field, Fits}
+use Rattle.packing.specs.Unpack.{field, FitsWord}
 use Rattle.packing.specs.Parts.{parts}
 use Rattle.packing.specs.ImageAnswers.{packImage, imageValues, unpackImage, ImageFits, imageParts}
-use Rattle.packing.proofs.Unpacks.{field-is, Reads, said-read}
+use Rattle.packing.proofs.Unpacks.{field-is, ReadsAccepted, said-read}
 use Rattle.packing.proofs.Parts.{Sums, said-parts}
 
 -- the three fields of an accepted answer
@@ -31,7 +31,8 @@ image-fields b nodes hops x h i j e =
       kept = r;
     }
 
-image-values : (b nodes hops x : ℕ) → b < 2 → nodes < 2 ^ 32 → hops < 2 ^ 16 → x ≡ packImage (accepted (b ∷ nodes ∷ hops ∷ [])) → Reads imageValues x (b ∷ nodes ∷ hops ∷ [])
+image-values : (b nodes hops x : ℕ) → b < 2 → nodes < 2 ^ 32 → hops < 2 ^ 16 → x ≡ packImage (accepted (b ∷ nodes ∷ hops ∷ []))
+    → ReadsAccepted imageValues x (b ∷ nodes ∷ hops ∷ [])
 unfolding imageValues
 image-values b nodes hops x h i j e =
     let f = image-fields b nodes hops x h i j e in
@@ -44,14 +45,14 @@ image-sum b nodes hops x h i j e =
     record { none = f .none; sum = rw (f .flag, f .low, f .high) (omega (arith, f .kept)) }
 
 module _ (most : ℕ) (few : most ≤ 2 ^ 32) where
-  pub image-read : (s : Said) → Fits most ImageFits s → unpackImage (packImage s) ≡ s
+  pub image-read : (s : Said) → FitsWord most ImageFits s → unpackImage (packImage s) ≡ s
   unfolding packed
   image-read = said-read most few ImageFits _ imageValues go
     where
-      go : (vs : List ℕ) → ImageFits vs → Reads imageValues (packImage (accepted vs)) vs
+      go : (vs : List ℕ) → ImageFits vs → ReadsAccepted imageValues (packImage (accepted vs)) vs
       go _ (ImageFits.which b nodes hops h i j) = image-values b nodes hops _ h i j refl
 
-  pub image-parts : (s : Said) → Fits most ImageFits s → packImage s ≡ parts imageParts (packImage s)
+  pub image-parts : (s : Said) → FitsWord most ImageFits s → packImage s ≡ parts imageParts (packImage s)
   unfolding packed
   image-parts = said-parts most few ImageFits _ imageParts go
     where

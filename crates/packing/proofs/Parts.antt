@@ -10,9 +10,22 @@ use Rattle.routes.specs.Said.{Said, accepted, refused, refusedAt}
 use Rattle.sail.specs.Word.{packed, packFound}
 use Rattle.basic.specs.Calls.{packHop}
 use Rattle.packing.specs.Pack.{packReport, packChange, packBuilt, packRun, packNone, packRoute}
-use Rattle.packing.specs.Unpack.{field, Fits, FoundFits, ReportFits, BuiltFits, RunFits, RouteFits, AnnounceFits, WithdrawFits, DoneFits}
+use Rattle.packing.specs.Unpack.{field, FitsWord, FoundFits, ReportFits, BuiltFits, RunFits, RouteFits, AnnounceFits, WithdrawFits, DoneFits}
 use Rattle.packing.specs.Hops.{HopFits}
-use Rattle.packing.specs.Parts.{refusalParts, parts, foundParts, reportParts, builtParts, runParts, routeParts, announceParts, withdrawParts, doneParts, hopParts, noParts}
+use Rattle.packing.specs.Parts.{
+  refusalParts,
+  parts,
+  foundParts,
+  reportParts,
+  builtParts,
+  runParts,
+  routeParts,
+  announceParts,
+  withdrawParts,
+  doneParts,
+  hopParts,
+  noParts,
+}
 use Rattle.packing.proofs.Unpacks.{field-is}
 
 -- Refusals, the same in all layouts.
@@ -40,11 +53,11 @@ pub record Sums (values : ℕ → ℕ) (x : ℕ) : Type 0 where
 
 module _ (most : ℕ) (few : most ≤ 2 ^ 32) (P : List ℕ → Type 0) (layout : List ℕ → ℕ) (values : ℕ → ℕ)
     (sums : (vs : List ℕ) → P vs → Sums values (packed layout (accepted vs))) where
-  pub said-parts : (s : Said) → Fits most P s → packed layout s ≡ parts values (packed layout s)
+  pub said-parts : (s : Said) → FitsWord most P s → packed layout s ≡ parts values (packed layout s)
   unfolding packed parts
-  said-parts _ (Fits.values vs p) = let r = sums vs p in rw (eq-eqb _ 0 (r .none)) (r .sum)
-  said-parts _ (Fits.number n a b) = number-parts layout values n _ a b refl
-  said-parts _ (Fits.index n k a b c) = index-parts layout values n k _ a b (omega arith) refl
+  said-parts _ (FitsWord.values vs p) = let r = sums vs p in rw (eq-eqb _ 0 (r .none)) (r .sum)
+  said-parts _ (FitsWord.number n a b) = number-parts layout values n _ a b refl
+  said-parts _ (FitsWord.index n k a b c) = index-parts layout values n k _ a b (omega arith) refl
 
 -- The layouts, each over its packed number.
 report-sum : (n y z x : ℕ) → n < 2 ^ 16 → y < 2 ^ 16 → z < 2 ^ 16 → x ≡ packReport (accepted (n ∷ y ∷ z ∷ [])) → Sums reportParts x
@@ -81,7 +94,8 @@ run-sum j n x a b e =
     let q : n % 65536 ≡ n = mod-eq-of-lt b in
     record { none = omega arith; sum = rw (f, g) (omega arith) }
 
-route-sum : (a len mark hop x : ℕ) → a < 2 ^ 32 → len < 2 ^ 7 → mark < 2 → hop < 2 ^ 16 → x ≡ packRoute (accepted (a ∷ len ∷ mark ∷ hop ∷ [])) → Sums routeParts x
+route-sum : (a len mark hop x : ℕ) → a < 2 ^ 32 → len < 2 ^ 7 → mark < 2 → hop < 2 ^ 16 → x ≡ packRoute (accepted (a ∷ len ∷ mark ∷ hop ∷ []))
+    → Sums routeParts x
 unfolding packed routeParts
 route-sum a len mark hop x i j n m e =
     let u : len % 128 ≡ len = mod-eq-of-lt j in
@@ -117,7 +131,7 @@ hop-sum h x b e = record { none = omega arith; sum = omega arith }
 
 -- The theorem, for each layout.
 module _ (most : ℕ) (few : most ≤ 2 ^ 32) where
-  pub found-parts : (s : Said) → Fits most FoundFits s → packFound s ≡ parts foundParts (packFound s)
+  pub found-parts : (s : Said) → FitsWord most FoundFits s → packFound s ≡ parts foundParts (packFound s)
   unfolding packed
   found-parts = said-parts most few FoundFits _ foundParts go
     where
@@ -125,28 +139,28 @@ module _ (most : ℕ) (few : most ≤ 2 ^ 32) where
       go _ (FoundFits.hop n h a b c) = found-sum n h _ a c refl
       go _ (FoundFits.none n a) = found-sum n 0 _ a (omega arith) refl
 
-  pub report-parts : (s : Said) → Fits most ReportFits s → packReport s ≡ parts reportParts (packReport s)
+  pub report-parts : (s : Said) → FitsWord most ReportFits s → packReport s ≡ parts reportParts (packReport s)
   unfolding packed
   report-parts = said-parts most few ReportFits _ reportParts go
     where
       go : (vs : List ℕ) → ReportFits vs → Sums reportParts (packReport (accepted vs))
       go _ (ReportFits.report n y z a b c) = report-sum n y z _ a b c refl
 
-  pub built-parts : (s : Said) → Fits most BuiltFits s → packBuilt s ≡ parts builtParts (packBuilt s)
+  pub built-parts : (s : Said) → FitsWord most BuiltFits s → packBuilt s ≡ parts builtParts (packBuilt s)
   unfolding packed
   built-parts = said-parts most few BuiltFits _ builtParts go
     where
       go : (vs : List ℕ) → BuiltFits vs → Sums builtParts (packBuilt (accepted vs))
       go _ (BuiltFits.image n h a b) = built-sum n h _ a b refl
 
-  pub run-parts : (s : Said) → Fits most RunFits s → packRun s ≡ parts runParts (packRun s)
+  pub run-parts : (s : Said) → FitsWord most RunFits s → packRun s ≡ parts runParts (packRun s)
   unfolding packed
   run-parts = said-parts most few RunFits _ runParts go
     where
       go : (vs : List ℕ) → RunFits vs → Sums runParts (packRun (accepted vs))
       go _ (RunFits.run j n a b) = run-sum j n _ a b refl
 
-  pub route-parts : (s : Said) → Fits most RouteFits s → packRoute s ≡ parts routeParts (packRoute s)
+  pub route-parts : (s : Said) → FitsWord most RouteFits s → packRoute s ≡ parts routeParts (packRoute s)
   unfolding packed
   route-parts = said-parts most few RouteFits _ routeParts go
     where
@@ -154,28 +168,28 @@ module _ (most : ℕ) (few : most ≤ 2 ^ 32) where
       go _ (RouteFits.one a len mark hop i j n k m) = route-sum a len mark hop _ i j n m refl
       go _ RouteFits.nothing = route-sum 0 0 0 0 _ (omega arith) (omega arith) (omega arith) (omega arith) refl
 
-  pub announce-parts : (count : ℕ) (s : Said) → Fits most (AnnounceFits count) s → packChange count s ≡ parts announceParts (packChange count s)
+  pub announce-parts : (count : ℕ) (s : Said) → FitsWord most (AnnounceFits count) s → packChange count s ≡ parts announceParts (packChange count s)
   unfolding packed
   announce-parts count = said-parts most few (AnnounceFits count) _ announceParts go
     where
       go : (vs : List ℕ) → AnnounceFits count vs → Sums announceParts (packChange count (accepted vs))
       go _ (AnnounceFits.which c b h i j) = announce-sum c b count _ h i j refl
 
-  pub withdraw-parts : (count : ℕ) (s : Said) → Fits most (WithdrawFits count) s → packChange count s ≡ parts withdrawParts (packChange count s)
+  pub withdraw-parts : (count : ℕ) (s : Said) → FitsWord most (WithdrawFits count) s → packChange count s ≡ parts withdrawParts (packChange count s)
   unfolding packed
   withdraw-parts count = said-parts most few (WithdrawFits count) _ withdrawParts go
     where
       go : (vs : List ℕ) → WithdrawFits count vs → Sums withdrawParts (packChange count (accepted vs))
       go _ (WithdrawFits.gone c i j) = withdraw-sum c count _ i j refl
 
-  pub done-parts : (count : ℕ) (s : Said) → Fits most (DoneFits count) s → packChange count s ≡ parts doneParts (packChange count s)
+  pub done-parts : (count : ℕ) (s : Said) → FitsWord most (DoneFits count) s → packChange count s ≡ parts doneParts (packChange count s)
   unfolding packed
   done-parts count = said-parts most few (DoneFits count) _ doneParts go
     where
       go : (vs : List ℕ) → DoneFits count vs → Sums doneParts (packChange count (accepted vs))
       go _ (DoneFits.done j) = done-sum count _ j (omega arith)
 
-  pub hop-parts : (s : Said) → Fits most HopFits s → packHop s ≡ parts hopParts (packHop s)
+  pub hop-parts : (s : Said) → FitsWord most HopFits s → packHop s ≡ parts hopParts (packHop s)
   unfolding packed
   hop-parts = said-parts most few HopFits _ hopParts go
     where
@@ -183,6 +197,6 @@ module _ (most : ℕ) (few : most ≤ 2 ^ 32) where
       go _ (HopFits.hop h a b) = hop-sum h _ b refl
       go _ HopFits.none = hop-sum 0 _ (omega arith) refl
 
-  pub none-parts : (P : List ℕ → Type 0) (s : Said) → Fits most P s → packNone s ≡ parts noParts (packNone s)
+  pub none-parts : (P : List ℕ → Type 0) (s : Said) → FitsWord most P s → packNone s ≡ parts noParts (packNone s)
   unfolding packed noParts
   none-parts P = said-parts most few P _ noParts (λ vs p. record { none = refl; sum = refl })

@@ -6,7 +6,7 @@ use Prim.Native.Nat.{ℕ, _*_, _^_, _≤_, _<_}
 use native.Mathlib.Omega.{arith}
 use lib.ListN.{length, set}
 use borrow.Author.Tests.{eq-eqb, ne-eqb}
-use Rattle.bits.proofs.Tests.{equal?}
+use Rattle.bits.proofs.Bools.{equal?}
 use Rattle.routes.specs.Said.{accepted, refused}
 use Rattle.sail.specs.Word.{packed}
 use Rattle.packing.specs.Unpack.{field, refusalOf, unpacked, noValues, unpackNone, countOf}

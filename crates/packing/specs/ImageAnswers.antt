@@ -25,5 +25,5 @@ unfoldable pub imageParts : ℕ → ℕ
 imageParts x = field 8 1 x * 2 ^ 8 + field 16 16 x * 2 ^ 16 + field 32 32 x * 2 ^ 32
 
 -- words are numbers of 32 bits: so of every `&[u32]` that is lent
-pub record Words (ws : List ℕ) : Type 0 where
+pub record Words32 (ws : List ℕ) : Type 0 where
   pub each : (k : ℕ) → getD ws k 0 < 2 ^ 32

@@ -1,8 +1,7 @@
 -- How a caller reads a packed answer: by the fields that include/ghatumri.h names, and nothing else. And what fits the fields of each
--- layout. Assumes nothing.
+-- layout.
 use mathlib.Core.Bool.{cond}
 use mathlib.Core.List.{List, [], _∷_}
-use mathlib.Core.Path.{_≡_}
 use Prim.Native.Nat.{ℕ, _/_, _%_, _^_, _≤_, _<_}
 use lib.Dec.{eqb}
 use lib.ListN.{getD}
@@ -87,10 +86,10 @@ abbrev pub countOf : ℕ → ℕ
 countOf x = field 16 16 x
 
 -- What has room: a number of 1 to 255, an index below `most`, and values of which P holds. Where `most` is 0, no index is carried.
-pub data Fits (most : ℕ) (P : List ℕ → Type 0) : Said → Type 0 where
-  values : (vs : List ℕ) → P vs → Fits most P (accepted vs)
-  number : (n : ℕ) → 1 ≤ n → n < 2 ^ 8 → Fits most P (refused n)
-  index : (n k : ℕ) → 1 ≤ n → n < 2 ^ 8 → k < most → Fits most P (refusedAt n k)
+pub data FitsWord (most : ℕ) (P : List ℕ → Type 0) : Said → Type 0 where
+  values : (vs : List ℕ) → P vs → FitsWord most P (accepted vs)
+  number : (n : ℕ) → 1 ≤ n → n < 2 ^ 8 → FitsWord most P (refused n)
+  index : (n k : ℕ) → 1 ≤ n → n < 2 ^ 8 → k < most → FitsWord most P (refusedAt n k)
 
 -- the values that have room in each layout
 pub data FoundFits : List ℕ → Type 0 where
@@ -121,7 +120,7 @@ pub data DoneFits (count : ℕ) : List ℕ → Type 0 where
   done : count < 2 ^ 16 → DoneFits count []
 
 -- cells are numbers of 16 bits: so of every `&[u16]` that is lent
-pub record Cells (l : Lent) : Type 0 where
+pub record Cells16 (l : Lent) : Type 0 where
   pub first : (k : ℕ) → getD (l .first) k 0 < 2 ^ 16
   pub second : (k : ℕ) → getD (l .second) k 0 < 2 ^ 16
   pub third : (k : ℕ) → getD (l .third) k 0 < 2 ^ 16

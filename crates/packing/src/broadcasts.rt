@@ -2,11 +2,11 @@
 use crate::refused_at;
 use broadcast::Cast;
 ghost use mathlib.Core.Path.{_≡_};
-ghost use Rattle.broadcast.specs.Cast.{saysCast};
+ghost use Rattle.broadcast.specs.Cast.{meansCast};
 ghost use Rattle.packing.specs.Casts.{packCast};
 
-pub fn told(a: Cast) -> u64
-    ensures { λ r. ⌜ r ≡ packCast (saysCast a) ⌝ }
+pub fn cast_word(a: Cast) -> u64
+    ensures { λ r. ⌜ r ≡ packCast (meansCast a) ⌝ }
 {
     match a {
         Cast::Yes => 256,

@@ -1,16 +1,16 @@
 // The answers of the test and the changes of an image.
-use crate::byte;
 use crate::flag;
 use crate::narrow;
-use crate::word;
-use tree_change::Announced;
-use tree_change::Withdrawn;
+use bits::widen::byte_to_long;
+use bits::widen::word_to_long;
+use tree_change::TreeAnnounced;
+use tree_change::TreeWithdrawn;
 use tree_check::Tested;
 ghost use mathlib.Core.Path.{_≡_};
 ghost use Prim.Native.Nat.{_+_, _*_, _%_, _^_};
 ghost use Rattle.bits.specs.Count.{bit};
-ghost use Rattle.tree_check.specs.Answers.{saysTested};
-ghost use Rattle.tree_change.specs.Changed.{saysAnnounced, saysWithdrawn};
+ghost use Rattle.tree_check.specs.Answers.{meansTested};
+ghost use Rattle.tree_change.specs.Changed.{meansTreeAnnounced, meansTreeWithdrawn};
 ghost use Rattle.packing.specs.Pack.{packBuilt};
 ghost use Rattle.packing.specs.ImageAnswers.{packImage};
 
@@ -18,11 +18,11 @@ ghost use Rattle.packing.specs.ImageAnswers.{packImage};
 fn used(replaced: bool, nodes: u32, hops: u32) -> u64
     ensures { λ r. ⌜ r ≡ bit replaced * 256 + hops % 65536 * 65536 + nodes * 2 ^ 32 ⌝ }
 {
-    flag(replaced) * 256 + narrow(word(hops)) * 65536 + word(nodes) * 4294967296
+    flag(replaced) * 256 + narrow(word_to_long(hops)) * 65536 + word_to_long(nodes) * 4294967296
 }
 
 pub fn tested(a: Tested) -> u64
-    ensures { λ r. ⌜ r ≡ packBuilt (saysTested a) ⌝ }
+    ensures { λ r. ⌜ r ≡ packBuilt (meansTested a) ⌝ }
 {
     match a {
         Tested::Image(nodes, hops) => used(false, nodes, hops),
@@ -30,21 +30,21 @@ pub fn tested(a: Tested) -> u64
     }
 }
 
-pub fn announced(a: Announced) -> u64
-    ensures { λ r. ⌜ r ≡ packImage (saysAnnounced a) ⌝ }
+pub fn announced(a: TreeAnnounced) -> u64
+    ensures { λ r. ⌜ r ≡ packImage (meansTreeAnnounced a) ⌝ }
 {
     match a {
-        Announced::Added(nodes, hops) => used(false, nodes, hops),
-        Announced::Replaced(nodes, hops) => used(true, nodes, hops),
-        Announced::Refused(z) => byte(z),
+        TreeAnnounced::Added(nodes, hops) => used(false, nodes, hops),
+        TreeAnnounced::Replaced(nodes, hops) => used(true, nodes, hops),
+        TreeAnnounced::Refused(z) => byte_to_long(z),
     }
 }
 
-pub fn withdrawn(a: Withdrawn) -> u64
-    ensures { λ r. ⌜ r ≡ packBuilt (saysWithdrawn a) ⌝ }
+pub fn withdrawn(a: TreeWithdrawn) -> u64
+    ensures { λ r. ⌜ r ≡ packBuilt (meansTreeWithdrawn a) ⌝ }
 {
     match a {
-        Withdrawn::Removed(nodes, hops) => used(false, nodes, hops),
-        Withdrawn::Refused(z) => byte(z),
+        TreeWithdrawn::Removed(nodes, hops) => used(false, nodes, hops),
+        TreeWithdrawn::Refused(z) => byte_to_long(z),
     }
 }

@@ -1,9 +1,7 @@
 -- Painting in list order is right; and what joins the code to that.
 pub mod Plans
-pub mod Runs
-pub mod Fills
+pub mod PlanUnder
 pub mod Ranges
-pub mod Tells
 pub mod Settles
 pub mod Rights
 pub mod Unders

@@ -1,4 +1,4 @@
--- Painting a good list in order plans a cell: the last route that covers it stays, unless it is long. Assumes nothing.
+-- Painting a good list in order plans a cell: the last route that covers it stays, unless it is long.
 use mathlib.Core.Path.{_≡_, refl, sym, ap, _∙_}
 use mathlib.Core.Bool.{Bool, true, false, cond, _||_, or-true, or-false, true≢false}
 use mathlib.Core.List.{List, [], _∷_, _++_, List·Memᴰ, List·Memᴰ·head, List·Memᴰ·tail}
@@ -8,15 +8,13 @@ use lib.Dec.{eqb, ltb}
 use borrow.Author.Tests.{ltb-true, eqb-true}
 use Rattle.bits.specs.Slot.{slot}
 use Rattle.bits.proofs.Slots.{slot-up, cut-le, cut-slot}
-use Rattle.bits.proofs.Tabs.{tabulate-ext}
-use Rattle.bits.proofs.Tests.{and-split, untrue}
+use Rattle.bits.proofs.Bools.{and-split, untrue}
 use Rattle.routes.specs.Route.{key, Fine, Good}
 use Rattle.standing.specs.Cells.{covers, within, any, long, lastHop}
 use Rattle.routes.specs.declared.Route.{Route}
 use Rattle.routes.proofs.Goods.{good-fine}
 use Rattle.standing.proofs.Longest.{cover-parts}
-use Rattle.standing.proofs.Paint.{best-last}
-use Rattle.plan.specs.Plan.{plan, planned, planFrom, plannedFrom}
+use Rattle.plan.specs.Plan.{planFrom}
 use Rattle.plan.specs.Paint.{paintCell}
 
 pub within-parts : (p i : ℕ) (r : Route) → within p i r ≡ true → (p < r .len) × (slot p (r .addr) ≡ i)
@@ -62,7 +60,8 @@ module _ (p i : ℕ) (r : Route) where
   unfolding any Good
   none-before [] g c = refl
   none-before (x ∷ rs) g c =
-      let w = untrue (within p i x) (λ t. true≢false (sym c ∙ none-after p i x r (g .0) (good-fine (rs ++ (r ∷ [])) (g .2) r (at-end rs r)) (g .1 r (at-end rs r)) t)) in
+      let w = untrue (within p i x) (λ t. true≢false
+      (sym c ∙ none-after p i x r (g .0) (good-fine (rs ++ (r ∷ [])) (g .2) r (at-end rs r)) (g .1 r (at-end rs r)) t)) in
       rw w (none-before rs (g .2) c)
 
   -- one route more is painted over the cell
@@ -76,12 +75,3 @@ module _ (p i : ℕ) (r : Route) where
       go true c ew ec = rw (any-snoc (within p i) rs r, ew, or-true)
       go false true ew ec = rw (any-snoc (within p i) rs r, ew, or-false, ec, none-before rs g ec, last-snoc (covers p i) rs r h, ec)
       go false false ew ec = rw (any-snoc (within p i) rs r, ew, or-false, ec, last-snoc (covers p i) rs r h, ec)
-
--- a whole good list, painted over no hop
-pub plan-root : (rs : List Route) (p i : ℕ) → Good rs → planFrom 0 rs p i ≡ plan rs p i
-unfolding planFrom plan
-plan-root rs p i g = ap (λ (n : ℕ). cond (long rs p i) 0 (32768 + n)) (best-last rs p i g)
-
-pub planned-root : (rs : List Route) (p base n : ℕ) → Good rs → plannedFrom 0 rs p base n ≡ planned rs p base n
-unfolding plannedFrom planned
-planned-root rs p base n g = tabulate-ext n _ _ (λ j l. plan-root rs p (base + j) g)

@@ -1,4 +1,4 @@
--- A part matches its plan exactly where it is as the routes ask. Assumes nothing.
+-- A part matches its plan exactly where it is as the routes ask.
 use mathlib.Core.Path.{_≡_, sym, subst, _∙_}
 use mathlib.Core.Logic.{_⊎_, inl, inr}
 use mathlib.Core.Bool.{Bool, true, false, cond}
@@ -8,12 +8,12 @@ use native.Mathlib.Omega.{arith}
 use lib.ListN.{length, getD}
 use Rattle.bits.specs.Tab.{Tells}
 use Rattle.bits.proofs.Tabs.{length-tabulate, getD-tabulate}
-use Rattle.bits.proofs.Tests.{decided}
+use Rattle.bits.proofs.Bools.{decided}
 use Rattle.standing.specs.Cells.{long, best}
 use Rattle.routes.specs.declared.Route.{Route}
 use Rattle.plan.specs.Plan.{plan, planned}
-use Rattle.plan.specs.Part.{Names, Matches, Right}
-use Rattle.plan.proofs.Tells.{tells-same}
+use Rattle.plan.specs.Part.{NamesBack, Matches, Right}
+use Rattle.bits.proofs.Tells.{tells-same}
 
 module _ (rs : List Route) (p base : ℕ) (part own : List ℕ) (o n : ℕ) where
   pub length-planned : length (planned rs p base n) ≡ n
@@ -41,7 +41,8 @@ module _ (rs : List Route) (p base : ℕ) (part own : List ℕ) (o n : ℕ) wher
       leaf j l z (inl e) = absurd (z (plan-at j true l e))
       leaf j l z (inr e) = r .leaf j l e ∙ sym (plan-at j false l e)
 
-      node : (j : ℕ) → j < n → getD (planned rs p base n) j 0 ≡ 0 → (long rs p (base + j) ≡ true) ⊎ (long rs p (base + j) ≡ false) → Names (getD part j 0) own (o + j)
+      node : (j : ℕ) → j < n → getD (planned rs p base n) j 0 ≡ 0 → (long rs p (base + j) ≡ true) ⊎ (long rs p (base + j) ≡ false) → NamesBack
+          (getD part j 0) own (o + j)
       node j l z (inl e) = r .node j l e
       node j l z (inr e) = let v = plan-at j false l e in absurd (omega arith)
 

@@ -1,9 +1,9 @@
--- A plan whose zeros became what the part holds. Assumes nothing.
+-- A plan whose zeros became what the part holds.
 use mathlib.Core.Path.{_≡_, refl, sym, ap, subst, _∙_}
 use mathlib.Core.Logic.{_⊎_, inl, inr}
 use mathlib.Core.Bool.{Bool, true, false, cond, not, _||_, or-true, false≢true}
 use mathlib.Core.List.{List, map-append}
-use Prim.Native.Nat.{ℕ, _+_, _-_, _/_, _%_, _^_, _<_, _≤_}
+use Prim.Native.Nat.{ℕ, _+_, _-_, _/_, _^_, _<_, _≤_}
 use native.Mathlib.Numerals.{add-one}
 use native.Mathlib.Omega.{arith}
 use lib.Dec.{eqb}
@@ -12,17 +12,17 @@ use lib.Seq.{take-suc, take-all, ext-getD}
 use borrow.Author.Tests.{not-true, not-false, eq-eqb, ne-eqb, eqb-true, lt-ltb, le-ltb}
 use Rattle.bits.specs.Tab.{Tells}
 use Rattle.bits.proofs.Tabs.{length-tabulate, getD-tabulate, tabulate-ext, is-tabulate, set-tabulate}
-use Rattle.bits.proofs.Tests.{decided, or-split}
+use Rattle.bits.proofs.Bools.{decided, or-split}
 use Rattle.standing.specs.Cells.{within, any, long, covers, lastHop}
 use Rattle.routes.specs.declared.Route.{Route}
-use Rattle.chain.specs.Words.{routeOf, routesIn}
+use Rattle.chain.specs.Words.{addrOf, lenOf, routeOfWord, routesOfWords}
 use Rattle.plan.specs.Plan.{planFrom, plannedFrom}
-use Rattle.plan.specs.Part.{Names, Named, settled, Settled, Matches}
+use Rattle.plan.specs.Part.{NamesBack, Named, settled, Settled, Matches}
 use Rattle.plan.proofs.Plans.{any-snoc}
-use Rattle.plan.proofs.Tells.{is-no, is-yes, tells-same}
+use Rattle.bits.proofs.Tells.{is-no, is-yes, tells-same}
 
 -- v beside the owner of the chunk that it numbers
-pub names-tested : (v o c x : ℕ) (own : List ℕ) → c ≡ v → (c ≡ 0 → ⊥) → c ≤ length own → x ≡ getD own (c - 1) 0 → Tells (eqb x o) (Names v own o)
+pub names-tested : (v o c x : ℕ) (own : List ℕ) → c ≡ v → (c ≡ 0 → ⊥) → c ≤ length own → x ≡ getD own (c - 1) 0 → Tells (eqb x o) (NamesBack v own o)
 names-tested v o c x own e z l g = (
   λ t. record { one = omega arith; few = omega arith; back = rw (← e, ← g) (eqb-true x o t) },
   λ n. eq-eqb x o (g ∙ rw e (n .back)),
@@ -32,7 +32,8 @@ length-settled : (f : ℕ → Bool) (part want : List ℕ) → length (settled f
 unfolding settled
 length-settled f part want = length-tabulate (length want) _
 
-pub settled-length : {f : ℕ → Bool} {part own : List ℕ} {o : ℕ} {want after : List ℕ} {b : Bool} → Settled f part own o want after b → length after ≡ length want
+pub settled-length : {f : ℕ → Bool} {part own : List ℕ} {o : ℕ} {want after : List ℕ} {b : Bool} → Settled f part own o want after b → length after
+    ≡ length want
 settled-length {f} {part} {own} {o} {want} s = ap length (s .becomes) ∙ length-settled f part want
 
 module _ (part own : List ℕ) (o : ℕ) (want : List ℕ) where
@@ -45,7 +46,8 @@ module _ (part own : List ℕ) (o : ℕ) (want : List ℕ) where
   }
 
   -- cell x alone passes
-  pub settled-one : (f : ℕ → Bool) (x : ℕ) (b : Bool) → x < length want → ((j : ℕ) → j < length want → f j ≡ eqb j x) → Tells b (Names (getD part x 0) own (o + x))
+  pub settled-one : (f : ℕ → Bool) (x : ℕ) (b : Bool) → x < length want → ((j : ℕ) → j < length want → f j ≡ eqb j x) → Tells b
+      (NamesBack (getD part x 0) own (o + x))
       → Settled f part own o want (set want x (getD part x 0)) b
   unfolding settled
   settled-one f x b u h t = record {
@@ -104,34 +106,34 @@ module _ (part own : List ℕ) (o : ℕ) (want : List ℕ) where
           (λ n. record { each = λ j l w. n .each j l (rw w) }) (one .told);
     }
       where
-        go : Named f part own o (length want) → (j : ℕ) → j < length want → (f j ≡ true) ⊎ (g j ≡ true) → Names (getD part j 0) own (o + j)
+        go : Named f part own o (length want) → (j : ℕ) → j < length want → (f j ≡ true) ⊎ (g j ≡ true) → NamesBack (getD part j 0) own (o + j)
         go n j l (inl w) = n .each j l w
         go n j l (inr w) = two .told .0 e .each j (rw (settled-length one) l) w
 
 -- one word: the cells of the part that its route lies within
 module _ (w p base : ℕ) (part own : List ℕ) (o : ℕ) (want : List ℕ) where
   abbrev cell : ℕ
-  cell = w / 4294967296 / 2 ^ (32 - p)
+  cell = addrOf w / 2 ^ (32 - p)
 
   abbrev hit : ℕ → Bool
-  hit j = within p (base + j) (routeOf w)
+  hit j = within p (base + j) (routeOfWord w)
 
-  missed : p < w / 16777216 % 256 → ((j : ℕ) → j < length want → cell ≡ base + j → ⊥) → Settled hit part own o want want true
-  missed h n = settled-none part own o want hit (λ j l. rw (lt-ltb p (w / 16777216 % 256) h) (ne-eqb cell (base + j) (n j l)))
+  missed : p < lenOf w → ((j : ℕ) → j < length want → cell ≡ base + j → ⊥) → Settled hit part own o want want true
+  missed h n = settled-none part own o want hit (λ j l. rw (lt-ltb p (lenOf w) h) (ne-eqb cell (base + j) (n j l)))
 
   -- it is no longer than the level; its cell lies before the part, or after it, or in it
-  pub one-short : w / 16777216 % 256 ≤ p → Settled hit part own o want want true
-  one-short h = settled-none part own o want hit (λ j l. rw (le-ltb p (w / 16777216 % 256) h))
+  pub one-short : lenOf w ≤ p → Settled hit part own o want want true
+  one-short h = settled-none part own o want hit (λ j l. rw (le-ltb p (lenOf w) h))
 
-  pub one-below : p < w / 16777216 % 256 → cell < base → Settled hit part own o want want true
+  pub one-below : p < lenOf w → cell < base → Settled hit part own o want want true
   one-below h m = missed h (λ j l e. omega arith)
 
-  pub one-above : p < w / 16777216 % 256 → base ≤ cell → length want ≤ cell - base → Settled hit part own o want want true
+  pub one-above : p < lenOf w → base ≤ cell → length want ≤ cell - base → Settled hit part own o want want true
   one-above h m q = missed h (λ j l e. omega arith)
 
-  pub one-in : (b : Bool) → p < w / 16777216 % 256 → base ≤ cell → cell - base < length want → Tells b (Names (getD part (cell - base) 0) own (o + (cell - base)))
+  pub one-in : (b : Bool) → p < lenOf w → base ≤ cell → cell - base < length want → Tells b (NamesBack (getD part (cell - base) 0) own (o + (cell - base)))
       → Settled hit part own o want (set want (cell - base) (getD part (cell - base) 0)) b
-  one-in b h m u t = settled-one part own o want hit (cell - base) b u (λ j l. rw (lt-ltb p (w / 16777216 % 256) h) (go j (decided (eqb j (cell - base))))) t
+  one-in b h m u t = settled-one part own o want hit (cell - base) b u (λ j l. rw (lt-ltb p (lenOf w) h) (go j (decided (eqb j (cell - base))))) t
     where
       go : (j : ℕ) → (eqb j (cell - base) ≡ true) ⊎ (eqb j (cell - base) ≡ false) → eqb cell (base + j) ≡ eqb j (cell - base)
       go j (inl e) = let q : j ≡ cell - base = eqb-true j (cell - base) e in eq-eqb cell (base + j) (omega arith) ∙ sym e
@@ -140,19 +142,20 @@ module _ (w p base : ℕ) (part own : List ℕ) (o : ℕ) (want : List ℕ) wher
 -- the words of a run, one by one
 module _ (run : List ℕ) (p base : ℕ) (part own : List ℕ) (o : ℕ) (want : List ℕ) where
   abbrev by : ℕ → ℕ → Bool
-  by k j = long (routesIn (take k run)) p (base + j)
+  by k j = long (routesOfWords (take k run)) p (base + j)
 
   abbrev at : ℕ → ℕ → Bool
-  at k j = within p (base + j) (routeOf (getD run k 0))
+  at k j = within p (base + j) (routeOfWord (getD run k 0))
 
   by-more : (k j : ℕ) → k < length run → (by k j || at k j) ≡ by (k + 1) j
-  by-more k j l = sym (rw (add-one, take-suc run k 0 l, map-append) (any-snoc (within p (base + j)) (routesIn (take k run)) (routeOf (getD run k 0))))
+  by-more k j l = sym (rw (add-one, take-suc run k 0 l, map-append) (any-snoc (within p (base + j)) (routesOfWords (take k run)) (routeOfWord (getD run k 0))))
 
   pub run-none : Settled (by 0) part own o want want true
   unfolding any
   run-none = settled-none part own o want (by 0) (λ j l. refl)
 
-  module _ (k : ℕ) (mid after : List ℕ) (ok b : Bool) (l : k < length run) (was : Settled (by k) part own o want mid ok) (one : Settled (at k) part own o mid after b) where
+  module _ (k : ℕ) (mid after : List ℕ) (ok b : Bool) (l : k < length run) (was : Settled (by k) part own o want mid ok)
+      (one : Settled (at k) part own o mid after b) where
     pub run-no : not b ≡ true → Settled (by (k + 1)) part own o want after false
     run-no e = settled-as part own o want _ _ after false (λ j. by-more k j l) (then-no part own o want (by k) (at k) mid after ok b was one (not-true b e))
 
@@ -160,8 +163,8 @@ module _ (run : List ℕ) (p base : ℕ) (part own : List ℕ) (o : ℕ) (want :
     run-yes e = settled-as part own o want _ _ after ok (λ j. by-more k j l) (then-yes part own o want (by k) (at k) mid after ok b was one (not-false b e))
 
   pub run-all : (k : ℕ) (after : List ℕ) (ok : Bool) → length run ≤ k → Settled (by k) part own o want after ok
-      → Settled (λ j. long (routesIn run) p (base + j)) part own o want after ok
-  run-all k after ok l s = subst (λ (r : List ℕ). Settled (λ j. long (routesIn r) p (base + j)) part own o want after ok) (take-all k run l) s
+      → Settled (λ j. long (routesOfWords run) p (base + j)) part own o want after ok
+  run-all k after ok l s = subst (λ (r : List ℕ). Settled (λ j. long (routesOfWords r) p (base + j)) part own o want after ok) (take-all k run l) s
 
 -- where the plan is 0 exactly at the cells that pass
 module _ (f : ℕ → Bool) (part own : List ℕ) (o : ℕ) (want : List ℕ) (same : length part ≡ length want)
@@ -180,7 +183,7 @@ module _ (f : ℕ → Bool) (part own : List ℕ) (o : ℕ) (want : List ℕ) (s
         leaf j l z (inl q) = absurd (z (at-node j l q))
         leaf j l z (inr q) = ap (λ (t : List ℕ). getD t j 0) e ∙ settled-at j l ∙ rw q
 
-        node : (j : ℕ) → j < length want → getD want j 0 ≡ 0 → (f j ≡ true) ⊎ (f j ≡ false) → Names (getD part j 0) own (o + j)
+        node : (j : ℕ) → j < length want → getD want j 0 ≡ 0 → (f j ≡ true) ⊎ (f j ≡ false) → NamesBack (getD part j 0) own (o + j)
         node j l z (inl q) = n .each j l q
         node j l z (inr q) = absurd (at-leaf j l q z)
 

@@ -1,4 +1,4 @@
--- What a cell of a level is planned to hold. Assumes nothing.
+-- What a cell of a level is planned to hold.
 use mathlib.Core.Bool.{cond}
 use mathlib.Core.List.{List}
 use Prim.Native.Nat.{ℕ, _+_}

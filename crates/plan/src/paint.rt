@@ -5,21 +5,11 @@ ghost use mathlib.Core.Bool.{cond};
 ghost use Prim.Native.Nat.{_+_, _-_, _^_, _≤_, min};
 ghost use lib.Dec.{ltb};
 ghost use lib.ListN.{length};
-ghost use Rattle.chain.specs.Words.{routeOf, routesIn};
+ghost use Rattle.chain.specs.Words.{routeOfWord, routesOfWords};
 ghost use Rattle.plan.specs.Plan.{plannedFrom};
-ghost use Rattle.plan.specs.Paint.{filled, painted, Range, Paints, Plans};
-
-// Sets every element from `from` up to `to` to v.
-pub fn fill(out: &mut [u16], from: usize, to: usize, v: u16)
-    requires { ⌜ Range from to (length (now out)) ⌝ }
-    ensures { λ _. ⌜ now (out .exit) ≡ filled (now (out .entry)) from to v ⌝ }
-{
-    let mut i = from;
-    while i < to {
-        out[i] = v;
-        i += 1;
-    }
-}
+ghost use Rattle.plan.specs.Paint.{painted, Paints, Plans};
+use bits::bytes;
+use buffers::fill::fill_range16;
 
 // How far x lies past base, at most n.
 fn clip(x: usize, base: usize, n: usize) -> usize
@@ -60,24 +50,24 @@ fn ink(p: u32, len: u32, hop: u16) -> u16
 // Paints the route of a word over the block of cells of level p that starts at base.
 pub fn paint_one(w: u64, p: u32, base: usize, out: &mut [u16])
     requires { ⌜ Paints w p ⌝ }
-    ensures { λ _. ⌜ now (out .exit) ≡ painted (now (out .entry)) p base (routeOf w) ⌝ }
+    ensures { λ _. ⌜ now (out .exit) ≡ painted (now (out .entry)) p base (routeOfWord w) ⌝ }
 {
     let n = out.len();
-    let len = (w / 16777216 % 256) as u32;
-    let cell = ((w / 4294967296) >> (32 - p)) as usize;
+    let len = (w / bytes::THREE % bytes::ONE) as u32;
+    let cell = ((w / bytes::FOUR) >> (32 - p)) as usize;
     let end = cell + span(p, len);
-    let v = ink(p, len, (w % 65536) as u16);
-    fill(out, clip(cell, base, n), clip(end, base, n), v);
+    let v = ink(p, len, (w % bytes::TWO) as u16);
+    fill_range16(out, clip(cell, base, n), clip(end, base, n), v);
 }
 
 // The cells of level p from base on, as many as `out` has: the hop h everywhere, and the routes over it in list order.
 pub fn plan_words(ws: &[u64], h: u16, p: u32, base: usize, out: &mut [u16])
     requires { ⌜ Plans (now ws) h p ⌝ }
-    ensures { λ _. ⌜ now (out .exit) ≡ plannedFrom h (routesIn (now (ws .entry))) p base (length (now (out .entry))) ⌝ }
+    ensures { λ _. ⌜ now (out .exit) ≡ plannedFrom h (routesOfWords (now (ws .entry))) p base (length (now (out .entry))) ⌝ }
 {
     let n = out.len();
     let m = ws.len();
-    fill(out, 0, n, 32768 + h);
+    fill_range16(out, 0, n, 32768 + h);
     let mut k = 0;
     while k < m {
         k += 1;

@@ -1,76 +1,31 @@
 // A part of lent cells beside its plan. The plan has 0 for each cell that names a chunk. Such cells are settled route by
 // route: their plan becomes what they hold, and each must name a chunk that names it back. One plain comparison of the
-// whole part then does the rest. Loops over cells have no early end, so that they can be done many cells at a time.
-ghost use mathlib.Core.Path.{_≡_};
-ghost use Prim.Native.Nat.{_+_, _<_};
+// whole part then does the rest.
+ghost use Prim.Native.Nat.{_+_};
 ghost use lib.ListN.{length};
 ghost use Rattle.bits.specs.Tab.{Tells};
 ghost use Rattle.standing.specs.Cells.{within, long};
-ghost use Rattle.chain.specs.Words.{routeOf, routesIn};
+ghost use Rattle.chain.specs.Words.{routeOfWord, routesOfWords};
 ghost use Rattle.plan.specs.Plan.{plannedFrom};
-ghost use Rattle.plan.specs.Part.{Names, Settled, Matches, Zero, Beside, Judges};
+ghost use Rattle.plan.specs.Part.{NamesBack, Settled, Matches, Beside, Judges};
 use super::paint::plan_words;
-
-fn wide(x: u16) -> usize
-    ensures { λ r. ⌜ (r ≡ x) × (r < 65536) ⌝ }
-{
-    x as usize
-}
-
-fn wide_owner(x: u32) -> usize
-    ensures { λ r. ⌜ r ≡ x ⌝ }
-{
-    x as usize
-}
+use bits::bytes;
+use bits::widen::half_to_index;
+use bits::widen::word_to_index;
+use buffers::same::same16;
 
 // Whether v is the number, from 1, of a chunk whose owner number is o.
 pub fn names(v: u16, own: &[u32], o: usize) -> bool
-    ensures { λ r. ⌜ Tells r (Names v (now (own .entry)) o) ⌝ }
+    ensures { λ r. ⌜ Tells r (NamesBack v (now (own .entry)) o) ⌝ }
 {
-    let c = wide(v);
+    let c = half_to_index(v);
     if c == 0 {
         return false;
     }
     if own.len() < c {
         return false;
     }
-    wide_owner(own[c - 1]) == o
-}
-
-// Whether two lists of cells are the same.
-pub fn matches_all(cells: &[u16], want: &[u16]) -> bool
-    ensures { λ r. ⌜ Tells r (now (cells .entry) ≡ now (want .entry)) ⌝ }
-{
-    if cells.len() != want.len() {
-        return false;
-    }
-    let mut same = true;
-    let mut j = 0;
-    while j < cells.len() {
-        let a = cells[j];
-        let b = want[j];
-        j += 1;
-        if a != b {
-            same = false;
-        }
-    }
-    same
-}
-
-// Whether every cell is 0.
-pub fn zero(part: &[u16]) -> bool
-    ensures { λ r. ⌜ Tells r (Zero (now (part .entry))) ⌝ }
-{
-    let mut all = true;
-    let mut j = 0;
-    while j < part.len() {
-        let v = part[j];
-        j += 1;
-        if v != 0 {
-            all = false;
-        }
-    }
-    all
+    word_to_index(own[c - 1]) == o
 }
 
 // The cell that the route of a word lies within, where it is one of the part: its plan becomes what it holds. Says
@@ -85,14 +40,14 @@ pub fn settle_one(
     own: &[u32],
 ) -> bool
     requires { ⌜ Beside p o (now part) (now want) ⌝ }
-    ensures { λ r. ⌜ Settled (λ j. within p (base + j) (routeOf w)) (now (part .entry)) (now (own .entry)) o (now (want .entry)) (now (want .exit)) r ⌝ }
+    ensures { λ r. ⌜ Settled (λ j. within p (base + j) (routeOfWord w)) (now (part .entry)) (now (own .entry)) o (now (want .entry)) (now (want .exit)) r ⌝ }
 {
     let n = want.len();
-    let len = (w / 16777216 % 256) as u32;
+    let len = (w / bytes::THREE % bytes::ONE) as u32;
     if len <= p {
         return true;
     }
-    let cell = ((w / 4294967296) >> (32 - p)) as usize;
+    let cell = ((w / bytes::FOUR) >> (32 - p)) as usize;
     if cell < base {
         return true;
     }
@@ -116,7 +71,7 @@ pub fn settle(
     own: &[u32],
 ) -> bool
     requires { ⌜ Beside p o (now part) (now want) ⌝ }
-    ensures { λ r. ⌜ Settled (λ j. long (routesIn (now (run .entry))) p (base + j)) (now (part .entry)) (now (own .entry)) o (now (want .entry)) (now (want .exit)) r ⌝ }
+    ensures { λ r. ⌜ Settled (λ j. long (routesOfWords (now (run .entry))) p (base + j)) (now (part .entry)) (now (own .entry)) o (now (want .entry)) (now (want .exit)) r ⌝ }
 {
     let mut ok = true;
     let mut k = 0;
@@ -143,11 +98,11 @@ pub fn as_planned(
     own: &[u32],
 ) -> bool
     requires { ⌜ Judges (now run) h p o (now part) (now want) ⌝ }
-    ensures { λ r. ⌜ Tells r (Matches (now (part .entry)) o (plannedFrom h (routesIn (now (run .entry))) p base (length (now (want .entry)))) (now (own .entry))) ⌝ }
+    ensures { λ r. ⌜ Tells r (Matches (now (part .entry)) o (plannedFrom h (routesOfWords (now (run .entry))) p base (length (now (want .entry)))) (now (own .entry))) ⌝ }
 {
     plan_words(run, h, p, base, want);
     if !settle(run, p, base, part, o, want, own) {
         return false;
     }
-    matches_all(part, want)
+    same16(part, want)
 }

@@ -4,7 +4,7 @@
 ghost use mathlib.Core.Path.{_≡_};
 ghost use lib.ListN.{length};
 ghost use Rattle.bits.specs.Tab.{Tells};
-ghost use Rattle.chain.specs.Words.{routesIn};
+ghost use Rattle.chain.specs.Words.{routesOfWords};
 ghost use Rattle.plan.specs.Plan.{planned};
 ghost use Rattle.plan.specs.Part.{Right};
 ghost use Rattle.plan.specs.Under.{Block, Tested};
@@ -17,7 +17,7 @@ use chain::place::run_end;
 // The cells of level p from base on, as many as `out` has, which lie in cell i of level l.
 pub fn plan_under(ws: &[u64], par: &[u16], l: u32, i: u64, p: u32, base: usize, out: &mut [u16])
     requires { ⌜ Block (now ws) (now par) l i p base (length (now out)) ⌝ }
-    ensures { λ _. ⌜ now (out .exit) ≡ planned (routesIn (now (ws .entry))) p base (length (now (out .entry))) ⌝ }
+    ensures { λ _. ⌜ now (out .exit) ≡ planned (routesOfWords (now (ws .entry))) p base (length (now (out .entry))) ⌝ }
 {
     let lo = run_start(ws, par, l, i);
     let hi = run_end(ws, lo, l, i);
@@ -40,7 +40,7 @@ pub fn right_under(
     own: &[u32],
 ) -> bool
     requires { ⌜ Tested (now ws) (now par) l i p base o (now part) (now want) ⌝ }
-    ensures { λ r. ⌜ Tells r (Right (routesIn (now (ws .entry))) p base (now (part .entry)) (now (own .entry)) o (length (now (want .entry)))) ⌝ }
+    ensures { λ r. ⌜ Tells r (Right (routesOfWords (now (ws .entry))) p base (now (part .entry)) (now (own .entry)) o (length (now (want .entry)))) ⌝ }
 {
     let lo = run_start(ws, par, l, i);
     let hi = run_end(ws, lo, l, i);

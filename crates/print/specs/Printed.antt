@@ -46,7 +46,7 @@ abbrev pub page : ℕ
 page = 4096
 
 -- what the text of a table's routes asks for
-pub record Ready (t : Table) (l : Lent) (before : List ℕ) : Type 0 where
+pub record PageReady (t : Table) (l : Lent) (before : List ℕ) : Type 0 where
   pub sound : Sound t l
   pub room : page ≤ length before
 

@@ -4,7 +4,7 @@ ghost use Prim.Native.Nat.{_≤_};
 ghost use lib.ListN.{length};
 ghost use Rattle.sail.specs.Lent.{lent};
 ghost use Rattle.text.specs.Wrote.{Wrote};
-ghost use Rattle.print.specs.Printed.{page, standingText, printedText, Ready, Printed};
+ghost use Rattle.print.specs.Printed.{page, standingText, printedText, PageReady, Printed};
 use sail::geometry::Geometry;
 use sail::table::Table;
 use sail_load::load;
@@ -29,7 +29,7 @@ fn put_standing(
     long2: &[u16; 4096],
     out: &mut [u8],
 ) -> usize
-    requires { ⌜ Ready t (lent (now list) (now first) (now second) (now third) (now own2) (now own3) (now long1) (now long2)) (now out) ⌝ }
+    requires { ⌜ PageReady t (lent (now list) (now first) (now second) (now third) (now own2) (now own3) (now long1) (now long2)) (now out) ⌝ }
     ensures { λ r. ⌜ Wrote (now (out .entry)) 0 (standingText t (lent (now (list .entry)) (now (first .entry)) (now (second .entry)) (now (third .entry)) (now (own2 .entry)) (now (own3 .entry)) (now (long1 .entry)) (now (long2 .entry)))) r (now (out .exit)) ⌝ }
 {
     match report::report(t, list, first, second, third, own2, own3, long1, long2) {

@@ -15,14 +15,14 @@ use Rattle.routes.specs.declared.Route.{Route}
 use Rattle.plan.specs.Plan.{plan, planned}
 use Rattle.plan.specs.Under.{Block}
 use Rattle.sail.specs.Level.{always, itself, entry}
-use Rattle.repair.specs.Differs.{offPlan, offAt, Counted, Blocked, Firsts}
+use Rattle.repair.specs.Differs.{offPlan, offAt, CountIs, DiffBlockReady, DiffFirstReady}
 use Rattle.repair.proofs.Counts.{count-add}
 
 -- the same numbers, counted by another test that says the same of each
-pub counted-as : (r : ℕ) (f g : ℕ → Bool) (m n : ℕ) → m ≡ n → ((j : ℕ) → j < n → f j ≡ g j) → Counted r f m → Counted r g n
+pub counted-as : (r : ℕ) (f g : ℕ → Bool) (m n : ℕ) → m ≡ n → ((j : ℕ) → j < n → f j ≡ g j) → CountIs r f m → CountIs r g n
 counted-as r f g m n e h k = record { is = k .is ∙ ap (count f) e ∙ count-ext f g n h; few = omega (arith, k .few) }
 
-module _ (ws par : List ℕ) (l i p base : ℕ) (cells : List ℕ) (a e : ℕ) (want : List ℕ) (b : Blocked ws par l i p base cells a e want) where
+module _ (ws par : List ℕ) (l i p base : ℕ) (cells : List ℕ) (a e : ℕ) (want : List ℕ) (b : DiffBlockReady ws par l i p base cells a e want) where
   pub block-room : e - a ≡ length (take (e - a) want)
   block-room = sym (length-take-le (e - a) want (omega (arith, b .small, b .room)))
 
@@ -44,9 +44,9 @@ module _ (ws par : List ℕ) (l i p base : ℕ) (cells : List ℕ) (a e : ℕ) (
     block-beside = part-length ∙ front-room
 
     pub block-counted : (rs : List Route) → ys ≡ planned rs p base (length (take (e - a) want)) → (r : ℕ)
-        → Counted r (λ j. offPlan (getD (take (e - a) (ys ++ drop (e - a) want)) j 0) (getD (take (e - a) (drop a cells)) j 0))
+        → CountIs r (λ j. offPlan (getD (take (e - a) (ys ++ drop (e - a) want)) j 0) (getD (take (e - a) (drop a cells)) j 0))
         (length (take (e - a) (drop a cells)))
-        → Counted r (λ j. offPlan (plan rs p (base + j)) (getD cells (a + j) 0)) (e - a)
+        → CountIs r (λ j. offPlan (plan rs p (base + j)) (getD cells (a + j) 0)) (e - a)
     unfolding planned
     block-counted rs is r k =
         counted-as r _ _ _ (e - a) part-length
@@ -57,12 +57,12 @@ module _ (ws par : List ℕ) (l i p base : ℕ) (cells : List ℕ) (a e : ℕ) (
         rw (x, y)) k
 
 -- the first cells
-module _ (ws par : List ℕ) (p : ℕ) (first want : List ℕ) (h : Firsts ws par p first want) where
+module _ (ws par : List ℕ) (p : ℕ) (first want : List ℕ) (h : DiffFirstReady ws par p first want) where
   powers : 2 ^ p ≡ 2 ^ (p - 10) * 1024
   powers = let z : p ≡ p - 10 + 10 = omega (arith, h .low) in ap (λ (n : ℕ). 2 ^ n) z ∙ pow-add 2 (p - 10) 10
 
   pub first-block : (room : List ℕ) → length room ≡ 1024 → (b : ℕ) → b < length first / 1024
-      → Blocked ws par (p - 10) b p (b * 1024) first (b * 1024) (b * 1024 + 1024) room
+      → DiffBlockReady ws par (p - 10) b p (b * 1024) first (b * 1024) (b * 1024 + 1024) room
   first-block room r b k =
       let z : p - (p - 10) ≡ 10 = omega (arith, h .low) in
       let w = powers in
@@ -92,14 +92,14 @@ module _ (ws par : List ℕ) (p : ℕ) (first want : List ℕ) (h : Firsts ws pa
     off = offAt rs p always itself (entry first)
 
     pub first-more : (m b r : ℕ) → m ≡ count off (b * 1024)
-        → Counted r (λ j. offPlan (plan rs p (b * 1024 + j)) (getD first (b * 1024 + j) 0)) (b * 1024 + 1024 - b * 1024)
+        → CountIs r (λ j. offPlan (plan rs p (b * 1024 + j)) (getD first (b * 1024 + j) 0)) (b * 1024 + 1024 - b * 1024)
         → m + r ≡ count off ((b + 1) * 1024)
     first-more m b r e k =
         let z : (b + 1) * 1024 ≡ b * 1024 + 1024 = omega arith in
         let s : b * 1024 + 1024 - b * 1024 ≡ 1024 = omega arith in
         rw z (omega (arith, count-add off (b * 1024) 1024, k .is ∙ ap (count (λ j. off (b * 1024 + j))) s))
 
-    pub first-all : (m b : ℕ) → b ≤ length first / 1024 → length first / 1024 ≤ b → m ≤ b * 1024 → m ≡ count off (b * 1024) → Counted m off (length first)
+    pub first-all : (m b : ℕ) → b ≤ length first / 1024 → length first / 1024 ≤ b → m ≤ b * 1024 → m ≡ count off (b * 1024) → CountIs m off (length first)
     first-all m b u l k e =
         let w = powers in
         let z : b * 1024 ≡ length first = omega (arith, h .cells) in

@@ -1,14 +1,14 @@
 -- Loops that count: one number more, and one block of numbers more.
-use mathlib.Core.Path.{_≡_, refl, sym, _∙_, ap}
-use mathlib.Core.Bool.{Bool, true, false, not, _&&_, and-false}
+use mathlib.Core.Path.{_≡_, refl, sym, ap}
+use mathlib.Core.Bool.{Bool, true, false, not, and-false}
 use mathlib.Core.List.{List}
-use Prim.Native.Nat.{ℕ, zero, suc, _+_, _-_, _*_, _≤_, _<_}
+use Prim.Native.Nat.{ℕ, zero, suc, _+_, _-_, _≤_, _<_}
 use native.Mathlib.Omega.{arith}
 use lib.Dec.{eqb, ltb}
 use lib.ListN.{getD}
 use borrow.Author.Tests.{eq-eqb, ne-eqb, lt-ltb}
 use Rattle.bits.specs.Count.{bit, count}
-use Rattle.repair.specs.Differs.{offPlan, offZero, offName, Counted}
+use Rattle.repair.specs.Differs.{offPlan, offZero, offName, CountIs}
 
 -- one number more
 module _ (f : ℕ → Bool) (m j : ℕ) (h : m ≡ count f j) where
@@ -24,8 +24,8 @@ pub count-start : (f : ℕ → Bool) → 0 ≡ count f 0
 unfolding count
 count-start f = refl
 
-pub counted : (f : ℕ → Bool) (m j n : ℕ) → j ≤ n → n ≤ j → m ≤ j → m ≡ count f j → Counted m f n
-counted f m j n l u k h = let e : j ≡ n = omega arith in record { is = rw e at h; few = omega arith }
+pub count-done : (f : ℕ → Bool) (m j n : ℕ) → j ≤ n → n ≤ j → m ≤ j → m ≡ count f j → CountIs m f n
+count-done f m j n l u k h = let e : j ≡ n = omega arith in record { is = rw e at h; few = omega arith }
 
 -- a block of numbers more
 pub count-add : (f : ℕ → Bool) (a n : ℕ) → count f (a + n) ≡ count f a + count (λ i. f (a + i)) n

@@ -3,12 +3,11 @@ use mathlib.Core.Path.{_≡_, refl, sym, _∙_}
 use mathlib.Core.List.{List}
 use Prim.Native.Nat.{ℕ, _*_, _/_, _≤_, min}
 use native.Mathlib.Omega.{arith}
-use lib.Dec.{ltb}
 use lib.ListN.{length, take}
 use lib.Seq.{length-take-le}
 use borrow.Author.Tests.{le-ltb}
 use Rattle.routes.specs.Route.{Good}
-use Rattle.routes.specs.Record.{routesOf, written, Records}
+use Rattle.routes.specs.Record.{routesOf, Records}
 use Rattle.routes.specs.declared.Route.{Route}
 use Rattle.routes.proofs.Rows.{routes-written, written-listed}
 use Rattle.sail.specs.declared.table.Table.{Table}
@@ -17,13 +16,13 @@ use Rattle.sail_load.specs.Weigh.{terms, Weighs}
 use Rattle.repair_theory.specs.Repair.{keptOf}
 use Rattle.repair_theory.proofs.Kept.{kept-good}
 use Rattle.repair.specs.Keep.{Keeps, KeptIn}
-use Rattle.repair.specs.Judge.{Judges, Kept, Told}
+use Rattle.repair.specs.Judge.{RepairReady, SizesFirst}
 
 module _ (z : ℕ) (t : Table) (s : List ℕ) where
-  pub judge-sizes : (n2 n3 : ℕ) (bytes : List ℕ) → (z ≡ 0 → ⊥) → Told z t s n2 n3 bytes (record { fault = z; looked = 0; kept = 0 })
+  pub judge-sizes : (n2 n3 : ℕ) (bytes : List ℕ) → (z ≡ 0 → ⊥) → SizesFirst z t s n2 n3 bytes (record { fault = z; looked = 0; kept = 0 })
   judge-sizes n2 n3 bytes h = record { off = λ _. refl; on = λ e. absurd (h e) }
 
-  module _ (before : List ℕ) (h : Judges z (t .geometry) s before) (fits : z ≡ 0) (n : ℕ) (looks : n ≡ min (t .count) (length s / 8)) where
+  module _ (before : List ℕ) (h : RepairReady z (t .geometry) s before) (fits : z ≡ 0) (n : ℕ) (looks : n ≡ min (t .count) (length s / 8)) where
     inside : n ≤ length s / 8
     inside = omega arith
 
@@ -57,7 +56,7 @@ module _ (z : ℕ) (t : Table) (s : List ℕ) where
       weigh-asks = record { valid = h .valid fits; records = records }
 
       pub judge-weighed : (n2 n3 f : ℕ) → f ≡ loadFault (terms (t .geometry) (length s / 8) n2 n3) (routesOf (take (m * 8) bytes) m)
-          → Told z t s n2 n3 bytes (record { fault = f; looked = n; kept = m })
+          → SizesFirst z t s n2 n3 bytes (record { fault = f; looked = n; kept = m })
       unfolding loadFault
       judge-weighed n2 n3 f e = record {
         off = λ y. absurd (y fits);

@@ -5,12 +5,12 @@ use mathlib.Core.Bool.{true, false}
 use mathlib.Core.List.{List, [], _∷_, _++_, append-nil}
 use Prim.Native.Nat.{ℕ, suc, _+_, _-_, _*_, _/_, _%_, _≤_, _<_}
 use native.Mathlib.Omega.{arith}
-use lib.Dec.{eqb, leb}
+use lib.Dec.{eqb}
 use lib.ListN.{length, getD, take, drop, length-append, List·getD-append}
 use lib.Seq.{ext-getD, take-at, length-take-le, getD-append-add}
 use borrow.Author.Tests.{eq-eqb, ne-eqb, le-leb, lt-leb}
 use Rattle.bits.specs.Tab.{tabulate}
-use Rattle.bits.proofs.Tests.{below?, both}
+use Rattle.bits.proofs.Bools.{below?, both}
 use Rattle.routes.specs.Route.{key}
 use Rattle.routes.specs.Record.{recordAt, bytesOf, putAt, noRoute, written}
 use Rattle.routes.specs.Input.{routeFault}
@@ -63,18 +63,18 @@ put-front out m r h =
     take-at (take (m * 8) out ++ bytesOf r) (drop (m * 8 + 8) out) ((m + 1) * 8) n
 
 -- How far the pass has come: k records are looked at, m of them are kept, and the next must have a key of at least `least`.
-pub record Passed (s : List ℕ) (k least m : ℕ) (out : List ℕ) : Type 0 where
+pub record KeptSoFar (s : List ℕ) (k least m : ℕ) (out : List ℕ) : Type 0 where
   pub asked : least ≡ leastFrom s 0 0 k
   pub count : m ≡ length (keptOf s k)
   pub few : m ≤ k
   pub room : length out ≡ 32768
   pub bytes : take (m * 8) out ≡ written (keptOf s k) m
 
-pub passed-none : (s out : List ℕ) → length out ≡ 32768 → Passed s 0 0 0 out
+pub passed-none : (s out : List ℕ) → length out ≡ 32768 → KeptSoFar s 0 0 0 out
 unfolding leastFrom keptFrom written tabulate
 passed-none s out h = record { asked = refl; count = refl; few = omega arith; room = h; bytes = refl }
 
-module _ (s : List ℕ) (k least m : ℕ) (out : List ℕ) (p : Passed s k least m out) where
+module _ (s : List ℕ) (k least m : ℕ) (out : List ℕ) (p : KeptSoFar s k least m out) where
   next : k + 1 ≡ suc k
   next = omega arith
 
@@ -89,7 +89,7 @@ module _ (s : List ℕ) (k least m : ℕ) (out : List ℕ) (p : Passed s k least
     same-kept : keptOf s (k + 1) ≡ keptOf s k
     same-kept = rw next (kept-snoc s 0 0 k ∙ rw off (append-nil (keptOf s k)))
 
-    passed-drop : Passed s (k + 1) least m out
+    passed-drop : KeptSoFar s (k + 1) least m out
     passed-drop = record {
       asked = p .asked ∙ sym (rw next (least-snoc s 0 0 k ∙ rw off));
       count = rw same-kept (p .count);
@@ -106,7 +106,7 @@ module _ (s : List ℕ) (k least m : ℕ) (out : List ℕ) (p : Passed s k least
     more-kept : keptOf s (k + 1) ≡ keptOf s k ++ (recordAt s k ∷ [])
     more-kept = rw next (kept-snoc s 0 0 k ∙ rw (on, here))
 
-    passed-take : Passed s (k + 1) (key (recordAt s k) + 1) (m + 1) after
+    passed-take : KeptSoFar s (k + 1) (key (recordAt s k) + 1) (m + 1) after
     passed-take = record {
       asked =
           let z : key (recordAt s k) + 1 ≡ suc (key (recordAt s k)) = omega arith in
@@ -121,21 +121,21 @@ module _ (s : List ℕ) (k least m : ℕ) (out : List ℕ) (p : Passed s k least
 
   -- as the code goes: what it reads, what it finds, and its three ways on
   module _ (r : Route) (read : r ≡ recordAt s k) (f : ℕ) (found : f ≡ routeFault r) where
-    pub passed-wrong : (f ≡ 0 → ⊥) → Passed s (k + 1) least m out
+    pub passed-wrong : (f ≡ 0 → ⊥) → KeptSoFar s (k + 1) least m out
     passed-wrong h = passed-drop (rw (← read, ← found, ne-eqb f 0 h))
 
     module _ (valid : f ≡ 0) (x : ℕ) (order : x ≡ key r) where
       fine : eqb (routeFault (recordAt s k)) 0 ≡ true
       fine = eq-eqb _ _ (ap routeFault (sym read) ∙ sym found ∙ valid)
 
-      pub passed-small : x < least → Passed s (k + 1) least m out
+      pub passed-small : x < least → KeptSoFar s (k + 1) least m out
       passed-small h = passed-drop (rw (fine, ← read) (lt-leb least (key r) (rw order at h)))
 
-      pub passed-more : least ≤ x → (after : List ℕ) → after ≡ putAt out m r → k < 4096 → length after ≡ 32768 → Passed s (k + 1) (x + 1) (m + 1) after
+      pub passed-more : least ≤ x → (after : List ℕ) → after ≡ putAt out m r → k < 4096 → length after ≡ 32768 → KeptSoFar s (k + 1) (x + 1) (m + 1) after
       passed-more h after put fits room =
           rw (order, read) (passed-take (both fine (rw (← read) (le-leb least (key r) (rw order at h)))) after (rw read at put) fits room)
 
-pub passed-all : (s : List ℕ) (n k least m : ℕ) (out : List ℕ) → k ≤ n → n ≤ k → Passed s k least m out → KeptIn s n out m
+pub passed-all : (s : List ℕ) (n k least m : ℕ) (out : List ℕ) → k ≤ n → n ≤ k → KeptSoFar s k least m out → KeptIn s n out m
 passed-all s n k least m out u l p =
     let e : k ≡ n = omega arith in
     record { count = rw e at (p .count); few = omega (arith, p .few); bytes = rw e at (p .bytes) }

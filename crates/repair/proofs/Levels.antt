@@ -2,44 +2,44 @@
 use mathlib.Core.Path.{_≡_, refl, sym, _∙_, ap}
 use mathlib.Core.Bool.{Bool}
 use mathlib.Core.List.{List}
-use Prim.Native.Nat.{ℕ, suc, _+_, _-_, _*_, _/_, _^_, _≤_, _<_}
+use Prim.Native.Nat.{ℕ, suc, _+_, _-_, _^_, _≤_, _<_}
 use native.Mathlib.Omega.{arith}
 use native.Mathlib.Nat.{mul-le-mul}
 use lib.ListN.{length, getD}
 use lib.Pow.{pow-mono}
 use Rattle.bits.specs.Count.{count}
 use Rattle.routes.specs.declared.Route.{Route}
-use Rattle.chain.specs.Words.{routesIn}
+use Rattle.chain.specs.Words.{routesOfWords}
 use Rattle.chain.proofs.Decodes.{words-good}
 use Rattle.sail.specs.Geometry.{bits2, bits3}
 use Rattle.sail.specs.Lent.{Lent, Cells}
 use Rattle.sail.specs.Level.{always, itself, liveIn, partOf, entry, chunksOf, noChunks, level1, level2, level3}
 use Rattle.sail.specs.declared.geometry.Geometry.{Geometry}
-use Rattle.sail_theory.proofs.Places.{chunk-lt, live-owner}
-use Rattle.sail_theory.proofs.Frames.{top-bounded, below-bounded}
-use Rattle.sail_theory.proofs.Rendered.{last-fits}
+use Rattle.sail_theory.proofs.places.Places.{chunk-lt, live-owner}
+use Rattle.sail_theory.proofs.frames.LevelFrame.{top-bounded, below-bounded}
+use Rattle.sail_theory.proofs.places.Rendered.{last-fits}
 use Rattle.sail_owners.specs.Owners.{owners}
-use Rattle.sail_paint.specs.Paint.{standsFor, Above, Hangs}
+use Rattle.sail_paint.specs.Paint.{standsFor, Above, OwnerInLevel}
 use Rattle.sail_paint.proofs.Places.{stands-itself, stands-part}
 use Rattle.repair_theory.specs.Repair.{differ}
-use Rattle.repair.specs.Differs.{offAt, offName, Counted, Firsts, Pooled, Named, Owned, Differing, wanted}
+use Rattle.repair.specs.Differs.{offAt, offName, CountIs, DiffFirstReady, DiffPoolReady, DiffNamesReady, Owned, Differing, wanted}
 use Rattle.repair.proofs.Counts.{count-start}
 use Rattle.repair.proofs.Parts.{differ-parts}
 
 module _ (g : Geometry) (ws par : List ℕ) (l : Cells) (want : List ℕ) (w : Owned g ws par l want) where
   abbrev rs : List Route
-  rs = routesIn ws
+  rs = routesOfWords ws
 
-  pub first-asks : Firsts ws par (g .p1) (l .first) want
+  pub first-asks : DiffFirstReady ws par (g .p1) (l .first) want
   first-asks = let v = w .celled .valid in record { ready = w .ready; low = omega arith; deep = omega arith; cells = w .celled .cells1; room = w .room }
 
-  pub first-names : Named (l .own2) (l .first)
+  pub first-names : DiffNamesReady (l .own2) (l .first)
   first-names = record { few = w .celled .few2; inside = λ c q k o. rw (w .celled .cells1) (w .fits2 .lies c q k o .0) }
 
-  pub second-names : Named (l .own3) (l .second)
+  pub second-names : DiffNamesReady (l .own3) (l .second)
   second-names = record { few = w .celled .few3; inside = λ c q k o. rw (w .celled .cells2) (w .fits3 .lies c q k o .0) }
 
-  pub second-asks : (room : List ℕ) → length room ≡ 1024 → Pooled ws par (g .p1) (g .p2) (l .own2) 0 (l .own2) (l .second) room
+  pub second-asks : (room : List ℕ) → length room ≡ 1024 → DiffPoolReady ws par (g .p1) (g .p2) (l .own2) 0 (l .own2) (l .second) room
   second-asks room r =
       let v = w .celled .valid in
       record {
@@ -59,7 +59,7 @@ module _ (g : Geometry) (ws par : List ℕ) (l : Cells) (want : List ℕ) (w : O
   some2 z = let v = w .celled .valid in omega arith
 
   -- a third chunk hangs from a second cell, which stands for a cell of p2 bits
-  hangs3 : (c : ℕ) → c < length (l .own3) → Hangs (g .p2) (l .own2) (bits2 g) (getD (l .own3) c 0)
+  hangs3 : (c : ℕ) → c < length (l .own3) → OwnerInLevel (g .p2) (l .own2) (bits2 g) (getD (l .own3) c 0)
   hangs3 c k = record { above = above; cell = cell }
     where
       above : (q : ℕ) → getD (l .own3) c 0 ≡ suc q → Above (l .own2) (bits2 g) q
@@ -78,7 +78,7 @@ module _ (g : Geometry) (ws par : List ℕ) (l : Cells) (want : List ℕ) (w : O
           rw (stands-part (bits2 g) (l .own2) q some2)
           (below-bounded rs (level1 g) (chunksOf (l .own2)) (g .p2) (omega arith) (w .fits2) (top-bounded (g .p1)) q (z .0) (z .1))
 
-  pub third-asks : (room : List ℕ) → length room ≡ 1024 → Pooled ws par (g .p2) 32 (l .own2) (bits2 g) (l .own3) (l .third) room
+  pub third-asks : (room : List ℕ) → length room ≡ 1024 → DiffPoolReady ws par (g .p2) 32 (l .own2) (bits2 g) (l .own3) (l .third) room
   third-asks room r =
       let v = w .celled .valid in
       record {
@@ -105,10 +105,10 @@ module _ (g : Geometry) (ws par : List ℕ) (l : Cells) (want : List ℕ) (w : O
   off3 at = offAt rs 32 (liveIn (entry (l .own3)) (32 - g .p2)) (partOf (entry (l .own3)) (32 - g .p2) at) (entry (l .third))
 
   module _ (a1 n1 a2 n2 a3 : ℕ)
-      (leaves1 : Counted a1 off1 (length (l .first))) (names1 : Counted n1 (offName (entry (l .own2)) (entry (l .first))) (length (l .own2)))
-      (leaves2 : Counted a2 (off2 (standsFor 0 (l .own2))) (length (l .second)))
-      (names2 : Counted n2 (offName (entry (l .own3)) (entry (l .second))) (length (l .own3)))
-      (leaves3 : Counted a3 (off3 (standsFor (g .p2 - g .p1) (l .own2))) (length (l .third))) where
+      (leaves1 : CountIs a1 off1 (length (l .first))) (names1 : CountIs n1 (offName (entry (l .own2)) (entry (l .first))) (length (l .own2)))
+      (leaves2 : CountIs a2 (off2 (standsFor 0 (l .own2))) (length (l .second)))
+      (names2 : CountIs n2 (offName (entry (l .own3)) (entry (l .second))) (length (l .own3)))
+      (leaves3 : CountIs a3 (off3 (standsFor (g .p2 - g .p1) (l .own2))) (length (l .third))) where
     first-is : a1 + n1 ≡ differ (l .first) (asked .first)
     first-is =
         let parts = differ-parts rs (level1 g) (chunksOf (l .own2)) (w .fits2) (l .first) (w .celled .cells1) in

@@ -12,14 +12,14 @@ use borrow.Author.Tests.{ltb-true, lt-ltb, ne-eqb}
 use Rattle.bits.specs.Count.{bit, count}
 use Rattle.bits.proofs.Counts.{count-ext, Matched, count-matched}
 use Rattle.bits.proofs.Tabs.{getD-tabulate}
-use Rattle.bits.proofs.Tests.{decided, both, and-split}
+use Rattle.bits.proofs.Bools.{decided, both, and-split}
 use Rattle.standing.specs.Cells.{best}
 use Rattle.routes.specs.declared.Route.{Route}
 use Rattle.plan.specs.Plan.{plan}
 use Rattle.sail.specs.Level.{Level, Chunks, chunkFor, deep, entry}
 use Rattle.sail_theory.specs.Render.{shown, block, pool, Fits}
-use Rattle.sail_theory.proofs.Chunks.{chunk-at}
-use Rattle.sail_theory.proofs.Pools.{shown-node, shown-leaf}
+use Rattle.sail_theory.proofs.owners.Chunks.{chunk-at}
+use Rattle.sail_theory.proofs.places.Pools.{shown-node, shown-leaf}
 use Rattle.repair_theory.specs.Repair.{differ}
 use Rattle.repair.specs.Differs.{offAt, offName}
 

@@ -2,44 +2,44 @@
 use mathlib.Core.Path.{_≡_, sym, _∙_, ap}
 use mathlib.Core.Logic.{_⊎_, inl, inr}
 use mathlib.Core.List.{List, [], _∷_}
-use Prim.Native.Nat.{ℕ, _-_, _*_, _/_, _^_, _≤_, _<_}
+use Prim.Native.Nat.{ℕ, _-_, _*_, _/_, _^_, _≤_}
 use native.Mathlib.Omega.{arith}
 use lib.ListN.{length, take, replicate, length-replicate}
-use Rattle.bits.proofs.Tests.{equal?}
-use Rattle.routes.specs.Said.{Said, accepted, refused}
+use Rattle.bits.proofs.Bools.{equal?}
+use Rattle.routes.specs.Said.{accepted, refused}
 use Rattle.routes.specs.declared.Route.{Route}
 use Rattle.sail.specs.Geometry.{bits2, bits3}
-use Rattle.sail.specs.Lent.{Lent, cells}
+use Rattle.sail.specs.Lent.{Lent}
 use Rattle.sail.specs.Sizes.{sizesFault, SizesTold}
 use Rattle.sail.specs.declared.geometry.Geometry.{Geometry}
 use Rattle.sail.specs.declared.table.Table.{Table}
-use Rattle.sail_calls.proofs.Judges.{or-said}
-use Rattle.sail_theory.specs.Calls.{Owners, settled, noOwners, inputRoutes, termsOf, chunksFault, Out, out, lentOf, loaded}
+use Rattle.sail_theory.proofs.Judges.{or-said}
+use Rattle.sail_theory.specs.Calls.{ownersAfter, noOwners, inputRoutes, termsOf, chunksFault, Out, out, lentOf, loaded}
 use Rattle.sail_theory.specs.Facts.{Loadable}
-use Rattle.sail_theory.specs.Runs.{Carries}
-use Rattle.sail_theory.proofs.Loads.{Fronts, settles, fronts-none}
-use Rattle.sail_load.specs.Answers.{saysLoaded}
+use Rattle.sail_theory.specs.CallRuns.{Carries}
+use Rattle.sail_theory.proofs.calls.Load.{Fronts, settles, fronts-none}
+use Rattle.sail_load.specs.Answers.{meansLoaded}
 use Rattle.sail_load.specs.declared.load.Loaded.{Loaded}
-use Rattle.repair_theory.specs.Repair.{keptOf, looked, kept, keptBytes, reloaded, differ, dropped, changes, repairSaid, repaired}
+use Rattle.repair_theory.specs.Repair.{keptOf, looked, keptRoutes, keptBytes, reloaded, differ, dropped, changes, repairSaid, repaired}
 use Rattle.repair_theory.proofs.Looks.{kept-few, looks}
 use Rattle.repair_theory.proofs.Judged.{accepted-loadable}
 use Rattle.repair_theory.proofs.Repairs.{carried-routes, kept-carried, reload-is, repair-is}
-use Rattle.repair.specs.Answers.{saysRepaired}
-use Rattle.repair.specs.Differs.{Differing, wanted, freshOwners, Countable}
-use Rattle.repair.specs.Judge.{Judges, Kept, Told, Small, numbers}
+use Rattle.repair.specs.Answers.{meansRepaired}
+use Rattle.repair.specs.Differs.{Differing, wanted, freshOwners, DiffReady}
+use Rattle.repair.specs.Judge.{RepairReady, KeptIs, SizesFirst, Small, numbers}
 use Rattle.repair.specs.declared.differs.Differs.{Differs}
-use Rattle.repair.specs.declared.repair.Judged.{Judged}
+use Rattle.repair.specs.declared.repair.RepairJudged.{RepairJudged}
 use Rattle.repair.specs.declared.repair.Repaired.{Repaired}
 use Rattle.repair.specs.declared.repair.Repaired.the-variants.{Refused}
 
-pub judge-asks : (g : Geometry) (l : Lent) (z : ℕ) → SizesTold z g l → (room : List ℕ) → length room ≡ 32768 → Judges z g (l .list) room
+pub judge-asks : (g : Geometry) (l : Lent) (z : ℕ) → SizesTold z g l → (room : List ℕ) → length room ≡ 32768 → RepairReady z g (l .list) room
 judge-asks g l z check room r = record { valid = λ e. check .facts e .valid; few = λ e. omega (arith, check .facts e .room); room = r }
 
 module _ (t : Table) (l : Lent) (z : ℕ) (check : SizesTold z (t .geometry) l) where
-  module _ (bytes : List ℕ) (j : Judged) (told : Told z t (l .list) (length (l .own2)) (length (l .own3)) bytes j) where
+  module _ (bytes : List ℕ) (j : RepairJudged) (told : SizesFirst z t (l .list) (length (l .own2)) (length (l .own3)) bytes j) where
     -- what is kept, where the sizes are right
     module _ (fits : z ≡ 0) where
-      k : Kept t (l .list) (length (l .own2)) (length (l .own3)) bytes j
+      k : KeptIs t (l .list) (length (l .own2)) (length (l .own3)) bytes j
       k = told .on fits
 
       none : sizesFault (t .geometry) l ≡ 0
@@ -49,11 +49,11 @@ module _ (t : Table) (l : Lent) (z : ℕ) (check : SizesTold z (t .geometry) l) 
       unfolding looked
       looks-so = k .looks
 
-      keeps-so : keptOf (l .list) (j .looked) ≡ kept t l
-      unfolding kept
+      keeps-so : keptOf (l .list) (j .looked) ≡ keptRoutes t l
+      unfolding keptRoutes
       keeps-so = rw looks-so
 
-      chunks-so : j .fault ≡ chunksFault (termsOf t l) (kept t l)
+      chunks-so : j .fault ≡ chunksFault (termsOf t l) (keptRoutes t l)
       chunks-so = rw (← keeps-so) (k .fault)
 
       input-so : take (j .kept * 8) bytes ≡ keptBytes t l
@@ -65,10 +65,10 @@ module _ (t : Table) (l : Lent) (z : ℕ) (check : SizesTold z (t .geometry) l) 
       where
         go : (z ≡ 0) ⊎ (z ≡ 0 → ⊥) → repairSaid t l ≡ refused (j .fault)
         go (inr n) = rw (told .off n) (or-said (sizesFault (t .geometry) l) z _ (check .number) n)
-        go (inl e) = rw (none e) (or-said (chunksFault (termsOf t l) (kept t l)) (j .fault) _ (chunks-so e) h)
+        go (inl e) = rw (none e) (or-said (chunksFault (termsOf t l) (keptRoutes t l)) (j .fault) _ (chunks-so e) h)
 
-    pub repair-refuses : (j .fault ≡ 0 → ⊥) → out (saysRepaired (Refused (j .fault))) t l ≡ repaired t l
-    unfolding saysRepaired repaired
+    pub repair-refuses : (j .fault ≡ 0 → ⊥) → out (meansRepaired (Refused (j .fault))) t l ≡ repaired t l
+    unfolding meansRepaired repaired
     repair-refuses h = rw (said-refused h)
 
     -- nothing speaks against it
@@ -81,7 +81,7 @@ module _ (t : Table) (l : Lent) (z : ℕ) (check : SizesTold z (t .geometry) l) 
           go (inr n) = absurd (n (sym (told .off n) ∙ clear))
 
       abbrev rs : List Route
-      rs = kept t l
+      rs = keptRoutes t l
 
       abbrev input : List ℕ
       input = take (j .kept * 8) bytes
@@ -114,10 +114,10 @@ module _ (t : Table) (l : Lent) (z : ℕ) (check : SizesTold z (t .geometry) l) 
       pub input-room : j .kept * 8 ≡ length input
       input-room = omega (arith, many, carries .whole)
 
-      ends : Fronts t l rs [] (settled (t .geometry) (noOwners l) rs)
+      ends : Fronts t l rs [] (ownersAfter (t .geometry) (noOwners l) rs)
       ends = settles (accepted []) t l rs [] (noOwners l) (fronts-none t l rs loadable) .ends
 
-      pub counts-ask : Countable (t .geometry) input n2 n3 (l .first) (l .second) (l .third)
+      pub counts-ask : DiffReady (t .geometry) input n2 n3 (l .first) (l .second) (l .third)
       counts-ask =
           let s = loadable .sized in
           let e2 = length-replicate {A = ℕ} n2 0 in
@@ -160,10 +160,10 @@ module _ (t : Table) (l : Lent) (z : ℕ) (check : SizesTold z (t .geometry) l) 
 
         -- what is loaded has the cells that were asked for
         asked-so : wanted (t .geometry) (inputRoutes input) (freshOwners (t .geometry) input n2 n3)
-            ≡ wanted (t .geometry) rs (settled (t .geometry) (noOwners l) rs)
-        asked-so = ap (λ (xs : List Route). wanted (t .geometry) xs (settled (t .geometry) (noOwners l) xs)) routes
+            ≡ wanted (t .geometry) rs (ownersAfter (t .geometry) (noOwners l) rs)
+        asked-so = ap (λ (xs : List Route). wanted (t .geometry) xs (ownersAfter (t .geometry) (noOwners l) xs)) routes
 
-        left-so : reloaded t l .lent ≡ lentOf t l rs (settled (t .geometry) (noOwners l) rs)
+        left-so : reloaded t l .lent ≡ lentOf t l rs (ownersAfter (t .geometry) (noOwners l) rs)
         left-so = ap (λ (o : Out). o .lent) (reload-is t l loadable)
 
         first-so : d .first ≡ differ (l .first) (reloaded t l .lent .first)
@@ -181,8 +181,8 @@ module _ (t : Table) (l : Lent) (z : ℕ) (check : SizesTold z (t .geometry) l) 
         told-so : numbers j d ≡ changes t l
         told-so = λ i. dropped-so i ∷ first-so i ∷ second-so i ∷ third-so i ∷ []
 
-        pub repair-done : (a : Repaired) → saysRepaired a ≡ accepted (numbers j d)
-            → (b : Loaded) (u : Table) (v : Lent) → out (saysLoaded b) u v ≡ loaded t l input → out (saysRepaired a) u v ≡ repaired t l
+        pub repair-done : (a : Repaired) → meansRepaired a ≡ accepted (numbers j d)
+            → (b : Loaded) (u : Table) (v : Lent) → out (meansLoaded b) u v ≡ loaded t l input → out (meansRepaired a) u v ≡ repaired t l
         repair-done a says b u v loads =
             let r = loads ∙ ap (loaded t l) (input-so fits) in
             let w = says ∙ ap accepted told-so in

@@ -1,29 +1,27 @@
 -- The owners of a load and the words of its routes, made in room that is lent, and what the count is then of.
-use mathlib.Core.Path.{_≡_, refl, sym, _∙_, ap, subst}
-use mathlib.Core.Bool.{true}
+use mathlib.Core.Path.{_≡_, sym, _∙_, ap, subst}
 use mathlib.Core.List.{List, _++_}
 use Prim.Native.Nat.{ℕ, _+_, _-_, _*_, _/_, _^_, _≤_}
 use native.Mathlib.Omega.{arith}
 use lib.ListN.{length, take, drop, replicate, length-replicate, replicate-append-replicate}
 use lib.Seq.{take-at}
-use Rattle.bits.specs.Tab.{Tells}
 use Rattle.routes.specs.Record.{Listed}
-use Rattle.chain.specs.Words.{routesIn}
+use Rattle.chain.specs.Words.{routesOfWords}
+use Rattle.chain.specs.List.{ChainRoom, Chained}
+use Rattle.chain.proofs.Fronts as fronts
 use Rattle.sail.specs.Geometry.{bits2, bits3}
 use Rattle.sail.specs.Lent.{cells}
 use Rattle.sail.specs.Level.{chunksOf, level1, level2}
 use Rattle.sail.specs.Sizes.{Celled}
 use Rattle.sail.specs.declared.geometry.Geometry.{Geometry}
-use Rattle.sail_list.specs.List.{ChainRoom, Chained}
-use Rattle.sail_list.proofs.Fronts as fronts
 use Rattle.sail_owners.specs.Owners.{owners, Ownable}
 use Rattle.sail_theory.specs.Render.{Fits}
-use Rattle.sail_theory.specs.Calls.{Owners, settled, inputRoutes}
-use Rattle.repair.specs.Differs.{Owned, Differing, wanted, freshOwners, Countable, Roomy}
+use Rattle.sail_theory.specs.Calls.{Owners, ownersAfter, inputRoutes}
+use Rattle.repair.specs.Differs.{Owned, Differing, wanted, freshOwners, DiffReady, Roomy}
 use Rattle.repair.specs.declared.differs.Differs.{Differs}
 
 module _ (g : Geometry) (input first second third own2 own3 ws par want : List ℕ) (h : Roomy g input first second third own2 own3 ws par want) where
-  abbrev k : Countable g input (length own2) (length own3) first second third
+  abbrev k : DiffReady g input (length own2) (length own3) first second third
   k = h .countable
 
   pub owners-ask : Ownable g input own2 own3
@@ -32,33 +30,33 @@ module _ (g : Geometry) (input first second third own2 own3 ws par want : List �
   abbrev n : ℕ
   n = length input / 8
 
-  told : Tells true (Listed input n)
-  told = ((λ _. record { records = k .ownable .records; whole = omega (arith, k .whole); zeros = λ j a b. absurd (omega (arith, k .whole)) }), (λ _. refl))
+  listed : Listed input n
+  listed = record { records = k .ownable .records; whole = omega (arith, k .whole); zeros = λ j a b. absurd (omega (arith, k .whole)) }
 
   pub words-in : n ≤ length ws
-  words-in = fronts.count-in input n true told refl ws par (h .scratch)
+  words-in = fronts.count-in input n listed ws par (h .scratch)
 
   pub words-room : n ≡ length (take n ws)
-  words-room = fronts.count-room input n true told refl ws par (h .scratch)
+  words-room = fronts.count-room input n listed ws par (h .scratch)
 
   pub words-chain : ChainRoom input (take n ws) par
-  words-chain = fronts.chain-room input n true told refl ws par (h .scratch)
+  words-chain = fronts.chain-room input n listed ws par (h .scratch)
 
   module _ (words : List ℕ) (kept : length words ≡ length (take n ws)) where
     pub front-in : n ≤ length (words ++ drop n ws)
-    front-in = fronts.still-in input n true told refl ws par (h .scratch) words kept
+    front-in = fronts.still-in input n listed ws par (h .scratch) words kept
 
     pub front-room : n ≡ length (take n (words ++ drop n ws))
-    front-room = fronts.front-room input n true told refl ws par (h .scratch) words kept
+    front-room = fronts.front-room input n listed ws par (h .scratch) words kept
 
     module _ (chain : List ℕ) (made : Chained input (length (take n ws)) words chain) (after2 after3 : List ℕ)
-        (settles : owners after2 after3 ≡ settled g (owners own2 own3) (inputRoutes input)) where
-      routes : routesIn (take n (words ++ drop n ws)) ≡ inputRoutes input
-      routes = fronts.front-routes input n true told refl ws par (h .scratch) words kept chain made
+        (settles : owners after2 after3 ≡ ownersAfter g (owners own2 own3) (inputRoutes input)) where
+      routes : routesOfWords (take n (words ++ drop n ws)) ≡ inputRoutes input
+      routes = fronts.front-routes input n listed ws par (h .scratch) words kept chain made
 
       -- the owners are those of the load
       owned : owners after2 after3 ≡ freshOwners g input (length own2) (length own3)
-      owned = settles ∙ (λ i. settled g (owners (h .none2 i) (h .none3 i)) (inputRoutes input))
+      owned = settles ∙ (λ i. ownersAfter g (owners (h .none2 i) (h .none3 i)) (inputRoutes input))
 
       module _ (same2 : length after2 ≡ length own2) (same3 : length after3 ≡ length own3) where
         celled : Celled g (cells first second third after2 after3)
@@ -77,14 +75,14 @@ module _ (g : Geometry) (input first second third own2 own3 ws par want : List �
 
         pub all-owned : Owned g (take n (words ++ drop n ws)) chain (cells first second third after2 after3) want
         all-owned = record {
-          ready = fronts.front-ready input n true told refl ws par (h .scratch) words kept chain made;
+          ready = fronts.front-ready input n listed ws par (h .scratch) words kept chain made;
           celled = celled;
           fits2 = rw routes (subst (λ (o : Owners). Fits (inputRoutes input) (level1 g) (chunksOf (o .own2))) (sym owned) (k .fits2));
           fits3 = rw routes (subst (λ (o : Owners). Fits (inputRoutes input) (level2 g (chunksOf (o .own2))) (chunksOf (o .own3))) (sym owned) (k .fits3));
           room = h .room;
         }
 
-      pub all-differ : (r : Differs) → Differing r first second third (wanted g (routesIn (take n (words ++ drop n ws))) (owners after2 after3))
+      pub all-differ : (r : Differs) → Differing r first second third (wanted g (routesOfWords (take n (words ++ drop n ws))) (owners after2 after3))
           → Differing r first second third (wanted g (inputRoutes input) (freshOwners g input (length own2) (length own3)))
       all-differ r d = subst (λ (o : Owners). Differing r first second third (wanted g (inputRoutes input) o)) owned (rw routes at d)
 
@@ -101,7 +99,7 @@ zeros-front m j h =
 zeros-length : (m j : ℕ) → j ≤ m → length (take j (zeros m)) ≡ j
 zeros-length m j h = ap length (zeros-front m j h) ∙ length-replicate j 0
 
-module _ (g : Geometry) (input : List ℕ) (n2 n3 : ℕ) (first second third : List ℕ) (k : Countable g input n2 n3 first second third) where
+module _ (g : Geometry) (input : List ℕ) (n2 n3 : ℕ) (first second third : List ℕ) (k : DiffReady g input n2 n3 first second third) where
   pub own-few2 : n2 ≤ 4096
   own-few2 = omega (arith, k .celled .few2, length-replicate {A = ℕ} n2 0)
 

@@ -4,6 +4,6 @@ use Rattle.routes.specs.Said.{Said, accepted, refused}
 use Rattle.repair.specs.declared.repair.Repaired.{Repaired}
 use Rattle.repair.specs.declared.repair.Repaired.the-variants.{Done, Refused}
 
-unfoldable pub saysRepaired : Repaired → Said
-saysRepaired (Done dropped first second third) = accepted (dropped ∷ first ∷ second ∷ third ∷ [])
-saysRepaired (Refused n) = refused n
+unfoldable pub meansRepaired : Repaired → Said
+meansRepaired (Done dropped first second third) = accepted (dropped ∷ first ∷ second ∷ third ∷ [])
+meansRepaired (Refused n) = refused n

@@ -5,8 +5,8 @@ use Rattle.sail.specs.Lent.{Lent}
 use Rattle.sail.specs.declared.table.Table.{Table}
 use Rattle.sail_theory.specs.Calls.{out}
 use Rattle.repair_theory.specs.Repair.{repaired}
-use Rattle.repair.specs.Answers.{saysRepaired}
-use Rattle.repair.specs.declared.repair.Changed.{Changed}
+use Rattle.repair.specs.Answers.{meansRepaired}
+use Rattle.repair.specs.declared.repair.RepairedTable.{RepairedTable}
 
-abbrev pub MeetsRepair : Table → Lent → Changed → Lent → Type 0
-MeetsRepair t l r e = out (saysRepaired (r .answer)) (r .table) e ≡ repaired t l
+abbrev pub MeetsRepair : Table → Lent → RepairedTable → Lent → Type 0
+MeetsRepair t l r e = out (meansRepaired (r .answer)) (r .table) e ≡ repaired t l

@@ -10,29 +10,29 @@ use Rattle.sail.specs.declared.table.Table.{Table}
 use Rattle.sail_theory.specs.Calls.{chunksFault}
 use Rattle.sail_load.specs.Weigh.{terms}
 use Rattle.repair_theory.specs.Repair.{keptOf}
-use Rattle.repair.specs.declared.repair.Judged.{Judged}
+use Rattle.repair.specs.declared.repair.RepairJudged.{RepairJudged}
 use Rattle.repair.specs.declared.differs.Differs.{Differs}
 
 -- a geometry and a list of right sizes, where no fault of the sizes is given; and room for what is kept
-pub record Judges (z : ℕ) (g : Geometry) (s bytes : List ℕ) : Type 0 where
+pub record RepairReady (z : ℕ) (g : Geometry) (s bytes : List ℕ) : Type 0 where
   pub valid : z ≡ 0 → Valid g
   pub few : z ≡ 0 → length s ≤ 32768
   pub room : length bytes ≡ 32768
 
 -- the records that are looked at, those of them that are kept, and whether n2 and n3 chunks are enough for these
-pub record Kept (t : Table) (s : List ℕ) (n2 n3 : ℕ) (bytes : List ℕ) (r : Judged) : Type 0 where
+pub record KeptIs (t : Table) (s : List ℕ) (n2 n3 : ℕ) (bytes : List ℕ) (r : RepairJudged) : Type 0 where
   pub looks : r .looked ≡ min (t .count) (length s / 8)
   pub keeps : r .kept ≡ length (keptOf s (r .looked))
   pub input : take (r .kept * 8) bytes ≡ written (keptOf s (r .looked)) (r .kept)
   pub fault : r .fault ≡ chunksFault (terms (t .geometry) (length s / 8) n2 n3) (keptOf s (r .looked))
 
 -- the fault of the sizes is the first
-pub record Told (z : ℕ) (t : Table) (s : List ℕ) (n2 n3 : ℕ) (bytes : List ℕ) (r : Judged) : Type 0 where
+pub record SizesFirst (z : ℕ) (t : Table) (s : List ℕ) (n2 n3 : ℕ) (bytes : List ℕ) (r : RepairJudged) : Type 0 where
   pub off : (z ≡ 0 → ⊥) → r .fault ≡ z
-  pub on : z ≡ 0 → Kept t s n2 n3 bytes r
+  pub on : z ≡ 0 → KeptIs t s n2 n3 bytes r
 
 -- numbers that an answer has room for
-pub record Small (j : Judged) (d : Differs) : Type 0 where
+pub record Small (j : RepairJudged) (d : Differs) : Type 0 where
   pub fewer : j .kept ≤ j .looked
   pub few : j .looked ≤ 4096
   pub first : d .first < 2 ^ 32
@@ -40,5 +40,5 @@ pub record Small (j : Judged) (d : Differs) : Type 0 where
   pub third : d .third < 2 ^ 32
 
 -- what is told: the records dropped, and the cells that differ
-abbrev pub numbers : Judged → Differs → List ℕ
+abbrev pub numbers : RepairJudged → Differs → List ℕ
 numbers j d = (j .looked - j .kept) ∷ d .first ∷ d .second ∷ d .third ∷ []

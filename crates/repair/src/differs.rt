@@ -1,23 +1,24 @@
 // How many cells of a table differ from those that a load of an input would leave, counted before anything is written. Each
 // block of cells is compared with its plan, free chunks with 0; and a cell that is to name a chunk with that chunk's number,
 // by one pass over the owners that the load would leave.
-ghost use Prim.Native.Nat.{_+_, _-_, _*_, _^_, _≤_};
+ghost use Prim.Native.Nat.{_+_, _-_, _*_, _^_};
 ghost use mathlib.Core.Path.{_≡_};
 ghost use lib.ListN.{length, getD};
-ghost use Rattle.chain.specs.Words.{routesIn};
+ghost use Rattle.chain.specs.Words.{routesOfWords};
 ghost use Rattle.plan.specs.Plan.{plan};
 ghost use Rattle.sail.specs.Lent.{cells};
 ghost use Rattle.sail.specs.Level.{always, itself, entry, liveIn, partOf};
 ghost use Rattle.sail_owners.specs.Owners.{owners};
 ghost use Rattle.sail_paint.specs.Paint.{standsFor};
 ghost use Rattle.sail_theory.specs.Calls.{inputRoutes};
-ghost use Rattle.repair.specs.Differs.{offPlan, offZero, offAt, offName, Counted, Differing, wanted, freshOwners};
-ghost use Rattle.repair.specs.Differs.{Blocked, Firsts, Chunked, Pooled, Named, Owned, Countable, Roomy};
+ghost use Rattle.repair.specs.Differs.{offPlan, offZero, offAt, offName, CountIs, Differing, wanted, freshOwners};
+ghost use Rattle.repair.specs.Differs.{DiffBlockReady, DiffFirstReady, DiffChunkReady, DiffPoolReady, DiffNamesReady, Owned, DiffReady, Roomy};
+use bits::widen::half_to_index;
+use chain::list::chained;
 use chain::place::shifted;
 use plan::under::plan_under;
 use sail::geometry::Geometry;
-use sail_list::chained;
-use sail_owners::owners::settle_owners;
+use sail_owners::owners::open_all;
 use sail_paint::place::seen;
 use sail_paint::place::stands_for;
 
@@ -32,7 +33,7 @@ pub struct Differs {
 // can be done many cells at a time.
 fn off_plan(part: &[u16], want: &[u16]) -> usize
     requires { ⌜ length (now part) ≡ length (now want) ⌝ }
-    ensures { λ r. ⌜ Counted r (λ j. offPlan (getD (now (want .entry)) j 0) (getD (now (part .entry)) j 0)) (length (now (part .entry))) ⌝ }
+    ensures { λ r. ⌜ CountIs r (λ j. offPlan (getD (now (want .entry)) j 0) (getD (now (part .entry)) j 0)) (length (now (part .entry))) ⌝ }
 {
     let n = part.len();
     let mut m = 0;
@@ -52,7 +53,7 @@ fn off_plan(part: &[u16], want: &[u16]) -> usize
 
 // How many cells of a part are not zero.
 fn off_zero(part: &[u16]) -> usize
-    ensures { λ r. ⌜ Counted r (λ j. offZero (getD (now (part .entry)) j 0)) (length (now (part .entry))) ⌝ }
+    ensures { λ r. ⌜ CountIs r (λ j. offZero (getD (now (part .entry)) j 0)) (length (now (part .entry))) ⌝ }
 {
     let n = part.len();
     let mut m = 0;
@@ -81,8 +82,8 @@ fn off_block(
     e: usize,
     want: &mut [u16],
 ) -> usize
-    requires { ⌜ Blocked (now ws) (now par) l i p base (now cells) a e (now want) ⌝ }
-    ensures { λ r. ⌜ Counted r (λ j. offPlan (plan (routesIn (now (ws .entry))) p (base + j)) (getD (now (cells .entry)) (a + j) 0)) (e - a) ⌝ }
+    requires { ⌜ DiffBlockReady (now ws) (now par) l i p base (now cells) a e (now want) ⌝ }
+    ensures { λ r. ⌜ CountIs r (λ j. offPlan (plan (routesOfWords (now (ws .entry))) p (base + j)) (getD (now (cells .entry)) (a + j) 0)) (e - a) ⌝ }
 {
     let n = e - a;
     plan_under(ws, par, l, i, p, base, &mut want[..n]);
@@ -91,8 +92,8 @@ fn off_block(
 
 // The first cells beside their plan, in blocks of 1,024; p is their level.
 fn off_first(ws: &[u64], par: &[u16], p: u32, first: &[u16], want: &mut [u16]) -> usize
-    requires { ⌜ Firsts (now ws) (now par) p (now first) (now want) ⌝ }
-    ensures { λ r. ⌜ Counted r (offAt (routesIn (now (ws .entry))) p always itself (entry (now (first .entry)))) (length (now (first .entry))) ⌝ }
+    requires { ⌜ DiffFirstReady (now ws) (now par) p (now first) (now want) ⌝ }
+    ensures { λ r. ⌜ CountIs r (offAt (routesOfWords (now (ws .entry))) p always itself (entry (now (first .entry)))) (length (now (first .entry))) ⌝ }
 {
     let n = first.len() / 1024;
     let mut m = 0;
@@ -119,8 +120,8 @@ fn off_chunk(
     c: usize,
     want: &mut [u16],
 ) -> usize
-    requires { ⌜ Chunked (now ws) (now par) l p (now up) e o (now cells) c (now want) ⌝ }
-    ensures { λ r. ⌜ Counted r (λ j. offAt (routesIn (now (ws .entry))) p (liveIn (λ _. o) (p - l)) (partOf (λ _. o) (p - l) (standsFor e (now (up .entry)))) (entry (now (cells .entry))) (c * 2 ^ (p - l) + j)) (2 ^ (p - l)) ⌝ }
+    requires { ⌜ DiffChunkReady (now ws) (now par) l p (now up) e o (now cells) c (now want) ⌝ }
+    ensures { λ r. ⌜ CountIs r (λ j. offAt (routesOfWords (now (ws .entry))) p (liveIn (λ _. o) (p - l)) (partOf (λ _. o) (p - l) (standsFor e (now (up .entry)))) (entry (now (cells .entry))) (c * 2 ^ (p - l) + j)) (2 ^ (p - l)) ⌝ }
 {
     let d = p - l;
     let a = shifted(c as u64, 12, d) as usize;
@@ -145,8 +146,8 @@ fn off_pool(
     cells: &[u16],
     want: &mut [u16],
 ) -> usize
-    requires { ⌜ Pooled (now ws) (now par) l p (now up) e (now own) (now cells) (now want) ⌝ }
-    ensures { λ r. ⌜ Counted r (offAt (routesIn (now (ws .entry))) p (liveIn (entry (now (own .entry))) (p - l)) (partOf (entry (now (own .entry))) (p - l) (standsFor e (now (up .entry)))) (entry (now (cells .entry)))) (length (now (cells .entry))) ⌝ }
+    requires { ⌜ DiffPoolReady (now ws) (now par) l p (now up) e (now own) (now cells) (now want) ⌝ }
+    ensures { λ r. ⌜ CountIs r (offAt (routesOfWords (now (ws .entry))) p (liveIn (entry (now (own .entry))) (p - l)) (partOf (entry (now (own .entry))) (p - l) (standsFor e (now (up .entry)))) (entry (now (cells .entry)))) (length (now (cells .entry))) ⌝ }
 {
     let n = own.len();
     let mut m = 0;
@@ -159,16 +160,10 @@ fn off_pool(
     m
 }
 
-fn wide(x: u16) -> usize
-    ensures { λ r. ⌜ r ≡ x ⌝ }
-{
-    x as usize
-}
-
 // How many chunks in use have a number, from 1, that the cell which they hang from does not hold.
 fn off_names(cells: &[u16], own: &[u32]) -> usize
-    requires { ⌜ Named (now own) (now cells) ⌝ }
-    ensures { λ r. ⌜ Counted r (offName (entry (now (own .entry))) (entry (now (cells .entry)))) (length (now (own .entry))) ⌝ }
+    requires { ⌜ DiffNamesReady (now own) (now cells) ⌝ }
+    ensures { λ r. ⌜ CountIs r (offName (entry (now (own .entry))) (entry (now (cells .entry)))) (length (now (own .entry))) ⌝ }
 {
     let n = own.len();
     let mut m = 0;
@@ -177,7 +172,7 @@ fn off_names(cells: &[u16], own: &[u32]) -> usize
         let o = seen(own, c);
         c += 1;
         if o != 0 {
-            if wide(cells[o - 1]) != c {
+            if half_to_index(cells[o - 1]) != c {
                 m += 1;
             }
         }
@@ -198,7 +193,7 @@ fn count_from(
     want: &mut [u16],
 ) -> Differs
     requires { ⌜ Owned g (now ws) (now par) (cells (now first) (now second) (now third) (now own2) (now own3)) (now want) ⌝ }
-    ensures { λ r. ⌜ Differing r (now (first .entry)) (now (second .entry)) (now (third .entry)) (wanted g (routesIn (now (ws .entry))) (owners (now (own2 .entry)) (now (own3 .entry)))) ⌝ }
+    ensures { λ r. ⌜ Differing r (now (first .entry)) (now (second .entry)) (now (third .entry)) (wanted g (routesOfWords (now (ws .entry))) (owners (now (own2 .entry)) (now (own3 .entry)))) ⌝ }
 {
     let p1 = g.p1;
     let p2 = g.p2;
@@ -232,7 +227,7 @@ fn count_with(
     ensures { λ r. ⌜ Differing r (now (first .entry)) (now (second .entry)) (now (third .entry)) (wanted g (inputRoutes (now (input .entry))) (freshOwners g (now (input .entry)) (length (now (own2 .entry))) (length (now (own3 .entry))))) ⌝ }
 {
     let n = input.len() / 8;
-    settle_owners(g, input, own2, own3);
+    open_all(g, input, own2, own3);
     chained(input, &mut ws[..n], par);
     count_from(&ws[..n], par, g, first, second, third, own2, own3, want)
 }
@@ -247,7 +242,7 @@ pub fn count_cells(
     n2: usize,
     n3: usize,
 ) -> Differs
-    requires { ⌜ Countable g (now input) n2 n3 (now first) (now second) (now third) ⌝ }
+    requires { ⌜ DiffReady g (now input) n2 n3 (now first) (now second) (now third) ⌝ }
     ensures { λ r. ⌜ Differing r (now (first .entry)) (now (second .entry)) (now (third .entry)) (wanted g (inputRoutes (now (input .entry))) (freshOwners g (now (input .entry)) n2 n3)) ⌝ }
 {
     let mut own2 = [0u32; 4096];

@@ -2,9 +2,9 @@
 ghost use mathlib.Core.Path.{_≡_};
 ghost use Rattle.routes.specs.Said.{accepted};
 ghost use Rattle.sail.specs.Lent.{lent};
-ghost use Rattle.repair.specs.Answers.{saysRepaired};
+ghost use Rattle.repair.specs.Answers.{meansRepaired};
 ghost use Rattle.repair.specs.Contract.{MeetsRepair};
-ghost use Rattle.repair.specs.Judge.{Judges, Told, Small, numbers};
+ghost use Rattle.repair.specs.Judge.{RepairReady, SizesFirst, Small, numbers};
 use crate::differs::Differs;
 use crate::differs::count_cells;
 use crate::keep::keep;
@@ -26,13 +26,13 @@ pub enum Repaired {
 }
 
 // The answer, and the state beside it.
-pub struct Changed {
+pub struct RepairedTable {
     pub answer: Repaired,
     pub table: Table,
 }
 
 // The number with which a repair is refused, or 0; and how many records are looked at, and how many of them kept.
-pub struct Judged {
+pub struct RepairJudged {
     pub fault: u8,
     pub looked: usize,
     pub kept: usize,
@@ -40,12 +40,12 @@ pub struct Judged {
 
 // What is kept of the list, into `kept`, and whether there are chunks for it: 7 or 8 where there are not. z is the fault of the
 // sizes, which comes first.
-fn judge(z: u8, t: Table, list: &[u8], n2: usize, n3: usize, kept: &mut [u8]) -> Judged
-    requires { ⌜ Judges z (t .geometry) (now list) (now kept) ⌝ }
-    ensures { λ r. ⌜ Told z t (now (list .entry)) n2 n3 (now (kept .exit)) r ⌝ }
+fn judge(z: u8, t: Table, list: &[u8], n2: usize, n3: usize, kept: &mut [u8]) -> RepairJudged
+    requires { ⌜ RepairReady z (t .geometry) (now list) (now kept) ⌝ }
+    ensures { λ r. ⌜ SizesFirst z t (now (list .entry)) n2 n3 (now (kept .exit)) r ⌝ }
 {
     if z != 0 {
-        return Judged {
+        return RepairJudged {
             fault: z,
             looked: 0,
             kept: 0,
@@ -56,7 +56,7 @@ fn judge(z: u8, t: Table, list: &[u8], n2: usize, n3: usize, kept: &mut [u8]) ->
     let m = keep(list, n, kept);
     let end = m * 8;
     let f = weigh(t.geometry, &kept[..end], m, room, n2, n3);
-    Judged {
+    RepairJudged {
         fault: f,
         looked: n,
         kept: m,
@@ -64,9 +64,9 @@ fn judge(z: u8, t: Table, list: &[u8], n2: usize, n3: usize, kept: &mut [u8]) ->
 }
 
 // The four numbers that are told.
-fn done(j: Judged, d: Differs) -> Repaired
+fn done(j: RepairJudged, d: Differs) -> Repaired
     requires { ⌜ Small j d ⌝ }
-    ensures { λ r. ⌜ saysRepaired r ≡ accepted (numbers j d) ⌝ }
+    ensures { λ r. ⌜ meansRepaired r ≡ accepted (numbers j d) ⌝ }
 {
     let dropped = (j.looked - j.kept) as u32;
     let first = d.first as u32;
@@ -93,7 +93,7 @@ pub fn repair(
     own3: &mut [u32],
     long1: &mut [u16],
     long2: &mut [u16],
-) -> Changed
+) -> RepairedTable
     ensures { λ r. ⌜ MeetsRepair t (lent (now (list .entry)) (now (first .entry)) (now (second .entry)) (now (third .entry)) (now (own2 .entry)) (now (own3 .entry)) (now (long1 .entry)) (now (long2 .entry))) r (lent (now (list .exit)) (now (first .exit)) (now (second .exit)) (now (third .exit)) (now (own2 .exit)) (now (own3 .exit)) (now (long1 .exit)) (now (long2 .exit))) ⌝ }
 {
     let mut kept = [0u8; 32768];
@@ -101,7 +101,7 @@ pub fn repair(
     let j = judge(z, t, list, own2.len(), own3.len(), &mut kept);
     let f = j.fault;
     if f != 0 {
-        return Changed {
+        return RepairedTable {
             answer: Repaired::Refused(f),
             table: t,
         };
@@ -130,7 +130,7 @@ pub fn repair(
         long2,
     );
     let u = loaded.table;
-    Changed {
+    RepairedTable {
         answer: done(j, d),
         table: u,
     }

@@ -10,7 +10,7 @@ use lib.ListN.{length, getD, set, length-set}
 use lib.Seq.{ext-getD, getD-set-same, getD-set-other}
 use borrow.Author.Tests.{eqb-true, eq-eqb, ne-eqb}
 use Rattle.bits.specs.Count.{count}
-use Rattle.bits.proofs.Tests.{decided}
+use Rattle.bits.proofs.Bools.{decided}
 use Rattle.bits.proofs.Counts.{count-ext, without, without-other, without-same, count-without}
 use Rattle.repair_theory.specs.Repair.{differ}
 

@@ -8,7 +8,7 @@ use Prim.Native.Nat.{ℕ, zero, suc, _≤_, _<_}
 use lib.Dec.{ltb}
 use lib.ListN.{length}
 use borrow.Author.Tests.{lt-ltb, le-ltb}
-use Rattle.bits.proofs.Tests.{below?}
+use Rattle.bits.proofs.Bools.{below?}
 use Rattle.routes.specs.Said.{Said, accepted, refused, accepts}
 use Rattle.routes.specs.declared.Route.{Route}
 use Rattle.standing.specs.Cells.{need}
@@ -20,8 +20,8 @@ use Rattle.sail_theory.specs.Calls.{termsOf, chunksFault, orSay, makeSaid}
 use Rattle.sail_theory.specs.Facts.{Loadable}
 use Rattle.sail.specs.Cases.{Sizing}
 use Rattle.sail_theory.specs.Cases.{Make}
-use Rattle.sail_theory.proofs.Only.{make-only}
-use Rattle.repair_theory.specs.Repair.{kept, changes, repairSaid}
+use Rattle.sail_theory.proofs.calls.OneCase.{make-only}
+use Rattle.repair_theory.specs.Repair.{keptRoutes, changes, repairSaid}
 use Rattle.repair_theory.specs.Cases.{Repair}
 use Rattle.repair_theory.proofs.Looks.{kept-good, kept-room}
 
@@ -32,7 +32,7 @@ or-any (suc f) n a s e q = q
 
 module _ (t : Table) (l : Lent) where
   abbrev rs : List Route
-  rs = kept t l
+  rs = keptRoutes t l
 
   -- the kept records may be loaded where there are chunks for them: there is always room
   pub kept-loadable : Sized (t .geometry) l → need rs (t .geometry .p1) ≤ length (l .own2) → need rs (t .geometry .p2) ≤ length (l .own3)

@@ -2,7 +2,7 @@
 -- list, and of good records all are.
 use mathlib.Core.Path.{_≡_, refl, _∙_, ap}
 use mathlib.Core.Logic.{_⊎_, inl, inr}
-use mathlib.Core.Bool.{true, false, cond, true≢false}
+use mathlib.Core.Bool.{true, false, cond}
 use mathlib.Core.List.{List, [], _∷_, _++_, append-nil, List·Memᴰ, List·Memᴰ·head, List·Memᴰ·tail, List·Memᴰ·cases-cons, List·Memᴰ·not-nil}
 use Prim.Native.Nat.{ℕ, zero, suc, _+_, _≤_, _<_, zero-le}
 use native.Mathlib.Omega.{arith}
@@ -10,7 +10,7 @@ use lib.Dec.{eqb, leb}
 use lib.ListN.{length}
 use borrow.Author.Tests.{eqb-true, leb-true, eq-eqb, le-leb}
 use Rattle.bits.specs.Tab.{tabulate}
-use Rattle.bits.proofs.Tests.{decided, both, and-split, untrue}
+use Rattle.bits.proofs.Bools.{decided, both, and-split, untrue}
 use Rattle.bits.proofs.Tabs.{tabulate-snoc}
 use Rattle.routes.specs.Route.{key, Fine, Good}
 use Rattle.routes.specs.Record.{recordAt, routesOf}

@@ -12,19 +12,19 @@ use Rattle.sail.specs.Sound.{Sound, standing}
 use Rattle.sail.specs.declared.table.Table.{Table}
 use Rattle.sail_theory.specs.Calls.{Out, made, loaded}
 use Rattle.sail_theory.specs.Facts.{SameSize}
-use Rattle.sail_theory.specs.Runs.{Call, done, after, worked, Carries, AsFresh}
-use Rattle.sail_theory.proofs.Fresh.{make-holds}
-use Rattle.sail_theory.proofs.Sizes.{load-blind}
-use Rattle.sail_theory.proofs.Loads.{load-said}
-use Rattle.sail_theory.proofs.Runs as runs
-use Rattle.sail_theory.proofs.Anew.{run-as-fresh}
+use Rattle.sail_theory.specs.CallRuns.{Call, done, after, heldByCalls, Carries, AsFresh}
+use Rattle.sail_theory.proofs.calls.Make.{make-holds}
+use Rattle.sail_theory.proofs.calls.SameSizes.{load-blind}
+use Rattle.sail_theory.proofs.calls.Load.{load-said}
+use Rattle.sail_theory.proofs.runs.AfterRun as runs
+use Rattle.sail_theory.proofs.runs.AsFresh.{run-as-fresh}
 use Rattle.repair_theory.specs.Repair.{keptBytes, repaired}
-use Rattle.repair_theory.specs.Onwards.{onwards, Same, asRun}
+use Rattle.repair_theory.specs.Onwards.{onwards, SameOut, asRun}
 use Rattle.repair_theory.proofs.Judged.{accepted-loadable}
 use Rattle.repair_theory.proofs.Repairs.{repair-said, repair-loads}
 
 -- from there the same calls lead to the same
-onwards-same : (o p : Out) → Same o p → (cs : List Call) → Same (onwards o cs) (onwards p cs)
+onwards-same : (o p : Out) → SameOut o p → (cs : List Call) → SameOut (onwards o cs) (onwards p cs)
 unfolding onwards
 onwards-same o p e [] = e
 onwards-same o p e (c ∷ cs) = let k = onwards-same o p e cs in record { table = rw (k .table, k .lent); lent = rw (k .table, k .lent) }
@@ -39,7 +39,7 @@ module _ (t : Table) (l : Lent) (e : accepts (repaired t l .said) ≡ true) wher
   sized : Sized (t .geometry) l
   sized = accepted-loadable t l (sym (ap accepts (repair-said t l)) ∙ e) .sized
 
-  repair-run : Same (repaired t l) (after t l (asRun t l []))
+  repair-run : SameOut (repaired t l) (after t l (asRun t l []))
   unfolding after done
   repair-run =
       let k = repair-loads t l e in
@@ -48,7 +48,7 @@ module _ (t : Table) (l : Lent) (e : accepts (repaired t l .said) ≡ true) wher
       = load-blind t l (made t l .table) (made t l .lent) (h .geometry) (h .size) (keptBytes t l) (rw (sym (load-said t l (keptBytes t l)) ∙ k .loads)) in
       record { table = k .table ∙ sym (ap (λ (o : Out). o .table) q); lent = k .lent ∙ sym (ap (λ (o : Out). o .lent) q) }
 
-  pub goes-on : (cs : List Call) → Same (onwards (repaired t l) cs) (after t l (asRun t l cs))
+  pub goes-on : (cs : List Call) → SameOut (onwards (repaired t l) cs) (after t l (asRun t l cs))
   goes-on cs =
       let k = onwards-same _ _ repair-run cs in
       let q = onwards-after t l (asRun t l []) cs in
@@ -60,7 +60,7 @@ module _ (t : Table) (l : Lent) (e : accepts (repaired t l .said) ≡ true) wher
 
   -- in which stands what the kept records and the accepted calls say,
   pub onwards-standing : (cs : List Call) (k : ℕ)
-      → routeAt k (standing (onwards (repaired t l) cs .table) (onwards (repaired t l) cs .lent)) ≡ worked t l (asRun t l cs) k
+      → routeAt k (standing (onwards (repaired t l) cs .table) (onwards (repaired t l) cs .lent)) ≡ heldByCalls t l (asRun t l cs) k
   onwards-standing cs j = let k = goes-on cs in rw (k .table, k .lent) (runs.run-standing t l sized (asRun t l cs) j)
 
   -- and which serves every address as a fresh load of these does, in as many chunks

@@ -3,11 +3,10 @@
 use mathlib.Core.Path.{_≡_, refl, sym, _∙_, ap, subst}
 use mathlib.Core.Bool.{true, false, true≢false}
 use mathlib.Core.List.{List, [], _∷_}
-use Prim.Native.Nat.{ℕ, _-_, _*_, _/_, _^_, _≤_, _<_}
+use Prim.Native.Nat.{ℕ, _-_, _/_, _≤_}
 use native.Mathlib.Omega.{arith}
 use lib.ListN.{length}
-use Rattle.routes.specs.Said.{Said, accepted, refused, accepts}
-use Rattle.routes.specs.Record.{written}
+use Rattle.routes.specs.Said.{Said, accepted, accepts}
 use Rattle.routes.specs.declared.Route.{Route}
 use Rattle.routes.proofs.Rows.{length-routes, length-written}
 use Rattle.sail.specs.Lent.{Lent}
@@ -16,17 +15,17 @@ use Rattle.sail.specs.Sizes.{Sized}
 use Rattle.sail.specs.Sound.{Sound, standing}
 use Rattle.sail.specs.declared.table.Table.{Table}
 use Rattle.sail.proofs.Sounds.{chunks-need}
-use Rattle.sail_theory.specs.Calls.{settled, noOwners, inputRoutes, loadSaid, Out, stateOf, lentOf, loaded}
-use Rattle.sail_theory.specs.Facts.{SameSize, Holds, Loadable}
-use Rattle.sail_theory.specs.Runs.{Carries}
-use Rattle.sail_theory.proofs.Chunks.{used-le}
+use Rattle.sail_theory.specs.Calls.{ownersAfter, noOwners, inputRoutes, loadSaid, Out, stateOf, lentOf, loaded}
+use Rattle.sail_theory.specs.Facts.{SameSize, TableHolds, Loadable}
+use Rattle.sail_theory.specs.CallRuns.{Carries}
+use Rattle.sail_theory.proofs.owners.Chunks.{used-le}
 use Rattle.sail_theory.specs.Cases.{Readable, Load}
-use Rattle.sail_theory.proofs.Only.{load-only}
-use Rattle.sail_theory.proofs.Accepted.{outcome-said, outcome-refused}
-use Rattle.sail_theory.proofs.Sizes.{size-refl, size-trans, sized-same, load-blind}
-use Rattle.sail_theory.proofs.Loads.{load-is, load-said, load-holds, loadable-said, loadable-holds, accepted-loadable}
-use Rattle.sail_theory.proofs.Anew.{carried, same-lookups}
-use Rattle.repair_theory.specs.Repair.{looked, kept, keptBytes, reloaded, differ, dropped, changes, repairSaid, repaired}
+use Rattle.sail_theory.proofs.calls.OneCase.{load-only}
+use Rattle.sail_theory.proofs.calls.Outcomes.{outcome-said, outcome-refused}
+use Rattle.sail_theory.proofs.calls.SameSizes.{size-refl, size-trans, sized-same, load-blind}
+use Rattle.sail_theory.proofs.calls.Load.{load-is, load-said, load-holds, loadable-said, loadable-holds, accepted-loadable}
+use Rattle.sail_theory.proofs.runs.AsFresh.{carried, same-lookups}
+use Rattle.repair_theory.specs.Repair.{looked, keptRoutes, keptBytes, reloaded, differ, dropped, changes, repairSaid, repaired}
 use Rattle.repair_theory.specs.Cases.{Repair}
 use Rattle.repair_theory.specs.Leaves.{Loads, SoundKeeps, untouched, Spared, undone}
 use Rattle.repair_theory.proofs.Kept.{kept-all}
@@ -46,14 +45,14 @@ carried-readable t l input rs c w =
 
 -- what a load of these routes leaves, by whichever bytes
 carried-is : (t : Table) (l : Lent) (input : List ℕ) (rs : List Route) → Carries input rs → Loadable t l rs
-    → loaded t l input ≡ record { said = accepted []; table = stateOf t rs; lent = lentOf t l rs (settled (t .geometry) (noOwners l) rs) }
+    → loaded t l input ≡ record { said = accepted []; table = stateOf t rs; lent = lentOf t l rs (ownersAfter (t .geometry) (noOwners l) rs) }
 carried-is t l input rs c w =
     let q = carried-routes input rs c in
     load-is t l input (carried-readable t l input rs c w) (rw q w) ∙ rw q
 
 module _ (t : Table) (l : Lent) where
   abbrev rs : List Route
-  rs = kept t l
+  rs = keptRoutes t l
 
   pub repair-said : repaired t l .said ≡ repairSaid t l
   unfolding repaired
@@ -75,7 +74,7 @@ module _ (t : Table) (l : Lent) where
     carries : Carries (keptBytes t l) rs
     carries = kept-carried (omega (arith, w .roomy, w .sized .room))
 
-    pub reload-is : reloaded t l ≡ record { said = accepted []; table = stateOf t rs; lent = lentOf t l rs (settled (t .geometry) (noOwners l) rs) }
+    pub reload-is : reloaded t l ≡ record { said = accepted []; table = stateOf t rs; lent = lentOf t l rs (ownersAfter (t .geometry) (noOwners l) rs) }
     reload-is = carried-is t l (keptBytes t l) rs carries w
 
     pub repair-is : repaired t l ≡ record { said = accepted (changes t l); table = reloaded t l .table; lent = reloaded t l .lent }
@@ -115,9 +114,9 @@ module _ (t : Table) (l : Lent) where
         record { loads = ap (λ (o : Out). o .said) (reload-is w); table = ap (λ (o : Out). o .table) q; lent = ap (λ (o : Out). o .lent) q }
 
     -- sound, of the same geometry and sizes, and its list holds the kept records
-    pub repair-holds : Holds t l rs (repaired t l .table) (repaired t l .lent)
+    pub repair-holds : TableHolds t l rs (repaired t l .table) (repaired t l .lent)
     repair-holds =
-        rw (repair-loads .table, repair-loads .lent) (subst (λ (o : Out). Holds t l rs (o .table) (o .lent)) (sym (reload-is w)) (loadable-holds t l rs w))
+        rw (repair-loads .table, repair-loads .lent) (subst (λ (o : Out). TableHolds t l rs (o .table) (o .lent)) (sym (reload-is w)) (loadable-holds t l rs w))
 
     pub repair-sound : Sound (repaired t l .table) (repaired t l .lent)
     repair-sound = repair-holds .sound
@@ -127,14 +126,14 @@ module _ (t : Table) (l : Lent) (s : Sound t l) where
   sound-looked : looked t l ≡ t .count
   sound-looked = looks t l .to-count (omega (arith, s .listed .records .room))
 
-  pub sound-kept : kept t l ≡ standing t l
-  unfolding kept
+  pub sound-kept : keptRoutes t l ≡ standing t l
+  unfolding keptRoutes
   sound-kept = rw sound-looked (kept-all (l .list) (t .count) (s .listed .records .each) (s .listed .records .rises))
 
   pub sound-dropped : dropped t l ≡ 0
   sound-dropped = rw (sound-looked, sound-kept, length-routes (l .list) (t .count)) (omega arith)
 
-  sound-loadable : Loadable t l (kept t l)
+  sound-loadable : Loadable t l (keptRoutes t l)
   sound-loadable =
       let n = chunks-need t l s in
       kept-loadable t l (s .sized)
@@ -165,7 +164,7 @@ module _ (t : Table) (l : Lent) (input : List ℕ) (e : accepts (loaded t l inpu
   abbrev v : Lent
   v = loaded t l input .lent
 
-  h : Holds t l (inputRoutes input) u v
+  h : TableHolds t l (inputRoutes input) u v
   h = load-holds t l input e
 
   ok : Readable t l input × Loadable t l (inputRoutes input)
@@ -175,14 +174,14 @@ module _ (t : Table) (l : Lent) (input : List ℕ) (e : accepts (loaded t l inpu
     size : SameSize l d
     size = size-trans l v d (h .size) (f .size)
 
-    kept-spared : (kept u d ≡ kept u v) × (dropped u d ≡ dropped u v)
-    unfolding kept looked
+    kept-spared : (keptRoutes u d ≡ keptRoutes u v) × (dropped u d ≡ dropped u v)
+    unfolding keptRoutes looked
     kept-spared = (rw (f .list), rw (f .list))
 
-    kept-input : kept u d ≡ inputRoutes input
+    kept-input : keptRoutes u d ≡ inputRoutes input
     kept-input = kept-spared .0 ∙ sound-kept u v (h .sound) ∙ h .routes
 
-    input-loadable : Loadable u d (kept u d)
+    input-loadable : Loadable u d (keptRoutes u d)
     input-loadable =
         kept-loadable u d (sized-same (u .geometry) v d (h .sound .sized) (f .size))
         (rw (kept-input, h .geometry, size .chunks2) (ok .1 .enough2))

@@ -14,11 +14,11 @@ use Rattle.routes.proofs.Rows.{length-routes}
 use Rattle.sail.specs.Lent.{Lent}
 use Rattle.sail.specs.Sound.{Sound}
 use Rattle.sail.specs.declared.table.Table.{Table}
-use Rattle.repair_theory.specs.Repair.{keptFrom, keptOf, kept, repaired}
+use Rattle.repair_theory.specs.Repair.{keptFrom, keptOf, keptRoutes, repaired}
 use Rattle.repair_theory.proofs.Repairs.{sound-kept, repair-sound-keeps}
 
 -- one that keeps nothing, of a sound table with a route
-pub none-refused : (t : Table) (l : Lent) → Sound t l → 0 < t .count → kept t l ≡ [] → ⊥
+pub none-refused : (t : Table) (l : Lent) → Sound t l → 0 < t .count → keptRoutes t l ≡ [] → ⊥
 none-refused t l s h e = omega (arith, sym (length-routes (l .list) (t .count)) ∙ ap length (sym (sound-kept t l s) ∙ e))
 
 -- one that refuses a sound table

@@ -11,12 +11,12 @@ use Rattle.sail.specs.Lent.{Lent}
 use Rattle.sail.specs.Sizes.{Sized}
 use Rattle.sail.specs.declared.table.Table.{Table}
 use Rattle.sail_theory.specs.Facts.{Loadable}
-use Rattle.repair_theory.specs.Repair.{kept, changes}
+use Rattle.repair_theory.specs.Repair.{keptRoutes, changes}
 
 -- repair: 1, 2; 7, 8 by the needs of the kept records; and else the four numbers
 module _ (t : Table) (l : Lent) where
   abbrev rs : List Route
-  rs = kept t l
+  rs = keptRoutes t l
 
   pub data Repair : Said → Type 0 where
     sizing : (n : ℕ) → Sizing t l n → Repair (refused n)

@@ -10,7 +10,7 @@ use Rattle.sail.specs.Walk.{lookupSaid}
 use Rattle.sail.specs.declared.table.Table.{Table}
 use Rattle.sail_theory.specs.Calls.{Out, out}
 use Rattle.sail_theory.specs.Facts.{SameSize}
-use Rattle.repair_theory.specs.Repair.{kept, reloaded, differ, dropped, repaired}
+use Rattle.repair_theory.specs.Repair.{keptRoutes, reloaded, differ, dropped, repaired}
 
 module _ (t : Table) (l : Lent) where
   -- "It loads what was kept": that load is accepted, and what it leaves is left
@@ -22,7 +22,7 @@ module _ (t : Table) (l : Lent) where
   -- "A sound table keeps all its records": it is accepted and drops none; then the same routes stand, and every address is served as before
   pub record SoundKeeps : Type 0 where
     pub accepted-so : accepts (repaired t l .said) ≡ true
-    pub keeps-all : kept t l ≡ standing t l
+    pub keeps-all : keptRoutes t l ≡ standing t l
     pub drops-none : dropped t l ≡ 0
     pub stands : standing (repaired t l .table) (repaired t l .lent) ≡ standing t l
     pub serves : (a : ℕ) → a < 2 ^ 32 → lookupSaid (repaired t l .table) (repaired t l .lent) a ≡ lookupSaid t l a

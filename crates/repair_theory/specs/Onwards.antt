@@ -4,7 +4,7 @@ use mathlib.Core.Path.{_≡_}
 use Rattle.sail.specs.Lent.{Lent}
 use Rattle.sail.specs.declared.table.Table.{Table}
 use Rattle.sail_theory.specs.Calls.{Out}
-use Rattle.sail_theory.specs.Runs.{Call, load, done}
+use Rattle.sail_theory.specs.CallRuns.{Call, load, done}
 use Rattle.repair_theory.specs.Repair.{keptBytes}
 
 -- what a run of calls leaves that begins with what o left; the last call stands first
@@ -13,7 +13,7 @@ onwards o [] = o
 onwards o (c ∷ cs) = done (onwards o cs .table) (onwards o cs .lent) c
 
 -- the state and all that is lent are the same
-pub record Same (o p : Out) : Type 0 where
+pub record SameOut (o p : Out) : Type 0 where
   pub table : o .table ≡ p .table
   pub lent : o .lent ≡ p .lent
 

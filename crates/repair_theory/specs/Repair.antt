@@ -38,12 +38,12 @@ keptOf s n = keptFrom s 0 0 n
 unfoldable pub looked : Table → Lent → ℕ
 looked t l = min (t .count) (roomOf l)
 
-unfoldable pub kept : Table → Lent → List Route
-kept t l = keptOf (l .list) (looked t l)
+unfoldable pub keptRoutes : Table → Lent → List Route
+keptRoutes t l = keptOf (l .list) (looked t l)
 
 -- the kept records as an input
 abbrev pub keptBytes : Table → Lent → List ℕ
-keptBytes t l = written (kept t l) (length (kept t l))
+keptBytes t l = written (keptRoutes t l) (length (keptRoutes t l))
 
 -- "It loads what was kept"
 abbrev pub reloaded : Table → Lent → Out
@@ -55,7 +55,7 @@ differ xs ys = count (λ q. not (eqb (getD xs q 0) (getD ys q 0))) (length xs)
 
 -- records dropped of those looked at
 abbrev pub dropped : Table → Lent → ℕ
-dropped t l = looked t l - length (kept t l)
+dropped t l = looked t l - length (keptRoutes t l)
 
 -- "the records dropped and the cells that differ from before, for each of the three arrays"
 abbrev pub changes : Table → Lent → List ℕ
@@ -70,7 +70,7 @@ changes t l =
 unfoldable pub repairSaid : Table → Lent → Said
 repairSaid t l =
     orSay (sizesFault (t .geometry) l)
-    (orSay (chunksFault (termsOf t l) (kept t l))
+    (orSay (chunksFault (termsOf t l) (keptRoutes t l))
     (accepted (changes t l)))
 
 unfoldable pub repaired : Table → Lent → Out

@@ -1,10 +1,10 @@
--- Laws of good lists. Assumes nothing.
-use mathlib.Core.Path.{_≡_, refl, sym, _∙_, ap}
+-- Laws of good lists.
+use mathlib.Core.Path.{_≡_}
 use mathlib.Core.Logic.{_⊎_, inl, inr}
 use mathlib.Core.List.{List, [], _∷_, List·Memᴰ, List·Memᴰ·cases-cons, List·Memᴰ·not-nil}
-use Prim.Native.Nat.{ℕ, _+_, _*_, _≤_, _<_}
+use Prim.Native.Nat.{ℕ, _≤_}
 use native.Mathlib.Omega.{arith}
-use Rattle.routes.specs.Route.{key, keyOf, Fine, Good}
+use Rattle.routes.specs.Route.{keyOf, Fine, Good}
 use Rattle.routes.specs.declared.Route.{Route}
 
 -- each route of a good list is fine

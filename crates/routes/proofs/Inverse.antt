@@ -1,8 +1,7 @@
--- The bytes of a route and the route of eight bytes are each other's inverse. Assumes nothing.
+-- The bytes of a route and the route of eight bytes are each other's inverse.
 use mathlib.Core.Path.{_≡_, refl, sym, ap, _∙_}
 use mathlib.Core.List.{List}
 use Prim.Native.Nat.{ℕ, _+_, _*_, _<_}
-use native.Mathlib.Nat.{zero-mul, zero-add}
 use native.Mathlib.Omega.{arith}
 use lib.ListN.{length, getD}
 use lib.Seq.{ext-getD}
@@ -24,4 +23,5 @@ length-bytes r = refl
 
 -- eight bytes are those of the route that they hold
 pub bytes-back : (s : List ℕ) → length s ≡ 8 → ((j : ℕ) → getD s j 0 < 256) → bytesOf (recordAt s 0) ≡ s
-bytes-back s n b = ext-getD 0 (bytesOf (recordAt s 0)) s (length-bytes (recordAt s 0) ∙ sym n) (λ j l. record-bytes s 0 b j (rw length-bytes at l) ∙ at-start s j)
+bytes-back s n b = ext-getD 0 (bytesOf (recordAt s 0)) s (length-bytes (recordAt s 0) ∙ sym n)
+    (λ j l. record-bytes s 0 b j (rw length-bytes at l) ∙ at-start s j)

@@ -2,9 +2,11 @@
 pub mod Goods
 pub mod Faults
 pub mod Meaning
-pub mod Cases
+pub mod Judged
 pub mod Inputs
 pub mod Puts
 pub mod Rows
 pub mod Inverse
+pub mod Parts
+pub mod ReadBack
 pub mod OneAnswer

@@ -1,18 +1,18 @@
--- What the check of an input means, in the words of the document. Assumes nothing.
-use mathlib.Core.Path.{_≡_, refl, sym, ap, _∙_, subst}
+-- What the check of an input means, in the words of the document.
+use mathlib.Core.Path.{_≡_, refl, sym, _∙_, subst}
 use mathlib.Core.Logic.{_⊎_, inl, inr, ⊎-elim, _≢_}
 use mathlib.Core.List.{List, [], _∷_}
-use mathlib.Core.Bool.{Bool, true, false, not, _&&_, cond, true≢false, false≢true}
-use Prim.Native.Nat.{ℕ, zero, suc, _+_, _-_, _*_, _/_, _%_, _^_, _≤_, _<_}
+use mathlib.Core.Bool.{true, false, not, _&&_, cond, true≢false}
+use Prim.Native.Nat.{ℕ, zero, suc, _-_, _*_, _/_, _%_, _^_, _≤_, _<_}
 use native.Mathlib.Nat.{eq-or-lt-of-le, lt-trans, le-of-suc-le-suc}
 use native.Mathlib.Omega.{arith}
 use lib.ListN.{length}
 use lib.Dec.{leb, ltb, eqb}
-use borrow.Author.Tests.{eqb-true, eqb-false, ltb-true, ltb-false, leb-true, leb-false, not-true, not-false, lt-ltb, le-ltb, le-leb, eq-eqb, ne-eqb}
+use borrow.Author.Tests.{eqb-true, eqb-false, ltb-true, ltb-false, leb-true, not-true, not-false, lt-ltb, le-ltb, le-leb, eq-eqb, ne-eqb}
 use Rattle.bits.specs.Slot.{cut}
 use Rattle.bits.specs.Search.{firstOf}
-use Rattle.bits.proofs.Searches.{firstOf-le, firstOf-before, firstOf-at, firstOf-is}
-use Rattle.bits.proofs.Tests.{decided, below?, both, and-split, untrue}
+use Rattle.bits.proofs.Searches.{firstOf-before, firstOf-at, firstOf-is}
+use Rattle.bits.proofs.Bools.{decided, below?, both, and-split, untrue}
 use Rattle.routes.specs.Route.{key, Prefix, Fine}
 use Rattle.routes.specs.Record.{recordAt, Records}
 use Rattle.routes.specs.Said.{Said, accepted, refused, refusedAt}
@@ -52,10 +52,12 @@ pub route-checked : (r : Route) → RouteChecked r (routeFault r)
 unfolding routeFault
 route-checked r = go (decided (properPrefix (r .addr) (r .len))) (decided (hopFine (r .hop))) (below? 1 (r .mark))
   where
-    go : (properPrefix (r .addr) (r .len) ≡ true) ⊎ (properPrefix (r .addr) (r .len) ≡ false) → (hopFine (r .hop) ≡ true) ⊎ (hopFine (r .hop) ≡ false) → (1 < r .mark) ⊎ (r .mark ≤ 1)
+    go : (properPrefix (r .addr) (r .len) ≡ true) ⊎ (properPrefix (r .addr) (r .len) ≡ false) → (hopFine (r .hop) ≡ true) ⊎
+        (hopFine (r .hop) ≡ false) → (1 < r .mark) ⊎ (r .mark ≤ 1)
         → RouteChecked r (cond (not (properPrefix (r .addr) (r .len))) 3 (cond (not (hopFine (r .hop))) 4 (cond (ltb 1 (r .mark)) 10 0)))
     go (inr p) h s = rw p (wrong (omega arith) (WrongRoute.prefix (false-prefix (r .addr) (r .len) p)))
-    go (inl p) (inr h) s = rw (p, h) (wrong (omega arith) (WrongRoute.hop (prefix-true (r .addr) (r .len) p) (λ l u. true≢false (sym (true-hop (r .hop) l u) ∙ h))))
+    go (inl p) (inr h) s = rw (p, h) (wrong (omega arith)
+        (WrongRoute.hop (prefix-true (r .addr) (r .len) p) (λ l u. true≢false (sym (true-hop (r .hop) l u) ∙ h))))
     go (inl p) (inl h) (inl s) =
         let b = hop-true (r .hop) h in
         rw (p, h, lt-ltb 1 (r .mark) s) (wrong (omega arith) (WrongRoute.mark (prefix-true (r .addr) (r .len) p) (b .0) (b .1) s))
@@ -91,7 +93,8 @@ not-order : (s : List ℕ) (k : ℕ) → inOrder s k ≡ false → (0 < k) × (k
 unfolding inOrder
 not-order s k e = go (decided (eqb k 0)) e
   where
-    go : (eqb k 0 ≡ true) ⊎ (eqb k 0 ≡ false) → cond (eqb k 0) true (ltb (key (recordAt s (k - 1))) (key (recordAt s k))) ≡ false → (0 < k) × (key (recordAt s k) ≤ key (recordAt s (k - 1)))
+    go : (eqb k 0 ≡ true) ⊎ (eqb k 0 ≡ false) → cond (eqb k 0) true (ltb (key (recordAt s (k - 1))) (key (recordAt s k))) ≡ false → (0 < k) ×
+        (key (recordAt s k) ≤ key (recordAt s (k - 1)))
     go (inl z) h = absurd (true≢false (rw z at h))
     go (inr z) h =
         let n = eqb-false k 0 z in
@@ -109,7 +112,8 @@ record-checked s k = go (route-checked (recordAt s k)) (decided (inOrder s k))
         let n = not-order s k o in
         rw (eq-eqb _ 0 z, o) (RecordChecked.wrong (omega arith) (WrongRecord.order g (n .0) (n .1)))
 
-right-fault : (s : List ℕ) (k : ℕ) → RightRecord s k → faultAt s k ≡ 0
+-- a record without fault is right, and one that is right has none
+pub right-fault : (s : List ℕ) (k : ℕ) → RightRecord s k → faultAt s k ≡ 0
 unfolding faultAt
 right-fault s k r = rw (eq-eqb (routeFault (recordAt s k)) 0 (fine-fault (recordAt s k) (r .fine))) (go (decided (inOrder s k)))
   where
@@ -117,7 +121,7 @@ right-fault s k r = rw (eq-eqb (routeFault (recordAt s k)) 0 (fine-fault (record
     go (inl o) = rw o
     go (inr o) = let n = not-order s k o in let l = r .after (n .0) in absurd (omega (arith, n .1))
 
-fault-right : (s : List ℕ) (k : ℕ) → faultAt s k ≡ 0 → RightRecord s k
+pub fault-right : (s : List ℕ) (k : ℕ) → faultAt s k ≡ 0 → RightRecord s k
 fault-right s k e = go (record-checked s k)
   where
     go : RecordChecked s k (faultAt s k) → RightRecord s k
@@ -158,7 +162,8 @@ input-checked s = go (decided (eqb (length s % 8) 0)) (decided (ltb k n)) (decid
     before j l = fault-right s j (bad-is s j (firstOf-before (isBad s) n j l))
 
     go : (eqb (length s % 8) 0 ≡ true) ⊎ (eqb (length s % 8) 0 ≡ false) → (ltb k n ≡ true) ⊎ (ltb k n ≡ false) → (ltb 4096 n ≡ true) ⊎ (ltb 4096 n ≡ false)
-        → Checked s (cond (not (eqb (length s % 8) 0)) (refusedAt 10 n) (cond (ltb k n) (refusedAt (faultAt s k) k) (cond (ltb 4096 n) (refused 6) (accepted (n ∷ [])))))
+        → Checked s (cond (not (eqb (length s % 8) 0)) (refusedAt 10 n)
+        (cond (ltb k n) (refusedAt (faultAt s k) k) (cond (ltb 4096 n) (refused 6) (accepted (n ∷ [])))))
     go (inr w) b m = rw w (Checked.ragged (eqb-false (length s % 8) 0 w))
     go (inl w) (inl b) m = rw (w, b) (at (record-checked s k))
       where
@@ -194,5 +199,6 @@ unfolding inputSaid
 good-input s n w r =
     let d : length s / 8 ≡ n = omega arith in
     let m : length s % 8 ≡ 0 = omega arith in
-    let f : firstOf (isBad s) n ≡ n = firstOf-is (isBad s) n n (omega arith) (λ j l. rw (eq-eqb (faultAt s j) 0 (right-fault s j (records-right s n r j l)))) (λ l. absurd (omega arith)) in
+    let f : firstOf (isBad s) n ≡ n = firstOf-is (isBad s) n n (omega arith)
+    (λ j l. rw (eq-eqb (faultAt s j) 0 (right-fault s j (records-right s n r j l)))) (λ l. absurd (omega arith)) in
     rw (d, eq-eqb (length s % 8) 0 m, f, le-ltb n n (omega arith), le-ltb 4096 n (r .few))

@@ -3,7 +3,7 @@ use mathlib.Core.Path.{_≡_, refl, sym, _∙_, ap}
 use mathlib.Core.List.{List, [], _∷_}
 use Prim.Native.Nat.{ℕ}
 use lib.ListN.{getD}
-use Rattle.routes.specs.Answers.{saysGot}
+use Rattle.routes.specs.Answers.{meansGot}
 use Rattle.routes.specs.Contract.{MeetsCheckInput, MeetsRouteAt}
 use Rattle.routes.specs.Said.{Said, accepted, refused, refusedAt}
 use Rattle.routes.specs.declared.input.Input.{Input}
@@ -21,8 +21,8 @@ readGot (accepted (a ∷ vs)) = got.One (record { addr = a; len = getD vs 0 0; m
 readGot (refused n) = got.TooMany
 readGot (refusedAt n k) = got.Refused n k
 
-read-got : (x : Got) → readGot (saysGot x) ≡ x
-unfolding readGot saysGot
+read-got : (x : Got) → readGot (meansGot x) ≡ x
+unfolding readGot meansGot
 read-got (got.One r) = refl
 read-got got.Nothing = refl
 read-got (got.Refused f k) = refl

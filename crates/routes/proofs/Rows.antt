@@ -1,20 +1,17 @@
--- A list of routes by its places: the routes of records, and the bytes of routes. Assumes nothing.
-use mathlib.Core.Path.{_≡_, refl, sym, ap, ap₂, _∙_, subst}
+-- A list of routes by its places: the routes of records, and the bytes of routes.
+use mathlib.Core.Path.{_≡_, refl, sym, _∙_, subst}
 use mathlib.Core.Logic.{_⊎_, inl, inr}
-use mathlib.Core.Bool.{Bool, true, false, cond}
-use mathlib.Core.List.{List, [], _∷_, List·Memᴰ, List·Memᴰ·head, List·Memᴰ·tail, List·Memᴰ·cases-cons, List·Memᴰ·not-nil}
-use Prim.Native.Nat.{ℕ, zero, suc, _+_, _-_, _*_, _/_, _%_, _^_, _≤_, _<_, suc-le-suc, zero-le}
-use native.Mathlib.Nat.{not-suc-le-zero, le-of-suc-le-suc, add-zero, add-assoc}
+use mathlib.Core.List.{List, [], _∷_, _++_, List·Memᴰ, List·Memᴰ·head, List·Memᴰ·tail, List·Memᴰ·cases-cons, List·Memᴰ·not-nil}
+use Prim.Native.Nat.{ℕ, zero, suc, _+_, _-_, _*_, _/_, _%_, _≤_, _<_, suc-le-suc, zero-le}
+use native.Mathlib.Nat.{not-suc-le-zero, le-of-suc-le-suc}
 use native.Mathlib.Omega.{arith}
-use lib.Dec.{ltb, lit<}
 use lib.ListN.{length, getD}
 use lib.Seq.{ext-getD}
 use borrow.Author.Tests.{lt-ltb, le-ltb}
-use Rattle.bits.specs.Tab.{tabulate}
-use Rattle.bits.proofs.Tests.{below?}
-use Rattle.bits.proofs.Tabs.{length-tabulate, getD-tabulate, is-tabulate}
+use Rattle.bits.proofs.Bools.{below?}
+use Rattle.bits.proofs.Tabs.{length-tabulate, getD-tabulate, is-tabulate, tabulate-snoc}
 use Rattle.routes.specs.Route.{key, Fine, Good}
-use Rattle.routes.specs.Record.{word32, word16, recordAt, bytesOf, routesOf, noRoute, written, Ranged, Records, Listed}
+use Rattle.routes.specs.Record.{recordAt, bytesOf, routesOf, noRoute, written, Ranged, Records, Listed}
 use Rattle.routes.specs.declared.Route.{Route}
 use Rattle.routes.proofs.Goods.{good-fine}
 use Rattle.routes.proofs.Puts.{bytes-read}
@@ -25,21 +22,22 @@ nth-listed [] k h = absurd (not-suc-le-zero h)
 nth-listed (r ∷ rs) zero h = List·Memᴰ·head refl
 nth-listed (r ∷ rs) (suc k) h = List·Memᴰ·tail (nth-listed rs k (le-of-suc-le-suc h))
 
-pub record Place (rs : List Route) (r : Route) : Type 0 where
+pub record StandsAt (rs : List Route) (r : Route) : Type 0 where
   pub place : ℕ
   pub inside : place < length rs
   pub holds : getD rs place noRoute ≡ r
 
-pub listed-nth : (rs : List Route) (r : Route) → List·Memᴰ r rs → Place rs r
+pub listed-nth : (rs : List Route) (r : Route) → List·Memᴰ r rs → StandsAt rs r
 listed-nth [] r m = absurd (List·Memᴰ·not-nil m)
 listed-nth (x ∷ xs) r m = go (List·Memᴰ·cases-cons m) (listed-nth xs r)
   where
-    go : (r ≡ x) ⊎ List·Memᴰ r xs → (List·Memᴰ r xs → Place xs r) → Place (x ∷ xs) r
+    go : (r ≡ x) ⊎ List·Memᴰ r xs → (List·Memᴰ r xs → StandsAt xs r) → StandsAt (x ∷ xs) r
     go (inl q) ih = record { place = 0; inside = suc-le-suc zero-le; holds = sym q }
     go (inr k) ih = let p = ih k in record { place = suc (p .place); inside = suc-le-suc (p .inside); holds = p .holds }
 
 -- a list is good when each route is fine and the keys rise from place to place
-pub nth-good : (rs : List Route) → ((k : ℕ) → k < length rs → Fine (getD rs k noRoute)) → ((i j : ℕ) → i < j → j < length rs → key (getD rs i noRoute) < key (getD rs j noRoute)) → Good rs
+pub nth-good : (rs : List Route) → ((k : ℕ) → k < length rs → Fine (getD rs k noRoute)) →
+    ((i j : ℕ) → i < j → j < length rs → key (getD rs i noRoute) < key (getD rs j noRoute)) → Good rs
 unfolding Good
 nth-good [] f h = tt
 nth-good (r ∷ rs) f h = (
@@ -84,6 +82,11 @@ module _ (s : List ℕ) (n : ℕ) where
       (λ k l. let h : k < n = rw length-routes at l in rw (nth-route k h) (r .each k h))
       (λ i j l u. let h : j < n = rw length-routes at u in rw (nth-route i (omega arith), nth-route j h) (r .rises i j l h))
 
+-- one record more
+pub routes-snoc : (s : List ℕ) (n : ℕ) → routesOf s (suc n) ≡ routesOf s n ++ (recordAt s n ∷ [])
+unfolding routesOf
+routes-snoc s n = tabulate-snoc n (recordAt s)
+
 pub fine-ranged : (r : Route) → Fine r → Ranged r
 fine-ranged r f = record {
   addr-fits = f .prefix .addr-ok;
@@ -97,7 +100,8 @@ pub length-written : (rs : List Route) (room : ℕ) → length (written rs room)
 unfolding written
 length-written rs room = length-tabulate (room * 8) _
 
-pub byte-written : (rs : List Route) (room k m : ℕ) → k < length rs → length rs ≤ room → m < 8 → getD (written rs room) (k * 8 + m) 0 ≡ getD (bytesOf (getD rs k noRoute)) m 0
+pub byte-written : (rs : List Route) (room k m : ℕ) → k < length rs → length rs ≤ room → m < 8 → getD (written rs room) (k * 8 + m) 0 ≡ getD
+    (bytesOf (getD rs k noRoute)) m 0
 unfolding written
 byte-written rs room k m h l b =
     let d : (k * 8 + m) / 8 ≡ k = omega arith in
@@ -140,8 +144,10 @@ record-bytes s k b (suc (suc zero)) h = omega (arith, b (k * 8), b (k * 8 + 1), 
 record-bytes s k b (suc (suc (suc zero))) h = omega (arith, b (k * 8), b (k * 8 + 1), b (k * 8 + 2), b (k * 8 + 3))
 record-bytes s k b (suc (suc (suc (suc zero)))) h = refl
 record-bytes s k b (suc (suc (suc (suc (suc zero))))) h = refl
-record-bytes s k b (suc (suc (suc (suc (suc (suc zero)))))) h = let z : k * 8 + 6 + 1 ≡ k * 8 + 7 = omega arith in rw z (omega (arith, b (k * 8 + 6), b (k * 8 + 7)))
-record-bytes s k b (suc (suc (suc (suc (suc (suc (suc zero))))))) h = let z : k * 8 + 6 + 1 ≡ k * 8 + 7 = omega arith in rw z (omega (arith, b (k * 8 + 6), b (k * 8 + 7)))
+record-bytes s k b (suc (suc (suc (suc (suc (suc zero)))))) h = let z : k * 8 + 6 + 1 ≡ k * 8 + 7 = omega arith in rw z
+    (omega (arith, b (k * 8 + 6), b (k * 8 + 7)))
+record-bytes s k b (suc (suc (suc (suc (suc (suc (suc zero))))))) h = let z : k * 8 + 6 + 1 ≡ k * 8 + 7 = omega arith in rw z
+    (omega (arith, b (k * 8 + 6), b (k * 8 + 7)))
 record-bytes s k b (suc (suc (suc (suc (suc (suc (suc (suc m)))))))) h = absurd (omega arith)
 
 -- a list that holds routes is what they write
@@ -154,7 +160,8 @@ listed-written s n b t =
     go : (j : ℕ) → j < length s → (j / 8 < n) ⊎ (n ≤ j / 8) → getD s j 0 ≡ getD (written (routesOf s n) (length s / 8)) j 0
     go j h (inl l) =
         let e : j / 8 * 8 + j % 8 ≡ j = omega arith in
-        let x = byte-written (routesOf s n) (length s / 8) (j / 8) (j % 8) (rw length-routes l) (rw length-routes (omega (arith, t .records .room))) (omega arith) in
+        let x = byte-written (routesOf s n) (length s / 8) (j / 8) (j % 8) (rw length-routes l) (rw length-routes (omega (arith, t .records .room)))
+        (omega arith) in
         let y = record-bytes s (j / 8) b (j % 8) (omega arith) in
         rw (nth-route s n (j / 8) l, y, e) at (sym x)
     go j h (inr l) = t .zeros j (omega arith) h ∙ sym (zero-written (routesOf s n) (length s / 8) j (rw length-routes (omega arith)) (omega (arith, t .whole)))

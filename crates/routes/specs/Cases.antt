@@ -1,5 +1,5 @@
 -- What the calls on a record input can say, case by case and in order, in document 01's words; each case has all that then holds. The cases
--- exclude each other, and a call says what stands beside the one that holds (`input-checked`, `check-only`, `refused-number-route-at`).
+-- exclude each other, and a call says what stands beside the one that holds (`input-checked`, `check-only`, `route-judged`, `route-only`).
 use mathlib.Core.Bool.{false}
 use mathlib.Core.List.{List, [], _∷_}
 use mathlib.Core.Logic.{_≢_}

@@ -4,12 +4,12 @@ use mathlib.Core.List.{List}
 use mathlib.Core.Path.{_≡_}
 use Prim.Native.Nat.{ℕ}
 use Rattle.routes.specs.Input.{inputSaid}
-use Rattle.routes.specs.Answers.{saysInput, saysGot, routeSaid}
+use Rattle.routes.specs.Answers.{meansInput, meansGot, routeSaid}
 use Rattle.routes.specs.declared.input.Input.{Input}
 use Rattle.routes.specs.declared.input.Got.{Got}
 
 abbrev pub MeetsCheckInput : List ℕ → Input → Type 0
-MeetsCheckInput bytes r = saysInput r ≡ inputSaid bytes
+MeetsCheckInput bytes r = meansInput r ≡ inputSaid bytes
 
 abbrev pub MeetsRouteAt : List ℕ → ℕ → Got → Type 0
-MeetsRouteAt bytes index r = saysGot r ≡ routeSaid bytes index
+MeetsRouteAt bytes index r = meansGot r ≡ routeSaid bytes index

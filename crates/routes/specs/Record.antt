@@ -1,10 +1,11 @@
--- Records: eight bytes for a route, the most significant first. Assumes nothing.
+-- Records: eight bytes for a route, the most significant first.
 use Prim.Native.Nat.{ℕ, _+_, _*_, _/_, _%_, _^_, _≤_, _<_}
 use mathlib.Core.Bool.{cond}
 use mathlib.Core.List.{List, [], _∷_, _++_}
 use mathlib.Core.Path.{_≡_}
 use lib.Dec.{ltb}
 use lib.ListN.{length, getD, take, drop}
+use Rattle.bits.specs.Bytes.{above1, above2, above3, byte}
 use Rattle.bits.specs.Tab.{tabulate}
 use Rattle.routes.specs.Route.{key, Fine}
 use Rattle.routes.specs.declared.Route.{Route}
@@ -28,14 +29,14 @@ recordAt s k = record {
 -- the eight bytes of a route
 unfoldable pub bytesOf : Route → List ℕ
 bytesOf r =
-    r .addr / 16777216
-    ∷ r .addr / 65536 % 256
-    ∷ r .addr / 256 % 256
-    ∷ r .addr % 256
+    above3 (r .addr)
+    ∷ byte (above2 (r .addr))
+    ∷ byte (above1 (r .addr))
+    ∷ byte (r .addr)
     ∷ r .len
     ∷ r .mark
-    ∷ r .hop / 256
-    ∷ r .hop % 256
+    ∷ above1 (r .hop)
+    ∷ byte (r .hop)
     ∷ []
 
 -- s with record k made r
@@ -52,6 +53,10 @@ noRoute = record { addr = 0; len = 0; mark = 0; hop = 0 }
 -- the bytes of these routes in a list with room for this many records; those past the last record are zero
 unfoldable pub written : List Route → ℕ → List ℕ
 written rs room = tabulate (room * 8) (λ j. cond (ltb (j / 8) (length rs)) (getD (bytesOf (getD rs (j / 8) noRoute)) (j % 8) 0) 0)
+
+-- n records of s, from record j on
+abbrev pub part : List ℕ → ℕ → ℕ → List ℕ
+part s j n = take (n * 8) (drop (j * 8) s)
 
 -- numbers that a record has room for
 pub record Ranged (r : Route) : Type 0 where

@@ -1,4 +1,4 @@
--- Routes: their order in a list, and when a route and a list of routes are good. Assumes nothing.
+-- Routes: their order in a list, and when a route and a list of routes are good.
 use mathlib.Core.List.{List, [], _∷_, List·Memᴰ}
 use mathlib.Core.Path.{_≡_}
 use Prim.Native.Nat.{ℕ, _+_, _-_, _*_, _^_, _≤_, _<_}

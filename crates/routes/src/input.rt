@@ -1,8 +1,9 @@
 // The check of a record input, and a route read back out of one.
 use crate::Route;
 use crate::record;
+use bits::widen::byte_to_word;
 ghost use mathlib.Core.Path.{_≡_};
-ghost use Prim.Native.Nat.{_+_, _*_, _≤_, _<_};
+ghost use Prim.Native.Nat.{_+_, _*_, _≤_};
 ghost use lib.ListN.{length};
 ghost use Rattle.routes.specs.Input.{properPrefix, hopFine, routeFault, faultAt};
 ghost use Rattle.routes.specs.Contract.{MeetsCheckInput, MeetsRouteAt};
@@ -11,7 +12,7 @@ ghost use Rattle.routes.specs.Contract.{MeetsCheckInput, MeetsRouteAt};
 pub fn prefix_ok(addr: u32, len: u8) -> bool
     ensures { λ r. ⌜ r ≡ properPrefix addr len ⌝ }
 {
-    let l = record::wide(len);
+    let l = byte_to_word(len);
     if 32 < l {
         return false;
     }

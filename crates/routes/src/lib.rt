@@ -1,5 +1,6 @@
-// Routes, the records that hold them, and the check of a record input.
+// Routes, the records that hold them, the check of a record input, and the prefix that an address and a length mean.
 pub mod input;
+pub mod prefix;
 pub mod record;
 
 // A route: the prefix of `len` bits of `addr`, and the hop that it leads to. `mark` is 1 for a network on our own port,

@@ -1,48 +1,21 @@
 // One record of eight bytes: read, and written into a lent list.
 use crate::Route;
+use bits::widen::byte_to_half;
+use bits::widen::byte_to_long;
+use bits::widen::half_to_word;
+use bits::widen::word_to_long;
 ghost use mathlib.Core.Path.{_≡_};
 ghost use Prim.Native.Nat.{_+_, _*_, _/_, _%_, _≤_, _<_, _^_};
 ghost use lib.ListN.{length, set};
 ghost use Rattle.routes.specs.Route.{key};
 ghost use Rattle.routes.specs.Record.{word32, word16, recordAt, putAt};
 
-// A byte, as a wider number.
-pub fn wide(b: u8) -> u32
-    ensures { λ r. ⌜ (r ≡ b) × (r < 256) ⌝ }
-{
-    b as u32
-}
-
-fn wide16(b: u8) -> u16
-    ensures { λ r. ⌜ (r ≡ b) × (r < 256) ⌝ }
-{
-    b as u16
-}
-
-fn wide64(b: u8) -> u64
-    ensures { λ r. ⌜ (r ≡ b) × (r < 256) ⌝ }
-{
-    b as u64
-}
-
-fn address64(a: u32) -> u64
-    ensures { λ r. ⌜ (r ≡ a) × (r < 2 ^ 32) ⌝ }
-{
-    a as u64
-}
-
 // Two bytes from a place on, as a number.
 fn half_at(list: &[u8], at: usize) -> u16
     requires { ⌜ at + 2 ≤ length (now list) ⌝ }
     ensures { λ r. ⌜ r ≡ word16 (now (list .entry)) at ⌝ }
 {
-    wide16(list[at]) * 256 + wide16(list[at + 1])
-}
-
-fn wide_half(h: u16) -> u32
-    ensures { λ r. ⌜ (r ≡ h) × (r < 65536) ⌝ }
-{
-    h as u32
+    byte_to_half(list[at]) * 256 + byte_to_half(list[at + 1])
 }
 
 // Four bytes.
@@ -50,7 +23,7 @@ fn word_at(list: &[u8], at: usize) -> u32
     requires { ⌜ at + 4 ≤ length (now list) ⌝ }
     ensures { λ r. ⌜ r ≡ word32 (now (list .entry)) at ⌝ }
 {
-    wide_half(half_at(list, at)) * 65536 + wide_half(half_at(list, at + 2))
+    half_to_word(half_at(list, at)) * 65536 + half_to_word(half_at(list, at + 2))
 }
 
 // The route of record k.
@@ -71,7 +44,7 @@ pub fn read_record(list: &[u8], k: usize) -> Route
 pub fn key_of(addr: u32, len: u8) -> u64
     ensures { λ r. ⌜ (r ≡ addr * 256 + len) × (r < 2 ^ 40) ⌝ }
 {
-    address64(addr) * 256 + wide64(len)
+    word_to_long(addr) * 256 + byte_to_long(len)
 }
 
 // The key of record k.

@@ -16,7 +16,8 @@ one-answer-run-check list addr len x y p q = run-check-injective x y (p ∙ sym 
 
 -- two runs of a list hold the same and stand at the same place: a part of the list is its elements and its place, and a reference has nothing
 -- else that a program can see
-pub one-answer-run : (list : RefT (List ℕ)) (addr len : ℕ) (x y : RefT (List ℕ)) → IsRun list x addr len → IsRun list y addr len → (now x ≡ now y) × (ptr x ≡ ptr y)
+pub one-answer-run : (list : RefT (List ℕ)) (addr len : ℕ) (x y : RefT (List ℕ)) → IsRun list x addr len → IsRun list y addr len → (now x ≡ now y) ×
+    (ptr x ≡ ptr y)
 one-answer-run list addr len x y p q = (p .holds ∙ sym (q .holds), p .stands ∙ sym (q .stands))
 
 pub one-answer-tally : (bytes : List ℕ) (x y : Tallied) → IsTally bytes x → IsTally bytes y → x ≡ y

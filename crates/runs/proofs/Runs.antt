@@ -1,5 +1,4 @@
 -- What a run is: each record inside the prefix and no other, and a good list of its own. And what each way through `run_check` and `run` says.
--- Assumes nothing.
 use mathlib.Core.Path.{_≡_, refl, sym, ap, _∙_, subst}
 use mathlib.Core.Logic.{_↔_}
 use mathlib.Core.List.{List, [], _∷_}
@@ -7,58 +6,25 @@ use mathlib.Core.Bool.{Bool, true, false, not, cond, true≢false}
 use Prim.Native.Nat.{ℕ, _+_, _-_, _*_, _/_, _%_, _^_, _≤_, _<_}
 use native.Mathlib.Omega.{arith}
 use lib.Pow.{pow-pos, pow-mono}
-use lib.ListN.{length, getD, take, drop, length-drop}
+use lib.ListN.{length, getD, take, drop}
 use lib.Dec.{eqb}
 use borrow.Author.Tests.{not-true, not-false}
-use lib.Seq.{getD-take, getD-drop, length-take-le}
 use denote.Ref.{RefT, ptr, now}
 use Rattle.bits.specs.Slot.{slot, cut}
 use Rattle.bits.proofs.Slots.{shl-one, cut-le, cut-gt, cut-more, cut-in, cut-slot, slot-of}
-use Rattle.bits.proofs.Tests.{untrue}
+use Rattle.bits.proofs.Bools.{untrue}
 use Rattle.routes.specs.Route.{key, keyOf, Prefix}
-use Rattle.routes.specs.Record.{recordAt, Records}
+use Rattle.routes.specs.Record.{recordAt, part, Records}
 use Rattle.routes.specs.Said.{Said, accepted, refused, refusedAt, andThen, accepts}
 use Rattle.routes.specs.Input.{properPrefix, inputSaid}
 use Rattle.routes.specs.Cases.{Checked, ragged, stopped, many, good}
-use Rattle.routes.proofs.Meaning.{prefix-true, true-prefix, input-good, good-input, input-checked}
+use Rattle.routes.proofs.Parts.{part-record, part-good}
+use Rattle.routes.proofs.Meaning.{prefix-true, true-prefix, input-good, input-checked}
 use Rattle.lists.specs.Place.{placeOf}
-use Rattle.runs.specs.Run.{part, pastKey, runStart, runEnd, runCount, runSaid, saysRunCheck, runOf, runAt, IsRun}
+use Rattle.runs.specs.Run.{pastKey, runStart, runEnd, runCount, runSaid, meansRunCheck, runOf, runAt, IsRun}
 use Rattle.runs.specs.declared.run.RunCheck.{RunCheck}
 use Rattle.runs.specs.declared.run.RunCheck.the-variants as check
 use Rattle.lists.proofs.Places.{place-le, place-before, place-after, place-mono}
-
--- a part of a list of records is a list of records
-module _ (s : List ℕ) (i n : ℕ) where
-  part-byte : (x y : ℕ) → x < n * 8 → i * 8 + x ≡ y → getD (part s i n) x 0 ≡ getD s y 0
-  part-byte x y l e = getD-take (n * 8) (drop (i * 8) s) x 0 l ∙ getD-drop (i * 8) s x 0 ∙ ap (λ (z : ℕ). getD s z 0) e
-
-  pub part-record : (j : ℕ) → j < n → recordAt (part s i n) j ≡ recordAt s (i + j)
-  unfolding recordAt
-  part-record j l =
-      cc (
-        part-byte (j * 8) ((i + j) * 8) (omega arith) (omega arith),
-        part-byte (j * 8 + 1) ((i + j) * 8 + 1) (omega arith) (omega arith),
-        part-byte (j * 8 + 2) ((i + j) * 8 + 2) (omega arith) (omega arith),
-        part-byte (j * 8 + 3) ((i + j) * 8 + 3) (omega arith) (omega arith),
-        part-byte (j * 8 + 4) ((i + j) * 8 + 4) (omega arith) (omega arith),
-        part-byte (j * 8 + 5) ((i + j) * 8 + 5) (omega arith) (omega arith),
-        part-byte (j * 8 + 6) ((i + j) * 8 + 6) (omega arith) (omega arith),
-        part-byte (j * 8 + 6 + 1) ((i + j) * 8 + 6 + 1) (omega arith) (omega arith),
-      )
-
-  pub part-length : i * 8 + n * 8 ≤ length s → length (part s i n) ≡ n * 8
-  part-length h = length-take-le (n * 8) (drop (i * 8) s) (rw (length-drop (i * 8) s) (omega arith))
-
-  -- a part of good records is a good input
-  pub part-good : (m : ℕ) → i + n ≤ m → Records s m → inputSaid (part s i n) ≡ accepted (n ∷ [])
-  part-good m u r =
-      let w = part-length (omega (arith, r .room)) in
-      good-input (part s i n) n w (record {
-        room = omega arith;
-        few = omega (arith, r .few);
-        each = λ k l. rw (part-record k l) (r .each (i + k) (omega arith));
-        rises = λ j k l h. rw (part-record j (omega arith), part-record k h) (r .rises (i + j) (i + k) (omega arith) (omega arith));
-      })
 
 -- which keys lie inside a prefix
 module _ (p n : ℕ) (outer : Prefix p n) (a l : ℕ) (inner : Prefix a l) where
@@ -116,9 +82,11 @@ module _ (s : List ℕ) (a l : ℕ) where
 
   pub run-accepted : (start count : ℕ) → runSaid s a l ≡ accepted (start ∷ count ∷ []) → Ran s a l start count
   unfolding runSaid
-  run-accepted start count e = go (and-passed (inputSaid s) (cond (properPrefix a l) (accepted (runStart s a l ∷ runCount s a l ∷ [])) (refused 3)) (start ∷ count ∷ []) e)
+  run-accepted start count e = go (and-passed (inputSaid s) (cond (properPrefix a l) (accepted (runStart s a l ∷ runCount s a l ∷ [])) (refused 3))
+      (start ∷ count ∷ []) e)
     where
-      go : Passed (inputSaid s) (cond (properPrefix a l) (accepted (runStart s a l ∷ runCount s a l ∷ [])) (refused 3)) (start ∷ count ∷ []) → Ran s a l start count
+      go : Passed (inputSaid s) (cond (properPrefix a l) (accepted (runStart s a l ∷ runCount s a l ∷ [])) (refused 3)) (start ∷ count ∷ [])
+          → Ran s a l start count
       go (passed us e q) =
           let c = cond-passed (properPrefix a l) _ _ 3 q in
           let d = c .1 in
@@ -164,7 +132,8 @@ module _ (s : List ℕ) (a l : ℕ) where
     run-exact k u =
         let f = ran .records .each k u .prefix in
         let past = pastKey a l in (
-          (λ h. inside a l (ran .prefix) (recordAt s k .addr) (recordAt s k .len) f (run-after k (h .0) u) (place-before s (length s / 8) past k (rw ends at (h .1)))),
+          (λ h. inside a l (ran .prefix) (recordAt s k .addr) (recordAt s k .len) f (run-after k (h .0) u)
+              (place-before s (length s / 8) past k (rw ends at (h .1)))),
           (λ h.
               let w = contained a l (ran .prefix) (recordAt s k .addr) (recordAt s k .len) f (h .0) (h .1) in
               let low : ¬ (k < start) = λ x. omega (arith, run-before k x) in
@@ -173,9 +142,11 @@ module _ (s : List ℕ) (a l : ℕ) where
         )
 
     -- where no record lies inside, the run is empty and stands before the first record that isn't smaller
-    pub run-empty : ((k : ℕ) → k < length s / 8 → l ≤ recordAt s k .len → slot l (recordAt s k .addr) ≡ slot l a → ⊥) → (count ≡ 0) × (start ≡ placeOf s (length s / 8) (keyOf a l))
+    pub run-empty : ((k : ℕ) → k < length s / 8 → l ≤ recordAt s k .len → slot l (recordAt s k .addr) ≡ slot l a → ⊥) → (count ≡ 0) ×
+        (start ≡ placeOf s (length s / 8) (keyOf a l))
     run-empty none =
-        let no : ¬ (0 < count) = λ (h : 0 < count). let w = run-exact start (omega (arith, run-room)) .0 (omega arith, omega arith) in none start (omega (arith, run-room)) (w .0) (w .1) in
+        let no : ¬ (0 < count) = λ (h : 0 < count). let w = run-exact start (omega (arith, run-room)) .0 (omega arith, omega arith) in none start
+        (omega (arith, run-room)) (w .0) (w .1) in
         (omega arith, ran .starts)
 
     pub run-is : runOf s a l ≡ part s start count
@@ -196,28 +167,30 @@ size-is x l e h = (shl-one 64 (32 - x) (omega arith) ∙ ap (λ (y : ℕ). 2 ^ (
 -- what each way through `run_check` says
 module _ (s : List ℕ) (a l : ℕ) where
   module _ (n : ℕ) (e : inputSaid s ≡ accepted (n ∷ [])) (b : Bool) (t : b ≡ properPrefix a l) where
-    pub says-no-prefix : not b ≡ true → saysRunCheck check.NoPrefix ≡ runSaid s a l
-    unfolding saysRunCheck runSaid
+    pub says-no-prefix : not b ≡ true → meansRunCheck check.NoPrefix ≡ runSaid s a l
+    unfolding meansRunCheck runSaid
     says-no-prefix h = rw (e, ← t, not-true b h)
 
-    pub says-run : (x y j k : ℕ) → not b ≡ false → x ≡ placeOf s n j → j ≡ keyOf a l → y ≡ placeOf s n k → k ≡ pastKey a l → saysRunCheck (check.Run x (y - x)) ≡ runSaid s a l
-    unfolding saysRunCheck runSaid
+    pub says-run : (x y j k : ℕ) → not b ≡ false → x ≡ placeOf s n j → j ≡ keyOf a l → y ≡ placeOf s n k → k ≡ pastKey a l → meansRunCheck
+        (check.Run x (y - x)) ≡ runSaid s a l
+    unfolding meansRunCheck runSaid
     says-run x y j k h p q p′ q′ =
         let w = input-good s n e .0 in
         let d : length s / 8 ≡ n = omega arith in
         rw (e, ← t, not-false b h, d, p, p′, q, q′)
 
-  pub says-refused : (f k : ℕ) → inputSaid s ≡ refusedAt f k → saysRunCheck (check.Refused f k) ≡ runSaid s a l
-  unfolding saysRunCheck runSaid
+  pub says-refused : (f k : ℕ) → inputSaid s ≡ refusedAt f k → meansRunCheck (check.Refused f k) ≡ runSaid s a l
+  unfolding meansRunCheck runSaid
   says-refused f k e = rw e
 
-  pub says-many : inputSaid s ≡ refused 6 → saysRunCheck check.TooMany ≡ runSaid s a l
-  unfolding saysRunCheck runSaid
+  pub says-many : inputSaid s ≡ refused 6 → meansRunCheck check.TooMany ≡ runSaid s a l
+  unfolding meansRunCheck runSaid
   says-many e = rw e
 
 -- what `run` hands back
 module _ (list r : RefT (List ℕ)) (a l : ℕ) where
-  pub is-run : (start count : ℕ) → runSaid (now list) a l ≡ accepted (start ∷ count ∷ []) → (x y : ℕ) → ptr r ≡ (ptr list .0, x + ptr list .1) → now r ≡ take (y - x) (drop x (now list)) → x ≡ start * 8 → y ≡ start * 8 + count * 8 → IsRun list r a l
+  pub is-run : (start count : ℕ) → runSaid (now list) a l ≡ accepted (start ∷ count ∷ []) → (x y : ℕ) → ptr r ≡ (ptr list .0, x + ptr list .1)
+      → now r ≡ take (y - x) (drop x (now list)) → x ≡ start * 8 → y ≡ start * 8 + count * 8 → IsRun list r a l
   unfolding runAt
   is-run start count e x y p q u v =
       let n : y - x ≡ count * 8 = omega arith in
@@ -239,13 +212,13 @@ readRun (accepted vs) = check.Run (getD vs 0 0) (getD vs 1 0)
 readRun (refused n) = cond (eqb n 3) check.NoPrefix check.TooMany
 readRun (refusedAt f k) = check.Refused f k
 
-read-run : (x : RunCheck) → readRun (saysRunCheck x) ≡ x
-unfolding saysRunCheck readRun
+read-run : (x : RunCheck) → readRun (meansRunCheck x) ≡ x
+unfolding meansRunCheck readRun
 read-run (check.Run start count) = refl
 read-run (check.Refused f k) = refl
 read-run check.TooMany = refl
 read-run check.NoPrefix = refl
 
 -- two answers that are told the same are the same
-pub run-check-injective : (x y : RunCheck) → saysRunCheck x ≡ saysRunCheck y → x ≡ y
+pub run-check-injective : (x y : RunCheck) → meansRunCheck x ≡ meansRunCheck y → x ≡ y
 run-check-injective x y e = sym (read-run x) ∙ ap readRun e ∙ read-run y

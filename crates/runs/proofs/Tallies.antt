@@ -1,4 +1,4 @@
--- Laws of the tally: one more record, the counts together are the number of records, and marks have no part in it. Assumes nothing.
+-- Laws of the tally: one more record, the counts together are the number of records, and marks have no part in it.
 use mathlib.Core.Path.{_≡_, refl, sym, ap, _∙_}
 use mathlib.Core.Logic.{_⊎_, inl, inr}
 use mathlib.Core.Bool.{Bool, true, false, cond}
@@ -12,14 +12,14 @@ use lib.ListN.{length, getD, set, replicate}
 use borrow.Author.Tests.{eqb-true, eqb-false, eq-eqb, ne-eqb}
 use Rattle.bits.specs.Tab.{tabulate}
 use Rattle.bits.specs.Count.{bit, count}
-use Rattle.bits.proofs.Tests.{decided, below?}
+use Rattle.bits.proofs.Bools.{decided, below?}
 use Rattle.bits.proofs.Counts.{count-ext}
 use Rattle.bits.proofs.Tabs.{getD-tabulate, tabulate-ext, set-tabulate}
 use Rattle.routes.specs.Route.{plain}
 use Rattle.routes.specs.Record.{recordAt, Records}
 use Rattle.routes.specs.Said.{accepted, accepts}
 use Rattle.routes.specs.Input.{inputSaid}
-use Rattle.routes.specs.Answers.{saysInput}
+use Rattle.routes.specs.Answers.{meansInput}
 use Rattle.routes.specs.declared.Route.{Route}
 use Rattle.routes.specs.declared.input.Input.{Input}
 use Rattle.routes.specs.declared.input.Input.the-variants as input
@@ -59,7 +59,8 @@ module _ (s : List ℕ) where
   unfolding count
   counted k i = rw (add-one k)
 
-  step : (k l : ℕ) → l ≡ recordAt s k .len → l < 33 → (i : ℕ) → (eqb i l ≡ true) ⊎ (eqb i l ≡ false) → cond (eqb i l) (getD (lengthsOf s k) l 0 + 1) (count (hasLength s i) k) ≡ count (hasLength s i) (k + 1)
+  step : (k l : ℕ) → l ≡ recordAt s k .len → l < 33 → (i : ℕ) → (eqb i l ≡ true) ⊎ (eqb i l ≡ false) → cond (eqb i l) (getD (lengthsOf s k) l 0 + 1)
+      (count (hasLength s i) k) ≡ count (hasLength s i) (k + 1)
   step k l e h i (inl q) =
       let z = eqb-true i l q in
       rw q (omega (arith, length-count k l h, counted k i, ap (λ (j : ℕ). count (hasLength s j) k) z, ap bit (eq-eqb (recordAt s k .len) i (sym (z ∙ e)))))
@@ -70,7 +71,8 @@ module _ (s : List ℕ) where
   unfolding lengthsOf
   one-more k l e h =
       set-tabulate 33 (λ i. count (hasLength s i) k) l (getD (lengthsOf s k) l 0 + 1)
-      ∙ tabulate-ext 33 (λ i. cond (eqb i l) (getD (lengthsOf s k) l 0 + 1) (count (hasLength s i) k)) (λ i. count (hasLength s i) (k + 1)) (λ i u. step k l e h i (decided (eqb i l)))
+      ∙ tabulate-ext 33 (λ i. cond (eqb i l) (getD (lengthsOf s k) l 0 + 1) (count (hasLength s i) k)) (λ i. count (hasLength s i) (k + 1))
+      (λ i u. step k l e h i (decided (eqb i l)))
 
 -- the counts are those of a good input's records, and zeros where the input is refused
 module _ (s : List ℕ) where
@@ -85,10 +87,11 @@ module _ (s : List ℕ) where
   unfolding tallyOf
   tally-refused e = rw e
 
-  pub is-tally : (i : Input) (n : ℕ) (cs : List ℕ) → saysInput i ≡ inputSaid s → i ≡ input.Good n → cs ≡ lengthsOf s n → IsTally s (record { answer = input.Good n; counts = cs })
-  is-tally i n cs e q c = record { answered = ap saysInput (sym q) ∙ e; counted = c ∙ sym (tally-good n (told-good s i e n q)) }
+  pub is-tally : (i : Input) (n : ℕ) (cs : List ℕ) → meansInput i ≡ inputSaid s → i ≡ input.Good n → cs ≡ lengthsOf s n → IsTally s
+      (record { answer = input.Good n; counts = cs })
+  is-tally i n cs e q c = record { answered = ap meansInput (sym q) ∙ e; counted = c ∙ sym (tally-good n (told-good s i e n q)) }
 
-  pub no-tally : (i : Input) → saysInput i ≡ inputSaid s → accepts (saysInput i) ≡ false → IsTally s (record { answer = i; counts = replicate 33 0 })
+  pub no-tally : (i : Input) → meansInput i ≡ inputSaid s → accepts (meansInput i) ≡ false → IsTally s (record { answer = i; counts = replicate 33 0 })
   no-tally i e q = record { answered = e; counted = sym (tally-refused (ap accepts (sym e) ∙ q)) }
 
 -- sums
@@ -116,7 +119,13 @@ sum-bit x (suc n) h = go (below? x n) (sum-bit x n)
     go : (x < n) ⊎ (n ≤ x) → (x < n → sumBelow (λ i. bit (eqb x i)) n ≡ 1) → bit (eqb x n) + sumBelow (λ i. bit (eqb x i)) n ≡ 1
     go (inl l) ih = omega (arith, ih l, ap bit (ne-eqb x n (λ (e : x ≡ n). omega arith)))
     go (inr l) ih =
-        omega (arith, ap bit (eq-eqb x n (omega arith)), sum-ext (λ i. bit (eqb x i)) (λ i. 0) n (λ i u. ap bit (ne-eqb x i (λ (e : x ≡ i). omega arith))), sum-zero n)
+        omega (
+          arith,
+          ap bit (eq-eqb x n (omega arith)),
+          sum-ext (λ i. bit (eqb x i)) (λ i. 0) n
+              (λ i u. ap bit (ne-eqb x i (λ (e : x ≡ i). omega arith))),
+          sum-zero n,
+        )
 
 -- the counts of a good input add up to its number of records
 module _ (s : List ℕ) (n : ℕ) (r : Records s n) where
@@ -124,7 +133,13 @@ module _ (s : List ℕ) (n : ℕ) (r : Records s n) where
   unfolding count
   sums zero h = sum-zero 33
   sums (suc m) h =
-      omega (arith, sum-add (λ l. bit (hasLength s l m)) (λ l. count (hasLength s l) m) 33, sum-bit (recordAt s m .len) 33 (omega (arith, r .each m h .prefix .len-ok)), sums m (omega arith))
+      omega (
+        arith,
+        sum-add (λ l. bit (hasLength s l m)) (λ l. count (hasLength s l) m) 33,
+        sum-bit (recordAt s m .len) 33
+            (omega (arith, r .each m h .prefix .len-ok)),
+        sums m (omega arith),
+      )
 
 -- "a count for each of the 33 lengths": count l is that of the records whose length byte is l
 pub tally-count : (s : List ℕ) (n l : ℕ) → inputSaid s ≡ accepted (n ∷ []) → l < 33 → getD (tallyOf s) l 0 ≡ count (λ k. eqb (recordAt s k .len) l) n

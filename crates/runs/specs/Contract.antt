@@ -3,8 +3,8 @@
 use mathlib.Core.List.{List}
 use mathlib.Core.Path.{_≡_}
 use Prim.Native.Nat.{ℕ}
-use Rattle.runs.specs.Run.{runSaid, saysRunCheck}
+use Rattle.runs.specs.Run.{runSaid, meansRunCheck}
 use Rattle.runs.specs.declared.run.RunCheck.{RunCheck}
 
 abbrev pub MeetsRunCheck : List ℕ → ℕ → ℕ → RunCheck → Type 0
-MeetsRunCheck list addr len r = saysRunCheck r ≡ runSaid list addr len
+MeetsRunCheck list addr len r = meansRunCheck r ≡ runSaid list addr len

@@ -1,20 +1,17 @@
--- The run under a prefix, and what the check beside it says. Assumes nothing.
+-- The run under a prefix, and what the check beside it says.
 use Prim.Native.Nat.{ℕ, _+_, _-_, _*_, _/_, _^_}
 use mathlib.Core.Path.{_≡_}
 use mathlib.Core.Bool.{cond}
 use mathlib.Core.List.{List, [], _∷_}
-use lib.ListN.{length, take, drop}
+use lib.ListN.{length}
 use denote.Ref.{RefT, ptr, now}
 use Rattle.routes.specs.Route.{keyOf}
+use Rattle.routes.specs.Record.{part}
 use Rattle.routes.specs.Said.{Said, accepted, refused, refusedAt, andThen, accepts}
 use Rattle.routes.specs.Input.{properPrefix, inputSaid}
 use Rattle.lists.specs.Place.{placeOf}
 use Rattle.runs.specs.declared.run.RunCheck.{RunCheck}
 use Rattle.runs.specs.declared.run.RunCheck.the-variants as check
-
--- n records of s, from record j on
-abbrev pub part : List ℕ → ℕ → ℕ → List ℕ
-part s j n = take (n * 8) (drop (j * 8) s)
 
 -- the key of the first address after a prefix: every record inside the prefix is before it, and every later one is not
 abbrev pub pastKey : ℕ → ℕ → ℕ
@@ -35,11 +32,11 @@ unfoldable pub runSaid : List ℕ → ℕ → ℕ → Said
 runSaid s a l =
     andThen (inputSaid s) (cond (properPrefix a l) (accepted (runStart s a l ∷ runCount s a l ∷ [])) (refused 3))
 
-unfoldable pub saysRunCheck : RunCheck → Said
-saysRunCheck (check.Run start count) = accepted (start ∷ count ∷ [])
-saysRunCheck (check.Refused f k) = refusedAt f k
-saysRunCheck check.TooMany = refused 6
-saysRunCheck check.NoPrefix = refused 3
+unfoldable pub meansRunCheck : RunCheck → Said
+meansRunCheck (check.Run start count) = accepted (start ∷ count ∷ [])
+meansRunCheck (check.Refused f k) = refusedAt f k
+meansRunCheck check.TooMany = refused 6
+meansRunCheck check.NoPrefix = refused 3
 
 -- the records of the run; none where it is refused
 unfoldable pub runOf : List ℕ → ℕ → ℕ → List ℕ

@@ -1,4 +1,4 @@
--- The tally of an input. Assumes nothing.
+-- The tally of an input.
 use Prim.Native.Nat.{ℕ, zero, suc, _+_, _/_}
 use mathlib.Core.Path.{_≡_}
 use mathlib.Core.Bool.{Bool, cond}
@@ -9,7 +9,7 @@ use Rattle.bits.specs.Tab.{tabulate}
 use Rattle.bits.specs.Count.{count}
 use Rattle.routes.specs.Record.{recordAt}
 use Rattle.routes.specs.Input.{inputSaid}
-use Rattle.routes.specs.Answers.{saysInput}
+use Rattle.routes.specs.Answers.{meansInput}
 use Rattle.routes.specs.Said.{accepts}
 use Rattle.runs.specs.declared.tally.Tallied.{Tallied}
 
@@ -27,7 +27,7 @@ tallyOf s = cond (accepts (inputSaid s)) (lengthsOf s (length s / 8)) (replicate
 
 -- what the check of the input says, and the counts
 pub record IsTally (s : List ℕ) (t : Tallied) : Type 0 where
-  pub answered : saysInput (t .answer) ≡ inputSaid s
+  pub answered : meansInput (t .answer) ≡ inputSaid s
   pub counted : t .counts ≡ tallyOf s
 
 -- f 0 + f 1 + .. + f (n - 1)

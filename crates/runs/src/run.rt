@@ -1,4 +1,5 @@
 // The run under a prefix: the records of that length or longer inside it. They stand together in an ascending list.
+use bits::widen::byte_to_word;
 use lists::place::place;
 use routes::input;
 use routes::input::Input;
@@ -13,7 +14,7 @@ fn past_key(addr: u32, len: u8) -> u64
     requires { ⌜ len ≤ 32 ⌝ }
     ensures { λ r. ⌜ r ≡ pastKey addr len ⌝ }
 {
-    record::key_of(addr, 0) + (1u64 << (32 - record::wide(len))) * 256
+    record::key_of(addr, 0) + (1u64 << (32 - byte_to_word(len))) * 256
 }
 
 // What the check of a run says: where the run starts and how many records it has; the input's refusals; or a prefix

@@ -1,7 +1,7 @@
 // The tally of an input: how many records of each length.
+use bits::widen::byte_to_word;
 use routes::input;
 use routes::input::Input;
-use routes::record;
 ghost use mathlib.Core.Path.{_≡_};
 ghost use Prim.Native.Nat.{_+_, _*_, _≤_};
 ghost use lib.ListN.{length};
@@ -13,7 +13,7 @@ fn length_at(list: &[u8], k: usize) -> usize
     requires { ⌜ (k + 1) * 8 ≤ length (now list) ⌝ }
     ensures { λ r. ⌜ r ≡ recordAt (now (list .entry)) k .len ⌝ }
 {
-    record::wide(list[k * 8 + 4]) as usize
+    byte_to_word(list[k * 8 + 4]) as usize
 }
 
 // How many of n records have each of the lengths 0 to 32.

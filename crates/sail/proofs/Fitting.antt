@@ -9,7 +9,7 @@ use lib.Dec.{eqb, leb}
 use lib.ListN.{length}
 use borrow.Author.Tests.{leb-true, le-leb, lt-leb, eqb-true, eq-eqb, ne-eqb}
 use Rattle.bits.specs.Tab.{Tells}
-use Rattle.bits.proofs.Tests.{both, and-split, untrue, decided}
+use Rattle.bits.proofs.Bools.{both, and-split, untrue, decided}
 use Rattle.sail.specs.Geometry.{bits2, bits3, validGeo, Valid}
 use Rattle.sail.specs.Lent.{Lent, cellsOf}
 use Rattle.sail.specs.Sizes.{sizesFit, lengthsFit, sizesFault, Sized, Celled, SizesTold}

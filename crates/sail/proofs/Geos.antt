@@ -1,4 +1,4 @@
--- Laws of geometries. Assumes nothing.
+-- Laws of geometries.
 use mathlib.Core.Path.{_≡_}
 use mathlib.Core.Bool.{true, false, _&&_, false≢true}
 use Prim.Native.Nat.{ℕ, _*_, _%_, _^_, _≤_, _<_}
@@ -8,7 +8,7 @@ use lib.Pow.{pow-pos, pow-mono}
 use borrow.Author.Tests.{leb-true, le-leb}
 use Rattle.bits.specs.Tab.{Tells}
 use Rattle.bits.proofs.Slots.{shl-one}
-use Rattle.bits.proofs.Tests.{both, and-split}
+use Rattle.bits.proofs.Bools.{both, and-split}
 use Rattle.sail.specs.Geometry.{bits2, validGeo, Valid, Power}
 use Rattle.sail.specs.declared.geometry.Geometry.{Geometry}
 
@@ -25,7 +25,11 @@ not-told h = ((λ e. absurd (false≢true e)), (λ p. absurd (h p)))
 -- the test of a geometry and its facts say the same
 pub valid-is : (g : Geometry) → Tells (validGeo g) (Valid g)
 unfolding validGeo
-valid-is g = (facts, λ v. both (le-leb _ _ (v .p1-low)) (both (le-leb _ _ (v .p1-high)) (both (le-leb _ _ (v .p2-low)) (both (le-leb _ _ (v .p2-high)) (le-leb _ _ (v .near))))))
+valid-is g = (
+  facts,
+  λ v. both (le-leb _ _ (v .p1-low))
+      (both (le-leb _ _ (v .p1-high)) (both (le-leb _ _ (v .p2-low)) (both (le-leb _ _ (v .p2-high)) (le-leb _ _ (v .near))))),
+)
   where
     facts : (leb 12 (g .p1) && (leb (g .p1) 16 && (leb 22 (g .p2) && (leb (g .p2) 26 && leb (bits2 g) 10)))) ≡ true → Valid g
     facts e =

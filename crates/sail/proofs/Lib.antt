@@ -4,7 +4,8 @@ pub mod Fitting
 pub mod Words
 pub mod Steps
 pub mod ReadCells
-pub mod Answers
+pub mod Judged
+pub mod Injective
 pub mod OneAnswer
 pub mod Places
 pub mod Walks

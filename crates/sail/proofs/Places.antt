@@ -11,7 +11,7 @@ use lib.Dec.{leb}
 use lib.Pow.{pow-add, pow-pos}
 use borrow.Author.Tests.{ltb-true, lt-ltb, le-leb, lt-leb}
 use Rattle.bits.specs.Count.{count}
-use Rattle.bits.proofs.Tests.{decided}
+use Rattle.bits.proofs.Bools.{decided}
 use Rattle.bits.proofs.Counts.{Matched, count-matched}
 use Rattle.routes.specs.Route.{Good}
 use Rattle.standing.specs.Cells.{long, best, need}
@@ -20,7 +20,7 @@ use Rattle.standing.proofs.Levels.{long-up}
 use Rattle.standing.proofs.Need.{need-count}
 use Rattle.sail.specs.Level.{Level, Chunks, deep, always, itself, inUse, top, below}
 use Rattle.sail.specs.Sound.{Shows}
-use Rattle.sail.specs.Walk.{place}
+use Rattle.sail.specs.Walk.{cellPlace}
 
 -- numbers that match still do with a digit below b after each
 spread-half : (P Q : ℕ → Bool) (f g : ℕ → ℕ) (m n b : ℕ) → 0 < b
@@ -82,7 +82,7 @@ module _ (rs : List Route) (v : Level) (k : Chunks) (cells : ℕ → ℕ) (s : S
 
   -- and the level below is reached where the level is deep
   pub below-reached : (p : ℕ) → v .bits ≤ p → p ≤ 32
-      → Reached rs (below v k p) (λ i. long rs (v .bits) (i / 2 ^ (p - v .bits))) (λ i. place (p - v .bits) (cells (find (i / 2 ^ (p - v .bits)))) i)
+      → Reached rs (below v k p) (λ i. long rs (v .bits) (i / 2 ^ (p - v .bits))) (λ i. cellPlace (p - v .bits) (cells (find (i / 2 ^ (p - v .bits)))) i)
   below-reached p h l =
       let sum : v .bits + (p - v .bits) ≡ p = omega arith in
       let all : 2 ^ v .bits * 2 ^ (p - v .bits) ≡ 2 ^ p = sym (pow-add 2 (v .bits) (p - v .bits)) ∙ ap (λ (n : ℕ). 2 ^ n) sum in

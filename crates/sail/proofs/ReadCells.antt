@@ -3,19 +3,20 @@ use mathlib.Core.Path.{_≡_, refl, sym, _∙_, ap, ap₂, subst}
 use mathlib.Core.Logic.{_⊎_, inl, inr}
 use mathlib.Core.Bool.{Bool, true, false, cond}
 use mathlib.Core.List.{List, [], _∷_}
-use Prim.Native.Nat.{ℕ, _+_, _-_, _*_, _%_, _^_, _≤_, _<_}
+use Prim.Native.Nat.{ℕ, _-_, _^_, _≤_, _<_}
 use native.Mathlib.Omega.{arith}
 use lib.Dec.{eqb}
 use lib.ListN.{getD, length}
 use borrow.Author.Tests.{eq-eqb}
 use Rattle.bits.specs.Slot.{slot}
-use Rattle.bits.proofs.Tests.{decided, below?}
+use Rattle.bits.proofs.Bools.{decided, below?}
 use Rattle.routes.specs.Said.{Said, accepted, refused}
 use Rattle.sail.specs.Geometry.{bits2, bits3}
 use Rattle.sail.specs.Lent.{Lent}
 use Rattle.sail.specs.Level.{whole}
 use Rattle.sail.specs.Sizes.{sizesFault, Sized}
-use Rattle.sail.specs.Walk.{place, cell1, place2, cell2, place3, cell3, hopSaid, stepSaid, oneOf, shut, walkSaid, foundSaid, lookupSaid}
+use Rattle.standing.specs.Served.{hopSaid}
+use Rattle.sail.specs.Walk.{cellPlace, cell1, place2, cell2, place3, cell3, stepSaid, oneOf, shut, walkSaid, foundSaid, lookupSaid}
 use Rattle.sail.specs.Reads.{Leads, ReadsFirst, ReadsSecond, ReadsThird, One, Reads, one, two, three, SameRead}
 use Rattle.sail.specs.declared.geometry.Geometry.{Geometry}
 use Rattle.sail.specs.declared.table.Table.{Table}
@@ -132,12 +133,12 @@ module _ (g : Geometry) (l u : Lent) (a : ℕ) (same : SameRead g l u a) where
 
   same2 : Leads (cell1 g (whole l) a) (length (l .own2)) → cell2 g (whole u) a ≡ cell2 g (whole l) a
   same2 d =
-      ap (λ (v : ℕ). getD (u .second) (place (bits2 g) v (slot (g .p2) a)) 0) same1
+      ap (λ (v : ℕ). getD (u .second) (cellPlace (bits2 g) v (slot (g .p2) a)) 0) same1
       ∙ same .second (place2 g (whole l) a) (record { goes = d; there = refl })
 
   same3 : Leads (cell1 g (whole l) a) (length (l .own2)) → Leads (cell2 g (whole l) a) (length (l .own3)) → cell3 g (whole u) a ≡ cell3 g (whole l) a
   same3 d d′ =
-      ap (λ (v : ℕ). getD (u .third) (place (bits3 g) v a) 0) (same2 d)
+      ap (λ (v : ℕ). getD (u .third) (cellPlace (bits3 g) v a) 0) (same2 d)
       ∙ same .third (place3 g (whole l) a) (record { goes = d; on = d′; there = refl })
 
   found-same : foundSaid g u a ≡ foundSaid g l a

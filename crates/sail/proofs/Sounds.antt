@@ -12,19 +12,21 @@ use borrow.Author.Tests.{le-leb, lt-leb, eq-eqb, eqb-true}
 use Rattle.bits.specs.Slot.{slot}
 use Rattle.bits.specs.Count.{bit}
 use Rattle.bits.proofs.Slots.{slot-lt}
-use Rattle.bits.proofs.Tests.{both, decided}
+use Rattle.bits.proofs.Bools.{both, decided}
 use Rattle.routes.specs.Route.{Good}
 use Rattle.standing.specs.Cells.{covers, long, best, need}
 use Rattle.routes.specs.Record.{routesOf}
 use Rattle.routes.specs.Said.{accepted}
 use Rattle.routes.specs.declared.Route.{Route}
 use Rattle.standing.proofs.Only.{none-covers, covers-none}
+use Rattle.standing.proofs.Served.{none-hop}
 use Rattle.routes.proofs.Rows.{records-good}
 use Rattle.counts.specs.Counts.{howMany}
 use Rattle.sail.specs.Lent.{Lent}
 use Rattle.sail.specs.Level.{whole, chunksOf, level2, level3}
 use Rattle.sail.specs.Sizes.{sizesFault}
-use Rattle.sail.specs.Walk.{oneOf, hopSaid, foundSaid, lookupSaid, lastCell, cell1, place2, walkCounts}
+use Rattle.standing.specs.Served.{hopSaid}
+use Rattle.sail.specs.Walk.{oneOf, foundSaid, lookupSaid, lastCell, cell1, place2, walkCounts}
 use Rattle.sail.specs.Reads.{ReadsFirst, ReadsSecond, ReadsThird}
 use Rattle.sail.specs.Sound.{standing, Sound, cellsRead, used}
 use Rattle.sail.specs.declared.geometry.Geometry.{Geometry}
@@ -40,10 +42,6 @@ hop-none n h e = go (decided (eqb h 0)) e
     go : (eqb h 0 ≡ true) ⊎ (eqb h 0 ≡ false) → cond (eqb h 0) (accepted (n ∷ [])) (accepted (n ∷ h ∷ [])) ≡ accepted (n ∷ []) → h ≡ 0
     go (inl q) e = eqb-true h 0 q
     go (inr q) e = let f : accepted (n ∷ h ∷ []) ≡ accepted (n ∷ []) = rw q at e in cc
-
-none-hop : (n : ℕ) → hopSaid n 0 ≡ accepted (n ∷ [])
-unfolding hopSaid
-none-hop n = refl
 
 bit-le : (b : Bool) → bit b ≤ 1
 bit-le true = omega arith
@@ -108,7 +106,8 @@ module _ (t : Table) (l : Lent) (s : Sound t l) where
   pub second-served : (q : ℕ) → q < length (l .second) → level2 g (chunksOf (l .own2)) .live q ≡ true → (a : ℕ) × (a < 2 ^ 32) × ReadsSecond g (whole l) a q
   second-served q h e = second-read rs g (whole l) (s .sized .valid) standing-good (s .serves) few2 q (rw (s .sized .cells2) at h) e
 
-  pub third-served : (q : ℕ) → q < length (l .third) → level3 g (chunksOf (l .own2)) (chunksOf (l .own3)) .live q ≡ true → (a : ℕ) × (a < 2 ^ 32) × ReadsThird g (whole l) a q
+  pub third-served : (q : ℕ) → q < length (l .third) → level3 g (chunksOf (l .own2)) (chunksOf (l .own3)) .live q ≡ true → (a : ℕ) × (a < 2 ^ 32)
+      × ReadsThird g (whole l) a q
   third-served q h e = third-read rs g (whole l) (s .sized .valid) standing-good (s .serves) few2 few3 q (rw (s .sized .cells3) at h) e
 
   -- the counts on the walk of an address are how many routes longer than each level have its bits

@@ -1,4 +1,4 @@
--- The walk step by step, as the code takes it. Assumes nothing.
+-- The walk step by step, as the code takes it.
 use mathlib.Core.Path.{_≡_, refl, sym, ap, _∙_}
 use mathlib.Core.Bool.{Bool, true, false, not}
 use mathlib.Core.Logic.{_⊎_, inl, inr}
@@ -12,46 +12,55 @@ use lib.Pow.{pow-pos, pow-mono, shl-exact}
 use borrow.Author.Tests.{leb-true, le-leb, lt-leb, lt-ltb, le-ltb, eq-eqb, ne-eqb}
 use Rattle.bits.specs.Slot.{slot}
 use Rattle.bits.proofs.Slots.{shl-one, slot-lt}
-use Rattle.bits.proofs.Tests.{and-split, below?}
+use Rattle.bits.proofs.Bools.{and-split, below?}
 use Rattle.routes.specs.Said.{Said, refused}
 use Rattle.sail.specs.Geometry.{bits2, bits3}
 use Rattle.sail.specs.Lent.{Lent}
 use Rattle.sail.specs.Level.{whole}
 use Rattle.sail.specs.Sizes.{sizesFault, Sized, SizesTold}
-use Rattle.sail.specs.Pool.{Inside, Chunk}
-use Rattle.sail.specs.Walk.{place, cell2, cell3, leafSaid, stepSaid, oneOf, shut, walkSaid, foundSaid, lookupSaid}
+use Rattle.sail.specs.Pool.{Numbered, SecondChunk, Chunk}
+use Rattle.sail.specs.Walk.{cellPlace, cell2, cell3, leafSaid, stepSaid, oneOf, shut, walkSaid, foundSaid, lookupSaid}
 use Rattle.sail.specs.Word.{Word, saidOf}
 use Rattle.sail.specs.declared.geometry.Geometry.{Geometry}
 use Rattle.sail.specs.declared.table.Table.{Table}
 use Rattle.sail.proofs.Words.{word-of, word-five}
 
--- the place lies in the pool
-pub place-in : (m n c k i : ℕ) → Chunk m n c k → place k c i < m
-place-in m n c k i h =
-    let a : (c - 1) * 2 ^ k + i % 2 ^ k < n * 2 ^ k = digits-lt (omega arith) (mod-lt i (pow-pos k)) in
-    omega arith
+-- a place lies among its chunks
+pub place-lt : (n c k i : ℕ) → 1 ≤ c → c ≤ n → cellPlace k c i < n * 2 ^ k
+place-lt n c k i a b = digits-lt (omega arith) (mod-lt i (pow-pos k))
 
--- where a chunk begins, by a shift
-pub begin-is : (c k : ℕ) → c ≤ 4096 → k ≤ 10 → (c - 1) * 2 ^ k % 2 ^ 64 ≡ (c - 1) * 2 ^ k
-begin-is c k h l = shl-exact 12 k 64 (omega arith) (omega arith)
+pub place-in : (m n c k i : ℕ) → Chunk m n c k → cellPlace k c i < m
+place-in m n c k i h = omega (arith, place-lt n c k i (h .one) (h .last))
 
-pub place-fits : (c k x : ℕ) → Inside c k x → (c - 1) * 2 ^ k % 2 ^ 64 + x < 2 ^ 64
-place-fits c k x h =
-    let a : (c - 1) * 2 ^ k + x < 4096 * 2 ^ k = digits-lt (omega arith) (h .inside) in
-    omega (arith, begin-is c k (h .last) (h .size), mul-le-mul-left 4096 (pow-mono (h .size)))
+-- a place, by shifts
+module _ (c d i : ℕ) (h : Numbered c d) where
+  size-is : 1 * 2 ^ d % 2 ^ 64 ≡ 2 ^ d
+  size-is = shl-one 64 d (omega arith)
 
--- a place in a chunk, by a remainder
-pub inside-is : (c k i : ℕ) → 1 ≤ c → c ≤ 4096 → k ≤ 10 → Inside c k (i % (1 * 2 ^ k % 2 ^ 64))
-inside-is c k i a b h = record { one = a; last = b; size = h; inside = rw (shl-one 64 k (omega arith)) (mod-lt i (pow-pos k)) }
+  start-is : (c - 1) * 2 ^ d % 2 ^ 64 ≡ (c - 1) * 2 ^ d
+  start-is = shl-exact 32 d 64 (omega arith) (omega arith)
 
-pub size-some : (k : ℕ) → k ≤ 10 → 0 < 1 * 2 ^ k % 2 ^ 64
-size-some k h = omega (arith, shl-one 64 k (omega arith), pow-pos k)
+  pub size-some : 0 < 1 * 2 ^ d % 2 ^ 64
+  size-some = omega (arith, size-is, pow-pos d)
 
-pub place-is : (c k i r : ℕ) → k ≤ 10 → r ≡ (c - 1) * 2 ^ k + i % (1 * 2 ^ k % 2 ^ 64) → r ≡ place k c i
-place-is c k i r h e = e ∙ ap (λ (y : ℕ). (c - 1) * 2 ^ k + i % y) (shl-one 64 k (omega arith))
+  pub place-is : ((c - 1) * 2 ^ d % 2 ^ 64 + i % (1 * 2 ^ d % 2 ^ 64) ≡ cellPlace d c i)
+      × ((c - 1) * 2 ^ d % 2 ^ 64 + i % (1 * 2 ^ d % 2 ^ 64) < 281474976710656)
+  place-is =
+      let e : (c - 1) * 2 ^ d % 2 ^ 64 + i % (1 * 2 ^ d % 2 ^ 64) ≡ cellPlace d c i = rw (start-is, size-is) in
+      (e, omega (arith, e, place-lt 4294967296 c d i (h .one) (h .few), mul-le-mul-left 4294967296 (pow-mono (h .size))))
 
-pub reads-in : (m n c k i r : ℕ) → Chunk m n c k → r ≡ (c - 1) * 2 ^ k + i % (1 * 2 ^ k % 2 ^ 64) → r < m
-reads-in m n c k i r h e = omega (arith, place-is c k i r (h .size) e, place-in m n c k i h)
+pub chunk-numbered : (m n c k : ℕ) → Chunk m n c k → Numbered c k
+chunk-numbered m n c k h = record { one = h .one; few = omega arith; size = omega arith }
+
+-- the second cell of an address
+module _ (g : Geometry) (c : ℕ) (h : SecondChunk g c) where
+  pub second-numbered : Numbered c (bits2 g)
+  second-numbered = let v = h .valid in record { one = h .one; few = omega arith; size = omega arith }
+
+  pub second-is : (a i r : ℕ) → i ≡ slot (g .p2) a → r ≡ cellPlace (bits2 g) c i → (r ≡ cellPlace (bits2 g) c (slot (g .p2) a)) × (r < 67108864)
+  second-is a i r e f =
+      let z = mul-le-mul-left 65536 (pow-mono (h .valid .near)) in
+      (f ∙ ap (cellPlace (bits2 g) c) e, omega (arith, f, place-lt 65536 c (bits2 g) i (h .one) (h .few)))
 
 -- a chunk's number
 pub named : (m v : ℕ) → oneOf m v ≡ true → (1 ≤ v) × (v ≤ m)
@@ -100,12 +109,13 @@ wraps-below m v r e f g = go (below? r m) (below? r (2 ^ 64 - 1))
 
 -- the code's three cells: the first by the address's first bits, the second and the third by their places in the pools
 module _ (g : Geometry) (l : Lent) (a : ℕ) (sized : Sized g l) where
-  steps : (v1 v2 v3 : ℕ) → v1 ≡ getD (l .first) (slot (g .p1) a) 0 → v2 ≡ getD (l .second) (place (bits2 g) v1 (slot (g .p2) a)) 0 → v3 ≡ getD (l .third) (place (bits3 g) v2 a) 0
+  steps : (v1 v2 v3 : ℕ) → v1 ≡ getD (l .first) (slot (g .p1) a) 0 → v2 ≡ getD (l .second) (cellPlace (bits2 g) v1 (slot (g .p2) a)) 0 → v3 ≡ getD
+      (l .third) (cellPlace (bits3 g) v2 a) 0
       → stepSaid 1 (oneOf (length (l .own2))) v1 (stepSaid 2 (oneOf (length (l .own3))) v2 (stepSaid 3 shut v3 (refused 5))) ≡ foundSaid g l a
   unfolding foundSaid walkSaid
   steps v1 v2 v3 e1 e2 e3 =
-      let q2 : v2 ≡ cell2 g (whole l) a = e2 ∙ ap (λ (x : ℕ). getD (l .second) (place (bits2 g) x (slot (g .p2) a)) 0) e1 in
-      let q3 : v3 ≡ cell3 g (whole l) a = e3 ∙ ap (λ (x : ℕ). getD (l .third) (place (bits3 g) x a) 0) q2 in
+      let q2 : v2 ≡ cell2 g (whole l) a = e2 ∙ ap (λ (x : ℕ). getD (l .second) (cellPlace (bits2 g) x (slot (g .p2) a)) 0) e1 in
+      let q3 : v3 ≡ cell3 g (whole l) a = e3 ∙ ap (λ (x : ℕ). getD (l .third) (cellPlace (bits3 g) x a) 0) q2 in
       cc
 
   module _ (v1 : ℕ) (e1 : v1 ≡ getD (l .first) (slot (g .p1) a) 0) where
@@ -116,8 +126,9 @@ module _ (g : Geometry) (l : Lent) (a : ℕ) (sized : Sized g l) where
       pub off1 : not b1 ≡ true → Word 5 (foundSaid g l a)
       off1 n = word-five _ (step-off 1 _ v1 _ low1 (closed b1 _ o1 n) ∙ steps v1 _ _ e1 refl refl)
 
-      module _ (on1 : not b1 ≡ false) (v2 : ℕ) (e2 : v2 ≡ getD (l .second) (place (bits2 g) v1 (slot (g .p2) a)) 0) where
-        down1 : (v3 : ℕ) → v3 ≡ getD (l .third) (place (bits3 g) v2 a) 0 → stepSaid 2 (oneOf (length (l .own3))) v2 (stepSaid 3 shut v3 (refused 5)) ≡ foundSaid g l a
+      module _ (on1 : not b1 ≡ false) (v2 : ℕ) (e2 : v2 ≡ getD (l .second) (cellPlace (bits2 g) v1 (slot (g .p2) a)) 0) where
+        down1 : (v3 : ℕ) → v3 ≡ getD (l .third) (cellPlace (bits3 g) v2 a) 0 → stepSaid 2 (oneOf (length (l .own3))) v2
+            (stepSaid 3 shut v3 (refused 5)) ≡ foundSaid g l a
         down1 v3 e3 = step-on 1 _ v1 _ low1 (opened b1 _ o1 on1) ∙ steps v1 v2 v3 e1 e2 e3
 
         pub leaf2 : (w : ℕ) → 32768 ≤ v2 → Word w (leafSaid 2 v2) → Word w (foundSaid g l a)
@@ -127,7 +138,7 @@ module _ (g : Geometry) (l : Lent) (a : ℕ) (sized : Sized g l) where
           pub off2 : not b2 ≡ true → Word 5 (foundSaid g l a)
           off2 n = word-five _ (step-off 2 _ v2 _ low2 (closed b2 _ o2 n) ∙ down1 _ refl)
 
-          module _ (on2 : not b2 ≡ false) (v3 : ℕ) (e3 : v3 ≡ getD (l .third) (place (bits3 g) v2 a) 0) where
+          module _ (on2 : not b2 ≡ false) (v3 : ℕ) (e3 : v3 ≡ getD (l .third) (cellPlace (bits3 g) v2 a) 0) where
             down2 : stepSaid 3 shut v3 (refused 5) ≡ foundSaid g l a
             down2 = step-on 2 _ v2 _ low2 (opened b2 _ o2 on2) ∙ down1 v3 e3
 

@@ -11,7 +11,7 @@ use lib.Pow.{shl-lt, shl-shr}
 use borrow.Author.Tests.{le-leb, lt-leb}
 use Rattle.bits.specs.Slot.{slot}
 use Rattle.bits.specs.Count.{bit, count}
-use Rattle.bits.proofs.Tests.{decided}
+use Rattle.bits.proofs.Bools.{decided}
 use Rattle.bits.proofs.Slots.{slot-lt, slot-up}
 use Rattle.routes.specs.Route.{Good}
 use Rattle.standing.specs.Cells.{long, best, need}
@@ -21,7 +21,8 @@ use Rattle.standing.proofs.Levels.{best-slot}
 use Rattle.sail.specs.Geometry.{bits2, bits3, Valid}
 use Rattle.sail.specs.Level.{Level, View, always, itself, inUse, level1, level2, level3}
 use Rattle.sail.specs.Sound.{Serves}
-use Rattle.sail.specs.Walk.{place, cell1, place2, cell2, place3, cell3, lastCell, hopSaid, stepSaid, shut, walkSaid}
+use Rattle.standing.specs.Served.{hopSaid}
+use Rattle.sail.specs.Walk.{cellPlace, cell1, place2, cell2, place3, cell3, lastCell, stepSaid, shut, walkSaid}
 use Rattle.sail.specs.Reads.{Leads, ReadsSecond, ReadsThird}
 use Rattle.sail.proofs.Steps.{step-leaf, step-on}
 use Rattle.sail.specs.declared.geometry.Geometry.{Geometry}
@@ -33,10 +34,10 @@ leads h g = record { low = omega arith; one = g .0; last = g .1 }
 module _ (rs : List Route) (g : Geometry) (t : View) (valid : Valid g) (good : Good rs) (s : Serves rs g t) where
   -- where the cells of the second and the third level stand in their pools, from the cells above them
   find2 : ℕ → ℕ
-  find2 i = place (bits2 g) (t .first (i / 2 ^ bits2 g)) i
+  find2 i = cellPlace (bits2 g) (t .first (i / 2 ^ bits2 g)) i
 
   find3 : ℕ → ℕ
-  find3 i = place (bits3 g) (t .second (find2 (i / 2 ^ bits3 g))) i
+  find3 i = cellPlace (bits3 g) (t .second (find2 (i / 2 ^ bits3 g))) i
 
   reach2 : ℕ → Bool
   reach2 i = long rs (g .p1) (i / 2 ^ bits2 g)

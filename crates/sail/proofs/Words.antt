@@ -1,13 +1,14 @@
--- A lookup's word: of a leaf, of a refusal, and read back. Assumes nothing.
+-- A lookup's word: of a leaf, of a refusal, and read back.
 use mathlib.Core.List.{[], _∷_}
 use mathlib.Core.Logic.{_⊎_, inl, inr}
 use mathlib.Core.Path.{_≡_, refl, ap, _∙_}
 use Prim.Native.Nat.{ℕ, _+_, _-_, _*_, _/_, _%_, _≤_, _<_}
 use native.Mathlib.Omega.{arith}
 use borrow.Author.Tests.{eq-eqb, ne-eqb}
-use Rattle.bits.proofs.Tests.{below?}
+use Rattle.bits.proofs.Bools.{below?}
 use Rattle.routes.specs.Said.{Said, accepted, refused}
-use Rattle.sail.specs.Walk.{hopSaid, leafSaid}
+use Rattle.standing.specs.Served.{hopSaid}
+use Rattle.sail.specs.Walk.{leafSaid}
 use Rattle.sail.specs.Word.{packed, packFound, saidOf, Word}
 
 pub word-of : (w : ℕ) (s t : Said) → s ≡ t → Word w s → Word w t

@@ -3,9 +3,9 @@
 use mathlib.Core.Path.{_≡_}
 use Prim.Native.Nat.{ℕ}
 use Rattle.sail.specs.Lent.{Lent}
-use Rattle.sail.specs.Walk.{lookupSaid, saysFound}
+use Rattle.sail.specs.Walk.{lookupSaid, meansFound}
 use Rattle.sail.specs.declared.table.Table.{Table}
 use Rattle.sail.specs.declared.lookup.Found.{Found}
 
 abbrev pub MeetsLookup : Table → Lent → ℕ → Found → Type 0
-MeetsLookup t l addr r = saysFound r ≡ lookupSaid t l addr
+MeetsLookup t l addr r = meansFound r ≡ lookupSaid t l addr

@@ -1,4 +1,4 @@
--- The two levels of a table, their limits, and the sizes that follow. Assumes nothing.
+-- The two levels of a table, their limits, and the sizes that follow.
 use Prim.Native.Nat.{ℕ, _-_, _^_, _≤_, _<_}
 use mathlib.Core.Bool.{Bool, _&&_}
 use mathlib.Core.Path.{_≡_}

@@ -1,12 +1,12 @@
 -- What lookup says, of any state, arrays and address, damaged tables too; and the counts on its walk.
 use mathlib.Core.Bool.{Bool, false, _&&_, cond}
 use mathlib.Core.List.{List, [], _∷_}
-use mathlib.Core.Path.{_≡_}
-use Prim.Native.Nat.{ℕ, _+_, _-_, _*_, _%_, _^_, _≤_, _<_}
+use Prim.Native.Nat.{ℕ, _+_, _-_, _*_, _%_, _^_}
 use lib.Dec.{eqb, leb}
 use lib.ListN.{length, getD}
 use Rattle.bits.specs.Slot.{slot}
 use Rattle.routes.specs.Said.{Said, refused, hopAfter, noRouteAfter}
+use Rattle.standing.specs.Served.{hopSaid}
 use Rattle.sail.specs.Geometry.{bits2, bits3}
 use Rattle.sail.specs.Lent.{Lent}
 use Rattle.sail.specs.Level.{View, whole}
@@ -18,8 +18,8 @@ use Rattle.sail.specs.declared.lookup.Found.the-variants.{Hop, NoRoute, 
 
 -- "Chunk c begins at cell (c - 1) times the chunk size": the place, in a pool of chunks of 2 ^ d cells, of the cell in chunk c that
 -- serves cell i of its level
-abbrev pub place : ℕ → ℕ → ℕ → ℕ
-place d c i = (c - 1) * 2 ^ d + i % 2 ^ d
+abbrev pub cellPlace : ℕ → ℕ → ℕ → ℕ
+cellPlace d c i = (c - 1) * 2 ^ d + i % 2 ^ d
 
 -- the cells that the walk for the address a may read, and where the second and the third stand in their pools
 module _ (g : Geometry) (t : View) (a : ℕ) where
@@ -27,13 +27,13 @@ module _ (g : Geometry) (t : View) (a : ℕ) where
   cell1 = t .first (slot (g .p1) a)
 
   abbrev pub place2 : ℕ
-  place2 = place (bits2 g) cell1 (slot (g .p2) a)
+  place2 = cellPlace (bits2 g) cell1 (slot (g .p2) a)
 
   abbrev pub cell2 : ℕ
   cell2 = t .second place2
 
   abbrev pub place3 : ℕ
-  place3 = place (bits3 g) cell2 a
+  place3 = cellPlace (bits3 g) cell2 a
 
   abbrev pub cell3 : ℕ
   cell3 = t .third place3
@@ -49,10 +49,6 @@ unfoldable pub walkCounts : Geometry → Lent → ℕ → List ℕ
 walkCounts g l a =
     getD (l .long1) (slot (g .p1) a) 0
     ∷ cond (leb 32768 (cell1 g (whole l) a)) [] (getD (l .long2) (place2 g (whole l) a) 0 ∷ [])
-
--- after n cells were read: n and the hop; n alone where the hop is 0, which is no route
-unfoldable pub hopSaid : ℕ → ℕ → Said
-hopSaid n h = cond (eqb h 0) (noRouteAfter n) (hopAfter n h)
 
 -- "A cell with its top bit set is a leaf: the low 15 bits are the hop, 0 for no route"
 abbrev pub leafSaid : ℕ → ℕ → Said
@@ -88,7 +84,7 @@ lookupSaid t l a =
     (refused (sizesFault (t .geometry) l))
 
 -- what the code's answer says
-unfoldable pub saysFound : Found → Said
-saysFound (Hop h n) = hopAfter n h
-saysFound (NoRoute n) = noRouteAfter n
-saysFound (Refused k) = refused k
+unfoldable pub meansFound : Found → Said
+meansFound (Hop h n) = hopAfter n h
+meansFound (NoRoute n) = noRouteAfter n
+meansFound (Refused k) = refused k

@@ -1,12 +1,12 @@
 -- What a lookup says as one number, which fits 32 bits. A refusal is packed the same everywhere (`packed`).
 use mathlib.Core.Bool.{cond}
 use mathlib.Core.Path.{_≡_}
-use Prim.Native.Nat.{ℕ, _+_, _*_, _/_, _%_, _^_}
+use Prim.Native.Nat.{ℕ, _+_, _*_, _/_, _%_}
 use lib.Dec.{eqb}
 use Rattle.routes.specs.Said.{Said, refused}
 unfoldable pub use Rattle.routes.specs.Said.{packed}
 pub use Rattle.routes.specs.Said.{value}
-use Rattle.sail.specs.Walk.{hopSaid}
+use Rattle.standing.specs.Served.{hopSaid}
 
 -- a lookup's reads in bits 8 to 15, its hop in 16 to 31
 abbrev pub packFound : Said → ℕ

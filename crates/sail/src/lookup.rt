@@ -1,14 +1,15 @@
 // Lookup: the walk from a first cell down to a leaf, in any table.
 ghost use mathlib.Core.Path.{_≡_};
-ghost use Prim.Native.Nat.{_+_, _-_, _*_, _^_, _≤_};
+ghost use Prim.Native.Nat.{_≤_};
 ghost use lib.ListN.{length, getD};
 ghost use Rattle.sail.specs.Lent.{lent};
 ghost use Rattle.sail.specs.Sizes.{Sized};
-ghost use Rattle.sail.specs.Pool.{Inside, Chunk};
-ghost use Rattle.sail.specs.Walk.{place, oneOf, leafSaid, foundSaid, saysFound};
+ghost use Rattle.sail.specs.Pool.{Chunk};
+ghost use Rattle.sail.specs.Walk.{cellPlace, oneOf, leafSaid, foundSaid, meansFound};
 ghost use Rattle.sail.specs.Contract.{MeetsLookup};
 ghost use Rattle.sail.specs.Word.{Word, saidOf};
 use crate::geometry::Geometry;
+use crate::place::cell_place;
 use crate::table::Table;
 
 // What a lookup finds: a hop or no route, each with the count of cells read; or a refusal's number.
@@ -33,20 +34,12 @@ fn opens(v: u16, chunks: usize) -> bool
     std::num::wrapping_sub_usize(v as usize, 1) < chunks
 }
 
-// The place of cell x of chunk c, where a chunk has 2^k cells.
-fn place(c: u16, k: u32, x: usize) -> usize
-    requires { ⌜ Inside c k x ⌝ }
-    ensures { λ r. ⌜ r ≡ (c - 1) * 2 ^ k + x ⌝ }
-{
-    (((c as usize) - 1) << k) + x
-}
-
 // The cell in chunk c, of a pool of so many chunks of 2^k cells, that serves cell i of its level.
 fn cell(pool: &[u16], chunks: usize, c: u16, k: u32, i: u32) -> u16
     requires { ⌜ Chunk (length (now pool)) chunks c k ⌝ }
-    ensures { λ r. ⌜ r ≡ getD (now (pool .entry)) (place k c i) 0 ⌝ }
+    ensures { λ r. ⌜ r ≡ getD (now (pool .entry)) (cellPlace k c i) 0 ⌝ }
 {
-    let at = place(c, k, (i as usize) % (1 << k));
+    let at = cell_place(c as usize, k, i as usize);
     pool[at]
 }
 
@@ -91,7 +84,7 @@ pub fn walk(
 
 // What a word says.
 fn said(w: u32) -> Found
-    ensures { λ r. ⌜ saysFound r ≡ saidOf w ⌝ }
+    ensures { λ r. ⌜ meansFound r ≡ saidOf w ⌝ }
 {
     if w % 256 != 0 {
         return Found::Refused((w % 256) as u8);

@@ -19,7 +19,7 @@ use Rattle.standing.proofs.Changed.{insert-adds}
 use Rattle.standing.proofs.Standing.{insert-long}
 use Rattle.counts.specs.Counts.{OneMore}
 use Rattle.counts.proofs.Changed.{many-insert, many-replace}
-use Rattle.lists.specs.Edit.{Insertable, Edited, edited, inserted, inserting, saysPut, countWith, Holds}
+use Rattle.lists.specs.Edit.{Insertable, Edited, edited, inserted, inserting, meansPut, countWith, ListHolds}
 use Rattle.lists.specs.declared.edit.Put.{Put}
 use Rattle.lists.proofs.EditHolds.{insert-count, insert-holds}
 use Rattle.sail.specs.Geometry.{bits2, Valid}
@@ -29,23 +29,23 @@ use Rattle.sail.specs.declared.geometry.Geometry.{Geometry}
 use Rattle.sail.specs.declared.table.Table.{Table}
 use Rattle.sail.proofs.Sounds.{standing-good}
 use Rattle.sail_theory.specs.Render.{find}
-use Rattle.sail_theory.specs.Calls.{opening, route, announceSaid, Out, out, adding, told, announced}
+use Rattle.sail_theory.specs.Calls.{opening, route, announceSaid, Out, out, adding, outWithFlag, announced}
 use Rattle.sail.specs.Level.{chunksOf, level1, level2}
-use Rattle.sail_theory.specs.Facts.{Welcome}
-use Rattle.sail_theory.proofs.Accepted.{adding-is}
-use Rattle.sail_theory.proofs.Changes.{ready1, welcome-fits2}
-use Rattle.sail_theory.proofs.Grown.{length-open}
-use Rattle.sail_theory.proofs.Pools.{length-pool, pool-shows}
-use Rattle.sail_theory.proofs.Cleared.{announce-off}
+use Rattle.sail_theory.specs.Facts.{Announceable}
+use Rattle.sail_theory.proofs.calls.Outcomes.{adding-is}
+use Rattle.sail_theory.proofs.calls.ChangeHolds.{ready1, welcome-fits2}
+use Rattle.sail_theory.proofs.owners.OpenAt.{length-open}
+use Rattle.sail_theory.proofs.places.Pools.{length-pool, pool-shows}
+use Rattle.sail_theory.proofs.calls.Cleared.{announce-off}
 use Rattle.sail_paint.specs.Stale.{Repainted, AsAsked}
 use Rattle.sail_paint.specs.Pending.{Pending}
-use Rattle.sail_change.specs.Opening.{Openable}
-use Rattle.sail_change.proofs.Opened.{openable, welcome-underway}
-use Rattle.sail_change.proofs.Underway.{underway-stale, underway-asked}
-use Rattle.sail_calls.specs.Judge.{Judged}
+use Rattle.sail_chunks.specs.ToOpen.{Openable}
+use Rattle.sail_chunks.proofs.AnnounceUnderway.{openable, welcome-underway}
+use Rattle.sail_chunks.proofs.Underway.{underway-stale, underway-asked}
+use Rattle.sail_theory.specs.Judge.{Judged}
 use Rattle.sail_counts.specs.Counted.{Counts}
 use Rattle.sail_counts.proofs.Tallies.{Guided, up-tickable, up-counts, open-counts, as-counts, counts-are}
-use Rattle.sail_announce.specs.Answers.{saysAnnounce}
+use Rattle.sail_announce.specs.Answers.{meansAnnounce}
 use Rattle.sail_announce.specs.Booked.{Bookable, Booked, more, same}
 use Rattle.sail_announce.specs.declared.answers.Announce.{Announce}
 use Rattle.sail_announce.specs.declared.answers.Announce.the-variants as announce
@@ -53,17 +53,18 @@ use Rattle.sail_announce.specs.declared.answers.Announce.the-variants as
 -- The address x is cut to its length before the route is judged.
 module _ (t : Table) (l : Lent) (a len hop mark x : ℕ) (e : x ≡ cut len a) where
   -- a refusal leaves all as it was
-  pub announce-refused : (z : ℕ) → Judged z (announceSaid t l (route x len hop mark)) (Welcome t l (route x len hop mark)) → (z ≡ 0 → ⊥)
-      → out (saysAnnounce (announce.Refused z)) t l ≡ announced t l (route a len hop mark)
-  unfolding saysAnnounce
+  pub announce-refused : (z : ℕ) → Judged z (announceSaid t l (route x len hop mark)) (Announceable t l (route x len hop mark)) → (z ≡ 0 → ⊥)
+      → out (meansAnnounce (announce.Refused z)) t l ≡ announced t l (route a len hop mark)
+  unfolding meansAnnounce
   announce-refused z k h = sym (announce-off t l (route a len hop mark) (refused z) (rw e at (k .off h)) refl)
 
   -- what is added is the cleared route, and bits were cleared where the address is another
-  pub announce-cleared : (c : Bool) → c ≡ not (eqb x a) → (o : Out) → o ≡ told c (adding t l (route x len hop mark)) → o ≡ announced t l (route a len hop mark)
+  pub announce-cleared : (c : Bool) → c ≡ not (eqb x a) → (o : Out) → o ≡ outWithFlag c (adding t l (route x len hop mark)) → o ≡ announced t l
+      (route a len hop mark)
   unfolding announced
   announce-cleared c f o q = q ∙ rw (f, e)
 
-module _ (t : Table) (l : Lent) (r : Route) (w : Welcome t l r) where
+module _ (t : Table) (l : Lent) (r : Route) (w : Announceable t l r) where
   abbrev g : Geometry
   g = t .geometry
 
@@ -90,8 +91,8 @@ module _ (t : Table) (l : Lent) (r : Route) (w : Welcome t l r) where
   add-few = w .sound .listed .records .few
 
   -- s is the list with the route put in, and m the number of routes in it
-  module _ (p : Put) (s : List ℕ) (e : edited (saysPut p) s ≡ inserting (l .list) (t .count) r) (m : ℕ) (k : m ≡ countWith (saysPut p) (t .count)) where
-    stood : saysPut p ≡ stands (key r) rs
+  module _ (p : Put) (s : List ℕ) (e : edited (meansPut p) s ≡ inserting (l .list) (t .count) r) (m : ℕ) (k : m ≡ countWith (meansPut p) (t .count)) where
+    stood : meansPut p ≡ stands (key r) rs
     stood = ap (λ (x : Edited). x .stood) e
 
     list-is : s ≡ inserted (l .list) (t .count) r
@@ -100,7 +101,7 @@ module _ (t : Table) (l : Lent) (r : Route) (w : Welcome t l r) where
     count-is : m ≡ length (insert r rs)
     count-is = k ∙ rw stood (sym (rw length-routes at (insert-count r rs (standing-good t l (w .sound)))))
 
-    holds : Holds s m (insert r rs)
+    holds : ListHolds s m (insert r rs)
     holds =
         let few : length (l .list) / 8 ≤ 4096 = omega (arith, w .sound .sized .room) in
         let c : m ≡ countWith (stands (key r) rs) (t .count) = rw stood at k in
@@ -143,7 +144,8 @@ module _ (t : Table) (l : Lent) (r : Route) (w : Welcome t l r) where
         }
 
         before : Counts rs g own2′ (l .long1) (l .long2)
-        before = open-counts g valid rs (l .own2) (l .long1) (l .long2) (record { first = w .sound .counted1; second = w .sound .counted2 }) r (find (l .own2) 0)
+        before = open-counts g valid rs (l .own2) (l .long1) (l .long2) (record { first = w .sound .counted1; second = w .sound .counted2 }) r
+            (find (l .own2) 0)
             (ready1 t l r w)
 
         -- one more record exactly where the prefix did not stand
@@ -174,11 +176,13 @@ module _ (t : Table) (l : Lent) (r : Route) (w : Welcome t l r) where
                   up-counts g (insert r rs) (r .addr) (r .len) first own2′ (l .long1) (l .long2) guided rs (insert r rs) (new e) before long1 long2 left moved
               go (same e a b) =
                   rw (a, b)
-                  (as-counts g valid rs own2′ (l .long1) (l .long2) before (insert r rs) (many-replace r rs (w .fine) good (not-false (stands (key r) rs) (sym added-is ∙ e))))
+                  (as-counts g valid rs own2′ (l .long1) (l .long2) before (insert r rs)
+                  (many-replace r rs (w .fine) good (not-false (stands (key r) rs) (sym added-is ∙ e))))
 
-          module _ (n : Announce) (c : Bool) (q : saysAnnounce n ≡ accepted (bit c ∷ bit (saysPut p) ∷ [])) where
-            pub add-done : out (saysAnnounce n) (record { geometry = g; count = m }) (lent s first second third own2 own3 long1 long2) ≡ told c (adding t l r)
+          module _ (n : Announce) (c : Bool) (q : meansAnnounce n ≡ accepted (bit c ∷ bit (meansPut p) ∷ [])) where
+            pub add-done : out (meansAnnounce n) (record { geometry = g; count = m }) (lent s first second third own2 own3 long1 long2)
+                ≡ outWithFlag c (adding t l r)
             add-done =
                 let are = counts-are g valid (insert r rs) own2′ long1 long2 counts (e1 ∙ w .sound .sized .counts1) (e2 ∙ many2) in
                 rw (q, stood, count-is, list-is, asked .is-first, asked .is-second, asked .is-third, o2, o3, are .0, are .1)
-                (sym (ap (told c) (adding-is t l r w)))
+                (sym (ap (outWithFlag c) (adding-is t l r w)))

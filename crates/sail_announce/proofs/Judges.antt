@@ -1,5 +1,5 @@
 -- What the judges of an announcement answer.
-use mathlib.Core.Path.{_≡_, refl, sym, _∙_}
+use mathlib.Core.Path.{_≡_, sym, _∙_}
 use mathlib.Core.Logic.{_⊎_, inl, inr}
 use mathlib.Core.Bool.{Bool, true, false, not, _&&_, true≢false}
 use mathlib.Core.List.{List}
@@ -10,7 +10,7 @@ use lib.Dec.{ltb, leb}
 use lib.ListN.{length}
 use borrow.Author.Tests.{ltb-true, ltb-false, lt-ltb, le-ltb, lt-leb, le-leb, not-true}
 use Rattle.bits.specs.Slot.{slot}
-use Rattle.bits.proofs.Tests.{decided, below?}
+use Rattle.bits.proofs.Bools.{decided, below?}
 use Rattle.routes.specs.Route.{key, Fine}
 use Rattle.standing.specs.Cells.{long, need}
 use Rattle.routes.specs.Input.{routeFault}
@@ -27,42 +27,46 @@ use Rattle.sail.specs.Level.{chunksOf}
 use Rattle.sail.specs.Sound.{standing, used}
 use Rattle.sail.specs.declared.table.Table.{Table}
 use Rattle.sail_theory.specs.Calls.{announceSaid}
-use Rattle.sail_theory.specs.Facts.{Welcome}
+use Rattle.sail_theory.specs.Facts.{Announceable}
 use Rattle.sail_theory.specs.Cases.{Proper, Roomy, Announce}
-use Rattle.sail_theory.proofs.Only.{announce-only}
-use Rattle.sail_theory.proofs.Accepted.{replaced-welcome}
-use Rattle.sail_theory.proofs.Wants.{Enough, seven as second-chunks, eight as third-chunks}
-use Rattle.sail_theory.proofs.Chunks.{used-le}
-use Rattle.sail_theory.proofs.Needs.{need-more, need-same}
-use Rattle.sail_sound.specs.Test.{Tried}
-use Rattle.sail_change.specs.Chunks.{alone}
-use Rattle.sail_calls.specs.Judge.{Judged}
-use Rattle.sail_change.specs.Opening.{Opens}
-use Rattle.sail_change.specs.declared.opening.Opening.{Opening}
-use Rattle.sail_sound.proofs.Tries.{tried-sound}
-use Rattle.sail_calls.proofs.Judges.{judged-off, judged-on, or-said}
+use Rattle.sail_theory.proofs.calls.OneCase.{announce-only}
+use Rattle.sail_theory.proofs.calls.Outcomes.{replaced-welcome}
+use Rattle.sail_theory.proofs.owners.UsedNeed.{Enough, seven as second-chunks, eight as third-chunks}
+use Rattle.sail_theory.proofs.owners.Chunks.{used-le}
+use Rattle.standing.proofs.NeedAfter.{need-more, need-same}
+use Rattle.sail_sound.specs.TableTest.{Tried}
+use Rattle.sail_chunks.specs.Chunks.{alone}
+use Rattle.sail_theory.specs.Judge.{Judged}
+use Rattle.sail_chunks.specs.ToOpen.{Opens}
+use Rattle.sail_chunks.specs.declared.opening.Opening.{Opening}
+use Rattle.sail_sound.proofs.TableTest.{tried-sound}
+use Rattle.sail_theory.proofs.Judges.{judged-off, judged-on, or-said}
 
 -- a limit that the chunks in use keep is exceeded exactly where a chunk is to be opened and as many as the limit are in use
-over : (rs : List Route) (r : Route) (p : ℕ) (own : List ℕ) → Enough rs p own → Fine r → (limit : ℕ) → used own ≤ limit → (alone rs p (r .addr) (r .len) && leb limit (used own)) ≡ ltb limit (need (insert r rs) p)
+over : (rs : List Route) (r : Route) (p : ℕ) (own : List ℕ) → Enough rs p own → Fine r → (limit : ℕ) → used own ≤ limit →
+    (alone rs p (r .addr) (r .len) && leb limit (used own)) ≡ ltb limit (need (insert r rs) p)
 unfolding alone
 over rs r p own w fine limit h = go (decided (ltb p (r .len))) (decided (long rs p (slot p (r .addr)))) (below? (used own) limit)
   where
     same-need : (ltb p (r .len) ≡ true → long rs p (slot p (r .addr)) ≡ true) → false ≡ ltb limit (need (insert r rs) p)
     same-need f = sym (le-ltb limit (need (insert r rs) p) (omega (arith, w .counted, need-same r rs fine (w .good) p (w .small) f)))
 
-    go : (ltb p (r .len) ≡ true) ⊎ (ltb p (r .len) ≡ false) → (long rs p (slot p (r .addr)) ≡ true) ⊎ (long rs p (slot p (r .addr)) ≡ false) → (used own < limit) ⊎ (limit ≤ used own)
+    go : (ltb p (r .len) ≡ true) ⊎ (ltb p (r .len) ≡ false) → (long rs p (slot p (r .addr)) ≡ true) ⊎ (long rs p (slot p (r .addr)) ≡ false) →
+        (used own < limit) ⊎ (limit ≤ used own)
         → ((ltb p (r .len) && not (long rs p (slot p (r .addr)))) && leb limit (used own)) ≡ ltb limit (need (insert r rs) p)
     go (inr e) d z = rw e (same-need (λ y. absurd (true≢false (sym y ∙ e))))
     go (inl e) (inl d) z = rw (e, d) (same-need (λ _. d))
-    go (inl e) (inr d) (inl z) = rw (e, d, lt-leb limit (used own) z) (sym (le-ltb limit (need (insert r rs) p) (omega (arith, w .counted, need-more r rs fine (w .good) p (w .small) e d))))
-    go (inl e) (inr d) (inr z) = rw (e, d, le-leb limit (used own) z) (sym (lt-ltb limit (need (insert r rs) p) (omega (arith, w .counted, need-more r rs fine (w .good) p (w .small) e d))))
+    go (inl e) (inr d) (inl z) = rw (e, d, lt-leb limit (used own) z)
+        (sym (le-ltb limit (need (insert r rs) p) (omega (arith, w .counted, need-more r rs fine (w .good) p (w .small) e d))))
+    go (inl e) (inr d) (inr z) = rw (e, d, le-leb limit (used own) z)
+        (sym (lt-ltb limit (need (insert r rs) p) (omega (arith, w .counted, need-more r rs fine (w .good) p (w .small) e d))))
 
 module _ (t : Table) (l : Lent) (r : Route) where
   abbrev rs : List Route
   rs = standing t l
 
   abbrev Told : ℕ → Type 0
-  Told n = Judged n (announceSaid t l r) (Welcome t l r)
+  Told n = Judged n (announceSaid t l r) (Announceable t l r)
 
   off : (n : ℕ) → 1 ≤ n → Announce t l r (refused n) → Told n
   off n h x = judged-off n _ _ h (announce-only t l r (refused n) x)
@@ -84,10 +88,12 @@ module _ (t : Table) (l : Lent) (r : Route) where
 
       -- the test of a pool tells whether the need exceeds it
       seven : (c : Bool) → c ≡ (o .second && leb (length (l .own2)) (used (l .own2))) → c ≡ ltb (length (l .own2)) (need (insert r rs) (t .geometry .p1))
-      seven c z = z ∙ rw (k .second) (over rs r (t .geometry .p1) (l .own2) (second-chunks t l (p .sound)) (p .fine) (length (l .own2)) (used-le (chunksOf (l .own2))))
+      seven c z = z ∙ rw (k .second) (over rs r (t .geometry .p1) (l .own2) (second-chunks t l (p .sound)) (p .fine) (length (l .own2))
+          (used-le (chunksOf (l .own2))))
 
       eight : (c : Bool) → c ≡ (o .third && leb (length (l .own3)) (used (l .own3))) → c ≡ ltb (length (l .own3)) (need (insert r rs) (t .geometry .p2))
-      eight c z = z ∙ rw (k .third) (over rs r (t .geometry .p2) (l .own3) (third-chunks t l (p .sound)) (p .fine) (length (l .own3)) (used-le (chunksOf (l .own3))))
+      eight c z = z ∙ rw (k .third) (over rs r (t .geometry .p2) (l .own3) (third-chunks t l (p .sound)) (p .fine) (length (l .own3))
+          (used-le (chunksOf (l .own3))))
 
       module _ (c : Bool) (z : c ≡ (o .second && leb (length (l .own2)) (used (l .own2)))) where
         pub room-second : c ≡ true → Told 7

@@ -4,8 +4,8 @@ use Prim.Native.Nat.{ℕ}
 use Rattle.sail.specs.Lent.{Lent}
 use Rattle.sail.specs.declared.table.Table.{Table}
 use Rattle.sail_theory.specs.Calls.{route, Ends, announced}
-use Rattle.sail_announce.specs.Answers.{saysAnnounce}
+use Rattle.sail_announce.specs.Answers.{meansAnnounce}
 use Rattle.sail_announce.specs.declared.answers.Announced.{Announced}
 
 abbrev pub MeetsAnnounce : Table → Lent → ℕ → ℕ → ℕ → ℕ → Announced → Lent → Type 0
-MeetsAnnounce t l addr len hop mark r e = Ends (saysAnnounce (r .answer)) (r .table) e (announced t l (route addr len hop mark))
+MeetsAnnounce t l addr len hop mark r e = Ends (meansAnnounce (r .answer)) (r .table) e (announced t l (route addr len hop mark))

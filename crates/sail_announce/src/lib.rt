@@ -6,15 +6,15 @@ ghost use Prim.Native.Nat.{_≤_};
 ghost use lib.Dec.{leb};
 ghost use lib.ListN.{length};
 ghost use Rattle.bits.specs.Count.{bit};
-ghost use Rattle.lists.specs.Edit.{countWith, saysPut};
+ghost use Rattle.lists.specs.Edit.{countWith, meansPut};
 ghost use Rattle.routes.specs.Said.{accepted};
 ghost use Rattle.sail.specs.Lent.{lent};
 ghost use Rattle.sail.specs.Sound.{used};
-ghost use Rattle.sail_theory.specs.Calls.{announceSaid, out, adding, told};
-ghost use Rattle.sail_theory.specs.Facts.{Welcome};
+ghost use Rattle.sail_theory.specs.Calls.{announceSaid, out, adding, outWithFlag};
+ghost use Rattle.sail_theory.specs.Facts.{Announceable};
 ghost use Rattle.sail_theory.specs.Cases.{Proper};
-ghost use Rattle.sail_calls.specs.Judge.{Judged};
-ghost use Rattle.sail_announce.specs.Answers.{saysAnnounce};
+ghost use Rattle.sail_theory.specs.Judge.{Judged};
+ghost use Rattle.sail_announce.specs.Answers.{meansAnnounce};
 ghost use Rattle.sail_announce.specs.Contract.{MeetsAnnounce};
 ghost use Rattle.sail_announce.specs.Booked.{Bookable, Booked};
 
@@ -22,20 +22,21 @@ pub mod answers;
 
 use crate::answers::Announce;
 use crate::answers::Announced;
+use bits::widen::byte_to_word;
 use lists::edit;
 use lists::edit::Put;
 use lists::place::place;
 use routes::Route;
 use routes::input;
+use routes::prefix::clear_after;
 use routes::record;
 use sail::geometry::Geometry;
 use sail::table::Table;
 use sail::table::sizes;
-use sail_calls::clear::clear;
-use sail_calls::renew::renew;
-use sail_change::opening::open;
-use sail_change::opening::to_open;
+use sail_chunks::opening::open;
+use sail_chunks::opening::to_open;
 use sail_counts::tick::tick;
+use sail_paint::from_list::repaint_from_list;
 use sail_sound::report::in_use;
 use sail_sound::test::sound;
 
@@ -64,7 +65,7 @@ fn judge_room(
     r: Route,
 ) -> u8
     requires { ⌜ Proper t (lent (now list) (now first) (now second) (now third) (now own2) (now own3) (now long1) (now long2)) r ⌝ }
-    ensures { λ n. ⌜ Judged n (announceSaid t (lent (now (list .entry)) (now (first .entry)) (now (second .entry)) (now (third .entry)) (now (own2 .entry)) (now (own3 .entry)) (now (long1 .entry)) (now (long2 .entry))) r) (Welcome t (lent (now (list .entry)) (now (first .entry)) (now (second .entry)) (now (third .entry)) (now (own2 .entry)) (now (own3 .entry)) (now (long1 .entry)) (now (long2 .entry))) r) ⌝ }
+    ensures { λ n. ⌜ Judged n (announceSaid t (lent (now (list .entry)) (now (first .entry)) (now (second .entry)) (now (third .entry)) (now (own2 .entry)) (now (own3 .entry)) (now (long1 .entry)) (now (long2 .entry))) r) (Announceable t (lent (now (list .entry)) (now (first .entry)) (now (second .entry)) (now (third .entry)) (now (own2 .entry)) (now (own3 .entry)) (now (long1 .entry)) (now (long2 .entry))) r) ⌝ }
 {
     let n = t.count as usize;
     let p = record::key_of(r.addr, r.len);
@@ -98,7 +99,7 @@ fn judge_announce(
     long2: &[u16],
     r: Route,
 ) -> u8
-    ensures { λ n. ⌜ Judged n (announceSaid t (lent (now (list .entry)) (now (first .entry)) (now (second .entry)) (now (third .entry)) (now (own2 .entry)) (now (own3 .entry)) (now (long1 .entry)) (now (long2 .entry))) r) (Welcome t (lent (now (list .entry)) (now (first .entry)) (now (second .entry)) (now (third .entry)) (now (own2 .entry)) (now (own3 .entry)) (now (long1 .entry)) (now (long2 .entry))) r) ⌝ }
+    ensures { λ n. ⌜ Judged n (announceSaid t (lent (now (list .entry)) (now (first .entry)) (now (second .entry)) (now (third .entry)) (now (own2 .entry)) (now (own3 .entry)) (now (long1 .entry)) (now (long2 .entry))) r) (Announceable t (lent (now (list .entry)) (now (first .entry)) (now (second .entry)) (now (third .entry)) (now (own2 .entry)) (now (own3 .entry)) (now (long1 .entry)) (now (long2 .entry))) r) ⌝ }
 {
     let s = sizes(t, list, first, second, third, own2, own3, long1, long2);
     if s != 0 {
@@ -117,7 +118,7 @@ fn judge_announce(
 // How many routes stand after one was put into n.
 fn count_with(p: Put, n: usize) -> usize
     requires { ⌜ n ≤ 4096 ⌝ }
-    ensures { λ r. ⌜ (r ≡ countWith (saysPut p) n) × (r ≤ 4097) ⌝ }
+    ensures { λ r. ⌜ (r ≡ countWith (meansPut p) n) × (r ≤ 4097) ⌝ }
 {
     match p {
         Put::Added => n + 1,
@@ -127,7 +128,7 @@ fn count_with(p: Put, n: usize) -> usize
 
 // What putting a route into the list answers for the table, where bits were cleared or not.
 fn answer_of(p: Put, cleared: bool) -> Announce
-    ensures { λ r. ⌜ saysAnnounce r ≡ accepted (bit cleared ∷ bit (saysPut p) ∷ []) ⌝ }
+    ensures { λ r. ⌜ meansAnnounce r ≡ accepted (bit cleared ∷ bit (meansPut p) ∷ []) ⌝ }
 {
     match p {
         Put::Added => Announce::Added(cleared),
@@ -160,20 +161,20 @@ fn add(
     r: Route,
     cleared: bool,
 ) -> Announced
-    requires { ⌜ Welcome t (lent (now list) (now first) (now second) (now third) (now own2) (now own3) (now long1) (now long2)) r ⌝ }
-    ensures { λ o. ⌜ out (saysAnnounce (o .answer)) (o .table) (lent (now (list .exit)) (now (first .exit)) (now (second .exit)) (now (third .exit)) (now (own2 .exit)) (now (own3 .exit)) (now (long1 .exit)) (now (long2 .exit))) ≡ told cleared (adding t (lent (now (list .entry)) (now (first .entry)) (now (second .entry)) (now (third .entry)) (now (own2 .entry)) (now (own3 .entry)) (now (long1 .entry)) (now (long2 .entry))) r) ⌝ }
+    requires { ⌜ Announceable t (lent (now list) (now first) (now second) (now third) (now own2) (now own3) (now long1) (now long2)) r ⌝ }
+    ensures { λ o. ⌜ out (meansAnnounce (o .answer)) (o .table) (lent (now (list .exit)) (now (first .exit)) (now (second .exit)) (now (third .exit)) (now (own2 .exit)) (now (own3 .exit)) (now (long1 .exit)) (now (long2 .exit))) ≡ outWithFlag cleared (adding t (lent (now (list .entry)) (now (first .entry)) (now (second .entry)) (now (third .entry)) (now (own2 .entry)) (now (own3 .entry)) (now (long1 .entry)) (now (long2 .entry))) r) ⌝ }
 {
     let g = t.geometry;
     let n = t.count as usize;
     open(t, r, list, first, second, own2, own3);
     let p = edit::insert(list, n, r);
     let m = count_with(p, n);
-    renew(
+    repaint_from_list(
         g,
         list,
         m,
         r.addr,
-        record::wide(r.len),
+        byte_to_word(r.len),
         first,
         second,
         third,
@@ -211,7 +212,7 @@ pub fn announce(
 ) -> Announced
     ensures { λ r. ⌜ MeetsAnnounce t (lent (now (list .entry)) (now (first .entry)) (now (second .entry)) (now (third .entry)) (now (own2 .entry)) (now (own3 .entry)) (now (long1 .entry)) (now (long2 .entry))) addr len hop mark r (lent (now (list .exit)) (now (first .exit)) (now (second .exit)) (now (third .exit)) (now (own2 .exit)) (now (own3 .exit)) (now (long1 .exit)) (now (long2 .exit))) ⌝ }
 {
-    let a = clear(addr, len);
+    let a = clear_after(addr, len);
     let r = Route {
         addr: a,
         len,

@@ -2,36 +2,36 @@
 -- is deep is that of a long word, one that is not deep holds a leaf, and one that is not live holds 0.
 use mathlib.Core.Path.{_≡_, refl, sym, _∙_, ap}
 use mathlib.Core.Logic.{_⊎_, inl, inr}
-use mathlib.Core.Bool.{Bool, true, false, not, _||_, true≢false, or-true}
+use mathlib.Core.Bool.{Bool, true, false, not, true≢false, or-true}
 use mathlib.Core.List.{List, [], _∷_}
-use Prim.Native.Nat.{ℕ, zero, suc, _+_, _-_, _*_, _/_, _^_, _≤_, _<_, suc-le-suc}
+use Prim.Native.Nat.{ℕ, zero, suc, _-_, _^_, _≤_, _<_, suc-le-suc}
 use native.Mathlib.Nat.{not-suc-le-zero, le-of-suc-le-suc}
 use native.Mathlib.Omega.{arith}
-use lib.Dec.{eqb, ltb, leb}
+use lib.Dec.{eqb, ltb}
 use lib.ListN.{getD, length, length-map, List·getD-map}
 use borrow.Author.Tests.{ltb-true, eqb-true, lt-ltb, eq-eqb, ne-eqb, le-leb, lt-leb}
 use Rattle.bits.specs.Slot.{slot}
 use Rattle.bits.specs.Tab.{Tells}
-use Rattle.bits.proofs.Tests.{decided, both, and-split, or-split}
+use Rattle.bits.proofs.Bools.{decided, both, and-split, or-split}
 use Rattle.routes.specs.Record.{noRoute}
 use Rattle.routes.specs.declared.Route.{Route}
 use Rattle.standing.specs.Cells.{any, within, long}
 use Rattle.counts.specs.Counts.{howMany}
 use Rattle.counts.proofs.Many.{many-none}
-use Rattle.chain.specs.Words.{routeOf, routesIn, Words}
+use Rattle.chain.specs.Words.{routeOfWord, routesOfWords, Words}
 use Rattle.chain.specs.Cover.{addrIn}
-use Rattle.plan.proofs.Tells.{tells-same, refuted, passed}
+use Rattle.bits.proofs.Tells.{tells-same, refuted, passed}
 use Rattle.sail.specs.Geometry.{bits2}
 use Rattle.sail.specs.Level.{Level, Chunks, deep, entry, chunksOf, level1, level2}
 use Rattle.sail.specs.Sound.{Shows, Clear, Counted}
 use Rattle.sail.specs.declared.geometry.Geometry.{Geometry}
-use Rattle.sail_theory.proofs.Places.{Apart, top-apart, below-apart}
-use Rattle.sail_theory.proofs.Pools.{shows-fits}
-use Rattle.sail_theory.proofs.Rendered.{top-clear}
-use Rattle.sail_theory.proofs.Mids.{long-down, slot-down}
+use Rattle.sail_theory.proofs.places.Places.{Apart, top-apart, below-apart}
+use Rattle.sail_theory.proofs.places.Pools.{shows-fits}
+use Rattle.sail_theory.proofs.places.Rendered.{top-clear}
+use Rattle.standing.proofs.TwoLevels.{long-down, slot-down}
 use Rattle.sail_counts.specs.Counted.{Counts}
-use Rattle.sail_counts.specs.Test.{idle, Idle, lenIn, cellIn, Tallied, Led, Countable, root}
-use Rattle.sail_counts.proofs.Leads.{Leads, first-leads, second-leads}
+use Rattle.sail_counts.specs.CountsTest.{idle, Idle, lenIn, cellIn, Tallied, Led, Countable, root}
+use Rattle.sail_counts.proofs.Leads.{NamedAbove, first-leads, second-leads}
 use Rattle.sail_counts.proofs.Ticks.{served-count}
 
 -- a route that stands in the list makes its cells long
@@ -42,20 +42,20 @@ long-at (r ∷ rs) p i zero l e = rw e
 long-at (r ∷ rs) p i (suc k) l e = rw (long-at rs p i k (le-of-suc-le-suc l) e) (or-true (within p i r))
 
 -- so does a word, and a long cell has one
-word-long : (ws : List ℕ) (p i k : ℕ) → k < length ws → within p i (routeOf (getD ws k 0)) ≡ true → long (routesIn ws) p i ≡ true
-word-long ws p i k l e = long-at (routesIn ws) p i k (rw length-map l) (rw (List·getD-map routeOf ws k 0) e)
+word-long : (ws : List ℕ) (p i k : ℕ) → k < length ws → within p i (routeOfWord (getD ws k 0)) ≡ true → long (routesOfWords ws) p i ≡ true
+word-long ws p i k l e = long-at (routesOfWords ws) p i k (rw length-map l) (rw (List·getD-map routeOfWord ws k 0) e)
 
 record Word (ws : List ℕ) (p i : ℕ) : Type 0 where
   k : ℕ
   inside : k < length ws
-  lies : within p i (routeOf (getD ws k 0)) ≡ true
+  lies : within p i (routeOfWord (getD ws k 0)) ≡ true
 
-long-word : (ws : List ℕ) (p i : ℕ) → long (routesIn ws) p i ≡ true → Word ws p i
+long-word : (ws : List ℕ) (p i : ℕ) → long (routesOfWords ws) p i ≡ true → Word ws p i
 unfolding any
 long-word [] p i e = absurd (true≢false (sym e))
-long-word (w ∷ ws) p i e = go (or-split (within p i (routeOf w)) (long (routesIn ws) p i) e) (long-word ws p i)
+long-word (w ∷ ws) p i e = go (or-split (within p i (routeOfWord w)) (long (routesOfWords ws) p i) e) (long-word ws p i)
   where
-    go : (within p i (routeOf w) ≡ true) ⊎ (long (routesIn ws) p i ≡ true) → (long (routesIn ws) p i ≡ true → Word ws p i) → Word (w ∷ ws) p i
+    go : (within p i (routeOfWord w) ≡ true) ⊎ (long (routesOfWords ws) p i ≡ true) → (long (routesOfWords ws) p i ≡ true → Word ws p i) → Word (w ∷ ws) p i
     go (inl y) ih = record { k = zero; inside = omega arith; lies = y }
     go (inr y) ih = let x = ih y in record { k = suc (x .k); inside = suc-le-suc (x .inside); lies = x .lies }
 
@@ -75,22 +75,22 @@ idle-leaf x h = rw (ne-eqb x 0 (λ z. omega arith), le-leb 32768 x h)
 -- What the test of a level's counts rests on: the words of its routes, cells that are right, and cells above them that lead to its places.
 pub record Fair (ws : List ℕ) (v : Level) (k : Chunks) (cells : List ℕ) (d : ℕ) (above : List ℕ) : Type 0 where
   pub words : Words ws
-  pub shows : Shows (routesIn ws) v k (entry cells)
+  pub shows : Shows (routesOfWords ws) v k (entry cells)
   pub clear : Clear v (entry cells)
   pub few : k .many < 32768
   pub apart : Apart v
   pub size : length cells ≡ v .places
-  pub leads : (a : ℕ) → a < 2 ^ 32 → long (routesIn ws) (v .bits) (slot (v .bits) a) ≡ true → Leads v d above a
+  pub leads : (a : ℕ) → a < 2 ^ 32 → long (routesOfWords ws) (v .bits) (slot (v .bits) a) ≡ true → NamedAbove v d above a
 
 module _ (ws : List ℕ) (v : Level) (k : Chunks) (cells : List ℕ) (d : ℕ) (above counts : List ℕ) (f : Fair ws v k cells d above) where
   abbrev rs : List Route
-  rs = routesIn ws
+  rs = routesOfWords ws
 
   abbrev p : ℕ
   p = v .bits
 
   -- the place of a long word
-  word-leads : (j : ℕ) → j < length ws → p < lenIn ws j → Leads v d above (addrIn ws j)
+  word-leads : (j : ℕ) → j < length ws → p < lenIn ws j → NamedAbove v d above (addrIn ws j)
   word-leads j l n =
       f .leads (addrIn ws j) (f .words .fine j l .prefix .addr-ok)
       (word-long ws p (cellIn ws p j) j l (both (lt-ltb p (lenIn ws j) n) (eq-eqb (cellIn ws p j) (cellIn ws p j) refl)))
@@ -165,12 +165,13 @@ module _ (ws : List ℕ) (g : Geometry) (first second own2 own3 long1 long2 : Li
     shows = w .shows2;
     clear = w .clear2;
     few = omega (arith, w .few3);
-    apart = below-apart (routesIn ws) v1 (chunksOf own2) (g .p2) (shows-fits (routesIn ws) v1 (chunksOf own2) (entry first) (w .shows1)) (top-apart (g .p1));
+    apart = below-apart (routesOfWords ws) v1 (chunksOf own2) (g .p2) (shows-fits (routesOfWords ws) v1 (chunksOf own2) (entry first) (w .shows1))
+        (top-apart (g .p1));
     size = w .cells2;
     leads = λ a s e.
         let z = w .valid in
-        let up = long-down (routesIn ws) (g .p1) (g .p2) (slot (g .p2) a) (omega arith) (omega arith) e in
-        second-leads g z (routesIn ws) first own2 (w .cells1) (w .shows1) a s (rw (← slot-down (g .p1) (g .p2) a (omega arith) (omega arith)) at up);
+        let up = long-down (routesOfWords ws) (g .p1) (g .p2) (slot (g .p2) a) (omega arith) (omega arith) e in
+        second-leads g z (routesOfWords ws) first own2 (w .cells1) (w .shows1) a s (rw (← slot-down (g .p1) (g .p2) a (omega arith) (omega arith)) at up);
   }
 
   pub led1 : Led ws (g .p1) (g .p1) root long1
@@ -180,7 +181,7 @@ module _ (ws : List ℕ) (g : Geometry) (first second own2 own3 long1 long2 : Li
   led2 = let z = w .valid in level-led ws v2 (chunksOf own3) second (bits2 g) first long2 fair2 (omega arith) (omega arith) (w .counts2 ∙ w .cells2)
 
   abbrev Whole : Type 0
-  Whole = Counts (routesIn ws) g own2 long1 long2
+  Whole = Counts (routesOfWords ws) g own2 long1 long2
 
   module _ (a : Bool) (idle1 : Tells a (Idle first long1)) where
     pub first-stray : not a ≡ true → Tells false Whole

@@ -14,20 +14,20 @@ use Rattle.sail.specs.Geometry.{bits2, Valid}
 use Rattle.sail.specs.Level.{Level, entry, chunksOf, top, level1, level2}
 use Rattle.sail.specs.Sound.{Shows}
 use Rattle.sail.specs.declared.geometry.Geometry.{Geometry}
-use Rattle.sail_theory.proofs.Mids.{slot-down}
-use Rattle.sail_theory.proofs.Places.{LiveFor, top-served, below-served}
-use Rattle.sail_theory.proofs.Pools.{shown-node, shows-fits, shows-shown}
+use Rattle.standing.proofs.TwoLevels.{slot-down}
+use Rattle.sail_theory.proofs.places.Places.{LiveFor, top-served, below-served}
+use Rattle.sail_theory.proofs.places.Pools.{shown-node, shows-fits, shows-shown}
 use Rattle.sail_counts.specs.Tick.{placeIn, secondAt}
-use Rattle.sail_counts.specs.Test.{root}
+use Rattle.sail_counts.specs.CountsTest.{root}
 
 -- the address's cell is in a chunk that a cell of `above` names, at the place that serves the address
-pub record Leads (v : Level) (d : ℕ) (above : List ℕ) (a : ℕ) : Type 0 where
+pub record NamedAbove (v : Level) (d : ℕ) (above : List ℕ) (a : ℕ) : Type 0 where
   pub there : slot (v .bits) a / 2 ^ d < length above
   pub some : 1 ≤ getD above (slot (v .bits) a / 2 ^ d) 0
   pub is : placeIn d above (slot (v .bits) a) ≡ v .serving a
   pub served : LiveFor v a
 
-pub first-leads : (p a : ℕ) → p ≤ 32 → a < 2 ^ 32 → Leads (top p) p root a
+pub first-leads : (p a : ℕ) → p ≤ 32 → a < 2 ^ 32 → NamedAbove (top p) p root a
 first-leads p a h s =
     let l = slot-lt p a h s in
     let z : slot p a / 2 ^ p ≡ 0 = div-eq-of-lt l in
@@ -59,7 +59,7 @@ module _ (g : Geometry) (valid : Valid g) (rs : List Route) (first own2 : List �
         below-served rs (level1 g) (chunksOf own2) (shows-fits rs (level1 g) (chunksOf own2) (entry first) shows1) (g .p2) a (omega arith) (omega arith)
         served1 e
 
-    pub second-leads : Leads (level2 g (chunksOf own2)) (bits2 g) first a
+    pub second-leads : NamedAbove (level2 g (chunksOf own2)) (bits2 g) first a
     second-leads =
         let up : slot (g .p2) a / 2 ^ bits2 g ≡ slot (g .p1) a = sym (slot-down (g .p1) (g .p2) a (omega arith) (omega arith)) in
         record {

@@ -2,7 +2,7 @@
 pub mod Owners
 pub mod Ticks
 pub mod Steps
-pub mod Runs
+pub mod CountRuns
 pub mod Leads
 pub mod Exact
 pub mod Tallies

@@ -2,23 +2,22 @@
 use mathlib.Core.Path.{_≡_, refl, sym, _∙_, ap, subst}
 use mathlib.Core.Bool.{true}
 use mathlib.Core.List.{List, [], _∷_, _++_}
-use Prim.Native.Nat.{ℕ, _+_, _*_, _^_, _≤_, _<_}
+use Prim.Native.Nat.{ℕ, _+_, _*_, _^_, _<_}
 use native.Mathlib.Omega.{arith}
 use lib.ListN.{length}
 use borrow.Author.Tests.{lt-ltb, eq-eqb}
 use Rattle.bits.specs.Slot.{slot}
 use Rattle.bits.specs.Tab.{tabulate}
-use Rattle.bits.proofs.Tests.{both}
+use Rattle.bits.proofs.Bools.{both}
 use Rattle.routes.specs.Record.{recordAt, routesOf}
 use Rattle.routes.specs.declared.Route.{Route}
-use Rattle.routes.proofs.Rows.{length-routes, nth-route}
+use Rattle.routes.proofs.Rows.{length-routes, nth-route, routes-snoc}
 use Rattle.counts.specs.Counts.{OneMore}
 use Rattle.counts.proofs.Changed.{many-snoc}
 use Rattle.sail.specs.Geometry.{bits2}
 use Rattle.sail.specs.declared.geometry.Geometry.{Geometry}
-use Rattle.sail_theory.proofs.Counting.{routes-snoc}
 use Rattle.sail_counts.specs.Counted.{Counts}
-use Rattle.sail_counts.specs.Tick.{Tickable, Moved, Uncounted}
+use Rattle.sail_counts.specs.Tick.{Tickable, CountsMoved, Uncounted}
 use Rattle.sail_counts.specs.declared.tick.Left.{Left}
 use Rattle.sail_counts.proofs.Exact.{long-at}
 use Rattle.sail_counts.proofs.Tallies.{length-ticked, Guided, up-tickable, up-counts, none-counts}
@@ -59,7 +58,7 @@ module _ (g : Geometry) (s : List ℕ) (n : ℕ) (first own2 l1 l2 : List ℕ) (
         up-tickable g (routesOf s n) (r .addr) (r .len) first own2 long1 long2 guided (routesOf s k) (routesOf s (k + 1)) more
         (rw length-routes (omega (arith, w .records .few))) (c .counts)
 
-    pub next-come : (long1′ long2′ : List ℕ) (left : Left) → Moved g (r .addr) (r .len) first long1 long2 true long1′ long2′ left
+    pub next-come : (long1′ long2′ : List ℕ) (left : Left) → CountsMoved g (r .addr) (r .len) first long1 long2 true long1′ long2′ left
         → Come g s (k + 1) own2 long1′ long2′
     next-come long1′ long2′ left t = record {
       counts1 = ap length (t .one .now) ∙ length-ticked _ _ _ long1 ∙ c .counts1;

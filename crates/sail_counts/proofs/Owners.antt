@@ -2,27 +2,27 @@
 -- Said of any level; then of a chunk that is opened for a route that comes, and of those that are closed.
 use mathlib.Core.Path.{_≡_, sym, _∙_, ap}
 use mathlib.Core.Logic.{_⊎_, inl, inr, _≢_}
-use mathlib.Core.Bool.{true, false, true≢false}
+use mathlib.Core.Bool.{true, false}
 use mathlib.Core.List.{List}
 use Prim.Native.Nat.{ℕ, suc, _+_, _-_, _*_, _/_, _%_, _^_, _≤_, _<_}
 use native.Mathlib.Omega.{arith}
 use lib.Dec.{ltb}
-use lib.ListN.{getD, length, set}
+use lib.ListN.{getD, set}
 use lib.Seq.{getD-set-same, getD-set-other}
 use borrow.Author.Tests.{ltb-true, ltb-false, lt-ltb, le-ltb}
 use Rattle.bits.specs.Slot.{slot}
-use Rattle.bits.proofs.Tests.{decided, below?, equal?}
+use Rattle.bits.proofs.Bools.{decided, below?, equal?}
 use Rattle.standing.specs.Cells.{long}
 use Rattle.routes.specs.declared.Route.{Route}
 use Rattle.counts.specs.Counts.{howMany}
 use Rattle.counts.proofs.Many.{many-none}
 use Rattle.sail.specs.Level.{Level, Chunks, deep, chunksOf, below}
 use Rattle.sail_theory.specs.Calls.{openAt, keep}
-use Rattle.sail_theory.proofs.Mids.{short-down}
-use Rattle.sail_theory.proofs.Places.{part-up}
-use Rattle.sail_theory.proofs.Owners.{Closed}
-use Rattle.sail_theory.proofs.Stores.{keep-closed}
-use Rattle.sail_theory.proofs.Grown.{Ready, length-open, open-short, open-had, open-new}
+use Rattle.standing.proofs.TwoLevels.{short-down}
+use Rattle.sail_theory.proofs.places.Places.{part-up}
+use Rattle.sail_theory.proofs.owners.StillFit.{Closed}
+use Rattle.sail_theory.proofs.owners.GrantKeep.{keep-closed}
+use Rattle.sail_theory.proofs.owners.OpenAt.{OpenReady, length-open, open-short, open-had, open-new}
 use Rattle.sail.specs.Sound.{Counted}
 
 -- from k to k′ the owner of c stays; or c is opened or closed, and hangs from a cell that no longer route has
@@ -61,7 +61,7 @@ module _ (rs : List Route) (v : Level) (p : ℕ) (h : v .bits ≤ p) (u : p ≤ 
       blank q l e (went x y z n) = c .true-there q l (lt-ltb 0 (k .own (q / 2 ^ d)) (omega arith)) ∙ none-under k q x y n
 
 -- a chunk is opened for a route that comes: no longer route had its cell
-module _ (rs : List Route) (r : Route) (v : Level) (own : List ℕ) (c : ℕ) (w : Ready rs r v own c) where
+module _ (rs : List Route) (r : Route) (v : Level) (own : List ℕ) (c : ℕ) (w : OpenReady rs r v own c) where
   open-turned : (j : ℕ) → Turned rs v (chunksOf own) (chunksOf (openAt v own c r)) j
   open-turned j = go (below? (v .bits) (r .len)) (decided (long rs (v .bits) (slot (v .bits) (r .addr))))
     where

@@ -9,22 +9,22 @@ use lib.Dec.{eqb, ltb}
 use lib.ListN.{getD, length, length-set}
 use borrow.Author.Tests.{ltb-true}
 use Rattle.bits.specs.Slot.{slot}
-use Rattle.bits.proofs.Tests.{decided}
+use Rattle.bits.proofs.Bools.{decided}
 use Rattle.standing.specs.Cells.{long}
 use Rattle.routes.specs.declared.Route.{Route}
 use Rattle.counts.specs.Counts.{howMany, OneMore}
-use Rattle.counts.proofs.Stored.{tallies-counted, counted-tallies}
+use Rattle.counts.proofs.Stored.{counted-tallies}
 use Rattle.sail.specs.Geometry.{bits2, Valid}
 use Rattle.sail.specs.Level.{Level, entry, chunksOf, level1, level2}
 use Rattle.sail.specs.Sound.{Shows, Counted}
 use Rattle.sail.specs.declared.geometry.Geometry.{Geometry}
 use Rattle.sail_theory.specs.Calls.{openAt, keep}
-use Rattle.sail_theory.proofs.Places.{LiveFor, Apart, top-apart, top-served, below-apart}
-use Rattle.sail_theory.proofs.Pools.{shows-fits}
-use Rattle.sail_theory.proofs.Grown.{Ready}
+use Rattle.sail_theory.proofs.places.Places.{LiveFor, Apart, top-apart, top-served, below-apart}
+use Rattle.sail_theory.proofs.places.Pools.{shows-fits}
+use Rattle.sail_theory.proofs.owners.OpenAt.{OpenReady}
 use Rattle.sail_theory.specs.Render.{longs}
 use Rattle.sail_counts.specs.Counted.{Counts}
-use Rattle.sail_counts.specs.Tick.{ticked, secondAt, Ticks, Tickable, Moved}
+use Rattle.sail_counts.specs.Tick.{ticked, secondAt, Ticks, Tickable, CountsMoved}
 use Rattle.sail_counts.specs.declared.tick.Left.{Left}
 use Rattle.sail_counts.proofs.Owners.{open-counted, keep-counted}
 use Rattle.sail_counts.proofs.Ticks.{as-counted, up-counted, down-counted, up-ticks, down-ticks, down-left, ticked-as, left-as}
@@ -90,7 +90,7 @@ module _ (g : Geometry) (all : List Route) (a len : ℕ) (first own2 long1 long2
     }
 
     -- what has moved is the place that serves the address
-    moved-second : (long1′ long2′ : List ℕ) (left : Left) → Moved g a len first long1 long2 up long1′ long2′ left
+    moved-second : (long1′ long2′ : List ℕ) (left : Left) → CountsMoved g a len first long1 long2 up long1′ long2′ left
         → long2′ ≡ ticked (ltb (g .p2) len) up (v2 .serving a) long2
     moved-second long1′ long2′ left t = t .two .now ∙ ticked-as (ltb (g .p2) len) up (secondAt g first a) (v2 .serving a) long2 here
 
@@ -101,7 +101,7 @@ module _ (g : Geometry) (all : List Route) (a len : ℕ) (first own2 long1 long2
       (up-ticks a len rs rs′ m v1 (top-apart (g .p1)) (λ l. served1) long1 (w .counts1) few (c .first))
       (up-ticks a len rs rs′ m v2 apart2 served2 long2 (w .counts2) few (c .second))
 
-  pub up-counts : Counts rs g own2 long1 long2 → (long1′ long2′ : List ℕ) (left : Left) → Moved g a len first long1 long2 true long1′ long2′ left
+  pub up-counts : Counts rs g own2 long1 long2 → (long1′ long2′ : List ℕ) (left : Left) → CountsMoved g a len first long1 long2 true long1′ long2′ left
       → Counts rs′ g own2 long1′ long2′
   up-counts c long1′ long2′ left t = record {
     first = subst (Counted rs′ v1) (sym (t .one .now)) (up-counted a len rs rs′ m v1 (top-apart (g .p1)) (λ l. served1) long1 (w .counts1) (c .first));
@@ -116,7 +116,7 @@ module _ (g : Geometry) (all : List Route) (a len : ℕ) (first own2 long1 long2
       (down-ticks a len rs rs′ m v1 (top-apart (g .p1)) (λ l. served1) long1 (w .counts1) (c .first))
       (down-ticks a len rs rs′ m v2 apart2 served2 long2 (w .counts2) (c .second))
 
-  module _ (c : Counts rs′ g own2 long1 long2) (long1′ long2′ : List ℕ) (left : Left) (t : Moved g a len first long1 long2 false long1′ long2′ left) where
+  module _ (c : Counts rs′ g own2 long1 long2) (long1′ long2′ : List ℕ) (left : Left) (t : CountsMoved g a len first long1 long2 false long1′ long2′ left) where
     pub down-counts : Counts rs g own2 long1′ long2′
     down-counts = record {
       first = subst (Counted rs v1) (sym (t .one .now)) (down-counted a len rs rs′ m v1 (top-apart (g .p1)) (λ l. served1) long1 (w .counts1) (c .first));
@@ -136,7 +136,7 @@ module _ (g : Geometry) (all : List Route) (a len : ℕ) (first own2 long1 long2
 
 -- Owners that change: a second chunk is opened for a route that comes, and those that are no longer needed are closed.
 module _ (g : Geometry) (valid : Valid g) (rs : List Route) (own2 long1 long2 : List ℕ) (c : Counts rs g own2 long1 long2) where
-  pub open-counts : (r : Route) (n : ℕ) → Ready rs r (level1 g) own2 n → Counts rs g (openAt (level1 g) own2 n r) long1 long2
+  pub open-counts : (r : Route) (n : ℕ) → OpenReady rs r (level1 g) own2 n → Counts rs g (openAt (level1 g) own2 n r) long1 long2
   open-counts r n w = record { first = c .first; second = open-counted rs r (level1 g) own2 n w (g .p2) (omega arith) (omega arith) long2 (c .second) }
 
   pub keep-counts : Counts rs g (keep rs (level1 g) own2) long1 long2
@@ -156,9 +156,6 @@ module _ (g : Geometry) (valid : Valid g) (rs : List Route) (own2 long1 long2 : 
     counted-tallies rs (g .p1) (2 ^ g .p1) _ _ long1 h (c .first),
     counted-tallies rs (g .p2) (length own2 * 2 ^ bits2 g) _ _ long2 k (c .second),
   )
-
-pub tallies-counts : (g : Geometry) (rs : List Route) (own2 : List ℕ) → Counts rs g own2 (longs rs (level1 g)) (longs rs (level2 g (chunksOf own2)))
-tallies-counts g rs own2 = record { first = tallies-counted rs _ _ _ _; second = tallies-counted rs _ _ _ _ }
 
 -- no routes: every count is 0
 pub none-counts : (g : Geometry) (own2 long1 long2 : List ℕ) → ((q : ℕ) → getD long1 q 0 ≡ 0) → ((q : ℕ) → getD long2 q 0 ≡ 0) → Counts [] g own2 long1 long2

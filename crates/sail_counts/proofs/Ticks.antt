@@ -11,14 +11,14 @@ use lib.ListN.{getD, length, set}
 use lib.Seq.{getD-set-same, getD-set-other}
 use borrow.Author.Tests.{ltb-true, lt-ltb, le-ltb, eq-eqb, ne-eqb}
 use Rattle.bits.specs.Slot.{slot}
-use Rattle.bits.proofs.Tests.{decided, below?, equal?}
+use Rattle.bits.proofs.Bools.{decided, below?, equal?}
 use Rattle.standing.specs.Cells.{long}
 use Rattle.routes.specs.declared.Route.{Route}
 use Rattle.counts.specs.Counts.{howMany, OneMore}
 use Rattle.counts.proofs.Many.{many-le, many-none, many-some}
 use Rattle.counts.proofs.Changed.{more-own, more-other, more-short}
 use Rattle.sail.specs.Level.{Level}
-use Rattle.sail_theory.proofs.Places.{LiveFor, Apart}
+use Rattle.sail_theory.proofs.places.Places.{LiveFor, Apart}
 use Rattle.sail.specs.Sound.{Counted}
 use Rattle.sail_counts.specs.Tick.{step, ticked, leftAt, Ticks}
 

@@ -1,4 +1,4 @@
 -- The counts of a table's first two levels, one route more or less in them, and their test.
 pub mod Counted
 pub mod Tick
-pub mod Test
+pub mod CountsTest

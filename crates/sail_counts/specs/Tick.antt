@@ -2,7 +2,7 @@
 use mathlib.Core.Bool.{Bool, true, false, cond}
 use mathlib.Core.List.{List}
 use mathlib.Core.Path.{_≡_}
-use Prim.Native.Nat.{ℕ, suc, _-_, _*_, _/_, _%_, _+_, _^_, _≤_, _<_}
+use Prim.Native.Nat.{ℕ, suc, _-_, _*_, _/_, _^_, _≤_, _<_}
 use lib.Dec.{ltb}
 use lib.ListN.{length, getD, set}
 use Rattle.bits.specs.Slot.{slot}
@@ -10,7 +10,7 @@ use Rattle.routes.specs.Record.{routesOf, Records}
 use Rattle.sail.specs.Geometry.{bits2, Valid}
 use Rattle.sail.specs.Level.{entry, chunksOf, level1}
 use Rattle.sail.specs.Sound.{Shows}
-use Rattle.sail.specs.Walk.{place}
+use Rattle.sail.specs.Walk.{cellPlace}
 use Rattle.sail.specs.declared.geometry.Geometry.{Geometry}
 use Rattle.sail_counts.specs.declared.tick.Left.{Left}
 
@@ -28,14 +28,14 @@ leftAt longer up q counts = cond longer (step up (getD counts q 0)) 1
 
 -- the place in a pool of chunks of 2 ^ d cells that serves cell i of its level; `above` are the cells that name its chunks
 abbrev pub placeIn : ℕ → List ℕ → ℕ → ℕ
-placeIn d above i = place d (getD above (i / 2 ^ d) 0) i
+placeIn d above i = cellPlace d (getD above (i / 2 ^ d) 0) i
 
 -- the first cell of the address a, and the place of its second
 abbrev pub firstCell : Geometry → List ℕ → ℕ → ℕ
 firstCell g first a = getD first (slot (g .p1) a) 0
 
 abbrev pub secondAt : Geometry → List ℕ → ℕ → ℕ
-secondAt g first a = place (bits2 g) (firstCell g first a) (slot (g .p2) a)
+secondAt g first a = cellPlace (bits2 g) (firstCell g first a) (slot (g .p2) a)
 
 -- a count of 16 bits can go the step
 pub record Steps (up : Bool) (n : ℕ) : Type 0 where
@@ -60,7 +60,7 @@ pub record Tickable (g : Geometry) (a len : ℕ) (first long1 long2 : List ℕ) 
   pub ticks2 : Ticks (ltb (g .p2) len) up (secondAt g first a) long2
 
 -- and have gone it
-pub record Moved (g : Geometry) (a len : ℕ) (first long1 long2 : List ℕ) (up : Bool) (long1′ long2′ : List ℕ) (left : Left) : Type 0 where
+pub record CountsMoved (g : Geometry) (a len : ℕ) (first long1 long2 : List ℕ) (up : Bool) (long1′ long2′ : List ℕ) (left : Left) : Type 0 where
   pub one : Ticked (ltb (g .p1) len) up (slot (g .p1) a) long1 long1′ (left .first)
   pub two : Ticked (ltb (g .p2) len) up (secondAt g first a) long2 long2′ (left .second)
 

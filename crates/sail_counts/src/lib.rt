@@ -1,4 +1,3 @@
 // The counts of long routes that a SAIL table stores: one route more or less in them, and their test.
-pub mod place;
 pub mod test;
 pub mod tick;

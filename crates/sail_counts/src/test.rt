@@ -6,18 +6,14 @@ ghost use mathlib.Core.Bool.{cond};
 ghost use Prim.Native.Nat.{_≤_, _<_};
 ghost use lib.ListN.{length};
 ghost use Rattle.bits.specs.Tab.{Tells};
-ghost use Rattle.chain.specs.Words.{routesIn};
+ghost use Rattle.chain.specs.Words.{routesOfWords};
 ghost use Rattle.sail_counts.specs.Counted.{Counts};
-ghost use Rattle.sail_counts.specs.Test.{idle, Idle, Goes, RunTold, Tallied, Led, Countable};
-use crate::place::place;
+ghost use Rattle.sail_counts.specs.CountsTest.{idle, Idle, Goes, RunTold, Tallied, Led, Countable};
+use bits::bytes;
+use bits::widen::half_to_index;
 use chain::place::run_end;
 use sail::geometry::Geometry;
-
-fn wide(x: u16) -> usize
-    ensures { λ r. ⌜ (r ≡ x) × (r < 65536) ⌝ }
-{
-    x as usize
-}
+use sail::place::cell_place;
 
 // The count n of a cell that holds v, where it names no chunk, and else 0.
 fn idle_count(v: u16, n: u16) -> u16
@@ -59,10 +55,10 @@ fn goes_on(ws: &[u64], k: usize, p: u32, i: u64) -> bool
         return false;
     }
     let w = ws[k - 1];
-    if (w / 16777216 % 256) as u32 <= p {
+    if (w / bytes::THREE % bytes::ONE) as u32 <= p {
         return false;
     }
-    (w / 4294967296) >> (32 - p) == i
+    (w / bytes::FOUR) >> (32 - p) == i
 }
 
 // Whether the cell of level p has its true count that the run of words from word k on has the bits of, where a run begins
@@ -73,15 +69,15 @@ fn run_ok(ws: &[u64], k: usize, p: u32, d: u32, above: &[u16], counts: &[u16]) -
     ensures { λ r. ⌜ Tells r (RunTold (now (ws .entry)) p d (now (above .entry)) (now (counts .entry)) k) ⌝ }
 {
     let w = ws[k];
-    if (w / 16777216 % 256) as u32 <= p {
+    if (w / bytes::THREE % bytes::ONE) as u32 <= p {
         return true;
     }
-    let i = (w / 4294967296) >> (32 - p);
+    let i = (w / bytes::FOUR) >> (32 - p);
     if goes_on(ws, k, p, i) {
         return true;
     }
-    let q = place(above[(i >> d) as usize], d, i);
-    wide(counts[q]) == run_end(ws, k, p, i) - k
+    let q = cell_place(half_to_index(above[(i >> d) as usize]), d, i as usize);
+    half_to_index(counts[q]) == run_end(ws, k, p, i) - k
 }
 
 // Whether the cells of all words that are longer than p have their true counts.
@@ -112,7 +108,7 @@ pub fn counts_ok(
     long2: &[u16],
 ) -> bool
     requires { ⌜ Countable (now ws) g (now first) (now second) (now own2) (now own3) (now long1) (now long2) ⌝ }
-    ensures { λ r. ⌜ Tells r (Counts (routesIn (now (ws .entry))) g (now (own2 .entry)) (now (long1 .entry)) (now (long2 .entry))) ⌝ }
+    ensures { λ r. ⌜ Tells r (Counts (routesOfWords (now (ws .entry))) g (now (own2 .entry)) (now (long1 .entry)) (now (long2 .entry))) ⌝ }
 {
     let p1 = g.p1;
     let p2 = g.p2;

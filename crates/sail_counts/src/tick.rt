@@ -2,11 +2,12 @@
 ghost use mathlib.Core.Path.{_≡_};
 ghost use Rattle.routes.specs.Record.{routesOf};
 ghost use Rattle.sail_counts.specs.Counted.{Counts};
-ghost use Rattle.sail_counts.specs.Tick.{step, Steps, Ticks, Ticked, Tickable, Moved, Uncounted};
-use crate::place::place;
+ghost use Rattle.sail_counts.specs.Tick.{step, Steps, Ticks, Ticked, Tickable, CountsMoved, Uncounted};
+use bits::widen::byte_to_word;
+use bits::widen::half_to_index;
 use routes::record::read_record;
-use routes::record::wide;
 use sail::geometry::Geometry;
+use sail::place::second_place;
 
 // What is left, at the route's place, of the routes longer than the first level and than the second; 1 where the route is
 // no longer. So 0 says that the chunk that hangs there is needed no more.
@@ -50,13 +51,13 @@ pub fn tick(
     up: bool,
 ) -> Left
     requires { ⌜ Tickable g addr len (now first) (now long1) (now long2) up ⌝ }
-    ensures { λ r. ⌜ Moved g addr len (now (first .entry)) (now (long1 .entry)) (now (long2 .entry)) up (now (long1 .exit)) (now (long2 .exit)) r ⌝ }
+    ensures { λ r. ⌜ CountsMoved g addr len (now (first .entry)) (now (long1 .entry)) (now (long2 .entry)) up (now (long1 .exit)) (now (long2 .exit)) r ⌝ }
 {
     let p1 = g.p1;
     let p2 = g.p2;
-    let l = wide(len);
+    let l = byte_to_word(len);
     let i = bits::slot(p1, addr) as usize;
-    let q = place(first[i], p2 - p1, bits::slot(p2, addr) as u64);
+    let q = second_place(g, half_to_index(first[i]), addr);
     let one = tick_at(long1, p1 < l, i, up);
     let two = tick_at(long2, p2 < l, q, up);
     Left {

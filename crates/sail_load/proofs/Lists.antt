@@ -1,4 +1,4 @@
--- The list that load leaves: the input's bytes are those of its routes. Assumes nothing.
+-- The list that load leaves: the input's bytes are those of its routes.
 use mathlib.Core.Path.{_≡_, sym, _∙_, ap}
 use mathlib.Core.Logic.{_⊎_, inl, inr}
 use mathlib.Core.List.{List}
@@ -6,12 +6,12 @@ use Prim.Native.Nat.{ℕ, _+_, _*_, _/_, _%_, _<_, _≤_}
 use native.Mathlib.Omega.{arith}
 use lib.ListN.{length, getD, List·getD-eq-default}
 use lib.Seq.{ext-getD}
-use Rattle.bits.proofs.Tests.{below?}
+use Rattle.bits.proofs.Bools.{below?}
 use Rattle.bits.proofs.Tabs.{length-tabulate, getD-tabulate}
 use Rattle.routes.specs.Record.{written}
 use Rattle.routes.proofs.Rows.{length-routes, length-written, byte-written, zero-written, listed-written}
 use Rattle.sail_theory.specs.Calls.{inputRoutes}
-use Rattle.sail_make.specs.Fill.{padded}
+use Rattle.buffers.specs.Fill.{padded}
 use Rattle.sail_load.specs.Renew.{Readable}
 
 module _ (s : List ℕ) (bytes : (j : ℕ) → getD s j 0 < 256) (good : Readable s) where
@@ -19,7 +19,12 @@ module _ (s : List ℕ) (bytes : (j : ℕ) → getD s j 0 < 256) (good : Readabl
   n = length s / 8
 
   itself : s ≡ written (inputRoutes s) n
-  itself = listed-written s n bytes (record { records = good .records; whole = omega (arith, good .whole); zeros = λ j a b. absurd (omega (arith, good .whole)) })
+  itself = listed-written s n bytes (record {
+    records = good .records;
+    whole = omega (arith, good .whole);
+    zeros = λ j a b. absurd
+        (omega (arith, good .whole));
+  })
 
   pub padded-written : (room : ℕ) → n ≤ room → padded s (room * 8) ≡ written (inputRoutes s) room
   unfolding padded

@@ -1,4 +1,4 @@
--- What load says, and what it leaves. Assumes nothing.
+-- What load says, and what it leaves.
 use mathlib.Core.Path.{_≡_, refl, sym, _∙_, ap}
 use mathlib.Core.Bool.{Bool, true, false}
 use mathlib.Core.List.{List, [], _∷_}
@@ -19,8 +19,8 @@ use Rattle.sail.specs.declared.geometry.Geometry.{Geometry}
 use Rattle.sail.specs.declared.table.Table.{Table}
 use Rattle.sail_theory.specs.Render.{roomOf}
 use Rattle.sail_theory.specs.Calls.{chunksFault, loadFault, loadSaid, out, loaded, inputRoutes}
-use Rattle.sail_theory.proofs.Loads.{accepted-loadable, loadable-said, load-is, load-off}
-use Rattle.sail_load.specs.Answers.{saysLoaded}
+use Rattle.sail_theory.proofs.calls.Load.{accepted-loadable, loadable-said, load-is, load-off}
+use Rattle.sail_load.specs.Answers.{meansLoaded}
 use Rattle.sail_load.specs.Weigh.{terms, Weighs}
 use Rattle.sail_load.specs.Renew.{Renewable, anew}
 use Rattle.sail_load.specs.declared.load.Loaded.{Loaded}
@@ -52,20 +52,20 @@ module _ (g : Geometry) (s : List ℕ) (n room most2 most3 : ℕ) where
 
 -- what each way through the judgement says
 module _ (t : Table) (l : Lent) (input : List ℕ) (z : ℕ) (check : SizesTold z (t .geometry) l) where
-  pub says-sizes : (z ≡ 0 → ⊥) → saysLoaded (Refused z) ≡ loadSaid t l input
-  unfolding saysLoaded loadSaid
+  pub says-sizes : (z ≡ 0 → ⊥) → meansLoaded (Refused z) ≡ loadSaid t l input
+  unfolding meansLoaded loadSaid
   says-sizes h = rw (← check .number) (sym (or-refused z _ h))
 
   module _ (fits : z ≡ 0) where
     none : sizesFault (t .geometry) l ≡ 0
     none = sym (check .number) ∙ fits
 
-    pub says-bad : (f k : ℕ) → inputSaid input ≡ refusedAt f k → saysLoaded (RefusedAt f k) ≡ loadSaid t l input
-    unfolding saysLoaded loadSaid
+    pub says-bad : (f k : ℕ) → inputSaid input ≡ refusedAt f k → meansLoaded (RefusedAt f k) ≡ loadSaid t l input
+    unfolding meansLoaded loadSaid
     says-bad f k e = rw (none, e)
 
-    pub says-many : inputSaid input ≡ refused 6 → saysLoaded (Refused 6) ≡ loadSaid t l input
-    unfolding saysLoaded loadSaid
+    pub says-many : inputSaid input ≡ refused 6 → meansLoaded (Refused 6) ≡ loadSaid t l input
+    unfolding meansLoaded loadSaid
     says-many e = rw (none, e)
 
     module _ (n : ℕ) (good : inputSaid input ≡ accepted (n ∷ [])) where
@@ -76,18 +76,18 @@ module _ (t : Table) (l : Lent) (input : List ℕ) (z : ℕ) (check : SizesTold 
         whole : f ≡ loadFault (terms (t .geometry) (roomOf l) (length (l .own2)) (length (l .own3))) (inputRoutes input)
         whole = let e : n ≡ length input / 8 = omega (arith, input-good input n good .0) in rw e at weighed
 
-        pub says-full : (f ≡ 0 → ⊥) → saysLoaded (Refused f) ≡ loadSaid t l input
-        unfolding saysLoaded loadSaid
+        pub says-full : (f ≡ 0 → ⊥) → meansLoaded (Refused f) ≡ loadSaid t l input
+        unfolding meansLoaded loadSaid
         says-full h = rw (none, good, ← whole) (sym (or-refused f _ h))
 
-        pub says-done : f ≡ 0 → saysLoaded Done ≡ loadSaid t l input
-        unfolding saysLoaded loadSaid
+        pub says-done : f ≡ 0 → meansLoaded Done ≡ loadSaid t l input
+        unfolding meansLoaded loadSaid
         says-done h = rw (none, good, ← whole, h)
 
 -- the whole call
-module _ (t : Table) (l : Lent) (input : List ℕ) (a : Loaded) (b : Bool) (told : saysLoaded a ≡ loadSaid t l input) (says : b ≡ accepts (saysLoaded a)) where
-  pub load-refuses : b ≡ false → out (saysLoaded a) t l ≡ loaded t l input
-  load-refuses h = sym (load-off t l input (saysLoaded a) (sym told) (sym says ∙ h))
+module _ (t : Table) (l : Lent) (input : List ℕ) (a : Loaded) (b : Bool) (told : meansLoaded a ≡ loadSaid t l input) (says : b ≡ accepts (meansLoaded a)) where
+  pub load-refuses : b ≡ false → out (meansLoaded a) t l ≡ loaded t l input
+  load-refuses h = sym (load-off t l input (meansLoaded a) (sym told) (sym says ∙ h))
 
   module _ (h : b ≡ true) where
     accepted-said : accepts (loadSaid t l input) ≡ true
@@ -101,16 +101,16 @@ module _ (t : Table) (l : Lent) (input : List ℕ) (a : Loaded) (b : Bool) (told
     pub few : length input / 8 ≤ 4096
     few = renewable .readable .records .few
 
-    pub load-loads : (v : Lent) → v ≡ anew t l input → out (saysLoaded a) (record { geometry = t .geometry; count = length input / 8 }) v ≡ loaded t l input
+    pub load-loads : (v : Lent) → v ≡ anew t l input → out (meansLoaded a) (record { geometry = t .geometry; count = length input / 8 }) v ≡ loaded t l input
     load-loads v e =
         let w = accepted-loadable t l input accepted-said in
-        let said : saysLoaded a ≡ accepted [] = told ∙ loadable-said t l input (w .0) (w .1) in
+        let said : meansLoaded a ≡ accepted [] = told ∙ loadable-said t l input (w .0) (w .1) in
         let n = length-routes input (length input / 8) in
         (λ i. record { said = said i; table = record { geometry = t .geometry; count = sym n i }; lent = e i }) ∙ sym (load-is t l input (w .0) (w .1))
 
 -- two answers that are told the same are the same
-pub loaded-injective : (x y : Loaded) → saysLoaded x ≡ saysLoaded y → x ≡ y
-unfolding saysLoaded
+pub loaded-injective : (x y : Loaded) → meansLoaded x ≡ meansLoaded y → x ≡ y
+unfolding meansLoaded
 loaded-injective Done Done e = refl
 loaded-injective Done (Refused n) e = cc
 loaded-injective Done (RefusedAt n k) e = cc

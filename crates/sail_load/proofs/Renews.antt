@@ -10,7 +10,7 @@ use lib.ListN.{length, getD, replicate, length-replicate}
 use borrow.Author.Tests.{le-leb, eqb-true}
 use Rattle.bits.specs.Slot.{slot}
 use Rattle.bits.proofs.Slots.{slot-lt, cut-zero}
-use Rattle.bits.proofs.Tests.{and-split}
+use Rattle.bits.proofs.Bools.{and-split}
 use Rattle.routes.specs.Route.{Good}
 use Rattle.standing.specs.Cells.{within, long}
 use Rattle.routes.specs.Record.{written}
@@ -23,17 +23,17 @@ use Rattle.sail.specs.Lent.{Lent, lent, cells}
 use Rattle.sail.specs.Level.{Level, Chunks, chunksOf, noChunks, below, level1, level2}
 use Rattle.sail.specs.declared.geometry.Geometry.{Geometry}
 use Rattle.sail.specs.declared.table.Table.{Table}
-use Rattle.sail_paint.specs.Stale.{meets, staleBelow, Right, Repainted, AsAsked}
+use Rattle.sail_paint.specs.Stale.{meets, staleBelow, RightButStale, Repainted, AsAsked}
 use Rattle.sail_paint.specs.Pending.{Pending}
 use Rattle.sail_paint.proofs.Rights.{repainted-asked}
 use Rattle.sail_theory.specs.Render.{rendered, Fits, roomOf}
-use Rattle.sail_theory.specs.Calls.{Owners, settled, noOwners, inputRoutes}
-use Rattle.sail_theory.proofs.Places.{chunk-lt, live-owner}
-use Rattle.sail_theory.proofs.Pools.{length-pool, pool-shows}
-use Rattle.sail_theory.proofs.Ends.{any-some}
+use Rattle.sail_theory.specs.Calls.{Owners, ownersAfter, noOwners, inputRoutes}
+use Rattle.sail_theory.proofs.places.Places.{chunk-lt, live-owner}
+use Rattle.sail_theory.proofs.places.Pools.{length-pool, pool-shows}
+use Rattle.standing.proofs.ListParts.{any-some}
 use Rattle.sail.proofs.Fresh.{zeros}
-use Rattle.sail_theory.proofs.Loads.{Fronts, fronts-none, settles}
-use Rattle.sail_make.specs.Fill.{padded}
+use Rattle.sail_theory.proofs.calls.Load.{Fronts, fronts-none, settles}
+use Rattle.buffers.specs.Fill.{padded}
 use Rattle.sail_counts.specs.Counted.{Counts}
 use Rattle.sail_counts.specs.Tick.{Uncounted}
 use Rattle.sail_counts.proofs.Tallies.{counts-are}
@@ -56,7 +56,7 @@ long-lt rs p i h good e = any-some (within p i) rs (i < 2 ^ p) e (λ r m t.
 
 -- so a live place of the level below is stale: nothing is asked of the cells of a pool
 all-stale : (rs : List Route) → Good rs → (v : Level) → v .bits ≤ 32 → (own : List ℕ) (p : ℕ) → Fits rs v (chunksOf own) → (k : Chunks) (cells : List ℕ)
-    → Right rs (below v (chunksOf own) p) k (staleBelow 0 0 v (chunksOf own) p) cells
+    → RightButStale rs (below v (chunksOf own) p) k (staleBelow 0 0 v (chunksOf own) p) cells
 all-stale rs good v h own p f k cells = record {
   right = λ q l u e.
       let here = f .lies _ _ (chunk-lt (p - v .bits) (length own) q l) (live-owner v (chunksOf own) p q u) .2 in
@@ -96,7 +96,7 @@ module _ (t : Table) (l : Lent) (input : List ℕ) (w : Renewable t input l) whe
 
   -- the owners of announcing the routes in order
   abbrev o : Owners
-  o = settled g (noOwners l) rs
+  o = ownersAfter g (noOwners l) rs
 
   ends : Fronts t l rs [] o
   ends = settles (accepted []) t l rs [] (noOwners l) (fronts-none t l rs (w .loadable)) .ends
@@ -125,7 +125,7 @@ module _ (t : Table) (l : Lent) (input : List ℕ) (w : Renewable t input l) whe
         }
 
     module _ (second third own2 own3 : List ℕ) (s2 : second ≡ replicate (length (l .second)) 0) (s3 : third ≡ replicate (length (l .third)) 0)
-        (settles : owners own2 own3 ≡ settled g (owners z2 z3) rs) where
+        (settles : owners own2 own3 ≡ ownersAfter g (owners z2 z3) rs) where
       owned : owners own2 own3 ≡ o
       owned = rw (e2, e3) at settles
 

@@ -1,10 +1,10 @@
--- What load says: its answer, in document 01's terms. Assumes nothing.
+-- What load says: its answer, in document 01's terms.
 use mathlib.Core.List.{[]}
 use Rattle.routes.specs.Said.{Said, accepted, refused, refusedAt}
 use Rattle.sail_load.specs.declared.load.Loaded.{Loaded}
 use Rattle.sail_load.specs.declared.load.Loaded.the-variants as loaded
 
-unfoldable pub saysLoaded : Loaded → Said
-saysLoaded loaded.Done = accepted []
-saysLoaded (loaded.Refused n) = refused n
-saysLoaded (loaded.RefusedAt n k) = refusedAt n k
+unfoldable pub meansLoaded : Loaded → Said
+meansLoaded loaded.Done = accepted []
+meansLoaded (loaded.Refused n) = refused n
+meansLoaded (loaded.RefusedAt n k) = refusedAt n k

@@ -5,8 +5,8 @@ use Prim.Native.Nat.{ℕ}
 use Rattle.sail.specs.Lent.{Lent}
 use Rattle.sail.specs.declared.table.Table.{Table}
 use Rattle.sail_theory.specs.Calls.{Ends, loaded}
-use Rattle.sail_load.specs.Answers.{saysLoaded}
-use Rattle.sail_load.specs.declared.load.Changed.{Changed}
+use Rattle.sail_load.specs.Answers.{meansLoaded}
+use Rattle.sail_load.specs.declared.load.LoadedTable.{LoadedTable}
 
-abbrev pub MeetsLoad : Table → Lent → List ℕ → Changed → Lent → Type 0
-MeetsLoad t l input r e = Ends (saysLoaded (r .answer)) (r .table) e (loaded t l input)
+abbrev pub MeetsLoad : Table → Lent → List ℕ → LoadedTable → Lent → Type 0
+MeetsLoad t l input r e = Ends (meansLoaded (r .answer)) (r .table) e (loaded t l input)

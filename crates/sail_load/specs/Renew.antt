@@ -1,4 +1,4 @@
--- What writing a table anew asks for. Assumes nothing.
+-- What writing a table anew asks for.
 use mathlib.Core.List.{List}
 use mathlib.Core.Path.{_≡_}
 use Prim.Native.Nat.{ℕ, _*_, _/_}
@@ -10,7 +10,7 @@ use Rattle.sail.specs.declared.geometry.Geometry.{Geometry}
 use Rattle.sail.specs.declared.table.Table.{Table}
 use Rattle.sail.specs.Level.{chunksOf, level1, level2}
 use Rattle.sail_theory.specs.Render.{Fits}
-use Rattle.sail_theory.specs.Calls.{settled, noOwners, inputRoutes, lentOf}
+use Rattle.sail_theory.specs.Calls.{ownersAfter, noOwners, inputRoutes, lentOf}
 use Rattle.sail_theory.specs.Facts.{Loadable}
 
 -- whole good records
@@ -34,4 +34,4 @@ pub record Renewable (t : Table) (input : List ℕ) (l : Lent) : Type 0 where
 
 -- what is then lent: as the input's routes ask, with the owners of announcing them in order
 abbrev pub anew : Table → Lent → List ℕ → Lent
-anew t l input = lentOf t l (inputRoutes input) (settled (t .geometry) (noOwners l) (inputRoutes input))
+anew t l input = lentOf t l (inputRoutes input) (ownersAfter (t .geometry) (noOwners l) (inputRoutes input))

@@ -1,4 +1,4 @@
--- What weighing the routes of an input against what is lent asks for. Assumes nothing.
+-- What weighing the routes of an input against what is lent asks for.
 use mathlib.Core.List.{List}
 use Prim.Native.Nat.{ℕ}
 use Rattle.routes.specs.Record.{Records}

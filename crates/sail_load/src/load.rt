@@ -4,10 +4,10 @@ ghost use Rattle.routes.specs.Record.{routesOf};
 ghost use Rattle.routes.specs.Said.{accepts};
 ghost use Rattle.sail.specs.Lent.{lent};
 ghost use Rattle.sail_theory.specs.Calls.{loadFault, loadSaid};
-ghost use Rattle.sail_load.specs.Answers.{saysLoaded};
+ghost use Rattle.sail_load.specs.Answers.{meansLoaded};
 ghost use Rattle.sail_load.specs.Contract.{MeetsLoad};
 ghost use Rattle.sail_load.specs.Weigh.{terms, Weighs};
-use crate::renew::renew;
+use crate::renew::write_table;
 use routes::input::Input;
 use routes::input::check_input;
 use sail::geometry::Geometry;
@@ -23,7 +23,7 @@ pub enum Loaded {
 }
 
 // The answer, and the state beside it.
-pub struct Changed {
+pub struct LoadedTable {
     pub answer: Loaded,
     pub table: Table,
 }
@@ -58,7 +58,7 @@ fn judge(
     long1: &[u16],
     long2: &[u16],
 ) -> Loaded
-    ensures { λ r. ⌜ saysLoaded r ≡ loadSaid t (lent (now (list .entry)) (now (first .entry)) (now (second .entry)) (now (third .entry)) (now (own2 .entry)) (now (own3 .entry)) (now (long1 .entry)) (now (long2 .entry))) (now (input .entry)) ⌝ }
+    ensures { λ r. ⌜ meansLoaded r ≡ loadSaid t (lent (now (list .entry)) (now (first .entry)) (now (second .entry)) (now (third .entry)) (now (own2 .entry)) (now (own3 .entry)) (now (long1 .entry)) (now (long2 .entry))) (now (input .entry)) ⌝ }
 {
     let z = sizes(t, list, first, second, third, own2, own3, long1, long2);
     if z != 0 {
@@ -78,7 +78,7 @@ fn judge(
 }
 
 fn accepts(a: Loaded) -> bool
-    ensures { λ r. ⌜ r ≡ accepts (saysLoaded a) ⌝ }
+    ensures { λ r. ⌜ r ≡ accepts (meansLoaded a) ⌝ }
 {
     match a {
         Loaded::Done => true,
@@ -99,7 +99,7 @@ pub fn load(
     own3: &mut [u32],
     long1: &mut [u16],
     long2: &mut [u16],
-) -> Changed
+) -> LoadedTable
     ensures { λ r. ⌜ MeetsLoad t (lent (now (list .entry)) (now (first .entry)) (now (second .entry)) (now (third .entry)) (now (own2 .entry)) (now (own3 .entry)) (now (long1 .entry)) (now (long2 .entry))) (now (input .entry)) r (lent (now (list .exit)) (now (first .exit)) (now (second .exit)) (now (third .exit)) (now (own2 .exit)) (now (own3 .exit)) (now (long1 .exit)) (now (long2 .exit))) ⌝ }
 {
     let answer = judge(
@@ -115,7 +115,7 @@ pub fn load(
         long2,
     );
     if accepts(answer) {
-        renew(
+        write_table(
             t,
             input,
             list,
@@ -129,10 +129,10 @@ pub fn load(
         );
         let g = t.geometry;
         let count = (input.len() / 8) as u32;
-        return Changed {
+        return LoadedTable {
             answer,
             table: Table { geometry: g, count },
         };
     }
-    Changed { answer, table: t }
+    LoadedTable { answer, table: t }
 }

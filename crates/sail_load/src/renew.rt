@@ -2,15 +2,16 @@
 ghost use mathlib.Core.Path.{_≡_};
 ghost use Rattle.sail.specs.Lent.{lent};
 ghost use Rattle.sail_load.specs.Renew.{Renewable, anew};
+use buffers::fill::fill16;
+use buffers::fill::put8;
+use buffers::fill::zero32;
 use sail::table::Table;
 use sail_counts::tick::count_all;
-use sail_make::fill::fill16;
-use sail_make::fill::put_list;
-use sail_make::fill::zero32;
-use sail_owners::owners::settle_owners;
+use sail_owners::owners::open_all;
+use sail_paint::from_list::repaint_from_list;
 
 // The list, the owners, the cells and the counts. Every cell lies under the prefix of no bits, so all of them are painted.
-pub fn renew(
+pub fn write_table(
     t: Table,
     input: &[u8],
     list: &mut [u8],
@@ -27,14 +28,14 @@ pub fn renew(
 {
     let g = t.geometry;
     let n = input.len() / 8;
-    put_list(list, input);
+    put8(list, input);
     fill16(second, 0);
     fill16(third, 0);
     fill16(long1, 0);
     fill16(long2, 0);
     zero32(own2);
     zero32(own3);
-    settle_owners(g, input, own2, own3);
-    sail_calls::renew::renew(g, input, n, 0, 0, first, second, third, own2, own3);
+    open_all(g, input, own2, own3);
+    repaint_from_list(g, input, n, 0, 0, first, second, third, own2, own3);
     count_all(g, input, n, first, own2, long1, long2);
 }

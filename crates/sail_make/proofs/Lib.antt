@@ -1,4 +1,3 @@
--- What filling lent arrays leaves, and what make leaves and says.
-pub mod Fills
+-- What make leaves and says.
 pub mod Makes
 pub mod OneAnswer

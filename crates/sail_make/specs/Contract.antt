@@ -3,8 +3,8 @@
 use Rattle.sail.specs.Lent.{Lent}
 use Rattle.sail.specs.declared.table.Table.{Table}
 use Rattle.sail_theory.specs.Calls.{Ends, made}
-use Rattle.sail_make.specs.Answers.{saysMade}
+use Rattle.sail_make.specs.Answers.{meansMade}
 use Rattle.sail_make.specs.declared.Fresh.{Fresh}
 
 abbrev pub MeetsMake : Table → Lent → Fresh → Lent → Type 0
-MeetsMake t l r e = Ends (saysMade (r .answer)) (r .table) e (made t l)
+MeetsMake t l r e = Ends (meansMade (r .answer)) (r .table) e (made t l)

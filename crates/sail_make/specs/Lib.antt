@@ -1,4 +1,3 @@
--- What make answers, and what is written over lent bytes.
+-- What make answers.
 pub mod Answers
 pub mod Contract
-pub mod Fill

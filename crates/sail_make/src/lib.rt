@@ -3,12 +3,9 @@ ghost use mathlib.Core.Path.{_≡_};
 ghost use Rattle.sail.specs.Lent.{lent};
 ghost use Rattle.sail.specs.Sound.{freshLent};
 ghost use Rattle.sail_make.specs.Contract.{MeetsMake};
-
-pub mod fill;
-
-use crate::fill::fill16;
-use crate::fill::zero8;
-use crate::fill::zero32;
+use buffers::fill::fill16;
+use buffers::fill::zero8;
+use buffers::fill::zero32;
 use sail::table::Table;
 use sail::table::sizes;
 
@@ -37,7 +34,7 @@ fn blank(
 )
     ensures { λ _. ⌜ lent (now (list .exit)) (now (first .exit)) (now (second .exit)) (now (third .exit)) (now (own2 .exit)) (now (own3 .exit)) (now (long1 .exit)) (now (long2 .exit)) ≡ freshLent (lent (now (list .entry)) (now (first .entry)) (now (second .entry)) (now (third .entry)) (now (own2 .entry)) (now (own3 .entry)) (now (long1 .entry)) (now (long2 .entry))) ⌝ }
 {
-    zero8(list, 0);
+    zero8(list);
     fill16(first, 32768);
     fill16(second, 0);
     fill16(third, 0);

@@ -1,17 +1,16 @@
--- Words of many addresses: steps at one place, passes over a range, and turns. Assumes nothing.
+-- Words of many addresses: steps at one place, passes over a range, and turns.
 use mathlib.Core.List.{List}
 use mathlib.Core.Logic.{_⊎_, inl, inr}
-use mathlib.Core.Path.{_≡_, refl, sym, ap, _∙_}
+use mathlib.Core.Path.{_≡_, refl, ap, _∙_}
 use Prim.Native.Nat.{ℕ, _+_, _≤_, _<_}
 use native.Mathlib.Omega.{arith}
-use lib.ListN.{length, getD, set, length-set}
+use lib.ListN.{length, getD, length-set}
 use lib.Seq.{getD-set-same, getD-set-other}
-use borrow.Author.Count.{below-more}
 use Rattle.bits.specs.Tab.{tabulate}
 use Rattle.bits.proofs.Tabs.{is-tabulate}
-use Rattle.bits.proofs.Tests.{below?}
+use Rattle.bits.proofs.Bools.{below?}
 use Rattle.sail.specs.Geometry.{standardGeo}
-use Rattle.sail_many.specs.Words.{step1, step2, step3, answerAt, put, turned, Flowing, Flows, Swept, Range, Spot, Ready}
+use Rattle.sail_many.specs.Words.{step1, step2, step3, answerAt, put, turned, Flowing, Flows, Swept, AddrRange, Spot, LevelsReady}
 
 module _ (f : ℕ → ℕ → ℕ) (j : ℕ) (out : List ℕ) where
   pub length-put : length (put f j out) ≡ length out
@@ -30,7 +29,8 @@ module _ (f : ℕ → ℕ → ℕ) (j : ℕ) (out : List ℕ) where
 pub swept-none : (f : ℕ → ℕ → ℕ) (from : ℕ) (out : List ℕ) → Swept f from from out out
 swept-none f from out = record { size = refl; went = λ k a b. absurd (omega arith); kept = λ k d. refl }
 
-pub swept-more : (f : ℕ → ℕ → ℕ) (from i : ℕ) (out ys zs : List ℕ) → from ≤ i → i < length out → Swept f from i out ys → zs ≡ put f i ys → Swept f from (i + 1) out zs
+pub swept-more : (f : ℕ → ℕ → ℕ) (from i : ℕ) (out ys zs : List ℕ) → from ≤ i → i < length out → Swept f from i out ys → zs ≡ put f i ys
+    → Swept f from (i + 1) out zs
 swept-more f from i out ys zs a b s e = record {
   size = ap length e ∙ length-put f i ys ∙ s .size;
   went = λ k l h. ap (λ (xs : List ℕ). getD xs k 0) e ∙ go k l h (below? k i);
@@ -55,7 +55,7 @@ pub swept-all : (f : ℕ → ℕ → ℕ) (from i to : ℕ) (out ys : List ℕ) 
 swept-all f from i to out ys a b s = let e : i ≡ to = omega arith in rw e at s
 
 -- a place in the range is one of an address
-pub spot-at : (f : ℕ → ℕ → ℕ) (from i to : ℕ) (ads out ys : List ℕ) → Range from to ads out → Swept f from i out ys → i < to → Spot i ads ys
+pub spot-at : (f : ℕ → ℕ → ℕ) (from i to : ℕ) (ads out ys : List ℕ) → AddrRange from to ads out → Swept f from i out ys → i < to → Spot i ads ys
 spot-at f from i to ads out ys r s h = record { inside = omega (arith, r .inside); even = s .size ∙ r .even }
 
 -- a turn
@@ -120,7 +120,8 @@ module _ (p1 p2 : ℕ) (first second : List ℕ) (m2 : ℕ) (third : List ℕ) (
   abbrev f3 : ℕ → ℕ → ℕ
   f3 = step3 p2 third m3 ads
 
-  pub flows-pair : (xs ys : List ℕ) → xs ≡ turned f1 f2 f3 j out → ys ≡ turned f1 f2 f3 (j + 1) xs → j + 17 < length ads → Flows p1 p2 first second m2 third m3 ads j out
+  pub flows-pair : (xs ys : List ℕ) → xs ≡ turned f1 f2 f3 j out → ys ≡ turned f1 f2 f3 (j + 1) xs → j + 17 < length ads
+      → Flows p1 p2 first second m2 third m3 ads j out
       → Flows p1 p2 first second m2 third m3 ads (j + 2) ys
   flows-pair xs ys a b room s =
       let l : length xs ≡ length ads = ap length a ∙ length-turned f1 f2 f3 j out ∙ s .even in
@@ -140,7 +141,7 @@ abbrev s2 : ℕ
 s2 = standardGeo .p2
 
 module _ (p1 p2 : ℕ) (e1 : p1 ≡ s1) (e2 : p2 ≡ s2) (first second : List ℕ) (m2 : ℕ) (third : List ℕ) (m3 : ℕ) where
-  pub ready-standard : Ready p1 p2 first second m2 third m3 → Ready s1 s2 first second m2 third m3
+  pub ready-standard : LevelsReady p1 p2 first second m2 third m3 → LevelsReady s1 s2 first second m2 third m3
   ready-standard h = rw (e1, e2) at h
 
   pub standard-pair : (ads : List ℕ) (j : ℕ) (out xs ys : List ℕ)
@@ -163,7 +164,8 @@ module _ (p1 p2 : ℕ) (first second : List ℕ) (m2 : ℕ) (third : List ℕ) (
   abbrev answers : ℕ → ℕ
   answers = answerAt p1 p2 first second m2 third m3 ads
 
-  pub few-all : (out xs ys zs : List ℕ) → length out ≡ length ads → Swept in1 0 (length ads) out xs → Swept in2 0 (length ads) xs ys → Swept in3 0 (length ads) ys zs
+  pub few-all : (out xs ys zs : List ℕ) → length out ≡ length ads → Swept in1 0 (length ads) out xs → Swept in2 0 (length ads) xs ys → Swept in3 0
+      (length ads) ys zs
       → zs ≡ tabulate (length ads) answers
   few-all out xs ys zs even a b c =
       is-tabulate 0 zs (length ads) answers (c .size ∙ b .size ∙ a .size ∙ even)
@@ -179,7 +181,8 @@ module _ (p1 p2 : ℕ) (first second : List ℕ) (m2 : ℕ) (third : List ℕ) (
     };
   }
 
-  module _ (m : ℕ) (out xs ys zs : List ℕ) (s : Flows p1 p2 first second m2 third m3 ads m out) (a : Swept in1 (m + 16) (length ads) out xs) (b : Swept in2 (m + 8) (length ads) xs ys)
+  module _ (m : ℕ) (out xs ys zs : List ℕ) (s : Flows p1 p2 first second m2 third m3 ads m out) (a : Swept in1 (m + 16) (length ads) out xs)
+      (b : Swept in2 (m + 8) (length ads) xs ys)
       (c : Swept in3 m (length ads) ys zs) where
     end1 : (k : ℕ) → m + 8 ≤ k → k < length ads → (k < m + 16) ⊎ (m + 16 ≤ k) → getD xs k 0 ≡ step1 p1 first ads k
     end1 k h l (inl d) = a .kept k (inl d) ∙ s .flowing .near k h d

@@ -1,48 +1,35 @@
--- One word and one step of it. Assumes nothing.
+-- One word and one step of it.
 use mathlib.Core.Bool.{true, false}
 use mathlib.Core.List.{List}
 use mathlib.Core.Logic.{_⊎_, inl, inr}
 use mathlib.Core.Path.{_≡_, refl, sym, ap, _∙_}
-use Prim.Native.Nat.{ℕ, _+_, _-_, _*_, _/_, _%_, _^_, _≤_, _<_}
-use native.Mathlib.Nat.{mod-lt, mul-le-mul-left, mul-le-mul-right}
+use Prim.Native.Nat.{ℕ, _+_, _-_, _/_, _%_, _^_, _≤_, _<_}
 use native.Mathlib.Omega.{arith}
-use lib.Arith.{digits-lt}
-use lib.Dec.{leb, eqb}
-use lib.ListN.{length, getD, set}
-use lib.Pow.{pow-pos, pow-mono, shl-exact}
+use lib.ListN.{getD, set}
 use lib.Seq.{set-getD}
 use borrow.Author.Tests.{le-leb, lt-leb, eq-eqb, ne-eqb}
 use Rattle.bits.specs.Slot.{slot}
-use Rattle.bits.proofs.Slots.{shl-one, slot-lt}
-use Rattle.bits.proofs.Tests.{below?}
-use Rattle.sail.specs.Walk.{place, oneOf}
-use Rattle.sail_many.specs.Words.{cellWord, chunkOf, word2, word3, thirdWord, put, Firsts, Whole, Points}
+use Rattle.bits.proofs.Slots.{slot-lt}
+use Rattle.bits.proofs.Bools.{below?}
+use Rattle.sail.specs.Pool.{Chunk}
+use Rattle.sail.specs.Walk.{cellPlace, oneOf}
+use Rattle.sail_many.specs.Words.{cellWord, chunkOfWord, word2, word3, thirdWord, put, Firsts, Whole, Points}
 
 -- the first cell of an address is there
 pub first-there : (p1 n a : ℕ) → Firsts p1 n → a < 2 ^ 32 → slot p1 a < n
 first-there p1 n a h b = omega (arith, slot-lt p1 a (omega arith) b)
 
--- a place in a pool, by a shift and a remainder
-module _ (n m k c i : ℕ) (h : Whole n m k) (b : c < m) where
-  begins : c * 2 ^ k % 2 ^ 64 ≡ c * 2 ^ k
-  begins = shl-exact 12 k 64 (omega arith) (omega arith)
-
-  pub spot-is : c * 2 ^ k % 2 ^ 64 + i % (1 * 2 ^ k % 2 ^ 64) ≡ place k (c + 1) i
-  spot-is = rw (begins, shl-one 64 k (omega arith)) (ap (λ (x : ℕ). x * 2 ^ k + i % 2 ^ k) (omega arith))
-
-  pub spot-in : c * 2 ^ k % 2 ^ 64 + i % (1 * 2 ^ k % 2 ^ 64) < n
-  spot-in = rw (begins, shl-one 64 k (omega arith)) (omega (arith, digits-lt b (mod-lt i (pow-pos k))))
-
-  pub spot-small : c * 2 ^ k % 2 ^ 64 + i % (1 * 2 ^ k % 2 ^ 64) < 4096 * 1024
-  spot-small = omega (arith, spot-in, mul-le-mul-right (2 ^ k) (h .few), mul-le-mul-left 4096 (pow-mono (h .size)))
+-- a chunk that is one of a pool's
+pub chunk-of : (n m k c : ℕ) → Whole n m k → c < m → Chunk n m (c + 1) k
+chunk-of n m k c h b = record { cells = h .cells; one = omega arith; last = omega arith; few = h .few; size = h .size }
 
 -- one step of a word, by where it leads
-module _ (p1 p2 : ℕ) (second : List ℕ) (m a w v : ℕ) (e : chunkOf w ≡ v) where
+module _ (p1 p2 : ℕ) (second : List ℕ) (m a w v : ℕ) (e : chunkOfWord w ≡ v) where
   pub down-not : oneOf m v ≡ false → word2 p1 p2 second m a w ≡ w
   unfolding word2
   down-not o = rw (e, o)
 
-  pub down-on : oneOf m v ≡ true → word2 p1 p2 second m a w ≡ cellWord 2 (getD second (place (p2 - p1) v (slot p2 a)) 0)
+  pub down-on : oneOf m v ≡ true → word2 p1 p2 second m a w ≡ cellWord 2 (getD second (cellPlace (p2 - p1) v (slot p2 a)) 0)
   unfolding word2
   down-on o = rw (e, o)
 
@@ -56,12 +43,12 @@ module _ (p2 : ℕ) (third : List ℕ) (m a w : ℕ) where
     unfolding word3
     last-early n = rw (le-leb 2147483648 w h, ne-eqb (w / 256 % 256) 2 n)
 
-    module _ (r : w / 256 % 256 ≡ 2) (v : ℕ) (e : chunkOf w ≡ v) where
+    module _ (r : w / 256 % 256 ≡ 2) (v : ℕ) (e : chunkOfWord w ≡ v) where
       pub last-not : oneOf m v ≡ false → word3 p2 third m a w ≡ 5
       unfolding word3
       last-not o = rw (le-leb 2147483648 w h, eq-eqb (w / 256 % 256) 2 r, e, o)
 
-      module _ (o : oneOf m v ≡ true) (x : ℕ) (q : x ≡ getD third (place (32 - p2) v a) 0) where
+      module _ (o : oneOf m v ≡ true) (x : ℕ) (q : x ≡ getD third (cellPlace (32 - p2) v a) 0) where
         on-third : word3 p2 third m a w ≡ thirdWord x
         unfolding word3
         on-third = rw (le-leb 2147483648 w h, eq-eqb (w / 256 % 256) 2 r, e, o, q)
@@ -76,31 +63,32 @@ module _ (p2 : ℕ) (third : List ℕ) (m a w : ℕ) where
 
 -- where a word leads, from the chunk that the code counts from 0
 module _ (m w c : ℕ) (e : Points c w) (few : m ≤ 4096) where
-  leads-is : c < m → chunkOf w ≡ c + 1
+  leads-is : c < m → chunkOfWord w ≡ c + 1
   leads-is b = omega arith
 
   leads-on : c < m → oneOf m (c + 1) ≡ true
   leads-on b = rw (le-leb 1 (c + 1) (omega arith), le-leb (c + 1) m (omega arith))
 
-  leads-off : m ≤ c → oneOf m (chunkOf w) ≡ false
+  leads-off : m ≤ c → oneOf m (chunkOfWord w) ≡ false
   leads-off b = go (below? (c + 32769) (2 ^ 64))
     where
-      go : (c + 32769 < 2 ^ 64) ⊎ (2 ^ 64 ≤ c + 32769) → oneOf m (chunkOf w) ≡ false
-      go (inl f) = rw (le-leb 1 (chunkOf w) (omega arith), lt-leb (chunkOf w) m (omega arith))
-      go (inr f) = rw (lt-leb 1 (chunkOf w) (omega arith))
+      go : (c + 32769 < 2 ^ 64) ⊎ (2 ^ 64 ≤ c + 32769) → oneOf m (chunkOfWord w) ≡ false
+      go (inl f) = rw (le-leb 1 (chunkOfWord w) (omega arith), lt-leb (chunkOfWord w) m (omega arith))
+      go (inr f) = rw (lt-leb 1 (chunkOfWord w) (omega arith))
 
   -- a step, as the code takes it
-  pub goes-down : (p1 p2 : ℕ) (second : List ℕ) (a : ℕ) → c < m → (v : ℕ) → v ≡ getD second (place (p2 - p1) (c + 1) (slot p2 a)) 0 → (x : ℕ) → x ≡ cellWord 2 v → x ≡ word2 p1 p2 second m a w
+  pub goes-down : (p1 p2 : ℕ) (second : List ℕ) (a : ℕ) → c < m → (v : ℕ) → v ≡ getD second (cellPlace (p2 - p1) (c + 1) (slot p2 a)) 0 → (x : ℕ) → x
+      ≡ cellWord 2 v → x ≡ word2 p1 p2 second m a w
   goes-down p1 p2 second a b v q x z = z ∙ ap (cellWord 2) q ∙ sym (down-on p1 p2 second m a w (c + 1) (leads-is b) (leads-on b))
 
   pub goes-not : (p1 p2 : ℕ) (second : List ℕ) (a : ℕ) → m ≤ c → w ≡ word2 p1 p2 second m a w
-  goes-not p1 p2 second a b = sym (down-not p1 p2 second m a w (chunkOf w) refl (leads-off b))
+  goes-not p1 p2 second a b = sym (down-not p1 p2 second m a w (chunkOfWord w) refl (leads-off b))
 
   module _ (p2 : ℕ) (third : List ℕ) (a : ℕ) (h : 2147483648 ≤ w) (r : w / 256 % 256 ≡ 2) where
     pub off-second : m ≤ c → 5 ≡ word3 p2 third m a w
-    off-second b = sym (last-not p2 third m a w h r (chunkOf w) refl (leads-off b))
+    off-second b = sym (last-not p2 third m a w h r (chunkOfWord w) refl (leads-off b))
 
-    module _ (b : c < m) (v : ℕ) (q : v ≡ getD third (place (32 - p2) (c + 1) a) 0) where
+    module _ (b : c < m) (v : ℕ) (q : v ≡ getD third (cellPlace (32 - p2) (c + 1) a) 0) where
       pub third-leaf : 32768 ≤ v → (x : ℕ) → x ≡ cellWord 3 v → x ≡ word3 p2 third m a w
       third-leaf f x z = z ∙ sym (last-leaf p2 third m a w h r (c + 1) (leads-is b) (leads-on b) v q f)
 

@@ -1,4 +1,4 @@
--- Addresses on their way through a table: the word that stands for each is that of the cell last read for it. Assumes nothing.
+-- Addresses on their way through a table: the word that stands for each is that of the cell last read for it.
 use mathlib.Core.Bool.{cond}
 use mathlib.Core.List.{List}
 use mathlib.Core.Logic.{_⊎_}
@@ -7,7 +7,7 @@ use Prim.Native.Nat.{ℕ, _+_, _-_, _*_, _/_, _%_, _^_, _≤_, _<_}
 use lib.Dec.{eqb, leb}
 use lib.ListN.{length, getD, set}
 use Rattle.bits.specs.Slot.{slot}
-use Rattle.sail.specs.Walk.{place, oneOf}
+use Rattle.sail.specs.Walk.{cellPlace, oneOf}
 
 -- The word of a cell v that was read as the n-th: the cell with its top bit turned in bits 16 to 31, and n in bits 8 to 15. So a leaf's
 -- word is what the lookup answers, and is below 2 ^ 31; any other is not.
@@ -15,8 +15,8 @@ abbrev pub cellWord : ℕ → ℕ → ℕ
 cellWord n v = (v + 32768) % 65536 * 65536 + n * 256
 
 -- the chunk that a word leads to; 0, which is none, where it is an answer
-abbrev pub chunkOf : ℕ → ℕ
-chunkOf w = w / 65536 - 32768
+abbrev pub chunkOfWord : ℕ → ℕ
+chunkOfWord w = w / 65536 - 32768
 
 -- the word of the first cell of the address a
 abbrev pub word1 : ℕ → List ℕ → ℕ → ℕ
@@ -24,7 +24,7 @@ word1 p1 first a = cellWord 1 (getD first (slot p1 a) 0)
 
 -- from that the word of its second cell, where the first leads to one of m chunks
 unfoldable pub word2 : ℕ → ℕ → List ℕ → ℕ → ℕ → ℕ → ℕ
-word2 p1 p2 second m a w = cond (oneOf m (chunkOf w)) (cellWord 2 (getD second (place (p2 - p1) (chunkOf w) (slot p2 a)) 0)) w
+word2 p1 p2 second m a w = cond (oneOf m (chunkOfWord w)) (cellWord 2 (getD second (cellPlace (p2 - p1) (chunkOfWord w) (slot p2 a)) 0)) w
 
 -- a third cell is a leaf, or damaged
 unfoldable pub thirdWord : ℕ → ℕ
@@ -34,7 +34,7 @@ thirdWord v = cond (leb 32768 v) (cellWord 3 v) 5
 unfoldable pub word3 : ℕ → List ℕ → ℕ → ℕ → ℕ → ℕ
 word3 p2 third m a w =
     cond (leb 2147483648 w)
-    (cond (eqb (w / 256 % 256) 2) (cond (oneOf m (chunkOf w)) (thirdWord (getD third (place (32 - p2) (chunkOf w) a) 0)) 5) 5)
+    (cond (eqb (w / 256 % 256) 2) (cond (oneOf m (chunkOfWord w)) (thirdWord (getD third (cellPlace (32 - p2) (chunkOfWord w) a) 0)) 5) 5)
     w
 
 -- the same for the address at place k
@@ -98,7 +98,7 @@ pub record Spot (j : ℕ) (ads out : List ℕ) : Type 0 where
   pub inside : j < length ads
   pub even : length out ≡ length ads
 
-pub record Range (from to : ℕ) (ads out : List ℕ) : Type 0 where
+pub record AddrRange (from to : ℕ) (ads out : List ℕ) : Type 0 where
   pub order : from ≤ to
   pub inside : to ≤ length ads
   pub even : length out ≡ length ads
@@ -110,7 +110,7 @@ pub record Below (p1 p2 : ℕ) : Type 0 where
   pub high : p2 ≤ 26
 
 -- three levels of the right sizes
-pub record Ready (p1 p2 : ℕ) (first second : List ℕ) (m2 : ℕ) (third : List ℕ) (m3 : ℕ) : Type 0 where
+pub record LevelsReady (p1 p2 : ℕ) (first second : List ℕ) (m2 : ℕ) (third : List ℕ) (m3 : ℕ) : Type 0 where
   pub firsts : Firsts p1 (length first)
   pub below : Below p1 p2
   pub seconds : Whole (length second) m2 (p2 - p1)

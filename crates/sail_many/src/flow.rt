@@ -4,13 +4,13 @@ ghost use mathlib.Core.Path.{_≡_};
 ghost use Prim.Native.Nat.{_+_, _*_, _≤_, _<_};
 ghost use lib.ListN.{length};
 ghost use Rattle.bits.specs.Tab.{tabulate};
-ghost use Rattle.sail_many.specs.Words.{step1, step2, step3, turned, answerAt, Ready, Flows};
-use crate::pass::descends;
-use crate::pass::enters;
-use crate::pass::settles;
-use crate::word::descend;
-use crate::word::enter;
-use crate::word::settle;
+ghost use Rattle.sail_many.specs.Words.{step1, step2, step3, turned, answerAt, LevelsReady, Flows};
+use crate::pass::read_firsts;
+use crate::pass::read_seconds;
+use crate::pass::read_thirds;
+use crate::word::read_first;
+use crate::word::read_second;
+use crate::word::read_third;
 use sail::geometry::Geometry;
 
 // One turn: three addresses go one level on.
@@ -26,12 +26,12 @@ fn turn(
     out: &mut [u32],
     j: usize,
 )
-    requires { ⌜ Ready p1 p2 (now first) (now second) chunks2 (now third) chunks3 × (j + 16 < length (now addrs)) × (length (now out) ≡ length (now addrs)) ⌝ }
+    requires { ⌜ LevelsReady p1 p2 (now first) (now second) chunks2 (now third) chunks3 × (j + 16 < length (now addrs)) × (length (now out) ≡ length (now addrs)) ⌝ }
     ensures { λ _. ⌜ now (out .exit) ≡ turned (step1 p1 (now (first .entry)) (now (addrs .entry))) (step2 p1 p2 (now (second .entry)) chunks2 (now (addrs .entry))) (step3 p2 (now (third .entry)) chunks3 (now (addrs .entry))) j (now (out .entry)) ⌝ }
 {
-    enter(p1, first, addrs, out, j + 16);
-    descend(p1, p2, second, chunks2, addrs, out, j + 8);
-    settle(p2, third, chunks3, addrs, out, j);
+    read_first(p1, first, addrs, out, j + 16);
+    read_second(p1, p2, second, chunks2, addrs, out, j + 8);
+    read_third(p2, third, chunks3, addrs, out, j);
 }
 
 // Two turns, so that a loop has half the tests of its own. The standard geometry has its own way: the compiler then knows the shifts.
@@ -47,7 +47,7 @@ fn round(
     out: &mut [u32],
     j: usize,
 )
-    requires { ⌜ Ready p1 p2 (now first) (now second) chunks2 (now third) chunks3 × (j + 17 < length (now addrs)) × Flows p1 p2 (now first) (now second) chunks2 (now third) chunks3 (now addrs) j (now out) ⌝ }
+    requires { ⌜ LevelsReady p1 p2 (now first) (now second) chunks2 (now third) chunks3 × (j + 17 < length (now addrs)) × Flows p1 p2 (now first) (now second) chunks2 (now third) chunks3 (now addrs) j (now out) ⌝ }
     ensures { λ _. ⌜ Flows p1 p2 (now (first .entry)) (now (second .entry)) chunks2 (now (third .entry)) chunks3 (now (addrs .entry)) (j + 2) (now (out .exit)) ⌝ }
 {
     let standard = Geometry::STANDARD;
@@ -119,7 +119,7 @@ fn stream(
     out: &mut [u32],
     half: usize,
 )
-    requires { ⌜ Ready p1 p2 (now first) (now second) chunks2 (now third) chunks3 × (2 * half + 16 ≤ length (now addrs)) × Flows p1 p2 (now first) (now second) chunks2 (now third) chunks3 (now addrs) 0 (now out) ⌝ }
+    requires { ⌜ LevelsReady p1 p2 (now first) (now second) chunks2 (now third) chunks3 × (2 * half + 16 ≤ length (now addrs)) × Flows p1 p2 (now first) (now second) chunks2 (now third) chunks3 (now addrs) 0 (now out) ⌝ }
     ensures { λ _. ⌜ Flows p1 p2 (now (first .entry)) (now (second .entry)) chunks2 (now (third .entry)) chunks3 (now (addrs .entry)) (2 * half) (now (out .exit)) ⌝ }
 {
     let mut i = 0;
@@ -152,13 +152,13 @@ fn few(
     addrs: &[u32],
     out: &mut [u32],
 )
-    requires { ⌜ Ready p1 p2 (now first) (now second) chunks2 (now third) chunks3 × (length (now out) ≡ length (now addrs)) ⌝ }
+    requires { ⌜ LevelsReady p1 p2 (now first) (now second) chunks2 (now third) chunks3 × (length (now out) ≡ length (now addrs)) ⌝ }
     ensures { λ _. ⌜ now (out .exit) ≡ tabulate (length (now (addrs .entry))) (answerAt p1 p2 (now (first .entry)) (now (second .entry)) chunks2 (now (third .entry)) chunks3 (now (addrs .entry))) ⌝ }
 {
     let n = addrs.len();
-    enters(p1, first, addrs, out, 0, n);
-    descends(p1, p2, second, chunks2, addrs, out, 0, n);
-    settles(p2, third, chunks3, addrs, out, 0, n);
+    read_firsts(p1, first, addrs, out, 0, n);
+    read_seconds(p1, p2, second, chunks2, addrs, out, 0, n);
+    read_thirds(p2, third, chunks3, addrs, out, 0, n);
 }
 
 // Before the first turn: sixteen addresses enter, and eight of them go down.
@@ -173,11 +173,11 @@ fn begin(
     addrs: &[u32],
     out: &mut [u32],
 )
-    requires { ⌜ Ready p1 p2 (now first) (now second) chunks2 (now third) chunks3 × (length (now out) ≡ length (now addrs)) × (16 ≤ length (now addrs)) ⌝ }
+    requires { ⌜ LevelsReady p1 p2 (now first) (now second) chunks2 (now third) chunks3 × (length (now out) ≡ length (now addrs)) × (16 ≤ length (now addrs)) ⌝ }
     ensures { λ _. ⌜ Flows p1 p2 (now (first .entry)) (now (second .entry)) chunks2 (now (third .entry)) chunks3 (now (addrs .entry)) 0 (now (out .exit)) ⌝ }
 {
-    enters(p1, first, addrs, out, 0, 16);
-    descends(p1, p2, second, chunks2, addrs, out, 0, 8);
+    read_firsts(p1, first, addrs, out, 0, 16);
+    read_seconds(p1, p2, second, chunks2, addrs, out, 0, 8);
 }
 
 // After the last turn: those that are left are brought to the end.
@@ -193,13 +193,13 @@ fn finish(
     out: &mut [u32],
     m: usize,
 )
-    requires { ⌜ Ready p1 p2 (now first) (now second) chunks2 (now third) chunks3 × (m + 16 ≤ length (now addrs)) × Flows p1 p2 (now first) (now second) chunks2 (now third) chunks3 (now addrs) m (now out) ⌝ }
+    requires { ⌜ LevelsReady p1 p2 (now first) (now second) chunks2 (now third) chunks3 × (m + 16 ≤ length (now addrs)) × Flows p1 p2 (now first) (now second) chunks2 (now third) chunks3 (now addrs) m (now out) ⌝ }
     ensures { λ _. ⌜ now (out .exit) ≡ tabulate (length (now (addrs .entry))) (answerAt p1 p2 (now (first .entry)) (now (second .entry)) chunks2 (now (third .entry)) chunks3 (now (addrs .entry))) ⌝ }
 {
     let n = addrs.len();
-    enters(p1, first, addrs, out, m + 16, n);
-    descends(p1, p2, second, chunks2, addrs, out, m + 8, n);
-    settles(p2, third, chunks3, addrs, out, m, n);
+    read_firsts(p1, first, addrs, out, m + 16, n);
+    read_seconds(p1, p2, second, chunks2, addrs, out, m + 8, n);
+    read_thirds(p2, third, chunks3, addrs, out, m, n);
 }
 
 // The answers by turns.
@@ -214,7 +214,7 @@ fn flow(
     addrs: &[u32],
     out: &mut [u32],
 )
-    requires { ⌜ Ready p1 p2 (now first) (now second) chunks2 (now third) chunks3 × (length (now out) ≡ length (now addrs)) × (16 ≤ length (now addrs)) ⌝ }
+    requires { ⌜ LevelsReady p1 p2 (now first) (now second) chunks2 (now third) chunks3 × (length (now out) ≡ length (now addrs)) × (16 ≤ length (now addrs)) ⌝ }
     ensures { λ _. ⌜ now (out .exit) ≡ tabulate (length (now (addrs .entry))) (answerAt p1 p2 (now (first .entry)) (now (second .entry)) chunks2 (now (third .entry)) chunks3 (now (addrs .entry))) ⌝ }
 {
     let half = (addrs.len() - 16) / 2;
@@ -257,7 +257,7 @@ pub fn many(
     addrs: &[u32],
     out: &mut [u32],
 )
-    requires { ⌜ Ready p1 p2 (now first) (now second) chunks2 (now third) chunks3 × (length (now out) ≡ length (now addrs)) ⌝ }
+    requires { ⌜ LevelsReady p1 p2 (now first) (now second) chunks2 (now third) chunks3 × (length (now out) ≡ length (now addrs)) ⌝ }
     ensures { λ _. ⌜ now (out .exit) ≡ tabulate (length (now (addrs .entry))) (answerAt p1 p2 (now (first .entry)) (now (second .entry)) chunks2 (now (third .entry)) chunks3 (now (addrs .entry))) ⌝ }
 {
     if addrs.len() < 16 {

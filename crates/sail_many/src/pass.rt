@@ -1,23 +1,23 @@
 // One level for a range of addresses.
 ghost use Prim.Native.Nat.{_-_, _≤_};
 ghost use lib.ListN.{length};
-ghost use Rattle.sail_many.specs.Words.{step1, step2, step3, Firsts, Below, Whole, Range, Swept};
-use crate::word::descend;
-use crate::word::enter;
-use crate::word::settle;
+ghost use Rattle.sail_many.specs.Words.{step1, step2, step3, Firsts, Below, Whole, AddrRange, Swept};
+use crate::word::read_first;
+use crate::word::read_second;
+use crate::word::read_third;
 
-pub fn enters(p1: u32, first: &[u16], addrs: &[u32], out: &mut [u32], from: usize, to: usize)
-    requires { ⌜ Firsts p1 (length (now first)) × Range from to (now addrs) (now out) ⌝ }
+pub fn read_firsts(p1: u32, first: &[u16], addrs: &[u32], out: &mut [u32], from: usize, to: usize)
+    requires { ⌜ Firsts p1 (length (now first)) × AddrRange from to (now addrs) (now out) ⌝ }
     ensures { λ _. ⌜ Swept (λ k _. step1 p1 (now (first .entry)) (now (addrs .entry)) k) from to (now (out .entry)) (now (out .exit)) ⌝ }
 {
     let mut i = from;
     while i < to {
-        enter(p1, first, addrs, out, i);
+        read_first(p1, first, addrs, out, i);
         i += 1;
     }
 }
 
-pub fn descends(
+pub fn read_seconds(
     p1: u32,
     p2: u32,
     second: &[u16],
@@ -27,17 +27,17 @@ pub fn descends(
     from: usize,
     to: usize,
 )
-    requires { ⌜ Whole (length (now second)) chunks (p2 - p1) × Below p1 p2 × Range from to (now addrs) (now out) ⌝ }
+    requires { ⌜ Whole (length (now second)) chunks (p2 - p1) × Below p1 p2 × AddrRange from to (now addrs) (now out) ⌝ }
     ensures { λ _. ⌜ Swept (step2 p1 p2 (now (second .entry)) chunks (now (addrs .entry))) from to (now (out .entry)) (now (out .exit)) ⌝ }
 {
     let mut i = from;
     while i < to {
-        descend(p1, p2, second, chunks, addrs, out, i);
+        read_second(p1, p2, second, chunks, addrs, out, i);
         i += 1;
     }
 }
 
-pub fn settles(
+pub fn read_thirds(
     p2: u32,
     third: &[u16],
     chunks: usize,
@@ -46,12 +46,12 @@ pub fn settles(
     from: usize,
     to: usize,
 )
-    requires { ⌜ Whole (length (now third)) chunks (32 - p2) × (p2 ≤ 32) × Range from to (now addrs) (now out) ⌝ }
+    requires { ⌜ Whole (length (now third)) chunks (32 - p2) × (p2 ≤ 32) × AddrRange from to (now addrs) (now out) ⌝ }
     ensures { λ _. ⌜ Swept (step3 p2 (now (third .entry)) chunks (now (addrs .entry))) from to (now (out .entry)) (now (out .exit)) ⌝ }
 {
     let mut i = from;
     while i < to {
-        settle(p2, third, chunks, addrs, out, i);
+        read_third(p2, third, chunks, addrs, out, i);
         i += 1;
     }
 }

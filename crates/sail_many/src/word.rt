@@ -3,8 +3,9 @@ ghost use mathlib.Core.Path.{_≡_};
 ghost use Prim.Native.Nat.{_+_, _-_, _≤_, _<_};
 ghost use lib.ListN.{length, getD};
 ghost use Rattle.bits.specs.Slot.{slot};
-ghost use Rattle.sail.specs.Walk.{place};
+ghost use Rattle.sail.specs.Walk.{cellPlace};
 ghost use Rattle.sail_many.specs.Words.{cellWord, word3, step1, step2, step3, put, Firsts, Below, Whole, Points, Spot};
+use sail::place::cell_place;
 
 // The word of a cell that was read as the n-th. A leaf's is the answer. Any other's has its top bit set.
 fn word(v: u16, n: u32) -> u32
@@ -24,9 +25,9 @@ fn chunk(w: u32) -> usize
 // The cell in chunk c, counted from 0, that serves cell i of its level.
 fn fetch(pool: &[u16], chunks: usize, c: usize, k: u32, i: u32) -> u16
     requires { ⌜ Whole (length (now pool)) chunks k × (c < chunks) ⌝ }
-    ensures { λ r. ⌜ r ≡ getD (now (pool .entry)) (place k (c + 1) i) 0 ⌝ }
+    ensures { λ r. ⌜ r ≡ getD (now (pool .entry)) (cellPlace k (c + 1) i) 0 ⌝ }
 {
-    let at = (c << k) + (i as usize) % (1 << k);
+    let at = cell_place(c + 1, k, i as usize);
     pool[at]
 }
 
@@ -39,7 +40,7 @@ fn head(p1: u32, first: &[u16], addr: u32) -> u16
 }
 
 // The first cell is read.
-pub fn enter(p1: u32, first: &[u16], addrs: &[u32], out: &mut [u32], j: usize)
+pub fn read_first(p1: u32, first: &[u16], addrs: &[u32], out: &mut [u32], j: usize)
     requires { ⌜ Firsts p1 (length (now first)) × Spot j (now addrs) (now out) ⌝ }
     ensures { λ _. ⌜ now (out .exit) ≡ put (λ k _. step1 p1 (now (first .entry)) (now (addrs .entry)) k) j (now (out .entry)) ⌝ }
 {
@@ -47,7 +48,7 @@ pub fn enter(p1: u32, first: &[u16], addrs: &[u32], out: &mut [u32], j: usize)
 }
 
 // The second cell is read where the first leads to one. Nothing is written where it does not.
-pub fn descend(
+pub fn read_second(
     p1: u32,
     p2: u32,
     second: &[u16],
@@ -85,7 +86,7 @@ fn last(p2: u32, third: &[u16], chunks: usize, addr: u32, w: u32) -> u32
 }
 
 // The third cell is read where the second leads to one, and what leads nowhere is refused. An answer stays.
-pub fn settle(p2: u32, third: &[u16], chunks: usize, addrs: &[u32], out: &mut [u32], j: usize)
+pub fn read_third(p2: u32, third: &[u16], chunks: usize, addrs: &[u32], out: &mut [u32], j: usize)
     requires { ⌜ Whole (length (now third)) chunks (32 - p2) × (p2 ≤ 32) × Spot j (now addrs) (now out) ⌝ }
     ensures { λ _. ⌜ now (out .exit) ≡ put (step3 p2 (now (third .entry)) chunks (now (addrs .entry))) j (now (out .entry)) ⌝ }
 {

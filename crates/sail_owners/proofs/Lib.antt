@@ -2,3 +2,6 @@
 pub mod Needs
 pub mod Packs
 pub mod Passes
+pub mod RisingOwners
+pub mod LoadPass
+pub mod NeedPass

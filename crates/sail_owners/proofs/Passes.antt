@@ -7,7 +7,7 @@ use native.Mathlib.Omega.{arith}
 use native.Mathlib.Numerals.{add-one}
 use lib.ListN.{length, getD, set, replicate, take, drop, length-replicate, take-append-drop}
 use lib.Seq.{take-suc, drop-cons, take-all}
-use Rattle.bits.proofs.Tests.{below?}
+use Rattle.bits.proofs.Bools.{below?}
 use Rattle.routes.specs.Record.{recordAt, noRoute}
 use Rattle.routes.specs.declared.Route.{Route}
 use Rattle.routes.proofs.Rows.{length-routes, nth-route, records-good}
@@ -17,15 +17,31 @@ use Rattle.sail.specs.Sizes.{Sized}
 use Rattle.sail.specs.declared.geometry.Geometry.{Geometry}
 use Rattle.sail.specs.declared.table.Table.{Table}
 use Rattle.sail_theory.specs.Render.{find}
-use Rattle.sail_theory.specs.Calls.{opening, settled, noOwners, inputRoutes}
+use Rattle.sail_theory.specs.Calls.{opening, ownersAfter, noOwners, inputRoutes}
 use Rattle.sail.specs.Level.{Level, chunksOf, level1}
 use Rattle.sail_theory.specs.Facts.{Loadable}
-use Rattle.sail_theory.proofs.Ends.{good-next}
+use Rattle.standing.proofs.ListParts.{good-next}
 use Rattle.sail.proofs.Fresh.{zeros}
-use Rattle.sail_theory.proofs.Chunks.{chunk-is, chunk-le}
-use Rattle.sail_theory.proofs.Passing.{Passing, passing, settled-snoc, next-free, climbs1, climbs2}
-use Rattle.sail_theory.proofs.Ascends.{Climbs, step-had, step-new}
-use Rattle.sail_owners.specs.Owners.{owners, Past, LastIs, Moved, stays, goes, Next, Step, none, hung, Taken, secondFor, Opens, Opened, Ownable}
+use Rattle.sail_theory.proofs.owners.Chunks.{chunk-is, chunk-le}
+use Rattle.sail_owners.proofs.LoadPass.{Passing, passing, settled-snoc, next-free, climbs1, climbs2}
+use Rattle.sail_owners.proofs.RisingOwners.{Climbs, step-had, step-new}
+use Rattle.sail_owners.specs.Owners.{
+  owners,
+  Past,
+  LastIs,
+  OwnersMoved,
+  stays,
+  goes,
+  Next,
+  Step,
+  none,
+  hung,
+  Taken,
+  secondFor,
+  OpenForReady,
+  Opened,
+  Ownable,
+}
 use Rattle.sail_owners.specs.declared.owners.Pass.{Pass}
 use Rattle.sail_owners.specs.declared.owners.Passes.{Passes}
 
@@ -39,18 +55,18 @@ shape g input own2 own3 =
     own2 own3 (replicate (2 ^ g .p1) 0) (replicate (length own2 * 2 ^ bits2 g) 0)
 
 -- how far the pass over a pool has come: chunks before `free` are in use, and the last chunk opened is the last in use
-pub record Reached (own : List ℕ) (u : Pass) : Type 0 where
+pub record PassReached (own : List ℕ) (u : Pass) : Type 0 where
   pub past : Past own (u .free)
   pub last : find own 0 ≡ u .last
 
 -- after the first k records
-pub record Passed (g : Geometry) (input start2 start3 : List ℕ) (k : ℕ) (own2 own3 : List ℕ) (u : Passes) : Type 0 where
-  pub is : owners own2 own3 ≡ settled g (owners start2 start3) (take k (inputRoutes input))
-  pub second : Reached own2 (u .second)
-  pub third : Reached own3 (u .third)
+pub record OwnersPassed (g : Geometry) (input start2 start3 : List ℕ) (k : ℕ) (own2 own3 : List ℕ) (u : Passes) : Type 0 where
+  pub is : owners own2 own3 ≡ ownersAfter g (owners start2 start3) (take k (inputRoutes input))
+  pub second : PassReached own2 (u .second)
+  pub third : PassReached own3 (u .third)
 
 -- The next route climbs at a level: its place has the last chunk that was opened, or gets the next that is free.
-module _ (xs : List Route) (r : Route) (v : Level) (own : List ℕ) (w : Climbs xs r v own) (u : Pass) (p : Reached own u) where
+module _ (xs : List Route) (r : Route) (v : Level) (own : List ℕ) (w : Climbs xs r v own) (u : Pass) (p : PassReached own u) where
   abbrev q : ℕ
   q = v .serving (r .addr)
 
@@ -63,7 +79,7 @@ module _ (xs : List Route) (r : Route) (v : Level) (own : List ℕ) (w : Climbs 
       let x : u .last - 1 ≡ k = omega (arith, p .last) in
       e (record { some = omega (arith, p .last); is = rw x b }))
 
-  granted : v .bits < r .len → (own′ : List ℕ) (s : Pass) → Moved own u (suc q) own′ s → own′ ≡ opening v own r
+  granted : v .bits < r .len → (own′ : List ℕ) (s : Pass) → OwnersMoved own u (suc q) own′ s → own′ ≡ opening v own r
   granted h own′ s (stays e is _) = is ∙ sym (had h e .0)
   granted h own′ s (goes e _ is _) = is ∙ sym (new h e .1)
 
@@ -81,7 +97,7 @@ module _ (xs : List Route) (r : Route) (v : Level) (own : List ℕ) (w : Climbs 
   }
 
   -- then the last chunk opened is the last in use
-  climbs-taken : (s : Pass) (own′ : List ℕ) → Taken v r own u s own′ → Reached own′ s
+  climbs-taken : (s : Pass) (own′ : List ℕ) → Taken v r own u s own′ → PassReached own′ s
   climbs-taken s own′ t = record { past = t .past; last = last (t .step) }
     where
       last : Step own u own′ s → find own′ 0 ≡ s .last
@@ -90,7 +106,7 @@ module _ (xs : List Route) (r : Route) (v : Level) (own : List ℕ) (w : Climbs 
       last (hung z (goes _ h e f)) = ap (λ (x : List ℕ). find x 0) e ∙ next-free own z (w .rising) h ∙ sym f
 
 -- before the first record no chunk is in use
-none-reached : (own : List ℕ) → own ≡ replicate (length own) 0 → Reached own (record { last = 0; free = 0 })
+none-reached : (own : List ℕ) → own ≡ replicate (length own) 0 → PassReached own (record { last = 0; free = 0 })
 none-reached own e = record { past = record { few = omega arith; used = λ j i. absurd (omega arith) }; last = go (below? 0 (length own)) }
   where
     go : (0 < length own) ⊎ (length own ≤ 0) → find own 0 ≡ 0
@@ -137,11 +153,12 @@ module _ (g : Geometry) (input start2 start3 : List ℕ) (w : Ownable g input st
   blank = λ i. record { own2 = sym (w .none2) i; own3 = sym (w .none3) i }
 
   -- before the first
-  pub passed-none : Passed g input start2 start3 0 start2 start3 (record { second = record { last = 0; free = 0 }; third = record { last = 0; free = 0 } })
-  unfolding settled
+  pub passed-none : OwnersPassed g input start2 start3 0 start2 start3
+      (record { second = record { last = 0; free = 0 }; third = record { last = 0; free = 0 } })
+  unfolding ownersAfter
   passed-none = record { is = refl; second = none-reached start2 (w .none2); third = none-reached start3 (w .none3) }
 
-  module _ (k : ℕ) (own2 own3 : List ℕ) (u : Passes) (p : Passed g input start2 start3 k own2 own3 u) where
+  module _ (k : ℕ) (own2 own3 : List ℕ) (u : Passes) (p : OwnersPassed g input start2 start3 k own2 own3 u) where
     abbrev xs : List Route
     xs = take k rs
 
@@ -153,7 +170,7 @@ module _ (g : Geometry) (input start2 start3 : List ℕ) (w : Ownable g input st
     passed-lengths = (stands .fronts .len2, stands .fronts .len3)
 
     -- after the last
-    pub passed-all : length input / 8 ≤ k → owners own2 own3 ≡ settled g (owners start2 start3) rs
+    pub passed-all : length input / 8 ≤ k → owners own2 own3 ≡ ownersAfter g (owners start2 start3) rs
     passed-all h = rw (take-all k rs (rw length-routes h)) at (p .is)
 
     -- the next record
@@ -177,7 +194,7 @@ module _ (g : Geometry) (input start2 start3 : List ℕ) (w : Ownable g input st
       climbs-second : Climbs xs r (secondFor g r own2) own3
       climbs-second = climbs2 t l xs r ys (owners own2 own3) on
 
-      pub passed-opens : Opens g r u own2 own3
+      pub passed-opens : OpenForReady g r u own2 own3
       passed-opens = record {
         valid = w .valid;
         fine = good-next xs r ys (on .fronts .good);
@@ -186,7 +203,7 @@ module _ (g : Geometry) (input start2 start3 : List ℕ) (w : Ownable g input st
         third = climbs-next xs r (secondFor g r own2) own3 climbs-second (u .third) (p .third);
       }
 
-      pub passed-more : (s : Passes) (x y : List ℕ) → Opened g r own2 own3 u s x y → Passed g input start2 start3 (k + 1) x y s
+      pub passed-more : (s : Passes) (x y : List ℕ) → Opened g r own2 own3 u s x y → OwnersPassed g input start2 start3 (k + 1) x y s
       passed-more s x y e = record {
         is = rw (add-one, e .second .is, e .third .is, take-suc rs k noRoute inside, nth, settled-snoc g (owners start2 start3) xs r, ← p .is);
         second = climbs-taken xs r (level1 g) own2 climbs-first (u .second) (p .second) (s .second) x (e .second);

@@ -30,7 +30,7 @@ pub record LastIs (own : List ℕ) (m o : ℕ) : Type 0 where
   pub is : getD own (m - 1) 0 ≡ o
 
 -- A chunk may get the owner o. The last chunk opened decides: it has this owner; or none has, and a chunk is free.
-pub record Hangs (own : List ℕ) (u : Pass) (o : ℕ) : Type 0 where
+pub record MayOwn (own : List ℕ) (u : Pass) (o : ℕ) : Type 0 where
   pub past : Past own (u .free)
   pub inside : u .last ≤ length own
   pub some : 1 ≤ o
@@ -38,34 +38,28 @@ pub record Hangs (own : List ℕ) (u : Pass) (o : ℕ) : Type 0 where
   pub new : (LastIs own (u .last) o → ⊥) → (find own 0 < length own) × (find (set own (find own 0) o) o ≡ find own 0)
 
 -- the owners stay, or the lowest free chunk gets the owner o
-pub data Moved (own : List ℕ) (u : Pass) (o : ℕ) (own′ : List ℕ) (r : Pass) : Type 0 where
-  stays : LastIs own (u .last) o → own′ ≡ own → r .last ≡ u .last → Moved own u o own′ r
-  goes : (LastIs own (u .last) o → ⊥) → find own 0 < length own → own′ ≡ set own (find own 0) o → r .last ≡ suc (find own 0) → Moved own u o own′ r
+pub data OwnersMoved (own : List ℕ) (u : Pass) (o : ℕ) (own′ : List ℕ) (r : Pass) : Type 0 where
+  stays : LastIs own (u .last) o → own′ ≡ own → r .last ≡ u .last → OwnersMoved own u o own′ r
+  goes : (LastIs own (u .last) o → ⊥) → find own 0 < length own → own′ ≡ set own (find own 0) o → r .last ≡ suc (find own 0) → OwnersMoved own u o own′ r
 
 -- A chunk has the owner o, and it is the last.
-pub record Hung (own : List ℕ) (u : Pass) (o : ℕ) (own′ : List ℕ) (r : Pass) : Type 0 where
-  pub moved : Moved own u o own′ r
+pub record HasOwner (own : List ℕ) (u : Pass) (o : ℕ) (own′ : List ℕ) (r : Pass) : Type 0 where
+  pub moved : OwnersMoved own u o own′ r
   pub past : Past own′ (r .free)
   pub inside : r .last ≤ length own′
   pub last : suc (find own′ o) ≡ r .last
-
--- a chunk of the second pool, counted from 1
-pub record Chunk (g : Geometry) (c : ℕ) : Type 0 where
-  pub valid : Valid g
-  pub one : 1 ≤ c
-  pub few : c ≤ 4096
 
 -- The route r comes after all those that the owners of a level's chunks serve. Where it is longer than the level, its place may get a chunk;
 -- and that chunk is the one which announcing r opens.
 pub record Next (v : Level) (r : Route) (u : Pass) (own : List ℕ) : Type 0 where
   pub past : Past own (u .free)
-  pub hangs : v .bits < r .len → Hangs own u (suc (v .serving (r .addr)))
-  pub grants : (own′ : List ℕ) (s : Pass) → v .bits < r .len → Moved own u (suc (v .serving (r .addr))) own′ s → own′ ≡ opening v own r
+  pub hangs : v .bits < r .len → MayOwn own u (suc (v .serving (r .addr)))
+  pub grants : (own′ : List ℕ) (s : Pass) → v .bits < r .len → OwnersMoved own u (suc (v .serving (r .addr))) own′ s → own′ ≡ opening v own r
 
 -- how a pool's owners and its pass moved: not at all, or as for a chunk that hangs from some place
 pub data Step (own : List ℕ) (u : Pass) (own′ : List ℕ) (r : Pass) : Type 0 where
   none : own′ ≡ own → r ≡ u → Step own u own′ r
-  hung : (q : ℕ) → Moved own u (suc q) own′ r → Step own u own′ r
+  hung : (q : ℕ) → OwnersMoved own u (suc q) own′ r → Step own u own′ r
 
 -- its chunk is opened
 pub record Taken (v : Level) (r : Route) (own : List ℕ) (u s : Pass) (own′ : List ℕ) : Type 0 where
@@ -78,7 +72,7 @@ abbrev pub secondFor : Geometry → Route → List ℕ → Level
 secondFor g r own2 = level2 g (chunksOf (opening (level1 g) own2 r))
 
 -- at both levels
-pub record Opens (g : Geometry) (r : Route) (u : Passes) (own2 own3 : List ℕ) : Type 0 where
+pub record OpenForReady (g : Geometry) (r : Route) (u : Passes) (own2 own3 : List ℕ) : Type 0 where
   pub valid : Valid g
   pub fine : Fine r
   pub few2 : length own2 ≤ 4096

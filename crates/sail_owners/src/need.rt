@@ -3,22 +3,17 @@ ghost use mathlib.Core.Path.{_≡_};
 ghost use Prim.Native.Nat.{_≤_};
 ghost use Rattle.standing.specs.Cells.{need};
 ghost use Rattle.routes.specs.Record.{routesOf};
-ghost use Rattle.sail_owners.specs.Need.{Counts};
+ghost use Rattle.sail_owners.specs.Need.{NeedReady};
 use bits::slot;
+use bits::widen::byte_to_word;
+use bits::widen::word_to_long;
 use routes::record::read_record;
-use routes::record::wide;
-
-fn wide64(x: u32) -> u64
-    ensures { λ r. ⌜ r ≡ x ⌝ }
-{
-    x as u64
-}
 
 // How many different cells of level p the first n records have that are longer than p. In an ascending list the records
 // of one cell stand together, but for records that are not longer than p: so a cell is new where it is not that of the
 // last record longer than p. `last` is 1 + that cell.
 pub fn count_need(list: &[u8], n: usize, p: u32) -> usize
-    requires { ⌜ Counts (now list) n p ⌝ }
+    requires { ⌜ NeedReady (now list) n p ⌝ }
     ensures { λ r. ⌜ (r ≡ need (routesOf (now (list .entry)) n) p) × (r ≤ n) ⌝ }
 {
     let mut m = 0;
@@ -27,8 +22,8 @@ pub fn count_need(list: &[u8], n: usize, p: u32) -> usize
     while k < n {
         let r = read_record(list, k);
         k += 1;
-        if p < wide(r.len) {
-            let o = wide64(slot(p, r.addr)) + 1;
+        if p < byte_to_word(r.len) {
+            let o = word_to_long(slot(p, r.addr)) + 1;
             if o != last {
                 last = o;
                 m += 1;

@@ -1,19 +1,18 @@
 // The owners of a load, in one pass over its records. The routes ascend, and so do the places that chunks hang from: a
 // route's chunk is the last one opened, or the next that is free.
 ghost use mathlib.Core.Path.{_≡_};
-ghost use Prim.Native.Nat.{_+_, _-_, _*_, _%_, _^_, _≤_, _<_};
+ghost use Prim.Native.Nat.{_≤_};
 ghost use lib.ListN.{length};
-ghost use Rattle.bits.specs.Slot.{slot};
 ghost use Rattle.bits.specs.Tab.{Tells};
-ghost use Rattle.sail.specs.Geometry.{bits2};
 ghost use Rattle.sail_theory.specs.Render.{find};
-ghost use Rattle.sail_theory.specs.Calls.{inputRoutes, settled};
-ghost use Rattle.sail_owners.specs.Owners.{owners, Past, LastIs, Hangs, Hung, Chunk, Opens, Opened, Ownable};
+ghost use Rattle.sail_theory.specs.Calls.{inputRoutes, ownersAfter};
+ghost use Rattle.sail_owners.specs.Owners.{owners, Past, LastIs, MayOwn, HasOwner, OpenForReady, Opened, Ownable};
 use bits::slot;
+use bits::widen::byte_to_word;
 use routes::Route;
 use routes::record::read_record;
-use routes::record::wide;
 use sail::geometry::Geometry;
+use sail::place::second_place;
 
 // How far the pass over a pool has come: the last chunk that it opened, from 1, or 0; and the first chunk, from 0, that may be
 // free.
@@ -54,9 +53,9 @@ fn next_free(own: &[u32], from: usize) -> usize
 }
 
 // A chunk has the owner o: the last one opened, or the next that is free.
-fn hang(own: &mut [u32], u: Pass, o: u32) -> Pass
-    requires { ⌜ Hangs (now own) u o ⌝ }
-    ensures { λ r. ⌜ Hung (now (own .entry)) u o (now (own .exit)) r ⌝ }
+fn own_chunk(own: &mut [u32], u: Pass, o: u32) -> Pass
+    requires { ⌜ MayOwn (now own) u o ⌝ }
+    ensures { λ r. ⌜ HasOwner (now (own .entry)) u o (now (own .exit)) r ⌝ }
 {
     if last_is(own, u.last, o) {
         return u;
@@ -69,41 +68,32 @@ fn hang(own: &mut [u32], u: Pass, o: u32) -> Pass
     }
 }
 
-// The place of the second pool that serves an address, in chunk c, counted from 1.
-fn place(g: Geometry, c: usize, addr: u32) -> u32
-    requires { ⌜ Chunk g c ⌝ }
-    ensures { λ r. ⌜ (r ≡ (c - 1) * 2 ^ bits2 g + slot (g .p2) addr % 2 ^ bits2 g) × (r < 4194304) ⌝ }
-{
-    let d = g.second_chunk();
-    ((c - 1) * d + (slot(g.p2, addr) as usize) % d) as u32
-}
-
 // Opens the chunks of a route that comes after all those before it.
 fn open_for(g: Geometry, r: Route, u: Passes, own2: &mut [u32], own3: &mut [u32]) -> Passes
-    requires { ⌜ Opens g r u (now own2) (now own3) ⌝ }
+    requires { ⌜ OpenForReady g r u (now own2) (now own3) ⌝ }
     ensures { λ v. ⌜ Opened g r (now (own2 .entry)) (now (own3 .entry)) u v (now (own2 .exit)) (now (own3 .exit)) ⌝ }
 {
     let p1 = g.p1;
     let p2 = g.p2;
     let a = r.addr;
-    let len = wide(r.len);
+    let len = byte_to_word(r.len);
     if len <= p1 {
         return u;
     }
     let at2 = u.second;
     let at3 = u.third;
-    let second = hang(own2, at2, slot(p1, a) + 1);
+    let second = own_chunk(own2, at2, slot(p1, a) + 1);
     if len <= p2 {
         return Passes { second, third: at3 };
     }
-    let third = hang(own3, at3, place(g, second.last, a) + 1);
+    let third = own_chunk(own3, at3, second_place(g, second.last, a) as u32 + 1);
     Passes { second, third }
 }
 
 // The owners after each record of the input is announced in order, where none was before.
-pub fn settle_owners(g: Geometry, input: &[u8], own2: &mut [u32], own3: &mut [u32])
+pub fn open_all(g: Geometry, input: &[u8], own2: &mut [u32], own3: &mut [u32])
     requires { ⌜ Ownable g (now input) (now own2) (now own3) ⌝ }
-    ensures { λ _. ⌜ owners (now (own2 .exit)) (now (own3 .exit)) ≡ settled g (owners (now (own2 .entry)) (now (own3 .entry))) (inputRoutes (now (input .entry))) ⌝ }
+    ensures { λ _. ⌜ owners (now (own2 .exit)) (now (own3 .exit)) ≡ ownersAfter g (owners (now (own2 .entry)) (now (own3 .entry))) (inputRoutes (now (input .entry))) ⌝ }
 {
     let n = input.len() / 8;
     let none = Pass { last: 0, free: 0 };

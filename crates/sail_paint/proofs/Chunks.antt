@@ -1,4 +1,4 @@
--- The chunks of a pool that hang from cells which meet a prefix, painted one by one. Assumes nothing.
+-- The chunks of a pool that hang from cells which meet a prefix, painted one by one.
 use mathlib.Core.Path.{_≡_, refl, sym, ap, _∙_}
 use mathlib.Core.Logic.{_⊎_, inl, inr}
 use mathlib.Core.Bool.{Bool, true, false, not, _&&_, and-true, and-false}
@@ -9,18 +9,18 @@ use native.Mathlib.Omega.{arith}
 use lib.Dec.{eqb, ltb}
 use lib.ListN.{length, getD}
 use borrow.Author.Tests.{not-true, not-false, eqb-true, eqb-false, lt-ltb, le-ltb, ltb-true}
-use Rattle.bits.proofs.Tests.{decided, both, and-split, same}
+use Rattle.bits.proofs.Bools.{decided, both, and-split, same}
 use Rattle.routes.specs.declared.Route.{Route}
-use Rattle.plan.specs.Paint.{between}
+use Rattle.buffers.specs.Fill.{between}
 use Rattle.sail.specs.Level.{partOf, entry}
-use Rattle.sail_theory.proofs.Places.{chunk-lt}
+use Rattle.sail_theory.proofs.places.Places.{chunk-lt}
 use Rattle.sail_paint.specs.Stale.{meets}
 use Rattle.sail_paint.specs.Paint.{overpainted, standsFor, staleIn, staleOf, Above, Part, ChunkOf, Pool}
 use Rattle.sail_paint.proofs.Places.{block-is}
 use Rattle.sail_paint.proofs.Overs.{length-over, over-none, over-ext, over-more}
 
 -- the chunks before c of a pool are painted
-pub record Pooled (rs : List Route) (a len l p d e : ℕ) (up own cells₀ : List ℕ) (c : ℕ) (cells : List ℕ) : Type 0 where
+pub record PaintedTo (rs : List Route) (a len l p d e : ℕ) (up own cells₀ : List ℕ) (c : ℕ) (cells : List ℕ) : Type 0 where
   pub is : cells ≡ overpainted rs p (λ q. ltb (q / 2 ^ d) c && staleIn a len l d (standsFor e up) (entry own) q) (partOf (entry own) d (standsFor e up)) cells₀
 
 module _ (rs : List Route) (a len l p d e : ℕ) (up : List ℕ) where
@@ -43,7 +43,8 @@ module _ (rs : List Route) (a len l p d e : ℕ) (up : List ℕ) where
         over-none rs p _ _ cells (λ q k. rw (z, and-false (ltb 0 o)) (and-false (eqb (q / 2 ^ d) c)))
 
     -- or it is painted
-    pub chunk-over : (i from base n : ℕ) (b : Bool) (after : List ℕ) → (o ≡ 0 → ⊥) → i ≡ at (o - 1) → b ≡ meets a len l i → not b ≡ false → from ≡ c * 2 ^ d → n ≡ 1 * 2 ^ d → base ≡ i * 2 ^ d
+    pub chunk-over : (i from base n : ℕ) (b : Bool) (after : List ℕ) → (o ≡ 0 → ⊥) → i ≡ at (o - 1) → b ≡ meets a len l i → not b ≡ false → from
+        ≡ c * 2 ^ d → n ≡ 1 * 2 ^ d → base ≡ i * 2 ^ d
         → after ≡ overpainted rs p (between from (from + n)) (λ q. base + (q - from)) cells → after ≡ Wanted
     chunk-over i from base n b after some ei is t ef en eb was =
         let z : meets a len l (at (o - 1)) ≡ true = ap (meets a len l) (sym ei) ∙ sym is ∙ not-false b t in
@@ -61,11 +62,11 @@ module _ (rs : List Route) (a len l p d e : ℕ) (up : List ℕ) where
     abbrev upTo : ℕ → ℕ → Bool
     upTo c q = ltb (q / 2 ^ d) c && staleIn a len l d at (entry own) q
 
-    pub pool-none : Pooled rs a len l p d e up own cells₀ 0 cells₀
+    pub pool-none : PaintedTo rs a len l p d e up own cells₀ 0 cells₀
     pool-none = record { is = over-none rs p (upTo 0) _ cells₀ (λ q k. rw (le-ltb (q / 2 ^ d) 0 (omega arith))) }
 
-    pub pool-more : (c o : ℕ) (cells after : List ℕ) → (o ≡ getD own c 0) × (o < 4294967296) → Pooled rs a len l p d e up own cells₀ c cells
-        → after ≡ overpainted rs p (staleOf a len l d at c o) (partOf (λ _. o) d at) cells → Pooled rs a len l p d e up own cells₀ (c + 1) after
+    pub pool-more : (c o : ℕ) (cells after : List ℕ) → (o ≡ getD own c 0) × (o < 4294967296) → PaintedTo rs a len l p d e up own cells₀ c cells
+        → after ≡ overpainted rs p (staleOf a len l d at c o) (partOf (λ _. o) d at) cells → PaintedTo rs a len l p d e up own cells₀ (c + 1) after
     pool-more c o cells after o-is was eq = record {
       is =
           eq ∙ ap (overpainted rs p (staleOf a len l d at c o) (partOf (λ _. o) d at)) (was .is)
@@ -92,15 +93,17 @@ module _ (rs : List Route) (a len l p d e : ℕ) (up : List ℕ) where
             go (inr y) = ap (λ (b : Bool). b && staleIn a len l d at (entry own) q) (more (q / 2 ^ d) (eqb-false (q / 2 ^ d) c y))
               where
                 more : (x : ℕ) → (x ≡ c → ⊥) → ltb x (c + 1) ≡ ltb x c
-                more x n = same (ltb x (c + 1)) (ltb x c) (λ t. let w = ltb-true x (c + 1) t in lt-ltb x c (omega arith)) (λ t. let w = ltb-true x c t in lt-ltb x (c + 1) (omega arith))
+                more x n = same (ltb x (c + 1)) (ltb x c) (λ t. let w = ltb-true x (c + 1) t in lt-ltb x c (omega arith))
+                    (λ t. let w = ltb-true x c t in lt-ltb x (c + 1) (omega arith))
 
-    pub pool-all : (c : ℕ) (cells : List ℕ) → length own ≤ c → length cells₀ ≡ length own * 2 ^ d → Pooled rs a len l p d e up own cells₀ c cells → cells ≡ overpainted rs p (staleIn a len l d at (entry own)) (partOf (entry own) d at) cells₀
+    pub pool-all : (c : ℕ) (cells : List ℕ) → length own ≤ c → length cells₀ ≡ length own * 2 ^ d → PaintedTo rs a len l p d e up own cells₀ c cells
+        → cells ≡ overpainted rs p (staleIn a len l d at (entry own)) (partOf (entry own) d at) cells₀
     pool-all c cells u size was =
         was .is ∙ over-ext rs p (upTo c) (staleIn a len l d at (entry own)) _ _ cells₀
         (λ q k. rw (lt-ltb (q / 2 ^ d) c (let z = chunk-lt d (length own) q (rw size at k) in omega arith)))
         (λ q k t. refl)
 
-    pub length-pooled : (c : ℕ) (cells : List ℕ) → Pooled rs a len l p d e up own cells₀ c cells → length cells ≡ length cells₀
+    pub length-pooled : (c : ℕ) (cells : List ℕ) → PaintedTo rs a len l p d e up own cells₀ c cells → length cells ≡ length cells₀
     length-pooled c cells was = ap length (was .is) ∙ length-over rs p (upTo c) (partOf (entry own) d at) cells₀
 
 -- what painting one chunk asks
@@ -113,7 +116,8 @@ module _ (ws par : List ℕ) (len l p : ℕ) (up : List ℕ) (e o : ℕ) (cells 
       let z = h .levels in
       (rw is (h .hangs .cell (o - 1) (omega arith)), omega arith)
 
-  pub chunk-part : (i from base n : ℕ) → i ≡ standsFor e up (o - 1) → from ≡ c * 2 ^ (p - l) → n ≡ 1 * 2 ^ (p - l) → base ≡ i * 2 ^ (p - l) → Part ws par l i p base cells from (from + n)
+  pub chunk-part : (i from base n : ℕ) → i ≡ standsFor e up (o - 1) → from ≡ c * 2 ^ (p - l) → n ≡ 1 * 2 ^ (p - l) → base ≡ i * 2 ^ (p - l)
+      → Part ws par l i p base cells from (from + n)
   chunk-part i from base n is ef en eb =
       let z = h .levels in
       let w = h .inside in
@@ -132,7 +136,8 @@ module _ (ws par : List ℕ) (len l p : ℕ) (up : List ℕ) (e o : ℕ) (cells 
       }
 
 -- and each chunk of a pool has it
-pub pool-chunk : (ws par : List ℕ) (len l p : ℕ) (up : List ℕ) (e : ℕ) (own cells₀ cells : List ℕ) (c o : ℕ) → Pool ws par len l p up e own cells₀ → length cells ≡ length cells₀ → c < length own → (o ≡ getD own c 0) × (o < 4294967296)
+pub pool-chunk : (ws par : List ℕ) (len l p : ℕ) (up : List ℕ) (e : ℕ) (own cells₀ cells : List ℕ) (c o : ℕ) → Pool ws par len l p up e own cells₀
+    → length cells ≡ length cells₀ → c < length own → (o ≡ getD own c 0) × (o < 4294967296)
     → ChunkOf ws par len l p up e o cells c
 pool-chunk ws par len l p up e own cells₀ cells c o h n k is = record {
   levels = h .levels;

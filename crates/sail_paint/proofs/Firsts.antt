@@ -1,4 +1,4 @@
--- The first cells that meet a prefix, painted block by block. Assumes nothing.
+-- The first cells that meet a prefix, painted block by block.
 use mathlib.Core.Path.{_≡_, refl, sym, ap, _∙_}
 use mathlib.Core.Bool.{Bool, false, true≢false}
 use mathlib.Core.List.{List}
@@ -8,28 +8,28 @@ use lib.ListN.{length}
 use lib.Pow.{pow-add}
 use Rattle.bits.specs.Slot.{slot}
 use Rattle.routes.specs.declared.Route.{Route}
-use Rattle.plan.specs.Paint.{between}
-use Rattle.plan.proofs.Fills.{Place, below, inside, above, place, between-in, between-below, between-above}
+use Rattle.buffers.specs.Fill.{between}
+use Rattle.buffers.proofs.Ranges.{Side, below, inside, above, side, between-in, between-below, between-above}
 use Rattle.sail.specs.Level.{itself}
 use Rattle.sail_paint.specs.Stale.{meets}
-use Rattle.sail_paint.specs.Paint.{overpainted, Part, FirstCells, BlockEnd}
+use Rattle.sail_paint.specs.Paint.{overpainted, Part, FirstPaintReady, BlockEnd}
 use Rattle.sail_paint.proofs.Places.{between-parts, range-is, range-fits}
 use Rattle.sail_paint.proofs.Overs.{length-over, over-none, over-ext, over-more}
 
 -- no cell is between a and a
 none-between : (a q : ℕ) → between a a q ≡ false
-none-between a q = go (place a a q)
+none-between a q = go (side a a q)
   where
-    go : Place a a q → between a a q ≡ false
+    go : Side a a q → between a a q ≡ false
     go (below l) = between-below a a q l
     go (inside l u) = absurd (omega arith)
     go (above l u) = between-above a a q u
 
 -- one block more
 grown : (a lo hi q : ℕ) → a ≤ lo → lo ≤ hi → between lo hi q ≡ false → between a hi q ≡ between a lo q
-grown a lo hi q l u n = go (place a lo q) (place lo hi q)
+grown a lo hi q l u n = go (side a lo q) (side lo hi q)
   where
-    go : Place a lo q → Place lo hi q → between a hi q ≡ between a lo q
+    go : Side a lo q → Side lo hi q → between a hi q ≡ between a lo q
     go (below x) z = rw (between-below a lo q x) (between-below a hi q x)
     go (inside x y) z = rw (between-in a lo q x y) (between-in a hi q x (omega arith))
     go (above x y) (below z) = absurd (omega arith)
@@ -48,12 +48,13 @@ module _ (rs : List Route) (p : ℕ) (first₀ : List ℕ) (from : ℕ) where
       (λ q k t. let s = between-parts lo hi q t in (between-in from hi q (omega (arith, s .0)) (s .1), omega (arith, s .0)))
       (λ q k t. grown from lo hi q l u t)
 
-module _ (ws par : List ℕ) (p a len : ℕ) (first₀ : List ℕ) (h : FirstCells ws par p a len first₀) where
+module _ (ws par : List ℕ) (p a len : ℕ) (first₀ : List ℕ) (h : FirstPaintReady ws par p a len first₀) where
   powers : 2 ^ p ≡ 2 ^ (p - 10) * 1024
   powers = let e : p ≡ p - 10 + 10 = let z = h .low in omega arith in ap (λ (n : ℕ). 2 ^ n) e ∙ pow-add 2 (p - 10) 10
 
   -- a block lies in one cell of level p - 10
-  pub first-part : (rs : List Route) (f : ℕ → Bool) (first : List ℕ) (from end lo hi : ℕ) → from ≡ slot p a → end ≡ from + 2 ^ (p - len) → first ≡ overpainted rs p f itself first₀ → BlockEnd lo end hi
+  pub first-part : (rs : List Route) (f : ℕ → Bool) (first : List ℕ) (from end lo hi : ℕ) → from ≡ slot p a → end ≡ from + 2 ^ (p - len) → first
+      ≡ overpainted rs p f itself first₀ → BlockEnd lo end hi
       → Part ws par (p - 10) (lo / 1024) p lo first lo hi
   first-part rs f first from end lo hi s e was b =
       let k : p - (p - 10) ≡ 10 = let z = h .low in omega arith in
@@ -73,7 +74,8 @@ module _ (ws par : List ℕ) (p a len : ℕ) (first₀ : List ℕ) (h : FirstCel
         };
       }
 
-  pub first-all : (rs : List Route) (first : List ℕ) (from end lo : ℕ) → from ≡ slot p a → end ≡ from + 2 ^ (p - len) → lo ≤ end → end ≤ lo → first ≡ overpainted rs p (between from lo) itself first₀
+  pub first-all : (rs : List Route) (first : List ℕ) (from end lo : ℕ) → from ≡ slot p a → end ≡ from + 2 ^ (p - len) → lo ≤ end → end ≤ lo → first
+      ≡ overpainted rs p (between from lo) itself first₀
       → first ≡ overpainted rs p (meets a len p) itself first₀
   first-all rs first from end lo s e l u was =
       let z : lo ≡ slot p a + 2 ^ (p - len) = omega arith in

@@ -1,21 +1,23 @@
--- Where chunks hang, and which cells meet a prefix. Assumes nothing.
+-- Where chunks hang, and which cells meet a prefix.
 use mathlib.Core.Path.{_≡_, refl, sym, ap, _∙_}
 use mathlib.Core.Bool.{true, cond}
 use mathlib.Core.List.{List}
-use Prim.Native.Nat.{ℕ, zero, suc, _+_, _-_, _*_, _/_, _%_, _^_, _≤_, _<_}
-use native.Mathlib.Nat.{mod-lt, mul-le-mul, mul-le-mul-right, mul-assoc, div-mul-le-self, lt-div-mul-add, div-eq-of-lt-le, add-mul, one-mul}
+use Prim.Native.Nat.{ℕ, zero, suc, _+_, _-_, _*_, _/_, _^_, _≤_, _<_}
+use native.Mathlib.Nat.{mul-le-mul-right, mul-assoc, div-mul-le-self, lt-div-mul-add, div-eq-of-lt-le, add-mul, one-mul}
 use native.Mathlib.Decide.{decLe}
 use native.Mathlib.Omega.{arith}
 use lib.Dec.{eqb, leb, ltb}
 use lib.ListN.{getD}
-use lib.Pow.{pow-add, pow-pos, pow-mono, shl-exact, shl-shr}
+use lib.Pow.{pow-add, pow-pos, shl-shr}
 use borrow.Author.Tests.{leb-true, ltb-true, eqb-true, le-leb, lt-leb, lt-ltb, eq-eqb}
 use Rattle.bits.specs.Slot.{slot}
-use Rattle.bits.proofs.Slots.{shl-one, slot-lt, cut-is}
-use Rattle.bits.proofs.Tests.{both, and-split, same}
+use Rattle.bits.proofs.Slots.{slot-lt, cut-is}
+use Rattle.bits.proofs.Bools.{both, and-split, same}
 use Rattle.routes.specs.Route.{Prefix}
-use Rattle.plan.specs.Paint.{between}
+use Rattle.buffers.specs.Fill.{between}
 use Rattle.sail.specs.Level.{itself, partOf, entry}
+use Rattle.sail.specs.Pool.{Numbered}
+use Rattle.sail.specs.Walk.{cellPlace}
 use Rattle.sail_paint.specs.Stale.{meets}
 use Rattle.sail_paint.specs.Paint.{standsFor, Above}
 
@@ -30,28 +32,13 @@ unfolding standsFor
 stands-part zero up q h = absurd (h refl)
 stands-part (suc e) up q h = refl
 
--- by shifts
-module _ (up : List ℕ) (e q v : ℕ) (h : Above up e q) (some : e ≡ 0 → ⊥) (is : (v ≡ getD up (q / 2 ^ e) 0) × (v < 4294967296)) where
-  size-is : 1 * 2 ^ e % 2 ^ 64 ≡ 2 ^ e
-  size-is = shl-one 64 e (omega arith)
+-- its owner leads to it
+module _ (up : List ℕ) (e q v : ℕ) (some : e ≡ 0 → ⊥) (is : (v ≡ getD up (q / 2 ^ e) 0) × (v < 4294967296)) where
+  pub owner-numbered : Above up e q → Numbered v e
+  owner-numbered h = record { one = omega (arith, is .0, h .owned (omega (arith, some))); few = omega (arith, is .1); size = omega (arith, h .small) }
 
-  pub size-some : 0 < 1 * 2 ^ e % 2 ^ 64
-  size-some = omega (arith, size-is, pow-pos e)
-
-  cell-is : (v - 1) * 2 ^ e % 2 ^ 64 ≡ (v - 1) * 2 ^ e
-  cell-is = let u = is .1 in shl-exact 32 e 64 (omega arith) (omega arith)
-
-  pub stands-is : (v - 1) * 2 ^ e % 2 ^ 64 + q % (1 * 2 ^ e % 2 ^ 64) ≡ standsFor e up q
-  stands-is = rw (cell-is, size-is, is .0) (sym (stands-part e up q some))
-
-  pub stands-fits : (v - 1) * 2 ^ e % 2 ^ 64 + q % (1 * 2 ^ e % 2 ^ 64) < 2 ^ 64
-  stands-fits =
-      let u = is .1 in
-      let a : v - 1 ≤ 4294967295 = omega arith in
-      let m = mul-le-mul a (pow-mono (h .small)) in
-      let r = mod-lt q size-some in
-      let z = pow-mono (h .small) in
-      omega (arith, cell-is, size-is)
+  pub stands-is : (r : ℕ) → r ≡ cellPlace e v q → r ≡ standsFor e up q
+  stands-is r f = f ∙ ap (λ (x : ℕ). cellPlace e x q) (is .0) ∙ sym (stands-part e up q some)
 
 -- the code's test
 pub meets-under : (a len p i : ℕ) → len ≤ p → eqb (i / 2 ^ (p - len)) (a / 2 ^ (32 - len)) ≡ meets a len p i
@@ -115,7 +102,8 @@ module _ (a len p : ℕ) (ok : Prefix a len) (deep : p ≤ 32) where
           let s = slot-lt len a (ok .len-ok) (ok .addr-ok) in
           let m = mul-le-mul-right (2 ^ (p - len)) (let l : slot len a + 1 ≤ 2 ^ len = omega arith in l) in
           let e : 2 ^ len * 2 ^ (p - len) ≡ 2 ^ p = sym (pow-add 2 len (p - len)) ∙ ap (λ (x : ℕ). 2 ^ x) (omega arith) in
-          let f : (slot len a + 1) * 2 ^ (p - len) ≡ slot len a * 2 ^ (p - len) + 2 ^ (p - len) = add-mul _ 1 _ ∙ ap (λ (x : ℕ). slot len a * 2 ^ (p - len) + x) (one-mul _) in
+          let f : (slot len a + 1) * 2 ^ (p - len) ≡ slot len a * 2 ^ (p - len) + 2 ^ (p - len) = add-mul _ 1 _ ∙ ap
+          (λ (x : ℕ). slot len a * 2 ^ (p - len) + x) (one-mul _) in
           omega (arith, first-is h)
       go (no h) =
           let z : p - len ≡ 0 = omega arith in

@@ -8,10 +8,10 @@ use native.Mathlib.Omega.{arith}
 use lib.ListN.{length, getD}
 use lib.Seq.{ext-getD}
 use borrow.Author.Tests.{lt-ltb, le-ltb}
-use Rattle.bits.proofs.Tests.{decided, below?, and-split}
+use Rattle.bits.proofs.Bools.{decided, below?, and-split}
 use Rattle.standing.specs.Cells.{long, best}
 use Rattle.routes.specs.declared.Route.{Route}
-use Rattle.chain.specs.Words.{routesIn}
+use Rattle.chain.specs.Words.{routesOfWords}
 use Rattle.chain.proofs.Decodes.{words-good}
 use Rattle.plan.specs.Plan.{plan}
 use Rattle.sail.specs.Geometry.{bits2}
@@ -21,13 +21,13 @@ use Rattle.sail.specs.Level.{Level, Chunks, chunkFor, deep, itself, partOf, ent
 use Rattle.sail.specs.Sound.{Clear}
 use Rattle.sail.specs.declared.geometry.Geometry.{Geometry}
 use Rattle.sail_theory.specs.Render.{shown, laidOver, Fits}
-use Rattle.sail_theory.proofs.Chunks.{chunk-at}
-use Rattle.sail_theory.proofs.Places.{chunk-lt, live-owner}
-use Rattle.sail_theory.proofs.Rendered.{top-clear, last-fits}
-use Rattle.sail_theory.proofs.Frames.{top-bounded, below-bounded}
-use Rattle.sail_theory.proofs.Pools.{length-laid, laid-at, shown-leaf, shown-node, laid-rendered}
-use Rattle.sail_paint.specs.Stale.{meets, staleBelow, Right, Stale, Repainted, AsAsked}
-use Rattle.sail_paint.specs.Paint.{overpainted, stampedBy, stamped, standsFor, staleIn, Above, FirstCells, Pool, Stamps}
+use Rattle.sail_theory.proofs.owners.Chunks.{chunk-at}
+use Rattle.sail_theory.proofs.places.Places.{chunk-lt, live-owner}
+use Rattle.sail_theory.proofs.places.Rendered.{top-clear, last-fits}
+use Rattle.sail_theory.proofs.frames.LevelFrame.{top-bounded, below-bounded}
+use Rattle.sail_theory.proofs.places.Pools.{length-laid, laid-at, shown-leaf, shown-node, laid-rendered}
+use Rattle.sail_paint.specs.Stale.{meets, staleBelow, RightButStale, Stale, Repainted, AsAsked}
+use Rattle.sail_paint.specs.Paint.{overpainted, stampedBy, stamped, standsFor, staleIn, Above, FirstPaintReady, Pool, Stamps}
 use Rattle.sail_paint.proofs.Places.{stands-itself, stands-part}
 use Rattle.sail_paint.proofs.Overs.{length-over, over-at}
 use Rattle.sail_paint.proofs.Stamping.{stampAt, length-stamped, stamped-at, stamp-none}
@@ -39,7 +39,7 @@ plan-leaf rs p i e = rw e
 
 -- A level whose chunks fit, and whose live cells are right but for stale ones. These are painted, and the numbers of chunks stamped over all.
 module _ (rs : List Route) (v : Level) (k : Chunks) (f : Fits rs v k) (stale : ℕ → Bool) (lives : (q : ℕ) → stale q ≡ true → v .live q ≡ true)
-    (cells : List ℕ) (size : length cells ≡ v .places) (is : Right rs v k stale cells) where
+    (cells : List ℕ) (size : length cells ≡ v .places) (is : RightButStale rs v k stale cells) where
   abbrev painted : List ℕ
   painted = overpainted rs (v .bits) stale (v .at) cells
 
@@ -92,7 +92,7 @@ level-stamps rs v own few f now size = record { few = few; inside = λ c q k o. 
 
 module _ (g : Geometry) (ws par : List ℕ) (a len : ℕ) (l : Cells) (s : Stale g ws par a len l) where
   abbrev rs : List Route
-  rs = routesIn ws
+  rs = routesOfWords ws
 
   abbrev k2 : Chunks
   k2 = chunksOf (l .own2)
@@ -107,7 +107,7 @@ module _ (g : Geometry) (ws par : List ℕ) (a len : ℕ) (l : Cells) (s : Stale
   v3 = level3 g k2 k3
 
   -- What is asked at each step.
-  pub first-asks : FirstCells ws par (g .p1) a len (l .first)
+  pub first-asks : FirstPaintReady ws par (g .p1) a len (l .first)
   first-asks = let v = s .celled .valid in record { ready = s .ready; prefix = s .prefix; low = omega arith; deep = omega arith; cells = s .celled .cells1 }
 
   pub first-stamps : (now : List ℕ) → length now ≡ length (l .first) → Stamps (l .own2) now
@@ -164,13 +164,17 @@ module _ (g : Geometry) (ws par : List ℕ) (a len : ℕ) (l : Cells) (s : Stale
       e′ ∙ ap (stamped (l .own2)) e
       ∙ level-right rs (level1 g) k2 (s .fits2) (meets a len (g .p1)) (λ q t. refl) (l .first) (s .celled .cells1) (s .right1)
 
-  pub second-is : (now after : List ℕ) → now ≡ poolPainted rs a len (g .p1) (g .p2) (standsFor 0 (l .own2)) (l .own2) (l .second) → after ≡ stamped (l .own3) now
+  pub second-is : (now after : List ℕ) → now ≡ poolPainted rs a len (g .p1) (g .p2) (standsFor 0 (l .own2)) (l .own2) (l .second) → after ≡ stamped
+      (l .own3) now
       → after ≡ laidOver rs v2 k3 (l .second)
   second-is now after e e′ =
-      e′ ∙ ap (stamped (l .own3)) (e ∙ pool-as rs a len (g .p1) (g .p2) (standsFor 0 (l .own2)) itself (l .own2) (l .second) (λ q. sym (stands-itself 0 (l .own2) q refl)))
-      ∙ level-right rs v2 k3 (s .fits3) (staleBelow a len (level1 g) k2 (g .p2)) (λ q t. and-split (v2 .live q) _ t .0) (l .second) (s .celled .cells2) (s .right2)
+      e′ ∙ ap (stamped (l .own3)) (e ∙ pool-as rs a len (g .p1) (g .p2) (standsFor 0 (l .own2)) itself (l .own2) (l .second)
+      (λ q. sym (stands-itself 0 (l .own2) q refl)))
+      ∙ level-right rs v2 k3 (s .fits3) (staleBelow a len (level1 g) k2 (g .p2)) (λ q t. and-split (v2 .live q) _ t .0) (l .second)
+      (s .celled .cells2) (s .right2)
 
-  pub third-is : (after : List ℕ) → after ≡ poolPainted rs a len (g .p2) 32 (standsFor (bits2 g) (l .own2)) (l .own3) (l .third) → after ≡ laidOver rs v3 noChunks (l .third)
+  pub third-is : (after : List ℕ) → after ≡ poolPainted rs a len (g .p2) 32 (standsFor (bits2 g) (l .own2)) (l .own3) (l .third) → after
+      ≡ laidOver rs v3 noChunks (l .third)
   third-is after e =
       e ∙ pool-as rs a len (g .p2) 32 (standsFor (bits2 g) (l .own2)) (v2 .at) (l .own3) (l .third) (λ q. stands-part (bits2 g) (l .own2) q some2)
       ∙ stamp-none (noChunks .own) _

@@ -1,4 +1,4 @@
--- The numbers of chunks, stamped one by one into the cells that they hang from. Assumes nothing.
+-- The numbers of chunks, stamped one by one into the cells that they hang from.
 use mathlib.Core.Path.{_≡_, refl, sym, _∙_}
 use mathlib.Core.Logic.{_⊎_, inl, inr, _≢_}
 use mathlib.Core.Bool.{true, false, cond}
@@ -9,10 +9,10 @@ use native.Mathlib.Omega.{arith}
 use lib.Dec.{eqb, ltb}
 use lib.ListN.{length, getD, set}
 use borrow.Author.Tests.{lt-ltb, le-ltb, eqb-true, eqb-false}
-use Rattle.bits.proofs.Tests.{decided, below?, equal?}
+use Rattle.bits.proofs.Bools.{decided, below?, equal?}
 use Rattle.bits.proofs.Tabs.{length-tabulate, getD-tabulate, is-tabulate, tabulate-ext, set-tabulate}
 use Rattle.sail.specs.Level.{chunkFor, entry}
-use Rattle.sail_theory.proofs.Chunks.{chunk-at, chunk-before, chunk-is, chunk-none}
+use Rattle.sail_theory.proofs.owners.Chunks.{chunk-at, chunk-before, chunk-is, chunk-none}
 use Rattle.sail_paint.specs.Paint.{chunks, stampedBy, Stamps}
 
 -- what is stamped over x at place q, of the first m chunks
@@ -26,7 +26,8 @@ module _ (own : ℕ → ℕ) (q x : ℕ) where
     where
       go : (chunkFor (chunks k own) (suc q) < k) ⊎ (k ≤ chunkFor (chunks k own) (suc q)) → stampAt own (suc k) q x ≡ stampAt own k q x
       go (inl l) =
-          let e : chunkFor (chunks (suc k) own) (suc q) ≡ chunkFor (chunks k own) (suc q) = chunk-is (chunks (suc k) own) (suc q) (chunkFor (chunks k own) (suc q)) (omega arith) (chunk-at (chunks k own) (suc q) l) (chunk-before (chunks k own) (suc q)) in
+          let e : chunkFor (chunks (suc k) own) (suc q) ≡ chunkFor (chunks k own) (suc q) = chunk-is (chunks (suc k) own) (suc q)
+          (chunkFor (chunks k own) (suc q)) (omega arith) (chunk-at (chunks k own) (suc q) l) (chunk-before (chunks k own) (suc q)) in
           rw (e, lt-ltb (chunkFor (chunks k own) (suc q)) (suc k) (omega arith), lt-ltb (chunkFor (chunks k own) (suc q)) k l)
       go (inr l) =
           let e : chunkFor (chunks (suc k) own) (suc q) ≡ suc k = chunk-none (chunks (suc k) own) (suc q) (λ j u. each j u (equal? j k)) in
@@ -59,7 +60,8 @@ module _ (own cells : List ℕ) (s : Stamps own cells) (c o : ℕ) (l : c < leng
   -- a chunk that is free
   pub stamp-free : (now : List ℕ) → o ≡ 0 → now ≡ stampedBy c (entry own) cells → now ≡ stampedBy (c + 1) (entry own) cells
   unfolding stampedBy
-  stamp-free now z was = was ∙ rw add-one (tabulate-ext (length cells) _ _ (λ q u. sym (stamp-other (entry own) q (getD cells q 0) c (λ e. omega (arith, is .0)))))
+  stamp-free now z was = was ∙ rw add-one (tabulate-ext (length cells) _ _
+      (λ q u. sym (stamp-other (entry own) q (getD cells q 0) c (λ e. omega (arith, is .0)))))
 
   owner : (o ≡ 0 → ⊥) → getD own c 0 ≡ suc (o - 1)
   owner some = omega (arith, is .0)
@@ -76,6 +78,7 @@ module _ (own cells : List ℕ) (s : Stamps own cells) (c o : ℕ) (l : c < leng
       first : (j : ℕ) → j < c → getD own j 0 ≢ suc (o - 1)
       first j u e = let y = s .once j (o - 1) (omega arith) e in let z = s .once c (o - 1) l (owner some) in omega arith
 
-      go : (q : ℕ) → (eqb q (o - 1) ≡ true) ⊎ (eqb q (o - 1) ≡ false) → cond (eqb q (o - 1)) (suc c) (stampAt (entry own) c q (getD cells q 0)) ≡ stampAt (entry own) (suc c) q (getD cells q 0)
+      go : (q : ℕ) → (eqb q (o - 1) ≡ true) ⊎ (eqb q (o - 1) ≡ false) → cond (eqb q (o - 1)) (suc c) (stampAt (entry own) c q (getD cells q 0))
+          ≡ stampAt (entry own) (suc c) q (getD cells q 0)
       go q (inl e) = let z : q ≡ o - 1 = eqb-true q (o - 1) e in rw (e, z) (sym (stamp-same (entry own) (o - 1) (getD cells (o - 1) 0) c (owner some) first))
       go q (inr e) = let n = eqb-false q (o - 1) e in rw e (sym (stamp-other (entry own) q (getD cells q 0) c (λ f. n (omega (arith, is .0)))))

@@ -1,5 +1,5 @@
 -- How the stale cells are made right: painted as planned, and then the numbers of chunks stamped over them. And what the functions that
--- do so ask for. Assumes nothing.
+-- do so ask for.
 use mathlib.Core.Bool.{Bool, _&&_, cond}
 use mathlib.Core.List.{List}
 use mathlib.Core.Path.{_≡_}
@@ -9,7 +9,7 @@ use lib.ListN.{getD, length}
 use Rattle.bits.specs.Tab.{tabulate}
 use Rattle.routes.specs.Route.{Prefix}
 use Rattle.routes.specs.declared.Route.{Route}
-use Rattle.chain.specs.Cover.{Ready}
+use Rattle.chain.specs.Cover.{ChainReady}
 use Rattle.plan.specs.Plan.{plan}
 use Rattle.plan.specs.Under.{Block}
 use Rattle.sail.specs.Level.{Chunks, chunkFor, itself, liveIn, partOf, entry}
@@ -59,8 +59,8 @@ pub record Part (ws par : List ℕ) (l i p base : ℕ) (cells : List ℕ) (a e :
   pub block : Block ws par l i p base (e - a)
 
 -- a prefix, and the first cells: those of a level of at least 10 bits
-pub record FirstCells (ws par : List ℕ) (p a len : ℕ) (first : List ℕ) : Type 0 where
-  pub ready : Ready ws par
+pub record FirstPaintReady (ws par : List ℕ) (p a len : ℕ) (first : List ℕ) : Type 0 where
+  pub ready : ChainReady ws par
   pub prefix : Prefix a len
   pub low : 10 ≤ p
   pub deep : p ≤ 32
@@ -74,26 +74,26 @@ pub record BlockEnd (lo e r : ℕ) : Type 0 where
 
 -- words with their chain, a length, and chunks of cells of level p that hang from cells of level l
 pub record Levels (ws par : List ℕ) (len l p : ℕ) : Type 0 where
-  pub ready : Ready ws par
+  pub ready : ChainReady ws par
   pub len-ok : len ≤ 32
   pub deeper : l ≤ p
   pub deep : p ≤ 32
   pub small : p - l ≤ 10
 
 -- a chunk whose owner is o hangs, where it is in use, from a cell of level l
-pub record Hangs (l : ℕ) (up : List ℕ) (e o : ℕ) : Type 0 where
+pub record OwnerInLevel (l : ℕ) (up : List ℕ) (e o : ℕ) : Type 0 where
   pub above : (q : ℕ) → o ≡ suc q → Above up e q
   pub cell : (q : ℕ) → o ≡ suc q → standsFor e up q < 2 ^ l
 
 pub record ChunkOf (ws par : List ℕ) (len l p : ℕ) (up : List ℕ) (e o : ℕ) (cells : List ℕ) (c : ℕ) : Type 0 where
   pub levels : Levels ws par len l p
-  pub hangs : Hangs l up e o
+  pub hangs : OwnerInLevel l up e o
   pub few : c < 4096
   pub inside : c * 2 ^ (p - l) + 2 ^ (p - l) ≤ length cells
 
 pub record Pool (ws par : List ℕ) (len l p : ℕ) (up : List ℕ) (e : ℕ) (own cells : List ℕ) : Type 0 where
   pub levels : Levels ws par len l p
-  pub hangs : (c : ℕ) → c < length own → Hangs l up e (getD own c 0)
+  pub hangs : (c : ℕ) → c < length own → OwnerInLevel l up e (getD own c 0)
   pub few : length own ≤ 4096
   pub chunks : length cells ≡ length own * 2 ^ (p - l)
 

@@ -9,8 +9,8 @@ use lib.ListN.{getD}
 use Rattle.bits.specs.Slot.{slot}
 use Rattle.routes.specs.Route.{Prefix}
 use Rattle.routes.specs.declared.Route.{Route}
-use Rattle.chain.specs.Words.{routesIn}
-use Rattle.chain.specs.Cover.{Ready}
+use Rattle.chain.specs.Words.{routesOfWords}
+use Rattle.chain.specs.Cover.{ChainReady}
 use Rattle.sail.specs.Lent.{Lent, Cells}
 use Rattle.sail.specs.Sizes.{Celled}
 use Rattle.sail.specs.Level.{Level, Chunks, chunksOf, noChunks, below, level1, level2, level3}
@@ -26,7 +26,7 @@ abbrev pub staleBelow : ℕ → ℕ → Level → Chunks → ℕ → ℕ → Boo
 staleBelow a len v k p q = below v k p .live q && meets a len (v .bits) (v .at (k .own (q / 2 ^ (p - v .bits)) - 1))
 
 -- the live cells of a level that are not stale are right
-pub record Right (rs : List Route) (v : Level) (k : Chunks) (stale : ℕ → Bool) (cells : List ℕ) : Type 0 where
+pub record RightButStale (rs : List Route) (v : Level) (k : Chunks) (stale : ℕ → Bool) (cells : List ℕ) : Type 0 where
   pub right : (q : ℕ) → q < v .places → v .live q ≡ true → stale q ≡ false → getD cells q 0 ≡ shown rs v k q
 
 -- what these routes and owners ask for
@@ -36,14 +36,15 @@ asked g rs l = rendered g 0 rs (l .own2) (l .own3)
 -- What repainting asks: owners that fit the routes, and no live cell wrong but those that the change made stale. Of cells that are not live
 -- nothing is asked.
 pub record Stale (g : Geometry) (ws par : List ℕ) (a len : ℕ) (l : Cells) : Type 0 where
-  pub ready : Ready ws par
+  pub ready : ChainReady ws par
   pub celled : Celled g l
   pub prefix : Prefix a len
-  pub fits2 : Fits (routesIn ws) (level1 g) (chunksOf (l .own2))
-  pub fits3 : Fits (routesIn ws) (level2 g (chunksOf (l .own2))) (chunksOf (l .own3))
-  pub right1 : Right (routesIn ws) (level1 g) (chunksOf (l .own2)) (meets a len (g .p1)) (l .first)
-  pub right2 : Right (routesIn ws) (level2 g (chunksOf (l .own2))) (chunksOf (l .own3)) (staleBelow a len (level1 g) (chunksOf (l .own2)) (g .p2)) (l .second)
-  pub right3 : Right (routesIn ws) (level3 g (chunksOf (l .own2)) (chunksOf (l .own3))) noChunks
+  pub fits2 : Fits (routesOfWords ws) (level1 g) (chunksOf (l .own2))
+  pub fits3 : Fits (routesOfWords ws) (level2 g (chunksOf (l .own2))) (chunksOf (l .own3))
+  pub right1 : RightButStale (routesOfWords ws) (level1 g) (chunksOf (l .own2)) (meets a len (g .p1)) (l .first)
+  pub right2 : RightButStale (routesOfWords ws) (level2 g (chunksOf (l .own2))) (chunksOf (l .own3))
+      (staleBelow a len (level1 g) (chunksOf (l .own2)) (g .p2)) (l .second)
+  pub right3 : RightButStale (routesOfWords ws) (level3 g (chunksOf (l .own2)) (chunksOf (l .own3))) noChunks
       (staleBelow a len (level2 g (chunksOf (l .own2))) (chunksOf (l .own3)) 32) (l .third)
 
 -- and what it leaves: live cells are as the routes ask, the others as they were

@@ -1,11 +1,11 @@
 // A part of the cells of a level painted again, and the first cells that meet a prefix: these are one range.
 ghost use mathlib.Core.Path.{_≡_};
 ghost use Prim.Native.Nat.{_+_, _-_, _^_, _≤_, _<_};
-ghost use Rattle.chain.specs.Words.{routesIn};
-ghost use Rattle.plan.specs.Paint.{between};
+ghost use Rattle.chain.specs.Words.{routesOfWords};
+ghost use Rattle.buffers.specs.Fill.{between};
 ghost use Rattle.sail.specs.Level.{itself};
 ghost use Rattle.sail_paint.specs.Stale.{meets};
-ghost use Rattle.sail_paint.specs.Paint.{overpainted, Part, FirstCells, BlockEnd};
+ghost use Rattle.sail_paint.specs.Paint.{overpainted, Part, FirstPaintReady, BlockEnd};
 use plan::under::plan_under;
 
 // The cells from place a up to e as the routes ask for the cells of level p from base on, which lie in cell i of level l.
@@ -21,7 +21,7 @@ pub fn paint_part(
     e: usize,
 )
     requires { ⌜ Part (now ws) (now par) l i p base (now cells) a e ⌝ }
-    ensures { λ _. ⌜ now (cells .exit) ≡ overpainted (routesIn (now (ws .entry))) p (between a e) (λ q. base + (q - a)) (now (cells .entry)) ⌝ }
+    ensures { λ _. ⌜ now (cells .exit) ≡ overpainted (routesOfWords (now (ws .entry))) p (between a e) (λ q. base + (q - a)) (now (cells .entry)) ⌝ }
 {
     plan_under(ws, par, l, i, p, base, &mut cells[a..e]);
 }
@@ -52,8 +52,8 @@ fn range_end(p: u32, len: u32, from: usize) -> usize
 // The first cells that meet the prefix of len bits of addr as the routes ask; p is their level. They are painted in blocks
 // that lie in one cell of level p - 10, so that each block costs the routes under that cell alone.
 pub fn paint_first(ws: &[u64], par: &[u16], p: u32, addr: u32, len: u32, first: &mut [u16])
-    requires { ⌜ FirstCells (now ws) (now par) p addr len (now first) ⌝ }
-    ensures { λ _. ⌜ now (first .exit) ≡ overpainted (routesIn (now (ws .entry))) p (meets addr len p) itself (now (first .entry)) ⌝ }
+    requires { ⌜ FirstPaintReady (now ws) (now par) p addr len (now first) ⌝ }
+    ensures { λ _. ⌜ now (first .exit) ≡ overpainted (routesOfWords (now (ws .entry))) p (meets addr len p) itself (now (first .entry)) ⌝ }
 {
     let from = bits::slot(p, addr) as usize;
     let end = range_end(p, len, from);

@@ -4,6 +4,7 @@ ghost use Prim.Native.Nat.{_≤_, _<_};
 ghost use lib.ListN.{length, getD};
 ghost use Rattle.sail_paint.specs.Stale.{meets};
 ghost use Rattle.sail_paint.specs.Paint.{standsFor, Above};
+use sail::place::cell_place;
 
 // The owner of chunk c as it is read everywhere: 1 + the place of the cell that the chunk hangs from, 0 where it is free.
 pub fn seen(own: &[u32], c: usize) -> usize
@@ -22,8 +23,7 @@ pub fn stands_for(up: &[u32], e: u32, q: usize) -> u64
     if e == 0 {
         return q as u64;
     }
-    let o = seen(up, q >> e) - 1;
-    ((o as u64) << e) + (q as u64) % (1u64 << e)
+    cell_place(seen(up, q >> e), e, q) as u64
 }
 
 // Whether cell i of level p lies under the prefix of len bits of addr, or holds it.

@@ -2,7 +2,7 @@
 // stamped into the cell that it hangs from.
 ghost use mathlib.Core.Path.{_≡_};
 ghost use Prim.Native.Nat.{_-_};
-ghost use Rattle.chain.specs.Words.{routesIn};
+ghost use Rattle.chain.specs.Words.{routesOfWords};
 ghost use Rattle.sail.specs.Level.{partOf, entry};
 ghost use Rattle.sail_paint.specs.Paint.{overpainted, stamped, standsFor, staleOf, staleIn, ChunkOf, Pool, Stamps};
 use crate::part::paint_part;
@@ -27,7 +27,7 @@ pub fn paint_chunk(
     c: usize,
 )
     requires { ⌜ ChunkOf (now ws) (now par) len l p (now up) e o (now cells) c ⌝ }
-    ensures { λ _. ⌜ now (cells .exit) ≡ overpainted (routesIn (now (ws .entry))) p (staleOf addr len l (p - l) (standsFor e (now (up .entry))) c o) (partOf (λ _. o) (p - l) (standsFor e (now (up .entry)))) (now (cells .entry)) ⌝ }
+    ensures { λ _. ⌜ now (cells .exit) ≡ overpainted (routesOfWords (now (ws .entry))) p (staleOf addr len l (p - l) (standsFor e (now (up .entry))) c o) (partOf (λ _. o) (p - l) (standsFor e (now (up .entry)))) (now (cells .entry)) ⌝ }
 {
     if o == 0 {
         return;
@@ -57,7 +57,7 @@ pub fn paint_pool(
     cells: &mut [u16],
 )
     requires { ⌜ Pool (now ws) (now par) len l p (now up) e (now own) (now cells) ⌝ }
-    ensures { λ _. ⌜ now (cells .exit) ≡ overpainted (routesIn (now (ws .entry))) p (staleIn addr len l (p - l) (standsFor e (now (up .entry))) (entry (now (own .entry)))) (partOf (entry (now (own .entry))) (p - l) (standsFor e (now (up .entry)))) (now (cells .entry)) ⌝ }
+    ensures { λ _. ⌜ now (cells .exit) ≡ overpainted (routesOfWords (now (ws .entry))) p (staleIn addr len l (p - l) (standsFor e (now (up .entry))) (entry (now (own .entry)))) (partOf (entry (now (own .entry))) (p - l) (standsFor e (now (up .entry)))) (now (cells .entry)) ⌝ }
 {
     let n = own.len();
     let mut c = 0;

@@ -1,5 +1,5 @@
 // A table painted again, where the routes under a prefix have changed.
-ghost use Rattle.chain.specs.Words.{routesIn};
+ghost use Rattle.chain.specs.Words.{routesOfWords};
 ghost use Rattle.sail.specs.Lent.{cells};
 ghost use Rattle.sail_paint.specs.Stale.{Stale, Repainted};
 use crate::part::paint_first;
@@ -23,7 +23,7 @@ pub fn repaint(
     own3: &[u32],
 )
     requires { ⌜ Stale g (now ws) (now par) addr len (cells (now first) (now second) (now third) (now own2) (now own3)) ⌝ }
-    ensures { λ _. ⌜ Repainted g (routesIn (now (ws .entry))) (cells (now (first .entry)) (now (second .entry)) (now (third .entry)) (now (own2 .entry)) (now (own3 .entry))) (now (first .exit)) (now (second .exit)) (now (third .exit)) ⌝ }
+    ensures { λ _. ⌜ Repainted g (routesOfWords (now (ws .entry))) (cells (now (first .entry)) (now (second .entry)) (now (third .entry)) (now (own2 .entry)) (now (own3 .entry))) (now (first .exit)) (now (second .exit)) (now (third .exit)) ⌝ }
 {
     let p1 = g.p1;
     let p2 = g.p2;

@@ -1,6 +1,6 @@
 -- What joins the test's code to soundness.
 pub mod Levels
 pub mod Sounds
-pub mod Tries
+pub mod TableTest
 pub mod Reports
 pub mod OneAnswer

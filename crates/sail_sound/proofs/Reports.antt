@@ -1,4 +1,4 @@
--- The judgement and the report as the code makes them. Assumes nothing.
+-- The judgement and the report as the code makes them.
 use mathlib.Core.Path.{_≡_, refl, sym, ap, ap₂, _∙_}
 use mathlib.Core.Bool.{Bool, true, false, not, cond}
 use mathlib.Core.List.{List, [], _∷_}
@@ -17,16 +17,16 @@ use Rattle.sail.specs.Sizes.{sizesFault, SizesTold}
 use Rattle.sail.specs.Sound.{standing, used}
 use Rattle.sail.specs.declared.table.Table.{Table}
 use Rattle.sail.proofs.Sounds.{chunks-need}
-use Rattle.sail_theory.specs.Test.{sound?}
+use Rattle.sail_theory.specs.SoundTest.{sound?}
 use Rattle.sail_theory.specs.Calls.{orSay, reported}
 use Rattle.sail_sound.specs.declared.report.Reported.{Reported}
 use Rattle.sail_sound.specs.declared.report.Reported.the-variants.{Standing, Refused}
-use Rattle.sail_sound.specs.Test.{Tried}
-use Rattle.sail_sound.specs.Report.{tableFault, Judged, saysReported}
+use Rattle.sail_sound.specs.TableTest.{Tried}
+use Rattle.sail_sound.specs.Report.{tableFault, ReportJudged, meansReported}
 
 -- two reports that are told the same are the same
-pub reported-injective : (x y : Reported) → saysReported x ≡ saysReported y → x ≡ y
-unfolding saysReported
+pub reported-injective : (x y : Reported) → meansReported x ≡ meansReported y → x ≡ y
+unfolding meansReported
 reported-injective (Standing n a b) (Standing m c d) e = cc
 reported-injective (Standing n a b) (Refused k) e = cc
 reported-injective (Refused j) (Standing m c d) e = cc
@@ -34,7 +34,7 @@ reported-injective (Refused j) (Refused k) e = cc
 
 -- the answers of `judged`
 module _ (t : Table) (l : Lent) (r : ℕ) (told : SizesTold r (t .geometry) l) where
-  pub judged-sizes : (r ≡ 0 → ⊥) → Judged r t l
+  pub judged-sizes : (r ≡ 0 → ⊥) → ReportJudged r t l
   unfolding tableFault
   judged-sizes n = record { number = rw (← told .number, ne-eqb r 0 n); facts = λ z. absurd (n z) }
 
@@ -42,11 +42,11 @@ module _ (t : Table) (l : Lent) (r : ℕ) (told : SizesTold r (t .geometry) l) w
     none : sizesFault (t .geometry) l ≡ 0
     none = sym (told .number) ∙ z
 
-    pub judged-sound : b ≡ true → Judged 0 t l
+    pub judged-sound : b ≡ true → ReportJudged 0 t l
     unfolding tableFault
     judged-sound e = record { number = rw (none, ← is .is, e); facts = λ _. is .tells .0 e }
 
-    pub judged-not : b ≡ false → Judged 5 t l
+    pub judged-not : b ≡ false → ReportJudged 5 t l
     unfolding tableFault
     judged-not e = record { number = rw (none, ← is .is, e); facts = λ y. absurd (omega arith) }
 
@@ -64,14 +64,14 @@ module _ (t : Table) (l : Lent) where
       go zero false = refl
       go (suc n) b = rw (ne-eqb (suc n) 0 (λ z. omega arith))
 
-  pub report-not : (r : ℕ) → Judged r t l → (r ≡ 0 → ⊥) → refused r ≡ reported t l
+  pub report-not : (r : ℕ) → ReportJudged r t l → (r ≡ 0 → ⊥) → refused r ≡ reported t l
   report-not r j n = go r n ∙ ap (λ (k : ℕ). orSay k told) (j .number) ∙ sym reported-is
     where
       go : (k : ℕ) → (k ≡ 0 → ⊥) → refused k ≡ orSay k told
       go zero h = absurd (h refl)
       go (suc k) h = refl
 
-  pub report-on : (r a b : ℕ) → Judged r t l → r ≡ 0 → a ≡ used (l .own2) → b ≡ used (l .own3) → accepted (t .count ∷ a ∷ b ∷ []) ≡ reported t l
+  pub report-on : (r a b : ℕ) → ReportJudged r t l → r ≡ 0 → a ≡ used (l .own2) → b ≡ used (l .own3) → accepted (t .count ∷ a ∷ b ∷ []) ≡ reported t l
   report-on r a b j z p q =
       let c = chunks-need t l (j .facts z) in
       let u : a ≡ need (standing t l) (t .geometry .p1) = p ∙ c .0 in

@@ -9,16 +9,15 @@ use lib.Arith.{digits-lt, digits-div}
 use lib.ListN.{length, getD}
 use lib.Pow.{pow-pos}
 use borrow.Author.Tests.{le-ltb, ltb-false}
-use borrow.Rule.Slice.PartMut.{mid-len}
 use Rattle.bits.specs.Tab.{Tells}
 use Rattle.routes.specs.declared.Route.{Route}
 use Rattle.routes.specs.Record.{Listed}
 use Rattle.routes.specs.Route.{Good}
 use Rattle.routes.proofs.Rows.{records-good}
 use Rattle.standing.proofs.Need.{none-longer}
-use Rattle.chain.specs.Cover.{Ready}
-use Rattle.chain.specs.Words.{routesIn}
-use Rattle.plan.proofs.Tells.{tells-same, refuted, passed}
+use Rattle.chain.specs.Cover.{ChainReady}
+use Rattle.chain.specs.Words.{routesOfWords}
+use Rattle.bits.proofs.Tells.{tells-same, refuted, passed}
 use Rattle.sail.specs.Geometry.{bits2}
 use Rattle.sail.specs.Lent.{Lent, Cells, cells, cellsOf}
 use Rattle.sail.specs.Level.{Level, deep, always, itself, liveIn, partOf, entry, chunksOf, below, level1, level2, level3}
@@ -28,12 +27,11 @@ use Rattle.sail.specs.declared.geometry.Geometry.{Geometry}
 use Rattle.sail.specs.declared.table.Table.{Table}
 use Rattle.sail.proofs.Fitting.{celled-of}
 use Rattle.sail_counts.specs.Counted.{Counts}
-use Rattle.sail_counts.specs.Test.{Countable}
-use Rattle.sail_theory.proofs.Places.{chunk-lt, live-owner, chunk-live, chunk-part}
-use Rattle.sail_pool.specs.Pool.{chunkOf, PoolOk, FreeAll}
-use Rattle.sail_sound.specs.Test.{root, PassedAll, Beside, PassedTable}
-use Rattle.sail_pool.proofs.Cells.{Cell, cell-as, right-cell, cells-right, part-at}
-use Rattle.sail_pool.proofs.Chunks.{chunk-room}
+use Rattle.sail_counts.specs.CountsTest.{Countable}
+use Rattle.sail_theory.proofs.places.Places.{chunk-lt, live-owner, chunk-live, chunk-part}
+use Rattle.sail_cells_test.specs.Pool.{chunkOf, PoolOk, FreeAll}
+use Rattle.sail_sound.specs.TableTest.{root, PassedAll, CountsBeside, PassedTable}
+use Rattle.sail_cells_test.proofs.Cells.{Cell, cell-as, right-cell, cells-right, part-at}
 
 -- each live cell of a level is as the routes ask
 abbrev Asked : List Route → Level → List ℕ → List ℕ → Type 0
@@ -71,14 +69,6 @@ module _ (rs : List Route) (v : Level) (p : ℕ) (above own cells low : List ℕ
   abbrev d : ℕ
   d = p - v .bits
 
-  in-pool : (c : ℕ) → c < length own → c * 2 ^ d + 2 ^ d ≤ length cells
-  in-pool c l = omega (arith, chunk-room c (length own) (2 ^ d) l)
-
-  chunk-long : (c : ℕ) → c < length own → length (chunkOf d cells c) ≡ 2 ^ d
-  chunk-long c l =
-      let e : c * 2 ^ d + 2 ^ d - c * 2 ^ d ≡ 2 ^ d = omega arith in
-      rw e at (mid-len (c * 2 ^ d) (c * 2 ^ d + 2 ^ d) cells (in-pool c l))
-
   module _ (k : PoolOk rs p d above (v .live) (v .at) own cells low) where
     pub pool-asked : Asked rs (below v (chunksOf own) p) cells low
     pool-asked q l u =
@@ -99,17 +89,19 @@ module _ (rs : List Route) (v : Level) (p : ℕ) (above own cells low : List ℕ
         let c = chunk-lt d (length own) q l in
         let j = mod-lt q (pow-pos d) in
         let free : getD own (q / 2 ^ d) 0 ≡ 0 = omega (arith, ltb-false 0 (getD own (q / 2 ^ d) 0) e) in
-        ap (entry cells) (sym (div-add-mod' q (2 ^ d))) ∙ sym (part-at cells (q / 2 ^ d * 2 ^ d) (2 ^ d) (q % 2 ^ d) j) ∙ k .each (q / 2 ^ d) c .zero
-        free .each (q % 2 ^ d) (rw (chunk-long (q / 2 ^ d) c) j);
+        let g : q / 2 ^ d * 2 ^ d + q % 2 ^ d ≡ q = div-add-mod' q (2 ^ d) in
+        k .each (q / 2 ^ d) c .zero free .each q (omega arith) (omega arith);
   }
 
   pub clear-free : Clear (below v (chunksOf own) p) (entry cells) → FreeAll d own cells
   clear-free clear = record {
     each = λ c l. record {
       zero = λ e. record {
-        each = λ j u.
-            let m : j < 2 ^ d = rw (chunk-long c l) at u in
-            part-at cells (c * 2 ^ d) (2 ^ d) j m ∙ clear .blank (c * 2 ^ d + j) (digits-lt l m)
+        each = λ q a b.
+            let j = q - c * 2 ^ d in
+            let m : j < 2 ^ d = omega arith in
+            let g : q ≡ c * 2 ^ d + j = omega arith in
+            ap (entry cells) g ∙ clear .blank (c * 2 ^ d + j) (digits-lt l m)
             (le-ltb 0 (getD own ((c * 2 ^ d + j) / 2 ^ d) 0) (omega (arith, e, ap (entry own) (digits-div c m))));
       };
     };
@@ -215,7 +207,8 @@ module _ (rs : List Route) (g : Geometry) (l : Cells) (s : Celled g l) where
       third-asked q i u = record { leaf = λ e. third .leaf q i u; node = λ e. absurd (true≢false (sym e ∙ none-longer rs _ good)) }
 
   -- what the test of the counts rests on
-  pub countable : (ws par : List ℕ) → Ready ws par → routesIn ws ≡ rs → (long1 long2 : List ℕ) → Beside (l .first) (l .second) long1 long2 → PassedAll rs g l
+  pub countable : (ws par : List ℕ) → ChainReady ws par → routesOfWords ws ≡ rs → (long1 long2 : List ℕ) → CountsBeside (l .first)
+      (l .second) long1 long2 → PassedAll rs g l
       → Countable ws g (l .first) (l .second) (l .own2) (l .own3) long1 long2
   countable ws par ready e long1 long2 z k = record {
     words = ready .words;
@@ -269,7 +262,7 @@ module _ (t : Table) (l : Lent) (s : Sized (t .geometry) l) (h : Listed (l .list
   tells-sound b = tells-same passed-sound sound-passed
 
 -- as many counts as cells
-pub beside-of : (g : Geometry) (l : Lent) → Sized g l → Beside (l .first) (l .second) (l .long1) (l .long2)
+pub beside-of : (g : Geometry) (l : Lent) → Sized g l → CountsBeside (l .first) (l .second) (l .long1) (l .long2)
 beside-of g l s = record { counts1 = s .counts1 ∙ sym (s .cells1); counts2 = s .counts2 }
 
 -- the answers of `table_ok`

@@ -5,7 +5,7 @@ ghost use Prim.Native.Nat.{_≤_};
 ghost use lib.ListN.{length};
 ghost use Rattle.sail.specs.Lent.{lent};
 ghost use Rattle.sail.specs.Sound.{used};
-ghost use Rattle.sail_sound.specs.Report.{Judged};
+ghost use Rattle.sail_sound.specs.Report.{ReportJudged};
 ghost use Rattle.sail_sound.specs.Contract.{MeetsReport};
 use crate::test::sound;
 use sail::table::Table;
@@ -23,7 +23,7 @@ pub fn judged(
     long1: &[u16],
     long2: &[u16],
 ) -> u8
-    ensures { λ r. ⌜ Judged r t (lent (now (list .entry)) (now (first .entry)) (now (second .entry)) (now (third .entry)) (now (own2 .entry)) (now (own3 .entry)) (now (long1 .entry)) (now (long2 .entry))) ⌝ }
+    ensures { λ r. ⌜ ReportJudged r t (lent (now (list .entry)) (now (first .entry)) (now (second .entry)) (now (third .entry)) (now (own2 .entry)) (now (own3 .entry)) (now (long1 .entry)) (now (long2 .entry))) ⌝ }
 {
     let s = sizes(t, list, first, second, third, own2, own3, long1, long2);
     if s != 0 {

@@ -1,19 +1,19 @@
 // The soundness test of a whole table: its list, then its three levels and its counts beside the routes of the list.
 ghost use Rattle.bits.specs.Tab.{Tells};
-ghost use Rattle.chain.specs.Words.{routesIn};
-ghost use Rattle.chain.specs.Cover.{Ready};
+ghost use Rattle.chain.specs.Words.{routesOfWords};
+ghost use Rattle.chain.specs.Cover.{ChainReady};
+ghost use Rattle.chain.specs.List.{Scratch};
 ghost use Rattle.sail.specs.Lent.{lent, cells};
 ghost use Rattle.sail.specs.Sizes.{Sized, Celled};
-ghost use Rattle.sail_list.specs.List.{Scratch};
-ghost use Rattle.sail_sound.specs.Test.{Passed, PassedAll, Beside, PassedTable, Tried};
+ghost use Rattle.sail_sound.specs.TableTest.{Passed, PassedAll, CountsBeside, PassedTable, Tried};
+use chain::list::chained;
+use lists::test::list_ok;
 use sail::geometry::Geometry;
 use sail::table::Table;
+use sail_cells_test::first_ok;
+use sail_cells_test::free_all;
+use sail_cells_test::owned_all;
 use sail_counts::test::counts_ok;
-use sail_list::chained;
-use sail_list::list_ok;
-use sail_pool::first_ok;
-use sail_pool::free_all;
-use sail_pool::hung_all;
 
 // The live cells of the three levels beside the routes of the words. The first cells are one chunk, whose owner is 1; a third
 // cell names no chunk.
@@ -27,9 +27,9 @@ fn live_ok(
     own2: &[u32],
     own3: &[u32],
 ) -> bool
-    requires { ⌜ Ready (now ws) (now par) ⌝ }
+    requires { ⌜ ChainReady (now ws) (now par) ⌝ }
     requires { ⌜ Celled g (cells (now first) (now second) (now third) (now own2) (now own3)) ⌝ }
-    ensures { λ r. ⌜ Tells r (Passed (routesIn (now (ws .entry))) g (cells (now (first .entry)) (now (second .entry)) (now (third .entry)) (now (own2 .entry)) (now (own3 .entry)))) ⌝ }
+    ensures { λ r. ⌜ Tells r (Passed (routesOfWords (now (ws .entry))) g (cells (now (first .entry)) (now (second .entry)) (now (third .entry)) (now (own2 .entry)) (now (own3 .entry)))) ⌝ }
 {
     let p1 = g.p1;
     let p2 = g.p2;
@@ -39,7 +39,7 @@ fn live_ok(
         return false;
     }
     let root = [1u32; 1];
-    if !hung_all(
+    if !owned_all(
         ws,
         par,
         p2,
@@ -55,7 +55,7 @@ fn live_ok(
         return false;
     }
     let none = &own3[..0];
-    hung_all(
+    owned_all(
         ws,
         par,
         32,
@@ -81,9 +81,9 @@ fn levels_ok(
     own2: &[u32],
     own3: &[u32],
 ) -> bool
-    requires { ⌜ Ready (now ws) (now par) ⌝ }
+    requires { ⌜ ChainReady (now ws) (now par) ⌝ }
     requires { ⌜ Celled g (cells (now first) (now second) (now third) (now own2) (now own3)) ⌝ }
-    ensures { λ r. ⌜ Tells r (PassedAll (routesIn (now (ws .entry))) g (cells (now (first .entry)) (now (second .entry)) (now (third .entry)) (now (own2 .entry)) (now (own3 .entry)))) ⌝ }
+    ensures { λ r. ⌜ Tells r (PassedAll (routesOfWords (now (ws .entry))) g (cells (now (first .entry)) (now (second .entry)) (now (third .entry)) (now (own2 .entry)) (now (own3 .entry)))) ⌝ }
 {
     if !live_ok(ws, par, g, first, second, third, own2, own3) {
         return false;
@@ -107,10 +107,10 @@ fn table_ok(
     long1: &[u16],
     long2: &[u16],
 ) -> bool
-    requires { ⌜ Ready (now ws) (now par) ⌝ }
+    requires { ⌜ ChainReady (now ws) (now par) ⌝ }
     requires { ⌜ Celled g (cells (now first) (now second) (now third) (now own2) (now own3)) ⌝ }
-    requires { ⌜ Beside (now first) (now second) (now long1) (now long2) ⌝ }
-    ensures { λ r. ⌜ Tells r (PassedTable (routesIn (now (ws .entry))) g (cells (now (first .entry)) (now (second .entry)) (now (third .entry)) (now (own2 .entry)) (now (own3 .entry))) (now (long1 .entry)) (now (long2 .entry))) ⌝ }
+    requires { ⌜ CountsBeside (now first) (now second) (now long1) (now long2) ⌝ }
+    ensures { λ r. ⌜ Tells r (PassedTable (routesOfWords (now (ws .entry))) g (cells (now (first .entry)) (now (second .entry)) (now (third .entry)) (now (own2 .entry)) (now (own3 .entry))) (now (long1 .entry)) (now (long2 .entry))) ⌝ }
 {
     if !levels_ok(ws, par, g, first, second, third, own2, own3) {
         return false;

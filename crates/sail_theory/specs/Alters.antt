@@ -1,4 +1,4 @@
--- What a change of one prefix may alter. Assumes nothing.
+-- What a change of one prefix may alter.
 use mathlib.Core.Bool.{true}
 use mathlib.Core.List.{List}
 use mathlib.Core.Path.{_≡_}
@@ -30,12 +30,12 @@ NoneUnder a len p i = (x : ℕ) → x < 2 ^ 32 → slot p x ≡ i → slot len x
 
 -- from the cells of v to those of v′: a cell stays where its place is live as before, stands for the same cell, and no address under the
 -- prefix lies there
-pub record Same (v v′ : Level) (q : ℕ) : Type 0 where
+pub record SamePlace (v v′ : Level) (q : ℕ) : Type 0 where
   pub live : v′ .live q ≡ v .live q
   pub at : v .live q ≡ true → v′ .at q ≡ v .at q
 
 pub record Framed (a len : ℕ) (v v′ : Level) (cells cells′ : List ℕ) : Type 0 where
-  pub stays : (q : ℕ) → q < v .places → Same v v′ q → (v .live q ≡ true → NoneUnder a len (v .bits) (v .at q)) → getD cells′ q 0 ≡ getD cells q 0
+  pub stays : (q : ℕ) → q < v .places → SamePlace v v′ q → (v .live q ≡ true → NoneUnder a len (v .bits) (v .at q)) → getD cells′ q 0 ≡ getD cells q 0
 
 pub record Frame (g : Geometry) (a len : ℕ) (l u : Lent) : Type 0 where
   pub first : Framed a len (level1 g) (level1 g) (l .first) (u .first)

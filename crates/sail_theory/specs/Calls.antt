@@ -1,5 +1,5 @@
 -- The calls that change a table. Each is a function from the state and what is lent at entry to what it says, the state and what is lent
--- at exit, for every state and every contents. Assumes nothing.
+-- at exit, for every state and every contents.
 use mathlib.Core.Bool.{Bool, not, cond}
 use mathlib.Core.List.{List, [], _∷_, map}
 use mathlib.Core.Path.{_≡_}
@@ -22,7 +22,7 @@ use Rattle.sail.specs.Sound.{standing, freshTable, freshLent}
 use Rattle.sail.specs.declared.geometry.Geometry.{Geometry}
 use Rattle.sail.specs.declared.table.Table.{Table}
 use Rattle.sail_theory.specs.Render.{find, rendered, roomOf}
-use Rattle.sail_theory.specs.Test.{sound?}
+use Rattle.sail_theory.specs.SoundTest.{sound?}
 
 -- Owners.
 
@@ -47,17 +47,17 @@ abbrev pub opened : Geometry → Owners → Route → Owners
 opened g o r = record { own2 = opening (level1 g) (o .own2) r; own3 = opening (level2 g (chunksOf (opening (level1 g) (o .own2) r))) (o .own3) r }
 
 -- after each of these is, in order
-unfoldable pub settled : Geometry → Owners → List Route → Owners
-settled g o [] = o
-settled g o (r ∷ rs) = settled g (opened g o r) rs
+unfoldable pub ownersAfter : Geometry → Owners → List Route → Owners
+ownersAfter g o [] = o
+ownersAfter g o (r ∷ rs) = ownersAfter g (opened g o r) rs
 
 -- owners whose cell is no longer deep are 0
 unfoldable pub keep : List Route → Level → List ℕ → List ℕ
 keep rs v own = map (λ o. cond (deep rs v (o - 1)) o 0) own
 
 -- "closes chunks that are no longer needed": the owners after a withdrawal that leaves these routes
-abbrev pub kept : Geometry → List Route → Owners → Owners
-kept g rs o = record { own2 = keep rs (level1 g) (o .own2); own3 = keep rs (level2 g (chunksOf (o .own2))) (o .own3) }
+abbrev pub ownersKept : Geometry → List Route → Owners → Owners
+ownersKept g rs o = record { own2 = keep rs (level1 g) (o .own2); own3 = keep rs (level2 g (chunksOf (o .own2))) (o .own3) }
 
 abbrev pub ownersOf : Lent → Owners
 ownersOf l = record { own2 = l .own2; own3 = l .own3 }
@@ -87,7 +87,7 @@ abbrev pub route : ℕ → ℕ → ℕ → ℕ → Route
 route a len hop mark = record { addr = a; len = len; mark = mark; hop = hop }
 
 -- 5, 6, 7, 8, after the route by itself is good; a replacement never meets 6 to 8. `ok` tells whether the table is sound: it is `sound?`, which is
--- true exactly where `Sound` holds (`sound-tells`, proofs/Tells.antt)
+-- true exactly where `Sound` holds (`sound-tells`, proofs/places/SoundTest.antt)
 unfoldable pub announceFault : Bool → Terms → List Route → Route → ℕ
 announceFault ok m rs r =
     cond (not ok) 5
@@ -190,7 +190,7 @@ unfoldable pub taking : Table → Lent → ℕ → ℕ → Out
 taking t l a len =
     leaving (withdrawSaid t l a len) t l
     (remove (keyOf a len) (standing t l))
-    (kept (t .geometry) (remove (keyOf a len) (standing t l)) (ownersOf l))
+    (ownersKept (t .geometry) (remove (keyOf a len) (standing t l)) (ownersOf l))
 
 -- the route with its address cut to its length
 abbrev pub cutRoute : Route → Route
@@ -201,28 +201,28 @@ abbrev pub cleared : ℕ → ℕ → Bool
 cleared len a = not (eqb (cut len a) a)
 
 -- an accepted answer says first whether bits were cleared; a refusal does not say it
-abbrev pub telling : Bool → Said → Said
-telling b (accepted vs) = accepted (bit b ∷ vs)
-telling b (refused n) = refused n
-telling b (refusedAt n k) = refusedAt n k
+abbrev pub withFlag : Bool → Said → Said
+withFlag b (accepted vs) = accepted (bit b ∷ vs)
+withFlag b (refused n) = refused n
+withFlag b (refusedAt n k) = refusedAt n k
 
-abbrev pub told : Bool → Out → Out
-told b o = record { said = telling b (o .said); table = o .table; lent = o .lent }
+abbrev pub outWithFlag : Bool → Out → Out
+outWithFlag b o = record { said = withFlag b (o .said); table = o .table; lent = o .lent }
 
 -- The calls. "Announce and withdraw now clear the bits after the length and say in an accepted answer whether any were cleared; all else ..
 -- goes by the cleared prefix"
 unfoldable pub announced : Table → Lent → Route → Out
-announced t l r = told (cleared (r .len) (r .addr)) (adding t l (cutRoute r))
+announced t l r = outWithFlag (cleared (r .len) (r .addr)) (adding t l (cutRoute r))
 
 unfoldable pub withdrawn : Table → Lent → ℕ → ℕ → Out
-withdrawn t l a len = told (cleared len a) (taking t l (cut len a) len)
+withdrawn t l a len = outWithFlag (cleared len a) (taking t l (cut len a) len)
 
 -- of the old table its geometry and its sizes alone
 unfoldable pub loaded : Table → Lent → List ℕ → Out
 loaded t l input =
     leaving (loadSaid t l input) t l
     (inputRoutes input)
-    (settled (t .geometry) (noOwners l) (inputRoutes input))
+    (ownersAfter (t .geometry) (noOwners l) (inputRoutes input))
 
 -- "The report gives the route count and both needs"; it changes nothing
 unfoldable pub reported : Table → Lent → Said

@@ -19,7 +19,7 @@ use Rattle.sail.specs.Sound.{Sound, standing}
 use Rattle.sail.specs.declared.table.Table.{Table}
 use Rattle.sail_theory.specs.Render.{roomOf}
 use Rattle.sail_theory.specs.Calls.{inputRoutes}
-use Rattle.sail_theory.specs.Facts.{Farewell, Loadable}
+use Rattle.sail_theory.specs.Facts.{Withdrawable, Loadable}
 
 -- make: 1, 2
 pub data Make (t : Table) (l : Lent) : Said → Type 0 where
@@ -27,7 +27,7 @@ pub data Make (t : Table) (l : Lent) : Said → Type 0 where
   done : Sized (t .geometry) l → Make t l (accepted [])
 
 -- announce: 1, 2; what is wrong with the route by itself (3, 4, 10); 5, 6, 7, 8. A replacement never meets 6 to 8. This and withdraw are of the
--- prefix that is meant: the calls clear the bits after the length (proofs/Cleared.antt)
+-- prefix that is meant: the calls clear the bits after the length (proofs/calls/Cleared.antt)
 module _ (t : Table) (l : Lent) (r : Route) where
   abbrev rs : List Route
   rs = standing t l
@@ -63,7 +63,7 @@ pub data Withdraw (t : Table) (l : Lent) (a len : ℕ) : Said → Type 0 where
   bad-prefix : Sized (t .geometry) l → (Prefix a len → ⊥) → Withdraw t l a len (refused 3)
   unsound : Sized (t .geometry) l → Prefix a len → (Sound t l → ⊥) → Withdraw t l a len (refused 5)
   absent : Prefix a len → Sound t l → stands (keyOf a len) (standing t l) ≡ false → Withdraw t l a len (refused 9)
-  removed : Farewell t l a len → Withdraw t l a len (accepted [])
+  removed : Withdrawable t l a len → Withdraw t l a len (accepted [])
 
 -- load: 1, 2, the input's with its index, 6, 7, 8
 module _ (t : Table) (l : Lent) (input : List ℕ) where
@@ -78,7 +78,8 @@ module _ (t : Table) (l : Lent) (input : List ℕ) where
     bad-input : (s : Said) → Sized (t .geometry) l → BadInput input s → Load s
     full : Readable → roomOf l < length input / 8 → Load (refused 6)
     second : Readable → length input / 8 ≤ roomOf l → length (l .own2) < need (inputRoutes input) (t .geometry .p1) → Load (refused 7)
-    third : Readable → length input / 8 ≤ roomOf l → need (inputRoutes input) (t .geometry .p1) ≤ length (l .own2) → length (l .own3) < need (inputRoutes input) (t .geometry .p2) → Load (refused 8)
+    third : Readable → length input / 8 ≤ roomOf l → need (inputRoutes input) (t .geometry .p1) ≤ length (l .own2) → length (l .own3) < need
+        (inputRoutes input) (t .geometry .p2) → Load (refused 8)
     done : Readable → Loadable t l (inputRoutes input) → Load (accepted [])
 
 -- report: 1, 2, 5

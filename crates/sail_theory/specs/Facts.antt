@@ -1,5 +1,5 @@
 -- What holds where a call is accepted, as facts. A program's test of its arguments hands these on, and the part that changes the table
--- rests on them. Assumes nothing.
+-- rests on them.
 use mathlib.Core.Bool.{true}
 use mathlib.Core.List.{List}
 use mathlib.Core.Path.{_≡_}
@@ -34,7 +34,7 @@ pub record SameCells (l u : Lent) : Type 0 where
   pub third : l .third ≡ u .third
 
 -- a sound table of the same geometry and sizes, whose list holds these routes, in order, and zero bytes after them
-pub record Holds (t : Table) (l : Lent) (rs : List Route) (u : Table) (v : Lent) : Type 0 where
+pub record TableHolds (t : Table) (l : Lent) (rs : List Route) (u : Table) (v : Lent) : Type 0 where
   pub sound : Sound u v
   pub routes : standing u v ≡ rs
   pub list : v .list ≡ written rs (roomOf l)
@@ -43,7 +43,7 @@ pub record Holds (t : Table) (l : Lent) (rs : List Route) (u : Table) (v : Lent)
   pub size : SameSize l v
 
 -- the route r may be announced
-pub record Welcome (t : Table) (l : Lent) (r : Route) : Type 0 where
+pub record Announceable (t : Table) (l : Lent) (r : Route) : Type 0 where
   pub fine : Fine r
   pub sound : Sound t l
   pub roomy : length (insert r (standing t l)) ≤ roomOf l
@@ -51,7 +51,7 @@ pub record Welcome (t : Table) (l : Lent) (r : Route) : Type 0 where
   pub enough3 : need (insert r (standing t l)) (t .geometry .p2) ≤ length (l .own3)
 
 -- the prefix may be withdrawn
-pub record Farewell (t : Table) (l : Lent) (a len : ℕ) : Type 0 where
+pub record Withdrawable (t : Table) (l : Lent) (a len : ℕ) : Type 0 where
   pub prefix : Prefix a len
   pub sound : Sound t l
   pub old : stands (keyOf a len) (standing t l) ≡ true

@@ -1,4 +1,4 @@
--- What the judge of a withdrawal answers. Assumes nothing.
+-- What the judge of a withdrawal answers.
 use mathlib.Core.Path.{_≡_, sym, _∙_}
 use mathlib.Core.Bool.{Bool, true, false, not, true≢false}
 use Prim.Native.Nat.{ℕ, _≤_}
@@ -14,17 +14,17 @@ use Rattle.sail.specs.Sizes.{SizesTold}
 use Rattle.sail.specs.Sound.{Sound, standing}
 use Rattle.sail.specs.declared.table.Table.{Table}
 use Rattle.sail_theory.specs.Calls.{withdrawSaid}
-use Rattle.sail_theory.specs.Facts.{Farewell}
+use Rattle.sail_theory.specs.Facts.{Withdrawable}
 use Rattle.sail_theory.specs.Cases.{Withdraw}
-use Rattle.sail_theory.proofs.Only.{withdraw-only}
-use Rattle.sail_sound.specs.Test.{Tried}
-use Rattle.sail_calls.specs.Judge.{Judged}
-use Rattle.sail_sound.proofs.Tries.{tried-sound}
-use Rattle.sail_calls.proofs.Judges.{judged-off, judged-on, or-said}
+use Rattle.sail_theory.proofs.calls.OneCase.{withdraw-only}
+use Rattle.sail_sound.specs.TableTest.{Tried}
+use Rattle.sail_theory.specs.Judge.{Judged}
+use Rattle.sail_sound.proofs.TableTest.{tried-sound}
+use Rattle.sail_theory.proofs.Judges.{judged-off, judged-on, or-said}
 
 module _ (t : Table) (l : Lent) (a len : ℕ) where
   abbrev Left : ℕ → Type 0
-  Left n = Judged n (withdrawSaid t l a len) (Farewell t l a len)
+  Left n = Judged n (withdrawSaid t l a len) (Withdrawable t l a len)
 
   no : (n : ℕ) → 1 ≤ n → Withdraw t l a len (refused n) → Left n
   no n h x = judged-off n _ _ h (withdraw-only t l a len (refused n) x)

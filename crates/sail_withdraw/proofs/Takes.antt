@@ -2,21 +2,21 @@
 use mathlib.Core.Path.{_≡_, refl, sym, _∙_, ap}
 use mathlib.Core.Logic.{_⊎_, inl, inr}
 use mathlib.Core.Bool.{Bool, true, false, not, cond}
-use mathlib.Core.List.{List, []}
+use mathlib.Core.List.{List}
 use Prim.Native.Nat.{ℕ, suc, _+_, _-_, _*_, _/_, _^_, _≤_}
 use native.Mathlib.Omega.{arith}
 use lib.Dec.{eqb}
 use lib.ListN.{length, set}
 use Rattle.bits.specs.Slot.{cut}
-use Rattle.bits.proofs.Tests.{decided}
+use Rattle.bits.proofs.Bools.{decided}
 use Rattle.routes.specs.Route.{keyOf}
 use Rattle.routes.specs.Record.{routesOf}
 use Rattle.routes.specs.Said.{refused}
 use Rattle.standing.specs.Standing.{stands, remove}
 use Rattle.routes.specs.declared.Route.{Route}
-use Rattle.lists.specs.Edit.{Edited, edited, removed, removing, countWithout, Holds}
+use Rattle.lists.specs.Edit.{Edited, edited, removed, removing, countWithout, ListHolds}
 use Rattle.lists.proofs.EditHolds.{remove-holds}
-use Rattle.plan.specs.Paint.{filled}
+use Rattle.buffers.specs.Fill.{filled}
 use Rattle.counts.specs.Counts.{OneMore}
 use Rattle.counts.proofs.Changed.{many-remove}
 use Rattle.sail.specs.Geometry.{bits2, bits3, Valid}
@@ -26,47 +26,47 @@ use Rattle.sail.specs.declared.geometry.Geometry.{Geometry}
 use Rattle.sail.specs.declared.table.Table.{Table}
 use Rattle.sail.proofs.Sounds.{standing-good}
 use Rattle.sail_theory.specs.Render.{find, longs}
-use Rattle.sail_theory.specs.Calls.{keep, withdrawSaid, Out, out, taking, told, withdrawn}
+use Rattle.sail_theory.specs.Calls.{keep, withdrawSaid, Out, out, taking, outWithFlag, withdrawn}
 use Rattle.sail.specs.Level.{Level, chunksOf, below, level1, level2}
-use Rattle.sail_theory.specs.Facts.{Farewell}
-use Rattle.sail_theory.proofs.Stores.{length-keep, Losing}
-use Rattle.sail_theory.proofs.Changes.{losing1, losing2}
-use Rattle.sail_theory.proofs.Accepted.{count-removed, taking-is}
-use Rattle.sail_theory.proofs.Cleared.{withdraw-off}
+use Rattle.sail_theory.specs.Facts.{Withdrawable}
+use Rattle.sail_theory.proofs.owners.GrantKeep.{length-keep, Losing}
+use Rattle.sail_theory.proofs.calls.ChangeHolds.{losing1, losing2}
+use Rattle.sail_theory.proofs.calls.Outcomes.{count-removed, taking-is}
+use Rattle.sail_theory.proofs.calls.Cleared.{withdraw-off}
 use Rattle.sail_paint.specs.Stale.{Repainted}
-use Rattle.sail_change.specs.Chunks.{alone, closed, blanked, Closing}
+use Rattle.sail_chunks.specs.Chunks.{alone, withoutOwner, blanked, Closing}
 use Rattle.sail_paint.specs.Pending.{Pending}
-use Rattle.sail_change.specs.Trail.{Told, Serving, Trailed}
-use Rattle.sail_change.proofs.Hangs.{alone-longer}
-use Rattle.sail_change.proofs.Openings.{told-one, told-chunk}
-use Rattle.sail_change.proofs.Shrinks.{was-long, keep-closes, closing, farewell-underway}
-use Rattle.sail_change.proofs.Trails.{serving-of}
-use Rattle.sail_change.proofs.Underway.{underway-stale, underway-asked}
-use Rattle.sail_calls.specs.Judge.{Judged}
+use Rattle.sail_chunks.specs.Trail.{CellTells, Serving, Trailed}
+use Rattle.sail_chunks.proofs.ChunkOwners.{alone-longer}
+use Rattle.sail_chunks.proofs.ToOpen.{told-one, told-chunk}
+use Rattle.sail_chunks.proofs.WithdrawUnderway.{was-long, keep-closes, closing, farewell-underway}
+use Rattle.sail_chunks.proofs.Trails.{serving-of}
+use Rattle.sail_chunks.proofs.Underway.{underway-stale, underway-asked}
+use Rattle.sail_theory.specs.Judge.{Judged}
 use Rattle.sail_counts.specs.Counted.{Counts}
-use Rattle.sail_counts.specs.Tick.{Tickable, Moved}
+use Rattle.sail_counts.specs.Tick.{Tickable, CountsMoved}
 use Rattle.sail_counts.specs.declared.tick.Left.{Left}
 use Rattle.sail_counts.proofs.Tallies.{Guided, down-tickable, down-counts, closes-first, closes-second, keep-counts, counts-are}
-use Rattle.sail_withdraw.specs.Answers.{saysWithdraw}
+use Rattle.sail_withdraw.specs.Answers.{meansWithdraw}
 use Rattle.sail_withdraw.specs.declared.answers.Withdraw.the-variants as withdraw
 
 -- The address x is cut to the length before the prefix is judged.
 module _ (t : Table) (l : Lent) (a len x : ℕ) (e : x ≡ cut len a) where
   -- a refusal leaves all as it was
-  pub withdraw-refused : (z : ℕ) → Judged z (withdrawSaid t l x len) (Farewell t l x len) → (z ≡ 0 → ⊥)
-      → out (saysWithdraw (withdraw.Refused z)) t l ≡ withdrawn t l a len
-  unfolding saysWithdraw
+  pub withdraw-refused : (z : ℕ) → Judged z (withdrawSaid t l x len) (Withdrawable t l x len) → (z ≡ 0 → ⊥)
+      → out (meansWithdraw (withdraw.Refused z)) t l ≡ withdrawn t l a len
+  unfolding meansWithdraw
   withdraw-refused z k h = sym (withdraw-off t l a len (refused z) (rw e at (k .off h)) refl)
 
   -- what is taken is the cleared prefix, and bits were cleared where the address is another
-  pub withdraw-cleared : (c : Bool) → c ≡ not (eqb x a) → (o : Out) → o ≡ told c (taking t l x len) → o ≡ withdrawn t l a len
+  pub withdraw-cleared : (c : Bool) → c ≡ not (eqb x a) → (o : Out) → o ≡ outWithFlag c (taking t l x len) → o ≡ withdrawn t l a len
   unfolding withdrawn
   withdraw-cleared c f o q = q ∙ rw (f, e)
 
 -- which chunk is closed matters only where one is
 module _ (b : Bool) (c c′ : ℕ) (h : b ≡ true → c ≡ c′) where
-  same-closed : (own : List ℕ) → closed b c own ≡ closed b c′ own
-  unfolding closed
+  same-closed : (own : List ℕ) → withoutOwner b c own ≡ withoutOwner b c′ own
+  unfolding withoutOwner
   same-closed own = go (decided b)
     where
       go : (b ≡ true) ⊎ (b ≡ false) → cond b (set own c 0) own ≡ cond b (set own c′ 0) own
@@ -86,7 +86,7 @@ module _ (b : Bool) (c c′ : ℕ) (h : b ≡ true → c ≡ c′) where
   same-closing : (own cells : List ℕ) (d : ℕ) → Closing b own cells c′ d → Closing b own cells c d
   same-closing own cells d k = record { one = λ e. rw (h e) (k .one e); few = k .few; size = k .size; whole = k .whole }
 
-module _ (t : Table) (l : Lent) (a len : ℕ) (w : Farewell t l a len) where
+module _ (t : Table) (l : Lent) (a len : ℕ) (w : Withdrawable t l a len) where
   abbrev g : Geometry
   g = t .geometry
 
@@ -113,24 +113,24 @@ module _ (t : Table) (l : Lent) (a len : ℕ) (w : Farewell t l a len) where
     count-is : m ≡ length left
     count-is = omega (arith, count-removed t l a len w)
 
-    holds : Holds s m left
+    holds : ListHolds s m left
     holds =
         let few : length (l .list) / 8 ≤ 4096 = omega (arith, w .sound .sized .room) in
-        let k : Holds (removed (l .list) (t .count) (keyOf a len)) (countWithout (stands (keyOf a len) rs) (t .count)) left
+        let k : ListHolds (removed (l .list) (t .count) (keyOf a len)) (countWithout (stands (keyOf a len) rs) (t .count)) left
         = remove-holds (l .list) (t .count) few (keyOf a len) (w .sound .listed) in
         rw list-is (rw (w .old) at k)
 
     -- A level that the withdrawal may close a chunk at, and the pool of p bits below it: the cell x of the address names the chunk. Whether it is
     -- closed is told by the count that is left.
     module _ (v : Level) (own cells : List ℕ) (z : Losing rs left a v own) (p : ℕ) (size : length cells ≡ below v (chunksOf own) p .places) (x : ℕ)
-        (k : Told rs v own a x) (closes : Bool) (q : closes ≡ alone left (v .bits) a len) where
+        (k : CellTells rs v own a x) (closes : Bool) (q : closes ≡ alone left (v .bits) a len) where
       names : closes ≡ true → x - 1 ≡ find own (suc (v .serving a))
       names h = told-chunk rs v own a x k (was-long t l a len w (v .bits) (alone-longer left (v .bits) a len (sym q ∙ h)))
 
       closable : length own ≤ 4096 → p - v .bits ≤ 10 → Closing closes own cells (x - 1) (p - v .bits)
       closable few small = same-closing _ _ _ names own cells (p - v .bits) (rw q (closing t l a len w v own z p cells size few small))
 
-      own-is : (own′ : List ℕ) → own′ ≡ closed closes (x - 1) own → own′ ≡ keep left v own
+      own-is : (own′ : List ℕ) → own′ ≡ withoutOwner closes (x - 1) own → own′ ≡ keep left v own
       own-is own′ o = o ∙ same-closed _ _ _ names own ∙ rw q (sym (keep-closes t l a len w v own z p cells size))
 
       cells-are : (cells′ : List ℕ) → cells′ ≡ blanked closes (x - 1) (p - v .bits) cells
@@ -162,7 +162,7 @@ module _ (t : Table) (l : Lent) (a len : ℕ) (w : Farewell t l a len) where
     take-tickable = down-tickable g rs a len (l .first) (l .own2) (l .long1) (l .long2) guided left rs goes before
 
     -- the prefix is counted no more; n is what is left at its places
-    module _ (long1 long2 : List ℕ) (n : Left) (moved : Moved g a len (l .first) (l .long1) (l .long2) false long1 long2 n)
+    module _ (long1 long2 : List ℕ) (n : Left) (moved : CountsMoved g a len (l .first) (l .long1) (l .long2) false long1 long2 n)
         (e1 : length long1 ≡ length (l .long1)) (e2 : length long2 ≡ length (l .long2)) where
       after : Counts left g (l .own2) long1 long2
       after = down-counts g rs a len (l .first) (l .own2) (l .long1) (l .long2) guided left rs goes before long1 long2 n moved
@@ -196,8 +196,8 @@ module _ (t : Table) (l : Lent) (a len : ℕ) (w : Farewell t l a len) where
             closable v2 (l .own3) (l .third) (losing2 t l a len w) 32 (w .sound .sized .cells3) x2 (k .second) _ closes3 (w .sound .sized .few3) small
 
         module _ (own2 own3 second third : List ℕ)
-            (o2 : own2 ≡ closed (eqb (n .first) 0) (x1 - 1) (l .own2)) (s2 : second ≡ blanked (eqb (n .first) 0) (x1 - 1) (bits2 g) (l .second))
-            (o3 : own3 ≡ closed (eqb (n .second) 0) (x2 - 1) (l .own3)) (s3 : third ≡ blanked (eqb (n .second) 0) (x2 - 1) (bits3 g) (l .third)) where
+            (o2 : own2 ≡ withoutOwner (eqb (n .first) 0) (x1 - 1) (l .own2)) (s2 : second ≡ blanked (eqb (n .first) 0) (x1 - 1) (bits2 g) (l .second))
+            (o3 : own3 ≡ withoutOwner (eqb (n .second) 0) (x2 - 1) (l .own3)) (s3 : third ≡ blanked (eqb (n .second) 0) (x2 - 1) (bits3 g) (l .third)) where
           own2-is : own2 ≡ keep left (level1 g) (l .own2)
           own2-is = own-is (level1 g) (l .own2) (l .second) (losing1 t l a len w) (g .p2) (w .sound .sized .cells2) x1 (k .first) _ closes2 own2 o2
 
@@ -226,11 +226,11 @@ module _ (t : Table) (l : Lent) (a len : ℕ) (w : Farewell t l a len) where
 
           module _ (first′ second′ third′ : List ℕ) (h : Repainted g (routesOf s m) (cells (l .first) second third own2 own3) first′ second′ third′) where
             pub take-done : (c : Bool)
-                → out (saysWithdraw (withdraw.Removed c)) (record { geometry = g; count = m }) (lent s first′ second′ third′ own2 own3 long1 long2)
-                ≡ told c (taking t l a len)
-            unfolding saysWithdraw
+                → out (meansWithdraw (withdraw.Removed c)) (record { geometry = g; count = m }) (lent s first′ second′ third′ own2 own3 long1 long2)
+                ≡ outWithFlag c (taking t l a len)
+            unfolding meansWithdraw
             take-done c =
                 let h′ = underway-asked g a len left l _ (farewell-underway t l a len w) first′ second′ third′
                 (rw (holds .routes, own2-is, own3-is, second-is, third-is) at h) in
                 rw (count-is, list-is, h′ .is-first, h′ .is-second, h′ .is-third, own2-is, own3-is, are .0, are .1)
-                (sym (ap (told c) (taking-is t l a len w)))
+                (sym (ap (outWithFlag c) (taking-is t l a len w)))

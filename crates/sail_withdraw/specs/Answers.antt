@@ -1,4 +1,4 @@
--- What each case of the answer of withdraw says. Assumes nothing.
+-- What each case of the answer of withdraw says.
 use mathlib.Core.List.{[], _∷_}
 use Rattle.bits.specs.Count.{bit}
 use Rattle.routes.specs.Said.{Said, accepted, refused}
@@ -6,6 +6,6 @@ use Rattle.sail_withdraw.specs.declared.answers.Withdraw.{Withdraw}
 use Rattle.sail_withdraw.specs.declared.answers.Withdraw.the-variants as withdraw
 
 -- whether bits were cleared
-unfoldable pub saysWithdraw : Withdraw → Said
-saysWithdraw (withdraw.Removed c) = accepted (bit c ∷ [])
-saysWithdraw (withdraw.Refused n) = refused n
+unfoldable pub meansWithdraw : Withdraw → Said
+meansWithdraw (withdraw.Removed c) = accepted (bit c ∷ [])
+meansWithdraw (withdraw.Refused n) = refused n

@@ -4,8 +4,8 @@ use Prim.Native.Nat.{ℕ}
 use Rattle.sail.specs.Lent.{Lent}
 use Rattle.sail.specs.declared.table.Table.{Table}
 use Rattle.sail_theory.specs.Calls.{Ends, withdrawn}
-use Rattle.sail_withdraw.specs.Answers.{saysWithdraw}
+use Rattle.sail_withdraw.specs.Answers.{meansWithdraw}
 use Rattle.sail_withdraw.specs.declared.answers.Withdrawn.{Withdrawn}
 
 abbrev pub MeetsWithdraw : Table → Lent → ℕ → ℕ → Withdrawn → Lent → Type 0
-MeetsWithdraw t l addr len r e = Ends (saysWithdraw (r .answer)) (r .table) e (withdrawn t l addr len)
+MeetsWithdraw t l addr len r e = Ends (meansWithdraw (r .answer)) (r .table) e (withdrawn t l addr len)

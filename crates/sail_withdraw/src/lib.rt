@@ -1,27 +1,28 @@
 // Withdraw: a route is taken out of a table.
 ghost use mathlib.Core.Path.{_≡_};
 ghost use Rattle.sail.specs.Lent.{lent};
-ghost use Rattle.sail_theory.specs.Calls.{withdrawSaid, out, taking, told};
-ghost use Rattle.sail_theory.specs.Facts.{Farewell};
-ghost use Rattle.sail_calls.specs.Judge.{Judged};
-ghost use Rattle.sail_withdraw.specs.Answers.{saysWithdraw};
+ghost use Rattle.sail_theory.specs.Calls.{withdrawSaid, out, taking, outWithFlag};
+ghost use Rattle.sail_theory.specs.Facts.{Withdrawable};
+ghost use Rattle.sail_theory.specs.Judge.{Judged};
+ghost use Rattle.sail_withdraw.specs.Answers.{meansWithdraw};
 ghost use Rattle.sail_withdraw.specs.Contract.{MeetsWithdraw};
 
 pub mod answers;
 
 use crate::answers::Withdraw;
 use crate::answers::Withdrawn;
+use bits::widen::byte_to_word;
 use lists::edit;
 use lists::place::place;
 use routes::input;
+use routes::prefix::clear_after;
 use routes::record;
 use sail::table::Table;
 use sail::table::sizes;
-use sail_calls::clear::clear;
-use sail_calls::renew::renew;
-use sail_change::chunks::close;
-use sail_change::trail::follow;
+use sail_chunks::chunks::close;
+use sail_chunks::trail::follow;
 use sail_counts::tick::tick;
+use sail_paint::from_list::repaint_from_list;
 use sail_sound::test::sound;
 
 // The number with which the withdrawal is refused, by the first condition that holds; 0 where it is accepted.
@@ -38,7 +39,7 @@ fn judge_withdraw(
     addr: u32,
     len: u8,
 ) -> u8
-    ensures { λ r. ⌜ Judged r (withdrawSaid t (lent (now (list .entry)) (now (first .entry)) (now (second .entry)) (now (third .entry)) (now (own2 .entry)) (now (own3 .entry)) (now (long1 .entry)) (now (long2 .entry))) addr len) (Farewell t (lent (now (list .entry)) (now (first .entry)) (now (second .entry)) (now (third .entry)) (now (own2 .entry)) (now (own3 .entry)) (now (long1 .entry)) (now (long2 .entry))) addr len) ⌝ }
+    ensures { λ r. ⌜ Judged r (withdrawSaid t (lent (now (list .entry)) (now (first .entry)) (now (second .entry)) (now (third .entry)) (now (own2 .entry)) (now (own3 .entry)) (now (long1 .entry)) (now (long2 .entry))) addr len) (Withdrawable t (lent (now (list .entry)) (now (first .entry)) (now (second .entry)) (now (third .entry)) (now (own2 .entry)) (now (own3 .entry)) (now (long1 .entry)) (now (long2 .entry))) addr len) ⌝ }
 {
     let s = sizes(t, list, first, second, third, own2, own3, long1, long2);
     if s != 0 {
@@ -75,8 +76,8 @@ fn take(
     len: u8,
     cleared: bool,
 ) -> Withdrawn
-    requires { ⌜ Farewell t (lent (now list) (now first) (now second) (now third) (now own2) (now own3) (now long1) (now long2)) addr len ⌝ }
-    ensures { λ r. ⌜ out (saysWithdraw (r .answer)) (r .table) (lent (now (list .exit)) (now (first .exit)) (now (second .exit)) (now (third .exit)) (now (own2 .exit)) (now (own3 .exit)) (now (long1 .exit)) (now (long2 .exit))) ≡ told cleared (taking t (lent (now (list .entry)) (now (first .entry)) (now (second .entry)) (now (third .entry)) (now (own2 .entry)) (now (own3 .entry)) (now (long1 .entry)) (now (long2 .entry))) addr len) ⌝ }
+    requires { ⌜ Withdrawable t (lent (now list) (now first) (now second) (now third) (now own2) (now own3) (now long1) (now long2)) addr len ⌝ }
+    ensures { λ r. ⌜ out (meansWithdraw (r .answer)) (r .table) (lent (now (list .exit)) (now (first .exit)) (now (second .exit)) (now (third .exit)) (now (own2 .exit)) (now (own3 .exit)) (now (long1 .exit)) (now (long2 .exit))) ≡ outWithFlag cleared (taking t (lent (now (list .entry)) (now (first .entry)) (now (second .entry)) (now (third .entry)) (now (own2 .entry)) (now (own3 .entry)) (now (long1 .entry)) (now (long2 .entry))) addr len) ⌝ }
 {
     let g = t.geometry;
     let p1 = g.p1;
@@ -100,12 +101,12 @@ fn take(
         (v.second - 1) as usize,
         32 - p2,
     );
-    renew(
+    repaint_from_list(
         g,
         list,
         m,
         addr,
-        record::wide(len),
+        byte_to_word(len),
         first,
         second,
         third,
@@ -140,7 +141,7 @@ pub fn withdraw(
 ) -> Withdrawn
     ensures { λ r. ⌜ MeetsWithdraw t (lent (now (list .entry)) (now (first .entry)) (now (second .entry)) (now (third .entry)) (now (own2 .entry)) (now (own3 .entry)) (now (long1 .entry)) (now (long2 .entry))) addr len r (lent (now (list .exit)) (now (first .exit)) (now (second .exit)) (now (third .exit)) (now (own2 .exit)) (now (own3 .exit)) (now (long1 .exit)) (now (long2 .exit))) ⌝ }
 {
-    let a = clear(addr, len);
+    let a = clear_after(addr, len);
     let z = judge_withdraw(
         t,
         list,

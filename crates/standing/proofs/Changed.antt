@@ -1,38 +1,24 @@
--- What one route inserted, replaced or removed leaves as it was, and how many routes then stand. Assumes nothing.
-use mathlib.Core.Path.{_≡_, refl, sym, _∙_, ap}
+-- How many routes stand after one is inserted or removed, and what a removed prefix leaves as it was.
+use mathlib.Core.Path.{_≡_, refl, sym, ap}
 use mathlib.Core.Logic.{_⊎_, inl, inr}
-use mathlib.Core.Bool.{Bool, true, false, _||_, cond, true≢false}
+use mathlib.Core.Bool.{Bool, true, false, cond, true≢false}
 use mathlib.Core.List.{List, [], _∷_, List·Memᴰ, List·Memᴰ·head, List·Memᴰ·tail}
-use Prim.Native.Nat.{ℕ, suc, _+_, _*_, _/_, _^_, _≤_, _<_}
+use Prim.Native.Nat.{ℕ, suc, _≤_, _<_}
 use native.Mathlib.Omega.{arith}
 use lib.Dec.{eqb, ltb}
 use lib.ListN.{length}
 use borrow.Author.Tests.{eqb-true, ne-eqb}
 use Rattle.bits.specs.Slot.{slot}
-use Rattle.bits.proofs.Tests.{decided, or-none}
-use Rattle.routes.specs.Route.{key, keyOf, Fine, Good}
-use Rattle.standing.specs.Cells.{any, long, best}
+use Rattle.bits.proofs.Bools.{decided, or-none}
+use Rattle.routes.specs.Route.{key, keyOf, Good}
+use Rattle.standing.specs.Cells.{any, long}
 use Rattle.standing.specs.Standing.{isAt, stands, insert, remove}
 use Rattle.routes.specs.declared.Route.{Route}
-use Rattle.standing.proofs.Frame.{frame-long, frame-best}
-use Rattle.standing.proofs.Standing.{insert-but, remove-but}
+use Rattle.standing.proofs.Frame.{frame-long}
+use Rattle.standing.proofs.Standing.{remove-but}
 
--- cell i of level p lies under the prefix a of l bits
-abbrev pub Under : ℕ → ℕ → ℕ → ℕ → Type 0
-Under a l p i = (k : ℕ) × (l + k ≡ p) × (i / 2 ^ k ≡ slot l a)
-
-module _ (r : Route) (rs : List Route) (f : Fine r) (g : Good rs) (p i : ℕ) where
-  -- a cell that is not under the prefix keeps its hop, and one in which the prefix does not lie keeps whether it is long
-  pub insert-best : (Under (r .addr) (r .len) p i → ⊥) → best rs p i ≡ best (insert r rs) p i
-  insert-best h = frame-best (r .addr) (r .len) rs (insert r rs) (insert-but r rs f g) p i (λ k e c. h (k, e, c))
-
-  pub insert-long : (p < r .len → slot p (r .addr) ≡ i → ⊥) → long rs p i ≡ long (insert r rs) p i
-  insert-long h = frame-long (r .addr) (r .len) rs (insert r rs) (insert-but r rs f g) p i h
-
+-- a cell in which the prefix does not lie keeps whether it is long
 module _ (a l : ℕ) (rs : List Route) (w : l ≤ 32) (g : Good rs) (p i : ℕ) where
-  pub remove-best : (Under a l p i → ⊥) → best rs p i ≡ best (remove (keyOf a l) rs) p i
-  remove-best h = frame-best a l rs (remove (keyOf a l) rs) (remove-but a l rs w g) p i (λ k e c. h (k, e, c))
-
   pub remove-long : (p < l → slot p a ≡ i → ⊥) → long rs p i ≡ long (remove (keyOf a l) rs) p i
   remove-long h = frame-long a l rs (remove (keyOf a l) rs) (remove-but a l rs w g) p i h
 
@@ -55,7 +41,9 @@ remove-absent p (x ∷ xs) e = let n = or-none (isAt p x) (any (isAt p) xs) e in
 none-later : (k : ℕ) (rs : List Route) → ((s : Route) → List·Memᴰ s rs → k < key s) → remove k rs ≡ rs
 unfolding remove
 none-later k [] h = refl
-none-later k (s ∷ ss) h = rw (ne-eqb (key s) k (λ q. let z = h s (List·Memᴰ·head refl) in omega arith)) (ap (λ (l : List Route). s ∷ l) (none-later k ss (λ x m. h x (List·Memᴰ·tail m))))
+none-later k (s ∷ ss) h =
+    let rest = none-later k ss (λ x m. h x (List·Memᴰ·tail m)) in
+    rw (ne-eqb (key s) k (λ q. let z = h s (List·Memᴰ·head refl) in omega arith)) (ap (λ (l : List Route). s ∷ l) rest)
 
 -- one route less where it stood
 pub remove-takes : (k : ℕ) (rs : List Route) → Good rs → stands k rs ≡ true → suc (length (remove k rs)) ≡ length rs

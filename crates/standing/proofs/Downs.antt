@@ -12,22 +12,22 @@ use Rattle.routes.specs.declared.Route.{Route}
 use Rattle.standing.specs.Cells.{here, first, orElse, best}
 use Rattle.standing.specs.Down.{orNext, down}
 
-pub or-none : (x d : ℕ) → x ≡ 0 → orNext x d ≡ d
-or-none x d e = rw e
+pub or-next-none : (x d : ℕ) → x ≡ 0 → orNext x d ≡ d
+or-next-none x d e = rw e
 
-pub or-some : (x d : ℕ) → (x ≡ 0 → ⊥) → orNext x d ≡ x
-or-some zero d e = absurd (e refl)
-or-some (suc x) d e = refl
+pub or-next-some : (x d : ℕ) → (x ≡ 0 → ⊥) → orNext x d ≡ x
+or-next-some zero d e = absurd (e refl)
+or-next-some (suc x) d e = refl
 
 -- one length, whatever it says
 module _ (f : ℕ → ℕ) where
   pub down-none : (l : ℕ) → f l ≡ 0 → down f (suc l) ≡ down f l
   unfolding down
-  down-none l e = or-none (f l) (down f l) e
+  down-none l e = or-next-none (f l) (down f l) e
 
   pub down-some : (l : ℕ) → (f l ≡ 0 → ⊥) → down f (suc l) ≡ f l
   unfolding down
-  down-some l e = or-some (f l) (down f l) e
+  down-some l e = or-next-some (f l) (down f l) e
 
   -- lengths that say nothing are passed over
   pub down-skip : (m n : ℕ) → m ≤ n → ((l : ℕ) → m ≤ l → l < n → f l ≡ 0) → down f n ≡ down f m

@@ -1,50 +1,23 @@
--- What one route more, one less or another hop leaves as it was.
--- Assumes nothing.
-use mathlib.Core.Path.{_≡_, refl, sym, _∙_, ap, ap₂, subst}
-use mathlib.Core.Logic.{_⊎_, inl, inr}
-use mathlib.Core.Bool.{Bool, true, false, _&&_, _||_, cond}
-use mathlib.Core.List.{List, [], _∷_, _++_}
-use Prim.Native.Nat.{ℕ, zero, suc, _+_, _-_, _*_, _/_, _%_, _^_, _≤_, _<_}
-use native.Mathlib.Nat.{div-one, add-zero, add-suc}
+-- Two lists that differ at one prefix alone say the same of every cell but those under the prefix (`frame-best`) and those in which it lies
+-- (`frame-long`).
+use mathlib.Core.Path.{_≡_, sym, _∙_, ap, ap₂}
+use mathlib.Core.Bool.{Bool, false}
+use mathlib.Core.List.{List}
+use Prim.Native.Nat.{ℕ, zero, suc, _+_, _-_, _/_, _^_, _<_}
+use native.Mathlib.Nat.{div-one}
 use native.Mathlib.Omega.{arith}
 use lib.Dec.{eqb, ltb}
 use borrow.Author.Tests.{ltb-true, eqb-true}
 use Rattle.standing.specs.Cells.{here, within, any, first, orElse, long, best}
 use Rattle.routes.specs.declared.Route.{Route}
-use Rattle.bits.specs.Slot.{slot, cut}
-use Rattle.bits.proofs.Tests.{and-split, untrue}
+use Rattle.bits.specs.Slot.{slot}
+use Rattle.bits.proofs.Bools.{and-split, untrue}
 use Rattle.bits.proofs.Slots.{half-pow}
 
 -- no test that fails at the routes of this prefix tells the two lists apart
 pub record SameBut (a l : ℕ) (rs rs′ : List Route) : Type 0 where
   pub same-any : (f : Route → Bool) → ((r : Route) → r .addr ≡ a → r .len ≡ l → f r ≡ false) → any f rs ≡ any f rs′
   pub same-first : (f : Route → Bool) → ((r : Route) → r .addr ≡ a → r .len ≡ l → f r ≡ false) → first f rs ≡ first f rs′
-
-pub but-sym : {a l : ℕ} {rs rs′ : List Route} → SameBut a l rs rs′ → SameBut a l rs′ rs
-but-sym b = record { same-any = λ f h. sym (b .same-any f h); same-first = λ f h. sym (b .same-first f h) }
-
-pub but-trans : {a l : ℕ} {rs rs′ rs″ : List Route} → SameBut a l rs rs′ → SameBut a l rs′ rs″ → SameBut a l rs rs″
-but-trans b c = record { same-any = λ f h. b .same-any f h ∙ c .same-any f h; same-first = λ f h. b .same-first f h ∙ c .same-first f h }
-
-any-insert : (f : Route → Bool) (xs : List Route) (r : Route) (ys : List Route) → f r ≡ false → any f (xs ++ ys) ≡ any f (xs ++ r ∷ ys)
-unfolding any
-any-insert f [] r ys e = rw e
-any-insert f (x ∷ xs) r ys e = ap (λ (b : Bool). f x || b) (any-insert f xs r ys e)
-
-first-insert : (f : Route → Bool) (xs : List Route) (r : Route) (ys : List Route) → f r ≡ false → first f (xs ++ ys) ≡ first f (xs ++ r ∷ ys)
-unfolding first
-first-insert f [] r ys e = rw e
-first-insert f (x ∷ xs) r ys e = ap (λ (n : ℕ). cond (f x) (suc (x .hop)) n) (first-insert f xs r ys e)
-
--- one route more; by `but-sym` one less, and by `but-trans` of the two one that is replaced
-pub but-insert : (xs : List Route) (r : Route) (ys : List Route) → SameBut (r .addr) (r .len) (xs ++ ys) (xs ++ r ∷ ys)
-but-insert xs r ys = record {
-  same-any = λ f h. any-insert f xs r ys (h r refl refl);
-  same-first = λ f h. first-insert f xs r ys (h r refl refl);
-}
-
-pub but-replace : (xs : List Route) (r r′ : Route) (ys : List Route) → r .addr ≡ r′ .addr → r .len ≡ r′ .len → SameBut (r .addr) (r .len) (xs ++ r ∷ ys) (xs ++ r′ ∷ ys)
-but-replace xs r r′ ys p q = but-trans (but-sym (but-insert xs r ys)) (rw (p, q) (but-insert xs r′ ys))
 
 module _ (a l : ℕ) (rs rs′ : List Route) (b : SameBut a l rs rs′) where
   -- a cell in which the prefix does not lie

@@ -1,20 +1,18 @@
 -- What holds of a cell and the cells of a higher level.
--- Assumes nothing.
-use mathlib.Core.Path.{_≡_, refl, sym, _∙_, ap, subst}
+use mathlib.Core.Path.{_≡_, refl, sym, _∙_, ap}
 use mathlib.Core.Logic.{_⊎_, inl, inr}
-use mathlib.Core.Bool.{Bool, true, false, not, _&&_, _||_, cond, or-true}
+use mathlib.Core.Bool.{Bool, true, false, _||_, or-true}
 use mathlib.Core.List.{List, [], _∷_}
-use Prim.Native.Nat.{ℕ, zero, suc, _+_, _-_, _*_, _/_, _^_, _≤_, _<_}
-use native.Mathlib.Nat.{add-suc, add-zero, div-one, div-div-eq-div-mul, pow-suc, pow-succ'}
+use Prim.Native.Nat.{ℕ, zero, suc, _+_, _-_, _/_, _^_, _≤_, _<_}
+use native.Mathlib.Nat.{add-suc, add-zero, div-one}
 use native.Mathlib.Omega.{arith}
-use lib.Dec.{eqb, ltb, leb}
-use lib.Pow.{shr-shr}
-use borrow.Author.Tests.{ltb-true, ltb-false, leb-true, eqb-true, lt-ltb, eq-eqb}
+use lib.Dec.{eqb, ltb}
+use borrow.Author.Tests.{ltb-true, eqb-true, lt-ltb, eq-eqb}
 use Rattle.standing.specs.Cells.{here, within, any, first, orElse, long, best}
 use Rattle.routes.specs.declared.Route.{Route}
 use Rattle.bits.specs.Slot.{slot}
 use Rattle.bits.proofs.Slots.{slot-up, half-pow}
-use Rattle.bits.proofs.Tests.{decided, both, and-split, or-split, or-none, fails}
+use Rattle.bits.proofs.Bools.{both, and-split, or-split, or-none, fails}
 
 -- a test that passes at some route, and one that is weaker
 pub any-mono : (f g : Route → Bool) (rs : List Route) → ((r : Route) → f r ≡ true → g r ≡ true) → any f rs ≡ true → any g rs ≡ true
@@ -56,7 +54,8 @@ pub best-up : (rs : List Route) (p k a : ℕ) → p + k ≤ 32 → long rs p (a 
 unfolding best
 best-up rs p zero a h e = rw (add-zero p, div-one a)
 best-up rs p (suc k) a h e =
-    let none : first (here (p + suc k) a) rs ≡ 0 = first-none (here (p + suc k) a) rs (fails _ _ (any-mono (here (p + suc k) a) (within p (a / 2 ^ suc k)) rs (here-within p k a h)) e) in
+    let deeper = any-mono (here (p + suc k) a) (within p (a / 2 ^ suc k)) rs (here-within p k a h) in
+    let none : first (here (p + suc k) a) rs ≡ 0 = first-none (here (p + suc k) a) rs (fails _ _ deeper e) in
     ap (λ (n : ℕ). best rs n a) (add-suc p k)
     ∙ ap (λ (n : ℕ). orElse n (best rs (p + k) (a / 2))) (rw add-suc at none)
     ∙ best-up rs p k (a / 2) (omega arith) (rw half-pow e)

@@ -8,5 +8,9 @@ pub mod Prefixes
 pub mod Downs
 pub mod Frame
 pub mod Only
+pub mod Served
 pub mod Standing
 pub mod Changed
+pub mod ListParts
+pub mod NeedAfter
+pub mod TwoLevels

@@ -1,18 +1,17 @@
 -- `best` is the hop of the longest route that covers the cell.
--- Assumes nothing.
-use mathlib.Core.Path.{_≡_, refl, sym, _∙_, ap, ap₂, subst}
+use mathlib.Core.Path.{_≡_, refl, sym, _∙_, ap}
 use mathlib.Core.Logic.{_⊎_, inl, inr}
-use mathlib.Core.Bool.{Bool, true, false, _&&_, cond, true≢false}
+use mathlib.Core.Bool.{Bool, true, false, true≢false}
 use mathlib.Core.List.{List, [], _∷_, List·Memᴰ, List·Memᴰ·head, List·Memᴰ·tail, List·Memᴰ·cases-cons, List·Memᴰ·not-nil}
-use Prim.Native.Nat.{ℕ, zero, suc, _+_, _-_, _*_, _/_, _%_, _^_, _≤_, _<_}
+use Prim.Native.Nat.{ℕ, zero, suc, _-_, _/_, _^_, _≤_}
 use native.Mathlib.Nat.{div-one, le-of-suc-le-suc, lt-of-not-le}
 use native.Mathlib.Omega.{arith}
-use lib.Dec.{eqb, ltb, leb}
+use lib.Dec.{eqb, leb}
 use borrow.Author.Tests.{leb-true, le-leb, eqb-true, eq-eqb}
-use Rattle.standing.specs.Cells.{here, covers, first, orElse, best, Longest, Best}
+use Rattle.standing.specs.Cells.{here, covers, first, orElse, best, Best}
 use Rattle.routes.specs.declared.Route.{Route}
-use Rattle.bits.specs.Slot.{slot, cut}
-use Rattle.bits.proofs.Tests.{and-split, both, untrue, decided}
+use Rattle.bits.specs.Slot.{slot}
+use Rattle.bits.proofs.Bools.{and-split, both, untrue, decided}
 use Rattle.bits.proofs.Slots.{half-pow}
 
 -- what `first` finds

@@ -1,22 +1,20 @@
 -- `need rs p` is the number of long cells of level p.
--- Assumes nothing.
-use mathlib.Core.Path.{_≡_, refl, sym, _∙_, ap, subst}
+use mathlib.Core.Path.{_≡_, refl, sym, _∙_, subst}
 use mathlib.Core.Logic.{_⊎_, inl, inr}
-use mathlib.Core.Bool.{Bool, true, false, not, _&&_, _||_, cond, or-true, or-false, and-true, and-false}
+use mathlib.Core.Bool.{true, false, not, _&&_, or-true, and-true, and-false}
 use mathlib.Core.List.{List, [], _∷_}
-use Prim.Native.Nat.{ℕ, zero, suc, _+_, _-_, _*_, _/_, _^_, _≤_, _<_}
+use Prim.Native.Nat.{ℕ, zero, suc, _+_, _-_, _^_, _≤_}
 use native.Mathlib.Omega.{arith}
-use lib.Dec.{eqb, ltb, leb}
-use lib.Pow.{shr-lt}
-use borrow.Author.Tests.{ltb-true, ltb-false, leb-true, eqb-true, eqb-false, lt-ltb, eq-eqb, ne-eqb, le-ltb}
-use Rattle.routes.specs.Route.{Fine, Good}
+use lib.Dec.{eqb, ltb}
+use borrow.Author.Tests.{eqb-true, eqb-false, eq-eqb, ne-eqb, le-ltb}
+use Rattle.routes.specs.Route.{Good}
 use Rattle.standing.specs.Cells.{within, any, long, need}
 use Rattle.routes.specs.declared.Route.{Route}
-use Rattle.bits.specs.Slot.{slot, cut}
+use Rattle.bits.specs.Slot.{slot}
 use Rattle.bits.specs.Count.{bit, count}
 use Rattle.bits.proofs.Slots.{slot-lt}
-use Rattle.bits.proofs.Tests.{decided, both, and-split, or-split, or-none, fails, same}
-use Rattle.bits.proofs.Counts.{count-ext, without, without-same, without-other, count-without}
+use Rattle.bits.proofs.Bools.{decided, and-split, or-split, same}
+use Rattle.bits.proofs.Counts.{count-ext, without, count-without}
 
 none-long : (p n : ℕ) → 0 ≡ count (long [] p) n
 unfolding any count

@@ -1,14 +1,13 @@
--- In a good list `best` is the one hop that is `Best`, and it is 0 exactly when no route covers. Assumes nothing.
+-- In a good list `best` is the one hop that is `Best`, and it is 0 exactly when no route covers.
 use mathlib.Core.Path.{_≡_, refl, sym, _∙_, ap}
-use mathlib.Core.Logic.{_⊎_, inl, inr}
-use mathlib.Core.Bool.{Bool, true, false, _&&_, true≢false}
+use mathlib.Core.Bool.{false, true≢false}
 use mathlib.Core.List.{List, List·Memᴰ}
-use Prim.Native.Nat.{ℕ, _-_, _/_, _^_, _≤_, _<_}
+use Prim.Native.Nat.{ℕ, _-_, _≤_}
 use native.Mathlib.Omega.{arith}
-use lib.Dec.{leb, eqb}
+use lib.Dec.{eqb}
 use borrow.Author.Tests.{le-leb}
 use Rattle.bits.specs.Slot.{slot}
-use Rattle.routes.specs.Route.{key, Fine, Good}
+use Rattle.routes.specs.Route.{Good}
 use Rattle.standing.specs.Cells.{covers, Longest, Best, best}
 use Rattle.routes.specs.declared.Route.{Route}
 use Rattle.routes.proofs.Goods.{good-fine}
@@ -50,11 +49,3 @@ module _ (rs : List Route) (good : Good rs) (p i : ℕ) where
 
   pub covers-none : ((r : Route) → List·Memᴰ r rs → covers p i r ≡ false) → best rs p i ≡ 0
   covers-none n = best-only (best rs p i) 0 (best-is rs p i) (Best.none refl n)
-
-  -- a hop of 15 bits
-  pub best-small : best rs p i ≤ 32767
-  best-small = go (best-is rs p i)
-    where
-      go : Best rs p i (best rs p i) → best rs p i ≤ 32767
-      go (Best.none z n) = omega arith
-      go (Best.one w) = omega (arith, good-fine rs good (w .route) (w .listed) .hop-ok, w .its-hop)

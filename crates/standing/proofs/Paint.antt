@@ -1,20 +1,16 @@
 -- In an ascending list the last route that covers a cell is the longest: `best` is what painting the routes in order leaves.
--- Assumes nothing.
-use mathlib.Core.Path.{_≡_, refl, sym, _∙_, ap, ap₂, subst}
+use mathlib.Core.Path.{_≡_, refl, sym, _∙_, ap}
 use mathlib.Core.Logic.{_⊎_, inl, inr}
-use mathlib.Core.Bool.{Bool, true, false, _&&_, cond, true≢false}
+use mathlib.Core.Bool.{Bool, true, false, cond, true≢false}
 use mathlib.Core.List.{List, [], _∷_, List·Memᴰ, List·Memᴰ·head, List·Memᴰ·tail, List·Memᴰ·cases-cons, List·Memᴰ·not-nil}
-use Prim.Native.Nat.{ℕ, zero, suc, _+_, _-_, _*_, _/_, _%_, _^_, _≤_, _<_}
-use native.Mathlib.Nat.{div-one, le-of-suc-le-suc, lt-of-not-le, div-mul-le-self, mul-le-mul-right}
+use Prim.Native.Nat.{ℕ, _+_, _-_, _*_, _/_, _^_, _≤_}
 use native.Mathlib.Omega.{arith}
-use lib.Dec.{eqb, ltb, leb}
-use lib.Pow.{pow-add, shr-shr}
-use borrow.Author.Tests.{leb-true, le-leb, eqb-true, eq-eqb}
-use Rattle.routes.specs.Route.{key, Prefix, Fine, Good}
-use Rattle.standing.specs.Cells.{here, covers, first, orElse, best, Longest, Best, lastHop}
+use lib.Pow.{shr-shr}
+use Rattle.routes.specs.Route.{key, Fine, Good}
+use Rattle.standing.specs.Cells.{covers, best, Best, lastHop}
 use Rattle.routes.specs.declared.Route.{Route}
 use Rattle.bits.specs.Slot.{slot, cut}
-use Rattle.bits.proofs.Tests.{and-split, both, untrue, decided}
+use Rattle.bits.proofs.Bools.{decided}
 use Rattle.bits.proofs.Slots.{slot-up, cut-le, cut-is}
 use Rattle.routes.proofs.Goods.{good-fine}
 use Rattle.standing.proofs.Longest.{cover-parts, best-is}
@@ -34,7 +30,8 @@ slot-cover p i l s w c h =
 pub nested : (p i : ℕ) (r s : Route) → Fine r → Fine s → covers p i r ≡ true → covers p i s ≡ true → r .len ≤ s .len → r .addr ≤ s .addr
 nested p i r s fr fs cr cs h =
     let e : slot (r .len) (r .addr) ≡ slot (r .len) (s .addr) = cover-parts p i r cr .1 ∙ sym (slot-cover p i (r .len) s (fs .prefix .len-ok) cs h) in
-    let d : cut (r .len) (r .addr) ≡ cut (r .len) (s .addr) = cut-is (r .len) (r .addr) ∙ ap (λ (n : ℕ). n * 2 ^ (32 - r .len)) e ∙ sym (cut-is (r .len) (s .addr)) in
+    let d : cut (r .len) (r .addr) ≡ cut (r .len) (s .addr)
+    = cut-is (r .len) (r .addr) ∙ ap (λ (n : ℕ). n * 2 ^ (32 - r .len)) e ∙ sym (cut-is (r .len) (s .addr)) in
     omega (arith, fr .prefix .clear, d, cut-le (r .len) (s .addr))
 
 -- a route of an ascending list is known by its key
@@ -59,7 +56,8 @@ unfolding lastHop Good
 last-is f [] d a = nothing refl (λ r m. absurd (List·Memᴰ·not-nil m))
 last-is f (x ∷ xs) d a = go (decided (f x)) (last-is f xs (cond (f x) (x .hop) d) (a .2))
   where
-    go : (f x ≡ true) ⊎ (f x ≡ false) → Last f xs (cond (f x) (x .hop) d) (lastHop f xs (cond (f x) (x .hop) d)) → Last f (x ∷ xs) d (lastHop f xs (cond (f x) (x .hop) d))
+    go : (f x ≡ true) ⊎ (f x ≡ false) → Last f xs (cond (f x) (x .hop) d) (lastHop f xs (cond (f x) (x .hop) d))
+        → Last f (x ∷ xs) d (lastHop f xs (cond (f x) (x .hop) d))
     go e (found r m t z h) = found r (List·Memᴰ·tail m) t z (λ s k. at s (List·Memᴰ·cases-cons k))
       where
         at : (s : Route) → (s ≡ x) ⊎ List·Memᴰ s xs → f s ≡ true → key s ≤ key r

@@ -7,7 +7,7 @@ use native.Mathlib.Omega.{arith}
 use borrow.Author.Tests.{le-leb, eq-eqb}
 use Rattle.bits.specs.Slot.{slot, cut}
 use Rattle.bits.proofs.Slots.{cut-slot}
-use Rattle.bits.proofs.Tests.{both}
+use Rattle.bits.proofs.Bools.{both}
 use Rattle.routes.specs.Route.{key, Fine, Good}
 use Rattle.routes.specs.declared.Route.{Route}
 use Rattle.routes.proofs.Goods.{good-fine}

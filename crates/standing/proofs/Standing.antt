@@ -1,21 +1,21 @@
 -- A route put into a good list, and a prefix taken out of one: the list stays good, and what then stands, is long, and is best at a cell.
-use mathlib.Core.Path.{_≡_, refl, sym, _∙_, ap, ap₂, subst}
+use mathlib.Core.Path.{_≡_, refl, sym, _∙_, ap, ap₂}
 use mathlib.Core.Logic.{_⊎_, inl, inr, _≢_}
-use mathlib.Core.Bool.{Bool, true, false, not, _&&_, _||_, cond, true≢false, false≢true, or-true, or-false, or-assoc, or-comm}
-use mathlib.Core.List.{List, [], _∷_, _++_, List·Memᴰ, List·Memᴰ·head, List·Memᴰ·tail, List·Memᴰ·cases-cons, List·Memᴰ·not-nil}
-use Prim.Native.Nat.{ℕ, zero, suc, _+_, _-_, _*_, _/_, _%_, _^_, _≤_, _<_}
+use mathlib.Core.Bool.{Bool, true, false, _||_, cond, true≢false, false≢true, or-true}
+use mathlib.Core.List.{List, [], _∷_, List·Memᴰ, List·Memᴰ·head, List·Memᴰ·tail, List·Memᴰ·cases-cons, List·Memᴰ·not-nil}
+use Prim.Native.Nat.{ℕ, suc, _-_, _≤_, _<_}
 use native.Mathlib.Omega.{arith}
-use native.Mathlib.Nat.{le-refl, le-step}
-use lib.Dec.{eqb, ltb, leb}
+use native.Mathlib.Nat.{le-refl}
+use lib.Dec.{eqb, ltb}
 use lib.ListN.{length}
-use borrow.Author.Tests.{ltb-true, ltb-false, leb-true, eqb-true, eqb-false, lt-ltb, le-ltb, le-leb, eq-eqb, ne-eqb}
+use borrow.Author.Tests.{ltb-true, ltb-false, eqb-true, eqb-false, lt-ltb, le-ltb, eq-eqb, ne-eqb}
 use Rattle.routes.specs.Route.{key, keyOf, Fine, Good}
-use Rattle.standing.specs.Cells.{any, first, long, within, here}
+use Rattle.standing.specs.Cells.{any, first, long, within}
 use Rattle.routes.specs.declared.Route.{Route}
-use Rattle.bits.proofs.Tests.{decided, both, and-split, or-split, or-none, fails, untrue}
+use Rattle.bits.proofs.Bools.{decided, or-split}
 use Rattle.standing.proofs.Frame.{SameBut}
 use Rattle.standing.specs.Standing.{isAt, stands, insert, remove, Held, absent, stood, routeAt}
-use Rattle.routes.proofs.Goods.{key-parts, good-fine}
+use Rattle.routes.proofs.Goods.{key-parts}
 
 -- the three cases of `insert`, as equations
 module _ (r s : Route) (ss : List Route) where
@@ -139,10 +139,13 @@ insert-stands k r (s ∷ ss) = go (order (key r) (key s)) (insert-stands k r ss)
         absorb : (b : Bool) (x y z : Held) → cond b x z ≡ cond b x (cond b y z)
         absorb true x y z = refl
         absorb false x y z = refl
-    go (more o) ih = rw (le-ltb (key r) (key s) (omega arith), ne-eqb (key s) (key r) (λ e. omega arith), ih) (order-of (decided (eqb (key r) k)) (decided (eqb (key s) k)))
+    go (more o) ih =
+        rw (le-ltb (key r) (key s) (omega arith), ne-eqb (key s) (key r) (λ e. omega arith), ih)
+        (order-of (decided (eqb (key r) k)) (decided (eqb (key s) k)))
       where
         order-of : (eqb (key r) k ≡ true) ⊎ (eqb (key r) k ≡ false) → (eqb (key s) k ≡ true) ⊎ (eqb (key s) k ≡ false)
-            → cond (eqb (key s) k) (stood s) (cond (eqb (key r) k) (stood r) (routeAt k ss)) ≡ cond (eqb (key r) k) (stood r) (cond (eqb (key s) k) (stood s) (routeAt k ss))
+            → cond (eqb (key s) k) (stood s) (cond (eqb (key r) k) (stood r) (routeAt k ss))
+            ≡ cond (eqb (key r) k) (stood r) (cond (eqb (key s) k) (stood s) (routeAt k ss))
         order-of (inl a) (inl b) = let x = eqb-true (key r) k a in let y = eqb-true (key s) k b in absurd (omega arith)
         order-of (inl a) (inr b) = rw (a, b)
         order-of (inr a) b = rw a
@@ -267,7 +270,8 @@ remove-stands k j [] = go (eqb k j)
     go false = refl
 remove-stands k j (s ∷ ss) = go (decided (eqb (key s) k)) (decided (eqb k j)) (remove-stands k j ss)
   where
-    go : (eqb (key s) k ≡ true) ⊎ (eqb (key s) k ≡ false) → (eqb k j ≡ true) ⊎ (eqb k j ≡ false) → routeAt j (remove k ss) ≡ cond (eqb k j) absent (routeAt j ss)
+    go : (eqb (key s) k ≡ true) ⊎ (eqb (key s) k ≡ false) → (eqb k j ≡ true) ⊎ (eqb k j ≡ false)
+        → routeAt j (remove k ss) ≡ cond (eqb k j) absent (routeAt j ss)
         → routeAt j (cond (eqb (key s) k) (remove k ss) (s ∷ remove k ss)) ≡ cond (eqb k j) absent (cond (eqb (key s) j) (stood s) (routeAt j ss))
     go (inl a) (inl b) ih = rw (a, b) (ih ∙ rw b)
     go (inl a) (inr b) ih = rw (a, b, ne-eqb (key s) j (λ q. eqb-false k j b (sym (eqb-true (key s) k a) ∙ q))) (ih ∙ rw b)
@@ -324,10 +328,12 @@ same-standing (x ∷ xs) (y ∷ ys) g h e = go (order (key x) (key y)) (same-sta
     go : Order (key x) (key y) → (((k : ℕ) → routeAt k xs ≡ routeAt k ys) → xs ≡ ys) → _≡_ {A = List Route} (x ∷ xs) (y ∷ ys)
     go (less o) ih =
         let z = e (key x) in
-        absurd (not-absent x (rw (eq-eqb (key x) (key x) refl, ne-eqb (key y) (key x) (λ q. omega arith), later-absent (key x) ys (λ s m. omega (arith, h .1 s m))) at z))
+        let none = later-absent (key x) ys (λ s m. omega (arith, h .1 s m)) in
+        absurd (not-absent x (rw (eq-eqb (key x) (key x) refl, ne-eqb (key y) (key x) (λ q. omega arith), none) at z))
     go (more o) ih =
         let z = e (key y) in
-        absurd (not-absent y (sym (rw (eq-eqb (key y) (key y) refl, ne-eqb (key x) (key y) (λ q. omega arith), later-absent (key y) xs (λ s m. omega (arith, g .1 s m))) at z)))
+        let none = later-absent (key y) xs (λ s m. omega (arith, g .1 s m)) in
+        absurd (not-absent y (sym (rw (eq-eqb (key y) (key y) refl, ne-eqb (key x) (key y) (λ q. omega arith), none) at z)))
     go (equal o) ih =
         let z = e (key x) in
         let u : stood x ≡ stood y = rw (eq-eqb (key x) (key x) refl, eq-eqb (key y) (key x) o) at z in

@@ -1,6 +1,5 @@
 -- What routes say of a cell. Level p has 2 ^ p cells; cell i of level p holds the addresses a with slot p a ≡ i.
 -- At level 32 a cell is one address. The mark of a route has no part in any of this: proofs/Marks.antt.
--- Assumes nothing.
 use mathlib.Core.Bool.{Bool, true, false, _&&_, _||_, not, cond}
 use mathlib.Core.List.{List, [], _∷_, List·Memᴰ}
 use mathlib.Core.Path.{_≡_}

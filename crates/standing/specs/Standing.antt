@@ -1,5 +1,4 @@
 -- What stands in a list for a prefix, and the list with a route put in or a prefix taken out. A prefix goes by its key.
--- Assumes nothing.
 use mathlib.Core.Bool.{Bool, cond}
 use mathlib.Core.List.{List, [], _∷_}
 use Prim.Native.Nat.{ℕ}

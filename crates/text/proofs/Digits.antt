@@ -1,4 +1,4 @@
--- The digits of a number are the one list that is the number in decimal, and there are few of them. Assumes nothing.
+-- The digits of a number are the one list that is the number in decimal, and there are few of them.
 use mathlib.Core.Path.{_≡_, refl, sym, ap, _∙_, subst}
 use mathlib.Core.Logic.{_⊎_, inl, inr, ⊎-elim}
 use mathlib.Core.Bool.{true}
@@ -10,7 +10,7 @@ use lib.Dec.{ltb}
 use lib.ListN.{length, getD, take, length-append, List·getD-append}
 use lib.Seq.{take-all, take-suc, length-take-le, getD-take, getD-append-seam}
 use borrow.Author.Tests.{lt-ltb, le-ltb}
-use Rattle.bits.proofs.Tests.{below?}
+use Rattle.bits.proofs.Bools.{below?}
 use Rattle.text.specs.Digits.{valueAfter, Decimal, digitsIn, digitsOf}
 
 -- how digits go: one below 10, else those of n / 10 and one more
@@ -25,7 +25,8 @@ in-enough zero t n hs ht = rw (lt-ltb n 10 (omega arith)) (sym (in-one t n))
 in-enough (suc s) zero n hs ht = rw (lt-ltb n 10 (omega arith))
 in-enough (suc s) (suc t) n hs ht = go (below? n 10) (in-enough s t (n / 10))
   where
-    go : (n < 10) ⊎ (10 ≤ n) → (n / 10 ≤ s → n / 10 ≤ t → digitsIn s (ltb (n / 10) 10) (n / 10) ≡ digitsIn t (ltb (n / 10) 10) (n / 10)) → digitsIn (suc s) (ltb n 10) n ≡ digitsIn (suc t) (ltb n 10) n
+    go : (n < 10) ⊎ (10 ≤ n) → (n / 10 ≤ s → n / 10 ≤ t → digitsIn s (ltb (n / 10) 10) (n / 10) ≡ digitsIn t (ltb (n / 10) 10) (n / 10)) → digitsIn
+        (suc s) (ltb n 10) n ≡ digitsIn (suc t) (ltb n 10) n
     go (inl h) ih = rw (lt-ltb n 10 h)
     go (inr h) ih = rw (le-ltb n 10 h, ih (omega arith) (omega arith))
 
@@ -64,7 +65,8 @@ digits-front = digits-ind (λ n. 1 ≤ n → (0 < length (digitsOf n)) × (49 �
     one : (n : ℕ) → n < 10 → 1 ≤ n → (0 < length (digitsOf n)) × (49 ≤ getD (digitsOf n) 0 0)
     one n h p = rw digits-one (omega arith, omega arith)
 
-    more : (n : ℕ) → 10 ≤ n → (1 ≤ n / 10 → (0 < length (digitsOf (n / 10))) × (49 ≤ getD (digitsOf (n / 10)) 0 0)) → 1 ≤ n → (0 < length (digitsOf n)) × (49 ≤ getD (digitsOf n) 0 0)
+    more : (n : ℕ) → 10 ≤ n → (1 ≤ n / 10 → (0 < length (digitsOf (n / 10))) × (49 ≤ getD (digitsOf (n / 10)) 0 0)) → 1 ≤ n →
+        (0 < length (digitsOf n)) × (49 ≤ getD (digitsOf n) 0 0)
     more n h ih p =
         let i = ih (omega arith) in
         rw (digits-more n h, length-snoc, first-snoc _ _ (i .0)) (omega arith, i .1)

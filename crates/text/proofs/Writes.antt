@@ -1,4 +1,4 @@
--- Texts in a lent buffer, one after the other. Assumes nothing.
+-- Texts in a lent buffer, one after the other.
 use mathlib.Core.Path.{_≡_, refl, sym, ap, _∙_}
 use mathlib.Core.Logic.{_⊎_, inl, inr}
 use mathlib.Core.List.{List, [], _∷_, _++_, append-assoc, append-nil}
@@ -8,8 +8,8 @@ use native.Mathlib.Numerals.{add-one}
 use native.Mathlib.Omega.{arith}
 use lib.ListN.{length, getD, take, drop, set, length-set, length-append, length-drop, length-take, drop-of-length-le}
 use lib.Seq.{length-take-le, take-all, take-suc, take-at, drop-at, drop-drop, sets-eq}
-use Rattle.bits.proofs.Tests.{below?}
-use Rattle.text.specs.Wrote.{spelled, Room, Wrote}
+use Rattle.bits.proofs.Bools.{below?}
+use Rattle.text.specs.Wrote.{spelled, TextRoom, Wrote}
 
 -- a text with room for it leaves the buffer's length as it was
 length-spelled : (o : List ℕ) (at : ℕ) (t : List ℕ) → at + length t ≤ length o → length (spelled o at t) ≡ length o
@@ -35,7 +35,8 @@ module _ (o : List ℕ) (at : ℕ) (s t : List ℕ) where
       go : (length o < at) ⊎ (at ≤ length o) → drop (at + length s + length t) (take at o ++ s ++ drop (at + length s) o) ≡ drop (at + length s + length t) o
       go (inl h) =
           rw (drop-of-length-le o {i = at + length s + length t} (omega arith))
-          (drop-of-length-le (take at o ++ s ++ drop (at + length s) o) {i = at + length s + length t} (simp (length-append, length-take, length-drop) (omega arith)))
+          (drop-of-length-le (take at o ++ s ++ drop (at + length s) o) {i = at + length s + length t}
+          (simp (length-append, length-take, length-drop) (omega arith)))
       go (inr h) =
           sym (drop-drop (length t) (at + length s) (take at o ++ s ++ drop (at + length s) o))
           ∙ rw (drop-at (take at o ++ s) (drop (at + length s) o) (at + length s) (simp (length-append, length-take) (omega arith)))
@@ -54,7 +55,7 @@ module _ {o : List ℕ} {at : ℕ} where
   unfolding spelled
   wrote-none h = record { ends = omega arith; inside = h; holds = sets-eq [] o at (omega arith) }
 
-  pub wrote-one : {b : ℕ} → Room o at (b ∷ []) → Wrote o at (b ∷ []) (at + 1) (set o at b)
+  pub wrote-one : {b : ℕ} → TextRoom o at (b ∷ []) → Wrote o at (b ∷ []) (at + 1) (set o at b)
   unfolding spelled
   wrote-one {b} r = record { ends = refl; inside = rw length-set (r .room); holds = sets-eq (b ∷ []) o at (r .room) }
 
@@ -62,17 +63,18 @@ module _ {o : List ℕ} {at : ℕ} where
   wrote-more {s} {t} u v = record { ends = rw length-append (omega (arith, u .ends, v .ends)); inside = v .inside; holds = cc (spelled-more o at s t) }
 
   -- room for two texts is room for each
-  pub room-first : (s t : List ℕ) → Room o at (s ++ t) → Room o at s
+  pub room-first : (s t : List ℕ) → TextRoom o at (s ++ t) → TextRoom o at s
   room-first s t r = record { room = omega (arith, simp length-append at (r .room)) }
 
-  pub room-then : (s t : List ℕ) {m : ℕ} {o₁ : List ℕ} → Room o at (s ++ t) → Wrote o at s m o₁ → Room o₁ m t
+  pub room-then : (s t : List ℕ) {m : ℕ} {o₁ : List ℕ} → TextRoom o at (s ++ t) → Wrote o at s m o₁ → TextRoom o₁ m t
   room-then s t r w =
       let l = rw length-append at (r .room) in
       let k = ap length (w .holds) ∙ length-spelled o at s (omega arith) in
       record { room = omega (arith, w .ends) }
 
   -- words that are written byte by byte
-  pub wrote-next : (w : List ℕ) (i : ℕ) {m n : ℕ} {o₁ o₂ : List ℕ} → i < length w → Wrote o at (take i w) m o₁ → Wrote o₁ m (getD w i 0 ∷ []) n o₂ → Wrote o at (take (i + 1) w) n o₂
+  pub wrote-next : (w : List ℕ) (i : ℕ) {m n : ℕ} {o₁ o₂ : List ℕ} → i < length w → Wrote o at (take i w) m o₁ → Wrote o₁ m (getD w i 0 ∷ []) n o₂
+      → Wrote o at (take (i + 1) w) n o₂
   wrote-next w i h u v = rw (add-one i, take-suc w i 0 h) (wrote-more u v)
 
   pub wrote-all : (w : List ℕ) (i : ℕ) {m : ℕ} {o₁ : List ℕ} → length w ≤ i → Wrote o at (take i w) m o₁ → Wrote o at w m o₁

@@ -1,4 +1,4 @@
--- A number in decimal: its digits in ASCII, the first the highest, with no zero in front. Assumes nothing.
+-- A number in decimal: its digits in ASCII, the first the highest, with no zero in front.
 use Prim.Native.Nat.{ℕ, zero, suc, _+_, _-_, _*_, _/_, _%_, _≤_, _<_}
 use mathlib.Core.Bool.{Bool, true, false}
 use mathlib.Core.List.{List, [], _∷_, _++_}

@@ -1,11 +1,12 @@
--- The text that is printed of a table, and of a refusal. Assumes nothing.
-use Prim.Native.Nat.{ℕ, _/_, _%_}
+-- The text that is printed of a table, and of a refusal.
+use Prim.Native.Nat.{ℕ}
 use Prim.Native.Char.{code}
 use Prim.Native.String.{String, [] as none, _∷_ as more}
 use mathlib.Core.Bool.{cond}
 use mathlib.Core.List.{List, [], _∷_, _++_}
 use lib.Dec.{eqb}
 use lib.ListN.{length}
+use Rattle.bits.specs.Bytes.{above1, above2, above3, byte}
 use Rattle.routes.specs.Said.{Said, accepted, refused, refusedAt}
 use Rattle.routes.specs.declared.Route.{Route}
 use Rattle.text.specs.Digits.{digitsOf}
@@ -21,7 +22,7 @@ labelled words n = ascii words ++ digitsOf n
 
 -- an address: its four bytes, with points between them
 unfoldable pub dotted : ℕ → List ℕ
-dotted a = digitsOf (a / 16777216) ++ labelled "." (a / 65536 % 256) ++ labelled "." (a / 256 % 256) ++ labelled "." (a % 256)
+dotted a = digitsOf (above3 a) ++ labelled "." (byte (above2 a)) ++ labelled "." (byte (above1 a)) ++ labelled "." (byte a)
 
 -- what follows the hop: that the network is attached, where the mark is 1
 unfoldable pub markText : ℕ → List ℕ

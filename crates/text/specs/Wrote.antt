@@ -1,4 +1,4 @@
--- What a call writes into a lent buffer. Assumes nothing.
+-- What a call writes into a lent buffer.
 use Prim.Native.Nat.{ℕ, _+_, _*_, _≤_}
 use mathlib.Core.List.{List, _++_}
 use mathlib.Core.Path.{_≡_}
@@ -9,7 +9,7 @@ unfoldable pub spelled : List ℕ → ℕ → List ℕ → List ℕ
 spelled out at text = take at out ++ text ++ drop (at + length text) out
 
 -- there is room for the text from a place on
-pub record Room (out : List ℕ) (at : ℕ) (text : List ℕ) : Type 0 where
+pub record TextRoom (out : List ℕ) (at : ℕ) (text : List ℕ) : Type 0 where
   pub room : at + length text ≤ length out
 
 -- the text stands in the buffer from a place on, up to the place that is answered

@@ -1,28 +1,29 @@
 // Lines: a route's, a table's, and a refusal's.
 use crate::put;
+use bits::bytes;
 use routes::Route;
 ghost use Prim.Native.Nat.{_≤_};
 ghost use lib.ListN.{length};
 ghost use Rattle.routes.specs.Record.{routesOf};
 ghost use Rattle.routes.specs.Said.{refused, refusedAt};
 ghost use Rattle.text.specs.Text.{dotted, markText, routeLine, headLine, tableText, saidText};
-ghost use Rattle.text.specs.Wrote.{Room, Wrote, Printable};
+ghost use Rattle.text.specs.Wrote.{TextRoom, Wrote, Printable};
 
 // An address, as four numbers with points between them.
 pub fn put_address(out: &mut [u8], at: usize, addr: u32) -> usize
-    requires { ⌜ Room (now out) at (dotted addr) ⌝ }
+    requires { ⌜ TextRoom (now out) at (dotted addr) ⌝ }
     ensures { λ r. ⌜ Wrote (now (out .entry)) at (dotted addr) r (now (out .exit)) ⌝ }
 {
     let a = addr as u64;
-    let p = put::put_number(out, at, a / 16777216);
-    let q = put::put_labelled(out, p, b".", a / 65536 % 256);
-    let r = put::put_labelled(out, q, b".", a / 256 % 256);
-    put::put_labelled(out, r, b".", a % 256)
+    let p = put::put_number(out, at, a / bytes::THREE);
+    let q = put::put_labelled(out, p, b".", a / bytes::TWO % bytes::ONE);
+    let r = put::put_labelled(out, q, b".", a / bytes::ONE % bytes::ONE);
+    put::put_labelled(out, r, b".", a % bytes::ONE)
 }
 
 // That the network is attached, where the mark is 1.
 fn put_mark(out: &mut [u8], at: usize, mark: u8) -> usize
-    requires { ⌜ Room (now out) at (markText mark) ⌝ }
+    requires { ⌜ TextRoom (now out) at (markText mark) ⌝ }
     ensures { λ r. ⌜ Wrote (now (out .entry)) at (markText mark) r (now (out .exit)) ⌝ }
 {
     if mark == 1 {
@@ -33,7 +34,7 @@ fn put_mark(out: &mut [u8], at: usize, mark: u8) -> usize
 
 // A route's line.
 pub fn put_route(out: &mut [u8], at: usize, r: Route) -> usize
-    requires { ⌜ Room (now out) at (routeLine r) ⌝ }
+    requires { ⌜ TextRoom (now out) at (routeLine r) ⌝ }
     ensures { λ n. ⌜ Wrote (now (out .entry)) at (routeLine r) n (now (out .exit)) ⌝ }
 {
     let p = put_address(out, at, r.addr);
@@ -45,7 +46,7 @@ pub fn put_route(out: &mut [u8], at: usize, r: Route) -> usize
 
 // A table's first line.
 fn put_head(out: &mut [u8], at: usize, n: usize, second: u32, third: u32) -> usize
-    requires { ⌜ Room (now out) at (headLine n second third) ⌝ }
+    requires { ⌜ TextRoom (now out) at (headLine n second third) ⌝ }
     ensures { λ r. ⌜ Wrote (now (out .entry)) at (headLine n second third) r (now (out .exit)) ⌝ }
 {
     let p = put::put_labelled(out, at, b"routes ", n as u64);

@@ -3,11 +3,11 @@ ghost use mathlib.Core.Path.{_≡_};
 ghost use mathlib.Core.List.{_∷_, [], _++_};
 ghost use Prim.Native.Nat.{_+_, _<_};
 ghost use Rattle.text.specs.Digits.{digitsOf};
-ghost use Rattle.text.specs.Wrote.{Room, Wrote};
+ghost use Rattle.text.specs.Wrote.{TextRoom, Wrote};
 
 // A byte.
 pub fn put_byte(out: &mut [u8], at: usize, b: u8) -> usize
-    requires { ⌜ Room (now out) at (b ∷ []) ⌝ }
+    requires { ⌜ TextRoom (now out) at (b ∷ []) ⌝ }
     ensures { λ r. ⌜ Wrote (now (out .entry)) at (b ∷ []) r (now (out .exit)) ⌝ }
 {
     out[at] = b;
@@ -16,7 +16,7 @@ pub fn put_byte(out: &mut [u8], at: usize, b: u8) -> usize
 
 // Words, byte by byte.
 pub fn put_text(out: &mut [u8], at: usize, words: &[u8]) -> usize
-    requires { ⌜ Room (now out) at (now words) ⌝ }
+    requires { ⌜ TextRoom (now out) at (now words) ⌝ }
     ensures { λ r. ⌜ Wrote (now (out .entry)) at (now (words .entry)) r (now (out .exit)) ⌝ }
 {
     let mut next = at;
@@ -38,7 +38,7 @@ fn digit(d: u64) -> u8
 
 // A number in decimal: the digits of its tenth part first, so that the highest comes first.
 pub fn put_number(out: &mut [u8], at: usize, n: u64) -> usize
-    requires { ⌜ Room (now out) at (digitsOf n) ⌝ }
+    requires { ⌜ TextRoom (now out) at (digitsOf n) ⌝ }
     ensures { λ r. ⌜ Wrote (now (out .entry)) at (digitsOf n) r (now (out .exit)) ⌝ }
 {
     if n < 10 {
@@ -50,7 +50,7 @@ pub fn put_number(out: &mut [u8], at: usize, n: u64) -> usize
 
 // Words, and then a number.
 pub fn put_labelled(out: &mut [u8], at: usize, words: &[u8], n: u64) -> usize
-    requires { ⌜ Room (now out) at (now words ++ digitsOf n) ⌝ }
+    requires { ⌜ TextRoom (now out) at (now words ++ digitsOf n) ⌝ }
     ensures { λ r. ⌜ Wrote (now (out .entry)) at (now (words .entry) ++ digitsOf n) r (now (out .exit)) ⌝ }
 {
     let next = put_text(out, at, words);

@@ -1,4 +1,4 @@
--- Laws of how many numbers below n pass a test. Assumes nothing.
+-- Laws of how many numbers below n pass a test.
 use mathlib.Core.Path.{_≡_, refl, ap}
 use mathlib.Core.Logic.{_⊎_, inl, inr}
 use mathlib.Core.Bool.{Bool, true, false}
@@ -8,7 +8,7 @@ use native.Mathlib.Omega.{arith}
 use lib.Dec.{ltb}
 use borrow.Author.Tests.{ltb-true, ltb-false}
 use Rattle.bits.specs.Count.{bit, count}
-use Rattle.bits.proofs.Tests.{decided, untrue}
+use Rattle.bits.proofs.Bools.{decided, untrue}
 
 pub count-less : (f : ℕ → Bool) (n i : ℕ) → i < n → f i ≡ true → count f i < count f n
 unfolding count
@@ -25,7 +25,8 @@ unfolding count
 count-hit f zero j h = absurd (not-suc-le-zero h)
 count-hit f (suc n) j h = go (decided (f n)) (decided (ltb j (count f n))) (count-hit f n j)
   where
-    go : (f n ≡ true) ⊎ (f n ≡ false) → (ltb j (count f n) ≡ true) ⊎ (ltb j (count f n) ≡ false) → (j < count f n → (c : ℕ) × (c < n) × (f c ≡ true) × (count f c ≡ j))
+    go : (f n ≡ true) ⊎ (f n ≡ false) → (ltb j (count f n) ≡ true) ⊎ (ltb j (count f n) ≡ false) →
+        (j < count f n → (c : ℕ) × (c < n) × (f c ≡ true) × (count f c ≡ j))
         → (c : ℕ) × (c < suc n) × (f c ≡ true) × (count f c ≡ j)
     go e (inl l) ih = let r = ih (ltb-true j (count f n) l) in (r .0, omega (arith, r .1), r .2, r .3)
     go (inl e) (inr l) ih = (n, omega arith, e, omega (arith, ltb-false j (count f n) l, ap bit e))

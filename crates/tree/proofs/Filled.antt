@@ -8,8 +8,8 @@ use native.Mathlib.Omega.{arith}
 use lib.ListN.{length, getD}
 use lib.Seq.{ext-getD}
 use Rattle.bits.specs.Count.{count}
-use Rattle.bits.proofs.Tests.{below?}
-use Rattle.tree.specs.Parts.{before, padded}
+use Rattle.bits.proofs.Bools.{below?}
+use Rattle.tree.specs.Parts.{before, zeroPadded}
 use Rattle.tree.specs.Image.{Node, node, inner, hopsOf, nodes, words, hops, imageBy}
 use Rattle.tree.specs.Done.{nodeNo, AllDone}
 use Rattle.tree.proofs.Counts.{count-hit}
@@ -19,11 +19,11 @@ use Rattle.tree.proofs.Holds.{pad-length, pad-at, pad-past, hop-place}
 
 -- a list that agrees with another one and then has zeros
 pub pad-ext : (ys xs : List ℕ) → length xs ≤ length ys → ((j : ℕ) → j < length xs → getD ys j 0 ≡ getD xs j 0) → ((j : ℕ) → length xs ≤ j → getD ys j 0 ≡ 0)
-    → ys ≡ padded (length ys) xs
+    → ys ≡ zeroPadded (length ys) xs
 pad-ext ys xs l f g =
-    ext-getD 0 ys (padded (length ys) xs) (sym (pad-length (length ys) xs l)) (λ j u. go j (below? j (length xs)))
+    ext-getD 0 ys (zeroPadded (length ys) xs) (sym (pad-length (length ys) xs l)) (λ j u. go j (below? j (length xs)))
   where
-    go : (j : ℕ) → (j < length xs) ⊎ (length xs ≤ j) → getD ys j 0 ≡ getD (padded (length ys) xs) j 0
+    go : (j : ℕ) → (j < length xs) ⊎ (length xs ≤ j) → getD ys j 0 ≡ getD (zeroPadded (length ys) xs) j 0
     go j (inl u) = f j u ∙ sym (pad-at (length ys) xs j u)
     go j (inr u) = g j u ∙ sym (pad-past (length ys) xs j u)
 
@@ -56,12 +56,12 @@ module _ (st : ℕ → ℕ → Bool) (hop : ℕ → ℕ → ℕ) (ws hs : List �
       subst (λ (y : ℕ). getD hs y 0 ≡ getD (hops st hop) y 0) e
       (all .each (g .0) (g .2) .put (k .0) (k .1) (k .2) ∙ sym (hop-place st hop (g .0) n (k .0) (g .2) refl (k .1) (k .2) .1))
 
-  words-filled : ws ≡ padded (length ws) (words st hop)
+  words-filled : ws ≡ zeroPadded (length ws) (words st hop)
   words-filled =
       pad-ext ws (words st hop) (omega (arith, size, all .words-room)) (λ j u. word-at j (j / 3) (j % 3) (omega arith) (omega arith) (omega (arith, size)))
       (λ j u. all .rest j (omega (arith, size)))
 
-  hops-filled : hs ≡ padded (length hs) (hops st hop)
+  hops-filled : hs ≡ zeroPadded (length hs) (hops st hop)
   hops-filled = pad-ext hs (hops st hop) (all .hops-room) hop-at (all .blank)
 
   -- and so both arrays are the image

@@ -1,5 +1,5 @@
 -- An image holds its routes: every node stands at the place that its parent names, and every hop at the place that its bit names.
--- Both places are a base and the ones below a bit, and both are the place in the fixed order. Assumes nothing.
+-- Both places are a base and the ones below a bit, and both are the place in the fixed order.
 use mathlib.Core.Path.{_≡_, refl, sym, _∙_, ap}
 use mathlib.Core.Bool.{Bool, true, false, true≢false}
 use mathlib.Core.List.{List}
@@ -13,18 +13,18 @@ use borrow.Author.Tests.{lt-ltb, le-ltb, ltb-true, ltb-false}
 use Rattle.bits.specs.Bit.{bitAt}
 use Rattle.bits.specs.Count.{bit, count}
 use Rattle.tree.specs.Node.{bitsOf, childOf, baseOf, childAt}
-use Rattle.tree.specs.Parts.{before, padded}
+use Rattle.tree.specs.Parts.{before, zeroPadded}
 use Rattle.tree.specs.Image.{Node, node, bitHop, child, inner, word, kids, hopsOf, nodes, words, hops}
 use Rattle.tree.proofs.Counts.{count-less}
 use Rattle.bits.proofs.Packed.{rank-count, upper-count}
 use Rattle.tree.proofs.Parts.{picked-length, picked-at, gather-at}
 use Rattle.tree.proofs.Nodes.{nodes-fix, words-length, words-at, inner-bit, clear-bit, child-bit}
-use Rattle.tree.proofs.Longest.{NodeOf, NoneBelow, Holds}
+use Rattle.tree.proofs.Longest.{NodeOf, NoneBelow, SubtreeHolds}
 
-pub pad-length : (n : ℕ) (xs : List ℕ) → length xs ≤ n → length (padded n xs) ≡ n
+pub pad-length : (n : ℕ) (xs : List ℕ) → length xs ≤ n → length (zeroPadded n xs) ≡ n
 pad-length n xs h = simp (length-append, length-replicate) (omega arith)
 
-pub pad-at : (n : ℕ) (xs : List ℕ) (i : ℕ) → i < length xs → getD (padded n xs) i 0 ≡ getD xs i 0
+pub pad-at : (n : ℕ) (xs : List ℕ) (i : ℕ) → i < length xs → getD (zeroPadded n xs) i 0 ≡ getD xs i 0
 pad-at n xs i h = List·getD-append xs (replicate (n - length xs) 0) 0 i h
 
 pub zeros : (k j : ℕ) → _≡_ {A = ℕ} (getD (replicate k 0) j 0) 0
@@ -32,10 +32,10 @@ zeros zero j = refl
 zeros (suc k) zero = refl
 zeros (suc k) (suc j) = zeros k j
 
-pub pad-past : (n : ℕ) (xs : List ℕ) (j : ℕ) → length xs ≤ j → getD (padded n xs) j 0 ≡ 0
+pub pad-past : (n : ℕ) (xs : List ℕ) (j : ℕ) → length xs ≤ j → getD (zeroPadded n xs) j 0 ≡ 0
 pad-past n xs j l =
     let e : j ≡ length xs + (j - length xs) = omega arith in
-    ap (λ (k : ℕ). getD (padded n xs) k 0) e ∙ getD-append-add xs (replicate (n - length xs) 0) (j - length xs) 0 ∙ zeros (n - length xs) (j - length xs)
+    ap (λ (k : ℕ). getD (zeroPadded n xs) k 0) e ∙ getD-append-add xs (replicate (n - length xs) 0) (j - length xs) 0 ∙ zeros (n - length xs) (j - length xs)
 
 bit-on : (b : Bool) → bit b ≡ 1 → b ≡ true
 bit-on true e = refl
@@ -52,7 +52,8 @@ pub record Agree (st : ℕ → ℕ → Bool) (hop : ℕ → ℕ → ℕ) : Type 
   pub told : (m l q : ℕ) → 0 < m → 4 * m ≤ l → l ≤ 32 → 0 < hop l q → st m (q / 2 ^ (l - 4 * m)) ≡ true
 
 -- the internal bit of the inner length j and the bits u
-pub bit-hop : (hop : ℕ → ℕ → ℕ) (n : Node) (j u : ℕ) → j < 4 → u < 2 ^ j → (2 ^ j - 1 + u < 15) × (bitHop hop n (2 ^ j - 1 + u) ≡ hop (4 * n .depth + j) (n .path * 2 ^ j + u))
+pub bit-hop : (hop : ℕ → ℕ → ℕ) (n : Node) (j u : ℕ) → j < 4 → u < 2 ^ j → (2 ^ j - 1 + u < 15) ×
+    (bitHop hop n (2 ^ j - 1 + u) ≡ hop (4 * n .depth + j) (n .path * 2 ^ j + u))
 unfolding bitHop
 bit-hop hop n zero u l h =
     let z : u ≡ 0 = omega arith in
@@ -69,7 +70,8 @@ bit-hop hop n (suc (suc (suc zero))) u l h =
 bit-hop hop n (suc (suc (suc (suc j)))) u l h = absurd (omega arith)
 
 -- a child's place in the order of nodes: the root, all children of earlier nodes, and those of the bits below
-pub child-place : (st : ℕ → ℕ → Bool) → ((p : ℕ) → st 9 p ≡ false) → (i : ℕ) (n : Node) (c : ℕ) → i < length (nodes st) → getD (nodes st) i (node 0 0) ≡ n → c < 16 → child st n c ≡ true
+pub child-place : (st : ℕ → ℕ → Bool) → ((p : ℕ) → st 9 p ≡ false) → (i : ℕ) (n : Node) (c : ℕ) → i < length (nodes st) → getD (nodes st) i
+    (node 0 0) ≡ n → c < 16 → child st n c ≡ true
     → (1 + before (kids st) (nodes st) i + count (child st n) c < length (nodes st))
     × (getD (nodes st) (1 + before (kids st) (nodes st) i + count (child st n) c) (node 0 0) ≡ node (n .depth + 1) (n .path * 16 + c))
 unfolding kids
@@ -86,8 +88,10 @@ child-place st nine i n c l e t o =
     )
 
 -- a hop's place in the order of hops: all hops of earlier nodes, and those of the bits below
-pub hop-place : (st : ℕ → ℕ → Bool) (hop : ℕ → ℕ → ℕ) (i : ℕ) (n : Node) (b : ℕ) → i < length (nodes st) → getD (nodes st) i (node 0 0) ≡ n → b < 15 → inner hop n b ≡ true
-    → (before (hopsOf hop) (nodes st) i + count (inner hop n) b < length (hops st hop)) × (getD (hops st hop) (before (hopsOf hop) (nodes st) i + count (inner hop n) b) 0 ≡ bitHop hop n b)
+pub hop-place : (st : ℕ → ℕ → Bool) (hop : ℕ → ℕ → ℕ) (i : ℕ) (n : Node) (b : ℕ) → i < length (nodes st) → getD (nodes st) i (node 0 0) ≡ n → b < 15
+    → inner hop n b ≡ true
+    → (before (hopsOf hop) (nodes st) i + count (inner hop n) b < length (hops st hop)) ×
+    (getD (hops st hop) (before (hopsOf hop) (nodes st) i + count (inner hop n) b) 0 ≡ bitHop hop n b)
 unfolding hops hopsOf
 hop-place st hop i n b l e t o =
     let less : count (inner hop n) b < length (hopsOf hop (getD (nodes st) i (node 0 0))) =
@@ -97,10 +101,10 @@ hop-place st hop i n b l e t o =
 
 module _ (st : ℕ → ℕ → Bool) (hop : ℕ → ℕ → ℕ) (ok : Agree st hop) (w h : ℕ) (room : 3 * length (nodes st) ≤ w) (space : length (hops st hop) ≤ h) where
   abbrev ws : List ℕ
-  ws = padded w (words st hop)
+  ws = zeroPadded w (words st hop)
 
   abbrev hs : List ℕ
-  hs = padded h (hops st hop)
+  hs = zeroPadded h (hops st hop)
 
   abbrev ns : List Node
   ns = nodes st
@@ -120,10 +124,12 @@ module _ (st : ℕ → ℕ → Bool) (hop : ℕ → ℕ → ℕ) (ok : Agree st 
 
   -- the child base and the extending ones below are the child's place
   pub child-found : (i : ℕ) (n : Node) (c : ℕ) → i < length ns → getD ns i (node 0 0) ≡ n → c < 16 → child st n c ≡ true
-      → (childAt (bitsOf ws i) (childOf ws i) c < length ns) × (getD ns (childAt (bitsOf ws i) (childOf ws i) c) (node 0 0) ≡ node (n .depth + 1) (n .path * 16 + c))
+      → (childAt (bitsOf ws i) (childOf ws i) c < length ns) ×
+      (getD ns (childAt (bitsOf ws i) (childOf ws i) c) (node 0 0) ≡ node (n .depth + 1) (n .path * 16 + c))
   child-found i n c l e t o =
       let k = node-words i n l e in
-      let under : ones (word st hop n / 2 ^ 16 % 2 ^ c) ≡ count (child st n) c = upper-count (word st hop n) (child st n) c (λ x lx. child-bit st hop n x (omega arith)) in
+      let under : ones (word st hop n / 2 ^ 16 % 2 ^ c) ≡ count (child st n) c = upper-count (word st hop n) (child st n) c
+      (λ x lx. child-bit st hop n x (omega arith)) in
       rw (k .0, k .1, under) (child-place st (ok .nine) i n c l e t o)
 
   -- the hop base and the internal ones below are the hop's place
@@ -132,7 +138,8 @@ module _ (st : ℕ → ℕ → Bool) (hop : ℕ → ℕ → ℕ) (ok : Agree st 
   hop-found i n b l e t o =
       let k = node-words i n l e in
       let g = hop-place st hop i n b l e t o in
-      let under : ones (word st hop n % 2 ^ b) ≡ count (inner hop n) b = rank-count (word st hop n) (inner hop n) b (λ x lx. inner-bit st hop n x (omega arith)) in
+      let under : ones (word st hop n % 2 ^ b) ≡ count (inner hop n) b = rank-count (word st hop n) (inner hop n) b
+      (λ x lx. inner-bit st hop n x (omega arith)) in
       rw (k .0, k .2, under) (omega (arith, g .0, pad-length h (hops st hop) space), pad-at h (hops st hop) _ (g .0) ∙ g .1)
 
   node-of : (t m i p : ℕ) → t ≤ 4 → i < length ns → getD ns i (node 0 0) ≡ node m p → NodeOf hop ws hs t m i p
@@ -162,8 +169,8 @@ module _ (st : ℕ → ℕ → Bool) (hop : ℕ → ℕ → ℕ) (ok : Agree st 
       go zero f = refl
       go (suc x) f = absurd (true≢false (sym (f (omega arith)) ∙ rw e z))
 
-  pub image-holds : (d m i p : ℕ) → i < length ns → getD ns i (node 0 0) ≡ node m p → Holds st hop ws hs d m i p
-  unfolding Holds
+  pub image-holds : (d m i p : ℕ) → i < length ns → getD ns i (node 0 0) ≡ node m p → SubtreeHolds st hop ws hs d m i p
+  unfolding SubtreeHolds
   image-holds zero m i p l e = node-of 1 m i p (omega arith) l e
   image-holds (suc d) m i p l e =
       let n = node m p in

@@ -1,8 +1,8 @@
--- The nodes of a level are the paths that stand, each once, ascending: the image in document 01's words. Assumes nothing.
+-- The nodes of a level are the paths that stand, each once, ascending: the image in document 01's words.
 use mathlib.Core.Path.{_≡_, refl, sym, _∙_, ap, ap₂, subst}
 use mathlib.Core.Logic.{_⊎_, inl, inr}
 use mathlib.Core.Bool.{Bool, true, false}
-use mathlib.Core.List.{List, [], _∷_}
+use mathlib.Core.List.{List}
 use Prim.Native.Nat.{ℕ, zero, suc, _+_, _*_, _/_, _%_, _<_}
 use native.Mathlib.Numerals.{add-one}
 use native.Mathlib.Omega.{arith}
@@ -10,7 +10,7 @@ use lib.Dec.{ltb}
 use lib.ListN.{length, getD}
 use borrow.Author.Tests.{ltb-true, ltb-false}
 use Rattle.bits.specs.Count.{count}
-use Rattle.bits.proofs.Tests.{decided}
+use Rattle.bits.proofs.Bools.{decided}
 use Rattle.tree.specs.Parts.{gather, before}
 use Rattle.routes.specs.Route.{Good}
 use Rattle.routes.specs.declared.Route.{Route}
@@ -76,7 +76,8 @@ module _ (st : ℕ → ℕ → Bool) where
       go : (x : From m i) (y : From m j) → ((i j : ℕ) → i < j → j < length (level st m) → on m i .path < on m j .path) → on (suc m) i .path < on (suc m) j .path
       go x y ih = rw (x .path, y .path) (order (decided (ltb (x .parent) (y .parent))) (decided (ltb (y .parent) (x .parent))))
         where
-          order : (ltb (x .parent) (y .parent) ≡ true) ⊎ (ltb (x .parent) (y .parent) ≡ false) → (ltb (y .parent) (x .parent) ≡ true) ⊎ (ltb (y .parent) (x .parent) ≡ false)
+          order : (ltb (x .parent) (y .parent) ≡ true) ⊎ (ltb (x .parent) (y .parent) ≡ false) → (ltb (y .parent) (x .parent) ≡ true) ⊎
+              (ltb (y .parent) (x .parent) ≡ false)
               → on m (x .parent) .path * 16 + x .nibble < on m (y .parent) .path * 16 + y .nibble
           order (inl t) o = omega (arith, ih (x .parent) (y .parent) (ltb-true _ _ t) (y .there), x .small)
           order (inr t) (inl o) =

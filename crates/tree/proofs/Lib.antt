@@ -1,5 +1,6 @@
 -- Laws of images and of the walk.
 pub mod Walks
+pub mod Judged
 pub mod OneAnswer
 pub mod Matches
 pub mod Counts

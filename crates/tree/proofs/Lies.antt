@@ -1,5 +1,4 @@
 -- A route that passes through a node lies at one bit of it: at an internal bit, or at the extending bit of one child.
--- Assumes nothing.
 use mathlib.Core.Path.{_≡_, refl, sym, _∙_, ap, subst}
 use mathlib.Core.Logic.{_⊎_, inl, inr}
 use mathlib.Core.Bool.{Bool, true, false, _||_, or-true, false≢true}
@@ -12,7 +11,7 @@ use lib.Pow.{split, pow-pos, high}
 use borrow.Author.Tests.{ltb-true, ltb-false, lt-ltb, le-ltb, le-leb, leb-true, eqb-true, eq-eqb}
 use Rattle.bits.specs.Slot.{slot}
 use Rattle.bits.proofs.Slots.{slot-up}
-use Rattle.bits.proofs.Tests.{decided, both, and-split, or-split}
+use Rattle.bits.proofs.Bools.{decided, both, and-split, or-split}
 use Rattle.routes.specs.Route.{Good}
 use Rattle.standing.specs.Cells.{here, any, first, orElse}
 use Rattle.routes.specs.declared.Route.{Route}
@@ -112,7 +111,8 @@ abbrev pub bitOf : ℕ → Route → ℕ
 bitOf m r = 2 ^ (r .len - 4 * m) - 1 + slot (r .len) (r .addr) % 2 ^ (r .len - 4 * m)
 
 -- the first bits of the route are the path and the bits there
-whole : (m p : ℕ) (r : Route) → r .len ≤ 32 → through m p r ≡ true → slot (r .len) (r .addr) ≡ p * 2 ^ (r .len - 4 * m) + slot (r .len) (r .addr) % 2 ^ (r .len - 4 * m)
+whole : (m p : ℕ) (r : Route) → r .len ≤ 32 → through m p r ≡ true → slot (r .len) (r .addr) ≡ p * 2 ^ (r .len - 4 * m) + slot (r .len)
+    (r .addr) % 2 ^ (r .len - 4 * m)
 whole m p r h e =
     let l = pass-parts m p r e .0 in
     let j : ℕ = r .len - 4 * m in
@@ -124,12 +124,14 @@ whole m p r h e =
 pub bit-at : (m p : ℕ) (r : Route) → r .len ≤ 32 → through m p r ≡ true → r .len < 4 * (m + 1) → (bitOf m r < 15) × (atBit m p (bitOf m r) r ≡ true)
 bit-at m p r h e u =
     let l = pass-parts m p r e .0 in
-    let il = inner-len (r .len - 4 * m) (slot (r .len) (r .addr) % 2 ^ (r .len - 4 * m)) (omega arith) (mod-lt (slot (r .len) (r .addr)) (pow-pos (r .len - 4 * m))) in
+    let il = inner-len (r .len - 4 * m) (slot (r .len) (r .addr) % 2 ^ (r .len - 4 * m)) (omega arith)
+    (mod-lt (slot (r .len) (r .addr)) (pow-pos (r .len - 4 * m))) in
     let sum : 4 * m + (r .len - 4 * m) ≡ r .len = omega arith in (
       il .0,
       subst (λ (x : ℕ). here (4 * m + x) (p * 2 ^ x + (bitOf m r + 1 - 2 ^ x)) r ≡ true) (sym (il .1))
           (both (eq-eqb (r .len) (4 * m + (r .len - 4 * m)) (sym sum))
-          (eq-eqb _ _ (ap (λ (x : ℕ). slot x (r .addr)) sum ∙ whole m p r h e ∙ ap (λ (x : ℕ). p * 2 ^ (r .len - 4 * m) + x) (omega (arith, pow-pos (r .len - 4 * m)))))),
+          (eq-eqb _ _ (ap (λ (x : ℕ). slot x (r .addr)) sum ∙ whole m p r h e ∙ ap (λ (x : ℕ). p * 2 ^ (r .len - 4 * m) + x)
+          (omega (arith, pow-pos (r .len - 4 * m)))))),
     )
 
 -- a route at an internal bit passes through the node and ends in it
@@ -137,7 +139,8 @@ pub bit-pass : (m p b : ℕ) (r : Route) → b < 15 → r .len ≤ 32 → atBit 
 bit-pass m p b r l h e =
     let k = inner-cases b l in
     let s = here-parts (4 * m + innerLen b) _ r e in
-    let t : slot (4 * m) (r .addr) ≡ p = sym (slot-up (4 * m) (innerLen b) (r .addr) (omega arith)) ∙ ap (λ (x : ℕ). x / 2 ^ innerLen b) (s .1) ∙ high p (innerLen b) (k .2) in
+    let t : slot (4 * m) (r .addr) ≡ p = sym (slot-up (4 * m) (innerLen b) (r .addr) (omega arith)) ∙ ap (λ (x : ℕ). x / 2 ^ innerLen b) (s .1)
+    ∙ high p (innerLen b) (k .2) in
     (pass-make m p r (omega arith) t, omega arith)
 
 unique : (p i j u b x : ℕ) → i ≡ j → x ≡ p * 2 ^ i + (b + 1 - 2 ^ i) → x ≡ p * 2 ^ j + u → 2 ^ i ≤ b + 1 → b ≡ 2 ^ j - 1 + u

@@ -1,5 +1,5 @@
 -- Where an image holds routes, each at the bit of its node, the walk finds the longest route that matches. Routes are given here by
--- their hops: `R l q` is the hop of the route of length l whose bits are q, and 0 where there is none. Assumes nothing.
+-- their hops: `R l q` is the hop of the route of length l whose bits are q, and 0 where there is none.
 use mathlib.Core.Path.{_≡_, refl, sym, ap, subst, _∙_}
 use mathlib.Core.Bool.{Bool, true, false, not, cond}
 use mathlib.Core.Logic.{_⊎_, inl, inr, ⊎-elim}
@@ -12,12 +12,12 @@ use lib.Pow.{shr-shr}
 use lib.ListN.{length, getD}
 use lib.Count.{ones}
 use Rattle.bits.specs.Bit.{bitAt}
-use Rattle.bits.proofs.Tests.{decided}
+use Rattle.bits.proofs.Bools.{decided}
 use Rattle.routes.specs.Input.{hopFine}
 use Rattle.standing.specs.Down.{orNext, down}
-use Rattle.standing.proofs.Downs.{or-none, or-some}
+use Rattle.standing.proofs.Downs.{or-next-none, or-next-some}
 use Rattle.tree.specs.Node.{bitsOf, childOf, baseOf, isSet, tryBit, deepestOf, betterOf, childAt, nibbleOf}
-use Rattle.tree.specs.Walk.{told, fetchedFrom, walkFrom, treeSaid}
+use Rattle.tree.specs.Walk.{treeHopSaid, fetchedFrom, walkFrom, treeSaid}
 use Rattle.tree.specs.declared.Place.{Place}
 use Rattle.tree.specs.declared.Place.the-variants.{Nowhere, At}
 use Rattle.tree.proofs.Walks.{walk-last, walk-stop, walk-down}
@@ -45,11 +45,11 @@ abbrev pub NoneBelow : Hops → ℕ → ℕ → Type 0
 NoneBelow R m p = (l q : ℕ) → 4 * (m + 1) ≤ l → l ≤ 32 → q / 2 ^ (l - 4 * (m + 1)) ≡ p → R l q ≡ 0
 
 -- the node i and all below it, with d levels below; `st m p` says whether the node for the path p of 4 * m bits stands
-unfoldable pub Holds : (ℕ → ℕ → Bool) → Hops → List ℕ → List ℕ → ℕ → ℕ → ℕ → ℕ → Type 0
-Holds st R ws hs zero m i p = NodeOf R ws hs 1 m i p
-Holds st R ws hs (suc d) m i p = NodeOf R ws hs 4 m i p
+unfoldable pub SubtreeHolds : (ℕ → ℕ → Bool) → Hops → List ℕ → List ℕ → ℕ → ℕ → ℕ → ℕ → Type 0
+SubtreeHolds st R ws hs zero m i p = NodeOf R ws hs 1 m i p
+SubtreeHolds st R ws hs (suc d) m i p = NodeOf R ws hs 4 m i p
     × ((c : ℕ) → c < 16 → st (m + 1) (p * 16 + c) ≡ true
-    → (bitAt (bitsOf ws i) (16 + c) ≡ 1) × Holds st R ws hs d (m + 1) (childAt (bitsOf ws i) (childOf ws i) c) (p * 16 + c))
+    → (bitAt (bitsOf ws i) (16 + c) ≡ 1) × SubtreeHolds st R ws hs d (m + 1) (childAt (bitsOf ws i) (childOf ws i) c) (p * 16 + c))
     × ((c : ℕ) → c < 16 → st (m + 1) (p * 16 + c) ≡ false → (bitAt (bitsOf ws i) (16 + c) ≡ 0) × NoneBelow R m (p * 16 + c))
 
 -- how many nodes the walk has read when it ends, with d levels below depth m
@@ -62,7 +62,7 @@ abbrev Rep : List ℕ → Place → ℕ → Type 0
 Rep hs Nowhere h = h ≡ 0
 Rep hs (At i) h = (i < length hs) × (getD hs i 0 ≡ h) × (0 < h) × (h ≤ 32767)
 
-fetched : (hs : List ℕ) (n h : ℕ) (best : Place) → Rep hs best h → fetchedFrom hs n best ≡ told h n
+fetched : (hs : List ℕ) (n h : ℕ) (best : Place) → Rep hs best h → fetchedFrom hs n best ≡ treeHopSaid h n
 unfolding fetchedFrom hopFine
 fetched hs n h Nowhere r = rw r
 fetched hs n h (At i) r = rw (lt-ltb i (length hs) (r .0), r .1, le-leb 1 h (r .2), le-leb h 32767 (r .3))
@@ -84,8 +84,8 @@ try-rep : (R : Hops) (hs : List ℕ) (w base b l q h rest : ℕ) (best : Place) 
 unfolding tryBit betterOf
 try-rep R hs w base b l q h rest best lb k r =
     ⊎-elim
-    (λ z. rw (not-set w b z, or-none (R l q) h (k .off z)) r)
-    (λ o. rw (eq-eqb (bitAt w b) 1 o, ne-eqb b 15 (λ (e : b ≡ 15). omega arith), or-some (R l q) h (λ e. omega (arith, k .on o .2))) (k .on o))
+    (λ z. rw (not-set w b z, or-next-none (R l q) h (k .off z)) r)
+    (λ o. rw (eq-eqb (bitAt w b) 1 o, ne-eqb b 15 (λ (e : b ≡ 15). omega arith), or-next-some (R l q) h (λ e. omega (arith, k .on o .2))) (k .on o))
     (bit-cases w b)
 
 -- the lengths of one node
@@ -114,7 +114,8 @@ module _ (R : Hops) (ws hs : List ℕ) (a m i p : ℕ) (best : Place) (r : Rep h
   unfolding betterOf
   none-rep = r
 
-  own-rep : (t : ℕ) → 0 < t → NodeOf R ws hs t m i p → Rep hs (betterOf (bitsOf ws i) (baseOf ws i) (tryBit (bitsOf ws i) 0 15) best) (orNext (R (4 * m) p) (longest R a (4 * m)))
+  own-rep : (t : ℕ) → 0 < t → NodeOf R ws hs t m i p → Rep hs (betterOf (bitsOf ws i) (baseOf ws i) (tryBit (bitsOf ws i) 0 15) best)
+      (orNext (R (4 * m) p) (longest R a (4 * m)))
   own-rep t h k =
       let e : 4 * m + 0 ≡ 4 * m = omega arith in
       let f : p * 1 + 0 ≡ p = omega arith in
@@ -127,7 +128,8 @@ module _ (R : Hops) (ws hs : List ℕ) (a m i p : ℕ) (best : Place) (r : Rep h
       rw (next R a 33 (4 * m) p (omega arith) q) (own-rep 1 (omega arith) k)
 
   -- a node above: the four inner lengths
-  inner-rep : NodeOf R ws hs 4 m i p → (e v : ℕ) → m + suc e ≡ 8 → v < 16 → a / 2 ^ (4 * e) ≡ p * 16 + v → Rep hs (betterOf (bitsOf ws i) (baseOf ws i) (deepestOf (bitsOf ws i) v) best) (longest R a (4 * m + 4))
+  inner-rep : NodeOf R ws hs 4 m i p → (e v : ℕ) → m + suc e ≡ 8 → v < 16 → a / 2 ^ (4 * e) ≡ p * 16 + v → Rep hs
+      (betterOf (bitsOf ws i) (baseOf ws i) (deepestOf (bitsOf ws i) v) best) (longest R a (4 * m + 4))
   unfolding deepestOf
   inner-rep k e v d h x =
       rw (
@@ -144,27 +146,29 @@ module _ (R : Hops) (ws hs : List ℕ) (a m i p : ℕ) (best : Place) (r : Rep h
 -- where nothing lies below, no longer route matches
 below-zero : (R : Hops) (a m e l : ℕ) → m + suc e ≡ 8 → NoneBelow R m (a / 2 ^ (4 * e)) → 4 * (m + 1) ≤ l → l ≤ 32 → R l (a / 2 ^ (32 - l)) ≡ 0
 below-zero R a m e l d none h t =
-    none l (a / 2 ^ (32 - l)) h t (let q : (32 - l) + (l - 4 * (m + 1)) ≡ 4 * e = omega arith in shr-shr a (32 - l) (l - 4 * (m + 1)) ∙ ap (λ (k : ℕ). a / 2 ^ k) q)
+    none l (a / 2 ^ (32 - l)) h t (let q : (32 - l) + (l - 4 * (m + 1)) ≡ 4 * e = omega arith in shr-shr a (32 - l) (l - 4 * (m + 1)) ∙ ap
+    (λ (k : ℕ). a / 2 ^ k) q)
 
-no-longer : (R : Hops) (a m e : ℕ) → m + suc e ≡ 8 → NoneBelow R m (a / 2 ^ (4 * e)) → (k : ℕ) → 4 * (m + 1) ≤ k → k ≤ 33 → longest R a k ≡ longest R a (4 * m + 4)
+no-longer : (R : Hops) (a m e : ℕ) → m + suc e ≡ 8 → NoneBelow R m (a / 2 ^ (4 * e)) → (k : ℕ) → 4 * (m + 1) ≤ k → k ≤ 33 → longest R a k
+    ≡ longest R a (4 * m + 4)
 no-longer R a m e d none zero h t = absurd (omega arith)
 no-longer R a m e d none (suc l) h t =
     ⊎-elim
     (λ (i : 4 * (m + 1) ≡ suc l). let q : suc l ≡ 4 * m + 4 = omega arith in ap (longest R a) q)
     (λ (i : 4 * (m + 1) < suc l).
     next R a (suc l) l (a / 2 ^ (32 - l)) refl refl
-    ∙ or-none (R l (a / 2 ^ (32 - l))) (longest R a l) (below-zero R a m e l d none (omega arith) (omega arith))
+    ∙ or-next-none (R l (a / 2 ^ (32 - l))) (longest R a l) (below-zero R a m e l d none (omega arith) (omega arith))
     ∙ no-longer R a m e d none l (omega arith) (omega arith))
     (eq-or-lt-of-le h)
 
 -- the walk
 module _ (st : ℕ → ℕ → Bool) (R : Hops) (ws hs : List ℕ) (a : ℕ) where
-  found : (d m i p : ℕ) (best : Place) → m + d ≡ 8 → p ≡ a / 2 ^ (4 * d) → Holds st R ws hs d m i p → Rep hs best (longest R a (4 * m))
-      → walkFrom d ws hs a i best ≡ told (longest R a 33) (readsFrom st a d m)
-  unfolding Holds readsFrom
+  found : (d m i p : ℕ) (best : Place) → m + d ≡ 8 → p ≡ a / 2 ^ (4 * d) → SubtreeHolds st R ws hs d m i p → Rep hs best (longest R a (4 * m))
+      → walkFrom d ws hs a i best ≡ treeHopSaid (longest R a 33) (readsFrom st a d m)
+  unfolding SubtreeHolds readsFrom
   found zero m i p best e x k r =
       let n : 9 ≡ m + 1 = omega arith in
-      sym (walk-last ws hs a 0 i best _ refl (k .here) _ refl (not-set (bitsOf ws i) 15 (k .clear)) refl _ _ (told (longest R a 33) (m + 1)) refl refl
+      sym (walk-last ws hs a 0 i best _ refl (k .here) _ refl (not-set (bitsOf ws i) 15 (k .clear)) refl _ _ (treeHopSaid (longest R a 33) (m + 1)) refl refl
       (rw n (sym (fetched hs (m + 1) _ _ (last-rep R ws hs a m i p best r k (omega arith) (x ∙ div-one a))))))
   found (suc d) m i p best e x k r = go (decided (st (m + 1) (a / 2 ^ (4 * d)))) (λ j b. found d (m + 1) j (a / 2 ^ (4 * d)) b (omega arith) refl)
     where
@@ -184,25 +188,29 @@ module _ (st : ℕ → ℕ → Bool) (R : Hops) (ws hs : List ℕ) (a : ℕ) whe
       rep = inner-rep R ws hs a m i p best r (k .0) d (a / 2 ^ (4 * d) % 16) e (omega arith) path
 
       go : (st (m + 1) (a / 2 ^ (4 * d)) ≡ true) ⊎ (st (m + 1) (a / 2 ^ (4 * d)) ≡ false)
-          → ((j : ℕ) (b : Place) → Holds st R ws hs d (m + 1) j (a / 2 ^ (4 * d)) → Rep hs b (longest R a (4 * (m + 1))) → walkFrom d ws hs a j b ≡ told (longest R a 33) (readsFrom st a d (m + 1)))
-          → walkFrom (suc d) ws hs a i best ≡ told (longest R a 33) (cond (st (m + 1) (a / 2 ^ (4 * d))) (readsFrom st a d (m + 1)) (m + 1))
+          → ((j : ℕ) (b : Place) → SubtreeHolds st R ws hs d (m + 1) j (a / 2 ^ (4 * d)) → Rep hs b (longest R a (4 * (m + 1)))
+          → walkFrom d ws hs a j b ≡ treeHopSaid (longest R a 33) (readsFrom st a d (m + 1)))
+          → walkFrom (suc d) ws hs a i best ≡ treeHopSaid (longest R a 33) (cond (st (m + 1) (a / 2 ^ (4 * d))) (readsFrom st a d (m + 1)) (m + 1))
       go (inl o) ih =
           let kid = k .1 (a / 2 ^ (4 * d) % 16) (omega arith) (rw path at o) in
           let deeper : 4 * (m + 1) ≡ 4 * m + 4 = omega arith in
           let j : ℕ = childAt (bitsOf ws i) (childOf ws i) (a / 2 ^ (4 * d) % 16) in
           let b : Place = betterOf (bitsOf ws i) (baseOf ws i) (deepestOf (bitsOf ws i) (a / 2 ^ (4 * d) % 16)) best in
           rw o
-          (sym (walk-down ws hs a (suc d) i best _ refl (k .0 .here) _ refl (not-set (bitsOf ws i) 15 (k .0 .clear)) (λ (y : suc d ≡ 0). omega arith) _ nib _ refl b refl _ refl j (ap not (eq-eqb _ 1 (kid .0))) refl)
+          (sym (walk-down ws hs a (suc d) i best _ refl (k .0 .here) _ refl (not-set (bitsOf ws i) 15 (k .0 .clear))
+          (λ (y : suc d ≡ 0). omega arith) _ nib _ refl b refl _ refl j (ap not (eq-eqb _ 1 (kid .0))) refl)
           ∙ ap (λ (n : ℕ). walkFrom n ws hs a j b) less
-          ∙ ih j b (subst (λ (y : ℕ). Holds st R ws hs d (m + 1) j y) (sym path) (kid .1)) (rw deeper rep))
+          ∙ ih j b (subst (λ (y : ℕ). SubtreeHolds st R ws hs d (m + 1) j y) (sym path) (kid .1)) (rw deeper rep))
       go (inr z) ih =
           let none = k .2 (a / 2 ^ (4 * d) % 16) (omega arith) (rw path at z) in
           let n : 8 - (suc d - 1) ≡ m + 1 = omega arith in
           rw z
-          (sym (walk-stop ws hs a (suc d) i best _ refl (k .0 .here) _ refl (not-set (bitsOf ws i) 15 (k .0 .clear)) (λ (y : suc d ≡ 0). omega arith) _ nib _ refl _ refl _ refl _ (ap not (not-set (bitsOf ws i) (16 + a / 2 ^ (4 * d) % 16) (none .0)))
+          (sym (walk-stop ws hs a (suc d) i best _ refl (k .0 .here) _ refl (not-set (bitsOf ws i) 15 (k .0 .clear))
+          (λ (y : suc d ≡ 0). omega arith) _ nib _ refl _ refl _ refl _ (ap not (not-set (bitsOf ws i) (16 + a / 2 ^ (4 * d) % 16) (none .0)))
           (rw n (sym (fetched hs (m + 1) _ _ (rw (no-longer R a m d e (rw path (none .1)) 33 (omega arith) (omega arith)) rep))))))
 
 -- Where the image holds the routes R, the walk answers with the hop of the longest route that matches, and with the nodes on the address's path.
-pub walk-longest : (st : ℕ → ℕ → Bool) (R : Hops) (ws hs : List ℕ) (a : ℕ) → a < 2 ^ 32 → Holds st R ws hs 8 0 0 0 → treeSaid ws hs a ≡ told (longest R a 33) (readsFrom st a 8 0)
+pub walk-longest : (st : ℕ → ℕ → Bool) (R : Hops) (ws hs : List ℕ) (a : ℕ) → a < 2 ^ 32 → SubtreeHolds st R ws hs 8 0 0 0 → treeSaid ws hs a
+    ≡ treeHopSaid (longest R a 33) (readsFrom st a 8 0)
 unfolding treeSaid down
 walk-longest st R ws hs a h k = found st R ws hs a 8 0 0 0 Nowhere refl (omega arith) k refl

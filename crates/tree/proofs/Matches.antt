@@ -10,7 +10,7 @@ use native.Mathlib.Omega.{arith}
 use lib.Count.{ones}
 use lib.Dec.{ltb}
 use lib.ListN.{length}
-use Rattle.bits.proofs.Tests.{decided}
+use Rattle.bits.proofs.Bools.{decided}
 use Rattle.routes.specs.Said.{refused}
 use Rattle.tree.specs.Node.{bitsOf, baseOf, isSet, sound, tryBit, matchBit, Deepest, match, none, deepestOf, betterOf}
 use Rattle.tree.specs.Walk.{fetchedFrom, lastMatch, walkFrom}

@@ -10,13 +10,13 @@ use lib.Dec.{ltb, leb}
 use lib.ListN.{length, getD, length-append}
 use borrow.Author.Tests.{lt-ltb, leb-true, leb-false}
 use Rattle.bits.specs.Count.{bit, count}
-use Rattle.bits.proofs.Tests.{decided, untrue}
+use Rattle.bits.proofs.Bools.{decided, untrue}
 use Rattle.routes.specs.Route.{Good}
 use Rattle.standing.specs.Cells.{here, any, first, orElse}
 use Rattle.routes.specs.declared.Route.{Route}
 use Rattle.routes.proofs.Goods.{good-fine}
 use Rattle.tree.specs.Parts.{picked, gather}
-use Rattle.tree.specs.Image.{Node, node, innerLen, bitHop, inner, child, kids, hopsOf, level, upTo, nodes, hops, through, nodeStands, hopFor, nodeNeed}
+use Rattle.tree.specs.Image.{Node, node, innerLen, bitHop, inner, child, kids, hopsOf, level, upTo, hops, through, nodeStands, hopFor, nodeNeed}
 use Rattle.tree.proofs.Counts.{count-none, count-one}
 use Rattle.tree.proofs.Parts.{picked-length, gather-append}
 use Rattle.tree.proofs.Levels.{level-is}
@@ -95,7 +95,8 @@ at-one m p r h = go (decided (through m p r)) (decided (leb (4 * (m + 1)) (r .le
           arith,
           ap bit o,
           count-none (λ b. atBit m p b r) 15 (λ b l. untrue (atBit m p b r) (λ t. true≢false (sym (bit-pass m p b r l h t .0) ∙ o))),
-          count-none (λ c. through (m + 1) (p * 16 + c) r) 16 (λ c l. untrue (through (m + 1) (p * 16 + c) r) (λ t. true≢false (sym (up-pass m p c r l h t) ∙ o))),
+          count-none (λ c. through (m + 1) (p * 16 + c) r) 16
+              (λ c l. untrue (through (m + 1) (p * 16 + c) r) (λ t. true≢false (sym (up-pass m p c r l h t) ∙ o))),
         )
     go (inl o) (inl w) =
         let u = leb-true (4 * (m + 1)) (r .len) w in
@@ -110,7 +111,8 @@ at-one m p r h = go (decided (through m p r)) (decided (leb (4 * (m + 1)) (r .le
         omega (
           arith,
           ap bit o,
-          count-none (λ c. through (m + 1) (p * 16 + c) r) 16 (λ c l. untrue (through (m + 1) (p * 16 + c) r) (λ t. omega (arith, pass-parts (m + 1) (p * 16 + c) r t .0))),
+          count-none (λ c. through (m + 1) (p * 16 + c) r) 16
+              (λ c l. untrue (through (m + 1) (p * 16 + c) r) (λ t. omega (arith, pass-parts (m + 1) (p * 16 + c) r t .0))),
           count-one (λ b. atBit m p b r) 15 (bitOf m r) (bit-at m p r h o u .0) (bit-at m p r h o u .1) (λ b l t. bit-is m p b r l h t),
         )
 
@@ -140,7 +142,11 @@ own-tally l q (r ∷ rs) g = go (decided (here l q r)) (own-tally l q rs (g .2))
         → bit (here l q r) + tally (here l q) rs ≡ bit (ltb 0 (orElse (cond (here l q r) (suc (r .hop)) (first (here l q) rs)) 0))
     go (inl t) ih =
         rw (t, lt-ltb 0 (r .hop) (g .0 .hop-one))
-        (omega (arith, tally-none (here l q) rs (λ s m. untrue (here l q s) (λ u. omega (arith, g .1 s m, one-key l q r s (g .0) (good-fine rs (g .2) s m) t u)))))
+        (omega (
+          arith,
+          tally-none (here l q) rs (λ s m. untrue (here l q s)
+              (λ u. omega (arith, g .1 s m, one-key l q r s (g .0) (good-fine rs (g .2) s m) t u))),
+        ))
     go (inr t) ih = rw t (zero-add _ ∙ ih)
 
 module _ (rs : List Route) (g : Good rs) where
@@ -168,13 +174,21 @@ module _ (rs : List Route) (g : Good rs) where
       ∙ ap₂ (λ (x y : ℕ). x + y)
       (sums-ext _ _ 15 (λ b l. own-tally (4 * n .depth + innerLen b) (n .path * 2 ^ innerLen b + (b + 1 - 2 ^ innerLen b)) rs g)
       ∙ count-sums (inner hop n) 15 ∙ sym (picked-length (inner hop n) (bitHop hop n) 15))
-      (sym (total-picked weight (child st n) (λ c. node (n .depth + 1) (n .path * 16 + c)) 16 ∙ sums-ext _ _ 16 (λ c l. kid-weight (n .depth + 1) (n .path * 16 + c))))
+      (sym (total-picked weight (child st n) (λ c. node (n .depth + 1) (n .path * 16 + c)) 16 ∙ sums-ext _ _ 16
+      (λ c l. kid-weight (n .depth + 1) (n .path * 16 + c))))
 
   level-weight : (ns : List Node) → total weight ns ≡ length (gather (hopsOf hop) ns) + total weight (gather (kids st) ns)
   unfolding total gather
   level-weight [] = refl
   level-weight (n ∷ ns) =
-      omega (arith, node-weight n, level-weight ns, total-append weight (kids st n) (gather (kids st) ns), length-append (hopsOf hop n) (gather (hopsOf hop) ns))
+      omega (
+        arith,
+        node-weight n,
+        level-weight ns,
+        total-append weight (kids st n) (gather (kids st) ns),
+        length-append (hopsOf hop n)
+            (gather (hopsOf hop) ns),
+      )
 
   -- all routes: the hops of the levels above m, and the routes that pass through level m
   all-routes : (rs′ : List Route) → Good rs′ → tally (through 0 0) rs′ ≡ length rs′
@@ -207,7 +221,8 @@ module _ (rs : List Route) (g : Good rs) where
       omega (
         arith,
         levels (suc m),
-        each (level st (suc m)) (λ i l. rw (k .deep i l) (tally-some (through (suc m) (getD (level st (suc m)) i (node 0 0) .path)) rs (k .stand i (omega arith) l))),
+        each (level st (suc m)) (λ i l. rw (k .deep i l)
+            (tally-some (through (suc m) (getD (level st (suc m)) i (node 0 0) .path)) rs (k .stand i (omega arith) l))),
       )
 
   few : (m : ℕ) → length (upTo st (suc m)) ≤ 1 + m * length rs
@@ -223,7 +238,9 @@ module _ (rs : List Route) (g : Good rs) where
       let e : n .depth ≡ 9 = h 0 (omega arith) in
       omega (
         arith,
-        tally-none (through (n .depth) (n .path)) rs (λ r k. untrue (through (n .depth) (n .path) r) (λ t. omega (arith, pass-parts (n .depth) (n .path) r t .0, good-fine rs g r k .prefix .len-ok))),
+        tally-none (through (n .depth) (n .path)) rs
+            (λ r k. untrue (through (n .depth) (n .path) r)
+            (λ t. omega (arith, pass-parts (n .depth) (n .path) r t .0, good-fine rs g r k .prefix .len-ok))),
         none-nine ns (λ i l. h (suc i) (omega arith)),
       )
 

@@ -1,5 +1,4 @@
 -- The nodes of an image in their order, its words and its hops by their places.
--- Assumes nothing.
 use mathlib.Core.Path.{_≡_, refl, sym, _∙_, ap, subst}
 use mathlib.Core.Logic.{_⊎_, inl, inr}
 use mathlib.Core.Bool.{Bool, true, false, cond}
@@ -12,7 +11,7 @@ use lib.Dec.{ltb}
 use lib.ListN.{length, getD, take, length-append, List·getD-append}
 use lib.Seq.{getD-append-add, take-length, take-append-le}
 use borrow.Author.Tests.{lt-ltb, le-ltb, ltb-true, ltb-false}
-use Rattle.bits.proofs.Tests.{decided}
+use Rattle.bits.proofs.Bools.{decided}
 use Rattle.bits.specs.Bit.{bitAt}
 use Rattle.bits.specs.Count.{bit}
 use Rattle.tree.specs.Parts.{picked, gather, before}
@@ -49,7 +48,8 @@ module _ (st : ℕ → ℕ → Bool) where
   deep-gather : (m : ℕ) (ns : List Node) → Deep m ns → Deep (m + 1) (gather (kids st) ns)
   unfolding Deep gather kids
   deep-gather m [] h = tt
-  deep-gather m (n ∷ ns) h = deep-append (m + 1) (kids st n) (gather (kids st) ns) (deep-picked (m + 1) (child st n) _ 16 (λ i. ap (λ (x : ℕ). x + 1) (h .0))) (deep-gather m ns (h .1))
+  deep-gather m (n ∷ ns) h = deep-append (m + 1) (kids st n) (gather (kids st) ns)
+      (deep-picked (m + 1) (child st n) _ 16 (λ i. ap (λ (x : ℕ). x + 1) (h .0))) (deep-gather m ns (h .1))
 
   pub level-deep : (m : ℕ) → Deep m (level st m)
   unfolding Deep level
@@ -88,7 +88,8 @@ module _ (st : ℕ → ℕ → Bool) where
   depth-lt zero i d l = absurd (not-suc-le-zero l)
   depth-lt (suc k) i d l = go (decided (ltb i (length (upTo st k)))) (λ u. depth-lt k i d u)
     where
-      go : (ltb i (length (upTo st k)) ≡ true) ⊎ (ltb i (length (upTo st k)) ≡ false) → (i < length (upTo st k) → getD (upTo st k) i d .depth < k) → getD (upTo st k ++ level st k) i d .depth < suc k
+      go : (ltb i (length (upTo st k)) ≡ true) ⊎ (ltb i (length (upTo st k)) ≡ false) → (i < length (upTo st k) → getD (upTo st k) i d .depth < k)
+          → getD (upTo st k ++ level st k) i d .depth < suc k
       go (inl t) ih =
           let u = ltb-true i (length (upTo st k)) t in
           rw (List·getD-append (upTo st k) (level st k) d i u) (omega (arith, ih u))

@@ -4,7 +4,7 @@ use mathlib.Core.List.{List}
 use Prim.Native.Nat.{ℕ}
 use Rattle.tree.specs.Contract.{MeetsTreeLookup}
 use Rattle.tree.specs.declared.TreeFound.{TreeFound}
-use Rattle.tree.proofs.Walks.{saysTreeFound-injective}
+use Rattle.tree.proofs.Walks.{meansTreeFound-injective}
 
 pub one-answer-tree-lookup : (words hops : List ℕ) (addr : ℕ) (x y : TreeFound) → MeetsTreeLookup words hops addr x → MeetsTreeLookup words hops addr y → x ≡ y
-one-answer-tree-lookup words hops addr x y p q = saysTreeFound-injective x y (p ∙ sym q)
+one-answer-tree-lookup words hops addr x y p q = meansTreeFound-injective x y (p ∙ sym q)

@@ -1,6 +1,5 @@
 -- Laws of lists by their parts. The rank lemma: what is picked at a number stands after as many as were picked below it, and
 -- what an element gives stands after all that comes from the elements before it.
--- Assumes nothing.
 use mathlib.Core.Path.{_≡_, refl, sym, _∙_, ap}
 use mathlib.Core.Logic.{_⊎_, inl, inr}
 use mathlib.Core.Bool.{Bool, true, false, cond}
@@ -13,7 +12,7 @@ use lib.Dec.{ltb}
 use lib.ListN.{length, getD, take, length-append, List·getD-append}
 use lib.Seq.{getD-append-add, getD-at, take-length}
 use borrow.Author.Tests.{ltb-true, ltb-false}
-use Rattle.bits.proofs.Tests.{decided}
+use Rattle.bits.proofs.Bools.{decided}
 use Rattle.bits.specs.Count.{bit, count}
 use Rattle.tree.specs.Parts.{picked, gather, before}
 use Rattle.tree.proofs.Counts.{count-less}
@@ -35,7 +34,8 @@ unfolding picked
 picked-at f g zero i d h e = absurd (not-suc-le-zero h)
 picked-at {A} f g (suc n) i d h e = go (eq-or-lt-of-le (le-of-suc-le-suc h)) (picked-at f g n i d)
   where
-    go : (i ≡ n) ⊎ (i < n) → (i < n → f i ≡ true → getD (picked f g n) (count f i) d ≡ g i) → getD (picked f g n ++ cond (f n) (g n ∷ []) []) (count f i) d ≡ g i
+    go : (i ≡ n) ⊎ (i < n) → (i < n → f i ≡ true → getD (picked f g n) (count f i) d ≡ g i) → getD (picked f g n ++ cond (f n) (g n ∷ []) [])
+        (count f i) d ≡ g i
     go (inl q) ih = let t : f n ≡ true = rw q at e in rw (q, t) (getD-at (picked f g n) (g n) [] d (count f n) (picked-length f g n))
     go (inr l) ih = List·getD-append (picked f g n) (cond (f n) (g n ∷ []) []) d (count f i) (rw picked-length (count-less f n i l e)) ∙ ih l e
 
@@ -63,7 +63,8 @@ module _ {A : Type 0} {B : Type 0} (F : A → List B) where
   gather-at (x ∷ xs) (suc i) j a d h l =
       let ih = gather-at xs i j a d (le-of-suc-le-suc h) l in (
         rw length-append (omega (arith, ih .0)),
-        ap (λ (k : ℕ). getD (F x ++ gather F xs) k d) (add-assoc (length (F x)) (before F xs i) j) ∙ getD-append-add (F x) (gather F xs) (before F xs i + j) d ∙ ih .1,
+        ap (λ (k : ℕ). getD (F x ++ gather F xs) k d) (add-assoc (length (F x)) (before F xs i) j) ∙ getD-append-add (F x) (gather F xs)
+            (before F xs i + j) d ∙ ih .1,
       )
 
   pub before-zero : (xs : List A) → before F xs 0 ≡ 0
@@ -80,7 +81,8 @@ module _ {A : Type 0} {B : Type 0} (F : A → List B) where
       one : (ys : List A) → length (F x) + before F ys 0 ≡ 0 + length (F x)
       one [] = omega arith
       one (y ∷ ys) = omega arith
-  before-next (x ∷ xs) (suc i) a h = rw add-one (ap (λ (k : ℕ). length (F x) + before F xs k) (sym (add-one i)) ∙ omega (arith, before-next xs i a (le-of-suc-le-suc h)))
+  before-next (x ∷ xs) (suc i) a h = rw add-one (ap (λ (k : ℕ). length (F x) + before F xs k) (sym (add-one i)) ∙ omega
+      (arith, before-next xs i a (le-of-suc-le-suc h)))
 
   pub before-le : (xs : List A) (i : ℕ) → before F xs i ≤ length (gather F xs)
   unfolding before gather
@@ -114,7 +116,8 @@ gather-split F [] a j h = absurd (not-suc-le-zero h)
 gather-split F (x ∷ xs) a j h = go (decided (ltb j (length (F x)))) (gather-split F xs a (j - length (F x)))
   where
     go : (ltb j (length (F x)) ≡ true) ⊎ (ltb j (length (F x)) ≡ false)
-        → (j - length (F x) < length (gather F xs) → (i : ℕ) × (r : ℕ) × (i < length xs) × (r < length (F (getD xs i a))) × (before F xs i + r ≡ j - length (F x)))
+        → (j - length (F x) < length (gather F xs) → (i : ℕ) × (r : ℕ) × (i < length xs) × (r < length (F (getD xs i a))) ×
+        (before F xs i + r ≡ j - length (F x)))
         → (i : ℕ) × (r : ℕ) × (i < suc (length xs)) × (r < length (F (getD (x ∷ xs) i a))) × (before F (x ∷ xs) i + r ≡ j)
     go (inl t) ih = (0, j, omega arith, ltb-true j (length (F x)) t, omega arith)
     go (inr t) ih =

@@ -1,5 +1,5 @@
 -- The place of a node in document 01's order: all nodes of a lesser depth come before it, and then the nodes of its depth whose path
--- is less than its own. The child base and the extending ones below give a child just this place. Assumes nothing.
+-- is less than its own. The child base and the extending ones below give a child just this place.
 use mathlib.Core.Path.{_≡_, refl, sym, _∙_, ap, subst}
 use mathlib.Core.Logic.{_⊎_, inl, inr}
 use mathlib.Core.Bool.{Bool, true, true≢false}
@@ -16,12 +16,12 @@ use Rattle.bits.specs.Count.{count}
 use Rattle.bits.specs.Search.{firstOf}
 use Rattle.bits.proofs.Counts.{count-matched}
 use Rattle.bits.proofs.Searches.{firstOf-is, firstOf-at, firstOf-before}
-use Rattle.bits.proofs.Tests.{below?}
+use Rattle.bits.proofs.Bools.{below?}
 use Rattle.routes.specs.Route.{Good}
 use Rattle.routes.specs.declared.Route.{Route}
 use Rattle.tree.specs.Node.{bitsOf, childOf, baseOf, childAt}
 use Rattle.tree.specs.Parts.{before}
-use Rattle.tree.specs.Image.{Node, node, inner, hopsOf, level, upTo, nodes, hops, imageBy, imageOf, nodeStands, hopFor, nodeNeed}
+use Rattle.tree.specs.Image.{Node, node, inner, hopsOf, level, upTo, nodes, imageBy, imageOf, nodeStands, hopFor, nodeNeed}
 use Rattle.tree.specs.Levels.{LevelOf}
 use Rattle.tree.proofs.Counts.{count-all}
 use Rattle.bits.proofs.Packed.{rank-count}
@@ -68,11 +68,13 @@ module _ (rs : List Route) (m : ℕ) (ns : List Node) (is : LevelOf rs m ns) (lo
   back j u _ = (
     is .rises j i u l,
     is .stand j low (omega arith),
-    firstOf-is (λ k. eqb (path k) (path j)) (length ns) j (omega arith) (λ k v. ne-eqb _ _ (λ (e : path k ≡ path j). omega (arith, is .rises k j v (omega arith)))) (λ v. eq-eqb (path j) (path j) refl),
+    firstOf-is (λ k. eqb (path k) (path j)) (length ns) j (omega arith)
+        (λ k v. ne-eqb _ _ (λ (e : path k ≡ path j). omega (arith, is .rises k j v (omega arith)))) (λ v. eq-eqb (path j) (path j) refl),
   )
 
   pub level-rank : count (nodeStands rs m) (path i) ≡ i
-  level-rank = count-matched (nodeStands rs m) (λ j. true) nodeOf path (path i) i (record { there = there; back = back }) ∙ count-all (λ j. true) i (λ j u. refl)
+  level-rank = count-matched (nodeStands rs m) (λ j. true) nodeOf path (path i) i (record { there = there; back = back }) ∙ count-all (λ j. true) i
+      (λ j u. refl)
 
 -- a node of the whole order is one of its level
 at-level : (st : ℕ → ℕ → Bool) (k x : ℕ) → x < length (upTo st k)
@@ -82,8 +84,10 @@ at-level st zero x l = absurd (not-suc-le-zero l)
 at-level st (suc k) x l = go (below? x (length (upTo st k))) (at-level st k x)
   where
     go : (x < length (upTo st k)) ⊎ (length (upTo st k) ≤ x)
-        → (x < length (upTo st k) → (m : ℕ) × (i : ℕ) × (i < length (level st m)) × (x ≡ length (upTo st m) + i) × (getD (upTo st k) x (node 0 0) ≡ getD (level st m) i (node 0 0)))
-        → (m : ℕ) × (i : ℕ) × (i < length (level st m)) × (x ≡ length (upTo st m) + i) × (getD (upTo st k ++ level st k) x (node 0 0) ≡ getD (level st m) i (node 0 0))
+        → (x < length (upTo st k) → (m : ℕ) × (i : ℕ) × (i < length (level st m)) × (x ≡ length (upTo st m) + i) ×
+        (getD (upTo st k) x (node 0 0) ≡ getD (level st m) i (node 0 0)))
+        → (m : ℕ) × (i : ℕ) × (i < length (level st m)) × (x ≡ length (upTo st m) + i) ×
+        (getD (upTo st k ++ level st k) x (node 0 0) ≡ getD (level st m) i (node 0 0))
     go (inl u) ih = let r = ih u in (r .0, r .1, r .2, r .3, List·getD-append (upTo st k) (level st k) (node 0 0) x u ∙ r .4)
     go (inr u) ih =
         let e : x ≡ length (upTo st k) + (x - length (upTo st k)) = omega arith in (
@@ -107,7 +111,8 @@ node-rank rs g x m p low l e =
     subst (λ (y : ℕ). x ≡ length (upTo (nodeStands rs) y) + count (nodeStands rs y) p) d (omega (arith, a .3, q))
 
 -- in the image of a good list with room for it
-module _ (rs : List Route) (g : Good rs) (w h : ℕ) (room : 3 * nodeNeed rs ≤ w) (space : length rs ≤ h) (i : ℕ) (n : Node) (l : i < nodeNeed rs) (e : getD (nodes (nodeStands rs)) i (node 0 0) ≡ n) where
+module _ (rs : List Route) (g : Good rs) (w h : ℕ) (room : 3 * nodeNeed rs ≤ w) (space : length rs ≤ h) (i : ℕ) (n : Node) (l : i < nodeNeed rs)
+    (e : getD (nodes (nodeStands rs)) i (node 0 0) ≡ n) where
   abbrev ws : List ℕ
   ws = imageOf rs w h .words
 
@@ -120,8 +125,10 @@ module _ (rs : List Route) (g : Good rs) (w h : ℕ) (room : 3 * nodeNeed rs ≤
       node-rank rs g _ (n .depth + 1) (n .path * 16 + c) (omega arith) (f .0) (f .1)
 
   -- the place of a hop: all hops of earlier nodes, and those of the node's lower bits
-  pub hop-rank : (b : ℕ) → b ≤ 15 → baseOf ws i + ones (bitsOf ws i % 2 ^ b) ≡ before (hopsOf (hopFor rs)) (nodes (nodeStands rs)) i + count (inner (hopFor rs) n) b
+  pub hop-rank : (b : ℕ) → b ≤ 15 → baseOf ws i + ones (bitsOf ws i % 2 ^ b) ≡ before (hopsOf (hopFor rs)) (nodes (nodeStands rs)) i + count
+      (inner (hopFor rs) n) b
   unfolding imageBy
   hop-rank b lb =
       let k = node-words (nodeStands rs) (hopFor rs) (agree rs g) w h room (omega (arith, hops-need rs g)) i n l e in
-      rw (k .0, k .2) (ap (λ (y : ℕ). before (hopsOf (hopFor rs)) (nodes (nodeStands rs)) i + y) (rank-count _ (inner (hopFor rs) n) b (λ x u. inner-bit (nodeStands rs) (hopFor rs) n x (omega arith))))
+      rw (k .0, k .2) (ap (λ (y : ℕ). before (hopsOf (hopFor rs)) (nodes (nodeStands rs)) i + y)
+      (rank-count _ (inner (hopFor rs) n) b (λ x u. inner-bit (nodeStands rs) (hopFor rs) n x (omega arith))))

@@ -12,7 +12,7 @@ use borrow.Author.Tests.{le-leb, eq-eqb, ne-eqb}
 use Rattle.bits.specs.Slot.{slot}
 use Rattle.bits.specs.Count.{count}
 use Rattle.bits.proofs.Counts.{count-into}
-use Rattle.bits.proofs.Tests.{decided, and-split, both}
+use Rattle.bits.proofs.Bools.{decided, and-split, both}
 use Rattle.routes.specs.Said.{refused}
 use Rattle.routes.specs.Input.{hopFine}
 use Rattle.routes.specs.Route.{Good}
@@ -22,7 +22,7 @@ use Rattle.standing.specs.Cells.{covers, best}
 use Rattle.standing.proofs.Only.{none-covers, covers-none}
 use Rattle.tree.specs.Node.{bitsOf, childOf, isSet, sound, nibbleOf, childAt}
 use Rattle.tree.specs.Reads.{treeReads, TreeAnswer, a-hop, no-route, broken}
-use Rattle.tree.specs.Walk.{told, fetchedFrom, lastMatch, innerMatch, walkFrom, treeSaid}
+use Rattle.tree.specs.Walk.{treeHopSaid, fetchedFrom, lastMatch, innerMatch, walkFrom, treeSaid}
 use Rattle.tree.specs.Image.{nodeStands, onPath, through}
 use Rattle.tree.specs.declared.Place.{Place}
 use Rattle.tree.specs.declared.Place.the-variants.{Nowhere, At}
@@ -34,7 +34,7 @@ use Rattle.tree.proofs.Lies.{any-mem, pass-make}
 module _ (ws hs : List ℕ) (a : ℕ) where
   -- one hop after n nodes
   fetched-answer : (n : ℕ) (p : Place) → 1 ≤ n → n ≤ 9 → TreeAnswer (fetchedFrom hs n p)
-  unfolding fetchedFrom told
+  unfolding fetchedFrom treeHopSaid
   fetched-answer n Nowhere l u = no-route n l u
   fetched-answer n (At h) l u = go (decided (ltb h (length hs) && hopFine (getD hs h 0)))
     where

@@ -14,13 +14,17 @@ use borrow.Author.Tests.{leb-true, le-leb, lt-leb, eqb-true, eq-eqb}
 use Rattle.bits.specs.Slot.{slot}
 use Rattle.bits.specs.Count.{count}
 use Rattle.bits.proofs.Slots.{slot-up}
-use Rattle.bits.proofs.Tests.{decided, both, and-split, fails}
+use Rattle.bits.proofs.Bools.{decided, both, and-split, fails}
 use Rattle.routes.specs.Route.{Good}
 use Rattle.standing.specs.Cells.{here, any, first, orElse, best}
 use Rattle.routes.specs.declared.Route.{Route}
+use Rattle.routes.specs.Said.{Said}
 use Rattle.standing.specs.Down.{orNext, down}
+use Rattle.standing.specs.Served.{Served, hopSaid}
+use Rattle.standing.proofs.Served.{best-served}
 use Rattle.standing.proofs.Levels.{any-mono}
-use Rattle.tree.specs.Walk.{told, treeSaid}
+use Rattle.tree.specs.Reads.{counted, treeReads}
+use Rattle.tree.specs.Walk.{treeHopSaid, treeSaid}
 use Rattle.tree.specs.Image.{Node, node, nodes, words, hops, imageBy, imageOf, through, nodeStands, hopFor, nodeNeed, onPath}
 use Rattle.tree.proofs.Counts.{count-all, count-cut}
 use Rattle.tree.proofs.Nodes.{up-next, words-length}
@@ -51,7 +55,8 @@ here-passes m l q r lo hi e =
     let c : slot l (r .addr) ≡ q = eqb-true (slot l (r .addr)) q (s .1) in
     let k : 4 * m + (l - 4 * m) ≡ l = omega arith in
     both (le-leb (4 * m) (r .len) (omega arith))
-    (eq-eqb _ _ (sym (slot-up (4 * m) (l - 4 * m) (r .addr) (omega arith)) ∙ ap (λ (x : ℕ). slot x (r .addr) / 2 ^ (l - 4 * m)) k ∙ ap (λ (x : ℕ). x / 2 ^ (l - 4 * m)) c))
+    (eq-eqb _ _ (sym (slot-up (4 * m) (l - 4 * m) (r .addr) (omega arith)) ∙ ap (λ (x : ℕ). slot x (r .addr) / 2 ^ (l - 4 * m)) k ∙ ap
+    (λ (x : ℕ). x / 2 ^ (l - 4 * m)) c))
 
 pub agree : (rs : List Route) → Good rs → Agree (nodeStands rs) (hopFor rs)
 agree rs g = record {
@@ -120,7 +125,8 @@ module _ (t : ℕ → Bool) (down : (i : ℕ) → i < 7 → t (i + 1) ≡ true �
           rw (← here-is, z) (omega (arith, count-all t m all))
 
 pub path-count : (rs : List Route) (a : ℕ) → readsFrom (nodeStands rs) a 8 0 ≡ onPath rs a
-path-count rs a = reads-count (λ m. nodeStands rs (m + 1) (slot (4 * (m + 1)) a)) down (nodeStands rs) a (λ i l. refl) 8 0 refl (λ i l. absurd (not-suc-le-zero l))
+path-count rs a = reads-count (λ m. nodeStands rs (m + 1) (slot (4 * (m + 1)) a)) down (nodeStands rs) a (λ i l. refl) 8 0 refl
+    (λ i l. absurd (not-suc-le-zero l))
   where
     down : (i : ℕ) → i < 7 → nodeStands rs (i + 1 + 1) (slot (4 * (i + 1 + 1)) a) ≡ true → nodeStands rs (i + 1) (slot (4 * (i + 1)) a) ≡ true
     down i l = any-mono (through (i + 1 + 1) (slot (4 * (i + 1 + 1)) a)) (through (i + 1) (slot (4 * (i + 1)) a)) rs one
@@ -134,18 +140,28 @@ path-count rs a = reads-count (λ m. nodeStands rs (m + 1) (slot (4 * (m + 1)) a
         one r e =
             let s = and-split (leb (4 * (i + 1 + 1)) (r .len)) (eqb (slot (4 * (i + 1 + 1)) (r .addr)) (slot (4 * (i + 1 + 1)) a)) e in
             both (le-leb (4 * (i + 1)) (r .len) (omega (arith, leb-true (4 * (i + 1 + 1)) (r .len) (s .0))))
-            (eq-eqb (slot (4 * (i + 1)) (r .addr)) (slot (4 * (i + 1)) a) (sym (up (r .addr)) ∙ ap (λ (x : ℕ). x / 2 ^ 4) (eqb-true (slot (4 * (i + 1 + 1)) (r .addr)) (slot (4 * (i + 1 + 1)) a) (s .1)) ∙ up a))
+            (eq-eqb (slot (4 * (i + 1)) (r .addr)) (slot (4 * (i + 1)) a)
+            (sym (up (r .addr)) ∙ ap (λ (x : ℕ). x / 2 ^ 4) (eqb-true (slot (4 * (i + 1 + 1)) (r .addr)) (slot (4 * (i + 1 + 1)) a) (s .1)) ∙ up a))
 
 -- every address, on the image of a good list in arrays with room for it: the hop of the longest route that covers the address, or no
 -- route where that is 0, told after the nodes that stand on its path
 pub image-serves : (rs : List Route) (w h a : ℕ) → Good rs → a < 2 ^ 32 → 3 * nodeNeed rs ≤ w → length rs ≤ h
-    → treeSaid (imageOf rs w h .words) (imageOf rs w h .hops) a ≡ told (best rs 32 a) (onPath rs a)
+    → treeSaid (imageOf rs w h .words) (imageOf rs w h .hops) a ≡ treeHopSaid (best rs 32 a) (onPath rs a)
 unfolding imageBy
 image-serves rs w h a g l room space =
     let up = up-next (nodeStands rs) 8 in
     walk-longest (nodeStands rs) (hopFor rs) _ _ a l
-    (image-holds (nodeStands rs) (hopFor rs) (agree rs g) w h room (omega (arith, hops-need rs g)) 8 0 0 0 (omega (arith, ap length up)) (ap (λ (x : List Node). getD x 0 (node 0 0)) up))
-    ∙ ap₂ told (sym (best-longest rs 32 a g (omega arith)) ∙ ap (best rs 32) (div-one a)) (path-count rs a)
+    (image-holds (nodeStands rs) (hopFor rs) (agree rs g) w h room (omega (arith, hops-need rs g)) 8 0 0 0 (omega (arith, ap length up))
+    (ap (λ (x : List Node). getD x 0 (node 0 0)) up))
+    ∙ ap₂ treeHopSaid (sym (best-longest rs 32 a g (omega arith)) ∙ ap (best rs 32) (div-one a)) (path-count rs a)
+
+-- what is told so is served, with the count by the routes
+pub told-said : (h n : ℕ) → treeHopSaid h n ≡ hopSaid (counted h n) h
+unfolding treeHopSaid hopSaid
+told-said h n = refl
+
+pub told-served : (rs : List Route) → Good rs → (a : ℕ) {s : Said} → s ≡ treeHopSaid (best rs 32 a) (onPath rs a) → Served rs a (treeReads rs a) s
+told-served rs g a e = rw (e ∙ told-said (best rs 32 a) (onPath rs a)) (best-served rs g a (treeReads rs a))
 
 -- every word after the last node, and every hop after the last used, is zero
 pub words-after : (rs : List Route) (w h j : ℕ) → 3 * nodeNeed rs ≤ j → getD (imageOf rs w h .words) j 0 ≡ 0

@@ -35,8 +35,10 @@ module _ (ws hs : List ℕ) (a : ℕ) where
     marked : (d i : ℕ) (best : Place) → i < length ws / 3 → isSet (bitsOf ws i) 15 ≡ true → Walked d i best (refused 13)
     -- at depth 8, and where no child stands, the hop is read
     deepest : (i : ℕ) (best : Place) (s : Said) → RightNode i → Fetched hs 9 (lastMatch ws i best) s → Walked zero i best s
-    ends : (d i : ℕ) (best : Place) (s : Said) → RightNode i → isSet (bitsOf ws i) (16 + nibbleOf a d) ≡ false → Fetched hs (8 - d) (innerMatch ws i (nibbleOf a d) best) s → Walked (suc d) i best s
-    goes-on : (d i : ℕ) (best : Place) (s : Said) → RightNode i → isSet (bitsOf ws i) (16 + nibbleOf a d) ≡ true → Walked d (down d i) (innerMatch ws i (nibbleOf a d) best) s → Walked (suc d) i best s
+    ends : (d i : ℕ) (best : Place) (s : Said) → RightNode i → isSet (bitsOf ws i) (16 + nibbleOf a d) ≡ false → Fetched hs (8 - d)
+        (innerMatch ws i (nibbleOf a d) best) s → Walked (suc d) i best s
+    goes-on : (d i : ℕ) (best : Place) (s : Said) → RightNode i → isSet (bitsOf ws i) (16 + nibbleOf a d) ≡ true → Walked d (down d i)
+        (innerMatch ws i (nibbleOf a d) best) s → Walked (suc d) i best s
 
   -- from the root
   abbrev pub TreeLookup : Said → Type 0

@@ -1,17 +1,16 @@
 -- The tree bitmap image of routes. It is a function of two things that are read off the routes: which nodes stand, `st m p` for
 -- the path p of 4 * m bits, and their hops, `hop l q` for the route of length l whose bits are q, 0 where there is none.
--- Assumes nothing.
 use mathlib.Core.Bool.{Bool, false, cond, _&&_}
 use mathlib.Core.List.{List, [], _∷_, _++_}
 use Prim.Native.Nat.{ℕ, zero, suc, _+_, _-_, _*_, _^_}
 use lib.Dec.{ltb, leb, eqb}
 use lib.ListN.{length}
 use Rattle.bits.specs.Slot.{slot}
-use Rattle.bits.specs.Bit.{packed}
+use Rattle.bits.specs.Bit.{packedBits}
 use Rattle.bits.specs.Count.{count}
 use Rattle.standing.specs.Cells.{here, any, first, orElse}
 use Rattle.routes.specs.declared.Route.{Route}
-use Rattle.tree.specs.Parts.{picked, gather, padded}
+use Rattle.tree.specs.Parts.{picked, gather, zeroPadded}
 
 -- a node: it stands for a path of 4 * depth bits
 pub record Node : Type 0 where
@@ -42,7 +41,7 @@ unfoldable pub setBit : (ℕ → ℕ → Bool) → (ℕ → ℕ → ℕ) → Nod
 setBit st hop n b = cond (ltb b 15) (inner hop n b) (cond (ltb b 16) false (child st n (b - 16)))
 
 unfoldable pub word : (ℕ → ℕ → Bool) → (ℕ → ℕ → ℕ) → Node → ℕ
-word st hop n = packed (setBit st hop n) 32
+word st hop n = packedBits (setBit st hop n) 32
 
 -- the children of a node and its hops, in the order of its bits
 unfoldable pub kids : (ℕ → ℕ → Bool) → Node → List Node
@@ -81,7 +80,7 @@ pub record Image : Type 0 where
 
 -- the image in w words and h hops: zeros after the last used
 unfoldable pub imageBy : (ℕ → ℕ → Bool) → (ℕ → ℕ → ℕ) → ℕ → ℕ → Image
-imageBy st hop w h = record { words = padded w (words st hop); hops = padded h (hops st hop) }
+imageBy st hop w h = record { words = zeroPadded w (words st hop); hops = zeroPadded h (hops st hop) }
 
 -- the route is no shorter than 4 * m and begins with the path p of 4 * m bits
 abbrev pub through : ℕ → ℕ → Route → Bool

@@ -1,4 +1,4 @@
--- A node of an image: its three words, and what they say of the next four bits of an address. Assumes nothing.
+-- A node of an image: its three words, and what they say of the next four bits of an address.
 use mathlib.Core.Path.{_≡_}
 use Prim.Native.Nat.{ℕ, _+_, _-_, _*_, _/_, _%_, _^_, _<_}
 use mathlib.Core.Bool.{Bool, true, false, cond, not, _&&_}

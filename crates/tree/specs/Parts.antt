@@ -1,4 +1,4 @@
--- Lists by their parts. Assumes nothing.
+-- Lists by their parts.
 use mathlib.Core.Bool.{Bool, cond}
 use mathlib.Core.List.{List, [], _∷_, _++_}
 use Prim.Native.Nat.{ℕ, zero, suc, _+_, _-_}
@@ -21,5 +21,5 @@ before F (x ∷ xs) zero = 0
 before F (x ∷ xs) (suc i) = length (F x) + before F xs i
 
 -- the list and zeros after it, n in all
-abbrev pub padded : ℕ → List ℕ → List ℕ
-padded n xs = xs ++ replicate (n - length xs) 0
+abbrev pub zeroPadded : ℕ → List ℕ → List ℕ
+zeroPadded n xs = xs ++ replicate (n - length xs) 0

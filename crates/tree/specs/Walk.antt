@@ -1,4 +1,4 @@
--- What a lookup says, for every content of the words and the hops. All nodes are read first, then one hop. Assumes nothing.
+-- What a lookup says, for every content of the words and the hops. All nodes are read first, then one hop.
 use Prim.Native.Nat.{ℕ, zero, suc, _+_, _-_}
 use mathlib.Core.Bool.{cond, _&&_}
 use mathlib.Core.List.{List}
@@ -14,19 +14,19 @@ use Rattle.tree.specs.declared.TreeFound.{TreeFound}
 use Rattle.tree.specs.declared.TreeFound.the-variants.{Hop, NoRoute, Broken}
 
 -- document 01's number and values for each answer
-unfoldable pub saysTreeFound : TreeFound → Said
-saysTreeFound (Hop h n) = hopAfter n h
-saysTreeFound (NoRoute n) = noRouteAfter n
-saysTreeFound Broken = refused 13
+unfoldable pub meansTreeFound : TreeFound → Said
+meansTreeFound (Hop h n) = hopAfter n h
+meansTreeFound (NoRoute n) = noRouteAfter n
+meansTreeFound Broken = refused 13
 
 -- the answer with the hop h, 0 for no route, after n nodes
-unfoldable pub told : ℕ → ℕ → Said
-told h n = cond (eqb h 0) (noRouteAfter (counted h n)) (hopAfter (counted h n) h)
+unfoldable pub treeHopSaid : ℕ → ℕ → Said
+treeHopSaid h n = cond (eqb h 0) (noRouteAfter (counted h n)) (hopAfter (counted h n) h)
 
 -- the hop at a place is read; it has to be lent, and 1 to 32,767
 unfoldable pub fetchedFrom : List ℕ → ℕ → Place → Said
-fetchedFrom hs n Nowhere = told 0 n
-fetchedFrom hs n (At h) = cond (ltb h (length hs) && hopFine (getD hs h 0)) (told (getD hs h 0) n) (refused 13)
+fetchedFrom hs n Nowhere = treeHopSaid 0 n
+fetchedFrom hs n (At h) = cond (ltb h (length hs) && hopFine (getD hs h 0)) (treeHopSaid (getD hs h 0) n) (refused 13)
 
 -- the match of node i, at depth 8, and above it
 abbrev pub lastMatch : List ℕ → ℕ → Place → Place

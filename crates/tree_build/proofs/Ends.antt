@@ -5,19 +5,19 @@ use mathlib.Core.List.{List}
 use Prim.Native.Nat.{ℕ, _+_, _*_, _/_, _%_, _≤_, _<_}
 use native.Mathlib.Omega.{arith}
 use lib.ListN.{length, getD, replicate, length-replicate, List·getD-eq-default}
-use Rattle.bits.proofs.Tests.{below?}
+use Rattle.bits.proofs.Bools.{below?}
 use Rattle.routes.specs.Record.{recordAt, Records}
-use Rattle.tree.specs.Parts.{padded}
+use Rattle.tree.specs.Parts.{zeroPadded}
 use Rattle.tree.specs.Image.{Node, node, kids, hopsOf, words, hops, imageBy}
 use Rattle.tree.specs.Done.{AllDone}
 use Rattle.tree.proofs.Parts.{before-zero, before-all}
 use Rattle.tree.proofs.Nodes.{up-next, ahead}
 use Rattle.tree.proofs.Holds.{zeros}
 use Rattle.tree.proofs.Filled.{all-filled}
-use Rattle.tree_build.specs.Run.{standsIn, hopIn, pathAt}
-use Rattle.tree_build.specs.Queue.{put3, Waits, nodesIn, nodeIn, hopsBefore, Room, State, Filled}
+use Rattle.tree_build.specs.NodeRuns.{standsIn, hopIn, pathAt}
+use Rattle.tree_build.specs.Queue.{put3, Waits, nodesIn, nodeIn, hopsBefore, ImageRoom, State, ImageFilled}
 use Rattle.tree_build.proofs.Stores.{put3-length, put3-other, put3-at}
-use Rattle.tree_build.proofs.Runs.{root-run}
+use Rattle.tree_build.proofs.NodeRuns.{root-run}
 use Rattle.tree_build.proofs.Steps.{tail-le}
 
 -- the root's path is empty, also where there is no record
@@ -31,7 +31,7 @@ root-path s good whole = go (below? 0 (length s / 8))
         let z : (i : ℕ) → getD s i 0 ≡ 0 = λ i. List·getD-eq-default s 0 {n = i} (omega arith) in
         omega (arith, z 0, z 1, z 2, z 3)
 
-module _ (s : List ℕ) (w h : ℕ) (room : Room s w h) (ws₀ hs : List ℕ) (zw : ws₀ ≡ replicate w 0) (zh : hs ≡ replicate h 0) where
+module _ (s : List ℕ) (w h : ℕ) (room : ImageRoom s w h) (ws₀ hs : List ℕ) (zw : ws₀ ≡ replicate w 0) (zh : hs ≡ replicate h 0) where
   blank-length : length ws₀ ≡ w
   blank-length = ap length zw ∙ length-replicate w 0
 
@@ -60,7 +60,16 @@ module _ (s : List ℕ) (w h : ℕ) (room : Room s w h) (ws₀ hs : List ℕ) (z
       waits =
           let at = put3-at ws₀ 0 0 0 n root-room in
           rw eq
-          record { start = 0; stop = length s / 8; depth = at .0; from = at .1; upto = at .2 ∙ en; is = ap (node 0) (sym (root-path s (room .records) (room .whole))); run = root-run s (room .records) }
+          record {
+            start = 0;
+            stop = length s / 8;
+            depth = at .0;
+            from = at .1;
+            upto = at .2 ∙ en;
+            is = ap (node 0)
+                (sym (root-path s (room .records) (room .whole)));
+            run = root-run s (room .records);
+          }
 
 -- when no node waits
 module _ (s ws hs : List ℕ) (i t h : ℕ) (now : State s ws hs i t h) (l : t ≤ i) where
@@ -88,11 +97,11 @@ module _ (s ws hs : List ℕ) (i t h : ℕ) (now : State s ws hs i t h) (l : t �
     blank = λ j u. now .blank j (omega (arith, all-put));
   }
 
-  pub filled : (ws₀ hs₀ : List ℕ) → length ws ≡ length ws₀ → length hs ≡ length hs₀ → Filled s ws₀ hs₀ ws hs
+  pub filled : (ws₀ hs₀ : List ℕ) → length ws ≡ length ws₀ → length hs ≡ length hs₀ → ImageFilled s ws₀ hs₀ ws hs
   unfolding imageBy
   filled ws₀ hs₀ e f = record {
-    words = all-filled (standsIn s) (hopIn s) ws hs complete .0 ∙ ap (λ (n : ℕ). padded n (words (standsIn s) (hopIn s))) e;
-    hops = all-filled (standsIn s) (hopIn s) ws hs complete .1 ∙ ap (λ (n : ℕ). padded n (hops (standsIn s) (hopIn s))) f;
+    words = all-filled (standsIn s) (hopIn s) ws hs complete .0 ∙ ap (λ (n : ℕ). zeroPadded n (words (standsIn s) (hopIn s))) e;
+    hops = all-filled (standsIn s) (hopIn s) ws hs complete .1 ∙ ap (λ (n : ℕ). zeroPadded n (hops (standsIn s) (hopIn s))) f;
   }
 
 -- the queue ends: each turn takes a node

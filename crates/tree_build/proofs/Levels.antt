@@ -1,4 +1,4 @@
--- The nodes are counted right: each node below the root is fresh at one record, the first of its run. Assumes nothing.
+-- The nodes are counted right: each node below the root is fresh at one record, the first of its run.
 use mathlib.Core.Path.{_≡_, refl, sym, _∙_, ap, ap₂, subst}
 use mathlib.Core.Logic.{_⊎_, inl, inr}
 use mathlib.Core.Bool.{true, false, not, cond, true≢false}
@@ -13,7 +13,7 @@ use Rattle.bits.specs.Count.{count}
 use Rattle.bits.specs.Search.{firstOf}
 use Rattle.bits.proofs.Counts.{count-matched}
 use Rattle.bits.proofs.Searches.{firstOf-is, firstOf-before}
-use Rattle.bits.proofs.Tests.{both, and-split, equal?, untrue}
+use Rattle.bits.proofs.Bools.{both, and-split, equal?, untrue}
 use Rattle.routes.specs.Record.{recordAt, Records, routesIn}
 use Rattle.tree.specs.Image.{Node, node, level, upTo}
 use Rattle.tree.specs.Levels.{LevelOf}
@@ -21,9 +21,9 @@ use Rattle.tree.proofs.Counts.{count-all}
 use Rattle.tree.proofs.Levels.{level-is}
 use Rattle.tree.proofs.Lies.{pass-parts, pass-make}
 use Rattle.tree.proofs.Ranks.{first-found}
-use Rattle.tree_build.specs.Run.{standsIn, pathAt, throughAt}
+use Rattle.tree_build.specs.NodeRuns.{standsIn, pathAt, throughAt}
 use Rattle.tree_build.specs.Count.{freshAt, nodesTo}
-use Rattle.tree_build.proofs.Runs.{good-list, stands-at, stands-by, convex}
+use Rattle.tree_build.proofs.NodeRuns.{good-list, stands-at, stands-by, convex}
 
 module _ (s : List ℕ) (good : Records s (length s / 8)) (d : ℕ) where
   abbrev m : ℕ
@@ -93,7 +93,8 @@ module _ (s : List ℕ) (good : Records s (length s / 8)) (d : ℕ) where
         p .0,
         fresh-make (firstIn j) (subst (λ (x : ℕ). throughAt s m x (firstIn j) ≡ true) (sym q) (p .1))
             (λ u. subst (λ (x : ℕ). throughAt s m x (firstIn j - 1) ≡ false) (sym q) (firstOf-before (throughAt s m (path j)) n (firstIn j - 1) (omega arith))),
-        firstOf-is (λ i. eqb (path i) (pathAt s m (firstIn j))) (length ns) j (omega arith) (λ i u. ne-eqb _ _ (λ (e : path i ≡ pathAt s m (firstIn j)). omega (arith, is .rises i j u l, q))) (λ u. eq-eqb _ _ (sym q)),
+        firstOf-is (λ i. eqb (path i) (pathAt s m (firstIn j))) (length ns) j (omega arith)
+            (λ i u. ne-eqb _ _ (λ (e : path i ≡ pathAt s m (firstIn j)). omega (arith, is .rises i j u l, q))) (λ u. eq-eqb _ _ (sym q)),
       )
 
   pub level-size : count (freshAt s m) n ≡ length ns

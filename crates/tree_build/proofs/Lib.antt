@@ -2,13 +2,14 @@
 pub mod Marks
 pub mod Scans
 pub mod Stores
-pub mod Runs
+pub mod NodeRuns
 pub mod Words
 pub mod Hops
 pub mod Kids
 pub mod Steps
 pub mod Ends
 pub mod Levels
-pub mod Answers
+pub mod BuildReturns
 pub mod OneAnswer
 pub mod Serves
+pub mod Judged

@@ -1,4 +1,4 @@
--- Bits that are set in a word, and the word that has exactly the bits of a test. Assumes nothing.
+-- Bits that are set in a word, and the word that has exactly the bits of a test.
 use mathlib.Core.Path.{_≡_, refl, sym, _∙_, ap, ap₂}
 use mathlib.Core.Logic.{_⊎_, inl, inr}
 use mathlib.Core.Bool.{Bool, true, false, cond}
@@ -10,12 +10,12 @@ use lib.Dec.{eqb}
 use lib.Bits.{bitAnd, bitOr, or-lt, or-shr, or-mod, or-zero-r, and-mask}
 use lib.Pow.{pow-pos, pow-add, pow-lt, pow-mono, shl-shr, mod-pow-add}
 use borrow.Author.Tests.{eq-eqb, ne-eqb, lt-ltb, le-ltb}
-use Rattle.bits.specs.Bit.{bitAt, packed}
+use Rattle.bits.specs.Bit.{bitAt, packedBits}
 use Rattle.bits.specs.Count.{bit}
 use Rattle.bits.specs.Slot.{slot}
 use Rattle.bits.proofs.Slots.{shl-one}
-use Rattle.bits.proofs.Tests.{equal?, below?}
-use Rattle.tree_build.specs.Run.{placeOf, WithBit}
+use Rattle.bits.proofs.Bools.{equal?, below?}
+use Rattle.tree_build.specs.NodeRuns.{nodeBit, WithBit}
 
 -- a bit of a word that joins two, and of a power of 2
 bit-or : (x y k : ℕ) → bitAt (bitOr x y) k ≡ bitOr (bitAt x k) (bitAt y k)
@@ -33,7 +33,8 @@ bit-pow b k = go (equal? k b) (below? k b)
         let e : b ≡ 1 + (b - suc k) + k = omega arith in
         let p : 2 ^ b ≡ 2 ^ (1 + (b - suc k)) * 2 ^ k = ap (λ (x : ℕ). 2 ^ x) e ∙ pow-add 2 (1 + (b - suc k)) k in
         rw (ne-eqb k b n)
-        (ap (λ (x : ℕ). x / 2 ^ k % 2) p ∙ ap (λ (x : ℕ). x % 2) (shl-shr (2 ^ (1 + (b - suc k))) k) ∙ ap (λ (x : ℕ). x % 2) (pow-add 2 1 (b - suc k)) ∙ omega arith)
+        (ap (λ (x : ℕ). x / 2 ^ k % 2) p ∙ ap (λ (x : ℕ). x % 2) (shl-shr (2 ^ (1 + (b - suc k))) k) ∙ ap (λ (x : ℕ). x % 2)
+        (pow-add 2 1 (b - suc k)) ∙ omega arith)
     go (inr n) (inr l) = rw (ne-eqb k b n) (ap (λ (x : ℕ). x % 2) (div-eq-of-lt (pow-lt {i = b} {j = k} (omega arith))))
 
 or-bit : (x : ℕ) (t : Bool) → x < 2 → bitOr x (bit t) ≡ cond t 1 x
@@ -45,18 +46,19 @@ or-bit x false h = or-zero-r x
 pub with-bit : (w b : ℕ) → w < 2 ^ 32 → b < 32 → WithBit w b (bitOr w ((1 * 2 ^ b) % 2 ^ 32))
 with-bit w b h l = record {
   fits = or-lt 32 w _ h (mod-lt (1 * 2 ^ b) (pow-pos 32));
-  bits = λ k. ap (λ (x : ℕ). bitAt (bitOr w x) k) (shl-one 32 b l) ∙ bit-or w (2 ^ b) k ∙ ap (bitOr (bitAt w k)) (bit-pow b k) ∙ or-bit (bitAt w k) (eqb k b) (omega arith);
+  bits = λ k. ap (λ (x : ℕ). bitAt (bitOr w x) k) (shl-one 32 b l) ∙ bit-or w (2 ^ b) k ∙ ap (bitOr (bitAt w k)) (bit-pow b k) ∙ or-bit (bitAt w k)
+      (eqb k b) (omega arith);
 }
 
 -- a number is its bits
-packed-bits : (w : ℕ) (f : ℕ → Bool) (n : ℕ) → ((b : ℕ) → b < n → bitAt w b ≡ bit (f b)) → packed f n ≡ w % 2 ^ n
-unfolding packed
+packed-bits : (w : ℕ) (f : ℕ → Bool) (n : ℕ) → ((b : ℕ) → b < n → bitAt w b ≡ bit (f b)) → packedBits f n ≡ w % 2 ^ n
+unfolding packedBits
 packed-bits w f zero h = sym (let z : w % 1 ≡ 0 = omega arith in z)
 packed-bits w f (suc n) h =
     ap₂ (λ (x y : ℕ). x * 2 ^ n + y) (sym (h n (le-refl (suc n)))) (packed-bits w f n (λ b l. h b (le-step l)))
     ∙ sym (mod-pow-add w 1 n) ∙ ap (λ (x : ℕ). w % 2 ^ x) (add-comm 1 n ∙ add-one n)
 
-pub word-bits : (w : ℕ) (f : ℕ → Bool) → w < 2 ^ 32 → ((b : ℕ) → b < 32 → bitAt w b ≡ bit (f b)) → w ≡ packed f 32
+pub word-bits : (w : ℕ) (f : ℕ → Bool) → w < 2 ^ 32 → ((b : ℕ) → b < 32 → bitAt w b ≡ bit (f b)) → w ≡ packedBits f 32
 word-bits w f l h = sym (packed-bits w f 32 h ∙ mod-eq-of-lt l)
 
 -- the bit at which a route lies, as the code works it out
@@ -68,11 +70,12 @@ module _ (m len : ℕ) (low : 4 * m ≤ len) (short : len < 4 * (m + 1)) where
   some = omega (arith, size .0, size .1)
 
   pub inner-place : (addr x : ℕ) → x ≡ slot len addr
-      → ((1 * 2 ^ (len - 4 * m)) % 2 ^ 32 - 1 + bitAnd x ((1 * 2 ^ (len - 4 * m)) % 2 ^ 32 - 1) ≡ placeOf m addr len)
+      → ((1 * 2 ^ (len - 4 * m)) % 2 ^ 32 - 1 + bitAnd x ((1 * 2 ^ (len - 4 * m)) % 2 ^ 32 - 1) ≡ nodeBit m addr len)
       × ((1 * 2 ^ (len - 4 * m)) % 2 ^ 32 - 1 + bitAnd x ((1 * 2 ^ (len - 4 * m)) % 2 ^ 32 - 1) < 32)
-  unfolding placeOf
-  inner-place addr x e = rw (size .0, e, and-mask, lt-ltb len (4 * (m + 1)) short) (refl, omega (arith, size .2, mod-lt (slot len addr) (pow-pos (len - 4 * m))))
+  unfolding nodeBit
+  inner-place addr x e = rw (size .0, e, and-mask, lt-ltb len (4 * (m + 1)) short)
+      (refl, omega (arith, size .2, mod-lt (slot len addr) (pow-pos (len - 4 * m))))
 
-pub outer-place : (m addr len : ℕ) → 4 * (m + 1) ≤ len → (x : ℕ) → x ≡ slot (4 * (m + 1)) addr → (16 + x % 16 ≡ placeOf m addr len) × (16 + x % 16 < 32)
-unfolding placeOf
+pub outer-place : (m addr len : ℕ) → 4 * (m + 1) ≤ len → (x : ℕ) → x ≡ slot (4 * (m + 1)) addr → (16 + x % 16 ≡ nodeBit m addr len) × (16 + x % 16 < 32)
+unfolding nodeBit
 outer-place m addr len long x e = rw (e, le-ltb len (4 * (m + 1)) long) (refl, omega arith)

@@ -2,13 +2,13 @@
 use mathlib.Core.Path.{_≡_, sym, _∙_, ap}
 use mathlib.Core.List.{List}
 use Prim.Native.Nat.{ℕ}
-use Rattle.tree_build.specs.Built.{Out}
+use Rattle.tree_build.specs.Built.{ImageOut}
 use Rattle.tree_build.specs.Contract.{MeetsBuild}
 use Rattle.tree_build.specs.declared.Built.{Built}
-use Rattle.tree_build.proofs.Answers.{saysBuilt-injective}
+use Rattle.tree_build.proofs.BuildReturns.{meansBuilt-injective}
 
 pub one-answer-build : (input words hops : List ℕ) (x y : Built) (ws ws′ hs hs′ : List ℕ)
     → MeetsBuild input words hops x ws hs → MeetsBuild input words hops y ws′ hs′ → (x ≡ y) × (ws ≡ ws′) × (hs ≡ hs′)
 one-answer-build input words hops x y ws ws′ hs hs′ p q =
     let e = p ∙ sym q in
-    (saysBuilt-injective x y (ap (λ (u : Out). u .said) e), ap (λ (u : Out). u .words) e, ap (λ (u : Out). u .hops) e)
+    (meansBuilt-injective x y (ap (λ (u : ImageOut). u .said) e), ap (λ (u : ImageOut). u .words) e, ap (λ (u : ImageOut). u .hops) e)

@@ -1,4 +1,4 @@
--- What the tests of a record say, and the search for the end of a run. Assumes nothing.
+-- What the tests of a record say, and the search for the end of a run.
 use mathlib.Core.Path.{_≡_, refl, sym, _∙_, ap, ap₂}
 use mathlib.Core.Logic.{_⊎_, inl, inr}
 use mathlib.Core.Bool.{Bool, true, false, not}
@@ -13,8 +13,7 @@ use Rattle.bits.specs.Slot.{slot}
 use Rattle.bits.specs.Count.{bit, count}
 use Rattle.routes.specs.Record.{recordAt}
 use Rattle.routes.specs.declared.Route.{Route}
-use Rattle.tree.specs.Image.{through}
-use Rattle.tree_build.specs.Run.{pathAt, throughAt, RunEnd}
+use Rattle.tree_build.specs.NodeRuns.{pathAt, throughAt, RunEnd}
 use Rattle.tree_build.specs.Count.{freshAt, nodesTo}
 
 -- whether a route passes through a node, from its length and its first bits
@@ -87,7 +86,8 @@ module _ (s : List ℕ) (n : ℕ) where
 
   pub depth-counted : (m x y : ℕ) → x ≡ nodesTo s n m → y ≡ count (freshAt s (m + 1)) n → x + y ≡ nodesTo s n (m + 1)
   unfolding nodesTo
-  depth-counted m x y e f = ap₂ (λ (u v : ℕ). u + v) e f ∙ ap (λ (z : ℕ). nodesTo s n m + count (freshAt s z) n) (add-one m) ∙ ap (nodesTo s n) (sym (add-one m))
+  depth-counted m x y e f = ap₂ (λ (u v : ℕ). u + v) e f ∙ ap (λ (z : ℕ). nodesTo s n m + count (freshAt s z) n) (add-one m) ∙ ap (nodesTo s n)
+      (sym (add-one m))
 
   pub depths-counted : (m x : ℕ) → m ≤ 8 → 8 ≤ m → x ≤ 1 + m * 4096 → x ≡ nodesTo s n m → (x ≡ nodesTo s n 8) × (x ≤ 32769)
   depths-counted m x l u h e = let q : m ≡ 8 = omega arith in (rw q at e, omega arith)

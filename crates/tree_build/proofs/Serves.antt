@@ -1,12 +1,12 @@
--- What a build is worth: the image that it leaves serves every address, and a refusal leaves all as it was. Assumes nothing.
+-- What a build is worth: the image that it leaves serves every address, and a refusal leaves all as it was.
 use mathlib.Core.Path.{_≡_, refl, subst}
 use mathlib.Core.Logic.{_⊎_, inl, inr}
 use mathlib.Core.List.{List, [], _∷_}
-use Prim.Native.Nat.{ℕ, _*_, _/_, _^_, _≤_, _<_}
+use Prim.Native.Nat.{ℕ, _/_, _^_, _≤_, _<_}
 use native.Mathlib.Omega.{arith}
 use lib.ListN.{length}
 use borrow.Author.Tests.{lt-ltb, le-ltb}
-use Rattle.bits.proofs.Tests.{below?}
+use Rattle.bits.proofs.Bools.{below?}
 use Rattle.routes.specs.Route.{Good}
 use Rattle.standing.specs.Cells.{best}
 use Rattle.routes.specs.Record.{Records, routesIn}
@@ -16,19 +16,21 @@ use Rattle.routes.specs.declared.Route.{Route}
 use Rattle.routes.specs.Cases.{Checked, ragged, stopped, many, good}
 use Rattle.routes.proofs.Meaning.{input-checked}
 use Rattle.tree.specs.Image.{nodeNeed, onPath}
-use Rattle.tree.specs.Walk.{told, treeSaid}
+use Rattle.tree.specs.Walk.{treeHopSaid, treeSaid}
 use Rattle.tree.proofs.Serves.{image-serves}
 use Rattle.tree_build.specs.Built.{madeOf, afterInput, built}
 use Rattle.tree_build.specs.Cases.{AcceptedBuild}
-use Rattle.tree_build.proofs.Runs.{good-list}
+use Rattle.tree_build.proofs.NodeRuns.{good-list}
 
 made-accepts : (rs : List Route) (ws hs vs : List ℕ) → Good rs → madeOf rs ws hs .said ≡ accepted vs → AcceptedBuild rs ws hs vs (madeOf rs ws hs)
 unfolding madeOf
 made-accepts rs ws hs vs g e = go (below? (length ws / 3) (nodeNeed rs)) (below? (length hs) (length rs))
   where
-    go : (length ws / 3 < nodeNeed rs) ⊎ (nodeNeed rs ≤ length ws / 3) → (length hs < length rs) ⊎ (length rs ≤ length hs) → AcceptedBuild rs ws hs vs (madeOf rs ws hs)
+    go : (length ws / 3 < nodeNeed rs) ⊎ (nodeNeed rs ≤ length ws / 3) → (length hs < length rs) ⊎ (length rs ≤ length hs)
+        → AcceptedBuild rs ws hs vs (madeOf rs ws hs)
     go (inl l) v = absurd (let f : refused 11 ≡ accepted vs = rw (lt-ltb (length ws / 3) (nodeNeed rs) l) at e in let z : _≡_ {A = ℕ} 0 1 = cc in omega arith)
-    go (inr l) (inl v) = absurd (let f : refused 12 ≡ accepted vs = rw (le-ltb (length ws / 3) (nodeNeed rs) l, lt-ltb (length hs) (length rs) v) at e in let z : _≡_ {A = ℕ} 0 1 = cc in omega arith)
+    go (inr l) (inl v) = absurd (let f : refused 12 ≡ accepted vs = rw
+        (le-ltb (length ws / 3) (nodeNeed rs) l, lt-ltb (length hs) (length rs) v) at e in let z : _≡_ {A = ℕ} 0 1 = cc in omega arith)
     go (inr l) (inr v) =
         let f : accepted (nodeNeed rs ∷ length rs ∷ []) ≡ accepted vs = rw (le-ltb (length ws / 3) (nodeNeed rs) l, le-ltb (length hs) (length rs) v) at e in
         record {
@@ -54,7 +56,7 @@ built-accepts s ws hs vs e = go (input-checked s) e
 
 -- every address, after an accepted build: the hop of the longest route that covers it, or no route, told after the nodes on its path
 pub built-serves : (s ws hs vs : List ℕ) (a : ℕ) → built s ws hs .said ≡ accepted vs → a < 2 ^ 32
-    → treeSaid (built s ws hs .words) (built s ws hs .hops) a ≡ told (best (routesIn s) 32 a) (onPath (routesIn s) a)
+    → treeSaid (built s ws hs .words) (built s ws hs .hops) a ≡ treeHopSaid (best (routesIn s) 32 a) (onPath (routesIn s) a)
 built-serves s ws hs vs a e l =
     let k = built-accepts s ws hs vs e in
     rw (k .words, k .hops) (image-serves (routesIn s) (length ws) (length hs) a (k .good-routes) l (k .nodes-room) (k .hops-room))
@@ -64,11 +66,13 @@ pub refused-leaves : (s ws hs : List ℕ) → ((vs : List ℕ) → built s ws hs
 unfolding built madeOf
 refused-leaves s ws hs n = go (inputSaid s) n
   where
-    made : ((vs : List ℕ) → madeOf (routesIn s) ws hs .said ≡ accepted vs → ⊥) → (length ws / 3 < nodeNeed (routesIn s)) ⊎ (nodeNeed (routesIn s) ≤ length ws / 3) → (length hs < length (routesIn s)) ⊎ (length (routesIn s) ≤ length hs)
+    made : ((vs : List ℕ) → madeOf (routesIn s) ws hs .said ≡ accepted vs → ⊥) → (length ws / 3 < nodeNeed (routesIn s)) ⊎
+        (nodeNeed (routesIn s) ≤ length ws / 3) → (length hs < length (routesIn s)) ⊎ (length (routesIn s) ≤ length hs)
         → (madeOf (routesIn s) ws hs .words ≡ ws) × (madeOf (routesIn s) ws hs .hops ≡ hs)
     made k (inl l) v = rw (lt-ltb (length ws / 3) (nodeNeed (routesIn s)) l) (refl, refl)
     made k (inr l) (inl v) = rw (le-ltb (length ws / 3) (nodeNeed (routesIn s)) l, lt-ltb (length hs) (length (routesIn s)) v) (refl, refl)
-    made k (inr l) (inr v) = absurd (k (nodeNeed (routesIn s) ∷ length (routesIn s) ∷ []) (rw (le-ltb (length ws / 3) (nodeNeed (routesIn s)) l, le-ltb (length hs) (length (routesIn s)) v) refl))
+    made k (inr l) (inr v) = absurd (k (nodeNeed (routesIn s) ∷ length (routesIn s) ∷ [])
+        (rw (le-ltb (length ws / 3) (nodeNeed (routesIn s)) l, le-ltb (length hs) (length (routesIn s)) v) refl))
 
     go : (x : Said) → ((vs : List ℕ) → afterInput x s ws hs .said ≡ accepted vs → ⊥) → (afterInput x s ws hs .words ≡ ws) × (afterInput x s ws hs .hops ≡ hs)
     go (accepted vs) k = made k (below? (length ws / 3) (nodeNeed (routesIn s))) (below? (length hs) (length (routesIn s)))

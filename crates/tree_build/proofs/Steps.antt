@@ -1,4 +1,4 @@
--- One step of the queue: the node at its head is made, its hops are put, and its children wait at its end. Assumes nothing.
+-- One step of the queue: the node at its head is made, its hops are put, and its children wait at its end.
 use mathlib.Core.Path.{_≡_, refl, sym, _∙_, ap, ap₂, subst}
 use mathlib.Core.Logic.{_⊎_, inl, inr}
 use mathlib.Core.Bool.{true, false}
@@ -9,9 +9,9 @@ use native.Mathlib.Omega.{arith}
 use lib.Count.{ones}
 use lib.ListN.{length, getD}
 use Rattle.bits.specs.Count.{count}
-use Rattle.bits.proofs.Tests.{below?}
+use Rattle.bits.proofs.Bools.{below?}
 use Rattle.routes.specs.Record.{Records, routesIn}
-use Rattle.tree.specs.Parts.{before, gather}
+use Rattle.tree.specs.Parts.{gather}
 use Rattle.tree.specs.Image.{Node, node, bitHop, inner, child, kids, hopsOf, hops}
 use Rattle.tree.specs.Image as image
 use Rattle.tree.specs.Done.{Done}
@@ -20,10 +20,10 @@ use Rattle.tree.proofs.Parts.{picked-length, before-next, before-le, before-mon
 use Rattle.tree.proofs.Nodes.{nodes-fix, depth-lt}
 use Rattle.tree.proofs.Holds.{child-place}
 use Rattle.tree.proofs.Serves.{agree}
-use Rattle.tree_build.specs.Run.{standsIn, hopIn, pathAt, nodeAt, Run, NodeRun, innerIn, childIn, wordIn}
-use Rattle.tree_build.specs.Queue.{put3, Waits, HopsReady, HopsPut, KidsReady, KidsPut, nodesIn, nodeIn, kidsBefore, hopsBefore, State, Next}
+use Rattle.tree_build.specs.NodeRuns.{standsIn, hopIn, pathAt, nodeAt, ThroughRun, NodeRun, innerIn, childIn, wordIn}
+use Rattle.tree_build.specs.Queue.{put3, Waits, HopsReady, HopsPut, KidsReady, KidsPut, nodesIn, nodeIn, kidsBefore, hopsBefore, State, NodeWaits}
 use Rattle.tree_build.proofs.Stores.{put3-length, put3-other, put3-at}
-use Rattle.tree_build.proofs.Runs.{good-list}
+use Rattle.tree_build.proofs.NodeRuns.{good-list}
 use Rattle.tree_build.proofs.Hops.{inner-ones, child-ones}
 use Rattle.tree_build.proofs.Kids.{waits-still}
 
@@ -54,7 +54,7 @@ hop-le : (s : List ℕ) (i : ℕ) → hopsBefore s i ≤ length (hops (standsIn 
 hop-le s i = omega (arith, before-le (hopsOf (hopIn s)) (nodesIn s) i, hops-are s)
 
 -- the state with a node that waits
-pub state-waits : (s ws hs : List ℕ) (i t h : ℕ) → State s ws hs i t h → i < t → Next s ws hs i t h
+pub state-waits : (s ws hs : List ℕ) (i t h : ℕ) → State s ws hs i t h → i < t → NodeWaits s ws hs i t h
 state-waits s ws hs i t h now l =
     let room = now .room in
     let le = tail-le s (room .records) i in
@@ -66,7 +66,7 @@ state-waits s ws hs i t h now l =
       hop-fits = omega (arith, room .hops-fit, hop-le s i, now .hop);
     }
 
-module _ (s ws hs : List ℕ) (i t h : ℕ) (next : Next s ws hs i t h) where
+module _ (s ws hs : List ℕ) (i t h : ℕ) (next : NodeWaits s ws hs i t h) where
   now : State s ws hs i t h
   now = next .now
 
@@ -94,18 +94,23 @@ module _ (s ws hs : List ℕ) (i t h : ℕ) (next : Next s ws hs i t h) where
     node-run =
         let qp : nodeIn s i .path ≡ pathAt s m a = ap (λ (n : Node). n .path) node-is in
         let qe : w .stop ≡ e = sym (ee ∙ w .upto) in
-        let r : Run s (nodeIn s i .depth) (nodeIn s i .path) (w .start) (w .stop) = w .run in
+        let r : ThroughRun s (nodeIn s i .depth) (nodeIn s i .path) (w .start) (w .stop) = w .run in
         record {
           records = good;
           deep = omega (arith, depth-lt (standsIn s) 9 i (node 0 0) here, qm);
-          run = subst (λ (x : ℕ). Run s m (pathAt s m a) a x) qe (subst (λ (x : ℕ). Run s m (pathAt s m a) x (w .stop)) qa (subst (λ (x : ℕ). Run s m x (w .start) (w .stop)) qp (subst (λ (x : ℕ). Run s x (nodeIn s i .path) (w .start) (w .stop)) qm r)));
+          run = subst (λ (x : ℕ). ThroughRun s m (pathAt s m a) a x) qe
+              (subst (λ (x : ℕ). ThroughRun s m (pathAt s m a) x (w .stop)) qa
+              (subst (λ (x : ℕ). ThroughRun s m x (w .start) (w .stop)) qp
+              (subst (λ (x : ℕ). ThroughRun s x (nodeIn s i .path) (w .start) (w .stop)) qm r)));
         }
 
     kids-next : kidsBefore s (i + 1) ≡ kidsBefore s i + count (childIn s m a) 16
-    kids-next = before-next (kids (standsIn s)) (nodesIn s) i (node 0 0) here ∙ ap (λ (x : ℕ). kidsBefore s i + x) (kids-count s (nodeIn s i) ∙ ap (λ (n : Node). count (child (standsIn s) n) 16) node-is)
+    kids-next = before-next (kids (standsIn s)) (nodesIn s) i (node 0 0) here ∙ ap (λ (x : ℕ). kidsBefore s i + x)
+        (kids-count s (nodeIn s i) ∙ ap (λ (n : Node). count (child (standsIn s) n) 16) node-is)
 
     hops-next : hopsBefore s (i + 1) ≡ hopsBefore s i + count (innerIn s m a) 15
-    hops-next = before-next (hopsOf (hopIn s)) (nodesIn s) i (node 0 0) here ∙ ap (λ (x : ℕ). hopsBefore s i + x) (hops-count s (nodeIn s i) ∙ ap (λ (n : Node). count (inner (hopIn s) n) 15) node-is)
+    hops-next = before-next (hopsOf (hopIn s)) (nodesIn s) i (node 0 0) here ∙ ap (λ (x : ℕ). hopsBefore s i + x)
+        (hops-count s (nodeIn s i) ∙ ap (λ (n : Node). count (inner (hopIn s) n) 15) node-is)
 
     module _ (word : ℕ) (ew : word ≡ wordIn s m a) where
       pub hops-ready : HopsReady s m a e word h hs
@@ -118,7 +123,8 @@ module _ (s ws hs : List ℕ) (i t h : ℕ) (next : Next s ws hs i t h) where
         pub node-room : 3 * i + 3 ≤ length ws₁
         node-room = omega (arith, next .whole, K .same)
 
-        module _ (t₁ h₁ : ℕ) (et : t₁ ≡ t) (eh : h₁ ≡ h) (ws′ : List ℕ) (eq : ws′ ≡ put3 ws₁ i word t₁ h₁) (t′ h′ : ℕ) (et′ : t′ ≡ ones (word / 2 ^ 16 % 2 ^ 16)) (eh′ : h′ ≡ ones (word % 2 ^ 15)) where
+        module _ (t₁ h₁ : ℕ) (et : t₁ ≡ t) (eh : h₁ ≡ h) (ws′ : List ℕ) (eq : ws′ ≡ put3 ws₁ i word t₁ h₁) (t′ h′ : ℕ)
+            (et′ : t′ ≡ ones (word / 2 ^ 16 % 2 ^ 16)) (eh′ : h′ ≡ ones (word % 2 ^ 15)) where
           more-kids : t′ ≡ count (childIn s m a) 16
           more-kids = et′ ∙ ap (λ (x : ℕ). ones (x / 2 ^ 16 % 2 ^ 16)) ew ∙ child-ones s m a 16 (omega arith)
 
@@ -148,7 +154,8 @@ module _ (s ws hs : List ℕ) (i t h : ℕ) (next : Next s ws hs i t h) where
                 bits = at .0 ∙ ew ∙ ap (image.word (standsIn s) (hopIn s)) (sym node-is);
                 child = at .1 ∙ et ∙ now .tail;
                 base = at .2 ∙ eh ∙ now .hop;
-                put = subst (λ (n : Node). (b : ℕ) → b < 15 → inner (hopIn s) n b ≡ true → getD hs′ (hopsBefore s i + count (inner (hopIn s) n) b) 0 ≡ bitHop (hopIn s) n b) (sym node-is)
+                put = subst (λ (n : Node). (b : ℕ) → b < 15 → inner (hopIn s) n b ≡ true → getD hs′ (hopsBefore s i + count (inner (hopIn s) n) b) 0
+                    ≡ bitHop (hopIn s) n b) (sym node-is)
                     (λ b lb o. ap (λ (y : ℕ). getD hs′ (y + count (innerIn s m a) b) 0) (sym (now .hop)) ∙ H .put b lb o);
               }
           done-next x (inr u) =
@@ -161,7 +168,8 @@ module _ (s ws hs : List ℕ) (i t h : ℕ) (next : Next s ws hs i t h) where
               }
 
           wait-next : (x : ℕ) → i + 1 ≤ x → x < t + t′ → (x < t) ⊎ (t ≤ x) → Waits s ws′ x (nodeIn s x)
-          wait-next x l u (inl v) = waits-still s ws ws′ x (nodeIn s x) (λ j p q. far j (inr (omega arith)) ∙ K .below j (omega arith)) (now .wait x (omega arith) v)
+          wait-next x l u (inl v) = waits-still s ws ws′ x (nodeIn s x) (λ j p q. far j (inr (omega arith)) ∙ K .below j (omega arith))
+              (now .wait x (omega arith) v)
           wait-next x l u (inr v) =
               let r = count-hit (childIn s m a) 16 (x - t) (omega (arith, more-kids)) in
               let g = child-place (standsIn s) (nine s good) i (nodeAt s m a) (r .0) here node-is (r .1) (r .2) in

@@ -1,28 +1,12 @@
--- Stores to the words: zeros, and the three words of a node. Assumes nothing.
-use mathlib.Core.Path.{_≡_, sym, _∙_}
+-- The three words of a node stored: what stands in their places, and that nothing else changes.
+use mathlib.Core.Path.{_≡_, _∙_}
 use mathlib.Core.Logic.{_⊎_, inl, inr}
 use mathlib.Core.List.{List}
 use Prim.Native.Nat.{ℕ, _+_, _*_, _≤_, _<_}
-use native.Mathlib.Nat.{eq-or-lt-of-le}
 use native.Mathlib.Omega.{arith}
-use lib.ListN.{length, getD, set, replicate, length-set, length-replicate}
-use lib.Seq.{ext-getD, getD-set-same, getD-set-other}
-use Rattle.tree.proofs.Holds.{zeros}
+use lib.ListN.{length, getD, set, length-set}
+use lib.Seq.{getD-set-same, getD-set-other}
 use Rattle.tree_build.specs.Queue.{put3}
-
--- zeros up to k
-abbrev pub ZerosTo : List ℕ → ℕ → Type 0
-ZerosTo ys k = (j : ℕ) → j < k → getD ys j 0 ≡ 0
-
-pub zeros-more : (ys : List ℕ) (k : ℕ) → k < length ys → ZerosTo ys k → ZerosTo (set ys k 0) (k + 1)
-zeros-more ys k l h j u = go (eq-or-lt-of-le {n = j} {m = k} (omega arith))
-  where
-    go : (j ≡ k) ⊎ (j < k) → getD (set ys k 0) j 0 ≡ 0
-    go (inl q) = rw q (getD-set-same ys k 0 0 l)
-    go (inr v) = getD-set-other ys k j 0 0 (λ (q : j ≡ k). omega arith) ∙ h j v
-
-pub zeros-all : (n k : ℕ) (ys : List ℕ) → length ys ≡ n → n ≤ k → ZerosTo ys k → ys ≡ replicate n 0
-zeros-all n k ys e l h = ext-getD 0 ys (replicate n 0) (e ∙ sym (length-replicate n 0)) (λ j u. h j (omega arith) ∙ sym (zeros n j))
 
 -- three words
 module _ (ws : List ℕ) (x a b d : ℕ) where
@@ -39,7 +23,8 @@ module _ (ws : List ℕ) (x a b d : ℕ) where
       far (inl l) y u q = omega arith
       far (inr l) y u q = omega arith
 
-  pub put3-at : 3 * x + 3 ≤ length ws → (getD (put3 ws x a b d) (3 * x) 0 ≡ a) × (getD (put3 ws x a b d) (3 * x + 1) 0 ≡ b) × (getD (put3 ws x a b d) (3 * x + 2) 0 ≡ d)
+  pub put3-at : 3 * x + 3 ≤ length ws → (getD (put3 ws x a b d) (3 * x) 0 ≡ a) × (getD (put3 ws x a b d) (3 * x + 1) 0 ≡ b) ×
+      (getD (put3 ws x a b d) (3 * x + 2) 0 ≡ d)
   put3-at r = (
     getD-set-other (set (set ws (3 * x) a) (3 * x + 1) b) (3 * x + 2) (3 * x) d 0 (λ (q : 3 * x ≡ 3 * x + 2). omega arith)
         ∙ getD-set-other (set ws (3 * x) a) (3 * x + 1) (3 * x) b 0 (λ (q : 3 * x ≡ 3 * x + 1). omega arith)

@@ -1,4 +1,4 @@
--- The word of a node has exactly the bits at which the records of its run lie. Assumes nothing.
+-- The word of a node has exactly the bits at which the records of its run lie.
 use mathlib.Core.Path.{_≡_, sym, _∙_, ap, subst}
 use mathlib.Core.Logic.{_⊎_, inl, inr}
 use mathlib.Core.Bool.{Bool, true, false, cond, true≢false, false≢true}
@@ -12,22 +12,22 @@ use lib.ListN.{length}
 use borrow.Author.Tests.{lt-ltb, le-ltb, ltb-true, eq-eqb, eqb-true}
 use Rattle.bits.specs.Bit.{bitAt}
 use Rattle.bits.specs.Count.{bit}
-use Rattle.bits.proofs.Tests.{decided, below?}
+use Rattle.bits.proofs.Bools.{decided, below?}
 use Rattle.routes.specs.Record.{recordAt}
 use Rattle.routes.specs.declared.Route.{Route}
-use Rattle.tree.specs.Image.{node, bitHop, child, setBit, word}
+use Rattle.tree.specs.Image.{bitHop, setBit, word}
 use Rattle.tree.proofs.Nodes.{set-inner, set-child}
 use Rattle.tree.proofs.Lies.{pass-parts, up-pass, kidOf, kid-at, kid-is, bitOf, bit-at, bit-pass, bit-is}
-use Rattle.tree_build.specs.Run.{standsIn, hopIn, pathAt, nodeAt, NodeRun, placeOf, placeAt, WithBit, innerIn, childIn, wordIn}
+use Rattle.tree_build.specs.NodeRuns.{standsIn, hopIn, pathAt, nodeAt, NodeRun, nodeBit, nodeBitAt, WithBit, innerIn, childIn, wordIn}
 use Rattle.tree_build.proofs.Marks.{word-bits}
-use Rattle.tree_build.proofs.Runs.{stands-at, stands-by, hop-at, hop-by, short}
+use Rattle.tree_build.proofs.NodeRuns.{stands-at, stands-by, hop-at, hop-by, short}
 
-place-inner : (m addr len : ℕ) → len < 4 * (m + 1) → placeOf m addr len ≡ 2 ^ (len - 4 * m) - 1 + addr / 2 ^ (32 - len) % 2 ^ (len - 4 * m)
-unfolding placeOf
+place-inner : (m addr len : ℕ) → len < 4 * (m + 1) → nodeBit m addr len ≡ 2 ^ (len - 4 * m) - 1 + addr / 2 ^ (32 - len) % 2 ^ (len - 4 * m)
+unfolding nodeBit
 place-inner m addr len l = rw (lt-ltb len (4 * (m + 1)) l)
 
-place-outer : (m addr len : ℕ) → 4 * (m + 1) ≤ len → placeOf m addr len ≡ 16 + addr / 2 ^ (32 - 4 * (m + 1)) % 16
-unfolding placeOf
+place-outer : (m addr len : ℕ) → 4 * (m + 1) ≤ len → nodeBit m addr len ≡ 16 + addr / 2 ^ (32 - 4 * (m + 1)) % 16
+unfolding nodeBit
 place-outer m addr len l = rw (le-ltb len (4 * (m + 1)) l)
 
 module _ (s : List ℕ) (m a e : ℕ) (its : NodeRun s m a e) where
@@ -42,7 +42,8 @@ module _ (s : List ℕ) (m a e : ℕ) (its : NodeRun s m a e) where
 
   -- a record that ends in the node: its bit, and the hop there
   pub own-bit : (x : ℕ) → a ≤ x → x < e → recordAt s x .len < 4 * (m + 1)
-      → (bitOf m (recordAt s x) < 15) × (placeAt s m x ≡ bitOf m (recordAt s x)) × (bitHop (hopIn s) (nodeAt s m a) (bitOf m (recordAt s x)) ≡ recordAt s x .hop) × (innerIn s m a (bitOf m (recordAt s x)) ≡ true)
+      → (bitOf m (recordAt s x) < 15) × (nodeBitAt s m x ≡ bitOf m (recordAt s x)) ×
+      (bitHop (hopIn s) (nodeAt s m a) (bitOf m (recordAt s x)) ≡ recordAt s x .hop) × (innerIn s m a (bitOf m (recordAt s x)) ≡ true)
   unfolding bitHop
   own-bit x l u w =
       let k = bit-at m p (recordAt s x) (short s (its .records) x (inside x u)) (its .run .inside x l u) w in
@@ -64,7 +65,8 @@ module _ (s : List ℕ) (m a e : ℕ) (its : NodeRun s m a e) where
 
   -- a longer record: its child
   pub own-kid : (x : ℕ) → a ≤ x → x < e → 4 * (m + 1) ≤ recordAt s x .len
-      → (placeAt s m x ≡ 16 + kidOf m (recordAt s x)) × (pathAt s (m + 1) x ≡ p * 16 + kidOf m (recordAt s x)) × (childIn s m a (kidOf m (recordAt s x)) ≡ true)
+      → (nodeBitAt s m x ≡ 16 + kidOf m (recordAt s x)) × (pathAt s (m + 1) x ≡ p * 16 + kidOf m (recordAt s x)) ×
+      (childIn s m a (kidOf m (recordAt s x)) ≡ true)
   own-kid x l u w =
       let t = kid-at m p (recordAt s x) (short s (its .records) x (inside x u)) (its .run .inside x l u) w in (
         place-outer m (recordAt s x .addr) (recordAt s x .len) w,
@@ -80,19 +82,19 @@ module _ (s : List ℕ) (m a e : ℕ) (its : NodeRun s m a e) where
       (f .0, i .0, i .1, pass-parts (m + 1) (p * 16 + c) (recordAt s (f .0)) (f .2) .0, kid-is m p c (recordAt s (f .0)) l (f .2))
 
   -- where a record lies a bit is set
-  set-here : (x : ℕ) → a ≤ x → x < e → test (placeAt s m x) ≡ true
+  set-here : (x : ℕ) → a ≤ x → x < e → test (nodeBitAt s m x) ≡ true
   set-here x l u = go (below? (recordAt s x .len) (4 * (m + 1)))
     where
-      go : (recordAt s x .len < 4 * (m + 1)) ⊎ (4 * (m + 1) ≤ recordAt s x .len) → test (placeAt s m x) ≡ true
+      go : (recordAt s x .len < 4 * (m + 1)) ⊎ (4 * (m + 1) ≤ recordAt s x .len) → test (nodeBitAt s m x) ≡ true
       go (inl w) = let k = own-bit x l u w in ap test (k .1) ∙ set-inner (standsIn s) (hopIn s) (nodeAt s m a) (bitOf m (recordAt s x)) (k .0) ∙ k .3
       go (inr w) = let k = own-kid x l u w in ap test (k .0) ∙ set-child (standsIn s) (hopIn s) (nodeAt s m a) (kidOf m (recordAt s x)) ∙ k .2
 
   -- and no other is
-  set-by : (b : ℕ) → b < 32 → test b ≡ true → (x : ℕ) × (a ≤ x) × (x < e) × (placeAt s m x ≡ b)
+  set-by : (b : ℕ) → b < 32 → test b ≡ true → (x : ℕ) × (a ≤ x) × (x < e) × (nodeBitAt s m x ≡ b)
   unfolding setBit
   set-by b l o = go (below? b 15) (below? b 16)
     where
-      go : (b < 15) ⊎ (15 ≤ b) → (b < 16) ⊎ (16 ≤ b) → (x : ℕ) × (a ≤ x) × (x < e) × (placeAt s m x ≡ b)
+      go : (b < 15) ⊎ (15 ≤ b) → (b < 16) ⊎ (16 ≤ b) → (x : ℕ) × (a ≤ x) × (x < e) × (nodeBitAt s m x ≡ b)
       go (inl u) v =
           let f = bit-own b u (rw (lt-ltb b 15 u) at o) in
           (f .0, f .1, f .2, own-bit (f .0) (f .1) (f .2) (f .3) .1 ∙ sym (f .4))
@@ -112,14 +114,14 @@ module _ (s : List ℕ) (m k : ℕ) (r : Route) (is : r ≡ recordAt s k) (w : �
   pub its-high : (a e : ℕ) → NodeRun s m a e → k < e → w ≤ 32
   its-high a e its u = omega (arith, the-len, short s (its .records) k (omega (arith, its .run .last)))
 
-  pub its-place : (b : ℕ) → b ≡ placeOf m (r .addr) w → b ≡ placeAt s m k
+  pub its-place : (b : ℕ) → b ≡ nodeBit m (r .addr) w → b ≡ nodeBitAt s m k
   its-place b e = e ∙ rw (ew, is)
 
 -- the bits of the records from a up to k are set
 pub record MarksTo (s : List ℕ) (m a k w : ℕ) : Type 0 where
   pub fits : w < 2 ^ 32
-  pub put : (x : ℕ) → a ≤ x → x < k → bitAt w (placeAt s m x) ≡ 1
-  pub only : (b : ℕ) → bitAt w b ≡ 1 → (x : ℕ) × (a ≤ x) × (x < k) × (placeAt s m x ≡ b)
+  pub put : (x : ℕ) → a ≤ x → x < k → bitAt w (nodeBitAt s m x) ≡ 1
+  pub only : (b : ℕ) → bitAt w b ≡ 1 → (x : ℕ) × (a ≤ x) × (x < k) × (nodeBitAt s m x ≡ b)
 
 pub marks-none : (s : List ℕ) (m a : ℕ) → MarksTo s m a a 0
 marks-none s m a = record {
@@ -128,31 +130,35 @@ marks-none s m a = record {
   only = λ b o. let z : 0 / 2 ^ b ≡ 0 = div-eq-of-lt (pow-pos b) in absurd (omega arith);
 }
 
-pub marks-more : (s : List ℕ) (m a k word b v : ℕ) (r : Route) (w : ℕ) → MarksTo s m a k word → a ≤ k → r ≡ recordAt s k → w ≡ r .len → b ≡ placeOf m (r .addr) w → WithBit word b v → MarksTo s m a (k + 1) v
+pub marks-more : (s : List ℕ) (m a k word b v : ℕ) (r : Route) (w : ℕ) → MarksTo s m a k word → a ≤ k → r ≡ recordAt s k → w ≡ r .len → b ≡ nodeBit m
+    (r .addr) w → WithBit word b v → MarksTo s m a (k + 1) v
 marks-more s m a k word b v r w h l is ew eb n = record {
   fits = n .fits;
-  put = λ x u v. n .bits (placeAt s m x) ∙ put x u (eq-or-lt-of-le {n = x} {m = k} (omega arith)) (decided (eqb (placeAt s m x) b));
+  put = λ x u v. n .bits (nodeBitAt s m x) ∙ put x u (eq-or-lt-of-le {n = x} {m = k} (omega arith)) (decided (eqb (nodeBitAt s m x) b));
   only = λ c o. only c (sym (n .bits c) ∙ o) (decided (eqb c b));
 }
   where
-    e : b ≡ placeAt s m k
+    e : b ≡ nodeBitAt s m k
     e = its-place s m k r is w ew b eb
 
-    put : (x : ℕ) → a ≤ x → (x ≡ k) ⊎ (x < k) → (eqb (placeAt s m x) b ≡ true) ⊎ (eqb (placeAt s m x) b ≡ false) → cond (eqb (placeAt s m x) b) 1 (bitAt word (placeAt s m x)) ≡ 1
+    put : (x : ℕ) → a ≤ x → (x ≡ k) ⊎ (x < k) → (eqb (nodeBitAt s m x) b ≡ true) ⊎ (eqb (nodeBitAt s m x) b ≡ false) → cond
+        (eqb (nodeBitAt s m x) b) 1 (bitAt word (nodeBitAt s m x)) ≡ 1
     put x u v (inl t) = rw t
     put x u (inr v) (inr t) = rw t (h .put x u v)
-    put x u (inl q) (inr t) = absurd (true≢false (sym (eq-eqb (placeAt s m x) b (ap (placeAt s m) q ∙ sym e)) ∙ t))
+    put x u (inl q) (inr t) = absurd (true≢false (sym (eq-eqb (nodeBitAt s m x) b (ap (nodeBitAt s m) q ∙ sym e)) ∙ t))
 
-    only : (c : ℕ) → cond (eqb c b) 1 (bitAt word c) ≡ 1 → (eqb c b ≡ true) ⊎ (eqb c b ≡ false) → (x : ℕ) × (a ≤ x) × (x < k + 1) × (placeAt s m x ≡ c)
+    only : (c : ℕ) → cond (eqb c b) 1 (bitAt word c) ≡ 1 → (eqb c b ≡ true) ⊎ (eqb c b ≡ false) → (x : ℕ) × (a ≤ x) × (x < k + 1) × (nodeBitAt s m x ≡ c)
     only c o (inl t) = (k, l, omega arith, sym e ∙ sym (eqb-true c b t))
     only c o (inr t) = let f = h .only c (rw t at o) in (f .0, f .1, omega (arith, f .2), f .3)
 
 pub marks-word : (s : List ℕ) (m a e k w : ℕ) → NodeRun s m a e → k ≤ e → e ≤ k → MarksTo s m a k w → w ≡ wordIn s m a
 unfolding word
 marks-word s m a e k w its l u h =
-    word-bits w (setBit (standsIn s) (hopIn s) (nodeAt s m a)) (h .fits) (λ b v. go b v (decided (setBit (standsIn s) (hopIn s) (nodeAt s m a) b)) (below? (bitAt w b) 1))
+    word-bits w (setBit (standsIn s) (hopIn s) (nodeAt s m a)) (h .fits)
+    (λ b v. go b v (decided (setBit (standsIn s) (hopIn s) (nodeAt s m a) b)) (below? (bitAt w b) 1))
   where
-    go : (b : ℕ) → b < 32 → (setBit (standsIn s) (hopIn s) (nodeAt s m a) b ≡ true) ⊎ (setBit (standsIn s) (hopIn s) (nodeAt s m a) b ≡ false) → (bitAt w b < 1) ⊎ (1 ≤ bitAt w b)
+    go : (b : ℕ) → b < 32 → (setBit (standsIn s) (hopIn s) (nodeAt s m a) b ≡ true) ⊎ (setBit (standsIn s) (hopIn s) (nodeAt s m a) b ≡ false) →
+        (bitAt w b < 1) ⊎ (1 ≤ bitAt w b)
         → bitAt w b ≡ bit (setBit (standsIn s) (hopIn s) (nodeAt s m a) b)
     go b v (inl t) o =
         let f = set-by s m a e its b v t in

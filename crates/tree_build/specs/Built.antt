@@ -1,4 +1,4 @@
--- What a build answers, and what the two arrays then hold. Assumes nothing.
+-- What a build answers, and what the two arrays then hold.
 use mathlib.Core.Bool.{cond}
 use mathlib.Core.List.{List, [], _∷_}
 use Prim.Native.Nat.{ℕ, _/_}
@@ -13,33 +13,33 @@ use Rattle.tree_build.specs.declared.Built.{Built}
 use Rattle.tree_build.specs.declared.Built.the-variants.{Made, RefusedAt, Refused}
 
 -- document 01's number and values for each answer: the nodes and the hops used
-unfoldable pub saysBuilt : Built → Said
-saysBuilt (Made nodes hops) = accepted (nodes ∷ hops ∷ [])
-saysBuilt (RefusedAt f k) = refusedAt f k
-saysBuilt (Refused f) = refused f
+unfoldable pub meansBuilt : Built → Said
+meansBuilt (Made nodes hops) = accepted (nodes ∷ hops ∷ [])
+meansBuilt (RefusedAt f k) = refusedAt f k
+meansBuilt (Refused f) = refused f
 
 -- what is told, and what the words and the hops are at the end
-pub record Out : Type 0 where
+pub record ImageOut : Type 0 where
   pub said : Said
   pub words : List ℕ
   pub hops : List ℕ
 
-abbrev pub out : Said → List ℕ → List ℕ → Out
-out x ws hs = record { said = x; words = ws; hops = hs }
+abbrev pub imageOut : Said → List ℕ → List ℕ → ImageOut
+imageOut x ws hs = record { said = x; words = ws; hops = hs }
 
 -- good routes into the words ws and the hops hs: 11 for too few whole nodes, 12 for too few hops, and the arrays as they were;
 -- otherwise the image in arrays of these sizes
-unfoldable pub madeOf : List Route → List ℕ → List ℕ → Out
+unfoldable pub madeOf : List Route → List ℕ → List ℕ → ImageOut
 madeOf rs ws hs =
-    cond (ltb (length ws / 3) (nodeNeed rs)) (out (refused 11) ws hs)
-    (cond (ltb (length hs) (length rs)) (out (refused 12) ws hs)
-    (out (accepted (nodeNeed rs ∷ length rs ∷ [])) (imageOf rs (length ws) (length hs) .words) (imageOf rs (length ws) (length hs) .hops)))
+    cond (ltb (length ws / 3) (nodeNeed rs)) (imageOut (refused 11) ws hs)
+    (cond (ltb (length hs) (length rs)) (imageOut (refused 12) ws hs)
+    (imageOut (accepted (nodeNeed rs ∷ length rs ∷ [])) (imageOf rs (length ws) (length hs) .words) (imageOf rs (length ws) (length hs) .hops)))
 
 -- the input's refusals come first, and leave the arrays as they were
-abbrev pub afterInput : Said → List ℕ → List ℕ → List ℕ → Out
+abbrev pub afterInput : Said → List ℕ → List ℕ → List ℕ → ImageOut
 afterInput (accepted vs) s ws hs = madeOf (routesIn s) ws hs
-afterInput (refused n) s ws hs = out (refused n) ws hs
-afterInput (refusedAt n k) s ws hs = out (refusedAt n k) ws hs
+afterInput (refused n) s ws hs = imageOut (refused n) ws hs
+afterInput (refusedAt n k) s ws hs = imageOut (refusedAt n k) ws hs
 
-unfoldable pub built : List ℕ → List ℕ → List ℕ → Out
+unfoldable pub built : List ℕ → List ℕ → List ℕ → ImageOut
 built s ws hs = afterInput (inputSaid s) s ws hs

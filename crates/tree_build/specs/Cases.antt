@@ -10,17 +10,18 @@ use Rattle.routes.specs.Cases.{BadInput, Passes}
 use Rattle.routes.specs.Said.{Said, accepted, refused}
 use Rattle.routes.specs.declared.Route.{Route}
 use Rattle.tree.specs.Image.{imageOf, nodeNeed}
-use Rattle.tree_build.specs.Built.{Out}
+use Rattle.tree_build.specs.Built.{ImageOut}
 
 -- the input's with its index, 6, 11, 12
 pub data Build (s ws hs : List ℕ) : Said → Type 0 where
   bad-input : (x : Said) → BadInput s x → Build s ws hs x
   few-nodes : (n : ℕ) → Passes s n → length ws / 3 < nodeNeed (routesIn s) → Build s ws hs (refused 11)
   few-hops : (n : ℕ) → Passes s n → nodeNeed (routesIn s) ≤ length ws / 3 → length hs < length (routesIn s) → Build s ws hs (refused 12)
-  done : (n : ℕ) → Passes s n → nodeNeed (routesIn s) ≤ length ws / 3 → length (routesIn s) ≤ length hs → Build s ws hs (accepted (nodeNeed (routesIn s) ∷ length (routesIn s) ∷ []))
+  done : (n : ℕ) → Passes s n → nodeNeed (routesIn s) ≤ length ws / 3 → length (routesIn s) ≤ length hs → Build s ws hs
+      (accepted (nodeNeed (routesIn s) ∷ length (routesIn s) ∷ []))
 
 -- an accepted build of these routes: they are good, there is room, and the arrays hold their image
-pub record AcceptedBuild (rs : List Route) (ws hs vs : List ℕ) (o : Out) : Type 0 where
+pub record AcceptedBuild (rs : List Route) (ws hs vs : List ℕ) (o : ImageOut) : Type 0 where
   pub good-routes : Good rs
   pub values : vs ≡ nodeNeed rs ∷ length rs ∷ []
   pub nodes-room : 3 * nodeNeed rs ≤ length ws

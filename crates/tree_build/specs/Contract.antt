@@ -3,8 +3,8 @@
 use mathlib.Core.List.{List}
 use mathlib.Core.Path.{_≡_}
 use Prim.Native.Nat.{ℕ}
-use Rattle.tree_build.specs.Built.{saysBuilt, out, built}
+use Rattle.tree_build.specs.Built.{meansBuilt, imageOut, built}
 use Rattle.tree_build.specs.declared.Built.{Built}
 
 abbrev pub MeetsBuild : List ℕ → List ℕ → List ℕ → Built → List ℕ → List ℕ → Type 0
-MeetsBuild input words hops r ws hs = out (saysBuilt r) ws hs ≡ built input words hops
+MeetsBuild input words hops r ws hs = imageOut (meansBuilt r) ws hs ≡ built input words hops

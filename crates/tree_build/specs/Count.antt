@@ -1,11 +1,11 @@
--- How many nodes the records of an input need, counted record by record. Assumes nothing.
+-- How many nodes the records of an input need, counted record by record.
 use mathlib.Core.Bool.{Bool, true, not, cond, _&&_}
 use mathlib.Core.List.{List}
 use Prim.Native.Nat.{ℕ, zero, suc, _+_, _-_, _*_}
 use lib.Dec.{leb, eqb}
 use Rattle.bits.specs.Count.{count}
 use Rattle.routes.specs.Record.{recordAt}
-use Rattle.tree_build.specs.Run.{pathAt, throughAt}
+use Rattle.tree_build.specs.NodeRuns.{pathAt, throughAt}
 
 -- record k passes through a node of depth m that the record before it does not pass through
 unfoldable pub freshAt : List ℕ → ℕ → ℕ → Bool

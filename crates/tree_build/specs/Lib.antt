@@ -2,6 +2,6 @@
 pub mod Built
 pub mod Cases
 pub mod Contract
-pub mod Run
+pub mod NodeRuns
 pub mod Count
 pub mod Queue

@@ -1,5 +1,4 @@
 -- The words while an image is made: nodes that are done, and after them nodes that wait with the run of their records.
--- Assumes nothing.
 use mathlib.Core.Bool.{true}
 use mathlib.Core.List.{List}
 use mathlib.Core.Path.{_≡_}
@@ -10,7 +9,7 @@ use Rattle.routes.specs.Record.{Records, routesIn}
 use Rattle.tree.specs.Parts.{before}
 use Rattle.tree.specs.Image.{Node, node, bitHop, kids, hopsOf, nodes, hops, imageOf}
 use Rattle.tree.specs.Done.{nodeNo, Done}
-use Rattle.tree_build.specs.Run.{standsIn, hopIn, pathAt, nodeAt, Run, NodeRun, innerIn, childIn, wordIn}
+use Rattle.tree_build.specs.NodeRuns.{standsIn, hopIn, pathAt, nodeAt, ThroughRun, NodeRun, innerIn, childIn, wordIn}
 
 -- the three words of node x made a, b and d
 abbrev pub put3 : List ℕ → ℕ → ℕ → ℕ → ℕ → List ℕ
@@ -24,7 +23,7 @@ pub record Waits (s ws : List ℕ) (x : ℕ) (n : Node) : Type 0 where
   pub from : getD ws (3 * x + 1) 0 ≡ start
   pub upto : getD ws (3 * x + 2) 0 ≡ stop
   pub is : n ≡ nodeAt s (n .depth) start
-  pub run : Run s (n .depth) (n .path) start stop
+  pub run : ThroughRun s (n .depth) (n .path) start stop
 
 -- a node's run, its word w, and room for its hops from `base` on
 pub record HopsReady (s : List ℕ) (m a e w base : ℕ) (hs : List ℕ) : Type 0 where
@@ -66,7 +65,7 @@ abbrev pub hopsBefore : List ℕ → ℕ → ℕ
 hopsBefore s i = before (hopsOf (hopIn s)) (nodesIn s) i
 
 -- good records, no byte after them, and room for their image in w words and h hops
-pub record Room (s : List ℕ) (w h : ℕ) : Type 0 where
+pub record ImageRoom (s : List ℕ) (w h : ℕ) : Type 0 where
   pub records : Records s (length s / 8)
   pub whole : length s % 8 ≡ 0
   pub words-room : 3 * length (nodesIn s) ≤ w
@@ -76,7 +75,7 @@ pub record Room (s : List ℕ) (w h : ℕ) : Type 0 where
 
 -- the first i nodes are done, the nodes from i up to t wait, and zeros stand after them and after the first h hops
 pub record State (s ws hs : List ℕ) (i t h : ℕ) : Type 0 where
-  pub room : Room s (length ws) (length hs)
+  pub room : ImageRoom s (length ws) (length hs)
   pub order : i ≤ t
   pub tail : t ≡ 1 + kidsBefore s i
   pub hop : h ≡ hopsBefore s i
@@ -86,7 +85,7 @@ pub record State (s ws hs : List ℕ) (i t h : ℕ) : Type 0 where
   pub blank : (j : ℕ) → h ≤ j → getD hs j 0 ≡ 0
 
 -- the state, with a node that waits
-pub record Next (s ws hs : List ℕ) (i t h : ℕ) : Type 0 where
+pub record NodeWaits (s ws hs : List ℕ) (i t h : ℕ) : Type 0 where
   pub now : State s ws hs i t h
   pub waits : i < t
   pub whole : 3 * i + 3 ≤ length ws
@@ -94,6 +93,6 @@ pub record Next (s ws hs : List ℕ) (i t h : ℕ) : Type 0 where
   pub hop-fits : h < 2 ^ 32
 
 -- the arrays hold the image of the routes, in their sizes
-pub record Filled (s ws₀ hs₀ ws hs : List ℕ) : Type 0 where
+pub record ImageFilled (s ws₀ hs₀ ws hs : List ℕ) : Type 0 where
   pub words : ws ≡ imageOf (routesIn s) (length ws₀) (length hs₀) .words
   pub hops : hs ≡ imageOf (routesIn s) (length ws₀) (length hs₀) .hops

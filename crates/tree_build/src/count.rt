@@ -1,8 +1,9 @@
 // The nodes that good records need, counted before anything is written: one pass over the list for each depth.
 use crate::run;
+use bits::widen::byte_to_word;
 use routes::record;
 ghost use mathlib.Core.Path.{_≡_};
-ghost use Prim.Native.Nat.{_+_, _*_, _≤_, _<_};
+ghost use Prim.Native.Nat.{_+_, _*_, _≤_};
 ghost use lib.ListN.{length};
 ghost use Rattle.bits.specs.Count.{count};
 ghost use Rattle.tree_build.specs.Count.{freshAt, nodesTo};
@@ -13,7 +14,7 @@ fn fresh(list: &[u8], m: u32, k: usize) -> bool
     ensures { λ r. ⌜ r ≡ freshAt (now (list .entry)) m k ⌝ }
 {
     let r = record::read_record(list, k);
-    if record::wide(r.len) < 4 * m {
+    if byte_to_word(r.len) < 4 * m {
         return false;
     }
     if k == 0 {

@@ -1,17 +1,15 @@
 // An image made in lent arrays that have the room for it. The words serve as the queue of nodes: a node that waits holds its depth
 // and the start and the end of its run in the place of its three words.
 use crate::run;
+use bits::widen::byte_to_word;
+use bits::widen::word_to_index;
+use buffers::fill::fill16;
+use buffers::fill::zero32;
 use routes::record;
 ghost use mathlib.Core.Path.{_≡_};
 ghost use Prim.Native.Nat.{_+_, _*_, _^_, _≤_, _<_};
-ghost use lib.ListN.{length, replicate};
-ghost use Rattle.tree_build.specs.Queue.{put3, HopsReady, HopsPut, KidsReady, KidsPut, Room, State, Next, Filled};
-
-fn long(x: u32) -> usize
-    ensures { λ r. ⌜ (r ≡ x) × (r < 2 ^ 32) ⌝ }
-{
-    x as usize
-}
+ghost use lib.ListN.{length};
+ghost use Rattle.tree_build.specs.Queue.{put3, HopsReady, HopsPut, KidsReady, KidsPut, ImageRoom, State, NodeWaits, ImageFilled};
 
 // A number that fits a word.
 pub fn narrow(x: usize) -> u32
@@ -40,10 +38,10 @@ fn put_hops(list: &[u8], hops: &mut [u16], m: u32, a: usize, e: usize, word: u32
     while k < e {
         let r = record::read_record(list, k);
         k += 1;
-        let len = record::wide(r.len);
+        let len = byte_to_word(r.len);
         if len < 4 * (m + 1) {
-            let below = bits::ones_below(word, run::place(r.addr, len, m));
-            hops[base + long(below)] = r.hop;
+            let below = bits::ones_below(word, run::node_bit(r.addr, len, m));
+            hops[base + word_to_index(below)] = r.hop;
         }
     }
 }
@@ -57,12 +55,18 @@ fn put_kids(list: &[u8], words: &mut [u32], m: u32, a: usize, e: usize, word: u3
     while k < e {
         let from = k;
         let r = record::read_record(list, from);
-        if record::wide(r.len) < 4 * (m + 1) {
+        if byte_to_word(r.len) < 4 * (m + 1) {
             k += 1;
         } else {
             k = run::run_end(list, m + 1, from, e);
             let below = bits::ones_below(word >> 16, bits::slot(4 * (m + 1), r.addr) % 16);
-            put_node(words, t + long(below), m + 1, narrow(from), narrow(k));
+            put_node(
+                words,
+                t + word_to_index(below),
+                m + 1,
+                narrow(from),
+                narrow(k),
+            );
         }
     }
 }
@@ -75,58 +79,36 @@ pub struct Sizes {
 
 // The node at i is taken from the queue and gets its words; its hops are put from h on, and its children wait from t on.
 fn step(list: &[u8], words: &mut [u32], hops: &mut [u16], i: usize, t: usize, h: usize) -> Sizes
-    requires { ⌜ Next (now list) (now words) (now hops) i t h ⌝ }
+    requires { ⌜ NodeWaits (now list) (now words) (now hops) i t h ⌝ }
     ensures { λ r. ⌜ State (now (list .entry)) (now (words .exit)) (now (hops .exit)) (i + 1) (r .nodes) (r .hops) ⌝ }
 {
     let m = words[3 * i];
-    let a = long(words[3 * i + 1]);
-    let e = long(words[3 * i + 2]);
+    let a = word_to_index(words[3 * i + 1]);
+    let e = word_to_index(words[3 * i + 2]);
     let word = run::node_word(list, m, a, e);
     put_hops(list, hops, m, a, e, word, h);
     put_kids(list, words, m, a, e, word, t);
     put_node(words, i, word, narrow(t), narrow(h));
     Sizes {
-        nodes: t + long(bits::ones_below(word >> 16, 16)),
-        hops: h + long(bits::ones_below(word, 15)),
-    }
-}
-
-fn clear_words(words: &mut [u32])
-    ensures { λ _. ⌜ now (words .exit) ≡ replicate (length (now (words .entry))) 0 ⌝ }
-{
-    let n = words.len();
-    let mut k: usize = 0;
-    while k < n {
-        words[k] = 0;
-        k += 1;
-    }
-}
-
-fn clear_hops(hops: &mut [u16])
-    ensures { λ _. ⌜ now (hops .exit) ≡ replicate (length (now (hops .entry))) 0 ⌝ }
-{
-    let n = hops.len();
-    let mut k: usize = 0;
-    while k < n {
-        hops[k] = 0;
-        k += 1;
+        nodes: t + word_to_index(bits::ones_below(word >> 16, 16)),
+        hops: h + word_to_index(bits::ones_below(word, 15)),
     }
 }
 
 // Zeros, and the root, which waits with the whole list.
 fn start(list: &[u8], words: &mut [u32], hops: &mut [u16])
-    requires { ⌜ Room (now list) (length (now words)) (length (now hops)) ⌝ }
+    requires { ⌜ ImageRoom (now list) (length (now words)) (length (now hops)) ⌝ }
     ensures { λ _. ⌜ State (now (list .entry)) (now (words .exit)) (now (hops .exit)) 0 1 0 ⌝ }
 {
-    clear_words(words);
-    clear_hops(hops);
+    zero32(words);
+    fill16(hops, 0);
     put_node(words, 0, 0, 0, narrow(list.len() / 8));
 }
 
 // The whole image, node by node.
-pub fn fill(list: &[u8], words: &mut [u32], hops: &mut [u16])
-    requires { ⌜ Room (now list) (length (now words)) (length (now hops)) ⌝ }
-    ensures { λ _. ⌜ Filled (now (list .entry)) (now (words .entry)) (now (hops .entry)) (now (words .exit)) (now (hops .exit)) ⌝ }
+pub fn fill_image(list: &[u8], words: &mut [u32], hops: &mut [u16])
+    requires { ⌜ ImageRoom (now list) (length (now words)) (length (now hops)) ⌝ }
+    ensures { λ _. ⌜ ImageFilled (now (list .entry)) (now (words .entry)) (now (hops .entry)) (now (words .exit)) (now (hops .exit)) ⌝ }
 {
     start(list, words, hops);
     let mut i: usize = 0;

@@ -7,7 +7,7 @@ use routes::input;
 use routes::input::Input;
 ghost use mathlib.Core.Path.{_≡_};
 ghost use Rattle.routes.specs.Record.{GoodInput, routesIn};
-ghost use Rattle.tree_build.specs.Built.{saysBuilt, out, madeOf};
+ghost use Rattle.tree_build.specs.Built.{meansBuilt, imageOut, madeOf};
 ghost use Rattle.tree_build.specs.Contract.{MeetsBuild};
 
 // What a build answers: the nodes and the hops used; a refusal with the index of a record; or a refusal by its number alone.
@@ -20,7 +20,7 @@ pub enum Built {
 // Good records into the two arrays: 11 where too few whole nodes are lent, 12 where too few hops are.
 fn make(list: &[u8], n: usize, words: &mut [u32], hops: &mut [u16]) -> Built
     requires { ⌜ GoodInput (now list) n ⌝ }
-    ensures { λ r. ⌜ out (saysBuilt r) (now (words .exit)) (now (hops .exit)) ≡ madeOf (routesIn (now (list .entry))) (now (words .entry)) (now (hops .entry)) ⌝ }
+    ensures { λ r. ⌜ imageOut (meansBuilt r) (now (words .exit)) (now (hops .exit)) ≡ madeOf (routesIn (now (list .entry))) (now (words .entry)) (now (hops .entry)) ⌝ }
 {
     let nodes = count::count_nodes(list, n);
     if words.len() / 3 < nodes {
@@ -29,7 +29,7 @@ fn make(list: &[u8], n: usize, words: &mut [u32], hops: &mut [u16]) -> Built
     if hops.len() < n {
         return Built::Refused(12);
     }
-    fill::fill(list, words, hops);
+    fill::fill_image(list, words, hops);
     Built::Made(fill::narrow(nodes), fill::narrow(n))
 }
 

@@ -1,11 +1,12 @@
 // The run of a node: the records whose routes pass through it, and the bit of the node at which each lies.
+use bits::widen::byte_to_word;
 use routes::record;
 ghost use mathlib.Core.Path.{_≡_};
 ghost use Prim.Native.Nat.{_+_, _*_, _≤_, _<_};
 ghost use lib.ListN.{length};
 ghost use Rattle.routes.specs.Record.{recordAt};
 ghost use Rattle.tree.specs.Image.{through};
-ghost use Rattle.tree_build.specs.Run.{RunEnd, placeOf, WithBit, NodeRun, wordIn};
+ghost use Rattle.tree_build.specs.NodeRuns.{RunEnd, nodeBit, WithBit, NodeRun, wordIn};
 
 // Whether record k passes through the node of depth m for a path.
 pub fn passes(list: &[u8], k: usize, m: u32, path: u32) -> bool
@@ -13,7 +14,7 @@ pub fn passes(list: &[u8], k: usize, m: u32, path: u32) -> bool
     ensures { λ r. ⌜ r ≡ through m path (recordAt (now (list .entry)) k) ⌝ }
 {
     let r = record::read_record(list, k);
-    if record::wide(r.len) < 4 * m {
+    if byte_to_word(r.len) < 4 * m {
         return false;
     }
     bits::slot(4 * m, r.addr) == path
@@ -37,9 +38,9 @@ pub fn run_end(list: &[u8], m: u32, a: usize, e: usize) -> usize
 }
 
 // The bit of a node of depth m at which a route that passes through it lies.
-pub fn place(addr: u32, len: u32, m: u32) -> u32
+pub fn node_bit(addr: u32, len: u32, m: u32) -> u32
     requires { ⌜ (4 * m ≤ len) × (len ≤ 32) ⌝ }
-    ensures { λ r. ⌜ (r ≡ placeOf m addr len) × (r < 32) ⌝ }
+    ensures { λ r. ⌜ (r ≡ nodeBit m addr len) × (r < 32) ⌝ }
 {
     if len < 4 * (m + 1) {
         let ones = (1 << (len - 4 * m)) - 1;
@@ -65,7 +66,7 @@ pub fn node_word(list: &[u8], m: u32, a: usize, e: usize) -> u32
     let mut k = a;
     while k < e {
         let r = record::read_record(list, k);
-        word = with_bit(word, place(r.addr, record::wide(r.len), m));
+        word = with_bit(word, node_bit(r.addr, byte_to_word(r.len), m));
         k += 1;
     }
     word

@@ -6,7 +6,6 @@ use mathlib.Core.List.{List}
 use Prim.Native.Nat.{ℕ, suc, _+_, _*_, _/_, _%_, _^_, _≤_, _<_}
 use native.Mathlib.Numerals.{add-one}
 use native.Mathlib.Omega.{arith}
-use lib.Count.{ones}
 use lib.Dec.{ltb}
 use lib.ListN.{length}
 use borrow.Author.Tests.{ltb-false}
@@ -14,9 +13,9 @@ use Rattle.bits.specs.Slot.{slot}
 use Rattle.routes.specs.declared.Route.{Route}
 use Rattle.standing.specs.Standing.{insert}
 use Rattle.standing.proofs.Standing.{insert-good}
-use Rattle.tree.specs.Node.{bitsOf, baseOf, isSet}
+use Rattle.tree.specs.Node.{bitsOf, isSet}
 use Rattle.tree.specs.Image.{node, inner, nodeStands, hopFor}
-use Rattle.tree_same.specs.Read.{reached}
+use Rattle.tree_same.specs.Read.{reached, hopPlaceAt}
 use Rattle.tree_same.specs.Holding.{Holding}
 use Rattle.tree_same.specs.Listed.{routesHeld}
 use Rattle.tree_same.proofs.Back.{Shaped}
@@ -27,7 +26,7 @@ use Rattle.tree_hold.proofs.Puts.{put-holds}
 use Rattle.tree_hold.proofs.Taken.{lenAt, bitsAt}
 use Rattle.tree_hold.proofs.Paths.{path-child, down-next, down-absent, absent-below, insert-nodes, insert-hops, stands-hop}
 use Rattle.tree_edit.specs.Small.{GraftReady, PutReady}
-use Rattle.tree_change.specs.Changed.{route}
+use Rattle.tree_change.specs.Changed.{unmarkedRoute}
 use Rattle.tree_change.specs.Stages.{New, Addable, Become}
 use Rattle.tree_change.proofs.Ways.{child-held, inner-held}
 use Rattle.tree_change.proofs.Places.{bit-len, bit-bits, hop-at-bit, shaped, way-stands, way-absent}
@@ -165,17 +164,17 @@ module _ {ws₀ hs : List ℕ} {n k x₀ m₀ a len h b : ℕ} (r : Addable ws�
         few = omega (arith, new .found .few-hops);
       }
 
-      pub grow-done : {ws′ hs′ : List ℕ} → HopPut ws ws′ hs hs′ nodes x b (baseOf ws x + ones (bitsOf ws x % 2 ^ b)) h
-          → Become (insert (route a len h) rs) ws₀ hs ws′ hs′ nodes
+      pub grow-done : {ws′ hs′ : List ℕ} → HopPut ws ws′ hs hs′ nodes x b (hopPlaceAt ws x b) h
+          → Become (insert (unmarkedRoute a len h) rs) ws₀ hs ws′ hs′ nodes
       grow-done {ws′} {hs′} e =
           let p = put-holds m path (mid-shape (g .mid)) (g .mid .holds) e (end-stands (g .mid)) (g .at) (new .fine .hop-one) in
-          let s : downTo st a m ≡ nodeStands (insert (route a len h) rs) =
-          ap (downTo st a) whole ∙ sym (insert-nodes (route a len h) rs (new .fine) (new .found .good)) in
-          let t : withHop hop (lenAt m b) (bitsAt path b) h ≡ hopFor (insert (route a len h) rs) =
+          let s : downTo st a m ≡ nodeStands (insert (unmarkedRoute a len h) rs) =
+          ap (downTo st a) whole ∙ sym (insert-nodes (unmarkedRoute a len h) rs (new .fine) (new .found .good)) in
+          let t : withHop hop (lenAt m b) (bitsAt path b) h ≡ hopFor (insert (unmarkedRoute a len h) rs) =
           ap₂ (λ (u v : ℕ). withHop hop u v h) (ap (λ (z : ℕ). lenAt z b) whole ∙ bit-len (new .bit) short)
           (ap (λ (z : ℕ). bitsAt (slot (4 * z) a) b) whole ∙ bit-bits (new .bit) short)
-          ∙ sym (insert-hops (route a len h) rs (new .fine) (new .found .good)) in
-          become (insert-good (route a len h) rs (new .fine) (new .found .good))
-          (subst (λ (z : ℕ → ℕ → ℕ). Holding (nodeStands (insert (route a len h) rs)) z ws′ hs′ nodes) t
+          ∙ sym (insert-hops (unmarkedRoute a len h) rs (new .fine) (new .found .good)) in
+          become (insert-good (unmarkedRoute a len h) rs (new .fine) (new .found .good))
+          (subst (λ (z : ℕ → ℕ → ℕ). Holding (nodeStands (insert (unmarkedRoute a len h) rs)) z ws′ hs′ nodes) t
           (subst (λ (z : ℕ → ℕ → Bool). Holding z (withHop hop (lenAt m b) (bitsAt path b) h) ws′ hs′ nodes) s p))
           (e .same ∙ g .same) (e .same-hops)

@@ -10,11 +10,11 @@ use lib.Dec.{eqb, ltb}
 use lib.Pow.{shr-le}
 use lib.Pow.{high as high-part}
 use borrow.Author.Tests.{lt-leb, lt-ltb, le-ltb, ltb-true}
-use Rattle.bits.specs.Bit.{bitAt, packed}
+use Rattle.bits.specs.Bit.{bitAt, packedBits}
 use Rattle.bits.specs.Count.{bit}
 use Rattle.bits.specs.Slot.{slot}
 use Rattle.bits.proofs.Slots.{slot-up}
-use Rattle.bits.proofs.Tests.{and-split, below?, untrue}
+use Rattle.bits.proofs.Bools.{and-split, below?, untrue}
 use Rattle.tree.specs.Node.{bitsOf, isSet}
 use Rattle.tree.specs.Image.{node, innerLen, bitHop, inner, child, setBit, word}
 use Rattle.tree.proofs.Lies.{inner-cases}
@@ -31,7 +31,7 @@ use Rattle.tree_change.specs.Stages.{Descent, OnPath}
 pub own-word : (st : ℕ → ℕ → Bool) (hop : ℕ → ℕ → ℕ) (a m p : ℕ) → word (downTo st a m) hop (node m p) ≡ word st hop (node m p)
 unfolding word setBit downTo
 own-word st hop a m p =
-    ap (λ (f : ℕ → Bool). packed f 32) (fun-ext (λ b. ap (λ (x : Bool). cond (ltb b 15) (inner hop (node m p) b) (cond (ltb b 16) false x)) (kid (b - 16))))
+    ap (λ (f : ℕ → Bool). packedBits f 32) (fun-ext (λ b. ap (λ (x : Bool). cond (ltb b 15) (inner hop (node m p) b) (cond (ltb b 16) false x)) (kid (b - 16))))
   where
     kid : (c : ℕ) → child (downTo st a m) (node m p) c ≡ child st (node m p) c
     kid c =

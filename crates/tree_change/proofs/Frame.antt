@@ -6,7 +6,6 @@ use mathlib.Core.List.{List}
 use Prim.Native.Nat.{ℕ, _+_, _*_, _/_, _%_, _^_, _≤_, _<_}
 use native.Mathlib.Nat.{mod-lt}
 use native.Mathlib.Omega.{arith}
-use lib.Count.{ones}
 use lib.ListN.{length, getD}
 use lib.Pow.{pow-pos}
 use Rattle.bits.specs.Slot.{slot}
@@ -14,11 +13,10 @@ use Rattle.bits.proofs.Slots.{slot-up}
 use Rattle.routes.specs.Route.{keyOf, Prefix, Good}
 use Rattle.routes.specs.declared.Route.{Route}
 use Rattle.standing.specs.Standing.{stands, remove}
-use Rattle.tree.specs.Node.{bitsOf, baseOf}
-use Rattle.tree.specs.Parts.{padded}
+use Rattle.tree.specs.Parts.{zeroPadded}
 use Rattle.tree.specs.Image.{node, bitHop, hops, imageBy, nodeStands, hopFor}
 use Rattle.tree.proofs.Lies.{inner-len}
-use Rattle.tree_same.specs.Read.{reached, pathOf, bitFor}
+use Rattle.tree_same.specs.Read.{reached, pathOf, bitFor, hopPlaceAt}
 use Rattle.tree_same.specs.Order.{standsAt}
 use Rattle.tree_same.specs.Holding.{Holding}
 use Rattle.tree_same.proofs.Back.{Shaped}
@@ -28,10 +26,10 @@ use Rattle.tree_hold.specs.More.{downTo, withHop}
 use Rattle.tree_hold.proofs.Paths.{on-path, down-shaped}
 use Rattle.tree_hold.proofs.Taken.{lenAt, bitsAt, Before, before}
 use Rattle.tree_change.specs.Stages.{BitOf}
-use Rattle.tree_change.specs.Changed.{hopPlace}
+use Rattle.tree_change.specs.Changed.{prefixPlace}
 use Rattle.tree_change.proofs.Places.{hop-at-bit}
 use Rattle.tree_change.proofs.Needs.{down-hops}
-use Rattle.tree_change.proofs.Without.{Without, without, held-with}
+use Rattle.tree_change.proofs.Without.{Without, without-is, held-with}
 
 -- the path and the bit of a prefix
 prefix-path : (a len : ℕ) → len ≤ 32 → pathOf len (slot len a) ≡ slot (4 * (len / 4)) a
@@ -60,7 +58,7 @@ module _ (rs : List Route) (a len : ℕ) (good : Good rs) (p : Prefix a len) (st
   hop₀ = hopFor (remove (keyOf a len) rs)
 
   by : Without rs a len
-  by = without rs a len good p stood
+  by = without-is rs a len good p stood
 
   bit : BitOf a len b
   bit = bit-of-prefix a len (p .len-ok)
@@ -84,32 +82,29 @@ module _ (rs : List Route) (a len : ℕ) (good : Good rs) (p : Prefix a len) (st
     without-hop = before deep path b (by .hop) shape (bit .small) end-stands end-free (by .some) held
 
     -- the place is that in the image of the other routes with the path of the prefix
-    pub place-shared : hopPlace ws len (slot len a) ≡ hopPlace (imageBy (downTo st₀ a deep) hop₀ (length ws) (length hs) .words) len (slot len a)
+    pub place-shared : prefixPlace ws len (slot len a) ≡ prefixPlace (imageBy (downTo st₀ a deep) hop₀ (length ws) (length hs) .words) len (slot len a)
     place-shared =
         let o = without-hop in
         let w = holds-image (downTo st₀ a deep) hop₀ (o .words) (o .hops) n (shape .agree .nine) (o .holds) .0 in
         let e : o .words ≡ imageBy (downTo st₀ a deep) hop₀ (length ws) (length hs) .words =
         w ∙ ap₂ (λ (u v : ℕ). imageBy (downTo st₀ a deep) hop₀ u v .words) (sym (o .put .same)) (sym (o .put .same-hops)) in
         let q = prefix-path a len (p .len-ok) in
-        ap (λ (z : ℕ). placeAt ws (reached ws deep z) b) q ∙ o .put .place ∙ ap (λ (z : ℕ). placeAt (o .words) z b) (o .at)
-        ∙ ap (λ (v : List ℕ). placeAt v (reached v deep path) b) e ∙ ap (λ (z : ℕ). placeAt new (reached new deep z) b) (sym q)
+        ap (λ (z : ℕ). hopPlaceAt ws (reached ws deep z) b) q ∙ o .put .place ∙ ap (λ (z : ℕ). hopPlaceAt (o .words) z b) (o .at)
+        ∙ ap (λ (v : List ℕ). hopPlaceAt v (reached v deep path) b) e ∙ ap (λ (z : ℕ). hopPlaceAt new (reached new deep z) b) (sym q)
       where
-        placeAt : List ℕ → ℕ → ℕ → ℕ
-        placeAt v x c = baseOf v x + ones (bitsOf v x % 2 ^ c)
-
         new : List ℕ
         new = imageBy (downTo st₀ a deep) hop₀ (length ws) (length hs) .words
 
     -- below it the hops are those of the other routes
-    pub cells-shared : (j : ℕ) → j < hopPlace ws len (slot len a) → getD hs j 0 ≡ getD (padded (length hs) (hops st₀ hop₀)) j 0
+    pub cells-shared : (j : ℕ) → j < prefixPlace ws len (slot len a) → getD hs j 0 ≡ getD (zeroPadded (length hs) (hops st₀ hop₀)) j 0
     unfolding imageBy
     cells-shared j l =
         let o = without-hop in
         let w = holds-image (downTo st₀ a deep) hop₀ (o .words) (o .hops) n (shape .agree .nine) (o .holds) .1 in
         let q = prefix-path a len (p .len-ok) in
-        let u : j < baseOf ws (reached ws deep path) + ones (bitsOf ws (reached ws deep path) % 2 ^ b) =
-        subst (λ (z : ℕ). j < baseOf ws (reached ws deep z) + ones (bitsOf ws (reached ws deep z) % 2 ^ b)) q l in
+        let u : j < hopPlaceAt ws (reached ws deep path) b =
+        subst (λ (z : ℕ). j < hopPlaceAt ws (reached ws deep z) b) q l in
         o .put .hops-below j u
         ∙ ap (λ (v : List ℕ). getD v j 0)
-        (w ∙ ap₂ (λ (m : ℕ) (v : List ℕ). padded m v) (sym (o .put .same-hops))
+        (w ∙ ap₂ (λ (m : ℕ) (v : List ℕ). zeroPadded m v) (sym (o .put .same-hops))
         (down-hops st₀ hop₀ a (p .addr-ok) (fits (remove (keyOf a len) rs) (by .good)) deep (omega (arith, p .len-ok))))

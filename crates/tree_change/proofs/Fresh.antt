@@ -14,30 +14,31 @@ use Rattle.standing.specs.Cells.{best}
 use Rattle.standing.specs.Standing.{stands, insert, remove}
 use Rattle.standing.proofs.Standing.{insert-good, insert-replaces}
 use Rattle.tree.specs.Image.{Image, imageOf, onPath, nodeStands, hopFor, nodeNeed}
-use Rattle.tree.specs.Walk.{told, treeSaid}
+use Rattle.tree.specs.Walk.{treeHopSaid, treeSaid}
 use Rattle.tree.proofs.Needs.{hops-need}
-use Rattle.tree.proofs.Serves.{image-serves}
-use Rattle.tree_build.specs.Built.{Out, built}
+use Rattle.tree.proofs.Serves.{image-serves, told-served}
+use Rattle.tree_build.specs.Built.{ImageOut, built}
 use Rattle.tree_same.specs.Holding.{Holding}
 use Rattle.tree_same.specs.Listed.{routesHeld}
 use Rattle.tree_same.proofs.Same.{fits, image-held}
 use Rattle.tree_same.proofs.Holdings.{image-holding}
-use Rattle.tree_check.specs.WellFormed.{used, wellFormed}
+use Rattle.tree_check.specs.Buildable.{inputOf}
+use Rattle.tree_check.specs.WellFormed.{nodesUsed, wellFormed}
 use Rattle.tree_check.proofs.Meaning.{well-formed-is, is-well-formed}
 use Rattle.tree_check.proofs.Held.{held-image}
 use Rattle.tree_check.proofs.Builds.{image-formed}
-use Rattle.tree_check.proofs.Exact.{inputOf, input-built, made-fits}
+use Rattle.tree_check.proofs.Exact.{input-built, made-fits}
 use Rattle.tree_hold.proofs.Undone.{image-sizes}
-use Rattle.tree_change.specs.Changed.{route, imageAnnounced, imageWithdrawn}
-use Rattle.tree_change.specs.Cases.{Asked, routesWith, routesWithout, put-in, Left}
-use Rattle.tree_change.proofs.Answers.{is-fine}
+use Rattle.tree_change.specs.Changed.{unmarkedRoute, imageAnnounced, imageWithdrawn}
+use Rattle.tree_change.specs.Cases.{ImageAsked, routesWith, routesWithout, put-in, ImageLeft, Anew}
+use Rattle.tree_change.proofs.ChangeReturns.{is-fine}
 use Rattle.tree_change.proofs.Needs.{same-nodes}
 use Rattle.tree_change.proofs.Cases.{its-fit, case-announced, announce-put}
 use Rattle.tree_change.proofs.Takes.{left-fit, withdraw-taken}
 
 -- ---- what a change leaves
 
-module _ {rs : List Route} {ws hs : List ℕ} {o : Out} (l : Left rs ws hs o) where
+module _ {rs : List Route} {ws hs : List ℕ} {o : ImageOut} (l : ImageLeft rs ws hs o) where
   abbrev image : Image
   image = imageOf rs (length ws) (length hs)
 
@@ -45,7 +46,7 @@ module _ {rs : List Route} {ws hs : List ℕ} {o : Out} (l : Left rs ws hs o) wh
   pub change-as-build : (o .words ≡ built (inputOf rs) ws hs .words) × (o .hops ≡ built (inputOf rs) ws hs .hops)
   change-as-build =
       let e = sym (input-built rs ws hs (l .fit .good) (l .fit .few) ∙ made-fits rs ws hs (l .fit .nodes) (l .fit .hops)) in
-      (l .words ∙ ap (λ (x : Out). x .words) e, l .hops ∙ ap (λ (x : Out). x .hops) e)
+      (l .words ∙ ap (λ (x : ImageOut). x .words) e, l .hops ∙ ap (λ (x : ImageOut). x .hops) e)
 
   -- and these are the routes that are then read out of it
   pub change-stands : routesHeld (o .words) (o .hops) ≡ rs
@@ -60,10 +61,18 @@ module _ {rs : List Route} {ws hs : List ℕ} {o : Out} (l : Left rs ws hs o) wh
       (image-formed rs (length ws) (length hs) (l .fit .good) (l .fit .few) (omega (arith, l .fit .nodes)) (l .fit .hops))
 
   -- every address meets the longest of these routes that covers it, or none, told after the nodes on its path
-  pub change-serves : (a : ℕ) → a < 2 ^ 32 → treeSaid (o .words) (o .hops) a ≡ told (best rs 32 a) (onPath rs a)
+  pub change-serves : (a : ℕ) → a < 2 ^ 32 → treeSaid (o .words) (o .hops) a ≡ treeHopSaid (best rs 32 a) (onPath rs a)
   change-serves a u =
       ap₂ (λ (x y : List ℕ). treeSaid x y a) (l .words) (l .hops)
       ∙ image-serves rs (length ws) (length hs) a (l .fit .good) u (omega (arith, l .fit .nodes)) (l .fit .hops)
+
+  pub change-anew : Anew rs ws hs o
+  change-anew = record {
+    as-build = change-as-build;
+    stands = change-stands;
+    passes = change-formed;
+    serves = λ x u. told-served rs (l .fit .good) x (change-serves x u);
+  }
 
   pub change-sizes : (length (o .words) ≡ length ws) × (length (o .hops) ≡ length hs)
   change-sizes =
@@ -109,42 +118,43 @@ module _ (ws hs : List ℕ) (a len : ℕ) (narrow : (j : ℕ) → getD ws j 0 < 
   -- the routes of a well-formed image have no marks
   held-plain : wellFormed ws hs ≡ true → map plain (routesHeld ws hs) ≡ routesHeld ws hs
   held-plain f =
-      let i = held-image ws hs (used ws) (well-formed-is ws hs f) narrow in
+      let i = held-image ws hs (nodesUsed ws) (well-formed-is ws hs f) narrow in
       let r = its-fit ws hs narrow f in
       sym (image-held (routesHeld ws hs) (length ws) (length hs) (r .good) (omega (arith, r .nodes)) (r .hops)) ∙ ap₂ routesHeld (sym (i .0)) (sym (i .1))
 
   -- ---- the calls
 
-  pub announce-left : (h : ℕ) → accepts (imageAnnounced ws hs a len h .said) ≡ true → Left (routesWith ws hs a len h) ws hs (imageAnnounced ws hs a len h)
+  pub announce-left : (h : ℕ) → accepts (imageAnnounced ws hs a len h .said) ≡ true → ImageLeft (routesWith ws hs a len h) ws hs (imageAnnounced ws hs a len h)
   announce-left h ok =
       let p = announce-put ws hs a len h ok in
       let k = p .asked in
       record {
         fit = record {
-          good = insert-good (route a len h) (routesHeld ws hs) (is-fine a len h (k .prefix) (k .hop)) (its-fit ws hs narrow (k .image) .good);
+          good = insert-good (unmarkedRoute a len h) (routesHeld ws hs) (is-fine a len h (k .prefix) (k .hop)) (its-fit ws hs narrow (k .image) .good);
           few = p .few;
           nodes = p .nodes-fit;
           hops = p .hops-fit;
         };
-        unmarked = plain-insert (route a len h) (routesHeld ws hs) ∙ ap (insert (route a len h)) (held-plain (k .image));
-        words = ap (λ (o : Out). o .words) (p .told);
-        hops = ap (λ (o : Out). o .hops) (p .told);
+        unmarked = plain-insert (unmarkedRoute a len h) (routesHeld ws hs) ∙ ap (insert (unmarkedRoute a len h)) (held-plain (k .image));
+        words = ap (λ (o : ImageOut). o .words) (p .told);
+        hops = ap (λ (o : ImageOut). o .hops) (p .told);
       }
 
-  pub withdraw-left : accepts (imageWithdrawn ws hs a len .said) ≡ true → Left (routesWithout ws hs a len) ws hs (imageWithdrawn ws hs a len)
+  pub withdraw-left : accepts (imageWithdrawn ws hs a len .said) ≡ true → ImageLeft (routesWithout ws hs a len) ws hs (imageWithdrawn ws hs a len)
   withdraw-left ok =
       let t = withdraw-taken ws hs a len narrow ok in
       record {
         fit = left-fit ws hs a len narrow (t .image) (t .stood);
         unmarked = plain-remove (keyOf a len) (routesHeld ws hs) ∙ ap (remove (keyOf a len)) (held-plain (t .image));
-        words = ap (λ (o : Out). o .words) (t .told);
-        hops = ap (λ (o : Out). o .hops) (t .told);
+        words = ap (λ (o : ImageOut). o .words) (t .told);
+        hops = ap (λ (o : ImageOut). o .hops) (t .told);
       }
 
   -- a replacement meets none of 6, 11 and 12
-  pub replaced-never : (h : ℕ) → Asked ws hs a len h → stands (keyOf a len) (routesHeld ws hs) ≡ true → accepts (imageAnnounced ws hs a len h .said) ≡ true
+  pub replaced-never : (h : ℕ) → ImageAsked ws hs a len h → stands (keyOf a len) (routesHeld ws hs) ≡ true → accepts (imageAnnounced ws hs a len h .said) ≡ true
   replaced-never h k s =
       let r = its-fit ws hs narrow (k .image) in
-      let l = insert-replaces (route a len h) (routesHeld ws hs) (r .good) s in
-      let n = same-nodes (route a len h) (routesHeld ws hs) (is-fine a len h (k .prefix) (k .hop)) (r .good) s in
-      ap (λ (o : Out). accepts (o .said)) (case-announced ws hs a len h _ (put-in k (omega (arith, r .few)) (omega (arith, r .nodes)) (omega (arith, r .hops))))
+      let l = insert-replaces (unmarkedRoute a len h) (routesHeld ws hs) (r .good) s in
+      let n = same-nodes (unmarkedRoute a len h) (routesHeld ws hs) (is-fine a len h (k .prefix) (k .hop)) (r .good) s in
+      ap (λ (o : ImageOut). accepts (o .said)) (case-announced ws hs a len h _
+      (put-in k (omega (arith, r .few)) (omega (arith, r .nodes)) (omega (arith, r .hops))))

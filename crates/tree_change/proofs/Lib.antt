@@ -8,10 +8,11 @@ pub mod Bares
 pub mod Without
 pub mod Removes
 pub mod Needs
-pub mod Answers
+pub mod ChangeReturns
 pub mod Cases
 pub mod OneAnswer
 pub mod Takes
+pub mod Judged
 pub mod Fresh
 pub mod Frame
 pub mod Untouched

@@ -18,7 +18,7 @@ use Rattle.tree_same.proofs.Back.{Shaped}
 use Rattle.tree_same.proofs.Same.{fits}
 use Rattle.tree_same.proofs.Holdings.{nodes-are, holds-image, stands-found}
 use Rattle.tree_hold.specs.More.{downTo}
-use Rattle.tree_hold.specs.Edits.{Words}
+use Rattle.tree_hold.specs.Edits.{NodeWords}
 use Rattle.tree_hold.proofs.Holds.{bits-fit, holding-same}
 use Rattle.tree_hold.proofs.Paths.{on-path, down-shaped, down-same, path-stands}
 use Rattle.tree_change.specs.Stages.{Become}
@@ -42,7 +42,7 @@ module _ {rs : List Route} {a m : ℕ} {ws hs : List ℕ} {n k : ℕ} (g : Midwa
   pub end-inside : reached ws m (slot (4 * m) a) < n
   end-inside = stands-found (downTo (nodeStands rs) a m) (hopFor rs) ws hs n mid-shape (g .holds) m (slot (4 * m) a) end-stands .0
 
-  pub mid-words : Words ws n k
+  pub mid-words : NodeWords ws n k
   mid-words = record { order = g .holds .order; hops = g .hops; narrow = bits-fit (mid-shape .agree .nine) (g .holds); rest = g .holds .rest }
 
 -- the path that stands changes nothing: no node is added by it

@@ -12,14 +12,14 @@ use lib.Seq.{ext-getD}
 use borrow.Author.Tests.{le-leb, leb-true, eq-eqb, eqb-true}
 use Rattle.bits.specs.Slot.{slot}
 use Rattle.bits.proofs.Slots.{slot-zero}
-use Rattle.bits.proofs.Tests.{decided, and-split, or-split, equal?, below?, same}
+use Rattle.bits.proofs.Bools.{decided, and-split, or-split, equal?, below?, same}
 use Rattle.routes.specs.Route.{key, Fine, Good}
 use Rattle.routes.specs.declared.Route.{Route}
 use Rattle.routes.proofs.Goods.{good-fine, key-parts}
 use Rattle.standing.specs.Standing.{stands, insert, remove}
 use Rattle.standing.proofs.Standing.{remove-good}
 use Rattle.tree.specs.Image.{nodes, hops, imageBy, through, nodeStands, hopFor, nodeNeed}
-use Rattle.tree.specs.Parts.{padded}
+use Rattle.tree.specs.Parts.{zeroPadded}
 use Rattle.tree.proofs.Holds.{pad-at}
 use Rattle.tree.proofs.Lies.{any-mem, pass-make}
 use Rattle.tree_same.specs.Order.{ints, standsAt}
@@ -31,7 +31,7 @@ use Rattle.tree_same.proofs.Holdings.{nodes-are, hops-are, holds-image, image-h
 use Rattle.tree_hold.specs.More.{downTo}
 use Rattle.tree_hold.proofs.Holds.{holding-same}
 use Rattle.tree_hold.proofs.Paths.{down-shaped, down-grows, down-same, insert-nodes, put-again, stands-is}
-use Rattle.tree_change.specs.Changed.{route}
+use Rattle.tree_change.specs.Changed.{unmarkedRoute}
 use Rattle.tree_change.specs.Stages.{New}
 use Rattle.tree_change.proofs.Places.{shaped, way-stands, way-absent}
 use Rattle.tree_change.proofs.Midways.{down-any}
@@ -78,7 +78,7 @@ module _ (st : ℕ → ℕ → Bool) (hop : ℕ → ℕ → ℕ) (a : ℕ) (smal
   down-most (suc e) l = omega (arith, down-most e (omega arith), more e l)
 
 -- arrays that hold two sets of nodes and hops hold the same hops
-same-list : (xs ys : List ℕ) (n : ℕ) → length xs ≡ length ys → padded n xs ≡ padded n ys → xs ≡ ys
+same-list : (xs ys : List ℕ) (n : ℕ) → length xs ≡ length ys → zeroPadded n xs ≡ zeroPadded n ys → xs ≡ ys
 same-list xs ys n e f = ext-getD 0 xs ys e (λ j u. sym (pad-at n xs j u) ∙ ap (λ (l : List ℕ). getD l j 0) f ∙ pad-at n ys j (omega arith))
 
 pub hops-shared : {st st₁ : ℕ → ℕ → Bool} {hop hop₁ : ℕ → ℕ → ℕ} {ws hs : List ℕ} {n m : ℕ} → ((p : ℕ) → st 9 p ≡ false) → ((p : ℕ) → st₁ 9 p ≡ false)
@@ -145,9 +145,10 @@ fewer-nodes k rs g t = go (stands-is k rs t)
         )
 
 -- the nodes that the path of a new prefix lacks
-pub new-need : {ws hs : List ℕ} {n k x m a len h b : ℕ} → New ws hs n k x m a len h b → nodeNeed (insert (route a len h) (routesHeld ws hs)) ≡ n + (len / 4 - m)
+pub new-need : {ws hs : List ℕ} {n k x m a len h b : ℕ} → New ws hs n k x m a len h b → nodeNeed (insert (unmarkedRoute a len h) (routesHeld ws hs))
+    ≡ n + (len / 4 - m)
 new-need {ws} {hs} {n} {k} {x} {m} {a} {len} {h} {b} r =
-    ap (λ (s : ℕ → ℕ → Bool). length (nodes s)) (insert-nodes (route a len h) (routesHeld ws hs) (r .fine) (r .found .good)) ∙ go (below? m (len / 4))
+    ap (λ (s : ℕ → ℕ → Bool). length (nodes s)) (insert-nodes (unmarkedRoute a len h) (routesHeld ws hs) (r .fine) (r .found .good)) ∙ go (below? m (len / 4))
   where
     small : a < 2 ^ 32
     small = r .fine .prefix .addr-ok

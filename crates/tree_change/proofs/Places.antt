@@ -12,14 +12,14 @@ use lib.Pow.{pow-pos, split}
 use borrow.Author.Tests.{eq-eqb, ne-eqb, lt-ltb, ltb-true}
 use Rattle.bits.specs.Slot.{slot}
 use Rattle.bits.proofs.Slots.{slot-up}
-use Rattle.bits.proofs.Tests.{equal?, untrue}
+use Rattle.bits.proofs.Bools.{equal?, untrue}
 use Rattle.routes.specs.Route.{keyOf, Prefix}
 use Rattle.routes.specs.declared.Route.{Route}
 use Rattle.standing.specs.Standing.{stands}
 use Rattle.tree.specs.Node.{bitsOf, isSet}
 use Rattle.tree.specs.Image.{node, innerLen, bitHop, nodeStands, hopFor}
 use Rattle.tree.proofs.Lies.{inner-len}
-use Rattle.tree_build.specs.Run.{placeOf}
+use Rattle.tree_build.specs.NodeRuns.{nodeBit}
 use Rattle.tree_same.specs.Read.{reached}
 use Rattle.tree_same.specs.Order.{standsAt}
 use Rattle.tree_same.specs.Listed.{routesHeld}
@@ -31,8 +31,8 @@ use Rattle.tree_change.specs.Stages.{Found, Descent, BitOf}
 use Rattle.tree_change.proofs.Ways.{held-leads, child-held, inner-held}
 
 -- the bit that the code works out
-pub bit-worked : (a len b : ℕ) → len ≤ 32 → b ≡ placeOf (len / 4) a len → BitOf a len b
-unfolding placeOf
+pub bit-worked : (a len b : ℕ) → len ≤ 32 → b ≡ nodeBit (len / 4) a len → BitOf a len b
+unfolding nodeBit
 bit-worked a len b l e =
     let j : len - 4 * (len / 4) ≡ len % 4 = omega arith in
     let t : ltb len (4 * (len / 4 + 1)) ≡ true = lt-ltb len (4 * (len / 4 + 1)) (omega arith) in

@@ -7,18 +7,17 @@ use mathlib.Core.List.{List}
 use Prim.Native.Nat.{ℕ, zero, suc, _+_, _-_, _*_, _/_, _%_, _^_, _≤_, _<_}
 use native.Mathlib.Numerals.{add-one}
 use native.Mathlib.Omega.{arith}
-use lib.Count.{ones}
 use lib.Dec.{eqb, ltb}
 use lib.ListN.{getD}
 use borrow.Author.Tests.{eq-eqb, eqb-true, lt-ltb, ltb-true}
 use Rattle.bits.specs.Slot.{slot}
-use Rattle.bits.proofs.Tests.{decided, and-split, both, untrue}
+use Rattle.bits.proofs.Bools.{decided, and-split, both, untrue}
 use Rattle.routes.specs.Route.{keyOf}
 use Rattle.routes.specs.declared.Route.{Route}
 use Rattle.standing.specs.Standing.{remove}
-use Rattle.tree.specs.Node.{bitsOf, childOf, baseOf, isSet, childAt}
+use Rattle.tree.specs.Node.{bitsOf, childOf, isSet, childAt}
 use Rattle.tree.specs.Image.{node, word, nodeStands, hopFor}
-use Rattle.tree_same.specs.Read.{reached, leads}
+use Rattle.tree_same.specs.Read.{reached, leads, hopPlaceAt}
 use Rattle.tree_same.specs.Order.{ints, Order, standsAt}
 use Rattle.tree_same.specs.Holding.{Holding}
 use Rattle.tree_same.specs.Listed.{routesHeld}
@@ -38,7 +37,7 @@ use Rattle.tree_change.proofs.Ways.{held-leads, child-held, inner-held}
 use Rattle.tree_change.proofs.Places.{hop-at-bit, shaped}
 use Rattle.tree_change.proofs.Midways.{Midway, mid-shape, end-stands, mid-words}
 use Rattle.tree_change.proofs.Replaces.{its-node, its-bit}
-use Rattle.tree_change.proofs.Without.{Without, without, held-with}
+use Rattle.tree_change.proofs.Without.{Without, without-is, held-with}
 use Rattle.tree_change.proofs.Bares.{own-word, absent-word, full-way}
 
 -- ---- the hop
@@ -83,14 +82,14 @@ module _ {ws₀ hs₀ : List ℕ} {n x a len b : ℕ} (k : ℕ) (r : Standing ws
   }
 
   others : Without (routesHeld ws₀ hs₀) a len
-  others = without (routesHeld ws₀ hs₀) a len (r .found .good) (r .prefix) (r .stood)
+  others = without-is (routesHeld ws₀ hs₀) a len (r .found .good) (r .prefix) (r .stood)
 
   down-shape : Shaped (downTo st′ a deep) hop′
   down-shape = down-shaped st′ a small hop′ deep (omega (arith, short)) (fits rs′ (others .good))
 
   -- the place of the hop
   abbrev place : ℕ
-  place = baseOf ws₀ x + ones (bitsOf ws₀ x % 2 ^ b)
+  place = hopPlaceAt ws₀ x b
 
   pub shrink-start : {ws hs : List ℕ} → HopPut ws ws₀ hs hs₀ n x b place (getD hs₀ place 0)
       → Midway (remove (keyOf a len) (routesHeld ws₀ hs₀)) a (len / 4) ws hs n k

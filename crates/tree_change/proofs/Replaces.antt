@@ -3,31 +3,29 @@ use mathlib.Core.Path.{_≡_, refl, sym, _∙_, ap, ap₂, subst}
 use mathlib.Core.Logic.{_⊎_, inl, inr}
 use mathlib.Core.Bool.{Bool, true}
 use mathlib.Core.List.{List}
-use Prim.Native.Nat.{ℕ, _+_, _*_, _/_, _%_, _^_, _≤_, _<_}
+use Prim.Native.Nat.{ℕ, _*_, _/_, _≤_, _<_}
 use native.Mathlib.Omega.{arith}
 use lib.Dec.{ltb}
 use lib.ListN.{length, getD, set, length-set}
 use borrow.Author.Tests.{ltb-true}
-use lib.Count.{ones}
 use Rattle.bits.specs.Slot.{slot}
-use Rattle.bits.proofs.Tests.{below?}
+use Rattle.bits.proofs.Bools.{below?}
 use Rattle.routes.specs.Route.{Fine}
 use Rattle.routes.specs.declared.Route.{Route}
 use Rattle.standing.specs.Standing.{insert}
 use Rattle.standing.proofs.Standing.{insert-good}
-use Rattle.tree.specs.Node.{bitsOf, baseOf}
 use Rattle.tree.specs.Image.{node, bitHop, inner, nodeStands, hopFor}
-use Rattle.tree_same.specs.Read.{reached}
+use Rattle.tree_same.specs.Read.{reached, hopPlaceAt}
 use Rattle.tree_same.specs.Order.{standsAt}
 use Rattle.tree_same.specs.Holding.{Holding}
 use Rattle.tree_same.specs.Listed.{routesHeld}
 use Rattle.tree_same.proofs.Back.{Shaped}
 use Rattle.tree_hold.specs.More.{downTo, withHop}
 use Rattle.tree_hold.proofs.Each.{past}
-use Rattle.tree_hold.proofs.Taken.{lenAt, bitsAt, hopPlace}
+use Rattle.tree_hold.proofs.Taken.{lenAt, bitsAt}
 use Rattle.tree_hold.proofs.Replaced.{replace-holds}
 use Rattle.tree_hold.proofs.Paths.{insert-nodes, insert-hops, stands-hop}
-use Rattle.tree_change.specs.Changed.{route}
+use Rattle.tree_change.specs.Changed.{unmarkedRoute}
 use Rattle.tree_change.specs.Stages.{Standing, Become}
 use Rattle.tree_change.proofs.Places.{bit-len, bit-bits, hop-at-bit, shaped, way-stands}
 use Rattle.tree_change.proofs.Midways.{down-any, become}
@@ -64,32 +62,33 @@ module _ {ws hs : List ℕ} {n k x a len b : ℕ} (r : Standing ws hs n k x a le
   its-bit = ap (ltb 0) (hop-at-bit (r .bit) short hop) ∙ its-hop
 
   module _ (h : ℕ) (some : 0 < h) (most : h ≤ 32767) where
-    fine : Fine (route a len h)
+    fine : Fine (unmarkedRoute a len h)
     fine = record { prefix = r .prefix; hop-one = some; hop-ok = most; mark-ok = omega arith }
 
-    pub replace-done : (y : ℕ) → y ≡ baseOf ws x + ones (bitsOf ws x % 2 ^ b) → Become (insert (route a len h) rs) ws hs ws (set hs y h) n
+    pub replace-done : (y : ℕ) → y ≡ hopPlaceAt ws x b → Become (insert (unmarkedRoute a len h) rs) ws hs ws (set hs y h) n
     replace-done y e =
-        let q : y ≡ hopPlace ws (reached ws deep path) b = e ∙ ap (λ (z : ℕ). hopPlace ws z b) (r .way .at) in
+        let q : y ≡ hopPlaceAt ws (reached ws deep path) b = e ∙ ap (λ (z : ℕ). hopPlaceAt ws z b) (r .way .at) in
         let p = replace-holds deep path b h shape (r .bit .small) its-node its-bit some (r .found .holds) in
-        let t : withHop hop (lenAt deep b) (bitsAt path b) h ≡ hopFor (insert (route a len h) rs) =
-        ap₂ (λ (u v : ℕ). withHop hop u v h) (bit-len (r .bit) short) (bit-bits (r .bit) short) ∙ sym (insert-hops (route a len h) rs fine (r .found .good)) in
-        let g = insert-good (route a len h) rs fine (r .found .good) in
-        let s : downTo st a deep ≡ nodeStands (insert (route a len h) rs) = sym (insert-nodes (route a len h) rs fine (r .found .good)) in
-        let o = subst (λ (z : ℕ → ℕ → ℕ). Holding st z ws (set hs (hopPlace ws (reached ws deep path) b) h) n) t p in
+        let t : withHop hop (lenAt deep b) (bitsAt path b) h ≡ hopFor (insert (unmarkedRoute a len h) rs) =
+        ap₂ (λ (u v : ℕ). withHop hop u v h) (bit-len (r .bit) short) (bit-bits (r .bit) short) ∙ sym
+        (insert-hops (unmarkedRoute a len h) rs fine (r .found .good)) in
+        let g = insert-good (unmarkedRoute a len h) rs fine (r .found .good) in
+        let s : downTo st a deep ≡ nodeStands (insert (unmarkedRoute a len h) rs) = sym (insert-nodes (unmarkedRoute a len h) rs fine (r .found .good)) in
+        let o = subst (λ (z : ℕ → ℕ → ℕ). Holding st z ws (set hs (hopPlaceAt ws (reached ws deep path) b) h) n) t p in
         let d = down-any st hop a deep (r .prefix .addr-ok) (omega (arith, short)) shape its-node o in
         become g
-        (subst (λ (z : ℕ). Holding (nodeStands (insert (route a len h) rs)) (hopFor (insert (route a len h) rs)) ws (set hs z h) n) (sym q)
-        (subst (λ (z : ℕ → ℕ → Bool). Holding z (hopFor (insert (route a len h) rs)) ws (set hs (hopPlace ws (reached ws deep path) b) h) n) s d))
+        (subst (λ (z : ℕ). Holding (nodeStands (insert (unmarkedRoute a len h) rs)) (hopFor (insert (unmarkedRoute a len h) rs)) ws (set hs z h) n) (sym q)
+        (subst (λ (z : ℕ → ℕ → Bool). Holding z (hopFor (insert (unmarkedRoute a len h) rs)) ws (set hs (hopPlaceAt ws (reached ws deep path) b) h) n) s d))
         refl (length-set hs y h)
 
     -- a hop stands there, so the place is lent
-    pub replace-room : (y : ℕ) → y ≡ baseOf ws x + ones (bitsOf ws x % 2 ^ b) → y < length hs
+    pub replace-room : (y : ℕ) → y ≡ hopPlaceAt ws x b → y < length hs
     unfolding bitHop
     replace-room y e = go (below? y (length hs))
       where
         there : getD hs y 0 ≡ bitHop hop (node deep path) b
         there =
-            ap (λ (z : ℕ). getD hs z 0) (e ∙ ap (λ (z : ℕ). hopPlace ws z b) (r .way .at)) ∙ r .found .holds .put deep path b its-node (r .bit .small) its-bit
+            ap (λ (z : ℕ). getD hs z 0) (e ∙ ap (λ (z : ℕ). hopPlaceAt ws z b) (r .way .at)) ∙ r .found .holds .put deep path b its-node (r .bit .small) its-bit
 
         go : (y < length hs) ⊎ (length hs ≤ y) → y < length hs
         go (inl u) = u

@@ -7,7 +7,7 @@ use mathlib.Core.List.{List, [], _∷_}
 use Prim.Native.Nat.{ℕ, _^_, _<_}
 use native.Mathlib.Omega.{arith}
 use lib.ListN.{length, getD}
-use Rattle.bits.proofs.Tests.{decided}
+use Rattle.bits.proofs.Bools.{decided}
 use Rattle.routes.specs.Input.{properPrefix}
 use Rattle.routes.specs.Route.{keyOf}
 use Rattle.routes.specs.Said.{accepts}
@@ -15,7 +15,7 @@ use Rattle.routes.specs.declared.Route.{Route}
 use Rattle.standing.specs.Standing.{stands}
 use Rattle.standing.proofs.Standing.{remove-good, remove-length}
 use Rattle.tree.specs.Image.{nodeNeed}
-use Rattle.tree_build.specs.Built.{Out}
+use Rattle.tree_build.specs.Built.{ImageOut}
 use Rattle.tree_same.specs.Listed.{routesHeld}
 use Rattle.tree_check.specs.WellFormed.{wellFormed}
 use Rattle.tree_change.specs.Changed.{takenFrom, imageWithdrawn}
@@ -41,7 +41,7 @@ module _ (ws hs : List ℕ) (a len : ℕ) (narrow : (j : ℕ) → getD ws j 0 < 
         hops = omega (arith, r .hops);
       }
 
-  pub case-withdrawn : (o : Out) → Withdrawing ws hs a len o → imageWithdrawn ws hs a len ≡ o
+  pub case-withdrawn : (o : ImageOut) → Withdrawing ws hs a len o → imageWithdrawn ws hs a len ≡ o
   unfolding imageWithdrawn takenFrom
   case-withdrawn o (no-prefix e) = rw e refl
   case-withdrawn o (no-image e f) = rw (e, f) refl
@@ -49,13 +49,13 @@ module _ (ws hs : List ℕ) (a len : ℕ) (narrow : (j : ℕ) → getD ws j 0 < 
   case-withdrawn o (taken-out e f g) = let r = left-fit f g in rw (e, f, g) (made-fits rs′ ws hs (r .nodes) (r .hops))
 
   some-case : (properPrefix a len ≡ true) ⊎ (properPrefix a len ≡ false) → (wellFormed ws hs ≡ true) ⊎ (wellFormed ws hs ≡ false)
-      → (stands (keyOf a len) (routesHeld ws hs) ≡ true) ⊎ (stands (keyOf a len) (routesHeld ws hs) ≡ false) → (o : Out) × Withdrawing ws hs a len o
+      → (stands (keyOf a len) (routesHeld ws hs) ≡ true) ⊎ (stands (keyOf a len) (routesHeld ws hs) ≡ false) → (o : ImageOut) × Withdrawing ws hs a len o
   some-case (inr e) f g = (_, no-prefix e)
   some-case (inl e) (inr f) g = (_, no-image e f)
   some-case (inl e) (inl f) (inr g) = (_, no-route e f g)
   some-case (inl e) (inl f) (inl g) = (_, taken-out e f g)
 
-  pub withdraw-cases : (o : Out) → (imageWithdrawn ws hs a len ≡ o) ↔ Withdrawing ws hs a len o
+  pub withdraw-cases : (o : ImageOut) → (imageWithdrawn ws hs a len ≡ o) ↔ Withdrawing ws hs a len o
   withdraw-cases o = (into, case-withdrawn o)
     where
       into : imageWithdrawn ws hs a len ≡ o → Withdrawing ws hs a len o
@@ -63,13 +63,13 @@ module _ (ws hs : List ℕ) (a len : ℕ) (narrow : (j : ℕ) → getD ws j 0 < 
           let c = some-case (decided (properPrefix a len)) (decided (wellFormed ws hs)) (decided (stands (keyOf a len) (routesHeld ws hs))) in
           subst (Withdrawing ws hs a len) (sym (case-withdrawn (c .0) (c .1)) ∙ e) (c .1)
 
-  abbrev after : Out
+  abbrev after : ImageOut
   after = imageWithdrawn ws hs a len
 
   pub withdraw-leaves : accepts (after .said) ≡ false → (after .words ≡ ws) × (after .hops ≡ hs)
   withdraw-leaves f = go after (withdraw-cases after .0 refl) f
     where
-      go : (o : Out) → Withdrawing ws hs a len o → accepts (o .said) ≡ false → (o .words ≡ ws) × (o .hops ≡ hs)
+      go : (o : ImageOut) → Withdrawing ws hs a len o → accepts (o .said) ≡ false → (o .words ≡ ws) × (o .hops ≡ hs)
       go o (no-prefix e) u = (refl, refl)
       go o (no-image e g) u = (refl, refl)
       go o (no-route e g k) u = (refl, refl)
@@ -84,7 +84,7 @@ module _ (ws hs : List ℕ) (a len : ℕ) (narrow : (j : ℕ) → getD ws j 0 < 
   pub withdraw-taken : accepts (after .said) ≡ true → Taken
   withdraw-taken f = go after refl (withdraw-cases after .0 refl) f
     where
-      go : (o : Out) → after ≡ o → Withdrawing ws hs a len o → accepts (o .said) ≡ true → Taken
+      go : (o : ImageOut) → after ≡ o → Withdrawing ws hs a len o → accepts (o .said) ≡ true → Taken
       go o q (no-prefix e) u = absurd (true≢false (sym u))
       go o q (no-image e g) u = absurd (true≢false (sym u))
       go o q (no-route e g k) u = absurd (true≢false (sym u))
@@ -92,4 +92,4 @@ module _ (ws hs : List ℕ) (a len : ℕ) (narrow : (j : ℕ) → getD ws j 0 < 
 
   -- a prefix that stands in a well-formed image is always taken out
   pub withdrawn-fits : properPrefix a len ≡ true → wellFormed ws hs ≡ true → stands (keyOf a len) (routesHeld ws hs) ≡ true → accepts (after .said) ≡ true
-  withdrawn-fits e f g = ap (λ (o : Out). accepts (o .said)) (case-withdrawn _ (taken-out e f g))
+  withdrawn-fits e f g = ap (λ (o : ImageOut). accepts (o .said)) (case-withdrawn _ (taken-out e f g))

@@ -8,26 +8,26 @@ use lib.Dec.{ltb}
 use lib.ListN.{length, getD}
 use borrow.Author.Tests.{eq-eqb, lt-ltb}
 use Rattle.bits.specs.Slot.{slot}
-use Rattle.bits.proofs.Tests.{decided}
+use Rattle.bits.proofs.Bools.{decided}
 use Rattle.routes.specs.Route.{keyOf, Fine, Good}
 use Rattle.routes.specs.Said.{accepts}
 use Rattle.routes.specs.declared.Route.{Route}
 use Rattle.routes.proofs.Meaning.{prefix-true}
 use Rattle.standing.specs.Standing.{stands, remove}
 use Rattle.standing.proofs.Changed.{remove-absent}
-use Rattle.tree.specs.Parts.{padded}
+use Rattle.tree.specs.Parts.{zeroPadded}
 use Rattle.tree.specs.Image.{hops, imageBy, nodeStands, hopFor, nodeNeed}
-use Rattle.tree_build.specs.Built.{Out}
+use Rattle.tree_build.specs.Built.{ImageOut}
 use Rattle.tree_same.specs.Holding.{Holding}
 use Rattle.tree_same.specs.Listed.{routesHeld}
-use Rattle.tree_check.specs.WellFormed.{used}
+use Rattle.tree_check.specs.WellFormed.{nodesUsed}
 use Rattle.tree_check.proofs.Meaning.{well-formed-is}
 use Rattle.tree_check.proofs.Held.{held-holds, held-image}
 use Rattle.tree_hold.specs.More.{downTo, withHop}
 use Rattle.tree_hold.proofs.Paths.{insert-hops, stands-hop}
-use Rattle.tree_change.specs.Changed.{route, imageAnnounced, imageWithdrawn, hopPlace}
-use Rattle.tree_change.specs.Cases.{Asked, routesWith, Left}
-use Rattle.tree_change.proofs.Answers.{is-fine}
+use Rattle.tree_change.specs.Changed.{unmarkedRoute, imageAnnounced, imageWithdrawn, prefixPlace}
+use Rattle.tree_change.specs.Cases.{ImageAsked, routesWith, ImageLeft}
+use Rattle.tree_change.proofs.ChangeReturns.{is-fine}
 use Rattle.tree_change.proofs.Cases.{its-fit, announce-put}
 use Rattle.tree_change.proofs.Takes.{Taken, withdraw-taken}
 use Rattle.tree_change.proofs.Fresh.{announce-left, change-sizes, change-holds}
@@ -36,7 +36,7 @@ use Rattle.tree_change.proofs.Frame.{place-shared, cells-shared}
 
 -- the hops of a list's image, in n cells
 abbrev cells : List Route → ℕ → ℕ → ℕ
-cells rs n j = getD (padded n (hops (nodeStands rs) (hopFor rs))) j 0
+cells rs n j = getD (zeroPadded n (hops (nodeStands rs) (hopFor rs))) j 0
 
 -- the words of the other routes with the path of the prefix
 abbrev base : List Route → ℕ → ℕ → ℕ → ℕ → List ℕ
@@ -47,7 +47,7 @@ unfolding withHop
 with-own hop l q h = rw (eq-eqb l l refl, eq-eqb q q refl) refl
 
 module _ (ws hs : List ℕ) (a len h : ℕ) (narrow : (j : ℕ) → getD ws j 0 < 2 ^ 32) (ok : accepts (imageAnnounced ws hs a len h .said) ≡ true) where
-  abbrev after : Out
+  abbrev after : ImageOut
   after = imageAnnounced ws hs a len h
 
   abbrev rs : List Route
@@ -56,16 +56,16 @@ module _ (ws hs : List ℕ) (a len h : ℕ) (narrow : (j : ℕ) → getD ws j 0 
   abbrev rs′ : List Route
   rs′ = routesWith ws hs a len h
 
-  asked : Asked ws hs a len h
+  asked : ImageAsked ws hs a len h
   asked = announce-put ws hs a len h ok .asked
 
-  fine : Fine (route a len h)
+  fine : Fine (unmarkedRoute a len h)
   fine = is-fine a len h (asked .prefix) (asked .hop)
 
   good : Good rs
   good = its-fit ws hs narrow (asked .image) .good
 
-  left : Left rs′ ws hs after
+  left : ImageLeft rs′ ws hs after
   left = announce-left ws hs a len narrow h ok
 
   good′ : Good rs′
@@ -80,50 +80,50 @@ module _ (ws hs : List ℕ) (a len h : ℕ) (narrow : (j : ℕ) → getD ws j 0 
   stood′ : stands (keyOf a len) rs′ ≡ true
   stood′ =
       stands-hop a len rs′ (fine .prefix) good′
-      ∙ ap (ltb 0) (ap (λ (f : ℕ → ℕ → ℕ). f len (slot len a)) (insert-hops (route a len h) rs fine good) ∙ with-own (hopFor rs) len (slot len a) h)
+      ∙ ap (ltb 0) (ap (λ (f : ℕ → ℕ → ℕ). f len (slot len a)) (insert-hops (unmarkedRoute a len h) rs fine good) ∙ with-own (hopFor rs) len (slot len a) h)
       ∙ lt-ltb 0 h (fine .hop-one)
 
   others : remove (keyOf a len) rs′ ≡ remove (keyOf a len) rs
-  others = out-again (route a len h) rs fine good
+  others = out-again (unmarkedRoute a len h) rs fine good
 
   -- the cells of the new image below the place are those of the other routes
-  new-cells : (j : ℕ) → j < hopPlace (after .words) len (slot len a) → getD (after .hops) j 0 ≡ cells (remove (keyOf a len) rs) (length hs) j
+  new-cells : (j : ℕ) → j < prefixPlace (after .words) len (slot len a) → getD (after .hops) j 0 ≡ cells (remove (keyOf a len) rs) (length hs) j
   new-cells j l =
       cells-shared rs′ a len good′ (fine .prefix) stood′ held′ j l ∙ ap₂ (λ (n : ℕ) (x : List Route). cells x n j) (sizes .1) others
 
-  held : Holding (nodeStands rs) (hopFor rs) ws hs (used ws)
-  held = held-holds ws hs (used ws) (well-formed-is ws hs (asked .image)) narrow
+  held : Holding (nodeStands rs) (hopFor rs) ws hs (nodesUsed ws)
+  held = held-holds ws hs (nodesUsed ws) (well-formed-is ws hs (asked .image)) narrow
 
   -- and so are those of the old one
-  old-cells : (stands (keyOf a len) rs ≡ true) ⊎ (stands (keyOf a len) rs ≡ false) → (j : ℕ) → j < hopPlace (after .words) len (slot len a)
+  old-cells : (stands (keyOf a len) rs ≡ true) ⊎ (stands (keyOf a len) rs ≡ false) → (j : ℕ) → j < prefixPlace (after .words) len (slot len a)
       → getD hs j 0 ≡ cells (remove (keyOf a len) rs) (length hs) j
   unfolding imageBy
   old-cells (inl s) j l = cells-shared rs a len good (fine .prefix) s held j (rw same-place l)
     where
-      same-place : hopPlace ws len (slot len a) ≡ hopPlace (after .words) len (slot len a)
+      same-place : prefixPlace ws len (slot len a) ≡ prefixPlace (after .words) len (slot len a)
       same-place =
           place-shared rs a len good (fine .prefix) s held
           ∙ sym (place-shared rs′ a len good′ (fine .prefix) stood′ held′ ∙ shared)
         where
-          shared : hopPlace (base (remove (keyOf a len) rs′) a len (length (after .words)) (length (after .hops))) len (slot len a)
-              ≡ hopPlace (base (remove (keyOf a len) rs) a len (length ws) (length hs)) len (slot len a)
+          shared : prefixPlace (base (remove (keyOf a len) rs′) a len (length (after .words)) (length (after .hops))) len (slot len a)
+              ≡ prefixPlace (base (remove (keyOf a len) rs) a len (length ws) (length hs)) len (slot len a)
           shared =
-              ap₂ (λ (m n : ℕ). hopPlace (base (remove (keyOf a len) rs′) a len m n) len (slot len a)) (sizes .0) (sizes .1)
-              ∙ ap (λ (x : List Route). hopPlace (base x a len (length ws) (length hs)) len (slot len a)) others
+              ap₂ (λ (m n : ℕ). prefixPlace (base (remove (keyOf a len) rs′) a len m n) len (slot len a)) (sizes .0) (sizes .1)
+              ∙ ap (λ (x : List Route). prefixPlace (base x a len (length ws) (length hs)) len (slot len a)) others
   old-cells (inr s) j l =
-      ap (λ (v : List ℕ). getD v j 0) (held-image ws hs (used ws) (well-formed-is ws hs (asked .image)) narrow .1)
+      ap (λ (v : List ℕ). getD v j 0) (held-image ws hs (nodesUsed ws) (well-formed-is ws hs (asked .image)) narrow .1)
       ∙ ap (λ (x : List Route). cells x (length hs) j) (sym (remove-absent (keyOf a len) rs s))
 
-  pub announce-hops-before : (j : ℕ) → j < hopPlace (after .words) len (slot len a) → getD (after .hops) j 0 ≡ getD hs j 0
+  pub announce-hops-before : (j : ℕ) → j < prefixPlace (after .words) len (slot len a) → getD (after .hops) j 0 ≡ getD hs j 0
   announce-hops-before j l = new-cells j l ∙ sym (old-cells (decided (stands (keyOf a len) rs)) j l)
 
 module _ (ws hs : List ℕ) (a len : ℕ) (narrow : (j : ℕ) → getD ws j 0 < 2 ^ 32) (ok : accepts (imageWithdrawn ws hs a len .said) ≡ true) where
   taken : Taken ws hs a len narrow
   taken = withdraw-taken ws hs a len narrow ok
 
-  pub withdraw-hops-before : (j : ℕ) → j < hopPlace ws len (slot len a) → getD (imageWithdrawn ws hs a len .hops) j 0 ≡ getD hs j 0
+  pub withdraw-hops-before : (j : ℕ) → j < prefixPlace ws len (slot len a) → getD (imageWithdrawn ws hs a len .hops) j 0 ≡ getD hs j 0
   unfolding imageBy
   withdraw-hops-before j l =
-      ap (λ (o : Out). getD (o .hops) j 0) (taken .told)
+      ap (λ (o : ImageOut). getD (o .hops) j 0) (taken .told)
       ∙ sym (cells-shared (routesHeld ws hs) a len (its-fit ws hs narrow (taken .image) .good) (prefix-true a len (taken .prefix)) (taken .stood)
-      (held-holds ws hs (used ws) (well-formed-is ws hs (taken .image)) narrow) j l)
+      (held-holds ws hs (nodesUsed ws) (well-formed-is ws hs (taken .image)) narrow) j l)

@@ -11,14 +11,14 @@ use Rattle.bits.specs.Bit.{bitAt}
 use Rattle.bits.specs.Count.{bit}
 use Rattle.bits.specs.Slot.{slot}
 use Rattle.bits.proofs.Slots.{slot-up, slot-zero}
-use Rattle.bits.proofs.Tests.{both}
+use Rattle.bits.proofs.Bools.{both}
 use Rattle.tree.specs.Node.{bitsOf, childOf, isSet, childAt}
 use Rattle.tree.specs.Image.{node, inner, imageBy}
 use Rattle.tree.proofs.Nodes.{inner-bit, child-bit}
 use Rattle.tree_same.specs.Read.{reached, leads}
 use Rattle.tree_same.specs.Order.{Order, standsAt}
 use Rattle.tree_same.specs.Holding.{Holding}
-use Rattle.tree_same.proofs.Back.{Shaped, set-is, leads-is}
+use Rattle.tree_same.proofs.Back.{Shaped, bit-set-is, leads-is}
 use Rattle.tree_same.proofs.Holdings.{holds-image, holds-done}
 use Rattle.tree_check.proofs.Held.{fewer-exts, exts-next, exts-mono}
 use Rattle.tree_change.specs.Stages.{Descent}
@@ -96,9 +96,9 @@ module _ {st : ℕ → ℕ → Bool} {hop : ℕ → ℕ → ℕ} {ws hs : List �
 
   pub child-held : (m p c : ℕ) → standsAt st m p ≡ true → c < 16 → isSet (bitsOf ws (reached ws m p)) (16 + c) ≡ st (suc m) (p * 16 + c)
   child-held m p c e l =
-      set-is (bitsOf ws (reached ws m p)) (16 + c) (st (suc m) (p * 16 + c))
+      bit-set-is (bitsOf ws (reached ws m p)) (16 + c) (st (suc m) (p * 16 + c))
       (ap (λ (z : ℕ). bitAt z (16 + c)) (h .right m p e) ∙ child-bit st hop (node m p) c l ∙ ap (λ (z : ℕ). bit (st z (p * 16 + c))) (add-one m))
 
   pub inner-held : (m p b : ℕ) → standsAt st m p ≡ true → b < 15 → isSet (bitsOf ws (reached ws m p)) b ≡ inner hop (node m p) b
   inner-held m p b e l =
-      set-is (bitsOf ws (reached ws m p)) b (inner hop (node m p) b) (ap (λ (z : ℕ). bitAt z b) (h .right m p e) ∙ inner-bit st hop (node m p) b l)
+      bit-set-is (bitsOf ws (reached ws m p)) b (inner hop (node m p) b) (ap (λ (z : ℕ). bitAt z b) (h .right m p e) ∙ inner-bit st hop (node m p) b l)

@@ -7,7 +7,7 @@ use native.Mathlib.Omega.{arith}
 use lib.Dec.{eqb, ltb}
 use borrow.Author.Tests.{eq-eqb, ltb-false}
 use Rattle.bits.specs.Slot.{slot}
-use Rattle.bits.proofs.Tests.{untrue}
+use Rattle.bits.proofs.Bools.{untrue}
 use Rattle.routes.specs.Route.{key, keyOf, Prefix, Fine, Good}
 use Rattle.routes.specs.declared.Route.{Route}
 use Rattle.routes.proofs.Goods.{good-fine, key-parts}
@@ -55,8 +55,8 @@ pub record Without (rs : List Route) (a len : ℕ) : Type 0 where
   pub hops : hopFor rs ≡ withHop (hopFor (remove (keyOf a len) rs)) len (slot len a) hop
   pub gone : hopFor (remove (keyOf a len) rs) len (slot len a) ≡ 0
 
-pub without : (rs : List Route) (a len : ℕ) → Good rs → Prefix a len → stands (keyOf a len) rs ≡ true → Without rs a len
-without rs a len g p t = go (stands-is (keyOf a len) rs t)
+pub without-is : (rs : List Route) (a len : ℕ) → Good rs → Prefix a len → stands (keyOf a len) rs ≡ true → Without rs a len
+without-is rs a len g p t = go (stands-is (keyOf a len) rs t)
   where
     zero-of : (z : ℕ) → ltb 0 z ≡ false → z ≡ 0
     zero-of z e = omega (arith, ltb-false 0 z e)

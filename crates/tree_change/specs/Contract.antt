@@ -3,13 +3,13 @@
 use mathlib.Core.List.{List}
 use mathlib.Core.Path.{_≡_}
 use Prim.Native.Nat.{ℕ}
-use Rattle.tree_build.specs.Built.{out}
-use Rattle.tree_change.specs.Changed.{saysAnnounced, saysWithdrawn, imageAnnounced, imageWithdrawn}
-use Rattle.tree_change.specs.declared.Announced.{Announced}
-use Rattle.tree_change.specs.declared.Withdrawn.{Withdrawn}
+use Rattle.tree_build.specs.Built.{imageOut}
+use Rattle.tree_change.specs.Changed.{meansTreeAnnounced, meansTreeWithdrawn, imageAnnounced, imageWithdrawn}
+use Rattle.tree_change.specs.declared.TreeAnnounced.{TreeAnnounced}
+use Rattle.tree_change.specs.declared.TreeWithdrawn.{TreeWithdrawn}
 
-abbrev pub MeetsTreeAnnounce : List ℕ → List ℕ → ℕ → ℕ → ℕ → Announced → List ℕ → List ℕ → Type 0
-MeetsTreeAnnounce words hops addr len hop r ws hs = out (saysAnnounced r) ws hs ≡ imageAnnounced words hops addr len hop
+abbrev pub MeetsTreeAnnounce : List ℕ → List ℕ → ℕ → ℕ → ℕ → TreeAnnounced → List ℕ → List ℕ → Type 0
+MeetsTreeAnnounce words hops addr len hop r ws hs = imageOut (meansTreeAnnounced r) ws hs ≡ imageAnnounced words hops addr len hop
 
-abbrev pub MeetsTreeWithdraw : List ℕ → List ℕ → ℕ → ℕ → Withdrawn → List ℕ → List ℕ → Type 0
-MeetsTreeWithdraw words hops addr len r ws hs = out (saysWithdrawn r) ws hs ≡ imageWithdrawn words hops addr len
+abbrev pub MeetsTreeWithdraw : List ℕ → List ℕ → ℕ → ℕ → TreeWithdrawn → List ℕ → List ℕ → Type 0
+MeetsTreeWithdraw words hops addr len r ws hs = imageOut (meansTreeWithdrawn r) ws hs ≡ imageWithdrawn words hops addr len

@@ -15,7 +15,7 @@ use Rattle.tree_same.specs.Order.{ints, Order}
 use Rattle.tree_same.specs.Holding.{Holding}
 use Rattle.tree_same.specs.Listed.{routesHeld}
 use Rattle.tree_check.specs.WellFormed.{ordered, nodesIf}
-use Rattle.tree_change.specs.Changed.{route}
+use Rattle.tree_change.specs.Changed.{unmarkedRoute}
 
 -- a well-formed image of n nodes and k hops: it holds the routes that are read out of it
 pub record Found (ws hs : List ℕ) (n k : ℕ) : Type 0 where
@@ -45,7 +45,7 @@ pub record BitOf (a len b : ℕ) : Type 0 where
   pub is : b ≡ 2 ^ (len % 4) - 1 + slot len a % 2 ^ (len % 4)
 
 -- n is the number of nodes that the test of a well-formed image answers
-pub record Formed (ws hs : List ℕ) (n : ℕ) : Type 0 where
+pub record ImageFormed (ws hs : List ℕ) (n : ℕ) : Type 0 where
   pub found : Found ws hs n (ints ws n)
   pub nodes : n ≡ nodesIf (ordered ws) ws
   pub lent : (0 < n) × (3 * n ≤ length ws)
@@ -53,7 +53,7 @@ pub record Formed (ws hs : List ℕ) (n : ℕ) : Type 0 where
 -- a prefix that does not stand
 pub record New (ws hs : List ℕ) (n k x m a len h b : ℕ) : Type 0 where
   pub found : Found ws hs n k
-  pub fine : Fine (route a len h)
+  pub fine : Fine (unmarkedRoute a len h)
   pub way : Descent ws n a (len / 4) x m
   pub bit : BitOf a len b
   pub absent : stands (keyOf a len) (routesHeld ws hs) ≡ false
@@ -80,7 +80,7 @@ pub record Become (rs : List Route) (ws hs ws′ hs′ : List ℕ) (n : ℕ) : T
 
 -- the image with a prefix put in or its hop replaced, and without a prefix
 abbrev pub BecomeWith : List ℕ → List ℕ → ℕ → ℕ → ℕ → List ℕ → List ℕ → ℕ → Type 0
-BecomeWith ws hs a len h ws′ hs′ n = Become (insert (route a len h) (routesHeld ws hs)) ws hs ws′ hs′ n
+BecomeWith ws hs a len h ws′ hs′ n = Become (insert (unmarkedRoute a len h) (routesHeld ws hs)) ws hs ws′ hs′ n
 
 abbrev pub BecomeWithout : List ℕ → List ℕ → ℕ → ℕ → List ℕ → List ℕ → ℕ → Type 0
 BecomeWithout ws hs a len ws′ hs′ n = Become (remove (keyOf a len) (routesHeld ws hs)) ws hs ws′ hs′ n

@@ -53,7 +53,7 @@ pub fn own_bit(addr: u32, len: u32) -> u32
     requires { ⌜ len ≤ 32 ⌝ }
     ensures { λ r. ⌜ BitOf addr len r ⌝ }
 {
-    run::place(addr, len, len / 4)
+    run::node_bit(addr, len, len / 4)
 }
 
 // Whether the way down reached the depth of the prefix, and its bit is set there.

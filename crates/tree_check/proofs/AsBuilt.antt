@@ -6,14 +6,14 @@ use mathlib.Core.List.{List, [], _∷_, map}
 use Prim.Native.Nat.{ℕ, _*_, _^_, _≤_, _<_}
 use native.Mathlib.Omega.{arith}
 use lib.ListN.{length, getD}
-use Rattle.bits.proofs.Tests.{untrue}
+use Rattle.bits.proofs.Bools.{untrue}
 use Rattle.routes.specs.Record.{routesIn}
 use Rattle.routes.specs.Route.{plain, Good}
 use Rattle.routes.specs.Said.{accepted, refused}
 use Rattle.routes.specs.declared.Route.{Route}
 use Rattle.tree.specs.Image.{nodeStands, hopFor, imageOf, nodeNeed}
 use Rattle.tree.proofs.Needs.{hops-need}
-use Rattle.tree_build.specs.Built.{Out, built}
+use Rattle.tree_build.specs.Built.{ImageOut, built}
 use Rattle.tree_build.proofs.Serves.{built-accepts}
 use Rattle.tree_same.specs.Order.{ints}
 use Rattle.tree_same.specs.Listed.{routesHeld}
@@ -21,7 +21,7 @@ use Rattle.tree_same.proofs.Holdings.{hops-are, image-holding}
 use Rattle.tree_same.proofs.Same.{fits, image-held}
 use Rattle.tree_check.specs.Answers.{tested}
 use Rattle.tree_check.specs.Buildable.{Buildable}
-use Rattle.tree_check.specs.WellFormed.{used, wellFormed}
+use Rattle.tree_check.specs.WellFormed.{nodesUsed, wellFormed}
 use Rattle.tree_check.proofs.Meaning.{well-formed-is, is-well-formed, is-ordered}
 use Rattle.tree_check.proofs.Builds.{image-formed}
 use Rattle.tree_check.proofs.Held.{held-good}
@@ -48,21 +48,22 @@ pub test-as-build : (s ws hs vs : List ℕ) → built s ws hs .said ≡ accepted
 test-as-build s ws hs vs e =
     let k = built-accepts s ws hs vs e in
     ap₂ tested (k .words) (k .hops)
-    ∙ image-tested (routesIn s) (k .good-routes) (length ws) (length hs) (accepted-few s ws hs vs e) (k .nodes-room) (k .hops-room) ∙ ap accepted (sym (k .values))
+    ∙ image-tested (routesIn s) (k .good-routes) (length ws) (length hs) (accepted-few s ws hs vs e) (k .nodes-room) (k .hops-room) ∙ ap accepted
+    (sym (k .values))
 
 module _ (ws hs : List ℕ) where
   pub buildable-told : (b : Buildable ws hs) → tested ws hs ≡ accepted (b .nodes ∷ b .routes ∷ [])
   buildable-told b =
       let e = b .builds ws hs refl refl in
-      let p = test-as-build (b .input) ws hs (b .nodes ∷ b .routes ∷ []) (ap (λ (o : Out). o .said) e) in
+      let p = test-as-build (b .input) ws hs (b .nodes ∷ b .routes ∷ []) (ap (λ (o : ImageOut). o .said) e) in
       rw e at p
 
   -- it holds the routes of that input
   pub buildable-holds : (b : Buildable ws hs) → routesHeld ws hs ≡ map plain (routesIn (b .input))
   buildable-holds b =
       let e = b .builds ws hs refl refl in
-      let k = built-accepts (b .input) ws hs (b .nodes ∷ b .routes ∷ []) (ap (λ (o : Out). o .said) e) in
-      ap (λ (o : Out). routesHeld (o .words) (o .hops)) (sym e) ∙ ap₂ routesHeld (k .words) (k .hops)
+      let k = built-accepts (b .input) ws hs (b .nodes ∷ b .routes ∷ []) (ap (λ (o : ImageOut). o .said) e) in
+      ap (λ (o : ImageOut). routesHeld (o .words) (o .hops)) (sym e) ∙ ap₂ routesHeld (k .words) (k .hops)
       ∙ image-held (routesIn (b .input)) (length ws) (length hs) (k .good-routes) (k .nodes-room) (k .hops-room)
 
   -- (words are of 32 bits by their type)
@@ -72,4 +73,4 @@ module _ (ws hs : List ℕ) where
     unbuildable-told n = rw (untrue (wellFormed ws hs) (λ t. n (passes-builds ws hs narrow t))) refl
 
     pub formed-good : wellFormed ws hs ≡ true → Good (routesHeld ws hs)
-    formed-good formed = held-good ws hs (used ws) (well-formed-is ws hs formed) narrow
+    formed-good formed = held-good ws hs (nodesUsed ws) (well-formed-is ws hs formed) narrow

@@ -1,26 +1,45 @@
 -- What a build leaves is well formed: a node that stands has some route in it or below it, and so a bit set.
 use mathlib.Core.Path.{_≡_, refl, sym, _∙_, ap, subst}
 use mathlib.Core.Logic.{_⊎_, inl, inr}
-use mathlib.Core.Bool.{Bool, true, false, cond, not, _&&_, true≢false}
+use mathlib.Core.Bool.{Bool, true, false, cond, not}
 use mathlib.Core.List.{List, [], _∷_, List·Memᴰ, List·Memᴰ·head}
 use Prim.Native.Nat.{ℕ, zero, suc, _+_, _-_, _*_, _/_, _%_, _^_, _≤_, _<_}
 use native.Mathlib.Nat.{div-eq-of-lt}
 use native.Mathlib.Omega.{arith}
-use lib.Dec.{eqb, ltb}
+use lib.Dec.{ltb}
 use lib.Pow.{shr-le, pow-lt}
 use lib.ListN.{length, getD}
-use lib.Count.{ones}
 use borrow.Author.Tests.{lt-ltb, le-ltb, ltb-true, eq-eqb, ne-eqb}
 use Rattle.bits.specs.Bit.{bitAt}
 use Rattle.bits.specs.Count.{bit, count}
-use Rattle.bits.proofs.Tests.{both, below?, untrue}
+use Rattle.bits.proofs.Bools.{both, below?, untrue}
 use Rattle.routes.specs.Route.{Good}
 use Rattle.routes.specs.declared.Route.{Route}
 use Rattle.routes.proofs.Goods.{good-fine}
 use Rattle.standing.specs.Cells.{any, first}
 use Rattle.tree.specs.Node.{bitsOf, childOf, baseOf, sound}
-use Rattle.tree.specs.Parts.{gather, before}
-use Rattle.tree.specs.Image.{Node, node, innerLen, bitHop, inner, child, setBit, word, kids, hopsOf, nodes, words, hops, imageBy, imageOf, through, nodeStands, hopFor, nodeNeed}
+use Rattle.tree.specs.Parts.{before}
+use Rattle.tree.specs.Image.{
+  Node,
+  node,
+  innerLen,
+  bitHop,
+  inner,
+  child,
+  setBit,
+  word,
+  kids,
+  hopsOf,
+  nodes,
+  words,
+  hops,
+  imageBy,
+  imageOf,
+  through,
+  nodeStands,
+  hopFor,
+  nodeNeed,
+}
 use Rattle.tree.proofs.Counts.{count-hit}
 use Rattle.tree.proofs.Parts.{picked-length, gather-split}
 use Rattle.tree.proofs.Nodes.{up-next, inner-bit, clear-bit, child-bit}
@@ -52,7 +71,8 @@ module _ (rs : List Route) (g : Good rs) where
   hop = hopFor rs
 
   -- a route in a node is one of its bits
-  own-inner : (m p : ℕ) (r : Route) → List·Memᴰ r rs → through m p r ≡ true → r .len < 4 * (m + 1) → (bitOf m r < 15) × (inner hop (node m p) (bitOf m r) ≡ true)
+  own-inner : (m p : ℕ) (r : Route) → List·Memᴰ r rs → through m p r ≡ true → r .len < 4 * (m + 1) → (bitOf m r < 15) ×
+      (inner hop (node m p) (bitOf m r) ≡ true)
   unfolding bitHop
   own-inner m p r k t l =
       let f = good-fine rs g r k in
@@ -109,7 +129,8 @@ module _ (rs : List Route) (g : Good rs) where
       cases zero = inl refl
       cases (suc b) = inr (omega arith)
 
-      go : (b : ℕ) → (b < 15) ⊎ (15 ≤ b) → (b < 16) ⊎ (16 ≤ b) → bitAt 1 b ≡ bit (cond (ltb b 15) (inner hop (node 8 p) b) (cond (ltb b 16) false (child st (node 8 p) (b - 16))))
+      go : (b : ℕ) → (b < 15) ⊎ (15 ≤ b) → (b < 16) ⊎ (16 ≤ b) → bitAt 1 b ≡ bit
+          (cond (ltb b 15) (inner hop (node 8 p) b) (cond (ltb b 16) false (child st (node 8 p) (b - 16))))
       go b (inl l) v = rw (lt-ltb b 15 l) (small b l (cases b))
       go b (inr l) (inl v) = rw (le-ltb b 15 l, lt-ltb b 16 v) (one-bits b (omega arith))
       go b (inr l) (inr v) = rw (le-ltb b 15 l, le-ltb b 16 v, agree rs g .nine (p * 16 + (b - 16))) (one-bits b (omega arith))
@@ -127,7 +148,8 @@ module _ (rs : List Route) (g : Good rs) where
     hops-fit : length (hops st hop) ≤ h
     hops-fit = omega (arith, hops-need rs g)
 
-    its-words : (i : ℕ) (n : Node) → i < nodeNeed rs → at i ≡ n → (bitsOf ws i ≡ word st hop n) × (childOf ws i ≡ 1 + before (kids st) (nodes st) i) × (baseOf ws i ≡ before (hopsOf hop) (nodes st) i) × (i < length ws / 3)
+    its-words : (i : ℕ) (n : Node) → i < nodeNeed rs → at i ≡ n → (bitsOf ws i ≡ word st hop n) × (childOf ws i ≡ 1 + before (kids st) (nodes st) i)
+        × (baseOf ws i ≡ before (hopsOf hop) (nodes st) i) × (i < length ws / 3)
     unfolding imageBy
     its-words i n l e = node-words st hop (agree rs g) w h room hops-fit i n l e
 
@@ -186,7 +208,8 @@ module _ (rs : List Route) (g : Good rs) where
       }
 
 -- the root of no routes is bare, and that of some is a node like any other
-root-ok : (rs : List Route) (g : Good rs) (w h : ℕ) → 3 * nodeNeed rs ≤ w → length rs ≤ h → (bitsOf (imageOf rs w h .words) 0 ≡ 0) ⊎ (nodeOk 8 (imageOf rs w h .words) 0 ≡ true)
+root-ok : (rs : List Route) (g : Good rs) (w h : ℕ) → 3 * nodeNeed rs ≤ w → length rs ≤ h → (bitsOf (imageOf rs w h .words) 0 ≡ 0) ⊎
+    (nodeOk 8 (imageOf rs w h .words) 0 ≡ true)
 unfolding any first word setBit bitHop
 root-ok [] g w h room space =
     let up = up-next (nodeStands []) 8 in
@@ -203,7 +226,8 @@ root-ok (r ∷ rs) g w h room space =
     inr (node-ok (r ∷ rs) g w h room space 8 0 0 0 refl (omega (arith, ap length up)) (ap (λ (x : List Node). getD x 0 (node 0 0)) up)
     (any-mem (through 0 0) (r ∷ rs) r (List·Memᴰ·head refl) (pass-make 0 0 r (omega arith) (omega (arith, f .prefix .addr-ok)))))
 
-pub image-formed : (rs : List Route) (w h : ℕ) → Good rs → length rs ≤ 4096 → 3 * nodeNeed rs ≤ w → length rs ≤ h → WellFormed (imageOf rs w h .words) (imageOf rs w h .hops) (nodeNeed rs)
+pub image-formed : (rs : List Route) (w h : ℕ) → Good rs → length rs ≤ 4096 → 3 * nodeNeed rs ≤ w → length rs ≤ h → WellFormed
+    (imageOf rs w h .words) (imageOf rs w h .hops) (nodeNeed rs)
 unfolding imageBy
 image-formed rs w h g few room space =
     formed rs g w h room space few (root-ok rs g w h room space) (omega (arith, pad-length h (hops (nodeStands rs) (hopFor rs)) (hops-fit rs g w h room space)))

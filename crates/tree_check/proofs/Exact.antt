@@ -3,31 +3,28 @@
 use mathlib.Core.Path.{_≡_, refl, sym, _∙_, ap, ap₂}
 use mathlib.Core.List.{List, [], _∷_}
 use mathlib.Core.Bool.{true}
-use Prim.Native.Nat.{ℕ, _+_, _*_, _/_, _%_, _^_, _≤_, _<_}
+use Prim.Native.Nat.{ℕ, _/_, _^_, _≤_, _<_}
 use native.Mathlib.Omega.{arith}
 use lib.ListN.{length, getD}
 use borrow.Author.Tests.{le-ltb}
 use Rattle.routes.specs.Said.{Said, accepted}
-use Rattle.routes.specs.Record.{routesOf, written, routesIn}
+use Rattle.routes.specs.Record.{routesOf, routesIn}
 use Rattle.routes.specs.Route.{Good}
 use Rattle.routes.specs.declared.Route.{Route}
 use Rattle.routes.specs.Cases.{Checked, ragged, stopped, many, good}
 use Rattle.routes.proofs.Meaning.{input-checked, good-input}
 use Rattle.routes.proofs.Rows.{length-routes, length-written, routes-written, written-listed}
 use Rattle.tree.specs.Image.{imageOf, nodeNeed}
-use Rattle.tree_build.specs.Built.{Out, out, madeOf, afterInput, built}
+use Rattle.tree_build.specs.Built.{ImageOut, imageOut, madeOf, afterInput, built}
 use Rattle.tree_build.proofs.Serves.{built-accepts}
 use Rattle.tree_same.specs.Listed.{routesHeld}
-use Rattle.tree_check.specs.WellFormed.{used, wellFormed}
-use Rattle.tree_check.specs.Buildable.{Buildable}
+use Rattle.tree_check.specs.WellFormed.{nodesUsed, wellFormed}
+use Rattle.tree_check.specs.Buildable.{inputOf, Buildable}
 use Rattle.tree_check.proofs.Meaning.{well-formed-is, is-well-formed}
 use Rattle.tree_check.proofs.Builds.{image-formed}
 use Rattle.tree_check.proofs.Held.{held-good, held-image, held-nodes, held-hops}
 
--- the input of a good list of routes
-abbrev pub inputOf : List Route → List ℕ
-inputOf rs = written rs (length rs)
-
+-- the input of a good list has its routes
 pub input-routes : (rs : List Route) → Good rs → routesIn (inputOf rs) ≡ rs
 input-routes rs g =
     let d : length (inputOf rs) / 8 ≡ length rs = omega (arith, length-written rs (length rs)) in
@@ -41,7 +38,8 @@ input-built rs ws hs g few =
     (ap (λ (x : List Route). madeOf x ws hs) (input-routes rs g))
 
 pub made-fits : (rs : List Route) (ws hs : List ℕ) → nodeNeed rs ≤ length ws / 3 → length rs ≤ length hs
-    → madeOf rs ws hs ≡ out (accepted (nodeNeed rs ∷ length rs ∷ [])) (imageOf rs (length ws) (length hs) .words) (imageOf rs (length ws) (length hs) .hops)
+    → madeOf rs ws hs ≡ imageOut (accepted (nodeNeed rs ∷ length rs ∷ [])) (imageOf rs (length ws) (length hs) .words)
+    (imageOf rs (length ws) (length hs) .hops)
 unfolding madeOf
 made-fits rs ws hs a b = rw (le-ltb (length ws / 3) (nodeNeed rs) a, le-ltb (length hs) (length rs) b) refl
 
@@ -50,10 +48,10 @@ pub passes-builds : (ws hs : List ℕ) → ((j : ℕ) → getD ws j 0 < 2 ^ 32) 
 passes-builds ws hs narrow e =
     let w = well-formed-is ws hs e in
     let rs = routesHeld ws hs in
-    let g = held-good ws hs (used ws) w narrow in
-    let i = held-image ws hs (used ws) w narrow in
-    let k = held-nodes ws hs (used ws) w narrow in
-    let h = held-hops ws hs (used ws) w narrow in
+    let g = held-good ws hs (nodesUsed ws) w narrow in
+    let i = held-image ws hs (nodesUsed ws) w narrow in
+    let k = held-nodes ws hs (nodesUsed ws) w narrow in
+    let h = held-hops ws hs (nodesUsed ws) w narrow in
     record {
       input = inputOf (routesHeld ws hs);
       nodes = nodeNeed (routesHeld ws hs);
@@ -61,8 +59,9 @@ passes-builds ws hs narrow e =
       builds = λ ws₀ hs₀ a b.
           input-built (routesHeld ws hs) ws₀ hs₀ g (omega (arith, h, w .few))
           ∙ made-fits (routesHeld ws hs) ws₀ hs₀ (omega (arith, k, w .order .lent)) (omega (arith, h, w .room))
-          ∙ ap₂ (λ (x y : List ℕ). out (accepted (nodeNeed (routesHeld ws hs) ∷ length (routesHeld ws hs) ∷ [])) x y)
-          (ap₂ (λ (x y : ℕ). imageOf (routesHeld ws hs) x y .words) a b ∙ sym (i .0)) (ap₂ (λ (x y : ℕ). imageOf (routesHeld ws hs) x y .hops) a b ∙ sym (i .1));
+          ∙ ap₂ (λ (x y : List ℕ). imageOut (accepted (nodeNeed (routesHeld ws hs) ∷ length (routesHeld ws hs) ∷ [])) x y)
+          (ap₂ (λ (x y : ℕ). imageOf (routesHeld ws hs) x y .words) a b ∙ sym (i .0))
+          (ap₂ (λ (x y : ℕ). imageOf (routesHeld ws hs) x y .hops) a b ∙ sym (i .1));
     }
 
 -- an accepted input has at most 4,096 routes
@@ -81,14 +80,16 @@ pub built-passes : (s ws hs vs : List ℕ) → built s ws hs .said ≡ accepted 
 built-passes s ws hs vs e =
     let k = built-accepts s ws hs vs e in
     rw (k .words, k .hops)
-    (is-well-formed _ _ (nodeNeed (routesIn s)) (image-formed (routesIn s) (length ws) (length hs) (k .good-routes) (accepted-few s ws hs vs e) (k .nodes-room) (k .hops-room)))
+    (is-well-formed _ _ (nodeNeed (routesIn s)) (image-formed (routesIn s) (length ws) (length hs) (k .good-routes) (accepted-few s ws hs vs e)
+    (k .nodes-room) (k .hops-room)))
 
 pub builds-passes : (ws hs : List ℕ) → Buildable ws hs → wellFormed ws hs ≡ true
 builds-passes ws hs b =
     let e = b .builds ws hs refl refl in
-    let p = built-passes (b .input) ws hs (b .nodes ∷ b .routes ∷ []) (ap (λ (o : Out). o .said) e) in
+    let p = built-passes (b .input) ws hs (b .nodes ∷ b .routes ∷ []) (ap (λ (o : ImageOut). o .said) e) in
     rw e at p
 
 -- an image passes the test exactly when some record input builds it into arrays of these sizes
-pub passes-exactly : (ws hs : List ℕ) → ((j : ℕ) → getD ws j 0 < 2 ^ 32) → (wellFormed ws hs ≡ true → Buildable ws hs) × (Buildable ws hs → wellFormed ws hs ≡ true)
+pub passes-exactly : (ws hs : List ℕ) → ((j : ℕ) → getD ws j 0 < 2 ^ 32) → (wellFormed ws hs ≡ true → Buildable ws hs) ×
+    (Buildable ws hs → wellFormed ws hs ≡ true)
 passes-exactly ws hs narrow = (passes-builds ws hs narrow, builds-passes ws hs)

@@ -2,13 +2,13 @@
 -- the nodes that paths lead to are those that stand.
 use mathlib.Core.Path.{_≡_, refl, sym, _∙_, ap, subst}
 use mathlib.Core.Logic.{_⊎_, inl, inr}
-use mathlib.Core.Bool.{Bool, true, false, cond, not, _&&_, true≢false, false≢true}
-use mathlib.Core.List.{List, [], _∷_}
+use mathlib.Core.Bool.{Bool, true, false, cond, not, _&&_, true≢false}
+use mathlib.Core.List.{List}
 use Prim.Native.Nat.{ℕ, zero, suc, _+_, _-_, _*_, _/_, _%_, _^_, _≤_, _<_}
 use native.Mathlib.Nat.{mod-lt, add-zero, mul-le-mul-right, pow-suc, add-mul, one-mul}
 use native.Mathlib.Omega.{arith}
 use lib.Dec.{eqb, ltb, leb}
-use lib.Pow.{split, pow-pos, pow-add, shr-shr, shr-mod, high, low}
+use lib.Pow.{pow-pos, pow-add, shr-shr, shr-mod, high, low}
 use lib.ListN.{length, getD}
 use lib.Count.{ones}
 use borrow.Author.Tests.{lt-ltb, ltb-true, leb-true, le-leb, lt-leb, eqb-true, eq-eqb}
@@ -16,13 +16,12 @@ use Rattle.bits.specs.Bit.{bitAt}
 use Rattle.bits.specs.Slot.{slot}
 use Rattle.bits.specs.Count.{bit, count}
 use Rattle.bits.proofs.Slots.{slot-up, half-pow}
-use Rattle.bits.proofs.Tests.{decided, both, and-split, below?, untrue, same}
+use Rattle.bits.proofs.Bools.{decided, both, and-split, below?, untrue, same}
 use Rattle.routes.specs.Route.{Good}
 use Rattle.routes.specs.declared.Route.{Route}
 use Rattle.routes.proofs.Goods.{good-fine}
-use Rattle.standing.specs.Cells.{here}
 use Rattle.tree.specs.Node.{bitsOf, childOf, baseOf, isSet, sound, childAt}
-use Rattle.tree.specs.Image.{node, innerLen, bitHop, inner, child, setBit, word, nodes, words, hops, imageOf, through, nodeStands, hopFor, nodeNeed}
+use Rattle.tree.specs.Image.{node, innerLen, bitHop, inner, child, setBit, word, words, hops, imageOf, through, nodeStands, hopFor, nodeNeed}
 use Rattle.tree.proofs.Counts.{count-less}
 use Rattle.bits.proofs.Packed.{rank-count, upper-count}
 use Rattle.tree.proofs.Needs.{hops-need}
@@ -33,9 +32,9 @@ use Rattle.tree_build.proofs.Marks.{word-bits}
 use Rattle.tree_same.specs.Read.{reached, leads, hopAt, pathOf, bitFor, readOut}
 use Rattle.tree_same.specs.Order.{standsAt, exts, ints}
 use Rattle.tree_same.specs.Holding.{Holding}
-use Rattle.tree_same.specs.Listed.{listed, routesHeld}
+use Rattle.tree_same.specs.Listed.{routesHeld}
 use Rattle.tree_same.proofs.Lists.{Hopping, listed-good, listed-hop}
-use Rattle.tree_same.proofs.Back.{set-is, parts-of}
+use Rattle.tree_same.proofs.Back.{parts-of}
 use Rattle.tree_same.proofs.Holdings.{nodes-are, hops-are, holds-image}
 use Rattle.tree_same.proofs.Same.{hopping}
 use Rattle.tree_check.specs.WellFormed.{allFrom, nodeOk}
@@ -59,7 +58,8 @@ fewer-ints w b l t =
 pub fewer-exts : (w c : ℕ) → w < 2 ^ 32 → c < 16 → isSet w (16 + c) ≡ true → ones (w / 2 ^ 16 % 2 ^ c) < ones (w / 2 ^ 16)
 fewer-exts w c fit l t =
     let f : ℕ → Bool = λ i. isSet w (16 + i) in
-    let e : ones (w / 2 ^ 16) ≡ count (λ i. isSet w (16 + i)) 16 = ap ones (sym (shr-mod {n = w} 16 16 fit)) ∙ upper-count w (λ i. isSet w (16 + i)) 16 (λ i u. bit-of w (16 + i)) in
+    let e : ones (w / 2 ^ 16) ≡ count (λ i. isSet w (16 + i)) 16 = ap ones (sym (shr-mod {n = w} 16 16 fit)) ∙ upper-count w
+    (λ i. isSet w (16 + i)) 16 (λ i u. bit-of w (16 + i)) in
     rw (upper-count w (λ i. isSet w (16 + i)) c (λ i u. bit-of w (16 + i)), e) (count-less (λ i. isSet w (16 + i)) 16 c l t)
 
 step-mono : (f : ℕ → ℕ) → ((i : ℕ) → f i ≤ f (suc i)) → (k i : ℕ) → f i ≤ f (i + k)
@@ -75,10 +75,12 @@ unfolding ints
 ints-next ws i = refl
 
 pub exts-mono : (ws : List ℕ) (i n : ℕ) → i ≤ n → exts ws i ≤ exts ws n
-exts-mono ws i n l = let e : i + (n - i) ≡ n = omega arith in subst (λ (x : ℕ). exts ws i ≤ exts ws x) e (step-mono (exts ws) (λ j. omega (arith, exts-next ws j)) (n - i) i)
+exts-mono ws i n l = let e : i + (n - i) ≡ n = omega arith in subst (λ (x : ℕ). exts ws i ≤ exts ws x) e
+    (step-mono (exts ws) (λ j. omega (arith, exts-next ws j)) (n - i) i)
 
 pub ints-mono : (ws : List ℕ) (i n : ℕ) → i ≤ n → ints ws i ≤ ints ws n
-ints-mono ws i n l = let e : i + (n - i) ≡ n = omega arith in subst (λ (x : ℕ). ints ws i ≤ ints ws x) e (step-mono (ints ws) (λ j. omega (arith, ints-next ws j)) (n - i) i)
+ints-mono ws i n l = let e : i + (n - i) ≡ n = omega arith in subst (λ (x : ℕ). ints ws i ≤ ints ws x) e
+    (step-mono (ints ws) (λ j. omega (arith, ints-next ws j)) (n - i) i)
 
 -- the last four bits of a path
 leads-next : (ws : List ℕ) (m p c : ℕ) → c < 16 → leads ws m p ≡ true → isSet (bitsOf ws (reached ws m p)) (16 + c) ≡ true
@@ -130,7 +132,8 @@ some-bit : (n w : ℕ) → w < 2 ^ n → (w ≡ 0 → ⊥) → (k : ℕ) × (k <
 some-bit zero w l z = absurd (z (omega arith))
 some-bit (suc n) w l z = go (below? 0 (w % 2)) (λ u v. some-bit n (w / 2) u v)
   where
-    go : (0 < w % 2) ⊎ (w % 2 ≤ 0) → (w / 2 < 2 ^ n → (w / 2 ≡ 0 → ⊥) → (k : ℕ) × (k < n) × (isSet (w / 2) k ≡ true)) → (k : ℕ) × (k < suc n) × (isSet w k ≡ true)
+    go : (0 < w % 2) ⊎ (w % 2 ≤ 0) → (w / 2 < 2 ^ n → (w / 2 ≡ 0 → ⊥) → (k : ℕ) × (k < n) × (isSet (w / 2) k ≡ true)) → (k : ℕ) × (k < suc n) ×
+        (isSet w k ≡ true)
     go (inl u) ih = (0, omega arith, eq-eqb (w / 1 % 2) 1 (omega arith))
     go (inr u) ih =
         let r = ih (omega (arith, pow-suc 2 n)) (λ e. z (omega arith)) in
@@ -157,7 +160,8 @@ module _ (ws hs : List ℕ) (n : ℕ) (ok : WellFormed ws hs n) (narrow : (j : �
       )
 
   -- a child of a well-formed node is well formed
-  child-ok : (y c e : ℕ) → c < 16 → (bitsOf ws y ≡ 0) ⊎ (nodeOk (suc e) ws y ≡ true) → isSet (bitsOf ws y) (16 + c) ≡ true → nodeOk e ws (childAt (bitsOf ws y) (childOf ws y) c) ≡ true
+  child-ok : (y c e : ℕ) → c < 16 → (bitsOf ws y ≡ 0) ⊎ (nodeOk (suc e) ws y ≡ true) → isSet (bitsOf ws y) (16 + c) ≡ true → nodeOk e ws
+      (childAt (bitsOf ws y) (childOf ws y) c) ≡ true
   unfolding nodeOk
   child-ok y c e l (inl z) b = absurd (not-zero (bitsOf ws y) (16 + c) (eqb-true _ 1 b) z)
   child-ok y c e l (inr k) b =
@@ -174,11 +178,19 @@ module _ (ws hs : List ℕ) (n : ℕ) (ok : WellFormed ws hs n) (narrow : (j : �
       inr (child-ok (reached ws m (p / 16)) (p % 16) e (omega arith) (node-at m (p / 16) (suc e) (omega arith) (a .0)) (a .1))
 
   -- the hop at a set bit of such a node is a hop
-  hop-there : (m p b : ℕ) → leads ws m p ≡ true → b < 15 → isSet (bitsOf ws (reached ws m p)) b ≡ true → (1 ≤ hopAt ws hs (reached ws m p) b) × (hopAt ws hs (reached ws m p) b ≤ 32767)
+  hop-there : (m p b : ℕ) → leads ws m p ≡ true → b < 15 → isSet (bitsOf ws (reached ws m p)) b ≡ true → (1 ≤ hopAt ws hs (reached ws m p) b) ×
+      (hopAt ws hs (reached ws m p) b ≤ 32767)
   hop-there m p b t l o =
       let y : ℕ = reached ws m p in
       let i = inside m p t in
-      rw o (ok .hop _ (omega (arith, ok .order .base (reached ws m p) i, fewer-ints (bitsOf ws (reached ws m p)) b l o, ints-next ws (reached ws m p), ints-mono ws (suc (reached ws m p)) n i)))
+      rw o (ok .hop _ (omega (
+        arith,
+        ok .order .base (reached ws m p) i,
+        fewer-ints (bitsOf ws (reached ws m p)) b l o,
+        ints-next ws
+            (reached ws m p),
+        ints-mono ws (suc (reached ws m p)) n i,
+      )))
 
   -- ---- what is read out
 
@@ -200,7 +212,8 @@ module _ (ws hs : List ℕ) (n : ℕ) (ok : WellFormed ws hs n) (narrow : (j : �
   held l q h = go (decided (leb l 32 && leads ws (l / 4) (pathOf l q))) (decided (isSet (bitsOf ws (reached ws (l / 4) (pathOf l q))) (bitFor l q))) h
     where
       go : ((leb l 32 && leads ws (l / 4) (pathOf l q)) ≡ true) ⊎ ((leb l 32 && leads ws (l / 4) (pathOf l q)) ≡ false)
-          → (isSet (bitsOf ws (reached ws (l / 4) (pathOf l q))) (bitFor l q) ≡ true) ⊎ (isSet (bitsOf ws (reached ws (l / 4) (pathOf l q))) (bitFor l q) ≡ false)
+          → (isSet (bitsOf ws (reached ws (l / 4) (pathOf l q))) (bitFor l q) ≡ true) ⊎
+          (isSet (bitsOf ws (reached ws (l / 4) (pathOf l q))) (bitFor l q) ≡ false)
           → 0 < cond (leb l 32 && leads ws (l / 4) (pathOf l q)) (hopAt ws hs (reached ws (l / 4) (pathOf l q)) (bitFor l q)) 0
           → Held l q
       go (inl a) (inl b) u = let s = and-split (leb l 32) (leads ws (l / 4) (pathOf l q)) a in record { short = leb-true l 32 (s .0); path = s .1; set = b }
@@ -226,7 +239,8 @@ module _ (ws hs : List ℕ) (n : ℕ) (ok : WellFormed ws hs n) (narrow : (j : �
           let t = parts-of l q in
           let a = leads-small ws (l / 4) (pathOf l q) (k .path) in
           let m : (pathOf l q + 1) * 2 ^ (l % 4) ≤ 2 ^ (4 * (l / 4)) * 2 ^ (l % 4) = mul-le-mul-right (2 ^ (l % 4)) (omega arith) in
-          let d : (pathOf l q + 1) * 2 ^ (l % 4) ≡ pathOf l q * 2 ^ (l % 4) + 2 ^ (l % 4) = add-mul (pathOf l q) 1 (2 ^ (l % 4)) ∙ ap (λ (x : ℕ). pathOf l q * 2 ^ (l % 4) + x) (one-mul (2 ^ (l % 4))) in
+          let d : (pathOf l q + 1) * 2 ^ (l % 4) ≡ pathOf l q * 2 ^ (l % 4) + 2 ^ (l % 4) = add-mul (pathOf l q) 1 (2 ^ (l % 4)) ∙ ap
+          (λ (x : ℕ). pathOf l q * 2 ^ (l % 4) + x) (one-mul (2 ^ (l % 4))) in
           let e : 2 ^ l ≡ 2 ^ (4 * (l / 4)) * 2 ^ (l % 4) = ap (λ (x : ℕ). 2 ^ x) (sym (t .0)) ∙ pow-add 2 (4 * (l / 4)) (l % 4) in
           (k .short, rw e (omega (arith, t .1, mod-lt q (pow-pos (l % 4)))))
 
@@ -298,8 +312,10 @@ module _ (ws hs : List ℕ) (n : ℕ) (ok : WellFormed ws hs n) (narrow : (j : �
   below (suc e) m p s t k =
       let w : ℕ = bitsOf ws (reached ws m p) in
       let a = and-split (sound ws (reached ws m p)) _ k in
-      let v = and-split (not (eqb (bitsOf ws (reached ws m p)) 0)) (allFrom (nodeOk e ws) (ones (bitsOf ws (reached ws m p) / 2 ^ 16)) (childOf ws (reached ws m p))) (a .1) in
-      let b = some-bit 32 (bitsOf ws (reached ws m p)) (narrow (3 * reached ws m p)) (λ z. true≢false (sym (eq-eqb (bitsOf ws (reached ws m p)) 0 z) ∙ not-true _ (v .0))) in
+      let v = and-split (not (eqb (bitsOf ws (reached ws m p)) 0))
+      (allFrom (nodeOk e ws) (ones (bitsOf ws (reached ws m p) / 2 ^ 16)) (childOf ws (reached ws m p))) (a .1) in
+      let b = some-bit 32 (bitsOf ws (reached ws m p)) (narrow (3 * reached ws m p))
+      (λ z. true≢false (sym (eq-eqb (bitsOf ws (reached ws m p)) 0 z) ∙ not-true _ (v .0))) in
       go (b .0) (b .1) (b .2) (a .0) (below? (b .0) 15) (below? (b .0) 16)
       (λ c l o.
       let x = leads-next ws m p c l t o in
@@ -331,11 +347,13 @@ module _ (ws hs : List ℕ) (n : ℕ) (ok : WellFormed ws hs n) (narrow : (j : �
       let a = pass-parts m p (f .0) (f .2) in
       let len : ℕ = f .0 .len in
       let q : ℕ = slot (f .0 .len) (f .0 .addr) in
-      let h = hop-of (f .0 .len) (slot (f .0 .len) (f .0 .addr)) rs (f .0) held-good (f .1) (both (eq-eqb (f .0 .len) (f .0 .len) refl) (eq-eqb (slot (f .0 .len) (f .0 .addr)) _ refl)) in
+      let h = hop-of (f .0 .len) (slot (f .0 .len) (f .0 .addr)) rs (f .0) held-good (f .1)
+      (both (eq-eqb (f .0 .len) (f .0 .len) refl) (eq-eqb (slot (f .0 .len) (f .0 .addr)) _ refl)) in
       let k = held (f .0 .len) (slot (f .0 .len) (f .0 .addr)) (omega (arith, h, x .hop-one, held-hop (f .0 .len) (slot (f .0 .len) (f .0 .addr)))) in
       let short : f .0 .len ≤ 32 = x .prefix .len-ok in
       let d : m + (f .0 .len / 4 - m) ≡ f .0 .len / 4 = omega arith in
-      let up = leads-up ws (f .0 .len / 4 - m) m (pathOf (f .0 .len) (slot (f .0 .len) (f .0 .addr))) (subst (λ (y : ℕ). leads ws y (pathOf (f .0 .len) (slot (f .0 .len) (f .0 .addr))) ≡ true) (sym d) (k .path)) in
+      let up = leads-up ws (f .0 .len / 4 - m) m (pathOf (f .0 .len) (slot (f .0 .len) (f .0 .addr)))
+      (subst (λ (y : ℕ). leads ws y (pathOf (f .0 .len) (slot (f .0 .len) (f .0 .addr))) ≡ true) (sym d) (k .path)) in
       let y : f .0 .len % 4 + 4 * (f .0 .len / 4 - m) ≡ f .0 .len - 4 * m = omega arith in
       let z : 4 * m + (f .0 .len - 4 * m) ≡ f .0 .len = omega arith in
       let path : pathOf (f .0 .len) (slot (f .0 .len) (f .0 .addr)) / 2 ^ (4 * (f .0 .len / 4 - m)) ≡ p =
@@ -351,7 +369,8 @@ module _ (ws hs : List ℕ) (n : ℕ) (ok : WellFormed ws hs n) (narrow : (j : �
       let e : m + suc (7 - m) ≡ 8 = omega arith in
       let x = leads-next ws m p c l t o in
       let k = below (7 - m) (suc m) (p * 16 + c) (omega arith) (x .0) (rw (x .1) (child-ok (reached ws m p) c (7 - m) l (node-at m p (suc (7 - m)) e t) o)) in
-      subst (λ (y : ℕ). st (suc m) y ≡ true) (k .begins) (agree rs held-good .told (suc m) (k .len) (k .bits) (omega arith) (k .long) (k .short) (rw (held-hop (k .len) (k .bits)) (k .hop)))
+      subst (λ (y : ℕ). st (suc m) y ≡ true) (k .begins)
+      (agree rs held-good .told (suc m) (k .len) (k .bits) (omega arith) (k .long) (k .short) (rw (held-hop (k .len) (k .bits)) (k .hop)))
 
   module _ (m p : ℕ) (deep : m ≤ 8) (t : leads ws m p ≡ true) where
     abbrev w : ℕ
@@ -370,7 +389,8 @@ module _ (ws hs : List ℕ) (n : ℕ) (ok : WellFormed ws hs n) (narrow : (j : �
 
     set-inner-is : (b : ℕ) → b < 15 → isSet w b ≡ inner hop (node m p) b
     unfolding bitHop
-    set-inner-is b l = rw (held-hop (4 * m + innerLen b) (p * 2 ^ innerLen b + (b + 1 - 2 ^ innerLen b))) (go (below? 32 (4 * m + innerLen b)) (decided (isSet w b)))
+    set-inner-is b l = rw (held-hop (4 * m + innerLen b) (p * 2 ^ innerLen b + (b + 1 - 2 ^ innerLen b)))
+        (go (below? 32 (4 * m + innerLen b)) (decided (isSet w b)))
       where
         after : (x : ℕ) → 32 < 4 * m + innerLen x → 0 < x
         after zero v = absurd (omega arith)
@@ -378,9 +398,12 @@ module _ (ws hs : List ℕ) (n : ℕ) (ok : WellFormed ws hs n) (narrow : (j : �
 
         go : (32 < 4 * m + innerLen b) ⊎ (4 * m + innerLen b ≤ 32) → (isSet w b ≡ true) ⊎ (isSet w b ≡ false)
             → isSet w b ≡ ltb 0 (readOut ws hs (4 * m + innerLen b) (p * 2 ^ innerLen b + (b + 1 - 2 ^ innerLen b)))
-        go (inr u) (inl o) = o ∙ sym (lt-ltb 0 (readOut ws hs (4 * m + innerLen b) (p * 2 ^ innerLen b + (b + 1 - 2 ^ innerLen b))) (rw (at-bit m p b l u t) (hop-there m p b t l o .0)))
-        go (inr u) (inr o) = o ∙ sym (ap (ltb 0) (at-bit m p b l u t ∙ ap (λ (x : Bool). cond x (getD hs (baseOf ws (reached ws m p) + ones (w % 2 ^ b)) 0) 0) o))
-        go (inl u) o = last b (after b u) (omega (arith, inner-cases b l .0)) ∙ sym (ap (ltb 0) (read-past (4 * m + innerLen b) (p * 2 ^ innerLen b + (b + 1 - 2 ^ innerLen b)) u))
+        go (inr u) (inl o) = o ∙ sym (lt-ltb 0 (readOut ws hs (4 * m + innerLen b) (p * 2 ^ innerLen b + (b + 1 - 2 ^ innerLen b)))
+            (rw (at-bit m p b l u t) (hop-there m p b t l o .0)))
+        go (inr u) (inr o) = o ∙ sym (ap (ltb 0) (at-bit m p b l u t ∙ ap
+            (λ (x : Bool). cond x (getD hs (baseOf ws (reached ws m p) + ones (w % 2 ^ b)) 0) 0) o))
+        go (inl u) o = last b (after b u) (omega (arith, inner-cases b l .0)) ∙ sym
+            (ap (ltb 0) (read-past (4 * m + innerLen b) (p * 2 ^ innerLen b + (b + 1 - 2 ^ innerLen b)) u))
 
     set-is-bit : (b : ℕ) → b < 32 → isSet w b ≡ setBit st hop (node m p) b
     unfolding setBit

@@ -5,9 +5,10 @@ pub mod Held
 pub mod Exact
 pub mod Serves
 pub mod Steps
-pub mod Answers
+pub mod TestReturns
 pub mod Neighbours
 pub mod Stretches
 pub mod OneAnswer
 pub mod AsBuilt
+pub mod Judged
 pub mod Visits

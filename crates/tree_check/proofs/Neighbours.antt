@@ -5,21 +5,20 @@ use mathlib.Core.Logic.{_⊎_, inl, inr}
 use mathlib.Core.Bool.{Bool, true, false, true≢false, false≢true}
 use mathlib.Core.List.{List}
 use Prim.Native.Nat.{ℕ, zero, suc, _+_, _-_, _*_, _/_, _%_, _^_, _≤_, _<_}
-use native.Mathlib.Nat.{mod-lt}
 use native.Mathlib.Omega.{arith}
 use lib.Dec.{eqb}
 use lib.ListN.{length, getD}
 use lib.Count.{ones, ones-le}
 use borrow.Author.Tests.{eqb-true, eq-eqb}
 use Rattle.bits.specs.Tab.{Tells}
-use Rattle.bits.proofs.Tests.{below?, untrue}
+use Rattle.bits.proofs.Bools.{below?, untrue}
 use Rattle.tree.specs.Node.{bitsOf, childOf, baseOf}
 use Rattle.tree_same.specs.Order.{exts, ints, Order}
-use Rattle.tree_check.specs.WellFormed.{used, wellFormed}
-use Rattle.tree_check.specs.Stretches.{Flagged, OwnBits, Own, Between, EndsAt, Nodes, Begun, UpTo, Shaped}
+use Rattle.tree_check.specs.WellFormed.{nodesUsed, wellFormed}
+use Rattle.tree_check.specs.Stretches.{Flagged, OwnBits, Own, PassedOver, EndsAt, Nodes, Begun, UpTo, NodesShaped}
 use Rattle.tree_check.proofs.Meaning.{well-formed-is, is-ordered}
 use Rattle.tree_check.proofs.Held.{exts-next, ints-next, exts-mono}
-use Rattle.tree_check.proofs.Answers.{check-few}
+use Rattle.tree_check.proofs.TestReturns.{check-few}
 use Rattle.tree_check.proofs.Stretches.{formed-own}
 
 -- ---- the way to the first child of each level
@@ -27,7 +26,7 @@ use Rattle.tree_check.proofs.Stretches.{formed-own}
 -- it does not lead past the nodes in use, and has passed over those before
 pub record OnTheWay (ws : List ℕ) (at : ℕ) : Type 0 where
   pub inside : (n : ℕ) → Order ws n → ((j : ℕ) → 3 * n ≤ j → getD ws j 0 ≡ 0) → at ≤ n
-  pub over : (j : ℕ) → j < at → Between ws j
+  pub over : (j : ℕ) → j < at → PassedOver ws j
 
 pub way-start : (ws : List ℕ) → OnTheWay ws 0
 way-start ws = record { inside = λ n o z. omega arith; over = λ j l. absurd (omega arith) }
@@ -37,7 +36,7 @@ module _ (ws : List ℕ) (at : ℕ) (w : OnTheWay ws at) where
     pub way-on : at < next → OnTheWay ws next
     way-on l = record { inside = λ n o z. go n o z (below? at n); over = λ j u. past j u (below? j at) }
       where
-        past : (j : ℕ) → j < next → (j < at) ⊎ (at ≤ j) → Between ws j
+        past : (j : ℕ) → j < next → (j < at) ⊎ (at ≤ j) → PassedOver ws j
         past j u (inl v) = w .over j v
         past j u (inr v) = record { from = at; low = v; high = omega (arith, q) }
 
@@ -93,7 +92,7 @@ up-to P i f a j l = go (below? i j)
     go (inr u) = f j u
 
 -- what the three flags of one step say, of the words as they are read
-pub record Step (ws : List ℕ) (i x y child hop a b c : ℕ) : Type 0 where
+pub record NodeStep (ws : List ℕ) (i x y child hop a b c : ℕ) : Type 0 where
   pub kids : x ≡ ones (bitsOf ws i / 2 ^ 16)
   pub own : y ≡ ones (bitsOf ws i % 2 ^ 15)
   pub its-child : child ≡ (childOf ws i + x) % 2 ^ 32
@@ -103,7 +102,7 @@ pub record Step (ws : List ℕ) (i x y child hop a b c : ℕ) : Type 0 where
   pub on-hop : Flagged c (getD ws (3 * i + 5) 0 ≡ hop)
 
 module _ (ws : List ℕ) (narrow : (j : ℕ) → getD ws j 0 < 2 ^ 32) (i : ℕ) (few : i ≤ 32768) (x y child hop a b c : ℕ)
-    (s : Step ws i x y child hop a b c) where
+    (s : NodeStep ws i x y child hop a b c) where
   next-bits : getD ws (3 * i + 3) 0 ≡ bitsOf ws (suc i)
   next-bits = let q : 3 * i + 3 ≡ 3 * suc i = omega arith in ap (λ (j : ℕ). getD ws j 0) q
 
@@ -227,32 +226,39 @@ module _ (ws : List ℕ) (n : ℕ) (k : Nodes ws n) where
 -- ---- the nodes in use
 
 module _ (ws : List ℕ) (n : ℕ) (e : EndsAt ws n) where
-  no-image : (wf : (hs : List ℕ) → wellFormed ws hs ≡ true → ⊥) → Shaped ws 0
-  no-image wf = record { lent = omega arith; few = omega arith; none = λ z hs. untrue (wellFormed ws hs) (wf hs); some = λ f. absurd (f refl); own = record { each = λ j a b. absurd (omega arith) } }
+  no-image : (wf : (hs : List ℕ) → wellFormed ws hs ≡ true → ⊥) → NodesShaped ws 0
+  no-image wf = record {
+    lent = omega arith;
+    few = omega arith;
+    none = λ z hs. untrue (wellFormed ws hs) (wf hs);
+    some = λ f. absurd
+        (f refl);
+    own = record { each = λ j a b. absurd (omega arith) };
+  }
 
   -- a well-formed image has n nodes
-  its-nodes : (hs : List ℕ) → wellFormed ws hs ≡ true → n ≡ used ws
-  its-nodes hs t = let w = well-formed-is ws hs t in e .end (used ws) (w .order) (w .words-after)
+  its-nodes : (hs : List ℕ) → wellFormed ws hs ≡ true → n ≡ nodesUsed ws
+  its-nodes hs t = let w = well-formed-is ws hs t in e .end (nodesUsed ws) (w .order) (w .words-after)
 
-  pub shape-none : n ≡ 0 → Shaped ws 0
+  pub shape-none : n ≡ 0 → NodesShaped ws 0
   shape-none z = no-image (λ hs t. omega (arith, its-nodes hs t, well-formed-is ws hs t .order .whole))
 
-  pub shape-past : length ws / 3 < n → Shaped ws 0
+  pub shape-past : length ws / 3 < n → NodesShaped ws 0
   shape-past l = no-image (λ hs t. omega (arith, its-nodes hs t, well-formed-is ws hs t .order .lent))
 
-  pub shape-many : ((j : ℕ) → getD ws j 0 < 2 ^ 32) → 32769 < n → Shaped ws 0
+  pub shape-many : ((j : ℕ) → getD ws j 0 < 2 ^ 32) → 32769 < n → NodesShaped ws 0
   shape-many narrow l = no-image (λ hs t. omega (arith, its-nodes hs t, few hs t))
     where
-      few : (hs : List ℕ) → wellFormed ws hs ≡ true → used ws ≤ 32769
-      few hs t = check-few ws hs (used ws) (rw t refl) (λ z. omega (arith, well-formed-is ws hs t .order .whole, z)) narrow .0
+      few : (hs : List ℕ) → wellFormed ws hs ≡ true → nodesUsed ws ≤ 32769
+      few hs t = check-few ws hs (nodesUsed ws) (rw t refl) (λ z. omega (arith, well-formed-is ws hs t .order .whole, z)) narrow .0
 
   module _ (r : Bool) (t : Tells r (Order ws n × Own ws n)) where
-    pub shape-not : r ≡ false → Shaped ws 0
+    pub shape-not : r ≡ false → NodesShaped ws 0
     shape-not f = no-image (λ hs w.
         let k = well-formed-is ws hs w in
-        true≢false (sym (t .1 (rw (its-nodes hs w) (k .order, formed-own ws (used ws) (k .order) (k .root)))) ∙ f))
+        true≢false (sym (t .1 (rw (its-nodes hs w) (k .order, formed-own ws (nodesUsed ws) (k .order) (k .root)))) ∙ f))
 
-    pub shape-is : n ≤ 32769 → r ≡ true → Shaped ws n
+    pub shape-is : n ≤ 32769 → r ≡ true → NodesShaped ws n
     shape-is few f =
         let o = t .0 f in
         let u = is-ordered ws n (o .0) in

@@ -3,7 +3,7 @@
 use mathlib.Core.Path.{_≡_, sym, _∙_, ap, ap₂}
 use mathlib.Core.Bool.{true}
 use mathlib.Core.List.{List, [], _∷_, List·Memᴰ}
-use Prim.Native.Nat.{ℕ, suc, _*_, _/_, _^_, _≤_, _<_}
+use Prim.Native.Nat.{ℕ, suc, _*_, _^_, _≤_, _<_}
 use native.Mathlib.Omega.{arith}
 use lib.ListN.{length, getD}
 use Rattle.bits.specs.Slot.{slot}
@@ -11,7 +11,7 @@ use Rattle.routes.specs.Said.{accepted}
 use Rattle.routes.specs.declared.Route.{Route}
 use Rattle.standing.specs.Cells.{best}
 use Rattle.tree.specs.Image.{hops, through, nodeStands, hopFor, imageBy, nodeNeed, onPath}
-use Rattle.tree.specs.Walk.{told, treeSaid}
+use Rattle.tree.specs.Walk.{treeHopSaid, treeSaid}
 use Rattle.tree.proofs.Lies.{any-is, pass-parts}
 use Rattle.tree.proofs.Needs.{hops-need}
 use Rattle.tree.proofs.Serves.{image-serves}
@@ -20,7 +20,7 @@ use Rattle.tree_same.specs.Order.{standsAt}
 use Rattle.tree_same.specs.Listed.{routesHeld}
 use Rattle.tree_same.proofs.Back.{leads-is}
 use Rattle.tree_same.proofs.Same.{fits}
-use Rattle.tree_check.specs.WellFormed.{used, wellFormed}
+use Rattle.tree_check.specs.WellFormed.{nodesUsed, wellFormed}
 use Rattle.tree_check.specs.Answers.{tested}
 use Rattle.tree_check.proofs.Meaning.{WellFormed, well-formed-is}
 use Rattle.tree_check.proofs.Held.{held-good, held-image, held-nodes, held-hops}
@@ -30,38 +30,38 @@ module _ (ws hs : List ℕ) (narrow : (j : ℕ) → getD ws j 0 < 2 ^ 32) (passe
   abbrev rs : List Route
   rs = routesHeld ws hs
 
-  formed : WellFormed ws hs (used ws)
+  formed : WellFormed ws hs (nodesUsed ws)
   formed = well-formed-is ws hs passes
 
   room : 3 * nodeNeed rs ≤ length ws
-  room = omega (arith, held-nodes ws hs (used ws) formed narrow, formed .order .lent)
+  room = omega (arith, held-nodes ws hs (nodesUsed ws) formed narrow, formed .order .lent)
 
   space : length rs ≤ length hs
-  space = omega (arith, held-hops ws hs (used ws) formed narrow, formed .room)
+  space = omega (arith, held-hops ws hs (nodesUsed ws) formed narrow, formed .room)
 
   -- the test says how many nodes these routes need, and how many they are
   pub tested-counts : tested ws hs ≡ accepted (nodeNeed rs ∷ length rs ∷ [])
   unfolding tested
   tested-counts =
       rw passes
-      (ap₂ (λ (n k : ℕ). accepted (n ∷ k ∷ [])) (held-nodes ws hs (used ws) formed narrow) (held-hops ws hs (used ws) formed narrow))
+      (ap₂ (λ (n k : ℕ). accepted (n ∷ k ∷ [])) (held-nodes ws hs (nodesUsed ws) formed narrow) (held-hops ws hs (nodesUsed ws) formed narrow))
 
   -- No path ends without a route: where the extending bits lead to a node below the root, one of the routes begins with its path.
   pub path-has-route : (m p : ℕ) → leads ws (suc m) p ≡ true → (r : Route) × List·Memᴰ r rs × (4 * suc m ≤ r .len) × (slot (4 * suc m) (r .addr) ≡ p)
   unfolding standsAt imageBy
   path-has-route m p t =
-      let g = held-good ws hs (used ws) formed narrow in
+      let g = held-good ws hs (nodesUsed ws) formed narrow in
       let fit : length (hops (nodeStands rs) (hopFor rs)) ≤ length hs = omega (arith, hops-need rs g, space) in
       let k : leads ws (suc m) p ≡ nodeStands rs (suc m) p =
-      ap (λ (v : List ℕ). leads v (suc m) p) (held-image ws hs (used ws) formed narrow .0)
+      ap (λ (v : List ℕ). leads v (suc m) p) (held-image ws hs (nodesUsed ws) formed narrow .0)
       ∙ leads-is (nodeStands rs) (hopFor rs) (fits rs g) (length ws) (length hs) room fit (suc m) p .0 in
       let f = any-is (through (suc m) p) rs (sym k ∙ t) in
       let s = pass-parts (suc m) p (f .0) (f .2) in
       (f .0, f .1, s .0, s .1)
 
   -- every address: the hop of the longest of these routes that covers it, or no route, told after the nodes on its path
-  pub formed-serves : (a : ℕ) → a < 2 ^ 32 → treeSaid ws hs a ≡ told (best rs 32 a) (onPath rs a)
+  pub formed-serves : (a : ℕ) → a < 2 ^ 32 → treeSaid ws hs a ≡ treeHopSaid (best rs 32 a) (onPath rs a)
   formed-serves a l =
-      let i = held-image ws hs (used ws) formed narrow in
+      let i = held-image ws hs (nodesUsed ws) formed narrow in
       ap₂ (λ (x y : List ℕ). treeSaid x y a) (i .0) (i .1)
-      ∙ image-serves rs (length ws) (length hs) a (held-good ws hs (used ws) formed narrow) l room space
+      ∙ image-serves rs (length ws) (length hs) a (held-good ws hs (nodesUsed ws) formed narrow) l room space

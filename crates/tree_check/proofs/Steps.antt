@@ -1,23 +1,24 @@
 -- What the steps of the test say: of each return, why its answer is that of the definition.
 use mathlib.Core.Path.{_≡_, refl, sym, _∙_, ap, subst}
 use mathlib.Core.Logic.{_⊎_, inl, inr}
-use mathlib.Core.Bool.{Bool, true, false, cond, not, _&&_, _||_, true≢false}
+use mathlib.Core.Bool.{Bool, true, false, not, _&&_, true≢false}
 use mathlib.Core.List.{List}
-use Prim.Native.Nat.{ℕ, zero, suc, _+_, _-_, _*_, _/_, _%_, _^_, _≤_, _<_}
+use Prim.Native.Nat.{ℕ, suc, _+_, _-_, _*_, _%_, _^_, _≤_, _<_}
 use native.Mathlib.Omega.{arith}
-use lib.Dec.{eqb, ltb, leb}
+use lib.Dec.{eqb, leb}
 use lib.ListN.{length, getD}
 use lib.Count.{ones}
-use borrow.Author.Tests.{leb-true, le-leb, lt-ltb, le-ltb, eqb-true, eq-eqb, ne-eqb}
-use Rattle.bits.specs.Tab.{every}
-use Rattle.bits.proofs.Tests.{decided, both, and-split, untrue, below?, same}
+use borrow.Author.Tests.{leb-true, le-leb, eqb-true, eq-eqb}
+use Rattle.bits.specs.Tab.{Tells}
+use Rattle.bits.proofs.Bools.{decided, both, and-split, untrue, below?, same}
 use Rattle.bits.proofs.Tabs.{every-true, true-every}
+use Rattle.buffers.specs.Zeros.{Zeros}
 use Rattle.routes.specs.Input.{hopFine}
-use Rattle.tree.specs.Node.{bitsOf, childOf, baseOf, isSet, sound}
-use Rattle.tree_same.specs.Order.{exts, ints, Order}
-use Rattle.tree_check.specs.WellFormed.{used, ordered, allFrom, nodeOk, childrenOk, rootOk, hopsIn, hopsOk, hopsFineTo, blankFrom, wellFormed, nodesIf}
-use Rattle.tree_check.specs.Stretches.{Flagged, Own, Shaped, Rooted}
-use Rattle.tree_check.proofs.Meaning.{not-true, ordered-is, used-is, is-ordered}
+use Rattle.tree.specs.Node.{bitsOf, baseOf}
+use Rattle.tree_same.specs.Order.{ints, Order}
+use Rattle.tree_check.specs.WellFormed.{nodesUsed, ordered, rootOk, hopsIn, hopsOk, hopsFineTo, blankFrom, wellFormed, nodesIf}
+use Rattle.tree_check.specs.Stretches.{Flagged, Own, NodesShaped, Rooted}
+use Rattle.tree_check.proofs.Meaning.{not-true, ordered-is, blank-zeros, zeros-blank}
 
 -- ---- hops and zeros
 
@@ -50,43 +51,16 @@ fine-all hs k j bad a b f =
     (λ e. true-every (λ i. hopFine (getD hs i 0)) k (λ i l. f .is (eqb-true bad 0 e) i (omega arith)))
     (λ t. eq-eqb bad 0 (f .of (λ i l. every-true (λ n. hopFine (getD hs n 0)) k t i (omega arith))))
 
--- zeros from place k up to place j
-pub record Blank (xs : List ℕ) (k j : ℕ) : Type 0 where
-  pub each : (i : ℕ) → k ≤ i → i < j → getD xs i 0 ≡ 0
-
-pub blank-none : (xs : List ℕ) (k : ℕ) → Blank xs k k
-blank-none xs k = record { each = λ i a b. absurd (omega arith) }
-
-pub blank-more : (xs : List ℕ) (k j : ℕ) → Blank xs k j → getD xs j 0 ≡ 0 → Blank xs k (j + 1)
-blank-more xs k j f e = record { each = λ i a b. go i a b (below? i j) }
-  where
-    go : (i : ℕ) → k ≤ i → i < j + 1 → (i < j) ⊎ (j ≤ i) → getD xs i 0 ≡ 0
-    go i a b (inl u) = f .each i a u
-    go i a b (inr u) = let q : i ≡ j = omega arith in rw q e
-
-pub blank-not : (xs : List ℕ) (k j : ℕ) → k ≤ j → j < length xs → (getD xs j 0 ≡ 0 → ⊥) → false ≡ blankFrom xs k
-unfolding blankFrom
-blank-not xs k j l u n =
-    sym (untrue (every (λ i. ltb i k || eqb (getD xs i 0) 0) (length xs))
-    (λ t. true≢false (sym (every-true (λ i. ltb i k || eqb (getD xs i 0) 0) (length xs) t j u) ∙ rw (le-ltb j k l, ne-eqb (getD xs j 0) 0 n))))
-
-pub blank-all : (xs : List ℕ) (k j : ℕ) → length xs ≤ j → Blank xs k j → true ≡ blankFrom xs k
-unfolding blankFrom
-blank-all xs k j l f = sym (true-every (λ i. ltb i k || eqb (getD xs i 0) 0) (length xs) (λ i u. go i u (below? i k)))
-  where
-    go : (i : ℕ) → i < length xs → (i < k) ⊎ (k ≤ i) → (ltb i k || eqb (getD xs i 0) 0) ≡ true
-    go i u (inl v) = rw (lt-ltb i k v)
-    go i u (inr v) = rw (le-ltb i k v) (eq-eqb _ 0 (f .each i v (omega arith)))
-
 -- the hops of the nodes in use: the hop base of the last one and its own
-pub hops-last : (ws : List ℕ) (n x y : ℕ) → 0 < n → n ≡ nodesIf (ordered ws) ws → x ≡ baseOf ws (n - 1) → y ≡ ones (bitsOf ws (n - 1) % 2 ^ 15) → x + y ≡ ints ws n
+pub hops-last : (ws : List ℕ) (n x y : ℕ) → 0 < n → n ≡ nodesIf (ordered ws) ws → x ≡ baseOf ws (n - 1) → y ≡ ones (bitsOf ws (n - 1) % 2 ^ 15)
+    → x + y ≡ ints ws n
 unfolding ints
 hops-last ws n x y l e ex ey = go (decided (ordered ws))
   where
     go : (ordered ws ≡ true) ⊎ (ordered ws ≡ false) → x + y ≡ ints ws n
     go (inr z) = absurd (omega (arith, rw z at e))
     go (inl t) =
-        let u : n ≡ used ws = rw t at e in
+        let u : n ≡ nodesUsed ws = rw t at e in
         let o = subst (Order ws) (sym u) (ordered-is ws t) in
         let q : n ≡ suc (n - 1) = omega arith in
         subst (λ (k : ℕ). x + y ≡ ints ws k) (sym q) (omega (arith, o .base (n - 1) (omega arith)))
@@ -94,15 +68,15 @@ hops-last ws n x y l e ex ey = go (decided (ordered ws))
 -- ---- the whole test
 
 -- what an `if !r` that is passed by says
-pub kept : (r b : Bool) → r ≡ b → not r ≡ false → b ≡ true
-kept true b q f = sym q
-kept false b q f = absurd (true≢false f)
+pub not-failed : (r b : Bool) → r ≡ b → not r ≡ false → b ≡ true
+not-failed true b q f = sym q
+not-failed false b q f = absurd (true≢false f)
 
-module _ (ws : List ℕ) (n : ℕ) (s : Shaped ws n) (z : n ≡ 0 → ⊥) where
-  its-order : (ordered ws ≡ true) × (used ws ≡ n)
+module _ (ws : List ℕ) (n : ℕ) (s : NodesShaped ws n) (z : n ≡ 0 → ⊥) where
+  its-order : (ordered ws ≡ true) × (nodesUsed ws ≡ n)
   its-order = go (decided (ordered ws))
     where
-      go : (ordered ws ≡ true) ⊎ (ordered ws ≡ false) → (ordered ws ≡ true) × (used ws ≡ n)
+      go : (ordered ws ≡ true) ⊎ (ordered ws ≡ false) → (ordered ws ≡ true) × (nodesUsed ws ≡ n)
       go (inl t) = (t, sym (rw t at (s .some z)))
       go (inr t) = absurd (z (rw t at (s .some z)))
 
@@ -116,7 +90,7 @@ module _ (ws : List ℕ) (n : ℕ) (s : Shaped ws n) (z : n ≡ 0 → ⊥) where
   pub check-counted : (0 < n) × (3 * n ≤ length ws) × (n ≡ nodesIf (ordered ws) ws)
   check-counted = (omega (arith, z), s .lent, s .some z)
 
-module _ (ws hs : List ℕ) (n : ℕ) (s : Shaped ws n) where
+module _ (ws hs : List ℕ) (n : ℕ) (s : NodesShaped ws n) where
   pub check-none : n ≡ 0 → 0 ≡ nodesIf (wellFormed ws hs) ws
   check-none z = rw (s .none z hs) refl
 
@@ -124,13 +98,13 @@ module _ (ws hs : List ℕ) (n : ℕ) (s : Shaped ws n) where
     fails-by : (wellFormed ws hs ≡ true → ⊥) → 0 ≡ nodesIf (wellFormed ws hs) ws
     fails-by f = rw (untrue (wellFormed ws hs) f)
 
-    parts : wellFormed ws hs ≡ true → (rootOk ws ≡ true) × (hopsOk ws hs ≡ true) × (blankFrom ws (3 * used ws) ≡ true) × (blankFrom hs (hopsIn ws) ≡ true)
+    parts : wellFormed ws hs ≡ true → (rootOk ws ≡ true) × (hopsOk ws hs ≡ true) × (blankFrom ws (3 * nodesUsed ws) ≡ true) × (blankFrom hs (hopsIn ws) ≡ true)
     unfolding wellFormed
     parts w =
         let a = and-split (ordered ws) _ w in
         let b = and-split (rootOk ws) _ (a .1) in
         let c = and-split (hopsOk ws hs) _ (b .1) in
-        let d = and-split (blankFrom ws (3 * used ws)) _ (c .1) in
+        let d = and-split (blankFrom ws (3 * nodesUsed ws)) _ (c .1) in
         (b .0, c .0, d .0, d .1)
 
     pub check-root : (r : Bool) → r ≡ rootOk ws → not r ≡ true → 0 ≡ nodesIf (wellFormed ws hs) ws
@@ -157,17 +131,18 @@ module _ (ws hs : List ℕ) (n : ℕ) (s : Shaped ws n) where
       pub check-hops : (r : Bool) → r ≡ hopsFineTo hs k → not r ≡ true → 0 ≡ nodesIf (wellFormed ws hs) ws
       check-hops r q f = fails-by (λ w. true≢false (sym (hop-parts w .2) ∙ sym q ∙ not-true r f))
 
-      pub check-words-after : (r : Bool) → r ≡ blankFrom ws (3 * n) → not r ≡ true → 0 ≡ nodesIf (wellFormed ws hs) ws
-      check-words-after r q f = fails-by (λ w. true≢false (sym (rw (its-order ws n s z .1) at (parts w .2)) ∙ sym q ∙ not-true r f))
+      pub check-words-after : (r : Bool) → Tells r (Zeros ws (3 * n) (length ws)) → not r ≡ true → 0 ≡ nodesIf (wellFormed ws hs) ws
+      check-words-after r q f = fails-by (λ w. true≢false (sym (q .1 (blank-zeros ws (3 * n) (rw (its-order ws n s z .1) at (parts w .2)))) ∙ not-true r f))
 
-      pub check-hops-after : (r : Bool) → r ≡ blankFrom hs k → not r ≡ true → 0 ≡ nodesIf (wellFormed ws hs) ws
-      check-hops-after r q f = fails-by (λ w. true≢false (sym (rw its-hops at (parts w .3)) ∙ sym q ∙ not-true r f))
+      pub check-hops-after : (r : Bool) → Tells r (Zeros hs k (length hs)) → not r ≡ true → 0 ≡ nodesIf (wellFormed ws hs) ws
+      check-hops-after r q f = fails-by (λ w. true≢false (sym (q .1 (blank-zeros hs k (rw its-hops at (parts w .3)))) ∙ not-true r f))
 
-      pub check-passes : rootOk ws ≡ true → k ≤ length hs → k ≤ 4096 → hopsFineTo hs k ≡ true → blankFrom ws (3 * n) ≡ true → blankFrom hs k ≡ true → n ≡ nodesIf (wellFormed ws hs) ws
+      pub check-passes : rootOk ws ≡ true → k ≤ length hs → k ≤ 4096 → hopsFineTo hs k ≡ true → Zeros ws (3 * n) (length ws) → Zeros hs k (length hs)
+          → n ≡ nodesIf (wellFormed ws hs) ws
       unfolding wellFormed hopsOk
       check-passes r a b c d f =
           let h : hopsOk ws hs ≡ true = rw its-hops (both (le-leb k (length hs) a) (both (le-leb k 4096 b) c)) in
-          let x : blankFrom ws (3 * used ws) ≡ true = rw (its-order ws n s z .1) d in
-          let y : blankFrom hs (hopsIn ws) ≡ true = rw its-hops f in
+          let x : blankFrom ws (3 * nodesUsed ws) ≡ true = rw (its-order ws n s z .1) (zeros-blank ws (3 * n) d) in
+          let y : blankFrom hs (hopsIn ws) ≡ true = rw its-hops (zeros-blank hs k f) in
           let w : wellFormed ws hs ≡ true = both (its-order ws n s z .0) (both r (both h (both x y))) in
           rw w (sym (its-order ws n s z .1))

@@ -10,10 +10,10 @@ use lib.Dec.{eqb, ltb}
 use lib.Count.{ones}
 use lib.ListN.{length}
 use borrow.Author.Tests.{lt-ltb, eqb-true, eq-eqb, ne-eqb}
-use Rattle.bits.proofs.Tests.{both, and-split, below?, same, untrue}
+use Rattle.bits.proofs.Bools.{both, and-split, below?, same, untrue}
 use Rattle.tree.specs.Node.{bitsOf, childOf, isSet, sound}
 use Rattle.tree_same.specs.Order.{exts, Order}
-use Rattle.tree_check.specs.WellFormed.{used, ordered, allFrom, nodeOk, childrenOk, rootOk}
+use Rattle.tree_check.specs.WellFormed.{nodesUsed, allFrom, nodeOk, childrenOk, rootOk}
 use Rattle.tree_check.specs.Stretches.{Flagged, OwnBits, Own, Stretch, Rooted}
 use Rattle.tree_check.proofs.Meaning.{not-true, ordered-is, all-from, from-all}
 use Rattle.tree_check.proofs.Held.{exts-next, exts-mono}
@@ -133,7 +133,8 @@ module _ (ws : List ℕ) (n : ℕ) (o : Order ws n) where
       let first : childOf ws a ≡ 1 + exts ws a = o .child a (omega arith) in
       let next : 1 + exts ws a + ones (bitsOf ws a / 2 ^ 16) ≡ 1 + exts ws (a + 1) = omega (arith, here) in
       let joined = all-split (nodeOk e ws) (ones (bitsOf ws a / 2 ^ 16)) (d - ones (bitsOf ws a / 2 ^ 16)) (1 + exts ws a) in
-      let kids : (allFrom (nodeOk e ws) (ones (bitsOf ws a / 2 ^ 16)) (childOf ws a) && allFrom (nodeOk e ws) (d - ones (bitsOf ws a / 2 ^ 16)) (1 + exts ws (a + 1)))
+      let kids : (allFrom (nodeOk e ws) (ones (bitsOf ws a / 2 ^ 16)) (childOf ws a) && allFrom (nodeOk e ws) (d - ones (bitsOf ws a / 2 ^ 16))
+      (1 + exts ws (a + 1)))
       ≡ allFrom (nodeOk e ws) d (1 + exts ws a) =
       rw (first, sym next) (sym joined ∙ ap (λ (j : ℕ). allFrom (nodeOk e ws) j (1 + exts ws a)) r) in
       ap (λ b. (sound ws a && (not (eqb (bitsOf ws a) 0) && allFrom (nodeOk e ws) (ones (bitsOf ws a / 2 ^ 16)) (childOf ws a))) && b) rest
@@ -207,7 +208,7 @@ module _ (ws : List ℕ) (n : ℕ) (o : Order ws n) where
 
 -- ---- what the two tests answer
 
-module _ (ws : List ℕ) (first n left from to : ℕ) (n0 : left ≡ 0 → ⊥) (r : Order ws (used ws)) (inside : first + n ≤ used ws) (some : 0 < n)
+module _ (ws : List ℕ) (first n left from to : ℕ) (n0 : left ≡ 0 → ⊥) (r : Order ws (nodesUsed ws)) (inside : first + n ≤ nodesUsed ws) (some : 0 < n)
     (ef : from ≡ childOf ws first) (et : to ≡ childOf ws (first + n - 1) + ones (bitsOf ws (first + n - 1) / 2 ^ 16)) where
   begins : from ≡ 1 + exts ws first
   begins = ef ∙ r .child first (omega arith)
@@ -220,8 +221,8 @@ module _ (ws : List ℕ) (first n left from to : ℕ) (n0 : left ≡ 0 → ⊥) 
   kids-up : from ≤ to
   kids-up = omega (arith, begins, ends, exts-mono ws first (first + n) (omega arith))
 
-  kids-inside : from + (to - from) ≤ used ws
-  kids-inside = omega (arith, kids-up, ends, exts-mono ws (first + n) (used ws) inside, r .whole)
+  kids-inside : from + (to - from) ≤ nodesUsed ws
+  kids-inside = omega (arith, kids-up, ends, exts-mono ws (first + n) (nodesUsed ws) inside, r .whole)
 
   -- where own bitmaps are well formed, nodes are as their children
   as-kids : allFrom (ownOk ws) n first ≡ true → (b : Bool) → b ≡ childrenOk (left - 1) (to - from) ws from → b ≡ childrenOk left n ws first
@@ -229,7 +230,7 @@ module _ (ws : List ℕ) (first n left from to : ℕ) (n0 : left ≡ 0 → ⊥) 
       let q : suc (left - 1) ≡ left = omega arith in
       let d : to - from ≡ exts ws (first + n) - exts ws first = omega (arith, begins, ends) in
       let up = exts-mono ws first (first + n) (omega arith) in
-      let all = stretch-nodes ws (used ws) r (left - 1) n first (exts ws (first + n) - exts ws first) inside (omega (arith, up)) in
+      let all = stretch-nodes ws (nodesUsed ws) r (left - 1) n first (exts ws (first + n) - exts ws first) inside (omega (arith, up)) in
       let kids : b ≡ allFrom (nodeOk (left - 1) ws) (exts ws (first + n) - exts ws first) (1 + exts ws first) = eb ∙ rw (d, begins) refl in
       let whole : allFrom (nodeOk (suc (left - 1)) ws) n first ≡ allFrom (nodeOk (left - 1) ws) (exts ws (first + n) - exts ws first) (1 + exts ws first) =
       all ∙ rw own refl in
@@ -241,7 +242,7 @@ stretch-lent ws first n left s = omega (arith, s .inside, ordered-is ws (s .orde
 
 module _ (ws : List ℕ) (first n left : ℕ) (n0 : left ≡ 0 → ⊥) (s : Stretch ws first n left) (some : 0 < n) (from to : ℕ)
     (ef : from ≡ childOf ws first) (et : to ≡ childOf ws (first + n - 1) + ones (bitsOf ws (first + n - 1) / 2 ^ 16)) where
-  o : Order ws (used ws)
+  o : Order ws (nodesUsed ws)
   o = ordered-is ws (s .order)
 
   pub kids-order : from ≤ to
@@ -263,7 +264,8 @@ module _ (ws : List ℕ) (first n left : ℕ) (n0 : left ≡ 0 → ⊥) (s : Str
   pub nodes-as-kids : (b : Bool) → b ≡ childrenOk (left - 1) (to - from) ws from → b ≡ childrenOk left n ws first
   nodes-as-kids =
       as-kids ws first n left from to n0 o (s .inside) some ef et
-      (from-all (ownOk ws) n first (λ k l. bits-own ws (first + k) (omega (arith, s .inside, o .lent)) (s .own .each (first + k) (omega (arith, s .after)) (omega (arith, s .inside)))))
+      (from-all (ownOk ws) n first (λ k l. bits-own ws (first + k) (omega (arith, s .inside, o .lent))
+      (s .own .each (first + k) (omega (arith, s .after)) (omega (arith, s .inside)))))
 
 pub nodes-ends : (ws : List ℕ) (first n left : ℕ) → left ≡ 0 → (b : Bool) → b ≡ childrenOk 0 n ws first → b ≡ childrenOk left n ws first
 nodes-ends ws first n left z b e = rw z e
@@ -306,13 +308,13 @@ module _ (ws : List ℕ) (f : bitsOf ws 0 ≡ 0 → ⊥) where
 
   module _ (s : Rooted ws) (h : isSet (bitsOf ws 0) 15 ≡ false) (from to : ℕ) (ef : from ≡ childOf ws 0)
       (et : to ≡ childOf ws 0 + ones (bitsOf ws 0 / 2 ^ 16)) where
-    r : Order ws (used ws)
+    r : Order ws (nodesUsed ws)
     r = ordered-is ws (s .order)
 
     n0 : _≡_ {A = ℕ} 8 0 → ⊥
     n0 z = omega arith
 
-    inside : 0 + 1 ≤ used ws
+    inside : 0 + 1 ≤ nodesUsed ws
     inside = omega (arith, r .whole)
 
     one : 0 < 1

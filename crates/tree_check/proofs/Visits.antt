@@ -3,13 +3,13 @@
 use mathlib.Core.Path.{_≡_, refl, sym, _∙_, ap}
 use mathlib.Core.Bool.{true}
 use mathlib.Core.List.{List}
-use Prim.Native.Nat.{ℕ, zero, suc, _+_, _-_, _/_, _^_, _≤_, _<_}
+use Prim.Native.Nat.{ℕ, zero, suc, _+_, _-_, _/_, _^_, _≤_}
 use native.Mathlib.Omega.{arith}
 use lib.Count.{ones}
 use lib.ListN.{length}
 use Rattle.tree.specs.Node.{bitsOf, childOf}
 use Rattle.tree_same.specs.Order.{exts, Order}
-use Rattle.tree_check.specs.WellFormed.{used, ordered}
+use Rattle.tree_check.specs.WellFormed.{nodesUsed, ordered}
 use Rattle.tree_check.specs.Visits.{sumFrom, visits}
 use Rattle.tree_check.proofs.Meaning.{ordered-is}
 use Rattle.tree_check.proofs.Held.{exts-next, exts-mono}
@@ -77,4 +77,4 @@ module _ (ws : List ℕ) (n : ℕ) (o : Order ws n) where
 
 -- the way down from the root is taken where the bases are in order, and then meets at most the nodes that are lent
 pub test-linear : (ws : List ℕ) → ordered ws ≡ true → visits 8 ws 0 ≤ length ws / 3
-test-linear ws e = let o = ordered-is ws e in omega (arith, visits-few ws (used ws) o 8, o .lent)
+test-linear ws e = let o = ordered-is ws e in omega (arith, visits-few ws (nodesUsed ws) o 8, o .lent)

@@ -4,4 +4,5 @@ pub mod Stretches
 pub mod Answers
 pub mod Contract
 pub mod Buildable
+pub mod Cases
 pub mod Visits

@@ -6,7 +6,7 @@ use Prim.Native.Nat.{ℕ, _+_, _*_, _≤_, _<_}
 use lib.ListN.{length, getD}
 use Rattle.tree.specs.Node.{bitsOf, childOf, baseOf, isSet}
 use Rattle.tree_same.specs.Order.{exts, ints, Order}
-use Rattle.tree_check.specs.WellFormed.{used, ordered, wellFormed, nodesIf}
+use Rattle.tree_check.specs.WellFormed.{nodesUsed, ordered, wellFormed, nodesIf}
 
 -- ---- the bases
 
@@ -26,7 +26,7 @@ pub record Own (ws : List ℕ) (n : ℕ) : Type 0 where
   pub each : (j : ℕ) → 0 < j → j < n → OwnBits (bitsOf ws j)
 
 -- node j stands between some node and its children
-pub record Between (ws : List ℕ) (j : ℕ) : Type 0 where
+pub record PassedOver (ws : List ℕ) (j : ℕ) : Type 0 where
   pub from : ℕ
   pub low : from ≤ j
   pub high : j < childOf ws from
@@ -34,14 +34,14 @@ pub record Between (ws : List ℕ) (j : ℕ) : Type 0 where
 -- the way to the first child of each level ends at r, where the nodes in use are in order and zeros follow them; it passes over each node before r
 pub record EndsAt (ws : List ℕ) (r : ℕ) : Type 0 where
   pub end : (n : ℕ) → Order ws n → ((j : ℕ) → 3 * n ≤ j → getD ws j 0 ≡ 0) → r ≡ n
-  pub over : (j : ℕ) → j < r → Between ws j
+  pub over : (j : ℕ) → j < r → PassedOver ws j
 
 -- so many nodes are lent, at least the root, and no more than an image has, and the way passes over each
 pub record Nodes (ws : List ℕ) (n : ℕ) : Type 0 where
   pub some : 0 < n
   pub lent : 3 * n ≤ length ws
   pub few : n ≤ 32769
-  pub over : (j : ℕ) → j < n → Between ws j
+  pub over : (j : ℕ) → j < n → PassedOver ws j
 
 -- the bases of the root are right, and m nodes follow it
 pub record Begun (ws : List ℕ) (m : ℕ) : Type 0 where
@@ -57,7 +57,7 @@ pub record UpTo (ws : List ℕ) (i : ℕ) : Type 0 where
   pub own : (j : ℕ) → 0 < j → j ≤ i → OwnBits (bitsOf ws j)
 
 -- r is the number of nodes in use, the bases are those of the fixed order and own bitmaps well formed; or r is 0, and the words are those of no image
-pub record Shaped (ws : List ℕ) (r : ℕ) : Type 0 where
+pub record NodesShaped (ws : List ℕ) (r : ℕ) : Type 0 where
   pub lent : 3 * r ≤ length ws
   pub few : r ≤ 32769
   pub none : r ≡ 0 → (hs : List ℕ) → wellFormed ws hs ≡ false
@@ -69,19 +69,19 @@ pub record Shaped (ws : List ℕ) (r : ℕ) : Type 0 where
 -- n nodes from `first` on, of those in use and without the root, where the bases are in order and all own bitmaps well formed
 pub record Stretch (ws : List ℕ) (first n left : ℕ) : Type 0 where
   pub order : ordered ws ≡ true
-  pub own : Own ws (used ws)
+  pub own : Own ws (nodesUsed ws)
   pub after : 0 < first
-  pub inside : first + n ≤ used ws
-  pub few : used ws ≤ 32769
+  pub inside : first + n ≤ nodesUsed ws
+  pub few : nodesUsed ws ≤ 32769
   pub deep : left ≤ 8
 
 -- as many nodes are lent
-pub record Lent (ws : List ℕ) (first n : ℕ) : Type 0 where
+pub record StretchLent (ws : List ℕ) (first n : ℕ) : Type 0 where
   pub lent : 3 * (first + n) ≤ length ws
   pub few : first + n ≤ 32769
 
 -- what is asked of the test from the root down
 pub record Rooted (ws : List ℕ) : Type 0 where
   pub order : ordered ws ≡ true
-  pub own : Own ws (used ws)
-  pub few : used ws ≤ 32769
+  pub own : Own ws (nodesUsed ws)
+  pub few : nodesUsed ws ≤ 32769

@@ -1,7 +1,7 @@
 -- When words and hops are an image that some record input builds, as document 02 has it in m: the bases are those of the fixed order, the
 -- nodes are well formed from the root down, the hops in use are hops, and zeros stand after the last used.
 use mathlib.Core.Bool.{Bool, true, cond, not, _&&_, _||_}
-use mathlib.Core.List.{List, [], _∷_}
+use mathlib.Core.List.{List}
 use Prim.Native.Nat.{ℕ, zero, suc, _+_, _*_, _/_, _^_}
 use lib.Dec.{eqb, ltb, leb}
 use lib.ListN.{length, getD}
@@ -19,15 +19,15 @@ abbrev pub closed : List ℕ → ℕ → Bool
 closed ws i = leb (1 + exts ws i) i
 
 -- the nodes in use: the fewest that are closed; all that are lent, where none are
-unfoldable pub used : List ℕ → ℕ
-used ws = firstOf (closed ws) (length ws / 3)
+unfoldable pub nodesUsed : List ℕ → ℕ
+nodesUsed ws = firstOf (closed ws) (length ws / 3)
 
 -- child base: 1 plus all extending ones in earlier nodes; hop base: all internal ones in earlier nodes
 abbrev pub basesAt : List ℕ → ℕ → Bool
 basesAt ws i = eqb (childOf ws i) (1 + exts ws i) && eqb (baseOf ws i) (ints ws i)
 
 unfoldable pub ordered : List ℕ → Bool
-ordered ws = closed ws (used ws) && every (basesAt ws) (used ws)
+ordered ws = closed ws (nodesUsed ws) && every (basesAt ws) (nodesUsed ws)
 
 -- ---- a node is well formed when its own bitmaps are and its child array is; a child array when each of its nodes is
 
@@ -51,7 +51,7 @@ rootOk ws = eqb (bitsOf ws 0) 0 || nodeOk 8 ws 0
 -- ---- the hops, and what stands after the last used
 
 abbrev pub hopsIn : List ℕ → ℕ
-hopsIn ws = ints ws (used ws)
+hopsIn ws = ints ws (nodesUsed ws)
 
 -- the first n hops are 1 to 32,767 each
 abbrev pub hopsFineTo : List ℕ → ℕ → Bool
@@ -65,8 +65,8 @@ unfoldable pub blankFrom : List ℕ → ℕ → Bool
 blankFrom xs k = every (λ j. ltb j k || eqb (getD xs j 0) 0) (length xs)
 
 unfoldable pub wellFormed : List ℕ → List ℕ → Bool
-wellFormed ws hs = ordered ws && (rootOk ws && (hopsOk ws hs && (blankFrom ws (3 * used ws) && blankFrom hs (hopsIn ws))))
+wellFormed ws hs = ordered ws && (rootOk ws && (hopsOk ws hs && (blankFrom ws (3 * nodesUsed ws) && blankFrom hs (hopsIn ws))))
 
 -- the nodes of a well-formed image, 0 for any other content
 abbrev pub nodesIf : Bool → List ℕ → ℕ
-nodesIf b ws = cond b (used ws) 0
+nodesIf b ws = cond b (nodesUsed ws) 0

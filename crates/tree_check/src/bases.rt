@@ -1,19 +1,14 @@
 // The nodes of an image one by one: whether their bases are those of the fixed order, and their own bitmaps well formed. Each node is held against the
 // next one, with no early end, so that it can be done several nodes at a time.
+use bits::widen::word_to_index;
 ghost use mathlib.Core.Path.{_≡_};
-ghost use Prim.Native.Nat.{_+_, _*_, _/_, _%_, _^_, _≤_, _<_};
+ghost use Prim.Native.Nat.{_+_, _*_, _/_, _^_, _≤_, _<_};
 ghost use lib.ListN.{length};
 ghost use lib.Count.{ones};
 ghost use Rattle.bits.specs.Tab.{Tells};
 ghost use Rattle.tree.specs.Node.{bitsOf, childOf};
 ghost use Rattle.tree_same.specs.Order.{Order};
-ghost use Rattle.tree_check.specs.Stretches.{Flagged, OwnBits, Own, EndsAt, Nodes, Begun, UpTo, Shaped};
-
-pub fn wide(x: u32) -> usize
-    ensures { λ r. ⌜ (r ≡ x) × (r < 2 ^ 32) ⌝ }
-{
-    x as usize
-}
+ghost use Rattle.tree_check.specs.Stretches.{Flagged, OwnBits, Own, EndsAt, Nodes, Begun, UpTo, NodesShaped};
 
 // How many children the word of a node names.
 pub fn children(word: u32) -> u32
@@ -27,7 +22,7 @@ pub fn first_child(words: &[u32], at: usize) -> usize
     requires { ⌜ 3 * (at + 1) ≤ length (now words) ⌝ }
     ensures { λ r. ⌜ (r ≡ childOf (now (words .entry)) at) × (r < 2 ^ 32) ⌝ }
 {
-    wide(words[3 * at + 1])
+    word_to_index(words[3 * at + 1])
 }
 
 // Where they end.
@@ -35,7 +30,7 @@ pub fn after_children(words: &[u32], at: usize) -> usize
     requires { ⌜ 3 * (at + 1) ≤ length (now words) ⌝ }
     ensures { λ r. ⌜ r ≡ childOf (now (words .entry)) at + ones (bitsOf (now (words .entry)) at / 2 ^ 16) ⌝ }
 {
-    first_child(words, at) + wide(children(words[3 * at]))
+    first_child(words, at) + word_to_index(children(words[3 * at]))
 }
 
 // The nodes in use, if the image is well formed: the way from the root to the first child of each level ends after the last node.
@@ -117,7 +112,7 @@ fn in_order(words: &[u32], n: usize) -> bool
 // The nodes in use, if the bases and the own bitmaps of each are right; 0 if not, and 0 for what is no image for other reasons: no image has more
 // than 32,769 nodes.
 pub fn shape(words: &[u32]) -> usize
-    ensures { λ r. ⌜ Shaped (now (words .entry)) r ⌝ }
+    ensures { λ r. ⌜ NodesShaped (now (words .entry)) r ⌝ }
 {
     let n = nodes_in(words);
     if n == 0 {

@@ -6,18 +6,19 @@ use crate::bases::after_children;
 use crate::bases::differ;
 use crate::bases::first_child;
 use crate::bases::shape;
-use crate::bases::wide;
+use bits::widen::word_to_index;
+use buffers::zeros::zeros16;
+use buffers::zeros::zeros32;
 use tree_build::fill;
 ghost use mathlib.Core.Bool.{true};
 ghost use mathlib.Core.Path.{_≡_};
-ghost use Prim.Native.Nat.{_+_, _*_, _/_, _^_, _≤_, _<_};
+ghost use Prim.Native.Nat.{_+_, _*_, _≤_, _<_};
 ghost use lib.ListN.{length};
-ghost use lib.Count.{ones};
 ghost use Rattle.routes.specs.Input.{hopFine};
 ghost use Rattle.tree_same.specs.Order.{ints};
 ghost use Rattle.tree_check.specs.Contract.{MeetsTreeTest};
-ghost use Rattle.tree_check.specs.WellFormed.{ordered, childrenOk, rootOk, hopsFineTo, blankFrom, wellFormed, nodesIf};
-ghost use Rattle.tree_check.specs.Stretches.{Flagged, Lent, Stretch, Rooted};
+ghost use Rattle.tree_check.specs.WellFormed.{ordered, childrenOk, rootOk, hopsFineTo, wellFormed, nodesIf};
+ghost use Rattle.tree_check.specs.Stretches.{Flagged, StretchLent, Stretch, Rooted};
 
 // What the test answers: the nodes and the hops in use, or that the image is not well formed.
 pub enum Tested {
@@ -27,7 +28,7 @@ pub enum Tested {
 
 // Whether each node of a stretch at depth 8 has bit 0 alone. No early end, so that it can be done several nodes at a time.
 fn ends_ok(words: &[u32], first: usize, n: usize) -> bool
-    requires { ⌜ Lent (now words) first n ⌝ }
+    requires { ⌜ StretchLent (now words) first n ⌝ }
     ensures { λ r. ⌜ r ≡ childrenOk 0 n (now (words .entry)) first ⌝ }
 {
     let end = first + n;
@@ -102,7 +103,7 @@ pub fn hops_in(words: &[u32], n: usize) -> usize
     requires { ⌜ (0 < n) × (3 * n ≤ length (now words)) × (n ≡ nodesIf (ordered (now words)) (now words)) ⌝ }
     ensures { λ r. ⌜ r ≡ ints (now (words .entry)) n ⌝ }
 {
-    wide(words[3 * (n - 1) + 2]) + wide(bits::ones_below(words[3 * (n - 1)], 15))
+    word_to_index(words[3 * (n - 1) + 2]) + word_to_index(bits::ones_below(words[3 * (n - 1)], 15))
 }
 
 // 0 where a number is a hop, 1 to 32,767, and 1 where it is not.
@@ -132,33 +133,6 @@ fn hops_fine(hops: &[u16], k: usize) -> bool
     bad == 0
 }
 
-// Whether zeros stand from place k on.
-fn blank_words(words: &[u32], k: usize) -> bool
-    ensures { λ r. ⌜ r ≡ blankFrom (now (words .entry)) k ⌝ }
-{
-    let mut j = k;
-    while j < words.len() {
-        if words[j] != 0 {
-            return false;
-        }
-        j += 1;
-    }
-    true
-}
-
-fn blank_hops(hops: &[u16], k: usize) -> bool
-    ensures { λ r. ⌜ r ≡ blankFrom (now (hops .entry)) k ⌝ }
-{
-    let mut j = k;
-    while j < hops.len() {
-        if hops[j] != 0 {
-            return false;
-        }
-        j += 1;
-    }
-    true
-}
-
 // The test of the whole image: the nodes in use, which are never 0, if it is well formed; 0 if not.
 pub fn check(words: &[u32], hops: &[u16]) -> usize
     ensures { λ r. ⌜ r ≡ nodesIf (wellFormed (now (words .entry)) (now (hops .entry))) (now (words .entry)) ⌝ }
@@ -180,10 +154,10 @@ pub fn check(words: &[u32], hops: &[u16]) -> usize
     if !hops_fine(hops, k) {
         return 0;
     }
-    if !blank_words(words, 3 * n) {
+    if !zeros32(words, 3 * n, words.len()) {
         return 0;
     }
-    if !blank_hops(hops, k) {
+    if !zeros16(hops, k, hops.len()) {
         return 0;
     }
     n

@@ -2,7 +2,7 @@
 use mathlib.Core.Path.{_≡_, refl, sym, _∙_, ap, ap₂}
 use mathlib.Core.Logic.{_⊎_, inl, inr}
 use mathlib.Core.Bool.{Bool, true, false, cond}
-use Prim.Native.Nat.{ℕ, _+_, _*_, _/_, _%_, _^_, _≤_, _<_}
+use Prim.Native.Nat.{ℕ, _*_, _/_, _%_, _^_, _<_}
 use native.Mathlib.Nat.{mod-lt}
 use native.Mathlib.Omega.{arith}
 use lib.Dec.{eqb}
@@ -10,9 +10,9 @@ use lib.Bits.{bitXor, or-zero-l, xor-zero-r, xor-self, xor-lt, xor-shr, xor-mod}
 use lib.Pow.{pow-pos, shr-le}
 use borrow.Author.Tests.{eq-eqb, ne-eqb, eqb-true}
 use Rattle.bits.specs.Bit.{bitAt}
-use Rattle.bits.proofs.Tests.{equal?}
+use Rattle.bits.proofs.Bools.{equal?}
 use Rattle.tree.specs.Node.{isSet}
-use Rattle.tree_build.specs.Run.{WithBit}
+use Rattle.tree_build.specs.NodeRuns.{WithBit}
 use Rattle.tree_build.proofs.Marks.{with-bit}
 
 -- the bits of a power of 2
@@ -26,7 +26,8 @@ module _ (w b : ℕ) (fits : w < 2 ^ 32) (l : b < 32) (set : isSet w b ≡ true)
   r = bitXor w ((1 * 2 ^ b) % 2 ^ 32)
 
   xor-bit : (k : ℕ) → bitAt r k ≡ bitXor (bitAt w k) (cond (eqb k b) 1 0)
-  xor-bit k = ap (λ (x : ℕ). x % 2) (xor-shr w ((1 * 2 ^ b) % 2 ^ 32) k) ∙ xor-mod (w / 2 ^ k) ((1 * 2 ^ b) % 2 ^ 32 / 2 ^ k) 1 ∙ ap (bitXor (bitAt w k)) (one-bit b k l)
+  xor-bit k = ap (λ (x : ℕ). x % 2) (xor-shr w ((1 * 2 ^ b) % 2 ^ 32) k) ∙ xor-mod (w / 2 ^ k) ((1 * 2 ^ b) % 2 ^ 32 / 2 ^ k) 1 ∙ ap
+      (bitXor (bitAt w k)) (one-bit b k l)
 
   there : bitAt w b ≡ 1
   there = eqb-true (bitAt w b) 1 set

@@ -2,21 +2,20 @@
 use mathlib.Core.Path.{_≡_, _∙_, ap, ap₂, subst}
 use mathlib.Core.Bool.{false}
 use mathlib.Core.List.{List}
-use Prim.Native.Nat.{ℕ, suc, _+_, _-_, _*_, _/_, _%_, _^_, _≤_, _<_}
+use Prim.Native.Nat.{ℕ, suc, _+_, _-_, _*_, _^_, _≤_, _<_}
 use native.Mathlib.Omega.{arith}
 use lib.ListN.{length, getD, set, length-set}
 use lib.Seq.{getD-set-other}
-use lib.Count.{ones}
 use Rattle.lists.specs.Edit.{drawn}
 use Rattle.lists.proofs.EditMoves.{length-drawn}
-use Rattle.tree.specs.Node.{bitsOf, childOf, baseOf, isSet, childAt}
-use Rattle.tree_build.specs.Run.{WithBit}
+use Rattle.tree.specs.Node.{bitsOf, childOf, isSet, childAt}
+use Rattle.tree_build.specs.NodeRuns.{WithBit}
 use Rattle.tree_build.specs.Queue.{put3}
 use Rattle.tree_build.proofs.Stores.{put3-length}
-use Rattle.tree_same.specs.Order.{ints}
+use Rattle.tree_same.specs.Read.{hopPlaceAt}
 use Rattle.tree_check.proofs.Held.{fewer-ints, ints-next, ints-mono}
 use Rattle.tree_hold.specs.Moves.{each}
-use Rattle.tree_hold.specs.Edits.{Grafted, Prunable, HopPut, Takable}
+use Rattle.tree_hold.specs.Edits.{Grafted, Prunable, HopPut, HopTaken, Takable}
 use Rattle.tree_hold.proofs.Each.{each-length, each-out, each-more}
 use Rattle.tree_hold.proofs.GraftMade.{graft-inside, graft-few, graft-done}
 use Rattle.tree_hold.proofs.PruneMade.{prune-inside, prune-done}
@@ -37,7 +36,8 @@ module _ (f : ℕ → ℕ) (ws₀ ws : List ℕ) (d a i : ℕ) (word : d < 3) (e
 
 -- ---- a graft
 
-module _ {ws : List ℕ} {n k x c : ℕ} (r : GraftReady ws n k x c) (y n′ k′ : ℕ) (place : y ≡ childAt (bitsOf ws x) (childOf ws x) c) (w1 : List ℕ) (en : n′ ≡ n) (ek : k′ ≡ k)
+module _ {ws : List ℕ} {n k x c : ℕ} (r : GraftReady ws n k x c) (y n′ k′ : ℕ) (place : y ≡ childAt (bitsOf ws x) (childOf ws x) c) (w1 : List ℕ)
+    (en : n′ ≡ n) (ek : k′ ≡ k)
     (e1 : w1 ≡ put3 ws n 0 n′ k′) where
   w1-is : w1 ≡ put3 ws n 0 n k
   w1-is = e1 ∙ ap₂ (λ (u v : ℕ). put3 ws n 0 u v) en ek
@@ -75,7 +75,8 @@ module _ {ws : List ℕ} {n k x c : ℕ} (r : GraftReady ws n k x c) (y n′ k�
 
 -- ---- its reverse
 
-module _ {ws : List ℕ} {n k x c : ℕ} (r : Prunable ws n k x c) (y v : ℕ) (place : y ≡ childAt (bitsOf ws x) (childOf ws x) c) (bit : WithBit v (16 + c) (bitsOf ws x))
+module _ {ws : List ℕ} {n k x c : ℕ} (r : Prunable ws n k x c) (y v : ℕ) (place : y ≡ childAt (bitsOf ws x) (childOf ws x) c)
+    (bit : WithBit v (16 + c) (bitsOf ws x))
     (free : isSet v (16 + c) ≡ false) (fits : v < 2 ^ 32) where
   pub prune-lower : Lowerable (set ws (3 * x) v) 1 (x + 1) (n + 1)
   prune-lower = record {
@@ -107,7 +108,7 @@ module _ {ws : List ℕ} {n k x c : ℕ} (r : Prunable ws n k x c) (y v : ℕ) (
 
 -- ---- a hop put
 
-module _ {ws hs : List ℕ} {n k x b : ℕ} (r : PutReady ws hs n k x b) (y : ℕ) (place : y ≡ baseOf ws x + ones (bitsOf ws x % 2 ^ b)) where
+module _ {ws hs : List ℕ} {n k x b : ℕ} (r : PutReady ws hs n k x b) (y : ℕ) (place : y ≡ hopPlaceAt ws x b) where
   pub put-open : (y ≤ k) × (k + 1 ≤ length hs)
   put-open = (put-inside (r .able) y place, r .able .room)
 
@@ -124,7 +125,7 @@ module _ {ws hs : List ℕ} {n k x b : ℕ} (r : PutReady ws hs n k x b) (y : �
     put-store = omega (arith, ap length eh, length-drawn hs (λ j. j - 1) (y + 1) (k + 1), put-open .0, r .able .room)
 
     pub put-leaves : (w1 : List ℕ) → w1 ≡ each (λ z. z + 1) ws 2 (x + 1) n → (v h : ℕ) → WithBit (bitsOf ws x) b v
-        → HopPut ws (set w1 (3 * x) v) hs (set h1 y h) n x b (baseOf ws x + ones (bitsOf ws x % 2 ^ b)) h
+        → HopPut ws (set w1 (3 * x) v) hs (set h1 y h) n x b (hopPlaceAt ws x b) h
     put-leaves w1 ew v h bit =
         rw (ew, eh)
         (subst (λ (z : ℕ). HopPut ws (set (each (λ z. z + 1) ws 2 (x + 1) n) (3 * x) v) hs (set (drawn hs (y + 1) (k + 1) (λ j. j - 1)) y h) n x b z h) place
@@ -132,7 +133,7 @@ module _ {ws hs : List ℕ} {n k x b : ℕ} (r : PutReady ws hs n k x b) (y : �
 
 -- ---- and taken away
 
-module _ {ws hs : List ℕ} {n k x b : ℕ} (r : Takable ws hs n k x b) (y v : ℕ) (place : y ≡ baseOf ws x + ones (bitsOf ws x % 2 ^ b)) (bit : WithBit v b (bitsOf ws x))
+module _ {ws hs : List ℕ} {n k x b : ℕ} (r : Takable ws hs n k x b) (y v : ℕ) (place : y ≡ hopPlaceAt ws x b) (bit : WithBit v b (bitsOf ws x))
     (free : isSet v b ≡ false) (fits : v < 2 ^ 32) where
   pub take-lower : Lowerable (set ws (3 * x) v) 2 (x + 1) n
   take-lower = record {
@@ -157,7 +158,7 @@ module _ {ws hs : List ℕ} {n k x b : ℕ} (r : Takable ws hs n k x b) (y v : �
     pub take-size : length w2 ≡ length ws
     take-size = ap length ew ∙ each-length (λ z. z - 1) (set ws (3 * x) v) 2 (x + 1) n ∙ length-set ws (3 * x) v
 
-    pub take-leaves : HopPut w2 ws (set h1 k 0) hs n x b (baseOf ws x + ones (bitsOf ws x % 2 ^ b)) (getD hs (baseOf ws x + ones (bitsOf ws x % 2 ^ b)) 0)
+    pub take-leaves : HopTaken ws w2 hs (set h1 k 0) n x b
     take-leaves =
         rw (ew, eh)
         (subst (λ (z : ℕ). HopPut (each (λ z. z - 1) (set ws (3 * x) v) 2 (x + 1) n) ws (set (drawn hs y k (λ j. j + 1)) k 0) hs n x b z (getD hs z 0)) place

@@ -1,23 +1,18 @@
 // Edits of an image in place: a node or a hop more, or one less. Each leaves exactly the image of the routes with it or without it.
 pub mod moves;
 
+use bits::widen::word_to_index;
 use tree_build::fill;
 use tree_build::run;
 ghost use mathlib.Core.Path.{_≡_};
 ghost use mathlib.Core.Bool.{true, false};
-ghost use Prim.Native.Nat.{_+_, _*_, _%_, _^_, _≤_, _<_};
-ghost use lib.Count.{ones};
-ghost use lib.ListN.{length, getD};
-ghost use Rattle.tree.specs.Node.{bitsOf, childOf, baseOf, isSet, childAt};
-ghost use Rattle.tree_build.specs.Run.{WithBit};
-ghost use Rattle.tree_hold.specs.Edits.{Grafted, HopPut, Prunable, Takable};
+ghost use Prim.Native.Nat.{_+_, _*_, _^_, _≤_, _<_};
+ghost use lib.ListN.{length};
+ghost use Rattle.tree.specs.Node.{bitsOf, childOf, isSet, childAt};
+ghost use Rattle.tree_build.specs.NodeRuns.{WithBit};
+ghost use Rattle.tree_same.specs.Read.{hopPlaceAt};
+ghost use Rattle.tree_hold.specs.Edits.{Grafted, Pruned, HopPut, HopTaken, Prunable, Takable};
 ghost use Rattle.tree_edit.specs.Small.{GraftReady, PutReady};
-
-fn wide(x: u32) -> usize
-    ensures { λ r. ⌜ (r ≡ x) × (r < 2 ^ 32) ⌝ }
-{
-    x as usize
-}
 
 // A word with a bit cleared that is set.
 fn without_bit(word: u32, b: u32) -> u32
@@ -32,15 +27,15 @@ pub fn child_place(words: &[u32], x: usize, c: u32) -> usize
     requires { ⌜ (3 * x + 3 ≤ length (now words)) × (c < 16) ⌝ }
     ensures { λ r. ⌜ (r ≡ childAt (bitsOf (now (words .entry)) x) (childOf (now (words .entry)) x) c) × (r < 2 ^ 33) ⌝ }
 {
-    wide(words[3 * x + 1]) + wide(bits::ones_below(words[3 * x] >> 16, c))
+    word_to_index(words[3 * x + 1]) + word_to_index(bits::ones_below(words[3 * x] >> 16, c))
 }
 
 // The place of the hop at the internal bit b of node x: the hop base and the internal ones below the bit.
 pub fn hop_place(words: &[u32], x: usize, b: u32) -> usize
     requires { ⌜ (3 * x + 3 ≤ length (now words)) × (b < 15) ⌝ }
-    ensures { λ r. ⌜ (r ≡ baseOf (now (words .entry)) x + ones (bitsOf (now (words .entry)) x % 2 ^ b)) × (r < 2 ^ 33) ⌝ }
+    ensures { λ r. ⌜ (r ≡ hopPlaceAt (now (words .entry)) x b) × (r < 2 ^ 33) ⌝ }
 {
-    wide(words[3 * x + 2]) + wide(bits::ones_below(words[3 * x], b))
+    word_to_index(words[3 * x + 2]) + word_to_index(bits::ones_below(words[3 * x], b))
 }
 
 // An empty child c under node x of n nodes and k hops; answers its place. The empty node is written after the last one and a gap opened at
@@ -62,7 +57,7 @@ pub fn graft(words: &mut [u32], n: usize, k: usize, x: usize, c: u32) -> usize
 // The empty child c of node x taken away; n nodes are left.
 pub fn prune(words: &mut [u32], n: usize, k: usize, x: usize, c: u32)
     requires { ⌜ Prunable (now words) n k x c ⌝ }
-    ensures { λ _. ⌜ Grafted (now (words .exit)) (now (words .entry)) n x c (childAt (bitsOf (now (words .entry)) x) (childOf (now (words .entry)) x) c) ⌝ }
+    ensures { λ _. ⌜ Pruned (now (words .entry)) (now (words .exit)) n x c ⌝ }
 {
     let word = words[3 * x];
     let y = child_place(words, x, c);
@@ -75,7 +70,7 @@ pub fn prune(words: &mut [u32], n: usize, k: usize, x: usize, c: u32)
 // The hop h at the internal bit b of node x, of n nodes and k hops.
 pub fn put_hop(words: &mut [u32], hops: &mut [u16], n: usize, k: usize, x: usize, b: u32, h: u16)
     requires { ⌜ PutReady (now words) (now hops) n k x b ⌝ }
-    ensures { λ _. ⌜ HopPut (now (words .entry)) (now (words .exit)) (now (hops .entry)) (now (hops .exit)) n x b (baseOf (now (words .entry)) x + ones (bitsOf (now (words .entry)) x % 2 ^ b)) h ⌝ }
+    ensures { λ _. ⌜ HopPut (now (words .entry)) (now (words .exit)) (now (hops .entry)) (now (hops .exit)) n x b (hopPlaceAt (now (words .entry)) x b) h ⌝ }
 {
     let word = words[3 * x];
     let y = hop_place(words, x, b);
@@ -88,7 +83,7 @@ pub fn put_hop(words: &mut [u32], hops: &mut [u16], n: usize, k: usize, x: usize
 // The hop at the internal bit b of node x taken away; k hops are left.
 pub fn take_hop(words: &mut [u32], hops: &mut [u16], n: usize, k: usize, x: usize, b: u32)
     requires { ⌜ Takable (now words) (now hops) n k x b ⌝ }
-    ensures { λ _. ⌜ HopPut (now (words .exit)) (now (words .entry)) (now (hops .exit)) (now (hops .entry)) n x b (baseOf (now (words .entry)) x + ones (bitsOf (now (words .entry)) x % 2 ^ b)) (getD (now (hops .entry)) (baseOf (now (words .entry)) x + ones (bitsOf (now (words .entry)) x % 2 ^ b)) 0) ⌝ }
+    ensures { λ _. ⌜ HopTaken (now (words .entry)) (now (words .exit)) (now (hops .entry)) (now (hops .exit)) n x b ⌝ }
 {
     let word = words[3 * x];
     let y = hop_place(words, x, b);

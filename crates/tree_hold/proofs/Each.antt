@@ -9,8 +9,7 @@ use lib.Dec.{eqb, leb, ltb}
 use lib.ListN.{length, getD, set, List·getD-eq-default}
 use lib.Seq.{ext-getD}
 use borrow.Author.Tests.{eq-eqb, ne-eqb, eqb-true, le-leb, leb-true, lt-ltb, ltb-true}
-use Rattle.bits.specs.Tab.{tabulate}
-use Rattle.bits.proofs.Tests.{both, and-split, below?, equal?, untrue, same}
+use Rattle.bits.proofs.Bools.{both, and-split, below?, equal?, untrue, same}
 use Rattle.bits.proofs.Tabs.{length-tabulate, getD-tabulate, tabulate-ext, set-tabulate}
 use Rattle.lists.specs.Edit.{drawn}
 use Rattle.lists.proofs.EditMoves.{drawn-before, drawn-after, drawn-lower, drawn-higher}
@@ -79,7 +78,8 @@ module _ (f : ℕ → ℕ) (ws : List ℕ) (d a : ℕ) where
 -- a turn of a loop that moves elements up, or down, by d places: the one that is read is still what it was
 module _ (s : List ℕ) (d : ℕ) (some : 0 < d) where
   pub up-step : (at e : ℕ) → 0 < at → at ≤ e → e + d ≤ length s
-      → set (drawn s (at + d) (e + d) (λ j. j - d)) (at - 1 + d) (getD (drawn s (at + d) (e + d) (λ j. j - d)) (at - 1) 0) ≡ drawn s (at - 1 + d) (e + d) (λ j. j - d)
+      → set (drawn s (at + d) (e + d) (λ j. j - d)) (at - 1 + d) (getD (drawn s (at + d) (e + d) (λ j. j - d)) (at - 1) 0) ≡ drawn s (at - 1 + d)
+      (e + d) (λ j. j - d)
   up-step at e z l h =
       let v : getD (drawn s (at + d) (e + d) (λ j. j - d)) (at - 1) 0 ≡ getD s (at - 1 + d - d) 0 =
       drawn-before s (λ j. j - d) (at + d) (e + d) (at - 1) (omega arith) (omega arith) ∙ ap (λ (x : ℕ). getD s x 0) (omega arith) in

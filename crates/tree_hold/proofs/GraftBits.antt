@@ -4,7 +4,7 @@ use mathlib.Core.Path.{_≡_, refl, sym, _∙_, ap, subst}
 use mathlib.Core.Logic.{_⊎_, inl, inr}
 use mathlib.Core.Bool.{Bool, true, cond}
 use mathlib.Core.List.{List}
-use Prim.Native.Nat.{ℕ, zero, suc, _+_, _-_, _*_, _/_, _%_, _^_, _≤_, _<_}
+use Prim.Native.Nat.{ℕ, zero, suc, _+_, _-_, _/_, _%_, _^_, _≤_, _<_}
 use native.Mathlib.Nat.{add-zero}
 use native.Mathlib.Omega.{arith}
 use lib.Dec.{eqb}
@@ -13,7 +13,7 @@ use lib.Count.{ones}
 use borrow.Author.Tests.{eq-eqb, ne-eqb}
 use Rattle.bits.specs.Bit.{bitAt}
 use Rattle.bits.specs.Count.{count}
-use Rattle.bits.proofs.Tests.{below?, equal?}
+use Rattle.bits.proofs.Bools.{below?, equal?}
 use Rattle.bits.proofs.Counts.{count-ext, without, without-other, without-same, count-without}
 use Rattle.bits.proofs.Packed.{rank-count, upper-count}
 use Rattle.tree.specs.Node.{bitsOf, isSet}
@@ -93,7 +93,12 @@ module _ {ws ws′ : List ℕ} {n x c y : ℕ} (g : GraftedBits ws ws′ n x c y
   pub exts-upto : (i : ℕ) → i ≤ x → exts ws′ i ≡ exts ws i
   unfolding exts
   exts-upto zero l = refl
-  exts-upto (suc i) l = omega (arith, exts-upto i (omega arith), ap (λ (k : ℕ). ones (k / 2 ^ 16)) (g .below i (omega (arith, g .after)) (λ (e : i ≡ x). omega arith)))
+  exts-upto (suc i) l = omega (
+    arith,
+    exts-upto i (omega arith),
+    ap (λ (k : ℕ). ones (k / 2 ^ 16))
+        (g .below i (omega (arith, g .after)) (λ (e : i ≡ x). omega arith)),
+  )
 
   pub exts-between : (i : ℕ) → x < i → i ≤ y → exts ws′ i ≡ exts ws i + 1
   exts-between zero l u = absurd (omega arith)
@@ -101,7 +106,14 @@ module _ {ws ws′ : List ℕ} {n x c y : ℕ} (g : GraftedBits ws ws′ n x c y
     where
       go : (x < i) ⊎ (i ≤ x) → (x < i → i ≤ y → exts ws′ i ≡ exts ws i + 1) → exts ws′ (suc i) ≡ exts ws (suc i) + 1
       go (inl v) ih =
-          omega (arith, ih v (omega arith), exts-next ws i, exts-next ws′ i, ap (λ (k : ℕ). ones (k / 2 ^ 16)) (g .below i (omega arith) (λ (e : i ≡ x). omega arith)))
+          omega (
+            arith,
+            ih v (omega arith),
+            exts-next ws i,
+            exts-next ws′ i,
+            ap (λ (k : ℕ). ones (k / 2 ^ 16))
+                (g .below i (omega arith) (λ (e : i ≡ x). omega arith)),
+          )
       go (inr v) ih =
           let e : i ≡ x = omega arith in
           rw e (omega (arith, exts-next ws x, exts-next ws′ x, exts-upto x (omega arith), exts-more))
@@ -112,7 +124,14 @@ module _ {ws ws′ : List ℕ} {n x c y : ℕ} (g : GraftedBits ws ws′ n x c y
       rw add-zero (omega (arith, exts-next ws′ y, exts-between y (g .after) (omega arith), z))
   exts-above (suc d) l =
       let e : y + suc d ≡ suc (y + d) = omega arith in
-      rw e (omega (arith, exts-above d (omega arith), exts-next ws′ (suc (y + d)), exts-next ws (y + d), ap (λ (k : ℕ). ones (k / 2 ^ 16)) (g .above (y + d) (omega arith) (omega arith))))
+      rw e (omega (
+        arith,
+        exts-above d (omega arith),
+        exts-next ws′ (suc (y + d)),
+        exts-next ws (y + d),
+        ap (λ (k : ℕ). ones (k / 2 ^ 16))
+            (g .above (y + d) (omega arith) (omega arith)),
+      ))
 
   pub exts-later : (i : ℕ) → y ≤ i → i ≤ n → exts ws′ (suc i) ≡ exts ws i + 1
   exts-later i l u = let e : y + (i - y) ≡ i = omega arith in subst (λ (k : ℕ). exts ws′ (suc k) ≡ exts ws k + 1) e (exts-above (i - y) (omega arith))
@@ -135,7 +154,14 @@ module _ {ws ws′ : List ℕ} {n x c y : ℕ} (g : GraftedBits ws ws′ n x c y
       rw add-zero (omega (arith, ints-next ws′ y, ints-upto y (omega arith), z))
   ints-above (suc d) l =
       let e : y + suc d ≡ suc (y + d) = omega arith in
-      rw e (omega (arith, ints-above d (omega arith), ints-next ws′ (suc (y + d)), ints-next ws (y + d), ap (λ (k : ℕ). ones (k % 2 ^ 15)) (g .above (y + d) (omega arith) (omega arith))))
+      rw e (omega (
+        arith,
+        ints-above d (omega arith),
+        ints-next ws′ (suc (y + d)),
+        ints-next ws (y + d),
+        ap (λ (k : ℕ). ones (k % 2 ^ 15))
+            (g .above (y + d) (omega arith) (omega arith)),
+      ))
 
   pub ints-later : (i : ℕ) → y ≤ i → i ≤ n → ints ws′ (suc i) ≡ ints ws i
   ints-later i l u = let e : y + (i - y) ≡ i = omega arith in subst (λ (k : ℕ). ints ws′ (suc k) ≡ ints ws k) e (ints-above (i - y) (omega arith))

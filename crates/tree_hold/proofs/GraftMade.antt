@@ -10,13 +10,13 @@ use lib.Seq.{getD-set-same, getD-set-other}
 use lib.Pow.{shr-mod}
 use lib.Count.{ones}
 use Rattle.bits.specs.Count.{count}
-use Rattle.bits.proofs.Tests.{below?}
+use Rattle.bits.proofs.Bools.{below?}
 use Rattle.bits.proofs.Packed.{upper-count}
 use Rattle.lists.specs.Edit.{drawn}
 use Rattle.lists.proofs.EditMoves.{length-drawn, drawn-in, drawn-before, drawn-after}
 use Rattle.tree.specs.Node.{bitsOf, childOf, baseOf, isSet, childAt}
 use Rattle.tree.proofs.Counts.{count-mono}
-use Rattle.tree_build.specs.Run.{WithBit}
+use Rattle.tree_build.specs.NodeRuns.{WithBit}
 use Rattle.tree_build.specs.Queue.{put3}
 use Rattle.tree_build.proofs.Stores.{put3-length, put3-other, put3-at}
 use Rattle.tree_same.specs.Order.{exts, ints, Order}
@@ -34,7 +34,8 @@ order-full ws (suc i) o = omega (arith, o .whole, o .fewest i (omega arith), ext
 ones-below-le : (w c : ℕ) → w < 2 ^ 32 → c < 16 → ones (w / 2 ^ 16 % 2 ^ c) ≤ ones (w / 2 ^ 16)
 ones-below-le w c fit l =
     let e : c + (16 - c) ≡ 16 = omega arith in
-    let a : ones (w / 2 ^ 16) ≡ count (λ i. isSet w (16 + i)) 16 = ap ones (sym (shr-mod {n = w} 16 16 fit)) ∙ upper-count w (λ i. isSet w (16 + i)) 16 (λ i u. bit-of w (16 + i)) in
+    let a : ones (w / 2 ^ 16) ≡ count (λ i. isSet w (16 + i)) 16 = ap ones (sym (shr-mod {n = w} 16 16 fit)) ∙ upper-count w
+    (λ i. isSet w (16 + i)) 16 (λ i u. bit-of w (16 + i)) in
     omega (
       arith,
       a,
@@ -111,7 +112,14 @@ module _ {ws : List ℕ} {n k x c : ℕ} (r : Graftable ws n k x c) (y : ℕ) (p
       later : (j : ℕ) → y < j → j ≤ n → childOf w2 j ≤ n
       later zero u v = absurd (omega arith)
       later (suc j) u v =
-          omega (arith, high j 1 (omega arith) (omega arith) (omega arith), r .words .order .child j (omega arith), exts-mono ws j n (omega arith), r .words .order .whole)
+          omega (
+            arith,
+            high j 1 (omega arith) (omega arith) (omega arith),
+            r .words .order .child j (omega arith),
+            exts-mono ws j n
+                (omega arith),
+            r .words .order .whole,
+          )
 
       go : (i < suc y) ⊎ (suc y ≤ i) → (y < i → i ≤ n → childOf w2 i ≤ n) → childOf w2 i ≤ n
       go (inl u) f = omega (arith, low (3 * i + 1) (omega arith), first-child i l, exts-mono ws i n l, r .words .order .whole)
@@ -141,7 +149,8 @@ module _ {ws : List ℕ} {n k x c : ℕ} (r : Graftable ws n k x c) (y : ℕ) (p
         ∙ first-old (3 * i) (omega (arith, graft-inside))
 
     new-bits : bitsOf ws′ y ≡ 0
-    new-bits = getD-set-other (set w3 (3 * y) 0) (3 * x) (3 * y) v 0 (λ e. omega (arith, graft-after)) ∙ getD-set-same w3 (3 * y) 0 0 (omega (arith, long3, graft-inside, r .room))
+    new-bits = getD-set-other (set w3 (3 * y) 0) (3 * x) (3 * y) v 0 (λ e. omega (arith, graft-after)) ∙ getD-set-same w3 (3 * y) 0 0
+        (omega (arith, long3, graft-inside, r .room))
 
     moved-bits : (i : ℕ) → y ≤ i → i < n → bitsOf ws′ (suc i) ≡ bitsOf ws i
     moved-bits i l u =
@@ -185,7 +194,8 @@ module _ {ws : List ℕ} {n k x c : ℕ} (r : Graftable ws n k x c) (y : ℕ) (p
           kept (3 * i + 2) (λ e. omega arith) (λ e. omega arith) ∙ unraised (3 * i + 2) (λ e a b. omega arith) ∙ low (3 * i + 2) (omega arith)
           ∙ first-old (3 * i + 2) (omega (arith, graft-inside));
       base-new =
-          kept (3 * y + 2) (λ e. omega arith) (λ e. omega arith) ∙ unraised (3 * y + 2) (λ e a b. omega arith) ∙ low (3 * y + 2) (omega arith) ∙ first-base y graft-inside;
+          kept (3 * y + 2) (λ e. omega arith) (λ e. omega arith) ∙ unraised (3 * y + 2) (λ e a b. omega arith) ∙ low (3 * y + 2) (omega arith)
+          ∙ first-base y graft-inside;
       base-above = λ i l u.
           kept (3 * suc i + 2) (λ e. omega arith) (λ e. omega arith) ∙ unraised (3 * suc i + 2) (λ e a b. omega arith) ∙ high i 2 (omega arith) l u;
       rest-old = r .words .rest;

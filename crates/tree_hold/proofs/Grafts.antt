@@ -14,7 +14,7 @@ use lib.Count.{ones}
 use borrow.Author.Tests.{lt-ltb, le-ltb, eq-eqb, ne-eqb, eqb-true, ltb-true}
 use Rattle.bits.specs.Bit.{bitAt}
 use Rattle.bits.specs.Count.{bit, count}
-use Rattle.bits.proofs.Tests.{both, and-split, or-split, below?, equal?, untrue}
+use Rattle.bits.proofs.Bools.{both, and-split, or-split, below?, equal?, untrue}
 use Rattle.bits.proofs.Packed.{packed-bit}
 use Rattle.tree.specs.Node.{bitsOf, childOf, baseOf, isSet, childAt}
 use Rattle.tree.specs.Image.{Node, node, innerLen, bitHop, inner, child, setBit, word}
@@ -23,16 +23,30 @@ use Rattle.tree.proofs.Counts.{count-mono, count-less}
 use Rattle.tree.proofs.Nodes.{set-inner, set-child}
 use Rattle.tree.proofs.Lies.{inner-cases}
 use Rattle.tree_build.proofs.Marks.{word-bits}
-use Rattle.tree_same.specs.Read.{reached}
+use Rattle.tree_same.specs.Read.{reached, hopPlaceAt}
 use Rattle.tree_same.specs.Order.{exts, ints, Order, standsAt}
 use Rattle.tree_same.specs.Holding.{Holding}
-use Rattle.tree_same.proofs.Back.{Shaped, set-is}
+use Rattle.tree_same.proofs.Back.{Shaped, bit-set-is}
 use Rattle.tree_same.proofs.Holdings.{stands-found}
 use Rattle.tree_check.proofs.Held.{fewer-exts, exts-next, exts-mono}
 use Rattle.tree_hold.specs.More.{also}
 use Rattle.tree_hold.specs.Edits.{Grafted}
 use Rattle.tree_hold.proofs.Holds.{word-fits}
-use Rattle.tree_hold.proofs.GraftBits.{bit-same, bit-new, count-upto, count-past, rank-old, rank-new, all-old, exts-upto, exts-between, exts-later, low-at, ints-upto, ints-later}
+use Rattle.tree_hold.proofs.GraftBits.{
+  bit-same,
+  bit-new,
+  count-upto,
+  count-past,
+  rank-old,
+  rank-new,
+  all-old,
+  exts-upto,
+  exts-between,
+  exts-later,
+  low-at,
+  ints-upto,
+  ints-later,
+}
 
 -- one place further from y on
 abbrev pub moved : ℕ → ℕ → ℕ
@@ -129,7 +143,8 @@ module _ {ws ws′ : List ℕ} {n x c y : ℕ} (o : Order ws n) (g : Grafted ws 
 
   -- ---- where a path leads
 
-  child-moved : (i d : ℕ) → i < n → d < 16 → isSet (bitsOf ws i) (16 + d) ≡ true → childAt (bitsOf ws′ (moved y i)) (childOf ws′ (moved y i)) d ≡ moved y (childAt (bitsOf ws i) (childOf ws i) d)
+  child-moved : (i d : ℕ) → i < n → d < 16 → isSet (bitsOf ws i) (16 + d) ≡ true → childAt (bitsOf ws′ (moved y i)) (childOf ws′ (moved y i)) d
+      ≡ moved y (childAt (bitsOf ws i) (childOf ws i) d)
   child-moved i d l u s = go (below? i x) (below? x i) (below? i y)
     where
       j : ℕ
@@ -145,12 +160,14 @@ module _ {ws ws′ : List ℕ} {n x c y : ℕ} (o : Order ws n) (g : Grafted ws 
       at-parent e (inl v) =
           let t : f d ≡ true = rw e at s in
           let q : childAt w (childOf ws x) d < y = omega (arith, y-is, o .child x (par), rank-old (g .bits) d, count-less f c d v t) in
-          rw (e, moved-low y x (g .bits .after), moved-low y (childAt w (childOf ws x) d) q) (omega (arith, g .child-upto x (omega arith), rank-new (g .bits) d, rank-old (g .bits) d, count-upto (g .bits) d (omega arith)))
+          rw (e, moved-low y x (g .bits .after), moved-low y (childAt w (childOf ws x) d) q)
+          (omega (arith, g .child-upto x (omega arith), rank-new (g .bits) d, rank-old (g .bits) d, count-upto (g .bits) d (omega arith)))
       at-parent e (inr v) =
           let t : f d ≡ true = rw e at s in
           let z : c < d = apart (equal? c d) t in
           let q : y ≤ childAt w (childOf ws x) d = omega (arith, y-is, o .child x (par), rank-old (g .bits) d, more z) in
-          rw (e, moved-low y x (g .bits .after), moved-high y (childAt w (childOf ws x) d) q) (omega (arith, g .child-upto x (omega arith), rank-new (g .bits) d, rank-old (g .bits) d, count-past (g .bits) d z))
+          rw (e, moved-low y x (g .bits .after), moved-high y (childAt w (childOf ws x) d) q)
+          (omega (arith, g .child-upto x (omega arith), rank-new (g .bits) d, rank-old (g .bits) d, count-past (g .bits) d z))
         where
           apart : (c ≡ d) ⊎ (c ≡ d → ⊥) → f d ≡ true → c < d
           apart (inl q) t = absurd (true≢false (sym (rw (← q) at t) ∙ g .bits .free))
@@ -159,21 +176,35 @@ module _ {ws ws′ : List ℕ} {n x c y : ℕ} (o : Order ws n) (g : Grafted ws 
           more : c < d → count f c ≤ count f d
           more z = let k : c + (d - c) ≡ d = omega arith in subst (λ (a : ℕ). count f c ≤ count f a) k (count-mono f c (d - c))
 
-      go : (i < x) ⊎ (x ≤ i) → (x < i) ⊎ (i ≤ x) → (i < y) ⊎ (y ≤ i) → childAt (bitsOf ws′ (moved y i)) (childOf ws′ (moved y i)) d ≡ moved y (childAt (bitsOf ws i) (childOf ws i) d)
+      go : (i < x) ⊎ (x ≤ i) → (x < i) ⊎ (i ≤ x) → (i < y) ⊎ (y ≤ i) → childAt (bitsOf ws′ (moved y i)) (childOf ws′ (moved y i)) d ≡ moved y
+          (childAt (bitsOf ws i) (childOf ws i) d)
       go (inl a) b e =
           let q : childAt (bitsOf ws i) (childOf ws i) d < y = omega (arith, below-next, exts-mono ws (suc i) x a, y-is) in
-          rw (moved-low y i (omega (arith, g .bits .after)), moved-low y (childAt (bitsOf ws i) (childOf ws i) d) q, g .bits .below i (omega (arith, g .bits .after)) (λ (h : i ≡ x). omega arith), g .child-upto i (omega arith)) refl
+          rw (
+            moved-low y i (omega (arith, g .bits .after)),
+            moved-low y (childAt (bitsOf ws i) (childOf ws i) d) q,
+            g .bits .below i
+                (omega (arith, g .bits .after)) (λ (h : i ≡ x). omega arith),
+            g .child-upto i (omega arith),
+          ) refl
       go (inr a) (inr b) e = at-parent (omega arith) (below? d c)
       go (inr a) (inl b) (inl e) =
           let q : y ≤ childAt (bitsOf ws i) (childOf ws i) d = omega (arith, from, exts-mono ws (suc x) i b, y-le) in
-          rw (moved-low y i e, moved-high y (childAt (bitsOf ws i) (childOf ws i) d) q, g .bits .below i e (λ (h : i ≡ x). omega arith), g .child-between i b e) (omega arith)
+          rw (
+            moved-low y i e,
+            moved-high y (childAt (bitsOf ws i) (childOf ws i) d) q,
+            g .bits .below i e
+                (λ (h : i ≡ x). omega arith),
+            g .child-between i b e,
+          ) (omega arith)
       go (inr a) (inl b) (inr e) =
           let q : y ≤ childAt (bitsOf ws i) (childOf ws i) d = omega (arith, from, exts-mono ws (suc x) i b, y-le) in
           rw (moved-high y i e, moved-high y (childAt (bitsOf ws i) (childOf ws i) d) q, g .bits .above i e l, g .child-above i e l) (omega arith)
 
 -- ---- the arrays after it
 
-module _ {st : ℕ → ℕ → Bool} {hop : ℕ → ℕ → ℕ} {ws ws′ hs : List ℕ} {n x c y : ℕ} (m p : ℕ) (fits : Shaped st hop) (h : Holding st hop ws hs n) (g : Grafted ws ws′ n x c y)
+module _ {st : ℕ → ℕ → Bool} {hop : ℕ → ℕ → ℕ} {ws ws′ hs : List ℕ} {n x c y : ℕ} (m p : ℕ) (fits : Shaped st hop) (h : Holding st hop ws hs n)
+    (g : Grafted ws ws′ n x c y)
     (stood : standsAt st m p ≡ true) (at : x ≡ reached ws m p) (deep : m < 8) (absent : st (suc m) (p * 16 + c) ≡ false) where
   abbrev st′ : ℕ → ℕ → Bool
   st′ = also st (suc m) (p * 16 + c)
@@ -197,8 +228,9 @@ module _ {st : ℕ → ℕ → Bool} {hop : ℕ → ℕ → ℕ} {ws ws′ hs : 
   child-set a b d e l =
       let q : a + 1 ≡ suc a = omega arith in
       let k : bitAt (bitsOf ws (reached ws a b)) (16 + d) ≡ bit (st (suc a) (b * 16 + d)) =
-      rw (h .right a b e) (packed-bit (setBit st hop (node a b)) 32 (16 + d) (omega arith) ∙ ap bit (set-child st hop (node a b) d ∙ ap (λ (z : ℕ). st z (b * 16 + d)) q)) in
-      set-is _ (16 + d) _ k
+      rw (h .right a b e) (packed-bit (setBit st hop (node a b)) 32 (16 + d) (omega arith) ∙ ap bit
+      (set-child st hop (node a b) d ∙ ap (λ (z : ℕ). st z (b * 16 + d)) q)) in
+      bit-set-is _ (16 + d) _ k
 
   -- every path leads one place further from y on
   pub leads-moved : (a b : ℕ) → standsAt st a b ≡ true → reached ws′ a b ≡ moved y (reached ws a b)
@@ -233,7 +265,8 @@ module _ {st : ℕ → ℕ → Bool} {hop : ℕ → ℕ → ℕ} {ws ws′ hs : 
   child-now a b d = refl
 
   -- the bits of a node by its kinds of bits
-  by-kind : (a b v : ℕ) → v < 2 ^ 32 → ((k : ℕ) → k < 15 → bitAt v k ≡ bit (inner hop (node a b) k)) → bitAt v 15 ≡ 0 → ((d : ℕ) → d < 16 → bitAt v (16 + d) ≡ bit (child st′ (node a b) d))
+  by-kind : (a b v : ℕ) → v < 2 ^ 32 → ((k : ℕ) → k < 15 → bitAt v k ≡ bit (inner hop (node a b) k)) → bitAt v 15 ≡ 0 →
+      ((d : ℕ) → d < 16 → bitAt v (16 + d) ≡ bit (child st′ (node a b) d))
       → v ≡ word st′ hop (node a b)
   unfolding word setBit
   by-kind a b v l in-bits clear out-bits = word-bits v (setBit st′ hop (node a b)) l (λ k u. go k u (below? k 15) (below? k 16))
@@ -243,7 +276,8 @@ module _ {st : ℕ → ℕ → Bool} {hop : ℕ → ℕ → ℕ} {ws ws′ hs : 
       go k u (inr r) (inl s) = let e : k ≡ 15 = omega arith in rw e clear
       go k u (inr r) (inr s) =
           let e : 16 + (k - 16) ≡ k = omega arith in
-          subst (λ (z : ℕ). bitAt v z ≡ bit (setBit st′ hop (node a b) z)) e (out-bits (k - 16) (omega arith) ∙ ap bit (sym (set-child st′ hop (node a b) (k - 16))))
+          subst (λ (z : ℕ). bitAt v z ≡ bit (setBit st′ hop (node a b) z)) e
+          (out-bits (k - 16) (omega arith) ∙ ap bit (sym (set-child st′ hop (node a b) (k - 16))))
 
   old-inner : (a b k : ℕ) → k < 15 → bitAt (word st hop (node a b)) k ≡ bit (inner hop (node a b) k)
   old-inner a b k l = bits-of a b k (omega arith) ∙ ap bit (set-inner st hop (node a b) k l)
@@ -257,7 +291,9 @@ module _ {st : ℕ → ℕ → Bool} {hop : ℕ → ℕ → ℕ} {ws ws′ hs : 
 
   -- any node but the parent
   other-word : (a b : ℕ) → ((a ≡ m) × (b ≡ p) → ⊥) → word st hop (node a b) ≡ word st′ hop (node a b)
-  other-word a b n = by-kind a b _ (word-fits st hop (node a b)) (old-inner a b) (old-clear a b) (λ d l. old-child a b d l ∙ ap bit (sym (child-now a b d ∙ ap (λ (z : Bool). child st (node a b) d || z) (not-new d l) ∙ or-false (child st (node a b) d))))
+  other-word a b n = by-kind a b _ (word-fits st hop (node a b)) (old-inner a b) (old-clear a b)
+      (λ d l. old-child a b d l ∙ ap bit (sym (child-now a b d ∙ ap (λ (z : Bool). child st (node a b) d || z) (not-new d l) ∙ or-false
+      (child st (node a b) d))))
     where
       not-new : (d : ℕ) → d < 16 → (eqb (a + 1) (suc m) && eqb (b * 16 + d) (p * 16 + c)) ≡ false
       not-new d l =
@@ -281,10 +317,12 @@ module _ {st : ℕ → ℕ → Bool} {hop : ℕ → ℕ → ℕ} {ws ws′ hs : 
 
       go : (d : ℕ) → d < 16 → (d ≡ c) ⊎ (d ≡ c → ⊥) → bitAt (bitsOf ws′ x) (16 + d) ≡ bit (child st′ (node m p) d)
       go d l (inl e) =
-          let t : (eqb (m + 1) (suc m) && eqb (p * 16 + d) (p * 16 + c)) ≡ true = both (eq-eqb (m + 1) (suc m) (omega arith)) (eq-eqb (p * 16 + d) (p * 16 + c) (omega arith)) in
+          let t : (eqb (m + 1) (suc m) && eqb (p * 16 + d) (p * 16 + c)) ≡ true = both (eq-eqb (m + 1) (suc m) (omega arith))
+          (eq-eqb (p * 16 + d) (p * 16 + c) (omega arith)) in
           rw e (bit-new (g .bits)) ∙ ap bit (sym (child-now m p d ∙ ap (λ (z : Bool). child st (node m p) d || z) t ∙ or-true (child st (node m p) d)))
       go d l (inr e) =
-          let t : (eqb (m + 1) (suc m) && eqb (p * 16 + d) (p * 16 + c)) ≡ false = ap (λ (z : Bool). eqb (m + 1) (suc m) && z) (ne-eqb (p * 16 + d) (p * 16 + c) (λ q. e (omega arith))) ∙ and-false (eqb (m + 1) (suc m)) in
+          let t : (eqb (m + 1) (suc m) && eqb (p * 16 + d) (p * 16 + c)) ≡ false = ap (λ (z : Bool). eqb (m + 1) (suc m) && z)
+          (ne-eqb (p * 16 + d) (p * 16 + c) (λ q. e (omega arith))) ∙ and-false (eqb (m + 1) (suc m)) in
           bit-same (g .bits) (16 + d) (λ q. e (omega arith)) ∙ ap (λ (z : ℕ). bitAt z (16 + d)) old ∙ old-child m p d l
           ∙ ap bit (sym (child-now m p d ∙ ap (λ (z : Bool). child st (node m p) d || z) t ∙ or-false (child st (node m p) d)))
 
@@ -307,8 +345,10 @@ module _ {st : ℕ → ℕ → Bool} {hop : ℕ → ℕ → ℕ} {ws ws′ hs : 
   no-child : (d : ℕ) → d < 16 → child st′ (node (suc m) (p * 16 + c)) d ≡ false
   unfolding standsAt
   no-child d l =
-      let s : (eqb (suc m + 1) (suc m) && eqb ((p * 16 + c) * 16 + d) (p * 16 + c)) ≡ false = ap (λ (z : Bool). z && eqb ((p * 16 + c) * 16 + d) (p * 16 + c)) (ne-eqb (suc m + 1) (suc m) (λ e. omega arith)) in
-      child-now (suc m) (p * 16 + c) d ∙ ap (λ (z : Bool). child st (node (suc m) (p * 16 + c)) d || z) s ∙ or-false (child st (node (suc m) (p * 16 + c)) d) ∙ none
+      let s : (eqb (suc m + 1) (suc m) && eqb ((p * 16 + c) * 16 + d) (p * 16 + c)) ≡ false = ap
+      (λ (z : Bool). z && eqb ((p * 16 + c) * 16 + d) (p * 16 + c)) (ne-eqb (suc m + 1) (suc m) (λ e. omega arith)) in
+      child-now (suc m) (p * 16 + c) d ∙ ap (λ (z : Bool). child st (node (suc m) (p * 16 + c)) d || z) s ∙ or-false
+      (child st (node (suc m) (p * 16 + c)) d) ∙ none
     where
       none : child st (node (suc m) (p * 16 + c)) d ≡ false
       none =
@@ -340,7 +380,8 @@ module _ {st : ℕ → ℕ → Bool} {hop : ℕ → ℕ → ℕ} {ws ws′ hs : 
   right′ : (a b : ℕ) → standsAt st′ a b ≡ true → bitsOf ws′ (reached ws′ a b) ≡ word st′ hop (node a b)
   right′ a b e = go (stands-now a b e)
     where
-      old : standsAt st a b ≡ true → (reached ws a b ≡ x) ⊎ (reached ws a b ≡ x → ⊥) → (reached ws a b < y) ⊎ (y ≤ reached ws a b) → bitsOf ws′ (moved y (reached ws a b)) ≡ word st′ hop (node a b)
+      old : standsAt st a b ≡ true → (reached ws a b ≡ x) ⊎ (reached ws a b ≡ x → ⊥) → (reached ws a b < y) ⊎ (y ≤ reached ws a b) → bitsOf ws′
+          (moved y (reached ws a b)) ≡ word st′ hop (node a b)
       old t (inl i) v =
           let q = parent-only a b t i in
           rw (i, moved-low y x (g .bits .after)) (parent-word ∙ ap₂ (λ (d k : ℕ). word st′ hop (node d k)) (sym (q .0)) (sym (q .1)))
@@ -349,24 +390,26 @@ module _ {st : ℕ → ℕ → Bool} {hop : ℕ → ℕ → ℕ} {ws ws′ hs : 
           (g .bits .below (reached ws a b) v i ∙ h .right a b t ∙ other-word a b (λ q. i (ap₂ (reached ws) (q .0) (q .1) ∙ sym at)))
       old t (inr i) (inr v) =
           rw (moved-high y (reached ws a b) v)
-          (g .bits .above (reached ws a b) v (stands-found st hop ws hs n fits h a b t .0) ∙ h .right a b t ∙ other-word a b (λ q. i (ap₂ (reached ws) (q .0) (q .1) ∙ sym at)))
+          (g .bits .above (reached ws a b) v (stands-found st hop ws hs n fits h a b t .0) ∙ h .right a b t ∙ other-word a b
+          (λ q. i (ap₂ (reached ws) (q .0) (q .1) ∙ sym at)))
 
       go : (standsAt st a b ≡ true) ⊎ ((a ≡ suc m) × (b ≡ p * 16 + c)) → bitsOf ws′ (reached ws′ a b) ≡ word st′ hop (node a b)
       go (inl t) = rw (leads-moved a b t) (old t (equal? (reached ws a b) x) (below? (reached ws a b) y))
       go (inr t) = rw (t .0, t .1, new-at) (g .bits .new ∙ new-word)
 
   put′ : (a b k : ℕ) → standsAt st′ a b ≡ true → k < 15 → inner hop (node a b) k ≡ true
-      → getD hs (baseOf ws′ (reached ws′ a b) + ones (bitsOf ws′ (reached ws′ a b) % 2 ^ k)) 0 ≡ bitHop hop (node a b) k
+      → getD hs (hopPlaceAt ws′ (reached ws′ a b) k) 0 ≡ bitHop hop (node a b) k
   put′ a b k e l s = go (stands-now a b e)
     where
       same : standsAt st a b ≡ true → (reached ws a b < y) ⊎ (y ≤ reached ws a b)
-          → baseOf ws′ (moved y (reached ws a b)) + ones (bitsOf ws′ (moved y (reached ws a b)) % 2 ^ k) ≡ baseOf ws (reached ws a b) + ones (bitsOf ws (reached ws a b) % 2 ^ k)
-      same t (inl v) = rw (moved-low y (reached ws a b) v) (omega (arith, g .base-below (reached ws a b) v, low-at (g .bits) (reached ws a b) v k (omega arith)))
+          → baseOf ws′ (moved y (reached ws a b)) + ones (bitsOf ws′ (moved y (reached ws a b)) % 2 ^ k) ≡ hopPlaceAt ws (reached ws a b) k
+      same t (inl v) = rw (moved-low y (reached ws a b) v)
+          (omega (arith, g .base-below (reached ws a b) v, low-at (g .bits) (reached ws a b) v k (omega arith)))
       same t (inr v) =
           let i = stands-found st hop ws hs n fits h a b t .0 in
           rw (moved-high y (reached ws a b) v, g .base-above (reached ws a b) v i, g .bits .above (reached ws a b) v i) refl
 
-      go : (standsAt st a b ≡ true) ⊎ ((a ≡ suc m) × (b ≡ p * 16 + c)) → getD hs (baseOf ws′ (reached ws′ a b) + ones (bitsOf ws′ (reached ws′ a b) % 2 ^ k)) 0 ≡ bitHop hop (node a b) k
+      go : (standsAt st a b ≡ true) ⊎ ((a ≡ suc m) × (b ≡ p * 16 + c)) → getD hs (hopPlaceAt ws′ (reached ws′ a b) k) 0 ≡ bitHop hop (node a b) k
       go (inl t) = rw (leads-moved a b t, same t (below? (reached ws a b) y)) (h .put a b k t l s)
       go (inr t) = absurd (true≢false (sym s ∙ ap₂ (λ (d i : ℕ). inner hop (node d i) k) (t .0) (t .1) ∙ no-hop k l))
 

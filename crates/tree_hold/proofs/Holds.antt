@@ -2,17 +2,17 @@
 use mathlib.Core.Path.{_≡_, refl, _∙_, ap, fun-ext}
 use mathlib.Core.Bool.{Bool, false, cond}
 use mathlib.Core.List.{List}
-use Prim.Native.Nat.{ℕ, zero, suc, _+_, _-_, _*_, _^_, _≤_, _<_}
+use Prim.Native.Nat.{ℕ, zero, suc, _+_, _-_, _*_, _^_, _<_}
 use native.Mathlib.Numerals.{add-one}
 use lib.Dec.{ltb}
-use Rattle.bits.specs.Bit.{packed}
+use Rattle.bits.specs.Bit.{packedBits}
 use Rattle.bits.proofs.Packed.{packed-lt}
 use Rattle.tree.specs.Node.{bitsOf}
 use Rattle.tree.specs.Image.{Node, node, inner, child, setBit, word}
 use Rattle.tree_same.specs.Order.{ints, standsAt}
 use Rattle.tree_same.specs.Holding.{Holding}
 use Rattle.tree_same.proofs.Canonical.{canonical}
-use Rattle.tree_hold.specs.Edits.{Words}
+use Rattle.tree_hold.specs.Edits.{NodeWords}
 
 -- the word of a node is a word
 pub word-fits : (st : ℕ → ℕ → Bool) (hop : ℕ → ℕ → ℕ) (n : Node) → word st hop n < 2 ^ 32
@@ -23,7 +23,7 @@ module _ {st : ℕ → ℕ → Bool} {hop : ℕ → ℕ → ℕ} {ws hs : List �
   pub bits-fit : (x : ℕ) → x < n → bitsOf ws x < 2 ^ 32
   bits-fit x l = rw (canonical st hop ws nine n (h .order) (h .right) x l .0) (word-fits st hop _)
 
-  pub held-words : Words ws n (ints ws n)
+  pub held-words : NodeWords ws n (ints ws n)
   held-words = record { order = h .order; hops = refl; narrow = bits-fit; rest = h .rest }
 
 -- which nodes stand is asked of the depths from 1 on alone
@@ -35,7 +35,8 @@ module _ (st st₁ : ℕ → ℕ → Bool) (hop : ℕ → ℕ → ℕ) (same : (
 
   word-same : (n : Node) → word st hop n ≡ word st₁ hop n
   unfolding word setBit
-  word-same n = ap (λ (f : ℕ → Bool). packed f 32) (fun-ext (λ b. ap (λ (x : Bool). cond (ltb b 15) (inner hop n b) (cond (ltb b 16) false x)) (kid (b - 16))))
+  word-same n = ap (λ (f : ℕ → Bool). packedBits f 32)
+      (fun-ext (λ b. ap (λ (x : Bool). cond (ltb b 15) (inner hop n b) (cond (ltb b 16) false x)) (kid (b - 16))))
     where
       kid : (c : ℕ) → child st n c ≡ child st₁ n c
       kid c = rw (add-one (n .depth)) (same (n .depth) (n .path * 16 + c))

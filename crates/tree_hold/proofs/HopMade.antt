@@ -8,13 +8,14 @@ use lib.ListN.{length, getD, set, length-set}
 use lib.Seq.{getD-set-same, getD-set-other}
 use lib.Count.{ones}
 use Rattle.bits.specs.Count.{count}
-use Rattle.bits.proofs.Tests.{below?}
+use Rattle.bits.proofs.Bools.{below?}
 use Rattle.bits.proofs.Packed.{rank-count}
 use Rattle.lists.specs.Edit.{drawn}
 use Rattle.lists.proofs.EditMoves.{length-drawn, drawn-in, drawn-before, drawn-after}
-use Rattle.tree.specs.Node.{bitsOf, baseOf, isSet}
+use Rattle.tree.specs.Node.{bitsOf, isSet}
 use Rattle.tree.proofs.Counts.{count-mono}
-use Rattle.tree_build.specs.Run.{WithBit}
+use Rattle.tree_build.specs.NodeRuns.{WithBit}
+use Rattle.tree_same.specs.Read.{hopPlaceAt}
 use Rattle.tree_same.specs.Order.{ints}
 use Rattle.tree_check.proofs.Held.{bit-of, ints-next, ints-mono}
 use Rattle.tree_hold.specs.Moves.{each}
@@ -28,7 +29,7 @@ low-le w b l =
     rw (rank-count w (isSet w) b (λ i u. bit-of w i), rank-count w (isSet w) 15 (λ i u. bit-of w i))
     (subst (λ (k : ℕ). count (isSet w) b ≤ count (isSet w) k) e (count-mono (isSet w) b (15 - b)))
 
-module _ {ws hs : List ℕ} {n k x b : ℕ} (r : Puttable ws hs n k x b) (y : ℕ) (place : y ≡ baseOf ws x + ones (bitsOf ws x % 2 ^ b)) where
+module _ {ws hs : List ℕ} {n k x b : ℕ} (r : Puttable ws hs n k x b) (y : ℕ) (place : y ≡ hopPlaceAt ws x b) where
   pub put-inside : y ≤ k
   put-inside =
       omega (
@@ -96,7 +97,8 @@ module _ {ws hs : List ℕ} {n k x b : ℕ} (r : Puttable ws hs n k x b) (y : �
       child-same = λ i l. kept (3 * i + 1) (λ q. omega arith) (λ q a c. omega arith);
       base-upto = λ i l. kept (3 * i + 2) (λ q. omega arith) (λ q a c. omega arith);
       base-after = λ i l u.
-          getD-set-other w1 (3 * x) (3 * i + 2) v 0 (λ q. omega arith) ∙ each-in (λ z. z + 1) ws 2 (x + 1) n i (omega arith) (omega arith) u (omega (arith, lent));
+          getD-set-other w1 (3 * x) (3 * i + 2) v 0 (λ q. omega arith) ∙ each-in (λ z. z + 1) ws 2 (x + 1) n i (omega arith) (omega arith) u
+          (omega (arith, lent));
       rest-old = r .words .rest;
       rest = λ j l. kept j (λ q. omega (arith, r .parent)) (λ q a c. omega arith) ∙ r .words .rest j l;
       hops-below = λ j l. hop j (λ q. omega arith) ∙ drawn-before hs (λ z. z - 1) (y + 1) (k + 1) j (omega (arith, put-inside, r .room)) (omega arith);

@@ -11,11 +11,11 @@ use lib.ListN.{length}
 use borrow.Author.Tests.{eq-eqb, eqb-true, le-leb, lt-leb, leb-true, lt-ltb, ltb-true}
 use Rattle.bits.specs.Slot.{slot, cut}
 use Rattle.bits.proofs.Slots.{slot-up, slot-zero, cut-slot}
-use Rattle.bits.proofs.Tests.{decided, both, and-split, or-split, equal?, same, untrue}
+use Rattle.bits.proofs.Bools.{decided, both, and-split, or-split, equal?, same, untrue}
 use Rattle.routes.specs.Route.{key, keyOf, Prefix, Fine, Good}
 use Rattle.routes.specs.declared.Route.{Route}
 use Rattle.routes.proofs.Goods.{good-fine, key-parts}
-use Rattle.standing.specs.Cells.{here, any, first, orElse}
+use Rattle.standing.specs.Cells.{here, orElse}
 use Rattle.standing.specs.Standing.{isAt, stands, absent, stood, routeAt, insert, remove}
 use Rattle.standing.proofs.Standing.{one-prefix, insert-mem, insert-good, insert-stands, insert-but, remove-good, remove-stands, same-standing}
 use Rattle.tree.specs.Image.{through, nodeStands, hopFor, nodes, hops}
@@ -103,7 +103,8 @@ module _ (st : ℕ → ℕ → Bool) (a : ℕ) (fits : a < 2 ^ 32) where
           at (inr n) = rw (le-leb m e (omega (arith, leb-true m (suc e) (k .0), n)), k .1, or-true (st m p)) refl
 
   -- nothing below it stands, where a node of the path does not
-  pub absent-below : (hop : ℕ → ℕ → ℕ) → Shaped st hop → (e d : ℕ) → e + d < 8 → st (suc e) (slot (4 * suc e) a) ≡ false → st (suc (e + d)) (slot (4 * suc (e + d)) a) ≡ false
+  pub absent-below : (hop : ℕ → ℕ → ℕ) → Shaped st hop → (e d : ℕ) → e + d < 8 → st (suc e) (slot (4 * suc e) a) ≡ false → st (suc (e + d))
+      (slot (4 * suc (e + d)) a) ≡ false
   unfolding standsAt
   absent-below hop f e zero l t = let q : e + 0 ≡ e = omega arith in rw q t
   absent-below hop f e (suc d) l t =
@@ -136,10 +137,13 @@ module _ (st : ℕ → ℕ → Bool) (a : ℕ) (fits : a < 2 ^ 32) where
           let pc = path-child i u in
           let w = down-shaped hop i (omega arith) f in
           let y : downTo st a i (suc i) (slot (4 * i) a * 16 + slot (4 * suc i) a % 16) ≡ false = rw (← pc) (down-absent i z) in
-          let g : also (downTo st a i) (suc i) (slot (4 * i) a * 16 + slot (4 * suc i) a % 16) ≡ downTo st a (suc i) = ap (also (downTo st a i) (suc i)) (sym pc) ∙ down-next i in
+          let g : also (downTo st a i) (suc i) (slot (4 * i) a * 16 + slot (4 * suc i) a % 16) ≡ downTo st a (suc i) = ap
+          (also (downTo st a i) (suc i)) (sym pc) ∙ down-next i in
           let on = on-path i i (omega arith) in (
-            subst (λ (k : ℕ → ℕ → Bool). length (nodes k) ≡ length (nodes (downTo st a i)) + 1) g (also-nodes i (slot (4 * i) a) (slot (4 * suc i) a % 16) w u (omega arith) on y),
-            subst (λ (k : ℕ → ℕ → Bool). hops k hop ≡ hops (downTo st a i) hop) g (also-hops i (slot (4 * i) a) (slot (4 * suc i) a % 16) w u (omega arith) on y),
+            subst (λ (k : ℕ → ℕ → Bool). length (nodes k) ≡ length (nodes (downTo st a i)) + 1) g
+                (also-nodes i (slot (4 * i) a) (slot (4 * suc i) a % 16) w u (omega arith) on y),
+            subst (λ (k : ℕ → ℕ → Bool). hops k hop ≡ hops (downTo st a i) hop) g
+                (also-hops i (slot (4 * i) a) (slot (4 * suc i) a % 16) w u (omega arith) on y),
           )
 
   -- where the path stands by itself, nothing is added but the root
@@ -152,7 +156,8 @@ module _ (st : ℕ → ℕ → Bool) (a : ℕ) (fits : a < 2 ^ 32) where
       go (inr s) = let k = and-split (leb (suc m) e) (eqb p (slot (4 * suc m) a)) s in rw (eqb-true p _ (k .1)) (h m (leb-true (suc m) e (k .0)))
 
 -- the nodes above one that stands on the path stand
-pub path-stands : (st : ℕ → ℕ → Bool) (hop : ℕ → ℕ → ℕ) (a : ℕ) → a < 2 ^ 32 → Shaped st hop → (e m : ℕ) → e < 8 → st (suc e) (slot (4 * suc e) a) ≡ true → m < suc e
+pub path-stands : (st : ℕ → ℕ → Bool) (hop : ℕ → ℕ → ℕ) (a : ℕ) → a < 2 ^ 32 → Shaped st hop → (e m : ℕ) → e < 8 → st (suc e) (slot (4 * suc e) a)
+    ≡ true → m < suc e
     → st (suc m) (slot (4 * suc m) a) ≡ true
 path-stands st hop a fits f e m l t u = go (decided (st (suc m) (slot (4 * suc m) a)))
   where
@@ -228,7 +233,11 @@ module _ (r : Route) (rs : List Route) (f : Fine r) (g : Good rs) where
           into : (through m p r ≡ true) ⊎ (nodeStands rs m p ≡ true) → (nodeStands rs m p || (leb m (r .len / 4) && eqb p (slot (4 * m) (r .addr)))) ≡ true
           into (inl t) =
               let k = and-split (leb (4 * m) (r .len)) (eqb (slot (4 * m) (r .addr)) p) t in
-              rw (le-leb m (r .len / 4) (omega (arith, leb-true (4 * m) (r .len) (k .0))), eq-eqb p (slot (4 * m) (r .addr)) (sym (eqb-true _ p (k .1)))) (or-true (nodeStands rs m p))
+              rw (
+                le-leb m (r .len / 4) (omega (arith, leb-true (4 * m) (r .len) (k .0))),
+                eq-eqb p (slot (4 * m) (r .addr))
+                    (sym (eqb-true _ p (k .1))),
+              ) (or-true (nodeStands rs m p))
           into (inr t) = rw t refl
 
           back : (nodeStands rs m p ≡ true) ⊎ ((leb m (r .len / 4) && eqb p (slot (4 * m) (r .addr))) ≡ true) → (through m p r || nodeStands rs m p) ≡ true
@@ -248,7 +257,8 @@ module _ (r : Route) (rs : List Route) (f : Fine r) (g : Good rs) where
           let k = and-split (eqb l (r .len)) (eqb q (slot (r .len) (r .addr))) t in
           let a = eqb-true l (r .len) (k .0) in
           let b = eqb-true q (slot (r .len) (r .addr)) (k .1) in
-          rw t (hop-of l q (insert r rs) r (insert-good r rs f g) (insert-listed r rs) (both (eq-eqb (r .len) l (sym a)) (eq-eqb (slot l (r .addr)) q (ap (λ (x : ℕ). slot x (r .addr)) a ∙ sym b))))
+          rw t (hop-of l q (insert r rs) r (insert-good r rs f g) (insert-listed r rs)
+          (both (eq-eqb (r .len) l (sym a)) (eq-eqb (slot l (r .addr)) q (ap (λ (x : ℕ). slot x (r .addr)) a ∙ sym b))))
       go l q (inr t) =
           rw t
           (ap (λ (x : ℕ). orElse x 0)
@@ -267,7 +277,8 @@ module _ (rs : List Route) (g : Good rs) (r : Route) (listed : List·Memᴰ r rs
       same-standing (insert r (remove (key r) rs)) rs (insert-good r (remove (key r) rs) (good-fine rs g r listed) (remove-good (key r) rs g)) g
       (λ k. insert-stands k r (remove (key r) rs) ∙ ap (cond (eqb (key r) k) (stood r)) (remove-stands (key r) k rs) ∙ go k (decided (eqb (key r) k)))
     where
-      go : (k : ℕ) → (eqb (key r) k ≡ true) ⊎ (eqb (key r) k ≡ false) → cond (eqb (key r) k) (stood r) (cond (eqb (key r) k) absent (routeAt k rs)) ≡ routeAt k rs
+      go : (k : ℕ) → (eqb (key r) k ≡ true) ⊎ (eqb (key r) k ≡ false) → cond (eqb (key r) k) (stood r) (cond (eqb (key r) k) absent (routeAt k rs))
+          ≡ routeAt k rs
       go k (inl t) = rw t (sym (subst (λ (x : ℕ). routeAt x rs ≡ stood r) (eqb-true (key r) k t) (at-listed rs g r listed)))
       go k (inr t) = rw t refl
 
@@ -277,7 +288,8 @@ stands-is k rs t = let f = any-is (isAt k) rs t in (f .0, f .1, eqb-true (key (f
 
 -- a prefix stands exactly when it has a hop
 pub stands-hop : (a l : ℕ) (rs : List Route) → Prefix a l → Good rs → stands (keyOf a l) rs ≡ ltb 0 (hopFor rs l (slot l a))
-stands-hop a l rs p g = same _ _ (λ t. into (stands-is (keyOf a l) rs t)) (λ t. back (any-is (here l (slot l a)) rs (found-any (here l (slot l a)) rs (ltb-true 0 _ t))))
+stands-hop a l rs p g = same _ _ (λ t. into (stands-is (keyOf a l) rs t))
+    (λ t. back (any-is (here l (slot l a)) rs (found-any (here l (slot l a)) rs (ltb-true 0 _ t))))
   where
     into : (r : Route) × List·Memᴰ r rs × (key r ≡ keyOf a l) → ltb 0 (hopFor rs l (slot l a)) ≡ true
     into w =

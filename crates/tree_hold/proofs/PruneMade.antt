@@ -7,15 +7,13 @@ use Prim.Native.Nat.{ℕ, zero, suc, _+_, _-_, _*_, _/_, _%_, _^_, _≤_, _<_}
 use native.Mathlib.Omega.{arith}
 use lib.ListN.{length, getD, set, length-set}
 use lib.Seq.{getD-set-same, getD-set-other}
-use Rattle.bits.specs.Count.{count}
-use Rattle.bits.proofs.Tests.{below?, equal?}
+use Rattle.bits.proofs.Bools.{below?, equal?}
 use Rattle.lists.specs.Edit.{drawn}
 use Rattle.lists.proofs.EditMoves.{length-drawn, drawn-in, drawn-before, drawn-after}
 use Rattle.tree.specs.Node.{bitsOf, childOf, isSet, childAt}
-use Rattle.tree_build.specs.Run.{WithBit}
+use Rattle.tree_build.specs.NodeRuns.{WithBit}
 use Rattle.tree_build.specs.Queue.{put3}
 use Rattle.tree_build.proofs.Stores.{put3-length, put3-other, put3-at}
-use Rattle.tree_same.specs.Order.{exts, ints}
 use Rattle.tree_check.proofs.Held.{fewer-exts, exts-next, exts-mono}
 use Rattle.tree_hold.specs.Moves.{each}
 use Rattle.tree_hold.specs.Edits.{GraftedBits, Grafted, Prunable}
@@ -94,7 +92,8 @@ module _ {ws′ : List ℕ} {n k x c : ℕ} (r : Prunable ws′ n k x c) (y : �
     old-child i l u = omega (arith, lowered i l u, first (3 * i + 1) (λ e. omega arith), base-some i u)
 
     parent-bits : bitsOf ws x ≡ v
-    parent-bits = low (3 * x) (omega (arith, prune-after)) ∙ unlowered (3 * x) (λ e a b. omega arith) ∙ getD-set-same ws′ (3 * x) v 0 (omega (arith, lent, r .parent))
+    parent-bits = low (3 * x) (omega (arith, prune-after)) ∙ unlowered (3 * x) (λ e a b. omega arith) ∙ getD-set-same ws′ (3 * x) v 0
+        (omega (arith, lent, r .parent))
 
     below-bits : (i : ℕ) → i < y → (i ≡ x → ⊥) → bitsOf ws i ≡ bitsOf ws′ i
     below-bits i l h = low (3 * i) (omega arith) ∙ unlowered (3 * i) (λ e a b. omega arith) ∙ first (3 * i) (λ e. h (omega arith))
@@ -140,7 +139,8 @@ module _ {ws′ : List ℕ} {n k x c : ℕ} (r : Prunable ws′ n k x c) (y : �
       same = sym prune-long;
       lent = r .words .order .lent;
       place = same-place;
-      child-upto = λ i l. sym (low (3 * i + 1) (omega (arith, prune-after)) ∙ unlowered (3 * i + 1) (λ e a b. omega arith) ∙ first (3 * i + 1) (λ e. omega arith));
+      child-upto = λ i l. sym (low (3 * i + 1) (omega (arith, prune-after)) ∙ unlowered (3 * i + 1) (λ e a b. omega arith) ∙ first (3 * i + 1)
+          (λ e. omega arith));
       child-between = λ i l u. omega (arith, low (3 * i + 1) (omega arith), old-child i l (omega (arith, prune-inside)));
       child-new =
           r .words .order .child y (omega (arith, prune-inside)) ∙ ap (λ (z : ℕ). 1 + z) (exts-between pruned-bits y prune-after (omega arith)) ∙ omega arith;

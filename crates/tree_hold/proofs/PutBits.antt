@@ -11,7 +11,7 @@ use lib.Pow.{shr-mod}
 use lib.Count.{ones}
 use borrow.Author.Tests.{eq-eqb, ne-eqb}
 use Rattle.bits.specs.Bit.{bitAt}
-use Rattle.bits.proofs.Tests.{below?, equal?}
+use Rattle.bits.proofs.Bools.{below?, equal?}
 use Rattle.bits.proofs.Counts.{count-ext, without, without-other, without-same, count-without}
 use Rattle.bits.proofs.Packed.{rank-count, upper-count}
 use Rattle.tree.specs.Node.{bitsOf, isSet}
@@ -78,12 +78,24 @@ module _ {ws ws′ : List ℕ} {n x b : ℕ} (g : MarkedBits ws ws′ n x b) whe
   pub ints-upto : (i : ℕ) → i ≤ x → ints ws′ i ≡ ints ws i
   unfolding ints
   ints-upto zero l = refl
-  ints-upto (suc i) l = omega (arith, ints-upto i (omega arith), ap (λ (z : ℕ). ones (z % 2 ^ 15)) (g .other i (omega (arith, g .inside)) (λ (e : i ≡ x). omega arith)))
+  ints-upto (suc i) l = omega (
+    arith,
+    ints-upto i (omega arith),
+    ap (λ (z : ℕ). ones (z % 2 ^ 15))
+        (g .other i (omega (arith, g .inside)) (λ (e : i ≡ x). omega arith)),
+  )
 
   pub ints-after : (i : ℕ) → x < i → i ≤ n → ints ws′ i ≡ ints ws i + 1
   ints-after zero l u = absurd (omega arith)
   ints-after (suc i) l u = go (below? x i) (ints-after i)
     where
       go : (x < i) ⊎ (i ≤ x) → (x < i → i ≤ n → ints ws′ i ≡ ints ws i + 1) → ints ws′ (suc i) ≡ ints ws (suc i) + 1
-      go (inl v) ih = omega (arith, ih v (omega arith), ints-next ws i, ints-next ws′ i, ap (λ (z : ℕ). ones (z % 2 ^ 15)) (g .other i u (λ (e : i ≡ x). omega arith)))
+      go (inl v) ih = omega (
+        arith,
+        ih v (omega arith),
+        ints-next ws i,
+        ints-next ws′ i,
+        ap (λ (z : ℕ). ones (z % 2 ^ 15))
+            (g .other i u (λ (e : i ≡ x). omega arith)),
+      )
       go (inr v) ih = let e : i ≡ x = omega arith in rw e (omega (arith, ints-next ws x, ints-next ws′ x, ints-upto x (omega arith), low-past 15 (g .small)))

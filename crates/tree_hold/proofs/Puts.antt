@@ -2,7 +2,7 @@
 -- place is one further where it comes after the new one.
 use mathlib.Core.Path.{_≡_, refl, sym, _∙_, ap, ap₂, subst}
 use mathlib.Core.Logic.{_⊎_, inl, inr}
-use mathlib.Core.Bool.{Bool, true, false, cond, _&&_, true≢false}
+use mathlib.Core.Bool.{Bool, true, cond, _&&_, true≢false}
 use mathlib.Core.List.{List}
 use Prim.Native.Nat.{ℕ, zero, suc, _+_, _-_, _*_, _/_, _%_, _^_, _≤_, _<_}
 use native.Mathlib.Omega.{arith}
@@ -13,7 +13,7 @@ use lib.Count.{ones}
 use borrow.Author.Tests.{lt-ltb, le-ltb, eq-eqb, eqb-true}
 use Rattle.bits.specs.Bit.{bitAt}
 use Rattle.bits.specs.Count.{bit, count}
-use Rattle.bits.proofs.Tests.{and-split, below?, equal?, untrue}
+use Rattle.bits.proofs.Bools.{and-split, below?, equal?, untrue}
 use Rattle.bits.proofs.Packed.{packed-bit, rank-count}
 use Rattle.tree.specs.Node.{bitsOf, baseOf, isSet}
 use Rattle.tree.specs.Image.{Node, node, innerLen, bitHop, inner, setBit, word}
@@ -22,8 +22,8 @@ use Rattle.tree.proofs.Counts.{count-mono, count-less}
 use Rattle.tree.proofs.Nodes.{set-inner}
 use Rattle.tree.proofs.Lies.{inner-cases}
 use Rattle.tree_build.proofs.Marks.{word-bits}
-use Rattle.tree_same.specs.Read.{reached}
-use Rattle.tree_same.specs.Order.{exts, ints, Order, standsAt}
+use Rattle.tree_same.specs.Read.{reached, hopPlaceAt}
+use Rattle.tree_same.specs.Order.{ints, Order, standsAt}
 use Rattle.tree_same.specs.Holding.{Holding}
 use Rattle.tree_same.proofs.Back.{Shaped}
 use Rattle.tree_same.proofs.Holdings.{stands-found}
@@ -57,40 +57,47 @@ module _ {ws ws′ hs hs′ : List ℕ} {n x b y h : ℕ} (o : Order ws n) (g : 
   y-is : y ≡ ints ws x + ones (w % 2 ^ b)
   y-is = g .place ∙ ap (λ (z : ℕ). z + ones (w % 2 ^ b)) (o .base x (g .bits .inside))
 
-  at-place : (i k : ℕ) → i < n → k < 15 → isSet (bitsOf ws i) k ≡ true → getD hs′ (baseOf ws′ i + ones (bitsOf ws′ i % 2 ^ k)) 0 ≡ getD hs (baseOf ws i + ones (bitsOf ws i % 2 ^ k)) 0
+  at-place : (i k : ℕ) → i < n → k < 15 → isSet (bitsOf ws i) k ≡ true → getD hs′ (hopPlaceAt ws′ i k) 0 ≡ getD hs (hopPlaceAt ws i k) 0
   at-place i k l u s = go (below? i x) (below? x i)
     where
       in-node : ones (bitsOf ws i % 2 ^ k) < ones (bitsOf ws i % 2 ^ 15)
-      in-node = rw (rank-count (bitsOf ws i) (isSet (bitsOf ws i)) k (λ j v. bit-of (bitsOf ws i) j), rank-count (bitsOf ws i) (isSet (bitsOf ws i)) 15 (λ j v. bit-of (bitsOf ws i) j)) (count-less (isSet (bitsOf ws i)) 15 k u s)
+      in-node = rw (
+        rank-count (bitsOf ws i) (isSet (bitsOf ws i)) k (λ j v. bit-of (bitsOf ws i) j),
+        rank-count (bitsOf ws i)
+            (isSet (bitsOf ws i)) 15 (λ j v. bit-of (bitsOf ws i) j),
+      ) (count-less (isSet (bitsOf ws i)) 15 k u s)
 
-      before-end : baseOf ws i + ones (bitsOf ws i % 2 ^ k) < ints ws (suc i)
+      before-end : hopPlaceAt ws i k < ints ws (suc i)
       before-end = omega (arith, in-node, o .base i l, ints-next ws i)
 
-      in-hops : baseOf ws i + ones (bitsOf ws i % 2 ^ k) < ints ws n
+      in-hops : hopPlaceAt ws i k < ints ws n
       in-hops = omega (arith, before-end, ints-mono ws (suc i) n l)
 
       mono : (d e : ℕ) → d ≤ e → ones (w % 2 ^ d) ≤ ones (w % 2 ^ e)
       mono d e v =
           let q : d + (e - d) ≡ e = omega arith in
-          rw (rank-count w (isSet w) d (λ j z. bit-of w j), rank-count w (isSet w) e (λ j z. bit-of w j)) (subst (λ (z : ℕ). count (isSet w) d ≤ count (isSet w) z) q (count-mono (isSet w) d (e - d)))
+          rw (rank-count w (isSet w) d (λ j z. bit-of w j), rank-count w (isSet w) e (λ j z. bit-of w j))
+          (subst (λ (z : ℕ). count (isSet w) d ≤ count (isSet w) z) q (count-mono (isSet w) d (e - d)))
 
-      same : baseOf ws′ i + ones (bitsOf ws′ i % 2 ^ k) ≡ baseOf ws i + ones (bitsOf ws i % 2 ^ k) → baseOf ws i + ones (bitsOf ws i % 2 ^ k) < y
-          → getD hs′ (baseOf ws′ i + ones (bitsOf ws′ i % 2 ^ k)) 0 ≡ getD hs (baseOf ws i + ones (bitsOf ws i % 2 ^ k)) 0
+      same : hopPlaceAt ws′ i k ≡ hopPlaceAt ws i k → hopPlaceAt ws i k < y
+          → getD hs′ (hopPlaceAt ws′ i k) 0 ≡ getD hs (hopPlaceAt ws i k) 0
       same e v = ap (λ (z : ℕ). getD hs′ z 0) e ∙ g .hops-below _ v
 
-      next : baseOf ws′ i + ones (bitsOf ws′ i % 2 ^ k) ≡ suc (baseOf ws i + ones (bitsOf ws i % 2 ^ k)) → y ≤ baseOf ws i + ones (bitsOf ws i % 2 ^ k)
-          → getD hs′ (baseOf ws′ i + ones (bitsOf ws′ i % 2 ^ k)) 0 ≡ getD hs (baseOf ws i + ones (bitsOf ws i % 2 ^ k)) 0
+      next : hopPlaceAt ws′ i k ≡ suc (hopPlaceAt ws i k) → y ≤ hopPlaceAt ws i k
+          → getD hs′ (hopPlaceAt ws′ i k) 0 ≡ getD hs (hopPlaceAt ws i k) 0
       next e v = ap (λ (z : ℕ). getD hs′ z 0) e ∙ g .hops-above _ v in-hops
 
-      own : i ≡ x → (k < b) ⊎ (b ≤ k) → (k ≡ b) ⊎ (k ≡ b → ⊥) → getD hs′ (baseOf ws′ i + ones (bitsOf ws′ i % 2 ^ k)) 0 ≡ getD hs (baseOf ws i + ones (bitsOf ws i % 2 ^ k)) 0
+      own : i ≡ x → (k < b) ⊎ (b ≤ k) → (k ≡ b) ⊎ (k ≡ b → ⊥) → getD hs′ (hopPlaceAt ws′ i k) 0 ≡ getD hs (hopPlaceAt ws i k) 0
       own e (inl v) z =
           let t : isSet w k ≡ true = rw e at s in
-          let less : ones (w % 2 ^ k) < ones (w % 2 ^ b) = rw (rank-count w (isSet w) k (λ j q. bit-of w j), rank-count w (isSet w) b (λ j q. bit-of w j)) (count-less (isSet w) b k v t) in
+          let less : ones (w % 2 ^ k) < ones (w % 2 ^ b) = rw
+          (rank-count w (isSet w) k (λ j q. bit-of w j), rank-count w (isSet w) b (λ j q. bit-of w j)) (count-less (isSet w) b k v t) in
           same (rw e (omega (arith, g .base-upto x (omega arith), low-upto (g .bits) k (omega arith)))) (rw e (omega (arith, g .place, less)))
       own e (inr v) (inl z) = absurd (true≢false (sym (rw (e, z) at s) ∙ g .bits .free))
-      own e (inr v) (inr z) = next (rw e (omega (arith, g .base-upto x (omega arith), low-past (g .bits) k (omega arith)))) (rw e (omega (arith, g .place, mono b k v)))
+      own e (inr v) (inr z) = next (rw e (omega (arith, g .base-upto x (omega arith), low-past (g .bits) k (omega arith))))
+          (rw e (omega (arith, g .place, mono b k v)))
 
-      go : (i < x) ⊎ (x ≤ i) → (x < i) ⊎ (i ≤ x) → getD hs′ (baseOf ws′ i + ones (bitsOf ws′ i % 2 ^ k)) 0 ≡ getD hs (baseOf ws i + ones (bitsOf ws i % 2 ^ k)) 0
+      go : (i < x) ⊎ (x ≤ i) → (x < i) ⊎ (i ≤ x) → getD hs′ (hopPlaceAt ws′ i k) 0 ≡ getD hs (hopPlaceAt ws i k) 0
       go (inl v) z =
           same (ap₂ (λ (p q : ℕ). p + ones (q % 2 ^ k)) (g .base-upto i (omega arith)) (g .bits .other i l (λ (e : i ≡ x). omega arith)))
           (omega (arith, before-end, ints-mono ws (suc i) x v, y-is))
@@ -103,7 +110,8 @@ module _ {ws ws′ hs hs′ : List ℕ} {n x b y h : ℕ} (o : Order ws n) (g : 
   new-place = ap (λ (z : ℕ). getD hs′ z 0) (omega (arith, g .base-upto x (omega arith), low-upto (g .bits) b (omega arith), g .place)) ∙ g .hop-new
 
 -- a bit of a node and no other has the prefix of one route
-one-bit : (a c k m p b : ℕ) → k < 15 → b < 15 → 4 * a + innerLen k ≡ 4 * m + innerLen b → c * 2 ^ innerLen k + (k + 1 - 2 ^ innerLen k) ≡ p * 2 ^ innerLen b + (b + 1 - 2 ^ innerLen b)
+one-bit : (a c k m p b : ℕ) → k < 15 → b < 15 → 4 * a + innerLen k ≡ 4 * m + innerLen b → c * 2 ^ innerLen k + (k + 1 - 2 ^ innerLen k)
+    ≡ p * 2 ^ innerLen b + (b + 1 - 2 ^ innerLen b)
     → (a ≡ m) × (c ≡ p) × (k ≡ b)
 one-bit a c k m p b u v e f =
     let x = inner-cases k u in
@@ -141,9 +149,11 @@ module _ {st : ℕ → ℕ → Bool} {hop : ℕ → ℕ → ℕ} {ws ws′ hs hs
   unfolding bitHop withHop
   hop-other a c k l ne =
       ap (λ (z : Bool). cond z h (hop (4 * a + innerLen k) (c * 2 ^ innerLen k + (k + 1 - 2 ^ innerLen k))))
-      (untrue (eqb (4 * a + innerLen k) (4 * m + innerLen b) && eqb (c * 2 ^ innerLen k + (k + 1 - 2 ^ innerLen k)) (p * 2 ^ innerLen b + (b + 1 - 2 ^ innerLen b)))
+      (untrue (eqb (4 * a + innerLen k) (4 * m + innerLen b) && eqb (c * 2 ^ innerLen k + (k + 1 - 2 ^ innerLen k))
+      (p * 2 ^ innerLen b + (b + 1 - 2 ^ innerLen b)))
       (λ t.
-      let s = and-split (eqb (4 * a + innerLen k) (4 * m + innerLen b)) (eqb (c * 2 ^ innerLen k + (k + 1 - 2 ^ innerLen k)) (p * 2 ^ innerLen b + (b + 1 - 2 ^ innerLen b))) t in
+      let s = and-split (eqb (4 * a + innerLen k) (4 * m + innerLen b))
+      (eqb (c * 2 ^ innerLen k + (k + 1 - 2 ^ innerLen k)) (p * 2 ^ innerLen b + (b + 1 - 2 ^ innerLen b))) t in
       ne (one-bit a c k m p b l (g .bits .small) (eqb-true _ _ (s .0)) (eqb-true _ _ (s .1)))))
 
   parent-only : (a c : ℕ) → standsAt st a c ≡ true → reached ws a c ≡ x → (a ≡ m) × (c ≡ p)
@@ -154,7 +164,8 @@ module _ {st : ℕ → ℕ → Bool} {hop : ℕ → ℕ → ℕ} {ws ws′ hs hs
       (ap (λ (k : Node). k .depth) q, ap (λ (k : Node). k .path) q)
 
   -- the bits of a node by their kinds
-  by-kind : (a c v : ℕ) → v < 2 ^ 32 → ((k : ℕ) → k < 15 → bitAt v k ≡ bit (inner hop′ (node a c) k)) → ((k : ℕ) → 15 ≤ k → bitAt v k ≡ bitAt (word st hop (node a c)) k) → v ≡ word st hop′ (node a c)
+  by-kind : (a c v : ℕ) → v < 2 ^ 32 → ((k : ℕ) → k < 15 → bitAt v k ≡ bit (inner hop′ (node a c) k)) →
+      ((k : ℕ) → 15 ≤ k → bitAt v k ≡ bitAt (word st hop (node a c)) k) → v ≡ word st hop′ (node a c)
   unfolding word setBit
   by-kind a c v l in-bits out-bits = word-bits v (setBit st hop′ (node a c)) l (λ k u. go k u (below? k 15))
     where
@@ -184,26 +195,28 @@ module _ {st : ℕ → ℕ → Bool} {hop : ℕ → ℕ → ℕ} {ws ws′ hs hs
           (by-kind a c (bitsOf ws′ x) (g .bits .node .fits) (λ k l. own k l (equal? k b) old q)
           (λ k l. bit-same (g .bits) k (λ (z : k ≡ b). omega (arith, g .bits .small)) ∙ ap (λ (z : ℕ). bitAt z k) old))
         where
-          own : (k : ℕ) → k < 15 → (k ≡ b) ⊎ (k ≡ b → ⊥) → bitsOf ws x ≡ word st hop (node a c) → (a ≡ m) × (c ≡ p) → bitAt (bitsOf ws′ x) k ≡ bit (inner hop′ (node a c) k)
+          own : (k : ℕ) → k < 15 → (k ≡ b) ⊎ (k ≡ b → ⊥) → bitsOf ws x ≡ word st hop (node a c) → (a ≡ m) × (c ≡ p) → bitAt (bitsOf ws′ x) k ≡ bit
+              (inner hop′ (node a c) k)
           own k l (inl z) old q =
               ap (bitAt (bitsOf ws′ x)) z ∙ bit-new (g .bits)
-              ∙ ap bit (sym (lt-ltb 0 h some)) ∙ ap (λ (t : ℕ). bit (ltb 0 t)) (sym (ap₂ (λ (s t : ℕ). bitHop hop′ (node s t) k) (q .0) (q .1) ∙ ap (bitHop hop′ (node m p)) z ∙ hop-own))
+              ∙ ap bit (sym (lt-ltb 0 h some)) ∙ ap (λ (t : ℕ). bit (ltb 0 t))
+              (sym (ap₂ (λ (s t : ℕ). bitHop hop′ (node s t) k) (q .0) (q .1) ∙ ap (bitHop hop′ (node m p)) z ∙ hop-own))
           own k l (inr z) old q =
               bit-same (g .bits) k z ∙ ap (λ (t : ℕ). bitAt t k) old ∙ old-inner a c k l
               ∙ ap (λ (t : ℕ). bit (ltb 0 t)) (sym (hop-other a c k l (λ t. z (t .2))))
 
   put′ : (a c k : ℕ) → standsAt st a c ≡ true → k < 15 → inner hop′ (node a c) k ≡ true
-      → getD hs′ (baseOf ws′ (reached ws′ a c) + ones (bitsOf ws′ (reached ws′ a c) % 2 ^ k)) 0 ≡ bitHop hop′ (node a c) k
+      → getD hs′ (hopPlaceAt ws′ (reached ws′ a c) k) 0 ≡ bitHop hop′ (node a c) k
   put′ a c k e l s = rw (leads-same a c e) (go (equal? (reached ws a c) x) (equal? k b))
     where
-      old : ((a ≡ m) × (c ≡ p) × (k ≡ b) → ⊥) → getD hs′ (baseOf ws′ (reached ws a c) + ones (bitsOf ws′ (reached ws a c) % 2 ^ k)) 0 ≡ bitHop hop′ (node a c) k
+      old : ((a ≡ m) × (c ≡ p) × (k ≡ b) → ⊥) → getD hs′ (hopPlaceAt ws′ (reached ws a c) k) 0 ≡ bitHop hop′ (node a c) k
       old ne =
           let same = hop-other a c k l ne in
           let on : inner hop (node a c) k ≡ true = sym (ap (ltb 0) same) ∙ s in
           let set : isSet (bitsOf ws (reached ws a c)) k ≡ true = eq-eqb _ 1 (ap (λ (z : ℕ). bitAt z k) (held .right a c e) ∙ old-inner a c k l ∙ ap bit on) in
           at-place ord g (reached ws a c) k (stands-found st hop ws hs n fits held a c e .0) l set ∙ held .put a c k e l on ∙ sym same
 
-      go : (reached ws a c ≡ x) ⊎ (reached ws a c ≡ x → ⊥) → (k ≡ b) ⊎ (k ≡ b → ⊥) → getD hs′ (baseOf ws′ (reached ws a c) + ones (bitsOf ws′ (reached ws a c) % 2 ^ k)) 0 ≡ bitHop hop′ (node a c) k
+      go : (reached ws a c ≡ x) ⊎ (reached ws a c ≡ x → ⊥) → (k ≡ b) ⊎ (k ≡ b → ⊥) → getD hs′ (hopPlaceAt ws′ (reached ws a c) k) 0 ≡ bitHop hop′ (node a c) k
       go (inl i) (inl z) =
           let q = parent-only a c e i in
           rw (i, z) (new-place ord g) ∙ sym (ap₂ (λ (u v : ℕ). bitHop hop′ (node u v) k) (q .0) (q .1) ∙ ap (bitHop hop′ (node m p)) z ∙ hop-own)

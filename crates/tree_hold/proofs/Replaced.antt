@@ -1,18 +1,17 @@
 -- A hop in the place of another: the arrays are those without it with it put; put with another hop, they differ at its place alone.
-use mathlib.Core.Path.{_≡_, refl, sym, _∙_, ap, ap₂, subst, fun-ext}
+use mathlib.Core.Path.{_≡_, refl, sym, _∙_, ap₂, subst, fun-ext}
 use mathlib.Core.Logic.{_⊎_, inl, inr}
-use mathlib.Core.Bool.{Bool, true, false, cond, _&&_, true≢false}
+use mathlib.Core.Bool.{Bool, true, false, cond, _&&_}
 use mathlib.Core.List.{List}
-use Prim.Native.Nat.{ℕ, suc, _+_, _-_, _*_, _/_, _%_, _^_, _≤_, _<_}
+use Prim.Native.Nat.{ℕ, suc, _+_, _-_, _≤_, _<_}
 use native.Mathlib.Omega.{arith}
-use lib.Dec.{eqb, ltb}
+use lib.Dec.{eqb}
 use lib.ListN.{length, getD, set, length-set}
 use lib.Seq.{getD-set-same, getD-set-other}
 use borrow.Author.Tests.{eq-eqb, eqb-true, ltb-true}
-use Rattle.bits.specs.Count.{bit}
-use Rattle.bits.proofs.Tests.{decided, below?, equal?, and-split}
-use Rattle.tree.specs.Image.{node, bitHop, inner, hops}
-use Rattle.tree_same.specs.Read.{reached}
+use Rattle.bits.proofs.Bools.{decided, below?, equal?, and-split}
+use Rattle.tree.specs.Image.{node, bitHop, inner}
+use Rattle.tree_same.specs.Read.{reached, hopPlaceAt}
 use Rattle.tree_same.specs.Order.{ints, standsAt}
 use Rattle.tree_same.specs.Holding.{Holding}
 use Rattle.tree_same.proofs.Back.{Shaped}
@@ -20,7 +19,7 @@ use Rattle.tree_hold.specs.More.{withHop}
 use Rattle.tree_hold.specs.Edits.{HopPut}
 use Rattle.tree_hold.proofs.Each.{past}
 use Rattle.tree_hold.proofs.Puts.{put-holds}
-use Rattle.tree_hold.proofs.Taken.{lenAt, bitsAt, hopPlace, before}
+use Rattle.tree_hold.proofs.Taken.{lenAt, bitsAt, before}
 
 module _ (st : ℕ → ℕ → Bool) (hop : ℕ → ℕ → ℕ) (l q : ℕ) where
   -- the hops without this one, and with it again
@@ -77,7 +76,7 @@ module _ {st : ℕ → ℕ → Bool} {hop : ℕ → ℕ → ℕ} {ws hs : List �
   x = reached ws m p
 
   abbrev y : ℕ
-  y = hopPlace ws x b
+  y = hopPlaceAt ws x b
 
   abbrev l : ℕ
   l = lenAt m b

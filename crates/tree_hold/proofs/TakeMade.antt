@@ -7,12 +7,12 @@ use Prim.Native.Nat.{ℕ, suc, _+_, _-_, _*_, _/_, _%_, _^_, _≤_, _<_}
 use native.Mathlib.Omega.{arith}
 use lib.ListN.{length, getD, set, length-set}
 use lib.Seq.{getD-set-same, getD-set-other}
-use lib.Count.{ones}
-use Rattle.bits.proofs.Tests.{below?, equal?}
+use Rattle.bits.proofs.Bools.{below?, equal?}
 use Rattle.lists.specs.Edit.{drawn}
 use Rattle.lists.proofs.EditMoves.{length-drawn, drawn-in, drawn-before, drawn-after}
 use Rattle.tree.specs.Node.{bitsOf, baseOf, isSet}
-use Rattle.tree_build.specs.Run.{WithBit}
+use Rattle.tree_build.specs.NodeRuns.{WithBit}
+use Rattle.tree_same.specs.Read.{hopPlaceAt}
 use Rattle.tree_same.specs.Order.{ints}
 use Rattle.tree_check.proofs.Held.{fewer-ints, ints-next, ints-mono}
 use Rattle.tree_hold.specs.Moves.{each}
@@ -20,7 +20,7 @@ use Rattle.tree_hold.specs.Edits.{MarkedBits, HopPut, Takable}
 use Rattle.tree_hold.proofs.Each.{past, each-length, each-in, each-out}
 use Rattle.tree_hold.proofs.PutBits.{low-upto, ints-after}
 
-module _ {ws′ hs′ : List ℕ} {n k x b : ℕ} (r : Takable ws′ hs′ n k x b) (y : ℕ) (place : y ≡ baseOf ws′ x + ones (bitsOf ws′ x % 2 ^ b)) where
+module _ {ws′ hs′ : List ℕ} {n k x b : ℕ} (r : Takable ws′ hs′ n k x b) (y : ℕ) (place : y ≡ hopPlaceAt ws′ x b) where
   pub take-inside : y ≤ k
   take-inside =
       omega (
@@ -122,7 +122,8 @@ module _ {ws′ hs′ : List ℕ} {n k x b : ℕ} (r : Takable ws′ hs′ n k x
       hop-new = refl;
       hops-above = λ j l u.
           let e : j + 1 ≡ suc j = omega arith in
-          sym (hop j (λ q. omega (arith, fewer)) ∙ drawn-in hs′ (λ z. z + 1) y k j (omega (arith, fewer, r .room)) l (omega (arith, fewer)) ∙ ap (λ (z : ℕ). getD hs′ z 0) e);
+          sym (hop j (λ q. omega (arith, fewer)) ∙ drawn-in hs′ (λ z. z + 1) y k j (omega (arith, fewer, r .room)) l (omega (arith, fewer)) ∙ ap
+          (λ (z : ℕ). getD hs′ z 0) e);
       blank-old = λ j l. blank-old j (omega (arith, fewer)) (equal? j k) (below? j (length hs′));
       blank = λ j l. r .blank j (omega (arith, fewer));
     }

@@ -1,22 +1,20 @@
 -- A hop taken away: an image with a hop is what putting it makes of the image without it.
 use mathlib.Core.Path.{_≡_, refl, sym, _∙_, ap, subst}
-use mathlib.Core.Logic.{_⊎_}
-use mathlib.Core.Bool.{Bool, true, false, _&&_, true≢false}
+use mathlib.Core.Bool.{Bool, true, false}
 use mathlib.Core.List.{List}
-use Prim.Native.Nat.{ℕ, _+_, _-_, _*_, _/_, _%_, _^_, _≤_, _<_}
+use Prim.Native.Nat.{ℕ, _+_, _-_, _*_, _^_, _≤_, _<_}
 use native.Mathlib.Omega.{arith}
 use lib.Dec.{ltb}
-use lib.ListN.{length, set}
-use lib.Count.{ones}
+use lib.ListN.{length}
 use Rattle.bits.specs.Count.{bit}
-use Rattle.tree.specs.Node.{bitsOf, baseOf}
-use Rattle.tree.specs.Image.{node, innerLen, bitHop, inner, nodes, hops, Image, imageBy}
+use Rattle.tree.specs.Node.{bitsOf}
+use Rattle.tree.specs.Image.{node, innerLen, bitHop, nodes, hops, Image, imageBy}
 use Rattle.tree.proofs.Nodes.{inner-bit}
 use Rattle.tree_build.proofs.Marks.{with-bit}
-use Rattle.tree_same.specs.Read.{reached}
+use Rattle.tree_same.specs.Read.{reached, hopPlaceAt}
 use Rattle.tree_same.specs.Order.{ints, standsAt}
 use Rattle.tree_same.specs.Holding.{Holding}
-use Rattle.tree_same.proofs.Back.{Shaped, set-is}
+use Rattle.tree_same.proofs.Back.{Shaped, bit-set-is}
 use Rattle.tree_same.proofs.Holdings.{nodes-are, hops-are, stands-found, image-holding}
 use Rattle.tree_hold.specs.More.{withHop}
 use Rattle.tree_hold.specs.Edits.{HopPut, Puttable}
@@ -32,10 +30,6 @@ lenAt m b = 4 * m + innerLen b
 
 abbrev pub bitsAt : ℕ → ℕ → ℕ
 bitsAt p b = p * 2 ^ innerLen b + (b + 1 - 2 ^ innerLen b)
-
--- the place of its hop
-abbrev pub hopPlace : List ℕ → ℕ → ℕ → ℕ
-hopPlace ws x b = baseOf ws x + ones (bitsOf ws x % 2 ^ b)
 
 module _ {st : ℕ → ℕ → Bool} {hop : ℕ → ℕ → ℕ} (m p b h : ℕ) (fits : Shaped st hop) (small : b < 15) (stood : standsAt st m p ≡ true)
     (none : bitHop hop (node m p) b ≡ 0) (some : 0 < h) where
@@ -67,15 +61,15 @@ module _ {st : ℕ → ℕ → Bool} {hop : ℕ → ℕ → ℕ} (m p b h : ℕ)
       words = held-words (fits .agree .nine) held;
       parent = inside;
       small = small;
-      free = set-is _ b false (rw (held .right m p stood) (inner-bit st hop (node m p) b small) ∙ ap (λ (z : ℕ). bit (ltb 0 z)) none);
+      free = bit-set-is _ b false (rw (held .right m p stood) (inner-bit st hop (node m p) b small) ∙ ap (λ (z : ℕ). bit (ltb 0 z)) none);
       room = omega (arith, sizes .1, count-hops);
       blank = held .blank;
     }
 
-    made : (ws′ : List ℕ) × (hs′ : List ℕ) × HopPut (old .words) ws′ (old .hops) hs′ (length (nodes st)) x b (hopPlace (old .words) x b) h
+    made : (ws′ : List ℕ) × (hs′ : List ℕ) × HopPut (old .words) ws′ (old .hops) hs′ (length (nodes st)) x b (hopPlaceAt (old .words) x b) h
     made =
         let v = with-bit (bitsOf (old .words) x) b (ready .words .narrow x inside) (omega arith) in
-        (_, _, put-done ready (hopPlace (old .words) x b) refl _ h v)
+        (_, _, put-done ready (hopPlaceAt (old .words) x b) refl _ h v)
 
     put-it : Holding st hop′ (made .0) (made .1) (length (nodes st))
     put-it = put-holds m p fits held (made .2) stood refl some
@@ -102,7 +96,7 @@ module _ {st : ℕ → ℕ → Bool} {hop : ℕ → ℕ → ℕ} (m p b h : ℕ)
       pub hops : List ℕ
       pub holds : Holding st hop words hops n
       pub at : reached ws′ m p ≡ reached words m p
-      pub put : HopPut words ws′ hops hs′ n (reached ws′ m p) b (hopPlace ws′ (reached ws′ m p) b) h
+      pub put : HopPut words ws′ hops hs′ n (reached ws′ m p) b (hopPlaceAt ws′ (reached ws′ m p) b) h
 
     count-is : n ≡ length (nodes st)
     count-is = nodes-are st hop′ ws′ hs′ n (fits .agree .nine) h′
@@ -114,7 +108,7 @@ module _ {st : ℕ → ℕ → Bool} {hop : ℕ → ℕ → ℕ} (m p b h : ℕ)
     space′ = omega (arith, h′ .room, hops-are st hop′ ws′ hs′ n (fits .agree .nine) h′, more-hops)
 
     -- the place of the hop, by the words with it
-    place-after : {a f : List ℕ} {z t : ℕ} → HopPut a ws′ f hs′ n (reached ws′ m p) b z t → z ≡ hopPlace ws′ (reached ws′ m p) b
+    place-after : {a f : List ℕ} {z t : ℕ} → HopPut a ws′ f hs′ n (reached ws′ m p) b z t → z ≡ hopPlaceAt ws′ (reached ws′ m p) b
     place-after g = omega (arith, g .place, g .base-upto (reached ws′ m p) (omega arith), low-upto (g .bits) b (omega arith))
 
     abbrev ws₀ : List ℕ
@@ -138,13 +132,13 @@ module _ {st : ℕ → ℕ → Bool} {hop : ℕ → ℕ → ℕ} (m p b h : ℕ)
         sym (leads-same m p fits (held (length ws′) (length hs′) room′ space′) (made (length ws′) (length hs′) room′ space′ .2) stood refl some m p stood)
         ∙ ap (λ (v : List ℕ). reached v m p) (made-is .0)
 
-    put₀ : HopPut ws₀ ws′ hs₀ hs′ n (reached ws′ m p) b (hopPlace ws₀ x₀ b) h
+    put₀ : HopPut ws₀ ws′ hs₀ hs′ n (reached ws′ m p) b (hopPlaceAt ws₀ x₀ b) h
     put₀ =
         let k = made (length ws′) (length hs′) room′ space′ in
-        let a = subst (λ (v : List ℕ). HopPut ws₀ (k .0) hs₀ v (length (nodes st)) x₀ b (hopPlace ws₀ x₀ b) h) (made-is .1) (k .2) in
-        let c = subst (λ (v : List ℕ). HopPut ws₀ v hs₀ hs′ (length (nodes st)) x₀ b (hopPlace ws₀ x₀ b) h) (made-is .0) a in
-        let d = subst (λ (z : ℕ). HopPut ws₀ ws′ hs₀ hs′ z x₀ b (hopPlace ws₀ x₀ b) h) (sym count-is) c in
-        subst (λ (z : ℕ). HopPut ws₀ ws′ hs₀ hs′ n z b (hopPlace ws₀ x₀ b) h) same-node d
+        let a = subst (λ (v : List ℕ). HopPut ws₀ (k .0) hs₀ v (length (nodes st)) x₀ b (hopPlaceAt ws₀ x₀ b) h) (made-is .1) (k .2) in
+        let c = subst (λ (v : List ℕ). HopPut ws₀ v hs₀ hs′ (length (nodes st)) x₀ b (hopPlaceAt ws₀ x₀ b) h) (made-is .0) a in
+        let d = subst (λ (z : ℕ). HopPut ws₀ ws′ hs₀ hs′ z x₀ b (hopPlaceAt ws₀ x₀ b) h) (sym count-is) c in
+        subst (λ (z : ℕ). HopPut ws₀ ws′ hs₀ hs′ n z b (hopPlaceAt ws₀ x₀ b) h) same-node d
 
     pub before : Before
     before = record {

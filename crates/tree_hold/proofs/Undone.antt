@@ -2,7 +2,7 @@
 -- the edit makes of the image without it. So an edit read backwards leaves that image.
 use mathlib.Core.Path.{_≡_, refl, sym, _∙_, ap, ap₂, subst}
 use mathlib.Core.Logic.{_⊎_, inl, inr}
-use mathlib.Core.Bool.{Bool, true, false, cond, _&&_, true≢false}
+use mathlib.Core.Bool.{Bool, true, false, cond}
 use mathlib.Core.List.{List, _++_, append-nil}
 use Prim.Native.Nat.{ℕ, zero, suc, _+_, _-_, _*_, _/_, _%_, _^_, _≤_, _<_}
 use native.Mathlib.Omega.{arith}
@@ -12,18 +12,18 @@ use lib.Seq.{ext-getD}
 use borrow.Author.Tests.{ne-eqb}
 use Rattle.bits.specs.Bit.{bitAt}
 use Rattle.bits.specs.Count.{bit}
-use Rattle.bits.proofs.Tests.{below?, equal?}
+use Rattle.bits.proofs.Bools.{below?, equal?}
 use Rattle.tree.specs.Node.{bitsOf, childOf, baseOf, isSet, childAt}
-use Rattle.tree.specs.Parts.{padded}
+use Rattle.tree.specs.Parts.{zeroPadded}
 use Rattle.tree.specs.Image.{node, child, nodes, words, hops, Image, imageBy}
 use Rattle.tree.proofs.Nodes.{child-bit, words-length}
 use Rattle.tree.proofs.Holds.{pad-length}
-use Rattle.tree_build.specs.Run.{WithBit}
+use Rattle.tree_build.specs.NodeRuns.{WithBit}
 use Rattle.tree_build.proofs.Marks.{with-bit, word-bits}
 use Rattle.tree_same.specs.Read.{reached}
 use Rattle.tree_same.specs.Order.{ints, standsAt}
 use Rattle.tree_same.specs.Holding.{Holding}
-use Rattle.tree_same.proofs.Back.{Shaped, set-is}
+use Rattle.tree_same.proofs.Back.{Shaped, bit-set-is}
 use Rattle.tree_same.proofs.Holdings.{nodes-are, hops-are, holds-image, stands-found, image-holding}
 use Rattle.tree_check.proofs.Held.{bit-of}
 use Rattle.tree_hold.specs.More.{also}
@@ -49,7 +49,8 @@ same-word {v} {w} {b} {r} p q f g l u =
         other {x} z = z .bits k ∙ ap (λ (t : Bool). cond t 1 (bitAt x k)) (ne-eqb k b n)
 
 -- two lists of words that agree node by node, and have zeros after
-same-words : (a b : List ℕ) (n : ℕ) → length a ≡ length b → ((i : ℕ) → i < n → (bitsOf a i ≡ bitsOf b i) × (childOf a i ≡ childOf b i) × (baseOf a i ≡ baseOf b i))
+same-words : (a b : List ℕ) (n : ℕ) → length a ≡ length b →
+    ((i : ℕ) → i < n → (bitsOf a i ≡ bitsOf b i) × (childOf a i ≡ childOf b i) × (baseOf a i ≡ baseOf b i))
     → ((j : ℕ) → 3 * n ≤ j → getD a j 0 ≡ 0) → ((j : ℕ) → 3 * n ≤ j → getD b j 0 ≡ 0) → a ≡ b
 same-words a b n e f za zb = ext-getD 0 a b e (λ j u. go j (below? j (3 * n)))
   where
@@ -64,11 +65,13 @@ same-words a b n e f za zb = ext-getD 0 a b e (λ j u. go j (below? j (3 * n)))
     go j (inr l) = za j l ∙ sym (zb j l)
 
 pub graft-back : {a b ws′ : List ℕ} {n x c y : ℕ} → Grafted a ws′ n x c y → Grafted b ws′ n x c y → a ≡ b
-graft-back {a} {b} {ws′} {n} {x} {c} {y} g h = same-words a b n (sym (g .same) ∙ h .same) (λ i l. (bits i l (equal? i x) (below? i y), child i l (below? x i) (below? i y), base i l (below? i y))) (g .rest-old) (h .rest-old)
+graft-back {a} {b} {ws′} {n} {x} {c} {y} g h = same-words a b n (sym (g .same) ∙ h .same)
+    (λ i l. (bits i l (equal? i x) (below? i y), child i l (below? x i) (below? i y), base i l (below? i y))) (g .rest-old) (h .rest-old)
   where
     bits : (i : ℕ) → i < n → (i ≡ x) ⊎ (i ≡ x → ⊥) → (i < y) ⊎ (y ≤ i) → bitsOf a i ≡ bitsOf b i
     bits i l (inl e) u =
-        rw e (same-word (g .bits .parent) (h .bits .parent) (g .bits .free) (h .bits .free) (g .bits .narrow x (omega (arith, e))) (h .bits .narrow x (omega (arith, e))))
+        rw e (same-word (g .bits .parent) (h .bits .parent) (g .bits .free) (h .bits .free) (g .bits .narrow x (omega (arith, e)))
+        (h .bits .narrow x (omega (arith, e))))
     bits i l (inr e) (inl u) = sym (g .bits .below i u e) ∙ h .bits .below i u e
     bits i l (inr e) (inr u) = sym (g .bits .above i u l) ∙ h .bits .above i u l
 
@@ -88,7 +91,8 @@ put-back {a} {b} {ws′} {ha} {hb} {hs′} {n} {x} {t} {y} {h} {k} g f =
   where
     bits : (i : ℕ) → i < n → (i ≡ x) ⊎ (i ≡ x → ⊥) → bitsOf a i ≡ bitsOf b i
     bits i l (inl e) =
-        rw e (same-word (g .bits .node) (f .bits .node) (g .bits .free) (f .bits .free) (g .bits .narrow x (g .bits .inside)) (f .bits .narrow x (f .bits .inside)))
+        rw e (same-word (g .bits .node) (f .bits .node) (g .bits .free) (f .bits .free) (g .bits .narrow x (g .bits .inside))
+        (f .bits .narrow x (f .bits .inside)))
     bits i l (inr e) = sym (g .bits .other i l e) ∙ f .bits .other i l e
 
     base : (i : ℕ) → i < n → (x < i) ⊎ (i ≤ x) → baseOf a i ≡ baseOf b i
@@ -108,7 +112,8 @@ put-back {a} {b} {ws′} {ha} {hb} {hs′} {n} {x} {t} {y} {h} {k} g f =
 -- ---- images in arrays of one size
 
 -- arrays that hold the same routes and have the same sizes are the same
-pub same-held : {st : ℕ → ℕ → Bool} {hop : ℕ → ℕ → ℕ} {ws vs hs gs : List ℕ} {n m : ℕ} → ((p : ℕ) → st 9 p ≡ false) → Holding st hop ws hs n → Holding st hop vs gs m
+pub same-held : {st : ℕ → ℕ → Bool} {hop : ℕ → ℕ → ℕ} {ws vs hs gs : List ℕ} {n m : ℕ} → ((p : ℕ) → st 9 p ≡ false) → Holding st hop ws hs n
+    → Holding st hop vs gs m
     → length ws ≡ length vs → length hs ≡ length gs → (ws ≡ vs) × (hs ≡ gs)
 same-held {st} {hop} {ws} {vs} {hs} {gs} {n} {m} nine a b e f =
     let i = holds-image st hop ws hs n nine a in
@@ -117,7 +122,7 @@ same-held {st} {hop} {ws} {vs} {hs} {gs} {n} {m} nine a b e f =
     (i .0 ∙ ap (λ (x : Image). x .words) q ∙ sym (j .0), i .1 ∙ ap (λ (x : Image). x .hops) q ∙ sym (j .1))
 
 -- a list that fills its room
-full : (xs : List ℕ) → padded (length xs) xs ≡ xs
+full : (xs : List ℕ) → zeroPadded (length xs) xs ≡ xs
 full xs = let z : length xs - length xs ≡ 0 = omega arith in ap (λ (k : ℕ). xs ++ replicate k 0) z ∙ append-nil xs
 
 pub image-sizes : (st : ℕ → ℕ → Bool) (hop : ℕ → ℕ → ℕ) (w h : ℕ) → 3 * length (nodes st) ≤ w → length (hops st hop) ≤ h
@@ -161,7 +166,8 @@ module _ {st : ℕ → ℕ → Bool} {hop : ℕ → ℕ → ℕ} (m p c : ℕ) (
       words = held-words (fits .agree .nine) held;
       parent = inside;
       small = small;
-      free = set-is (bitsOf (old .words) x) (16 + c) false (ap (λ (z : ℕ). bitAt z (16 + c)) (held .right m p stood) ∙ child-bit st hop (node m p) c small ∙ ap bit none);
+      free = bit-set-is (bitsOf (old .words) x) (16 + c) false
+          (ap (λ (z : ℕ). bitAt z (16 + c)) (held .right m p stood) ∙ child-bit st hop (node m p) c small ∙ ap bit none);
       room = omega (arith, sizes .0);
     }
 
@@ -192,8 +198,9 @@ module _ {st : ℕ → ℕ → Bool} {hop : ℕ → ℕ → ℕ} (m p c : ℕ) (
       let i = holds-image st′ hop _ _ _ also-nine g .1 in
       let s = sizes w h (omega arith) (omega arith) in
       let k : length (hops st′ hop) ≡ length (hops st hop) =
-      sym (hops-are st′ hop _ _ _ also-nine g) ∙ same-ints w h (omega arith) (omega arith) ∙ hops-are st hop _ _ _ (fits .agree .nine) (held w h (omega arith) (omega arith)) in
-      sym (full (hops st′ hop)) ∙ ap (λ (z : ℕ). padded z (hops st′ hop)) (k ∙ sym (s .1)) ∙ sym i ∙ full (hops st hop)
+      sym (hops-are st′ hop _ _ _ also-nine g) ∙ same-ints w h (omega arith) (omega arith) ∙ hops-are st hop _ _ _ (fits .agree .nine)
+      (held w h (omega arith) (omega arith)) in
+      sym (full (hops st′ hop)) ∙ ap (λ (z : ℕ). zeroPadded z (hops st′ hop)) (k ∙ sym (s .1)) ∙ sym i ∙ full (hops st hop)
 
   -- and taking the node away leaves the image without it
   module _ {ws ws′ hs : List ℕ} {n x₁ y : ℕ} (h : Holding st′ hop ws′ hs (n + 1)) (g : Grafted ws ws′ n x₁ c y) (at : x₁ ≡ reached ws′ m p) where
@@ -231,7 +238,8 @@ module _ {st : ℕ → ℕ → Bool} {hop : ℕ → ℕ → ℕ} (m p c : ℕ) (
     same-node : x₀ ≡ x₁
     same-node =
         let k = made (length ws′) (length hs) room space in
-        sym (leads-moved m p fits held₀ (k .2) stood refl deep absent m p stood ∙ moved-low y₀ x₀ (k .2 .bits .after)) ∙ ap (λ (v : List ℕ). reached v m p) (made-is .0) ∙ sym at
+        sym (leads-moved m p fits held₀ (k .2) stood refl deep absent m p stood ∙ moved-low y₀ x₀ (k .2 .bits .after)) ∙ ap
+        (λ (v : List ℕ). reached v m p) (made-is .0) ∙ sym at
 
     -- the place of the child, by the words with it
     place-after : {a : List ℕ} {z : ℕ} → Grafted a ws′ n x₁ c z → z ≡ childAt (bitsOf ws′ x₁) (childOf ws′ x₁) c

@@ -3,11 +3,11 @@
 use mathlib.Core.Bool.{true, false}
 use mathlib.Core.List.{List}
 use mathlib.Core.Path.{_≡_}
-use Prim.Native.Nat.{ℕ, suc, _+_, _*_, _/_, _%_, _^_, _≤_, _<_}
+use Prim.Native.Nat.{ℕ, suc, _+_, _*_, _/_, _^_, _≤_, _<_}
 use lib.ListN.{length, getD}
-use lib.Count.{ones}
 use Rattle.tree.specs.Node.{bitsOf, childOf, baseOf, isSet, childAt}
-use Rattle.tree_build.specs.Run.{WithBit}
+use Rattle.tree_build.specs.NodeRuns.{WithBit}
+use Rattle.tree_same.specs.Read.{hopPlaceAt}
 use Rattle.tree_same.specs.Order.{exts, ints, Order}
 
 -- the bits of the nodes: ws′ has an empty child c of node x at place y, and the nodes from there on one place further
@@ -38,8 +38,12 @@ pub record Grafted (ws ws′ : List ℕ) (n x c y : ℕ) : Type 0 where
   pub rest-old : (j : ℕ) → 3 * n ≤ j → getD ws j 0 ≡ 0
   pub rest : (j : ℕ) → 3 * (n + 1) ≤ j → getD ws′ j 0 ≡ 0
 
+-- the empty child c of node x taken away: with it, the words are those that were
+abbrev pub Pruned : List ℕ → List ℕ → ℕ → ℕ → ℕ → Type 0
+Pruned ws ws′ n x c = Grafted ws′ ws n x c (childAt (bitsOf ws x) (childOf ws x) c)
+
 -- words that an edit may work on: n nodes with the bases of the fixed order and k hops, words of 32 bits, zeros after the last
-pub record Words (ws : List ℕ) (n k : ℕ) : Type 0 where
+pub record NodeWords (ws : List ℕ) (n k : ℕ) : Type 0 where
   pub order : Order ws n
   pub hops : k ≡ ints ws n
   pub narrow : (i : ℕ) → i < n → bitsOf ws i < 2 ^ 32
@@ -47,7 +51,7 @@ pub record Words (ws : List ℕ) (n k : ℕ) : Type 0 where
 
 -- an empty child c may be put under node x
 pub record Graftable (ws : List ℕ) (n k x c : ℕ) : Type 0 where
-  pub words : Words ws n k
+  pub words : NodeWords ws n k
   pub parent : x < n
   pub small : c < 16
   pub free : isSet (bitsOf ws x) (16 + c) ≡ false
@@ -55,7 +59,7 @@ pub record Graftable (ws : List ℕ) (n k x c : ℕ) : Type 0 where
 
 -- the child c of node x is empty and may be taken away; n nodes are left
 pub record Prunable (ws : List ℕ) (n k x c : ℕ) : Type 0 where
-  pub words : Words ws (n + 1) k
+  pub words : NodeWords ws (n + 1) k
   pub parent : x < n + 1
   pub small : c < 16
   pub stands : isSet (bitsOf ws x) (16 + c) ≡ true
@@ -78,7 +82,7 @@ pub record HopPut (ws ws′ hs hs′ : List ℕ) (n x b y h : ℕ) : Type 0 wher
   pub same-hops : length hs′ ≡ length hs
   pub lent : n ≤ length ws′ / 3
   pub room : ints ws n + 1 ≤ length hs′
-  pub place : y ≡ baseOf ws x + ones (bitsOf ws x % 2 ^ b)
+  pub place : y ≡ hopPlaceAt ws x b
   pub child-same : (i : ℕ) → i < n → childOf ws′ i ≡ childOf ws i
   pub base-upto : (i : ℕ) → i ≤ x → baseOf ws′ i ≡ baseOf ws i
   pub base-after : (i : ℕ) → x < i → i < n → baseOf ws′ i ≡ baseOf ws i + 1
@@ -90,9 +94,13 @@ pub record HopPut (ws ws′ hs hs′ : List ℕ) (n x b y h : ℕ) : Type 0 wher
   pub blank-old : (j : ℕ) → ints ws n ≤ j → getD hs j 0 ≡ 0
   pub blank : (j : ℕ) → ints ws n + 1 ≤ j → getD hs′ j 0 ≡ 0
 
+-- the hop at the internal bit b of node x taken away: with it, the words and the hops are those that were
+abbrev pub HopTaken : List ℕ → List ℕ → List ℕ → List ℕ → ℕ → ℕ → ℕ → Type 0
+HopTaken ws ws′ hs hs′ n x b = HopPut ws′ ws hs′ hs n x b (hopPlaceAt ws x b) (getD hs (hopPlaceAt ws x b) 0)
+
 -- a hop may be put at the internal bit b of node x
 pub record Puttable (ws hs : List ℕ) (n k x b : ℕ) : Type 0 where
-  pub words : Words ws n k
+  pub words : NodeWords ws n k
   pub parent : x < n
   pub small : b < 15
   pub free : isSet (bitsOf ws x) b ≡ false
@@ -101,7 +109,7 @@ pub record Puttable (ws hs : List ℕ) (n k x b : ℕ) : Type 0 where
 
 -- the hop at the internal bit b of node x may be taken away; k hops are left
 pub record Takable (ws hs : List ℕ) (n k x b : ℕ) : Type 0 where
-  pub words : Words ws n (k + 1)
+  pub words : NodeWords ws n (k + 1)
   pub parent : x < n
   pub small : b < 15
   pub stands : isSet (bitsOf ws x) b ≡ true

@@ -1,4 +1,4 @@
 -- Laws of the words of an image, and the theorems on runs.
 pub mod Narrow
-pub mod Runs
+pub mod ImageRuns
 pub mod Same

@@ -5,20 +5,20 @@ use mathlib.Core.List.{List}
 use Prim.Native.Nat.{ℕ, _+_, _*_, _/_, _%_, _^_, _≤_, _<_}
 use native.Mathlib.Omega.{arith}
 use lib.ListN.{length, getD}
-use Rattle.bits.proofs.Tests.{below?}
+use Rattle.bits.proofs.Bools.{below?}
 use Rattle.routes.specs.Route.{Good}
 use Rattle.routes.specs.declared.Route.{Route}
 use Rattle.tree.specs.Node.{bitsOf, childOf, baseOf}
 use Rattle.tree.specs.Image.{nodeStands, hopFor, nodeNeed, imageOf}
 use Rattle.tree.proofs.Needs.{hops-need, nodes-most}
-use Rattle.tree_build.specs.Built.{Out}
+use Rattle.tree_build.specs.Built.{ImageOut}
 use Rattle.tree_same.specs.Order.{ints}
 use Rattle.tree_same.specs.Holding.{Holding}
 use Rattle.tree_same.proofs.Same.{fits}
 use Rattle.tree_same.proofs.Holdings.{hops-are, image-holding}
 use Rattle.tree_check.proofs.Held.{exts-mono, ints-mono}
 use Rattle.tree_hold.proofs.Holds.{bits-fit}
-use Rattle.tree_change.specs.Cases.{Left}
+use Rattle.tree_change.specs.Cases.{ImageLeft}
 
 module _ (rs : List Route) (w h : ℕ) (g : Good rs) (few : length rs ≤ 4096) (room : 3 * nodeNeed rs ≤ w) (space : length rs ≤ h) where
   abbrev ws : List ℕ
@@ -50,6 +50,6 @@ module _ (rs : List Route) (w h : ℕ) (g : Good rs) (few : length rs ≤ 4096) 
       go (inl u) (inr v) (inl x) = at 1 (omega arith) (node-narrow (j / 3) u .1)
       go (inl u) (inr v) (inr x) = at 2 (omega arith) (node-narrow (j / 3) u .2)
 
-pub left-narrow : {rs : List Route} {ws hs : List ℕ} {o : Out} → Left rs ws hs o → (j : ℕ) → getD (o .words) j 0 < 2 ^ 32
+pub left-narrow : {rs : List Route} {ws hs : List ℕ} {o : ImageOut} → ImageLeft rs ws hs o → (j : ℕ) → getD (o .words) j 0 < 2 ^ 32
 left-narrow {rs} {ws} {hs} l j =
     rw (l .words) (image-narrow rs (length ws) (length hs) (l .fit .good) (l .fit .few) (omega (arith, l .fit .nodes)) (l .fit .hops) j)

@@ -1,2 +1,2 @@
 -- Calls on an image one after the other.
-pub mod Runs
+pub mod ImageRuns

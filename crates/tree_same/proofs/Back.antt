@@ -13,9 +13,9 @@ use lib.ListN.{length, getD}
 use borrow.Author.Tests.{ltb-false, le-leb, eqb-true, eq-eqb}
 use Rattle.bits.specs.Bit.{bitAt}
 use Rattle.bits.specs.Count.{bit}
-use Rattle.bits.proofs.Tests.{decided, both, and-split, untrue, below?}
+use Rattle.bits.proofs.Bools.{decided, both, and-split, untrue, below?}
 use Rattle.tree.specs.Node.{bitsOf, isSet}
-use Rattle.tree.specs.Parts.{padded}
+use Rattle.tree.specs.Parts.{zeroPadded}
 use Rattle.tree.specs.Image.{Node, node, bitHop, child, nodes, words, hops}
 use Rattle.tree.proofs.Nodes.{up-next, inner-bit, child-bit}
 use Rattle.tree.proofs.Holds.{Agree, bit-hop, node-words, child-found, hop-found}
@@ -24,9 +24,9 @@ use Rattle.tree_same.specs.Order.{standsAt}
 use Rattle.tree_same.proofs.Lists.{Hopping}
 
 -- a bit that is a test's is set where the test passes
-pub set-is : (w k : ℕ) (b : Bool) → bitAt w k ≡ bit b → isSet w k ≡ b
-set-is w k true e = rw e
-set-is w k false e = rw e
+pub bit-set-is : (w k : ℕ) (b : Bool) → bitAt w k ≡ bit b → isSet w k ≡ b
+bit-set-is w k true e = rw e
+bit-set-is w k false e = rw e
 
 -- a route's bits are its path and the bits in its node
 pub parts-of : (l q : ℕ) → (4 * (l / 4) + l % 4 ≡ l) × (pathOf l q * 2 ^ (l % 4) + q % 2 ^ (l % 4) ≡ q)
@@ -57,10 +57,10 @@ module _ (st : ℕ → ℕ → Bool) (hop : ℕ → ℕ → ℕ) (ok : Shaped st
 
   module _ (w h : ℕ) (room : 3 * length (nodes st) ≤ w) (space : length (hops st hop) ≤ h) where
     abbrev ws : List ℕ
-    ws = padded w (words st hop)
+    ws = zeroPadded w (words st hop)
 
     abbrev hs : List ℕ
-    hs = padded h (hops st hop)
+    hs = zeroPadded h (hops st hop)
 
     -- the node is found at its place
     abbrev Found : ℕ → ℕ → Type 0
@@ -89,7 +89,7 @@ module _ (st : ℕ → ℕ → Bool) (hop : ℕ → ℕ → ℕ) (ok : Shaped st
         on : (i < length (nodes st)) × (getD (nodes st) i (node 0 0) ≡ n) → isSet (bitsOf ws i) (16 + c) ≡ st (suc m) p
         on f =
             let k = node-words st hop (ok .agree) w h room space i n (f .0) (f .1) in
-            set-is (bitsOf ws i) (16 + c) (st (suc m) p) (rw (k .0) (child-bit st hop n c (omega arith)) ∙ ap bit whole)
+            bit-set-is (bitsOf ws i) (16 + c) (st (suc m) p) (rw (k .0) (child-bit st hop n c (omega arith)) ∙ ap bit whole)
 
         go : (standsAt st m (p / 16) ≡ true) ⊎ (standsAt st m (p / 16) ≡ false)
             → leads ws m (p / 16) ≡ standsAt st m (p / 16) → (standsAt st m (p / 16) ≡ true → Found m (p / 16))
@@ -138,7 +138,7 @@ module _ (st : ℕ → ℕ → Bool) (hop : ℕ → ℕ → ℕ) (ok : Shaped st
             is : isSet (bitsOf ws i) b ≡ ltb 0 (hop l q)
             is =
                 let k = node-words st hop (ok .agree) w h room space i n (f .0) (f .1) in
-                set-is (bitsOf ws i) b (ltb 0 (hop l q)) (rw (k .0) (inner-bit st hop n b (mine .0)) ∙ ap (λ (x : ℕ). bit (ltb 0 x)) (mine .1))
+                bit-set-is (bitsOf ws i) b (ltb 0 (hop l q)) (rw (k .0) (inner-bit st hop n b (mine .0)) ∙ ap (λ (x : ℕ). bit (ltb 0 x)) (mine .1))
 
             at : (ltb 0 (hop l q) ≡ true) ⊎ (ltb 0 (hop l q) ≡ false) → hopAt ws hs i b ≡ hop l q
             at (inl t) = rw (is, t) (hop-found st hop (ok .agree) w h room space i n b (f .0) (f .1) (mine .0) (ap (ltb 0) (mine .1) ∙ t) .1 ∙ mine .1)

@@ -12,7 +12,7 @@ use lib.Pow.{shr-mod}
 use lib.Count.{ones}
 use lib.ListN.{length, getD}
 use Rattle.bits.specs.Count.{count}
-use Rattle.bits.proofs.Tests.{below?}
+use Rattle.bits.proofs.Bools.{below?}
 use Rattle.tree.specs.Node.{bitsOf, childOf, baseOf}
 use Rattle.tree.specs.Parts.{gather, before}
 use Rattle.tree.specs.Image.{Node, node, inner, bitHop, child, setBit, word, kids, hopsOf, nodes}

@@ -11,7 +11,7 @@ use lib.ListN.{length, getD}
 use Rattle.bits.specs.Count.{count}
 use Rattle.bits.proofs.Packed.{rank-count}
 use Rattle.tree.specs.Node.{bitsOf, childOf, baseOf}
-use Rattle.tree.specs.Parts.{before, padded}
+use Rattle.tree.specs.Parts.{before, zeroPadded}
 use Rattle.tree.specs.Image.{node, inner, bitHop, word, kids, hopsOf, nodes, wordsFrom, words, hops, imageBy}
 use Rattle.tree.specs.Done.{nodeNo, Done, AllDone}
 use Rattle.tree.proofs.Parts.{before-all}
@@ -78,10 +78,10 @@ stands-found st hop ws hs n f h m p e =
 -- the image holds its routes
 module _ (st : ℕ → ℕ → Bool) (hop : ℕ → ℕ → ℕ) (ok : Shaped st hop) (w h : ℕ) (room : 3 * length (nodes st) ≤ w) (space : length (hops st hop) ≤ h) where
   abbrev ws : List ℕ
-  ws = padded w (words st hop)
+  ws = zeroPadded w (words st hop)
 
   abbrev hs : List ℕ
-  hs = padded h (hops st hop)
+  hs = zeroPadded h (hops st hop)
 
   bits-at : (x : ℕ) → x < length (nodes st) → bitsOf ws x ≡ word st hop (nodeNo st x)
   bits-at x l = node-words st hop (ok .agree) w h room space x (nodeNo st x) l refl .0

@@ -12,7 +12,7 @@ use lib.Pow.{pow-pos, shl-shr, shr-shr}
 use borrow.Author.Tests.{lt-ltb, ltb-true, eq-eqb, eqb-true}
 use Rattle.bits.specs.Slot.{slot}
 use Rattle.bits.proofs.Slots.{cut-is}
-use Rattle.bits.proofs.Tests.{decided, both, and-split, below?}
+use Rattle.bits.proofs.Bools.{decided, both, and-split, below?}
 use Rattle.routes.specs.Route.{key, Fine, Good}
 use Rattle.routes.specs.declared.Route.{Route}
 use Rattle.standing.specs.Cells.{here}

@@ -8,18 +8,18 @@ use Prim.Native.Nat.{ℕ, _+_, _*_, _≤_, _<_}
 use native.Mathlib.Omega.{arith}
 use lib.ListN.{length, take}
 use lib.Seq.{take-append-seam}
-use Rattle.bits.proofs.Tests.{below?}
+use Rattle.bits.proofs.Bools.{below?}
 use Rattle.routes.specs.Record.{routesIn}
 use Rattle.routes.specs.Route.{plain, Good}
 use Rattle.routes.specs.declared.Route.{Route}
 use Rattle.standing.specs.Cells.{here}
-use Rattle.tree.specs.Parts.{padded}
+use Rattle.tree.specs.Parts.{zeroPadded}
 use Rattle.tree.specs.Image.{Image, nodes, words, hops, nodeStands, hopFor, imageBy, imageOf, nodeNeed}
 use Rattle.tree.proofs.Lies.{any-is, found-any, hop-of}
 use Rattle.tree.proofs.Marks.{stands-plain, hops-plain}
 use Rattle.tree.proofs.Needs.{hops-need}
 use Rattle.tree.proofs.Nodes.{words-length}
-use Rattle.tree_build.specs.Built.{Out, built}
+use Rattle.tree_build.specs.Built.{ImageOut, built}
 use Rattle.tree_build.specs.Cases.{AcceptedBuild}
 use Rattle.tree_build.proofs.Serves.{built-accepts}
 use Rattle.tree_same.specs.OneImage.{Has, SameRoutes, Builds, SameArrays, SameUsed}
@@ -29,7 +29,8 @@ use Rattle.tree_same.proofs.Same.{same-hops, images-same, images-apart}
 -- ---- the same prefixes with the same hops: the same list, marks aside
 
 -- a prefix with its hop is found again in a list that has all of the first one's
-found-again : (rs ss : List Route) → Good rs → Good ss → ((a l h : ℕ) → Has rs a l h → Has ss a l h) → (l q : ℕ) → 0 < hopFor rs l q → hopFor ss l q ≡ hopFor rs l q
+found-again : (rs ss : List Route) → Good rs → Good ss → ((a l h : ℕ) → Has rs a l h → Has ss a l h) → (l q : ℕ) → 0 < hopFor rs l q → hopFor ss l q
+    ≡ hopFor rs l q
 found-again rs ss g k f l q h =
     let w = any-is (here l q) rs (found-any (here l q) rs h) in
     let r = w .0 in
@@ -70,7 +71,7 @@ same-routes rs ss g k = (
 
 -- ---- arrays of equal lengths
 
-module _ (rs ss : List Route) (ws hs vs ws′ hs′ vs′ : List ℕ) (o p : Out) (a : AcceptedBuild rs ws hs vs o) (b : AcceptedBuild ss ws′ hs′ vs′ p)
+module _ (rs ss : List Route) (ws hs vs ws′ hs′ vs′ : List ℕ) (o p : ImageOut) (a : AcceptedBuild rs ws hs vs o) (b : AcceptedBuild ss ws′ hs′ vs′ p)
     (ew : length ws ≡ length ws′) (eh : length hs ≡ length hs′) where
   second : (p .words ≡ imageOf ss (length ws) (length hs) .words) × (p .hops ≡ imageOf ss (length ws) (length hs) .hops)
   second = (
@@ -100,7 +101,8 @@ module _ (s t ws hs ws′ hs′ : List ℕ) (n k n′ k′ : ℕ) (x : Builds s 
   second-is : AcceptedBuild (routesIn t) ws′ hs′ (n′ ∷ k′ ∷ []) (built t ws′ hs′)
   second-is = built-accepts t ws′ hs′ (n′ ∷ k′ ∷ []) (y .said)
 
-  pub one-image : length ws ≡ length ws′ → length hs ≡ length hs′ → SameArrays (built s ws hs) (built t ws′ hs′) ↔ (map plain (routesIn s) ≡ map plain (routesIn t))
+  pub one-image : length ws ≡ length ws′ → length hs ≡ length hs′ → SameArrays (built s ws hs) (built t ws′ hs′) ↔
+      (map plain (routesIn s) ≡ map plain (routesIn t))
   one-image ew eh = arrays-same (routesIn s) (routesIn t) ws hs _ ws′ hs′ _ _ _ first-is second-is ew eh
 
   -- and in the words of the document: the same prefixes with the same hops
@@ -140,7 +142,7 @@ used-apart rs ss g k e f =
     images-apart rs ss w h g k (omega arith) (omega arith) (omega arith) (omega arith) (ap₂ (both-padded w h) e f)
   where
     both-padded : ℕ → ℕ → List ℕ → List ℕ → Image
-    both-padded w h x y = record { words = padded w x; hops = padded h y }
+    both-padded w h x y = record { words = zeroPadded w x; hops = zeroPadded h y }
 
 module _ (s t ws hs ws′ hs′ : List ℕ) (n k n′ k′ : ℕ) (x : Builds s ws hs n k) (y : Builds t ws′ hs′ n′ k′) where
   abbrev rs : List Route
@@ -149,8 +151,9 @@ module _ (s t ws hs ws′ hs′ : List ℕ) (n k n′ k′ : ℕ) (x : Builds s 
   abbrev ss : List Route
   ss = routesIn t
 
-  its-use : (ws₀ hs₀ : List ℕ) (o : Out) (m j : ℕ) (qs : List Route) → AcceptedBuild qs ws₀ hs₀ (m ∷ j ∷ []) o
-      → (m ≡ nodeNeed qs) × (j ≡ length qs) × (take (3 * m) (o .words) ≡ words (nodeStands qs) (hopFor qs)) × (take j (o .hops) ≡ hops (nodeStands qs) (hopFor qs))
+  its-use : (ws₀ hs₀ : List ℕ) (o : ImageOut) (m j : ℕ) (qs : List Route) → AcceptedBuild qs ws₀ hs₀ (m ∷ j ∷ []) o
+      → (m ≡ nodeNeed qs) × (j ≡ length qs) × (take (3 * m) (o .words) ≡ words (nodeStands qs) (hopFor qs)) ×
+      (take j (o .hops) ≡ hops (nodeStands qs) (hopFor qs))
   its-use ws₀ hs₀ o m j qs a =
       let v = a .values in
       let p : m ≡ nodeNeed qs = cc in
@@ -175,7 +178,8 @@ module _ (s t ws hs ws′ hs′ : List ℕ) (n k n′ k′ : ℕ) (x : Builds s 
         (λ e.
             let st = plain-stands rs ss e in
             let p : n ≡ n′ = u .0 ∙ ap (λ (f : ℕ → ℕ → Bool). length (nodes f)) (st .0) ∙ sym (v .0) in
-            let q : k ≡ k′ = u .1 ∙ sym (hops-need rs (a .good-routes)) ∙ ap₂ (λ (f : ℕ → ℕ → Bool) (g : ℕ → ℕ → ℕ). length (hops f g)) (st .0) (st .1) ∙ hops-need ss (b .good-routes) ∙ sym (v .1) in (
+            let q : k ≡ k′ = u .1 ∙ sym (hops-need rs (a .good-routes)) ∙ ap₂ (λ (f : ℕ → ℕ → Bool) (g : ℕ → ℕ → ℕ). length (hops f g)) (st .0)
+            (st .1) ∙ hops-need ss (b .good-routes) ∙ sym (v .1) in (
               p,
               q,
               (

@@ -10,7 +10,7 @@ use lib.ListN.{length}
 use borrow.Author.Tests.{eqb-true, eq-eqb, ne-eqb}
 use Rattle.bits.specs.Slot.{slot}
 use Rattle.bits.proofs.Slots.{slot-lt}
-use Rattle.bits.proofs.Tests.{decided, both, and-split}
+use Rattle.bits.proofs.Bools.{decided, both, and-split}
 use Rattle.routes.specs.Route.{key, plain, Fine, Good}
 use Rattle.routes.specs.declared.Route.{Route}
 use Rattle.routes.proofs.Goods.{good-fine, key-parts}

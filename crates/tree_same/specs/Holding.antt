@@ -3,19 +3,18 @@
 use mathlib.Core.Bool.{Bool, true}
 use mathlib.Core.List.{List}
 use mathlib.Core.Path.{_≡_}
-use Prim.Native.Nat.{ℕ, _+_, _*_, _%_, _^_, _≤_, _<_}
-use lib.Count.{ones}
+use Prim.Native.Nat.{ℕ, _*_, _≤_, _<_}
 use lib.ListN.{length, getD}
-use Rattle.tree.specs.Node.{bitsOf, baseOf}
+use Rattle.tree.specs.Node.{bitsOf}
 use Rattle.tree.specs.Image.{node, inner, bitHop, word}
-use Rattle.tree_same.specs.Read.{reached}
+use Rattle.tree_same.specs.Read.{reached, hopPlaceAt}
 use Rattle.tree_same.specs.Order.{ints, Order, standsAt}
 
 pub record Holding (st : ℕ → ℕ → Bool) (hop : ℕ → ℕ → ℕ) (ws hs : List ℕ) (n : ℕ) : Type 0 where
   pub order : Order ws n
   pub right : (m p : ℕ) → standsAt st m p ≡ true → bitsOf ws (reached ws m p) ≡ word st hop (node m p)
   pub put : (m p b : ℕ) → standsAt st m p ≡ true → b < 15 → inner hop (node m p) b ≡ true
-      → getD hs (baseOf ws (reached ws m p) + ones (bitsOf ws (reached ws m p) % 2 ^ b)) 0 ≡ bitHop hop (node m p) b
+      → getD hs (hopPlaceAt ws (reached ws m p) b) 0 ≡ bitHop hop (node m p) b
   pub room : ints ws n ≤ length hs
   pub rest : (j : ℕ) → 3 * n ≤ j → getD ws j 0 ≡ 0
   pub blank : (j : ℕ) → ints ws n ≤ j → getD hs j 0 ≡ 0

@@ -7,7 +7,7 @@ use Prim.Native.Nat.{ℕ, _*_}
 use lib.ListN.{take}
 use Rattle.routes.specs.Said.{accepted}
 use Rattle.routes.specs.declared.Route.{Route}
-use Rattle.tree_build.specs.Built.{Out, built}
+use Rattle.tree_build.specs.Built.{ImageOut, built}
 
 -- a route of the list has the prefix of address a and length l, and the hop h
 pub record Has (rs : List Route) (a l h : ℕ) : Type 0 where
@@ -26,9 +26,9 @@ pub record Builds (s ws hs : List ℕ) (n k : ℕ) : Type 0 where
   pub said : built s ws hs .said ≡ accepted (n ∷ k ∷ [])
 
 -- equal words and equal hops
-abbrev pub SameArrays : Out → Out → Type 0
+abbrev pub SameArrays : ImageOut → ImageOut → Type 0
 SameArrays o p = (o .words ≡ p .words) × (o .hops ≡ p .hops)
 
 -- equal words of the first n nodes, and the first k hops equal
-abbrev pub SameUsed : ℕ → ℕ → Out → Out → Type 0
+abbrev pub SameUsed : ℕ → ℕ → ImageOut → ImageOut → Type 0
 SameUsed n k o p = (take (3 * n) (o .words) ≡ take (3 * n) (p .words)) × (take k (o .hops) ≡ take k (p .hops))

@@ -18,9 +18,13 @@ unfoldable pub leads : List ℕ → ℕ → ℕ → Bool
 leads ws zero p = eqb p 0
 leads ws (suc m) p = leads ws m (p / 16) && isSet (bitsOf ws (reached ws m (p / 16))) (16 + p % 16)
 
--- the hop at the internal bit b of node i, 0 where the bit is not set
+-- the place of the hop at the internal bit b of node i: the node's hop base and the internal ones below the bit
+abbrev pub hopPlaceAt : List ℕ → ℕ → ℕ → ℕ
+hopPlaceAt ws i b = baseOf ws i + ones (bitsOf ws i % 2 ^ b)
+
+-- that hop, 0 where the bit is not set
 abbrev pub hopAt : List ℕ → List ℕ → ℕ → ℕ → ℕ
-hopAt ws hs i b = cond (isSet (bitsOf ws i) b) (getD hs (baseOf ws i + ones (bitsOf ws i % 2 ^ b)) 0) 0
+hopAt ws hs i b = cond (isSet (bitsOf ws i) b) (getD hs (hopPlaceAt ws i b) 0) 0
 
 -- the path of the node of a route of length l whose bits are q, and its internal bit there
 abbrev pub pathOf : ℕ → ℕ → ℕ

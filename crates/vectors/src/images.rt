@@ -2,8 +2,8 @@
 use crate::samples;
 use tree::TreeFound;
 use tree_build::Built;
-use words::list;
-use words::print;
+use vectors_shared::list;
+use vectors_shared::print;
 
 fn built(answer: Built) {
     print::text(b"image");

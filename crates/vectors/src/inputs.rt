@@ -4,8 +4,8 @@ use routes::Route;
 use routes::input;
 use routes::input::Got;
 use routes::input::Input;
-use words::list;
-use words::print;
+use vectors_shared::list;
+use vectors_shared::print;
 ghost use Prim.Native.Nat.{_≤_};
 ghost use lib.ListN.{length};
 

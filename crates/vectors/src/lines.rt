@@ -1,6 +1,6 @@
 // The text of a list with an attached route, as the printing program has it.
 use crate::samples;
-use words::print;
+use vectors_shared::print;
 
 // List A's needs in the small geometry are 1 and 1.
 pub fn attached() {

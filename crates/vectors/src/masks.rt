@@ -1,5 +1,5 @@
 // Masks of lengths, in hexadecimal.
-use words::print;
+use vectors_shared::print;
 
 // A mask's number, widened for print_hex.
 fn shown(mask: u32) {

@@ -3,8 +3,8 @@ use crate::samples;
 use runs::run;
 use runs::run::RunCheck;
 use runs::tally;
-use words::list;
-use words::print;
+use vectors_shared::list;
+use vectors_shared::print;
 
 fn said(answer: RunCheck) {
     match answer {

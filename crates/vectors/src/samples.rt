@@ -1,7 +1,7 @@
 // Records, inputs of one and two records, and list A with a route attached.
 use routes::Route;
 use routes::record;
-use words::list;
+use vectors_shared::list;
 
 // List A with 10.1.0.0/16 attached: one byte is another.
 pub fn attached_a() -> [u8; 40] {

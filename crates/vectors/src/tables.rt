@@ -3,8 +3,8 @@ use sail::geometry::Geometry;
 use sail::lookup;
 use sail::table::Table;
 use sail_sound::report;
-use words::list;
-use words::table;
+use vectors_shared::list;
+use vectors_shared::table;
 
 // A lookup of 10.1.2.200 and the report.
 fn judge(
@@ -118,14 +118,14 @@ fn standard(count: u32) -> Table {
 // First cell 2561 holds v: 1 where nothing is damaged.
 fn first_cells(v: u16) -> [u16; 65536] {
     let mut first = [32774u16; 65536];
-    plan::paint::fill(&mut first, 2560, 2816, 32788);
+    buffers::fill::fill_range16(&mut first, 2560, 2816, 32788);
     first[2561] = v;
     first
 }
 
 fn second_cells() -> [u16; 1024] {
     let mut second = [0u16; 1024];
-    plan::paint::fill(&mut second, 0, 256, 32799);
+    buffers::fill::fill_range16(&mut second, 0, 256, 32799);
     second[2] = 1;
     second
 }
@@ -133,8 +133,8 @@ fn second_cells() -> [u16; 1024] {
 // Third cell 200, in the chunk in use, holds v; the last cell, in a free chunk, holds w.
 fn third_cells(v: u16, w: u16) -> [u16; 1024] {
     let mut third = [32812u16; 1024];
-    plan::paint::fill(&mut third, 128, 256, 32825);
-    plan::paint::fill(&mut third, 256, 1024, 0);
+    buffers::fill::fill_range16(&mut third, 128, 256, 32825);
+    buffers::fill::fill_range16(&mut third, 256, 1024, 0);
     third[200] = v;
     third[1023] = w;
     third

@@ -1,7 +1,7 @@
 // The worked cases.
 use crate::inputs;
 use crate::say;
-use words::print;
+use vectors_shared::print;
 
 // RFC 3021's link of two hosts, attached: 192.0.2.0/31. Only the older rule takes its upper address.
 pub fn two_hosts() {

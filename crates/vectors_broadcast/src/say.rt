@@ -1,7 +1,7 @@
 // Addresses and answers, as words.
 use broadcast::Cast;
 use broadcast::broadcast;
-use words::print;
+use vectors_shared::print;
 
 // The lowest byte of a number.
 fn part(n: u32) {

@@ -3,7 +3,7 @@ use crate::shown;
 use tree_change::announce;
 use tree_change::withdraw;
 use tree_check::test;
-use words::list;
+use vectors_shared::list;
 
 // Document 01's list A, built over whatever the arrays hold.
 pub fn list_a(words: &mut [u32], hops: &mut [u16]) {

@@ -1,8 +1,8 @@
 // What the calls on an image answer, and what its arrays hold: of each node the bits in hexadecimal, and both bases.
-use tree_change::Announced;
-use tree_change::Withdrawn;
+use tree_change::TreeAnnounced;
+use tree_change::TreeWithdrawn;
 use tree_check::Tested;
-use words::print;
+use vectors_shared::print;
 
 fn sizes(nodes: u32, hops: u32) {
     print::text(b" nodes");
@@ -29,30 +29,30 @@ pub fn tested(answer: Tested) {
     }
 }
 
-pub fn announced(answer: Announced) {
+pub fn announced(answer: TreeAnnounced) {
     print::text(b"announce");
     match answer {
-        Announced::Added(nodes, hops) => {
+        TreeAnnounced::Added(nodes, hops) => {
             print::text(b" added");
             sizes(nodes, hops);
         }
-        Announced::Replaced(nodes, hops) => {
+        TreeAnnounced::Replaced(nodes, hops) => {
             print::text(b" replaced");
             sizes(nodes, hops);
         }
-        Announced::Refused(number) => {
+        TreeAnnounced::Refused(number) => {
             refused(number);
         }
     }
 }
 
-pub fn withdrawn(answer: Withdrawn) {
+pub fn withdrawn(answer: TreeWithdrawn) {
     print::text(b"withdraw");
     match answer {
-        Withdrawn::Removed(nodes, hops) => {
+        TreeWithdrawn::Removed(nodes, hops) => {
             sizes(nodes, hops);
         }
-        Withdrawn::Refused(number) => {
+        TreeWithdrawn::Refused(number) => {
             refused(number);
         }
     }

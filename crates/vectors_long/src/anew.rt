@@ -1,11 +1,11 @@
 // The routes that a run left, loaded into other arrays, and the same lookups made there.
 use crate::course;
-use probes::linear;
-use probes::looks;
 use sail::table::Table;
 use sail_load::load;
 use sail_sound::report;
-use words::table;
+use vectors_probes::linear;
+use vectors_probes::looks;
+use vectors_shared::table;
 
 fn reload(
     t: Table,

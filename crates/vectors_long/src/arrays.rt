@@ -1,6 +1,6 @@
 // A sum over each of the six arrays, every element in its order.
-use probes::draw;
-use words::print;
+use vectors_probes::draw;
+use vectors_shared::print;
 
 fn mix8(sum: u64, v: u8) -> u64 {
     draw::mix(sum, v as u64)

@@ -1,12 +1,12 @@
 // Drawn changes, made one after the other.
 use crate::course;
 use crate::course::Course;
-use probes::draw;
-use probes::draw::Prefix;
-use probes::linear;
-use probes::looks;
 use routes::record;
 use sail::table::Table;
+use vectors_probes::draw;
+use vectors_probes::draw::Prefix;
+use vectors_probes::linear;
+use vectors_probes::looks;
 
 // A change: a route announced, or its prefix withdrawn.
 struct Act {

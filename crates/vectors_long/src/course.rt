@@ -1,12 +1,12 @@
 // Where a long run stands, and what it has counted.
-use probes::draw;
-use probes::looks;
-use probes::looks::Sums;
 use sail::table::Table;
 use sail_announce::answers::Announce;
 use sail_withdraw::answers::Withdraw;
 use std::num;
-use words::print;
+use vectors_probes::draw;
+use vectors_probes::looks;
+use vectors_probes::looks::Sums;
+use vectors_shared::print;
 
 // The state, the next drawn number, the lookups so far, and how often each answer came: a refusal at its number, added,
 // replaced and removed at 11, 12 and 13, and at 14 how often one of these said that bits were cleared.

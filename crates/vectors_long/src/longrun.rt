@@ -7,8 +7,8 @@ use crate::course;
 use crate::course::Course;
 use sail::geometry::Geometry;
 use sail::table::Table;
-use words::print;
-use words::table;
+use vectors_shared::print;
+use vectors_shared::table;
 
 // The table is made, and x is the first number drawn.
 fn start(

@@ -5,9 +5,9 @@ use sail::geometry::Geometry;
 use sail::table::Table;
 use sail_load::load::load;
 use sail_sound::report;
-use words::list;
-use words::print;
-use words::table;
+use vectors_shared::list;
+use vectors_shared::print;
+use vectors_shared::table;
 
 // What is made another: two bytes of the list, a first, a second and a third cell, the owner of the second chunk, and the state.
 // A place that is no place leaves all as it is.

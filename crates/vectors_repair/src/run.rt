@@ -5,7 +5,7 @@ use sail::table::Table;
 use sail_announce::announce;
 use sail_make::make;
 use sail_sound::report;
-use words::table;
+use vectors_shared::table;
 
 // 10.2.2.0/24 comes first and has chunk 1, then 10.1.2.0/24 with chunk 2. A load numbers them the other way: both first cells change
 // their numbers, and both chunks the cell of their route.

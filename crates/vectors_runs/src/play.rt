@@ -7,8 +7,8 @@ use sail::geometry::Geometry;
 use sail::lookup;
 use sail::table::Table;
 use sail_sound::report;
-use words::print;
-use words::table;
+use vectors_shared::print;
+use vectors_shared::table;
 
 fn made(
     s: Step,

@@ -1,7 +1,7 @@
 // What announce and withdraw answer, as words.
 use sail_announce::answers::Announce;
 use sail_withdraw::answers::Withdraw;
-use words::print;
+use vectors_shared::print;
 
 // That bits after the length were cleared.
 fn cleared(c: bool) {

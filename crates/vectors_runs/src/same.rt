@@ -1,34 +1,9 @@
 // Whether what is lent is the table of one route: two sets of the eight arrays compared.
+use buffers::same::same8;
+use buffers::same::same16;
+use buffers::same::same32;
 use routes::Route;
-use words::print;
-
-fn same8(a: &[u8], b: &[u8]) -> bool {
-    if a.len() != b.len() {
-        return false;
-    }
-    let mut i = 0;
-    while i < a.len() {
-        if a[i] != b[i] {
-            return false;
-        }
-        i += 1;
-    }
-    true
-}
-
-fn same32(a: &[u32], b: &[u32]) -> bool {
-    if a.len() != b.len() {
-        return false;
-    }
-    let mut i = 0;
-    while i < a.len() {
-        if a[i] != b[i] {
-            return false;
-        }
-        i += 1;
-    }
-    true
-}
+use vectors_shared::print;
 
 fn told(same: bool) {
     if same {
@@ -53,14 +28,14 @@ fn roots(list: &[u8], first: &[u16]) {
     print::text(b"list");
     told(same8(list, &list0));
     print::text(b" first");
-    told(plan::part::matches_all(first, &first0));
+    told(same16(first, &first0));
     print::end();
 }
 
 // A pool and its owners.
 fn pool(cells: &[u16], own: &[u32], cells0: &[u16], own0: &[u32]) {
     print::text(b"pool");
-    told(plan::part::matches_all(cells, cells0));
+    told(same16(cells, cells0));
     print::text(b" owners");
     told(same32(own, own0));
     print::end();
@@ -72,8 +47,8 @@ fn counts(long1: &[u16], long2: &[u16]) {
     one[2561] = 1;
     let none = [0u16; 256];
     print::text(b"counts");
-    told(plan::part::matches_all(long1, &one));
-    told(plan::part::matches_all(long2, &none));
+    told(same16(long1, &one));
+    told(same16(long2, &none));
     print::end();
 }
 

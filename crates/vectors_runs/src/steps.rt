@@ -1,7 +1,7 @@
 // The documents' examples of announce and withdraw, as scripts: steps that are played one after the other on a table.
 ghost use Prim.Native.Nat.{_<_};
 use routes::record;
-use words::list;
+use vectors_shared::list;
 
 // A step: a call; another state (its second level and its count); a lookup or the report; a record of the list; a first or a
 // second cell, and the owner of the first chunk of the pool below it; whether the table is that of 10.1.2.0/24 alone; or nothing.

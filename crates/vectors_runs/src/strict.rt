@@ -3,7 +3,7 @@ use routes::Route;
 use routes::record;
 use sail::geometry::Geometry;
 use sail::table::Table;
-use words::table;
+use vectors_shared::table;
 
 pub fn load() {
     let mut input = [0u8; 8];

@@ -1,7 +1,7 @@
 // List A beside a list that differs from it in one record, both built into arrays of equal sizes.
 use crate::compare;
-use words::list;
-use words::print;
+use vectors_shared::list;
+use vectors_shared::print;
 
 fn beside(other: &[u8]) {
     let mut ws = [9u32; 24];

@@ -1,41 +1,23 @@
 // Arrays compared cell by cell, and what is printed of it: the cells in which they differ, or that they are the same.
-use words::print;
+use buffers::same::same16;
+use buffers::same::same32;
+use vectors_shared::print;
 
 // Whether the list begins with the others.
 pub fn words_begin(list: &[u32], others: &[u32]) -> bool {
-    if list.len() < others.len() {
+    let n = others.len();
+    if list.len() < n {
         return false;
     }
-    let mut i = 0;
-    while i < others.len() {
-        if list[i] != others[i] {
-            return false;
-        }
-        i += 1;
-    }
-    true
+    same32(&list[..n], others)
 }
 
 pub fn hops_begin(list: &[u16], others: &[u16]) -> bool {
-    if list.len() < others.len() {
+    let n = others.len();
+    if list.len() < n {
         return false;
     }
-    let mut i = 0;
-    while i < others.len() {
-        if list[i] != others[i] {
-            return false;
-        }
-        i += 1;
-    }
-    true
-}
-
-pub fn same_words(list: &[u32], others: &[u32]) -> bool {
-    list.len() == others.len() && words_begin(list, others)
-}
-
-pub fn same_hops(list: &[u16], others: &[u16]) -> bool {
-    list.len() == others.len() && hops_begin(list, others)
+    same16(&list[..n], others)
 }
 
 pub fn told(same: bool) {
@@ -48,13 +30,13 @@ pub fn told(same: bool) {
 
 pub fn words(list: &[u32], others: &[u32]) {
     print::text(b" words");
-    told(same_words(list, others));
+    told(same32(list, others));
 }
 
 // The hops, and each cell of them that differs.
 pub fn hops(list: &[u16], others: &[u16]) {
     print::text(b" hops");
-    told(same_hops(list, others));
+    told(same16(list, others));
     let n = others.len();
     let mut i = 0;
     while i < list.len() {

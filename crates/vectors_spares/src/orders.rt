@@ -1,9 +1,11 @@
 // List A by build, and by its five announcements on the empty image in each of the 120 orders; and with a route more that is withdrawn again.
 use crate::compare;
+use buffers::same::same16;
+use buffers::same::same32;
 use tree_change::announce;
 use tree_change::withdraw;
-use words::list;
-use words::print;
+use vectors_shared::list;
+use vectors_shared::print;
 ghost use Prim.Native.Nat.{_≤_};
 
 // One of list A's routes.
@@ -69,8 +71,8 @@ fn gives(words: &[u32], hops: &[u16], n: u32) -> bool {
     let mut ws = [7u32; 21];
     let mut hs = [7u16; 5];
     announced(&mut ws, &mut hs, n);
-    if compare::same_words(&ws, words) {
-        return compare::same_hops(&hs, hops);
+    if same32(&ws, words) {
+        return same16(&hs, hops);
     }
     false
 }

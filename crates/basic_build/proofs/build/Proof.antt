@@ -1,6 +1,6 @@
 -- One law for each arm of the check.
 use Rattle.basic.proofs.Checks.{good-told}
-use Rattle.basic_build.proofs.Answers.{built-good, built-refused, built-number}
+use Rattle.basic_build.proofs.BuildReturns.{built-good, built-refused, built-number}
 use borrow.Author.Needs.{needs}
 use Rattle.basic_build.proofs.build.Statement.{statement}
 use Rattle.basic_build.proofs.build.Tie as tie
@@ -11,8 +11,8 @@ check-requires c κs = search needs
 enum-known-n : tie.Need-enum-known-n
 enum-known-n c = search needs
 
-fill-requires : tie.Need-fill-requires
-fill-requires c κs = good-told _ _ _ _ (c .before .before .before .before .before .check .ensures) _ (c .before .before .before .n .given .1)
+fill-maps-requires : tie.Need-fill-maps-requires
+fill-maps-requires c κs = good-told _ _ _ _ (c .before .before .before .before .before .check .ensures) _ (c .before .before .before .n .given .1)
 
 enum-known-f : tie.Need-enum-known-f
 enum-known-f c = search needs
@@ -41,7 +41,7 @@ build-spec =
     (tie.spec
     check-requires
     enum-known-n
-    fill-requires
+    fill-maps-requires
     enum-known-f
     enum-known-f-2
     same-length

@@ -2,7 +2,7 @@
 use mathlib.Core.Path.{_≡_}
 use mathlib.Core.Bool.{Bool}
 use Prim.Native.Nat.{ℕ, _+_, _-_, _*_, _≤_, _<_}
-use Rattle.bits.specs.Bit.{packed}
+use Rattle.bits.specs.Bit.{packedBits}
 use Rattle.basic.specs.Maps.{hopThere}
 use Rattle.basic_build.proofs.Fills.{byte-none, byte-more, byte-small, byte-whole}
 use borrow.Author.Needs.{needs}
@@ -11,7 +11,7 @@ use Rattle.basic_build.proofs.byte_of.Statement.{statement}
 use Rattle.basic_build.proofs.byte_of.Tie as tie
 
 abbrev Inv-loop : tie.InvT-loop
-Inv-loop cells j byte₀ b₀ byte b = (b ≤ 8) × (byte ≡ packed (λ k. hopThere cells (8 * j + k)) b) × (byte < 256)
+Inv-loop cells j byte₀ b₀ byte b = (b ≤ 8) × (byte ≡ packedBits (λ k. hopThere cells (8 * j + k)) b) × (byte < 256)
 
 abbrev μ-loop : tie.MeasureT-loop
 μ-loop cells j byte₀ b₀ byte b = 8 - b

@@ -4,11 +4,11 @@ use borrow.Author.Needs.{needs}
 use Rattle.basic_build.proofs.put.Statement.{statement}
 use Rattle.basic_build.proofs.put.Tie as tie
 
-wide-requires : tie.Need-wide-requires
-wide-requires c κs = search needs
+byte-to-word-requires : tie.Need-byte-to-word-requires
+byte-to-word-requires c κs = search needs
 
-place-requires : tie.Need-place-requires
-place-requires c κs = search needs
+map-place-requires : tie.Need-map-place-requires
+map-place-requires c κs = search needs
 
 mul-cells : tie.Need-mul-cells
 mul-cells c = search needs
@@ -29,8 +29,8 @@ pub put-spec : {M : Type 1} → statement M
 put-spec =
     tie.close
     (tie.spec
-    wide-requires
-    place-requires
+    byte-to-word-requires
+    map-place-requires
     mul-cells
     slice-write-cells
     same-length

@@ -2,7 +2,7 @@
 use mathlib.Core.Path.{_≡_}
 use Prim.Native.Nat.{ℕ, _+_, _-_, _*_, _<_}
 use lib.ListN.{length, getD, length-set}
-use Rattle.bits.specs.Bit.{packed}
+use Rattle.bits.specs.Bit.{packedBits}
 use Rattle.bits.proofs.Tabs.{stored-more}
 use Rattle.basic.specs.Maps.{hopThere}
 use Rattle.basic_build.proofs.Fills.{bytes-all}
@@ -11,7 +11,7 @@ use Rattle.basic_build.proofs.put_bits.Statement.{statement}
 use Rattle.basic_build.proofs.put_bits.Tie as tie
 
 abbrev Inv-loop : tie.InvT-loop
-Inv-loop bits₀ cells j₀ bits j = (length bits ≡ 16384) × ((i : ℕ) → i < j → getD bits i 0 ≡ packed (λ b. hopThere cells (8 * i + b)) 8)
+Inv-loop bits₀ cells j₀ bits j = (length bits ≡ 16384) × ((i : ℕ) → i < j → getD bits i 0 ≡ packedBits (λ b. hopThere cells (8 * i + b)) 8)
 
 abbrev μ-loop : tie.MeasureT-loop
 μ-loop bits₀ cells j₀ bits j = 16384 - j
@@ -35,7 +35,7 @@ loop-again : tie.Need-loop-again Inv-loop μ-loop
 loop-again c =
     let at-loop = c .before .before .loop in
     let cells = c .before .before .before .before .before .args .cells .now in
-    let byte : ℕ → ℕ = λ i. packed (λ b. hopThere cells (8 * i + b)) 8 in
+    let byte : ℕ → ℕ = λ i. packedBits (λ b. hopThere cells (8 * i + b)) 8 in
     let done = stored-more byte (at-loop .bits) (at-loop .j) _ (omega (arith, at-loop .inv .0)) (at-loop .inv .1) (c .byte-of .ensures) in
     (simp length-set (at-loop .inv .0), done)
 

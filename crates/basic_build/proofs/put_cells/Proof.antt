@@ -11,11 +11,11 @@ Inv-loop list n cells₀ k₀ cells k = (k ≤ n) × PutTo list k cells
 abbrev μ-loop : tie.MeasureT-loop
 μ-loop list n cells₀ k₀ cells k = n - k
 
-clear-requires : tie.Need-clear-requires Inv-loop μ-loop
-clear-requires c κs = tt
+fill16-requires : tie.Need-fill16-requires Inv-loop μ-loop
+fill16-requires c κs = tt
 
 loop-holds : tie.Need-loop-holds Inv-loop μ-loop
-loop-holds c = (omega arith, put-none _ _ _ (c .before .before .clear .ensures) (c .before .before .before .before .before .before .pre .1))
+loop-holds c = (omega arith, put-none _ _ _ (c .before .before .fill16 .ensures) (c .before .before .before .before .before .before .pre .1))
 
 read-record-requires : tie.Need-read-record-requires Inv-loop μ-loop
 read-record-requires c κs = omega (arith, c .before .before .before .before .before .before .before .before .before .pre .0 .room)
@@ -50,7 +50,7 @@ put-cells-spec =
     (tie.spec
     Inv-loop
     μ-loop
-    clear-requires
+    fill16-requires
     loop-holds
     read-record-requires
     put-requires

@@ -1,4 +1,4 @@
--- `bits::is_set` meets its contract. Assumes nothing.
+-- `bits::is_set`. Whether a bit of a word is set.
 use mathlib.Core.Path.{ap}
 use Prim.Native.Nat.{ℕ}
 use lib.Dec.{eqb}

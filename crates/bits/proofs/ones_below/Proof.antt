@@ -1,6 +1,5 @@
--- `bits::ones_below` meets its contract. Assumes nothing.
-use mathlib.Core.Path.{_≡_, ap}
-use Prim.Native.Nat.{ℕ, _%_, _^_}
+-- `bits::ones_below`. How many bits of a word below a bit are set.
+use mathlib.Core.Path.{ap}
 use native.Mathlib.Omega.{arith}
 use lib.Count.{ones}
 use lib.Pow.{pow-pos}

@@ -1,4 +1,4 @@
--- `bits::slot` meets its contract. Assumes nothing.
+-- `bits::slot`. The first p bits of an address, as a number.
 use mathlib.Core.Path.{sym}
 use borrow.Author.Needs.{needs}
 use Rattle.bits.proofs.Slots.{slot-zero}

@@ -1,5 +1,5 @@
 -- `broadcast::broadcast`: one law for each arm.
-use Rattle.broadcast.proofs.Answers.{says-no-version, says-yes, says-no, says-refused, says-many, input-told}
+use Rattle.broadcast.proofs.BroadcastReturns.{says-no-version, says-yes, says-no, says-refused, says-many, input-told}
 use borrow.Author.Needs.{needs}
 use Rattle.broadcast.proofs.broadcast.Statement.{statement}
 use Rattle.broadcast.proofs.broadcast.Tie as tie

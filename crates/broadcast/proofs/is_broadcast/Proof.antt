@@ -1,5 +1,5 @@
 -- `broadcast::is_broadcast`: one law for each answer, over the longest record that covers the address.
-use Rattle.broadcast.proofs.Answers.{no-cover, not-attached, too-long, its-prefix, ends-there}
+use Rattle.broadcast.proofs.BroadcastReturns.{no-cover, not-attached, too-long, its-prefix, ends-there}
 use borrow.Author.Needs.{needs}
 use Rattle.broadcast.proofs.is_broadcast.Statement.{statement}
 use Rattle.broadcast.proofs.is_broadcast.Tie as tie
@@ -22,8 +22,8 @@ returns-2 c = search not-attached
 last-len-requires : tie.Need-last-len-requires
 last-len-requires c κs = search needs
 
-wide-requires : tie.Need-wide-requires
-wide-requires c κs = search needs
+byte-to-word-requires : tie.Need-byte-to-word-requires
+byte-to-word-requires c κs = search needs
 
 returns-3 : tie.Need-returns-3
 returns-3 c = search too-long
@@ -44,7 +44,7 @@ is-broadcast-spec =
     read-record-requires
     returns-2
     last-len-requires
-    wide-requires
+    byte-to-word-requires
     returns-3
     highest-requires
     returns-4)

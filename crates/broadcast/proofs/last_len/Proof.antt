@@ -1,5 +1,5 @@
 -- `broadcast::last_len`: one law for each rule.
-use Rattle.broadcast.proofs.Answers.{last-1, last-2}
+use Rattle.broadcast.proofs.BroadcastReturns.{last-1, last-2}
 use Rattle.broadcast.proofs.last_len.Statement.{statement}
 use Rattle.broadcast.proofs.last_len.Tie as tie
 

@@ -1,5 +1,5 @@
 -- `broadcast::version_ok`: one law for each answer.
-use Rattle.broadcast.proofs.Answers.{version-1, version-2}
+use Rattle.broadcast.proofs.BroadcastReturns.{version-1, version-2}
 use Rattle.broadcast.proofs.version_ok.Statement.{statement}
 use Rattle.broadcast.proofs.version_ok.Tie as tie
 

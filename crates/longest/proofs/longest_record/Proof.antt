@@ -31,8 +31,8 @@ sub-read-record c = search needs
 read-record-requires : tie.Need-read-record-requires Inv-loop μ-loop
 read-record-requires c κs = omega (arith, c .before .before .before .before .before .pre .room)
 
-wide-requires : tie.Need-wide-requires Inv-loop μ-loop
-wide-requires c κs = search needs
+byte-to-word-requires : tie.Need-byte-to-word-requires Inv-loop μ-loop
+byte-to-word-requires c κs = search needs
 
 shared-requires : tie.Need-shared-requires Inv-loop μ-loop
 shared-requires c κs = search needs
@@ -70,7 +70,7 @@ longest-record-spec =
     returns
     sub-read-record
     read-record-requires
-    wide-requires
+    byte-to-word-requires
     shared-requires
     returns-2
     returns-3

@@ -1,6 +1,6 @@
 -- The place after the key of the first bits is the number of records up to them.
 use borrow.Author.Needs.{needs}
-use Rattle.longest.proofs.Steps.{counted}
+use Rattle.longest.proofs.Steps.{records-to-is}
 use Rattle.longest.proofs.records_to.Statement.{statement}
 use Rattle.longest.proofs.records_to.Tie as tie
 
@@ -20,7 +20,7 @@ place-requires : tie.Need-place-requires
 place-requires c κs = search needs
 
 returns : tie.Need-returns
-returns c = (search counted, c .place .ensures .1)
+returns c = (search records-to-is, c .place .ensures .1)
 
 pub records-to-spec : {M : Type 1} → statement M
 records-to-spec =

@@ -1,7 +1,7 @@
--- `packing::built` meets its contract. Assumes nothing.
+-- `packing::built`. Each answer of build has its word.
 use mathlib.Core.Path.{ap}
 use native.Mathlib.Omega.{arith}
-use Rattle.tree_build.specs.Built.{saysBuilt}
+use Rattle.tree_build.specs.Built.{meansBuilt}
 use Rattle.tree_build.specs.declared.Built.{Built}
 use Rattle.sail.specs.Word.{packed}
 use Rattle.packing.specs.Pack.{packBuilt}
@@ -10,7 +10,7 @@ use Rattle.packing.proofs.built.Statement.{statement}
 use Rattle.packing.proofs.built.Tie as tie
 
 pub built-spec : {M : Type 1} → statement M
-unfolding saysBuilt packed
+unfolding meansBuilt packed
 built-spec =
     tie.close
     (tie.spec
@@ -25,6 +25,6 @@ built-spec =
     (λ c κs. search needs)
     (λ c. search needs)
     (λ c κs. search needs)
-    (λ c. omega (arith, ap (λ (x : Built). packBuilt (saysBuilt x)) (c .before .before .before .before .a .given .1)))
-    (λ c. omega (arith, ap (λ (x : Built). packBuilt (saysBuilt x)) (c .before .before .a2 .given .1)))
-    (λ c. omega (arith, ap (λ (x : Built). packBuilt (saysBuilt x)) (c .before .before .a3 .given .1))))
+    (λ c. omega (arith, ap (λ (x : Built). packBuilt (meansBuilt x)) (c .before .before .before .before .a .given .1)))
+    (λ c. omega (arith, ap (λ (x : Built). packBuilt (meansBuilt x)) (c .before .before .a2 .given .1)))
+    (λ c. omega (arith, ap (λ (x : Built). packBuilt (meansBuilt x)) (c .before .before .a3 .given .1))))

@@ -1,7 +1,7 @@
 -- `packing::got`: the four numbers of a route have room, and stand where the layout has them.
 use mathlib.Core.Path.{ap}
 use native.Mathlib.Omega.{arith}
-use Rattle.routes.specs.Answers.{saysGot}
+use Rattle.routes.specs.Answers.{meansGot}
 use Rattle.routes.specs.declared.input.Got.{Got}
 use Rattle.sail.specs.Word.{packed}
 use Rattle.packing.specs.Pack.{packRoute}
@@ -11,7 +11,7 @@ use Rattle.packing.proofs.got.Statement.{statement}
 use Rattle.packing.proofs.got.Tie as tie
 
 pub got-spec : {M : Type 1} → statement M
-unfolding saysGot packed
+unfolding meansGot packed
 got-spec =
     tie.close
     (tie.spec
@@ -31,7 +31,8 @@ got-spec =
     (λ c. search needs)
     (λ c κs. search needs)
     (λ c. search needs)
-    (λ c. route-packs _ _ _ _ _ _ (c .before .before .before .before .before .a .given .1) (c .before .before .before .byte .ensures .0) (c .before .before .byte2 .ensures .0) (c .before .half .ensures .0) (c .word .ensures .0))
-    (λ c. omega (arith, ap (λ (x : Got). packRoute (saysGot x)) (c .enum-told .given .1)))
-    (λ c. omega (arith, ap (λ (x : Got). packRoute (saysGot x)) (c .before .before .a2 .given .1)))
-    (λ c. omega (arith, ap (λ (x : Got). packRoute (saysGot x)) (c .enum-told2 .given .1))))
+    (λ c. route-packs _ _ _ _ _ _ (c .before .before .before .before .before .a .given .1) (c .before .before .before .byte-to-long .ensures .0)
+    (c .before .before .byte-to-long2 .ensures .0) (c .before .half-to-long .ensures .0) (c .word-to-long .ensures .0))
+    (λ c. omega (arith, ap (λ (x : Got). packRoute (meansGot x)) (c .enum-told .given .1)))
+    (λ c. omega (arith, ap (λ (x : Got). packRoute (meansGot x)) (c .before .before .a2 .given .1)))
+    (λ c. omega (arith, ap (λ (x : Got). packRoute (meansGot x)) (c .enum-told2 .given .1))))

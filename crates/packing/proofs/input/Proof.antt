@@ -1,7 +1,7 @@
--- `packing::input` meets its contract. Assumes nothing.
+-- `packing::input`. Each answer of the input check has its word.
 use mathlib.Core.Path.{ap}
 use native.Mathlib.Omega.{arith}
-use Rattle.routes.specs.Answers.{saysInput}
+use Rattle.routes.specs.Answers.{meansInput}
 use Rattle.routes.specs.declared.input.Input.{Input}
 use Rattle.sail.specs.Word.{packed}
 use Rattle.packing.specs.Pack.{packNone}
@@ -10,7 +10,7 @@ use Rattle.packing.proofs.input.Statement.{statement}
 use Rattle.packing.proofs.input.Tie as tie
 
 pub input-spec : {M : Type 1} → statement M
-unfolding saysInput packed
+unfolding meansInput packed
 input-spec =
     tie.close
     (tie.spec
@@ -18,6 +18,6 @@ input-spec =
     (λ c. search needs)
     (λ c κs. search needs)
     (λ c. search needs)
-    (λ c. omega (arith, ap (λ (x : Input). packNone (saysInput x)) (c .enum-told .given .1)))
-    (λ c. omega (arith, ap (λ (x : Input). packNone (saysInput x)) (c .before .before .a .given .1)))
-    (λ c. omega (arith, ap (λ (x : Input). packNone (saysInput x)) (c .enum-told2 .given .1))))
+    (λ c. omega (arith, ap (λ (x : Input). packNone (meansInput x)) (c .enum-told .given .1)))
+    (λ c. omega (arith, ap (λ (x : Input). packNone (meansInput x)) (c .before .before .a .given .1)))
+    (λ c. omega (arith, ap (λ (x : Input). packNone (meansInput x)) (c .enum-told2 .given .1))))

@@ -1,7 +1,7 @@
--- `packing::loaded` meets its contract. Assumes nothing.
+-- `packing::loaded`. Each answer of load has its word.
 use mathlib.Core.Path.{ap}
 use native.Mathlib.Omega.{arith}
-use Rattle.sail_load.specs.Answers.{saysLoaded}
+use Rattle.sail_load.specs.Answers.{meansLoaded}
 use Rattle.sail_load.specs.declared.load.Loaded.{Loaded}
 use Rattle.sail.specs.Word.{packed}
 use Rattle.packing.specs.Pack.{packChange}
@@ -10,7 +10,7 @@ use Rattle.packing.proofs.loaded.Statement.{statement}
 use Rattle.packing.proofs.loaded.Tie as tie
 
 pub loaded-spec : {M : Type 1} → statement M
-unfolding saysLoaded packed
+unfolding meansLoaded packed
 loaded-spec =
     tie.close
     (tie.spec
@@ -20,6 +20,6 @@ loaded-spec =
     (λ c κs. search needs)
     (λ c. search needs)
     (λ c κs. search needs)
-    (λ c. omega (arith, ap (λ (x : Loaded). packChange (c .before .before .before .args .count) (saysLoaded x)) (c .before .enum-told .given .1)))
-    (λ c. omega (arith, ap (λ (x : Loaded). packChange (c .before .before .before .before .args .count) (saysLoaded x)) (c .before .before .a .given .1)))
-    (λ c. omega (arith, ap (λ (x : Loaded). packChange (c .before .before .before .before .args .count) (saysLoaded x)) (c .before .before .a2 .given .1))))
+    (λ c. omega (arith, ap (λ (x : Loaded). packChange (c .before .before .before .args .count) (meansLoaded x)) (c .before .enum-told .given .1)))
+    (λ c. omega (arith, ap (λ (x : Loaded). packChange (c .before .before .before .before .args .count) (meansLoaded x)) (c .before .before .a .given .1)))
+    (λ c. omega (arith, ap (λ (x : Loaded). packChange (c .before .before .before .before .args .count) (meansLoaded x)) (c .before .before .a2 .given .1))))

@@ -1,7 +1,7 @@
--- `packing::made` meets its contract. Assumes nothing.
+-- `packing::made`. Each answer of make has its word.
 use mathlib.Core.Path.{ap}
 use native.Mathlib.Omega.{arith}
-use Rattle.sail_make.specs.Answers.{saysMade}
+use Rattle.sail_make.specs.Answers.{meansMade}
 use Rattle.sail_make.specs.declared.Made.{Made}
 use Rattle.sail.specs.Word.{packed}
 use Rattle.packing.specs.Pack.{packChange}
@@ -10,7 +10,7 @@ use Rattle.packing.proofs.made.Statement.{statement}
 use Rattle.packing.proofs.made.Tie as tie
 
 pub made-spec : {M : Type 1} → statement M
-unfolding saysMade packed
+unfolding meansMade packed
 made-spec =
     tie.close
     (tie.spec
@@ -18,5 +18,5 @@ made-spec =
     (λ c κs. search needs)
     (λ c. search needs)
     (λ c κs. search needs)
-    (λ c. omega (arith, ap (λ (x : Made). packChange (c .before .before .before .args .count) (saysMade x)) (c .before .enum-told .given .1)))
-    (λ c. omega (arith, ap (λ (x : Made). packChange (c .before .before .before .before .args .count) (saysMade x)) (c .before .before .a .given .1))))
+    (λ c. omega (arith, ap (λ (x : Made). packChange (c .before .before .before .args .count) (meansMade x)) (c .before .enum-told .given .1)))
+    (λ c. omega (arith, ap (λ (x : Made). packChange (c .before .before .before .before .args .count) (meansMade x)) (c .before .before .a .given .1))))

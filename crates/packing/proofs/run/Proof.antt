@@ -1,7 +1,7 @@
--- `packing::run` meets its contract. Assumes nothing.
+-- `packing::run`. Each answer of a run has its word.
 use mathlib.Core.Path.{ap}
 use native.Mathlib.Omega.{arith}
-use Rattle.runs.specs.Run.{saysRunCheck}
+use Rattle.runs.specs.Run.{meansRunCheck}
 use Rattle.runs.specs.declared.run.RunCheck.{RunCheck}
 use Rattle.sail.specs.Word.{packed}
 use Rattle.packing.specs.Pack.{packRun}
@@ -10,7 +10,7 @@ use Rattle.packing.proofs.run.Statement.{statement}
 use Rattle.packing.proofs.run.Tie as tie
 
 pub run-spec : {M : Type 1} → statement M
-unfolding saysRunCheck packed
+unfolding meansRunCheck packed
 run-spec =
     tie.close
     (tie.spec
@@ -24,7 +24,7 @@ run-spec =
     (λ c κs. search needs)
     (λ c. search needs)
     (λ c. search needs)
-    (λ c. omega (arith, ap (λ (x : RunCheck). packRun (saysRunCheck x)) (c .before .before .before .a .given .1)))
-    (λ c. omega (arith, ap (λ (x : RunCheck). packRun (saysRunCheck x)) (c .before .before .a2 .given .1)))
-    (λ c. omega (arith, ap (λ (x : RunCheck). packRun (saysRunCheck x)) (c .enum-told .given .1)))
-    (λ c. omega (arith, ap (λ (x : RunCheck). packRun (saysRunCheck x)) (c .enum-told2 .given .1))))
+    (λ c. omega (arith, ap (λ (x : RunCheck). packRun (meansRunCheck x)) (c .before .before .before .a .given .1)))
+    (λ c. omega (arith, ap (λ (x : RunCheck). packRun (meansRunCheck x)) (c .before .before .a2 .given .1)))
+    (λ c. omega (arith, ap (λ (x : RunCheck). packRun (meansRunCheck x)) (c .enum-told .given .1)))
+    (λ c. omega (arith, ap (λ (x : RunCheck). packRun (meansRunCheck x)) (c .enum-told2 .given .1))))

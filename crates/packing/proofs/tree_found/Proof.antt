@@ -1,7 +1,7 @@
--- `packing::tree_found` meets its contract. Assumes nothing.
+-- `packing::tree_found`. Each answer of an image lookup has its word.
 use mathlib.Core.Path.{ap}
 use native.Mathlib.Omega.{arith}
-use Rattle.tree.specs.Walk.{saysTreeFound}
+use Rattle.tree.specs.Walk.{meansTreeFound}
 use Rattle.tree.specs.declared.TreeFound.{TreeFound}
 use Rattle.sail.specs.Word.{packFound, packed}
 use borrow.Author.Needs.{needs}
@@ -9,7 +9,7 @@ use Rattle.packing.proofs.tree_found.Statement.{statement}
 use Rattle.packing.proofs.tree_found.Tie as tie
 
 pub tree-found-spec : {M : Type 1} → statement M
-unfolding saysTreeFound packed
+unfolding meansTreeFound packed
 tree-found-spec =
     tie.close
     (tie.spec
@@ -23,6 +23,6 @@ tree-found-spec =
     (λ c κs. search needs)
     (λ c. search needs)
     (λ c. search needs)
-    (λ c. omega (arith, ap (λ (x : TreeFound). packFound (saysTreeFound x)) (c .before .before .before .f .given .1)))
-    (λ c. omega (arith, ap (λ (x : TreeFound). packFound (saysTreeFound x)) (c .before .before .f2 .given .1)))
-    (λ c. omega (arith, ap (λ (x : TreeFound). packFound (saysTreeFound x)) (c .enum-told .given .1))))
+    (λ c. omega (arith, ap (λ (x : TreeFound). packFound (meansTreeFound x)) (c .before .before .before .f .given .1)))
+    (λ c. omega (arith, ap (λ (x : TreeFound). packFound (meansTreeFound x)) (c .before .before .f2 .given .1)))
+    (λ c. omega (arith, ap (λ (x : TreeFound). packFound (meansTreeFound x)) (c .enum-told .given .1))))

@@ -9,7 +9,7 @@ returns : tie.Need-returns
 returns c =
     let judged = c .before in
     let clear = judged .before .before .before .before .before .before .before .before .before in
-    announce-refused _ _ _ _ _ _ _ (clear .clear .ensures) _ (judged .judge-announce .ensures) (c .if1 .taken)
+    announce-refused _ _ _ _ _ _ _ (clear .clear-after .ensures) _ (judged .judge-announce .ensures) (c .if1 .taken)
 
 add-requires : tie.Need-add-requires
 add-requires c κs =
@@ -19,8 +19,9 @@ add-requires c κs =
 returns-2 : tie.Need-returns-2
 returns-2 c =
     let added = c .before .before .before .before .before .before .before .before .before .before .before .before .before .before .before .before in
-    let clear = added .before .before .before .before .before .before .before .before .before .before .before .before .before .before .before .before .before .before .before in
-    announce-cleared _ _ _ _ _ _ _ (clear .clear .ensures) _ refl _ (added .add .ensures)
+    let clear = added .before .before .before .before .before .before .before .before .before .before .before .before .before .before .before .before
+    .before .before .before in
+    announce-cleared _ _ _ _ _ _ _ (clear .clear-after .ensures) _ refl _ (added .add .ensures)
 
 pub announce-spec : {M : Type 1} → statement M
 announce-spec =
@@ -40,10 +41,16 @@ announce-spec =
     add-requires
     (λ c. c .before .before .before .before .before .before .before .before .before .before .before .before .before .before .before .before .add .kept .1 .0)
     (λ c. c .before .before .before .before .before .before .before .before .before .before .before .before .before .before .before .before .add .kept .1 .1 .0)
-    (λ c. c .before .before .before .before .before .before .before .before .before .before .before .before .before .before .before .before .add .kept .1 .1 .1 .0)
-    (λ c. c .before .before .before .before .before .before .before .before .before .before .before .before .before .before .before .before .add .kept .1 .1 .1 .1 .0)
-    (λ c. c .before .before .before .before .before .before .before .before .before .before .before .before .before .before .before .before .add .kept .1 .1 .1 .1 .1 .0)
-    (λ c. c .before .before .before .before .before .before .before .before .before .before .before .before .before .before .before .before .add .kept .1 .1 .1 .1 .1 .1 .0)
-    (λ c. c .before .before .before .before .before .before .before .before .before .before .before .before .before .before .before .before .add .kept .1 .1 .1 .1 .1 .1 .1 .0)
-    (λ c. c .before .before .before .before .before .before .before .before .before .before .before .before .before .before .before .before .add .kept .1 .1 .1 .1 .1 .1 .1 .1 .0)
+    (λ c. c .before .before .before .before .before .before .before .before .before .before .before .before .before .before .before .before .add
+    .kept .1 .1 .1 .0)
+    (λ c. c .before .before .before .before .before .before .before .before .before .before .before .before .before .before .before .before .add
+    .kept .1 .1 .1 .1 .0)
+    (λ c. c .before .before .before .before .before .before .before .before .before .before .before .before .before .before .before .before .add
+    .kept .1 .1 .1 .1 .1 .0)
+    (λ c. c .before .before .before .before .before .before .before .before .before .before .before .before .before .before .before .before .add
+    .kept .1 .1 .1 .1 .1 .1 .0)
+    (λ c. c .before .before .before .before .before .before .before .before .before .before .before .before .before .before .before .before .add
+    .kept .1 .1 .1 .1 .1 .1 .1 .0)
+    (λ c. c .before .before .before .before .before .before .before .before .before .before .before .before .before .before .before .before .add
+    .kept .1 .1 .1 .1 .1 .1 .1 .1 .0)
     returns-2)

@@ -1,13 +1,13 @@
--- `sail_announce::answer_of` meets its contract. Assumes nothing.
+-- `sail_announce::answer_of`. What putting a route into the list answers for the table, where bits were cleared or not.
 use mathlib.Core.Path.{refl}
-use Rattle.lists.specs.Edit.{saysPut}
-use Rattle.sail_announce.specs.Answers.{saysAnnounce}
+use Rattle.lists.specs.Edit.{meansPut}
+use Rattle.sail_announce.specs.Answers.{meansAnnounce}
 use borrow.Author.Needs.{needs}
 use Rattle.sail_announce.proofs.answer_of.Statement.{statement}
 use Rattle.sail_announce.proofs.answer_of.Tie as tie
 
 pub answer-of-spec : {M : Type 1} → statement M
-unfolding saysPut saysAnnounce
+unfolding meansPut meansAnnounce
 answer-of-spec =
     tie.close
     (tie.spec

@@ -1,12 +1,12 @@
--- `sail_announce::count_with` meets its contract. Assumes nothing.
+-- `sail_announce::count_with`. How many routes stand after one was put into n.
 use mathlib.Core.Path.{refl}
-use Rattle.lists.specs.Edit.{saysPut}
+use Rattle.lists.specs.Edit.{meansPut}
 use borrow.Author.Needs.{needs}
 use Rattle.sail_announce.proofs.count_with.Statement.{statement}
 use Rattle.sail_announce.proofs.count_with.Tie as tie
 
 pub count-with-spec : {M : Type 1} → statement M
-unfolding saysPut
+unfolding meansPut
 count-with-spec =
     tie.close
     (tie.spec

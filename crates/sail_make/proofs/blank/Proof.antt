@@ -1,6 +1,5 @@
 -- `sail_make::blank`: the arrays are written one after the other.
-use borrow.Author.Needs.{needs}
-use Rattle.sail_make.proofs.Makes.{blanked}
+use Rattle.sail_make.proofs.Makes.{blank-made}
 use Rattle.sail_make.proofs.blank.Statement.{statement}
 use Rattle.sail_make.proofs.blank.Tie as tie
 
@@ -14,14 +13,13 @@ returns c =
     let second = third .before .before .before .before in
     let first = second .before .before .before .before in
     let list = first .before .before .before .before in
-    blanked _ _ _ _ _ _ _ _ _ (list .zero8 .ensures) (first .fill16 .ensures) (second .fill162 .ensures) (third .fill163 .ensures)
+    blank-made _ _ _ _ _ _ _ _ _ (list .zero8 .ensures) (first .fill16 .ensures) (second .fill162 .ensures) (third .fill163 .ensures)
     (own2 .zero32 .ensures) (own3 .zero322 .ensures) (long1 .fill164 .ensures) (long2 .fill165 .ensures)
 
 pub blank-spec : {M : Type 1} → statement M
 blank-spec =
     tie.close
     (tie.spec
-    (λ c κs. search needs)
     (λ c κs. tt)
     (λ c κs. tt)
     (λ c κs. tt)
@@ -29,10 +27,15 @@ blank-spec =
     (λ c κs. tt)
     (λ c κs. tt)
     (λ c κs. tt)
-    (λ c. c .before .before .before .before .before .before .before .before .before .before .before .before .before .before .before .before .before .before .before .before .before .before .before .before .before .before .before .before .before .before .zero8 .kept .0)
-    (λ c. c .before .before .before .before .before .before .before .before .before .before .before .before .before .before .before .before .before .before .before .before .before .before .before .before .before .before .fill16 .kept .0)
-    (λ c. c .before .before .before .before .before .before .before .before .before .before .before .before .before .before .before .before .before .before .before .before .before .before .fill162 .kept .0)
-    (λ c. c .before .before .before .before .before .before .before .before .before .before .before .before .before .before .before .before .before .before .fill163 .kept .0)
+    (λ c κs. tt)
+    (λ c. c .before .before .before .before .before .before .before .before .before .before .before .before .before .before .before .before .before
+    .before .before .before .before .before .before .before .before .before .before .before .before .before .zero8 .kept .0)
+    (λ c. c .before .before .before .before .before .before .before .before .before .before .before .before .before .before .before .before .before
+    .before .before .before .before .before .before .before .before .before .fill16 .kept .0)
+    (λ c. c .before .before .before .before .before .before .before .before .before .before .before .before .before .before .before .before .before
+    .before .before .before .before .before .fill162 .kept .0)
+    (λ c. c .before .before .before .before .before .before .before .before .before .before .before .before .before .before .before .before .before
+    .before .fill163 .kept .0)
     (λ c. c .before .before .before .before .before .before .before .before .before .before .before .before .before .before .zero32 .kept .0)
     (λ c. c .before .before .before .before .before .before .before .before .before .before .zero322 .kept .0)
     (λ c. c .before .before .before .before .before .before .fill164 .kept .0)

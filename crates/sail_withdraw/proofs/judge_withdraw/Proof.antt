@@ -1,5 +1,5 @@
--- `sail_withdraw::judge_withdraw` meets its contract. Assumes nothing.
-use Rattle.sail_sound.proofs.Tries.{tried-sound}
+-- `sail_withdraw::judge_withdraw`. The number with which the withdrawal is refused, by the first condition that holds; 0 where it is accepted.
+use Rattle.sail_sound.proofs.TableTest.{tried-sound}
 use Rattle.sail_withdraw.proofs.Judges.{leave-sizes, leave-prefix, leave-sound, leave-stands, leave-absent}
 use borrow.Author.Needs.{needs}
 use Rattle.sail_withdraw.proofs.judge_withdraw.Statement.{statement}
@@ -18,6 +18,10 @@ judge-withdraw-spec =
     (λ c. search needs)
     (λ c κs. search needs)
     (λ c κs. tried-sound _ _ _ (c .before .before .before .sound .ensures) (c .before .before .if3 .left) .listed .records)
-    (λ c κs. record { records = tried-sound _ _ _ (c .before .before .before .before .sound .ensures) (c .before .before .before .if3 .left) .listed .records; place = c .place .ensures .0 })
+    (λ c κs. record {
+      records = tried-sound _ _ _ (c .before .before .before .before .sound .ensures)
+          (c .before .before .before .if3 .left) .listed .records;
+      place = c .place .ensures .0;
+    })
     (λ c. search leave-stands)
     (λ c. search leave-absent))

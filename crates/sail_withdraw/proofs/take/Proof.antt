@@ -24,11 +24,12 @@ counted c = c .before .before .before .before .before .before .before .before .b
 abbrev second-closed : tie.After-close2 → tie.After-close
 second-closed c = c .before .before .before .before .before .before .before .before .before
 
-abbrev third-closed : tie.After-renew → tie.After-close2
+abbrev third-closed : tie.After-repaint-from-list → tie.After-close2
 third-closed c = c .before .before .before .before .before .before .before .before .before .before .before .before
 
 follow-requires : tie.Need-follow-requires
-follow-requires c κs = let s = c .before .before .before .before .before .before .before .before .before .before .before .before .before .before .before in take-serving _ _ _ _ (s .pre)
+follow-requires c κs = let s = c .before .before .before .before .before .before .before .before .before .before .before .before .before .before
+    .before in take-serving _ _ _ _ (s .pre)
 
 tick-requires : tie.Need-tick-requires
 tick-requires c κs =
@@ -51,8 +52,8 @@ close-requires-2 c κs =
     take-third _ _ _ _ (start f .pre) _ _ (m .remove .ensures) _ _ _ (n .tick .ensures) (n .tick .kept .1 .1 .1 .1 .0) (n .tick .kept .1 .1 .1 .1 .1 .0)
     _ _ (f .follow .ensures)
 
-renew-requires : tie.Need-renew-requires
-renew-requires c κs =
+repaint-requires : tie.Need-repaint-from-list-requires
+repaint-requires c κs =
     let w = c .before .before .before .before .before in
     let third = w .before .before .before .before .before .before in
     let second = second-closed third in
@@ -62,23 +63,23 @@ renew-requires c κs =
     take-pending _ _ _ _ (start f .pre) _ _ (m .remove .ensures) _ _ _ (n .tick .ensures) (n .tick .kept .1 .1 .1 .1 .0) (n .tick .kept .1 .1 .1 .1 .1 .0)
     _ _ (f .follow .ensures) _ _ _ _
     (second .close .ensures .0) (second .close .ensures .1) (third .close2 .ensures .0) (third .close2 .ensures .1)
-    _ (w .wide .ensures .0)
+    _ (w .byte-to-word .ensures .0)
 
 same-list : tie.Need-same-length
 same-list c = removed (counted (second-closed (third-closed (c .before .before .before .before .before .before)))) .remove .kept .0
 
 same-first : tie.Need-same-length-2
-same-first c = let painted = c .before .before .before .before .before .before in painted .renew .kept .1 .1 .1 .1 .1 .0
+same-first c = let painted = c .before .before .before .before .before .before in painted .repaint-from-list .kept .1 .1 .1 .1 .1 .0
 
 same-second : tie.Need-same-length-3
 same-second c =
     let painted = c .before .before .before .before .before .before in
-    painted .renew .kept .1 .1 .1 .1 .1 .1 .0 ∙ second-closed (third-closed painted) .close .kept .1 .0
+    painted .repaint-from-list .kept .1 .1 .1 .1 .1 .1 .0 ∙ second-closed (third-closed painted) .close .kept .1 .0
 
 same-third : tie.Need-same-length-4
 same-third c =
     let painted = c .before .before .before .before .before .before in
-    painted .renew .kept .1 .1 .1 .1 .1 .1 .1 .0 ∙ third-closed painted .close2 .kept .1 .0
+    painted .repaint-from-list .kept .1 .1 .1 .1 .1 .1 .1 .0 ∙ third-closed painted .close2 .kept .1 .0
 
 same-own2 : tie.Need-same-length-5
 same-own2 c = second-closed (third-closed (c .before .before .before .before .before .before)) .close .kept .0
@@ -103,7 +104,7 @@ returns c =
     take-done _ _ _ _ (start f .pre) _ _ (m .remove .ensures) _ _ _ (n .tick .ensures) (n .tick .kept .1 .1 .1 .1 .0) (n .tick .kept .1 .1 .1 .1 .1 .0)
     _ _ (f .follow .ensures) _ _ _ _
     (second .close .ensures .0) (second .close .ensures .1) (third .close2 .ensures .0) (third .close2 .ensures .1)
-    _ _ _ (painted .renew .ensures) _
+    _ _ _ (painted .repaint-from-list .ensures) _
 
 pub take-spec : {M : Type 1} → statement M
 take-spec =
@@ -126,10 +127,11 @@ take-spec =
     (n .tick .kept .1 .1 .1 .1 .1 .0) _ _ (f .follow .ensures) in
     omega (arith, z .1))
     (λ c. search needs)
-    (λ c. let v = start (followed (removed (counted (c .before .before .before .before .before .before .before .before)))) .pre .sound .sized .valid in omega arith)
+    (λ c. let v = start (followed (removed (counted (c .before .before .before .before .before .before .before .before)))) .pre .sound .sized
+    .valid in omega arith)
     close-requires-2
     (λ c κs. tt)
-    renew-requires
+    repaint-requires
     (λ c.
     let begun = start (followed (removed (counted (second-closed (third-closed (c .before .before .before .before .before .before)))))) in
     let few = begun .pre .sound .listed .records .few in

@@ -9,7 +9,7 @@ returns : tie.Need-returns
 returns c =
     let judged = c .before in
     let clear = judged .before .before .before .before .before .before .before .before .before in
-    withdraw-refused _ _ _ _ _ (clear .clear .ensures) _ (judged .judge-withdraw .ensures) (c .if1 .taken)
+    withdraw-refused _ _ _ _ _ (clear .clear-after .ensures) _ (judged .judge-withdraw .ensures) (c .if1 .taken)
 
 take-requires : tie.Need-take-requires
 take-requires c κs =
@@ -19,8 +19,9 @@ take-requires c κs =
 returns-2 : tie.Need-returns-2
 returns-2 c =
     let taken = c .before .before .before .before .before .before .before .before .before .before .before .before .before .before .before .before in
-    let clear = taken .before .before .before .before .before .before .before .before .before .before .before .before .before .before .before .before .before .before .before in
-    withdraw-cleared _ _ _ _ _ (clear .clear .ensures) _ refl _ (taken .take .ensures)
+    let clear = taken .before .before .before .before .before .before .before .before .before .before .before .before .before .before .before .before
+    .before .before .before in
+    withdraw-cleared _ _ _ _ _ (clear .clear-after .ensures) _ refl _ (taken .take .ensures)
 
 pub withdraw-spec : {M : Type 1} → statement M
 withdraw-spec =
@@ -39,11 +40,18 @@ withdraw-spec =
     returns
     take-requires
     (λ c. c .before .before .before .before .before .before .before .before .before .before .before .before .before .before .before .before .take .kept .1 .0)
-    (λ c. c .before .before .before .before .before .before .before .before .before .before .before .before .before .before .before .before .take .kept .1 .1 .0)
-    (λ c. c .before .before .before .before .before .before .before .before .before .before .before .before .before .before .before .before .take .kept .1 .1 .1 .0)
-    (λ c. c .before .before .before .before .before .before .before .before .before .before .before .before .before .before .before .before .take .kept .1 .1 .1 .1 .0)
-    (λ c. c .before .before .before .before .before .before .before .before .before .before .before .before .before .before .before .before .take .kept .1 .1 .1 .1 .1 .0)
-    (λ c. c .before .before .before .before .before .before .before .before .before .before .before .before .before .before .before .before .take .kept .1 .1 .1 .1 .1 .1 .0)
-    (λ c. c .before .before .before .before .before .before .before .before .before .before .before .before .before .before .before .before .take .kept .1 .1 .1 .1 .1 .1 .1 .0)
-    (λ c. c .before .before .before .before .before .before .before .before .before .before .before .before .before .before .before .before .take .kept .1 .1 .1 .1 .1 .1 .1 .1 .0)
+    (λ c. c .before .before .before .before .before .before .before .before .before .before .before .before .before .before .before .before .take
+    .kept .1 .1 .0)
+    (λ c. c .before .before .before .before .before .before .before .before .before .before .before .before .before .before .before .before .take
+    .kept .1 .1 .1 .0)
+    (λ c. c .before .before .before .before .before .before .before .before .before .before .before .before .before .before .before .before .take
+    .kept .1 .1 .1 .1 .0)
+    (λ c. c .before .before .before .before .before .before .before .before .before .before .before .before .before .before .before .before .take
+    .kept .1 .1 .1 .1 .1 .0)
+    (λ c. c .before .before .before .before .before .before .before .before .before .before .before .before .before .before .before .before .take
+    .kept .1 .1 .1 .1 .1 .1 .0)
+    (λ c. c .before .before .before .before .before .before .before .before .before .before .before .before .before .before .before .before .take
+    .kept .1 .1 .1 .1 .1 .1 .1 .0)
+    (λ c. c .before .before .before .before .before .before .before .before .before .before .before .before .before .before .before .before .take
+    .kept .1 .1 .1 .1 .1 .1 .1 .1 .0)
     returns-2)

@@ -14,4 +14,5 @@ better-spec =
     (λ c κs. search needs)
     (λ c κs. search needs)
     (λ c. search needs)
-    (λ c. better-at _ _ _ _ _ _ (c .before .before .before .if1 .left) (c .before .before .wide .ensures .0) (c .wide2 .ensures .0 ∙ c .before .ones-below .ensures .0)))
+    (λ c. better-at _ _ _ _ _ _ (c .before .before .before .if1 .left) (c .before .before .word-to-index .ensures .0)
+    (c .word-to-index2 .ensures .0 ∙ c .before .ones-below .ensures .0)))

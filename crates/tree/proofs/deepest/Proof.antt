@@ -15,17 +15,24 @@ deepest-spec =
     (λ c. search needs)
     (λ c κs. search needs)
     (λ c. (
-      deepest-is _ _ _ (try-miss _ _ _ _ _ (c .before .before .before .is-set .ensures) (c .before .before .if1 .left) (try-hit _ _ _ _ (c .before .is-set2 .ensures) (c .if2 .taken))),
+      deepest-is _ _ _ (try-miss _ _ _ _ _ (c .before .before .before .is-set .ensures) (c .before .before .if1 .left)
+          (try-hit _ _ _ _ (c .before .is-set2 .ensures) (c .if2 .taken))),
       omega arith,
     ))
     (λ c. search needs)
     (λ c κs. search needs)
     (λ c. (
-      deepest-is _ _ _ (try-miss _ _ _ _ _ (c .before .before .before .before .before .is-set .ensures) (c .before .before .before .before .if1 .left) (try-miss _ _ _ _ _ (c .before .before .before .is-set2 .ensures) (c .before .before .if2 .left) (try-hit _ _ _ _ (c .before .is-set3 .ensures) (c .if3 .taken)))),
+      deepest-is _ _ _ (try-miss _ _ _ _ _ (c .before .before .before .before .before .is-set .ensures)
+          (c .before .before .before .before .if1 .left)
+          (try-miss _ _ _ _ _ (c .before .before .before .is-set2 .ensures) (c .before .before .if2 .left)
+          (try-hit _ _ _ _ (c .before .is-set3 .ensures) (c .if3 .taken)))),
       omega arith,
     ))
     (λ c κs. search needs)
     (λ c. (
-      deepest-is _ _ _ (try-miss _ _ _ _ _ (c .before .before .before .before .before .before .is-set .ensures) (c .before .before .before .before .before .if1 .left) (try-miss _ _ _ _ _ (c .before .before .before .before .is-set2 .ensures) (c .before .before .before .if2 .left) (try-miss _ _ _ _ _ (c .before .before .is-set3 .ensures) (c .before .if3 .left) (c .own-bit .ensures .0)))),
+      deepest-is _ _ _ (try-miss _ _ _ _ _ (c .before .before .before .before .before .before .is-set .ensures)
+          (c .before .before .before .before .before .if1 .left)
+          (try-miss _ _ _ _ _ (c .before .before .before .before .is-set2 .ensures) (c .before .before .before .if2 .left)
+          (try-miss _ _ _ _ _ (c .before .before .is-set3 .ensures) (c .before .if3 .left) (c .own-bit .ensures .0)))),
       c .own-bit .ensures .1,
     )))

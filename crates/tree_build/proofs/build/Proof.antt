@@ -1,5 +1,5 @@
--- `tree_build::build` meets its contract. Assumes nothing.
-use Rattle.tree_build.proofs.Answers.{good-input, after-good, after-refused, after-many}
+-- `tree_build::build`. Builds the image of a record input.
+use Rattle.tree_build.proofs.BuildReturns.{good-input, after-good, after-refused, after-many}
 use borrow.Author.Needs.{needs}
 use Rattle.tree_build.proofs.build.Statement.{statement}
 use Rattle.tree_build.proofs.build.Tie as tie

@@ -1,5 +1,5 @@
--- `tree_build::make` meets its contract. Assumes nothing.
-use Rattle.tree_build.proofs.Answers.{few-nodes, few-hops, roomy, made}
+-- `tree_build::make`. Good records into the two arrays: 11 where too few whole nodes are lent, 12 where too few hops are.
+use Rattle.tree_build.proofs.BuildReturns.{few-nodes, few-hops, roomy, made}
 use borrow.Author.Needs.{needs}
 use Rattle.tree_build.proofs.make.Statement.{statement}
 use Rattle.tree_build.proofs.make.Tie as tie

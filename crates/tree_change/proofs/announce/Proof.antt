@@ -1,6 +1,6 @@
 -- The refusals in their order; where the image is well formed, what is put to its routes.
 use mathlib.Core.Path.{refl}
-use Rattle.tree_change.proofs.Answers.{is-formed, announced-three, announced-four, passed-route, announced-broken, announced-formed}
+use Rattle.tree_change.proofs.ChangeReturns.{is-formed, announced-three, announced-four, passed-route, announced-broken, announced-formed}
 use Rattle.tree_change.proofs.announce.Statement.{statement}
 use Rattle.tree_change.proofs.announce.Tie as tie
 
@@ -34,8 +34,8 @@ returns-3 c =
     (at-check .before .before .before .if2 .left) _
     (at-check .check .ensures) (c .if3 .taken)
 
-wide-requires : tie.Need-wide-requires
-wide-requires c κs = tt
+byte-to-word-requires : tie.Need-byte-to-word-requires
+byte-to-word-requires c κs = tt
 
 put-requires : tie.Need-put-requires
 put-requires c κs =
@@ -45,7 +45,7 @@ put-requires c κs =
           (c .before .before .before .if3 .left),
       passed-route _ _ _ _ _ (at-hop .before .before .prefix-ok .ensures) (at-hop .before .if1 .left) (at-hop .hop-ok .ensures)
           (at-check .before .before .before .if2 .left) _
-          (c .wide .ensures .0),
+          (c .byte-to-word .ensures .0),
     )
 
 same-length-3 : tie.Need-same-length-3
@@ -61,7 +61,7 @@ returns-4 c =
     let at-hop = at-check .before .before .before .before in
     announced-formed _ _ _ _ _ (at-hop .before .before .prefix-ok .ensures) (at-hop .before .if1 .left) _ _ (at-hop .hop-ok .ensures)
     (at-check .before .before .before .if2 .left) _
-    (at-check .check .ensures) (at-put .before .before .before .before .if3 .left) _ (at-put .before .wide .ensures .0) _ (at-put .put .ensures)
+    (at-check .check .ensures) (at-put .before .before .before .before .if3 .left) _ (at-put .before .byte-to-word .ensures .0) _ (at-put .put .ensures)
 
 pub announce-spec : {M : Type 1} → statement M
 announce-spec =
@@ -75,7 +75,7 @@ announce-spec =
     same-length
     same-length-2
     returns-3
-    wide-requires
+    byte-to-word-requires
     put-requires
     same-length-3
     same-length-4

@@ -2,7 +2,7 @@
 use mathlib.Core.Path.{refl}
 use native.Mathlib.Omega.{arith}
 use Rattle.tree_change.specs.Stages.{Standing}
-use Rattle.tree_change.proofs.Answers.{ask-hops, ask-way, ask-end, is-standing, is-new, told-replaced}
+use Rattle.tree_change.proofs.ChangeReturns.{ask-hops, ask-way, ask-end, is-standing, is-new, told-replaced}
 use Rattle.tree_change.proofs.put.Statement.{statement}
 use Rattle.tree_change.proofs.put.Tie as tie
 

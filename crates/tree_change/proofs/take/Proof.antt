@@ -1,8 +1,8 @@
 -- The way down and the bit at its end tell whether the prefix stands; then it is taken out.
 use mathlib.Core.Path.{refl}
-use Rattle.tree_check.proofs.Steps.{kept}
+use Rattle.tree_check.proofs.Steps.{not-failed}
 use Rattle.tree_change.specs.Stages.{Standing}
-use Rattle.tree_change.proofs.Answers.{ask-hops, ask-way, ask-end, is-standing, one-there, one-less, removed-few, told-nine, told-removed}
+use Rattle.tree_change.proofs.ChangeReturns.{ask-hops, ask-way, ask-end, is-standing, one-there, one-less, removed-few, told-nine, told-removed}
 use Rattle.tree_change.proofs.take.Statement.{statement}
 use Rattle.tree_change.proofs.take.Tie as tie
 
@@ -47,7 +47,7 @@ standing c =
     let pre = at-way .before .before .before .before .before .before .before .pre in
     is-standing (pre .0) (at-way .before .before .before .hops-in .ensures) (pre .1) (at-way .before .before .own-bit .ensures)
     (at-way .descend .ensures) _ (c .before .is-there .ensures)
-    (kept _ _ refl (c .if1 .left))
+    (not-failed _ _ refl (c .if1 .left))
 
 sub-left : tie.Need-sub-left
 sub-left c = one-there (standing c)

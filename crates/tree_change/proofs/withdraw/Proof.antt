@@ -1,6 +1,6 @@
 -- The refusals in their order; where the image is well formed, what is taken from its routes.
 use mathlib.Core.Path.{refl}
-use Rattle.tree_change.proofs.Answers.{is-formed, withdrawn-three, passed-prefix, withdrawn-broken, withdrawn-formed}
+use Rattle.tree_change.proofs.ChangeReturns.{is-formed, withdrawn-three, passed-prefix, withdrawn-broken, withdrawn-formed}
 use Rattle.tree_change.proofs.withdraw.Statement.{statement}
 use Rattle.tree_change.proofs.withdraw.Tie as tie
 
@@ -25,15 +25,15 @@ returns-2 c =
     withdrawn-broken _ _ _ _ _ (at-check .before .before .before .before .prefix-ok .ensures) (at-check .before .before .before .if1 .left) _
     (at-check .check .ensures) (c .if2 .taken)
 
-wide-requires : tie.Need-wide-requires
-wide-requires c κs = tt
+byte-to-word-requires : tie.Need-byte-to-word-requires
+byte-to-word-requires c κs = tt
 
 take-requires : tie.Need-take-requires
 take-requires c κs =
     let at-check = c .before .before .before .before in
     let at-prefix = at-check .before .before .before .before in (
       is-formed _ _ _ (λ j. at-prefix .before .before .slice-known .given j .fits) (at-check .check .ensures) (c .before .before .before .if2 .left),
-      passed-prefix _ _ _ (at-prefix .prefix-ok .ensures) (at-check .before .before .before .if1 .left) _ (c .wide .ensures .0),
+      passed-prefix _ _ _ (at-prefix .prefix-ok .ensures) (at-check .before .before .before .if1 .left) _ (c .byte-to-word .ensures .0),
     )
 
 same-length-3 : tie.Need-same-length-3
@@ -48,7 +48,7 @@ returns-3 c =
     let at-check = at-take .before .before .before .before .before in
     withdrawn-formed _ _ _ _ _ (at-check .before .before .before .before .prefix-ok .ensures) (at-check .before .before .before .if1 .left) _
     (at-check .check .ensures) (at-take .before .before .before .before .if2 .left) _
-    (at-take .before .wide .ensures .0) _ (at-take .take .ensures)
+    (at-take .before .byte-to-word .ensures .0) _ (at-take .take .ensures)
 
 pub withdraw-spec : {M : Type 1} → statement M
 withdraw-spec =
@@ -60,7 +60,7 @@ withdraw-spec =
     same-length
     same-length-2
     returns-2
-    wide-requires
+    byte-to-word-requires
     take-requires
     same-length-3
     same-length-4

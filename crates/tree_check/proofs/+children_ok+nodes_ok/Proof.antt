@@ -1,6 +1,5 @@
 -- The test of nodes calls the test of their child arrays and back. What falls: a fixed number, more than the nodes of any image, for each level left
 -- below, and in an array one for each node left.
-use mathlib.Core.Path.{_≡_, sym, _∙_}
 use Prim.Native.Nat.{_+_, _*_}
 use native.Mathlib.Omega.{arith}
 use borrow.Author.Needs.{needs}
@@ -95,7 +94,13 @@ children-ok-add-children-ok : (t : ℕ) → children-ok-lts.Need-add-children-ok
   children-ok-below t,
   children-ok.Post,
 ) (children-ok-at t) children-ok.Post
-children-ok-add-children-ok t c = omega (arith, c .before .before .stretch .ensures .0, c .before .before .before .before .before .pre .1 .inside, c .before .before .before .before .before .pre .1 .few)
+children-ok-add-children-ok t c = omega (
+  arith,
+  c .before .before .stretch .ensures .0,
+  c .before .before .before .before .before .pre .1 .inside,
+  c
+      .before .before .before .before .before .pre .1 .few,
+)
 
 children-ok-sub-children-ok : (t : ℕ) → children-ok-lts.Need-sub-children-ok (
   stretch-reads.Asked,
@@ -263,8 +268,11 @@ nodes-ok-children-ok-requires : (t : ℕ) → nodes-ok-lts.Need-children-ok-requ
 nodes-ok-children-ok-requires t c κs =
     let at = c .before in
     let pre = at .before .before .before .pre in
-    let few = kids-few _ _ _ _ (at .before .if1 .left) (pre .1 .0) (pre .1 .1) _ _ (at .first-child .ensures .0) (c .after-children .ensures) in
-    (omega (arith, pre .0, few, at .before .if1 .left), kids-stretch _ _ _ _ (at .before .if1 .left) (pre .1 .0) (pre .1 .1) _ _ (at .first-child .ensures .0) (c .after-children .ensures))
+    let few = kids-few _ _ _ _ (at .before .if1 .left) (pre .1 .0) (pre .1 .1) _ _ (at .first-child .ensures .0) (c .after-children .ensures) in (
+      omega (arith, pre .0, few, at .before .if1 .left),
+      kids-stretch _ _ _ _ (at .before .if1 .left) (pre .1 .0) (pre .1 .1) _ _
+          (at .first-child .ensures .0) (c .after-children .ensures),
+    )
 
 nodes-ok-returns-2 : (t : ℕ) → nodes-ok-lts.Need-returns-2 (
   ends-ok-reads.Asked,

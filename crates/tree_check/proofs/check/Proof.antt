@@ -1,6 +1,19 @@
 -- Each step that fails is one of the parts of `wellFormed`, and where none fails all of them hold.
-use Rattle.tree_check.proofs.Steps.{kept, check-rooted, check-counted, check-none, check-root, check-room, check-few, check-hops, check-words-after, check-hops-after, check-passes}
+use Rattle.tree_check.proofs.Steps.{
+  not-failed,
+  check-rooted,
+  check-counted,
+  check-none,
+  check-root,
+  check-room,
+  check-few,
+  check-hops,
+  check-words-after,
+  check-hops-after,
+  check-passes,
+}
 use borrow.Author.Needs.{needs}
+use Rattle.bits.proofs.Tells.{passed}
 use Rattle.tree_check.proofs.check.Statement.{statement}
 use Rattle.tree_check.proofs.check.Tie as tie
 
@@ -11,9 +24,9 @@ returns-8 c =
     let counted = fine .before .before .before in
     let root = counted .before .before in
     check-passes _ _ _ (root .before .before .shape .ensures) (root .before .if1 .left) _ (counted .hops-in .ensures)
-    (kept _ _ (root .root-ok .ensures) (counted .before .if2 .left)) (fine .before .before .if3 .left) (fine .before .if4 .left)
-    (kept _ _ (fine .hops-fine .ensures) (words-blank .before .if5 .left)) (kept _ _ (words-blank .blank-words .ensures) (c .before .before .if6 .left))
-    (kept _ _ (c .before .blank-hops .ensures) (c .if7 .left))
+    (not-failed _ _ (root .root-ok .ensures) (counted .before .if2 .left)) (fine .before .before .if3 .left) (fine .before .if4 .left)
+    (not-failed _ _ (fine .hops-fine .ensures) (words-blank .before .if5 .left)) (passed (words-blank .zeros32 .ensures) (c .before .before .if6 .left))
+    (passed (c .before .zeros16 .ensures) (c .if7 .left))
 
 pub check-spec : {M : Type 1} → statement M
 check-spec =

@@ -1,6 +1,5 @@
 -- The invariant: nothing was counted exactly where the first j hops are 1 to 32,767 each.
-use mathlib.Core.Path.{_≡_}
-use Prim.Native.Nat.{_-_, _≤_, _<_}
+use Prim.Native.Nat.{_-_, _≤_}
 use native.Mathlib.Omega.{arith}
 use borrow.Author.Needs.{needs}
 use Rattle.tree_check.proofs.Steps.{FineTo, fine-none, fine-more, fine-all}

@@ -9,7 +9,7 @@ returns : tie.Need-returns
 returns c =
     let base = c .before .before .before in
     let pre = base .before .before .before .pre in
-    hops-last _ _ _ _ (pre .0) (pre .2) (base .wide .ensures .0) (c .wide2 .ensures .0 ∙ c .before .ones-below .ensures .0)
+    hops-last _ _ _ _ (pre .0) (pre .2) (base .word-to-index .ensures .0) (c .word-to-index2 .ensures .0 ∙ c .before .ones-below .ensures .0)
 
 pub hops-in-spec : {M : Type 1} → statement M
 hops-in-spec =

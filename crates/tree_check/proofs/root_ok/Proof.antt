@@ -16,7 +16,8 @@ is-set-requires : tie.Need-is-set-requires
 is-set-requires c κs = search needs
 
 returns-2 : tie.Need-returns-2
-returns-2 c = root-high (c .before .before .before .before .before .args .words .now) (c .before .before .if1 .left) (sym (c .before .is-set .ensures) ∙ c .if2 .taken)
+returns-2 c = root-high (c .before .before .before .before .before .args .words .now) (c .before .before .if1 .left)
+    (sym (c .before .is-set .ensures) ∙ c .if2 .taken)
 
 first-child-requires : tie.Need-first-child-requires
 first-child-requires c κs = omega (arith, rooted-lent _ (c .before .before .before .before .before .pre))

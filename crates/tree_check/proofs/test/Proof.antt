@@ -1,7 +1,7 @@
 -- Where the whole test answers a number of nodes, the image is well formed, and its nodes and hops are few enough for a word each.
 use native.Mathlib.Omega.{arith}
 use borrow.Author.Needs.{needs}
-use Rattle.tree_check.proofs.Answers.{check-hops-in, check-few, tested-image, tested-broken}
+use Rattle.tree_check.proofs.TestReturns.{check-hops-in, check-few, tested-image, tested-broken}
 use Rattle.tree_check.proofs.test.Statement.{statement}
 use Rattle.tree_check.proofs.test.Tie as tie
 
@@ -31,7 +31,8 @@ narrow-requires-2 c κs =
 returns-2 : tie.Need-returns-2
 returns-2 c =
     let at-check = c .before .before .before .before in
-    tested-image _ _ _ (at-check .check .ensures) (c .before .before .before .if1 .left) _ _ _ (c .before .before .hops-in .ensures) (c .before .narrow .ensures)
+    tested-image _ _ _ (at-check .check .ensures) (c .before .before .before .if1 .left) _ _ _ (c .before .before .hops-in .ensures)
+    (c .before .narrow .ensures)
     (c .narrow2 .ensures)
 
 pub test-spec : {M : Type 1} → statement M

@@ -1,6 +1,6 @@
 -- One law for each arm of the check.
 use Rattle.basic.proofs.Checks.{good-told}
-use Rattle.basic.proofs.Answers.{look-good, look-refused, look-number}
+use Rattle.basic.proofs.LookupReturns.{look-good, look-refused, look-number}
 use borrow.Author.Needs.{needs}
 use Rattle.basic.proofs.lookup.lookup.Statement.{statement}
 use Rattle.basic.proofs.lookup.lookup.Tie as tie
@@ -14,8 +14,8 @@ enum-known-n c = search needs
 walk-requires : tie.Need-walk-requires
 walk-requires c κs = good-told _ _ _ _ (c .before .before .before .check .ensures) _ (c .before .n .given .1)
 
-told-requires : tie.Need-told-requires
-told-requires c κs = search needs
+found-of-requires : tie.Need-found-of-requires
+found-of-requires c κs = search needs
 
 enum-known-f : tie.Need-enum-known-f
 enum-known-f c = search needs
@@ -39,7 +39,7 @@ lookup-spec =
     check-requires
     enum-known-n
     walk-requires
-    told-requires
+    found-of-requires
     enum-known-f
     enum-known-f-2
     returns

@@ -13,8 +13,8 @@ sub-read-record c = search needs
 read-record-requires : tie.Need-read-record-requires
 read-record-requires c κs = search needs
 
-wide-requires : tie.Need-wide-requires
-wide-requires c κs = search needs
+half-to-word-requires : tie.Need-half-to-word-requires
+half-to-word-requires c κs = search needs
 
 add-result : tie.Need-add-result
 add-result c = search needs
@@ -23,7 +23,8 @@ returns : tie.Need-returns
 returns c =
     let input = c .before .before .before .before .before .before .before .pre .0 in
     let far = c .before .before .before .longest-record .ensures in
-    walk-long _ _ _ input _ _ _ far _ _ (c .before .before .if1 .taken) (c .before .read-record .ensures) (c .wide .ensures .0) (c .wide .ensures .1)
+    walk-long _ _ _ input _ _ _ far _ _ (c .before .before .if1 .taken) (c .before .read-record .ensures) (c .half-to-word .ensures .0)
+    (c .half-to-word .ensures .1)
 
 down-requires : tie.Need-down-requires
 down-requires c κs = search needs
@@ -40,7 +41,7 @@ walk-spec =
     longest-record-requires
     sub-read-record
     read-record-requires
-    wide-requires
+    half-to-word-requires
     add-result
     returns
     down-requires

@@ -3,7 +3,7 @@ use mathlib.Core.Path.{_≡_}
 use Prim.Native.Nat.{ℕ, _-_, _≤_, _<_}
 use lib.ListN.{length, getD, length-set}
 use Rattle.basic.specs.Calls.{basicSaid, hopWord}
-use Rattle.basic.proofs.Answers.{each-word, each-refused, each-done}
+use Rattle.basic.proofs.LookupReturns.{each-word, each-refused, each-done}
 use Rattle.bits.proofs.Tabs.{stored-more}
 use borrow.Author.Needs.{needs}
 use native.Mathlib.Omega.{arith}
@@ -32,8 +32,8 @@ shared-slice-read-walk c = search needs
 walk-requires : tie.Need-walk-requires Inv-loop μ-loop
 walk-requires c κs = c .before .before .before .before .before .before .before .before .before .pre
 
-told-requires : tie.Need-told-requires Inv-loop μ-loop
-told-requires c κs = c .walk .ensures .1
+found-of-requires : tie.Need-found-of-requires Inv-loop μ-loop
+found-of-requires c κs = c .walk .ensures .1
 
 word-requires : tie.Need-word-requires Inv-loop μ-loop
 word-requires c κs = search needs
@@ -56,7 +56,7 @@ loop-again c =
     let top = c .before .before .before .before .before .before .before .before .before .before .before .before in
     let lent = top .args in
     let said : ℕ → ℕ = λ j. hopWord (basicSaid (lent .input .now) (lent .bits .now) (lent .cells .now) (getD (lent .addrs .now) j 0)) in
-    let done = each-word _ _ _ _ _ _ _ _ (top .pre) (c .before .before .walk .ensures .0) (c .before .told .ensures) (c .word .ensures) in (
+    let done = each-word _ _ _ _ _ _ _ _ (top .pre) (c .before .before .walk .ensures .0) (c .before .found-of .ensures) (c .word .ensures) in (
       omega arith,
       simp length-set (at-loop .inv .1),
       stored-more said (at-loop .out) (at-loop .k) _ (omega (arith, at-loop .inv .1)) (at-loop .inv .2) done,
@@ -79,7 +79,7 @@ each-spec =
     mul-walk
     shared-slice-read-walk
     walk-requires
-    told-requires
+    found-of-requires
     word-requires
     mul-out
     slice-write-out

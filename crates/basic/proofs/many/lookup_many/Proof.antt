@@ -1,6 +1,6 @@
 -- One law for each arm of the check.
 use Rattle.basic.proofs.Checks.{good-told}
-use Rattle.basic.proofs.Answers.{many-good, many-refused, many-number}
+use Rattle.basic.proofs.LookupReturns.{many-good, many-refused, many-number}
 use borrow.Author.Needs.{needs}
 use Rattle.basic.proofs.many.lookup_many.Statement.{statement}
 use Rattle.basic.proofs.many.lookup_many.Tie as tie

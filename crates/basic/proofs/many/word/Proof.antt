@@ -1,14 +1,14 @@
 -- One law for each case of the answer.
 use borrow.Author.Needs.{needs}
-use Rattle.basic.proofs.Answers.{word-hop, word-none, word-index, word-number}
+use Rattle.basic.proofs.LookupReturns.{word-hop, word-none, word-index, word-number}
 use Rattle.basic.proofs.many.word.Statement.{statement}
 use Rattle.basic.proofs.many.word.Tie as tie
 
 enum-known-f : tie.Need-enum-known-f
 enum-known-f c = search needs
 
-wide-requires : tie.Need-wide-requires
-wide-requires c κs = search needs
+half-to-word-requires : tie.Need-half-to-word-requires
+half-to-word-requires c κs = search needs
 
 mul-result : tie.Need-mul-result
 mul-result c = search needs
@@ -19,8 +19,8 @@ enum-told c = search needs
 enum-known-f-2 : tie.Need-enum-known-f-2
 enum-known-f-2 c = search needs
 
-wide-requires-2 : tie.Need-wide-requires-2
-wide-requires-2 c κs = search needs
+byte-to-word-requires : tie.Need-byte-to-word-requires
+byte-to-word-requires c κs = search needs
 
 add-result : tie.Need-add-result
 add-result c = search needs
@@ -28,8 +28,8 @@ add-result c = search needs
 enum-known-f-3 : tie.Need-enum-known-f-3
 enum-known-f-3 c = search needs
 
-wide-requires-3 : tie.Need-wide-requires-3
-wide-requires-3 c κs = search needs
+byte-to-word-requires-2 : tie.Need-byte-to-word-requires-2
+byte-to-word-requires-2 c κs = search needs
 
 returns : tie.Need-returns
 returns c = search word-hop
@@ -48,14 +48,14 @@ word-spec =
     tie.close
     (tie.spec
     enum-known-f
-    wide-requires
+    half-to-word-requires
     mul-result
     enum-told
     enum-known-f-2
-    wide-requires-2
+    byte-to-word-requires
     add-result
     enum-known-f-3
-    wide-requires-3
+    byte-to-word-requires-2
     returns
     returns-2
     returns-3

@@ -4,11 +4,11 @@ use borrow.Author.Needs.{needs}
 use Rattle.basic.proofs.maps.is_set.Statement.{statement}
 use Rattle.basic.proofs.maps.is_set.Tie as tie
 
-shared-slice-read-wide : tie.Need-shared-slice-read-wide
-shared-slice-read-wide c = search needs
+shared-slice-read-byte-to-word : tie.Need-shared-slice-read-byte-to-word
+shared-slice-read-byte-to-word c = search needs
 
-wide-requires : tie.Need-wide-requires
-wide-requires c κs = search needs
+byte-to-word-requires : tie.Need-byte-to-word-requires
+byte-to-word-requires c κs = search needs
 
 cast-is-set : tie.Need-cast-is-set
 cast-is-set c = search needs
@@ -21,4 +21,4 @@ returns c = search set-told
 
 pub is-set-spec : {M : Type 1} → statement M
 is-set-spec =
-    tie.close (tie.spec shared-slice-read-wide wide-requires cast-is-set is-set-requires returns)
+    tie.close (tie.spec shared-slice-read-byte-to-word byte-to-word-requires cast-is-set is-set-requires returns)

@@ -4,41 +4,41 @@ use borrow.Author.Needs.{needs}
 use Rattle.basic.proofs.maps.mapped.Statement.{statement}
 use Rattle.basic.proofs.maps.mapped.Tie as tie
 
-place-requires : tie.Need-place-requires
-place-requires c κs = search needs
+map-place-requires : tie.Need-map-place-requires
+map-place-requires c κs = search needs
 
 is-set-requires : tie.Need-is-set-requires
 is-set-requires c κs = search needs
 
-mul-wide : tie.Need-mul-wide
-mul-wide c = search needs
+mul-half-to-word : tie.Need-mul-half-to-word
+mul-half-to-word c = search needs
 
-shared-slice-read-wide : tie.Need-shared-slice-read-wide
-shared-slice-read-wide c = search needs
+shared-slice-read-half-to-word : tie.Need-shared-slice-read-half-to-word
+shared-slice-read-half-to-word c = search needs
 
-wide-requires : tie.Need-wide-requires
-wide-requires c κs = search needs
+half-to-word-requires : tie.Need-half-to-word-requires
+half-to-word-requires c κs = search needs
 
 add-result : tie.Need-add-result
 add-result c = search needs
 
 returns : tie.Need-returns
 returns c =
-    let at = c .before .before .before .before .place .ensures .0 in
-    mapped-set _ _ _ _ _ _ at (c .before .before .before .is-set .ensures) _ (c .before .before .if1 .taken) (c .wide .ensures)
+    let at = c .before .before .before .before .map-place .ensures .0 in
+    mapped-set _ _ _ _ _ _ at (c .before .before .before .is-set .ensures) _ (c .before .before .if1 .taken) (c .half-to-word .ensures)
 
 returns-2 : tie.Need-returns-2
-returns-2 c = mapped-clear _ _ _ _ _ _ (c .before .before .place .ensures .0) (c .before .is-set .ensures) (c .if1 .left)
+returns-2 c = mapped-clear _ _ _ _ _ _ (c .before .before .map-place .ensures .0) (c .before .is-set .ensures) (c .if1 .left)
 
 pub mapped-spec : {M : Type 1} → statement M
 mapped-spec =
     tie.close
     (tie.spec
-    place-requires
+    map-place-requires
     is-set-requires
-    mul-wide
-    shared-slice-read-wide
-    wide-requires
+    mul-half-to-word
+    shared-slice-read-half-to-word
+    half-to-word-requires
     add-result
     returns
     returns-2)

@@ -11,4 +11,4 @@ gh-broadcast-spec =
     (tie.spec
     (λ c κs. search needs)
     (λ c κs. search needs)
-    (λ c. c .told .ensures ∙ ap packCast (c .before .broadcast .ensures)))
+    (λ c. c .cast-word .ensures ∙ ap packCast (c .before .broadcast .ensures)))

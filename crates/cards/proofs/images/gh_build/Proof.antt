@@ -1,4 +1,4 @@
--- `cards::images::gh_build` meets its contract. Assumes nothing.
+-- `cards::images::gh_build`. The image of the input's routes.
 use Rattle.cards.proofs.Laws.{image-card-is}
 use borrow.Author.Needs.{needs}
 use Rattle.cards.proofs.images.gh_build.Statement.{statement}

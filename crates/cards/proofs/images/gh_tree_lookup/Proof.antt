@@ -1,4 +1,4 @@
--- `cards::images::gh_tree_lookup` meets its contract. Assumes nothing.
+-- `cards::images::gh_tree_lookup`. The hop for one address, with the count of nodes read.
 use mathlib.Core.Path.{ap, _∙_}
 use Rattle.sail.specs.Word.{packFound}
 use borrow.Author.Needs.{needs}

@@ -1,4 +1,4 @@
--- `cards::inputs::gh_route` meets its contract. Assumes nothing.
+-- `cards::inputs::gh_route`. One route of the input, read back.
 use mathlib.Core.Path.{ap, _∙_}
 use Rattle.packing.specs.Pack.{packRoute}
 use borrow.Author.Needs.{needs}

@@ -1,7 +1,7 @@
--- `cards::inputs::gh_tally` meets its contract: the words stored so far are the first counts. Assumes nothing.
+-- `cards::inputs::gh_tally`: the words stored so far are the first counts.
 use native.Mathlib.Omega.{arith}
-use Prim.Native.Nat.{ℕ, _+_, _-_, _≤_, _<_}
-use mathlib.Core.Path.{_≡_, refl, sym, ap, _∙_}
+use Prim.Native.Nat.{ℕ, _-_, _≤_, _<_}
+use mathlib.Core.Path.{_≡_, refl, ap, _∙_}
 use lib.ListN.{length, getD, length-set}
 use Rattle.bits.proofs.Tabs.{stored-more}
 use Rattle.cards.proofs.Laws.{tally-short, tally-all, tally-length}
@@ -35,8 +35,10 @@ gh-tally-spec =
       omega arith,
       simp length-set (c .before .loop .inv .1),
       c .before .loop .inv .2,
-      stored-more (λ j. getD (c .before .before .before .tally .result .counts) j 0) (c .before .loop .out) (c .before .loop .k) _ (omega arith) (c .before .loop .inv .3) refl,
+      stored-more (λ j. getD (c .before .before .before .tally .result .counts) j 0) (c .before .loop .out) (c .before .loop .k) _ (omega arith)
+          (c .before .loop .inv .3) refl,
     ))
     (λ c κs. search needs)
     (λ c. omega arith)
-    (λ c. tally-all _ _ (c .before .before .before .before .before .if1 .left) _ (c .before .before .before .before .tally .ensures) _ (c .before .before .loop .inv .1) (c .before .before .loop .inv .2) (λ j h. c .before .before .loop .inv .3 j (omega arith)) _ (c .input .ensures)))
+    (λ c. tally-all _ _ (c .before .before .before .before .before .if1 .left) _ (c .before .before .before .before .tally .ensures) _
+    (c .before .before .loop .inv .1) (c .before .before .loop .inv .2) (λ j h. c .before .before .loop .inv .3 j (omega arith)) _ (c .input .ensures)))

@@ -1,4 +1,4 @@
--- `cards::lookups::gh_lookup` meets its contract. Assumes nothing.
+-- `cards::lookups::gh_lookup`. The hop for one address, with the count of cells read.
 use borrow.Author.Needs.{needs}
 use Rattle.cards.proofs.Laws.{look-standard}
 use Rattle.cards.proofs.lookups.gh_lookup.Statement.{statement}

@@ -1,4 +1,4 @@
--- `cards::lookups::look` meets its contract. Assumes nothing.
+-- `cards::lookups::look`. One lookup.
 use borrow.Author.Needs.{needs}
 use Rattle.cards.proofs.Laws.{look-off, look-is}
 use Rattle.cards.proofs.lookups.look.Statement.{statement}

@@ -1,6 +1,6 @@
--- `cards::lookups::look_each` meets its contract. Assumes nothing.
+-- `cards::lookups::look_each`. Many lookups with one check of geometry and sizes.
 use borrow.Author.Needs.{needs}
-use Rattle.sail_many.proofs.Answers.{ready}
+use Rattle.sail_many.proofs.LookupWords.{ready}
 use Rattle.cards.proofs.Laws.{many-not, many-uneven, many-answers}
 use Rattle.cards.proofs.lookups.look_each.Statement.{statement}
 use Rattle.cards.proofs.lookups.look_each.Tie as tie
@@ -15,4 +15,10 @@ look-each-spec =
     (λ c. search many-uneven)
     (λ c κs. (ready _ _ (c .before .before .before .before .sizes .ensures .facts (c .before .before .before .if1 .left)), search needs))
     (λ c. search needs)
-    (λ c. many-answers _ _ _ _ _ (c .before .before .before .before .before .before .before .sizes .ensures) (c .before .before .before .before .before .before .if1 .left) (c .before .before .before .before .before .if2 .left) (λ i. c .before .before .before .before .before .before .before .before .before .before .before .before .before .before .before .before .shared-slice-known2 .given i .fits) (λ i. c .before .before .before .before .before .before .before .before .before .before .before .before .before .before .before .shared-slice-known3 .given i .fits) (λ i. c .before .before .before .before .before .before .before .before .before .before .before .before .before .before .shared-slice-known4 .given i .fits) _ (c .before .before .many .ensures)))
+    (λ c. many-answers _ _ _ _ _ (c .before .before .before .before .before .before .before .sizes .ensures)
+    (c .before .before .before .before .before .before .if1 .left) (c .before .before .before .before .before .if2 .left)
+    (λ i. c .before .before .before .before .before .before .before .before .before .before .before .before .before .before .before .before
+    .shared-slice-known2 .given i .fits) (λ i. c .before .before .before .before .before .before .before .before .before .before .before .before
+    .before .before .before .shared-slice-known3 .given i .fits)
+    (λ i. c .before .before .before .before .before .before .before .before .before .before .before .before .before .before .shared-slice-known4
+    .given i .fits) _ (c .before .before .many .ensures)))

@@ -1,4 +1,4 @@
--- `cards::lookups::look_standard` meets its contract. Assumes nothing.
+-- `cards::lookups::look_standard`. The same at the standard geometry, whose shifts the compiler then knows.
 use borrow.Author.Needs.{needs}
 use Rattle.cards.proofs.Laws.{look-off, look-is}
 use Rattle.cards.proofs.lookups.look_standard.Statement.{statement}

@@ -1,4 +1,4 @@
--- `cards::tables::gh_load` meets its contract. Assumes nothing.
+-- `cards::tables::gh_load`. A table of the input's routes; nothing of the old one is read.
 use Rattle.cards.proofs.Laws.{card-is}
 use borrow.Author.Needs.{needs}
 use Rattle.cards.proofs.tables.gh_load.Statement.{statement}

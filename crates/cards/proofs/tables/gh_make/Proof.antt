@@ -1,4 +1,4 @@
--- `cards::tables::gh_make` meets its contract. Assumes nothing.
+-- `cards::tables::gh_make`. A fresh table of this geometry.
 use Rattle.cards.proofs.Laws.{card-is}
 use borrow.Author.Needs.{needs}
 use Rattle.cards.proofs.tables.gh_make.Statement.{statement}

@@ -1,4 +1,4 @@
--- `cards::tables::gh_report` meets its contract. Assumes nothing.
+-- `cards::tables::gh_report`. The route count and both needs.
 use mathlib.Core.Path.{ap, _∙_}
 use Rattle.packing.specs.Pack.{packReport}
 use borrow.Author.Needs.{needs}

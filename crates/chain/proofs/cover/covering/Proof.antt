@@ -1,4 +1,4 @@
--- `chain::cover::covering` meets its contract. Assumes nothing.
+-- `chain::cover::covering`. Whether the route of a word covers cell i of level p.
 use Rattle.chain.proofs.Chains.{too-long, tested}
 use borrow.Author.Needs.{needs}
 use Rattle.chain.proofs.cover.covering.Statement.{statement}

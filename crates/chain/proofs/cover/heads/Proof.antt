@@ -1,4 +1,4 @@
--- `chain::cover::heads` meets its contract. The invariant: the heads below b stand, and every word before m has a smaller first byte. Assumes nothing.
+-- `chain::cover::heads`: The invariant: the heads below b stand, and every word before m has a smaller first byte.
 use mathlib.Core.Path.{_≡_, refl, _∙_}
 use Prim.Native.Nat.{_-_, _*_, _≤_}
 use lib.ListN.{length, length-set}
@@ -12,7 +12,8 @@ use Rattle.chain.proofs.cover.heads.Statement.{statement}
 use Rattle.chain.proofs.cover.heads.Tie as tie
 
 abbrev Inv-loop : tie.InvT-loop
-Inv-loop ws par₀ m₀ b₀ par m b = (b ≤ 257) × (length par ≡ length par₀) × Parents ws par (length ws) × Heads ws par b × Between ws (b * 4294967296) m (length ws)
+Inv-loop ws par₀ m₀ b₀ par m b = (b ≤ 257) × (length par ≡ length par₀) × Parents ws par (length ws) × Heads ws par b × Between ws (b * 4294967296) m
+    (length ws)
 
 abbrev μ-loop : tie.MeasureT-loop
 μ-loop ws par₀ m₀ b₀ par m b = 257 - b
@@ -32,7 +33,15 @@ heads-spec =
     (λ c. search needs)
     (λ c. search needs)
     (λ c. search needs)
-    (λ c. let l = c .before .before .loop .inv in (omega arith, simp length-set (l .1), parents-keep _ _ _ _ _ (omega arith) (l .2), heads-more _ _ _ _ (omega arith) (c .place-on .ensures) (l .3), on-from _ _ _ _ (omega arith) (c .before .before .before .before .before .pre .0 .words) (c .place-on .ensures)))
+    (λ c. let l = c .before .before .loop .inv in (
+      omega arith,
+      simp length-set (l .1),
+      parents-keep _ _ _ _ _ (omega arith)
+          (l .2),
+      heads-more _ _ _ _ (omega arith) (c .place-on .ensures) (l .3),
+      on-from _ _ _ _ (omega arith)
+          (c .before .before .before .before .before .pre .0 .words) (c .place-on .ensures),
+    ))
     (λ c. c .before .loop .inv .1)
     (λ c. let l = c .before .loop in
     let q = c .before .before .before .before .pre .0 in

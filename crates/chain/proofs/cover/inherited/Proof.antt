@@ -1,4 +1,4 @@
--- `chain::cover::inherited` meets its contract. Assumes nothing.
+-- `chain::cover::inherited`. The hop of the longest route of at most p bits that covers cell i; the run under the cell begins at lo.
 use native.Mathlib.Omega.{arith}
 use Rattle.chain.proofs.Chains.{climb-placed, none-best, one-best, one-small}
 use borrow.Author.Needs.{needs}

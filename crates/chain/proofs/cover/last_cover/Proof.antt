@@ -1,14 +1,13 @@
--- `chain::cover::last_cover` meets its contract. The invariant: only words before m are left. The measure is m.
--- Assumes nothing.
+-- `chain::cover::last_cover`: The invariant: only words before m are left. The measure is m.
 use Prim.Native.Nat.{_-_}
 use native.Mathlib.Omega.{arith}
 use borrow.Author.Needs.{needs}
-use Rattle.chain.proofs.Chains.{Left, all-left, found, none-left, climb-less, climb-on}
+use Rattle.chain.proofs.Chains.{LeftBelow, all-left, found, none-left, climb-less, climb-on}
 use Rattle.chain.proofs.cover.last_cover.Statement.{statement}
 use Rattle.chain.proofs.cover.last_cover.Tie as tie
 
 abbrev Inv-loop : tie.InvT-loop
-Inv-loop ws par j p i m₀ m = Left ws j p i m
+Inv-loop ws par j p i m₀ m = LeftBelow ws j p i m
 
 abbrev μ-loop : tie.MeasureT-loop
 μ-loop ws par j p i m₀ m = m

@@ -1,4 +1,4 @@
--- `chain::cover::longest` meets its contract. Assumes nothing.
+-- `chain::cover::longest`. The hop of the longest route of at most p bits that covers an address.
 use Rattle.bits.proofs.Slots.{slot-lt}
 use borrow.Author.Needs.{needs}
 use Rattle.chain.proofs.cover.longest.Statement.{statement}

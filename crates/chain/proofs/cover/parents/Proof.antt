@@ -1,4 +1,4 @@
--- `chain::cover::parents` meets its contract. The invariant: the first k parents stand. Assumes nothing.
+-- `chain::cover::parents`: The invariant: the first k parents stand.
 use mathlib.Core.Path.{_≡_, refl, sym}
 use Prim.Native.Nat.{_-_, _≤_}
 use lib.ListN.{length, length-set}
@@ -28,13 +28,19 @@ parents-spec =
     (λ c. sym (length-take-le _ _ (omega arith)))
     (λ c. search needs)
     (λ c. search needs)
-    (λ c κs. climb-self _ _ _ (c .before .before .before .before .before .before .pre .words) (c .before .before .loop-test .taken) (omega arith) (c .before .before .before .loop .inv .2))
+    (λ c κs. climb-self _ _ _ (c .before .before .before .before .before .before .pre .words) (c .before .before .loop-test .taken) (omega arith)
+    (c .before .before .before .loop .inv .2))
     (λ c. omega (arith, c .last-cover .ensures .to))
     (λ c. search needs)
     (λ c. search needs)
     (λ c. search needs)
     (λ c. search needs)
-    (λ c. (omega arith, simp length-set (c .before .before .before .before .loop .inv .1), parents-more _ _ _ _ (omega arith) (c .before .before .before .before .loop .inv .2) (c .last-cover .ensures)))
+    (λ c. (
+      omega arith,
+      simp length-set (c .before .before .before .before .loop .inv .1),
+      parents-more _ _ _ _ (omega arith)
+          (c .before .before .before .before .loop .inv .2) (c .last-cover .ensures),
+    ))
     (λ c. c .before .loop .inv .1)
     (λ c. let l = c .before .loop in
     let e : l .k ≡ length (now (c .before .before .before .before .args .ws)) = omega arith in

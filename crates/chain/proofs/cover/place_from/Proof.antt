@@ -1,4 +1,4 @@
--- `chain::cover::place_from` meets its contract. Assumes nothing.
+-- `chain::cover::place_from`. How many words have a smaller key, by halving between two heads.
 use Rattle.chain.proofs.Chains.{head-between}
 use borrow.Author.Needs.{needs}
 use Rattle.chain.proofs.cover.place_from.Statement.{statement}

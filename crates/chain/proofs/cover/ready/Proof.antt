@@ -1,4 +1,4 @@
--- `chain::cover::ready` meets its contract. Assumes nothing.
+-- `chain::cover::ready`. The parents and the heads.
 use mathlib.Core.Path.{_∙_}
 use borrow.Author.Needs.{needs}
 use Rattle.chain.proofs.cover.ready.Statement.{statement}

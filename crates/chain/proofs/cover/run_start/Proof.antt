@@ -1,4 +1,4 @@
--- `chain::cover::run_start` meets its contract. Assumes nothing.
+-- `chain::cover::run_start`. Where the run under cell i of level p begins.
 use borrow.Author.Needs.{needs}
 use Rattle.chain.proofs.cover.run_start.Statement.{statement}
 use Rattle.chain.proofs.cover.run_start.Tie as tie

@@ -1,4 +1,4 @@
--- `chain::place::place_between` meets its contract. The invariant: the place is between lo and hi. Assumes nothing.
+-- `chain::place::place_between`: The invariant: the place is between lo and hi.
 use Prim.Native.Nat.{_-_}
 use native.Mathlib.Omega.{arith}
 use borrow.Author.Needs.{needs}

@@ -1,4 +1,4 @@
--- `chain::place::place_on` meets its contract. The invariant: the place is not before k. Assumes nothing.
+-- `chain::place::place_on`: The invariant: the place is not before k.
 use Prim.Native.Nat.{_-_}
 use lib.ListN.{length}
 use native.Mathlib.Omega.{arith}

@@ -1,15 +1,15 @@
--- `chain::place::run_end` meets its contract. The invariant: the words from lo up to k have the bits of the cell. Assumes nothing.
+-- `chain::place::run_end`: The invariant: the words from lo up to k have the bits of the cell.
 use denote.Ref.{now}
 use Prim.Native.Nat.{_-_, _≤_}
 use lib.ListN.{length}
 use native.Mathlib.Omega.{arith}
 use borrow.Author.Needs.{needs}
-use Rattle.chain.proofs.Runs.{Inside, inside-more, run-is}
+use Rattle.chain.proofs.WordRuns.{InsideCell, inside-more, run-is}
 use Rattle.chain.proofs.place.run_end.Statement.{statement}
 use Rattle.chain.proofs.place.run_end.Tie as tie
 
 abbrev Inv-loop : tie.InvT-loop
-Inv-loop ws lo p i k₀ k = (lo ≤ k) × (k ≤ length ws) × Inside ws p i lo k
+Inv-loop ws lo p i k₀ k = (lo ≤ k) × (k ≤ length ws) × InsideCell ws p i lo k
 
 abbrev μ-loop : tie.MeasureT-loop
 μ-loop ws lo p i k₀ k = length ws - k

@@ -1,4 +1,4 @@
--- `chain::place::shifted` meets its contract. Assumes nothing.
+-- `chain::place::shifted`. A number of j digits, shifted by k.
 use Rattle.chain.proofs.Places.{shifted-is}
 use borrow.Author.Needs.{needs}
 use Rattle.chain.proofs.place.shifted.Statement.{statement}

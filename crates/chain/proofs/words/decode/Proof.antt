@@ -1,4 +1,4 @@
--- `chain::words::decode` meets its contract. The invariant: the first k words stand. Assumes nothing.
+-- `chain::words::decode`: The invariant: the first k words stand.
 use mathlib.Core.Path.{_≡_, refl}
 use Prim.Native.Nat.{_-_, _≤_}
 use lib.ListN.{length, length-set}
@@ -7,12 +7,12 @@ use borrow.Author.Needs.{needs}
 use borrow.Author.Count.{below-none}
 use denote.Ref.{now}
 use Rattle.chain.specs.Words.{wordAt}
-use Rattle.chain.proofs.Decodes.{Filled, filled-more, filled-all}
+use Rattle.chain.proofs.Decodes.{FilledTo, filled-to-more, filled-all}
 use Rattle.chain.proofs.words.decode.Statement.{statement}
 use Rattle.chain.proofs.words.decode.Tie as tie
 
 abbrev Inv-loop : tie.InvT-loop
-Inv-loop list out₀ n k₀ out k = (k ≤ n) × (length out ≡ n) × Filled (wordAt list) out k
+Inv-loop list out₀ n k₀ out k = (k ≤ n) × (length out ≡ n) × FilledTo (wordAt list) out k
 
 abbrev μ-loop : tie.MeasureT-loop
 μ-loop list out₀ n k₀ out k = n - k
@@ -29,6 +29,11 @@ decode-spec =
     (λ c. search needs)
     (λ c. search needs)
     (λ c. search needs)
-    (λ c. let l = c .before .before .loop in (omega arith, simp length-set (l .inv .1), filled-more (wordAt (now (c .before .before .before .before .before .args .list))) (l .out) (l .k) _ (omega arith) (c .read-word .ensures) (l .inv .2)))
+    (λ c. let l = c .before .before .loop in (
+      omega arith,
+      simp length-set (l .inv .1),
+      filled-to-more
+          (wordAt (now (c .before .before .before .before .before .args .list))) (l .out) (l .k) _ (omega arith) (c .read-word .ensures) (l .inv .2),
+    ))
     (λ c. c .before .loop .inv .1)
     (λ c. filled-all _ _ _ _ (c .before .loop .inv .1) (omega arith) (c .before .loop .inv .2)))

@@ -1,4 +1,4 @@
--- `chain::words::read_word` meets its contract. Assumes nothing.
+-- `chain::words::read_word`. Record k as a word.
 use Rattle.chain.specs.Words.{wordAt}
 use borrow.Author.Needs.{needs}
 use Rattle.chain.proofs.words.read_word.Statement.{statement}

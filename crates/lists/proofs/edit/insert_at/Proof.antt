@@ -1,4 +1,4 @@
--- `lists::edit::insert_at` meets its contract. Assumes nothing.
+-- `lists::edit::insert_at`. `r` becomes record k of the list's n records, and those from k on stand one place further.
 use borrow.Author.Needs.{needs}
 use Rattle.lists.proofs.EditBytes.{inserted-at}
 use Rattle.lists.proofs.edit.insert_at.Statement.{statement}
@@ -13,4 +13,6 @@ insert-at-spec =
     (λ c κs. search needs)
     (λ c κs. search needs)
     (λ c. search needs)
-    (λ c. rw (c .before .before .write-record .ensures, c .before .before .before .before .before .before .move-up .ensures) (inserted-at _ _ _ _ (λ i. c .before .before .before .before .before .before .before .before .slice-known .given i .fits) (c .before .before .before .before .before .before .before .before .before .pre))))
+    (λ c. rw (c .before .before .write-record .ensures, c .before .before .before .before .before .before .move-up .ensures)
+    (inserted-at _ _ _ _ (λ i. c .before .before .before .before .before .before .before .before .slice-known .given i .fits)
+    (c .before .before .before .before .before .before .before .before .before .pre))))

@@ -1,4 +1,4 @@
--- `lists::edit::move_down` meets its contract. The invariant: the bytes before `at` are moved. Assumes nothing.
+-- `lists::edit::move_down`: The invariant: the bytes before `at` are moved.
 use mathlib.Core.Path.{_≡_, refl}
 use Prim.Native.Nat.{_-_, _≤_}
 use native.Mathlib.Omega.{arith}
@@ -26,6 +26,12 @@ move-down-spec =
     (λ c. omega arith)
     (λ c. omega arith)
     (λ c. omega arith)
-    (λ c. (omega arith, omega arith, simp length-set (c .before .before .loop .inv .2), rw (c .before .before .loop .inv .3) (down-step _ _ _ (omega arith) (omega arith))))
+    (λ c. (
+      omega arith,
+      omega arith,
+      simp length-set (c .before .before .loop .inv .2),
+      rw (c .before .before .loop .inv .3)
+          (down-step _ _ _ (omega arith) (omega arith)),
+    ))
     (λ c. c .before .loop .inv .2)
     (λ c. let q : c .before .loop .at ≡ c .before .before .args .e = omega arith in rw (← q) (c .before .loop .inv .3)))

@@ -1,4 +1,4 @@
--- `lists::edit::move_up` meets its contract. The invariant: the bytes from `at` on are moved. Assumes nothing.
+-- `lists::edit::move_up`: The invariant: the bytes from `at` on are moved.
 use mathlib.Core.Path.{_≡_, refl}
 use Prim.Native.Nat.{_≤_}
 use native.Mathlib.Omega.{arith}
@@ -26,6 +26,12 @@ move-up-spec =
     (λ c. omega arith)
     (λ c. omega arith)
     (λ c. omega arith)
-    (λ c. (omega arith, omega arith, simp length-set (c .before .before .loop .inv .2), rw (c .before .before .loop .inv .3) (up-step _ _ _ (omega arith) (omega arith) (omega arith))))
+    (λ c. (
+      omega arith,
+      omega arith,
+      simp length-set (c .before .before .loop .inv .2),
+      rw (c .before .before .loop .inv .3)
+          (up-step _ _ _ (omega arith) (omega arith) (omega arith)),
+    ))
     (λ c. c .before .loop .inv .2)
     (λ c. let q : c .before .loop .at ≡ c .before .before .args .a = omega arith in rw (← q) (c .before .loop .inv .3)))

@@ -1,4 +1,4 @@
--- `lists::edit::stands_at` meets its contract. Assumes nothing.
+-- `lists::edit::stands_at`. Whether a route of the key p stands in the list's n records: record k, the key's place, then has it.
 use borrow.Author.Needs.{needs}
 use Rattle.lists.proofs.EditPlaces.{at-place, past-place}
 use Rattle.lists.proofs.edit.stands_at.Statement.{statement}

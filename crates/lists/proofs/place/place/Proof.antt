@@ -1,4 +1,4 @@
--- `lists::place::place` meets its contract. The invariant: every record before `low` is smaller, and every one from `high` on is not. Assumes nothing.
+-- `lists::place::place`: The invariant: every record before `low` is smaller, and every one from `high` on is not.
 use Prim.Native.Nat.{ℕ, _-_, _≤_, _<_}
 use native.Mathlib.Omega.{arith}
 use borrow.Author.Count.{below-none}

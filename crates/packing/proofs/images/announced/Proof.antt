@@ -2,8 +2,8 @@
 use mathlib.Core.Path.{ap}
 use native.Mathlib.Omega.{arith}
 use Rattle.routes.specs.Said.{packed}
-use Rattle.tree_change.specs.Changed.{saysAnnounced}
-use Rattle.tree_change.specs.declared.Announced.{Announced}
+use Rattle.tree_change.specs.Changed.{meansTreeAnnounced}
+use Rattle.tree_change.specs.declared.TreeAnnounced.{TreeAnnounced}
 use Rattle.packing.specs.ImageAnswers.{packImage}
 use borrow.Author.Needs.{needs}
 use Rattle.packing.proofs.images.announced.Statement.{statement}
@@ -24,20 +24,20 @@ used-requires-2 c κs = search needs
 enum-known-a-3 : tie.Need-enum-known-a-3
 enum-known-a-3 c = search needs
 
-byte-requires : tie.Need-byte-requires
-byte-requires c κs = search needs
+byte-to-long-requires : tie.Need-byte-to-long-requires
+byte-to-long-requires c κs = search needs
 
 returns : tie.Need-returns
-unfolding saysAnnounced packed
-returns c = omega (arith, ap (λ (x : Announced). packImage (saysAnnounced x)) (c .before .before .a .given .1))
+unfolding meansTreeAnnounced packed
+returns c = omega (arith, ap (λ (x : TreeAnnounced). packImage (meansTreeAnnounced x)) (c .before .before .a .given .1))
 
 returns-2 : tie.Need-returns-2
-unfolding saysAnnounced packed
-returns-2 c = omega (arith, ap (λ (x : Announced). packImage (saysAnnounced x)) (c .before .before .a2 .given .1))
+unfolding meansTreeAnnounced packed
+returns-2 c = omega (arith, ap (λ (x : TreeAnnounced). packImage (meansTreeAnnounced x)) (c .before .before .a2 .given .1))
 
 returns-3 : tie.Need-returns-3
-unfolding saysAnnounced packed
-returns-3 c = omega (arith, ap (λ (x : Announced). packImage (saysAnnounced x)) (c .before .before .a3 .given .1))
+unfolding meansTreeAnnounced packed
+returns-3 c = omega (arith, ap (λ (x : TreeAnnounced). packImage (meansTreeAnnounced x)) (c .before .before .a3 .given .1))
 
 pub announced-spec : {M : Type 1} → statement M
 announced-spec =
@@ -48,7 +48,7 @@ announced-spec =
     enum-known-a-2
     used-requires-2
     enum-known-a-3
-    byte-requires
+    byte-to-long-requires
     returns
     returns-2
     returns-3)

@@ -2,7 +2,7 @@
 use mathlib.Core.Path.{ap}
 use native.Mathlib.Omega.{arith}
 use Rattle.routes.specs.Said.{packed}
-use Rattle.tree_check.specs.Answers.{saysTested}
+use Rattle.tree_check.specs.Answers.{meansTested}
 use Rattle.tree_check.specs.declared.Tested.{Tested}
 use Rattle.packing.specs.Pack.{packBuilt}
 use borrow.Author.Needs.{needs}
@@ -19,12 +19,12 @@ enum-told : tie.Need-enum-told
 enum-told c = search needs
 
 returns : tie.Need-returns
-unfolding saysTested packed
-returns c = omega (arith, ap (λ (x : Tested). packBuilt (saysTested x)) (c .before .before .a .given .1))
+unfolding meansTested packed
+returns c = omega (arith, ap (λ (x : Tested). packBuilt (meansTested x)) (c .before .before .a .given .1))
 
 returns-2 : tie.Need-returns-2
-unfolding saysTested packed
-returns-2 c = omega (arith, ap (λ (x : Tested). packBuilt (saysTested x)) (c .enum-told .given .1))
+unfolding meansTested packed
+returns-2 c = omega (arith, ap (λ (x : Tested). packBuilt (meansTested x)) (c .enum-told .given .1))
 
 pub tested-spec : {M : Type 1} → statement M
 tested-spec = tie.close (tie.spec enum-known-a used-requires enum-told returns returns-2)

@@ -2,8 +2,8 @@
 use mathlib.Core.Path.{ap}
 use native.Mathlib.Omega.{arith}
 use Rattle.routes.specs.Said.{packed}
-use Rattle.tree_change.specs.Changed.{saysWithdrawn}
-use Rattle.tree_change.specs.declared.Withdrawn.{Withdrawn}
+use Rattle.tree_change.specs.Changed.{meansTreeWithdrawn}
+use Rattle.tree_change.specs.declared.TreeWithdrawn.{TreeWithdrawn}
 use Rattle.packing.specs.Pack.{packBuilt}
 use borrow.Author.Needs.{needs}
 use Rattle.packing.proofs.images.withdrawn.Statement.{statement}
@@ -18,16 +18,16 @@ used-requires c κs = search needs
 enum-known-a-2 : tie.Need-enum-known-a-2
 enum-known-a-2 c = search needs
 
-byte-requires : tie.Need-byte-requires
-byte-requires c κs = search needs
+byte-to-long-requires : tie.Need-byte-to-long-requires
+byte-to-long-requires c κs = search needs
 
 returns : tie.Need-returns
-unfolding saysWithdrawn packed
-returns c = omega (arith, ap (λ (x : Withdrawn). packBuilt (saysWithdrawn x)) (c .before .before .a .given .1))
+unfolding meansTreeWithdrawn packed
+returns c = omega (arith, ap (λ (x : TreeWithdrawn). packBuilt (meansTreeWithdrawn x)) (c .before .before .a .given .1))
 
 returns-2 : tie.Need-returns-2
-unfolding saysWithdrawn packed
-returns-2 c = omega (arith, ap (λ (x : Withdrawn). packBuilt (saysWithdrawn x)) (c .before .before .a2 .given .1))
+unfolding meansTreeWithdrawn packed
+returns-2 c = omega (arith, ap (λ (x : TreeWithdrawn). packBuilt (meansTreeWithdrawn x)) (c .before .before .a2 .given .1))
 
 pub withdrawn-spec : {M : Type 1} → statement M
 withdrawn-spec =
@@ -36,6 +36,6 @@ withdrawn-spec =
     enum-known-a
     used-requires
     enum-known-a-2
-    byte-requires
+    byte-to-long-requires
     returns
     returns-2)

@@ -2,7 +2,7 @@
 use mathlib.Core.Path.{ap}
 use native.Mathlib.Omega.{arith}
 use Rattle.routes.specs.Said.{packed}
-use Rattle.basic.specs.Calls.{saysBasicAnswer}
+use Rattle.basic.specs.Calls.{meansBasicAnswer}
 use Rattle.basic.specs.declared.check.BasicAnswer.{BasicAnswer}
 use Rattle.packing.specs.Pack.{packNone}
 use borrow.Author.Needs.{needs}
@@ -21,20 +21,20 @@ refused-at-requires c κs = search needs
 enum-known-a-2 : tie.Need-enum-known-a-2
 enum-known-a-2 c = search needs
 
-byte-requires : tie.Need-byte-requires
-byte-requires c κs = search needs
+byte-to-long-requires : tie.Need-byte-to-long-requires
+byte-to-long-requires c κs = search needs
 
 returns : tie.Need-returns
-unfolding saysBasicAnswer packed
-returns c = omega (arith, ap (λ (x : BasicAnswer). packNone (saysBasicAnswer x)) (c .enum-told .given .1))
+unfolding meansBasicAnswer packed
+returns c = omega (arith, ap (λ (x : BasicAnswer). packNone (meansBasicAnswer x)) (c .enum-told .given .1))
 
 returns-2 : tie.Need-returns-2
-unfolding saysBasicAnswer packed
-returns-2 c = omega (arith, ap (λ (x : BasicAnswer). packNone (saysBasicAnswer x)) (c .before .before .a .given .1))
+unfolding meansBasicAnswer packed
+returns-2 c = omega (arith, ap (λ (x : BasicAnswer). packNone (meansBasicAnswer x)) (c .before .before .a .given .1))
 
 returns-3 : tie.Need-returns-3
-unfolding saysBasicAnswer packed
-returns-3 c = omega (arith, ap (λ (x : BasicAnswer). packNone (saysBasicAnswer x)) (c .before .before .a2 .given .1))
+unfolding meansBasicAnswer packed
+returns-3 c = omega (arith, ap (λ (x : BasicAnswer). packNone (meansBasicAnswer x)) (c .before .before .a2 .given .1))
 
 pub answered-spec : {M : Type 1} → statement M
 answered-spec =
@@ -44,7 +44,7 @@ answered-spec =
     enum-known-a
     refused-at-requires
     enum-known-a-2
-    byte-requires
+    byte-to-long-requires
     returns
     returns-2
     returns-3)

@@ -3,19 +3,23 @@ use mathlib.Core.Path.{ap}
 use native.Mathlib.Omega.{arith}
 use borrow.Author.Needs.{needs}
 use Rattle.routes.specs.Said.{packed}
-use Rattle.repair.specs.Answers.{saysRepaired}
+use Rattle.repair.specs.Answers.{meansRepaired}
 use Rattle.repair.specs.declared.repair.Repaired.{Repaired}
 use Rattle.packing.specs.Repairs.{packCount}
 use Rattle.packing.proofs.repairs.repaired.Statement.{statement}
 use Rattle.packing.proofs.repairs.repaired.Tie as tie
 
 returns : tie.Need-returns
-unfolding saysRepaired packed
-returns c = omega (arith, ap (λ (x : Repaired). packCount (c .before .before .before .args .count) (saysRepaired x)) (c .before .enum-told .given .1))
+unfolding meansRepaired packed
+returns c = omega (arith, ap (λ (x : Repaired). packCount (c .before .before .before .args .count) (meansRepaired x)) (c .before .enum-told .given .1))
 
 returns-2 : tie.Need-returns-2
-unfolding saysRepaired packed
-returns-2 c = omega (arith, ap (λ (x : Repaired). packCount (c .before .before .before .before .args .count) (saysRepaired x)) (c .before .before .a .given .1))
+unfolding meansRepaired packed
+returns-2 c = omega (
+  arith,
+  ap (λ (x : Repaired). packCount (c .before .before .before .before .args .count) (meansRepaired x))
+      (c .before .before .a .given .1),
+)
 
 pub repaired-spec : {M : Type 1} → statement M
 repaired-spec =

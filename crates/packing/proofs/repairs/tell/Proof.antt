@@ -1,17 +1,17 @@
 -- `packing::repairs::tell`: four stores to four words, and none where the repair is refused.
 use denote.Ref.{now}
 use borrow.Author.Needs.{needs}
-use Rattle.repair.specs.Answers.{saysRepaired}
+use Rattle.repair.specs.Answers.{meansRepaired}
 use Rattle.packing.proofs.Putting.{four-set}
 use Rattle.packing.proofs.repairs.tell.Statement.{statement}
 use Rattle.packing.proofs.repairs.tell.Tie as tie
 
 refused : tie.Need-returns
-unfolding saysRepaired
+unfolding meansRepaired
 refused c = rw (c .enum-told .given .1)
 
 told : tie.Need-returns-2
-unfolding saysRepaired
+unfolding meansRepaired
 told c = let s = c .before .before .before in rw (c .before .a .given .1) (four-set (now (s .args .out)) _ _ _ _ (s .pre))
 
 pub tell-spec : {M : Type 1} → statement M

@@ -1,4 +1,5 @@
--- `plan::paint::ink` meets its contract. Assumes nothing.
+-- `plan::paint::ink`. What a route leaves in these cells: 0 where it is longer than the level, since the cell then names a chunk, and otherwise a
+-- leaf with its hop.
 use borrow.Author.Needs.{needs}
 use Rattle.plan.proofs.Ranges.{ink-long, ink-leaf}
 use Rattle.plan.proofs.paint.ink.Statement.{statement}

@@ -1,4 +1,4 @@
--- `plan::paint::paint_one` meets its contract. Assumes nothing.
+-- `plan::paint::paint_one`. Paints the route of a word over the block of cells of level p that starts at base.
 use native.Mathlib.Omega.{arith}
 use Prim.Native.Nat.{_/_, _-_}
 use lib.Pow.{shr-le}

@@ -1,4 +1,4 @@
--- `plan::paint::span` meets its contract. Assumes nothing.
+-- `plan::paint::span`. How many cells of level p a route of this length touches: those that it covers, or the one that it lies within.
 use Rattle.plan.proofs.Ranges.{span-one, span-more}
 use borrow.Author.Needs.{needs}
 use Rattle.plan.proofs.paint.span.Statement.{statement}

@@ -1,4 +1,5 @@
--- `plan::part::as_planned` meets its contract. Assumes nothing.
+-- `plan::part::as_planned`. Whether a part is as the routes of a run ask for the cells of level p from base on, where the hop h is inherited; `want`
+-- is room for the plan.
 use Rattle.plan.proofs.Settles.{judged-no, judged-yes}
 use borrow.Author.Needs.{needs}
 use Rattle.plan.proofs.part.as_planned.Statement.{statement}

@@ -1,4 +1,4 @@
--- `plan::part::settle_one` meets its contract. Assumes nothing.
+-- `plan::part::settle_one`. The cell that the route of a word lies within, where it is one of the part: its plan becomes what it holds.
 use Rattle.plan.proofs.Settles.{one-short, one-below, one-above, one-in}
 use borrow.Author.Needs.{needs}
 use Rattle.plan.proofs.part.settle_one.Statement.{statement}

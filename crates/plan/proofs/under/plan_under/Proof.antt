@@ -1,4 +1,4 @@
--- `plan::under::plan_under` meets its contract. Assumes nothing.
+-- `plan::under::plan_under`. The cells of level p from base on, as many as `out` has, which lie in cell i of level l.
 use Rattle.plan.proofs.Unders.{run-plans, run-planned}
 use borrow.Author.Needs.{needs}
 use Rattle.plan.proofs.under.plan_under.Statement.{statement}

@@ -1,4 +1,5 @@
--- `plan::under::right_under` meets its contract. Assumes nothing.
+-- `plan::under::right_under`. Whether a part is as the routes ask for these cells; `want` is room for the plan, and cell j of the part has the owner
+-- number o + j.
 use Rattle.plan.proofs.Unders.{run-judges, run-right}
 use borrow.Author.Needs.{needs}
 use Rattle.plan.proofs.under.right_under.Statement.{statement}

@@ -6,17 +6,17 @@ use Rattle.repair.proofs.differs.count_with.Statement.{statement}
 use Rattle.repair.proofs.differs.count_with.Tie as tie
 
 -- Places, each seen from a later one: where it starts; after `settle_owners`; after `chained`.
-abbrev start : tie.After-settle-owners → tie.Start
+abbrev start : tie.After-open-all → tie.Start
 start c = c .before .before .before .before .before .before .before .before .before .before .before .before
 
-abbrev settled : tie.After-chained → tie.After-settle-owners
+abbrev settled : tie.After-chained → tie.After-open-all
 settled c = c .before .before .before .before .before .before .before
 
 abbrev made : tie.After-count-from-arg5 → tie.After-chained
 made c = c .before .before .before .before .before .before .before .before .before
 
-settle-owners-requires : tie.Need-settle-owners-requires
-settle-owners-requires c κs =
+open-all-requires : tie.Need-open-all-requires
+open-all-requires c κs =
     let s = c .before .before .before .before .before .before .before .before .before .before .before in
     owners-ask _ _ _ _ _ _ _ _ _ _ (s .pre)
 
@@ -46,22 +46,22 @@ count-from-requires c κs =
     let w = made c in
     let o = settled w in
     let s = start o in
-    all-owned _ _ _ _ _ _ _ _ _ _ (s .pre) _ (w .chained .kept .1 .0) _ (w .chained .ensures) _ _ (o .settle-owners .ensures)
-    (o .settle-owners .kept .1 .1 .0) (o .settle-owners .kept .1 .1 .1 .0)
+    all-owned _ _ _ _ _ _ _ _ _ _ (s .pre) _ (w .chained .kept .1 .0) _ (w .chained .ensures) _ _ (o .open-all .ensures)
+    (o .open-all .kept .1 .1 .0) (o .open-all .kept .1 .1 .1 .0)
 
 returns : tie.Need-returns
 returns c =
     let w = made (c .before .before .before) in
     let o = settled w in
     let s = start o in
-    all-differ _ _ _ _ _ _ _ _ _ _ (s .pre) _ (w .chained .kept .1 .0) _ (w .chained .ensures) _ _ (o .settle-owners .ensures) _
+    all-differ _ _ _ _ _ _ _ _ _ _ (s .pre) _ (w .chained .kept .1 .0) _ (w .chained .ensures) _ _ (o .open-all .ensures) _
     (c .before .before .count-from .ensures)
 
 pub count-with-spec : {M : Type 1} → statement M
 count-with-spec =
     tie.close
     (tie.spec
-    settle-owners-requires
+    open-all-requires
     words-fit
     words-count
     chained-requires

@@ -5,7 +5,7 @@ use native.Mathlib.Omega.{arith}
 use lib.ListN.{length}
 use borrow.Author.Needs.{needs}
 use Rattle.bits.specs.Count.{count}
-use Rattle.chain.specs.Words.{routesIn}
+use Rattle.chain.specs.Words.{routesOfWords}
 use Rattle.sail.specs.Level.{always, itself, entry}
 use Rattle.repair.specs.Differs.{offAt}
 use Rattle.repair.proofs.Counts.{count-start}
@@ -15,7 +15,7 @@ use Rattle.repair.proofs.differs.off_first.Tie as tie
 
 abbrev Inv-loop : tie.InvT-loop
 Inv-loop ws par p first want₀ n m₀ b₀ want m b =
-    (b ≤ length first / 1024) × (length want ≡ 1024) × (m ≤ b * 1024) × (m ≡ count (offAt (routesIn ws) p always itself (entry first)) (b * 1024))
+    (b ≤ length first / 1024) × (length want ≡ 1024) × (m ≤ b * 1024) × (m ≡ count (offAt (routesOfWords ws) p always itself (entry first)) (b * 1024))
 
 abbrev μ-loop : tie.MeasureT-loop
 μ-loop ws par p first want₀ n m₀ b₀ want m b = length first / 1024 - b

@@ -8,7 +8,7 @@ use borrow.Author.Needs.{needs}
 use Rattle.bits.specs.Count.{count}
 use Rattle.sail.specs.Level.{entry}
 use Rattle.repair.specs.Differs.{offName}
-use Rattle.repair.proofs.Counts.{count-start, counted, name-none, name-off, name-same}
+use Rattle.repair.proofs.Counts.{count-start, count-done, name-none, name-off, name-same}
 use Rattle.repair.proofs.differs.off_names.Statement.{statement}
 use Rattle.repair.proofs.differs.off_names.Tie as tie
 
@@ -18,7 +18,7 @@ Inv-loop cells own n m₀ c₀ m c = (c ≤ length own) × (m ≤ c) × (m ≡ c
 abbrev μ-loop : tie.MeasureT-loop
 μ-loop cells own n m₀ c₀ m c = length own - c
 
-cell-in : tie.Need-shared-slice-read-wide Inv-loop μ-loop
+cell-in : tie.Need-shared-slice-read-half-to-index Inv-loop μ-loop
 cell-in c =
     let read = c .before .before in
     let s = read .before .before .before .before .before in
@@ -32,7 +32,7 @@ off c =
       omega arith,
       omega arith,
       name-off (now (s .cells)) (now (s .own)) (turn .loop .m) (turn .loop .c) (turn .loop .inv .2) _
-          (read .seen .ensures) (c .before .before .before .if1 .taken) _ (c .before .wide .ensures) (c .if2 .taken),
+          (read .seen .ensures) (c .before .before .before .if1 .taken) _ (c .before .half-to-index .ensures .0) (c .if2 .taken),
     )
 
 same : tie.Need-loop-again-2 Inv-loop μ-loop
@@ -43,7 +43,7 @@ same c =
       omega arith,
       omega arith,
       name-same (now (s .cells)) (now (s .own)) (turn .loop .m) (turn .loop .c) (turn .loop .inv .2) _
-          (read .seen .ensures) (c .before .before .before .if1 .taken) _ (c .before .wide .ensures) (c .if2 .left),
+          (read .seen .ensures) (c .before .before .before .if1 .taken) _ (c .before .half-to-index .ensures .0) (c .if2 .left),
     )
 
 free : tie.Need-loop-again-3 Inv-loop μ-loop
@@ -55,7 +55,7 @@ free c =
     (omega arith, omega arith, n)
 
 returns : tie.Need-returns Inv-loop μ-loop
-returns c = let l = c .before .loop in counted _ _ _ _ (l .inv .0) (c .loop-test .left) (l .inv .1) (l .inv .2)
+returns c = let l = c .before .loop in count-done _ _ _ _ (l .inv .0) (c .loop-test .left) (l .inv .1) (l .inv .2)
 
 pub off-names-spec : {M : Type 1} → statement M
 off-names-spec =

@@ -5,7 +5,7 @@ use native.Mathlib.Omega.{arith}
 use lib.ListN.{length}
 use borrow.Author.Needs.{needs}
 use Rattle.bits.specs.Count.{count}
-use Rattle.chain.specs.Words.{routesIn}
+use Rattle.chain.specs.Words.{routesOfWords}
 use Rattle.sail.specs.Level.{liveIn, partOf, entry}
 use Rattle.sail_paint.specs.Paint.{standsFor}
 use Rattle.repair.specs.Differs.{offAt}
@@ -16,7 +16,7 @@ use Rattle.repair.proofs.differs.off_pool.Tie as tie
 abbrev Inv-loop : tie.InvT-loop
 Inv-loop ws par l p up e own cells want₀ n m₀ c₀ want m c =
     (c ≤ length own) × (length want ≡ 1024) × (m ≤ c * 2 ^ (p - l))
-    × (m ≡ count (offAt (routesIn ws) p (liveIn (entry own) (p - l)) (partOf (entry own) (p - l) (standsFor e up)) (entry cells)) (c * 2 ^ (p - l)))
+    × (m ≡ count (offAt (routesOfWords ws) p (liveIn (entry own) (p - l)) (partOf (entry own) (p - l) (standsFor e up)) (entry cells)) (c * 2 ^ (p - l)))
 
 abbrev μ-loop : tie.MeasureT-loop
 μ-loop ws par l p up e own cells want₀ n m₀ c₀ want m c = length own - c

@@ -7,7 +7,7 @@ use lib.ListN.{length, getD}
 use borrow.Author.Needs.{needs}
 use Rattle.bits.specs.Count.{count}
 use Rattle.repair.specs.Differs.{offZero}
-use Rattle.repair.proofs.Counts.{count-start, counted, zero-off, zero-same}
+use Rattle.repair.proofs.Counts.{count-start, count-done, zero-off, zero-same}
 use Rattle.repair.proofs.differs.off_zero.Statement.{statement}
 use Rattle.repair.proofs.differs.off_zero.Tie as tie
 
@@ -28,7 +28,7 @@ same c =
     (omega arith, omega arith, zero-same (now (turn .before .args .part)) (turn .loop .m) (turn .loop .j) (turn .loop .inv .2) (c .if1 .left))
 
 returns : tie.Need-returns Inv-loop μ-loop
-returns c = let l = c .before .loop in counted _ _ _ _ (l .inv .0) (c .loop-test .left) (l .inv .1) (l .inv .2)
+returns c = let l = c .before .loop in count-done _ _ _ _ (l .inv .0) (c .loop-test .left) (l .inv .1) (l .inv .2)
 
 pub off-zero-spec : {M : Type 1} → statement M
 off-zero-spec =

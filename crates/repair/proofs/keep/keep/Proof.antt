@@ -4,12 +4,12 @@ use Prim.Native.Nat.{_-_, _^_, _≤_}
 use native.Mathlib.Omega.{arith}
 use lib.ListN.{length}
 use borrow.Author.Needs.{needs}
-use Rattle.repair.proofs.Keeps.{Passed, passed-none, passed-wrong, passed-small, passed-more, passed-all}
+use Rattle.repair.proofs.Keeps.{KeptSoFar, passed-none, passed-wrong, passed-small, passed-more, passed-all}
 use Rattle.repair.proofs.keep.keep.Statement.{statement}
 use Rattle.repair.proofs.keep.keep.Tie as tie
 
 abbrev Inv-loop : tie.InvT-loop
-Inv-loop list n out₀ least₀ m₀ k₀ out least m k = (k ≤ n) × (m ≤ k) × (least ≤ 2 ^ 40) × (length out ≡ 32768) × Passed list k least m out
+Inv-loop list n out₀ least₀ m₀ k₀ out least m k = (k ≤ n) × (m ≤ k) × (least ≤ 2 ^ 40) × (length out ≡ 32768) × KeptSoFar list k least m out
 
 abbrev μ-loop : tie.MeasureT-loop
 μ-loop list n out₀ least₀ m₀ k₀ out least m k = n - k

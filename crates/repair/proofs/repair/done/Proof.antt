@@ -1,12 +1,12 @@
 -- `repair::repair::done`. Each number fits 32 bits.
 use mathlib.Core.Path.{refl}
 use native.Mathlib.Omega.{arith}
-use Rattle.repair.specs.Answers.{saysRepaired}
+use Rattle.repair.specs.Answers.{meansRepaired}
 use Rattle.repair.proofs.repair.done.Statement.{statement}
 use Rattle.repair.proofs.repair.done.Tie as tie
 
 pub done-spec : {M : Type 1} → statement M
-unfolding saysRepaired
+unfolding meansRepaired
 done-spec =
     tie.close
     (tie.spec

@@ -1,4 +1,4 @@
--- `routes::input::check_input` meets its contract. The invariant: no record that was passed has a fault. Assumes nothing.
+-- `routes::input::check_input`: The invariant: no record that was passed has a fault.
 use mathlib.Core.Path.{_≡_}
 use mathlib.Core.Bool.{false}
 use Prim.Native.Nat.{ℕ, _-_, _≤_, _<_}
@@ -6,7 +6,6 @@ use native.Mathlib.Omega.{arith}
 use borrow.Author.Count.{below-none, below-more}
 use Rattle.routes.specs.Input.{isBad}
 use Rattle.routes.proofs.Inputs.{fine-at, ragged, stopped, too-many, good}
-use borrow.Author.Needs.{needs}
 use Rattle.routes.proofs.input.check_input.Statement.{statement}
 use Rattle.routes.proofs.input.check_input.Tie as tie
 

@@ -1,4 +1,4 @@
--- `routes::input::fault_at` meets its contract. Assumes nothing.
+-- `routes::input::fault_at`. What is wrong with record k: by itself, or with its place after the one before.
 use Rattle.routes.proofs.Faults.{by-itself, the-first, rising, not-rising}
 use borrow.Author.Needs.{needs}
 use Rattle.routes.proofs.input.fault_at.Statement.{statement}

@@ -1,6 +1,5 @@
--- `routes::input::hop_ok` meets its contract. Assumes nothing.
+-- `routes::input::hop_ok`. Whether a hop is 1 to 32,767.
 use Rattle.routes.proofs.Faults.{hop-zero, hop-tested}
-use borrow.Author.Needs.{needs}
 use Rattle.routes.proofs.input.hop_ok.Statement.{statement}
 use Rattle.routes.proofs.input.hop_ok.Tie as tie
 

@@ -1,4 +1,4 @@
--- `routes::input::prefix_ok` meets its contract. Assumes nothing.
+-- `routes::input::prefix_ok`. Whether a prefix has at most 32 bits, and no bit set after them.
 use Rattle.routes.proofs.Faults.{too-long, tested}
 use borrow.Author.Needs.{needs}
 use Rattle.routes.proofs.input.prefix_ok.Statement.{statement}
@@ -11,4 +11,4 @@ prefix-ok-spec =
     (λ c κs. search needs)
     (λ c. search too-long)
     (λ c κs. search needs)
-    (λ c. tested _ _ _ (c .before .before .wide .ensures .0) (c .before .if1 .left) (c .before .before .before .fits .addr .fits) _ (c .cut .ensures)))
+    (λ c. tested _ _ _ (c .before .before .byte-to-word .ensures .0) (c .before .if1 .left) (c .before .before .before .fits .addr .fits) _ (c .cut .ensures)))

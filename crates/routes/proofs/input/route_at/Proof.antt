@@ -1,4 +1,4 @@
--- `routes::input::route_at` meets its contract: each arm has its law. Assumes nothing.
+-- `routes::input::route_at`: each arm has its law.
 use native.Mathlib.Omega.{arith}
 use Rattle.routes.proofs.Meaning.{input-good}
 use Rattle.routes.proofs.Inputs.{told-good, told-refused, told-many, got-one, got-nothing, got-refused, got-many}
@@ -13,7 +13,8 @@ route-at-spec =
     (λ c κs. search needs)
     (λ c. search needs)
     (λ c κs. omega (arith, input-good _ _ (told-good _ _ (c .before .before .before .before .check-input .ensures) _ (c .before .before .n .given .1)) .0))
-    (λ c. got-one _ _ _ (told-good _ _ (c .before .before .before .before .before .check-input .ensures) _ (c .before .before .before .n .given .1)) _ (c .before .if1 .taken) (c .read-record .ensures))
+    (λ c. got-one _ _ _ (told-good _ _ (c .before .before .before .before .before .check-input .ensures) _ (c .before .before .before .n .given .1))
+    _ (c .before .if1 .taken) (c .read-record .ensures))
     (λ c. search needs)
     (λ c. search needs)
     (λ c. got-nothing _ _ _ (told-good _ _ (c .before .before .before .before .check-input .ensures) _ (c .before .before .n .given .1)) (c .if1 .left))

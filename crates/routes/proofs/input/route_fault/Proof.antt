@@ -1,4 +1,4 @@
--- `routes::input::route_fault` meets its contract: each way through the tests has its law. Assumes nothing.
+-- `routes::input::route_fault`: each way through the tests has its law.
 use Rattle.routes.proofs.Faults.{bad-prefix, bad-hop, bad-mark, no-fault}
 use borrow.Author.Needs.{needs}
 use Rattle.routes.proofs.input.route_fault.Statement.{statement}

@@ -1,4 +1,4 @@
--- `routes::record::key_at` meets its contract. Assumes nothing.
+-- `routes::record::key_at`. The key of record k.
 use native.Mathlib.Omega.{arith}
 use Rattle.routes.proofs.Puts.{key-parts}
 use Rattle.routes.proofs.record.key_at.Statement.{statement}

@@ -1,4 +1,4 @@
--- `routes::record::put_half` meets its contract. Assumes nothing.
+-- `routes::record::put_half`. Two bytes from a place on are made those of a number.
 use mathlib.Core.Path.{refl}
 use native.Mathlib.Omega.{arith}
 use lib.ListN.{length-set}

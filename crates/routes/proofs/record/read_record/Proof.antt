@@ -1,4 +1,4 @@
--- `routes::record::read_record` meets its contract. Assumes nothing.
+-- `routes::record::read_record`. The route of record k.
 use native.Mathlib.Omega.{arith}
 use Rattle.routes.proofs.Puts.{record-parts}
 use Rattle.routes.proofs.record.read_record.Statement.{statement}

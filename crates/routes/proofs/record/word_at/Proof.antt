@@ -1,4 +1,4 @@
--- `routes::record::word_at` meets its contract. Assumes nothing.
+-- `routes::record::word_at`. Four bytes.
 use native.Mathlib.Omega.{arith}
 use borrow.Author.Needs.{needs}
 use Rattle.routes.proofs.Puts.{word-halves}

@@ -1,4 +1,4 @@
--- `routes::record::write_record` meets its contract. Assumes nothing.
+-- `routes::record::write_record`. Record k of the list is made `r`, and nothing else changes.
 use mathlib.Core.Path.{_∙_}
 use lib.ListN.{length-set}
 use native.Mathlib.Omega.{arith}
@@ -22,5 +22,8 @@ write-record-spec =
     (λ c. simp length-set (omega arith))
     (λ c. omega arith)
     (λ c κs. simp length-set (omega arith))
-    (λ c. (simp length-set at (c .before .before .put-half3 .kept .0)) ∙ c .before .before .before .before .before .before .put-half2 .kept .0 ∙ c .before .before .before .before .before .before .before .before .before .before .put-half .kept .0)
-    (λ c. put-halves _ _ _ _ _ _ (c .before .before .before .before .before .before .before .before .before .before .before .before .before .pre) (c .before .before .before .before .before .before .before .before .before .before .put-half .ensures) (c .before .before .before .before .before .before .put-half2 .ensures) (c .before .before .put-half3 .ensures)))
+    (λ c. (simp length-set at (c .before .before .put-half3 .kept .0)) ∙ c .before .before .before .before .before .before .put-half2 .kept .0
+    ∙ c .before .before .before .before .before .before .before .before .before .before .put-half .kept .0)
+    (λ c. put-halves _ _ _ _ _ _ (c .before .before .before .before .before .before .before .before .before .before .before .before .before .pre)
+    (c .before .before .before .before .before .before .before .before .before .before .put-half .ensures)
+    (c .before .before .before .before .before .before .put-half2 .ensures) (c .before .before .put-half3 .ensures)))

@@ -1,4 +1,4 @@
--- `runs::run::past_key` meets its contract. Assumes nothing.
+-- `runs::run::past_key`. The key of the first address after a prefix.
 use native.Mathlib.Omega.{arith}
 use Rattle.runs.proofs.Runs.{size-is}
 use borrow.Author.Needs.{needs}
@@ -14,6 +14,6 @@ past-key-spec =
     (λ c. search needs)
     (λ c. search needs)
     (λ c. search needs)
-    (λ c. let z = size-is _ _ (c .wide .ensures .0) (c .before .before .pre) in omega arith)
-    (λ c. let z = size-is _ _ (c .wide .ensures .0) (c .before .before .pre) in omega arith)
-    (λ c. let z = size-is _ _ (c .wide .ensures .0) (c .before .before .pre) in omega arith))
+    (λ c. let z = size-is _ _ (c .byte-to-word .ensures .0) (c .before .before .pre) in omega arith)
+    (λ c. let z = size-is _ _ (c .byte-to-word .ensures .0) (c .before .before .pre) in omega arith)
+    (λ c. let z = size-is _ _ (c .byte-to-word .ensures .0) (c .before .before .pre) in omega arith))

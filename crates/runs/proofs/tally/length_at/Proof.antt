@@ -1,4 +1,4 @@
--- `runs::tally::length_at` meets its contract. Assumes nothing.
+-- `runs::tally::length_at`. The length of record k.
 use Rattle.routes.specs.Record.{recordAt}
 use borrow.Author.Needs.{needs}
 use Rattle.runs.proofs.tally.length_at.Statement.{statement}

@@ -1,4 +1,4 @@
--- `runs::tally::lengths` meets its contract. The invariant: the counts are those of the records passed. Assumes nothing.
+-- `runs::tally::lengths`: The invariant: the counts are those of the records passed.
 use mathlib.Core.Path.{_≡_, _∙_, ap}
 use Prim.Native.Nat.{_-_, _≤_, _<_}
 use native.Mathlib.Omega.{arith}

@@ -1,6 +1,6 @@
--- `runs::tally::tally` meets its contract: each arm has its law. Assumes nothing.
+-- `runs::tally::tally`: each arm has its law.
 use mathlib.Core.Path.{ap}
-use Rattle.routes.specs.Answers.{saysInput}
+use Rattle.routes.specs.Answers.{meansInput}
 use Rattle.routes.specs.declared.input.Input.{Input}
 use Rattle.routes.proofs.Meaning.{input-good}
 use Rattle.routes.proofs.Inputs.{told-good}
@@ -11,7 +11,7 @@ use Rattle.runs.proofs.tally.tally.Statement.{statement}
 use Rattle.runs.proofs.tally.tally.Tie as tie
 
 pub tally-spec : {M : Type 1} → statement M
-unfolding saysInput
+unfolding meansInput
 tally-spec =
     tie.close
     (tie.spec
@@ -21,5 +21,5 @@ tally-spec =
     (λ c. search needs)
     (λ c. search needs)
     (λ c. is-tally _ _ _ _ (c .before .before .before .before .check-input .ensures) (c .before .before .answer .given .1) (c .lengths .ensures))
-    (λ c. no-tally _ _ (c .before .before .check-input .ensures) (ap (λ (i : Input). accepts (saysInput i)) (c .enum-told .given .1)))
-    (λ c. no-tally _ _ (c .before .before .check-input .ensures) (ap (λ (i : Input). accepts (saysInput i)) (c .enum-told2 .given .1))))
+    (λ c. no-tally _ _ (c .before .before .check-input .ensures) (ap (λ (i : Input). accepts (meansInput i)) (c .enum-told .given .1)))
+    (λ c. no-tally _ _ (c .before .before .check-input .ensures) (ap (λ (i : Input). accepts (meansInput i)) (c .enum-told2 .given .1))))

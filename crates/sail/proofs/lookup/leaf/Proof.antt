@@ -1,4 +1,4 @@
--- `sail::lookup::leaf` meets its contract. Assumes nothing.
+-- `sail::lookup::leaf`. What a leaf says that is read as the n-th cell, as a word.
 use borrow.Author.Needs.{needs}
 use Rattle.sail.proofs.Words.{word-leaf}
 use Rattle.sail.proofs.lookup.leaf.Statement.{statement}

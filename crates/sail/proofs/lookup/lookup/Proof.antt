@@ -1,12 +1,12 @@
--- `sail::lookup::lookup` meets its contract. Assumes nothing.
+-- `sail::lookup::lookup`. The hop of the longest route that covers the address, with the count of cells read.
 use borrow.Author.Needs.{needs}
-use Rattle.sail.specs.Walk.{saysFound}
+use Rattle.sail.specs.Walk.{meansFound}
 use Rattle.sail.proofs.Steps.{look-found, look-not}
 use Rattle.sail.proofs.lookup.lookup.Statement.{statement}
 use Rattle.sail.proofs.lookup.lookup.Tie as tie
 
 pub lookup-spec : {M : Type 1} → statement M
-unfolding saysFound
+unfolding meansFound
 lookup-spec =
     tie.close
     (tie.spec

@@ -1,4 +1,4 @@
--- `sail::lookup::opens` meets its contract. Assumes nothing.
+-- `sail::lookup::opens`. Whether a cell names one of a pool's chunks.
 use borrow.Author.Needs.{needs}
 use Rattle.sail.proofs.Steps.{wraps-below}
 use Rattle.sail.proofs.lookup.opens.Statement.{statement}

@@ -1,12 +1,12 @@
--- `sail::lookup::said` meets its contract. Assumes nothing.
+-- `sail::lookup::said`. What a word says.
 use borrow.Author.Needs.{needs}
-use Rattle.sail.specs.Walk.{saysFound}
+use Rattle.sail.specs.Walk.{meansFound}
 use Rattle.sail.proofs.Words.{says-number, says-none, says-hop}
 use Rattle.sail.proofs.lookup.said.Statement.{statement}
 use Rattle.sail.proofs.lookup.said.Tie as tie
 
 pub said-spec : {M : Type 1} → statement M
-unfolding saysFound
+unfolding meansFound
 said-spec =
     tie.close
     (tie.spec

@@ -1,4 +1,4 @@
--- `sail::table::sizes` meets its contract. Assumes nothing.
+-- `sail::table::sizes`. 1 where the geometry is outside the limits, 2 where a lent array has another size than it asks for, and 0 where all fit.
 use borrow.Author.Needs.{needs}
 use Rattle.sail.proofs.Fitting.{checked-0, checked-1, checked-2}
 use Rattle.sail.proofs.table.sizes.Statement.{statement}

@@ -1,4 +1,5 @@
--- `sail_counts::test::counts_ok` meets its contract.
+-- `sail_counts::test::counts_ok`. Whether the counts of both levels are true, where the levels serve the routes of the words and free chunks are
+-- zero.
 use borrow.Author.Needs.{needs}
 use Rattle.sail_counts.proofs.Exact.{led1, led2, first-stray, second-stray, first-wrong, counts-told}
 use Rattle.sail_counts.proofs.test.counts_ok.Statement.{statement}

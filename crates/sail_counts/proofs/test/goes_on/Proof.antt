@@ -1,6 +1,6 @@
--- `sail_counts::test::goes_on` meets its contract.
+-- `sail_counts::test::goes_on`. Whether the word before word k, too, is longer than p and has the bits of cell i.
 use borrow.Author.Needs.{needs}
-use Rattle.sail_counts.proofs.Runs.{goes-first, goes-short, goes-told}
+use Rattle.sail_counts.proofs.CountRuns.{goes-first, goes-short, goes-told}
 use Rattle.sail_counts.proofs.test.goes_on.Statement.{statement}
 use Rattle.sail_counts.proofs.test.goes_on.Tie as tie
 

@@ -1,5 +1,5 @@
--- `sail_counts::test::idle_count` meets its contract.
-use Rattle.sail_counts.proofs.Runs.{count-free, count-leaf, count-node}
+-- `sail_counts::test::idle_count`. The count n of a cell that holds v, where it names no chunk, and else 0.
+use Rattle.sail_counts.proofs.CountRuns.{count-free, count-leaf, count-node}
 use Rattle.sail_counts.proofs.test.idle_count.Statement.{statement}
 use Rattle.sail_counts.proofs.test.idle_count.Tie as tie
 

@@ -1,5 +1,4 @@
--- `sail_counts::test::idle_ok` meets its contract. The invariant: the largest count is 0 exactly where each idle cell passed counts 0.
-use mathlib.Core.Path.{_≡_}
+-- `sail_counts::test::idle_ok`: The invariant: the largest count is 0 exactly where each idle cell passed counts 0.
 use Prim.Native.Nat.{_-_, _≤_}
 use native.Mathlib.Omega.{arith}
 use borrow.Author.Count.{below-none}
@@ -7,8 +6,8 @@ use borrow.Author.Needs.{needs}
 use lib.Dec.{eqb}
 use lib.ListN.{length}
 use Rattle.bits.specs.Tab.{Tells}
-use Rattle.plan.proofs.Tells.{is-yes, tells-same}
-use Rattle.sail_counts.proofs.Runs.{Quiet, most-new, most-old}
+use Rattle.bits.proofs.Tells.{is-yes, tells-same}
+use Rattle.sail_counts.proofs.CountRuns.{Quiet, most-new, most-old}
 use Rattle.sail_counts.proofs.test.idle_ok.Statement.{statement}
 use Rattle.sail_counts.proofs.test.idle_ok.Tie as tie
 

@@ -1,6 +1,6 @@
--- `sail_counts::test::run_ok` meets its contract.
+-- `sail_counts::test::run_ok`. The cell above is read first; it leads to the count, and the run of words says what that should be.
 use borrow.Author.Needs.{needs}
-use Rattle.sail_counts.proofs.Runs.{run-on, run-from, run-told, counted-there}
+use Rattle.sail_counts.proofs.CountRuns.{run-on, run-from, run-told, counted-there, names-numbered}
 use Rattle.sail_counts.proofs.test.run_ok.Statement.{statement}
 use Rattle.sail_counts.proofs.test.run_ok.Tie as tie
 
@@ -8,41 +8,42 @@ use Rattle.sail_counts.proofs.test.run_ok.Tie as tie
 returns-2 : tie.Need-returns-2
 returns-2 c = run-on _ _ _ _ _ _ _ (c .before .goes-on .ensures) (c .if2 .taken)
 
-mul-place : tie.Need-mul-place
-mul-place c =
+mul-half-to-index : tie.Need-mul-half-to-index
+mul-half-to-index c =
     let tested = c .before .before in
     let start = tested .before .before .before .before .before in
     let l = start .pre .0 .there _ (start .pre .1) (tested .if1 .left) in
     search needs
 
-shared-slice-read-place : tie.Need-shared-slice-read-place
-shared-slice-read-place c =
+shared-slice-read-half-to-index : tie.Need-shared-slice-read-half-to-index
+shared-slice-read-half-to-index c =
     let tested = c .before .before .before in
     let start = tested .before .before .before .before .before in
     start .pre .0 .there _ (start .pre .1) (tested .if1 .left)
 
-place-requires : tie.Need-place-requires
-place-requires c κs =
-    let tested = c .before .before .before in
-    let start = tested .before .before .before .before .before in
-    (start .pre .0 .some _ (start .pre .1) (tested .if1 .left), start .pre .0 .small)
-
-mul-wide : tie.Need-mul-wide
-mul-wide c =
+cell-place-requires : tie.Need-cell-place-requires
+cell-place-requires c κs =
     let tested = c .before .before .before .before in
     let start = tested .before .before .before .before .before in
-    let l = counted-there _ _ _ (c .place .ensures) (start .pre .0 .inside _ (start .pre .1) (tested .if1 .left)) in
-    search needs
+    names-numbered _ _ _ _ _ _ (start .pre .0) (start .pre .1) (tested .if1 .left) _ (c .half-to-index .ensures)
 
-shared-slice-read-wide : tie.Need-shared-slice-read-wide
-shared-slice-read-wide c =
+mul-half-to-index-2 : tie.Need-mul-half-to-index-2
+mul-half-to-index-2 c =
     let tested = c .before .before .before .before .before in
     let start = tested .before .before .before .before .before in
-    counted-there _ _ _ (c .before .place .ensures) (start .pre .0 .inside _ (start .pre .1) (tested .if1 .left))
+    let l = counted-there _ _ _ _ _ _ (start .pre .0) (start .pre .1) (tested .if1 .left) _ (c .before .half-to-index .ensures) _ (c .cell-place .ensures .0) in
+    search needs
+
+shared-slice-read-half-to-index-2 : tie.Need-shared-slice-read-half-to-index-2
+shared-slice-read-half-to-index-2 c =
+    let tested = c .before .before .before .before .before .before in
+    let start = tested .before .before .before .before .before in
+    counted-there _ _ _ _ _ _ (start .pre .0) (start .pre .1) (tested .if1 .left) _ (c .before .before .half-to-index .ensures) _
+    (c .before .cell-place .ensures .0)
 
 run-end-requires : tie.Need-run-end-requires
 run-end-requires c κs =
-    let off = c .before .before .before .before in
+    let off = c .before .before .before .before .before in
     let asked = off .before in
     let tested = asked .before in
     let start = tested .before .before .before .before .before in
@@ -52,10 +53,12 @@ run-end-requires c κs =
 returns-3 : tie.Need-returns-3
 returns-3 c =
     let found = c .before .before .before in
-    let off = found .before .before in
+    let off = found .before .before .before in
     let asked = off .before in
-    run-told _ _ _ _ _ _ (asked .before .if1 .left) _ (asked .goes-on .ensures) (off .if2 .left) _ _ _ (found .place .ensures) (c .before .wide .ensures .0)
-    (c .run-end .ensures)
+    let tested = asked .before in
+    let start = tested .before .before .before .before .before in
+    run-told _ _ _ _ _ _ (start .pre .0) (start .pre .1) (tested .if1 .left) _ (found .before .half-to-index .ensures) _ (found .cell-place .ensures .0)
+    _ (asked .goes-on .ensures) (off .if2 .left) _ _ (c .before .half-to-index2 .ensures .0) (c .run-end .ensures)
 
 pub run-ok-spec : {M : Type 1} → statement M
 run-ok-spec =
@@ -71,11 +74,12 @@ run-ok-spec =
     (λ c κs. search needs)
     returns-2
     (λ c. search needs)
-    mul-place
-    shared-slice-read-place
-    place-requires
-    mul-wide
-    shared-slice-read-wide
+    mul-half-to-index
+    shared-slice-read-half-to-index
+    (λ c κs. search needs)
+    cell-place-requires
+    mul-half-to-index-2
+    shared-slice-read-half-to-index-2
     (λ c κs. search needs)
     run-end-requires
     (λ c. search needs)

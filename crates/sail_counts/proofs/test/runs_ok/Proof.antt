@@ -1,12 +1,12 @@
--- `sail_counts::test::runs_ok` meets its contract. The invariant: the cell of each run that began before word k has its true count.
+-- `sail_counts::test::runs_ok`: The invariant: the cell of each run that began before word k has its true count.
 use Prim.Native.Nat.{ℕ, _-_, _≤_, _<_}
 use native.Mathlib.Omega.{arith}
 use borrow.Author.Count.{below-none, below-more}
 use borrow.Author.Needs.{needs}
 use lib.ListN.{length}
-use Rattle.plan.proofs.Tells.{is-yes, refuted, passed}
-use Rattle.sail_counts.specs.Test.{RunTold}
-use Rattle.sail_counts.proofs.Runs.{all-told, told-run}
+use Rattle.bits.proofs.Tells.{is-yes, refuted, passed}
+use Rattle.sail_counts.specs.CountsTest.{RunTold}
+use Rattle.sail_counts.proofs.CountRuns.{all-told, told-run}
 use Rattle.sail_counts.proofs.test.runs_ok.Statement.{statement}
 use Rattle.sail_counts.proofs.test.runs_ok.Tie as tie
 

@@ -1,4 +1,4 @@
--- `sail_counts::tick::count_all` meets its contract. The invariant: the counts are those of the first k routes.
+-- `sail_counts::tick::count_all`: The invariant: the counts are those of the first k routes.
 use mathlib.Core.Path.{sym, _∙_}
 use Prim.Native.Nat.{_-_, _≤_}
 use native.Mathlib.Omega.{arith}

@@ -1,4 +1,4 @@
--- `sail_counts::tick::stepped` meets its contract.
+-- `sail_counts::tick::stepped`. One more, or one less.
 use native.Mathlib.Omega.{arith}
 use Rattle.sail_counts.proofs.Steps.{step-up, step-down}
 use Rattle.sail_counts.proofs.tick.stepped.Statement.{statement}

@@ -1,4 +1,4 @@
--- `sail_counts::tick::tick_at` meets its contract.
+-- `sail_counts::tick::tick_at`. A step at place q of a level's counts, where the route is longer than the level.
 use borrow.Author.Needs.{needs}
 use Rattle.sail_counts.proofs.Steps.{tick-on, tick-off}
 use Rattle.sail_counts.proofs.tick.tick_at.Statement.{statement}

@@ -1,11 +1,11 @@
--- `sail_load::load::accepts` meets its contract. Assumes nothing.
+-- `sail_load::load::accepts`. What is said of an input is accepted exactly where it has no fault.
 use borrow.Author.Needs.{needs}
-use Rattle.sail_load.specs.Answers.{saysLoaded}
+use Rattle.sail_load.specs.Answers.{meansLoaded}
 use Rattle.sail_load.proofs.load.accepts.Statement.{statement}
 use Rattle.sail_load.proofs.load.accepts.Tie as tie
 
 pub accepts-spec : {M : Type 1} → statement M
-unfolding saysLoaded
+unfolding meansLoaded
 accepts-spec =
     tie.close
     (tie.spec

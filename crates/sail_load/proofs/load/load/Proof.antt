@@ -9,25 +9,27 @@ use Rattle.sail_load.proofs.load.load.Tie as tie
 abbrev judged : tie.Then1 → tie.After-judge
 judged c = c .before .before
 
-abbrev accepted : tie.After-renew → tie.Then1
+abbrev accepted : tie.After-write-table → tie.Then1
 accepted c = c .before .before .before .before .before .before .before .before .before
 
-abbrev renewed : tie.After-g → tie.After-renew
+abbrev renewed : tie.After-g → tie.After-write-table
 renewed c = c .before .before .before .before .before .before .before .before .before .before .before .before .before .before .before .before .before
 
 abbrev branch : tie.After-g → tie.Then1
 branch c = accepted (renewed c)
 
-renew-requires : tie.Need-renew-requires
-renew-requires c κs =
+write-table-requires : tie.Need-write-table-requires
+write-table-requires c κs =
     renewable _ _ _ _ _ (judged (c .before .before .before .before .before .before .before .before) .judge .ensures)
-    (c .before .before .before .before .before .before .before .before .before .accepts .ensures) (c .before .before .before .before .before .before .before .before .if1 .taken)
+    (c .before .before .before .before .before .before .before .before .before .accepts .ensures)
+    (c .before .before .before .before .before .before .before .before .if1 .taken)
 
 cast-count : tie.Need-cast-count
 cast-count c = record { fits = omega (arith, few _ _ _ _ _ (judged (branch c) .judge .ensures) (branch c .before .accepts .ensures) (branch c .if1 .taken)) }
 
 returns : tie.Need-returns
-returns c = load-loads _ _ _ _ _ (judged (branch c) .judge .ensures) (branch c .before .accepts .ensures) (branch c .if1 .taken) _ (renewed c .renew .ensures)
+returns c = load-loads _ _ _ _ _ (judged (branch c) .judge .ensures) (branch c .before .accepts .ensures) (branch c .if1 .taken) _
+    (renewed c .write-table .ensures)
 
 returns-2 : tie.Need-returns-2
 returns-2 c = load-refuses _ _ _ _ _ (c .before .before .judge .ensures) (c .before .accepts .ensures) (c .if1 .left)
@@ -38,16 +40,16 @@ load-spec =
     (tie.spec
     (λ c κs. tt)
     (λ c κs. tt)
-    renew-requires
+    write-table-requires
     cast-count
-    (λ c. renewed c .renew .kept .1 .1 .0)
-    (λ c. renewed c .renew .kept .1 .1 .1 .0)
-    (λ c. renewed c .renew .kept .1 .1 .1 .1 .0)
-    (λ c. renewed c .renew .kept .1 .1 .1 .1 .1 .0)
-    (λ c. renewed c .renew .kept .1 .1 .1 .1 .1 .1 .0)
-    (λ c. renewed c .renew .kept .1 .1 .1 .1 .1 .1 .1 .0)
-    (λ c. renewed c .renew .kept .1 .1 .1 .1 .1 .1 .1 .1 .0)
-    (λ c. renewed c .renew .kept .1 .1 .1 .1 .1 .1 .1 .1 .1 .0)
+    (λ c. renewed c .write-table .kept .1 .1 .0)
+    (λ c. renewed c .write-table .kept .1 .1 .1 .0)
+    (λ c. renewed c .write-table .kept .1 .1 .1 .1 .0)
+    (λ c. renewed c .write-table .kept .1 .1 .1 .1 .1 .0)
+    (λ c. renewed c .write-table .kept .1 .1 .1 .1 .1 .1 .0)
+    (λ c. renewed c .write-table .kept .1 .1 .1 .1 .1 .1 .1 .0)
+    (λ c. renewed c .write-table .kept .1 .1 .1 .1 .1 .1 .1 .1 .0)
+    (λ c. renewed c .write-table .kept .1 .1 .1 .1 .1 .1 .1 .1 .1 .0)
     returns
     (λ c. refl)
     (λ c. refl)

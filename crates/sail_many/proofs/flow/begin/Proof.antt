@@ -1,4 +1,4 @@
--- `sail_many::flow::begin` meets its contract. Assumes nothing.
+-- `sail_many::flow::begin`. Before the first turn: sixteen addresses enter, and eight of them go down.
 use borrow.Author.Needs.{needs}
 use Rattle.sail_many.proofs.Flows.{flows-begin}
 use Rattle.sail_many.proofs.flow.begin.Statement.{statement}

@@ -1,4 +1,4 @@
--- `sail_many::flow::few` meets its contract. Assumes nothing.
+-- `sail_many::flow::few`. The answers level by level, for few addresses.
 use borrow.Author.Needs.{needs}
 use Rattle.sail_many.proofs.Flows.{few-all}
 use Rattle.sail_many.proofs.flow.few.Statement.{statement}

@@ -1,6 +1,5 @@
--- `sail_many::flow::finish` meets its contract. Assumes nothing.
+-- `sail_many::flow::finish`. After the last turn: those that are left are brought to the end.
 use borrow.Author.Needs.{needs}
-use native.Mathlib.Omega.{arith}
 use Rattle.sail_many.proofs.Flows.{flows-end}
 use Rattle.sail_many.proofs.flow.finish.Statement.{statement}
 use Rattle.sail_many.proofs.flow.finish.Tie as tie

@@ -1,4 +1,4 @@
--- `sail_many::flow::flow` meets its contract. Assumes nothing.
+-- `sail_many::flow::flow`. The answers by turns.
 use borrow.Author.Needs.{needs}
 use native.Mathlib.Omega.{arith}
 use Rattle.sail_many.proofs.flow.flow.Statement.{statement}

@@ -1,4 +1,4 @@
--- `sail_many::flow::round` meets its contract. Assumes nothing.
+-- `sail_many::flow::round`. Two turns, so that a loop has half the tests of its own.
 use borrow.Author.Needs.{needs}
 use Rattle.sail_many.proofs.Flows.{flows-pair, ready-standard, standard-pair}
 use Rattle.sail_many.proofs.flow.round.Statement.{statement}

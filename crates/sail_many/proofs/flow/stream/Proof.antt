@@ -1,8 +1,8 @@
--- `sail_many::flow::stream` meets its contract: after i rounds, 2 i turns are done. Assumes nothing.
+-- `sail_many::flow::stream`: after i rounds, 2 i turns are done.
 use borrow.Author.Needs.{needs}
 use native.Mathlib.Omega.{arith}
 use mathlib.Core.Path.{sym, _∙_}
-use Prim.Native.Nat.{ℕ, _-_, _*_, _≤_}
+use Prim.Native.Nat.{_-_, _*_, _≤_}
 use Rattle.sail_many.specs.Words.{Flows}
 use Rattle.sail_many.proofs.Flows.{flows-at}
 use Rattle.sail_many.proofs.flow.stream.Statement.{statement}

@@ -1,4 +1,4 @@
--- `sail_many::flow::turn` meets its contract. Assumes nothing.
+-- `sail_many::flow::turn`. One turn: three addresses go one level on.
 use borrow.Author.Needs.{needs}
 use Rattle.sail_many.proofs.Flows.{turned-is}
 use Rattle.sail_many.proofs.flow.turn.Statement.{statement}

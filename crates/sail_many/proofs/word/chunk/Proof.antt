@@ -1,4 +1,4 @@
--- `sail_many::word::chunk` meets its contract. Assumes nothing.
+-- `sail_many::word::chunk`. The chunk, counted from 0, that a word leads to.
 use borrow.Author.Needs.{needs}
 use Rattle.sail_many.proofs.word.chunk.Statement.{statement}
 use Rattle.sail_many.proofs.word.chunk.Tie as tie

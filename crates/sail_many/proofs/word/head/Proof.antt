@@ -1,4 +1,4 @@
--- `sail_many::word::head` meets its contract. Assumes nothing.
+-- `sail_many::word::head`. The first cell of an address.
 use borrow.Author.Needs.{needs}
 use native.Mathlib.Omega.{arith}
 use Rattle.sail_many.proofs.Words.{first-there}

@@ -1,4 +1,4 @@
--- `sail_many::word::last` meets its contract. Assumes nothing.
+-- `sail_many::word::last`. The answer for a word that is none yet.
 use borrow.Author.Needs.{needs}
 use Rattle.sail_many.proofs.Words.{off-first, off-second, off-third, third-leaf}
 use Rattle.sail_many.proofs.word.last.Statement.{statement}

@@ -1,15 +1,16 @@
--- `sail_owners::need::count_need` meets its contract. The invariant: the need of the records passed, and the last of their long cells. Assumes nothing.
+-- `sail_owners::need::count_need`: the chunks that records need, in one pass. The invariant: the need of the records passed, and the last of their
+-- long cells.
 use mathlib.Core.Path.{_≡_, _∙_}
 use Prim.Native.Nat.{_-_, _≤_}
 use native.Mathlib.Omega.{arith}
 use borrow.Author.Needs.{needs}
 use Rattle.routes.specs.Record.{routesOf}
-use Rattle.sail_owners.proofs.Needs.{Counted, counted-none, counted-short, counted-had, counted-new}
+use Rattle.sail_owners.proofs.Needs.{NeedCounted, counted-none, counted-short, counted-had, counted-new}
 use Rattle.sail_owners.proofs.need.count_need.Statement.{statement}
 use Rattle.sail_owners.proofs.need.count_need.Tie as tie
 
 abbrev Inv-loop : tie.InvT-loop
-Inv-loop list n p m₀ last₀ k₀ m last k = (k ≤ n) × (m ≤ k) × Counted (routesOf list k) p m last
+Inv-loop list n p m₀ last₀ k₀ m last k = (k ≤ n) × (m ≤ k) × NeedCounted (routesOf list k) p m last
 
 abbrev μ-loop : tie.MeasureT-loop
 μ-loop list n p m₀ last₀ k₀ m last k = n - k
@@ -30,25 +31,33 @@ count-need-spec =
     (λ c. omega (arith, c .before .before .before .before .before .before .before .before .before .pre .records .few))
     (λ c. omega arith)
     (λ c.
-    let l = c .before .before .before .before .before .before .before .loop in
-    let q = c .before .before .before .before .before .before .before .before .before .pre in (
+    let read = c .before .before .before .before .before in
+    let l = read .before .before .loop in
+    let q = read .before .before .before .before .pre in
+    let cell = c .before .word-to-long .ensures .0 ∙ c .before .before .slot .ensures in (
       omega arith,
       omega arith,
-      counted-new _ _ _ _ _ _ (q .records) (omega arith) (q .level) (l .inv .2) _ (c .before .before .before .before .before .read-record .ensures) (omega arith) _ (c .before .wide64 .ensures ∙ c .before .before .slot .ensures) (c .if2 .taken),
+      counted-new _ _ _ _ _ _ (q .records) (omega arith) (q .level) (l .inv .2) _ (read .read-record .ensures) (omega arith) _ cell (c .if2 .taken),
     ))
     (λ c. omega arith)
     (λ c.
-    let l = c .before .before .before .before .before .before .before .loop in
-    let q = c .before .before .before .before .before .before .before .before .before .pre in (
+    let read = c .before .before .before .before .before in
+    let l = read .before .before .loop in
+    let q = read .before .before .before .before .pre in
+    let cell = c .before .word-to-long .ensures .0 ∙ c .before .before .slot .ensures in (
       omega arith,
       omega arith,
-      counted-had _ _ _ _ _ _ (q .records) (omega arith) (q .level) (l .inv .2) _ (c .before .before .before .before .before .read-record .ensures) (omega arith) _ (c .before .wide64 .ensures ∙ c .before .before .slot .ensures) (c .if2 .left),
+      counted-had _ _ _ _ _ _ (q .records) (omega arith) (q .level) (l .inv .2) _ (read .read-record .ensures) (omega arith) _ cell (c .if2 .left),
     ))
     (λ c. omega arith)
     (λ c.
-    let l = c .before .before .before .before .loop in
-    let q = c .before .before .before .before .before .before .pre in
-    (omega arith, omega arith, counted-short _ _ _ _ _ _ (q .records) (omega arith) (q .level) (l .inv .2) _ (c .before .before .read-record .ensures) (omega arith)))
+    let read = c .before .before in
+    let l = read .before .before .loop in
+    let q = read .before .before .before .before .pre in (
+      omega arith,
+      omega arith,
+      counted-short _ _ _ _ _ _ (q .records) (omega arith) (q .level) (l .inv .2) _ (read .read-record .ensures) (omega arith),
+    ))
     (λ c.
     let l = c .before .loop in
     let e : l .k ≡ c .before .before .before .args .n = omega arith in

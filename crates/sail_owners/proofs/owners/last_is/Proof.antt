@@ -1,4 +1,4 @@
--- `sail_owners::owners::last_is` meets its contract. Assumes nothing.
+-- `sail_owners::owners::last_is`: whether there is a last chunk and this is its owner. Without a chunk there is none; else one owner is compared.
 use mathlib.Core.Bool.{false≢true}
 use native.Mathlib.Omega.{arith}
 use borrow.Author.Needs.{needs}

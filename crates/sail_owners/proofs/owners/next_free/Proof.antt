@@ -1,4 +1,4 @@
--- `sail_owners::owners::next_free` meets its contract. The invariant: every chunk passed is in use. Assumes nothing.
+-- `sail_owners::owners::next_free`, the lowest free chunk from some chunk on. The invariant: every chunk passed is in use.
 use mathlib.Core.Logic.{_≢_}
 use Prim.Native.Nat.{ℕ, _≤_, _<_, _-_}
 use borrow.Author.Count.{below-more}
@@ -23,8 +23,12 @@ next-free-spec =
     (λ c. (c .pre .few, c .pre .used))
     (λ c. search needs)
     (λ c. search needs)
-    (λ c. let l = c .before .before .before in free-here (l .before .args .own .now) _ (l .before .pre) (l .loop .c) (search needs) (l .loop .inv .1) (c .if1 .taken))
+    (λ c.
+    let l = c .before .before .before in
+    free-here (l .before .args .own .now) _ (l .before .pre) (l .loop .c) (search needs) (l .loop .inv .1) (c .if1 .taken))
     (λ c. search needs)
     (λ c. search needs)
     (λ c. (search needs, below-more _ _ (c .before .before .before .loop .inv .1) (c .if1 .left)))
-    (λ c. free-nowhere (c .before .before .args .own .now) _ (c .before .before .pre) (c .before .loop .c) (search needs) (search needs) (c .before .loop .inv .1)))
+    (λ c.
+    let l = c .before in
+    free-nowhere (l .before .args .own .now) _ (l .before .pre) (l .loop .c) (search needs) (search needs) (l .loop .inv .1)))

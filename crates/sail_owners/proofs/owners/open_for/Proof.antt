@@ -1,4 +1,4 @@
--- `sail_owners::owners::open_for` meets its contract. Assumes nothing.
+-- `sail_owners::owners::open_for`: the chunks of a route, by its length: none, a second, or a second and a third that hangs from it.
 use native.Mathlib.Omega.{arith}
 use borrow.Author.Needs.{needs}
 use Rattle.sail_owners.proofs.Packs.{slot-small, hangs-second, opened-none, chunk-second, opened-second, hangs-third, opened-third}
@@ -8,31 +8,42 @@ use Rattle.sail_owners.proofs.owners.open_for.Tie as tie
 returns : tie.Need-returns
 returns c = opened-none _ _ _ _ _ (c .before .before .before .before .pre) (omega arith)
 
-add-hang : tie.Need-add-hang
-add-hang c = record { fits = omega (arith, slot-small _ _ _ _ _ (c .before .before .before .before .before .before .before .before .pre) _ (c .slot .ensures)) }
+add-own-chunk : tie.Need-add-own-chunk
+add-own-chunk c = record {
+  fits = omega (
+    arith,
+    slot-small _ _ _ _ _ (c .before .before .before .before .before .before .before .before .pre) _
+        (c .slot .ensures),
+  );
+}
 
-hang-requires : tie.Need-hang-requires
-hang-requires c κs = hangs-second _ _ _ _ _ (c .before .before .before .before .before .before .before .before .pre) (omega arith) _ (c .slot .ensures)
+own-chunk-requires : tie.Need-own-chunk-requires
+own-chunk-requires c κs = hangs-second _ _ _ _ _ (c .before .before .before .before .before .before .before .before .pre) (omega arith) _ (c .slot .ensures)
 
 returns-2 : tie.Need-returns-2
 returns-2 c =
     let first = c .before .before .before in
-    opened-second _ _ _ _ _ (first .before .before .before .before .before .before .before .before .before .pre) (omega arith) _ (first .before .slot .ensures) _ _ (first .hang .ensures) (omega arith)
+    opened-second _ _ _ _ _ (first .before .before .before .before .before .before .before .before .before .pre) (omega arith) _
+    (first .before .slot .ensures) _ _ (first .own-chunk .ensures) (omega arith)
 
-place-requires : tie.Need-place-requires
-place-requires c κs =
+second-place-requires : tie.Need-second-place-requires
+second-place-requires c κs =
     let first = c .before .before .before .before in
-    chunk-second _ _ _ _ _ (first .before .before .before .before .before .before .before .before .before .pre) (omega arith) _ (first .before .slot .ensures) _ _ (first .hang .ensures) (first .hang .kept .0)
+    chunk-second _ _ _ _ _ (first .before .before .before .before .before .before .before .before .before .pre) (omega arith) _
+    (first .before .slot .ensures) _ _ (first .own-chunk .ensures) (first .own-chunk .kept .0)
 
-hang-requires-2 : tie.Need-hang-requires-2
-hang-requires-2 c κs =
+own-chunk-requires-2 : tie.Need-own-chunk-requires-2
+own-chunk-requires-2 c κs =
     let first = c .before .before .before .before .before in
-    hangs-third _ _ _ _ _ (first .before .before .before .before .before .before .before .before .before .pre) (omega arith) _ (first .before .slot .ensures) _ _ (first .hang .ensures) (omega arith) _ (c .place .ensures .0)
+    hangs-third _ _ _ _ _ (first .before .before .before .before .before .before .before .before .before .pre) (omega arith) _
+    (first .before .slot .ensures) _ _ (first .own-chunk .ensures) (omega arith) _ (c .second-place .ensures .0)
 
 returns-3 : tie.Need-returns-3
 returns-3 c =
     let first = c .before .before .before .before .before .before .before .before in
-    opened-third _ _ _ _ _ (first .before .before .before .before .before .before .before .before .before .pre) (omega arith) _ (first .before .slot .ensures) _ _ (first .hang .ensures) (omega arith) _ (c .before .before .before .place .ensures .0) _ _ (c .before .before .hang2 .ensures)
+    opened-third _ _ _ _ _ (first .before .before .before .before .before .before .before .before .before .pre) (omega arith) _
+    (first .before .slot .ensures) _ _ (first .own-chunk .ensures) (omega arith) _ (c .before .before .before .second-place .ensures .0) _ _
+    (c .before .before .own-chunk2 .ensures)
 
 pub open-for-spec : {M : Type 1} → statement M
 open-for-spec =
@@ -41,13 +52,14 @@ open-for-spec =
     (λ c κs. search needs)
     returns
     (λ c κs. search needs)
-    add-hang
-    hang-requires
+    add-own-chunk
+    own-chunk-requires
     (λ c. search needs)
     returns-2
-    place-requires
-    (λ c. search needs)
-    hang-requires-2
+    second-place-requires
+    (λ c. omega (arith, c .second-place .ensures .1))
+    (λ c. omega (arith, c .second-place .ensures .1))
+    own-chunk-requires-2
     (λ c. search needs)
     (λ c. search needs)
     returns-3)

@@ -4,8 +4,8 @@ use Prim.Native.Nat.{_-_, _≤_}
 use native.Mathlib.Omega.{arith}
 use lib.ListN.{length}
 use lib.Pow.{shr-le}
-use Rattle.chain.specs.Words.{routesIn}
-use Rattle.plan.specs.Paint.{between}
+use Rattle.chain.specs.Words.{routesOfWords}
+use Rattle.buffers.specs.Fill.{between}
 use Rattle.sail.specs.Level.{itself}
 use Rattle.sail_paint.specs.Paint.{overpainted}
 use Rattle.sail_paint.proofs.Overs.{length-over}
@@ -15,7 +15,7 @@ use Rattle.sail_paint.proofs.part.paint_first.Statement.{statement}
 use Rattle.sail_paint.proofs.part.paint_first.Tie as tie
 
 abbrev Inv-loop : tie.InvT-loop
-Inv-loop ws par p addr len first₀ from end lo₀ first lo = (from ≤ lo) × (lo ≤ end) × (first ≡ overpainted (routesIn ws) p (between from lo) itself first₀)
+Inv-loop ws par p addr len first₀ from end lo₀ first lo = (from ≤ lo) × (lo ≤ end) × (first ≡ overpainted (routesOfWords ws) p (between from lo) itself first₀)
 
 abbrev μ-loop : tie.MeasureT-loop
 μ-loop ws par p addr len first₀ from end lo₀ first lo = end - lo

@@ -1,4 +1,4 @@
--- `sail_paint::part::range_end` meets its contract. Assumes nothing.
+-- `sail_paint::part::range_end`. Where the cells of level p that meet a prefix of len bits end; they begin with the cell `from`.
 use native.Mathlib.Omega.{arith}
 use Rattle.plan.proofs.Ranges.{span-one, span-more}
 use borrow.Author.Needs.{needs}

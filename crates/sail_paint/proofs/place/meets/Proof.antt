@@ -1,4 +1,4 @@
--- `sail_paint::place::meets` meets its contract. Assumes nothing.
+-- `sail_paint::place::meets`. Whether cell i of level p lies under the prefix of len bits of addr, or holds it.
 use Rattle.sail_paint.proofs.Places.{meets-under, meets-holds}
 use borrow.Author.Needs.{needs}
 use Rattle.sail_paint.proofs.place.meets.Statement.{statement}

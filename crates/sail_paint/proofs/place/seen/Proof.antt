@@ -1,4 +1,4 @@
--- `sail_paint::place::seen` meets its contract. Assumes nothing.
+-- `sail_paint::place::seen`. The owner of chunk c as it is read everywhere: 1 + the place of the cell that the chunk hangs from, 0 where it is free.
 use mathlib.Core.Path.{refl}
 use native.Mathlib.Omega.{arith}
 use borrow.Author.Needs.{needs}

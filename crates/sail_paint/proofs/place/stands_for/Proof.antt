@@ -1,6 +1,6 @@
--- `sail_paint::place::stands_for` meets its contract. Assumes nothing.
+-- `sail_paint::place::stands_for`: a place by itself, or the place in its chunk's owner.
 use native.Mathlib.Omega.{arith}
-use Rattle.sail_paint.proofs.Places.{stands-itself, size-some, stands-is, stands-fits}
+use Rattle.sail_paint.proofs.Places.{stands-itself, owner-numbered, stands-is}
 use borrow.Author.Needs.{needs}
 use Rattle.sail_paint.proofs.place.stands_for.Statement.{statement}
 use Rattle.sail_paint.proofs.place.stands_for.Tie as tie
@@ -12,9 +12,5 @@ stands-for-spec =
     (λ c. stands-itself _ _ _ (c .if1 .taken))
     (λ c. search needs)
     (λ c κs. c .before .before .pre .chunk (omega arith))
-    (λ c. omega (arith, c .before .before .before .pre .owned (omega arith)))
-    (λ c. search needs)
-    (λ c. search needs)
-    (λ c. size-some _ _ _ _ (c .before .before .before .pre) (c .before .if1 .left) (c .seen .ensures))
-    (λ c. record { fits = stands-fits _ _ _ _ (c .before .before .before .pre) (c .before .if1 .left) (c .seen .ensures) })
-    (λ c. stands-is _ _ _ _ (c .before .before .before .pre) (c .before .if1 .left) (c .seen .ensures)))
+    (λ c κs. owner-numbered _ _ _ _ (c .before .if1 .left) (c .seen .ensures) (c .before .before .before .pre))
+    (λ c. stands-is _ _ _ _ (c .before .before .if1 .left) (c .before .seen .ensures) _ (c .cell-place .ensures .0)))

@@ -2,14 +2,14 @@
 use Prim.Native.Nat.{_-_, _≤_}
 use native.Mathlib.Omega.{arith}
 use lib.ListN.{length}
-use Rattle.chain.specs.Words.{routesIn}
-use Rattle.sail_paint.proofs.Chunks.{Pooled, pool-none, pool-more, pool-all, length-pooled, pool-chunk}
+use Rattle.chain.specs.Words.{routesOfWords}
+use Rattle.sail_paint.proofs.Chunks.{PaintedTo, pool-none, pool-more, pool-all, length-pooled, pool-chunk}
 use borrow.Author.Needs.{needs}
 use Rattle.sail_paint.proofs.pool.paint_pool.Statement.{statement}
 use Rattle.sail_paint.proofs.pool.paint_pool.Tie as tie
 
 abbrev Inv-loop : tie.InvT-loop
-Inv-loop ws par addr len l p up e own cells₀ n c₀ cells c = (c ≤ length own) × Pooled (routesIn ws) addr len l p (p - l) e up own cells₀ c cells
+Inv-loop ws par addr len l p up e own cells₀ n c₀ cells c = (c ≤ length own) × PaintedTo (routesOfWords ws) addr len l p (p - l) e up own cells₀ c cells
 
 abbrev μ-loop : tie.MeasureT-loop
 μ-loop ws par addr len l p up e own cells₀ n c₀ cells c = length own - c

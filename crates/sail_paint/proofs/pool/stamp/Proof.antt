@@ -1,4 +1,4 @@
--- `sail_paint::pool::stamp` meets its contract. Assumes nothing.
+-- `sail_paint::pool::stamp`. The number of each chunk in use, from 1, into the cell that it hangs from.
 use mathlib.Core.Path.{_≡_, ap, _∙_}
 use Prim.Native.Nat.{_-_, _≤_}
 use native.Mathlib.Omega.{arith}
@@ -30,10 +30,20 @@ stamp-spec =
     (λ c. search needs)
     (λ c. search needs)
     (λ c. search needs)
-    (λ c. simp (ap length (c .before .before .before .loop .inv .1), length-stamped) (stamp-room _ _ (c .before .before .before .before .before .before .pre) _ _ (c .before .before .loop-test .taken) (c .before .seen .ensures) (c .if1 .taken)))
+    (λ c. simp (ap length (c .before .before .before .loop .inv .1), length-stamped)
+    (stamp-room _ _ (c .before .before .before .before .before .before .pre) _ _ (c .before .before .loop-test .taken) (c .before .seen .ensures)
+    (c .if1 .taken)))
     (λ c. search needs)
-    (λ c. (search needs, stamp-more _ _ (c .before .before .before .before .before .before .pre) _ _ (c .before .before .loop-test .taken) (c .before .seen .ensures) _ (c .if1 .taken) (c .before .before .before .loop .inv .1)))
+    (λ c. (
+      search needs,
+      stamp-more _ _ (c .before .before .before .before .before .before .pre) _ _ (c .before .before .loop-test .taken)
+          (c .before .seen .ensures) _ (c .if1 .taken) (c .before .before .before .loop .inv .1),
+    ))
     (λ c. search needs)
-    (λ c. (search needs, stamp-free _ _ (c .before .before .before .before .before .before .pre) _ _ (c .before .before .loop-test .taken) (c .before .seen .ensures) _ (c .if1 .left) (c .before .before .before .loop .inv .1)))
+    (λ c. (
+      search needs,
+      stamp-free _ _ (c .before .before .before .before .before .before .pre) _ _ (c .before .before .loop-test .taken)
+          (c .before .seen .ensures) _ (c .if1 .left) (c .before .before .before .loop .inv .1),
+    ))
     (λ c. ap length (c .before .loop .inv .1) ∙ length-stamped _ _ _)
     (λ c. let l = c .before .loop in let e : l .c ≡ length (now (c .before .before .before .before .args .own)) = omega arith in rw e at (l .inv .1)))

@@ -1,4 +1,4 @@
--- `sail_sound::report::in_use` meets its contract. Assumes nothing.
+-- `sail_sound::report::in_use`. How many chunks are in use.
 use denote.Ref.{now}
 use mathlib.Core.Path.{_≡_}
 use Prim.Native.Nat.{_-_, _≤_}

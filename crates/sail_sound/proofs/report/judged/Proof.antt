@@ -1,4 +1,4 @@
--- `sail_sound::report::judged` meets its contract. Assumes nothing.
+-- `sail_sound::report::judged`. What is wrong with a table: 1, 2 or 5, or 0.
 use Rattle.sail_sound.proofs.Reports.{judged-sizes, judged-sound, judged-not}
 use borrow.Author.Needs.{needs}
 use Rattle.sail_sound.proofs.report.judged.Statement.{statement}

@@ -1,5 +1,5 @@
--- `sail_sound::report::report` meets its contract. Assumes nothing.
-use Rattle.sail_sound.specs.Report.{saysReported}
+-- `sail_sound::report::report`. The sizes, then the test, then the count and the chunks in use, which are the needs of a sound table.
+use Rattle.sail_sound.specs.Report.{meansReported}
 use Rattle.sail_sound.proofs.Reports.{report-not, report-on}
 use borrow.Author.Needs.{needs}
 use native.Mathlib.Omega.{arith}
@@ -7,7 +7,7 @@ use Rattle.sail_sound.proofs.report.report.Statement.{statement}
 use Rattle.sail_sound.proofs.report.report.Tie as tie
 
 pub report-spec : {M : Type 1} → statement M
-unfolding saysReported
+unfolding meansReported
 report-spec =
     tie.close
     (tie.spec

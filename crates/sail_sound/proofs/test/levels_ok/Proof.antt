@@ -1,4 +1,4 @@
--- `sail_sound::test::levels_ok` meets its contract.
+-- `sail_sound::test::levels_ok`. All three levels: the live cells, and that the free chunks of both pools are zero.
 use borrow.Author.Needs.{needs}
 use Rattle.sail_sound.proofs.Levels.{chunked2, chunked3, live-fails, free-fails, free-tells}
 use Rattle.sail_sound.proofs.test.levels_ok.Statement.{statement}

@@ -8,7 +8,7 @@ use Rattle.sail_sound.proofs.test.live_ok.Tie as tie
 abbrev start : tie.After-first-ok → tie.Start
 start c = c .before .before .before .before .before .before .before .before .before
 
-abbrev first : tie.After-hung-all → tie.After-first-ok
+abbrev first : tie.After-owned-all → tie.After-first-ok
 first c = c .before .before .before .before .before
 
 first-ok-requires : tie.Need-first-ok-requires
@@ -19,23 +19,23 @@ first-ok-requires c κs =
 returns : tie.Need-returns
 returns c = first-fails _ _ _ _ _ _ _ _ (c .before .before .first-ok .ensures) (c .if1 .taken)
 
-hung-all-requires : tie.Need-hung-all-requires
-hung-all-requires c κs = let s = start (c .before .before .before .before) in pooled2 _ _ (s .pre .0) _ _ _ _ _ _ (s .pre .1) _ (search needs)
+owned-all-requires : tie.Need-owned-all-requires
+owned-all-requires c κs = let s = start (c .before .before .before .before) in pooled2 _ _ (s .pre .0) _ _ _ _ _ _ (s .pre .1) _ (search needs)
 
 returns-2 : tie.Need-returns-2
-returns-2 c = second-fails _ _ _ _ _ _ _ _ (first (c .before .before) .first-ok .ensures) _ (c .before .before .hung-all .ensures) (c .if2 .taken)
+returns-2 c = second-fails _ _ _ _ _ _ _ _ (first (c .before .before) .first-ok .ensures) _ (c .before .before .owned-all .ensures) (c .if2 .taken)
 
-hung-all-requires-2 : tie.Need-hung-all-requires-2
-hung-all-requires-2 c κs =
+owned-all-requires-2 : tie.Need-owned-all-requires-2
+owned-all-requires-2 c κs =
     pooled3 _ _ (start (first (c .before .before .before .before)) .pre .0) _ _ _ _ _ _ (start (first (c .before .before .before .before)) .pre .1) _
-    (search needs) _ _ (c .before .before .before .before .hung-all .ensures) (c .before .before .if2 .left)
+    (search needs) _ _ (c .before .before .before .before .owned-all .ensures) (c .before .before .if2 .left)
 
 returns-3 : tie.Need-returns-3
 returns-3 c =
     third-tells _ _ _ _ _ _ _ _ (first (c .before .before .before .before .before .before) .first-ok .ensures) _
-    (c .before .before .before .before .before .before .hung-all .ensures)
+    (c .before .before .before .before .before .before .owned-all .ensures)
     (c .before .before .before .before .before .before .before .before .before .if1 .left) (c .before .before .before .before .if2 .left) _
-    (c .before .hung-all2 .ensures)
+    (c .before .owned-all2 .ensures)
 
 pub live-ok-spec : {M : Type 1} → statement M
 live-ok-spec =
@@ -47,10 +47,10 @@ live-ok-spec =
     returns
     (λ c. search needs)
     (λ c. search needs)
-    hung-all-requires
+    owned-all-requires
     returns-2
     (λ c. search needs)
     (λ c. search needs)
     (λ c. search needs)
-    hung-all-requires-2
+    owned-all-requires-2
     returns-3)

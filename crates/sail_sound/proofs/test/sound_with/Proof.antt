@@ -1,9 +1,10 @@
 -- `sail_sound::test::sound_with`. A list that fails decides; else its words stand at the front of the room that is lent, and the levels and
 -- the counts are looked at beside them.
+use Rattle.bits.proofs.Tells.{passed}
 use Rattle.sail.proofs.Fitting.{celled-of}
-use Rattle.sail_list.proofs.Fronts.{count-in, count-room, chain-room, still-in, front-room, front-ready}
+use Rattle.chain.proofs.Fronts.{count-in, count-room, chain-room, still-in, front-room, front-ready}
 use Rattle.sail_sound.proofs.Sounds.{beside-of}
-use Rattle.sail_sound.proofs.Tries.{no-list, table-tried}
+use Rattle.sail_sound.proofs.TableTest.{no-list, table-tried}
 use borrow.Author.Needs.{needs}
 use Rattle.sail_sound.proofs.test.sound_with.Statement.{statement}
 use Rattle.sail_sound.proofs.test.sound_with.Tie as tie
@@ -19,31 +20,31 @@ returns : tie.Need-returns
 returns c = no-list _ _ _ (c .before .list-ok .ensures) (c .if1 .taken)
 
 words-fit : tie.Need-slice-relend-prefix-chained
-words-fit c = count-in _ _ _ (c .before .list-ok .ensures) (c .if1 .left) _ _ (start c .pre .1)
+words-fit c = count-in _ _ (passed (c .before .list-ok .ensures) (c .if1 .left)) _ _ (start c .pre .1)
 
 words-count : tie.Need-slice-aggregate-chained
-words-count c = let g = c .before in count-room _ _ _ (g .before .list-ok .ensures) (g .if1 .left) _ _ (start g .pre .1)
+words-count c = let g = c .before in count-room _ _ (passed (g .before .list-ok .ensures) (g .if1 .left)) _ _ (start g .pre .1)
 
 chained-requires : tie.Need-chained-requires
-chained-requires c κs = let g = c .before .before in chain-room _ _ _ (g .before .list-ok .ensures) (g .if1 .left) _ _ (start g .pre .1)
+chained-requires c κs = let g = c .before .before in chain-room _ _ (passed (g .before .list-ok .ensures) (g .if1 .left)) _ _ (start g .pre .1)
 
 front-fits : tie.Need-slice-reshare-prefix-table-ok
 front-fits c =
     let made = c .before .before .before .before .before in
     let g = good made in
-    still-in _ _ _ (g .before .list-ok .ensures) (g .if1 .left) _ _ (start g .pre .1) (made .chained .last .1 .0) (made .chained .kept .1 .0)
+    still-in _ _ (passed (g .before .list-ok .ensures) (g .if1 .left)) _ _ (start g .pre .1) (made .chained .last .1 .0) (made .chained .kept .1 .0)
 
 front-count : tie.Need-slice-aggregate-table-ok
 front-count c =
     let made = c .before .before .before .before .before .before in
     let g = good made in
-    front-room _ _ _ (g .before .list-ok .ensures) (g .if1 .left) _ _ (start g .pre .1) (made .chained .last .1 .0) (made .chained .kept .1 .0)
+    front-room _ _ (passed (g .before .list-ok .ensures) (g .if1 .left)) _ _ (start g .pre .1) (made .chained .last .1 .0) (made .chained .kept .1 .0)
 
 table-ok-requires : tie.Need-table-ok-requires
 table-ok-requires c κs =
     let made = c .before .before .before .before .before .before .before in
     let g = good made in (
-      front-ready _ _ _ (g .before .list-ok .ensures) (g .if1 .left) _ _ (start g .pre .1) _ (made .chained .kept .1 .0) _ (made .chained .ensures),
+      front-ready _ _ (passed (g .before .list-ok .ensures) (g .if1 .left)) _ _ (start g .pre .1) _ (made .chained .kept .1 .0) _ (made .chained .ensures),
       (celled-of _ _ (start g .pre .0), beside-of _ _ (start g .pre .0)),
     )
 
@@ -51,7 +52,7 @@ returns-2 : tie.Need-returns-2
 returns-2 c =
     let made = c .before .before .before .before .before .before .before .before in
     let g = good made in
-    table-tried _ _ (start g .pre .0) _ (g .before .list-ok .ensures) (g .if1 .left) _ _ (start g .pre .1) _ (made .chained .kept .1 .0) _
+    table-tried _ _ (start g .pre .0) (passed (g .before .list-ok .ensures) (g .if1 .left)) _ _ (start g .pre .1) _ (made .chained .kept .1 .0) _
     (made .chained .ensures) _ (c .table-ok .ensures)
 
 pub sound-with-spec : {M : Type 1} → statement M

@@ -1,6 +1,6 @@
 -- `sail_sound::test::table_ok`: levels that fail decide; else the counts do, which rest on them.
 use mathlib.Core.Path.{refl}
-use Rattle.plan.proofs.Tells.{passed}
+use Rattle.bits.proofs.Tells.{passed}
 use Rattle.sail_sound.proofs.Sounds.{countable, levels-fail, counts-tell}
 use borrow.Author.Needs.{needs}
 use Rattle.sail_sound.proofs.test.table_ok.Statement.{statement}

@@ -16,18 +16,23 @@ put-labelled-requires c κs = record { room = omega (arith, length-line (c .befo
 
 put-labelled-requires-2 : tie.Need-put-labelled-requires-2
 unfolding labelled ascii
-put-labelled-requires-2 c κs = record { room = omega (arith, length-line (c .before .before .before .before .before .before .before .before .before .before .before .before .before .before .args .r)) }
+put-labelled-requires-2 c κs = record {
+  room = omega
+      (arith, length-line (c .before .before .before .before .before .before .before .before .before .before .before .before .before .before .args .r));
+}
 
 put-mark-requires : tie.Need-put-mark-requires
 unfolding labelled ascii
 put-mark-requires c κs =
-    let start = c .before .before .before .before .before .before .before .before .before .before .before .before .before .before .before .before .before .before in
+    let start = c .before .before .before .before .before .before .before .before .before .before .before .before .before .before .before .before
+    .before .before in
     record { room = omega (arith, length-line (start .args .r), start .pre .room) }
 
 put-byte-requires : tie.Need-put-byte-requires
 unfolding labelled ascii
 put-byte-requires c κs =
-    let start = c .before .before .before .before .before .before .before .before .before .before .before .before .before .before .before .before .before .before .before .before .before .before in
+    let start = c .before .before .before .before .before .before .before .before .before .before .before .before .before .before .before .before
+    .before .before .before .before .before .before in
     record { room = omega (arith, length-line (start .args .r), start .pre .room) }
 
 returns : tie.Need-returns
@@ -37,7 +42,8 @@ returns c =
     let hop = marked .before .before .before .before in
     let length = hop .before .before .before .before .before .before in
     let address = length .before .before .before .before .before .before in
-    wrote-more (wrote-more (wrote-more (wrote-more (address .put-address .ensures) (length .put-labelled .ensures)) (hop .put-labelled2 .ensures)) (marked .put-mark .ensures)) (c .before .before .put-byte .ensures)
+    wrote-more (wrote-more (wrote-more (wrote-more (address .put-address .ensures) (length .put-labelled .ensures)) (hop .put-labelled2 .ensures))
+    (marked .put-mark .ensures)) (c .before .before .put-byte .ensures)
 
 pub put-route-spec : {M : Type 1} → statement M
 put-route-spec =

@@ -1,4 +1,4 @@
--- `text::line::refusal_at_text` meets its contract. Assumes nothing.
+-- `text::line::refusal_at_text`. The line of a refusal with the index of a record.
 use Rattle.text.specs.Text.{saidText, labelled, ascii}
 use native.Mathlib.Omega.{arith}
 use Rattle.text.proofs.Writes.{wrote-more}
@@ -15,7 +15,10 @@ refusal-at-text-spec =
     (λ c. search needs)
     (λ c κs. record { room = omega (arith, digits-few 2 (c .before .before .before .args .number) (omega arith)) })
     (λ c. search needs)
-    (λ c κs. let a = c .before .before .before .before .before .before .before .before .args in record { room = omega (arith, digits-few 2 (a .number) (omega arith), digits-few 19 (a .index) (omega arith)) })
-    (λ c κs. let a = c .before .before .before .before .before .before .before .before .before .before .before .before .args in record { room = omega (arith, digits-few 2 (a .number) (omega arith), digits-few 19 (a .index) (omega arith)) })
+    (λ c κs. let a = c .before .before .before .before .before .before .before .before .args in record
+    { room = omega (arith, digits-few 2 (a .number) (omega arith), digits-few 19 (a .index) (omega arith)) })
+    (λ c κs. let a = c .before .before .before .before .before .before .before .before .before .before .before .before .args in record
+    { room = omega (arith, digits-few 2 (a .number) (omega arith), digits-few 19 (a .index) (omega arith)) })
     (λ c. search needs)
-    (λ c. wrote-more (wrote-more (c .before .before .before .before .before .before .before .before .before .before .before .put-labelled .ensures) (c .before .before .before .before .before .before .put-labelled2 .ensures)) (c .before .before .put-byte .ensures)))
+    (λ c. wrote-more (wrote-more (c .before .before .before .before .before .before .before .before .before .before .before .put-labelled .ensures)
+    (c .before .before .before .before .before .before .put-labelled2 .ensures)) (c .before .before .put-byte .ensures)))

@@ -1,4 +1,4 @@
--- `text::line::refusal_text` meets its contract. Assumes nothing.
+-- `text::line::refusal_text`. The line of a refusal without an index.
 use Rattle.text.specs.Text.{saidText, labelled, ascii}
 use native.Mathlib.Omega.{arith}
 use Rattle.text.proofs.Writes.{wrote-more}

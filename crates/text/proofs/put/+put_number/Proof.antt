@@ -1,5 +1,4 @@
--- `text::put::put_number` meets its contract: a number below 10 is one digit, any other the digits of its tenth part and one more.
--- The measure is the number. Assumes nothing.
+-- `text::put::put_number`: a number below 10 is one digit, any other the digits of its tenth part and one more. The measure is the number.
 use Prim.Native.Nat.{ℕ, _<_}
 use native.Mathlib.Omega.{arith}
 use borrow.Author.Needs.{needs}

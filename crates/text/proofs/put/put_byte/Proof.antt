@@ -1,4 +1,4 @@
--- `text::put::put_byte` meets its contract. Assumes nothing.
+-- `text::put::put_byte`. A byte.
 use Rattle.text.proofs.Writes.{wrote-one}
 use borrow.Author.Needs.{needs}
 use Rattle.text.proofs.put.put_byte.Statement.{statement}

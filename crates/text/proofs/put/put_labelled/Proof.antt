@@ -1,4 +1,4 @@
--- `text::put::put_labelled` meets its contract. Assumes nothing.
+-- `text::put::put_labelled`. Words, and then a number.
 use Rattle.text.proofs.Writes.{wrote-more, room-first, room-then}
 use borrow.Author.Needs.{needs}
 use Rattle.text.proofs.put.put_labelled.Statement.{statement}

@@ -1,4 +1,4 @@
--- `text::put::put_text` meets its contract. The invariant: the first i bytes of the words are written. Assumes nothing.
+-- `text::put::put_text`: The invariant: the first i bytes of the words are written.
 use mathlib.Core.Path.{_≡_, refl}
 use Prim.Native.Nat.{_+_, _-_, _≤_}
 use native.Mathlib.Omega.{arith}

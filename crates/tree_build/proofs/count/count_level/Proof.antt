@@ -1,4 +1,4 @@
--- `tree_build::count::count_level` meets its contract. Assumes nothing.
+-- `tree_build::count::count_level`. The nodes of depth m, 1 or more.
 use Rattle.tree_build.proofs.Scans.{none-counted, count-on, count-off, all-counted}
 use mathlib.Core.Path.{_≡_}
 use Prim.Native.Nat.{_-_, _≤_}

@@ -1,4 +1,4 @@
--- `tree_build::count::count_nodes` meets its contract. Assumes nothing.
+-- `tree_build::count::count_nodes`. The nodes of all depths.
 use mathlib.Core.Path.{_≡_}
 use Prim.Native.Nat.{_+_, _-_, _*_, _≤_}
 use native.Mathlib.Omega.{arith}

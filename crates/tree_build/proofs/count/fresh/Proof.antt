@@ -1,4 +1,4 @@
--- `tree_build::count::fresh` meets its contract. Assumes nothing.
+-- `tree_build::count::fresh`. Whether record k passes through a node of depth m that the record before it does not pass through.
 use Rattle.tree_build.proofs.Scans.{fresh-short, fresh-first, fresh-test}
 use borrow.Author.Needs.{needs}
 use Rattle.tree_build.proofs.count.fresh.Statement.{statement}

@@ -1,4 +1,4 @@
--- `tree_build::fill::put_hops` meets its contract. Assumes nothing.
+-- `tree_build::fill::put_hops`. The hops of a node, each at its place: the hop base and the ones below its bit.
 use Prim.Native.Nat.{_-_, _≤_}
 use native.Mathlib.Omega.{arith}
 use borrow.Author.Needs.{needs}

@@ -1,4 +1,4 @@
--- `tree_build::fill::put_kids` meets its contract. Assumes nothing.
+-- `tree_build::fill::put_kids`. The children of a node, each at its place: t and the extending ones below its bit.
 use Prim.Native.Nat.{_-_, _≤_}
 use native.Mathlib.Omega.{arith}
 use borrow.Author.Needs.{needs}

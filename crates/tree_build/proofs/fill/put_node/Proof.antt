@@ -1,4 +1,4 @@
--- `tree_build::fill::put_node` meets its contract. Assumes nothing.
+-- `tree_build::fill::put_node`. The three words of node x.
 use native.Mathlib.Omega.{arith}
 use lib.ListN.{length-set}
 use borrow.Author.Needs.{needs}

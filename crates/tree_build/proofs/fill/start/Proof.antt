@@ -1,4 +1,4 @@
--- `tree_build::fill::start` meets its contract. Assumes nothing.
+-- `tree_build::fill::start`. Zeros, and the root, which waits with the whole list.
 use native.Mathlib.Omega.{arith}
 use Rattle.tree_build.proofs.Ends.{root-room, state-start}
 use borrow.Author.Needs.{needs}

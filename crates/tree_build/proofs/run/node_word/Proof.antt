@@ -1,4 +1,4 @@
--- `tree_build::run::node_word` meets its contract. Assumes nothing.
+-- `tree_build::run::node_word`. The bits of a node: those at which the records of its run lie.
 use Prim.Native.Nat.{_-_, _≤_}
 use native.Mathlib.Omega.{arith}
 use borrow.Author.Needs.{needs}

@@ -1,4 +1,4 @@
--- `tree_build::run::passes` meets its contract. Assumes nothing.
+-- `tree_build::run::passes`. Whether record k passes through the node of depth m for a path.
 use Rattle.tree_build.proofs.Scans.{too-short, tested}
 use borrow.Author.Needs.{needs}
 use Rattle.tree_build.proofs.run.passes.Statement.{statement}

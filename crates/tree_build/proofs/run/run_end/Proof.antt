@@ -1,4 +1,4 @@
--- `tree_build::run::run_end` meets its contract. Assumes nothing.
+-- `tree_build::run::run_end`. Where the run of the node of depth m that begins with record a ends: at e, or before.
 use Prim.Native.Nat.{_-_, _≤_, _<_}
 use native.Mathlib.Omega.{arith}
 use borrow.Author.Needs.{needs}
@@ -27,5 +27,10 @@ run-end-spec =
     (λ c. search run-stops)
     (λ c. search needs)
     (λ c. search needs)
-    (λ c. (omega arith, omega arith, all-more _ _ _ _ _ (c .before .before .before .before .before .read-record .ensures) (c .before .before .before .before .slot .ensures) _ _ (c .before .passes .ensures) (c .before .before .before .loop .inv .2) (c .if1 .left)))
+    (λ c. (
+      omega arith,
+      omega arith,
+      all-more _ _ _ _ _ (c .before .before .before .before .before .read-record .ensures)
+          (c .before .before .before .before .slot .ensures) _ _ (c .before .passes .ensures) (c .before .before .before .loop .inv .2) (c .if1 .left),
+    ))
     (λ c. search run-ends))

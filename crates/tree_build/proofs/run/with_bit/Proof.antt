@@ -1,4 +1,4 @@
--- `tree_build::run::with_bit` meets its contract. Assumes nothing.
+-- `tree_build::run::with_bit`. A word with one more bit set, or set already.
 use Rattle.tree_build.proofs.Marks.{with-bit}
 use borrow.Author.Needs.{needs}
 use Rattle.tree_build.proofs.run.with_bit.Statement.{statement}

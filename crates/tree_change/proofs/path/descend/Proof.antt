@@ -3,7 +3,7 @@ use mathlib.Core.Path.{sym, _∙_}
 use Prim.Native.Nat.{_-_, _≤_}
 use native.Mathlib.Omega.{arith}
 use Rattle.tree_check.proofs.Meaning.{not-true}
-use Rattle.tree_check.proofs.Steps.{kept}
+use Rattle.tree_check.proofs.Steps.{not-failed}
 use Rattle.tree_change.proofs.Ways.{Walked, walk-start, walk-next, walk-end, walk-stop}
 use Rattle.tree_change.proofs.path.descend.Statement.{statement}
 use Rattle.tree_change.proofs.path.descend.Tie as tie
@@ -56,7 +56,7 @@ loop-again c =
     let at-start = at-turn .before .before .before .before in (
       walk-next _ _ _ _ _ _ _ (at-start .pre .0) (at-turn .before .before .loop .inv .0)
           (at-turn .before .before .before .shared-slice-known .given _ .fits) (omega arith) (at-turn .turn .ensures .0)
-          (kept _ _ (c .before .before .is-set .ensures) (c .before .if1 .left)) (c .child-place .ensures .0),
+          (not-failed _ _ (c .before .before .is-set .ensures) (c .before .if1 .left)) (c .child-place .ensures .0),
       omega arith,
     )
 

@@ -1,5 +1,4 @@
 -- The invariant: nothing was counted exactly where the bases so far are those of the fixed order, and the own bitmaps well formed.
-use mathlib.Core.Path.{_≡_}
 use Prim.Native.Nat.{_-_, _≤_}
 use native.Mathlib.Omega.{arith}
 use borrow.Author.Needs.{needs}

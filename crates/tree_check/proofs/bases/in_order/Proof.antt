@@ -39,7 +39,8 @@ after-children-requires c κs = search needs
 returns-4 : tie.Need-returns-4
 returns-4 c =
     let counted = c .before .before in
-    order-end _ _ (counted .before .before .before .before .before .before .pre) _ (counted .faults .ensures .0) (c .before .if3 .left) _ (c .after-children .ensures)
+    order-end _ _ (counted .before .before .before .before .before .before .pre) _ (counted .faults .ensures .0) (c .before .if3 .left) _
+    (c .after-children .ensures)
 
 pub in-order-spec : {M : Type 1} → statement M
 in-order-spec =

@@ -1,6 +1,5 @@
--- `vectors::images::words` is safe and ends. Assumes nothing.
+-- `vectors::images::words` is safe and ends.
 use Prim.Native.Nat.{_-_, _≤_}
-use native.Mathlib.Omega.{arith}
 use lib.ListN.{length}
 use borrow.Author.Needs.{needs}
 use Rattle.vectors.proofs.images.words.Statement.{statement}

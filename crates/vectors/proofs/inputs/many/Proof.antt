@@ -1,4 +1,4 @@
--- `vectors::inputs::many` is safe and ends. Assumes nothing.
+-- `vectors::inputs::many` is safe and ends.
 use Prim.Native.Nat.{_-_, _*_, _≤_}
 use native.Mathlib.Omega.{arith}
 use mathlib.Core.Path.{_≡_, _∙_}

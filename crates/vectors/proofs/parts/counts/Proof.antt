@@ -1,6 +1,5 @@
--- `vectors::parts::counts` is safe and ends. Assumes nothing.
+-- `vectors::parts::counts` is safe and ends.
 use Prim.Native.Nat.{_-_, _≤_}
-use native.Mathlib.Omega.{arith}
 use borrow.Author.Needs.{needs}
 use Rattle.vectors.proofs.parts.counts.Statement.{statement}
 use Rattle.vectors.proofs.parts.counts.Tie as tie

@@ -1,6 +1,5 @@
 -- List A is copied byte by byte; the bound of the loop keeps every index inside both arrays.
 use Prim.Native.Nat.{_-_, _≤_}
-use native.Mathlib.Omega.{arith}
 use borrow.Author.Needs.{needs}
 use Rattle.vectors.proofs.tables.records.Statement.{statement}
 use Rattle.vectors.proofs.tables.records.Tie as tie

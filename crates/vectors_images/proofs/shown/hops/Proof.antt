@@ -1,6 +1,5 @@
 -- `vectors_images::shown::hops` is safe and ends.
 use Prim.Native.Nat.{_-_, _≤_}
-use native.Mathlib.Omega.{arith}
 use lib.ListN.{length}
 use borrow.Author.Needs.{needs}
 use Rattle.vectors_images.proofs.shown.hops.Statement.{statement}

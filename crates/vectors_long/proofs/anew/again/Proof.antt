@@ -5,7 +5,8 @@ use Rattle.vectors_long.proofs.anew.again.Tie as tie
 
 -- after the load, seen from after the report
 abbrev loaded : tie.After-judge → tie.After-reload
-loaded c = c .before .before .before .before .before .before .before .before .before .before .before .before .before .before .before .before .before .before .before .before .before .before .before .before .before
+loaded c = c .before .before .before .before .before .before .before .before .before .before .before .before .before .before .before .before .before
+    .before .before .before .before .before .before .before .before
 
 pub again-spec : {M : Type 1} → statement M
 again-spec =

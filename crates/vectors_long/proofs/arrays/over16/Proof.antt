@@ -1,6 +1,5 @@
--- `vectors_long::arrays::over16` is safe and ends. Assumes nothing.
+-- `vectors_long::arrays::over16` is safe and ends.
 use Prim.Native.Nat.{_-_, _≤_}
-use native.Mathlib.Omega.{arith}
 use lib.ListN.{length}
 use borrow.Author.Needs.{needs}
 use Rattle.vectors_long.proofs.arrays.over16.Statement.{statement}

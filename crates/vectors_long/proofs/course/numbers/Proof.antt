@@ -1,6 +1,5 @@
--- `vectors_long::course::numbers` is safe and ends. Assumes nothing.
+-- `vectors_long::course::numbers` is safe and ends.
 use Prim.Native.Nat.{_-_, _≤_}
-use native.Mathlib.Omega.{arith}
 use borrow.Author.Needs.{needs}
 use Rattle.vectors_long.proofs.course.numbers.Statement.{statement}
 use Rattle.vectors_long.proofs.course.numbers.Tie as tie

@@ -6,10 +6,12 @@ use Rattle.vectors_long.proofs.longrun.run.Tie as tie
 
 -- Places, each seen from the next one: after the table is made, after its changes, and after what is told of it.
 abbrev started : tie.After-many → tie.After-start
-started c = c .before .before .before .before .before .before .before .before .before .before .before .before .before .before .before .before .before .before .before .before .before .before .before .before .before
+started c = c .before .before .before .before .before .before .before .before .before .before .before .before .before .before .before .before .before
+    .before .before .before .before .before .before .before .before
 
 abbrev changed : tie.After-ended → tie.After-many
-changed c = c .before .before .before .before .before .before .before .before .before .before .before .before .before .before .before .before .before .before .before .before .before .before .before .before .before
+changed c = c .before .before .before .before .before .before .before .before .before .before .before .before .before .before .before .before .before
+    .before .before .before .before .before .before .before .before
 
 pub run-spec : {M : Type 1} → statement M
 run-spec =

@@ -6,10 +6,12 @@ use Rattle.vectors_runs.proofs.play.changed.Tie as tie
 
 -- Places, each seen from the next one: after the table is made, after it is announced to, and after it is withdrawn from.
 abbrev made : tie.After-announced → tie.After-made
-made c = c .before .before .before .before .before .before .before .before .before .before .before .before .before .before .before .before .before .before .before .before .before .before .before .before .before
+made c = c .before .before .before .before .before .before .before .before .before .before .before .before .before .before .before .before .before
+    .before .before .before .before .before .before .before .before
 
 abbrev announced : tie.After-withdrawn → tie.After-announced
-announced c = c .before .before .before .before .before .before .before .before .before .before .before .before .before .before .before .before .before .before .before .before .before .before .before .before .before
+announced c = c .before .before .before .before .before .before .before .before .before .before .before .before .before .before .before .before
+    .before .before .before .before .before .before .before .before .before
 
 pub changed-spec : {M : Type 1} → statement M
 changed-spec =

@@ -1,30 +1,12 @@
--- `vectors_spares::compare::words_begin` is safe and ends.
-use Prim.Native.Nat.{_-_, _≤_}
-use lib.ListN.{length}
+-- The list is at least as long as the others, so the part that is compared has as many cells as they have.
+use mathlib.Core.Path.{sym}
+use lib.Seq.{length-take-le}
 use borrow.Author.Needs.{needs}
 use Rattle.vectors_spares.proofs.compare.words_begin.Statement.{statement}
 use Rattle.vectors_spares.proofs.compare.words_begin.Tie as tie
 
-abbrev Inv-loop : tie.InvT-loop
-Inv-loop list others i₀ i = (length others ≤ length list) × (i ≤ length others)
-
-abbrev μ-loop : tie.MeasureT-loop
-μ-loop list others i₀ i = length others - i
+front-count : tie.Need-slice-aggregate-same32
+front-count c = sym (length-take-le _ _ (c .before .if1 .left))
 
 pub words-begin-spec : {M : Type 1} → statement M
-words-begin-spec =
-    tie.close
-    (tie.spec
-    Inv-loop
-    μ-loop
-    (λ c. search needs)
-    (λ c. search needs)
-    (λ c. search needs)
-    (λ c. search needs)
-    (λ c. search needs)
-    (λ c. search needs)
-    (λ c. search needs)
-    (λ c. search needs)
-    (λ c. search needs)
-    (λ c. search needs)
-    (λ c. search needs))
+words-begin-spec = tie.close (tie.spec (λ c. search needs) front-count (λ c κs. search needs) (λ c. search needs))

@@ -1,4 +1,4 @@
--- `sail::geometry::Geometry::first_cells` meets its contract. Assumes nothing.
+-- `sail::geometry::Geometry::first_cells`. How many first cells there are.
 use borrow.Author.Needs.{needs}
 use native.Mathlib.Omega.{arith}
 use Rattle.sail.proofs.Geos.{power}

@@ -1,4 +1,4 @@
--- `sail::geometry::Geometry::second_chunk` meets its contract. Assumes nothing.
+-- `sail::geometry::Geometry::second_chunk`. How many cells a second chunk has.
 use borrow.Author.Needs.{needs}
 use native.Mathlib.Omega.{arith}
 use Rattle.sail.proofs.Geos.{power}

@@ -1,4 +1,4 @@
--- `sail::geometry::Geometry::third_chunk` meets its contract. Assumes nothing.
+-- `sail::geometry::Geometry::third_chunk`. How many cells a third chunk has.
 use borrow.Author.Needs.{needs}
 use native.Mathlib.Omega.{arith}
 use Rattle.sail.proofs.Geos.{power}

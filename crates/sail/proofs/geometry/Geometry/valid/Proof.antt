@@ -1,4 +1,4 @@
--- `sail::geometry::Geometry::valid` meets its contract. Assumes nothing.
+-- `sail::geometry::Geometry::valid`. Whether the levels are within the limits.
 use borrow.Author.Needs.{needs}
 use native.Mathlib.Omega.{arith}
 use borrow.Author.Tests.{le-leb}

@@ -1,0 +1,6 @@
+-- One law for each kind of loop: what fills, what copies, what looks for zeros, and what compares.
+pub mod Ranges
+pub mod Fills
+pub mod Copies
+pub mod Blanks
+pub mod Sames

@@ -1,8 +1,0 @@
--- `probes::draw::pick` meets its contract. Assumes nothing.
-use native.Mathlib.Nat.{mod-lt}
-use borrow.Author.Needs.{needs}
-use Rattle.probes.proofs.draw.pick.Statement.{statement}
-use Rattle.probes.proofs.draw.pick.Tie as tie
-
-pub pick-spec : {M : Type 1} → statement M
-pick-spec = tie.close (tie.spec (λ c. search needs) (λ c. search mod-lt))

@@ -1,0 +1,191 @@
+-- An announcement under way: at most one chunk in each pool is hung, the lowest free one.
+use mathlib.Core.Path.{_≡_, refl, sym, _∙_, ap, subst}
+use mathlib.Core.Logic.{_⊎_, inl, inr}
+use mathlib.Core.Bool.{true, false, not, _&&_, cond, true≢false}
+use mathlib.Core.List.{List}
+use Prim.Native.Nat.{ℕ, suc, _-_, _/_, _^_, _≤_, _<_}
+use native.Mathlib.Omega.{arith}
+use lib.Dec.{ltb}
+use lib.ListN.{getD, length, set}
+use borrow.Author.Tests.{lt-ltb, le-ltb, lt-leb, eq-eqb}
+use Rattle.bits.specs.Slot.{slot}
+use Rattle.bits.proofs.Bools.{decided, below?, untrue}
+use Rattle.standing.specs.Cells.{long}
+use Rattle.standing.specs.Standing.{insert}
+use Rattle.routes.specs.declared.Route.{Route}
+use Rattle.sail.specs.Lent.{Lent, cells}
+use Rattle.sail.specs.Level.{Level, entry, chunksOf, below, level1, level2}
+use Rattle.sail.specs.Sound.{Clear, standing}
+use Rattle.sail.specs.declared.geometry.Geometry.{Geometry}
+use Rattle.sail.specs.declared.table.Table.{Table}
+use Rattle.sail.proofs.Sounds.{standing-good}
+use Rattle.sail_theory.specs.Render.{find, Fits, roomOf}
+use Rattle.sail_theory.specs.Calls.{opening}
+use Rattle.sail_theory.specs.Facts.{Announceable}
+use Rattle.sail_theory.proofs.owners.Chunks.{chunk-at}
+use Rattle.sail_theory.proofs.places.Places.{top-apart, top-served, live-owner}
+use Rattle.sail_theory.proofs.places.Pools.{shows-fits}
+use Rattle.sail_theory.proofs.owners.GrantKeep.{unhung}
+use Rattle.sail_theory.proofs.frames.LevelFrame.{below-same}
+use Rattle.sail_theory.proofs.owners.OpenAt.{Space, OpenReady, length-open, open-stays, open-fits, open-short, open-had, open-new, ready-below, find-hung}
+use Rattle.sail_theory.proofs.calls.ChangeHolds.{ready1, ready2}
+use Rattle.sail_theory.proofs.frames.TableFrame.{announce-frame}
+use Rattle.sail_paint.specs.Stale.{meets}
+use Rattle.sail_chunks.specs.Chunks.{withOwner, alone, FreeToOpen}
+use Rattle.sail_chunks.specs.ToOpen.{Openable}
+use Rattle.sail_chunks.proofs.ChunkOwners.{hung-was, alone-parts, alone-longer, is-alone}
+use Rattle.sail_chunks.proofs.Trails.{serving-of}
+use Rattle.sail_chunks.proofs.Still.{PoolUnderway}
+use Rattle.sail_chunks.proofs.Underway.{Underway}
+
+-- the cell of a level that a longer prefix lies in meets it
+meets-own : (a len p : ℕ) → p < len → meets a len p (slot p a) ≡ true
+unfolding meets
+meets-own a len p l = rw (lt-leb len p l) (eq-eqb (slot p a) (slot p a) refl)
+
+-- where the route alone needs a chunk, one is free; and back
+free-space : (rs : List Route) (r : Route) (v : Level) (own : List ℕ) → FreeToOpen (alone rs (v .bits) (r .addr) (r .len)) own → Space rs r v own (find own 0)
+free-space rs r v own f e d = let h = f .some (is-alone rs (v .bits) (r .addr) (r .len) e d) in (h, chunk-at (chunksOf own) 0 h)
+
+space-free : (rs : List Route) (r : Route) (v : Level) (own : List ℕ) → Space rs r v own (find own 0) → FreeToOpen (alone rs (v .bits) (r .addr) (r .len)) own
+space-free rs r v own s = record { some = λ e. let k = alone-parts rs (v .bits) (r .addr) (r .len) e in s (k .0) (k .1) .0 }
+
+-- A route that may be announced at a level whose places are v′, and were v before the level above it changed.
+module _ (rs : List Route) (r : Route) (v′ : Level) (own : List ℕ) (w : OpenReady rs r v′ own (find own 0)) where
+  abbrev own′ : List ℕ
+  own′ = opening v′ own r
+
+  abbrev needed : Type 0
+  needed = alone rs (v′ .bits) (r .addr) (r .len) ≡ true
+
+  -- a chunk is opened where the route alone needs it
+  pub open-hung : own′ ≡ withOwner (alone rs (v′ .bits) (r .addr) (r .len)) (suc (v′ .serving (r .addr))) own
+  unfolding withOwner alone
+  open-hung = go (below? (v′ .bits) (r .len)) (decided (long rs (v′ .bits) (slot (v′ .bits) (r .addr))))
+    where
+      go : (v′ .bits < r .len) ⊎ (r .len ≤ v′ .bits)
+          → (long rs (v′ .bits) (slot (v′ .bits) (r .addr)) ≡ true) ⊎ (long rs (v′ .bits) (slot (v′ .bits) (r .addr)) ≡ false)
+          → own′
+          ≡ cond (ltb (v′ .bits) (r .len) && not (long rs (v′ .bits) (slot (v′ .bits) (r .addr)))) (set own (find own 0) (suc (v′ .serving (r .addr)))) own
+      go (inr h) d = open-short rs r v′ own (find own 0) w h ∙ rw (le-ltb (v′ .bits) (r .len) h)
+      go (inl h) (inl d) = open-had rs r v′ own (find own 0) w d ∙ rw (lt-ltb (v′ .bits) (r .len) h, d)
+      go (inl h) (inr d) = open-new rs r v′ own (find own 0) w h d .1 ∙ rw (lt-ltb (v′ .bits) (r .len) h, d)
+
+  -- the chunk that then serves the route: the new one, or the one that was there
+  pub chunk-next : v′ .bits < r .len
+      → cond (alone rs (v′ .bits) (r .addr) (r .len)) (find own 0) (find own (suc (v′ .serving (r .addr)))) ≡ find own′ (suc (v′ .serving (r .addr)))
+  unfolding withOwner
+  chunk-next h = rw open-hung (go (decided (alone rs (v′ .bits) (r .addr) (r .len))))
+    where
+      q : ℕ
+      q = v′ .serving (r .addr)
+
+      go : (alone rs (v′ .bits) (r .addr) (r .len) ≡ true) ⊎ (alone rs (v′ .bits) (r .addr) (r .len) ≡ false)
+          → cond (alone rs (v′ .bits) (r .addr) (r .len)) (find own 0) (find own (suc q))
+          ≡ find (cond (alone rs (v′ .bits) (r .addr) (r .len)) (set own (find own 0) (suc q)) own) (suc q)
+      go (inr e) = rw e
+      go (inl e) =
+          let k = alone-parts rs (v′ .bits) (r .addr) (r .len) e in
+          let bare : long rs (v′ .bits) (v′ .at q) ≡ false = rw (w .served (k .0) .stands) (k .1) in
+          rw e (sym (find-hung own (find own 0) q (w .space (k .0) (k .1) .0) (unhung rs v′ own (w .fits) q bare)))
+
+  module _ (v : Level) (bits : v′ .bits ≡ v .bits) (was : Fits rs v (chunksOf own)) (over : (x : ℕ) → v .live x ≡ true → v .at x ≡ v′ .at x) (p : ℕ)
+      (cells : List ℕ) (clear : Clear (below v (chunksOf own) p) (entry cells)) where
+    -- a chunk whose cell does not meet the route's prefix is not the new one
+    keeps : (c x : ℕ) → c < length own → getD own′ c 0 ≡ suc x → meets (r .addr) (r .len) (v′ .bits) (v′ .at x) ≡ false
+        → (getD own c 0 ≡ suc x) × (v .at x ≡ v′ .at x)
+    keeps c x h e m =
+        let k = hung-was own (alone rs (v′ .bits) (r .addr) (r .len)) (v′ .serving (r .addr)) c x (rw open-hung at e) new in
+        (k, over x (was .lies c x h k .1))
+      where
+        new : needed → (x ≡ v′ .serving (r .addr)) → ⊥
+        new b y =
+            let here = ap (v′ .at) y ∙ w .served (alone-parts rs (v′ .bits) (r .addr) (r .len) b .0) .stands in
+            let met = meets-own (r .addr) (r .len) (v′ .bits) (alone-longer rs (v′ .bits) (r .addr) (r .len) b) in
+            true≢false (sym (ap (meets (r .addr) (r .len) (v′ .bits)) here ∙ met) ∙ m)
+
+    -- a chunk that is free now was free
+    free : (q : ℕ) → below v′ (chunksOf own′) p .live q ≡ false → below v (chunksOf own) p .live q ≡ false
+    free q e = untrue _ (λ u.
+        let o = open-stays v′ own r _ _ (live-owner v (chunksOf own) p q u) in
+        let live = lt-ltb 0 (getD own′ (q / 2 ^ (p - v .bits)) 0) (omega (arith, o)) in
+        true≢false (sym live ∙ subst (λ (b : ℕ). ltb 0 (getD own′ (q / 2 ^ (p - b)) 0) ≡ false) bits e))
+
+    pub opening-held : PoolUnderway (insert r rs) (r .addr) (r .len) v v′ p own own′ cells cells
+    opening-held = record {
+      bits = bits;
+      many = length-open v′ own (find own 0) r;
+      size = refl;
+      fits = open-fits rs r v′ own (find own 0) w;
+      keeps = keeps;
+      held = λ q l e. refl;
+      clear = record { blank = λ q l e. clear .blank q (rw bits at (rw (length-open v′ own (find own 0) r) at l)) (free q e) };
+    }
+
+-- what `open` may rest on
+module _ (g : Geometry) (rs : List Route) (r : Route) (first second own2 own3 : List ℕ) (w : Openable g rs r first second own2 own3) where
+  pub first-ready : OpenReady rs r (level1 g) own2 (find own2 0)
+  first-ready =
+      let v = w .serving .valid in
+      record {
+        fine = w .fine;
+        good = w .good;
+        fits = shows-fits rs (level1 g) (chunksOf own2) (entry first) (w .serving .shows1);
+        apart = top-apart (g .p1);
+        served = λ e. top-served (g .p1) (r .addr) (omega arith) (w .fine .prefix .addr-ok);
+        space = free-space rs r (level1 g) own2 (w .free2);
+      }
+
+  pub second-ready : OpenReady rs r (level2 g (chunksOf (opening (level1 g) own2 r))) own3 (find own3 0)
+  second-ready =
+      let v = w .serving .valid in
+      ready-below rs r (level1 g) own2 (find own2 0) first-ready (g .p2) (omega arith) (omega arith) own3 (find own3 0)
+      (shows-fits rs (level2 g (chunksOf own2)) (chunksOf own3) (entry second) (w .serving .shows2))
+      (free-space rs r (level2 g (chunksOf (opening (level1 g) own2 r))) own3 (w .free3))
+
+module _ (t : Table) (l : Lent) (r : Route) (w : Announceable t l r) where
+  abbrev g : Geometry
+  g = t .geometry
+
+  abbrev rs : List Route
+  rs = standing t l
+
+  abbrev own2′ : List ℕ
+  own2′ = opening (level1 g) (l .own2) r
+
+  abbrev own3′ : List ℕ
+  own3′ = opening (level2 g (chunksOf own2′)) (l .own3) r
+
+  -- what `open` asks
+  pub openable : Openable g rs r (l .first) (l .second) (l .own2) (l .own3)
+  openable = record {
+    serving = serving-of t l (w .sound);
+    good = standing-good t l (w .sound);
+    fine = w .fine;
+    free2 = space-free rs r (level1 g) (l .own2) (ready1 t l r w .space);
+    free3 = space-free rs r (level2 g (chunksOf own2′)) (l .own3) (ready2 t l r w .space);
+  }
+
+  -- a live place of the second pool stands for the cell that it stood for
+  over : (x : ℕ) → level2 g (chunksOf (l .own2)) .live x ≡ true → level2 g (chunksOf (l .own2)) .at x ≡ level2 g (chunksOf own2′) .at x
+  over x e =
+      let o = live-owner (level1 g) (chunksOf (l .own2)) (g .p2) x e in
+      let stays = open-stays (level1 g) (l .own2) r _ _ o in
+      sym (below-same (level1 g) (level1 g) (chunksOf (l .own2)) (chunksOf own2′) (g .p2) x refl (stays ∙ sym o) (λ z _. refl) .at e)
+
+  pub welcome-underway : Underway g (r .addr) (r .len) (insert r rs) l (cells (l .first) (l .second) (l .third) own2′ own3′)
+  welcome-underway =
+      let z = serving-of t l (w .sound) in
+      record {
+        sized = w .sound .sized;
+        prefix = w .fine .prefix;
+        room = roomOf l;
+        frame = announce-frame t l r w;
+        first = refl;
+        second =
+            opening-held rs r (level1 g) (l .own2) (ready1 t l r w) (level1 g) refl
+            (shows-fits rs (level1 g) (chunksOf (l .own2)) (entry (l .first)) (z .shows1)) (λ x _. refl)
+            (g .p2) (l .second) (w .sound .clear2);
+        third = opening-held rs r (level2 g (chunksOf own2′)) (l .own3) (ready2 t l r w) (level2 g (chunksOf (l .own2))) refl
+            (shows-fits rs (level2 g (chunksOf (l .own2))) (chunksOf (l .own3)) (entry (l .second)) (z .shows2)) over 32 (l .third) (w .sound .clear3);
+      }

@@ -1,0 +1,18 @@
+-- `sail_chunks::chunks::set_owner`. The lowest free chunk gets the owner o, where one is to be opened.
+use native.Mathlib.Omega.{arith}
+use mathlib.Core.Path.{refl}
+use Rattle.sail_chunks.proofs.ChunkOwners.{hang-on, hang-off}
+use borrow.Author.Needs.{needs}
+use Rattle.sail_chunks.proofs.chunks.set_owner.Statement.{statement}
+use Rattle.sail_chunks.proofs.chunks.set_owner.Tie as tie
+
+pub set-owner-spec : {M : Type 1} → statement M
+set-owner-spec =
+    tie.close
+    (tie.spec
+    (λ c κs. search needs)
+    (λ c. search needs)
+    (λ c. let d = c .before .before .before .before in omega (arith, d .pre .some (c .before .before .if1 .taken)))
+    (λ c. search needs)
+    (λ c. hang-on _ _ _ _ _ (c .chunk-named .ensures .0) (c .before .before .if1 .taken) refl)
+    (λ c. hang-off _ _ _ (c .if1 .left)))

@@ -1,2 +1,0 @@
--- What is asked of the list of a table.
-pub mod List

@@ -1,0 +1,33 @@
+-- `sail_many::pass::read_firsts`: the words so far went one step on.
+use borrow.Author.Needs.{needs}
+use native.Mathlib.Omega.{arith}
+use Prim.Native.Nat.{_-_, _≤_}
+use Rattle.sail_many.proofs.Flows.{swept-none, swept-more, swept-all, spot-at}
+use Rattle.sail_many.specs.Words.{step1, Swept}
+use Rattle.sail_many.proofs.pass.read_firsts.Statement.{statement}
+use Rattle.sail_many.proofs.pass.read_firsts.Tie as tie
+
+abbrev Inv-loop : tie.InvT-loop
+Inv-loop p1 first addrs out₀ from to i₀ out i = (from ≤ i) × (i ≤ to) × Swept (λ k _. step1 p1 first addrs k) from i out₀ out
+
+abbrev μ-loop : tie.MeasureT-loop
+μ-loop p1 first addrs out₀ from to i₀ out i = to - i
+
+pub read-firsts-spec : {M : Type 1} → statement M
+read-firsts-spec =
+    tie.close
+    (tie.spec
+    Inv-loop
+    μ-loop
+    (λ c. (search needs, search needs, swept-none _ _ _))
+    (λ c κs. (search needs, search spot-at))
+    (λ c. omega arith)
+    (λ c. omega arith)
+    (λ c. (
+      omega arith,
+      omega arith,
+      swept-more _ _ _ _ _ _ (search needs) (omega arith) (c .before .before .before .before .before .loop .inv .2)
+          (c .before .before .read-first .ensures),
+    ))
+    (λ c. c .before .loop .inv .2 .size)
+    (λ c. swept-all _ _ _ _ _ _ (c .before .loop .inv .1) (omega arith) (c .before .loop .inv .2)))
