@@ -1,4 +1,5 @@
--- `sail_chunks::opening::to_open`. The cells of the prefix are followed; a chunk is to be opened where one of them is a leaf and the prefix is longer than its level.
+-- `sail_chunks::opening::to_open`. The cells of the prefix are followed; a chunk is to be opened where one of them is a leaf and the prefix is
+-- longer than its level.
 use borrow.Author.Needs.{needs}
 use Rattle.sail_chunks.proofs.ToOpen.{named-first, opens-is}
 use Rattle.sail_chunks.proofs.opening.to_open.Statement.{statement}

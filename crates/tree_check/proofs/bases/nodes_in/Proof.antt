@@ -22,7 +22,7 @@ nodes-in-spec =
     μ-loop
     (λ c. (search needs, way-start _))
     (λ c κs. search needs)
-    (λ c. way-end _ _ (c .before .before .before .loop .inv .1) _ (c .before .first-child .ensures .0) (c .if1 .taken))
+    (λ c. way-end _ _ (c .before .before .before .loop .inv .1) _ (c .before .first-child .ensures .0) (omega (arith, c .if1 .taken)))
     (λ c. search needs)
     (λ c. (
       c .before .before .before .loop .inv .0,
