@@ -28,10 +28,12 @@ same-length-2 c = refl
 
 returns-3 : tie.Need-returns-3
 returns-3 c =
-    let at-check = c .before in
-    let at-hop = at-check .before .before .before .before in
-    announced-broken _ _ _ _ _ (at-hop .before .before .prefix-ok .ensures) (at-hop .before .if1 .left) _ _ (at-hop .hop-ok .ensures)
-    (at-check .before .before .before .if2 .left) _
+    let at-check : tie.After-check = search in
+    let else2 : tie.Else2 = search in
+    let at-hop : tie.After-hop-ok = search in
+    let else1 : tie.Else1 = search in
+    let after-prefix-ok : tie.After-prefix-ok = search in
+    announced-broken _ _ _ _ _ (after-prefix-ok .prefix-ok .ensures) (else1 .if1 .left) _ _ (at-hop .hop-ok .ensures) (else2 .if2 .left) _
     (at-check .check .ensures) (c .if3 .taken)
 
 byte-to-word-requires : tie.Need-byte-to-word-requires
@@ -39,29 +41,42 @@ byte-to-word-requires c κs = tt
 
 put-requires : tie.Need-put-requires
 put-requires c κs =
-    let at-check = c .before .before .before .before in
-    let at-hop = at-check .before .before .before .before in (
-      is-formed _ _ _ (λ j. at-hop .before .before .before .before .slice-known .given j .fits) (at-check .check .ensures)
-          (c .before .before .before .if3 .left),
-      passed-route _ _ _ _ _ (at-hop .before .before .prefix-ok .ensures) (at-hop .before .if1 .left) (at-hop .hop-ok .ensures)
-          (at-check .before .before .before .if2 .left) _
+    let else3 : tie.Else3 = search in
+    let at-check : tie.After-check = search in
+    let else2 : tie.Else2 = search in
+    let at-hop : tie.After-hop-ok = search in
+    let else1 : tie.Else1 = search in
+    let after-prefix-ok : tie.After-prefix-ok = search in
+    let after-slice-known : tie.After-slice-known = search in (
+      is-formed _ _ _ (λ j. after-slice-known .slice-known .given j .fits) (at-check .check .ensures)
+          (else3 .if3 .left),
+      passed-route _ _ _ _ _ (after-prefix-ok .prefix-ok .ensures) (else1 .if1 .left) (at-hop .hop-ok .ensures)
+          (else2 .if2 .left) _
           (c .byte-to-word .ensures .0),
     )
 
 same-length-3 : tie.Need-same-length-3
-same-length-3 c = c .before .before .before .before .put .kept .0
+same-length-3 c =
+    let after-put : tie.After-put = search in
+    after-put .put .kept .0
 
 same-length-4 : tie.Need-same-length-4
-same-length-4 c = c .before .before .before .before .put .kept .1 .0
+same-length-4 c =
+    let after-put : tie.After-put = search in
+    after-put .put .kept .1 .0
 
 returns-4 : tie.Need-returns-4
 returns-4 c =
-    let at-put = c .before .before .before .before in
-    let at-check = at-put .before .before .before .before .before in
-    let at-hop = at-check .before .before .before .before in
-    announced-formed _ _ _ _ _ (at-hop .before .before .prefix-ok .ensures) (at-hop .before .if1 .left) _ _ (at-hop .hop-ok .ensures)
-    (at-check .before .before .before .if2 .left) _
-    (at-check .check .ensures) (at-put .before .before .before .before .if3 .left) _ (at-put .before .byte-to-word .ensures .0) _ (at-put .put .ensures)
+    let at-put : tie.After-put = search in
+    let after-byte-to-word : tie.After-byte-to-word = search in
+    let else3 : tie.Else3 = search in
+    let at-check : tie.After-check = search in
+    let else2 : tie.Else2 = search in
+    let at-hop : tie.After-hop-ok = search in
+    let else1 : tie.Else1 = search in
+    let after-prefix-ok : tie.After-prefix-ok = search in
+    announced-formed _ _ _ _ _ (after-prefix-ok .prefix-ok .ensures) (else1 .if1 .left) _ _ (at-hop .hop-ok .ensures) (else2 .if2 .left) _
+    (at-check .check .ensures) (else3 .if3 .left) _ (after-byte-to-word .byte-to-word .ensures .0) _ (at-put .put .ensures)
 
 pub announce-spec : {M : Type 1} → statement M
 announce-spec =

@@ -10,15 +10,21 @@ hops-in-requires : tie.Need-hops-in-requires
 hops-in-requires c κs = ask-hops (c .before .before .before .pre .0)
 
 own-bit-requires : tie.Need-own-bit-requires
-own-bit-requires c κs = c .before .before .before .before .pre .1 .prefix .len-ok
+own-bit-requires c κs =
+    let start : tie.Start = search in
+    start .pre .1 .prefix .len-ok
 
 descend-requires : tie.Need-descend-requires
-descend-requires c κs = let pre = c .before .before .before .before .before .before .pre in ask-way (pre .0) (pre .1 .prefix .len-ok)
+descend-requires c κs =
+    let start : tie.Start = search in
+    let pre = start .pre in ask-way (pre .0) (pre .1 .prefix .len-ok)
 
 is-there-requires : tie.Need-is-there-requires
 is-there-requires c κs =
-    ask-end (c .before .before .before .before .before .before .before .before .pre .0) (c .before .descend .ensures)
-    (c .before .before .before .own-bit .ensures)
+    let after-descend : tie.After-descend = search in
+    let after-own-bit : tie.After-own-bit = search in
+    let start : tie.Start = search in
+    ask-end (start .pre .0) (after-descend .descend .ensures) (after-own-bit .own-bit .ensures)
 
 -- the prefix stands
 standing : (c : tie.Then1)
@@ -40,42 +46,63 @@ standing c =
 
 replace-requires : tie.Need-replace-requires
 replace-requires c κs =
-    let fine = c .before .before .before .before .before .before .before .before .before .before .before .before .pre .1 in
-    (standing (c .before .before), fine .hop-one, fine .hop-ok)
+    let then1 : tie.Then1 = search in
+    let start : tie.Start = search in
+    let fine = start .pre .1 in
+    (standing then1, fine .hop-one, fine .hop-ok)
 
 narrow-requires : tie.Need-narrow-requires
-narrow-requires c κs = omega (arith, standing (c .before .before .before .before .before) .found .few-nodes)
+narrow-requires c κs =
+    let then1 : tie.Then1 = search in
+    omega (arith, standing then1 .found .few-nodes)
 
 narrow-requires-2 : tie.Need-narrow-requires-2
-narrow-requires-2 c κs = omega (arith, standing (c .before .before .before .before .before .before) .found .few-hops)
+narrow-requires-2 c κs =
+    let then1 : tie.Then1 = search in
+    omega (arith, standing then1 .found .few-hops)
 
 same-length : tie.Need-same-length
 same-length c = refl
 
 same-length-2 : tie.Need-same-length-2
-same-length-2 c = c .before .before .before .before .replace .kept .1 .0
+same-length-2 c =
+    let after-replace : tie.After-replace = search in
+    after-replace .replace .kept .1 .0
 
 returns : tie.Need-returns
 returns c =
-    told-replaced (standing (c .before .before .before .before .before .before .before)) _ (c .before .before .before .before .replace .ensures) _ _
-    (c .before .narrow .ensures) (c .narrow2 .ensures)
+    let after-narrow : tie.After-narrow = search in
+    let after-replace : tie.After-replace = search in
+    let then1 : tie.Then1 = search in
+    told-replaced (standing then1) _ (after-replace .replace .ensures) _ _ (after-narrow .narrow .ensures) (c .narrow2 .ensures)
 
 put-new-requires : tie.Need-put-new-requires
 put-new-requires c κs =
-    let at-way = c .before .before .before .before .before in
-    let pre = at-way .before .before .before .before .before .before .before .pre in
-    is-new (pre .0) (at-way .before .before .before .hops-in .ensures) (pre .1 .prefix) (at-way .before .before .own-bit .ensures)
-    (at-way .descend .ensures) _ (c .before .before .before .is-there .ensures) _
-    (pre .1) (c .before .before .if1 .left)
+    let else1 : tie.Else1 = search in
+    let after-is-there : tie.After-is-there = search in
+    let at-way : tie.After-descend = search in
+    let after-own-bit : tie.After-own-bit = search in
+    let after-hops-in : tie.After-hops-in = search in
+    let start : tie.Start = search in
+    let pre = start .pre in
+    is-new (pre .0) (after-hops-in .hops-in .ensures) (pre .1 .prefix) (after-own-bit .own-bit .ensures)
+    (at-way .descend .ensures) _ (after-is-there .is-there .ensures) _
+    (pre .1) (else1 .if1 .left)
 
 same-length-3 : tie.Need-same-length-3
-same-length-3 c = c .before .before .before .before .put-new .kept .0
+same-length-3 c =
+    let after-put-new : tie.After-put-new = search in
+    after-put-new .put-new .kept .0
 
 same-length-4 : tie.Need-same-length-4
-same-length-4 c = c .before .before .before .before .put-new .kept .1 .0
+same-length-4 c =
+    let after-put-new : tie.After-put-new = search in
+    after-put-new .put-new .kept .1 .0
 
 returns-2 : tie.Need-returns-2
-returns-2 c = c .before .before .before .before .put-new .ensures
+returns-2 c =
+    let after-put-new : tie.After-put-new = search in
+    after-put-new .put-new .ensures
 
 pub put-spec : {M : Type 1} → statement M
 put-spec =

@@ -10,25 +10,35 @@ hops-in-requires : tie.Need-hops-in-requires
 hops-in-requires c κs = ask-hops (c .before .before .before .pre .0)
 
 own-bit-requires : tie.Need-own-bit-requires
-own-bit-requires c κs = c .before .before .before .before .pre .1 .len-ok
+own-bit-requires c κs =
+    let start : tie.Start = search in
+    start .pre .1 .len-ok
 
 descend-requires : tie.Need-descend-requires
-descend-requires c κs = let pre = c .before .before .before .before .before .before .pre in ask-way (pre .0) (pre .1 .len-ok)
+descend-requires c κs =
+    let start : tie.Start = search in
+    let pre = start .pre in ask-way (pre .0) (pre .1 .len-ok)
 
 is-there-requires : tie.Need-is-there-requires
 is-there-requires c κs =
-    ask-end (c .before .before .before .before .before .before .before .before .pre .0) (c .before .descend .ensures)
-    (c .before .before .before .own-bit .ensures)
+    let after-descend : tie.After-descend = search in
+    let after-own-bit : tie.After-own-bit = search in
+    let start : tie.Start = search in
+    ask-end (start .pre .0) (after-descend .descend .ensures) (after-own-bit .own-bit .ensures)
 
 same-length : tie.Need-same-length
 same-length c = refl
 
 returns : tie.Need-returns
 returns c =
-    let at-way = c .before .before .before in
-    let pre = at-way .before .before .before .before .before .before .before .pre in
-    told-nine (pre .0) (at-way .before .before .before .hops-in .ensures) (pre .1) (at-way .before .before .own-bit .ensures)
-    (at-way .descend .ensures) _ (c .before .is-there .ensures)
+    let after-is-there : tie.After-is-there = search in
+    let at-way : tie.After-descend = search in
+    let after-own-bit : tie.After-own-bit = search in
+    let after-hops-in : tie.After-hops-in = search in
+    let start : tie.Start = search in
+    let pre = start .pre in
+    told-nine (pre .0) (after-hops-in .hops-in .ensures) (pre .1) (after-own-bit .own-bit .ensures)
+    (at-way .descend .ensures) _ (after-is-there .is-there .ensures)
     (c .if1 .taken)
 
 -- the prefix stands
@@ -57,22 +67,32 @@ remove-requires c κs = one-less (standing (c .before .before))
 
 narrow-requires : tie.Need-narrow-requires
 narrow-requires c κs =
-    removed-few (standing (c .before .before .before .before .before .before .before)) (c .before .before .before .before .remove .ensures) .0
+    let after-remove : tie.After-remove = search in
+    let else1 : tie.Else1 = search in
+    removed-few (standing else1) (after-remove .remove .ensures) .0
 
 narrow-requires-2 : tie.Need-narrow-requires-2
 narrow-requires-2 c κs =
-    removed-few (standing (c .before .before .before .before .before .before .before .before)) (c .before .before .before .before .before .remove .ensures) .1
+    let after-remove : tie.After-remove = search in
+    let else1 : tie.Else1 = search in
+    removed-few (standing else1) (after-remove .remove .ensures) .1
 
 same-length-2 : tie.Need-same-length-2
-same-length-2 c = c .before .before .before .before .before .before .remove .kept .0
+same-length-2 c =
+    let after-remove : tie.After-remove = search in
+    after-remove .remove .kept .0
 
 same-length-3 : tie.Need-same-length-3
-same-length-3 c = c .before .before .before .before .before .before .remove .kept .1 .0
+same-length-3 c =
+    let after-remove : tie.After-remove = search in
+    after-remove .remove .kept .1 .0
 
 returns-2 : tie.Need-returns-2
 returns-2 c =
-    told-removed (standing (c .before .before .before .before .before .before .before .before .before))
-    (c .before .before .before .before .before .before .remove .ensures) _ _ (c .before .narrow .ensures) (c .narrow2 .ensures)
+    let after-narrow : tie.After-narrow = search in
+    let after-remove : tie.After-remove = search in
+    let else1 : tie.Else1 = search in
+    told-removed (standing else1) (after-remove .remove .ensures) _ _ (after-narrow .narrow .ensures) (c .narrow2 .ensures)
 
 pub take-spec : {M : Type 1} → statement M
 take-spec =

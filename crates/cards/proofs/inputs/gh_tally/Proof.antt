@@ -16,6 +16,14 @@ Inv-loop input out₀ answer counts k₀ out k =
 abbrev μ-loop : tie.MeasureT-loop
 μ-loop input out₀ answer counts k₀ out k = 33 - k
 
+returns-2 : tie.Need-returns-2 Inv-loop μ-loop
+returns-2 c =
+    let at-loop : tie.At-loop Inv-loop μ-loop = search in
+    let after-tally : tie.After-tally Inv-loop μ-loop = search in
+    let else1 : tie.Else1 Inv-loop μ-loop = search in
+    tally-all _ _ (else1 .if1 .left) _ (after-tally .tally .ensures) _ (at-loop .loop .inv .1) (at-loop .loop .inv .2)
+    (λ j h. at-loop .loop .inv .3 j (omega arith)) _ (c .input .ensures)
+
 pub gh-tally-spec : {M : Type 1} → statement M
 gh-tally-spec =
     tie.close
@@ -40,5 +48,4 @@ gh-tally-spec =
     ))
     (λ c κs. search needs)
     (λ c. omega arith)
-    (λ c. tally-all _ _ (c .before .before .before .before .before .if1 .left) _ (c .before .before .before .before .tally .ensures) _
-    (c .before .before .loop .inv .1) (c .before .before .loop .inv .2) (λ j h. c .before .before .loop .inv .3 j (omega arith)) _ (c .input .ensures)))
+    returns-2)

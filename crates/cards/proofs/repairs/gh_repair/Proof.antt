@@ -11,7 +11,7 @@ abbrev judged : tie.Else1 → tie.After-words-fault
 judged c = c .before
 
 abbrev clear : tie.After-repair → tie.Else1
-clear c = c .before .before .before .before .before .before .before .before .before
+clear c = search
 
 abbrev put : tie.After-tell → tie.After-repair
 put c =
@@ -22,8 +22,8 @@ refused c = let w = c .before in repair-off _ _ _ _ _ (w .before .sizes .ensures
 
 tell-requires : tie.Need-tell-requires
 tell-requires c κs =
-    let d = c .before .before .before .before .before .before .before .before .before in
-    let e = clear (d .before .before .before .before .before .before .before .before .before) in
+    let after-repair : tie.After-repair = search in
+    let e = clear after-repair in
     fault-none _ _ (sym (judged e .words-fault .ensures) ∙ e .if1 .left) .1
 
 returns-2 : tie.Need-returns-2

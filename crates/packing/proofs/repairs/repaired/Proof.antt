@@ -15,11 +15,14 @@ returns c = omega (arith, ap (λ (x : Repaired). packCount (c .before .before .b
 
 returns-2 : tie.Need-returns-2
 unfolding meansRepaired packed
-returns-2 c = omega (
-  arith,
-  ap (λ (x : Repaired). packCount (c .before .before .before .before .args .count) (meansRepaired x))
-      (c .before .before .a .given .1),
-)
+returns-2 c =
+    let after-a : tie.After-a = search in
+    let start : tie.Start = search in
+    omega (
+      arith,
+      ap (λ (x : Repaired). packCount (start .args .count) (meansRepaired x))
+          (after-a .a .given .1),
+    )
 
 pub repaired-spec : {M : Type 1} → statement M
 repaired-spec =

@@ -6,20 +6,20 @@ use Rattle.repair.proofs.differs.count_cells.Tie as tie
 
 returns : tie.Need-returns
 returns c =
-    let counted = c .before .before .before .before .before in
-    let s = counted .before .before .before .before .before .before .before .before .before .before in
-    own-differ _ _ _ _ _ _ _ (s .pre) _ (counted .count-with .ensures)
+    let counted : tie.After-count-with = search in
+    let start : tie.Start = search in
+    own-differ _ _ _ _ _ _ _ (start .pre) _ (counted .count-with .ensures)
 
 pub count-cells-spec : {M : Type 1} → statement M
 count-cells-spec =
     tie.close
     (tie.spec
-    (λ c. own-few2 _ _ _ _ _ _ _ (c .before .before .before .before .pre))
-    (λ c. own-room2 _ _ _ _ _ _ _ (c .before .before .before .before .before .pre))
-    (λ c. own-few3 _ _ _ _ _ _ _ (c .before .before .before .before .before .pre))
-    (λ c. own-room3 _ _ _ _ _ _ _ (c .before .before .before .before .before .before .pre))
+    (λ c. let start : tie.Start = search in own-few2 _ _ _ _ _ _ _ (start .pre))
+    (λ c. let start : tie.Start = search in own-room2 _ _ _ _ _ _ _ (start .pre))
+    (λ c. let start : tie.Start = search in own-few3 _ _ _ _ _ _ _ (start .pre))
+    (λ c. let start : tie.Start = search in own-room3 _ _ _ _ _ _ _ (start .pre))
     (λ c. search needs)
     (λ c. search needs)
     (λ c. search needs)
-    (λ c κs. own-roomy _ _ _ _ _ _ _ (c .before .before .before .before .before .before .before .before .before .pre))
+    (λ c κs. let start : tie.Start = search in own-roomy _ _ _ _ _ _ _ (start .pre))
     returns)

@@ -8,7 +8,7 @@ use Rattle.repair.proofs.differs.count_from.Tie as tie
 -- Places, each seen from a later one: where it starts; after the first cells; after the names of the first level; after the second pool; after its
 -- names.
 abbrev start : tie.After-off-first → tie.Start
-start c = c .before .before .before .before .before .before .before .before .before .before
+start c = search
 
 abbrev first : tie.After-off-names → tie.After-off-first
 first c = c .before .before .before
@@ -20,10 +20,12 @@ abbrev second : tie.After-off-names2 → tie.After-off-pool
 second c = c .before .before .before
 
 abbrev names-2 : tie.After-slice-known4 → tie.After-off-names2
-names-2 c = c .before .before .before .before
+names-2 c = search
 
 off-first-requires : tie.Need-off-first-requires
-off-first-requires c κs = first-asks _ _ _ _ _ (c .before .before .before .before .before .before .before .before .before .pre)
+off-first-requires c κs =
+    let start : tie.Start = search in
+    first-asks _ _ _ _ _ (start .pre)
 
 off-names-requires : tie.Need-off-names-requires
 off-names-requires c κs = first-names _ _ _ _ _ (start (c .before .before) .pre)

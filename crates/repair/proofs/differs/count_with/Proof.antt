@@ -7,39 +7,45 @@ use Rattle.repair.proofs.differs.count_with.Tie as tie
 
 -- Places, each seen from a later one: where it starts; after `settle_owners`; after `chained`.
 abbrev start : tie.After-open-all → tie.Start
-start c = c .before .before .before .before .before .before .before .before .before .before .before .before
+start c = search
 
 abbrev settled : tie.After-chained → tie.After-open-all
-settled c = c .before .before .before .before .before .before .before
+settled c = search
 
 abbrev made : tie.After-count-from-arg5 → tie.After-chained
-made c = c .before .before .before .before .before .before .before .before .before
+made c = search
 
 open-all-requires : tie.Need-open-all-requires
 open-all-requires c κs =
-    let s = c .before .before .before .before .before .before .before .before .before .before .before in
-    owners-ask _ _ _ _ _ _ _ _ _ _ (s .pre)
+    let start : tie.Start = search in
+    owners-ask _ _ _ _ _ _ _ _ _ _ (start .pre)
 
 words-fit : tie.Need-slice-relend-prefix-chained
-words-fit c = let s = start (c .before .before .before .before) in words-in _ _ _ _ _ _ _ _ _ _ (s .pre)
+words-fit c =
+    let after-open-all : tie.After-open-all = search in
+    let s = start after-open-all in words-in _ _ _ _ _ _ _ _ _ _ (s .pre)
 
 words-count : tie.Need-slice-aggregate-chained
-words-count c = let s = start (c .before .before .before .before .before) in words-room _ _ _ _ _ _ _ _ _ _ (s .pre)
+words-count c =
+    let after-open-all : tie.After-open-all = search in
+    let s = start after-open-all in words-room _ _ _ _ _ _ _ _ _ _ (s .pre)
 
 chained-requires : tie.Need-chained-requires
-chained-requires c κs = let s = start (c .before .before .before .before .before .before) in words-chain _ _ _ _ _ _ _ _ _ _ (s .pre)
+chained-requires c κs =
+    let after-open-all : tie.After-open-all = search in
+    let s = start after-open-all in words-chain _ _ _ _ _ _ _ _ _ _ (s .pre)
 
 front-fits : tie.Need-slice-reshare-prefix-count-from
 front-fits c =
-    let w = c .before .before .before .before in
-    let s = start (settled w) in
-    front-in _ _ _ _ _ _ _ _ _ _ (s .pre) (w .chained .last .1 .0) (w .chained .kept .1 .0)
+    let after-chained : tie.After-chained = search in
+    let s = start (settled after-chained) in
+    front-in _ _ _ _ _ _ _ _ _ _ (s .pre) (after-chained .chained .last .1 .0) (after-chained .chained .kept .1 .0)
 
 front-count : tie.Need-slice-aggregate-count-from
 front-count c =
-    let w = c .before .before .before .before .before in
-    let s = start (settled w) in
-    front-room _ _ _ _ _ _ _ _ _ _ (s .pre) (w .chained .last .1 .0) (w .chained .kept .1 .0)
+    let after-chained : tie.After-chained = search in
+    let s = start (settled after-chained) in
+    front-room _ _ _ _ _ _ _ _ _ _ (s .pre) (after-chained .chained .last .1 .0) (after-chained .chained .kept .1 .0)
 
 count-from-requires : tie.Need-count-from-requires
 count-from-requires c κs =

@@ -6,16 +6,20 @@ use Rattle.repair.proofs.differs.off_block.Tie as tie
 
 -- Places: after `plan_under`, seen from before and after `off_plan`; and where it starts, seen from after `plan_under`.
 abbrev start : tie.After-plan-under → tie.Start
-start c = c .before .before .before .before .before .before
+start c = search
 
 abbrev planned : tie.After-off-plan-arg2 → tie.After-plan-under
-planned c = c .before .before .before .before
+planned c = search
 
 plan-count : tie.Need-slice-aggregate-plan-under
-plan-count c = block-room _ _ _ _ _ _ _ _ _ _ (c .before .before .before .before .before .pre)
+plan-count c =
+    let start : tie.Start = search in
+    block-room _ _ _ _ _ _ _ _ _ _ (start .pre)
 
 plan-under-requires : tie.Need-plan-under-requires
-plan-under-requires c κs = block-asks _ _ _ _ _ _ _ _ _ _ (c .before .before .before .before .before .pre)
+plan-under-requires c κs =
+    let start : tie.Start = search in
+    block-asks _ _ _ _ _ _ _ _ _ _ (start .pre)
 
 front-count : tie.Need-slice-aggregate-off-plan
 front-count c =

@@ -10,13 +10,16 @@ abbrev used : tie.After-stands-for → tie.Else1
 used c = c .before
 
 abbrev start : tie.Else1 → tie.Start
-start c = c .before .before .before .before .before .before .before .before
+start c = search
 
 free : tie.Need-returns
 free c =
-    free-counted _ _ _ _ _ _ _ _ _ _ (c .before .before .before .before .before .before .before .before .before .before .pre) _ _
-    (c .before .before .before .before .shifted .ensures .0) (c .before .before .before .shifted2 .ensures .0) _ (c .before .before .if1 .taken) _
-    (c .off-zero .ensures)
+    let then1 : tie.Then1 = search in
+    let after-shifted2 : tie.After-shifted2 = search in
+    let after-shifted : tie.After-shifted = search in
+    let start : tie.Start = search in
+    free-counted _ _ _ _ _ _ _ _ _ _ (start .pre) _ _ (after-shifted .shifted .ensures .0) (after-shifted2 .shifted2 .ensures .0) _
+    (then1 .if1 .taken) _ (c .off-zero .ensures)
 
 stands-for-requires : tie.Need-stands-for-requires
 stands-for-requires c κs = chunk-above _ _ _ _ _ _ _ _ _ _ (start c .pre .chunk) (c .if1 .left)
@@ -33,10 +36,13 @@ off-block-requires c κs =
 
 returns-2 : tie.Need-returns-2
 returns-2 c =
-    let at = c .before .before .before .before .before in
-    let u = used at in
-    used-counted _ _ _ _ _ _ _ _ _ _ (start u .pre) _ _ (u .before .before .shifted .ensures .0) (u .before .shifted2 .ensures .0) _ (u .if1 .left) _ _
-    (at .stands-for .ensures) (c .before .before .before .before .shifted3 .ensures .0) _ (c .before .before .off-block .ensures)
+    let after-off-block : tie.After-off-block = search in
+    let after-shifted3 : tie.After-shifted3 = search in
+    let after-stands-for : tie.After-stands-for = search in
+    let u = used after-stands-for in
+    used-counted _ _ _ _ _ _ _ _ _ _ (start u .pre) _ _ (u .before .before .shifted .ensures .0) (u .before .shifted2 .ensures .0) _
+    (u .if1 .left) _ _
+    (after-stands-for .stands-for .ensures) (after-shifted3 .shifted3 .ensures .0) _ (after-off-block .off-block .ensures)
 
 pub off-chunk-spec : {M : Type 1} → statement M
 off-chunk-spec =

@@ -21,36 +21,45 @@ abbrev μ-loop : tie.MeasureT-loop
 μ-loop ws par p first want₀ n m₀ b₀ want m b = length first / 1024 - b
 
 loop-holds : tie.Need-loop-holds Inv-loop μ-loop
-loop-holds c = (omega arith, c .before .before .before .before .pre .room, omega arith, count-start _)
+loop-holds c =
+    let start : tie.Start Inv-loop μ-loop = search in
+    (omega arith, start .pre .room, omega arith, count-start _)
 
 off-block-requires : tie.Need-off-block-requires Inv-loop μ-loop
 off-block-requires c κs =
-    first-block _ _ _ _ _ (c .before .before .before .before .before .before .before .pre) _ (c .before .before .loop .inv .1) _
-    (c .before .loop-test .taken)
+    let in-loop : tie.In-loop Inv-loop μ-loop = search in
+    let at-loop : tie.At-loop Inv-loop μ-loop = search in
+    let start : tie.Start Inv-loop μ-loop = search in
+    first-block _ _ _ _ _ (start .pre) _ (at-loop .loop .inv .1) _ (in-loop .loop-test .taken)
 
 add-m : tie.Need-add-m Inv-loop μ-loop
 add-m c =
-    let turn = c .before .before .before .before .before in
-    let fits = first-fits _ _ _ _ _ (turn .before .before .before .before .before .pre) _ _ _
-    (turn .loop .inv .2) (c .before .before .before .before .loop-test .taken) (c .before .before .off-block .ensures .few) in
+    let after-off-block : tie.After-off-block Inv-loop μ-loop = search in
+    let in-loop : tie.In-loop Inv-loop μ-loop = search in
+    let turn : tie.At-loop Inv-loop μ-loop = search in
+    let start : tie.Start Inv-loop μ-loop = search in
+    let fits = first-fits _ _ _ _ _ (start .pre) _ _ _
+    (turn .loop .inv .2) (in-loop .loop-test .taken) (after-off-block .off-block .ensures .few) in
     omega (arith, fits .0)
 
 loop-again : tie.Need-loop-again Inv-loop μ-loop
 loop-again c =
-    let turn = c .before .before .before .before .before in
-    let s = turn .before .before .before .before .before in (
+    let after-off-block : tie.After-off-block Inv-loop μ-loop = search in
+    let in-loop : tie.In-loop Inv-loop μ-loop = search in
+    let turn : tie.At-loop Inv-loop μ-loop = search in
+    let start : tie.Start Inv-loop μ-loop = search in (
       omega arith,
       search needs,
-      first-fits _ _ _ _ _ (s .pre) _ _ _ (turn .loop .inv .2) (c .before .before .before .before .loop-test .taken)
-          (c .before .before .off-block .ensures .few) .1,
-      first-more _ _ _ _ _ (s .pre) _ _ _ _ (turn .loop .inv .3) (c .before .before .off-block .ensures),
+      first-fits _ _ _ _ _ (start .pre) _ _ _ (turn .loop .inv .2) (in-loop .loop-test .taken)
+          (after-off-block .off-block .ensures .few) .1,
+      first-more _ _ _ _ _ (start .pre) _ _ _ _ (turn .loop .inv .3) (after-off-block .off-block .ensures),
     )
 
 returns : tie.Need-returns Inv-loop μ-loop
 returns c =
-    let turn = c .before in
-    first-all _ _ _ _ _ (turn .before .before .before .before .before .pre) _ _ _ (turn .loop .inv .0) (c .loop-test .left) (turn .loop .inv .2)
-    (turn .loop .inv .3)
+    let turn : tie.At-loop Inv-loop μ-loop = search in
+    let start : tie.Start Inv-loop μ-loop = search in
+    first-all _ _ _ _ _ (start .pre) _ _ _ (turn .loop .inv .0) (c .loop-test .left) (turn .loop .inv .2) (turn .loop .inv .3)
 
 pub off-first-spec : {M : Type 1} → statement M
 off-first-spec =

@@ -20,37 +20,46 @@ abbrev μ-loop : tie.MeasureT-loop
 
 cell-in : tie.Need-shared-slice-read-half-to-index Inv-loop μ-loop
 cell-in c =
-    let read = c .before .before in
-    let s = read .before .before .before .before .before in
-    s .pre .inside _ _ (read .before .loop-test .taken) (omega (arith, read .seen .ensures .0, c .before .if1 .taken))
+    let then1 : tie.Then1 Inv-loop μ-loop = search in
+    let read : tie.After-seen Inv-loop μ-loop = search in
+    let in-loop : tie.In-loop Inv-loop μ-loop = search in
+    let start : tie.Start Inv-loop μ-loop = search in
+    start .pre .inside _ _ (in-loop .loop-test .taken) (omega (arith, read .seen .ensures .0, then1 .if1 .taken))
 
 off : tie.Need-loop-again Inv-loop μ-loop
 off c =
-    let read = c .before .before .before .before in
-    let turn = read .before .before in
-    let s = turn .before .before .before .args in (
+    let after-half-to-index : tie.After-half-to-index Inv-loop μ-loop = search in
+    let then1 : tie.Then1 Inv-loop μ-loop = search in
+    let read : tie.After-seen Inv-loop μ-loop = search in
+    let turn : tie.At-loop Inv-loop μ-loop = search in
+    let start : tie.Start Inv-loop μ-loop = search in
+    let s = start .args in (
       omega arith,
       omega arith,
       name-off (now (s .cells)) (now (s .own)) (turn .loop .m) (turn .loop .c) (turn .loop .inv .2) _
-          (read .seen .ensures) (c .before .before .before .if1 .taken) _ (c .before .half-to-index .ensures .0) (c .if2 .taken),
+          (read .seen .ensures) (then1 .if1 .taken) _ (after-half-to-index .half-to-index .ensures .0) (c .if2 .taken),
     )
 
 same : tie.Need-loop-again-2 Inv-loop μ-loop
 same c =
-    let read = c .before .before .before .before in
-    let turn = read .before .before in
-    let s = turn .before .before .before .args in (
+    let after-half-to-index : tie.After-half-to-index Inv-loop μ-loop = search in
+    let then1 : tie.Then1 Inv-loop μ-loop = search in
+    let read : tie.After-seen Inv-loop μ-loop = search in
+    let turn : tie.At-loop Inv-loop μ-loop = search in
+    let start : tie.Start Inv-loop μ-loop = search in
+    let s = start .args in (
       omega arith,
       omega arith,
       name-same (now (s .cells)) (now (s .own)) (turn .loop .m) (turn .loop .c) (turn .loop .inv .2) _
-          (read .seen .ensures) (c .before .before .before .if1 .taken) _ (c .before .half-to-index .ensures .0) (c .if2 .left),
+          (read .seen .ensures) (then1 .if1 .taken) _ (after-half-to-index .half-to-index .ensures .0) (c .if2 .left),
     )
 
 free : tie.Need-loop-again-3 Inv-loop μ-loop
 free c =
-    let read = c .before in
-    let turn = read .before .before in
-    let s = turn .before .before .before .args in
+    let read : tie.After-seen Inv-loop μ-loop = search in
+    let turn : tie.At-loop Inv-loop μ-loop = search in
+    let start : tie.Start Inv-loop μ-loop = search in
+    let s = start .args in
     let n = name-none (now (s .cells)) (now (s .own)) (turn .loop .m) (turn .loop .c) (turn .loop .inv .2) _ (read .seen .ensures) (c .if1 .left) in
     (omega arith, omega arith, n)
 

@@ -19,21 +19,25 @@ abbrev μ-loop : tie.MeasureT-loop
 
 off : tie.Need-loop-again Inv-loop μ-loop
 off c =
-    let turn = c .before .before .before .before .before in
-    let s = turn .before .args in
-    let n = plan-off (now (s .part)) (now (s .want)) (turn .loop .m) (turn .loop .j) (turn .loop .inv .2) (c .if2 .taken) (c .before .if1 .taken) in
+    let then1 : tie.Then1 Inv-loop μ-loop = search in
+    let turn : tie.At-loop Inv-loop μ-loop = search in
+    let start : tie.Start Inv-loop μ-loop = search in
+    let s = start .args in
+    let n = plan-off (now (s .part)) (now (s .want)) (turn .loop .m) (turn .loop .j) (turn .loop .inv .2) (c .if2 .taken) (then1 .if1 .taken) in
     (omega arith, omega arith, n)
 
 node : tie.Need-loop-again-2 Inv-loop μ-loop
 node c =
-    let turn = c .before .before .before .before .before in
-    let s = turn .before .args in
+    let turn : tie.At-loop Inv-loop μ-loop = search in
+    let start : tie.Start Inv-loop μ-loop = search in
+    let s = start .args in
     (omega arith, omega arith, plan-node (now (s .part)) (now (s .want)) (turn .loop .m) (turn .loop .j) (turn .loop .inv .2) (c .if2 .left))
 
 same : tie.Need-loop-again-3 Inv-loop μ-loop
 same c =
-    let turn = c .before .before .before .before in
-    let s = turn .before .args in
+    let turn : tie.At-loop Inv-loop μ-loop = search in
+    let start : tie.Start Inv-loop μ-loop = search in
+    let s = start .args in
     (omega arith, omega arith, plan-same (now (s .part)) (now (s .want)) (turn .loop .m) (turn .loop .j) (turn .loop .inv .2) (c .if1 .left))
 
 returns : tie.Need-returns Inv-loop μ-loop

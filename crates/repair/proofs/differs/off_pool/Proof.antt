@@ -22,37 +22,48 @@ abbrev μ-loop : tie.MeasureT-loop
 μ-loop ws par l p up e own cells want₀ n m₀ c₀ want m c = length own - c
 
 loop-holds : tie.Need-loop-holds Inv-loop μ-loop
-loop-holds c = let s = c .before .before .before .before .before .before in (omega arith, s .pre .room, omega arith, pool-start _ _ _ _ _ _ _ _ _ (s .pre) _)
+loop-holds c =
+    let start : tie.Start Inv-loop μ-loop = search in
+    (omega arith, start .pre .room, omega arith, pool-start _ _ _ _ _ _ _ _ _ (start .pre) _)
 
 off-chunk-requires : tie.Need-off-chunk-requires Inv-loop μ-loop
 off-chunk-requires c κs =
-    chunk-of _ _ _ _ _ _ _ _ _ (c .before .before .before .before .before .before .before .before .before .before .pre) _
-    (c .before .before .before .loop .inv .1) _ _ (c .before .before .loop-test .taken) (c .before .seen .ensures)
+    let after-seen : tie.After-seen Inv-loop μ-loop = search in
+    let in-loop : tie.In-loop Inv-loop μ-loop = search in
+    let at-loop : tie.At-loop Inv-loop μ-loop = search in
+    let start : tie.Start Inv-loop μ-loop = search in
+    chunk-of _ _ _ _ _ _ _ _ _ (start .pre) _ (at-loop .loop .inv .1) _ _ (in-loop .loop-test .taken) (after-seen .seen .ensures)
 
 add-m : tie.Need-add-m Inv-loop μ-loop
 add-m c =
-    let turn = c .before .before .before .before .before .before in
-    let fits = pool-fits _ _ _ _ _ _ _ _ _ (turn .before .before .before .before .before .before .before .pre) _ _ _
-    (turn .loop .inv .2) (c .before .before .before .before .before .loop-test .taken) (c .before .before .off-chunk .ensures .few) in
+    let after-off-chunk : tie.After-off-chunk Inv-loop μ-loop = search in
+    let in-loop : tie.In-loop Inv-loop μ-loop = search in
+    let turn : tie.At-loop Inv-loop μ-loop = search in
+    let start : tie.Start Inv-loop μ-loop = search in
+    let fits = pool-fits _ _ _ _ _ _ _ _ _ (start .pre) _ _ _
+    (turn .loop .inv .2) (in-loop .loop-test .taken) (after-off-chunk .off-chunk .ensures .few) in
     omega (arith, fits .0)
 
 loop-again : tie.Need-loop-again Inv-loop μ-loop
 loop-again c =
-    let turn = c .before .before .before .before .before .before in
-    let s = turn .before .before .before .before .before .before .before in (
+    let after-off-chunk : tie.After-off-chunk Inv-loop μ-loop = search in
+    let after-seen : tie.After-seen Inv-loop μ-loop = search in
+    let in-loop : tie.In-loop Inv-loop μ-loop = search in
+    let turn : tie.At-loop Inv-loop μ-loop = search in
+    let start : tie.Start Inv-loop μ-loop = search in (
       omega arith,
       search needs,
-      pool-fits _ _ _ _ _ _ _ _ _ (s .pre) _ _ _ (turn .loop .inv .2) (c .before .before .before .before .before .loop-test .taken)
-          (c .before .before .off-chunk .ensures .few) .1,
-      pool-more _ _ _ _ _ _ _ _ _ (s .pre) _ _ _ _ _ (c .before .before .before .before .seen .ensures) (turn .loop .inv .3)
-          (c .before .before .off-chunk .ensures),
+      pool-fits _ _ _ _ _ _ _ _ _ (start .pre) _ _ _ (turn .loop .inv .2) (in-loop .loop-test .taken)
+          (after-off-chunk .off-chunk .ensures .few) .1,
+      pool-more _ _ _ _ _ _ _ _ _ (start .pre) _ _ _ _ _ (after-seen .seen .ensures) (turn .loop .inv .3)
+          (after-off-chunk .off-chunk .ensures),
     )
 
 returns : tie.Need-returns Inv-loop μ-loop
 returns c =
-    let turn = c .before in
-    pool-all _ _ _ _ _ _ _ _ _ (turn .before .before .before .before .before .before .before .pre) _ _ _ (turn .loop .inv .0) (c .loop-test .left)
-    (turn .loop .inv .2) (turn .loop .inv .3)
+    let turn : tie.At-loop Inv-loop μ-loop = search in
+    let start : tie.Start Inv-loop μ-loop = search in
+    pool-all _ _ _ _ _ _ _ _ _ (start .pre) _ _ _ (turn .loop .inv .0) (c .loop-test .left) (turn .loop .inv .2) (turn .loop .inv .3)
 
 pub off-pool-spec : {M : Type 1} → statement M
 off-pool-spec =

@@ -11,9 +11,9 @@ walk-spec =
     (tie.spec
     (λ c. search needs)
     (λ c. search needs)
-    (λ c. let s = c .before .before .before .before .before .before .before .before in omega (arith, first-in _ _ _ (s .pre) (s .fits .addr .fits)))
-    (λ c. let s = c .before .before .before .before .before .before .before .before in omega (arith, first-in _ _ _ (s .pre) (s .fits .addr .fits)))
-    (λ c. let s = c .before .before .before .before .before .before .before .before .before in first-in _ _ _ (s .pre) (s .fits .addr .fits))
+    (λ c. let start : tie.Start = search in omega (arith, first-in _ _ _ (start .pre) (start .fits .addr .fits)))
+    (λ c. let start : tie.Start = search in omega (arith, first-in _ _ _ (start .pre) (start .fits .addr .fits)))
+    (λ c. let start : tie.Start = search in first-in _ _ _ (start .pre) (start .fits .addr .fits))
     (λ c κs. search needs)
     (λ c. search leaf1)
     (λ c κs. search needs)

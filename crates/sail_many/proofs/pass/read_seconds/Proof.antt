@@ -13,6 +13,16 @@ Inv-loop p1 p2 second chunks addrs out₀ from to i₀ out i = (from ≤ i) × (
 abbrev μ-loop : tie.MeasureT-loop
 μ-loop p1 p2 second chunks addrs out₀ from to i₀ out i = to - i
 
+loop-again : tie.Need-loop-again Inv-loop μ-loop
+loop-again c =
+    let after-read-second : tie.After-read-second Inv-loop μ-loop = search in
+    let at-loop : tie.At-loop Inv-loop μ-loop = search in (
+      omega arith,
+      omega arith,
+      swept-more _ _ _ _ _ _ (search needs) (omega arith) (at-loop .loop .inv .2)
+          (after-read-second .read-second .ensures),
+    )
+
 pub read-seconds-spec : {M : Type 1} → statement M
 read-seconds-spec =
     tie.close
@@ -23,11 +33,6 @@ read-seconds-spec =
     (λ c κs. (search needs, search needs, search spot-at))
     (λ c. omega arith)
     (λ c. omega arith)
-    (λ c. (
-      omega arith,
-      omega arith,
-      swept-more _ _ _ _ _ _ (search needs) (omega arith) (c .before .before .before .before .before .loop .inv .2)
-          (c .before .before .read-second .ensures),
-    ))
+    loop-again
     (λ c. c .before .loop .inv .2 .size)
     (λ c. swept-all _ _ _ _ _ _ (c .before .loop .inv .1) (omega arith) (c .before .loop .inv .2)))

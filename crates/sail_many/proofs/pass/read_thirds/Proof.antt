@@ -13,6 +13,16 @@ Inv-loop p2 third chunks addrs out₀ from to i₀ out i = (from ≤ i) × (i �
 abbrev μ-loop : tie.MeasureT-loop
 μ-loop p2 third chunks addrs out₀ from to i₀ out i = to - i
 
+loop-again : tie.Need-loop-again Inv-loop μ-loop
+loop-again c =
+    let after-read-third : tie.After-read-third Inv-loop μ-loop = search in
+    let at-loop : tie.At-loop Inv-loop μ-loop = search in (
+      omega arith,
+      omega arith,
+      swept-more _ _ _ _ _ _ (search needs) (omega arith) (at-loop .loop .inv .2)
+          (after-read-third .read-third .ensures),
+    )
+
 pub read-thirds-spec : {M : Type 1} → statement M
 read-thirds-spec =
     tie.close
@@ -23,11 +33,6 @@ read-thirds-spec =
     (λ c κs. (search needs, search needs, search spot-at))
     (λ c. omega arith)
     (λ c. omega arith)
-    (λ c. (
-      omega arith,
-      omega arith,
-      swept-more _ _ _ _ _ _ (search needs) (omega arith) (c .before .before .before .before .before .loop .inv .2)
-          (c .before .before .read-third .ensures),
-    ))
+    loop-again
     (λ c. c .before .loop .inv .2 .size)
     (λ c. swept-all _ _ _ _ _ _ (c .before .loop .inv .1) (omega arith) (c .before .loop .inv .2)))

@@ -130,18 +130,22 @@ loop-less c = search needs
 
 loop-again : tie.Need-loop-again Inv-loop μ-loop
 loop-again c =
-    let kids = c .before .before in
-    let own = kids .before .before in
-    let hop = own .before .before in
-    let child = hop .before .before .before in
-    let entered = child .before .before .before .before in
-    let start = entered .before .before in
-    let inv = entered .before .loop .inv in (
+    let kids : tie.After-differ Inv-loop μ-loop = search in
+    let own : tie.After-off-own Inv-loop μ-loop = search in
+    let hop : tie.After-wrapping-add-u322 Inv-loop μ-loop = search in
+    let after-ones-below : tie.After-ones-below Inv-loop μ-loop = search in
+    let child : tie.After-wrapping-add-u32 Inv-loop μ-loop = search in
+    let after-children : tie.After-children Inv-loop μ-loop = search in
+    let entered : tie.In-loop Inv-loop μ-loop = search in
+    let at-loop : tie.At-loop Inv-loop μ-loop = search in
+    let start : tie.After-shared-slice-known Inv-loop μ-loop = search in
+    let start : tie.Start Inv-loop μ-loop = search in
+    let inv = at-loop .loop .inv in (
       omega (arith, inv .0, entered .loop-test .taken),
-      faults-next _ (λ j. start .shared-slice-known .given j .fits) _ (omega (arith, inv .0, entered .loop-test .taken, start .before .pre .few)) _ _ _ _ _ _ _
+      faults-next _ (λ j. start .shared-slice-known .given j .fits) _ (omega (arith, inv .0, entered .loop-test .taken, start .pre .few)) _ _ _ _ _ _ _
           (record {
-            kids = child .before .children .ensures .0;
-            own = hop .before .ones-below .ensures .0;
+            kids = after-children .children .ensures .0;
+            own = after-ones-below .ones-below .ensures .0;
             its-child = child .wrapping-add-u32 .ensures;
             its-hop = hop .wrapping-add-u322 .ensures;
             on-own = own .off-own .ensures;

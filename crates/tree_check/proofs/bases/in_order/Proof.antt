@@ -19,28 +19,35 @@ shared-slice-read-if2 : tie.Need-shared-slice-read-if2
 shared-slice-read-if2 c = search needs
 
 returns-2 : tie.Need-returns-2
-returns-2 c = order-base _ _ (c .before .before .before .before .before .pre) (c .if2 .taken)
+returns-2 c =
+    let start : tie.Start = search in
+    order-base _ _ (start .pre) (c .if2 .taken)
 
 sub-last : tie.Need-sub-last
 sub-last c = search needs
 
 faults-requires : tie.Need-faults-requires
 faults-requires c κs =
-    let child = c .before .before in
-    let k = child .before .before .before .pre in
+    let child : tie.Else1 = search in
+    let start : tie.Start = search in
+    let k = start .pre in
     record { lent = omega (arith, k .some, k .lent); few = omega (arith, k .few); child = child .if1 .left; base = c .if2 .left }
 
 returns-3 : tie.Need-returns-3
-returns-3 c = order-faults _ _ (c .before .before .before .before .before .before .before .pre) _ (c .before .faults .ensures .1) (c .if3 .taken)
+returns-3 c =
+    let after-faults : tie.After-faults = search in
+    let start : tie.Start = search in
+    order-faults _ _ (start .pre) _ (after-faults .faults .ensures .1) (c .if3 .taken)
 
 after-children-requires : tie.Need-after-children-requires
 after-children-requires c κs = search needs
 
 returns-4 : tie.Need-returns-4
 returns-4 c =
-    let counted = c .before .before in
-    order-end _ _ (counted .before .before .before .before .before .before .pre) _ (counted .faults .ensures .0) (c .before .if3 .left) _
-    (c .after-children .ensures)
+    let else3 : tie.Else3 = search in
+    let counted : tie.After-faults = search in
+    let start : tie.Start = search in
+    order-end _ _ (start .pre) _ (counted .faults .ensures .0) (else3 .if3 .left) _ (c .after-children .ensures)
 
 pub in-order-spec : {M : Type 1} → statement M
 in-order-spec =

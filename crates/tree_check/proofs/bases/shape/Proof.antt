@@ -20,23 +20,34 @@ returns-2 c = shape-past _ _ (c .before .before .nodes-in .ensures) (c .if2 .tak
 
 returns-3 : tie.Need-returns-3
 returns-3 c =
-    let ended = c .before .before .before in
-    shape-many _ _ (ended .nodes-in .ensures) (λ j. ended .before .shared-slice-known .given j .fits) (c .if3 .taken)
+    let ended : tie.After-nodes-in = search in
+    let after-shared-slice-known : tie.After-shared-slice-known = search in
+    shape-many _ _ (ended .nodes-in .ensures) (λ j. after-shared-slice-known .shared-slice-known .given j .fits) (c .if3 .taken)
 
 in-order-requires : tie.Need-in-order-requires
 in-order-requires c κs = search needs
 
 returns-4 : tie.Need-returns-4
 returns-4 c =
-    let told = c .before in
-    shape-is _ _ (told .before .before .before .before .nodes-in .ensures) _ (told .in-order .ensures) (omega (arith, told .before .if3 .left)) (c .if4 .taken)
+    let told : tie.After-in-order = search in
+    let else3 : tie.Else3 = search in
+    let after-nodes-in : tie.After-nodes-in = search in
+    shape-is _ _ (after-nodes-in .nodes-in .ensures) _ (told .in-order .ensures) (omega (arith, else3 .if3 .left)) (c .if4 .taken)
 
 returns-5 : tie.Need-returns-5
 returns-5 c =
-    let told = c .before in
-    shape-not _ _ (told .before .before .before .before .nodes-in .ensures) _ (told .in-order .ensures) (c .if4 .left)
+    let told : tie.After-in-order = search in
+    let after-nodes-in : tie.After-nodes-in = search in
+    shape-not _ _ (after-nodes-in .nodes-in .ensures) _ (told .in-order .ensures) (c .if4 .left)
 
 pub shape-spec : {M : Type 1} → statement M
 shape-spec =
     tie.close
-    (tie.spec nodes-in-requires returns returns-2 returns-3 in-order-requires returns-4 returns-5)
+    (tie.spec
+    nodes-in-requires
+    returns
+    returns-2
+    returns-3
+    in-order-requires
+    returns-4
+    returns-5)
