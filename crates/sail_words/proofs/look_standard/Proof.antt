@@ -1,8 +1,8 @@
--- `cards::lookups::look_standard`. The same at the standard geometry, whose shifts the compiler then knows.
+-- `sail_words::look_standard`. The same at the standard geometry, whose shifts the compiler then knows.
 use borrow.Author.Needs.{needs}
-use Rattle.cards.proofs.Laws.{look-off, look-is}
-use Rattle.cards.proofs.lookups.look_standard.Statement.{statement}
-use Rattle.cards.proofs.lookups.look_standard.Tie as tie
+use Rattle.sail_words.proofs.Laws.{look-off, look-is}
+use Rattle.sail_words.proofs.look_standard.Statement.{statement}
+use Rattle.sail_words.proofs.look_standard.Tie as tie
 
 pub look-standard-spec : {M : Type 1} → statement M
 look-standard-spec =

@@ -1,8 +1,8 @@
--- `cards::lookups::look`. One lookup.
+-- `sail_words::look`. One lookup.
 use borrow.Author.Needs.{needs}
-use Rattle.cards.proofs.Laws.{look-off, look-is}
-use Rattle.cards.proofs.lookups.look.Statement.{statement}
-use Rattle.cards.proofs.lookups.look.Tie as tie
+use Rattle.sail_words.proofs.Laws.{look-off, look-is}
+use Rattle.sail_words.proofs.look.Statement.{statement}
+use Rattle.sail_words.proofs.look.Tie as tie
 
 pub look-spec : {M : Type 1} → statement M
 look-spec =

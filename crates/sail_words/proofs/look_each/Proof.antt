@@ -1,9 +1,9 @@
--- `cards::lookups::look_each`. Many lookups with one check of geometry and sizes.
+-- `sail_words::look_each`. Many lookups with one check of geometry and sizes.
 use borrow.Author.Needs.{needs}
 use Rattle.sail_many.proofs.LookupWords.{ready}
-use Rattle.cards.proofs.Laws.{many-not, many-uneven, many-answers}
-use Rattle.cards.proofs.lookups.look_each.Statement.{statement}
-use Rattle.cards.proofs.lookups.look_each.Tie as tie
+use Rattle.sail_words.proofs.Laws.{many-not, many-uneven, many-answers}
+use Rattle.sail_words.proofs.look_each.Statement.{statement}
+use Rattle.sail_words.proofs.look_each.Tie as tie
 
 pub look-each-spec : {M : Type 1} → statement M
 look-each-spec =
