@@ -3,7 +3,8 @@ ghost use mathlib.Core.Path.{_≡_};
 ghost use Rattle.routes.specs.Answers.{routeSaid};
 ghost use Rattle.runs.specs.Run.{runSaid};
 ghost use Rattle.packing.specs.Pack.{packRun, packRoute};
-ghost use Rattle.cards.specs.Cards.{wordsCard, tallyCard};
+ghost use Rattle.cards.specs.Cards.{tallyCard};
+ghost use Rattle.sail_words.specs.Lookups.{wordsCard};
 use crate::scalars::narrow8;
 
 // The run under a prefix, as its first record and its number of records.

@@ -1,7 +1,7 @@
 // A table put right after a memory fault.
 ghost use mathlib.Core.Path.{_≡_};
 ghost use Rattle.sail.specs.Lent.{lent};
-ghost use Rattle.cards.specs.Cards.{tableOf};
+ghost use Rattle.sail_words.specs.Lookups.{tableOf};
 ghost use Rattle.cards.specs.Repairs.{repairCard, repairOut};
 use packing::repairs::repaired;
 use packing::repairs::tell;
