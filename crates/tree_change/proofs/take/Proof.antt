@@ -42,21 +42,37 @@ returns c =
     (c .if1 .taken)
 
 -- the prefix stands
+abbrev start-of : tie.Else1 → tie.Start
+start-of c = search
+
+abbrev hops-in-of : tie.Else1 → tie.After-hops-in
+hops-in-of c = search
+
+abbrev way-of : tie.Else1 → tie.After-descend
+way-of c = search
+
+abbrev own-bit-of : tie.Else1 → tie.After-own-bit
+own-bit-of c = search
+
 standing : (c : tie.Else1)
     → Standing
-    (c .before .before .before .before .before .before .before .before .before .before .args .words .now)
-    (c .before .before .before .before .before .before .before .before .before .before .args .hops .now)
-    (c .before .before .before .before .before .before .before .before .before .before .args .n)
-    (c .before .before .before .before .before .before .hops-in .result)
-    (c .before .before .before .descend .result .at)
-    (c .before .before .before .before .before .before .before .before .before .before .args .addr)
-    (c .before .before .before .before .before .before .before .before .before .before .args .len)
-    (c .before .before .before .before .before .own-bit .result)
+    (start-of c .args .words .now)
+    (start-of c .args .hops .now)
+    (start-of c .args .n)
+    (hops-in-of c .hops-in .result)
+    (way-of c .descend .result .at)
+    (start-of c .args .addr)
+    (start-of c .args .len)
+    (own-bit-of c .own-bit .result)
 standing c =
-    let at-way = c .before .before .before in
-    let pre = at-way .before .before .before .before .before .before .before .pre in
-    is-standing (pre .0) (at-way .before .before .before .hops-in .ensures) (pre .1) (at-way .before .before .own-bit .ensures)
-    (at-way .descend .ensures) _ (c .before .is-there .ensures)
+    let after-is-there : tie.After-is-there = search in
+    let at-way : tie.After-descend = search in
+    let after-own-bit : tie.After-own-bit = search in
+    let after-hops-in : tie.After-hops-in = search in
+    let start : tie.Start = search in
+    let pre = start .pre in
+    is-standing (pre .0) (after-hops-in .hops-in .ensures) (pre .1) (after-own-bit .own-bit .ensures)
+    (at-way .descend .ensures) _ (after-is-there .is-there .ensures)
     (not-failed _ _ refl (c .if1 .left))
 
 sub-left : tie.Need-sub-left

@@ -94,13 +94,9 @@ children-ok-add-children-ok : (t : ℕ) → children-ok-lts.Need-add-children-ok
   children-ok-below t,
   children-ok.Post,
 ) (children-ok-at t) children-ok.Post
-children-ok-add-children-ok t c = omega (
-  arith,
-  c .before .before .stretch .ensures .0,
-  c .before .before .before .before .before .pre .1 .inside,
-  c
-      .before .before .before .before .before .pre .1 .few,
-)
+children-ok-add-children-ok t c =
+    let start = c .before .before .before .before .before in
+    omega (arith, c .before .before .stretch .ensures .0, start .pre .1 .inside, start .pre .1 .few)
 
 children-ok-sub-children-ok : (t : ℕ) → children-ok-lts.Need-sub-children-ok (
   stretch-reads.Asked,

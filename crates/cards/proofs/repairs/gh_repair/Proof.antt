@@ -14,8 +14,7 @@ abbrev clear : tie.After-repair → tie.Else1
 clear c = search
 
 abbrev put : tie.After-tell → tie.After-repair
-put c =
-    c .before .before .before .before .before .before .before .before .before .before .before .before .before .before .before .before .before .before .before
+put c = search
 
 refused : tie.Need-returns
 refused c = let w = c .before in repair-off _ _ _ _ _ (w .before .sizes .ensures) (w .words-fault .ensures) (c .if1 .taken) _ refl

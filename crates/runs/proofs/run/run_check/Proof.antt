@@ -12,11 +12,16 @@ use borrow.Author.Needs.{needs}
 use Rattle.runs.proofs.run.run_check.Statement.{statement}
 use Rattle.runs.proofs.run.run_check.Tie as tie
 
-told : (c : tie.After-known-told) → inputSaid (c .before .before .before .before .before .args .list .now) ≡ accepted (c .before .n .given .0 .0 ∷ [])
+abbrev known-start : tie.After-known-told → tie.Start
+known-start c = search
+
+told : (c : tie.After-known-told) → inputSaid (known-start c .args .list .now) ≡ accepted (c .before .n .given .0 .0 ∷ [])
 told c = told-good _ _ (c .before .before .before .check-input .ensures) _ (c .before .n .given .1)
 
-proper : (c : tie.Else1) → Prefix (c .before .before .before .before .before .before .before .args .addr)
-    (c .before .before .before .before .before .before .before .args .len)
+abbrev proper-start : tie.Else1 → tie.Start
+proper-start c = search
+
+proper : (c : tie.Else1) → Prefix (proper-start c .args .addr) (proper-start c .args .len)
 proper c = prefix-true _ _ (sym (c .before .prefix-ok .ensures) ∙ not-false _ (c .if1 .left))
 
 sub-t14 : tie.Need-sub-t14

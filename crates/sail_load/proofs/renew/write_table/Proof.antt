@@ -78,7 +78,7 @@ count-all-requires c κs =
     let second = second-empty third in
     let list = listed second in
     let s = start list in
-    let input = list .before .before .before .before .before .before .before .before .before .before .before in
+    let input : tie.After-shared-slice-known = search in
     uncounted _ _ _ (s .pre) _ _ (o2 .zero32 .ensures) (o3 .zero322 .ensures) _ _ _ _ (second .fill16 .ensures) (third .fill162 .ensures)
     (o .open-all .ensures)
     (λ j. omega (arith, input .shared-slice-known .given j)) _ _ _ _ (list .put8 .ensures) (after-repaint-from-list .repaint-from-list .ensures)
@@ -134,7 +134,7 @@ returns c =
     let second = second-empty third in
     let list = listed second in
     let s = start list in
-    let input = list .before .before .before .before .before .before .before .before .before .before .before in
+    let input : tie.After-shared-slice-known = search in
     renews _ _ _ (s .pre) _ _ (o2 .zero32 .ensures) (o3 .zero322 .ensures) _ _ _ _ (second .fill16 .ensures) (third .fill162 .ensures)
     (o .open-all .ensures)
     (λ j. omega (arith, input .shared-slice-known .given j)) _ _ _ _ (list .put8 .ensures) (p .repaint-from-list .ensures)

@@ -8,10 +8,10 @@ use Rattle.sail_paint.proofs.from_list.repaint_with.Tie as tie
 
 -- Places: where it starts, seen from after `chained`; after `chained`, seen from after `repaint`; after `repaint`, seen from the end.
 abbrev start : tie.After-chained → tie.Start
-start words = words .before .before .before .before .before .before .before .before .before .before .before
+start words = search
 
 abbrev words : tie.After-repaint → tie.After-chained
-words painted = painted .before .before .before .before .before .before .before .before .before .before
+words painted = search
 
 abbrev painted : tie.After-slice-known10 → tie.After-repaint
 painted c = search

@@ -29,21 +29,28 @@ loop-holds : tie.Need-loop-holds Inv-loop μ-loop
 loop-holds c = ((λ rs g. g), refl)
 
 -- what is held at the loop's head: the routes without the prefix
+abbrev start-of : tie.At-loop Inv-loop μ-loop → tie.Start Inv-loop μ-loop
+start-of c = search
+
+abbrev take-hop-of : tie.At-loop Inv-loop μ-loop → tie.After-take-hop Inv-loop μ-loop
+take-hop-of c = search
+
 held : (c : tie.At-loop Inv-loop μ-loop)
     → Midway
-    (remove (keyOf (c .before .before .before .before .before .before .before .before .before .before .args .addr)
-    (c .before .before .before .before .before .before .before .before .before .before .args .len))
-    (routesHeld (c .before .before .before .before .before .before .before .before .before .before .args .words .now)
-    (c .before .before .before .before .before .before .before .before .before .before .args .hops .now)))
-    (c .before .before .before .before .before .before .before .before .before .before .args .addr)
+    (remove (keyOf (start-of c .args .addr)
+    (start-of c .args .len))
+    (routesHeld (start-of c .args .words .now)
+    (start-of c .args .hops .now)))
+    (start-of c .args .addr)
     (c .loop .m)
     (c .loop .words)
-    (c .before .before .before .before .before .take-hop .last .1 .0)
+    (take-hop-of c .take-hop .last .1 .0)
     (c .loop .nodes)
-    (c .before .before .before .before .before .before .before .before .before .before .args .k)
+    (start-of c .args .k)
 held c =
-    let at-take = c .before .before .before .before .before in
-    c .loop .inv .0 _ (shrink-start _ (at-take .before .before .before .before .before .pre) (at-take .take-hop .ensures))
+    let at-take : tie.After-take-hop Inv-loop μ-loop = search in
+    let start : tie.Start Inv-loop μ-loop = search in
+    c .loop .inv .0 _ (shrink-start _ (start .pre) (at-take .take-hop .ensures))
 
 bare-requires : tie.Need-bare-requires Inv-loop μ-loop
 bare-requires c κs = shrink-path (held (c .before))
