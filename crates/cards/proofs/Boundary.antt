@@ -24,7 +24,7 @@ use Rattle.sail.specs.Walk.{lookupSaid}
 use Rattle.sail.specs.declared.table.Table.{Table}
 use Rattle.sail.proofs.Fitting.{Fault, fault-is}
 use Rattle.sail_theory.specs.Calls.{orSay, made, loaded, announced, withdrawn, reported}
-use Rattle.tree.specs.Walk.{treeSaid}
+use Rattle.tree_image.specs.Walk.{treeSaid}
 use Rattle.tree_build.specs.Built.{built}
 use Rattle.sail.specs.Word.{packFound}
 use Rattle.packing.specs.Pack.{packReport, packRun, packNone, packRoute}

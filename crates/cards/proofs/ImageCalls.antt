@@ -15,8 +15,8 @@ use Rattle.routes.specs.Said.{Said, accepted, refused}
 use Rattle.routes.proofs.Meaning.{hop-true}
 use Rattle.standing.specs.Standing.{stands}
 use Rattle.standing.proofs.Standing.{insert-good}
-use Rattle.tree.specs.Image.{nodeNeed}
-use Rattle.tree.proofs.Needs.{nodes-most}
+use Rattle.tree_image.specs.Image.{nodeNeed}
+use Rattle.tree_image.proofs.Needs.{nodes-most}
 use Rattle.tree_build.specs.Built as tree
 use Rattle.tree_same.specs.Listed.{routesHeld}
 use Rattle.tree_check.specs.Answers.{tested}

@@ -18,7 +18,7 @@ use Rattle.sail.specs.Word.{packFound}
 use Rattle.sail.specs.declared.table.Table.{Table}
 use Rattle.sail.proofs.Fitting.{Fault, fault-is}
 use Rattle.sail_theory.specs.Calls.{made, loaded, announced, withdrawn, reported}
-use Rattle.tree.specs.Walk.{treeSaid}
+use Rattle.tree_image.specs.Walk.{treeSaid}
 use Rattle.tree_build.specs.Built.{built}
 use Rattle.basic.specs.Calls.{basicSaid, packHop, basicMany}
 use Rattle.basic_build.specs.Built.{basicBuilt}

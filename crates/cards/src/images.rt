@@ -1,6 +1,6 @@
 // The calls on tree images.
 ghost use mathlib.Core.Path.{_≡_};
-ghost use Rattle.tree.specs.Walk.{treeSaid};
+ghost use Rattle.tree_image.specs.Walk.{treeSaid};
 ghost use Rattle.tree_build.specs.Built.{built};
 ghost use Rattle.tree_check.specs.Answers.{tested};
 ghost use Rattle.tree_change.specs.Changed.{imageAnnounced, imageWithdrawn};

@@ -13,9 +13,9 @@ use Rattle.routes.proofs.Judged.{exactly}
 use Rattle.standing.specs.Cells.{covers}
 use Rattle.standing.specs.Served.{Served}
 use Rattle.standing.proofs.Served.{none-served}
-use Rattle.tree.specs.Reads.{treeReads}
-use Rattle.tree.specs.Walk.{treeSaid}
-use Rattle.tree.proofs.Serves.{told-served}
+use Rattle.tree_image.specs.Reads.{treeReads}
+use Rattle.tree_image.specs.Walk.{treeSaid}
+use Rattle.tree_image.proofs.Serves.{told-served}
 use Rattle.tree_same.specs.Listed.{routesHeld}
 use Rattle.tree_check.specs.Answers.{tested}
 use Rattle.tree_check.specs.Cases.{Narrow, TreeTest}

@@ -38,7 +38,7 @@ use Rattle.sail_withdraw.specs.Contract.{MeetsWithdraw}
 use Rattle.sail_withdraw.specs.declared.answers.Withdrawn.{Withdrawn}
 use Rattle.sail_withdraw.proofs.OneAnswer as withdraw
 use Rattle.tree.specs.Contract.{MeetsTreeLookup}
-use Rattle.tree.specs.declared.TreeFound.{TreeFound}
+use Rattle.tree_image.specs.declared.TreeFound.{TreeFound}
 use Rattle.tree.proofs.OneAnswer as tree
 use Rattle.tree_build.specs.Contract.{MeetsBuild}
 use Rattle.tree_build.specs.declared.Built.{Built}

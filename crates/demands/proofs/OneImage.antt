@@ -14,7 +14,7 @@ use Rattle.routes.specs.Record.{routesIn}
 use Rattle.routes.specs.Route.{plain}
 use Rattle.routes.specs.Said.{accepts}
 use Rattle.standing.specs.Standing.{routeAt}
-use Rattle.tree.specs.Image.{nodeNeed}
+use Rattle.tree_image.specs.Image.{nodeNeed}
 use Rattle.tree_build.specs.Built.{built}
 use Rattle.tree_same.specs.Listed.{routesHeld}
 use Rattle.tree_same.specs.OneImage.{SameRoutes, Builds, SameArrays, SameUsed}

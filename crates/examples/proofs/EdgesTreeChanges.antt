@@ -19,10 +19,10 @@ use Rattle.routes.specs.Said.{Said, accepted, refused, accepts}
 use Rattle.routes.specs.declared.Route.{Route}
 use Rattle.standing.specs.Cells as cells
 use Rattle.standing.specs.Standing.{insert, remove}
-use Rattle.tree.specs.Image.{bitHop, setBit, word, kids, hopsOf, level, upTo, wordsFrom, words, imageBy}
-use Rattle.tree.specs.Image as ofImage
-use Rattle.tree.specs.Node.{sound}
-use Rattle.tree.specs.Parts.{picked, gather}
+use Rattle.tree_image.specs.Image.{bitHop, setBit, word, kids, hopsOf, level, upTo, wordsFrom, words, imageBy}
+use Rattle.tree_image.specs.Image as ofImage
+use Rattle.tree_image.specs.Node.{sound}
+use Rattle.tree_image.specs.Parts.{picked, gather}
 use Rattle.tree_build.specs.Built.{ImageOut, imageOut, madeOf, built}
 use Rattle.tree_build.proofs.Serves.{built-accepts}
 use Rattle.tree_same.specs.Listed.{routesHeld}

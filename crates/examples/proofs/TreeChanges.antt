@@ -31,10 +31,10 @@ use Rattle.standing.specs.Standing.{stands, isAt}
 use Rattle.standing.proofs.Changed.{insert-adds}
 use Rattle.standing.proofs.Standing.{insert-good}
 use Rattle.standing.proofs.Marks.{any-plain}
-use Rattle.tree.specs.Image.{nodeStands, hopFor, nodeNeed, bitHop, setBit, word, kids, hopsOf, level, upTo, wordsFrom, words, imageBy}
-use Rattle.tree.specs.Parts.{picked, gather}
-use Rattle.tree.proofs.Lies.{any-is}
-use Rattle.tree.proofs.Needs.{hops-need, nodes-most}
+use Rattle.tree_image.specs.Image.{nodeStands, hopFor, nodeNeed, bitHop, setBit, word, kids, hopsOf, level, upTo, wordsFrom, words, imageBy}
+use Rattle.tree_image.specs.Parts.{picked, gather}
+use Rattle.tree_image.proofs.Lies.{any-is}
+use Rattle.tree_image.proofs.Needs.{hops-need, nodes-most}
 use Rattle.bits.specs.Bit.{packedBits}
 use Rattle.tree_build.specs.Built.{ImageOut, madeOf, built}
 use Rattle.tree_build.proofs.Serves.{built-accepts}

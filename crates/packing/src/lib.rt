@@ -9,7 +9,7 @@ ghost use Rattle.sail_withdraw.specs.Answers.{meansWithdraw};
 ghost use Rattle.sail_sound.specs.Report.{meansReported};
 ghost use Rattle.routes.specs.Answers.{meansInput, meansGot};
 ghost use Rattle.runs.specs.Run.{meansRunCheck};
-ghost use Rattle.tree.specs.Walk.{meansTreeFound};
+ghost use Rattle.tree_image.specs.Walk.{meansTreeFound};
 ghost use Rattle.tree_build.specs.Built.{meansBuilt};
 ghost use Rattle.sail.specs.Word.{packFound};
 ghost use Rattle.packing.specs.Pack.{packReport, packChange, packBuilt, packRun, packNone, packRoute};
@@ -30,8 +30,8 @@ use sail_load::load::Loaded;
 use sail_make::Made;
 use sail_sound::report::Reported;
 use sail_withdraw::answers::Withdraw;
-use tree::TreeFound;
 use tree_build::Built;
+use tree_image::TreeFound;
 
 // The low 16 bits of a number.
 fn narrow(x: u64) -> u64

@@ -15,7 +15,7 @@ use Rattle.routes.specs.Route.{keyOf}
 use Rattle.routes.specs.Said.{accepts}
 use Rattle.routes.specs.declared.Route.{Route}
 use Rattle.standing.specs.Standing.{stands}
-use Rattle.tree.specs.Image.{nodeNeed}
+use Rattle.tree_image.specs.Image.{nodeNeed}
 use Rattle.tree_build.specs.Built.{ImageOut, madeOf}
 use Rattle.tree_same.specs.Listed.{routesHeld}
 use Rattle.tree_check.specs.WellFormed.{nodesUsed, wellFormed}

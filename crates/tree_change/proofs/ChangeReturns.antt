@@ -16,9 +16,9 @@ use Rattle.routes.proofs.Meaning.{prefix-true, hop-true}
 use Rattle.standing.specs.Standing.{stands, insert, remove}
 use Rattle.standing.proofs.Standing.{insert-replaces}
 use Rattle.standing.proofs.Changed.{insert-adds, remove-takes}
-use Rattle.tree.specs.Node.{bitsOf, isSet}
-use Rattle.tree.specs.Image.{nodeStands, hopFor, nodeNeed, imageOf}
-use Rattle.tree.proofs.Needs.{hops-need}
+use Rattle.tree_image.specs.Node.{bitsOf, isSet}
+use Rattle.tree_image.specs.Image.{nodeStands, hopFor, nodeNeed, imageOf}
+use Rattle.tree_image.proofs.Needs.{hops-need}
 use Rattle.tree_build.specs.Built.{ImageOut, imageOut, madeOf}
 use Rattle.tree_same.specs.Order.{ints, Order}
 use Rattle.tree_same.specs.Listed.{routesHeld}

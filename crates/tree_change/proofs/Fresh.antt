@@ -13,10 +13,10 @@ use Rattle.routes.specs.declared.Route.{Route}
 use Rattle.standing.specs.Cells.{best}
 use Rattle.standing.specs.Standing.{stands, insert, remove}
 use Rattle.standing.proofs.Standing.{insert-good, insert-replaces}
-use Rattle.tree.specs.Image.{Image, imageOf, onPath, nodeStands, hopFor, nodeNeed}
-use Rattle.tree.specs.Walk.{treeHopSaid, treeSaid}
-use Rattle.tree.proofs.Needs.{hops-need}
-use Rattle.tree.proofs.Serves.{image-serves, told-served}
+use Rattle.tree_image.specs.Image.{Image, imageOf, onPath, nodeStands, hopFor, nodeNeed}
+use Rattle.tree_image.specs.Walk.{treeHopSaid, treeSaid}
+use Rattle.tree_image.proofs.Needs.{hops-need}
+use Rattle.tree_image.proofs.Serves.{image-serves, told-served}
 use Rattle.tree_build.specs.Built.{ImageOut, built}
 use Rattle.tree_same.specs.Holding.{Holding}
 use Rattle.tree_same.specs.Listed.{routesHeld}

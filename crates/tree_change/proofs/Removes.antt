@@ -15,8 +15,8 @@ use Rattle.bits.proofs.Bools.{decided, and-split, both, untrue}
 use Rattle.routes.specs.Route.{keyOf}
 use Rattle.routes.specs.declared.Route.{Route}
 use Rattle.standing.specs.Standing.{remove}
-use Rattle.tree.specs.Node.{bitsOf, childOf, isSet, childAt}
-use Rattle.tree.specs.Image.{node, word, nodeStands, hopFor}
+use Rattle.tree_image.specs.Node.{bitsOf, childOf, isSet, childAt}
+use Rattle.tree_image.specs.Image.{node, word, nodeStands, hopFor}
 use Rattle.tree_same.specs.Read.{reached, leads, hopPlaceAt}
 use Rattle.tree_same.specs.Order.{ints, Order, standsAt}
 use Rattle.tree_same.specs.Holding.{Holding}

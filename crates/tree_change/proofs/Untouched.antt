@@ -15,8 +15,8 @@ use Rattle.routes.specs.declared.Route.{Route}
 use Rattle.routes.proofs.Meaning.{prefix-true}
 use Rattle.standing.specs.Standing.{stands, remove}
 use Rattle.standing.proofs.Changed.{remove-absent}
-use Rattle.tree.specs.Parts.{zeroPadded}
-use Rattle.tree.specs.Image.{hops, imageBy, nodeStands, hopFor, nodeNeed}
+use Rattle.tree_image.specs.Parts.{zeroPadded}
+use Rattle.tree_image.specs.Image.{hops, imageBy, nodeStands, hopFor, nodeNeed}
 use Rattle.tree_build.specs.Built.{ImageOut}
 use Rattle.tree_same.specs.Holding.{Holding}
 use Rattle.tree_same.specs.Listed.{routesHeld}

@@ -12,9 +12,9 @@ use Rattle.bits.specs.Count.{bit}
 use Rattle.bits.specs.Slot.{slot}
 use Rattle.bits.proofs.Slots.{slot-up, slot-zero}
 use Rattle.bits.proofs.Bools.{both}
-use Rattle.tree.specs.Node.{bitsOf, childOf, isSet, childAt}
-use Rattle.tree.specs.Image.{node, inner, imageBy}
-use Rattle.tree.proofs.Nodes.{inner-bit, child-bit}
+use Rattle.tree_image.specs.Node.{bitsOf, childOf, isSet, childAt}
+use Rattle.tree_image.specs.Image.{node, inner, imageBy}
+use Rattle.tree_image.proofs.Nodes.{inner-bit, child-bit}
 use Rattle.tree_same.specs.Read.{reached, leads}
 use Rattle.tree_same.specs.Order.{Order, standsAt}
 use Rattle.tree_same.specs.Holding.{Holding}

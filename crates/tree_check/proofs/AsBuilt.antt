@@ -11,8 +11,8 @@ use Rattle.routes.specs.Record.{routesIn}
 use Rattle.routes.specs.Route.{plain, Good}
 use Rattle.routes.specs.Said.{accepted, refused}
 use Rattle.routes.specs.declared.Route.{Route}
-use Rattle.tree.specs.Image.{nodeStands, hopFor, imageOf, nodeNeed}
-use Rattle.tree.proofs.Needs.{hops-need}
+use Rattle.tree_image.specs.Image.{nodeStands, hopFor, imageOf, nodeNeed}
+use Rattle.tree_image.proofs.Needs.{hops-need}
 use Rattle.tree_build.specs.Built.{ImageOut, built}
 use Rattle.tree_build.proofs.Serves.{built-accepts}
 use Rattle.tree_same.specs.Order.{ints}

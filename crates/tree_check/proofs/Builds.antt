@@ -17,9 +17,9 @@ use Rattle.routes.specs.Route.{Good}
 use Rattle.routes.specs.declared.Route.{Route}
 use Rattle.routes.proofs.Goods.{good-fine}
 use Rattle.standing.specs.Cells.{any, first}
-use Rattle.tree.specs.Node.{bitsOf, childOf, baseOf, sound}
-use Rattle.tree.specs.Parts.{before}
-use Rattle.tree.specs.Image.{
+use Rattle.tree_image.specs.Node.{bitsOf, childOf, baseOf, sound}
+use Rattle.tree_image.specs.Parts.{before}
+use Rattle.tree_image.specs.Image.{
   Node,
   node,
   innerLen,
@@ -40,13 +40,13 @@ use Rattle.tree.specs.Image.{
   hopFor,
   nodeNeed,
 }
-use Rattle.tree.proofs.Counts.{count-hit}
-use Rattle.tree.proofs.Parts.{picked-length, gather-split}
-use Rattle.tree.proofs.Nodes.{up-next, inner-bit, clear-bit, child-bit}
-use Rattle.tree.proofs.Holds.{pad-length, pad-at, node-words, child-place, hop-place}
-use Rattle.tree.proofs.Lies.{any-is, any-mem, pass-make, kidOf, kid-at, bitOf, bit-at, hop-of}
-use Rattle.tree.proofs.Needs.{hops-need}
-use Rattle.tree.proofs.Serves.{agree, words-after, hops-after}
+use Rattle.tree_image.proofs.Counts.{count-hit}
+use Rattle.tree_image.proofs.Parts.{picked-length, gather-split}
+use Rattle.tree_image.proofs.Nodes.{up-next, inner-bit, clear-bit, child-bit}
+use Rattle.tree_image.proofs.Holds.{pad-length, pad-at, node-words, child-place, hop-place}
+use Rattle.tree_image.proofs.Lies.{any-is, any-mem, pass-make, kidOf, kid-at, bitOf, bit-at, hop-of}
+use Rattle.tree_image.proofs.Needs.{hops-need}
+use Rattle.tree_image.proofs.Serves.{agree, words-after, hops-after}
 use Rattle.tree_build.proofs.Marks.{word-bits}
 use Rattle.tree_same.specs.Order.{ints, Order}
 use Rattle.tree_same.proofs.Canonical.{ext-ones}

@@ -14,7 +14,7 @@ use Rattle.routes.specs.declared.Route.{Route}
 use Rattle.routes.specs.Cases.{Checked, ragged, stopped, many, good}
 use Rattle.routes.proofs.Meaning.{input-checked, good-input}
 use Rattle.routes.proofs.Rows.{length-routes, length-written, routes-written, written-listed}
-use Rattle.tree.specs.Image.{imageOf, nodeNeed}
+use Rattle.tree_image.specs.Image.{imageOf, nodeNeed}
 use Rattle.tree_build.specs.Built.{ImageOut, imageOut, madeOf, afterInput, built}
 use Rattle.tree_build.proofs.Serves.{built-accepts}
 use Rattle.tree_same.specs.Listed.{routesHeld}

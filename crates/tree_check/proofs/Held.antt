@@ -20,14 +20,14 @@ use Rattle.bits.proofs.Bools.{decided, both, and-split, below?, untrue, same}
 use Rattle.routes.specs.Route.{Good}
 use Rattle.routes.specs.declared.Route.{Route}
 use Rattle.routes.proofs.Goods.{good-fine}
-use Rattle.tree.specs.Node.{bitsOf, childOf, baseOf, isSet, sound, childAt}
-use Rattle.tree.specs.Image.{node, innerLen, bitHop, inner, child, setBit, word, words, hops, imageOf, through, nodeStands, hopFor, nodeNeed}
-use Rattle.tree.proofs.Counts.{count-less}
+use Rattle.tree_image.specs.Node.{bitsOf, childOf, baseOf, isSet, sound, childAt}
+use Rattle.tree_image.specs.Image.{node, innerLen, bitHop, inner, child, setBit, word, words, hops, imageOf, through, nodeStands, hopFor, nodeNeed}
+use Rattle.tree_image.proofs.Counts.{count-less}
 use Rattle.bits.proofs.Packed.{rank-count, upper-count}
-use Rattle.tree.proofs.Needs.{hops-need}
-use Rattle.tree.proofs.Nodes.{set-inner, set-child}
-use Rattle.tree.proofs.Lies.{any-is, pass-parts, hop-of, inner-cases, inner-len}
-use Rattle.tree.proofs.Serves.{agree}
+use Rattle.tree_image.proofs.Needs.{hops-need}
+use Rattle.tree_image.proofs.Nodes.{set-inner, set-child}
+use Rattle.tree_image.proofs.Lies.{any-is, pass-parts, hop-of, inner-cases, inner-len}
+use Rattle.tree_image.proofs.Serves.{agree}
 use Rattle.tree_build.proofs.Marks.{word-bits}
 use Rattle.tree_same.specs.Read.{reached, leads, hopAt, pathOf, bitFor, readOut}
 use Rattle.tree_same.specs.Order.{standsAt, exts, ints}

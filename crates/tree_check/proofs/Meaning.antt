@@ -17,7 +17,7 @@ use Rattle.bits.proofs.Tabs.{every-true, true-every}
 use Rattle.buffers.specs.Zeros.{Zeros}
 use Rattle.routes.specs.Input.{hopFine}
 use Rattle.routes.proofs.Meaning.{hop-true, true-hop}
-use Rattle.tree.specs.Node.{bitsOf, childOf, baseOf}
+use Rattle.tree_image.specs.Node.{bitsOf, childOf, baseOf}
 use Rattle.tree_same.specs.Order.{exts, ints, Order}
 use Rattle.tree_check.specs.WellFormed.{closed, nodesUsed, basesAt, ordered, allFrom, nodeOk, rootOk, hopsIn, hopsOk, blankFrom, wellFormed}
 

@@ -12,7 +12,7 @@ use lib.Count.{ones, ones-le}
 use borrow.Author.Tests.{eqb-true, eq-eqb}
 use Rattle.bits.specs.Tab.{Tells}
 use Rattle.bits.proofs.Bools.{below?, untrue}
-use Rattle.tree.specs.Node.{bitsOf, childOf, baseOf}
+use Rattle.tree_image.specs.Node.{bitsOf, childOf, baseOf}
 use Rattle.tree_same.specs.Order.{exts, ints, Order}
 use Rattle.tree_check.specs.WellFormed.{nodesUsed, wellFormed}
 use Rattle.tree_check.specs.Stretches.{Flagged, OwnBits, Own, PassedOver, EndsAt, Nodes, Begun, UpTo, NodesShaped}

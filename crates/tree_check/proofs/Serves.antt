@@ -10,11 +10,11 @@ use Rattle.bits.specs.Slot.{slot}
 use Rattle.routes.specs.Said.{accepted}
 use Rattle.routes.specs.declared.Route.{Route}
 use Rattle.standing.specs.Cells.{best}
-use Rattle.tree.specs.Image.{hops, through, nodeStands, hopFor, imageBy, nodeNeed, onPath}
-use Rattle.tree.specs.Walk.{treeHopSaid, treeSaid}
-use Rattle.tree.proofs.Lies.{any-is, pass-parts}
-use Rattle.tree.proofs.Needs.{hops-need}
-use Rattle.tree.proofs.Serves.{image-serves}
+use Rattle.tree_image.specs.Image.{hops, through, nodeStands, hopFor, imageBy, nodeNeed, onPath}
+use Rattle.tree_image.specs.Walk.{treeHopSaid, treeSaid}
+use Rattle.tree_image.proofs.Lies.{any-is, pass-parts}
+use Rattle.tree_image.proofs.Needs.{hops-need}
+use Rattle.tree_image.proofs.Serves.{image-serves}
 use Rattle.tree_same.specs.Read.{leads}
 use Rattle.tree_same.specs.Order.{standsAt}
 use Rattle.tree_same.specs.Listed.{routesHeld}

@@ -14,7 +14,7 @@ use Rattle.bits.proofs.Bools.{decided, both, and-split, untrue, below?, same}
 use Rattle.bits.proofs.Tabs.{every-true, true-every}
 use Rattle.buffers.specs.Zeros.{Zeros}
 use Rattle.routes.specs.Input.{hopFine}
-use Rattle.tree.specs.Node.{bitsOf, baseOf}
+use Rattle.tree_image.specs.Node.{bitsOf, baseOf}
 use Rattle.tree_same.specs.Order.{ints, Order}
 use Rattle.tree_check.specs.WellFormed.{nodesUsed, ordered, rootOk, hopsIn, hopsOk, hopsFineTo, blankFrom, wellFormed, nodesIf}
 use Rattle.tree_check.specs.Stretches.{Flagged, Own, NodesShaped, Rooted}

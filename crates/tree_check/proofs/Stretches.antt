@@ -11,7 +11,7 @@ use lib.Count.{ones}
 use lib.ListN.{length}
 use borrow.Author.Tests.{lt-ltb, eqb-true, eq-eqb, ne-eqb}
 use Rattle.bits.proofs.Bools.{both, and-split, below?, same, untrue}
-use Rattle.tree.specs.Node.{bitsOf, childOf, isSet, sound}
+use Rattle.tree_image.specs.Node.{bitsOf, childOf, isSet, sound}
 use Rattle.tree_same.specs.Order.{exts, Order}
 use Rattle.tree_check.specs.WellFormed.{nodesUsed, allFrom, nodeOk, childrenOk, rootOk}
 use Rattle.tree_check.specs.Stretches.{Flagged, OwnBits, Own, Stretch, Rooted}

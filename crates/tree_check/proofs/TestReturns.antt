@@ -8,7 +8,7 @@ use native.Mathlib.Omega.{arith}
 use lib.ListN.{length, getD}
 use Rattle.bits.proofs.Bools.{decided}
 use Rattle.routes.specs.Said.{accepted}
-use Rattle.tree.proofs.Needs.{nodes-most}
+use Rattle.tree_image.proofs.Needs.{nodes-most}
 use Rattle.tree_same.specs.Order.{ints}
 use Rattle.tree_same.specs.Listed.{routesHeld}
 use Rattle.tree_check.specs.WellFormed.{nodesUsed, ordered, wellFormed, nodesIf}

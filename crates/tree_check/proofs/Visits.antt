@@ -7,7 +7,7 @@ use Prim.Native.Nat.{ℕ, zero, suc, _+_, _-_, _/_, _^_, _≤_}
 use native.Mathlib.Omega.{arith}
 use lib.Count.{ones}
 use lib.ListN.{length}
-use Rattle.tree.specs.Node.{bitsOf, childOf}
+use Rattle.tree_image.specs.Node.{bitsOf, childOf}
 use Rattle.tree_same.specs.Order.{exts, Order}
 use Rattle.tree_check.specs.WellFormed.{nodesUsed, ordered}
 use Rattle.tree_check.specs.Visits.{sumFrom, visits}

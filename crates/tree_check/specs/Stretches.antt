@@ -4,7 +4,7 @@ use mathlib.Core.List.{List}
 use mathlib.Core.Path.{_≡_}
 use Prim.Native.Nat.{ℕ, _+_, _*_, _≤_, _<_}
 use lib.ListN.{length, getD}
-use Rattle.tree.specs.Node.{bitsOf, childOf, baseOf, isSet}
+use Rattle.tree_image.specs.Node.{bitsOf, childOf, baseOf, isSet}
 use Rattle.tree_same.specs.Order.{exts, ints, Order}
 use Rattle.tree_check.specs.WellFormed.{nodesUsed, ordered, wellFormed, nodesIf}
 

@@ -3,7 +3,7 @@
 use mathlib.Core.List.{List}
 use Prim.Native.Nat.{ℕ, zero, suc, _+_, _/_, _^_}
 use lib.Count.{ones}
-use Rattle.tree.specs.Node.{bitsOf, childOf}
+use Rattle.tree_image.specs.Node.{bitsOf, childOf}
 
 -- f of the n numbers from `first` on, added up
 unfoldable pub sumFrom : (ℕ → ℕ) → ℕ → ℕ → ℕ

@@ -9,7 +9,7 @@ use lib.Count.{ones}
 use Rattle.bits.specs.Search.{firstOf}
 use Rattle.bits.specs.Tab.{every}
 use Rattle.routes.specs.Input.{hopFine}
-use Rattle.tree.specs.Node.{bitsOf, childOf, baseOf, sound}
+use Rattle.tree_image.specs.Node.{bitsOf, childOf, baseOf, sound}
 use Rattle.tree_same.specs.Order.{exts, ints}
 
 -- ---- the bases are those of the fixed order

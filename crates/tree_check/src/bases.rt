@@ -6,7 +6,7 @@ ghost use Prim.Native.Nat.{_+_, _*_, _/_, _^_, _≤_, _<_};
 ghost use lib.ListN.{length};
 ghost use lib.Count.{ones};
 ghost use Rattle.bits.specs.Tab.{Tells};
-ghost use Rattle.tree.specs.Node.{bitsOf, childOf};
+ghost use Rattle.tree_image.specs.Node.{bitsOf, childOf};
 ghost use Rattle.tree_same.specs.Order.{Order};
 ghost use Rattle.tree_check.specs.Stretches.{Flagged, OwnBits, Own, EndsAt, Nodes, Begun, UpTo, NodesShaped};
 

@@ -8,7 +8,7 @@ use lib.ListN.{length, getD, set, length-set}
 use lib.Seq.{getD-set-other}
 use Rattle.lists.specs.Edit.{drawn}
 use Rattle.lists.proofs.EditMoves.{length-drawn}
-use Rattle.tree.specs.Node.{bitsOf, childOf, isSet, childAt}
+use Rattle.tree_image.specs.Node.{bitsOf, childOf, isSet, childAt}
 use Rattle.tree_build.specs.NodeRuns.{WithBit}
 use Rattle.tree_build.specs.Queue.{put3}
 use Rattle.tree_build.proofs.Stores.{put3-length}

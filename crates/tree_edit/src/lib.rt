@@ -8,7 +8,7 @@ ghost use mathlib.Core.Path.{_≡_};
 ghost use mathlib.Core.Bool.{true, false};
 ghost use Prim.Native.Nat.{_+_, _*_, _^_, _≤_, _<_};
 ghost use lib.ListN.{length};
-ghost use Rattle.tree.specs.Node.{bitsOf, childOf, isSet, childAt};
+ghost use Rattle.tree_image.specs.Node.{bitsOf, childOf, isSet, childAt};
 ghost use Rattle.tree_build.specs.NodeRuns.{WithBit};
 ghost use Rattle.tree_same.specs.Read.{hopPlaceAt};
 ghost use Rattle.tree_hold.specs.Edits.{Grafted, Pruned, HopPut, HopTaken, Prunable, Takable};

@@ -14,8 +14,8 @@ use Rattle.bits.proofs.Bools.{below?}
 use Rattle.bits.proofs.Packed.{upper-count}
 use Rattle.lists.specs.Edit.{drawn}
 use Rattle.lists.proofs.EditMoves.{length-drawn, drawn-in, drawn-before, drawn-after}
-use Rattle.tree.specs.Node.{bitsOf, childOf, baseOf, isSet, childAt}
-use Rattle.tree.proofs.Counts.{count-mono}
+use Rattle.tree_image.specs.Node.{bitsOf, childOf, baseOf, isSet, childAt}
+use Rattle.tree_image.proofs.Counts.{count-mono}
 use Rattle.tree_build.specs.NodeRuns.{WithBit}
 use Rattle.tree_build.specs.Queue.{put3}
 use Rattle.tree_build.proofs.Stores.{put3-length, put3-other, put3-at}

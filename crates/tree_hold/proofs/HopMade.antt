@@ -12,8 +12,8 @@ use Rattle.bits.proofs.Bools.{below?}
 use Rattle.bits.proofs.Packed.{rank-count}
 use Rattle.lists.specs.Edit.{drawn}
 use Rattle.lists.proofs.EditMoves.{length-drawn, drawn-in, drawn-before, drawn-after}
-use Rattle.tree.specs.Node.{bitsOf, isSet}
-use Rattle.tree.proofs.Counts.{count-mono}
+use Rattle.tree_image.specs.Node.{bitsOf, isSet}
+use Rattle.tree_image.proofs.Counts.{count-mono}
 use Rattle.tree_build.specs.NodeRuns.{WithBit}
 use Rattle.tree_same.specs.Read.{hopPlaceAt}
 use Rattle.tree_same.specs.Order.{ints}

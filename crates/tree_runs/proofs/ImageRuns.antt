@@ -14,8 +14,8 @@ use Rattle.routes.specs.Said.{accepted, accepts}
 use Rattle.routes.specs.declared.Route.{Route}
 use Rattle.standing.specs.Standing.{routeAt}
 use Rattle.standing.proofs.Standing.{insert-stands, remove-stands}
-use Rattle.tree.specs.Image.{Image, imageOf}
-use Rattle.tree.proofs.Marks.{image-unmarked, nodes-unmarked}
+use Rattle.tree_image.specs.Image.{Image, imageOf}
+use Rattle.tree_image.proofs.Marks.{image-unmarked, nodes-unmarked}
 use Rattle.tree_build.specs.Built.{ImageOut, imageOut, built}
 use Rattle.tree_build.proofs.Serves.{built-accepts}
 use Rattle.tree_same.specs.Listed.{routesHeld}

@@ -8,9 +8,9 @@ use lib.ListN.{length, getD}
 use Rattle.bits.proofs.Bools.{below?}
 use Rattle.routes.specs.Route.{Good}
 use Rattle.routes.specs.declared.Route.{Route}
-use Rattle.tree.specs.Node.{bitsOf, childOf, baseOf}
-use Rattle.tree.specs.Image.{nodeStands, hopFor, nodeNeed, imageOf}
-use Rattle.tree.proofs.Needs.{hops-need, nodes-most}
+use Rattle.tree_image.specs.Node.{bitsOf, childOf, baseOf}
+use Rattle.tree_image.specs.Image.{nodeStands, hopFor, nodeNeed, imageOf}
+use Rattle.tree_image.proofs.Needs.{hops-need, nodes-most}
 use Rattle.tree_build.specs.Built.{ImageOut}
 use Rattle.tree_same.specs.Order.{ints}
 use Rattle.tree_same.specs.Holding.{Holding}

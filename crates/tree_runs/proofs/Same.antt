@@ -11,7 +11,7 @@ use Rattle.routes.specs.Route.{plain}
 use Rattle.routes.specs.declared.Route.{Route}
 use Rattle.standing.specs.Standing.{routeAt}
 use Rattle.standing.proofs.Standing.{same-standing}
-use Rattle.tree.specs.Image.{nodeNeed, imageOf}
+use Rattle.tree_image.specs.Image.{nodeNeed, imageOf}
 use Rattle.tree_build.specs.Built.{ImageOut, built}
 use Rattle.tree_same.specs.Listed.{routesHeld}
 use Rattle.tree_same.specs.OneImage.{Builds, SameArrays, SameUsed}

@@ -1,7 +1,7 @@
 // Tree bitmap images: built, looked up, refused and broken.
 use crate::samples;
-use tree::TreeFound;
 use tree_build::Built;
+use tree_image::TreeFound;
 use vectors_shared::list;
 use vectors_shared::print;
 

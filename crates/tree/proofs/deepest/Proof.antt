@@ -1,6 +1,6 @@
 -- The four tests of the code are those of `deepestOf`, in its order: each return follows the misses before it.
 use native.Mathlib.Omega.{arith}
-use Rattle.tree.proofs.Walks.{try-hit, try-miss, deepest-is}
+use Rattle.tree_image.proofs.Walks.{try-hit, try-miss, deepest-is}
 use borrow.Author.Needs.{needs}
 use Rattle.tree.proofs.deepest.Statement.{statement}
 use Rattle.tree.proofs.deepest.Tie as tie

@@ -6,9 +6,9 @@ use mathlib.Core.Path.{_≡_}
 use Prim.Native.Nat.{ℕ, _+_, _*_, _≤_, _<_}
 use lib.ListN.{length, getD}
 use Rattle.bits.specs.Count.{count}
-use Rattle.tree.specs.Node.{bitsOf, childOf, baseOf}
-use Rattle.tree.specs.Parts.{before}
-use Rattle.tree.specs.Image.{Node, node, inner, bitHop, word, kids, hopsOf, nodes, hops}
+use Rattle.tree_image.specs.Node.{bitsOf, childOf, baseOf}
+use Rattle.tree_image.specs.Parts.{before}
+use Rattle.tree_image.specs.Image.{Node, node, inner, bitHop, word, kids, hopsOf, nodes, hops}
 
 -- node x of the fixed order
 abbrev pub nodeNo : (ℕ → ℕ → Bool) → ℕ → Node

@@ -9,12 +9,12 @@ use lib.Count.{ones}
 use borrow.Author.Tests.{not-true, not-false, lt-ltb, le-ltb, le-leb, lt-leb, eq-eqb, ne-eqb}
 use Rattle.routes.specs.Said.{Said, refused}
 use Rattle.routes.specs.Input.{hopFine}
-use Rattle.tree.specs.Node.{bitsOf, childOf, baseOf, isSet, sound, nibbleOf, tryBit, deepestOf, betterOf, childAt}
-use Rattle.tree.specs.Walk.{meansTreeFound, treeHopSaid, fetchedFrom, lastMatch, innerMatch, walkFrom}
-use Rattle.tree.specs.declared.Place.{Place}
-use Rattle.tree.specs.declared.Place.the-variants.{Nowhere, At}
-use Rattle.tree.specs.declared.TreeFound.{TreeFound}
-use Rattle.tree.specs.declared.TreeFound.the-variants.{Hop, NoRoute, Broken}
+use Rattle.tree_image.specs.Node.{bitsOf, childOf, baseOf, isSet, sound, nibbleOf, tryBit, deepestOf, betterOf, childAt}
+use Rattle.tree_image.specs.Walk.{meansTreeFound, treeHopSaid, fetchedFrom, lastMatch, innerMatch, walkFrom}
+use Rattle.tree_image.specs.declared.Place.{Place}
+use Rattle.tree_image.specs.declared.Place.the-variants.{Nowhere, At}
+use Rattle.tree_image.specs.declared.TreeFound.{TreeFound}
+use Rattle.tree_image.specs.declared.TreeFound.the-variants.{Hop, NoRoute, Broken}
 
 -- answers that are told the same are the same
 pub meansTreeFound-injective : (x y : TreeFound) → meansTreeFound x ≡ meansTreeFound y → x ≡ y

@@ -12,10 +12,10 @@ use lib.Dec.{ltb}
 use lib.ListN.{length}
 use Rattle.bits.proofs.Bools.{decided}
 use Rattle.routes.specs.Said.{refused}
-use Rattle.tree.specs.Node.{bitsOf, baseOf, isSet, sound, tryBit, matchBit, Deepest, match, none, deepestOf, betterOf}
-use Rattle.tree.specs.Walk.{fetchedFrom, lastMatch, walkFrom}
-use Rattle.tree.specs.declared.Place.{Place}
-use Rattle.tree.specs.declared.Place.the-variants.{At}
+use Rattle.tree_image.specs.Node.{bitsOf, baseOf, isSet, sound, tryBit, matchBit, Deepest, match, none, deepestOf, betterOf}
+use Rattle.tree_image.specs.Walk.{fetchedFrom, lastMatch, walkFrom}
+use Rattle.tree_image.specs.declared.Place.{Place}
+use Rattle.tree_image.specs.declared.Place.the-variants.{At}
 
 -- the four inner lengths
 by-length : (P : ℕ → Type 0) → P 0 → P 1 → P 2 → P 3 → (k : ℕ) → k < 4 → P k

@@ -9,13 +9,13 @@ use lib.ListN.{length, getD}
 use lib.Seq.{ext-getD}
 use Rattle.bits.specs.Count.{count}
 use Rattle.bits.proofs.Bools.{below?}
-use Rattle.tree.specs.Parts.{before, zeroPadded}
-use Rattle.tree.specs.Image.{Node, node, inner, hopsOf, nodes, words, hops, imageBy}
-use Rattle.tree.specs.Done.{nodeNo, AllDone}
-use Rattle.tree.proofs.Counts.{count-hit}
-use Rattle.tree.proofs.Parts.{picked-length, gather-split}
-use Rattle.tree.proofs.Nodes.{words-length, words-at}
-use Rattle.tree.proofs.Holds.{pad-length, pad-at, pad-past, hop-place}
+use Rattle.tree_image.specs.Parts.{before, zeroPadded}
+use Rattle.tree_image.specs.Image.{Node, node, inner, hopsOf, nodes, words, hops, imageBy}
+use Rattle.tree_image.specs.Done.{nodeNo, AllDone}
+use Rattle.tree_image.proofs.Counts.{count-hit}
+use Rattle.tree_image.proofs.Parts.{picked-length, gather-split}
+use Rattle.tree_image.proofs.Nodes.{words-length, words-at}
+use Rattle.tree_image.proofs.Holds.{pad-length, pad-at, pad-past, hop-place}
 
 -- a list that agrees with another one and then has zeros
 pub pad-ext : (ys xs : List ℕ) → length xs ≤ length ys → ((j : ℕ) → j < length xs → getD ys j 0 ≡ getD xs j 0) → ((j : ℕ) → length xs ≤ j → getD ys j 0 ≡ 0)

@@ -23,15 +23,15 @@ use Rattle.standing.specs.Down.{orNext, down}
 use Rattle.standing.specs.Served.{Served, hopSaid}
 use Rattle.standing.proofs.Served.{best-served}
 use Rattle.standing.proofs.Levels.{any-mono}
-use Rattle.tree.specs.Reads.{counted, treeReads}
-use Rattle.tree.specs.Walk.{treeHopSaid, treeSaid}
-use Rattle.tree.specs.Image.{Node, node, nodes, words, hops, imageBy, imageOf, through, nodeStands, hopFor, nodeNeed, onPath}
-use Rattle.tree.proofs.Counts.{count-all, count-cut}
-use Rattle.tree.proofs.Nodes.{up-next, words-length}
-use Rattle.tree.proofs.Holds.{pad-past, Agree, image-holds}
-use Rattle.tree.proofs.Lies.{found-any}
-use Rattle.tree.proofs.Needs.{hops-need}
-use Rattle.tree.proofs.Longest.{longest, readsFrom, walk-longest}
+use Rattle.tree_image.specs.Reads.{counted, treeReads}
+use Rattle.tree_image.specs.Walk.{treeHopSaid, treeSaid}
+use Rattle.tree_image.specs.Image.{Node, node, nodes, words, hops, imageBy, imageOf, through, nodeStands, hopFor, nodeNeed, onPath}
+use Rattle.tree_image.proofs.Counts.{count-all, count-cut}
+use Rattle.tree_image.proofs.Nodes.{up-next, words-length}
+use Rattle.tree_image.proofs.Holds.{pad-past, Agree, image-holds}
+use Rattle.tree_image.proofs.Lies.{found-any}
+use Rattle.tree_image.proofs.Needs.{hops-need}
+use Rattle.tree_image.proofs.Longest.{longest, readsFrom, walk-longest}
 
 -- what the routes say of nodes and hops
 no-nine : (rs : List Route) (p : ℕ) → Good rs → nodeStands rs 9 p ≡ false

@@ -17,7 +17,7 @@ use Rattle.standing.specs.Cells.{here, any, first, orElse}
 use Rattle.routes.specs.declared.Route.{Route}
 use Rattle.standing.proofs.Longest.{here-parts}
 use Rattle.standing.proofs.Prefixes.{first-here}
-use Rattle.tree.specs.Image.{innerLen, through, hopFor}
+use Rattle.tree_image.specs.Image.{innerLen, through, hopFor}
 
 -- some route of a list passes a test
 pub any-is : (f : Route → Bool) (rs : List Route) → any f rs ≡ true → (r : Route) × List·Memᴰ r rs × (f r ≡ true)

@@ -6,10 +6,10 @@ use mathlib.Core.Path.{_≡_}
 use Prim.Native.Nat.{ℕ, zero, suc, _+_, _-_, _/_, _≤_, _<_}
 use lib.ListN.{length, getD}
 use Rattle.routes.specs.Said.{Said, refused, hopAfter, noRouteAfter}
-use Rattle.tree.specs.Node.{bitsOf, childOf, isSet, nibbleOf, childAt}
-use Rattle.tree.specs.Walk.{lastMatch, innerMatch}
-use Rattle.tree.specs.declared.Place.{Place}
-use Rattle.tree.specs.declared.Place.the-variants.{Nowhere, At}
+use Rattle.tree_image.specs.Node.{bitsOf, childOf, isSet, nibbleOf, childAt}
+use Rattle.tree_image.specs.Walk.{lastMatch, innerMatch}
+use Rattle.tree_image.specs.declared.Place.{Place}
+use Rattle.tree_image.specs.declared.Place.the-variants.{Nowhere, At}
 
 -- the one hop that is read after n nodes, at the place of the deepest match; where it is answered, the count is one more
 pub data Fetched (hs : List ℕ) (n : ℕ) : Place → Said → Type 0 where

@@ -10,7 +10,7 @@ use Rattle.bits.specs.Bit.{packedBits}
 use Rattle.bits.specs.Count.{count}
 use Rattle.standing.specs.Cells.{here, any, first, orElse}
 use Rattle.routes.specs.declared.Route.{Route}
-use Rattle.tree.specs.Parts.{picked, gather, zeroPadded}
+use Rattle.tree_image.specs.Parts.{picked, gather, zeroPadded}
 
 -- a node: it stands for a path of 4 * depth bits
 pub record Node : Type 0 where

@@ -7,8 +7,8 @@ use lib.Dec.{eqb, ltb}
 use lib.ListN.{length, getD}
 use lib.Count.{ones}
 use Rattle.bits.specs.Bit.{bitAt}
-use Rattle.tree.specs.declared.Place.{Place}
-use Rattle.tree.specs.declared.Place.the-variants.{At}
+use Rattle.tree_image.specs.declared.Place.{Place}
+use Rattle.tree_image.specs.declared.Place.the-variants.{At}
 
 -- the words of node i: its bits, its child base and its hop base
 abbrev pub bitsOf : List ℕ → ℕ → ℕ

@@ -12,13 +12,13 @@ use Rattle.bits.proofs.Bools.{decided, below?, untrue}
 use Rattle.routes.specs.Input.{hopFine}
 use Rattle.routes.specs.Said.{Said, refused}
 use Rattle.routes.proofs.Meaning.{hop-true, true-hop}
-use Rattle.tree.specs.Node.{bitsOf, childOf, isSet, sound, nibbleOf, childAt}
-use Rattle.tree.specs.Cases.{Fetched, RightNode, Walked, TreeLookup}
-use Rattle.tree.specs.Walk.{treeHopSaid, fetchedFrom, lastMatch, innerMatch, walkFrom, meansTreeFound, treeSaid}
-use Rattle.tree.specs.declared.TreeFound.{TreeFound}
-use Rattle.tree.specs.declared.TreeFound.the-variants as treeFound
-use Rattle.tree.specs.declared.Place.{Place}
-use Rattle.tree.specs.declared.Place.the-variants.{Nowhere, At}
+use Rattle.tree_image.specs.Node.{bitsOf, childOf, isSet, sound, nibbleOf, childAt}
+use Rattle.tree_image.specs.Cases.{Fetched, RightNode, Walked, TreeLookup}
+use Rattle.tree_image.specs.Walk.{treeHopSaid, fetchedFrom, lastMatch, innerMatch, walkFrom, meansTreeFound, treeSaid}
+use Rattle.tree_image.specs.declared.TreeFound.{TreeFound}
+use Rattle.tree_image.specs.declared.TreeFound.the-variants as treeFound
+use Rattle.tree_image.specs.declared.Place.{Place}
+use Rattle.tree_image.specs.declared.Place.the-variants.{Nowhere, At}
 
 -- the one hop that is read after n nodes, at the place of the deepest match; where it is answered, the count is one more
 module _ (hs : List ℕ) (n : ℕ) where

@@ -12,14 +12,14 @@ use lib.Seq.{getD-append-add}
 use borrow.Author.Tests.{lt-ltb, le-ltb, ltb-true, ltb-false}
 use Rattle.bits.specs.Bit.{bitAt}
 use Rattle.bits.specs.Count.{bit, count}
-use Rattle.tree.specs.Node.{bitsOf, childOf, baseOf, childAt}
-use Rattle.tree.specs.Parts.{before, zeroPadded}
-use Rattle.tree.specs.Image.{Node, node, bitHop, child, inner, word, kids, hopsOf, nodes, words, hops}
-use Rattle.tree.proofs.Counts.{count-less}
+use Rattle.tree_image.specs.Node.{bitsOf, childOf, baseOf, childAt}
+use Rattle.tree_image.specs.Parts.{before, zeroPadded}
+use Rattle.tree_image.specs.Image.{Node, node, bitHop, child, inner, word, kids, hopsOf, nodes, words, hops}
+use Rattle.tree_image.proofs.Counts.{count-less}
 use Rattle.bits.proofs.Packed.{rank-count, upper-count}
-use Rattle.tree.proofs.Parts.{picked-length, picked-at, gather-at}
-use Rattle.tree.proofs.Nodes.{nodes-fix, words-length, words-at, inner-bit, clear-bit, child-bit}
-use Rattle.tree.proofs.Longest.{NodeOf, NoneBelow, SubtreeHolds}
+use Rattle.tree_image.proofs.Parts.{picked-length, picked-at, gather-at}
+use Rattle.tree_image.proofs.Nodes.{nodes-fix, words-length, words-at, inner-bit, clear-bit, child-bit}
+use Rattle.tree_image.proofs.Longest.{NodeOf, NoneBelow, SubtreeHolds}
 
 pub pad-length : (n : ℕ) (xs : List ℕ) → length xs ≤ n → length (zeroPadded n xs) ≡ n
 pad-length n xs h = simp (length-append, length-replicate) (omega arith)

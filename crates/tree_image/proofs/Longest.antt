@@ -16,11 +16,11 @@ use Rattle.bits.proofs.Bools.{decided}
 use Rattle.routes.specs.Input.{hopFine}
 use Rattle.standing.specs.Down.{orNext, down}
 use Rattle.standing.proofs.Downs.{or-next-none, or-next-some}
-use Rattle.tree.specs.Node.{bitsOf, childOf, baseOf, isSet, tryBit, deepestOf, betterOf, childAt, nibbleOf}
-use Rattle.tree.specs.Walk.{treeHopSaid, fetchedFrom, walkFrom, treeSaid}
-use Rattle.tree.specs.declared.Place.{Place}
-use Rattle.tree.specs.declared.Place.the-variants.{Nowhere, At}
-use Rattle.tree.proofs.Walks.{walk-last, walk-stop, walk-down}
+use Rattle.tree_image.specs.Node.{bitsOf, childOf, baseOf, isSet, tryBit, deepestOf, betterOf, childAt, nibbleOf}
+use Rattle.tree_image.specs.Walk.{treeHopSaid, fetchedFrom, walkFrom, treeSaid}
+use Rattle.tree_image.specs.declared.Place.{Place}
+use Rattle.tree_image.specs.declared.Place.the-variants.{Nowhere, At}
+use Rattle.tree_image.proofs.Walks.{walk-last, walk-stop, walk-down}
 
 abbrev pub Hops : Type 0
 Hops = ℕ → ℕ → ℕ

@@ -14,8 +14,8 @@ use lib.Seq.{getD-append-add, getD-at, take-length}
 use borrow.Author.Tests.{ltb-true, ltb-false}
 use Rattle.bits.proofs.Bools.{decided}
 use Rattle.bits.specs.Count.{bit, count}
-use Rattle.tree.specs.Parts.{picked, gather, before}
-use Rattle.tree.proofs.Counts.{count-less}
+use Rattle.tree_image.specs.Parts.{picked, gather, before}
+use Rattle.tree_image.proofs.Counts.{count-less}
 
 -- ---- what passes a test, in order
 

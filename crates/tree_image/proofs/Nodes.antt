@@ -14,10 +14,10 @@ use borrow.Author.Tests.{lt-ltb, le-ltb, ltb-true, ltb-false}
 use Rattle.bits.proofs.Bools.{decided}
 use Rattle.bits.specs.Bit.{bitAt}
 use Rattle.bits.specs.Count.{bit}
-use Rattle.tree.specs.Parts.{picked, gather, before}
-use Rattle.tree.specs.Image.{Node, node, child, inner, setBit, word, kids, hopsOf, level, upTo, nodes, wordsFrom}
+use Rattle.tree_image.specs.Parts.{picked, gather, before}
+use Rattle.tree_image.specs.Image.{Node, node, child, inner, setBit, word, kids, hopsOf, level, upTo, nodes, wordsFrom}
 use Rattle.bits.proofs.Packed.{packed-bit}
-use Rattle.tree.proofs.Parts.{picked-none, gather-append, before-take, before-mono}
+use Rattle.tree_image.proofs.Parts.{picked-none, gather-append, before-take, before-mono}
 
 -- each node has the depth m
 unfoldable pub Deep : ℕ → List Node → Type 0

@@ -7,7 +7,7 @@ use lib.Dec.{eqb}
 use Rattle.routes.specs.Said.{Said, refused, hopAfter, noRouteAfter}
 use Rattle.routes.specs.declared.Route.{Route}
 use Rattle.standing.specs.Cells.{best}
-use Rattle.tree.specs.Image.{onPath}
+use Rattle.tree_image.specs.Image.{onPath}
 
 -- the count of a lookup that has read n nodes and answers the hop h, 0 for no route
 abbrev pub counted : ℕ → ℕ → ℕ

@@ -6,12 +6,12 @@ use lib.Dec.{eqb, ltb}
 use lib.ListN.{length, getD}
 use Rattle.routes.specs.Said.{Said, refused, hopAfter, noRouteAfter}
 use Rattle.routes.specs.Input.{hopFine}
-use Rattle.tree.specs.Node.{bitsOf, childOf, baseOf, isSet, sound, nibbleOf, deepestOf, betterOf, tryBit, childAt}
-use Rattle.tree.specs.Reads.{counted}
-use Rattle.tree.specs.declared.Place.{Place}
-use Rattle.tree.specs.declared.Place.the-variants.{Nowhere, At}
-use Rattle.tree.specs.declared.TreeFound.{TreeFound}
-use Rattle.tree.specs.declared.TreeFound.the-variants.{Hop, NoRoute, Broken}
+use Rattle.tree_image.specs.Node.{bitsOf, childOf, baseOf, isSet, sound, nibbleOf, deepestOf, betterOf, tryBit, childAt}
+use Rattle.tree_image.specs.Reads.{counted}
+use Rattle.tree_image.specs.declared.Place.{Place}
+use Rattle.tree_image.specs.declared.Place.the-variants.{Nowhere, At}
+use Rattle.tree_image.specs.declared.TreeFound.{TreeFound}
+use Rattle.tree_image.specs.declared.TreeFound.the-variants.{Hop, NoRoute, Broken}
 
 -- document 01's number and values for each answer
 unfoldable pub meansTreeFound : TreeFound → Said

@@ -19,17 +19,17 @@ use Rattle.bits.proofs.Searches.{firstOf-is, firstOf-at, firstOf-before}
 use Rattle.bits.proofs.Bools.{below?}
 use Rattle.routes.specs.Route.{Good}
 use Rattle.routes.specs.declared.Route.{Route}
-use Rattle.tree.specs.Node.{bitsOf, childOf, baseOf, childAt}
-use Rattle.tree.specs.Parts.{before}
-use Rattle.tree.specs.Image.{Node, node, inner, hopsOf, level, upTo, nodes, imageBy, imageOf, nodeStands, hopFor, nodeNeed}
-use Rattle.tree.specs.Levels.{LevelOf}
-use Rattle.tree.proofs.Counts.{count-all}
+use Rattle.tree_image.specs.Node.{bitsOf, childOf, baseOf, childAt}
+use Rattle.tree_image.specs.Parts.{before}
+use Rattle.tree_image.specs.Image.{Node, node, inner, hopsOf, level, upTo, nodes, imageBy, imageOf, nodeStands, hopFor, nodeNeed}
+use Rattle.tree_image.specs.Levels.{LevelOf}
+use Rattle.tree_image.proofs.Counts.{count-all}
 use Rattle.bits.proofs.Packed.{rank-count}
-use Rattle.tree.proofs.Nodes.{inner-bit}
-use Rattle.tree.proofs.Holds.{node-words, child-found}
-use Rattle.tree.proofs.Levels.{level-is}
-use Rattle.tree.proofs.Needs.{hops-need}
-use Rattle.tree.proofs.Serves.{agree}
+use Rattle.tree_image.proofs.Nodes.{inner-bit}
+use Rattle.tree_image.proofs.Holds.{node-words, child-found}
+use Rattle.tree_image.proofs.Levels.{level-is}
+use Rattle.tree_image.proofs.Needs.{hops-need}
+use Rattle.tree_image.proofs.Serves.{agree}
 
 -- a search that some number passes ends at one that passes, no later
 pub first-found : (f : ℕ → Bool) (n i : ℕ) → i < n → f i ≡ true → (firstOf f n < n) × (f (firstOf f n) ≡ true)

@@ -20,14 +20,14 @@ use Rattle.routes.specs.declared.Route.{Route}
 use Rattle.routes.proofs.Meaning.{hop-true}
 use Rattle.standing.specs.Cells.{covers, best}
 use Rattle.standing.proofs.Only.{none-covers, covers-none}
-use Rattle.tree.specs.Node.{bitsOf, childOf, isSet, sound, nibbleOf, childAt}
-use Rattle.tree.specs.Reads.{treeReads, TreeAnswer, a-hop, no-route, broken}
-use Rattle.tree.specs.Walk.{treeHopSaid, fetchedFrom, lastMatch, innerMatch, walkFrom, treeSaid}
-use Rattle.tree.specs.Image.{nodeStands, onPath, through}
-use Rattle.tree.specs.declared.Place.{Place}
-use Rattle.tree.specs.declared.Place.the-variants.{Nowhere, At}
-use Rattle.tree.proofs.Counts.{count-all}
-use Rattle.tree.proofs.Lies.{any-mem, pass-make}
+use Rattle.tree_image.specs.Node.{bitsOf, childOf, isSet, sound, nibbleOf, childAt}
+use Rattle.tree_image.specs.Reads.{treeReads, TreeAnswer, a-hop, no-route, broken}
+use Rattle.tree_image.specs.Walk.{treeHopSaid, fetchedFrom, lastMatch, innerMatch, walkFrom, treeSaid}
+use Rattle.tree_image.specs.Image.{nodeStands, onPath, through}
+use Rattle.tree_image.specs.declared.Place.{Place}
+use Rattle.tree_image.specs.declared.Place.the-variants.{Nowhere, At}
+use Rattle.tree_image.proofs.Counts.{count-all}
+use Rattle.tree_image.proofs.Lies.{any-mem, pass-make}
 
 -- ---- every image
 

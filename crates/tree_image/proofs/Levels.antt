@@ -11,16 +11,16 @@ use lib.ListN.{length, getD}
 use borrow.Author.Tests.{ltb-true, ltb-false}
 use Rattle.bits.specs.Count.{count}
 use Rattle.bits.proofs.Bools.{decided}
-use Rattle.tree.specs.Parts.{gather, before}
+use Rattle.tree_image.specs.Parts.{gather, before}
 use Rattle.routes.specs.Route.{Good}
 use Rattle.routes.specs.declared.Route.{Route}
 use Rattle.routes.proofs.Goods.{good-fine}
-use Rattle.tree.specs.Levels.{LevelOf}
-use Rattle.tree.specs.Image.{Node, node, child, kids, level, through, nodeStands}
-use Rattle.tree.proofs.Counts.{count-less, count-hit, count-order}
-use Rattle.tree.proofs.Parts.{picked-length, picked-at, gather-at, gather-split, before-next, before-mono}
-use Rattle.tree.proofs.Nodes.{level-deep, deep-at}
-use Rattle.tree.proofs.Lies.{any-is, any-mem, pass-parts, up-pass}
+use Rattle.tree_image.specs.Levels.{LevelOf}
+use Rattle.tree_image.specs.Image.{Node, node, child, kids, level, through, nodeStands}
+use Rattle.tree_image.proofs.Counts.{count-less, count-hit, count-order}
+use Rattle.tree_image.proofs.Parts.{picked-length, picked-at, gather-at, gather-split, before-next, before-mono}
+use Rattle.tree_image.proofs.Nodes.{level-deep, deep-at}
+use Rattle.tree_image.proofs.Lies.{any-is, any-mem, pass-parts, up-pass}
 
 module _ (st : ℕ → ℕ → Bool) where
   abbrev on : ℕ → ℕ → Node

@@ -15,13 +15,13 @@ use Rattle.routes.specs.Route.{Good}
 use Rattle.standing.specs.Cells.{here, any, first, orElse}
 use Rattle.routes.specs.declared.Route.{Route}
 use Rattle.routes.proofs.Goods.{good-fine}
-use Rattle.tree.specs.Parts.{picked, gather}
-use Rattle.tree.specs.Image.{Node, node, innerLen, bitHop, inner, child, kids, hopsOf, level, upTo, hops, through, nodeStands, hopFor, nodeNeed}
-use Rattle.tree.proofs.Counts.{count-none, count-one}
-use Rattle.tree.proofs.Parts.{picked-length, gather-append}
-use Rattle.tree.proofs.Levels.{level-is}
+use Rattle.tree_image.specs.Parts.{picked, gather}
+use Rattle.tree_image.specs.Image.{Node, node, innerLen, bitHop, inner, child, kids, hopsOf, level, upTo, hops, through, nodeStands, hopFor, nodeNeed}
+use Rattle.tree_image.proofs.Counts.{count-none, count-one}
+use Rattle.tree_image.proofs.Parts.{picked-length, gather-append}
+use Rattle.tree_image.proofs.Levels.{level-is}
 use Rattle.standing.proofs.Prefixes.{one-key}
-use Rattle.tree.proofs.Lies.{any-mem, pass-parts, pass-make, up-pass, kidOf, kid-at, kid-is, atBit, bitOf, bit-at, bit-pass, bit-is}
+use Rattle.tree_image.proofs.Lies.{any-mem, pass-parts, pass-make, up-pass, kidOf, kid-at, kid-is, atBit, bitOf, bit-at, bit-pass, bit-is}
 
 -- g 0 + .. + g (n - 1), and F of each element of a list added up
 unfoldable sums : (ℕ → ℕ) → ℕ → ℕ

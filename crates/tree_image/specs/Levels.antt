@@ -5,7 +5,7 @@ use mathlib.Core.Path.{_≡_}
 use Prim.Native.Nat.{ℕ, _<_}
 use lib.ListN.{length, getD}
 use Rattle.routes.specs.declared.Route.{Route}
-use Rattle.tree.specs.Image.{Node, node, nodeStands}
+use Rattle.tree_image.specs.Image.{Node, node, nodeStands}
 
 -- of depth m: the root alone, or the different values of the first 4 * m bits of the routes
 -- that have as many, ascending

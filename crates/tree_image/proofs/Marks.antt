@@ -9,7 +9,7 @@ use Rattle.routes.specs.Route.{plain}
 use Rattle.routes.specs.declared.Route.{Route}
 use Rattle.standing.specs.Cells.{here, orElse}
 use Rattle.standing.proofs.Marks.{any-plain, first-plain}
-use Rattle.tree.specs.Image.{Node, nodes, imageBy, through, nodeStands, hopFor, imageOf, nodeNeed}
+use Rattle.tree_image.specs.Image.{Node, nodes, imageBy, through, nodeStands, hopFor, imageOf, nodeNeed}
 
 module _ (rs : List Route) where
   pub stands-plain : nodeStands (map plain rs) ≡ nodeStands rs
