@@ -44,7 +44,8 @@ use Rattle.packing.specs.Unpack.{
   countOf,
   Cells16,
 }
-use Rattle.cards.specs.Cards.{cardOf, imageCardOf, tallyCard}
+use Rattle.cards.specs.Cards.{cardOf, imageCardOf}
+use Rattle.packing.specs.Tallies.{tallyCard}
 use Rattle.sail_words.specs.Lookups.{wordsCard, lowFound, manyCard}
 use Rattle.packing.proofs.Unpacks.{
   found-read,

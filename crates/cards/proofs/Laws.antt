@@ -23,7 +23,8 @@ use Rattle.tree_build.specs.Built as tree
 use Rattle.sail.specs.Word.{packFound}
 use Rattle.packing.specs.Pack.{packChange, packBuilt, packNone}
 use Rattle.cards.proofs.Narrow.{announced-narrow, withdrawn-narrow}
-use Rattle.cards.specs.Cards.{card, cardOf, imageCard, imageCardOf, tallyCard}
+use Rattle.cards.specs.Cards.{card, cardOf, imageCard, imageCardOf}
+use Rattle.packing.specs.Tallies.{tallyCard}
 use Rattle.sail_words.specs.Lookups.{wordsCard, tableOf, manyCard}
 
 pub card-is : (s : Said) (t : Table) (l : Lent) (o : Out) (r : ℕ) → out s t l ≡ o → r ≡ packChange (t .count) s → card r l ≡ cardOf o
@@ -50,28 +51,3 @@ module _ (p1 p2 n : ℕ) (e1 : p1 ≡ standardGeo .p1) (e2 : p2 ≡ standardGeo 
 
   pub look-standard : (l : Lent) (a r : ℕ) → r ≡ packFound (lookupSaid standard l a) → r ≡ packFound (lookupSaid (tableOf p1 p2 n) l a)
   look-standard l a r q = rw (e1, e2) q
-
--- the tally
-module _ (s xs : List ℕ) where
-  pub tally-short : (length xs ≡ 33 → ⊥) → wordsCard 2 xs ≡ tallyCard s xs
-  unfolding tallyCard
-  tally-short n = rw (ne-eqb (length xs) 33 n)
-
-  pub tally-all : length xs ≡ 33 → (t : Tallied) → IsTally s t → (ys : List ℕ) → length ys ≡ 33 → length (t .counts) ≡ 33
-      → ((k : ℕ) → k < 33 → getD ys k 0 ≡ getD (t .counts) k 0) → (r : ℕ) → r ≡ packNone (meansInput (t .answer)) → wordsCard r ys ≡ tallyCard s xs
-  unfolding tallyCard
-  tally-all n t is ys m c h r q =
-      rw (eq-eqb (length xs) 33 n)
-      (ap (λ (x : ℕ). wordsCard x ys) (q ∙ ap packNone (is .answered))
-      ∙ ap (wordsCard (packNone (inputSaid s))) (ext-getD 0 ys (t .counts) (m ∙ sym c) (λ k b. h k (omega arith)) ∙ is .counted))
-
--- there are 33 counts, also where the input is refused
-cond-length : (b : Bool) (xs ys : List ℕ) (n : ℕ) → length xs ≡ n → length ys ≡ n → length (cond b xs ys) ≡ n
-cond-length true xs ys n p q = p
-cond-length false xs ys n p q = q
-
-pub tally-length : (s : List ℕ) → length (tallyOf s) ≡ 33
-unfolding tallyOf lengthsOf
-tally-length s =
-    cond-length (accepts (inputSaid s)) (lengthsOf s (length s / 8)) (replicate 33 0) 33
-    (length-tabulate 33 (λ (l : ℕ). count (hasLength s l) (length s / 8))) refl

@@ -50,7 +50,8 @@ use Rattle.packing.proofs.Parts.{
   hop-parts,
   none-parts,
 }
-use Rattle.cards.specs.Cards.{cardOf, imageCardOf, tallyCard}
+use Rattle.cards.specs.Cards.{cardOf, imageCardOf}
+use Rattle.packing.specs.Tallies.{tallyCard}
 use Rattle.sail_words.specs.Lookups.{wordsCard, lowFound, manyCard}
 use Rattle.cards.specs.Maps.{mapsCardOf, hopsCard}
 use Rattle.cards.proofs.Fits.{input-fits, run-fits, route-fits, built-fits, tree-fits, lookup-fits, report-fits}

@@ -5,8 +5,8 @@ ghost use Rattle.sail_theory.specs.Calls.{route, made, loaded, announced, withd
 ghost use Rattle.packing.specs.Pack.{packReport};
 ghost use Rattle.cards.specs.Cards.{card, cardOf};
 ghost use Rattle.sail_words.specs.Lookups.{tableOf};
-use crate::scalars::narrow8;
-use crate::scalars::narrow16;
+use bits::narrow::narrow8;
+use bits::narrow::narrow16;
 use sail::geometry::Geometry;
 use sail::table::Table;
 

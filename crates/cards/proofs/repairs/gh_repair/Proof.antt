@@ -1,7 +1,7 @@
 -- `cards::repairs::gh_repair`. The sizes and the words are judged first; then it is what the repair says and leaves.
 use mathlib.Core.Path.{refl, sym, _∙_}
 use borrow.Author.Needs.{needs}
-use Rattle.packing.proofs.Putting.{fault-none}
+use Rattle.packing_repairs.proofs.Putting.{fault-none}
 use Rattle.cards.proofs.Putting.{repair-off, repair-on}
 use Rattle.cards.proofs.repairs.gh_repair.Statement.{statement}
 use Rattle.cards.proofs.repairs.gh_repair.Tie as tie
