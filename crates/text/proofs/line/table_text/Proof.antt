@@ -26,22 +26,19 @@ loop-holds c =
       omega arith,
       omega (arith, head-few (a .n) (a .second) (a .third) (omega arith) (omega arith) (omega arith)),
       refl,
-      lines-none _
-          (after-put-head .put-head .ensures .inside),
+      lines-none _ (after-put-head .put-head .ensures .inside),
     )
 
 loop-again : tie.Need-loop-again Inv-loop μ-loop
 loop-again c =
+    let ok : Ranged (c .before .before .before .read-record .result) = search needs in
     let after-put-route : tie.After-put-route Inv-loop μ-loop = search in
     let after-read-record : tie.After-read-record Inv-loop μ-loop = search in
-    let at-loop : tie.At-loop Inv-loop μ-loop = search in
-    let ok : Ranged (after-read-record .read-record .result) = search needs in (
+    let at-loop : tie.At-loop Inv-loop μ-loop = search in (
       omega arith,
       omega (arith, line-few (after-read-record .read-record .result) ok),
       omega arith,
-      lines-wrote _ _ _
-          (after-read-record .read-record .ensures) (at-loop .loop .inv .3)
-          (after-put-route .put-route .ensures),
+      lines-wrote _ _ _ (after-read-record .read-record .ensures) (at-loop .loop .inv .3) (after-put-route .put-route .ensures),
     )
 
 pub table-text-spec : {M : Type 1} → statement M

@@ -5,6 +5,10 @@ use borrow.Author.Needs.{needs}
 use Rattle.tree_build.proofs.fill.step.Statement.{statement}
 use Rattle.tree_build.proofs.fill.step.Tie as tie
 
+-- Where it starts, seen from the first place that is named below.
+abbrev start-of : tie.After-word-to-index → tie.Start
+start-of c = search
+
 put-node-requires : tie.Need-put-node-requires
 put-node-requires c κs =
     let after-put-kids : tie.After-put-kids = search in
@@ -12,7 +16,7 @@ put-node-requires c κs =
     let after-node-word : tie.After-node-word = search in
     let after-word-to-index2 : tie.After-word-to-index2 = search in
     let after-word-to-index : tie.After-word-to-index = search in
-    let start : tie.Start = search in
+    let start = start-of after-word-to-index in
     node-room _ _ _ _ _ _ (start .pre) _ _ _ refl (after-word-to-index .word-to-index .ensures .0) (after-word-to-index2 .word-to-index2 .ensures .0)
     _ (after-node-word .node-word .ensures) _ (after-put-hops .put-hops .ensures) _ (after-put-kids .put-kids .ensures)
 
@@ -29,7 +33,7 @@ returns c =
     let after-node-word : tie.After-node-word = search in
     let after-word-to-index2 : tie.After-word-to-index2 = search in
     let after-word-to-index : tie.After-word-to-index = search in
-    let start : tie.Start = search in
+    let start = start-of after-word-to-index in
     state-next _ _ _ _ _ _ (start .pre) _ _ _ refl (after-word-to-index .word-to-index .ensures .0) (after-word-to-index2 .word-to-index2 .ensures .0)
     _ (after-node-word .node-word .ensures) _ (after-put-hops .put-hops .ensures) _ (after-put-kids .put-kids .ensures) _ _
     (after-narrow .narrow .ensures) (after-narrow2 .narrow2 .ensures) _ (after-put-node .put-node .ensures) _ _
