@@ -27,8 +27,8 @@ use Rattle.runs.proofs.Tallies.{tally-refused}
 use Rattle.sail.specs.Lent.{Lent}
 use Rattle.sail.specs.Walk.{lookupSaid, meansFound}
 use Rattle.sail.specs.declared.table.Table.{Table}
-use Rattle.sail.specs.declared.lookup.Found.{Found}
-use Rattle.sail.specs.declared.lookup.Found.the-variants as found
+use Rattle.sail.specs.declared.found.Found.{Found}
+use Rattle.sail.specs.declared.found.Found.the-variants as found
 use Rattle.sail.proofs.Injective.{found-injective}
 use Rattle.sail_theory.specs.Calls.{made, cutRoute, cleared, withFlag, announced, withdrawn, loaded, reported}
 use Rattle.sail_theory.specs.Cases.{Make, Announce, Withdraw, Load, Report}

@@ -20,7 +20,7 @@ use Rattle.runs.proofs.OneAnswer as runs
 use Rattle.sail.specs.Lent.{Lent}
 use Rattle.sail.specs.Contract.{MeetsLookup}
 use Rattle.sail.specs.declared.table.Table.{Table}
-use Rattle.sail.specs.declared.lookup.Found.{Found}
+use Rattle.sail.specs.declared.found.Found.{Found}
 use Rattle.sail.proofs.OneAnswer as lookup
 use Rattle.sail_sound.specs.Contract.{MeetsReport}
 use Rattle.sail_sound.specs.declared.report.Reported.{Reported}

@@ -37,7 +37,7 @@ use Rattle.sail.specs.Sound.{Sound, standing, freshTable, freshLent}
 use Rattle.sail.specs.Walk.{lookupSaid, meansFound}
 use Rattle.sail.specs.Contract.{MeetsLookup}
 use Rattle.sail.specs.declared.table.Table.{Table}
-use Rattle.sail.specs.declared.lookup.Found.the-variants as found
+use Rattle.sail.specs.declared.found.Found.the-variants as found
 use Rattle.sail.proofs.Fresh.{fresh-sound}
 use Rattle.sail_theory.specs.Calls.{route, termsOf, withdrawFault, Out, out, made, announced, withdrawn, loaded, reported}
 use Rattle.sail_theory.specs.CallRuns.{Call, announce, withdraw, load, done, after, heldByCalls, routesAfter, Formed, standingAfter, AsFresh}

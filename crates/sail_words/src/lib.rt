@@ -7,9 +7,9 @@ ghost use Rattle.sail.specs.Walk.{lookupSaid};
 ghost use Rattle.sail.specs.Word.{packFound};
 ghost use Rattle.sail_words.specs.Lookups.{tableOf, wordsCard, manyCard};
 use sail::geometry::Geometry;
-use sail::lookup::walk;
 use sail::table::Table;
 use sail::table::sizes;
+use sail_lookup::walk;
 use sail_many::flow::many;
 
 // One lookup.

@@ -1,6 +1,5 @@
 // SAIL tables: list A's table at the standard geometry, written out by hand from document 01, looked up, reported and damaged.
 use sail::geometry::Geometry;
-use sail::lookup;
 use sail::table::Table;
 use sail_sound::report;
 use vectors_shared::list;
@@ -18,7 +17,7 @@ fn judge(
     long1: &[u16],
     long2: &[u16],
 ) {
-    table::found(lookup::lookup(
+    table::found(sail_lookup::lookup(
         t,
         list,
         first,
@@ -45,7 +44,7 @@ fn look(
     long1: &[u16],
     long2: &[u16],
 ) {
-    table::found(lookup::lookup(
+    table::found(sail_lookup::lookup(
         t,
         list,
         first,
@@ -57,7 +56,7 @@ fn look(
         long2,
         0x0A01_02C8,
     ));
-    table::found(lookup::lookup(
+    table::found(sail_lookup::lookup(
         t,
         list,
         first,
@@ -69,7 +68,7 @@ fn look(
         long2,
         0x0A01_0205,
     ));
-    table::found(lookup::lookup(
+    table::found(sail_lookup::lookup(
         t,
         list,
         first,
@@ -81,7 +80,7 @@ fn look(
         long2,
         0x0A01_0301,
     ));
-    table::found(lookup::lookup(
+    table::found(sail_lookup::lookup(
         t,
         list,
         first,
@@ -93,7 +92,7 @@ fn look(
         long2,
         0x0A02_0001,
     ));
-    table::found(lookup::lookup(
+    table::found(sail_lookup::lookup(
         t,
         list,
         first,

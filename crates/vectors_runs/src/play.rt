@@ -4,7 +4,6 @@ use crate::same;
 use crate::steps;
 use crate::steps::Step;
 use sail::geometry::Geometry;
-use sail::lookup;
 use sail::table::Table;
 use sail_sound::report;
 use vectors_shared::print;
@@ -148,7 +147,7 @@ fn read(
 ) {
     match s {
         Step::Lookup(addr) => {
-            table::found(lookup::lookup(
+            table::found(sail_lookup::lookup(
                 t,
                 list,
                 first,

@@ -1,6 +1,6 @@
 // The answers of make, load, lookup and report, as words.
 use crate::print;
-use sail::lookup::Found;
+use sail::found::Found;
 use sail_load::load::Loaded;
 use sail_make::Made;
 use sail_sound::report::Reported;

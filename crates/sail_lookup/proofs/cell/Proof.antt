@@ -1,11 +1,11 @@
--- `sail::lookup::cell`: the place lies in the pool, since the chunk is one of the pool's.
+-- `sail_lookup::cell`: the place lies in the pool, since the chunk is one of the pool's.
 use mathlib.Core.Path.{ap}
 use native.Mathlib.Omega.{arith}
 use Prim.Native.Nat.{ℕ}
 use lib.ListN.{getD}
 use Rattle.sail.proofs.Steps.{chunk-numbered, place-in}
-use Rattle.sail.proofs.lookup.cell.Statement.{statement}
-use Rattle.sail.proofs.lookup.cell.Tie as tie
+use Rattle.sail_lookup.proofs.cell.Statement.{statement}
+use Rattle.sail_lookup.proofs.cell.Tie as tie
 
 pub cell-spec : {M : Type 1} → statement M
 cell-spec =

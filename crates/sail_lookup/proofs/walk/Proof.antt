@@ -1,9 +1,9 @@
--- `sail::lookup::walk`: a law for each cell that it may end at.
+-- `sail_lookup::walk`: a law for each cell that it may end at.
 use borrow.Author.Needs.{needs}
 use native.Mathlib.Omega.{arith}
 use Rattle.sail.proofs.Steps.{first-in, chunk-named, leaf1, off1, leaf2, off2, leaf3, off3}
-use Rattle.sail.proofs.lookup.walk.Statement.{statement}
-use Rattle.sail.proofs.lookup.walk.Tie as tie
+use Rattle.sail_lookup.proofs.walk.Statement.{statement}
+use Rattle.sail_lookup.proofs.walk.Tie as tie
 
 pub walk-spec : {M : Type 1} → statement M
 walk-spec =

@@ -2,22 +2,17 @@
 ghost use mathlib.Core.Path.{_≡_};
 ghost use Prim.Native.Nat.{_≤_};
 ghost use lib.ListN.{length, getD};
 ghost use Rattle.sail.specs.Lent.{lent};
 ghost use Rattle.sail.specs.Sizes.{Sized};
 ghost use Rattle.sail.specs.Pool.{Chunk};
 ghost use Rattle.sail.specs.Walk.{cellPlace, oneOf, leafSaid, foundSaid, meansFound};
 ghost use Rattle.sail.specs.Contract.{MeetsLookup};
 ghost use Rattle.sail.specs.Word.{Word, saidOf};
-use crate::geometry::Geometry;
-use crate::place::cell_place;
-use crate::table::Table;
-
-// What a lookup finds: a hop or no route, each with the count of cells read; or a refusal's number.
-pub enum Found {
-    Hop(u16, u32),
-    NoRoute(u32),
-    Refused(u8),
-}
+use sail::found::Found;
+use sail::geometry::Geometry;
+use sail::place::cell_place;
+use sail::table::Table;
+use sail::table::sizes;
 
 // What a leaf says that is read as the n-th cell, as a word.
 fn leaf(v: u16, n: u32) -> u32
@@ -111,7 +106,7 @@ pub fn lookup(
 ) -> Found
     ensures { λ r. ⌜ MeetsLookup t (lent (now (list .entry)) (now (first .entry)) (now (second .entry)) (now (third .entry)) (now (own2 .entry)) (now (own3 .entry)) (now (long1 .entry)) (now (long2 .entry))) addr r ⌝ }
 {
-    let s = crate::table::sizes(t, list, first, second, third, own2, own3, long1, long2);
+    let s = sizes(t, list, first, second, third, own2, own3, long1, long2);
     if s == 0 {
         return said(walk(
             t.geometry,

@@ -1,8 +1,8 @@
--- `sail::lookup::leaf`. What a leaf says that is read as the n-th cell, as a word.
+-- `sail_lookup::leaf`. What a leaf says that is read as the n-th cell, as a word.
 use borrow.Author.Needs.{needs}
 use Rattle.sail.proofs.Words.{word-leaf}
-use Rattle.sail.proofs.lookup.leaf.Statement.{statement}
-use Rattle.sail.proofs.lookup.leaf.Tie as tie
+use Rattle.sail_lookup.proofs.leaf.Statement.{statement}
+use Rattle.sail_lookup.proofs.leaf.Tie as tie
 
 pub leaf-spec : {M : Type 1} → statement M
 leaf-spec =
