@@ -5,13 +5,17 @@ use Rattle.sail_load.proofs.Loads.{says-sizes, says-bad, says-many, wei
 use Rattle.sail_load.proofs.load.judge.Statement.{statement}
 use Rattle.sail_load.proofs.load.judge.Tie as tie
 
+-- Where it starts, seen from the first place that is named after it.
+abbrev start-of : tie.After-sizes → tie.Start
+start-of c = search
+
 weigh-requires : tie.Need-weigh-requires
 weigh-requires c κs =
     let after-n : tie.After-n = search in
     let after-check-input : tie.After-check-input = search in
     let else1 : tie.Else1 = search in
     let after-sizes : tie.After-sizes = search in
-    let start : tie.Start = search in
+    let start = start-of after-sizes in
     weighs (start .args .t) _ _ _ (after-sizes .sizes .ensures) (else1 .if1 .left) _
     (told-good _ _ (after-check-input .check-input .ensures) _ (after-n .n .given .1))
 

@@ -6,11 +6,14 @@ use Rattle.sail_load.proofs.Renews.{fits-list, ownable, bare, pending, 
 use Rattle.sail_load.proofs.renew.write_table.Statement.{statement}
 use Rattle.sail_load.proofs.renew.write_table.Tie as tie
 
--- Places, each seen from the next one: where it starts; after the list is put; after the second pool, the third, the counts of both levels, the
+-- Places, each seen from the next one: where it starts; where the input is known; after the list is put; after the second pool, the third, the counts of both levels, the
 -- owners of the second and those of the third are emptied; after the owners are filled; after the cells are painted; and after the routes are
 -- counted, seen from the end.
 abbrev start : tie.After-put8 → tie.Start
 start c = search
+
+abbrev given : tie.After-put8 → tie.After-shared-slice-known
+given c = search
 
 abbrev listed : tie.After-fill16 → tie.After-put8
 listed c = search
@@ -78,7 +81,7 @@ count-all-requires c κs =
     let second = second-empty third in
     let list = listed second in
     let s = start list in
-    let input : tie.After-shared-slice-known = search in
+    let input = given list in
     uncounted _ _ _ (s .pre) _ _ (o2 .zero32 .ensures) (o3 .zero322 .ensures) _ _ _ _ (second .fill16 .ensures) (third .fill162 .ensures)
     (o .open-all .ensures)
     (λ j. omega (arith, input .shared-slice-known .given j)) _ _ _ _ (list .put8 .ensures) (after-repaint-from-list .repaint-from-list .ensures)
@@ -134,7 +137,7 @@ returns c =
     let second = second-empty third in
     let list = listed second in
     let s = start list in
-    let input : tie.After-shared-slice-known = search in
+    let input = given list in
     renews _ _ _ (s .pre) _ _ (o2 .zero32 .ensures) (o3 .zero322 .ensures) _ _ _ _ (second .fill16 .ensures) (third .fill162 .ensures)
     (o .open-all .ensures)
     (λ j. omega (arith, input .shared-slice-known .given j)) _ _ _ _ (list .put8 .ensures) (p .repaint-from-list .ensures)

@@ -138,11 +138,11 @@ loop-again c =
     let after-children : tie.After-children Inv-loop μ-loop = search in
     let entered : tie.In-loop Inv-loop μ-loop = search in
     let at-loop : tie.At-loop Inv-loop μ-loop = search in
-    let start : tie.After-shared-slice-known Inv-loop μ-loop = search in
+    let known : tie.After-shared-slice-known Inv-loop μ-loop = search in
     let start : tie.Start Inv-loop μ-loop = search in
     let inv = at-loop .loop .inv in (
       omega (arith, inv .0, entered .loop-test .taken),
-      faults-next _ (λ j. start .shared-slice-known .given j .fits) _ (omega (arith, inv .0, entered .loop-test .taken, start .pre .few)) _ _ _ _ _ _ _
+      faults-next _ (λ j. known .shared-slice-known .given j .fits) _ (omega (arith, inv .0, entered .loop-test .taken, start .pre .few)) _ _ _ _ _ _ _
           (record {
             kids = after-children .children .ensures .0;
             own = after-ones-below .ones-below .ensures .0;
