@@ -26,14 +26,14 @@ narrow-requires-2 c κs = search needs
 put-node-requires : tie.Need-put-node-requires
 put-node-requires c κs = search needs
 
-mul-open-words : tie.Need-mul-open-words
-mul-open-words c = search needs
+mul-up32 : tie.Need-mul-up32
+mul-up32 c = search needs
 
-mul-open-words-2 : tie.Need-mul-open-words-2
-mul-open-words-2 c = search needs
+mul-up32-2 : tie.Need-mul-up32-2
+mul-up32-2 c = search needs
 
-open-words-requires : tie.Need-open-words-requires
-open-words-requires c κs =
+up32-requires : tie.Need-up32-requires
+up32-requires c κs =
     let put = c .before .before .before in
     let at = put .before .before .before .before in
     graft-open (at .before .before .before .before .pre) _ _ _ (at .child-place .ensures .0) _
@@ -51,7 +51,7 @@ raise-requires c κs =
     let put = opened .before .before .before .before in
     let at = put .before .before .before .before in
     graft-raise (at .before .before .before .before .pre) _ _ _ (at .child-place .ensures .0) _
-    (put .before .before .narrow .ensures) (put .before .narrow2 .ensures) (put .put-node .ensures) _ (opened .open-words .ensures)
+    (put .before .before .narrow .ensures) (put .before .narrow2 .ensures) (put .put-node .ensures) _ (opened .up32 .ensures)
 
 mul-words : tie.Need-mul-words
 mul-words c = search needs
@@ -66,7 +66,7 @@ slice-write-words c =
     let put = opened .before .before .before .before in
     let at = put .before .before .before .before in
     graft-stores (at .before .before .before .before .pre) _ _ _ (at .child-place .ensures .0) _
-    (put .before .before .narrow .ensures) (put .before .narrow2 .ensures) (put .put-node .ensures) _ (opened .open-words .ensures)
+    (put .before .before .narrow .ensures) (put .before .narrow2 .ensures) (put .put-node .ensures) _ (opened .up32 .ensures)
     _ (raised .raise .ensures) .0
 
 add-with-bit : tie.Need-add-with-bit
@@ -89,7 +89,7 @@ slice-write-words-2 c =
     let at = put .before .before .before .before in
     simp length-set
     (graft-stores (at .before .before .before .before .pre) _ _ _ (at .child-place .ensures .0) _
-    (put .before .before .narrow .ensures) (put .before .narrow2 .ensures) (put .put-node .ensures) _ (opened .open-words .ensures)
+    (put .before .before .narrow .ensures) (put .before .narrow2 .ensures) (put .put-node .ensures) _ (opened .up32 .ensures)
     _ (raised .raise .ensures) .1)
 
 same-length : tie.Need-same-length
@@ -100,7 +100,7 @@ same-length c =
     let at = put .before .before .before .before in
     simp length-set
     (graft-size (at .before .before .before .before .pre) _ _ _ (at .child-place .ensures .0) _
-    (put .before .before .narrow .ensures) (put .before .narrow2 .ensures) (put .put-node .ensures) _ (opened .open-words .ensures)
+    (put .before .before .narrow .ensures) (put .before .narrow2 .ensures) (put .put-node .ensures) _ (opened .up32 .ensures)
     _ (raised .raise .ensures))
 
 returns : tie.Need-returns
@@ -110,7 +110,7 @@ returns c =
     let put = opened .before .before .before .before in
     let at = put .before .before .before .before in
     graft-leaves (at .before .before .before .before .pre) _ _ _ (at .child-place .ensures .0) _
-    (put .before .before .narrow .ensures) (put .before .narrow2 .ensures) (put .put-node .ensures) _ (opened .open-words .ensures)
+    (put .before .before .narrow .ensures) (put .before .narrow2 .ensures) (put .put-node .ensures) _ (opened .up32 .ensures)
     _ (raised .raise .ensures) _ (c .with-bit .ensures)
 
 pub graft-spec : {M : Type 1} → statement M
@@ -124,9 +124,9 @@ graft-spec =
     narrow-requires
     narrow-requires-2
     put-node-requires
-    mul-open-words
-    mul-open-words-2
-    open-words-requires
+    mul-up32
+    mul-up32-2
+    up32-requires
     add-raise
     add-raise-2
     raise-requires

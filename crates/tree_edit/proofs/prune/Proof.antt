@@ -44,14 +44,14 @@ lower-requires c κs =
     prune-lower (at .before .before .before .before .pre) _ _ (at .child-place .ensures .0)
     (cleared .without-bit .ensures .0) (cleared .without-bit .ensures .1) (cleared .without-bit .ensures .2)
 
-mul-close-words : tie.Need-mul-close-words
-mul-close-words c = search needs
+mul-down32 : tie.Need-mul-down32
+mul-down32 c = search needs
 
-mul-close-words-2 : tie.Need-mul-close-words-2
-mul-close-words-2 c = search needs
+mul-down32-2 : tie.Need-mul-down32-2
+mul-down32-2 c = search needs
 
-close-words-requires : tie.Need-close-words-requires
-close-words-requires c κs =
+down32-requires : tie.Need-down32-requires
+down32-requires c κs =
     let lowered = c .before .before .before in
     let cleared = lowered .before .before in
     let at = cleared .before in
@@ -66,7 +66,7 @@ put-node-requires c κs =
     let at = cleared .before in
     prune-put (at .before .before .before .before .pre) _ _ (at .child-place .ensures .0)
     (cleared .without-bit .ensures .0) (cleared .without-bit .ensures .1) (cleared .without-bit .ensures .2)
-    _ (lowered .lower .ensures) _ (closed .close-words .ensures)
+    _ (lowered .lower .ensures) _ (closed .down32 .ensures)
 
 same-length : tie.Need-same-length
 same-length c =
@@ -77,7 +77,7 @@ same-length c =
     let at = cleared .before in
     prune-size (at .before .before .before .before .pre) _ _ (at .child-place .ensures .0)
     (cleared .without-bit .ensures .0) (cleared .without-bit .ensures .1) (cleared .without-bit .ensures .2)
-    _ (lowered .lower .ensures) _ (closed .close-words .ensures) _ (blank .put-node .ensures)
+    _ (lowered .lower .ensures) _ (closed .down32 .ensures) _ (blank .put-node .ensures)
 
 returns : tie.Need-returns
 returns c =
@@ -88,7 +88,7 @@ returns c =
     let at = cleared .before in
     prune-leaves (at .before .before .before .before .pre) _ _ (at .child-place .ensures .0)
     (cleared .without-bit .ensures .0) (cleared .without-bit .ensures .1) (cleared .without-bit .ensures .2)
-    _ (lowered .lower .ensures) _ (closed .close-words .ensures) _ (blank .put-node .ensures)
+    _ (lowered .lower .ensures) _ (closed .down32 .ensures) _ (blank .put-node .ensures)
 
 pub prune-spec : {M : Type 1} → statement M
 prune-spec =
@@ -106,9 +106,9 @@ prune-spec =
     add-lower
     add-lower-2
     lower-requires
-    mul-close-words
-    mul-close-words-2
-    close-words-requires
+    mul-down32
+    mul-down32-2
+    down32-requires
     put-node-requires
     same-length
     returns)

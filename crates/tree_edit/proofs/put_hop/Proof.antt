@@ -16,8 +16,8 @@ slice-read-word c = search needs
 hop-place-requires : tie.Need-hop-place-requires
 hop-place-requires c κs = search needs
 
-open-hops-requires : tie.Need-open-hops-requires
-open-hops-requires c κs =
+up16-requires : tie.Need-up16-requires
+up16-requires c κs =
     let at = c .before in
     put-open (at .before .before .before .before .before .pre) _ (at .hop-place .ensures .0)
 
@@ -28,7 +28,7 @@ slice-write-hops : tie.Need-slice-write-hops
 slice-write-hops c =
     let opened = c .before .before in
     let at = opened .before .before in
-    put-store (at .before .before .before .before .before .pre) _ (at .hop-place .ensures .0) _ (opened .open-hops .ensures)
+    put-store (at .before .before .before .before .before .pre) _ (at .hop-place .ensures .0) _ (opened .up16 .ensures)
 
 add-raise : tie.Need-add-raise
 add-raise c = search needs
@@ -61,7 +61,7 @@ returns c =
     let raised = c .before .before .before in
     let opened = raised .before .before .before .before in
     let at = opened .before .before in
-    put-leaves (at .before .before .before .before .before .pre) _ (at .hop-place .ensures .0) _ (opened .open-hops .ensures)
+    put-leaves (at .before .before .before .before .before .pre) _ (at .hop-place .ensures .0) _ (opened .up16 .ensures)
     _ (raised .raise .ensures) _ _ (c .with-bit .ensures)
 
 pub put-hop-spec : {M : Type 1} → statement M
@@ -72,7 +72,7 @@ put-hop-spec =
     mul-word-2
     slice-read-word
     hop-place-requires
-    open-hops-requires
+    up16-requires
     mul-hops
     slice-write-hops
     add-raise

@@ -38,8 +38,8 @@ lower-requires c κs =
     take-lower (at .before .before .before .before .before .pre) _ _ (at .hop-place .ensures .0)
     (cleared .without-bit .ensures .0) (cleared .without-bit .ensures .1) (cleared .without-bit .ensures .2)
 
-close-hops-requires : tie.Need-close-hops-requires
-close-hops-requires c κs =
+down16-requires : tie.Need-down16-requires
+down16-requires c κs =
     let cleared = c .before .before .before .before .before in
     let at = cleared .before in
     take-close (at .before .before .before .before .before .pre) _ _ (at .hop-place .ensures .0)
@@ -59,7 +59,7 @@ same-length c =
     let at = cleared .before in
     take-size (at .before .before .before .before .before .pre) _ _ (at .hop-place .ensures .0)
     (cleared .without-bit .ensures .0) (cleared .without-bit .ensures .1) (cleared .without-bit .ensures .2)
-    _ _ (lowered .lower .ensures) (closed .close-hops .ensures)
+    _ _ (lowered .lower .ensures) (closed .down16 .ensures)
 
 same-length-2 : tie.Need-same-length-2
 same-length-2 c = search needs
@@ -72,7 +72,7 @@ returns c =
     let at = cleared .before in
     take-leaves (at .before .before .before .before .before .pre) _ _ (at .hop-place .ensures .0)
     (cleared .without-bit .ensures .0) (cleared .without-bit .ensures .1) (cleared .without-bit .ensures .2)
-    _ _ (lowered .lower .ensures) (closed .close-hops .ensures)
+    _ _ (lowered .lower .ensures) (closed .down16 .ensures)
 
 pub take-hop-spec : {M : Type 1} → statement M
 take-hop-spec =
@@ -88,7 +88,7 @@ take-hop-spec =
     slice-write-words
     add-lower
     lower-requires
-    close-hops-requires
+    down16-requires
     mul-hops
     slice-write-hops
     same-length
