@@ -91,7 +91,8 @@ module _ (s : List ℕ) (n : ℕ) where
   none : (q : ℕ) → n ≤ q → getD (routesOf s n) q noRoute ≡ noRoute
   none q u = List·getD-eq-default (routesOf s n) noRoute (rw length-routes u)
 
-pub inserted-at : (s : List ℕ) (n k : ℕ) (r : Route) → ((j : ℕ) → getD s j 0 < 256) → InsertAt s n k r → putAt (movedUp s (k * 8) (n * 8) 8) k r ≡ inserted s n r
+pub inserted-at : (s : List ℕ) (n k : ℕ) (r : Route) → ((j : ℕ) → getD s j 0 < 256) → InsertAt s n k r
+    → putAt (movedUp s (k * 8) (n * 8) 8) k r ≡ inserted s n r
 inserted-at s n k r bytes ok =
     is-written (insert r rs) (length s / 8) (omega (arith, insert-length r rs, length-routes s n, ok .room)) (putAt moved k r)
     (length-put moved k r room ∙ length-drawn s _ _ _ ∙ omega (arith, ok .listed .whole))
