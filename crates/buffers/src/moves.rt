@@ -1,4 +1,5 @@
-// Numbers moved by some places within their array, up or down, over those that stand there.
+// Numbers moved by some places within their array, up or down, over those that stand there. Callers give the step as a constant, so that the
+// compiler puts it in.
 ghost use mathlib.Core.Path.{_≡_};
 ghost use lib.ListN.{length};
 ghost use Rattle.buffers.specs.Moves.{movedUp, movedDown, Movable};

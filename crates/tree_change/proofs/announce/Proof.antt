@@ -40,7 +40,8 @@ put c =
     let whole : tie.Else3 = search in
     let fit : tie.Else2 = search in
     let passed : tie.Else1 = search in
-    announced-formed _ _ (prefix passed) _ (whole .before .check .ensures) (hop fit) (whole .if3 .left) (done .before .byte-to-word .ensures .0) (done .put .ensures)
+    announced-formed _ _ (prefix passed) _ (whole .before .check .ensures) (hop fit) (whole .if3 .left) (done .before .byte-to-word .ensures .0)
+    (done .put .ensures)
 
 pub announce-spec : {M : Type 1} → statement M
 announce-spec =

@@ -82,13 +82,10 @@ children-ok-nodes-ok-requires t c κs =
     (omega (arith, start .pre .0), (part-stretch _ _ _ _ _ (few .0) (start .pre .1), few .1 (omega (arith, c .before .if1 .left))))
 
 children-ok-add-children-ok : (t : ℕ) → children-ok-lts.Need-add-children-ok (children-ok-calls t) (children-ok-at t) children-ok.Post
-children-ok-add-children-ok t c = omega (
-  arith,
-  c .before .before .stretch .ensures .0,
-  c .before .before .before .before .before .pre .1 .inside,
-  c
-      .before .before .before .before .before .pre .1 .few,
-)
+children-ok-add-children-ok t c =
+    let cut = c .before .before in
+    let start = cut .before .before .before in
+    omega (arith, cut .stretch .ensures .0, start .pre .1 .inside, start .pre .1 .few)
 
 children-ok-sub-children-ok : (t : ℕ) → children-ok-lts.Need-sub-children-ok (children-ok-calls t) (children-ok-at t) children-ok.Post
 children-ok-sub-children-ok t c = omega (arith, c .before .before .stretch .ensures .0)
