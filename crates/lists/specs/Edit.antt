@@ -1,11 +1,9 @@
--- A list of records that is changed in place: how its bytes move, what a change asks, and what the list then holds.
+-- A list of records that is changed in place: what a change asks, and what the list then holds.
 use Prim.Native.Nat.{ℕ, _+_, _-_, _*_, _/_, _≤_, _<_}
-use mathlib.Core.Bool.{Bool, true, false, cond, _&&_}
+use mathlib.Core.Bool.{Bool, true, false, cond}
 use mathlib.Core.List.{List}
 use mathlib.Core.Path.{_≡_}
-use lib.Dec.{leb, ltb}
-use lib.ListN.{length, getD}
-use Rattle.bits.specs.Tab.{tabulate}
+use lib.ListN.{length}
 use Rattle.routes.specs.Route.{key, Fine}
 use Rattle.standing.specs.Standing.{stands, insert, remove}
 use Rattle.routes.specs.Record.{recordAt, routesOf, written, Records, Listed}
@@ -13,18 +11,6 @@ use Rattle.routes.specs.declared.Route.{Route}
 use Rattle.lists.specs.Place.{placeOf}
 use Rattle.lists.specs.declared.edit.Put.{Put}
 use Rattle.lists.specs.declared.edit.Put.the-variants as put
-
--- s, where each byte from a on and before e is drawn from another place of s
-unfoldable pub drawn : List ℕ → ℕ → ℕ → (ℕ → ℕ) → List ℕ
-drawn s a e from = tabulate (length s) (λ j. cond (leb a j && ltb j e) (getD s (from j) 0) (getD s j 0))
-
--- the bytes from a on and before e, moved up by one record
-abbrev pub movedUp : List ℕ → ℕ → ℕ → List ℕ
-movedUp s a e = drawn s (a + 8) (e + 8) (λ j. j - 8)
-
--- the bytes from a on and before e become those one record further on
-abbrev pub movedDown : List ℕ → ℕ → ℕ → List ℕ
-movedDown s a e = drawn s a e (λ j. j + 8)
 
 -- the bytes of a list that holds n routes, with r put in, or without the route of a prefix: the array stays as long
 abbrev pub inserted : List ℕ → ℕ → Route → List ℕ

@@ -1,46 +1,21 @@
 // A record put into an ascending list, or taken out of one, in the caller's array. The records after it move by one place.
 use crate::place;
+use buffers::moves;
 use routes::Route;
 use routes::record;
 ghost use mathlib.Core.Path.{_≡_};
-ghost use Prim.Native.Nat.{_+_, _≤_};
-ghost use lib.ListN.{length};
 ghost use Rattle.routes.specs.Route.{key, keyOf};
 ghost use Rattle.routes.specs.Record.{recordAt, routesOf, Listed};
 ghost use Rattle.standing.specs.Standing.{stands};
-ghost use Rattle.lists.specs.Edit.{movedUp, movedDown, inserted, removed, InsertAt, ReplaceAt, RemoveAt, Placed, Insertable};
+ghost use Rattle.lists.specs.Edit.{inserted, removed, InsertAt, ReplaceAt, RemoveAt, Placed, Insertable};
 ghost use Rattle.lists.specs.Edit.{edited, inserting, removing, meansPut};
-
-// The bytes from `a` on and before `e` move up by one record. The last goes first, so that none is lost.
-fn move_up(list: &mut [u8], a: usize, e: usize)
-    requires { ⌜ (a ≤ e) × (e + 8 ≤ length (now list)) ⌝ }
-    ensures { λ _. ⌜ now (list .exit) ≡ movedUp (now (list .entry)) a e ⌝ }
-{
-    let mut at = e;
-    while a < at {
-        at -= 1;
-        list[at + 8] = list[at];
-    }
-}
-
-// The bytes from `a` on and before `e` become those one record further on.
-fn move_down(list: &mut [u8], a: usize, e: usize)
-    requires { ⌜ (a ≤ e) × (e + 8 ≤ length (now list)) ⌝ }
-    ensures { λ _. ⌜ now (list .exit) ≡ movedDown (now (list .entry)) a e ⌝ }
-{
-    let mut at = a;
-    while at < e {
-        list[at] = list[at + 8];
-        at += 1;
-    }
-}
 
 // `r` becomes record k of the list's n records, and those from k on stand one place further.
 pub fn insert_at(list: &mut [u8], n: usize, k: usize, r: Route)
     requires { ⌜ InsertAt (now list) n k r ⌝ }
     ensures { λ _. ⌜ now (list .exit) ≡ inserted (now (list .entry)) n r ⌝ }
 {
-    move_up(list, k * 8, n * 8);
+    moves::up8(list, k * 8, n * 8, 8);
     record::write_record(list, k, r);
 }
 
@@ -58,7 +33,7 @@ pub fn remove_at(list: &mut [u8], n: usize, k: usize)
     ensures { λ _. ⌜ now (list .exit) ≡ removed (now (list .entry)) n (key (recordAt (now (list .entry)) k)) ⌝ }
 {
     let last = n - 1;
-    move_down(list, k * 8, last * 8);
+    moves::down8(list, k * 8, last * 8, 8);
     record::write_record(
         list,
         last,

@@ -2,21 +2,22 @@
 use mathlib.Core.Path.{_≡_, refl, sym, ap}
 use mathlib.Core.Bool.{Bool, true, false, not, and-false}
 use mathlib.Core.List.{List}
-use Prim.Native.Nat.{ℕ, zero, suc, _+_, _-_, _≤_, _<_}
+use Prim.Native.Nat.{ℕ, zero, suc, _+_, _-_, _≤_, _<_, zero-le}
 use native.Mathlib.Omega.{arith}
 use lib.Dec.{eqb, ltb}
 use lib.ListN.{getD}
 use borrow.Author.Tests.{eq-eqb, ne-eqb, lt-ltb}
 use Rattle.bits.specs.Count.{bit, count}
+use Rattle.sail.specs.Level.{entry}
 use Rattle.repair_differs.specs.Differs.{offPlan, offZero, offName, CountIs}
 
 -- one number more
 module _ (f : ℕ → Bool) (m j : ℕ) (h : m ≡ count f j) where
-  pub count-yes : f j ≡ true → m + 1 ≡ count f (j + 1)
+  count-yes : f j ≡ true → m + 1 ≡ count f (j + 1)
   unfolding count
   count-yes e = let z : j + 1 ≡ suc j = omega arith in rw z (omega (arith, ap bit e))
 
-  pub count-off : f j ≡ false → m ≡ count f (j + 1)
+  count-off : f j ≡ false → m ≡ count f (j + 1)
   unfolding count
   count-off e = let z : j + 1 ≡ suc j = omega arith in rw z (omega (arith, ap bit e))
 
@@ -24,8 +25,24 @@ pub count-start : (f : ℕ → Bool) → 0 ≡ count f 0
 unfolding count
 count-start f = refl
 
-pub count-done : (f : ℕ → Bool) (m j n : ℕ) → j ≤ n → n ≤ j → m ≤ j → m ≡ count f j → CountIs m f n
-count-done f m j n l u k h = let e : j ≡ n = omega arith in record { is = rw e at h; few = omega arith }
+-- the loop: m of the first j numbers pass the test
+pub record Counting (f : ℕ → Bool) (n m j : ℕ) : Type 0 where
+  pub within : j ≤ n
+  pub few : m ≤ j
+  pub is : m ≡ count f j
+
+pub counting-none : {f : ℕ → Bool} {n : ℕ} → Counting f n 0 0
+counting-none {f} = record { within = zero-le; few = zero-le; is = count-start f }
+
+module _ {f : ℕ → Bool} {n m j : ℕ} (c : Counting f n m j) where
+  pub counting-hit : j < n → f j ≡ true → Counting f n (m + 1) (j + 1)
+  counting-hit t e = record { within = omega arith; few = let l = c .few in omega arith; is = count-yes f m j (c .is) e }
+
+  pub counting-miss : j < n → f j ≡ false → Counting f n m (j + 1)
+  counting-miss t e = record { within = omega arith; few = let l = c .few in omega arith; is = count-off f m j (c .is) e }
+
+  pub counting-all : n ≤ j → CountIs m f n
+  counting-all t = let e : j ≡ n = omega (arith, c .within) in record { is = rw e at (c .is); few = omega (arith, c .few) }
 
 -- a block of numbers more
 pub count-add : (f : ℕ → Bool) (a n : ℕ) → count f (a + n) ≡ count f a + count (λ i. f (a + i)) n
@@ -33,30 +50,28 @@ unfolding count
 count-add f a zero = let z : a + 0 ≡ a = omega arith in rw z (omega arith)
 count-add f a (suc n) = let z : a + suc n ≡ suc (a + n) = omega arith in rw z (omega (arith, count-add f a n))
 
--- a cell beside its plan
-module _ (part want : List ℕ) (m j : ℕ) (h : m ≡ count (λ i. offPlan (getD want i 0) (getD part i 0)) j) where
-  pub plan-off : (getD want j 0 ≡ 0 → ⊥) → (getD part j 0 ≡ getD want j 0 → ⊥) → m + 1 ≡ count (λ i. offPlan (getD want i 0) (getD part i 0)) (j + 1)
-  plan-off a b = count-yes _ m j h (rw (ne-eqb _ _ a, ne-eqb _ _ b))
+-- a cell x beside its plan w
+module _ (w x : ℕ) where
+  pub plan-off : (w ≡ 0 → ⊥) → (x ≡ w → ⊥) → offPlan w x ≡ true
+  plan-off a b = rw (ne-eqb _ _ a, ne-eqb _ _ b)
 
-  pub plan-same : getD part j 0 ≡ getD want j 0 → m ≡ count (λ i. offPlan (getD want i 0) (getD part i 0)) (j + 1)
-  plan-same b = count-off _ m j h (rw (eq-eqb _ _ b) (and-false (not (eqb (getD want j 0) 0))))
+  pub plan-same : x ≡ w → offPlan w x ≡ false
+  plan-same b = rw (eq-eqb _ _ b) (and-false (not (eqb w 0)))
 
-  pub plan-node : getD want j 0 ≡ 0 → m ≡ count (λ i. offPlan (getD want i 0) (getD part i 0)) (j + 1)
-  plan-node a = count-off _ m j h (rw (eq-eqb _ _ a))
+  pub plan-node : w ≡ 0 → offPlan w x ≡ false
+  plan-node a = rw (eq-eqb _ _ a)
 
--- a cell beside 0
-module _ (part : List ℕ) (m j : ℕ) (h : m ≡ count (λ i. offZero (getD part i 0)) j) where
-  pub zero-off : (getD part j 0 ≡ 0 → ⊥) → m + 1 ≡ count (λ i. offZero (getD part i 0)) (j + 1)
-  zero-off a = count-yes _ m j h (rw (ne-eqb _ _ a))
+-- and beside 0
+pub zero-off : (x : ℕ) → (x ≡ 0 → ⊥) → offZero x ≡ true
+zero-off x a = rw (ne-eqb _ _ a)
 
-  pub zero-same : getD part j 0 ≡ 0 → m ≡ count (λ i. offZero (getD part i 0)) (j + 1)
-  zero-same a = count-off _ m j h (rw (eq-eqb _ _ a))
+pub zero-same : (x : ℕ) → x ≡ 0 → offZero x ≡ false
+zero-same x a = rw (eq-eqb _ _ a)
 
 -- the number of a chunk beside the cell that it hangs from
-module _ (cells own : List ℕ) (m c : ℕ) (h : m ≡ count (offName (λ k. getD own k 0) (λ q. getD cells q 0)) c) (o : ℕ)
-    (owner : (o ≡ getD own c 0) × (o < 4294967296)) where
-  pub name-none : o ≡ 0 → m ≡ count (offName (λ k. getD own k 0) (λ q. getD cells q 0)) (c + 1)
-  name-none z = let e : getD own c 0 ≡ 0 = omega (arith, owner .0) in count-off _ m c h (rw e)
+module _ (cells own : List ℕ) (c o : ℕ) (owner : (o ≡ getD own c 0) × (o < 4294967296)) where
+  pub name-none : o ≡ 0 → offName (entry own) (entry cells) c ≡ false
+  name-none z = let e : getD own c 0 ≡ 0 = omega (arith, owner .0) in rw e
 
   module _ (used : o ≡ 0 → ⊥) (x : ℕ) (holds : x ≡ getD cells (o - 1) 0) where
     in-use : ltb 0 (getD own c 0) ≡ true
@@ -65,8 +80,8 @@ module _ (cells own : List ℕ) (m c : ℕ) (h : m ≡ count (offName (λ k. get
     same-cell : getD cells (getD own c 0 - 1) 0 ≡ x
     same-cell = rw (← owner .0) (sym holds)
 
-    pub name-off : (x ≡ c + 1 → ⊥) → m + 1 ≡ count (offName (λ k. getD own k 0) (λ q. getD cells q 0)) (c + 1)
-    name-off n = count-yes _ m c h (rw (in-use, same-cell, ne-eqb x (suc c) (λ e. n (omega arith))))
+    pub name-off : (x ≡ c + 1 → ⊥) → offName (entry own) (entry cells) c ≡ true
+    name-off n = rw (in-use, same-cell, ne-eqb x (suc c) (λ e. n (omega arith)))
 
-    pub name-same : x ≡ c + 1 → m ≡ count (offName (λ k. getD own k 0) (λ q. getD cells q 0)) (c + 1)
-    name-same n = count-off _ m c h (rw (in-use, same-cell, eq-eqb x (suc c) (omega arith)))
+    pub name-same : x ≡ c + 1 → offName (entry own) (entry cells) c ≡ false
+    name-same n = rw (in-use, same-cell, eq-eqb x (suc c) (omega arith))

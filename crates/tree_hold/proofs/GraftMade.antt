@@ -12,8 +12,8 @@ use lib.Count.{ones}
 use Rattle.bits.specs.Count.{count}
 use Rattle.bits.proofs.Bools.{below?}
 use Rattle.bits.proofs.Packed.{upper-count}
-use Rattle.lists.specs.Edit.{drawn}
-use Rattle.lists.proofs.EditMoves.{length-drawn, drawn-in, drawn-before, drawn-after}
+use Rattle.buffers.specs.Moves.{movedUp}
+use Rattle.buffers.proofs.Draws.{length-drawn, drawn-in, drawn-before, drawn-after}
 use Rattle.tree_image.specs.Node.{bitsOf, childOf, baseOf, isSet, childAt}
 use Rattle.tree_image.proofs.Counts.{count-mono}
 use Rattle.tree_build.specs.NodeRuns.{WithBit}
@@ -64,7 +64,7 @@ module _ {ws : List ℕ} {n k x c : ℕ} (r : Graftable ws n k x c) (y : ℕ) (p
   w1 = put3 ws n 0 n k
 
   abbrev w2 : List ℕ
-  w2 = drawn w1 (3 * y + 3) (3 * n + 3) (λ j. j - 3)
+  w2 = movedUp w1 (3 * y) (3 * n) 3
 
   abbrev w3 : List ℕ
   w3 = each (λ z. z + 1) w2 1 (x + 1) (n + 1)

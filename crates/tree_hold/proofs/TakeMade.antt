@@ -8,8 +8,8 @@ use native.Mathlib.Omega.{arith}
 use lib.ListN.{length, getD, set, length-set}
 use lib.Seq.{getD-set-same, getD-set-other}
 use Rattle.bits.proofs.Bools.{below?, equal?}
-use Rattle.lists.specs.Edit.{drawn}
-use Rattle.lists.proofs.EditMoves.{length-drawn, drawn-in, drawn-before, drawn-after}
+use Rattle.buffers.specs.Moves.{movedDown}
+use Rattle.buffers.proofs.Draws.{length-drawn, drawn-in, drawn-before, drawn-after}
 use Rattle.tree_image.specs.Node.{bitsOf, baseOf, isSet}
 use Rattle.tree_build.specs.NodeRuns.{WithBit}
 use Rattle.tree_same.specs.Read.{hopPlaceAt}
@@ -41,7 +41,7 @@ module _ {ws′ hs′ : List ℕ} {n k x b : ℕ} (r : Takable ws′ hs′ n k x
     ws = each (λ z. z - 1) v1 2 (x + 1) n
 
     abbrev g1 : List ℕ
-    g1 = drawn hs′ y k (λ j. j + 1)
+    g1 = movedDown hs′ y k 1
 
     abbrev hs : List ℕ
     hs = set g1 k 0

@@ -1,47 +1,29 @@
 -- `repair_differs::off_plan`. The invariant: `m` of the cells before `j` are planned as leaves and hold something else.
-use denote.Ref.{now}
-use mathlib.Core.Path.{_≡_}
-use Prim.Native.Nat.{_-_, _≤_}
+use Prim.Native.Nat.{_-_}
 use native.Mathlib.Omega.{arith}
 use lib.ListN.{length, getD}
 use borrow.Author.Needs.{needs}
-use Rattle.bits.specs.Count.{count}
 use Rattle.repair_differs.specs.Differs.{offPlan}
-use Rattle.repair_differs.proofs.Counts.{count-start, count-done, plan-off, plan-same, plan-node}
+use Rattle.repair_differs.proofs.Counts.{Counting, counting-none, counting-hit, counting-miss, counting-all, plan-off, plan-same, plan-node}
 use Rattle.repair_differs.proofs.off_plan.Statement.{statement}
 use Rattle.repair_differs.proofs.off_plan.Tie as tie
 
 abbrev Inv-loop : tie.InvT-loop
-Inv-loop part want n m₀ j₀ m j = (j ≤ length part) × (m ≤ j) × (m ≡ count (λ i. offPlan (getD want i 0) (getD part i 0)) j)
+Inv-loop part want n m₀ j₀ m j = Counting (λ i. offPlan (getD want i 0) (getD part i 0)) (length part) m j
 
 abbrev μ-loop : tie.MeasureT-loop
 μ-loop part want n m₀ j₀ m j = length part - j
 
 off : tie.Need-loop-again Inv-loop μ-loop
 off c =
-    let then1 : tie.Then1 Inv-loop μ-loop = search in
     let turn : tie.At-loop Inv-loop μ-loop = search in
-    let start : tie.Start Inv-loop μ-loop = search in
-    let s = start .args in
-    let n = plan-off (now (s .part)) (now (s .want)) (turn .loop .m) (turn .loop .j) (turn .loop .inv .2) (c .if2 .taken) (then1 .if1 .taken) in
-    (omega arith, omega arith, n)
+    counting-hit (turn .loop .inv) (omega arith) (plan-off _ _ (c .if2 .taken) (c .before .if1 .taken))
 
 node : tie.Need-loop-again-2 Inv-loop μ-loop
-node c =
-    let turn : tie.At-loop Inv-loop μ-loop = search in
-    let start : tie.Start Inv-loop μ-loop = search in
-    let s = start .args in
-    (omega arith, omega arith, plan-node (now (s .part)) (now (s .want)) (turn .loop .m) (turn .loop .j) (turn .loop .inv .2) (c .if2 .left))
+node c = let turn : tie.At-loop Inv-loop μ-loop = search in counting-miss (turn .loop .inv) (omega arith) (plan-node _ _ (c .if2 .left))
 
 same : tie.Need-loop-again-3 Inv-loop μ-loop
-same c =
-    let turn : tie.At-loop Inv-loop μ-loop = search in
-    let start : tie.Start Inv-loop μ-loop = search in
-    let s = start .args in
-    (omega arith, omega arith, plan-same (now (s .part)) (now (s .want)) (turn .loop .m) (turn .loop .j) (turn .loop .inv .2) (c .if1 .left))
-
-returns : tie.Need-returns Inv-loop μ-loop
-returns c = let l = c .before .loop in count-done _ _ _ _ (l .inv .0) (c .loop-test .left) (l .inv .1) (l .inv .2)
+same c = let turn : tie.At-loop Inv-loop μ-loop = search in counting-miss (turn .loop .inv) (omega arith) (plan-same _ _ (c .if1 .left))
 
 pub off-plan-spec : {M : Type 1} → statement M
 off-plan-spec =
@@ -49,7 +31,7 @@ off-plan-spec =
     (tie.spec
     Inv-loop
     μ-loop
-    (λ c. (omega arith, omega arith, count-start _))
+    (λ c. counting-none)
     (λ c. search needs)
     (λ c. search needs)
     (λ c. search needs)
@@ -62,4 +44,4 @@ off-plan-spec =
     node
     (λ c. search needs)
     same
-    returns)
+    (λ c. counting-all (c .before .loop .inv) (c .loop-test .left)))
