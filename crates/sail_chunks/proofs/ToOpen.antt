@@ -27,7 +27,7 @@ use Rattle.sail_theory.specs.Calls.{grant, openAt, opening}
 use Rattle.sail_theory.proofs.owners.OpenAt.{find-hung}
 use Rattle.sail_chunks.specs.Chunks.{alone, withOwner}
 use Rattle.sail_chunks.specs.Trail.{CellTells, Trailed}
-use Rattle.sail_chunks.specs.ToOpen.{ChunkForReady, Opens, OpensAt, Openable}
+use Rattle.sail_chunks.specs.ToOpen.{ChunkForReady, noOpening, Opens, OpensAt, Openable}
 use Rattle.sail_chunks.specs.declared.opening.Opening.{Opening}
 use Rattle.sail_chunks.proofs.ChunkOwners.{alone-longer, not-alone}
 
@@ -86,7 +86,7 @@ module _ (g : Geometry) (rs : List Route) (own2 own3 : List ℕ) (a x1 x2 : ℕ)
 
 -- nothing is opened for a prefix that stands: its cells are long already
 pub opens-nothing : (g : Geometry) (rs : List Route) (own2 : List ℕ) (r : Route) → Fine r → Good rs → stands (key r) rs ≡ true
-    → Opens g rs own2 (r .addr) (r .len) (record { second = false; third = false; chunk = 0 })
+    → Opens g rs own2 (r .addr) (r .len) noOpening
 unfolding alone
 opens-nothing g rs own2 r fine good e = record {
   second = never (g .p1);

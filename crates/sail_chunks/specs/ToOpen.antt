@@ -20,6 +20,9 @@ pub record ChunkForReady (c : ℕ) (own : List ℕ) : Type 0 where
   pub small : c < 65536
   pub few : length own ≤ 4096
 
+abbrev pub noOpening : Opening
+noOpening = record { second = false; third = false; chunk = 0 }
+
 -- A chunk is opened where the prefix alone needs it. Where that is a third chunk and no second one, the second chunk that serves the prefix is there.
 pub record Opens (g : Geometry) (rs : List Route) (own2 : List ℕ) (a len : ℕ) (o : Opening) : Type 0 where
   pub second : o .second ≡ alone rs (g .p1) a len

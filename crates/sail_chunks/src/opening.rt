@@ -8,7 +8,7 @@ ghost use Rattle.sail_theory.specs.Render.{find};
 ghost use Rattle.sail_theory.specs.Calls.{opening};
 ghost use Rattle.sail.specs.Level.{chunksOf, level1, level2};
 ghost use Rattle.sail_chunks.specs.Trail.{Serving};
-ghost use Rattle.sail_chunks.specs.ToOpen.{ChunkForReady, Openable, Opens};
+ghost use Rattle.sail_chunks.specs.ToOpen.{ChunkForReady, Openable, Opens, noOpening};
 use crate::chunks::chunk_named;
 use crate::chunks::set_owner;
 use crate::trail::follow;
@@ -24,6 +24,17 @@ pub struct Opening {
     pub second: bool,
     pub third: bool,
     pub chunk: usize,
+}
+
+// Nothing is to be opened.
+pub fn nothing() -> Opening
+    ensures { λ o. ⌜ o ≡ noOpening ⌝ }
+{
+    Opening {
+        second: false,
+        third: false,
+        chunk: 0,
+    }
 }
 
 // Whether a prefix longer than p has a leaf in its cell of level p.
