@@ -41,7 +41,7 @@ tick-requires c κs =
     let start : tie.Start = begun followed in
     take-tickable _ _ _ _ _ (start .pre) _ (removed .remove-at .ensures)
 
-first-names : tie.Need-SUB1
+first-names : tie.Need-sub-close
 first-names c =
     let counted : tie.After-tick = search in
     let removed : tie.After-remove-at = search in
@@ -51,7 +51,7 @@ first-names c =
     (counted .tick .kept .1 .1 .1 .1 .0) (counted .tick .kept .1 .1 .1 .1 .1 .0) _ _ (followed .follow .ensures) in
     omega (arith, one .0)
 
-second-size : tie.Need-SUB2
+second-size : tie.Need-sub-close-2
 second-size c =
     let counted : tie.After-tick = search in
     let removed : tie.After-remove-at = search in
@@ -69,7 +69,7 @@ close-requires c κs =
     take-second _ _ _ _ _ (start .pre) _ (removed .remove-at .ensures) _ _ _ (counted .tick .ensures)
     (counted .tick .kept .1 .1 .1 .1 .0) (counted .tick .kept .1 .1 .1 .1 .1 .0) _ _ (followed .follow .ensures)
 
-second-names : tie.Need-SUB3
+second-names : tie.Need-sub-close-3
 second-names c =
     let second : tie.After-close = search in
     let counted : tie.After-tick = search in
@@ -80,7 +80,7 @@ second-names c =
     (counted .tick .kept .1 .1 .1 .1 .0) (counted .tick .kept .1 .1 .1 .1 .1 .0) _ _ (followed .follow .ensures) in
     omega (arith, one .1)
 
-third-size : tie.Need-SUB4
+third-size : tie.Need-sub-close-4
 third-size c =
     let second : tie.After-close = search in
     let counted : tie.After-tick = search in
@@ -114,7 +114,7 @@ repaint-requires c κs =
     _ _ _ _ (second .close .ensures .0) (second .close .ensures .1) (third .close2 .ensures .0) (third .close2 .ensures .1)
     _ (worded .byte-to-word .ensures .0)
 
-count-fits : tie.Need-CAST
+count-fits : tie.Need-cast-t48
 count-fits c =
     let painted : tie.After-repaint-from-list = search in
     let third : tie.After-close2 = search in
