@@ -18,23 +18,21 @@ use Rattle.sail.specs.Level.{Level, entry, chunksOf, below, level1, level2}
 use Rattle.sail.specs.Sound.{Clear, standing}
 use Rattle.sail.specs.declared.geometry.Geometry.{Geometry}
 use Rattle.sail.specs.declared.table.Table.{Table}
-use Rattle.sail.proofs.Sounds.{standing-good}
 use Rattle.sail_theory.specs.Render.{find, Fits, roomOf}
 use Rattle.sail_theory.specs.Calls.{opening}
 use Rattle.sail_theory.specs.Facts.{Announceable}
-use Rattle.sail_theory.proofs.owners.Chunks.{chunk-at}
-use Rattle.sail_theory.proofs.places.Places.{top-apart, top-served, live-owner}
+use Rattle.sail_theory.proofs.places.Places.{live-owner}
 use Rattle.sail_theory.proofs.places.Pools.{shows-fits}
 use Rattle.sail_theory.proofs.owners.GrantKeep.{unhung}
 use Rattle.sail_theory.proofs.frames.LevelFrame.{below-same}
-use Rattle.sail_theory.proofs.owners.OpenAt.{Space, OpenReady, length-open, open-stays, open-fits, open-short, open-had, open-new, ready-below, find-hung}
+use Rattle.sail_theory.proofs.owners.OpenAt.{Space, OpenReady, length-open, open-stays, open-fits, open-short, open-had, open-new}
 use Rattle.sail_theory.proofs.calls.ChangeHolds.{ready1, ready2}
 use Rattle.sail_theory.proofs.frames.TableFrame.{announce-frame}
 use Rattle.sail_paint.specs.Stale.{meets}
 use Rattle.sail_chunks.specs.Chunks.{withOwner, alone, FreeToOpen}
 use Rattle.sail_chunks.specs.ToOpen.{Opens, OpensAt, Openable}
 use Rattle.sail_chunks.specs.declared.opening.Opening.{Opening}
-use Rattle.sail_chunks.proofs.ChunkOwners.{hung-was, alone-parts, alone-longer, is-alone}
+use Rattle.sail_chunks.proofs.ChunkOwners.{hung-was, alone-parts, alone-longer}
 use Rattle.sail_chunks.proofs.Trails.{serving-of}
 use Rattle.sail_chunks.proofs.Still.{PoolUnderway}
 use Rattle.sail_chunks.proofs.Underway.{Underway}

@@ -1,6 +1,5 @@
 -- `sail_announce::judge_announce`. The number with which the announcement is refused, by the first condition that holds; 0 where it is accepted.
 use Rattle.sail_announce.proofs.Judges.{judge-sizes, judge-route, judge-sound, judge-proper}
-use borrow.Author.Needs.{needs}
 use Rattle.sail_announce.proofs.judge_announce.Statement.{statement}
 use Rattle.sail_announce.proofs.judge_announce.Tie as tie
 
