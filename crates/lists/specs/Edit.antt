@@ -1,6 +1,6 @@
 -- A list of records that is changed in place: what a change asks, and what the list then holds.
 use Prim.Native.Nat.{ℕ, _+_, _-_, _*_, _/_, _≤_, _<_}
-use mathlib.Core.Bool.{Bool, true, false, cond}
+use mathlib.Core.Bool.{Bool, false, cond}
 use mathlib.Core.List.{List}
 use mathlib.Core.Path.{_≡_}
 use lib.ListN.{length}
@@ -9,8 +9,6 @@ use Rattle.standing.specs.Standing.{stands, insert, remove}
 use Rattle.routes.specs.Record.{recordAt, routesOf, written, Records, Listed}
 use Rattle.routes.specs.declared.Route.{Route}
 use Rattle.lists.specs.Place.{placeOf}
-use Rattle.lists.specs.declared.edit.Put.{Put}
-use Rattle.lists.specs.declared.edit.Put.the-variants as put
 
 -- the bytes of a list that holds n routes, with r put in, or without the route of a prefix: the array stays as long
 abbrev pub inserted : List ℕ → ℕ → Route → List ℕ
@@ -49,24 +47,11 @@ pub record Insertable (s : List ℕ) (n : ℕ) (r : Route) : Type 0 where
   pub fine : Fine r
   pub room : stands (key r) (routesOf s n) ≡ false → (n + 1) * 8 ≤ length s
 
--- what a change tells, whether a route of the prefix stood before it, and the list that it leaves
-pub record Edited : Type 0 where
-  pub stood : Bool
-  pub list : List ℕ
-
-abbrev pub edited : Bool → List ℕ → Edited
-edited b s = record { stood = b; list = s }
-
-abbrev pub inserting : List ℕ → ℕ → Route → Edited
-inserting s n r = edited (stands (key r) (routesOf s n)) (inserted s n r)
-
-abbrev pub removing : List ℕ → ℕ → ℕ → Edited
-removing s n p = edited (stands p (routesOf s n)) (removed s n p)
-
--- whether a route of the prefix stood before
-unfoldable pub meansPut : Put → Bool
-meansPut put.Added = false
-meansPut put.Replaced = true
+-- r can be put into the list, k is the place of its key, and b tells whether its prefix stands
+pub record PutAt (s : List ℕ) (n k : ℕ) (b : Bool) (r : Route) : Type 0 where
+  pub fits : Insertable s n r
+  pub place : k ≡ placeOf s n (key r)
+  pub stood : b ≡ stands (key r) (routesOf s n)
 
 -- how many routes stand with a route put in, and with one taken out, where n stood: by whether one of the prefix was among them
 abbrev pub countWith : Bool → ℕ → ℕ

@@ -21,12 +21,14 @@ use Rattle.routes.specs.Cases.{WrongRoute}
 use Rattle.routes.proofs.Meaning.{RouteChecked, route-checked}
 use Rattle.routes.proofs.Rows.{length-routes}
 use Rattle.standing.proofs.Changed.{insert-adds}
+use Rattle.lists.specs.Place.{placeOf}
 use Rattle.sail.specs.Lent.{Lent}
 use Rattle.sail.specs.Sizes.{SizesTold}
 use Rattle.sail.specs.Level.{chunksOf}
 use Rattle.sail.specs.Sound.{standing, used}
 use Rattle.sail.specs.declared.table.Table.{Table}
 use Rattle.sail_theory.specs.Calls.{announceSaid}
+use Rattle.sail.proofs.Sounds.{standing-good}
 use Rattle.sail_theory.specs.Facts.{Announceable}
 use Rattle.sail_theory.specs.Cases.{Proper, Roomy, Announce}
 use Rattle.sail_theory.proofs.calls.OneCase.{announce-only}
@@ -36,11 +38,13 @@ use Rattle.sail_theory.proofs.owners.Chunks.{used-le}
 use Rattle.standing.proofs.NeedAfter.{need-more, need-same}
 use Rattle.sail_sound.specs.TableTest.{Tried}
 use Rattle.sail_chunks.specs.Chunks.{alone}
-use Rattle.sail_theory.specs.Judge.{Judged}
-use Rattle.sail_chunks.specs.ToOpen.{Opens}
+use Rattle.sail_chunks.specs.ToOpen.{noOpening, Opens}
+use Rattle.sail_chunks.proofs.ToOpen.{opens-nothing}
 use Rattle.sail_chunks.specs.declared.opening.Opening.{Opening}
 use Rattle.sail_sound.proofs.TableTest.{tried-sound}
 use Rattle.sail_theory.proofs.Judges.{judged-off, judged-on, or-said}
+use Rattle.sail_announce.specs.Found.{AnnounceJudged}
+use Rattle.sail_announce.specs.declared.found.Found.{Found}
 
 -- a limit that the chunks in use keep is exceeded exactly where a chunk is to be opened and as many as the limit are in use
 over : (rs : List Route) (r : Route) (p : ℕ) (own : List ℕ) → Enough rs p own → Fine r → (limit : ℕ) → used own ≤ limit →
@@ -65,34 +69,42 @@ module _ (t : Table) (l : Lent) (r : Route) where
   abbrev rs : List Route
   rs = standing t l
 
+  -- what is told with the number n
   abbrev Told : ℕ → Type 0
-  Told n = Judged n (announceSaid t l r) (Announceable t l r)
+  Told n = (f : Found) → f .number ≡ n → AnnounceJudged t l r f
 
   off : (n : ℕ) → 1 ≤ n → Announce t l r (refused n) → Told n
-  off n h x = judged-off n _ _ h (announce-only t l r (refused n) x)
+  off n h x f e = judged-off (f .number) _ _ (rw e h) (rw e (announce-only t l r (refused n) x))
 
-  -- b tells whether the prefix stands
-  module _ (x : ℕ) (b : Bool) (p : Proper t l r) (named : x ≡ key r) (e : b ≡ stands x rs) where
+  -- x is the key of the route, k its place, and b tells whether the prefix stands
+  module _ (x k : ℕ) (b : Bool) (p : Proper t l r) (named : x ≡ key r) (placed : k ≡ placeOf (l .list) (t .count) x) (e : b ≡ stands x rs) where
     stands-is : b ≡ stands (key r) rs
     stands-is = rw (← named) e
 
-    pub room-stands : b ≡ true → Told 0
-    room-stands h = judged-on _ _ (replaced-welcome t l r p (sym stands-is ∙ h))
+    found : (o : Opening) → Announceable t l r → Opens (t .geometry) rs (l .own2) (r .addr) (r .len) o → AnnounceJudged t l r
+        (record { number = 0; at = k; stands = b; opens = o })
+    found o may opens = judged-on _ _ (record { may = may; at = rw (← named) placed; stood = stands-is; opens = opens })
+
+    pub room-stands : b ≡ true → AnnounceJudged t l r (record { number = 0; at = k; stands = true; opens = noOpening })
+    room-stands h =
+        let stood = sym stands-is ∙ h in
+        rw h at (found noOpening (replaced-welcome t l r p stood)
+        (opens-nothing (t .geometry) rs (l .own2) r (p .fine) (standing-good t l (p .sound)) stood))
 
     pub room-full : b ≡ false → length (l .list) / 8 ≤ t .count → Told 6
     room-full h f = off 6 (omega arith) (Announce.full p (sym stands-is ∙ h) (rw length-routes f))
 
-    module _ (h : b ≡ false) (f : t .count < length (l .list) / 8) (o : Opening) (k : Opens (t .geometry) rs (l .own2) (r .addr) (r .len) o) where
+    module _ (h : b ≡ false) (f : t .count < length (l .list) / 8) (o : Opening) (opens : Opens (t .geometry) rs (l .own2) (r .addr) (r .len) o) where
       roomy : Roomy t l r
       roomy = record { proper = p; new = sym stands-is ∙ h; room = rw length-routes f }
 
       -- the test of a pool tells whether the need exceeds it
       seven : (c : Bool) → c ≡ (o .second && leb (length (l .own2)) (used (l .own2))) → c ≡ ltb (length (l .own2)) (need (insert r rs) (t .geometry .p1))
-      seven c z = z ∙ rw (k .second) (over rs r (t .geometry .p1) (l .own2) (second-chunks t l (p .sound)) (p .fine) (length (l .own2))
+      seven c z = z ∙ rw (opens .second) (over rs r (t .geometry .p1) (l .own2) (second-chunks t l (p .sound)) (p .fine) (length (l .own2))
           (used-le (chunksOf (l .own2))))
 
       eight : (c : Bool) → c ≡ (o .third && leb (length (l .own3)) (used (l .own3))) → c ≡ ltb (length (l .own3)) (need (insert r rs) (t .geometry .p2))
-      eight c z = z ∙ rw (k .third) (over rs r (t .geometry .p2) (l .own3) (third-chunks t l (p .sound)) (p .fine) (length (l .own3))
+      eight c z = z ∙ rw (opens .third) (over rs r (t .geometry .p2) (l .own3) (third-chunks t l (p .sound)) (p .fine) (length (l .own3))
           (used-le (chunksOf (l .own3))))
 
       module _ (c : Bool) (z : c ≡ (o .second && leb (length (l .own2)) (used (l .own2)))) where
@@ -106,20 +118,20 @@ module _ (t : Table) (l : Lent) (r : Route) where
           pub room-third : d ≡ true → Told 8
           room-third v = off 8 (omega arith) (Announce.third roomy enough (ltb-true _ _ (sym (eight d u) ∙ v)))
 
-          pub room-enough : d ≡ false → Told 0
-          room-enough v = judged-on _ _ (record {
+          pub room-enough : d ≡ false → AnnounceJudged t l r (record { number = 0; at = k; stands = false; opens = o })
+          room-enough v = rw h at (found o (record {
             fine = p .fine;
             sound = p .sound;
             roomy = omega (arith, insert-adds r rs (roomy .new), roomy .room);
             enough2 = enough;
             enough3 = ltb-false _ _ (sym (eight d u) ∙ v);
-          })
+          }) opens)
 
   -- the steps before
   module _ (z : ℕ) (check : SizesTold z (t .geometry) l) where
     pub judge-sizes : (z ≡ 0 → ⊥) → Told z
     unfolding announceSaid
-    judge-sizes h = record { off = λ _. or-said _ z _ (check .number) h; on = λ e. absurd (h e) }
+    judge-sizes h f e = rw e (record { off = λ _. or-said _ z _ (check .number) h; on = λ y. absurd (h y) })
 
     -- f is what is wrong with the route by itself
     module _ (h : z ≡ 0) (f : ℕ) (e : f ≡ routeFault r) where

@@ -1,16 +1,17 @@
 // Withdraw: a route is taken out of a table.
 ghost use mathlib.Core.Path.{_≡_};
 ghost use Rattle.sail.specs.Lent.{lent};
-ghost use Rattle.sail_theory.specs.Calls.{withdrawSaid, out, taking, outWithFlag};
-ghost use Rattle.sail_theory.specs.Facts.{Withdrawable};
-ghost use Rattle.sail_theory.specs.Judge.{Judged};
+ghost use Rattle.sail_theory.specs.Calls.{out, taking, outWithFlag};
 ghost use Rattle.sail_withdraw.specs.Answers.{meansWithdraw};
 ghost use Rattle.sail_withdraw.specs.Contract.{MeetsWithdraw};
+ghost use Rattle.sail_withdraw.specs.Found.{ToTake, WithdrawJudged};
 
 pub mod answers;
+pub mod found;
 
 use crate::answers::Withdraw;
 use crate::answers::Withdrawn;
+use crate::found::Found;
 use bits::widen::byte_to_word;
 use lists::edit;
 use lists::place::place;
@@ -25,7 +26,8 @@ use sail_counts::tick::tick;
 use sail_paint::from_list::repaint_from_list;
 use sail_sound::test::sound;
 
-// The number with which the withdrawal is refused, by the first condition that holds; 0 where it is accepted.
+// The number with which the withdrawal is refused, by the first condition that holds; 0 where it is accepted, and the place
+// of the prefix's record.
 fn judge_withdraw(
     t: Table,
     list: &[u8],
@@ -38,26 +40,27 @@ fn judge_withdraw(
     long2: &[u16],
     addr: u32,
     len: u8,
-) -> u8
-    ensures { λ r. ⌜ Judged r (withdrawSaid t (lent (now (list .entry)) (now (first .entry)) (now (second .entry)) (now (third .entry)) (now (own2 .entry)) (now (own3 .entry)) (now (long1 .entry)) (now (long2 .entry))) addr len) (Withdrawable t (lent (now (list .entry)) (now (first .entry)) (now (second .entry)) (now (third .entry)) (now (own2 .entry)) (now (own3 .entry)) (now (long1 .entry)) (now (long2 .entry))) addr len) ⌝ }
+) -> Found
+    ensures { λ f. ⌜ WithdrawJudged t (lent (now (list .entry)) (now (first .entry)) (now (second .entry)) (now (third .entry))
+        (now (own2 .entry)) (now (own3 .entry)) (now (long1 .entry)) (now (long2 .entry))) addr len f ⌝ }
 {
     let s = sizes(t, list, first, second, third, own2, own3, long1, long2);
     if s != 0 {
-        return s;
+        return Found { number: s, at: 0 };
     }
     if !input::prefix_ok(addr, len) {
-        return 3;
+        return Found { number: 3, at: 0 };
     }
     if !sound(t, list, first, second, third, own2, own3, long1, long2) {
-        return 5;
+        return Found { number: 5, at: 0 };
     }
     let n = t.count as usize;
     let p = record::key_of(addr, len);
     let k = place(list, n, p);
     if edit::stands_at(list, n, k, p) {
-        return 0;
+        return Found { number: 0, at: k };
     }
-    9
+    Found { number: 9, at: 0 }
 }
 
 // The withdrawal, where the prefix stands: its record is taken out of the list and counted no more, chunks whose count falls
@@ -74,17 +77,21 @@ fn take(
     long2: &mut [u16],
     addr: u32,
     len: u8,
+    at: usize,
     cleared: bool,
 ) -> Withdrawn
-    requires { ⌜ Withdrawable t (lent (now list) (now first) (now second) (now third) (now own2) (now own3) (now long1) (now long2)) addr len ⌝ }
-    ensures { λ r. ⌜ out (meansWithdraw (r .answer)) (r .table) (lent (now (list .exit)) (now (first .exit)) (now (second .exit)) (now (third .exit)) (now (own2 .exit)) (now (own3 .exit)) (now (long1 .exit)) (now (long2 .exit))) ≡ outWithFlag cleared (taking t (lent (now (list .entry)) (now (first .entry)) (now (second .entry)) (now (third .entry)) (now (own2 .entry)) (now (own3 .entry)) (now (long1 .entry)) (now (long2 .entry))) addr len) ⌝ }
+    requires { ⌜ ToTake t (lent (now list) (now first) (now second) (now third) (now own2) (now own3) (now long1) (now long2)) addr len at ⌝ }
+    ensures { λ r. ⌜ out (meansWithdraw (r .answer)) (r .table) (lent (now (list .exit)) (now (first .exit)) (now (second .exit)) (now (third .exit))
+        (now (own2 .exit)) (now (own3 .exit)) (now (long1 .exit)) (now (long2 .exit)))
+        ≡ outWithFlag cleared (taking t (lent (now (list .entry)) (now (first .entry)) (now (second .entry)) (now (third .entry))
+        (now (own2 .entry)) (now (own3 .entry)) (now (long1 .entry)) (now (long2 .entry))) addr len) ⌝ }
 {
     let g = t.geometry;
     let p1 = g.p1;
     let p2 = g.p2;
     let n = t.count as usize;
     let v = follow(t, list, first, second, own2, own3, addr);
-    edit::remove(list, n, addr, len);
+    edit::remove_at(list, n, at);
     let m = n - 1;
     let left = tick(g, addr, len, first, long1, long2, false);
     close(
@@ -139,10 +146,13 @@ pub fn withdraw(
     addr: u32,
     len: u8,
 ) -> Withdrawn
-    ensures { λ r. ⌜ MeetsWithdraw t (lent (now (list .entry)) (now (first .entry)) (now (second .entry)) (now (third .entry)) (now (own2 .entry)) (now (own3 .entry)) (now (long1 .entry)) (now (long2 .entry))) addr len r (lent (now (list .exit)) (now (first .exit)) (now (second .exit)) (now (third .exit)) (now (own2 .exit)) (now (own3 .exit)) (now (long1 .exit)) (now (long2 .exit))) ⌝ }
+    ensures { λ r. ⌜ MeetsWithdraw t (lent (now (list .entry)) (now (first .entry)) (now (second .entry)) (now (third .entry))
+        (now (own2 .entry)) (now (own3 .entry)) (now (long1 .entry)) (now (long2 .entry))) addr len
+        r (lent (now (list .exit)) (now (first .exit)) (now (second .exit)) (now (third .exit))
+        (now (own2 .exit)) (now (own3 .exit)) (now (long1 .exit)) (now (long2 .exit))) ⌝ }
 {
     let a = clear_after(addr, len);
-    let z = judge_withdraw(
+    let f = judge_withdraw(
         t,
         list,
         first,
@@ -155,9 +165,9 @@ pub fn withdraw(
         a,
         len,
     );
-    if z != 0 {
+    if f.number != 0 {
         return Withdrawn {
-            answer: Withdraw::Refused(z),
+            answer: Withdraw::Refused(f.number),
             table: t,
         };
     }
@@ -173,6 +183,7 @@ pub fn withdraw(
         long2,
         a,
         len,
+        f.at,
         a != addr,
     )
 }

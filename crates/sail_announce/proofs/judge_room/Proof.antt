@@ -5,52 +5,105 @@ use Rattle.sail_announce.proofs.Judges.{room-stands, room-full, room-se
 use Rattle.sail_announce.proofs.judge_room.Statement.{statement}
 use Rattle.sail_announce.proofs.judge_room.Tie as tie
 
+-- where it starts, seen from after `key_of`
+abbrev begun : tie.After-key-of → tie.Start
+begun c =
+    let known : tie.After-shared-slice-known8 = search in
+    let start : tie.Start = search in
+    start
+
+place-requires : tie.Need-place-requires
+place-requires c κs = begun c .pre .sound .listed .records
+
+stands-at-requires : tie.Need-stands-at-requires
+stands-at-requires c κs =
+    let after-key : tie.After-key-of = search in
+    let start : tie.Start = begun after-key in
+    record { records = start .pre .sound .listed .records; place = c .place .ensures .0 }
+
 returns : tie.Need-returns
-returns c = room-stands _ _ _ _ _ (c .before .before .before .before .before .before .before .before .before .before .before .before .before .pre)
-    (c .before .before .before .key-of .ensures .0) (c .before .stands-at .ensures) (c .if1 .taken)
+returns c =
+    let after-stands : tie.After-stands-at = search in
+    let after-place : tie.After-place = search in
+    let after-key : tie.After-key-of = search in
+    let start : tie.Start = begun after-key in
+    rw (c .nothing .ensures)
+    (room-stands _ _ _ _ _ _ (start .pre) (after-key .key-of .ensures .0) (after-place .place .ensures .0) (after-stands .stands-at .ensures)
+    (c .before .if1 .taken))
 
 returns-2 : tie.Need-returns-2
-returns-2 c = room-full _ _ _ _ _ (c .before .before .before .before .before .before .before .before .before .before .before .before .before .before
-    .pre) (c .before .before .before .before .key-of .ensures .0) (c .before .before .stands-at .ensures) (c .before .if1 .left) (c .if2 .taken)
+returns-2 c =
+    let else1 : tie.Else1 = search in
+    let after-stands : tie.After-stands-at = search in
+    let after-place : tie.After-place = search in
+    let after-key : tie.After-key-of = search in
+    let start : tie.Start = begun after-key in
+    room-full _ _ _ _ _ _ (start .pre) (after-key .key-of .ensures .0) (after-place .place .ensures .0) (after-stands .stands-at .ensures)
+    (else1 .if1 .left) (c .before .if2 .taken) _ (c .refusal .ensures)
 
 to-open-requires : tie.Need-to-open-requires
-to-open-requires c κs = serving-of _ _ (c .before .before .before .before .before .before .before .before .before .before .before .before .before
-    .before .pre .sound)
+to-open-requires c κs =
+    let after-key : tie.After-key-of = search in
+    let start : tie.Start = begun after-key in
+    serving-of _ _ (start .pre .sound)
 
 wanting-requires : tie.Need-wanting-requires
-wanting-requires c κs = let opens = c in let stands = opens .before .before .before in stands .before .before .before .before .before .before .before
-    .before .before .before .before .before .pre .sound .sized .few2
+wanting-requires c κs =
+    let after-key : tie.After-key-of = search in
+    let start : tie.Start = begun after-key in
+    start .pre .sound .sized .few2
 
 returns-3 : tie.Need-returns-3
 returns-3 c =
-    let opens = c .before .before in
-    let stands = opens .before .before .before in
-    room-second _ _ _ _ _ (stands .before .before .before .before .before .before .before .before .before .before .before .before .pre)
-    (stands .before .before .key-of .ensures .0) (stands .stands-at .ensures) (opens .before .before .if1 .left) (opens .before .if2 .left) _
-    (opens .to-open .ensures)
-    _ (c .before .wanting .ensures) (c .if3 .taken)
+    let after-wanting : tie.After-wanting = search in
+    let after-open : tie.After-to-open = search in
+    let else2 : tie.Else2 = search in
+    let else1 : tie.Else1 = search in
+    let after-stands : tie.After-stands-at = search in
+    let after-place : tie.After-place = search in
+    let after-key : tie.After-key-of = search in
+    let start : tie.Start = begun after-key in
+    room-second _ _ _ _ _ _ (start .pre) (after-key .key-of .ensures .0) (after-place .place .ensures .0) (after-stands .stands-at .ensures)
+    (else1 .if1 .left) (else2 .if2 .left) _ (after-open .to-open .ensures)
+    _ (after-wanting .wanting .ensures) (c .before .if3 .taken) _ (c .refusal2 .ensures)
 
 wanting-requires-2 : tie.Need-wanting-requires-2
-wanting-requires-2 c κs = let opens = c .before .before in let stands = opens .before .before .before in stands .before .before .before .before
-    .before .before .before .before .before .before .before .before .pre .sound .sized .few3
+wanting-requires-2 c κs =
+    let after-key : tie.After-key-of = search in
+    let start : tie.Start = begun after-key in
+    start .pre .sound .sized .few3
 
 returns-4 : tie.Need-returns-4
 returns-4 c =
-    let opens = c .before .before .before .before in
-    let stands = opens .before .before .before in
-    room-third _ _ _ _ _ (stands .before .before .before .before .before .before .before .before .before .before .before .before .pre)
-    (stands .before .before .key-of .ensures .0) (stands .stands-at .ensures) (opens .before .before .if1 .left) (opens .before .if2 .left) _
-    (opens .to-open .ensures)
-    _ (c .before .before .before .wanting .ensures) (c .before .before .if3 .left) _ (c .before .wanting2 .ensures) (c .if4 .taken)
+    let after-third : tie.After-wanting2 = search in
+    let else3 : tie.Else3 = search in
+    let after-second : tie.After-wanting = search in
+    let after-open : tie.After-to-open = search in
+    let else2 : tie.Else2 = search in
+    let else1 : tie.Else1 = search in
+    let after-stands : tie.After-stands-at = search in
+    let after-place : tie.After-place = search in
+    let after-key : tie.After-key-of = search in
+    let start : tie.Start = begun after-key in
+    room-third _ _ _ _ _ _ (start .pre) (after-key .key-of .ensures .0) (after-place .place .ensures .0) (after-stands .stands-at .ensures)
+    (else1 .if1 .left) (else2 .if2 .left) _ (after-open .to-open .ensures)
+    _ (after-second .wanting .ensures) (else3 .if3 .left) _ (after-third .wanting2 .ensures) (c .before .if4 .taken) _ (c .refusal3 .ensures)
 
 returns-5 : tie.Need-returns-5
 returns-5 c =
-    let opens = c .before .before .before .before in
-    let stands = opens .before .before .before in
-    room-enough _ _ _ _ _ (stands .before .before .before .before .before .before .before .before .before .before .before .before .pre)
-    (stands .before .before .key-of .ensures .0) (stands .stands-at .ensures) (opens .before .before .if1 .left) (opens .before .if2 .left) _
-    (opens .to-open .ensures)
-    _ (c .before .before .before .wanting .ensures) (c .before .before .if3 .left) _ (c .before .wanting2 .ensures) (c .if4 .left)
+    let after-third : tie.After-wanting2 = search in
+    let else3 : tie.Else3 = search in
+    let after-second : tie.After-wanting = search in
+    let after-open : tie.After-to-open = search in
+    let else2 : tie.Else2 = search in
+    let else1 : tie.Else1 = search in
+    let after-stands : tie.After-stands-at = search in
+    let after-place : tie.After-place = search in
+    let after-key : tie.After-key-of = search in
+    let start : tie.Start = begun after-key in
+    room-enough _ _ _ _ _ _ (start .pre) (after-key .key-of .ensures .0) (after-place .place .ensures .0) (after-stands .stands-at .ensures)
+    (else1 .if1 .left) (else2 .if2 .left) _ (after-open .to-open .ensures)
+    _ (after-second .wanting .ensures) (else3 .if3 .left) _ (after-third .wanting2 .ensures) (c .if4 .left)
 
 pub judge-room-spec : {M : Type 1} → statement M
 judge-room-spec =
@@ -58,13 +111,17 @@ judge-room-spec =
     (tie.spec
     (λ c. search needs)
     (λ c κs. tt)
-    (λ c κs. search needs)
-    (λ c κs. search needs)
+    place-requires
+    stands-at-requires
+    (λ c κs. tt)
     returns
+    (λ c κs. tt)
     returns-2
     to-open-requires
     wanting-requires
+    (λ c κs. tt)
     returns-3
     wanting-requires-2
+    (λ c κs. tt)
     returns-4
     returns-5)
