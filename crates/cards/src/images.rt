@@ -44,7 +44,8 @@ pub extern "C" fn gh_tree_announce(
     len: u32,
     hop: u32,
 ) -> u64
-    ensures { λ r. ⌜ imageCard r (now (words .exit)) (now (hops .exit)) ≡ changedCardOf (imageAnnounced (now (words .entry)) (now (hops .entry)) addr len hop) ⌝ }
+    ensures { λ r. ⌜ imageCard r (now (words .exit)) (now (hops .exit))
+        ≡ changedCardOf (imageAnnounced (now (words .entry)) (now (hops .entry)) addr len hop) ⌝ }
 {
     packing_images::announced(tree_change::announce(words, hops, addr, narrow8(len), narrow16(hop)))
 }

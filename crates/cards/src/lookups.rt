@@ -26,7 +26,9 @@ pub extern "C" fn gh_lookup(
     long2: &[u16],
     addr: u32,
 ) -> u64
-    ensures { λ r. ⌜ r ≡ packFound (lookupSaid (tableOf p1 p2 count) (lent (now (list .entry)) (now (first .entry)) (now (second .entry)) (now (third .entry)) (now (own2 .entry)) (now (own3 .entry)) (now (long1 .entry)) (now (long2 .entry))) addr) ⌝ }
+    ensures { λ r. ⌜ r ≡ packFound (lookupSaid (tableOf p1 p2 count)
+        (lent (now (list .entry)) (now (first .entry)) (now (second .entry)) (now (third .entry)) (now (own2 .entry)) (now (own3 .entry))
+        (now (long1 .entry)) (now (long2 .entry))) addr) ⌝ }
 {
     let standard = Geometry::STANDARD;
     if p1 == standard.p1 {
@@ -77,7 +79,9 @@ pub extern "C" fn gh_lookup_many(
     addrs: &[u32],
     out: &mut [u32],
 ) -> u64
-    ensures { λ r. ⌜ wordsCard r (now (out .exit)) ≡ manyCard (tableOf p1 p2 count) (lent (now (list .entry)) (now (first .entry)) (now (second .entry)) (now (third .entry)) (now (own2 .entry)) (now (own3 .entry)) (now (long1 .entry)) (now (long2 .entry))) (now (addrs .entry)) (now (out .entry)) ⌝ }
+    ensures { λ r. ⌜ wordsCard r (now (out .exit)) ≡ manyCard (tableOf p1 p2 count)
+        (lent (now (list .entry)) (now (first .entry)) (now (second .entry)) (now (third .entry)) (now (own2 .entry)) (now (own3 .entry))
+        (now (long1 .entry)) (now (long2 .entry))) (now (addrs .entry)) (now (out .entry)) ⌝ }
 {
     let geometry = Geometry { p1, p2 };
     look_each(

@@ -24,7 +24,10 @@ pub extern "C" fn gh_make(
     long1: &mut [u16],
     long2: &mut [u16],
 ) -> u64
-    ensures { λ r. ⌜ card r (lent (now (list .exit)) (now (first .exit)) (now (second .exit)) (now (third .exit)) (now (own2 .exit)) (now (own3 .exit)) (now (long1 .exit)) (now (long2 .exit))) ≡ cardOf (made (tableOf p1 p2 0) (lent (now (list .entry)) (now (first .entry)) (now (second .entry)) (now (third .entry)) (now (own2 .entry)) (now (own3 .entry)) (now (long1 .entry)) (now (long2 .entry)))) ⌝ }
+    ensures { λ r. ⌜ card r (lent (now (list .exit)) (now (first .exit)) (now (second .exit)) (now (third .exit)) (now (own2 .exit))
+        (now (own3 .exit)) (now (long1 .exit)) (now (long2 .exit))) ≡ cardOf (made (tableOf p1 p2 0)
+        (lent (now (list .entry)) (now (first .entry)) (now (second .entry)) (now (third .entry)) (now (own2 .entry)) (now (own3 .entry))
+        (now (long1 .entry)) (now (long2 .entry)))) ⌝ }
 {
     let geometry = Geometry { p1, p2 };
     let c = sail_make::make(
@@ -59,7 +62,10 @@ pub extern "C" fn gh_load(
     long1: &mut [u16],
     long2: &mut [u16],
 ) -> u64
-    ensures { λ r. ⌜ card r (lent (now (list .exit)) (now (first .exit)) (now (second .exit)) (now (third .exit)) (now (own2 .exit)) (now (own3 .exit)) (now (long1 .exit)) (now (long2 .exit))) ≡ cardOf (loaded (tableOf p1 p2 0) (lent (now (list .entry)) (now (first .entry)) (now (second .entry)) (now (third .entry)) (now (own2 .entry)) (now (own3 .entry)) (now (long1 .entry)) (now (long2 .entry))) (now (input .entry))) ⌝ }
+    ensures { λ r. ⌜ card r (lent (now (list .exit)) (now (first .exit)) (now (second .exit)) (now (third .exit)) (now (own2 .exit))
+        (now (own3 .exit)) (now (long1 .exit)) (now (long2 .exit))) ≡ cardOf (loaded (tableOf p1 p2 0)
+        (lent (now (list .entry)) (now (first .entry)) (now (second .entry)) (now (third .entry)) (now (own2 .entry)) (now (own3 .entry))
+        (now (long1 .entry)) (now (long2 .entry))) (now (input .entry))) ⌝ }
 {
     let geometry = Geometry { p1, p2 };
     let c = sail_load::load::load(
@@ -99,7 +105,10 @@ pub extern "C" fn gh_announce(
     hop: u32,
     mark: u32,
 ) -> u64
-    ensures { λ r. ⌜ card r (lent (now (list .exit)) (now (first .exit)) (now (second .exit)) (now (third .exit)) (now (own2 .exit)) (now (own3 .exit)) (now (long1 .exit)) (now (long2 .exit))) ≡ cardOf (announced (tableOf p1 p2 count) (lent (now (list .entry)) (now (first .entry)) (now (second .entry)) (now (third .entry)) (now (own2 .entry)) (now (own3 .entry)) (now (long1 .entry)) (now (long2 .entry))) (route addr len hop mark)) ⌝ }
+    ensures { λ r. ⌜ card r (lent (now (list .exit)) (now (first .exit)) (now (second .exit)) (now (third .exit)) (now (own2 .exit))
+        (now (own3 .exit)) (now (long1 .exit)) (now (long2 .exit))) ≡ cardOf (announced (tableOf p1 p2 count)
+        (lent (now (list .entry)) (now (first .entry)) (now (second .entry)) (now (third .entry)) (now (own2 .entry)) (now (own3 .entry))
+        (now (long1 .entry)) (now (long2 .entry))) (route addr len hop mark)) ⌝ }
 {
     let geometry = Geometry { p1, p2 };
     let c = sail_announce::announce(
@@ -140,7 +149,10 @@ pub extern "C" fn gh_withdraw(
     addr: u32,
     len: u32,
 ) -> u64
-    ensures { λ r. ⌜ card r (lent (now (list .exit)) (now (first .exit)) (now (second .exit)) (now (third .exit)) (now (own2 .exit)) (now (own3 .exit)) (now (long1 .exit)) (now (long2 .exit))) ≡ cardOf (withdrawn (tableOf p1 p2 count) (lent (now (list .entry)) (now (first .entry)) (now (second .entry)) (now (third .entry)) (now (own2 .entry)) (now (own3 .entry)) (now (long1 .entry)) (now (long2 .entry))) addr len) ⌝ }
+    ensures { λ r. ⌜ card r (lent (now (list .exit)) (now (first .exit)) (now (second .exit)) (now (third .exit)) (now (own2 .exit))
+        (now (own3 .exit)) (now (long1 .exit)) (now (long2 .exit))) ≡ cardOf (withdrawn (tableOf p1 p2 count)
+        (lent (now (list .entry)) (now (first .entry)) (now (second .entry)) (now (third .entry)) (now (own2 .entry)) (now (own3 .entry))
+        (now (long1 .entry)) (now (long2 .entry))) addr len) ⌝ }
 {
     let geometry = Geometry { p1, p2 };
     let c = sail_withdraw::withdraw(
@@ -177,7 +189,9 @@ pub extern "C" fn gh_report(
     long1: &[u16],
     long2: &[u16],
 ) -> u64
-    ensures { λ r. ⌜ r ≡ packReport (reported (tableOf p1 p2 count) (lent (now (list .entry)) (now (first .entry)) (now (second .entry)) (now (third .entry)) (now (own2 .entry)) (now (own3 .entry)) (now (long1 .entry)) (now (long2 .entry)))) ⌝ }
+    ensures { λ r. ⌜ r ≡ packReport (reported (tableOf p1 p2 count)
+        (lent (now (list .entry)) (now (first .entry)) (now (second .entry)) (now (third .entry)) (now (own2 .entry)) (now (own3 .entry))
+        (now (long1 .entry)) (now (long2 .entry)))) ⌝ }
 {
     let geometry = Geometry { p1, p2 };
     packing::reported(sail_sound::report::report(

@@ -94,7 +94,10 @@ pub fn repair(
     long1: &mut [u16],
     long2: &mut [u16],
 ) -> RepairedTable
-    ensures { λ r. ⌜ MeetsRepair t (lent (now (list .entry)) (now (first .entry)) (now (second .entry)) (now (third .entry)) (now (own2 .entry)) (now (own3 .entry)) (now (long1 .entry)) (now (long2 .entry))) r (lent (now (list .exit)) (now (first .exit)) (now (second .exit)) (now (third .exit)) (now (own2 .exit)) (now (own3 .exit)) (now (long1 .exit)) (now (long2 .exit))) ⌝ }
+    ensures { λ r. ⌜ MeetsRepair t (lent (now (list .entry)) (now (first .entry)) (now (second .entry)) (now (third .entry))
+        (now (own2 .entry)) (now (own3 .entry)) (now (long1 .entry)) (now (long2 .entry))) r
+        (lent (now (list .exit)) (now (first .exit)) (now (second .exit)) (now (third .exit)) (now (own2 .exit)) (now (own3 .exit))
+        (now (long1 .exit)) (now (long2 .exit))) ⌝ }
 {
     let mut kept = [0u8; 32768];
     let z = sizes(t, list, first, second, third, own2, own3, long1, long2);

@@ -121,7 +121,8 @@ fn off_chunk(
     want: &mut [u16],
 ) -> usize
     requires { ⌜ DiffChunkReady (now ws) (now par) l p (now up) e o (now cells) c (now want) ⌝ }
-    ensures { λ r. ⌜ CountIs r (λ j. offAt (routesOfWords (now (ws .entry))) p (liveIn (λ _. o) (p - l)) (partOf (λ _. o) (p - l) (standsFor e (now (up .entry)))) (entry (now (cells .entry))) (c * 2 ^ (p - l) + j)) (2 ^ (p - l)) ⌝ }
+    ensures { λ r. ⌜ CountIs r (λ j. offAt (routesOfWords (now (ws .entry))) p (liveIn (λ _. o) (p - l)) (partOf (λ _. o) (p - l)
+        (standsFor e (now (up .entry)))) (entry (now (cells .entry))) (c * 2 ^ (p - l) + j)) (2 ^ (p - l)) ⌝ }
 {
     let d = p - l;
     let a = shifted(c as u64, 12, d) as usize;
@@ -147,7 +148,8 @@ fn off_pool(
     want: &mut [u16],
 ) -> usize
     requires { ⌜ DiffPoolReady (now ws) (now par) l p (now up) e (now own) (now cells) (now want) ⌝ }
-    ensures { λ r. ⌜ CountIs r (offAt (routesOfWords (now (ws .entry))) p (liveIn (entry (now (own .entry))) (p - l)) (partOf (entry (now (own .entry))) (p - l) (standsFor e (now (up .entry)))) (entry (now (cells .entry)))) (length (now (cells .entry))) ⌝ }
+    ensures { λ r. ⌜ CountIs r (offAt (routesOfWords (now (ws .entry))) p (liveIn (entry (now (own .entry))) (p - l)) (partOf (entry
+        (now (own .entry))) (p - l) (standsFor e (now (up .entry)))) (entry (now (cells .entry)))) (length (now (cells .entry))) ⌝ }
 {
     let n = own.len();
     let mut m = 0;
@@ -193,7 +195,8 @@ fn count_from(
     want: &mut [u16],
 ) -> Differs
     requires { ⌜ Owned g (now ws) (now par) (cells (now first) (now second) (now third) (now own2) (now own3)) (now want) ⌝ }
-    ensures { λ r. ⌜ Differing r (now (first .entry)) (now (second .entry)) (now (third .entry)) (wanted g (routesOfWords (now (ws .entry))) (owners (now (own2 .entry)) (now (own3 .entry)))) ⌝ }
+    ensures { λ r. ⌜ Differing r (now (first .entry)) (now (second .entry)) (now (third .entry)) (wanted g (routesOfWords (now (ws .entry)))
+        (owners (now (own2 .entry)) (now (own3 .entry)))) ⌝ }
 {
     let p1 = g.p1;
     let p2 = g.p2;
@@ -224,7 +227,8 @@ fn count_with(
     want: &mut [u16],
 ) -> Differs
     requires { ⌜ Roomy g (now input) (now first) (now second) (now third) (now own2) (now own3) (now ws) (now par) (now want) ⌝ }
-    ensures { λ r. ⌜ Differing r (now (first .entry)) (now (second .entry)) (now (third .entry)) (wanted g (inputRoutes (now (input .entry))) (freshOwners g (now (input .entry)) (length (now (own2 .entry))) (length (now (own3 .entry))))) ⌝ }
+    ensures { λ r. ⌜ Differing r (now (first .entry)) (now (second .entry)) (now (third .entry)) (wanted g (inputRoutes
+        (now (input .entry))) (freshOwners g (now (input .entry)) (length (now (own2 .entry))) (length (now (own3 .entry))))) ⌝ }
 {
     let n = input.len() / 8;
     open_all(g, input, own2, own3);
@@ -243,7 +247,8 @@ pub fn count_cells(
     n3: usize,
 ) -> Differs
     requires { ⌜ DiffReady g (now input) n2 n3 (now first) (now second) (now third) ⌝ }
-    ensures { λ r. ⌜ Differing r (now (first .entry)) (now (second .entry)) (now (third .entry)) (wanted g (inputRoutes (now (input .entry))) (freshOwners g (now (input .entry)) n2 n3)) ⌝ }
+    ensures { λ r. ⌜ Differing r (now (first .entry)) (now (second .entry)) (now (third .entry)) (wanted g (inputRoutes
+        (now (input .entry))) (freshOwners g (now (input .entry)) n2 n3)) ⌝ }
 {
     let mut own2 = [0u32; 4096];
     let mut own3 = [0u32; 4096];

@@ -52,7 +52,8 @@ pub fn walk(
     addr: u32,
 ) -> u32
     requires { ⌜ Sized g (lent (now list) (now first) (now second) (now third) (now own2) (now own3) (now long1) (now long2)) ⌝ }
-    ensures { λ r. ⌜ Word r (foundSaid g (lent (now (list .entry)) (now (first .entry)) (now (second .entry)) (now (third .entry)) (now (own2 .entry)) (now (own3 .entry)) (now (long1 .entry)) (now (long2 .entry))) addr) ⌝ }
+    ensures { λ r. ⌜ Word r (foundSaid g (lent (now (list .entry)) (now (first .entry)) (now (second .entry)) (now (third .entry))
+        (now (own2 .entry)) (now (own3 .entry)) (now (long1 .entry)) (now (long2 .entry))) addr) ⌝ }
 {
     let p1 = g.p1;
     let p2 = g.p2;
@@ -104,7 +105,8 @@ pub fn lookup(
     long2: &[u16],
     addr: u32,
 ) -> Found
-    ensures { λ r. ⌜ MeetsLookup t (lent (now (list .entry)) (now (first .entry)) (now (second .entry)) (now (third .entry)) (now (own2 .entry)) (now (own3 .entry)) (now (long1 .entry)) (now (long2 .entry))) addr r ⌝ }
+    ensures { λ r. ⌜ MeetsLookup t (lent (now (list .entry)) (now (first .entry)) (now (second .entry)) (now (third .entry))
+        (now (own2 .entry)) (now (own3 .entry)) (now (long1 .entry)) (now (long2 .entry))) addr r ⌝ }
 {
     let s = sizes(t, list, first, second, third, own2, own3, long1, long2);
     if s == 0 {

@@ -25,7 +25,9 @@ pub fn look(
     long2: &[u16],
     addr: u32,
 ) -> u64
-    ensures { λ r. ⌜ r ≡ packFound (lookupSaid t (lent (now (list .entry)) (now (first .entry)) (now (second .entry)) (now (third .entry)) (now (own2 .entry)) (now (own3 .entry)) (now (long1 .entry)) (now (long2 .entry))) addr) ⌝ }
+    ensures { λ r. ⌜ r ≡ packFound (lookupSaid t
+        (lent (now (list .entry)) (now (first .entry)) (now (second .entry)) (now (third .entry)) (now (own2 .entry)) (now (own3 .entry))
+        (now (long1 .entry)) (now (long2 .entry))) addr) ⌝ }
 {
     let z = sizes(t, list, first, second, third, own2, own3, long1, long2);
     if z != 0 {
@@ -58,7 +60,9 @@ pub fn look_standard(
     long2: &[u16],
     addr: u32,
 ) -> u64
-    ensures { λ r. ⌜ r ≡ packFound (lookupSaid (tableOf (standardGeo .p1) (standardGeo .p2) count) (lent (now (list .entry)) (now (first .entry)) (now (second .entry)) (now (third .entry)) (now (own2 .entry)) (now (own3 .entry)) (now (long1 .entry)) (now (long2 .entry))) addr) ⌝ }
+    ensures { λ r. ⌜ r ≡ packFound (lookupSaid (tableOf (standardGeo .p1) (standardGeo .p2) count)
+        (lent (now (list .entry)) (now (first .entry)) (now (second .entry)) (now (third .entry)) (now (own2 .entry)) (now (own3 .entry))
+        (now (long1 .entry)) (now (long2 .entry))) addr) ⌝ }
 {
     let geometry = Geometry::STANDARD;
     let z = sizes(
@@ -103,7 +107,9 @@ pub fn look_each(
     addrs: &[u32],
     out: &mut [u32],
 ) -> u64
-    ensures { λ r. ⌜ wordsCard r (now (out .exit)) ≡ manyCard t (lent (now (list .entry)) (now (first .entry)) (now (second .entry)) (now (third .entry)) (now (own2 .entry)) (now (own3 .entry)) (now (long1 .entry)) (now (long2 .entry))) (now (addrs .entry)) (now (out .entry)) ⌝ }
+    ensures { λ r. ⌜ wordsCard r (now (out .exit)) ≡ manyCard t
+        (lent (now (list .entry)) (now (first .entry)) (now (second .entry)) (now (third .entry)) (now (own2 .entry)) (now (own3 .entry))
+        (now (long1 .entry)) (now (long2 .entry))) (now (addrs .entry)) (now (out .entry)) ⌝ }
 {
     let z = sizes(t, list, first, second, third, own2, own3, long1, long2);
     if z != 0 {

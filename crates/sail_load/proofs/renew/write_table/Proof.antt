@@ -6,9 +6,9 @@ use Rattle.sail_load.proofs.Renews.{fits-list, ownable, bare, pending, 
 use Rattle.sail_load.proofs.renew.write_table.Statement.{statement}
 use Rattle.sail_load.proofs.renew.write_table.Tie as tie
 
--- Places, each seen from the next one: where it starts; where the input is known; after the list is put; after the second pool, the third, the counts of both levels, the
--- owners of the second and those of the third are emptied; after the owners are filled; after the cells are painted; and after the routes are
--- counted, seen from the end.
+-- Places, each seen from the next one: where it starts; where the input is known; after the list is put; after the second pool, the third, the
+-- counts of both levels, the owners of the second and those of the third are emptied; after the owners are filled; after the cells are painted;
+-- and after the routes are counted, seen from the end.
 abbrev start : tie.After-put8 → tie.Start
 start c = search
 

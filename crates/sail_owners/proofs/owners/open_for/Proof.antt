@@ -43,7 +43,8 @@ returns-2 c =
     let start = start-of after-slot in
     let wide = wide-of after-slot .byte-to-word .ensures .0 in
     let longer = longer-of after-slot .if1 .left in
-    opened-second _ _ _ _ _ (start .pre) (omega (arith, longer, wide)) _ (after-slot .slot .ensures) _ _ (first .own-chunk .ensures) (omega (arith, c .if2 .taken, wide))
+    opened-second _ _ _ _ _ (start .pre) (omega (arith, longer, wide)) _ (after-slot .slot .ensures) _ _ (first .own-chunk .ensures)
+    (omega (arith, c .if2 .taken, wide))
 
 second-place-requires : tie.Need-second-place-requires
 second-place-requires c κs =
@@ -52,7 +53,8 @@ second-place-requires c κs =
     let start = start-of after-slot in
     let wide = wide-of after-slot .byte-to-word .ensures .0 in
     let longer = longer-of after-slot .if1 .left in
-    chunk-second _ _ _ _ _ (start .pre) (omega (arith, longer, wide)) _ (after-slot .slot .ensures) _ _ (first .own-chunk .ensures) (first .own-chunk .kept .0)
+    chunk-second _ _ _ _ _ (start .pre) (omega (arith, longer, wide)) _ (after-slot .slot .ensures) _ _
+    (first .own-chunk .ensures) (first .own-chunk .kept .0)
 
 own-chunk-requires-2 : tie.Need-own-chunk-requires-2
 own-chunk-requires-2 c κs =
