@@ -5,6 +5,10 @@ use Rattle.print.proofs.Ways.{standing-printable, standing-wrote, never
 use Rattle.print.proofs.put_standing.Statement.{statement}
 use Rattle.print.proofs.put_standing.Tie as tie
 
+-- Where it starts, seen from the first place that is named after it.
+abbrev start-of : tie.After-report → tie.Start
+start-of c = search
+
 report-requires : tie.Need-report-requires
 report-requires c κs = tt
 
@@ -18,7 +22,7 @@ table-text-requires : tie.Need-table-text-requires
 table-text-requires c κs =
     let arm : tie.After-routes = search in
     let report : tie.After-report = search in
-    let start : tie.Start = search in
+    let start = start-of report in
     standing-printable _ _ (start .pre .sound) _ (report .report .ensures) _ _ _ (arm .routes .given .1) _ (omega arith) (start .pre .room)
 
 enum-known-number : tie.Need-enum-known-number
@@ -37,7 +41,7 @@ returns c =
     let put : tie.After-table-text = search in
     let arm : tie.After-routes = search in
     let report : tie.After-report = search in
-    let start : tie.Start = search in
+    let start = start-of report in
     standing-wrote _ _ (start .pre .sound) _ (report .report .ensures) _ _ _ (arm .routes .given .1) (put .table-text .ensures)
 
 same-length-2 : tie.Need-same-length-2
@@ -47,7 +51,7 @@ returns-2 : tie.Need-returns-2
 returns-2 c =
     let arm : tie.After-number = search in
     let report : tie.After-report = search in
-    let start : tie.Start = search in
+    let start = start-of report in
     absurd (never-refused _ _ (start .pre .sound) _ (report .report .ensures) _ (arm .number .given .1))
 
 pub put-standing-spec : {M : Type 1} → statement M
