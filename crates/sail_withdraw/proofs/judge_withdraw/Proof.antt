@@ -53,7 +53,8 @@ returns-4 c =
     let proper : tie.After-prefix-ok = search in
     let else1 : tie.Else1 = search in
     let sized : tie.After-sizes = search in
-    leave-stands _ _ _ _ _ (sized .sizes .ensures) (else1 .if1 .left) _ (proper .prefix-ok .ensures) (else2 .if2 .left) _ (tried .sound .ensures) (else3 .if3 .left) _ _ _
+    leave-stands _ _ _ _ _ (sized .sizes .ensures) (else1 .if1 .left) _ (proper .prefix-ok .ensures) (else2 .if2 .left) _
+    (tried .sound .ensures) (else3 .if3 .left) _ _ _
     (named .key-of .ensures .0) (placed .place .ensures .0) (standing .stands-at .ensures) (c .if4 .taken)
 
 returns-5 : tie.Need-returns-5
@@ -67,7 +68,8 @@ returns-5 c =
     let proper : tie.After-prefix-ok = search in
     let else1 : tie.Else1 = search in
     let sized : tie.After-sizes = search in
-    leave-absent _ _ _ _ _ (sized .sizes .ensures) (else1 .if1 .left) _ (proper .prefix-ok .ensures) (else2 .if2 .left) _ (tried .sound .ensures) (else3 .if3 .left) _ _ _
+    leave-absent _ _ _ _ _ (sized .sizes .ensures) (else1 .if1 .left) _ (proper .prefix-ok .ensures) (else2 .if2 .left) _
+    (tried .sound .ensures) (else3 .if3 .left) _ _ _
     (named .key-of .ensures .0) (placed .place .ensures .0) (standing .stands-at .ensures) (c .if4 .left)
 
 pub judge-withdraw-spec : {M : Type 1} → statement M
