@@ -45,15 +45,15 @@ use Rattle.sail_counts.specs.Counted.{Counts}
 use Rattle.sail_counts.proofs.Tallies.{Guided, up-tickable, up-counts, open-counts, as-counts, counts-are}
 use Rattle.sail_announce.specs.Answers.{meansAnnounce}
 use Rattle.sail_announce.specs.Booked.{Bookable, Booked, more, same}
-use Rattle.sail_announce.specs.Found.{ToAdd, AnnounceJudged}
-use Rattle.sail_announce.specs.declared.found.Found.{Found}
+use Rattle.sail_announce.specs.Verdict.{ToAdd, AnnounceJudged}
+use Rattle.sail_announce.specs.declared.verdict.AnnounceVerdict.{AnnounceVerdict}
 use Rattle.sail_announce.specs.declared.answers.Announce.{Announce}
 use Rattle.sail_announce.specs.declared.answers.Announce.the-variants as announce
 
 -- The address x is cut to its length before the route is judged.
 module _ (t : Table) (l : Lent) (a len hop mark x : ℕ) (e : x ≡ cut len a) where
   -- a refusal leaves all as it was
-  pub announce-refused : (f : Found) → AnnounceJudged t l (route x len hop mark) f → (f .number ≡ 0 → ⊥)
+  pub announce-refused : (f : AnnounceVerdict) → AnnounceJudged t l (route x len hop mark) f → (f .number ≡ 0 → ⊥)
       → out (meansAnnounce (announce.Refused (f .number))) t l ≡ announced t l (route a len hop mark)
   unfolding meansAnnounce
   announce-refused f k h = sym (announce-off t l (route a len hop mark) (refused (f .number)) (rw e at (k .off h)) refl)
@@ -64,7 +64,7 @@ module _ (t : Table) (l : Lent) (a len hop mark x : ℕ) (e : x ≡ cut len a) w
   unfolding announced
   announce-cleared c f o q = q ∙ rw (f, e)
 
-module _ (t : Table) (l : Lent) (r : Route) (f : Found) (ready : ToAdd t l r f) where
+module _ (t : Table) (l : Lent) (r : Route) (f : AnnounceVerdict) (ready : ToAdd t l r f) where
   abbrev w : Announceable t l r
   w = ready .may
 

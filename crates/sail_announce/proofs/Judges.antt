@@ -43,8 +43,8 @@ use Rattle.sail_chunks.proofs.ToOpen.{opens-nothing}
 use Rattle.sail_chunks.specs.declared.opening.Opening.{Opening}
 use Rattle.sail_sound.proofs.TableTest.{tried-sound}
 use Rattle.sail_theory.proofs.Judges.{judged-off, judged-on, or-said}
-use Rattle.sail_announce.specs.Found.{AnnounceJudged}
-use Rattle.sail_announce.specs.declared.found.Found.{Found}
+use Rattle.sail_announce.specs.Verdict.{AnnounceJudged}
+use Rattle.sail_announce.specs.declared.verdict.AnnounceVerdict.{AnnounceVerdict}
 
 -- a limit that the chunks in use keep is exceeded exactly where a chunk is to be opened and as many as the limit are in use
 over : (rs : List Route) (r : Route) (p : ℕ) (own : List ℕ) → Enough rs p own → Fine r → (limit : ℕ) → used own ≤ limit →
@@ -71,7 +71,7 @@ module _ (t : Table) (l : Lent) (r : Route) where
 
   -- what is told with the number n
   abbrev Told : ℕ → Type 0
-  Told n = (f : Found) → f .number ≡ n → AnnounceJudged t l r f
+  Told n = (f : AnnounceVerdict) → f .number ≡ n → AnnounceJudged t l r f
 
   off : (n : ℕ) → 1 ≤ n → Announce t l r (refused n) → Told n
   off n h x f e = judged-off (f .number) _ _ (rw e h) (rw e (announce-only t l r (refused n) x))

@@ -2,4 +2,4 @@
 pub mod Answers
 pub mod Contract
 pub mod Booked
-pub mod Found
+pub mod Verdict

@@ -15,14 +15,14 @@ ghost use Rattle.sail_theory.specs.Cases.{Proper};
 ghost use Rattle.sail_announce.specs.Answers.{meansAnnounce};
 ghost use Rattle.sail_announce.specs.Contract.{MeetsAnnounce};
 ghost use Rattle.sail_announce.specs.Booked.{Bookable, Booked};
-ghost use Rattle.sail_announce.specs.Found.{ToAdd, AnnounceJudged};
+ghost use Rattle.sail_announce.specs.Verdict.{ToAdd, AnnounceJudged};
 
 pub mod answers;
-pub mod found;
+pub mod verdict;
 
 use crate::answers::Announce;
 use crate::answers::Announced;
-use crate::found::Found;
+use crate::verdict::AnnounceVerdict;
 use bits::widen::byte_to_word;
 use lists::edit;
 use lists::place::place;
@@ -53,10 +53,10 @@ fn wanting(opens: bool, own: &[u32], limit: usize) -> bool
 }
 
 // A refusal: of the rest nothing is told.
-fn refusal(number: u8) -> Found
+fn refusal(number: u8) -> AnnounceVerdict
     ensures { λ f. ⌜ f .number ≡ number ⌝ }
 {
-    Found {
+    AnnounceVerdict {
         number,
         at: 0,
         stands: false,
@@ -76,7 +76,7 @@ fn judge_room(
     long1: &[u16],
     long2: &[u16],
     r: Route,
-) -> Found
+) -> AnnounceVerdict
     requires { ⌜ Proper t (lent (now list) (now first) (now second) (now third) (now own2) (now own3) (now long1) (now long2)) r ⌝ }
     ensures { λ f. ⌜ AnnounceJudged t (lent (now (list .entry)) (now (first .entry)) (now (second .entry)) (now (third .entry))
         (now (own2 .entry)) (now (own3 .entry)) (now (long1 .entry)) (now (long2 .entry))) r f ⌝ }
@@ -85,7 +85,7 @@ fn judge_room(
     let p = record::key_of(r.addr, r.len);
     let k = place(list, n, p);
     if edit::stands_at(list, n, k, p) {
-        return Found {
+        return AnnounceVerdict {
             number: 0,
             at: k,
             stands: true,
@@ -102,7 +102,7 @@ fn judge_room(
     if wanting(o.third, own3, own3.len()) {
         return refusal(8);
     }
-    Found {
+    AnnounceVerdict {
         number: 0,
         at: k,
         stands: false,
@@ -123,7 +123,7 @@ fn judge_announce(
     long1: &[u16],
     long2: &[u16],
     r: Route,
-) -> Found
+) -> AnnounceVerdict
     ensures { λ f. ⌜ AnnounceJudged t (lent (now (list .entry)) (now (first .entry)) (now (second .entry)) (now (third .entry))
         (now (own2 .entry)) (now (own3 .entry)) (now (long1 .entry)) (now (long2 .entry))) r f ⌝ }
 {
@@ -186,7 +186,7 @@ fn add(
     long1: &mut [u16],
     long2: &mut [u16],
     r: Route,
-    f: Found,
+    f: AnnounceVerdict,
     cleared: bool,
 ) -> Announced
     requires { ⌜ ToAdd t (lent (now list) (now first) (now second) (now third) (now own2) (now own3) (now long1) (now long2)) r f ⌝ }

@@ -47,14 +47,14 @@ use Rattle.sail_counts.specs.Tick.{Tickable, CountsMoved}
 use Rattle.sail_counts.specs.declared.tick.Left.{Left}
 use Rattle.sail_counts.proofs.Tallies.{Guided, down-tickable, down-counts, closes-first, closes-second, keep-counts, counts-are}
 use Rattle.sail_withdraw.specs.Answers.{meansWithdraw}
-use Rattle.sail_withdraw.specs.Found.{ToTake, WithdrawJudged}
-use Rattle.sail_withdraw.specs.declared.found.Found.{Found}
+use Rattle.sail_withdraw.specs.Verdict.{ToTake, WithdrawJudged}
+use Rattle.sail_withdraw.specs.declared.verdict.WithdrawVerdict.{WithdrawVerdict}
 use Rattle.sail_withdraw.specs.declared.answers.Withdraw.the-variants as withdraw
 
 -- The address x is cut to the length before the prefix is judged.
 module _ (t : Table) (l : Lent) (a len x : ℕ) (e : x ≡ cut len a) where
   -- a refusal leaves all as it was
-  pub withdraw-refused : (f : Found) → WithdrawJudged t l x len f → (f .number ≡ 0 → ⊥)
+  pub withdraw-refused : (f : WithdrawVerdict) → WithdrawJudged t l x len f → (f .number ≡ 0 → ⊥)
       → out (meansWithdraw (withdraw.Refused (f .number))) t l ≡ withdrawn t l a len
   unfolding meansWithdraw
   withdraw-refused f k h = sym (withdraw-off t l a len (refused (f .number)) (rw e at (k .off h)) refl)

@@ -1,4 +1,4 @@
 -- What withdraw answers.
 pub mod Answers
 pub mod Contract
-pub mod Found
+pub mod Verdict

@@ -4,14 +4,14 @@ ghost use Rattle.sail.specs.Lent.{lent};
 ghost use Rattle.sail_theory.specs.Calls.{out, taking, outWithFlag};
 ghost use Rattle.sail_withdraw.specs.Answers.{meansWithdraw};
 ghost use Rattle.sail_withdraw.specs.Contract.{MeetsWithdraw};
-ghost use Rattle.sail_withdraw.specs.Found.{ToTake, WithdrawJudged};
+ghost use Rattle.sail_withdraw.specs.Verdict.{ToTake, WithdrawJudged};
 
 pub mod answers;
-pub mod found;
+pub mod verdict;
 
 use crate::answers::Withdraw;
 use crate::answers::Withdrawn;
-use crate::found::Found;
+use crate::verdict::WithdrawVerdict;
 use bits::widen::byte_to_word;
 use lists::edit;
 use lists::place::place;
@@ -40,27 +40,27 @@ fn judge_withdraw(
     long2: &[u16],
     addr: u32,
     len: u8,
-) -> Found
+) -> WithdrawVerdict
     ensures { λ f. ⌜ WithdrawJudged t (lent (now (list .entry)) (now (first .entry)) (now (second .entry)) (now (third .entry))
         (now (own2 .entry)) (now (own3 .entry)) (now (long1 .entry)) (now (long2 .entry))) addr len f ⌝ }
 {
     let s = sizes(t, list, first, second, third, own2, own3, long1, long2);
     if s != 0 {
-        return Found { number: s, at: 0 };
+        return WithdrawVerdict { number: s, at: 0 };
     }
     if !input::prefix_ok(addr, len) {
-        return Found { number: 3, at: 0 };
+        return WithdrawVerdict { number: 3, at: 0 };
     }
     if !sound(t, list, first, second, third, own2, own3, long1, long2) {
-        return Found { number: 5, at: 0 };
+        return WithdrawVerdict { number: 5, at: 0 };
     }
     let n = t.count as usize;
     let p = record::key_of(addr, len);
     let k = place(list, n, p);
     if edit::stands_at(list, n, k, p) {
-        return Found { number: 0, at: k };
+        return WithdrawVerdict { number: 0, at: k };
     }
-    Found { number: 9, at: 0 }
+    WithdrawVerdict { number: 9, at: 0 }
 }
 
 // The withdrawal, where the prefix stands: its record is taken out of the list and counted no more, chunks whose count falls

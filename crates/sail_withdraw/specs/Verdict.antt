@@ -8,7 +8,7 @@ use Rattle.sail.specs.declared.table.Table.{Table}
 use Rattle.sail_theory.specs.Calls.{withdrawSaid}
 use Rattle.sail_theory.specs.Facts.{Withdrawable}
 use Rattle.sail_theory.specs.Judge.{Judged}
-use Rattle.sail_withdraw.specs.declared.found.Found.{Found}
+use Rattle.sail_withdraw.specs.declared.verdict.WithdrawVerdict.{WithdrawVerdict}
 
 -- the prefix may be withdrawn, and record `at` of the list has it
 pub record ToTake (t : Table) (l : Lent) (a len at : ℕ) : Type 0 where
@@ -16,5 +16,5 @@ pub record ToTake (t : Table) (l : Lent) (a len at : ℕ) : Type 0 where
   pub place : at < t .count
   pub named : key (recordAt (l .list) at) ≡ keyOf a len
 
-abbrev pub WithdrawJudged : Table → Lent → ℕ → ℕ → Found → Type 0
+abbrev pub WithdrawJudged : Table → Lent → ℕ → ℕ → WithdrawVerdict → Type 0
 WithdrawJudged t l a len f = Judged (f .number) (withdrawSaid t l a len) (ToTake t l a len (f .at))

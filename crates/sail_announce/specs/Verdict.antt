@@ -11,14 +11,14 @@ use Rattle.sail_theory.specs.Calls.{announceSaid}
 use Rattle.sail_theory.specs.Facts.{Announceable}
 use Rattle.sail_theory.specs.Judge.{Judged}
 use Rattle.sail_chunks.specs.ToOpen.{Opens}
-use Rattle.sail_announce.specs.declared.found.Found.{Found}
+use Rattle.sail_announce.specs.declared.verdict.AnnounceVerdict.{AnnounceVerdict}
 
 -- the route may be announced; where its key is in the list, whether its prefix stands, and what is to be opened for it
-pub record ToAdd (t : Table) (l : Lent) (r : Route) (f : Found) : Type 0 where
+pub record ToAdd (t : Table) (l : Lent) (r : Route) (f : AnnounceVerdict) : Type 0 where
   pub may : Announceable t l r
   pub at : f .at ≡ placeOf (l .list) (t .count) (key r)
   pub stood : f .stands ≡ stands (key r) (standing t l)
   pub opens : Opens (t .geometry) (standing t l) (l .own2) (r .addr) (r .len) (f .opens)
 
-abbrev pub AnnounceJudged : Table → Lent → Route → Found → Type 0
+abbrev pub AnnounceJudged : Table → Lent → Route → AnnounceVerdict → Type 0
 AnnounceJudged t l r f = Judged (f .number) (announceSaid t l r) (ToAdd t l r f)
