@@ -45,8 +45,8 @@ use Rattle.sail_counts.specs.Counted.{Counts}
 use Rattle.sail_counts.proofs.Tallies.{Guided, up-tickable, up-counts, open-counts, as-counts, counts-are}
 use Rattle.sail_announce.specs.Answers.{meansAnnounce}
 use Rattle.sail_announce.specs.Booked.{Bookable, Booked, more, same}
-use Rattle.sail_announce.specs.Verdict.{ToAdd, AnnounceJudged}
-use Rattle.sail_announce.specs.declared.verdict.AnnounceVerdict.{AnnounceVerdict}
+use Rattle.sail_judge.specs.Announce.{ToAdd, AnnounceJudged}
+use Rattle.sail_judge.specs.declared.announce.AnnounceVerdict.{AnnounceVerdict}
 use Rattle.sail_announce.specs.declared.answers.Announce.{Announce}
 use Rattle.sail_announce.specs.declared.answers.Announce.the-variants as announce
 

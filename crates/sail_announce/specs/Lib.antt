@@ -2,4 +2,3 @@
 pub mod Answers
 pub mod Contract
 pub mod Booked
-pub mod Verdict

@@ -47,8 +47,8 @@ use Rattle.sail_counts.specs.Tick.{Tickable, CountsMoved}
 use Rattle.sail_counts.specs.declared.tick.Left.{Left}
 use Rattle.sail_counts.proofs.Tallies.{Guided, down-tickable, down-counts, closes-first, closes-second, keep-counts, counts-are}
 use Rattle.sail_withdraw.specs.Answers.{meansWithdraw}
-use Rattle.sail_withdraw.specs.Verdict.{ToTake, WithdrawJudged}
-use Rattle.sail_withdraw.specs.declared.verdict.WithdrawVerdict.{WithdrawVerdict}
+use Rattle.sail_judge.specs.Withdraw.{ToTake, WithdrawJudged}
+use Rattle.sail_judge.specs.declared.withdraw.WithdrawVerdict.{WithdrawVerdict}
 use Rattle.sail_withdraw.specs.declared.answers.Withdraw.the-variants as withdraw
 
 -- The address x is cut to the length before the prefix is judged.

@@ -1,4 +1,3 @@
 -- What withdraw answers.
 pub mod Answers
 pub mod Contract
-pub mod Verdict

@@ -1,9 +1,9 @@
--- `sail_announce::wanting`: the chunks in use are counted where one is to be opened.
+-- `sail_judge::announce::wanting`: the chunks in use are counted where one is to be opened.
 use mathlib.Core.Path.{ap}
 use borrow.Author.Needs.{needs}
 use lib.Dec.{leb}
-use Rattle.sail_announce.proofs.wanting.Statement.{statement}
-use Rattle.sail_announce.proofs.wanting.Tie as tie
+use Rattle.sail_judge.proofs.announce.wanting.Statement.{statement}
+use Rattle.sail_judge.proofs.announce.wanting.Tie as tie
 
 returns : tie.Need-returns
 returns c = rw (c .before .if1 .taken) (ap (leb _) (c .in-use .ensures))

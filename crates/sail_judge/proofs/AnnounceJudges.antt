@@ -43,8 +43,8 @@ use Rattle.sail_chunks.proofs.ToOpen.{opens-nothing}
 use Rattle.sail_chunks.specs.declared.opening.Opening.{Opening}
 use Rattle.sail_sound.proofs.TableTest.{tried-sound}
 use Rattle.sail_theory.proofs.Judges.{judged-off, judged-on, or-said}
-use Rattle.sail_announce.specs.Verdict.{AnnounceJudged}
-use Rattle.sail_announce.specs.declared.verdict.AnnounceVerdict.{AnnounceVerdict}
+use Rattle.sail_judge.specs.Announce.{AnnounceJudged}
+use Rattle.sail_judge.specs.declared.announce.AnnounceVerdict.{AnnounceVerdict}
 
 -- a limit that the chunks in use keep is exceeded exactly where a chunk is to be opened and as many as the limit are in use
 over : (rs : List Route) (r : Route) (p : ℕ) (own : List ℕ) → Enough rs p own → Fine r → (limit : ℕ) → used own ≤ limit →

@@ -8,7 +8,7 @@ use Rattle.sail.specs.declared.table.Table.{Table}
 use Rattle.sail_theory.specs.Calls.{withdrawSaid}
 use Rattle.sail_theory.specs.Facts.{Withdrawable}
 use Rattle.sail_theory.specs.Judge.{Judged}
-use Rattle.sail_withdraw.specs.declared.verdict.WithdrawVerdict.{WithdrawVerdict}
+use Rattle.sail_judge.specs.declared.withdraw.WithdrawVerdict.{WithdrawVerdict}
 
 -- the prefix may be withdrawn, and record `at` of the list has it
 pub record ToTake (t : Table) (l : Lent) (a len at : ℕ) : Type 0 where

@@ -21,7 +21,7 @@ use Rattle.sail_theory.proofs.calls.OneCase.{withdraw-only}
 use Rattle.sail_sound.specs.TableTest.{Tried}
 use Rattle.sail_sound.proofs.TableTest.{tried-sound}
 use Rattle.sail_theory.proofs.Judges.{judged-off, judged-on, or-said}
-use Rattle.sail_withdraw.specs.Verdict.{WithdrawJudged}
+use Rattle.sail_judge.specs.Withdraw.{WithdrawJudged}
 
 module _ (t : Table) (l : Lent) (a len : ℕ) where
   -- what is told with the number n and the place at

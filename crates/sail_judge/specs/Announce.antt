@@ -11,7 +11,7 @@ use Rattle.sail_theory.specs.Calls.{announceSaid}
 use Rattle.sail_theory.specs.Facts.{Announceable}
 use Rattle.sail_theory.specs.Judge.{Judged}
 use Rattle.sail_chunks.specs.ToOpen.{Opens}
-use Rattle.sail_announce.specs.declared.verdict.AnnounceVerdict.{AnnounceVerdict}
+use Rattle.sail_judge.specs.declared.announce.AnnounceVerdict.{AnnounceVerdict}
 
 -- the route may be announced; where its key is in the list, whether its prefix stands, and what is to be opened for it
 pub record ToAdd (t : Table) (l : Lent) (r : Route) (f : AnnounceVerdict) : Type 0 where

@@ -1,9 +1,9 @@
--- `sail_withdraw::judge_withdraw`. The number with which the withdrawal is refused, by the first condition that holds; 0 where it is accepted.
+-- `sail_judge::withdraw::judge_withdraw`. The number with which the withdrawal is refused, by the first condition that holds; 0 where it is accepted.
 use Rattle.sail_sound.proofs.TableTest.{tried-sound}
-use Rattle.sail_withdraw.proofs.Judges.{leave-sizes, leave-prefix, leave-sound, leave-stands, leave-absent}
+use Rattle.sail_judge.proofs.WithdrawJudges.{leave-sizes, leave-prefix, leave-sound, leave-stands, leave-absent}
 use borrow.Author.Needs.{needs}
-use Rattle.sail_withdraw.proofs.judge_withdraw.Statement.{statement}
-use Rattle.sail_withdraw.proofs.judge_withdraw.Tie as tie
+use Rattle.sail_judge.proofs.withdraw.judge_withdraw.Statement.{statement}
+use Rattle.sail_judge.proofs.withdraw.judge_withdraw.Tie as tie
 
 returns : tie.Need-returns
 returns c = leave-sizes _ _ _ _ _ (c .before .sizes .ensures) (c .if1 .taken)

@@ -1,9 +1,9 @@
--- `sail_announce::judge_room`: each way has its law.
+-- `sail_judge::announce::judge_room`: each way has its law.
 use borrow.Author.Needs.{needs}
 use Rattle.sail_chunks.proofs.Trails.{serving-of}
-use Rattle.sail_announce.proofs.Judges.{room-stands, room-full, room-second, room-third, room-enough}
-use Rattle.sail_announce.proofs.judge_room.Statement.{statement}
-use Rattle.sail_announce.proofs.judge_room.Tie as tie
+use Rattle.sail_judge.proofs.AnnounceJudges.{room-stands, room-full, room-second, room-third, room-enough}
+use Rattle.sail_judge.proofs.announce.judge_room.Statement.{statement}
+use Rattle.sail_judge.proofs.announce.judge_room.Tie as tie
 
 -- where it starts, seen from after `key_of`
 abbrev begun : tie.After-key-of → tie.Start

@@ -1,7 +1,7 @@
--- `sail_announce::judge_announce`. The number with which the announcement is refused, by the first condition that holds; 0 where it is accepted.
-use Rattle.sail_announce.proofs.Judges.{judge-sizes, judge-route, judge-sound, judge-proper}
-use Rattle.sail_announce.proofs.judge_announce.Statement.{statement}
-use Rattle.sail_announce.proofs.judge_announce.Tie as tie
+-- `sail_judge::announce::judge_announce`. The number with which the announcement is refused, by the first condition that holds; 0 where it is accepted.
+use Rattle.sail_judge.proofs.AnnounceJudges.{judge-sizes, judge-route, judge-sound, judge-proper}
+use Rattle.sail_judge.proofs.announce.judge_announce.Statement.{statement}
+use Rattle.sail_judge.proofs.announce.judge_announce.Tie as tie
 
 returns : tie.Need-returns
 returns c =
