@@ -142,6 +142,15 @@ module _ (s : After Grafting (λ g. raising g (opening g (withLast g)))) where
 abbrev Without : ℕ → ℕ → ℕ → Type 0
 Without v b w = WithBit v b w × (isSet v b ≡ false) × (v < 2 ^ 32)
 
+-- the bases after node x can be lowered, also once the bits of x are changed
+lowerable-set : (ws : List ℕ) (x v d b : ℕ) → 0 < d → d < 3 → x < b → 3 * b ≤ length ws → ((i : ℕ) → x < i → i < b → 1 ≤ getD ws (3 * i + d) 0)
+    → Lowerable (set ws (3 * x) v) d (x + 1) b
+lowerable-set ws x v d b z l u r some = record {
+  stretch = record { word = l; order = omega arith; room = omega (arith, length-set ws (3 * x) v) };
+  some = λ i p q.
+      omega (arith, getD-set-other ws (3 * x) (3 * i + d) v 0 (λ (e : 3 * i + d ≡ 3 * x). omega arith), some i (omega arith) q);
+}
+
 pub record Pruning : Type 0 where
   pub ws : List ℕ
   pub n : ℕ
@@ -173,19 +182,8 @@ blanking p w = put3 w (p .n) 0 0 0
 pub prune-lower : (p : Pruning) → Lowerable (cleared p) 1 (p .x + 1) (p .n + 1)
 prune-lower p =
     let r = p .able in
-    record {
-      stretch = record {
-        word = omega arith;
-        order = omega (arith, r .parent);
-        room = omega (arith, length-set (p .ws) (3 * p .x) (p .v), r .words .order .lent);
-      };
-      some = λ i l u.
-          omega (
-            arith,
-            getD-set-other (p .ws) (3 * p .x) (3 * i + 1) (p .v) 0 (λ (e : 3 * i + 1 ≡ 3 * p .x). omega arith),
-            r .words .order .child i u,
-          );
-    }
+    lowerable-set (p .ws) (p .x) (p .v) 1 (p .n + 1) (omega arith) (omega arith) (r .parent) (omega (arith, r .words .order .lent))
+    (λ i l u. omega (arith, r .words .order .child i u))
 
 module _ (s : After Pruning (λ p. lowering p (cleared p))) where
   long-lowered : length (s .list) ≡ length (s .found .ws)
@@ -285,22 +283,15 @@ basesLowered t = each (λ z. z - 1) (set (t .ws) (3 * t .x) (t .v)) 2 (t .x + 1)
 pub take-lower : (t : Taking) → Lowerable (set (t .ws) (3 * t .x) (t .v)) 2 (t .x + 1) (t .n)
 take-lower t =
     let r = t .able in
-    record {
-      stretch = record {
-        word = omega arith;
-        order = omega (arith, r .parent);
-        room = omega (arith, length-set (t .ws) (3 * t .x) (t .v), r .words .order .lent);
-      };
-      some = λ i l u.
-          omega (
-            arith,
-            getD-set-other (t .ws) (3 * t .x) (3 * i + 2) (t .v) 0 (λ (e : 3 * i + 2 ≡ 3 * t .x). omega arith),
-            r .words .order .base i u,
-            ints-mono (t .ws) (suc (t .x)) i (omega arith),
-            ints-next (t .ws) (t .x),
-            fewer-ints (bitsOf (t .ws) (t .x)) (t .b) (r .small) (r .stands),
-          );
-    }
+    lowerable-set (t .ws) (t .x) (t .v) 2 (t .n) (omega arith) (omega arith) (r .parent) (omega (arith, r .words .order .lent))
+    (λ i l u.
+    omega (
+      arith,
+      r .words .order .base i u,
+      ints-mono (t .ws) (suc (t .x)) i (omega arith),
+      ints-next (t .ws) (t .x),
+      fewer-ints (bitsOf (t .ws) (t .x)) (t .b) (r .small) (r .stands),
+    ))
 
 pub take-close : (t : Taking) → Movable (t .y) (t .k) 1 (length (t .hs))
 take-close t = record { rises = take-inside (t .able) (t .y) (t .place); room = t .able .room }
