@@ -1,19 +1,9 @@
 -- Packed answers beside what is lent.
-use mathlib.Core.Bool.{Bool, true, false, cond}
-use mathlib.Core.Path.{_≡_, _∙_, refl, sym, ap}
+use mathlib.Core.Path.{_≡_, _∙_, ap}
 use mathlib.Core.List.{List}
 use Prim.Native.Nat.{ℕ, _/_, _<_, min}
-use native.Mathlib.Omega.{arith}
-use borrow.Author.Tests.{eq-eqb, ne-eqb}
-use lib.ListN.{length, getD, replicate}
-use lib.Seq.{ext-getD}
-use Rattle.bits.proofs.Tabs.{length-tabulate}
 use Rattle.bits.specs.Count.{count}
-use Rattle.routes.specs.Said.{Said, accepts}
-use Rattle.routes.specs.Input.{inputSaid}
-use Rattle.routes.specs.Answers.{meansInput}
-use Rattle.runs.specs.Tally.{IsTally, tallyOf, lengthsOf, hasLength}
-use Rattle.runs.specs.declared.tally.Tallied.{Tallied}
+use Rattle.routes.specs.Said.{Said}
 use Rattle.sail.specs.Geometry.{standardGeo}
 use Rattle.sail.specs.Lent.{Lent}
 use Rattle.sail.specs.Walk.{lookupSaid}
@@ -21,11 +11,10 @@ use Rattle.sail.specs.declared.table.Table.{Table}
 use Rattle.sail_theory.specs.Calls.{route, Out, out, announced, withdrawn}
 use Rattle.tree_build.specs.Built as tree
 use Rattle.sail.specs.Word.{packFound}
-use Rattle.packing.specs.Pack.{packChange, packBuilt, packNone}
+use Rattle.packing.specs.Pack.{packChange, packBuilt}
 use Rattle.cards.proofs.Narrow.{announced-narrow, withdrawn-narrow}
 use Rattle.cards.specs.Cards.{card, cardOf, imageCard, imageCardOf}
-use Rattle.packing.specs.Tallies.{tallyCard}
-use Rattle.sail_words.specs.Lookups.{wordsCard, tableOf, manyCard}
+use Rattle.sail_words.specs.Lookups.{tableOf}
 
 pub card-is : (s : Said) (t : Table) (l : Lent) (o : Out) (r : ℕ) → out s t l ≡ o → r ≡ packChange (t .count) s → card r l ≡ cardOf o
 unfolding cardOf
