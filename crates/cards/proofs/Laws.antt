@@ -1,8 +1,7 @@
 -- Packed answers beside what is lent.
 use mathlib.Core.Path.{_≡_, _∙_, ap}
 use mathlib.Core.List.{List}
-use Prim.Native.Nat.{ℕ, _/_, _<_, min}
-use Rattle.bits.specs.Count.{count}
+use Prim.Native.Nat.{ℕ, min}
 use Rattle.routes.specs.Said.{Said}
 use Rattle.sail.specs.Geometry.{standardGeo}
 use Rattle.sail.specs.Lent.{Lent}
