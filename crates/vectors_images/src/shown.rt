@@ -82,17 +82,7 @@ fn words(list: &[u32]) {
     print::end();
 }
 
-fn hops(list: &[u16]) {
-    print::text(b"hops");
-    let mut i = 0;
-    while i < list.len() {
-        print::value16(list[i]);
-        i += 1;
-    }
-    print::end();
-}
-
 pub fn image(list: &[u32], then: &[u16]) {
     words(list);
-    hops(then);
+    print::hops(then);
 }

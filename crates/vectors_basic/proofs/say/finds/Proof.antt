@@ -1,30 +1,27 @@
--- `vectors_images::shown::hops` is safe and ends.
+-- `vectors_basic::say::finds` is safe and ends.
 use Prim.Native.Nat.{_-_, _≤_}
 use lib.ListN.{length}
 use borrow.Author.Needs.{needs}
-use Rattle.vectors_images.proofs.shown.hops.Statement.{statement}
-use Rattle.vectors_images.proofs.shown.hops.Tie as tie
+use Rattle.vectors_basic.proofs.say.finds.Statement.{statement}
+use Rattle.vectors_basic.proofs.say.finds.Tie as tie
 
 abbrev Inv-loop : tie.InvT-loop
-Inv-loop list i₀ i = i ≤ length list
+Inv-loop input bits cells addrs i₀ i = i ≤ length addrs
 
 abbrev μ-loop : tie.MeasureT-loop
-μ-loop list i₀ i = length list - i
+μ-loop input bits cells addrs i₀ i = length addrs - i
 
-pub hops-spec : {M : Type 1} → statement M
-hops-spec =
+pub finds-spec : {M : Type 1} → statement M
+finds-spec =
     tie.close
     (tie.spec
     Inv-loop
     μ-loop
     (λ c. search needs)
-    (λ c κs. search needs)
-    (λ c. search needs)
-    (λ c. search needs)
-    (λ c. search needs)
-    (λ c κs. search needs)
-    (λ c. search needs)
     (λ c. search needs)
     (λ c. search needs)
     (λ c κs. search needs)
+    (λ c. search needs)
+    (λ c. search needs)
+    (λ c. search needs)
     (λ c. search needs))

@@ -1,9 +1,9 @@
--- `vectors::images::hops` is safe and ends.
+-- `vectors_shared::print::hops` is safe and ends.
 use Prim.Native.Nat.{_-_, _≤_}
 use lib.ListN.{length}
 use borrow.Author.Needs.{needs}
-use Rattle.vectors.proofs.images.hops.Statement.{statement}
-use Rattle.vectors.proofs.images.hops.Tie as tie
+use Rattle.vectors_shared.proofs.print.hops.Statement.{statement}
+use Rattle.vectors_shared.proofs.print.hops.Tie as tie
 
 abbrev Inv-loop : tie.InvT-loop
 Inv-loop list i₀ i = i ≤ length list

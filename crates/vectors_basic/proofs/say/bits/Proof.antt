@@ -1,9 +1,9 @@
--- `vectors::images::words` is safe and ends.
+-- `vectors_basic::say::bits` is safe and ends.
 use Prim.Native.Nat.{_-_, _≤_}
 use lib.ListN.{length}
 use borrow.Author.Needs.{needs}
-use Rattle.vectors.proofs.images.words.Statement.{statement}
-use Rattle.vectors.proofs.images.words.Tie as tie
+use Rattle.vectors_basic.proofs.say.bits.Statement.{statement}
+use Rattle.vectors_basic.proofs.say.bits.Tie as tie
 
 abbrev Inv-loop : tie.InvT-loop
 Inv-loop list i₀ i = i ≤ length list
@@ -11,20 +11,16 @@ Inv-loop list i₀ i = i ≤ length list
 abbrev μ-loop : tie.MeasureT-loop
 μ-loop list i₀ i = length list - i
 
-pub words-spec : {M : Type 1} → statement M
-words-spec =
+pub bits-spec : {M : Type 1} → statement M
+bits-spec =
     tie.close
     (tie.spec
     Inv-loop
     μ-loop
     (λ c. search needs)
-    (λ c κs. search needs)
-    (λ c. search needs)
-    (λ c. search needs)
     (λ c. search needs)
     (λ c κs. search needs)
     (λ c. search needs)
     (λ c. search needs)
     (λ c. search needs)
-    (λ c κs. search needs)
     (λ c. search needs))
