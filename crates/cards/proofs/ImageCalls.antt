@@ -19,10 +19,10 @@ use Rattle.tree_image.specs.Image.{nodeNeed}
 use Rattle.tree_image.proofs.Needs.{nodes-most}
 use Rattle.tree_build.specs.Built as tree
 use Rattle.tree_same.specs.Listed.{routesHeld}
-use Rattle.tree_check.specs.Answers.{tested}
-use Rattle.tree_check.specs.WellFormed.{nodesUsed, hopsIn, wellFormed}
-use Rattle.tree_check.proofs.Meaning.{well-formed-is}
-use Rattle.tree_check.proofs.Held.{held-good, held-nodes, held-hops}
+use Rattle.tree_formed.specs.Answers.{tested}
+use Rattle.tree_formed.specs.WellFormed.{nodesUsed, hopsIn, wellFormed}
+use Rattle.tree_formed.proofs.Meaning.{well-formed-is}
+use Rattle.tree_formed.proofs.Held.{held-good, held-nodes, held-hops}
 use Rattle.tree_change.specs.Changed.{unmarkedRoute, imageAnnounced, imageWithdrawn}
 use Rattle.tree_change.specs.Cases.{ImageAsked, routesWith, routesWithout, Announcing, Withdrawing}
 use Rattle.tree_change.proofs.ChangeReturns.{is-fine}

@@ -19,8 +19,8 @@ use Rattle.tree_build.specs.Built.{built}
 use Rattle.tree_same.specs.Listed.{routesHeld}
 use Rattle.tree_same.specs.OneImage.{SameRoutes, Builds, SameArrays, SameUsed}
 use Rattle.tree_same.proofs.OneImage as builds
-use Rattle.tree_check.specs.Cases.{Narrow}
-use Rattle.tree_check.specs.WellFormed.{wellFormed}
+use Rattle.tree_formed.specs.Cases.{Narrow}
+use Rattle.tree_formed.specs.WellFormed.{wellFormed}
 use Rattle.tree_change.specs.Cases.{ImageLeft}
 use Rattle.tree_runs.specs.ImageRuns.{ImageCall, imageAfter, imageStandingAfter, imageHeldByCalls, imageRoutesAfter}
 use Rattle.tree_runs.proofs.ImageRuns as runs

@@ -17,8 +17,8 @@ use Rattle.tree_image.specs.Image as ofImage
 use Rattle.tree_image.specs.Walk.{treeHopSaid, fetchedFrom, walkFrom, treeSaid}
 use Rattle.tree_build.specs.Built.{madeOf, built}
 use Rattle.tree_same.specs.Order.{exts, ints}
-use Rattle.tree_check.specs.Answers.{tested}
-use Rattle.tree_check.specs.WellFormed.{nodesUsed, ordered, allFrom, nodeOk, hopsOk, blankFrom, wellFormed}
+use Rattle.tree_formed.specs.Answers.{tested}
+use Rattle.tree_formed.specs.WellFormed.{nodesUsed, ordered, allFrom, nodeOk, hopsOk, blankFrom, wellFormed}
 use Rattle.examples.specs.Lines.{Hold}
 use Rattle.examples.specs.EdgesImages.{answer, edges}
 

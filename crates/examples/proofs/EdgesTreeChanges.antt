@@ -28,8 +28,8 @@ use Rattle.tree_build.proofs.Serves.{built-accepts}
 use Rattle.tree_same.specs.Listed.{routesHeld}
 use Rattle.tree_same.specs.Order.{exts, ints}
 use Rattle.tree_same.proofs.Same.{image-held}
-use Rattle.tree_check.specs.WellFormed.{nodesUsed, ordered, allFrom, nodeOk, hopsOk, blankFrom, wellFormed}
-use Rattle.tree_check.proofs.Exact.{built-passes}
+use Rattle.tree_formed.specs.WellFormed.{nodesUsed, ordered, allFrom, nodeOk, hopsOk, blankFrom, wellFormed}
+use Rattle.tree_formed.proofs.Exact.{built-passes}
 use Rattle.tree_change.specs.Changed.{unmarkedRoute, putTo, takenFrom, imageAnnounced, imageWithdrawn}
 use Rattle.examples.specs.Lines.{Hold}
 use Rattle.examples.specs.EdgesTreeChanges as changes

@@ -4,4 +4,4 @@ pub mod Parts
 mod Reports
 pub mod Hops
 pub mod Casts
-mod Tallies
+mod TallyWords

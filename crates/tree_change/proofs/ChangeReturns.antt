@@ -23,12 +23,12 @@ use Rattle.tree_build.specs.Built.{ImageOut, imageOut, madeOf}
 use Rattle.tree_same.specs.Order.{ints, Order}
 use Rattle.tree_same.specs.Listed.{routesHeld}
 use Rattle.tree_same.proofs.Holdings.{nodes-are, hops-are}
-use Rattle.tree_check.specs.WellFormed.{ordered, wellFormed, nodesIf}
-use Rattle.tree_check.proofs.Meaning.{not-true}
-use Rattle.tree_check.proofs.Steps.{not-failed}
-use Rattle.tree_check.proofs.Held.{held-good, held-holds}
-use Rattle.tree_check.proofs.Exact.{made-fits}
-use Rattle.tree_check.proofs.TestReturns.{check-broken, check-formed, check-hops-in, check-few}
+use Rattle.tree_formed.specs.WellFormed.{ordered, wellFormed, nodesIf}
+use Rattle.tree_formed.proofs.Meaning.{not-true}
+use Rattle.tree_formed.proofs.Steps.{not-failed}
+use Rattle.tree_formed.proofs.Held.{held-good, held-holds}
+use Rattle.tree_formed.proofs.Exact.{made-fits}
+use Rattle.tree_formed.proofs.TestReturns.{check-broken, check-formed, check-hops-in, check-few}
 use Rattle.tree_change.specs.declared.TreeAnnounced.the-variants as announced
 use Rattle.tree_change.specs.declared.TreeWithdrawn.the-variants as withdrawn
 use Rattle.tree_change.specs.Changed.{meansTreeAnnounced, meansTreeWithdrawn, unmarkedRoute, saying, putTo, takenFrom, imageAnnounced, imageWithdrawn}

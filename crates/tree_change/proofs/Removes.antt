@@ -23,7 +23,7 @@ use Rattle.tree_same.specs.Holding.{Holding}
 use Rattle.tree_same.specs.Listed.{routesHeld}
 use Rattle.tree_same.proofs.Back.{Shaped}
 use Rattle.tree_same.proofs.Same.{fits}
-use Rattle.tree_check.proofs.Builds.{word-some}
+use Rattle.tree_formed.proofs.Builds.{word-some}
 use Rattle.tree_hold.specs.More.{also, downTo}
 use Rattle.tree_hold.specs.Edits.{Grafted, Prunable, HopPut, Takable}
 use Rattle.tree_hold.proofs.Holds.{bits-fit, holding-same}

@@ -20,9 +20,9 @@ use Rattle.tree_image.specs.Image.{hops, imageBy, nodeStands, hopFor, nodeNeed}
 use Rattle.tree_build.specs.Built.{ImageOut}
 use Rattle.tree_same.specs.Holding.{Holding}
 use Rattle.tree_same.specs.Listed.{routesHeld}
-use Rattle.tree_check.specs.WellFormed.{nodesUsed}
-use Rattle.tree_check.proofs.Meaning.{well-formed-is}
-use Rattle.tree_check.proofs.Held.{held-holds, held-image}
+use Rattle.tree_formed.specs.WellFormed.{nodesUsed}
+use Rattle.tree_formed.proofs.Meaning.{well-formed-is}
+use Rattle.tree_formed.proofs.Held.{held-holds, held-image}
 use Rattle.tree_hold.specs.More.{downTo, withHop}
 use Rattle.tree_hold.proofs.Paths.{insert-hops, stands-hop}
 use Rattle.tree_change.specs.Changed.{unmarkedRoute, imageAnnounced, imageWithdrawn, prefixPlace}

@@ -20,7 +20,7 @@ use Rattle.tree_same.specs.Order.{Order, standsAt}
 use Rattle.tree_same.specs.Holding.{Holding}
 use Rattle.tree_same.proofs.Back.{Shaped, bit-set-is, leads-is}
 use Rattle.tree_same.proofs.Holdings.{holds-image, holds-done}
-use Rattle.tree_check.proofs.Held.{fewer-exts, exts-next, exts-mono}
+use Rattle.tree_formed.proofs.Held.{fewer-exts, exts-next, exts-mono}
 use Rattle.tree_change.specs.Stages.{Descent}
 
 -- ---- step by step

@@ -14,7 +14,7 @@ use Rattle.tree_same.specs.Read.{reached, leads}
 use Rattle.tree_same.specs.Order.{ints, Order}
 use Rattle.tree_same.specs.Holding.{Holding}
 use Rattle.tree_same.specs.Listed.{routesHeld}
-use Rattle.tree_check.specs.WellFormed.{ordered, nodesIf}
+use Rattle.tree_formed.specs.WellFormed.{ordered, nodesIf}
 use Rattle.tree_change.specs.Changed.{unmarkedRoute}
 
 -- a well-formed image of n nodes and k hops: it holds the routes that are read out of it

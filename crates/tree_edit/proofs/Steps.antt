@@ -14,7 +14,7 @@ use Rattle.tree_build.specs.NodeRuns.{WithBit}
 use Rattle.tree_build.specs.Queue.{put3}
 use Rattle.tree_build.proofs.Stores.{put3-length}
 use Rattle.tree_same.specs.Read.{hopPlaceAt}
-use Rattle.tree_check.proofs.Held.{fewer-ints, ints-next, ints-mono}
+use Rattle.tree_formed.proofs.Held.{fewer-ints, ints-next, ints-mono}
 use Rattle.tree_hold.specs.Moves.{each}
 use Rattle.tree_hold.specs.Edits.{Grafted, Prunable, HopPut, HopTaken, Takable}
 use Rattle.tree_hold.proofs.Each.{each-length, each-out, each-none, each-more}

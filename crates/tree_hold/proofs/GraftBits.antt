@@ -18,7 +18,7 @@ use Rattle.bits.proofs.Counts.{count-ext, without, without-other, without-same,
 use Rattle.bits.proofs.Packed.{rank-count, upper-count}
 use Rattle.tree_image.specs.Node.{bitsOf, isSet}
 use Rattle.tree_same.specs.Order.{exts, ints}
-use Rattle.tree_check.proofs.Held.{bit-of, exts-next, ints-next}
+use Rattle.tree_formed.proofs.Held.{bit-of, exts-next, ints-next}
 use Rattle.tree_hold.specs.Edits.{GraftedBits}
 
 ones-none : ones (0 / 2 ^ 16) ≡ 0

@@ -20,7 +20,7 @@ use Rattle.tree_build.specs.NodeRuns.{WithBit}
 use Rattle.tree_build.specs.Queue.{put3}
 use Rattle.tree_build.proofs.Stores.{put3-length, put3-other, put3-at}
 use Rattle.tree_same.specs.Order.{exts, ints, Order}
-use Rattle.tree_check.proofs.Held.{bit-of, exts-next, exts-mono}
+use Rattle.tree_formed.proofs.Held.{bit-of, exts-next, exts-mono}
 use Rattle.tree_hold.specs.Moves.{each}
 use Rattle.tree_hold.specs.Edits.{Grafted, Graftable}
 use Rattle.tree_hold.proofs.Each.{past, each-length, each-in, each-out}

@@ -28,7 +28,7 @@ use Rattle.tree_same.specs.Order.{exts, ints, Order, standsAt}
 use Rattle.tree_same.specs.Holding.{Holding}
 use Rattle.tree_same.proofs.Back.{Shaped, bit-set-is}
 use Rattle.tree_same.proofs.Holdings.{stands-found}
-use Rattle.tree_check.proofs.Held.{fewer-exts, exts-next, exts-mono}
+use Rattle.tree_formed.proofs.Held.{fewer-exts, exts-next, exts-mono}
 use Rattle.tree_hold.specs.More.{also}
 use Rattle.tree_hold.specs.Edits.{Grafted}
 use Rattle.tree_hold.proofs.Holds.{word-fits}

@@ -17,7 +17,7 @@ use Rattle.tree_image.proofs.Counts.{count-mono}
 use Rattle.tree_build.specs.NodeRuns.{WithBit}
 use Rattle.tree_same.specs.Read.{hopPlaceAt}
 use Rattle.tree_same.specs.Order.{ints}
-use Rattle.tree_check.proofs.Held.{bit-of, ints-next, ints-mono}
+use Rattle.tree_formed.proofs.Held.{bit-of, ints-next, ints-mono}
 use Rattle.tree_hold.specs.Moves.{each}
 use Rattle.tree_hold.specs.Edits.{HopPut, Puttable}
 use Rattle.tree_hold.proofs.Each.{past, each-length, each-in, each-out}

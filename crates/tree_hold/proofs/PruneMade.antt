@@ -14,7 +14,7 @@ use Rattle.tree_image.specs.Node.{bitsOf, childOf, isSet, childAt}
 use Rattle.tree_build.specs.NodeRuns.{WithBit}
 use Rattle.tree_build.specs.Queue.{put3}
 use Rattle.tree_build.proofs.Stores.{put3-length, put3-other, put3-at}
-use Rattle.tree_check.proofs.Held.{fewer-exts, exts-next, exts-mono}
+use Rattle.tree_formed.proofs.Held.{fewer-exts, exts-next, exts-mono}
 use Rattle.tree_hold.specs.Moves.{each}
 use Rattle.tree_hold.specs.Edits.{GraftedBits, Grafted, Prunable}
 use Rattle.tree_hold.proofs.Each.{past, each-length, each-in, each-out}

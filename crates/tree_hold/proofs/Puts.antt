@@ -27,7 +27,7 @@ use Rattle.tree_same.specs.Order.{ints, Order, standsAt}
 use Rattle.tree_same.specs.Holding.{Holding}
 use Rattle.tree_same.proofs.Back.{Shaped}
 use Rattle.tree_same.proofs.Holdings.{stands-found}
-use Rattle.tree_check.proofs.Held.{bit-of, ints-next, ints-mono}
+use Rattle.tree_formed.proofs.Held.{bit-of, ints-next, ints-mono}
 use Rattle.tree_hold.specs.More.{withHop}
 use Rattle.tree_hold.specs.Edits.{HopPut}
 use Rattle.tree_hold.proofs.Holds.{word-fits}

@@ -14,7 +14,7 @@ use Rattle.tree_image.specs.Node.{bitsOf, baseOf, isSet}
 use Rattle.tree_build.specs.NodeRuns.{WithBit}
 use Rattle.tree_same.specs.Read.{hopPlaceAt}
 use Rattle.tree_same.specs.Order.{ints}
-use Rattle.tree_check.proofs.Held.{fewer-ints, ints-next, ints-mono}
+use Rattle.tree_formed.proofs.Held.{fewer-ints, ints-next, ints-mono}
 use Rattle.tree_hold.specs.Moves.{each}
 use Rattle.tree_hold.specs.Edits.{MarkedBits, HopPut, Takable}
 use Rattle.tree_hold.proofs.Each.{past, each-length, each-in, each-out}

@@ -25,7 +25,7 @@ use Rattle.tree_same.specs.Order.{ints, standsAt}
 use Rattle.tree_same.specs.Holding.{Holding}
 use Rattle.tree_same.proofs.Back.{Shaped, bit-set-is}
 use Rattle.tree_same.proofs.Holdings.{nodes-are, hops-are, holds-image, stands-found, image-holding}
-use Rattle.tree_check.proofs.Held.{bit-of}
+use Rattle.tree_formed.proofs.Held.{bit-of}
 use Rattle.tree_hold.specs.More.{also}
 use Rattle.tree_hold.specs.Edits.{Grafted, Graftable, HopPut}
 use Rattle.tree_hold.proofs.Holds.{held-words}

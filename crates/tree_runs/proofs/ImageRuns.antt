@@ -21,7 +21,7 @@ use Rattle.tree_build.proofs.Serves.{built-accepts}
 use Rattle.tree_same.specs.Listed.{routesHeld}
 use Rattle.tree_same.specs.OneImage.{Builds, SameArrays}
 use Rattle.tree_same.proofs.Plain.{plain-good}
-use Rattle.tree_check.proofs.Exact.{accepted-few}
+use Rattle.tree_formed.proofs.Exact.{accepted-few}
 use Rattle.tree_change.specs.Changed.{unmarkedRoute, imageAnnounced, imageWithdrawn}
 use Rattle.tree_change.specs.Cases.{ImageLeft}
 use Rattle.tree_change.proofs.Cases.{announce-leaves}

@@ -16,7 +16,7 @@ use Rattle.tree_same.specs.Order.{ints}
 use Rattle.tree_same.specs.Holding.{Holding}
 use Rattle.tree_same.proofs.Same.{fits}
 use Rattle.tree_same.proofs.Holdings.{hops-are, image-holding}
-use Rattle.tree_check.proofs.Held.{exts-mono, ints-mono}
+use Rattle.tree_formed.proofs.Held.{exts-mono, ints-mono}
 use Rattle.tree_hold.proofs.Holds.{bits-fit}
 use Rattle.tree_change.specs.Cases.{ImageLeft}
 

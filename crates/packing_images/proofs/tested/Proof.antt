@@ -2,8 +2,8 @@
 use mathlib.Core.Path.{ap}
 use native.Mathlib.Omega.{arith}
 use Rattle.routes.specs.Said.{packed}
-use Rattle.tree_check.specs.Answers.{meansTested}
-use Rattle.tree_check.specs.declared.Tested.{Tested}
+use Rattle.tree_formed.specs.Answers.{meansTested}
+use Rattle.tree_formed.specs.declared.Tested.{Tested}
 use Rattle.packing.specs.Pack.{packBuilt}
 use borrow.Author.Needs.{needs}
 use Rattle.packing_images.proofs.tested.Statement.{statement}

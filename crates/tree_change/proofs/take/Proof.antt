@@ -1,6 +1,6 @@
 -- The way down and the bit at its end tell whether the prefix stands; then it is taken out.
 use mathlib.Core.Path.{refl}
-use Rattle.tree_check.proofs.Steps.{not-failed}
+use Rattle.tree_formed.proofs.Steps.{not-failed}
 use Rattle.tree_change.proofs.ChangeReturns.{ask-hops, ask-way, ask-end, Way, walked, Stood, is-standing}
 use Rattle.tree_change.proofs.ChangeReturns.{one-there, one-less, removed-few, told-nine, told-removed}
 use Rattle.tree_change.proofs.take.Statement.{statement}

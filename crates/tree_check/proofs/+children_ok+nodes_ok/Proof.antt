@@ -3,7 +3,7 @@
 use Prim.Native.Nat.{_+_, _*_}
 use native.Mathlib.Omega.{arith}
 use borrow.Author.Needs.{needs}
-use Rattle.tree_check.proofs.Stretches.{
+use Rattle.tree_formed.proofs.Stretches.{
   array-none,
   array-more,
   array-not,
@@ -25,8 +25,8 @@ use Rattle.tree_check.proofs.+children_ok+nodes_ok.Lts-children_ok as c
 use Rattle.tree_check.proofs.nodes_ok.Reads as nodes-ok
 use Rattle.tree_check.proofs.nodes_ok.Kinds as nodes-ok-kinds
 use Rattle.tree_check.proofs.+children_ok+nodes_ok.Lts-nodes_ok as nodes-ok-lts
-use Rattle.tree_check.proofs.bases.after_children.Reads as after-children-reads
-use Rattle.tree_check.proofs.bases.first_child.Reads as first-child-reads
+use Rattle.tree_bases.proofs.after_children.Reads as after-children-reads
+use Rattle.tree_bases.proofs.first_child.Reads as first-child-reads
 use Rattle.tree_check.proofs.ends_ok.Reads as ends-ok-reads
 use Rattle.tree_check.proofs.stretch.Reads as stretch-reads
 use Rattle.tree_check.proofs.+children_ok+nodes_ok.{statement}

@@ -2,7 +2,7 @@
 use mathlib.Core.Path.{sym, _∙_}
 use native.Mathlib.Omega.{arith}
 use borrow.Author.Needs.{needs}
-use Rattle.tree_check.proofs.Stretches.{root-bare, root-high, root-order, root-stretch, root-kids, rooted-lent}
+use Rattle.tree_formed.proofs.Stretches.{root-bare, root-high, root-order, root-stretch, root-kids, rooted-lent}
 use Rattle.tree_check.proofs.root_ok.Statement.{statement}
 use Rattle.tree_check.proofs.root_ok.Tie as tie
 

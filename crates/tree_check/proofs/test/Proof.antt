@@ -1,7 +1,7 @@
 -- Where the whole test answers a number of nodes, the image is well formed, and its nodes and hops are few enough for a word each.
 use native.Mathlib.Omega.{arith}
 use borrow.Author.Needs.{needs}
-use Rattle.tree_check.proofs.TestReturns.{check-hops-in, check-few, tested-image, tested-broken}
+use Rattle.tree_formed.proofs.TestReturns.{check-hops-in, check-few, tested-image, tested-broken}
 use Rattle.tree_check.proofs.test.Statement.{statement}
 use Rattle.tree_check.proofs.test.Tie as tie
 

@@ -4,7 +4,7 @@ use Prim.Native.Nat.{ℕ, _-_, _≤_, _<_}
 use mathlib.Core.Path.{_≡_, refl, ap, _∙_}
 use lib.ListN.{length, getD, length-set}
 use Rattle.bits.proofs.Tabs.{stored-more}
-use Rattle.packing.proofs.Tallies.{tally-short, tally-all, tally-length}
+use Rattle.packing.proofs.TallyWords.{tally-short, tally-all, tally-length}
 use borrow.Author.Needs.{needs}
 use Rattle.packing.proofs.tallies.tally_words.Statement.{statement}
 use Rattle.packing.proofs.tallies.tally_words.Tie as tie

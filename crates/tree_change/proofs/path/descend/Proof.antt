@@ -2,8 +2,8 @@
 use mathlib.Core.Path.{sym, _∙_}
 use Prim.Native.Nat.{_-_, _≤_}
 use native.Mathlib.Omega.{arith}
-use Rattle.tree_check.proofs.Meaning.{not-true}
-use Rattle.tree_check.proofs.Steps.{not-failed}
+use Rattle.tree_formed.proofs.Meaning.{not-true}
+use Rattle.tree_formed.proofs.Steps.{not-failed}
 use Rattle.tree_change.proofs.Ways.{Walked, walk-start, walk-next, walk-end, walk-stop}
 use Rattle.tree_change.proofs.path.descend.Statement.{statement}
 use Rattle.tree_change.proofs.path.descend.Tie as tie
