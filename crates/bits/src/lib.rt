@@ -1,5 +1,5 @@
 // Bits of 32-bit numbers: the first bits of an address, and ones counted below a bit. And numbers of other widths: their
-// bytes, and numbers made wider.
+// bytes, and numbers made wider or narrower.
 ghost use mathlib.Core.Path.{_≡_};
 ghost use Prim.Native.Nat.{_%_, _^_, _≤_, _<_};
 ghost use lib.Count.{ones};
@@ -8,6 +8,7 @@ ghost use Rattle.bits.specs.Slot.{slot, cut, mask};
 ghost use Rattle.bits.specs.Bit.{bitAt};
 
 pub mod bytes;
+pub mod narrow;
 pub mod widen;
 
 // The first p bits of an address, as a number. Level 0 is set apart: no number is shifted by its whole width.

@@ -2,7 +2,8 @@
 use mathlib.Core.Path.{_≡_}
 use mathlib.Core.Bool.{Bool, true, false}
 use mathlib.Core.List.{List}
-use Prim.Native.Nat.{ℕ, _+_, _≤_}
+use Prim.Native.Nat.{ℕ, _+_, _≤_, _<_}
+use native.Mathlib.Nat.{le-refl}
 use native.Mathlib.Omega.{arith}
 use lib.ListN.{getD}
 use borrow.Author.Count.{below-more}
@@ -10,18 +11,31 @@ use Rattle.bits.specs.Tab.{Tells}
 use Rattle.bits.proofs.Tells.{is-no, is-yes, tells-same}
 use Rattle.buffers.specs.Zeros.{Zeros}
 
-module _ (s : List ℕ) (from : ℕ) where
-  pub zeros-none : Tells true (Zeros s from from)
-  zeros-none = is-yes (record { each = λ k l u. absurd (omega arith) })
+-- the loop: b tells of the range up to j
+pub record Looking (s : List ℕ) (from to : ℕ) (b : Bool) (j : ℕ) : Type 0 where
+  pub begun : from ≤ j
+  pub within : j ≤ to
+  pub tells : Tells b (Zeros s from j)
 
-  module _ (j : ℕ) where
-    pub zeros-stop : from ≤ j → (getD s j 0 ≡ 0 → ⊥) → Tells false (Zeros s from (j + 1))
-    zeros-stop l n = is-no (λ z. n (z .each j l (omega arith)))
+pub looking-none : {s : List ℕ} {from to : ℕ} → from ≤ to → Looking s from to true from
+looking-none {s} {from} h = record { begun = le-refl from; within = h; tells = is-yes (record { each = λ k l u. absurd (omega arith) }) }
 
-    pub zeros-more : (b : Bool) → getD s j 0 ≡ 0 → Tells b (Zeros s from j) → Tells b (Zeros s from (j + 1))
-    zeros-more b e = tells-same
+module _ {s : List ℕ} {from to : ℕ} {b : Bool} {j : ℕ} (r : Looking s from to b j) where
+  pub looking-stop : j < to → (getD s j 0 ≡ 0 → ⊥) → Looking s from to false (j + 1)
+  looking-stop t n = record {
+    begun = let l = r .begun in omega arith;
+    within = omega arith;
+    tells = is-no (λ z. n (z .each j (r .begun) (omega arith)));
+  }
+
+  pub looking-more : j < to → getD s j 0 ≡ 0 → Looking s from to b (j + 1)
+  looking-more t e = record {
+    begun = let l = r .begun in omega arith;
+    within = omega arith;
+    tells = tells-same
         (λ z. record { each = λ k l u. below-more (λ (i : ℕ). from ≤ i → getD s i 0 ≡ 0) j (λ i v a. z .each i a v) (λ _. e) k u l })
-        (λ z. record { each = λ k l u. z .each k l (omega arith) })
+        (λ z. record { each = λ k l u. z .each k l (omega arith) }) (r .tells);
+  }
 
-    pub zeros-all : (b : Bool) (to : ℕ) → j ≤ to → to ≤ j → Tells b (Zeros s from j) → Tells b (Zeros s from to)
-    zeros-all b to l u t = let q : j ≡ to = omega arith in rw q at t
+  pub looking-all : to ≤ j → Tells b (Zeros s from to)
+  looking-all t = let q : j ≡ to = omega (arith, r .within) in rw q at (r .tells)

@@ -36,19 +36,24 @@ unfolding copied
 getD-copied l s n i h b = getD-tabulate {A = ℕ} (length l) _ i 0 h ∙ rw (lt-ltb i n b)
 
 -- the loop: the first i elements are those of s, and the rest is as it was in l
-pub record Copying (l s out : List ℕ) (i : ℕ) : Type 0 where
+pub record Copying (l s : List ℕ) (n : ℕ) (out : List ℕ) (i : ℕ) : Type 0 where
+  pub within : i ≤ n
   pub size : length out ≡ length l
   pub is : out ≡ copied l s i
 
-pub copying-none : (l s : List ℕ) → Copying l s l 0
-copying-none l s = record { size = refl; is = copied-none l s }
+pub copying-none : {l s : List ℕ} {n : ℕ} → Copying l s n l 0
+copying-none {l} {s} = record { within = zero-le; size = refl; is = copied-none l s }
 
-module _ {l s out : List ℕ} {i : ℕ} (c : Copying l s out i) where
-  pub copying-more : Copying l s (set out i (getD s i 0)) (i + 1)
-  copying-more = record { size = length-set out i _ ∙ c .size; is = ap (λ (x : List ℕ). set x i (getD s i 0)) (c .is) ∙ copied-more l s i }
+module _ {l s : List ℕ} {n : ℕ} {out : List ℕ} {i : ℕ} (c : Copying l s n out i) where
+  pub copying-more : i < n → Copying l s n (set out i (getD s i 0)) (i + 1)
+  copying-more t = record {
+    within = omega arith;
+    size = length-set out i _ ∙ c .size;
+    is = ap (λ (x : List ℕ). set x i (getD s i 0)) (c .is) ∙ copied-more l s i;
+  }
 
-  pub copying-all : (n : ℕ) → i ≤ n → n ≤ i → out ≡ copied l s n
-  copying-all n a b = let e : i ≡ n = omega arith in c .is ∙ rw e
+  pub copying-all : n ≤ i → out ≡ copied l s n
+  copying-all t = let e : i ≡ n = omega (arith, c .within) in c .is ∙ rw e
 
 -- the bytes of s, and zeros after them
 padded-is : (l s : List ℕ) → length s ≤ length l → filled (copied l s (length s)) (length s) (length (copied l s (length s))) 0 ≡ padded s (length l)

@@ -49,24 +49,26 @@ filled-whole l n v e =
     getD-tabulate {A = ℕ} (length l) _ i 0 k ∙ rw (between-in 0 n i zero-le (omega arith)) (sym (getD-replicate {A = ℕ} n i v 0 (omega arith))))
 
 -- the loop: v stands from `from` up to i, and the rest is as it was in l
-pub record Filling (l : List ℕ) (from v : ℕ) (out : List ℕ) (i : ℕ) : Type 0 where
+pub record Filling (l : List ℕ) (from to v : ℕ) (out : List ℕ) (i : ℕ) : Type 0 where
   pub begun : from ≤ i
+  pub within : i ≤ to
   pub size : length out ≡ length l
   pub is : out ≡ filled l from i v
 
-pub filling-none : (l : List ℕ) (from v : ℕ) → Filling l from v l from
-filling-none l from v = record { begun = le-refl from; size = refl; is = filled-none l from v }
+pub filling-none : {l : List ℕ} {from to v : ℕ} → from ≤ to → Filling l from to v l from
+filling-none {l} {from} {to} {v} h = record { begun = le-refl from; within = h; size = refl; is = filled-none l from v }
 
-module _ {l : List ℕ} {from v : ℕ} {out : List ℕ} {i : ℕ} (f : Filling l from v out i) where
-  pub filling-more : Filling l from v (set out i v) (i + 1)
-  filling-more = record {
+module _ {l : List ℕ} {from to v : ℕ} {out : List ℕ} {i : ℕ} (f : Filling l from to v out i) where
+  pub filling-more : i < to → Filling l from to v (set out i v) (i + 1)
+  filling-more t = record {
     begun = let b = f .begun in omega arith;
+    within = omega arith;
     size = length-set out i v ∙ f .size;
     is = ap (λ (x : List ℕ). set x i v) (f .is) ∙ filled-more l from i v (f .begun);
   }
 
-  pub filling-all : (to : ℕ) → i ≤ to → to ≤ i → out ≡ filled l from to v
-  filling-all to a b = let e : i ≡ to = omega arith in f .is ∙ rw e
+  pub filling-all : to ≤ i → out ≡ filled l from to v
+  filling-all t = let e : i ≡ to = omega (arith, f .within) in f .is ∙ rw e
 
-pub filling-whole : {l : List ℕ} {v : ℕ} {out : List ℕ} {i : ℕ} → Filling l 0 v out i → i ≤ length l → length l ≤ i → out ≡ allSet l v
-filling-whole {l} {v} f a b = filling-all f (length l) a b ∙ filled-whole l (length l) v refl
+pub filling-whole : {l : List ℕ} {v : ℕ} {out : List ℕ} {i : ℕ} → Filling l 0 (length l) v out i → length l ≤ i → out ≡ allSet l v
+filling-whole {l} {v} f t = filling-all f t ∙ filled-whole l (length l) v refl

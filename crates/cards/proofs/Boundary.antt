@@ -24,7 +24,7 @@ use Rattle.sail.specs.Walk.{lookupSaid}
 use Rattle.sail.specs.declared.table.Table.{Table}
 use Rattle.sail.proofs.Fitting.{Fault, fault-is}
 use Rattle.sail_theory.specs.Calls.{orSay, made, loaded, announced, withdrawn, reported}
-use Rattle.tree.specs.Walk.{treeSaid}
+use Rattle.tree_image.specs.Walk.{treeSaid}
 use Rattle.tree_build.specs.Built.{built}
 use Rattle.sail.specs.Word.{packFound}
 use Rattle.packing.specs.Pack.{packReport, packRun, packNone, packRoute}
@@ -44,7 +44,9 @@ use Rattle.packing.specs.Unpack.{
   countOf,
   Cells16,
 }
-use Rattle.cards.specs.Cards.{cardOf, imageCardOf, wordsCard, tallyCard, lowFound, manyCard}
+use Rattle.cards.specs.Cards.{cardOf, imageCardOf}
+use Rattle.packing.specs.Tallies.{tallyCard}
+use Rattle.sail_words.specs.Lookups.{wordsCard, lowFound, manyCard}
 use Rattle.packing.proofs.Unpacks.{
   found-read,
   report-read,

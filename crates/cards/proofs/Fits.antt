@@ -39,11 +39,11 @@ use Rattle.sail_theory.proofs.calls.SomeCase.{make-judged, announce-judged, wit
 use Rattle.sail_theory.proofs.calls.Cleared.{announce-said, announce-accepts, announce-holds, withdraw-said, withdraw-accepts, withdraw-holds}
 use Rattle.sail_theory.proofs.calls.Make.{make-said, make-holds, accepted-sized}
 use Rattle.sail_theory.proofs.calls.Load.{load-said, load-holds}
-use Rattle.tree.specs.Image.{nodeNeed}
-use Rattle.tree.specs.Reads.{TreeAnswer}
-use Rattle.tree.specs.Walk.{treeSaid}
-use Rattle.tree.proofs.Needs.{nodes-most}
-use Rattle.tree.proofs.ReadCounts.{tree-answers}
+use Rattle.tree_image.specs.Image.{nodeNeed}
+use Rattle.tree_image.specs.Reads.{TreeAnswer}
+use Rattle.tree_image.specs.Walk.{treeSaid}
+use Rattle.tree_image.proofs.Needs.{nodes-most}
+use Rattle.tree_image.proofs.ReadCounts.{tree-answers}
 use Rattle.tree_build.specs.Built.{built}
 use Rattle.routes.proofs.Judged.{good-whole, route-judged}
 use Rattle.runs.specs.Cases.{RunChecked}

@@ -19,7 +19,7 @@ use Rattle.packing.specs.Pack.{packNone}
 use Rattle.packing.specs.Unpack.{unpackNone, FitsWord}
 use Rattle.packing.specs.Hops.{unpackHop, HopFits, NoneFits}
 use Rattle.packing.proofs.Hops.{hop-read, nothing-read, word-read}
-use Rattle.cards.specs.Cards.{wordsCard}
+use Rattle.sail_words.specs.Lookups.{wordsCard}
 use Rattle.cards.specs.Maps.{mapsCard, mapsCardOf, hopsCard}
 use Rattle.cards.proofs.Fits.{refused-fits}
 

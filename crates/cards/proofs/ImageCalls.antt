@@ -15,14 +15,14 @@ use Rattle.routes.specs.Said.{Said, accepted, refused}
 use Rattle.routes.proofs.Meaning.{hop-true}
 use Rattle.standing.specs.Standing.{stands}
 use Rattle.standing.proofs.Standing.{insert-good}
-use Rattle.tree.specs.Image.{nodeNeed}
-use Rattle.tree.proofs.Needs.{nodes-most}
+use Rattle.tree_image.specs.Image.{nodeNeed}
+use Rattle.tree_image.proofs.Needs.{nodes-most}
 use Rattle.tree_build.specs.Built as tree
 use Rattle.tree_same.specs.Listed.{routesHeld}
-use Rattle.tree_check.specs.Answers.{tested}
-use Rattle.tree_check.specs.WellFormed.{nodesUsed, hopsIn, wellFormed}
-use Rattle.tree_check.proofs.Meaning.{well-formed-is}
-use Rattle.tree_check.proofs.Held.{held-good, held-nodes, held-hops}
+use Rattle.tree_formed.specs.Answers.{tested}
+use Rattle.tree_formed.specs.WellFormed.{nodesUsed, hopsIn, wellFormed}
+use Rattle.tree_formed.proofs.Meaning.{well-formed-is}
+use Rattle.tree_formed.proofs.Held.{held-good, held-nodes, held-hops}
 use Rattle.tree_change.specs.Changed.{unmarkedRoute, imageAnnounced, imageWithdrawn}
 use Rattle.tree_change.specs.Cases.{ImageAsked, routesWith, routesWithout, Announcing, Withdrawing}
 use Rattle.tree_change.proofs.ChangeReturns.{is-fine}
@@ -31,10 +31,10 @@ use Rattle.tree_change.proofs.Takes.{withdraw-cases, left-fit}
 use Rattle.packing.specs.Pack.{packBuilt}
 use Rattle.packing.specs.Unpack.{unpackBuilt, FitsWord, BuiltFits}
 use Rattle.packing.specs.Parts.{parts, builtParts}
-use Rattle.packing.specs.ImageAnswers.{packImage, unpackImage, ImageFits, imageParts, Words32}
+use Rattle.packing_images.specs.ImageAnswers.{packImage, unpackImage, ImageFits, imageParts, Words32}
 use Rattle.packing.proofs.Unpacks.{built-read}
 use Rattle.packing.proofs.Parts.{built-parts}
-use Rattle.packing.proofs.ImageAnswers.{image-read, image-parts}
+use Rattle.packing_images.proofs.ImageAnswers.{image-read, image-parts}
 use Rattle.cards.specs.Cards.{imageCard, imageCardOf}
 use Rattle.cards.specs.Images.{changedCardOf}
 use Rattle.cards.specs.Narrow.{AlikeOver}

@@ -18,7 +18,7 @@ use Rattle.sail.specs.Word.{packFound}
 use Rattle.sail.specs.declared.table.Table.{Table}
 use Rattle.sail.proofs.Fitting.{Fault, fault-is}
 use Rattle.sail_theory.specs.Calls.{made, loaded, announced, withdrawn, reported}
-use Rattle.tree.specs.Walk.{treeSaid}
+use Rattle.tree_image.specs.Walk.{treeSaid}
 use Rattle.tree_build.specs.Built.{built}
 use Rattle.basic.specs.Calls.{basicSaid, packHop, basicMany}
 use Rattle.basic_build.specs.Built.{basicBuilt}
@@ -50,7 +50,9 @@ use Rattle.packing.proofs.Parts.{
   hop-parts,
   none-parts,
 }
-use Rattle.cards.specs.Cards.{cardOf, imageCardOf, wordsCard, tallyCard, lowFound, manyCard}
+use Rattle.cards.specs.Cards.{cardOf, imageCardOf}
+use Rattle.packing.specs.Tallies.{tallyCard}
+use Rattle.sail_words.specs.Lookups.{wordsCard, lowFound, manyCard}
 use Rattle.cards.specs.Maps.{mapsCardOf, hopsCard}
 use Rattle.cards.proofs.Fits.{input-fits, run-fits, route-fits, built-fits, tree-fits, lookup-fits, report-fits}
 use Rattle.cards.proofs.Fits.{make-fits, load-fits, announce-fits, withdraw-fits}

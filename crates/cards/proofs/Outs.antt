@@ -21,7 +21,8 @@ use Rattle.sail.specs.Walk.{lookupSaid}
 use Rattle.sail.specs.Word.{packFound}
 use Rattle.sail.specs.declared.table.Table.{Table}
 use Rattle.sail.proofs.Fitting.{Fault, fault-is, none-is}
-use Rattle.cards.specs.Cards.{tableOf, WordsCard, wordsCard, tallyCard, lowFound, manyCard}
+use Rattle.packing.specs.Tallies.{tallyCard}
+use Rattle.sail_words.specs.Lookups.{tableOf, WordsCard, wordsCard, lowFound, manyCard}
 
 -- the first number is p1, the second p2, the third the route count
 pub table-parts : (p1 p2 n : ℕ) → (tableOf p1 p2 n .geometry .p1 ≡ p1) × (tableOf p1 p2 n .geometry .p2 ≡ p2) × (tableOf p1 p2 n .count ≡ n)

@@ -14,8 +14,8 @@ use Rattle.sail.proofs.Fitting.{Fault, fault-is}
 use Rattle.sail_theory.specs.Calls.{Out, out}
 use Rattle.sail.specs.Cases.{Sizing}
 use Rattle.packing.specs.Unpack.{unpackNone, countOf}
-use Rattle.packing.specs.Repairs.{packCount, toldIn, numberSays, wordsFault}
-use Rattle.packing.proofs.Putting.{count-read, refusal-read}
+use Rattle.packing_repairs.specs.Repairs.{packCount, toldIn, numberSays, wordsFault}
+use Rattle.packing_repairs.proofs.Putting.{count-read, refusal-read}
 use Rattle.repair_theory.specs.Repair.{changes, repaired}
 use Rattle.repair_theory.specs.Cases.{Repair}
 use Rattle.repair_theory.proofs.Judged.{repair-judged, repair-only}

@@ -4,7 +4,7 @@ use Prim.Native.Nat.{ℕ}
 use Rattle.basic.specs.Calls.{Many}
 use Rattle.basic_build.specs.Built.{MapsOut}
 use Rattle.packing.specs.Pack.{packNone}
-use Rattle.cards.specs.Cards.{WordsCard, wordsCard}
+use Rattle.sail_words.specs.Lookups.{WordsCard, wordsCard}
 
 -- an answer, and the two maps
 pub record MapsCard : Type 0 where

@@ -8,7 +8,7 @@ use Rattle.sail.specs.Lent.{Lent}
 use Rattle.sail.specs.Sizes.{sizesFault}
 use Rattle.sail.specs.declared.table.Table.{Table}
 use Rattle.sail_theory.specs.Calls.{Out}
-use Rattle.packing.specs.Repairs.{packCount, toldIn, wordsFault}
+use Rattle.packing_repairs.specs.Repairs.{packCount, toldIn, wordsFault}
 use Rattle.repair_theory.specs.Repair.{repaired}
 
 -- an answer, all that is lent to a table, and the words beside it, at the end

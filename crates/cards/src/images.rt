@@ -1,15 +1,15 @@
 // The calls on tree images.
 ghost use mathlib.Core.Path.{_≡_};
-ghost use Rattle.tree.specs.Walk.{treeSaid};
+ghost use Rattle.tree_image.specs.Walk.{treeSaid};
 ghost use Rattle.tree_build.specs.Built.{built};
-ghost use Rattle.tree_check.specs.Answers.{tested};
+ghost use Rattle.tree_formed.specs.Answers.{tested};
 ghost use Rattle.tree_change.specs.Changed.{imageAnnounced, imageWithdrawn};
 ghost use Rattle.sail.specs.Word.{packFound};
 ghost use Rattle.packing.specs.Pack.{packBuilt};
 ghost use Rattle.cards.specs.Cards.{imageCard, imageCardOf};
 ghost use Rattle.cards.specs.Images.{changedCardOf};
-use crate::scalars::narrow8;
-use crate::scalars::narrow16;
+use bits::narrow::narrow8;
+use bits::narrow::narrow16;
 
 // The image of the input's routes.
 #[no_mangle]
@@ -32,7 +32,7 @@ pub extern "C" fn gh_tree_lookup(words: &[u32], hops: &[u16], addr: u32) -> u64
 pub extern "C" fn gh_tree_test(words: &[u32], hops: &[u16]) -> u64
     ensures { λ r. ⌜ r ≡ packBuilt (tested (now (words .entry)) (now (hops .entry))) ⌝ }
 {
-    packing::images::tested(tree_check::test(words, hops))
+    packing_images::tested(tree_check::test(words, hops))
 }
 
 // A route is added to the image itself, or replaces the hop of its prefix.
@@ -44,15 +44,10 @@ pub extern "C" fn gh_tree_announce(
     len: u32,
     hop: u32,
 ) -> u64
-    ensures { λ r. ⌜ imageCard r (now (words .exit)) (now (hops .exit)) ≡ changedCardOf (imageAnnounced (now (words .entry)) (now (hops .entry)) addr len hop) ⌝ }
+    ensures { λ r. ⌜ imageCard r (now (words .exit)) (now (hops .exit))
+        ≡ changedCardOf (imageAnnounced (now (words .entry)) (now (hops .entry)) addr len hop) ⌝ }
 {
-    packing::images::announced(tree_change::announce(
-        words,
-        hops,
-        addr,
-        narrow8(len),
-        narrow16(hop),
-    ))
+    packing_images::announced(tree_change::announce(words, hops, addr, narrow8(len), narrow16(hop)))
 }
 
 // A route is taken out of the image itself.
@@ -60,5 +55,5 @@ pub extern "C" fn gh_tree_announce(
 pub extern "C" fn gh_tree_withdraw(words: &mut [u32], hops: &mut [u16], addr: u32, len: u32) -> u64
     ensures { λ r. ⌜ imageCard r (now (words .exit)) (now (hops .exit)) ≡ imageCardOf (imageWithdrawn (now (words .entry)) (now (hops .entry)) addr len) ⌝ }
 {
-    packing::images::withdrawn(tree_change::withdraw(words, hops, addr, narrow8(len)))
+    packing_images::withdrawn(tree_change::withdraw(words, hops, addr, narrow8(len)))
 }

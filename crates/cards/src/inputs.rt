@@ -3,8 +3,9 @@ ghost use mathlib.Core.Path.{_≡_};
 ghost use Rattle.routes.specs.Answers.{routeSaid};
 ghost use Rattle.runs.specs.Run.{runSaid};
 ghost use Rattle.packing.specs.Pack.{packRun, packRoute};
-ghost use Rattle.cards.specs.Cards.{wordsCard, tallyCard};
-use crate::scalars::narrow8;
+ghost use Rattle.packing.specs.Tallies.{tallyCard};
+ghost use Rattle.sail_words.specs.Lookups.{wordsCard};
+use bits::narrow::narrow8;
 
 // The run under a prefix, as its first record and its number of records.
 #[no_mangle]
@@ -27,16 +28,5 @@ pub extern "C" fn gh_route(input: &[u8], index: u32) -> u64
 pub extern "C" fn gh_tally(input: &[u8], out: &mut [u32]) -> u64
     ensures { λ r. ⌜ wordsCard r (now (out .exit)) ≡ tallyCard (now (input .entry)) (now (out .entry)) ⌝ }
 {
-    if out.len() != 33 {
-        return 2;
-    }
-    let t = runs::tally::tally(input);
-    let answer = t.answer;
-    let counts = t.counts;
-    let mut k = 0;
-    while k < 33 {
-        out[k] = counts[k];
-        k += 1;
-    }
-    packing::input(answer)
+    packing::tallies::tally_words(input, out)
 }

@@ -5,5 +5,4 @@ pub mod inputs;
 pub mod lookups;
 pub mod maps;
 pub mod repairs;
-pub mod scalars;
 pub mod tables;

@@ -1,92 +1,14 @@
-// Lookups. The walk answers with the number itself, so nothing is packed after it.
+// Lookups. The words come from `sail_words`; here the three numbers of the state become a table.
 ghost use mathlib.Core.Path.{_≡_};
-ghost use Rattle.sail.specs.Geometry.{standardGeo};
 ghost use Rattle.sail.specs.Lent.{lent};
 ghost use Rattle.sail.specs.Walk.{lookupSaid};
 ghost use Rattle.sail.specs.Word.{packFound};
-ghost use Rattle.cards.specs.Cards.{tableOf, wordsCard, manyCard};
+ghost use Rattle.sail_words.specs.Lookups.{tableOf, wordsCard, manyCard};
 use sail::geometry::Geometry;
-use sail::lookup::walk;
 use sail::table::Table;
-use sail::table::sizes;
-use sail_many::flow::many;
-
-// One lookup.
-fn look(
-    t: Table,
-    list: &[u8],
-    first: &[u16],
-    second: &[u16],
-    third: &[u16],
-    own2: &[u32],
-    own3: &[u32],
-    long1: &[u16],
-    long2: &[u16],
-    addr: u32,
-) -> u64
-    ensures { λ r. ⌜ r ≡ packFound (lookupSaid t (lent (now (list .entry)) (now (first .entry)) (now (second .entry)) (now (third .entry)) (now (own2 .entry)) (now (own3 .entry)) (now (long1 .entry)) (now (long2 .entry))) addr) ⌝ }
-{
-    let z = sizes(t, list, first, second, third, own2, own3, long1, long2);
-    if z != 0 {
-        return z as u64;
-    }
-    walk(
-        t.geometry,
-        list,
-        first,
-        second,
-        third,
-        own2,
-        own3,
-        long1,
-        long2,
-        addr,
-    ) as u64
-}
-
-// The same at the standard geometry, whose shifts the compiler then knows.
-fn look_standard(
-    count: u32,
-    list: &[u8],
-    first: &[u16],
-    second: &[u16],
-    third: &[u16],
-    own2: &[u32],
-    own3: &[u32],
-    long1: &[u16],
-    long2: &[u16],
-    addr: u32,
-) -> u64
-    ensures { λ r. ⌜ r ≡ packFound (lookupSaid (tableOf (standardGeo .p1) (standardGeo .p2) count) (lent (now (list .entry)) (now (first .entry)) (now (second .entry)) (now (third .entry)) (now (own2 .entry)) (now (own3 .entry)) (now (long1 .entry)) (now (long2 .entry))) addr) ⌝ }
-{
-    let geometry = Geometry::STANDARD;
-    let z = sizes(
-        Table { geometry, count },
-        list,
-        first,
-        second,
-        third,
-        own2,
-        own3,
-        long1,
-        long2,
-    );
-    if z != 0 {
-        return z as u64;
-    }
-    walk(
-        geometry,
-        list,
-        first,
-        second,
-        third,
-        own2,
-        own3,
-        long1,
-        long2,
-        addr,
-    ) as u64
-}
+use sail_words::look;
+use sail_words::look_each;
+use sail_words::look_standard;
 
 // The hop for one address, with the count of cells read.
 #[no_mangle]
@@ -104,7 +26,9 @@ pub extern "C" fn gh_lookup(
     long2: &[u16],
     addr: u32,
 ) -> u64
-    ensures { λ r. ⌜ r ≡ packFound (lookupSaid (tableOf p1 p2 count) (lent (now (list .entry)) (now (first .entry)) (now (second .entry)) (now (third .entry)) (now (own2 .entry)) (now (own3 .entry)) (now (long1 .entry)) (now (long2 .entry))) addr) ⌝ }
+    ensures { λ r. ⌜ r ≡ packFound (lookupSaid (tableOf p1 p2 count)
+        (lent (now (list .entry)) (now (first .entry)) (now (second .entry)) (now (third .entry)) (now (own2 .entry)) (now (own3 .entry))
+        (now (long1 .entry)) (now (long2 .entry))) addr) ⌝ }
 {
     let standard = Geometry::STANDARD;
     if p1 == standard.p1 {
@@ -138,46 +62,6 @@ pub extern "C" fn gh_lookup(
     )
 }
 
-// Many lookups with one check of geometry and sizes.
-fn look_each(
-    t: Table,
-    list: &[u8],
-    first: &[u16],
-    second: &[u16],
-    third: &[u16],
-    own2: &[u32],
-    own3: &[u32],
-    long1: &[u16],
-    long2: &[u16],
-    addrs: &[u32],
-    out: &mut [u32],
-) -> u64
-    ensures { λ r. ⌜ wordsCard r (now (out .exit)) ≡ manyCard t (lent (now (list .entry)) (now (first .entry)) (now (second .entry)) (now (third .entry)) (now (own2 .entry)) (now (own3 .entry)) (now (long1 .entry)) (now (long2 .entry))) (now (addrs .entry)) (now (out .entry)) ⌝ }
-{
-    let z = sizes(t, list, first, second, third, own2, own3, long1, long2);
-    if z != 0 {
-        return z as u64;
-    }
-    if out.len() != addrs.len() {
-        return 2;
-    }
-    let g = t.geometry;
-    let p1 = g.p1;
-    let p2 = g.p2;
-    many(
-        p1,
-        p2,
-        first,
-        second,
-        own2.len(),
-        third,
-        own3.len(),
-        addrs,
-        out,
-    );
-    0
-}
-
 // For each address the low 32 bits of what gh_lookup answers. Geometry and sizes are checked once.
 #[no_mangle]
 pub extern "C" fn gh_lookup_many(
@@ -195,7 +79,9 @@ pub extern "C" fn gh_lookup_many(
     addrs: &[u32],
     out: &mut [u32],
 ) -> u64
-    ensures { λ r. ⌜ wordsCard r (now (out .exit)) ≡ manyCard (tableOf p1 p2 count) (lent (now (list .entry)) (now (first .entry)) (now (second .entry)) (now (third .entry)) (now (own2 .entry)) (now (own3 .entry)) (now (long1 .entry)) (now (long2 .entry))) (now (addrs .entry)) (now (out .entry)) ⌝ }
+    ensures { λ r. ⌜ wordsCard r (now (out .exit)) ≡ manyCard (tableOf p1 p2 count)
+        (lent (now (list .entry)) (now (first .entry)) (now (second .entry)) (now (third .entry)) (now (own2 .entry)) (now (own3 .entry))
+        (now (long1 .entry)) (now (long2 .entry))) (now (addrs .entry)) (now (out .entry)) ⌝ }
 {
     let geometry = Geometry { p1, p2 };
     look_each(

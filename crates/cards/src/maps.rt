@@ -2,7 +2,7 @@
 ghost use mathlib.Core.Path.{_≡_};
 ghost use Rattle.basic.specs.Calls.{basicSaid, packHop, basicMany};
 ghost use Rattle.basic_build.specs.Built.{basicBuilt};
-ghost use Rattle.cards.specs.Cards.{wordsCard};
+ghost use Rattle.sail_words.specs.Lookups.{wordsCard};
 ghost use Rattle.cards.specs.Maps.{mapsCard, mapsCardOf, hopsCard};
 
 // The maps of the input's routes.

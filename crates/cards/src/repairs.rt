@@ -1,11 +1,11 @@
 // A table put right after a memory fault.
 ghost use mathlib.Core.Path.{_≡_};
 ghost use Rattle.sail.specs.Lent.{lent};
-ghost use Rattle.cards.specs.Cards.{tableOf};
+ghost use Rattle.sail_words.specs.Lookups.{tableOf};
 ghost use Rattle.cards.specs.Repairs.{repairCard, repairOut};
-use packing::repairs::repaired;
-use packing::repairs::tell;
-use packing::repairs::words_fault;
+use packing_repairs::repaired;
+use packing_repairs::tell;
+use packing_repairs::words_fault;
 use repair::repair::repair;
 use sail::geometry::Geometry;
 use sail::table::Table;
@@ -28,7 +28,11 @@ pub extern "C" fn gh_repair(
     long2: &mut [u16],
     out: &mut [u32],
 ) -> u64
-    ensures { λ r. ⌜ repairCard r (lent (now (list .exit)) (now (first .exit)) (now (second .exit)) (now (third .exit)) (now (own2 .exit)) (now (own3 .exit)) (now (long1 .exit)) (now (long2 .exit))) (now (out .exit)) ≡ repairOut (tableOf p1 p2 count) (lent (now (list .entry)) (now (first .entry)) (now (second .entry)) (now (third .entry)) (now (own2 .entry)) (now (own3 .entry)) (now (long1 .entry)) (now (long2 .entry))) (now (out .entry)) ⌝ }
+    ensures { λ r. ⌜ repairCard r (lent (now (list .exit)) (now (first .exit)) (now (second .exit)) (now (third .exit)) (now (own2 .exit))
+        (now (own3 .exit)) (now (long1 .exit)) (now (long2 .exit))) (now (out .exit))
+        ≡ repairOut (tableOf p1 p2 count)
+        (lent (now (list .entry)) (now (first .entry)) (now (second .entry)) (now (third .entry)) (now (own2 .entry)) (now (own3 .entry))
+        (now (long1 .entry)) (now (long2 .entry))) (now (out .entry)) ⌝ }
 {
     let geometry = Geometry { p1, p2 };
     let t = Table { geometry, count };

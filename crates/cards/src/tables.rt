@@ -3,9 +3,10 @@ ghost use mathlib.Core.Path.{_≡_};
 ghost use Rattle.sail.specs.Lent.{lent};
 ghost use Rattle.sail_theory.specs.Calls.{route, made, loaded, announced, withdrawn, reported};
 ghost use Rattle.packing.specs.Pack.{packReport};
-ghost use Rattle.cards.specs.Cards.{tableOf, card, cardOf};
-use crate::scalars::narrow8;
-use crate::scalars::narrow16;
+ghost use Rattle.cards.specs.Cards.{card, cardOf};
+ghost use Rattle.sail_words.specs.Lookups.{tableOf};
+use bits::narrow::narrow8;
+use bits::narrow::narrow16;
 use sail::geometry::Geometry;
 use sail::table::Table;
 
@@ -23,7 +24,10 @@ pub extern "C" fn gh_make(
     long1: &mut [u16],
     long2: &mut [u16],
 ) -> u64
-    ensures { λ r. ⌜ card r (lent (now (list .exit)) (now (first .exit)) (now (second .exit)) (now (third .exit)) (now (own2 .exit)) (now (own3 .exit)) (now (long1 .exit)) (now (long2 .exit))) ≡ cardOf (made (tableOf p1 p2 0) (lent (now (list .entry)) (now (first .entry)) (now (second .entry)) (now (third .entry)) (now (own2 .entry)) (now (own3 .entry)) (now (long1 .entry)) (now (long2 .entry)))) ⌝ }
+    ensures { λ r. ⌜ card r (lent (now (list .exit)) (now (first .exit)) (now (second .exit)) (now (third .exit)) (now (own2 .exit))
+        (now (own3 .exit)) (now (long1 .exit)) (now (long2 .exit))) ≡ cardOf (made (tableOf p1 p2 0)
+        (lent (now (list .entry)) (now (first .entry)) (now (second .entry)) (now (third .entry)) (now (own2 .entry)) (now (own3 .entry))
+        (now (long1 .entry)) (now (long2 .entry)))) ⌝ }
 {
     let geometry = Geometry { p1, p2 };
     let c = sail_make::make(
@@ -58,7 +62,10 @@ pub extern "C" fn gh_load(
     long1: &mut [u16],
     long2: &mut [u16],
 ) -> u64
-    ensures { λ r. ⌜ card r (lent (now (list .exit)) (now (first .exit)) (now (second .exit)) (now (third .exit)) (now (own2 .exit)) (now (own3 .exit)) (now (long1 .exit)) (now (long2 .exit))) ≡ cardOf (loaded (tableOf p1 p2 0) (lent (now (list .entry)) (now (first .entry)) (now (second .entry)) (now (third .entry)) (now (own2 .entry)) (now (own3 .entry)) (now (long1 .entry)) (now (long2 .entry))) (now (input .entry))) ⌝ }
+    ensures { λ r. ⌜ card r (lent (now (list .exit)) (now (first .exit)) (now (second .exit)) (now (third .exit)) (now (own2 .exit))
+        (now (own3 .exit)) (now (long1 .exit)) (now (long2 .exit))) ≡ cardOf (loaded (tableOf p1 p2 0)
+        (lent (now (list .entry)) (now (first .entry)) (now (second .entry)) (now (third .entry)) (now (own2 .entry)) (now (own3 .entry))
+        (now (long1 .entry)) (now (long2 .entry))) (now (input .entry))) ⌝ }
 {
     let geometry = Geometry { p1, p2 };
     let c = sail_load::load::load(
@@ -98,7 +105,10 @@ pub extern "C" fn gh_announce(
     hop: u32,
     mark: u32,
 ) -> u64
-    ensures { λ r. ⌜ card r (lent (now (list .exit)) (now (first .exit)) (now (second .exit)) (now (third .exit)) (now (own2 .exit)) (now (own3 .exit)) (now (long1 .exit)) (now (long2 .exit))) ≡ cardOf (announced (tableOf p1 p2 count) (lent (now (list .entry)) (now (first .entry)) (now (second .entry)) (now (third .entry)) (now (own2 .entry)) (now (own3 .entry)) (now (long1 .entry)) (now (long2 .entry))) (route addr len hop mark)) ⌝ }
+    ensures { λ r. ⌜ card r (lent (now (list .exit)) (now (first .exit)) (now (second .exit)) (now (third .exit)) (now (own2 .exit))
+        (now (own3 .exit)) (now (long1 .exit)) (now (long2 .exit))) ≡ cardOf (announced (tableOf p1 p2 count)
+        (lent (now (list .entry)) (now (first .entry)) (now (second .entry)) (now (third .entry)) (now (own2 .entry)) (now (own3 .entry))
+        (now (long1 .entry)) (now (long2 .entry))) (route addr len hop mark)) ⌝ }
 {
     let geometry = Geometry { p1, p2 };
     let c = sail_announce::announce(
@@ -139,7 +149,10 @@ pub extern "C" fn gh_withdraw(
     addr: u32,
     len: u32,
 ) -> u64
-    ensures { λ r. ⌜ card r (lent (now (list .exit)) (now (first .exit)) (now (second .exit)) (now (third .exit)) (now (own2 .exit)) (now (own3 .exit)) (now (long1 .exit)) (now (long2 .exit))) ≡ cardOf (withdrawn (tableOf p1 p2 count) (lent (now (list .entry)) (now (first .entry)) (now (second .entry)) (now (third .entry)) (now (own2 .entry)) (now (own3 .entry)) (now (long1 .entry)) (now (long2 .entry))) addr len) ⌝ }
+    ensures { λ r. ⌜ card r (lent (now (list .exit)) (now (first .exit)) (now (second .exit)) (now (third .exit)) (now (own2 .exit))
+        (now (own3 .exit)) (now (long1 .exit)) (now (long2 .exit))) ≡ cardOf (withdrawn (tableOf p1 p2 count)
+        (lent (now (list .entry)) (now (first .entry)) (now (second .entry)) (now (third .entry)) (now (own2 .entry)) (now (own3 .entry))
+        (now (long1 .entry)) (now (long2 .entry))) addr len) ⌝ }
 {
     let geometry = Geometry { p1, p2 };
     let c = sail_withdraw::withdraw(
@@ -176,7 +189,9 @@ pub extern "C" fn gh_report(
     long1: &[u16],
     long2: &[u16],
 ) -> u64
-    ensures { λ r. ⌜ r ≡ packReport (reported (tableOf p1 p2 count) (lent (now (list .entry)) (now (first .entry)) (now (second .entry)) (now (third .entry)) (now (own2 .entry)) (now (own3 .entry)) (now (long1 .entry)) (now (long2 .entry)))) ⌝ }
+    ensures { λ r. ⌜ r ≡ packReport (reported (tableOf p1 p2 count)
+        (lent (now (list .entry)) (now (first .entry)) (now (second .entry)) (now (third .entry)) (now (own2 .entry)) (now (own3 .entry))
+        (now (long1 .entry)) (now (long2 .entry)))) ⌝ }
 {
     let geometry = Geometry { p1, p2 };
     packing::reported(sail_sound::report::report(

@@ -27,8 +27,8 @@ use Rattle.runs.proofs.Tallies.{tally-refused}
 use Rattle.sail.specs.Lent.{Lent}
 use Rattle.sail.specs.Walk.{lookupSaid, meansFound}
 use Rattle.sail.specs.declared.table.Table.{Table}
-use Rattle.sail.specs.declared.lookup.Found.{Found}
-use Rattle.sail.specs.declared.lookup.Found.the-variants as found
+use Rattle.sail.specs.declared.found.Found.{Found}
+use Rattle.sail.specs.declared.found.Found.the-variants as found
 use Rattle.sail.proofs.Injective.{found-injective}
 use Rattle.sail_theory.specs.Calls.{made, cutRoute, cleared, withFlag, announced, withdrawn, loaded, reported}
 use Rattle.sail_theory.specs.Cases.{Make, Announce, Withdraw, Load, Report}
@@ -38,9 +38,9 @@ use Rattle.sail_theory.proofs.calls.Cleared.{announce-said, withdraw-said}
 use Rattle.sail_theory.proofs.calls.Make.{make-said}
 use Rattle.sail_theory.proofs.calls.Load.{load-said}
 use Rattle.sail_theory.proofs.calls.Refusals.{told-exactly, make-leaves, load-leaves, announce-leaves, withdraw-leaves}
-use Rattle.tree.specs.Walk.{meansTreeFound, treeSaid}
-use Rattle.tree.specs.declared.TreeFound.{TreeFound}
-use Rattle.tree.specs.declared.TreeFound.the-variants as treeFound
+use Rattle.tree_image.specs.Walk.{meansTreeFound, treeSaid}
+use Rattle.tree_image.specs.declared.TreeFound.{TreeFound}
+use Rattle.tree_image.specs.declared.TreeFound.the-variants as treeFound
 use Rattle.tree_build.specs.Built.{built}
 use Rattle.tree_build.proofs.Serves.{refused-leaves}
 use Rattle.runs.specs.Cases.{RunChecked}
@@ -49,8 +49,8 @@ use Rattle.sail.specs.Cases.{Lookup}
 use Rattle.sail.proofs.Judged.{lookup-judged, lookup-only}
 use Rattle.tree_build.specs.Cases.{Build}
 use Rattle.tree_build.proofs.Judged.{build-judged, build-only}
-use Rattle.tree.specs.Cases.{TreeLookup}
-use Rattle.tree.proofs.Judged.{tree-judged, tree-only, refused-broken}
+use Rattle.tree_image.specs.Cases.{TreeLookup}
+use Rattle.tree_image.proofs.Judged.{tree-judged, tree-only, refused-broken}
 
 -- "A refusal is never a hop."
 

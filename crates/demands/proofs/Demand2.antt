@@ -24,11 +24,11 @@ use Rattle.sail.specs.Sound.{Sound, standing, cellsRead}
 use Rattle.sail.specs.Walk.{lookupSaid}
 use Rattle.sail.specs.declared.table.Table.{Table}
 use Rattle.sail.proofs.Sounds as sounds
-use Rattle.tree.specs.Image.{onPath}
-use Rattle.tree.specs.Reads.{treeReads}
-use Rattle.tree.specs.Walk.{treeSaid}
-use Rattle.tree.proofs.ReadCounts as reads
-use Rattle.tree.proofs.Serves.{told-said, told-served}
+use Rattle.tree_image.specs.Image.{onPath}
+use Rattle.tree_image.specs.Reads.{treeReads}
+use Rattle.tree_image.specs.Walk.{treeSaid}
+use Rattle.tree_image.proofs.ReadCounts as reads
+use Rattle.tree_image.proofs.Serves.{told-said, told-served}
 use Rattle.tree_build.specs.Built.{built}
 use Rattle.tree_build.proofs.Serves.{built-accepts, built-serves}
 

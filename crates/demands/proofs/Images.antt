@@ -13,18 +13,18 @@ use Rattle.routes.proofs.Judged.{exactly}
 use Rattle.standing.specs.Cells.{covers}
 use Rattle.standing.specs.Served.{Served}
 use Rattle.standing.proofs.Served.{none-served}
-use Rattle.tree.specs.Reads.{treeReads}
-use Rattle.tree.specs.Walk.{treeSaid}
-use Rattle.tree.proofs.Serves.{told-served}
+use Rattle.tree_image.specs.Reads.{treeReads}
+use Rattle.tree_image.specs.Walk.{treeSaid}
+use Rattle.tree_image.proofs.Serves.{told-served}
 use Rattle.tree_same.specs.Listed.{routesHeld}
-use Rattle.tree_check.specs.Answers.{tested}
-use Rattle.tree_check.specs.Cases.{Narrow, TreeTest}
+use Rattle.tree_formed.specs.Answers.{tested}
+use Rattle.tree_formed.specs.Cases.{Narrow, TreeTest}
 use Rattle.tree_check.specs.Contract.{MeetsTreeTest}
-use Rattle.tree_check.specs.WellFormed.{wellFormed}
-use Rattle.tree_check.specs.declared.Tested.{Tested}
-use Rattle.tree_check.proofs.AsBuilt.{formed-good}
-use Rattle.tree_check.proofs.Judged.{tree-test-judged, tree-test-only}
-use Rattle.tree_check.proofs.Serves.{formed-serves}
+use Rattle.tree_formed.specs.WellFormed.{wellFormed}
+use Rattle.tree_formed.specs.declared.Tested.{Tested}
+use Rattle.tree_formed.proofs.AsBuilt.{formed-good}
+use Rattle.tree_formed.proofs.Judged.{tree-test-judged, tree-test-only}
+use Rattle.tree_formed.proofs.Serves.{formed-serves}
 use Rattle.tree_check.proofs.OneAnswer as test
 use Rattle.tree_change.specs.Cases.{routesWith, routesWithout, TreeAnnounce, TreeWithdraw, Anew}
 use Rattle.tree_change.specs.Changed.{prefixPlace, imageAnnounced, imageWithdrawn}

@@ -20,7 +20,7 @@ use Rattle.runs.proofs.OneAnswer as runs
 use Rattle.sail.specs.Lent.{Lent}
 use Rattle.sail.specs.Contract.{MeetsLookup}
 use Rattle.sail.specs.declared.table.Table.{Table}
-use Rattle.sail.specs.declared.lookup.Found.{Found}
+use Rattle.sail.specs.declared.found.Found.{Found}
 use Rattle.sail.proofs.OneAnswer as lookup
 use Rattle.sail_sound.specs.Contract.{MeetsReport}
 use Rattle.sail_sound.specs.declared.report.Reported.{Reported}
@@ -38,7 +38,7 @@ use Rattle.sail_withdraw.specs.Contract.{MeetsWithdraw}
 use Rattle.sail_withdraw.specs.declared.answers.Withdrawn.{Withdrawn}
 use Rattle.sail_withdraw.proofs.OneAnswer as withdraw
 use Rattle.tree.specs.Contract.{MeetsTreeLookup}
-use Rattle.tree.specs.declared.TreeFound.{TreeFound}
+use Rattle.tree_image.specs.declared.TreeFound.{TreeFound}
 use Rattle.tree.proofs.OneAnswer as tree
 use Rattle.tree_build.specs.Contract.{MeetsBuild}
 use Rattle.tree_build.specs.declared.Built.{Built}

@@ -14,13 +14,13 @@ use Rattle.routes.specs.Record.{routesIn}
 use Rattle.routes.specs.Route.{plain}
 use Rattle.routes.specs.Said.{accepts}
 use Rattle.standing.specs.Standing.{routeAt}
-use Rattle.tree.specs.Image.{nodeNeed}
+use Rattle.tree_image.specs.Image.{nodeNeed}
 use Rattle.tree_build.specs.Built.{built}
 use Rattle.tree_same.specs.Listed.{routesHeld}
 use Rattle.tree_same.specs.OneImage.{SameRoutes, Builds, SameArrays, SameUsed}
 use Rattle.tree_same.proofs.OneImage as builds
-use Rattle.tree_check.specs.Cases.{Narrow}
-use Rattle.tree_check.specs.WellFormed.{wellFormed}
+use Rattle.tree_formed.specs.Cases.{Narrow}
+use Rattle.tree_formed.specs.WellFormed.{wellFormed}
 use Rattle.tree_change.specs.Cases.{ImageLeft}
 use Rattle.tree_runs.specs.ImageRuns.{ImageCall, imageAfter, imageStandingAfter, imageHeldByCalls, imageRoutesAfter}
 use Rattle.tree_runs.proofs.ImageRuns as runs

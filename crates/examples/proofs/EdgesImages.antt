@@ -10,15 +10,15 @@ use Rattle.routes.specs.Record.{recordAt, routesOf}
 use Rattle.routes.specs.Input.{properPrefix, hopFine, routeFault, inOrder, faultAt, inputSaid}
 use Rattle.standing.specs.Cells.{any}
 use Rattle.standing.specs.Cells as cells
-use Rattle.tree.specs.Node.{sound, tryBit, deepestOf, betterOf}
-use Rattle.tree.specs.Parts.{picked, gather}
-use Rattle.tree.specs.Image.{bitHop, setBit, word, kids, hopsOf, level, upTo, wordsFrom, words, imageBy}
-use Rattle.tree.specs.Image as ofImage
-use Rattle.tree.specs.Walk.{treeHopSaid, fetchedFrom, walkFrom, treeSaid}
+use Rattle.tree_image.specs.Node.{sound, tryBit, deepestOf, betterOf}
+use Rattle.tree_image.specs.Parts.{picked, gather}
+use Rattle.tree_image.specs.Image.{bitHop, setBit, word, kids, hopsOf, level, upTo, wordsFrom, words, imageBy}
+use Rattle.tree_image.specs.Image as ofImage
+use Rattle.tree_image.specs.Walk.{treeHopSaid, fetchedFrom, walkFrom, treeSaid}
 use Rattle.tree_build.specs.Built.{madeOf, built}
 use Rattle.tree_same.specs.Order.{exts, ints}
-use Rattle.tree_check.specs.Answers.{tested}
-use Rattle.tree_check.specs.WellFormed.{nodesUsed, ordered, allFrom, nodeOk, hopsOk, blankFrom, wellFormed}
+use Rattle.tree_formed.specs.Answers.{tested}
+use Rattle.tree_formed.specs.WellFormed.{nodesUsed, ordered, allFrom, nodeOk, hopsOk, blankFrom, wellFormed}
 use Rattle.examples.specs.Lines.{Hold}
 use Rattle.examples.specs.EdgesImages.{answer, edges}
 

@@ -19,17 +19,17 @@ use Rattle.routes.specs.Said.{Said, accepted, refused, accepts}
 use Rattle.routes.specs.declared.Route.{Route}
 use Rattle.standing.specs.Cells as cells
 use Rattle.standing.specs.Standing.{insert, remove}
-use Rattle.tree.specs.Image.{bitHop, setBit, word, kids, hopsOf, level, upTo, wordsFrom, words, imageBy}
-use Rattle.tree.specs.Image as ofImage
-use Rattle.tree.specs.Node.{sound}
-use Rattle.tree.specs.Parts.{picked, gather}
+use Rattle.tree_image.specs.Image.{bitHop, setBit, word, kids, hopsOf, level, upTo, wordsFrom, words, imageBy}
+use Rattle.tree_image.specs.Image as ofImage
+use Rattle.tree_image.specs.Node.{sound}
+use Rattle.tree_image.specs.Parts.{picked, gather}
 use Rattle.tree_build.specs.Built.{ImageOut, imageOut, madeOf, built}
 use Rattle.tree_build.proofs.Serves.{built-accepts}
 use Rattle.tree_same.specs.Listed.{routesHeld}
 use Rattle.tree_same.specs.Order.{exts, ints}
 use Rattle.tree_same.proofs.Same.{image-held}
-use Rattle.tree_check.specs.WellFormed.{nodesUsed, ordered, allFrom, nodeOk, hopsOk, blankFrom, wellFormed}
-use Rattle.tree_check.proofs.Exact.{built-passes}
+use Rattle.tree_formed.specs.WellFormed.{nodesUsed, ordered, allFrom, nodeOk, hopsOk, blankFrom, wellFormed}
+use Rattle.tree_formed.proofs.Exact.{built-passes}
 use Rattle.tree_change.specs.Changed.{unmarkedRoute, putTo, takenFrom, imageAnnounced, imageWithdrawn}
 use Rattle.examples.specs.Lines.{Hold}
 use Rattle.examples.specs.EdgesTreeChanges as changes

@@ -18,8 +18,8 @@ use Rattle.routes.specs.declared.Route.{Route}
 use Rattle.standing.specs.Cells.{any}
 use Rattle.standing.specs.Cells as cells
 use Rattle.standing.specs.Standing.{absent, stood, routeAt}
-use Rattle.tree.specs.Parts.{picked, gather}
-use Rattle.tree.specs.Image.{kids, level, upTo}
+use Rattle.tree_image.specs.Parts.{picked, gather}
+use Rattle.tree_image.specs.Image.{kids, level, upTo}
 use Rattle.tree_build.specs.Built.{madeOf, built}
 use Rattle.tree_same.specs.OneImage.{Builds, SameArrays}
 use Rattle.tree_change.specs.Changed.{unmarkedRoute, imageWithdrawn}

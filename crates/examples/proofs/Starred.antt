@@ -49,12 +49,12 @@ use Rattle.sail_theory.specs.CallRuns.{Call, after}
 use Rattle.sail_theory.proofs.calls.Make.{make-is}
 use Rattle.sail_theory.proofs.runs.AfterRun.{run-is, run-sound}
 use Rattle.bits.specs.Bit.{packedBits}
-use Rattle.tree.specs.Parts.{picked, gather}
-use Rattle.tree.specs.Image.{bitHop, setBit, word, kids, hopsOf, level, upTo, wordsFrom, words, imageBy}
+use Rattle.tree_image.specs.Parts.{picked, gather}
+use Rattle.tree_image.specs.Image.{bitHop, setBit, word, kids, hopsOf, level, upTo, wordsFrom, words, imageBy}
 use Rattle.counts.specs.Counts.{howMany}
-use Rattle.tree.specs.Image as ofImage
-use Rattle.tree.specs.Reads.{treeReads}
-use Rattle.tree.specs.Walk.{treeHopSaid}
+use Rattle.tree_image.specs.Image as ofImage
+use Rattle.tree_image.specs.Reads.{treeReads}
+use Rattle.tree_image.specs.Walk.{treeHopSaid}
 use Rattle.tree_build.specs.Built.{madeOf, built}
 use Rattle.tree_build.proofs.Serves.{built-serves}
 use Rattle.sail_theory.specs.Replies.{reply, stood}

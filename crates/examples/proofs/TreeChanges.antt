@@ -31,10 +31,10 @@ use Rattle.standing.specs.Standing.{stands, isAt}
 use Rattle.standing.proofs.Changed.{insert-adds}
 use Rattle.standing.proofs.Standing.{insert-good}
 use Rattle.standing.proofs.Marks.{any-plain}
-use Rattle.tree.specs.Image.{nodeStands, hopFor, nodeNeed, bitHop, setBit, word, kids, hopsOf, level, upTo, wordsFrom, words, imageBy}
-use Rattle.tree.specs.Parts.{picked, gather}
-use Rattle.tree.proofs.Lies.{any-is}
-use Rattle.tree.proofs.Needs.{hops-need, nodes-most}
+use Rattle.tree_image.specs.Image.{nodeStands, hopFor, nodeNeed, bitHop, setBit, word, kids, hopsOf, level, upTo, wordsFrom, words, imageBy}
+use Rattle.tree_image.specs.Parts.{picked, gather}
+use Rattle.tree_image.proofs.Lies.{any-is}
+use Rattle.tree_image.proofs.Needs.{hops-need, nodes-most}
 use Rattle.bits.specs.Bit.{packedBits}
 use Rattle.tree_build.specs.Built.{ImageOut, madeOf, built}
 use Rattle.tree_build.proofs.Serves.{built-accepts}
@@ -43,12 +43,12 @@ use Rattle.tree_same.specs.Order.{exts}
 use Rattle.tree_same.proofs.Plain.{plain-good}
 use Rattle.tree_same.proofs.Same.{image-held}
 use Rattle.tree_hold.proofs.Undone.{image-sizes}
-use Rattle.tree_check.specs.Answers.{meansTested, tested}
+use Rattle.tree_formed.specs.Answers.{meansTested, tested}
 use Rattle.tree_check.specs.Contract.{MeetsTreeTest}
-use Rattle.tree_check.specs.WellFormed.{nodesUsed, ordered, wellFormed}
-use Rattle.tree_check.specs.declared.Tested.the-variants as ofTest
-use Rattle.tree_check.proofs.AsBuilt.{test-as-build}
-use Rattle.tree_check.proofs.Exact.{built-passes}
+use Rattle.tree_formed.specs.WellFormed.{nodesUsed, ordered, wellFormed}
+use Rattle.tree_formed.specs.declared.Tested.the-variants as ofTest
+use Rattle.tree_formed.proofs.AsBuilt.{test-as-build}
+use Rattle.tree_formed.proofs.Exact.{built-passes}
 use Rattle.tree_change.specs.Cases.{ImageAsked, routesWith, Announcing}
 use Rattle.tree_change.specs.Changed.{unmarkedRoute, meansTreeAnnounced, meansTreeWithdrawn, imageAnnounced, imageWithdrawn}
 use Rattle.tree_change.specs.Contract.{MeetsTreeAnnounce, MeetsTreeWithdraw}
@@ -56,7 +56,7 @@ use Rattle.tree_change.specs.declared.TreeAnnounced.the-variants as ofAnnounce
 use Rattle.tree_change.specs.declared.TreeWithdrawn.the-variants as ofWithdraw
 use Rattle.tree_change.proofs.ChangeReturns.{is-fine}
 use Rattle.tree_change.proofs.Cases.{case-announced}
-use Rattle.tree_check.specs.Cases.{Narrow}
+use Rattle.tree_formed.specs.Cases.{Narrow}
 use Rattle.tree_build.specs.Cases.{Build}
 use Rattle.tree_build.proofs.Judged.{build-only}
 use Rattle.examples.specs.Lines.{ip, Line, _gives_, Hold}

@@ -37,7 +37,7 @@ use Rattle.sail.specs.Sound.{Sound, standing, freshTable, freshLent}
 use Rattle.sail.specs.Walk.{lookupSaid, meansFound}
 use Rattle.sail.specs.Contract.{MeetsLookup}
 use Rattle.sail.specs.declared.table.Table.{Table}
-use Rattle.sail.specs.declared.lookup.Found.the-variants as found
+use Rattle.sail.specs.declared.found.Found.the-variants as found
 use Rattle.sail.proofs.Fresh.{fresh-sound}
 use Rattle.sail_theory.specs.Calls.{route, termsOf, withdrawFault, Out, out, made, announced, withdrawn, loaded, reported}
 use Rattle.sail_theory.specs.CallRuns.{Call, announce, withdraw, load, done, after, heldByCalls, routesAfter, Formed, standingAfter, AsFresh}
@@ -60,13 +60,13 @@ use Rattle.sail_withdraw.specs.Answers.{meansWithdraw}
 use Rattle.sail_withdraw.specs.Contract.{MeetsWithdraw}
 use Rattle.sail_announce.specs.declared.answers.Announce.the-variants as ofAnnounce
 use Rattle.sail_withdraw.specs.declared.answers.Withdraw.the-variants as ofWithdraw
-use Rattle.tree.specs.Node.{sound}
-use Rattle.tree.specs.Parts.{picked, gather}
-use Rattle.tree.specs.Image.{kids, level, upTo, onPath}
-use Rattle.tree.specs.Walk as walk
-use Rattle.tree.specs.Walk.{walkFrom, treeSaid, meansTreeFound}
+use Rattle.tree_image.specs.Node.{sound}
+use Rattle.tree_image.specs.Parts.{picked, gather}
+use Rattle.tree_image.specs.Image.{kids, level, upTo, onPath}
+use Rattle.tree_image.specs.Walk as walk
+use Rattle.tree_image.specs.Walk.{walkFrom, treeSaid, meansTreeFound}
 use Rattle.tree.specs.Contract.{MeetsTreeLookup}
-use Rattle.tree.specs.declared.TreeFound.the-variants as treeFound
+use Rattle.tree_image.specs.declared.TreeFound.the-variants as treeFound
 use Rattle.tree_build.specs.Built as building
 use Rattle.tree_build.specs.Built.{meansBuilt, madeOf, built}
 use Rattle.tree_build.specs.Contract.{MeetsBuild}

@@ -3,9 +3,9 @@
 use mathlib.Core.List.{List, [], _∷_, _++_}
 use Prim.Native.Nat.{ℕ, _+_, _^_}
 use Rattle.routes.specs.Said.{Said, accepted, refused, refusedAt, hopAfter, noRouteAfter}
-use Rattle.tree.specs.Walk.{treeSaid}
+use Rattle.tree_image.specs.Walk.{treeSaid}
 use Rattle.tree_build.specs.Built.{built}
-use Rattle.tree_check.specs.Answers.{tested}
+use Rattle.tree_formed.specs.Answers.{tested}
 use Rattle.examples.specs.Lines.{ip, Line, _gives_}
 use Rattle.examples.specs.EdgesInputs.{rec}
 

@@ -16,7 +16,7 @@ use Rattle.sail.specs.declared.geometry.Geometry.{Geometry}
 use Rattle.sail.specs.declared.table.Table.{Table}
 use Rattle.sail_theory.specs.Calls.{route, makeSaid, reported}
 use Rattle.sail_theory.specs.CallRuns.{Call, announce, withdraw, load, after}
-use Rattle.tree.specs.Walk.{treeSaid}
+use Rattle.tree_image.specs.Walk.{treeSaid}
 use Rattle.tree_build.specs.Built as building
 use Rattle.examples.specs.Lines.{ip, Line, _gives_}
 use Rattle.examples.specs.Blank.{geo}

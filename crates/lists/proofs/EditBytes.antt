@@ -7,6 +7,8 @@ use native.Mathlib.Omega.{arith}
 use lib.ListN.{length, getD, set, take, drop, length-append, length-drop, length-set, List·getD-append, List·getD-eq-default}
 use lib.Seq.{ext-getD, getD-set-same, getD-set-other, getD-take, getD-drop, length-take-le, getD-append-add}
 use Rattle.bits.proofs.Bools.{below?, equal?}
+use Rattle.buffers.specs.Moves.{movedUp, movedDown}
+use Rattle.buffers.proofs.Draws.{length-drawn, drawn-in, drawn-before, drawn-after}
 use Rattle.routes.specs.Route.{key, Good}
 use Rattle.standing.specs.Standing.{insert, remove}
 use Rattle.routes.specs.Record.{recordAt, bytesOf, putAt, routesOf, noRoute, written, Listed}
@@ -14,8 +16,7 @@ use Rattle.routes.specs.declared.Route.{Route}
 use Rattle.standing.proofs.Standing.{insert-length, remove-length}
 use Rattle.routes.proofs.Puts.{put-byte}
 use Rattle.routes.proofs.Rows.{length-routes, nth-route, records-good, length-written, byte-written, zero-written, listed-written}
-use Rattle.lists.specs.Edit.{movedUp, movedDown, inserted, removed, InsertAt, ReplaceAt, RemoveAt}
-use Rattle.lists.proofs.EditMoves.{length-drawn, drawn-in, drawn-before, drawn-after}
+use Rattle.lists.specs.Edit.{inserted, removed, InsertAt, ReplaceAt, RemoveAt}
 use Rattle.lists.proofs.EditRoutes.{insert-over, between-before, between-here, between-after, without-before, without-from}
 
 -- the other bytes stay where a record is put
@@ -90,7 +91,8 @@ module _ (s : List ℕ) (n : ℕ) where
   none : (q : ℕ) → n ≤ q → getD (routesOf s n) q noRoute ≡ noRoute
   none q u = List·getD-eq-default (routesOf s n) noRoute (rw length-routes u)
 
-pub inserted-at : (s : List ℕ) (n k : ℕ) (r : Route) → ((j : ℕ) → getD s j 0 < 256) → InsertAt s n k r → putAt (movedUp s (k * 8) (n * 8)) k r ≡ inserted s n r
+pub inserted-at : (s : List ℕ) (n k : ℕ) (r : Route) → ((j : ℕ) → getD s j 0 < 256) → InsertAt s n k r
+    → putAt (movedUp s (k * 8) (n * 8) 8) k r ≡ inserted s n r
 inserted-at s n k r bytes ok =
     is-written (insert r rs) (length s / 8) (omega (arith, insert-length r rs, length-routes s n, ok .room)) (putAt moved k r)
     (length-put moved k r room ∙ length-drawn s _ _ _ ∙ omega (arith, ok .listed .whole))
@@ -100,7 +102,7 @@ inserted-at s n k r bytes ok =
     rs = routesOf s n
 
     moved : List ℕ
-    moved = movedUp s (k * 8) (n * 8)
+    moved = movedUp s (k * 8) (n * 8) 8
 
     place : k ≤ length rs
     place = rw length-routes (ok .place)
@@ -156,7 +158,7 @@ replaced-at s n k r bytes ok =
     at q m h l (inr u) (inr e) = put-after s k r room (q * 8 + m) (omega (arith, e)) ∙ rw (getD-set-other rs k q r noRoute e)
         (old s n bytes (ok .listed) q m h l)
 
-pub removed-at : (s : List ℕ) (n k : ℕ) → ((j : ℕ) → getD s j 0 < 256) → RemoveAt s n k → putAt (movedDown s (k * 8) ((n - 1) * 8)) (n - 1) noRoute
+pub removed-at : (s : List ℕ) (n k : ℕ) → ((j : ℕ) → getD s j 0 < 256) → RemoveAt s n k → putAt (movedDown s (k * 8) ((n - 1) * 8) 8) (n - 1) noRoute
     ≡ removed s n (key (recordAt s k))
 removed-at s n k bytes ok =
     is-written (remove (key (getD rs k noRoute)) rs) (length s / 8)
@@ -176,7 +178,7 @@ removed-at s n k bytes ok =
     place = rw length-routes (ok .place)
 
     moved : List ℕ
-    moved = movedDown s (k * 8) ((n - 1) * 8)
+    moved = movedDown s (k * 8) ((n - 1) * 8) 8
 
     room : (n - 1 + 1) * 8 ≤ length moved
     room = rw length-drawn (omega (arith, ok .listed .records .room, ok .place))

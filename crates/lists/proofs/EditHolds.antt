@@ -14,8 +14,6 @@ use Rattle.routes.specs.declared.Route.{Route}
 use Rattle.standing.proofs.Standing.{insert-good, insert-replaces, remove-good, remove-length}
 use Rattle.routes.proofs.Rows.{length-routes, records-good, routes-written, written-listed}
 use Rattle.lists.specs.Edit.{Insertable, inserted, removed, countWith, countWithout, ListHolds}
-use Rattle.lists.specs.declared.edit.Put.{Put}
-use Rattle.lists.specs.declared.edit.Put.the-variants as put
 use Rattle.standing.proofs.Changed.{insert-adds, remove-takes, remove-absent}
 
 pub insert-count : (r : Route) (rs : List Route) → Good rs → length (insert r rs) ≡ countWith (stands (key r) rs) (length rs)

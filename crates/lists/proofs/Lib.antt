@@ -1,6 +1,5 @@
 -- The laws of places, of changes, and of the test.
 pub mod Places
-pub mod EditMoves
 pub mod EditRoutes
 pub mod EditBytes
 pub mod EditPlaces

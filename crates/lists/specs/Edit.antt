@@ -1,30 +1,14 @@
--- A list of records that is changed in place: how its bytes move, what a change asks, and what the list then holds.
+-- A list of records that is changed in place: what a change asks, and what the list then holds.
 use Prim.Native.Nat.{ℕ, _+_, _-_, _*_, _/_, _≤_, _<_}
-use mathlib.Core.Bool.{Bool, true, false, cond, _&&_}
+use mathlib.Core.Bool.{Bool, false, cond}
 use mathlib.Core.List.{List}
 use mathlib.Core.Path.{_≡_}
-use lib.Dec.{leb, ltb}
-use lib.ListN.{length, getD}
-use Rattle.bits.specs.Tab.{tabulate}
+use lib.ListN.{length}
 use Rattle.routes.specs.Route.{key, Fine}
 use Rattle.standing.specs.Standing.{stands, insert, remove}
 use Rattle.routes.specs.Record.{recordAt, routesOf, written, Records, Listed}
 use Rattle.routes.specs.declared.Route.{Route}
 use Rattle.lists.specs.Place.{placeOf}
-use Rattle.lists.specs.declared.edit.Put.{Put}
-use Rattle.lists.specs.declared.edit.Put.the-variants as put
-
--- s, where each byte from a on and before e is drawn from another place of s
-unfoldable pub drawn : List ℕ → ℕ → ℕ → (ℕ → ℕ) → List ℕ
-drawn s a e from = tabulate (length s) (λ j. cond (leb a j && ltb j e) (getD s (from j) 0) (getD s j 0))
-
--- the bytes from a on and before e, moved up by one record
-abbrev pub movedUp : List ℕ → ℕ → ℕ → List ℕ
-movedUp s a e = drawn s (a + 8) (e + 8) (λ j. j - 8)
-
--- the bytes from a on and before e become those one record further on
-abbrev pub movedDown : List ℕ → ℕ → ℕ → List ℕ
-movedDown s a e = drawn s a e (λ j. j + 8)
 
 -- the bytes of a list that holds n routes, with r put in, or without the route of a prefix: the array stays as long
 abbrev pub inserted : List ℕ → ℕ → Route → List ℕ
@@ -63,24 +47,11 @@ pub record Insertable (s : List ℕ) (n : ℕ) (r : Route) : Type 0 where
   pub fine : Fine r
   pub room : stands (key r) (routesOf s n) ≡ false → (n + 1) * 8 ≤ length s
 
--- what a change tells, whether a route of the prefix stood before it, and the list that it leaves
-pub record Edited : Type 0 where
-  pub stood : Bool
-  pub list : List ℕ
-
-abbrev pub edited : Bool → List ℕ → Edited
-edited b s = record { stood = b; list = s }
-
-abbrev pub inserting : List ℕ → ℕ → Route → Edited
-inserting s n r = edited (stands (key r) (routesOf s n)) (inserted s n r)
-
-abbrev pub removing : List ℕ → ℕ → ℕ → Edited
-removing s n p = edited (stands p (routesOf s n)) (removed s n p)
-
--- whether a route of the prefix stood before
-unfoldable pub meansPut : Put → Bool
-meansPut put.Added = false
-meansPut put.Replaced = true
+-- r can be put into the list, k is the place of its key, and b tells whether its prefix stands
+pub record PutAt (s : List ℕ) (n k : ℕ) (b : Bool) (r : Route) : Type 0 where
+  pub fits : Insertable s n r
+  pub place : k ≡ placeOf s n (key r)
+  pub stood : b ≡ stands (key r) (routesOf s n)
 
 -- how many routes stand with a route put in, and with one taken out, where n stood: by whether one of the prefix was among them
 abbrev pub countWith : Bool → ℕ → ℕ

@@ -1,46 +1,19 @@
 // A record put into an ascending list, or taken out of one, in the caller's array. The records after it move by one place.
-use crate::place;
+use buffers::moves;
 use routes::Route;
 use routes::record;
 ghost use mathlib.Core.Path.{_≡_};
-ghost use Prim.Native.Nat.{_+_, _≤_};
-ghost use lib.ListN.{length};
-ghost use Rattle.routes.specs.Route.{key, keyOf};
-ghost use Rattle.routes.specs.Record.{recordAt, routesOf, Listed};
+ghost use Rattle.routes.specs.Route.{key};
+ghost use Rattle.routes.specs.Record.{recordAt, routesOf};
 ghost use Rattle.standing.specs.Standing.{stands};
-ghost use Rattle.lists.specs.Edit.{movedUp, movedDown, inserted, removed, InsertAt, ReplaceAt, RemoveAt, Placed, Insertable};
-ghost use Rattle.lists.specs.Edit.{edited, inserting, removing, meansPut};
-
-// The bytes from `a` on and before `e` move up by one record. The last goes first, so that none is lost.
-fn move_up(list: &mut [u8], a: usize, e: usize)
-    requires { ⌜ (a ≤ e) × (e + 8 ≤ length (now list)) ⌝ }
-    ensures { λ _. ⌜ now (list .exit) ≡ movedUp (now (list .entry)) a e ⌝ }
-{
-    let mut at = e;
-    while a < at {
-        at -= 1;
-        list[at + 8] = list[at];
-    }
-}
-
-// The bytes from `a` on and before `e` become those one record further on.
-fn move_down(list: &mut [u8], a: usize, e: usize)
-    requires { ⌜ (a ≤ e) × (e + 8 ≤ length (now list)) ⌝ }
-    ensures { λ _. ⌜ now (list .exit) ≡ movedDown (now (list .entry)) a e ⌝ }
-{
-    let mut at = a;
-    while at < e {
-        list[at] = list[at + 8];
-        at += 1;
-    }
-}
+ghost use Rattle.lists.specs.Edit.{inserted, removed, InsertAt, ReplaceAt, RemoveAt, Placed, PutAt};
 
 // `r` becomes record k of the list's n records, and those from k on stand one place further.
 pub fn insert_at(list: &mut [u8], n: usize, k: usize, r: Route)
     requires { ⌜ InsertAt (now list) n k r ⌝ }
     ensures { λ _. ⌜ now (list .exit) ≡ inserted (now (list .entry)) n r ⌝ }
 {
-    move_up(list, k * 8, n * 8);
+    moves::up8(list, k * 8, n * 8, 8);
     record::write_record(list, k, r);
 }
 
@@ -58,7 +31,7 @@ pub fn remove_at(list: &mut [u8], n: usize, k: usize)
     ensures { λ _. ⌜ now (list .exit) ≡ removed (now (list .entry)) n (key (recordAt (now (list .entry)) k)) ⌝ }
 {
     let last = n - 1;
-    move_down(list, k * 8, last * 8);
+    moves::down8(list, k * 8, last * 8, 8);
     record::write_record(
         list,
         last,
@@ -82,37 +55,14 @@ pub fn stands_at(list: &[u8], n: usize, k: usize, p: u64) -> bool
     false
 }
 
-// What putting a route into a list did: the prefix is new, or its route was replaced.
-pub enum Put {
-    Added,
-    Replaced,
-}
-
-// `r` is put into the list's n records, over the route of its prefix where one stands.
-pub fn insert(list: &mut [u8], n: usize, r: Route) -> Put
-    requires { ⌜ Insertable (now list) n r ⌝ }
-    ensures { λ p. ⌜ edited (meansPut p) (now (list .exit)) ≡ inserting (now (list .entry)) n r ⌝ }
+// `r` is put into the list's n records at k, the place of its key: over record k where its prefix stands, and else before it.
+pub fn put_at(list: &mut [u8], n: usize, k: usize, stands: bool, r: Route)
+    requires { ⌜ PutAt (now list) n k stands r ⌝ }
+    ensures { λ _. ⌜ now (list .exit) ≡ inserted (now (list .entry)) n r ⌝ }
 {
-    let p = record::key_of(r.addr, r.len);
-    let k = place::place(list, n, p);
-    if stands_at(list, n, k, p) {
+    if stands {
         replace_at(list, n, k, r);
-        return Put::Replaced;
+    } else {
+        insert_at(list, n, k, r);
     }
-    insert_at(list, n, k, r);
-    Put::Added
-}
-
-// The route of a prefix is taken out of the list's n records. Says whether one stood.
-pub fn remove(list: &mut [u8], n: usize, addr: u32, len: u8) -> bool
-    requires { ⌜ Listed (now list) n ⌝ }
-    ensures { λ r. ⌜ edited r (now (list .exit)) ≡ removing (now (list .entry)) n (keyOf addr len) ⌝ }
-{
-    let p = record::key_of(addr, len);
-    let k = place::place(list, n, p);
-    if stands_at(list, n, k, p) {
-        remove_at(list, n, k);
-        return true;
-    }
-    false
 }

@@ -4,5 +4,4 @@ pub mod Parts
 mod Reports
 pub mod Hops
 pub mod Casts
-pub mod ImageAnswers
-pub mod Putting
+mod TallyWords

@@ -2,7 +2,6 @@
 pub mod Pack
 pub mod Unpack
 pub mod Hops
-pub mod ImageAnswers
 pub mod Parts
 pub mod Casts
-pub mod Repairs
+pub mod Tallies

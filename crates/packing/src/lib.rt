@@ -9,15 +9,14 @@ ghost use Rattle.sail_withdraw.specs.Answers.{meansWithdraw};
 ghost use Rattle.sail_sound.specs.Report.{meansReported};
 ghost use Rattle.routes.specs.Answers.{meansInput, meansGot};
 ghost use Rattle.runs.specs.Run.{meansRunCheck};
-ghost use Rattle.tree.specs.Walk.{meansTreeFound};
+ghost use Rattle.tree_image.specs.Walk.{meansTreeFound};
 ghost use Rattle.tree_build.specs.Built.{meansBuilt};
 ghost use Rattle.sail.specs.Word.{packFound};
 ghost use Rattle.packing.specs.Pack.{packReport, packChange, packBuilt, packRun, packNone, packRoute};
 
 pub mod broadcasts;
-pub mod images;
 pub mod maps;
-pub mod repairs;
+pub mod tallies;
 
 use bits::widen::byte_to_long;
 use bits::widen::half_to_long;
@@ -30,11 +29,11 @@ use sail_load::load::Loaded;
 use sail_make::Made;
 use sail_sound::report::Reported;
 use sail_withdraw::answers::Withdraw;
-use tree::TreeFound;
 use tree_build::Built;
+use tree_image::TreeFound;
 
 // The low 16 bits of a number.
-fn narrow(x: u64) -> u64
+pub fn narrow(x: u64) -> u64
     ensures { λ r. ⌜ (r ≡ x % 65536) × (r < 65536) ⌝ }
 {
     x % 65536
@@ -47,7 +46,7 @@ fn refused_at(n: u8, k: usize) -> u64
     byte_to_long(n) + 256 + (k as u64) % 4294967296 * 4294967296
 }
 
-fn flag(b: bool) -> u64
+pub fn flag(b: bool) -> u64
     ensures { λ r. ⌜ (r ≡ bit b) × (r ≤ 1) ⌝ }
 {
     if b {

@@ -71,7 +71,8 @@ pub fn settle(
     own: &[u32],
 ) -> bool
     requires { ⌜ Beside p o (now part) (now want) ⌝ }
-    ensures { λ r. ⌜ Settled (λ j. long (routesOfWords (now (run .entry))) p (base + j)) (now (part .entry)) (now (own .entry)) o (now (want .entry)) (now (want .exit)) r ⌝ }
+    ensures { λ r. ⌜ Settled (λ j. long (routesOfWords (now (run .entry))) p (base + j)) (now (part .entry)) (now (own .entry)) o
+        (now (want .entry)) (now (want .exit)) r ⌝ }
 {
     let mut ok = true;
     let mut k = 0;
@@ -98,7 +99,8 @@ pub fn as_planned(
     own: &[u32],
 ) -> bool
     requires { ⌜ Judges (now run) h p o (now part) (now want) ⌝ }
-    ensures { λ r. ⌜ Tells r (Matches (now (part .entry)) o (plannedFrom h (routesOfWords (now (run .entry))) p base (length (now (want .entry)))) (now (own .entry))) ⌝ }
+    ensures { λ r. ⌜ Tells r (Matches (now (part .entry)) o (plannedFrom h (routesOfWords (now (run .entry))) p base (length
+        (now (want .entry)))) (now (own .entry))) ⌝ }
 {
     plan_words(run, h, p, base, want);
     if !settle(run, p, base, part, o, want, own) {

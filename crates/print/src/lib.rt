@@ -30,7 +30,9 @@ fn put_standing(
     out: &mut [u8],
 ) -> usize
     requires { ⌜ PageReady t (lent (now list) (now first) (now second) (now third) (now own2) (now own3) (now long1) (now long2)) (now out) ⌝ }
-    ensures { λ r. ⌜ Wrote (now (out .entry)) 0 (standingText t (lent (now (list .entry)) (now (first .entry)) (now (second .entry)) (now (third .entry)) (now (own2 .entry)) (now (own3 .entry)) (now (long1 .entry)) (now (long2 .entry)))) r (now (out .exit)) ⌝ }
+    ensures { λ r. ⌜ Wrote (now (out .entry)) 0 (standingText t
+        (lent (now (list .entry)) (now (first .entry)) (now (second .entry)) (now (third .entry)) (now (own2 .entry)) (now (own3 .entry))
+        (now (long1 .entry)) (now (long2 .entry)))) r (now (out .exit)) ⌝ }
 {
     match report::report(t, list, first, second, third, own2, own3, long1, long2) {
         Reported::Standing {

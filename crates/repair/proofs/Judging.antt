@@ -15,7 +15,7 @@ use Rattle.sail_theory.specs.Calls.{loadFault}
 use Rattle.sail_load.specs.Weigh.{terms, Weighs}
 use Rattle.repair_theory.specs.Repair.{keptOf}
 use Rattle.repair_theory.proofs.Kept.{kept-good}
-use Rattle.repair.specs.Keep.{Keeps, KeptIn}
+use Rattle.repair_keep.specs.Keep.{Keeps, KeptIn}
 use Rattle.repair.specs.Judge.{RepairReady, SizesFirst}
 
 module _ (z : ℕ) (t : Table) (s : List ℕ) where

@@ -25,9 +25,9 @@ use Rattle.repair_theory.proofs.Looks.{kept-few, looks}
 use Rattle.repair_theory.proofs.Judged.{accepted-loadable}
 use Rattle.repair_theory.proofs.Repairs.{carried-routes, kept-carried, reload-is, repair-is}
 use Rattle.repair.specs.Answers.{meansRepaired}
-use Rattle.repair.specs.Differs.{Differing, wanted, freshOwners, DiffReady}
+use Rattle.repair_differs.specs.Differs.{Differing, wanted, freshOwners, DiffReady}
 use Rattle.repair.specs.Judge.{RepairReady, KeptIs, SizesFirst, Small, numbers}
-use Rattle.repair.specs.declared.differs.Differs.{Differs}
+use Rattle.repair_differs.specs.declared.Differs.{Differs}
 use Rattle.repair.specs.declared.repair.RepairJudged.{RepairJudged}
 use Rattle.repair.specs.declared.repair.Repaired.{Repaired}
 use Rattle.repair.specs.declared.repair.Repaired.the-variants.{Refused}

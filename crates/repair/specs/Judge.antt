@@ -11,7 +11,7 @@ use Rattle.sail_theory.specs.Calls.{chunksFault}
 use Rattle.sail_load.specs.Weigh.{terms}
 use Rattle.repair_theory.specs.Repair.{keptOf}
 use Rattle.repair.specs.declared.repair.RepairJudged.{RepairJudged}
-use Rattle.repair.specs.declared.differs.Differs.{Differs}
+use Rattle.repair_differs.specs.declared.Differs.{Differs}
 
 -- a geometry and a list of right sizes, where no fault of the sizes is given; and room for what is kept
 pub record RepairReady (z : ℕ) (g : Geometry) (s bytes : List ℕ) : Type 0 where

@@ -5,10 +5,10 @@ ghost use Rattle.sail.specs.Lent.{lent};
 ghost use Rattle.repair.specs.Answers.{meansRepaired};
 ghost use Rattle.repair.specs.Contract.{MeetsRepair};
 ghost use Rattle.repair.specs.Judge.{RepairReady, SizesFirst, Small, numbers};
-use crate::differs::Differs;
-use crate::differs::count_cells;
-use crate::keep::keep;
-use crate::keep::looked;
+use repair_differs::Differs;
+use repair_differs::count_cells;
+use repair_keep::keep;
+use repair_keep::looked;
 use sail::table::Table;
 use sail::table::sizes;
 use sail_load::load::load;
@@ -94,7 +94,10 @@ pub fn repair(
     long1: &mut [u16],
     long2: &mut [u16],
 ) -> RepairedTable
-    ensures { λ r. ⌜ MeetsRepair t (lent (now (list .entry)) (now (first .entry)) (now (second .entry)) (now (third .entry)) (now (own2 .entry)) (now (own3 .entry)) (now (long1 .entry)) (now (long2 .entry))) r (lent (now (list .exit)) (now (first .exit)) (now (second .exit)) (now (third .exit)) (now (own2 .exit)) (now (own3 .exit)) (now (long1 .exit)) (now (long2 .exit))) ⌝ }
+    ensures { λ r. ⌜ MeetsRepair t (lent (now (list .entry)) (now (first .entry)) (now (second .entry)) (now (third .entry))
+        (now (own2 .entry)) (now (own3 .entry)) (now (long1 .entry)) (now (long2 .entry))) r
+        (lent (now (list .exit)) (now (first .exit)) (now (second .exit)) (now (third .exit)) (now (own2 .exit)) (now (own3 .exit))
+        (now (long1 .exit)) (now (long2 .exit))) ⌝ }
 {
     let mut kept = [0u8; 32768];
     let z = sizes(t, list, first, second, third, own2, own3, long1, long2);

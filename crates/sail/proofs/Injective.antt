@@ -1,8 +1,8 @@
 -- Two answers of lookup that are told the same are the same.
 use mathlib.Core.Path.{_≡_}
 use Rattle.sail.specs.Walk.{meansFound}
-use Rattle.sail.specs.declared.lookup.Found.{Found}
-use Rattle.sail.specs.declared.lookup.Found.the-variants.{Hop, NoRoute, Refused}
+use Rattle.sail.specs.declared.found.Found.{Found}
+use Rattle.sail.specs.declared.found.Found.the-variants.{Hop, NoRoute, Refused}
 
 pub found-injective : (x y : Found) → meansFound x ≡ meansFound y → x ≡ y
 unfolding meansFound

@@ -4,7 +4,7 @@ use Prim.Native.Nat.{ℕ}
 use Rattle.sail.specs.Lent.{Lent}
 use Rattle.sail.specs.Contract.{MeetsLookup}
 use Rattle.sail.specs.declared.table.Table.{Table}
-use Rattle.sail.specs.declared.lookup.Found.{Found}
+use Rattle.sail.specs.declared.found.Found.{Found}
 use Rattle.sail.proofs.Injective.{found-injective}
 
 pub one-answer-lookup : (t : Table) (l : Lent) (addr : ℕ) (x y : Found) → MeetsLookup t l addr x → MeetsLookup t l addr y → x ≡ y

@@ -5,7 +5,7 @@ use Prim.Native.Nat.{ℕ}
 use Rattle.sail.specs.Lent.{Lent}
 use Rattle.sail.specs.Walk.{lookupSaid, meansFound}
 use Rattle.sail.specs.declared.table.Table.{Table}
-use Rattle.sail.specs.declared.lookup.Found.{Found}
+use Rattle.sail.specs.declared.found.Found.{Found}
 
 abbrev pub MeetsLookup : Table → Lent → ℕ → Found → Type 0
 MeetsLookup t l addr r = meansFound r ≡ lookupSaid t l addr

@@ -13,8 +13,8 @@ use Rattle.sail.specs.Level.{View, whole}
 use Rattle.sail.specs.Sizes.{sizesFault}
 use Rattle.sail.specs.declared.geometry.Geometry.{Geometry}
 use Rattle.sail.specs.declared.table.Table.{Table}
-use Rattle.sail.specs.declared.lookup.Found.{Found}
-use Rattle.sail.specs.declared.lookup.Found.the-variants.{Hop, NoRoute, Refused}
+use Rattle.sail.specs.declared.found.Found.{Found}
+use Rattle.sail.specs.declared.found.Found.the-variants.{Hop, NoRoute, Refused}
 
 -- "Chunk c begins at cell (c - 1) times the chunk size": the place, in a pool of chunks of 2 ^ d cells, of the cell in chunk c that
 -- serves cell i of its level

@@ -65,7 +65,9 @@ pub fn sizes(
     long1: &[u16],
     long2: &[u16],
 ) -> u8
-    ensures { λ r. ⌜ SizesTold r (t .geometry) (lent (now (list .entry)) (now (first .entry)) (now (second .entry)) (now (third .entry)) (now (own2 .entry)) (now (own3 .entry)) (now (long1 .entry)) (now (long2 .entry))) ⌝ }
+    ensures { λ r. ⌜ SizesTold r (t .geometry)
+        (lent (now (list .entry)) (now (first .entry)) (now (second .entry)) (now (third .entry)) (now (own2 .entry)) (now (own3 .entry))
+        (now (long1 .entry)) (now (long2 .entry))) ⌝ }
 {
     let g = t.geometry;
     if g.valid() {

@@ -4,9 +4,9 @@ use mathlib.Core.Bool.{Bool, true, false, not}
 use mathlib.Core.List.{List, [], _∷_}
 use Prim.Native.Nat.{ℕ, _+_, _*_, _/_, _^_, _≤_}
 use native.Mathlib.Omega.{arith}
-use lib.Dec.{eqb, ltb}
+use lib.Dec.{eqb}
 use lib.ListN.{length}
-use borrow.Author.Tests.{lt-ltb, le-ltb, eq-eqb, not-true, not-false}
+use borrow.Author.Tests.{lt-ltb, eq-eqb, not-true, not-false}
 use Rattle.bits.specs.Count.{bit}
 use Rattle.bits.specs.Slot.{cut, slot}
 use Rattle.routes.specs.Route.{key, Good}
@@ -19,8 +19,7 @@ use Rattle.standing.proofs.Changed.{insert-adds}
 use Rattle.standing.proofs.Standing.{insert-long}
 use Rattle.counts.specs.Counts.{OneMore}
 use Rattle.counts.proofs.Changed.{many-insert, many-replace}
-use Rattle.lists.specs.Edit.{Insertable, Edited, edited, inserted, inserting, meansPut, countWith, ListHolds}
-use Rattle.lists.specs.declared.edit.Put.{Put}
+use Rattle.lists.specs.Edit.{Insertable, PutAt, inserted, countWith, ListHolds}
 use Rattle.lists.proofs.EditHolds.{insert-count, insert-holds}
 use Rattle.sail.specs.Geometry.{bits2, Valid}
 use Rattle.sail.specs.Lent.{Lent, lent, cells}
@@ -29,7 +28,7 @@ use Rattle.sail.specs.declared.geometry.Geometry.{Geometry}
 use Rattle.sail.specs.declared.table.Table.{Table}
 use Rattle.sail.proofs.Sounds.{standing-good}
 use Rattle.sail_theory.specs.Render.{find}
-use Rattle.sail_theory.specs.Calls.{opening, route, announceSaid, Out, out, adding, outWithFlag, announced}
+use Rattle.sail_theory.specs.Calls.{opening, route, Out, out, adding, outWithFlag, announced}
 use Rattle.sail.specs.Level.{chunksOf, level1, level2}
 use Rattle.sail_theory.specs.Facts.{Announceable}
 use Rattle.sail_theory.proofs.calls.Outcomes.{adding-is}
@@ -42,21 +41,22 @@ use Rattle.sail_paint.specs.Pending.{Pending}
 use Rattle.sail_chunks.specs.ToOpen.{Openable}
 use Rattle.sail_chunks.proofs.AnnounceUnderway.{openable, welcome-underway}
 use Rattle.sail_chunks.proofs.Underway.{underway-stale, underway-asked}
-use Rattle.sail_theory.specs.Judge.{Judged}
 use Rattle.sail_counts.specs.Counted.{Counts}
 use Rattle.sail_counts.proofs.Tallies.{Guided, up-tickable, up-counts, open-counts, as-counts, counts-are}
 use Rattle.sail_announce.specs.Answers.{meansAnnounce}
 use Rattle.sail_announce.specs.Booked.{Bookable, Booked, more, same}
+use Rattle.sail_judge.specs.Announce.{ToAdd, AnnounceJudged}
+use Rattle.sail_judge.specs.declared.announce.AnnounceVerdict.{AnnounceVerdict}
 use Rattle.sail_announce.specs.declared.answers.Announce.{Announce}
 use Rattle.sail_announce.specs.declared.answers.Announce.the-variants as announce
 
 -- The address x is cut to its length before the route is judged.
 module _ (t : Table) (l : Lent) (a len hop mark x : ℕ) (e : x ≡ cut len a) where
   -- a refusal leaves all as it was
-  pub announce-refused : (z : ℕ) → Judged z (announceSaid t l (route x len hop mark)) (Announceable t l (route x len hop mark)) → (z ≡ 0 → ⊥)
-      → out (meansAnnounce (announce.Refused z)) t l ≡ announced t l (route a len hop mark)
+  pub announce-refused : (f : AnnounceVerdict) → AnnounceJudged t l (route x len hop mark) f → (f .number ≡ 0 → ⊥)
+      → out (meansAnnounce (announce.Refused (f .number))) t l ≡ announced t l (route a len hop mark)
   unfolding meansAnnounce
-  announce-refused z k h = sym (announce-off t l (route a len hop mark) (refused z) (rw e at (k .off h)) refl)
+  announce-refused f k h = sym (announce-off t l (route a len hop mark) (refused (f .number)) (rw e at (k .off h)) refl)
 
   -- what is added is the cleared route, and bits were cleared where the address is another
   pub announce-cleared : (c : Bool) → c ≡ not (eqb x a) → (o : Out) → o ≡ outWithFlag c (adding t l (route x len hop mark)) → o ≡ announced t l
@@ -64,7 +64,10 @@ module _ (t : Table) (l : Lent) (a len hop mark x : ℕ) (e : x ≡ cut len a) w
   unfolding announced
   announce-cleared c f o q = q ∙ rw (f, e)
 
-module _ (t : Table) (l : Lent) (r : Route) (w : Announceable t l r) where
+module _ (t : Table) (l : Lent) (r : Route) (f : AnnounceVerdict) (ready : ToAdd t l r f) where
+  abbrev w : Announceable t l r
+  w = ready .may
+
   abbrev g : Geometry
   g = t .geometry
 
@@ -77,35 +80,32 @@ module _ (t : Table) (l : Lent) (r : Route) (w : Announceable t l r) where
   abbrev own3′ : List ℕ
   own3′ = opening (level2 g (chunksOf own2′)) (l .own3) r
 
-  pub add-insertable : Insertable (l .list) (t .count) r
-  add-insertable = record {
+  insertable : Insertable (l .list) (t .count) r
+  insertable = record {
     listed = w .sound .listed;
     fine = w .fine;
     room = λ e. omega (arith, w .roomy, insert-adds r rs e, length-routes (l .list) (t .count));
   }
 
-  pub add-openable : Openable g rs r (l .first) (l .second) (l .own2) (l .own3)
-  add-openable = openable t l r w
+  pub add-put : PutAt (l .list) (t .count) (f .at) (f .stands) r
+  add-put = record { fits = insertable; place = ready .at; stood = ready .stood }
+
+  pub add-openable : Openable g r (f .opens) (l .own2) (l .own3)
+  add-openable = openable t l r w (f .opens) (ready .opens)
 
   pub add-few : t .count ≤ 4096
   add-few = w .sound .listed .records .few
 
   -- s is the list with the route put in, and m the number of routes in it
-  module _ (p : Put) (s : List ℕ) (e : edited (meansPut p) s ≡ inserting (l .list) (t .count) r) (m : ℕ) (k : m ≡ countWith (meansPut p) (t .count)) where
-    stood : meansPut p ≡ stands (key r) rs
-    stood = ap (λ (x : Edited). x .stood) e
-
-    list-is : s ≡ inserted (l .list) (t .count) r
-    list-is = ap (λ (x : Edited). x .list) e
-
+  module _ (s : List ℕ) (list-is : s ≡ inserted (l .list) (t .count) r) (m : ℕ) (k : m ≡ countWith (f .stands) (t .count)) where
     count-is : m ≡ length (insert r rs)
-    count-is = k ∙ rw stood (sym (rw length-routes at (insert-count r rs (standing-good t l (w .sound)))))
+    count-is = k ∙ rw (ready .stood) (sym (rw length-routes at (insert-count r rs (standing-good t l (w .sound)))))
 
     holds : ListHolds s m (insert r rs)
     holds =
         let few : length (l .list) / 8 ≤ 4096 = omega (arith, w .sound .sized .room) in
-        let c : m ≡ countWith (stands (key r) rs) (t .count) = rw stood at k in
-        rw (list-is, c) (insert-holds (l .list) (t .count) few r add-insertable)
+        let c : m ≡ countWith (stands (key r) rs) (t .count) = rw (ready .stood) at k in
+        rw (list-is, c) (insert-holds (l .list) (t .count) few r insertable)
 
     module _ (own2 own3 : List ℕ) (o2 : own2 ≡ own2′) (o3 : own3 ≡ own3′) where
       pub add-pending : (x : ℕ) → x ≡ r .len → Pending g m (r .addr) x s (cells (l .first) (l .second) (l .third) own2 own3)
@@ -148,41 +148,33 @@ module _ (t : Table) (l : Lent) (r : Route) (w : Announceable t l r) where
             (find (l .own2) 0)
             (ready1 t l r w)
 
-        -- one more record exactly where the prefix did not stand
-        added-is : ltb (t .count) m ≡ not (stands (key r) rs)
-        added-is = rw (k, stood) (go (stands (key r) rs))
-          where
-            go : (x : Bool) → ltb (t .count) (countWith x (t .count)) ≡ not x
-            go true = le-ltb (t .count) (t .count) (omega arith)
-            go false = lt-ltb (t .count) (t .count + 1) (omega arith)
+        new : not (f .stands) ≡ true → OneMore (r .addr) (r .len) rs (insert r rs)
+        new e = many-insert r rs (sym (ready .stood) ∙ not-true (f .stands) e)
 
-        new : ltb (t .count) m ≡ true → OneMore (r .addr) (r .len) rs (insert r rs)
-        new e = many-insert r rs (not-true (stands (key r) rs) (sym added-is ∙ e))
-
-        pub add-bookable : Bookable (ltb (t .count) m) g r first (l .long1) (l .long2)
+        pub add-bookable : Bookable (not (f .stands)) g r first (l .long1) (l .long2)
         add-bookable = record {
           ticks = λ e.
               up-tickable g (insert r rs) (r .addr) (r .len) first own2′ (l .long1) (l .long2) guided rs (insert r rs) (new e)
               (omega (arith, length-routes (l .list) (t .count), add-few)) before;
         }
 
-        module _ (long1 long2 : List ℕ) (booked : Booked (ltb (t .count) m) g r first (l .long1) (l .long2) long1 long2)
+        module _ (long1 long2 : List ℕ) (booked : Booked (not (f .stands)) g r first (l .long1) (l .long2) long1 long2)
             (e1 : length long1 ≡ length (l .long1)) (e2 : length long2 ≡ length (l .long2)) where
           counts : Counts (insert r rs) g own2′ long1 long2
           counts = go booked
             where
-              go : Booked (ltb (t .count) m) g r first (l .long1) (l .long2) long1 long2 → Counts (insert r rs) g own2′ long1 long2
+              go : Booked (not (f .stands)) g r first (l .long1) (l .long2) long1 long2 → Counts (insert r rs) g own2′ long1 long2
               go (more e left moved) =
                   up-counts g (insert r rs) (r .addr) (r .len) first own2′ (l .long1) (l .long2) guided rs (insert r rs) (new e) before long1 long2 left moved
               go (same e a b) =
                   rw (a, b)
                   (as-counts g valid rs own2′ (l .long1) (l .long2) before (insert r rs)
-                  (many-replace r rs (w .fine) good (not-false (stands (key r) rs) (sym added-is ∙ e))))
+                  (many-replace r rs (w .fine) good (sym (ready .stood) ∙ not-false (f .stands) e)))
 
-          module _ (n : Announce) (c : Bool) (q : meansAnnounce n ≡ accepted (bit c ∷ bit (meansPut p) ∷ [])) where
+          module _ (n : Announce) (c : Bool) (q : meansAnnounce n ≡ accepted (bit c ∷ bit (f .stands) ∷ [])) where
             pub add-done : out (meansAnnounce n) (record { geometry = g; count = m }) (lent s first second third own2 own3 long1 long2)
                 ≡ outWithFlag c (adding t l r)
             add-done =
                 let are = counts-are g valid (insert r rs) own2′ long1 long2 counts (e1 ∙ w .sound .sized .counts1) (e2 ∙ many2) in
-                rw (q, stood, count-is, list-is, asked .is-first, asked .is-second, asked .is-third, o2, o3, are .0, are .1)
+                rw (q, ready .stood, count-is, list-is, asked .is-first, asked .is-second, asked .is-third, o2, o3, are .0, are .1)
                 (sym (ap (outWithFlag c) (adding-is t l r w)))

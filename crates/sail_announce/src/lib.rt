@@ -1,22 +1,16 @@
 // Announce: a route is added to a table, or replaces the one of its prefix.
-ghost use mathlib.Core.Bool.{_&&_};
 ghost use mathlib.Core.List.{[], _∷_};
 ghost use mathlib.Core.Path.{_≡_};
 ghost use Prim.Native.Nat.{_≤_};
-ghost use lib.Dec.{leb};
-ghost use lib.ListN.{length};
 ghost use Rattle.bits.specs.Count.{bit};
-ghost use Rattle.lists.specs.Edit.{countWith, meansPut};
+ghost use Rattle.lists.specs.Edit.{countWith};
 ghost use Rattle.routes.specs.Said.{accepted};
 ghost use Rattle.sail.specs.Lent.{lent};
-ghost use Rattle.sail.specs.Sound.{used};
-ghost use Rattle.sail_theory.specs.Calls.{announceSaid, out, adding, outWithFlag};
-ghost use Rattle.sail_theory.specs.Facts.{Announceable};
-ghost use Rattle.sail_theory.specs.Cases.{Proper};
-ghost use Rattle.sail_theory.specs.Judge.{Judged};
+ghost use Rattle.sail_theory.specs.Calls.{out, adding, outWithFlag};
 ghost use Rattle.sail_announce.specs.Answers.{meansAnnounce};
 ghost use Rattle.sail_announce.specs.Contract.{MeetsAnnounce};
 ghost use Rattle.sail_announce.specs.Booked.{Bookable, Booked};
+ghost use Rattle.sail_judge.specs.Announce.{ToAdd};
 
 pub mod answers;
 
@@ -24,122 +18,42 @@ use crate::answers::Announce;
 use crate::answers::Announced;
 use bits::widen::byte_to_word;
 use lists::edit;
-use lists::edit::Put;
-use lists::place::place;
 use routes::Route;
-use routes::input;
 use routes::prefix::clear_after;
-use routes::record;
 use sail::geometry::Geometry;
 use sail::table::Table;
-use sail::table::sizes;
 use sail_chunks::opening::open;
-use sail_chunks::opening::to_open;
 use sail_counts::tick::tick;
+use sail_judge::announce::AnnounceVerdict;
+use sail_judge::announce::judge_announce;
 use sail_paint::from_list::repaint_from_list;
-use sail_sound::report::in_use;
-use sail_sound::test::sound;
 
-// Whether a chunk is to be opened, and as many as the limit are in use. They are counted only where one is to be opened.
-fn wanting(opens: bool, own: &[u32], limit: usize) -> bool
-    requires { ⌜ length (now own) ≤ 4096 ⌝ }
-    ensures { λ r. ⌜ r ≡ (opens && leb limit (used (now (own .entry)))) ⌝ }
-{
-    if opens {
-        return limit <= in_use(own) as usize;
-    }
-    false
-}
-
-// 6, 7 or 8, for a fine route and a sound table. A prefix that stands meets none of them.
-fn judge_room(
-    t: Table,
-    list: &[u8],
-    first: &[u16],
-    second: &[u16],
-    third: &[u16],
-    own2: &[u32],
-    own3: &[u32],
-    long1: &[u16],
-    long2: &[u16],
-    r: Route,
-) -> u8
-    requires { ⌜ Proper t (lent (now list) (now first) (now second) (now third) (now own2) (now own3) (now long1) (now long2)) r ⌝ }
-    ensures { λ n. ⌜ Judged n (announceSaid t (lent (now (list .entry)) (now (first .entry)) (now (second .entry)) (now (third .entry)) (now (own2 .entry)) (now (own3 .entry)) (now (long1 .entry)) (now (long2 .entry))) r) (Announceable t (lent (now (list .entry)) (now (first .entry)) (now (second .entry)) (now (third .entry)) (now (own2 .entry)) (now (own3 .entry)) (now (long1 .entry)) (now (long2 .entry))) r) ⌝ }
-{
-    let n = t.count as usize;
-    let p = record::key_of(r.addr, r.len);
-    let k = place(list, n, p);
-    if edit::stands_at(list, n, k, p) {
-        return 0;
-    }
-    if list.len() / 8 <= n {
-        return 6;
-    }
-    let o = to_open(t, list, first, second, own2, own3, r.addr, r.len);
-    if wanting(o.second, own2, own2.len()) {
-        return 7;
-    }
-    if wanting(o.third, own3, own3.len()) {
-        return 8;
-    }
-    0
-}
-
-// The number with which the announcement is refused, by the first condition that holds; 0 where it is accepted.
-fn judge_announce(
-    t: Table,
-    list: &[u8],
-    first: &[u16],
-    second: &[u16],
-    third: &[u16],
-    own2: &[u32],
-    own3: &[u32],
-    long1: &[u16],
-    long2: &[u16],
-    r: Route,
-) -> u8
-    ensures { λ n. ⌜ Judged n (announceSaid t (lent (now (list .entry)) (now (first .entry)) (now (second .entry)) (now (third .entry)) (now (own2 .entry)) (now (own3 .entry)) (now (long1 .entry)) (now (long2 .entry))) r) (Announceable t (lent (now (list .entry)) (now (first .entry)) (now (second .entry)) (now (third .entry)) (now (own2 .entry)) (now (own3 .entry)) (now (long1 .entry)) (now (long2 .entry))) r) ⌝ }
-{
-    let s = sizes(t, list, first, second, third, own2, own3, long1, long2);
-    if s != 0 {
-        return s;
-    }
-    let f = input::route_fault(r);
-    if f != 0 {
-        return f;
-    }
-    if !sound(t, list, first, second, third, own2, own3, long1, long2) {
-        return 5;
-    }
-    judge_room(t, list, first, second, third, own2, own3, long1, long2, r)
-}
-
-// How many routes stand after one was put into n.
-fn count_with(p: Put, n: usize) -> usize
+// How many routes stand after one was put into n, by whether its prefix stood.
+fn count_with(stood: bool, n: usize) -> usize
     requires { ⌜ n ≤ 4096 ⌝ }
-    ensures { λ r. ⌜ (r ≡ countWith (meansPut p) n) × (r ≤ 4097) ⌝ }
+    ensures { λ r. ⌜ (r ≡ countWith stood n) × (r ≤ 4097) ⌝ }
 {
-    match p {
-        Put::Added => n + 1,
-        Put::Replaced => n,
+    if stood {
+        return n;
     }
+    n + 1
 }
 
-// What putting a route into the list answers for the table, where bits were cleared or not.
-fn answer_of(p: Put, cleared: bool) -> Announce
-    ensures { λ r. ⌜ meansAnnounce r ≡ accepted (bit cleared ∷ bit (meansPut p) ∷ []) ⌝ }
+// What putting a route into the list answers for the table, by whether its prefix stood and whether bits were cleared.
+fn answer_of(stood: bool, cleared: bool) -> Announce
+    ensures { λ r. ⌜ meansAnnounce r ≡ accepted (bit cleared ∷ bit stood ∷ []) ⌝ }
 {
-    match p {
-        Put::Added => Announce::Added(cleared),
-        Put::Replaced => Announce::Replaced(cleared),
+    if stood {
+        return Announce::Replaced(cleared);
     }
+    Announce::Added(cleared)
 }
 
 // The counts with the route, where it is added; a replacement changes none.
 fn count_in(added: bool, g: Geometry, r: Route, first: &[u16], long1: &mut [u16], long2: &mut [u16])
     requires { ⌜ Bookable added g r (now first) (now long1) (now long2) ⌝ }
-    ensures { λ _. ⌜ Booked added g r (now (first .entry)) (now (long1 .entry)) (now (long2 .entry)) (now (long1 .exit)) (now (long2 .exit)) ⌝ }
+    ensures { λ _. ⌜ Booked added g r (now (first .entry))
+        (now (long1 .entry)) (now (long2 .entry)) (now (long1 .exit)) (now (long2 .exit)) ⌝ }
 {
     if added {
         tick(g, r.addr, r.len, first, long1, long2, true);
@@ -159,16 +73,20 @@ fn add(
     long1: &mut [u16],
     long2: &mut [u16],
     r: Route,
+    f: AnnounceVerdict,
     cleared: bool,
 ) -> Announced
-    requires { ⌜ Announceable t (lent (now list) (now first) (now second) (now third) (now own2) (now own3) (now long1) (now long2)) r ⌝ }
-    ensures { λ o. ⌜ out (meansAnnounce (o .answer)) (o .table) (lent (now (list .exit)) (now (first .exit)) (now (second .exit)) (now (third .exit)) (now (own2 .exit)) (now (own3 .exit)) (now (long1 .exit)) (now (long2 .exit))) ≡ outWithFlag cleared (adding t (lent (now (list .entry)) (now (first .entry)) (now (second .entry)) (now (third .entry)) (now (own2 .entry)) (now (own3 .entry)) (now (long1 .entry)) (now (long2 .entry))) r) ⌝ }
+    requires { ⌜ ToAdd t (lent (now list) (now first) (now second) (now third) (now own2) (now own3) (now long1) (now long2)) r f ⌝ }
+    ensures { λ o. ⌜ out (meansAnnounce (o .answer)) (o .table) (lent (now (list .exit)) (now (first .exit)) (now (second .exit)) (now (third .exit))
+        (now (own2 .exit)) (now (own3 .exit)) (now (long1 .exit)) (now (long2 .exit)))
+        ≡ outWithFlag cleared (adding t (lent (now (list .entry)) (now (first .entry)) (now (second .entry)) (now (third .entry))
+        (now (own2 .entry)) (now (own3 .entry)) (now (long1 .entry)) (now (long2 .entry))) r) ⌝ }
 {
     let g = t.geometry;
     let n = t.count as usize;
-    open(t, r, list, first, second, own2, own3);
-    let p = edit::insert(list, n, r);
-    let m = count_with(p, n);
+    open(g, r, f.opens, own2, own3);
+    edit::put_at(list, n, f.at, f.stands, r);
+    let m = count_with(f.stands, n);
     repaint_from_list(
         g,
         list,
@@ -181,13 +99,13 @@ fn add(
         own2,
         own3,
     );
-    count_in(n < m, g, r, first, long1, long2);
+    count_in(!f.stands, g, r, first, long1, long2);
     let u = Table {
         geometry: g,
         count: m as u32,
     };
     Announced {
-        answer: answer_of(p, cleared),
+        answer: answer_of(f.stands, cleared),
         table: u,
     }
 }
@@ -210,7 +128,10 @@ pub fn announce(
     hop: u16,
     mark: u8,
 ) -> Announced
-    ensures { λ r. ⌜ MeetsAnnounce t (lent (now (list .entry)) (now (first .entry)) (now (second .entry)) (now (third .entry)) (now (own2 .entry)) (now (own3 .entry)) (now (long1 .entry)) (now (long2 .entry))) addr len hop mark r (lent (now (list .exit)) (now (first .exit)) (now (second .exit)) (now (third .exit)) (now (own2 .exit)) (now (own3 .exit)) (now (long1 .exit)) (now (long2 .exit))) ⌝ }
+    ensures { λ r. ⌜ MeetsAnnounce t (lent (now (list .entry)) (now (first .entry)) (now (second .entry)) (now (third .entry))
+        (now (own2 .entry)) (now (own3 .entry)) (now (long1 .entry)) (now (long2 .entry))) addr len hop mark
+        r (lent (now (list .exit)) (now (first .exit)) (now (second .exit)) (now (third .exit))
+        (now (own2 .exit)) (now (own3 .exit)) (now (long1 .exit)) (now (long2 .exit))) ⌝ }
 {
     let a = clear_after(addr, len);
     let r = Route {
@@ -219,10 +140,10 @@ pub fn announce(
         mark,
         hop,
     };
-    let z = judge_announce(t, list, first, second, third, own2, own3, long1, long2, r);
-    if z != 0 {
+    let f = judge_announce(t, list, first, second, third, own2, own3, long1, long2, r);
+    if f.number != 0 {
         return Announced {
-            answer: Announce::Refused(z),
+            answer: Announce::Refused(f.number),
             table: t,
         };
     }
@@ -237,6 +158,7 @@ pub fn announce(
         long1,
         long2,
         r,
+        f,
         a != addr,
     )
 }

@@ -7,7 +7,8 @@ ghost use Rattle.bits.specs.Tab.{Tells};
 ghost use Rattle.chain.specs.Words.{routesOfWords};
 ghost use Rattle.plan.specs.Part.{Right};
 ghost use Rattle.sail.specs.Geometry.{Power};
-ghost use Rattle.sail_cells_test.specs.Pool.{partAt, OwnedRight, OwnedChunk, OwnedPool, FreeIsZero, FreeAll, Chunked, Blocked, FirstTestReady, OwnerCellReady, OwnerCell, OwnedReady, Pooled};
+ghost use Rattle.sail_cells_test.specs.Pool.{partAt, OwnedRight, OwnedChunk, OwnedPool, FreeIsZero, FreeAll, Chunked};
+ghost use Rattle.sail_cells_test.specs.Pool.{Blocked, FirstTestReady, OwnerCellReady, OwnerCell, OwnedReady, Pooled};
 use bits::widen::half_to_index;
 use bits::widen::word_to_index;
 use buffers::zeros::zeros16;
@@ -141,7 +142,8 @@ fn chunk_ok(
 ) -> bool
     requires { ⌜ Pooled (now ws) (now par) p d (now up) e (now above) (now cells) (now own) (now want) ⌝ }
     requires { ⌜ c < length (now own) ⌝ }
-    ensures { λ r. ⌜ Tells r (OwnedChunk (routesOfWords (now (ws .entry))) p d (now (up .entry)) e (now (above .entry)) (now (cells .entry)) (now (below .entry)) c (getD (now (own .entry)) c 0)) ⌝ }
+    ensures { λ r. ⌜ Tells r (OwnedChunk (routesOfWords (now (ws .entry))) p d (now (up .entry)) e (now (above .entry)) (now (cells .entry))
+        (now (below .entry)) c (getD (now (own .entry)) c 0)) ⌝ }
 {
     let a = start(c, d);
     let o = word_to_index(own[c]);
@@ -172,7 +174,8 @@ pub fn owned_all(
     want: &mut [u16],
 ) -> bool
     requires { ⌜ Pooled (now ws) (now par) p d (now up) e (now above) (now cells) (now own) (now want) ⌝ }
-    ensures { λ r. ⌜ Tells r (OwnedPool (routesOfWords (now (ws .entry))) p d (now (up .entry)) e (now (above .entry)) (now (own .entry)) (now (cells .entry)) (now (below .entry))) ⌝ }
+    ensures { λ r. ⌜ Tells r (OwnedPool (routesOfWords (now (ws .entry))) p d (now (up .entry)) e (now (above .entry)) (now (own .entry))
+        (now (cells .entry)) (now (below .entry))) ⌝ }
 {
     let mut c = 0;
     while c < own.len() {

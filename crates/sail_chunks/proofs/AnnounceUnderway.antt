@@ -1,13 +1,13 @@
 -- An announcement under way: at most one chunk in each pool is hung, the lowest free one.
 use mathlib.Core.Path.{_≡_, refl, sym, _∙_, ap, subst}
 use mathlib.Core.Logic.{_⊎_, inl, inr}
-use mathlib.Core.Bool.{true, false, not, _&&_, cond, true≢false}
+use mathlib.Core.Bool.{Bool, true, false, not, _&&_, cond, true≢false}
 use mathlib.Core.List.{List}
 use Prim.Native.Nat.{ℕ, suc, _-_, _/_, _^_, _≤_, _<_}
 use native.Mathlib.Omega.{arith}
-use lib.Dec.{ltb}
+use lib.Dec.{ltb, leb}
 use lib.ListN.{getD, length, set}
-use borrow.Author.Tests.{lt-ltb, le-ltb, lt-leb, eq-eqb}
+use borrow.Author.Tests.{lt-ltb, le-ltb, lt-leb, le-leb, eq-eqb}
 use Rattle.bits.specs.Slot.{slot}
 use Rattle.bits.proofs.Bools.{decided, below?, untrue}
 use Rattle.standing.specs.Cells.{long}
@@ -18,22 +18,21 @@ use Rattle.sail.specs.Level.{Level, entry, chunksOf, below, level1, level2}
 use Rattle.sail.specs.Sound.{Clear, standing}
 use Rattle.sail.specs.declared.geometry.Geometry.{Geometry}
 use Rattle.sail.specs.declared.table.Table.{Table}
-use Rattle.sail.proofs.Sounds.{standing-good}
 use Rattle.sail_theory.specs.Render.{find, Fits, roomOf}
 use Rattle.sail_theory.specs.Calls.{opening}
 use Rattle.sail_theory.specs.Facts.{Announceable}
-use Rattle.sail_theory.proofs.owners.Chunks.{chunk-at}
-use Rattle.sail_theory.proofs.places.Places.{top-apart, top-served, live-owner}
+use Rattle.sail_theory.proofs.places.Places.{live-owner}
 use Rattle.sail_theory.proofs.places.Pools.{shows-fits}
 use Rattle.sail_theory.proofs.owners.GrantKeep.{unhung}
 use Rattle.sail_theory.proofs.frames.LevelFrame.{below-same}
-use Rattle.sail_theory.proofs.owners.OpenAt.{Space, OpenReady, length-open, open-stays, open-fits, open-short, open-had, open-new, ready-below, find-hung}
+use Rattle.sail_theory.proofs.owners.OpenAt.{Space, OpenReady, length-open, open-stays, open-fits, open-short, open-had, open-new}
 use Rattle.sail_theory.proofs.calls.ChangeHolds.{ready1, ready2}
 use Rattle.sail_theory.proofs.frames.TableFrame.{announce-frame}
 use Rattle.sail_paint.specs.Stale.{meets}
 use Rattle.sail_chunks.specs.Chunks.{withOwner, alone, FreeToOpen}
-use Rattle.sail_chunks.specs.ToOpen.{Openable}
-use Rattle.sail_chunks.proofs.ChunkOwners.{hung-was, alone-parts, alone-longer, is-alone}
+use Rattle.sail_chunks.specs.ToOpen.{Opens, OpensAt, Openable}
+use Rattle.sail_chunks.specs.declared.opening.Opening.{Opening}
+use Rattle.sail_chunks.proofs.ChunkOwners.{hung-was, alone-parts, alone-longer}
 use Rattle.sail_chunks.proofs.Trails.{serving-of}
 use Rattle.sail_chunks.proofs.Still.{PoolUnderway}
 use Rattle.sail_chunks.proofs.Underway.{Underway}
@@ -43,10 +42,7 @@ meets-own : (a len p : ℕ) → p < len → meets a len p (slot p a) ≡ true
 unfolding meets
 meets-own a len p l = rw (lt-leb len p l) (eq-eqb (slot p a) (slot p a) refl)
 
--- where the route alone needs a chunk, one is free; and back
-free-space : (rs : List Route) (r : Route) (v : Level) (own : List ℕ) → FreeToOpen (alone rs (v .bits) (r .addr) (r .len)) own → Space rs r v own (find own 0)
-free-space rs r v own f e d = let h = f .some (is-alone rs (v .bits) (r .addr) (r .len) e d) in (h, chunk-at (chunksOf own) 0 h)
-
+-- where the route alone needs a chunk, one is free
 space-free : (rs : List Route) (r : Route) (v : Level) (own : List ℕ) → Space rs r v own (find own 0) → FreeToOpen (alone rs (v .bits) (r .addr) (r .len)) own
 space-free rs r v own s = record { some = λ e. let k = alone-parts rs (v .bits) (r .addr) (r .len) e in s (k .0) (k .1) .0 }
 
@@ -71,23 +67,26 @@ module _ (rs : List Route) (r : Route) (v′ : Level) (own : List ℕ) (w : Open
       go (inl h) (inl d) = open-had rs r v′ own (find own 0) w d ∙ rw (lt-ltb (v′ .bits) (r .len) h, d)
       go (inl h) (inr d) = open-new rs r v′ own (find own 0) w h d .1 ∙ rw (lt-ltb (v′ .bits) (r .len) h, d)
 
-  -- the chunk that then serves the route: the new one, or the one that was there
-  pub chunk-next : v′ .bits < r .len
-      → cond (alone rs (v′ .bits) (r .addr) (r .len)) (find own 0) (find own (suc (v′ .serving (r .addr)))) ≡ find own′ (suc (v′ .serving (r .addr)))
-  unfolding withOwner
-  chunk-next h = rw open-hung (go (decided (alone rs (v′ .bits) (r .addr) (r .len))))
+  -- told by the owners: the cell of the route is long exactly where a chunk hangs from the place that serves it
+  pub ready-opens : (b : Bool) → b ≡ alone rs (v′ .bits) (r .addr) (r .len) → OpensAt v′ own r b
+  unfolding alone
+  ready-opens b is = record {
+    opens = is ∙ go (decided (ltb (v′ .bits) (r .len))) (decided (long rs (v′ .bits) (slot (v′ .bits) (r .addr))));
+    free = rw is (space-free rs r v′ own (w .space));
+  }
     where
       q : ℕ
       q = v′ .serving (r .addr)
 
-      go : (alone rs (v′ .bits) (r .addr) (r .len) ≡ true) ⊎ (alone rs (v′ .bits) (r .addr) (r .len) ≡ false)
-          → cond (alone rs (v′ .bits) (r .addr) (r .len)) (find own 0) (find own (suc q))
-          ≡ find (cond (alone rs (v′ .bits) (r .addr) (r .len)) (set own (find own 0) (suc q)) own) (suc q)
-      go (inr e) = rw e
-      go (inl e) =
-          let k = alone-parts rs (v′ .bits) (r .addr) (r .len) e in
-          let bare : long rs (v′ .bits) (v′ .at q) ≡ false = rw (w .served (k .0) .stands) (k .1) in
-          rw e (sym (find-hung own (find own 0) q (w .space (k .0) (k .1) .0) (unhung rs v′ own (w .fits) q bare)))
+      go : (ltb (v′ .bits) (r .len) ≡ true) ⊎ (ltb (v′ .bits) (r .len) ≡ false)
+          → (long rs (v′ .bits) (slot (v′ .bits) (r .addr)) ≡ true) ⊎ (long rs (v′ .bits) (slot (v′ .bits) (r .addr)) ≡ false)
+          → (ltb (v′ .bits) (r .len) && not (long rs (v′ .bits) (slot (v′ .bits) (r .addr))))
+          ≡ (ltb (v′ .bits) (r .len) && leb (length own) (find own (suc q)))
+      go (inr e) d = rw e
+      go (inl e) (inl d) =
+          let s = w .served e in
+          rw (e, d) (sym (lt-leb (length own) (find own (suc q)) (w .fits .has q (s .inside) (s .used) (rw (s .stands) d))))
+      go (inl e) (inr d) = rw (e, d) (sym (le-leb (length own) (find own (suc q)) (unhung rs v′ own (w .fits) q (rw (w .served e .stands) d))))
 
   module _ (v : Level) (bits : v′ .bits ≡ v .bits) (was : Fits rs v (chunksOf own)) (over : (x : ℕ) → v .live x ≡ true → v .at x ≡ v′ .at x) (p : ℕ)
       (cells : List ℕ) (clear : Clear (below v (chunksOf own) p) (entry cells)) where
@@ -122,27 +121,6 @@ module _ (rs : List Route) (r : Route) (v′ : Level) (own : List ℕ) (w : Open
       clear = record { blank = λ q l e. clear .blank q (rw bits at (rw (length-open v′ own (find own 0) r) at l)) (free q e) };
     }
 
--- what `open` may rest on
-module _ (g : Geometry) (rs : List Route) (r : Route) (first second own2 own3 : List ℕ) (w : Openable g rs r first second own2 own3) where
-  pub first-ready : OpenReady rs r (level1 g) own2 (find own2 0)
-  first-ready =
-      let v = w .serving .valid in
-      record {
-        fine = w .fine;
-        good = w .good;
-        fits = shows-fits rs (level1 g) (chunksOf own2) (entry first) (w .serving .shows1);
-        apart = top-apart (g .p1);
-        served = λ e. top-served (g .p1) (r .addr) (omega arith) (w .fine .prefix .addr-ok);
-        space = free-space rs r (level1 g) own2 (w .free2);
-      }
-
-  pub second-ready : OpenReady rs r (level2 g (chunksOf (opening (level1 g) own2 r))) own3 (find own3 0)
-  second-ready =
-      let v = w .serving .valid in
-      ready-below rs r (level1 g) own2 (find own2 0) first-ready (g .p2) (omega arith) (omega arith) own3 (find own3 0)
-      (shows-fits rs (level2 g (chunksOf own2)) (chunksOf own3) (entry second) (w .serving .shows2))
-      (free-space rs r (level2 g (chunksOf (opening (level1 g) own2 r))) own3 (w .free3))
-
 module _ (t : Table) (l : Lent) (r : Route) (w : Announceable t l r) where
   abbrev g : Geometry
   g = t .geometry
@@ -157,13 +135,15 @@ module _ (t : Table) (l : Lent) (r : Route) (w : Announceable t l r) where
   own3′ = opening (level2 g (chunksOf own2′)) (l .own3) r
 
   -- what `open` asks
-  pub openable : Openable g rs r (l .first) (l .second) (l .own2) (l .own3)
-  openable = record {
-    serving = serving-of t l (w .sound);
-    good = standing-good t l (w .sound);
-    fine = w .fine;
-    free2 = space-free rs r (level1 g) (l .own2) (ready1 t l r w .space);
-    free3 = space-free rs r (level2 g (chunksOf own2′)) (l .own3) (ready2 t l r w .space);
+  pub openable : (o : Opening) → Opens g rs (l .own2) (r .addr) (r .len) o → Openable g r o (l .own2) (l .own3)
+  openable o k = record {
+    valid = w .sound .sized .valid;
+    addr = w .fine .prefix .addr-ok;
+    few2 = w .sound .sized .few2;
+    second = ready-opens rs r (level1 g) (l .own2) (ready1 t l r w) (o .second) (k .second);
+    third = ready-opens rs r (level2 g (chunksOf own2′)) (l .own3) (ready2 t l r w) (o .third) (k .third);
+    chunk = k .chunk;
+    few = k .few;
   }
 
   -- a live place of the second pool stands for the cell that it stood for

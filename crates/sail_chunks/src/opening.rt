@@ -8,12 +8,13 @@ ghost use Rattle.sail_theory.specs.Render.{find};
 ghost use Rattle.sail_theory.specs.Calls.{opening};
 ghost use Rattle.sail.specs.Level.{chunksOf, level1, level2};
 ghost use Rattle.sail_chunks.specs.Trail.{Serving};
-ghost use Rattle.sail_chunks.specs.ToOpen.{ChunkForReady, Openable, Opens};
+ghost use Rattle.sail_chunks.specs.ToOpen.{ChunkForReady, Openable, Opens, noOpening};
 use crate::chunks::chunk_named;
 use crate::chunks::set_owner;
 use crate::trail::follow;
 use bits::widen::byte_to_word;
 use routes::Route;
+use sail::geometry::Geometry;
 use sail::place::second_place;
 use sail::table::Table;
 
@@ -23,6 +24,17 @@ pub struct Opening {
     pub second: bool,
     pub third: bool,
     pub chunk: usize,
+}
+
+// Nothing is to be opened.
+pub fn nothing() -> Opening
+    ensures { λ o. ⌜ o ≡ noOpening ⌝ }
+{
+    Opening {
+        second: false,
+        third: false,
+        chunk: 0,
+    }
 }
 
 // Whether a prefix longer than p has a leaf in its cell of level p.
@@ -46,6 +58,7 @@ fn chunk_for(opens: bool, c: usize, own: &[u32]) -> usize
     c
 }
 
+// What is to be opened for the prefix of len bits of addr: where it is longer than a level and has a leaf there.
 pub fn to_open(
     t: Table,
     list: &[u8],
@@ -71,23 +84,14 @@ pub fn to_open(
     }
 }
 
-// The chunks that the route needs are opened, each the lowest that is free, where it needs more than it finds.
-pub fn open(
-    t: Table,
-    r: Route,
-    list: &[u8],
-    first: &[u16],
-    second: &[u16],
-    own2: &mut [u32],
-    own3: &mut [u32],
-)
-    requires { ⌜ Openable (t .geometry) (routesOf (now list) (t .count)) r (now first) (now second) (now own2) (now own3) ⌝ }
-    ensures second { λ _. ⌜ now (own2 .exit) ≡ opening (level1 (t .geometry)) (now (own2 .entry)) r ⌝ }
-    ensures third { λ _. ⌜ now (own3 .exit) ≡ opening (level2 (t .geometry) (chunksOf (opening (level1 (t .geometry)) (now (own2 .entry)) r))) (now (own3 .entry)) r ⌝ }
+// The chunks that are to be opened for the route are opened, each the lowest that is free.
+pub fn open(g: Geometry, r: Route, o: Opening, own2: &mut [u32], own3: &mut [u32])
+    requires { ⌜ Openable g r o (now own2) (now own3) ⌝ }
+    ensures second { λ _. ⌜ now (own2 .exit) ≡ opening (level1 g) (now (own2 .entry)) r ⌝ }
+    ensures third { λ _. ⌜ now (own3 .exit)
+        ≡ opening (level2 g (chunksOf (opening (level1 g) (now (own2 .entry)) r))) (now (own3 .entry)) r ⌝ }
 {
-    let g = t.geometry;
     let addr = r.addr;
-    let o = to_open(t, list, first, second, own2, own3, addr, r.len);
     let c = chunk_for(o.second, o.chunk, own2);
     let q = second_place(g, c + 1, addr);
     set_owner(own2, o.second, bits::slot(g.p1, addr) + 1);

@@ -58,7 +58,9 @@ fn judge(
     long1: &[u16],
     long2: &[u16],
 ) -> Loaded
-    ensures { λ r. ⌜ meansLoaded r ≡ loadSaid t (lent (now (list .entry)) (now (first .entry)) (now (second .entry)) (now (third .entry)) (now (own2 .entry)) (now (own3 .entry)) (now (long1 .entry)) (now (long2 .entry))) (now (input .entry)) ⌝ }
+    ensures { λ r. ⌜ meansLoaded r ≡ loadSaid t
+        (lent (now (list .entry)) (now (first .entry)) (now (second .entry)) (now (third .entry)) (now (own2 .entry)) (now (own3 .entry))
+        (now (long1 .entry)) (now (long2 .entry))) (now (input .entry)) ⌝ }
 {
     let z = sizes(t, list, first, second, third, own2, own3, long1, long2);
     if z != 0 {
@@ -100,7 +102,10 @@ pub fn load(
     long1: &mut [u16],
     long2: &mut [u16],
 ) -> LoadedTable
-    ensures { λ r. ⌜ MeetsLoad t (lent (now (list .entry)) (now (first .entry)) (now (second .entry)) (now (third .entry)) (now (own2 .entry)) (now (own3 .entry)) (now (long1 .entry)) (now (long2 .entry))) (now (input .entry)) r (lent (now (list .exit)) (now (first .exit)) (now (second .exit)) (now (third .exit)) (now (own2 .exit)) (now (own3 .exit)) (now (long1 .exit)) (now (long2 .exit))) ⌝ }
+    ensures { λ r. ⌜ MeetsLoad t (lent (now (list .entry)) (now (first .entry)) (now (second .entry)) (now (third .entry))
+        (now (own2 .entry)) (now (own3 .entry)) (now (long1 .entry)) (now (long2 .entry))) (now (input .entry)) r
+        (lent (now (list .exit)) (now (first .exit)) (now (second .exit)) (now (third .exit)) (now (own2 .exit)) (now (own3 .exit))
+        (now (long1 .exit)) (now (long2 .exit))) ⌝ }
 {
     let answer = judge(
         t,

@@ -24,7 +24,10 @@ pub fn write_table(
     long2: &mut [u16],
 )
     requires { ⌜ Renewable t (now input) (lent (now list) (now first) (now second) (now third) (now own2) (now own3) (now long1) (now long2)) ⌝ }
-    ensures { λ _. ⌜ lent (now (list .exit)) (now (first .exit)) (now (second .exit)) (now (third .exit)) (now (own2 .exit)) (now (own3 .exit)) (now (long1 .exit)) (now (long2 .exit)) ≡ anew t (lent (now (list .entry)) (now (first .entry)) (now (second .entry)) (now (third .entry)) (now (own2 .entry)) (now (own3 .entry)) (now (long1 .entry)) (now (long2 .entry))) (now (input .entry)) ⌝ }
+    ensures { λ _. ⌜ lent (now (list .exit)) (now (first .exit)) (now (second .exit)) (now (third .exit)) (now (own2 .exit))
+        (now (own3 .exit)) (now (long1 .exit)) (now (long2 .exit)) ≡ anew t
+        (lent (now (list .entry)) (now (first .entry)) (now (second .entry)) (now (third .entry)) (now (own2 .entry)) (now (own3 .entry))
+        (now (long1 .entry)) (now (long2 .entry))) (now (input .entry)) ⌝ }
 {
     let g = t.geometry;
     let n = input.len() / 8;

@@ -32,7 +32,10 @@ fn blank(
     long1: &mut [u16],
     long2: &mut [u16],
 )
-    ensures { λ _. ⌜ lent (now (list .exit)) (now (first .exit)) (now (second .exit)) (now (third .exit)) (now (own2 .exit)) (now (own3 .exit)) (now (long1 .exit)) (now (long2 .exit)) ≡ freshLent (lent (now (list .entry)) (now (first .entry)) (now (second .entry)) (now (third .entry)) (now (own2 .entry)) (now (own3 .entry)) (now (long1 .entry)) (now (long2 .entry))) ⌝ }
+    ensures { λ _. ⌜ lent (now (list .exit)) (now (first .exit)) (now (second .exit)) (now (third .exit)) (now (own2 .exit))
+        (now (own3 .exit)) (now (long1 .exit)) (now (long2 .exit)) ≡ freshLent
+        (lent (now (list .entry)) (now (first .entry)) (now (second .entry)) (now (third .entry)) (now (own2 .entry)) (now (own3 .entry))
+        (now (long1 .entry)) (now (long2 .entry))) ⌝ }
 {
     zero8(list);
     fill16(first, 32768);
@@ -56,7 +59,10 @@ pub fn make(
     long1: &mut [u16],
     long2: &mut [u16],
 ) -> Fresh
-    ensures { λ r. ⌜ MeetsMake t (lent (now (list .entry)) (now (first .entry)) (now (second .entry)) (now (third .entry)) (now (own2 .entry)) (now (own3 .entry)) (now (long1 .entry)) (now (long2 .entry))) r (lent (now (list .exit)) (now (first .exit)) (now (second .exit)) (now (third .exit)) (now (own2 .exit)) (now (own3 .exit)) (now (long1 .exit)) (now (long2 .exit))) ⌝ }
+    ensures { λ r. ⌜ MeetsMake t (lent (now (list .entry)) (now (first .entry)) (now (second .entry)) (now (third .entry))
+        (now (own2 .entry)) (now (own3 .entry)) (now (long1 .entry)) (now (long2 .entry))) r
+        (lent (now (list .exit)) (now (first .exit)) (now (second .exit)) (now (third .exit)) (now (own2 .exit)) (now (own3 .exit))
+        (now (long1 .exit)) (now (long2 .exit))) ⌝ }
 {
     let z = sizes(t, list, first, second, third, own2, own3, long1, long2);
     if z != 0 {

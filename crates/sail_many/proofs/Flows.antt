@@ -3,6 +3,7 @@ use mathlib.Core.List.{List}
 use mathlib.Core.Logic.{_⊎_, inl, inr}
 use mathlib.Core.Path.{_≡_, refl, ap, _∙_}
 use Prim.Native.Nat.{ℕ, _+_, _≤_, _<_}
+use native.Mathlib.Nat.{le-refl}
 use native.Mathlib.Omega.{arith}
 use lib.ListN.{length, getD, length-set}
 use lib.Seq.{getD-set-same, getD-set-other}
@@ -26,10 +27,10 @@ module _ (f : ℕ → ℕ → ℕ) (j : ℕ) (out : List ℕ) where
   put-other k n = getD-set-other out j k (f j (getD out j 0)) 0 n
 
 -- a pass over a range, place by place
-pub swept-none : (f : ℕ → ℕ → ℕ) (from : ℕ) (out : List ℕ) → Swept f from from out out
+swept-none : (f : ℕ → ℕ → ℕ) (from : ℕ) (out : List ℕ) → Swept f from from out out
 swept-none f from out = record { size = refl; went = λ k a b. absurd (omega arith); kept = λ k d. refl }
 
-pub swept-more : (f : ℕ → ℕ → ℕ) (from i : ℕ) (out ys zs : List ℕ) → from ≤ i → i < length out → Swept f from i out ys → zs ≡ put f i ys
+swept-more : (f : ℕ → ℕ → ℕ) (from i : ℕ) (out ys zs : List ℕ) → from ≤ i → i < length out → Swept f from i out ys → zs ≡ put f i ys
     → Swept f from (i + 1) out zs
 swept-more f from i out ys zs a b s e = record {
   size = ap length e ∙ length-put f i ys ∙ s .size;
@@ -51,12 +52,31 @@ swept-more f from i out ys zs a b s e = record {
     out-of k (inl c) = inl c
     out-of k (inr c) = inr (omega arith)
 
-pub swept-all : (f : ℕ → ℕ → ℕ) (from i to : ℕ) (out ys : List ℕ) → i ≤ to → to ≤ i → Swept f from i out ys → Swept f from to out ys
-swept-all f from i to out ys a b s = let e : i ≡ to = omega arith in rw e at s
+-- the loop of a pass: the words of the range before i went one step on
+pub record Sweeping (f : ℕ → ℕ → ℕ) (from to : ℕ) (ads out ys : List ℕ) (i : ℕ) : Type 0 where
+  pub range : AddrRange from to ads out
+  pub begun : from ≤ i
+  pub within : i ≤ to
+  pub swept : Swept f from i out ys
 
--- a place in the range is one of an address
-pub spot-at : (f : ℕ → ℕ → ℕ) (from i to : ℕ) (ads out ys : List ℕ) → AddrRange from to ads out → Swept f from i out ys → i < to → Spot i ads ys
-spot-at f from i to ads out ys r s h = record { inside = omega (arith, r .inside); even = s .size ∙ r .even }
+pub sweeping-none : {f : ℕ → ℕ → ℕ} {from to : ℕ} {ads out : List ℕ} → AddrRange from to ads out → Sweeping f from to ads out out from
+sweeping-none {f} {from} {to} {ads} {out} r = record { range = r; begun = le-refl from; within = r .order; swept = swept-none f from out }
+
+module _ {f : ℕ → ℕ → ℕ} {from to : ℕ} {ads out ys : List ℕ} {i : ℕ} (s : Sweeping f from to ads out ys i) where
+  -- the place is one of an address
+  pub spot-at : i < to → Spot i ads ys
+  spot-at h = record { inside = omega (arith, s .range .inside); even = s .swept .size ∙ s .range .even }
+
+  pub sweeping-more : {zs : List ℕ} → i < to → zs ≡ put f i ys → Sweeping f from to ads out zs (i + 1)
+  sweeping-more {zs} h e = record {
+    range = s .range;
+    begun = let l = s .begun in omega arith;
+    within = omega arith;
+    swept = swept-more f from i out ys zs (s .begun) (omega (arith, s .range .inside, s .range .even)) (s .swept) e;
+  }
+
+  pub sweeping-all : to ≤ i → Swept f from to out ys
+  sweeping-all h = let e : i ≡ to = omega (arith, s .within) in rw e at (s .swept)
 
 -- a turn
 module _ (f1 : ℕ → ℕ) (f2 f3 : ℕ → ℕ → ℕ) (j : ℕ) (out : List ℕ) where

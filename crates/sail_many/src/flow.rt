@@ -26,8 +26,11 @@ fn turn(
     out: &mut [u32],
     j: usize,
 )
-    requires { ⌜ LevelsReady p1 p2 (now first) (now second) chunks2 (now third) chunks3 × (j + 16 < length (now addrs)) × (length (now out) ≡ length (now addrs)) ⌝ }
-    ensures { λ _. ⌜ now (out .exit) ≡ turned (step1 p1 (now (first .entry)) (now (addrs .entry))) (step2 p1 p2 (now (second .entry)) chunks2 (now (addrs .entry))) (step3 p2 (now (third .entry)) chunks3 (now (addrs .entry))) j (now (out .entry)) ⌝ }
+    requires { ⌜ LevelsReady p1 p2 (now first) (now second) chunks2 (now third) chunks3 × (j + 16 < length (now addrs)) × (length (now out)
+        ≡ length (now addrs)) ⌝ }
+    ensures { λ _. ⌜ now (out .exit) ≡ turned (step1 p1 (now (first .entry)) (now (addrs .entry))) (step2 p1 p2
+        (now (second .entry)) chunks2 (now (addrs .entry))) (step3 p2 (now (third .entry)) chunks3 (now (addrs .entry))) j
+        (now (out .entry)) ⌝ }
 {
     read_first(p1, first, addrs, out, j + 16);
     read_second(p1, p2, second, chunks2, addrs, out, j + 8);
@@ -47,8 +50,10 @@ fn round(
     out: &mut [u32],
     j: usize,
 )
-    requires { ⌜ LevelsReady p1 p2 (now first) (now second) chunks2 (now third) chunks3 × (j + 17 < length (now addrs)) × Flows p1 p2 (now first) (now second) chunks2 (now third) chunks3 (now addrs) j (now out) ⌝ }
-    ensures { λ _. ⌜ Flows p1 p2 (now (first .entry)) (now (second .entry)) chunks2 (now (third .entry)) chunks3 (now (addrs .entry)) (j + 2) (now (out .exit)) ⌝ }
+    requires { ⌜ LevelsReady p1 p2 (now first) (now second) chunks2 (now third) chunks3 × (j + 17 < length (now addrs)) × Flows p1 p2
+        (now first) (now second) chunks2 (now third) chunks3 (now addrs) j (now out) ⌝ }
+    ensures { λ _. ⌜ Flows p1 p2 (now (first .entry)) (now (second .entry)) chunks2 (now (third .entry)) chunks3 (now (addrs .entry))
+        (j + 2) (now (out .exit)) ⌝ }
 {
     let standard = Geometry::STANDARD;
     if p1 == standard.p1 {
@@ -119,8 +124,10 @@ fn stream(
     out: &mut [u32],
     half: usize,
 )
-    requires { ⌜ LevelsReady p1 p2 (now first) (now second) chunks2 (now third) chunks3 × (2 * half + 16 ≤ length (now addrs)) × Flows p1 p2 (now first) (now second) chunks2 (now third) chunks3 (now addrs) 0 (now out) ⌝ }
-    ensures { λ _. ⌜ Flows p1 p2 (now (first .entry)) (now (second .entry)) chunks2 (now (third .entry)) chunks3 (now (addrs .entry)) (2 * half) (now (out .exit)) ⌝ }
+    requires { ⌜ LevelsReady p1 p2 (now first) (now second) chunks2 (now third) chunks3 × (2 * half + 16 ≤ length (now addrs)) × Flows p1 p2
+        (now first) (now second) chunks2 (now third) chunks3 (now addrs) 0 (now out) ⌝ }
+    ensures { λ _. ⌜ Flows p1 p2 (now (first .entry)) (now (second .entry)) chunks2 (now (third .entry)) chunks3 (now (addrs .entry))
+        (2 * half) (now (out .exit)) ⌝ }
 {
     let mut i = 0;
     while i < half {
@@ -153,7 +160,8 @@ fn few(
     out: &mut [u32],
 )
     requires { ⌜ LevelsReady p1 p2 (now first) (now second) chunks2 (now third) chunks3 × (length (now out) ≡ length (now addrs)) ⌝ }
-    ensures { λ _. ⌜ now (out .exit) ≡ tabulate (length (now (addrs .entry))) (answerAt p1 p2 (now (first .entry)) (now (second .entry)) chunks2 (now (third .entry)) chunks3 (now (addrs .entry))) ⌝ }
+    ensures { λ _. ⌜ now (out .exit) ≡ tabulate (length (now (addrs .entry))) (answerAt p1 p2 (now (first .entry))
+        (now (second .entry)) chunks2 (now (third .entry)) chunks3 (now (addrs .entry))) ⌝ }
 {
     let n = addrs.len();
     read_firsts(p1, first, addrs, out, 0, n);
@@ -173,7 +181,8 @@ fn begin(
     addrs: &[u32],
     out: &mut [u32],
 )
-    requires { ⌜ LevelsReady p1 p2 (now first) (now second) chunks2 (now third) chunks3 × (length (now out) ≡ length (now addrs)) × (16 ≤ length (now addrs)) ⌝ }
+    requires { ⌜ LevelsReady p1 p2 (now first) (now second) chunks2 (now third) chunks3 × (length (now out)
+        ≡ length (now addrs)) × (16 ≤ length (now addrs)) ⌝ }
     ensures { λ _. ⌜ Flows p1 p2 (now (first .entry)) (now (second .entry)) chunks2 (now (third .entry)) chunks3 (now (addrs .entry)) 0 (now (out .exit)) ⌝ }
 {
     read_firsts(p1, first, addrs, out, 0, 16);
@@ -193,8 +202,10 @@ fn finish(
     out: &mut [u32],
     m: usize,
 )
-    requires { ⌜ LevelsReady p1 p2 (now first) (now second) chunks2 (now third) chunks3 × (m + 16 ≤ length (now addrs)) × Flows p1 p2 (now first) (now second) chunks2 (now third) chunks3 (now addrs) m (now out) ⌝ }
-    ensures { λ _. ⌜ now (out .exit) ≡ tabulate (length (now (addrs .entry))) (answerAt p1 p2 (now (first .entry)) (now (second .entry)) chunks2 (now (third .entry)) chunks3 (now (addrs .entry))) ⌝ }
+    requires { ⌜ LevelsReady p1 p2 (now first) (now second) chunks2 (now third) chunks3 × (m + 16 ≤ length (now addrs)) × Flows p1 p2
+        (now first) (now second) chunks2 (now third) chunks3 (now addrs) m (now out) ⌝ }
+    ensures { λ _. ⌜ now (out .exit) ≡ tabulate (length (now (addrs .entry))) (answerAt p1 p2 (now (first .entry))
+        (now (second .entry)) chunks2 (now (third .entry)) chunks3 (now (addrs .entry))) ⌝ }
 {
     let n = addrs.len();
     read_firsts(p1, first, addrs, out, m + 16, n);
@@ -214,8 +225,10 @@ fn flow(
     addrs: &[u32],
     out: &mut [u32],
 )
-    requires { ⌜ LevelsReady p1 p2 (now first) (now second) chunks2 (now third) chunks3 × (length (now out) ≡ length (now addrs)) × (16 ≤ length (now addrs)) ⌝ }
-    ensures { λ _. ⌜ now (out .exit) ≡ tabulate (length (now (addrs .entry))) (answerAt p1 p2 (now (first .entry)) (now (second .entry)) chunks2 (now (third .entry)) chunks3 (now (addrs .entry))) ⌝ }
+    requires { ⌜ LevelsReady p1 p2 (now first) (now second) chunks2 (now third) chunks3 × (length (now out)
+        ≡ length (now addrs)) × (16 ≤ length (now addrs)) ⌝ }
+    ensures { λ _. ⌜ now (out .exit) ≡ tabulate (length (now (addrs .entry))) (answerAt p1 p2 (now (first .entry))
+        (now (second .entry)) chunks2 (now (third .entry)) chunks3 (now (addrs .entry))) ⌝ }
 {
     let half = (addrs.len() - 16) / 2;
     begin(p1, p2, first, second, chunks2, third, chunks3, addrs, out);
@@ -258,7 +271,8 @@ pub fn many(
     out: &mut [u32],
 )
     requires { ⌜ LevelsReady p1 p2 (now first) (now second) chunks2 (now third) chunks3 × (length (now out) ≡ length (now addrs)) ⌝ }
-    ensures { λ _. ⌜ now (out .exit) ≡ tabulate (length (now (addrs .entry))) (answerAt p1 p2 (now (first .entry)) (now (second .entry)) chunks2 (now (third .entry)) chunks3 (now (addrs .entry))) ⌝ }
+    ensures { λ _. ⌜ now (out .exit) ≡ tabulate (length (now (addrs .entry))) (answerAt p1 p2 (now (first .entry))
+        (now (second .entry)) chunks2 (now (third .entry)) chunks3 (now (addrs .entry))) ⌝ }
 {
     if addrs.len() < 16 {
         few(p1, p2, first, second, chunks2, third, chunks3, addrs, out);

@@ -93,7 +93,8 @@ fn open_for(g: Geometry, r: Route, u: Passes, own2: &mut [u32], own3: &mut [u32]
 // The owners after each record of the input is announced in order, where none was before.
 pub fn open_all(g: Geometry, input: &[u8], own2: &mut [u32], own3: &mut [u32])
     requires { ⌜ Ownable g (now input) (now own2) (now own3) ⌝ }
-    ensures { λ _. ⌜ owners (now (own2 .exit)) (now (own3 .exit)) ≡ ownersAfter g (owners (now (own2 .entry)) (now (own3 .entry))) (inputRoutes (now (input .entry))) ⌝ }
+    ensures { λ _. ⌜ owners (now (own2 .exit)) (now (own3 .exit)) ≡ ownersAfter g (owners (now (own2 .entry)) (now (own3 .entry)))
+        (inputRoutes (now (input .entry))) ⌝ }
 {
     let n = input.len() / 8;
     let none = Pass { last: 0, free: 0 };

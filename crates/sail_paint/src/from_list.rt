@@ -27,7 +27,8 @@ fn repaint_with(
 )
     requires { ⌜ Pending g n addr len (now list) (cells (now first) (now second) (now third) (now own2) (now own3)) ⌝ }
     requires { ⌜ Scratch (now ws) (now par) ⌝ }
-    ensures { λ _. ⌜ Repainted g (routesOf (now (list .entry)) n) (cells (now (first .entry)) (now (second .entry)) (now (third .entry)) (now (own2 .entry)) (now (own3 .entry))) (now (first .exit)) (now (second .exit)) (now (third .exit)) ⌝ }
+    ensures { λ _. ⌜ Repainted g (routesOf (now (list .entry)) n) (cells (now (first .entry)) (now (second .entry)) (now (third .entry))
+        (now (own2 .entry)) (now (own3 .entry))) (now (first .exit)) (now (second .exit)) (now (third .exit)) ⌝ }
 {
     chained(list, &mut ws[..n], par);
     repaint(
@@ -58,7 +59,8 @@ pub fn repaint_from_list(
     own3: &[u32],
 )
     requires { ⌜ Pending g n addr len (now list) (cells (now first) (now second) (now third) (now own2) (now own3)) ⌝ }
-    ensures { λ _. ⌜ Repainted g (routesOf (now (list .entry)) n) (cells (now (first .entry)) (now (second .entry)) (now (third .entry)) (now (own2 .entry)) (now (own3 .entry))) (now (first .exit)) (now (second .exit)) (now (third .exit)) ⌝ }
+    ensures { λ _. ⌜ Repainted g (routesOf (now (list .entry)) n) (cells (now (first .entry)) (now (second .entry)) (now (third .entry))
+        (now (own2 .entry)) (now (own3 .entry))) (now (first .exit)) (now (second .exit)) (now (third .exit)) ⌝ }
 {
     let mut ws = [0u64; 4096];
     let mut par = [0u16; 4353];

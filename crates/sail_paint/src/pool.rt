@@ -27,7 +27,8 @@ pub fn paint_chunk(
     c: usize,
 )
     requires { ⌜ ChunkOf (now ws) (now par) len l p (now up) e o (now cells) c ⌝ }
-    ensures { λ _. ⌜ now (cells .exit) ≡ overpainted (routesOfWords (now (ws .entry))) p (staleOf addr len l (p - l) (standsFor e (now (up .entry))) c o) (partOf (λ _. o) (p - l) (standsFor e (now (up .entry)))) (now (cells .entry)) ⌝ }
+    ensures { λ _. ⌜ now (cells .exit) ≡ overpainted (routesOfWords (now (ws .entry))) p (staleOf addr len l (p - l) (standsFor e
+        (now (up .entry))) c o) (partOf (λ _. o) (p - l) (standsFor e (now (up .entry)))) (now (cells .entry)) ⌝ }
 {
     if o == 0 {
         return;
@@ -57,7 +58,9 @@ pub fn paint_pool(
     cells: &mut [u16],
 )
     requires { ⌜ Pool (now ws) (now par) len l p (now up) e (now own) (now cells) ⌝ }
-    ensures { λ _. ⌜ now (cells .exit) ≡ overpainted (routesOfWords (now (ws .entry))) p (staleIn addr len l (p - l) (standsFor e (now (up .entry))) (entry (now (own .entry)))) (partOf (entry (now (own .entry))) (p - l) (standsFor e (now (up .entry)))) (now (cells .entry)) ⌝ }
+    ensures { λ _. ⌜ now (cells .exit) ≡ overpainted (routesOfWords (now (ws .entry))) p (staleIn addr len l (p - l) (standsFor e
+        (now (up .entry))) (entry (now (own .entry)))) (partOf (entry (now (own .entry))) (p - l) (standsFor e (now (up .entry))))
+        (now (cells .entry)) ⌝ }
 {
     let n = own.len();
     let mut c = 0;

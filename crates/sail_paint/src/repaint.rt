@@ -8,8 +8,8 @@ use crate::pool::stamp;
 use sail::geometry::Geometry;
 
 // Makes the live cells of all three levels what the routes and owners ask for, where none is wrong but those that a change
-// at the prefix of len bits of addr made stale. Cells of free chunks are neither read nor written. `par` is what `chain::cover::ready` makes of the words. The owners are
-// gone through twice; of the cells, only stale ones are painted.
+// at the prefix of len bits of addr made stale. Cells of free chunks are neither read nor written. `par` is what
+// `chain::cover::ready` makes of the words. The owners are gone through twice; of the cells, only stale ones are painted.
 pub fn repaint(
     ws: &[u64],
     par: &[u16],
@@ -23,7 +23,8 @@ pub fn repaint(
     own3: &[u32],
 )
     requires { ⌜ Stale g (now ws) (now par) addr len (cells (now first) (now second) (now third) (now own2) (now own3)) ⌝ }
-    ensures { λ _. ⌜ Repainted g (routesOfWords (now (ws .entry))) (cells (now (first .entry)) (now (second .entry)) (now (third .entry)) (now (own2 .entry)) (now (own3 .entry))) (now (first .exit)) (now (second .exit)) (now (third .exit)) ⌝ }
+    ensures { λ _. ⌜ Repainted g (routesOfWords (now (ws .entry))) (cells (now (first .entry)) (now (second .entry)) (now (third .entry))
+        (now (own2 .entry)) (now (own3 .entry))) (now (first .exit)) (now (second .exit)) (now (third .exit)) ⌝ }
 {
     let p1 = g.p1;
     let p2 = g.p2;

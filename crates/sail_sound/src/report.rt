@@ -23,7 +23,8 @@ pub fn judged(
     long1: &[u16],
     long2: &[u16],
 ) -> u8
-    ensures { λ r. ⌜ ReportJudged r t (lent (now (list .entry)) (now (first .entry)) (now (second .entry)) (now (third .entry)) (now (own2 .entry)) (now (own3 .entry)) (now (long1 .entry)) (now (long2 .entry))) ⌝ }
+    ensures { λ r. ⌜ ReportJudged r t (lent (now (list .entry)) (now (first .entry)) (now (second .entry)) (now (third .entry))
+        (now (own2 .entry)) (now (own3 .entry)) (now (long1 .entry)) (now (long2 .entry))) ⌝ }
 {
     let s = sizes(t, list, first, second, third, own2, own3, long1, long2);
     if s != 0 {
@@ -73,7 +74,8 @@ pub fn report(
     long1: &[u16],
     long2: &[u16],
 ) -> Reported
-    ensures { λ r. ⌜ MeetsReport t (lent (now (list .entry)) (now (first .entry)) (now (second .entry)) (now (third .entry)) (now (own2 .entry)) (now (own3 .entry)) (now (long1 .entry)) (now (long2 .entry))) r ⌝ }
+    ensures { λ r. ⌜ MeetsReport t (lent (now (list .entry)) (now (first .entry)) (now (second .entry)) (now (third .entry))
+        (now (own2 .entry)) (now (own3 .entry)) (now (long1 .entry)) (now (long2 .entry))) r ⌝ }
 {
     let f = judged(t, list, first, second, third, own2, own3, long1, long2);
     if f != 0 {

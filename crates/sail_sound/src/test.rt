@@ -29,7 +29,8 @@ fn live_ok(
 ) -> bool
     requires { ⌜ ChainReady (now ws) (now par) ⌝ }
     requires { ⌜ Celled g (cells (now first) (now second) (now third) (now own2) (now own3)) ⌝ }
-    ensures { λ r. ⌜ Tells r (Passed (routesOfWords (now (ws .entry))) g (cells (now (first .entry)) (now (second .entry)) (now (third .entry)) (now (own2 .entry)) (now (own3 .entry)))) ⌝ }
+    ensures { λ r. ⌜ Tells r (Passed (routesOfWords (now (ws .entry))) g (cells (now (first .entry)) (now (second .entry))
+        (now (third .entry)) (now (own2 .entry)) (now (own3 .entry)))) ⌝ }
 {
     let p1 = g.p1;
     let p2 = g.p2;
@@ -83,7 +84,8 @@ fn levels_ok(
 ) -> bool
     requires { ⌜ ChainReady (now ws) (now par) ⌝ }
     requires { ⌜ Celled g (cells (now first) (now second) (now third) (now own2) (now own3)) ⌝ }
-    ensures { λ r. ⌜ Tells r (PassedAll (routesOfWords (now (ws .entry))) g (cells (now (first .entry)) (now (second .entry)) (now (third .entry)) (now (own2 .entry)) (now (own3 .entry)))) ⌝ }
+    ensures { λ r. ⌜ Tells r (PassedAll (routesOfWords (now (ws .entry))) g (cells (now (first .entry)) (now (second .entry))
+        (now (third .entry)) (now (own2 .entry)) (now (own3 .entry)))) ⌝ }
 {
     if !live_ok(ws, par, g, first, second, third, own2, own3) {
         return false;
@@ -110,7 +112,8 @@ fn table_ok(
     requires { ⌜ ChainReady (now ws) (now par) ⌝ }
     requires { ⌜ Celled g (cells (now first) (now second) (now third) (now own2) (now own3)) ⌝ }
     requires { ⌜ CountsBeside (now first) (now second) (now long1) (now long2) ⌝ }
-    ensures { λ r. ⌜ Tells r (PassedTable (routesOfWords (now (ws .entry))) g (cells (now (first .entry)) (now (second .entry)) (now (third .entry)) (now (own2 .entry)) (now (own3 .entry))) (now (long1 .entry)) (now (long2 .entry))) ⌝ }
+    ensures { λ r. ⌜ Tells r (PassedTable (routesOfWords (now (ws .entry))) g (cells (now (first .entry)) (now (second .entry))
+        (now (third .entry)) (now (own2 .entry)) (now (own3 .entry))) (now (long1 .entry)) (now (long2 .entry))) ⌝ }
 {
     if !levels_ok(ws, par, g, first, second, third, own2, own3) {
         return false;
@@ -134,7 +137,8 @@ pub fn sound_with(
 ) -> bool
     requires { ⌜ Sized (t .geometry) (lent (now list) (now first) (now second) (now third) (now own2) (now own3) (now long1) (now long2)) ⌝ }
     requires { ⌜ Scratch (now ws) (now par) ⌝ }
-    ensures { λ r. ⌜ Tried r t (lent (now (list .entry)) (now (first .entry)) (now (second .entry)) (now (third .entry)) (now (own2 .entry)) (now (own3 .entry)) (now (long1 .entry)) (now (long2 .entry))) ⌝ }
+    ensures { λ r. ⌜ Tried r t (lent (now (list .entry)) (now (first .entry)) (now (second .entry)) (now (third .entry)) (now (own2 .entry))
+        (now (own3 .entry)) (now (long1 .entry)) (now (long2 .entry))) ⌝ }
 {
     let n = t.count as usize;
     if !list_ok(list, n) {
@@ -169,7 +173,8 @@ pub fn sound(
     long2: &[u16],
 ) -> bool
     requires { ⌜ Sized (t .geometry) (lent (now list) (now first) (now second) (now third) (now own2) (now own3) (now long1) (now long2)) ⌝ }
-    ensures { λ r. ⌜ Tried r t (lent (now (list .entry)) (now (first .entry)) (now (second .entry)) (now (third .entry)) (now (own2 .entry)) (now (own3 .entry)) (now (long1 .entry)) (now (long2 .entry))) ⌝ }
+    ensures { λ r. ⌜ Tried r t (lent (now (list .entry)) (now (first .entry)) (now (second .entry)) (now (third .entry)) (now (own2 .entry))
+        (now (own3 .entry)) (now (long1 .entry)) (now (long2 .entry))) ⌝ }
 {
     let mut ws = [0u64; 4096];
     let mut par = [0u16; 4353];

@@ -1,5 +1,4 @@
 -- What joins the code of withdraw to its definition, and that its answers are told apart.
-pub mod Judges
 pub mod Takes
 pub mod Injective
 pub mod OneAnswer

@@ -9,12 +9,12 @@ use lib.Dec.{eqb}
 use lib.ListN.{length, set}
 use Rattle.bits.specs.Slot.{cut}
 use Rattle.bits.proofs.Bools.{decided}
-use Rattle.routes.specs.Route.{keyOf}
-use Rattle.routes.specs.Record.{routesOf}
+use Rattle.routes.specs.Route.{key, keyOf}
+use Rattle.routes.specs.Record.{recordAt, routesOf}
 use Rattle.routes.specs.Said.{refused}
 use Rattle.standing.specs.Standing.{stands, remove}
 use Rattle.routes.specs.declared.Route.{Route}
-use Rattle.lists.specs.Edit.{Edited, edited, removed, removing, countWithout, ListHolds}
+use Rattle.lists.specs.Edit.{RemoveAt, removed, countWithout, ListHolds}
 use Rattle.lists.proofs.EditHolds.{remove-holds}
 use Rattle.buffers.specs.Fill.{filled}
 use Rattle.counts.specs.Counts.{OneMore}
@@ -26,7 +26,7 @@ use Rattle.sail.specs.declared.geometry.Geometry.{Geometry}
 use Rattle.sail.specs.declared.table.Table.{Table}
 use Rattle.sail.proofs.Sounds.{standing-good}
 use Rattle.sail_theory.specs.Render.{find, longs}
-use Rattle.sail_theory.specs.Calls.{keep, withdrawSaid, Out, out, taking, outWithFlag, withdrawn}
+use Rattle.sail_theory.specs.Calls.{keep, Out, out, taking, outWithFlag, withdrawn}
 use Rattle.sail.specs.Level.{Level, chunksOf, below, level1, level2}
 use Rattle.sail_theory.specs.Facts.{Withdrawable}
 use Rattle.sail_theory.proofs.owners.GrantKeep.{length-keep, Losing}
@@ -42,21 +42,22 @@ use Rattle.sail_chunks.proofs.ToOpen.{told-one, told-chunk}
 use Rattle.sail_chunks.proofs.WithdrawUnderway.{was-long, keep-closes, closing, farewell-underway}
 use Rattle.sail_chunks.proofs.Trails.{serving-of}
 use Rattle.sail_chunks.proofs.Underway.{underway-stale, underway-asked}
-use Rattle.sail_theory.specs.Judge.{Judged}
 use Rattle.sail_counts.specs.Counted.{Counts}
 use Rattle.sail_counts.specs.Tick.{Tickable, CountsMoved}
 use Rattle.sail_counts.specs.declared.tick.Left.{Left}
 use Rattle.sail_counts.proofs.Tallies.{Guided, down-tickable, down-counts, closes-first, closes-second, keep-counts, counts-are}
 use Rattle.sail_withdraw.specs.Answers.{meansWithdraw}
+use Rattle.sail_judge.specs.Withdraw.{ToTake, WithdrawJudged}
+use Rattle.sail_judge.specs.declared.withdraw.WithdrawVerdict.{WithdrawVerdict}
 use Rattle.sail_withdraw.specs.declared.answers.Withdraw.the-variants as withdraw
 
 -- The address x is cut to the length before the prefix is judged.
 module _ (t : Table) (l : Lent) (a len x : ℕ) (e : x ≡ cut len a) where
   -- a refusal leaves all as it was
-  pub withdraw-refused : (z : ℕ) → Judged z (withdrawSaid t l x len) (Withdrawable t l x len) → (z ≡ 0 → ⊥)
-      → out (meansWithdraw (withdraw.Refused z)) t l ≡ withdrawn t l a len
+  pub withdraw-refused : (f : WithdrawVerdict) → WithdrawJudged t l x len f → (f .number ≡ 0 → ⊥)
+      → out (meansWithdraw (withdraw.Refused (f .number))) t l ≡ withdrawn t l a len
   unfolding meansWithdraw
-  withdraw-refused z k h = sym (withdraw-off t l a len (refused z) (rw e at (k .off h)) refl)
+  withdraw-refused f k h = sym (withdraw-off t l a len (refused (f .number)) (rw e at (k .off h)) refl)
 
   -- what is taken is the cleared prefix, and bits were cleared where the address is another
   pub withdraw-cleared : (c : Bool) → c ≡ not (eqb x a) → (o : Out) → o ≡ outWithFlag c (taking t l x len) → o ≡ withdrawn t l a len
@@ -86,7 +87,10 @@ module _ (b : Bool) (c c′ : ℕ) (h : b ≡ true → c ≡ c′) where
   same-closing : (own cells : List ℕ) (d : ℕ) → Closing b own cells c′ d → Closing b own cells c d
   same-closing own cells d k = record { one = λ e. rw (h e) (k .one e); few = k .few; size = k .size; whole = k .whole }
 
-module _ (t : Table) (l : Lent) (a len : ℕ) (w : Withdrawable t l a len) where
+module _ (t : Table) (l : Lent) (a len at : ℕ) (ready : ToTake t l a len at) where
+  abbrev w : Withdrawable t l a len
+  w = ready .may
+
   abbrev g : Geometry
   g = t .geometry
 
@@ -102,13 +106,16 @@ module _ (t : Table) (l : Lent) (a len : ℕ) (w : Withdrawable t l a len) where
   pub take-some : 1 ≤ t .count
   take-some = omega (arith, count-removed t l a len w)
 
+  pub take-there : RemoveAt (l .list) (t .count) at
+  take-there = record { listed = w .sound .listed; place = ready .place }
+
   -- s is the list without the route, and m the number of routes in it
-  module _ (b : Bool) (s : List ℕ) (e : edited b s ≡ removing (l .list) (t .count) (keyOf a len)) where
+  module _ (s : List ℕ) (e : s ≡ removed (l .list) (t .count) (key (recordAt (l .list) at))) where
     abbrev m : ℕ
     m = t .count - 1
 
     list-is : s ≡ removed (l .list) (t .count) (keyOf a len)
-    list-is = ap (λ (x : Edited). x .list) e
+    list-is = e ∙ rw (ready .named)
 
     count-is : m ≡ length left
     count-is = omega (arith, count-removed t l a len w)

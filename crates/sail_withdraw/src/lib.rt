@@ -1,11 +1,10 @@
 // Withdraw: a route is taken out of a table.
 ghost use mathlib.Core.Path.{_≡_};
 ghost use Rattle.sail.specs.Lent.{lent};
-ghost use Rattle.sail_theory.specs.Calls.{withdrawSaid, out, taking, outWithFlag};
-ghost use Rattle.sail_theory.specs.Facts.{Withdrawable};
-ghost use Rattle.sail_theory.specs.Judge.{Judged};
+ghost use Rattle.sail_theory.specs.Calls.{out, taking, outWithFlag};
 ghost use Rattle.sail_withdraw.specs.Answers.{meansWithdraw};
 ghost use Rattle.sail_withdraw.specs.Contract.{MeetsWithdraw};
+ghost use Rattle.sail_judge.specs.Withdraw.{ToTake};
 
 pub mod answers;
 
@@ -13,52 +12,13 @@ use crate::answers::Withdraw;
 use crate::answers::Withdrawn;
 use bits::widen::byte_to_word;
 use lists::edit;
-use lists::place::place;
-use routes::input;
 use routes::prefix::clear_after;
-use routes::record;
 use sail::table::Table;
-use sail::table::sizes;
 use sail_chunks::chunks::close;
 use sail_chunks::trail::follow;
 use sail_counts::tick::tick;
+use sail_judge::withdraw::judge_withdraw;
 use sail_paint::from_list::repaint_from_list;
-use sail_sound::test::sound;
-
-// The number with which the withdrawal is refused, by the first condition that holds; 0 where it is accepted.
-fn judge_withdraw(
-    t: Table,
-    list: &[u8],
-    first: &[u16],
-    second: &[u16],
-    third: &[u16],
-    own2: &[u32],
-    own3: &[u32],
-    long1: &[u16],
-    long2: &[u16],
-    addr: u32,
-    len: u8,
-) -> u8
-    ensures { λ r. ⌜ Judged r (withdrawSaid t (lent (now (list .entry)) (now (first .entry)) (now (second .entry)) (now (third .entry)) (now (own2 .entry)) (now (own3 .entry)) (now (long1 .entry)) (now (long2 .entry))) addr len) (Withdrawable t (lent (now (list .entry)) (now (first .entry)) (now (second .entry)) (now (third .entry)) (now (own2 .entry)) (now (own3 .entry)) (now (long1 .entry)) (now (long2 .entry))) addr len) ⌝ }
-{
-    let s = sizes(t, list, first, second, third, own2, own3, long1, long2);
-    if s != 0 {
-        return s;
-    }
-    if !input::prefix_ok(addr, len) {
-        return 3;
-    }
-    if !sound(t, list, first, second, third, own2, own3, long1, long2) {
-        return 5;
-    }
-    let n = t.count as usize;
-    let p = record::key_of(addr, len);
-    let k = place(list, n, p);
-    if edit::stands_at(list, n, k, p) {
-        return 0;
-    }
-    9
-}
 
 // The withdrawal, where the prefix stands: its record is taken out of the list and counted no more, chunks whose count falls
 // to 0 are closed, and what it touched is painted again. The answer tells whether bits were cleared.
@@ -74,17 +34,21 @@ fn take(
     long2: &mut [u16],
     addr: u32,
     len: u8,
+    at: usize,
     cleared: bool,
 ) -> Withdrawn
-    requires { ⌜ Withdrawable t (lent (now list) (now first) (now second) (now third) (now own2) (now own3) (now long1) (now long2)) addr len ⌝ }
-    ensures { λ r. ⌜ out (meansWithdraw (r .answer)) (r .table) (lent (now (list .exit)) (now (first .exit)) (now (second .exit)) (now (third .exit)) (now (own2 .exit)) (now (own3 .exit)) (now (long1 .exit)) (now (long2 .exit))) ≡ outWithFlag cleared (taking t (lent (now (list .entry)) (now (first .entry)) (now (second .entry)) (now (third .entry)) (now (own2 .entry)) (now (own3 .entry)) (now (long1 .entry)) (now (long2 .entry))) addr len) ⌝ }
+    requires { ⌜ ToTake t (lent (now list) (now first) (now second) (now third) (now own2) (now own3) (now long1) (now long2)) addr len at ⌝ }
+    ensures { λ r. ⌜ out (meansWithdraw (r .answer)) (r .table) (lent (now (list .exit)) (now (first .exit)) (now (second .exit)) (now (third .exit))
+        (now (own2 .exit)) (now (own3 .exit)) (now (long1 .exit)) (now (long2 .exit)))
+        ≡ outWithFlag cleared (taking t (lent (now (list .entry)) (now (first .entry)) (now (second .entry)) (now (third .entry))
+        (now (own2 .entry)) (now (own3 .entry)) (now (long1 .entry)) (now (long2 .entry))) addr len) ⌝ }
 {
     let g = t.geometry;
     let p1 = g.p1;
     let p2 = g.p2;
     let n = t.count as usize;
     let v = follow(t, list, first, second, own2, own3, addr);
-    edit::remove(list, n, addr, len);
+    edit::remove_at(list, n, at);
     let m = n - 1;
     let left = tick(g, addr, len, first, long1, long2, false);
     close(
@@ -139,10 +103,13 @@ pub fn withdraw(
     addr: u32,
     len: u8,
 ) -> Withdrawn
-    ensures { λ r. ⌜ MeetsWithdraw t (lent (now (list .entry)) (now (first .entry)) (now (second .entry)) (now (third .entry)) (now (own2 .entry)) (now (own3 .entry)) (now (long1 .entry)) (now (long2 .entry))) addr len r (lent (now (list .exit)) (now (first .exit)) (now (second .exit)) (now (third .exit)) (now (own2 .exit)) (now (own3 .exit)) (now (long1 .exit)) (now (long2 .exit))) ⌝ }
+    ensures { λ r. ⌜ MeetsWithdraw t (lent (now (list .entry)) (now (first .entry)) (now (second .entry)) (now (third .entry))
+        (now (own2 .entry)) (now (own3 .entry)) (now (long1 .entry)) (now (long2 .entry))) addr len
+        r (lent (now (list .exit)) (now (first .exit)) (now (second .exit)) (now (third .exit))
+        (now (own2 .exit)) (now (own3 .exit)) (now (long1 .exit)) (now (long2 .exit))) ⌝ }
 {
     let a = clear_after(addr, len);
-    let z = judge_withdraw(
+    let f = judge_withdraw(
         t,
         list,
         first,
@@ -155,9 +122,9 @@ pub fn withdraw(
         a,
         len,
     );
-    if z != 0 {
+    if f.number != 0 {
         return Withdrawn {
-            answer: Withdraw::Refused(z),
+            answer: Withdraw::Refused(f.number),
             table: t,
         };
     }
@@ -173,6 +140,7 @@ pub fn withdraw(
         long2,
         a,
         len,
+        f.at,
         a != addr,
     )
 }

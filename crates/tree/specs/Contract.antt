@@ -3,8 +3,8 @@
 use mathlib.Core.List.{List}
 use mathlib.Core.Path.{_≡_}
 use Prim.Native.Nat.{ℕ}
-use Rattle.tree.specs.Walk.{meansTreeFound, treeSaid}
-use Rattle.tree.specs.declared.TreeFound.{TreeFound}
+use Rattle.tree_image.specs.Walk.{meansTreeFound, treeSaid}
+use Rattle.tree_image.specs.declared.TreeFound.{TreeFound}
 
 abbrev pub MeetsTreeLookup : List ℕ → List ℕ → ℕ → TreeFound → Type 0
 MeetsTreeLookup words hops addr r = meansTreeFound r ≡ treeSaid words hops addr

@@ -1,24 +1,12 @@
 // Lookup in a tree bitmap image: three words for each node, and the hops beside them.
 ghost use mathlib.Core.Path.{_≡_};
 ghost use Prim.Native.Nat.{_≤_, _<_};
-ghost use Rattle.tree.specs.Node.{nibbleOf, tryBit, deepestOf, betterOf, childAt};
-ghost use Rattle.tree.specs.Walk.{meansTreeFound, fetchedFrom};
+ghost use Rattle.tree_image.specs.Node.{nibbleOf, tryBit, deepestOf, betterOf, childAt};
+ghost use Rattle.tree_image.specs.Walk.{meansTreeFound, fetchedFrom};
 ghost use Rattle.tree.specs.Contract.{MeetsTreeLookup};
 use bits::widen::word_to_index;
-
-// Where the hop of the deepest match stands among the hops.
-pub enum Place {
-    Nowhere,
-    At(usize),
-}
-
-// What a lookup finds: a hop, with the count of nodes read and one more for the fetch of the hop; no route, with the count of nodes read;
-// or the image is broken on this walk.
-pub enum TreeFound {
-    Hop(u16, u32),
-    NoRoute(u32),
-    Broken,
-}
+use tree_image::Place;
+use tree_image::TreeFound;
 
 // The four bits of an address that have 4 * d bits below them.
 fn nibble(addr: u32, d: u32) -> u32

@@ -13,8 +13,8 @@ use Rattle.routes.specs.declared.input.Input.the-variants as input
 use Rattle.routes.proofs.Inputs.{told-good, told-refused, told-many}
 use Rattle.routes.proofs.Meaning.{input-good}
 use Rattle.routes.proofs.Rows.{length-routes}
-use Rattle.tree.specs.Image.{nodeNeed}
-use Rattle.tree.proofs.Needs.{hops-need}
+use Rattle.tree_image.specs.Image.{nodeNeed}
+use Rattle.tree_image.proofs.Needs.{hops-need}
 use Rattle.tree_build.specs.declared.Built.{Built}
 use Rattle.tree_build.specs.declared.Built.the-variants.{Made, RefusedAt, Refused}
 use Rattle.tree_build.specs.Built.{meansBuilt, ImageOut, imageOut, madeOf, built}

@@ -7,13 +7,13 @@ use native.Mathlib.Omega.{arith}
 use lib.ListN.{length, getD, replicate, length-replicate, List·getD-eq-default}
 use Rattle.bits.proofs.Bools.{below?}
 use Rattle.routes.specs.Record.{recordAt, Records}
-use Rattle.tree.specs.Parts.{zeroPadded}
-use Rattle.tree.specs.Image.{Node, node, kids, hopsOf, words, hops, imageBy}
-use Rattle.tree.specs.Done.{AllDone}
-use Rattle.tree.proofs.Parts.{before-zero, before-all}
-use Rattle.tree.proofs.Nodes.{up-next, ahead}
-use Rattle.tree.proofs.Holds.{zeros}
-use Rattle.tree.proofs.Filled.{all-filled}
+use Rattle.tree_image.specs.Parts.{zeroPadded}
+use Rattle.tree_image.specs.Image.{Node, node, kids, hopsOf, words, hops, imageBy}
+use Rattle.tree_image.specs.Done.{AllDone}
+use Rattle.tree_image.proofs.Parts.{before-zero, before-all}
+use Rattle.tree_image.proofs.Nodes.{up-next, ahead}
+use Rattle.tree_image.proofs.Holds.{zeros}
+use Rattle.tree_image.proofs.Filled.{all-filled}
 use Rattle.tree_build.specs.NodeRuns.{standsIn, hopIn, pathAt}
 use Rattle.tree_build.specs.Queue.{put3, Waits, nodesIn, nodeIn, hopsBefore, ImageRoom, State, ImageFilled}
 use Rattle.tree_build.proofs.Stores.{put3-length, put3-other, put3-at}

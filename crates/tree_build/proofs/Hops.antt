@@ -13,12 +13,12 @@ use Rattle.bits.specs.Count.{count}
 use Rattle.bits.proofs.Bools.{below?}
 use Rattle.routes.specs.Record.{recordAt}
 use Rattle.routes.specs.declared.Route.{Route}
-use Rattle.tree.specs.Image.{bitHop, word}
-use Rattle.tree.proofs.Counts.{count-less}
+use Rattle.tree_image.specs.Image.{bitHop, word}
+use Rattle.tree_image.proofs.Counts.{count-less}
 use Rattle.bits.proofs.Packed.{rank-count, upper-count}
-use Rattle.tree.proofs.Nodes.{inner-bit, child-bit}
+use Rattle.tree_image.proofs.Nodes.{inner-bit, child-bit}
 use Rattle.standing.proofs.Prefixes.{one-key}
-use Rattle.tree.proofs.Lies.{atBit, bitOf, bit-at}
+use Rattle.tree_image.proofs.Lies.{atBit, bitOf, bit-at}
 use Rattle.tree_build.specs.NodeRuns.{standsIn, hopIn, pathAt, nodeAt, nodeBit, innerIn, childIn, wordIn}
 use Rattle.tree_build.specs.Queue.{HopsReady, HopsPut}
 use Rattle.tree_build.proofs.NodeRuns.{short}

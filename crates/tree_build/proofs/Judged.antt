@@ -10,7 +10,7 @@ use borrow.Author.Tests.{lt-ltb, le-ltb}
 use Rattle.bits.proofs.Bools.{below?}
 use Rattle.routes.specs.Input.{inputSaid}
 use Rattle.routes.specs.Said.{Said, accepted, refused, refusedAt, accepts}
-use Rattle.tree.specs.Image.{nodeNeed}
+use Rattle.tree_image.specs.Image.{nodeNeed}
 use Rattle.routes.specs.Record.{routesIn}
 use Rattle.tree_build.specs.Built.{madeOf, built}
 use Rattle.tree_build.specs.Cases.{Build}

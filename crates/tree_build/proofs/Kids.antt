@@ -13,9 +13,9 @@ use Rattle.bits.specs.Slot.{slot}
 use Rattle.bits.proofs.Bools.{below?, untrue}
 use Rattle.routes.specs.Record.{recordAt}
 use Rattle.routes.specs.declared.Route.{Route}
-use Rattle.tree.specs.Image.{Node, node}
-use Rattle.tree.proofs.Counts.{count-less}
-use Rattle.tree.proofs.Lies.{pass-parts, pass-make, kidOf}
+use Rattle.tree_image.specs.Image.{Node, node}
+use Rattle.tree_image.proofs.Counts.{count-less}
+use Rattle.tree_image.proofs.Lies.{pass-parts, pass-make, kidOf}
 use Rattle.tree_build.specs.NodeRuns.{pathAt, nodeAt, throughAt, ThroughRun, NodeRun, RunEnd, childIn, wordIn}
 use Rattle.tree_build.specs.Queue.{put3, Waits, KidsReady, KidsPut}
 use Rattle.tree_build.proofs.Stores.{put3-length, put3-other, put3-at}

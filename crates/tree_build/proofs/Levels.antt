@@ -15,12 +15,12 @@ use Rattle.bits.proofs.Counts.{count-matched}
 use Rattle.bits.proofs.Searches.{firstOf-is, firstOf-before}
 use Rattle.bits.proofs.Bools.{both, and-split, equal?, untrue}
 use Rattle.routes.specs.Record.{recordAt, Records, routesIn}
-use Rattle.tree.specs.Image.{Node, node, level, upTo}
-use Rattle.tree.specs.Levels.{LevelOf}
-use Rattle.tree.proofs.Counts.{count-all}
-use Rattle.tree.proofs.Levels.{level-is}
-use Rattle.tree.proofs.Lies.{pass-parts, pass-make}
-use Rattle.tree.proofs.Ranks.{first-found}
+use Rattle.tree_image.specs.Image.{Node, node, level, upTo}
+use Rattle.tree_image.specs.Levels.{LevelOf}
+use Rattle.tree_image.proofs.Counts.{count-all}
+use Rattle.tree_image.proofs.Levels.{level-is}
+use Rattle.tree_image.proofs.Lies.{pass-parts, pass-make}
+use Rattle.tree_image.proofs.Ranks.{first-found}
 use Rattle.tree_build.specs.NodeRuns.{standsIn, pathAt, throughAt}
 use Rattle.tree_build.specs.Count.{freshAt, nodesTo}
 use Rattle.tree_build.proofs.NodeRuns.{good-list, stands-at, stands-by, convex}

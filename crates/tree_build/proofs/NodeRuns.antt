@@ -15,8 +15,8 @@ use Rattle.routes.specs.Route.{Good}
 use Rattle.standing.specs.Cells.{here}
 use Rattle.routes.specs.Record.{recordAt, Records, routesIn}
 use Rattle.routes.proofs.Rows.{record-listed, listed-record, records-good}
-use Rattle.tree.specs.Image.{through}
-use Rattle.tree.proofs.Lies.{any-is, any-mem, found-any, hop-of, pass-parts, pass-make, up-pass, kidOf, kid-at}
+use Rattle.tree_image.specs.Image.{through}
+use Rattle.tree_image.proofs.Lies.{any-is, any-mem, found-any, hop-of, pass-parts, pass-make, up-pass, kidOf, kid-at}
 use Rattle.tree_build.specs.NodeRuns.{standsIn, hopIn, pathAt, throughAt, ThroughRun, RunEnd}
 
 module _ (s : List ℕ) (good : Records s (length s / 8)) where

@@ -15,9 +15,9 @@ use Rattle.routes.specs.Said.{Said, accepted, refused, refusedAt}
 use Rattle.routes.specs.declared.Route.{Route}
 use Rattle.routes.specs.Cases.{Checked, ragged, stopped, many, good}
 use Rattle.routes.proofs.Meaning.{input-checked}
-use Rattle.tree.specs.Image.{nodeNeed, onPath}
-use Rattle.tree.specs.Walk.{treeHopSaid, treeSaid}
-use Rattle.tree.proofs.Serves.{image-serves}
+use Rattle.tree_image.specs.Image.{nodeNeed, onPath}
+use Rattle.tree_image.specs.Walk.{treeHopSaid, treeSaid}
+use Rattle.tree_image.proofs.Serves.{image-serves}
 use Rattle.tree_build.specs.Built.{madeOf, afterInput, built}
 use Rattle.tree_build.specs.Cases.{AcceptedBuild}
 use Rattle.tree_build.proofs.NodeRuns.{good-list}

@@ -11,15 +11,15 @@ use lib.ListN.{length, getD}
 use Rattle.bits.specs.Count.{count}
 use Rattle.bits.proofs.Bools.{below?}
 use Rattle.routes.specs.Record.{Records, routesIn}
-use Rattle.tree.specs.Parts.{gather}
-use Rattle.tree.specs.Image.{Node, node, bitHop, inner, child, kids, hopsOf, hops}
-use Rattle.tree.specs.Image as image
-use Rattle.tree.specs.Done.{Done}
-use Rattle.tree.proofs.Counts.{count-less, count-hit}
-use Rattle.tree.proofs.Parts.{picked-length, before-next, before-le, before-mono}
-use Rattle.tree.proofs.Nodes.{nodes-fix, depth-lt}
-use Rattle.tree.proofs.Holds.{child-place}
-use Rattle.tree.proofs.Serves.{agree}
+use Rattle.tree_image.specs.Parts.{gather}
+use Rattle.tree_image.specs.Image.{Node, node, bitHop, inner, child, kids, hopsOf, hops}
+use Rattle.tree_image.specs.Image as image
+use Rattle.tree_image.specs.Done.{Done}
+use Rattle.tree_image.proofs.Counts.{count-less, count-hit}
+use Rattle.tree_image.proofs.Parts.{picked-length, before-next, before-le, before-mono}
+use Rattle.tree_image.proofs.Nodes.{nodes-fix, depth-lt}
+use Rattle.tree_image.proofs.Holds.{child-place}
+use Rattle.tree_image.proofs.Serves.{agree}
 use Rattle.tree_build.specs.NodeRuns.{standsIn, hopIn, pathAt, nodeAt, ThroughRun, NodeRun, innerIn, childIn, wordIn}
 use Rattle.tree_build.specs.Queue.{put3, Waits, HopsReady, HopsPut, KidsReady, KidsPut, nodesIn, nodeIn, kidsBefore, hopsBefore, State, NodeWaits}
 use Rattle.tree_build.proofs.Stores.{put3-length, put3-other, put3-at}

@@ -15,9 +15,9 @@ use Rattle.bits.specs.Count.{bit}
 use Rattle.bits.proofs.Bools.{decided, below?}
 use Rattle.routes.specs.Record.{recordAt}
 use Rattle.routes.specs.declared.Route.{Route}
-use Rattle.tree.specs.Image.{bitHop, setBit, word}
-use Rattle.tree.proofs.Nodes.{set-inner, set-child}
-use Rattle.tree.proofs.Lies.{pass-parts, up-pass, kidOf, kid-at, kid-is, bitOf, bit-at, bit-pass, bit-is}
+use Rattle.tree_image.specs.Image.{bitHop, setBit, word}
+use Rattle.tree_image.proofs.Nodes.{set-inner, set-child}
+use Rattle.tree_image.proofs.Lies.{pass-parts, up-pass, kidOf, kid-at, kid-is, bitOf, bit-at, bit-pass, bit-is}
 use Rattle.tree_build.specs.NodeRuns.{standsIn, hopIn, pathAt, nodeAt, NodeRun, nodeBit, nodeBitAt, WithBit, innerIn, childIn, wordIn}
 use Rattle.tree_build.proofs.Marks.{word-bits}
 use Rattle.tree_build.proofs.NodeRuns.{stands-at, stands-by, hop-at, hop-by, short}

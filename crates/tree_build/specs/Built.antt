@@ -8,7 +8,7 @@ use Rattle.routes.specs.Record.{routesIn}
 use Rattle.routes.specs.Input.{inputSaid}
 use Rattle.routes.specs.Said.{Said, accepted, refused, refusedAt}
 use Rattle.routes.specs.declared.Route.{Route}
-use Rattle.tree.specs.Image.{imageOf, nodeNeed}
+use Rattle.tree_image.specs.Image.{imageOf, nodeNeed}
 use Rattle.tree_build.specs.declared.Built.{Built}
 use Rattle.tree_build.specs.declared.Built.the-variants.{Made, RefusedAt, Refused}
 

@@ -9,7 +9,7 @@ use Rattle.routes.specs.Record.{routesIn}
 use Rattle.routes.specs.Cases.{BadInput, Passes}
 use Rattle.routes.specs.Said.{Said, accepted, refused}
 use Rattle.routes.specs.declared.Route.{Route}
-use Rattle.tree.specs.Image.{imageOf, nodeNeed}
+use Rattle.tree_image.specs.Image.{imageOf, nodeNeed}
 use Rattle.tree_build.specs.Built.{ImageOut}
 
 -- the input's with its index, 6, 11, 12

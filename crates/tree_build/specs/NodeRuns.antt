@@ -8,7 +8,7 @@ use lib.ListN.{length}
 use Rattle.bits.specs.Slot.{slot}
 use Rattle.bits.specs.Bit.{bitAt}
 use Rattle.routes.specs.Record.{recordAt, Records, routesIn}
-use Rattle.tree.specs.Image.{Node, node, inner, child, word, through, nodeStands, hopFor}
+use Rattle.tree_image.specs.Image.{Node, node, inner, child, word, through, nodeStands, hopFor}
 
 -- which nodes stand, and the hop of a prefix, by the routes of an input
 abbrev pub standsIn : List ℕ → ℕ → ℕ → Bool

@@ -6,9 +6,9 @@ use Prim.Native.Nat.{ℕ, _+_, _*_, _/_, _%_, _^_, _≤_, _<_}
 use lib.ListN.{length, getD, set}
 use Rattle.bits.specs.Count.{count}
 use Rattle.routes.specs.Record.{Records, routesIn}
-use Rattle.tree.specs.Parts.{before}
-use Rattle.tree.specs.Image.{Node, node, bitHop, kids, hopsOf, nodes, hops, imageOf}
-use Rattle.tree.specs.Done.{nodeNo, Done}
+use Rattle.tree_image.specs.Parts.{before}
+use Rattle.tree_image.specs.Image.{Node, node, bitHop, kids, hopsOf, nodes, hops, imageOf}
+use Rattle.tree_image.specs.Done.{nodeNo, Done}
 use Rattle.tree_build.specs.NodeRuns.{standsIn, hopIn, pathAt, nodeAt, ThroughRun, NodeRun, innerIn, childIn, wordIn}
 
 -- the three words of node x made a, b and d

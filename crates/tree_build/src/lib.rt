@@ -20,7 +20,8 @@ pub enum Built {
 // Good records into the two arrays: 11 where too few whole nodes are lent, 12 where too few hops are.
 fn make(list: &[u8], n: usize, words: &mut [u32], hops: &mut [u16]) -> Built
     requires { ⌜ GoodInput (now list) n ⌝ }
-    ensures { λ r. ⌜ imageOut (meansBuilt r) (now (words .exit)) (now (hops .exit)) ≡ madeOf (routesIn (now (list .entry))) (now (words .entry)) (now (hops .entry)) ⌝ }
+    ensures { λ r. ⌜ imageOut (meansBuilt r) (now (words .exit)) (now (hops .exit))
+        ≡ madeOf (routesIn (now (list .entry))) (now (words .entry)) (now (hops .entry)) ⌝ }
 {
     let nodes = count::count_nodes(list, n);
     if words.len() / 3 < nodes {

@@ -5,7 +5,7 @@ ghost use mathlib.Core.Path.{_≡_};
 ghost use Prim.Native.Nat.{_+_, _*_, _≤_, _<_};
 ghost use lib.ListN.{length};
 ghost use Rattle.routes.specs.Record.{recordAt};
-ghost use Rattle.tree.specs.Image.{through};
+ghost use Rattle.tree_image.specs.Image.{through};
 ghost use Rattle.tree_build.specs.NodeRuns.{RunEnd, nodeBit, WithBit, NodeRun, wordIn};
 
 // Whether record k passes through the node of depth m for a path.

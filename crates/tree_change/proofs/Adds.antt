@@ -13,8 +13,8 @@ use Rattle.bits.specs.Slot.{slot}
 use Rattle.routes.specs.declared.Route.{Route}
 use Rattle.standing.specs.Standing.{insert}
 use Rattle.standing.proofs.Standing.{insert-good}
-use Rattle.tree.specs.Node.{bitsOf, isSet}
-use Rattle.tree.specs.Image.{node, inner, nodeStands, hopFor}
+use Rattle.tree_image.specs.Node.{bitsOf, isSet}
+use Rattle.tree_image.specs.Image.{node, inner, nodeStands, hopFor}
 use Rattle.tree_same.specs.Read.{reached, hopPlaceAt}
 use Rattle.tree_same.specs.Holding.{Holding}
 use Rattle.tree_same.specs.Listed.{routesHeld}

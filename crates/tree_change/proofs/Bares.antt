@@ -15,9 +15,9 @@ use Rattle.bits.specs.Count.{bit}
 use Rattle.bits.specs.Slot.{slot}
 use Rattle.bits.proofs.Slots.{slot-up}
 use Rattle.bits.proofs.Bools.{and-split, below?, untrue}
-use Rattle.tree.specs.Node.{bitsOf, isSet}
-use Rattle.tree.specs.Image.{node, innerLen, bitHop, inner, child, setBit, word}
-use Rattle.tree.proofs.Lies.{inner-cases}
+use Rattle.tree_image.specs.Node.{bitsOf, isSet}
+use Rattle.tree_image.specs.Image.{node, innerLen, bitHop, inner, child, setBit, word}
+use Rattle.tree_image.proofs.Lies.{inner-cases}
 use Rattle.tree_build.proofs.Marks.{word-bits}
 use Rattle.tree_same.specs.Read.{reached, leads}
 use Rattle.tree_same.specs.Order.{standsAt}

@@ -15,13 +15,13 @@ use Rattle.routes.specs.Route.{keyOf}
 use Rattle.routes.specs.Said.{accepts}
 use Rattle.routes.specs.declared.Route.{Route}
 use Rattle.standing.specs.Standing.{stands}
-use Rattle.tree.specs.Image.{nodeNeed}
+use Rattle.tree_image.specs.Image.{nodeNeed}
 use Rattle.tree_build.specs.Built.{ImageOut, madeOf}
 use Rattle.tree_same.specs.Listed.{routesHeld}
-use Rattle.tree_check.specs.WellFormed.{nodesUsed, wellFormed}
-use Rattle.tree_check.proofs.Meaning.{well-formed-is}
-use Rattle.tree_check.proofs.Held.{held-good, held-nodes, held-hops}
-use Rattle.tree_check.proofs.Exact.{made-fits}
+use Rattle.tree_formed.specs.WellFormed.{nodesUsed, wellFormed}
+use Rattle.tree_formed.proofs.Meaning.{well-formed-is}
+use Rattle.tree_formed.proofs.Held.{held-good, held-nodes, held-hops}
+use Rattle.tree_formed.proofs.Exact.{made-fits}
 use Rattle.tree_change.specs.declared.TreeAnnounced.{TreeAnnounced}
 use Rattle.tree_change.specs.declared.TreeAnnounced.the-variants as announced
 use Rattle.tree_change.specs.declared.TreeWithdrawn.{TreeWithdrawn}

@@ -16,19 +16,19 @@ use Rattle.routes.proofs.Meaning.{prefix-true, hop-true}
 use Rattle.standing.specs.Standing.{stands, insert, remove}
 use Rattle.standing.proofs.Standing.{insert-replaces}
 use Rattle.standing.proofs.Changed.{insert-adds, remove-takes}
-use Rattle.tree.specs.Node.{bitsOf, isSet}
-use Rattle.tree.specs.Image.{nodeStands, hopFor, nodeNeed, imageOf}
-use Rattle.tree.proofs.Needs.{hops-need}
+use Rattle.tree_image.specs.Node.{bitsOf, isSet}
+use Rattle.tree_image.specs.Image.{nodeStands, hopFor, nodeNeed, imageOf}
+use Rattle.tree_image.proofs.Needs.{hops-need}
 use Rattle.tree_build.specs.Built.{ImageOut, imageOut, madeOf}
 use Rattle.tree_same.specs.Order.{ints, Order}
 use Rattle.tree_same.specs.Listed.{routesHeld}
 use Rattle.tree_same.proofs.Holdings.{nodes-are, hops-are}
-use Rattle.tree_check.specs.WellFormed.{ordered, wellFormed, nodesIf}
-use Rattle.tree_check.proofs.Meaning.{not-true}
-use Rattle.tree_check.proofs.Steps.{not-failed}
-use Rattle.tree_check.proofs.Held.{held-good, held-holds}
-use Rattle.tree_check.proofs.Exact.{made-fits}
-use Rattle.tree_check.proofs.TestReturns.{check-broken, check-formed, check-hops-in, check-few}
+use Rattle.tree_formed.specs.WellFormed.{ordered, wellFormed, nodesIf}
+use Rattle.tree_formed.proofs.Meaning.{not-true}
+use Rattle.tree_formed.proofs.Steps.{not-failed}
+use Rattle.tree_formed.proofs.Held.{held-good, held-holds}
+use Rattle.tree_formed.proofs.Exact.{made-fits}
+use Rattle.tree_formed.proofs.TestReturns.{check-broken, check-formed, check-hops-in, check-few}
 use Rattle.tree_change.specs.declared.TreeAnnounced.the-variants as announced
 use Rattle.tree_change.specs.declared.TreeWithdrawn.the-variants as withdrawn
 use Rattle.tree_change.specs.Changed.{meansTreeAnnounced, meansTreeWithdrawn, unmarkedRoute, saying, putTo, takenFrom, imageAnnounced, imageWithdrawn}
@@ -126,9 +126,6 @@ module _ {ws hs : List ℕ} {n k x a len b : ℕ} (r : Standing ws hs n k x a le
 -- ---- the whole calls
 
 module _ {ws hs : List ℕ} {n : ℕ} (f : ImageFormed ws hs n) where
-  abbrev ts : List Route
-  ts = routesHeld ws hs
-
   -- what the code asks for on the way
   pub ask-hops : (0 < n) × (3 * n ≤ length ws) × (n ≡ nodesIf (ordered ws) ws)
   ask-hops = (f .lent .0, f .lent .1, f .nodes)
@@ -139,32 +136,78 @@ module _ {ws hs : List ℕ} {n : ℕ} (f : ImageFormed ws hs n) where
   pub ask-end : {x m a deep len b : ℕ} → Descent ws n a deep x m → BitOf a len b → (3 * x < length ws) × (b < 15)
   ask-end w o = (omega (arith, w .inside, f .lent .1), o .small)
 
-  module _ {k x m a len b : ℕ} (ek : k ≡ ints ws n) (p : Prefix a len) (o : BitOf a len b) (w : Descent ws n a (len / 4) x m) where
-    pub its-found : Found ws hs n k
-    its-found = subst (Found ws hs n) (sym ek) (f .found)
+-- what is known at the end of the way: t tells whether the prefix stands
+pub record Way : Type 0 where
+  pub ws : List ℕ
+  pub hs : List ℕ
+  pub n : ℕ
+  pub k : ℕ
+  pub x : ℕ
+  pub m : ℕ
+  pub a : ℕ
+  pub len : ℕ
+  pub b : ℕ
+  pub t : Bool
+  pub formed : ImageFormed ws hs n
+  pub hops : k ≡ ints ws n
+  pub prefix : Prefix a len
+  pub bit : BitOf a len b
+  pub down : Descent ws n a (len / 4) x m
+  pub tells : t ≡ (eqb m (len / 4) && isSet (bitsOf ws x) b)
 
-    -- the code's test of the end of the way
-    module _ (t : Bool) (e : t ≡ (eqb m (len / 4) && isSet (bitsOf ws x) b)) where
-      says : t ≡ stands (keyOf a len) ts
-      says = there-is its-found p o w t e
+abbrev pub walked : {ws hs : List ℕ} {n k x m a len b : ℕ} {t : Bool} → ImageFormed ws hs n → k ≡ ints ws n → Prefix a len → BitOf a len b
+    → Descent ws n a (len / 4) x m → t ≡ (eqb m (len / 4) && isSet (bitsOf ws x) b) → Way
+walked {ws} {hs} {n} {k} {x} {m} {a} {len} {b} {t} f e p o d q = record {
+  ws = ws;
+  hs = hs;
+  n = n;
+  k = k;
+  x = x;
+  m = m;
+  a = a;
+  len = len;
+  b = b;
+  t = t;
+  formed = f;
+  hops = e;
+  prefix = p;
+  bit = o;
+  down = d;
+  tells = q;
+}
 
-      pub is-standing : t ≡ true → Standing ws hs n k x a len b
-      is-standing q =
-          let s : stands (keyOf a len) ts ≡ true = sym says ∙ q in
-          record {
-            found = its-found;
-            prefix = p;
-            way = subst (Descent ws n a (len / 4) x) (there-at its-found p o w s) w;
-            bit = o;
-            stood = s;
-          }
+module _ (w : Way) where
+  its-found : Found (w .ws) (w .hs) (w .n) (w .k)
+  its-found = subst (Found (w .ws) (w .hs) (w .n)) (sym (w .hops)) (w .formed .found)
 
-      pub is-new : (h : ℕ) → Fine (unmarkedRoute a len h) → t ≡ false → New ws hs n k x m a len h b
-      is-new h g q = record { found = its-found; fine = g; way = w; bit = o; absent = sym says ∙ q }
+  says : w .t ≡ stands (keyOf (w .a) (w .len)) (routesHeld (w .ws) (w .hs))
+  says = there-is its-found (w .prefix) (w .bit) (w .down) (w .t) (w .tells)
 
-      pub told-nine : not t ≡ true → imageOut (meansTreeWithdrawn (withdrawn.Refused 9)) ws hs ≡ takenFrom ts (keyOf a len) ws hs
-      unfolding meansTreeWithdrawn takenFrom
-      told-nine q = rw (sym says ∙ not-true t q) refl
+  pub is-new : (h : ℕ) → Fine (unmarkedRoute (w .a) (w .len) h) → w .t ≡ false → New (w .ws) (w .hs) (w .n) (w .k) (w .x) (w .m) (w .a) (w .len) h (w .b)
+  is-new h g q = record { found = its-found; fine = g; way = w .down; bit = w .bit; absent = sym says ∙ q }
+
+  pub told-nine : not (w .t) ≡ true
+      → imageOut (meansTreeWithdrawn (withdrawn.Refused 9)) (w .ws) (w .hs) ≡ takenFrom (routesHeld (w .ws) (w .hs)) (keyOf (w .a) (w .len)) (w .ws) (w .hs)
+  unfolding meansTreeWithdrawn takenFrom
+  told-nine q = rw (sym says ∙ not-true (w .t) q) refl
+
+-- and that it stands
+pub record Stood : Type 0 where
+  pub way : Way
+  pub there : way .t ≡ true
+
+pub is-standing : (s : Stood)
+    → Standing (s .way .ws) (s .way .hs) (s .way .n) (s .way .k) (s .way .x) (s .way .a) (s .way .len) (s .way .b)
+is-standing s =
+    let w = s .way in
+    let q : stands (keyOf (w .a) (w .len)) (routesHeld (w .ws) (w .hs)) ≡ true = sym (says w) ∙ s .there in
+    record {
+      found = its-found w;
+      prefix = w .prefix;
+      way = subst (Descent (w .ws) (w .n) (w .a) (w .len / 4) (w .x)) (there-at (its-found w) (w .prefix) (w .bit) (w .down) q) (w .down);
+      bit = w .bit;
+      stood = q;
+    }
 
 -- ---- a prefix taken out
 
@@ -215,57 +258,64 @@ is-formed ws hs n narrow e z =
 pub is-fine : (a len h : ℕ) → properPrefix a len ≡ true → hopFine h ≡ true → Fine (unmarkedRoute a len h)
 is-fine a len h p q = let k = hop-true h q in record { prefix = prefix-true a len p; hop-one = k .0; hop-ok = k .1; mark-ok = omega arith }
 
--- the prefix and the route that the code's tests passed; the length goes on as a wider number
-pub passed-prefix : (a len : ℕ) (t : Bool) → t ≡ properPrefix a len → not t ≡ false → (l : ℕ) → l ≡ len → Prefix a l
-passed-prefix a len t e q l el = subst (λ (z : ℕ). Prefix a z) (sym el) (prefix-true a len (not-failed t (properPrefix a len) e q))
+-- a prefix that passed its test, and a hop that passed its own
+pub record Proper : Type 0 where
+  pub a : ℕ
+  pub len : ℕ
+  pub is : properPrefix a len ≡ true
 
-pub passed-route : (a len h : ℕ) (t u : Bool) → t ≡ properPrefix a len → not t ≡ false → u ≡ hopFine h → not u ≡ false → (l : ℕ) → l ≡ len → Fine
-    (unmarkedRoute a l h)
-passed-route a len h t u et qt eu qu l el =
-    subst (λ (z : ℕ). Fine (unmarkedRoute a z h)) (sym el) (is-fine a len h (not-failed t (properPrefix a len) et qt) (not-failed u (hopFine h) eu qu))
+abbrev pub proper : (a len : ℕ) {t : Bool} → t ≡ properPrefix a len → not t ≡ false → Proper
+proper a len {t} e q = record { a = a; len = len; is = not-failed t (properPrefix a len) e q }
 
-module _ (ws hs : List ℕ) (a len : ℕ) where
-  pub announced-three : (h : ℕ) (t : Bool) → t ≡ properPrefix a len → not t ≡ true
+pub record FineHop : Type 0 where
+  pub h : ℕ
+  pub is : hopFine h ≡ true
+
+abbrev pub fine : (h : ℕ) {t : Bool} → t ≡ hopFine h → not t ≡ false → FineHop
+fine h {t} e q = record { h = h; is = not-failed t (hopFine h) e q }
+
+-- the prefix and the route of them; the length goes on as a wider number
+pub passed-prefix : (p : Proper) {l : ℕ} → l ≡ p .len → Prefix (p .a) l
+passed-prefix p e = subst (λ (z : ℕ). Prefix (p .a) z) (sym e) (prefix-true (p .a) (p .len) (p .is))
+
+pub passed-route : (p : Proper) (f : FineHop) {l : ℕ} → l ≡ p .len → Fine (unmarkedRoute (p .a) l (f .h))
+passed-route p f e = subst (λ (z : ℕ). Fine (unmarkedRoute (p .a) z (f .h))) (sym e) (is-fine (p .a) (p .len) (f .h) (p .is) (f .is))
+
+module _ (ws hs : List ℕ) where
+  pub announced-three : (a len h : ℕ) (t : Bool) → t ≡ properPrefix a len → not t ≡ true
       → imageOut (meansTreeAnnounced (announced.Refused 3)) ws hs ≡ imageAnnounced ws hs a len h
   unfolding meansTreeAnnounced imageAnnounced
-  announced-three h t e q = rw (sym e ∙ not-true t q) refl
+  announced-three a len h t e q = rw (sym e ∙ not-true t q) refl
 
-  pub withdrawn-three : (t : Bool) → t ≡ properPrefix a len → not t ≡ true → imageOut (meansTreeWithdrawn (withdrawn.Refused 3)) ws hs
-      ≡ imageWithdrawn ws hs a len
+  pub withdrawn-three : (a len : ℕ) (t : Bool) → t ≡ properPrefix a len → not t ≡ true
+      → imageOut (meansTreeWithdrawn (withdrawn.Refused 3)) ws hs ≡ imageWithdrawn ws hs a len
   unfolding meansTreeWithdrawn imageWithdrawn
-  withdrawn-three t e q = rw (sym e ∙ not-true t q) refl
+  withdrawn-three a len t e q = rw (sym e ∙ not-true t q) refl
 
-  module _ (t : Bool) (et : t ≡ properPrefix a len) (qt : not t ≡ false) where
-    pub proper : properPrefix a len ≡ true
-    proper = not-failed t (properPrefix a len) et qt
+  module _ (p : Proper) where
+    pub announced-four : (h : ℕ) (u : Bool) → u ≡ hopFine h → not u ≡ true
+        → imageOut (meansTreeAnnounced (announced.Refused 4)) ws hs ≡ imageAnnounced ws hs (p .a) (p .len) h
+    unfolding meansTreeAnnounced imageAnnounced
+    announced-four h u e q = rw (p .is, sym e ∙ not-true u q) refl
 
-    pub withdrawn-broken : (n : ℕ) → n ≡ nodesIf (wellFormed ws hs) ws → n ≡ 0 → imageOut (meansTreeWithdrawn (withdrawn.Refused 13)) ws hs
-        ≡ imageWithdrawn ws hs a len
-    unfolding meansTreeWithdrawn imageWithdrawn
-    withdrawn-broken n e z = rw (proper, check-broken ws hs n e z) refl
+    module _ (n : ℕ) (e : n ≡ nodesIf (wellFormed ws hs) ws) where
+      pub withdrawn-broken : n ≡ 0 → imageOut (meansTreeWithdrawn (withdrawn.Refused 13)) ws hs ≡ imageWithdrawn ws hs (p .a) (p .len)
+      unfolding meansTreeWithdrawn imageWithdrawn
+      withdrawn-broken z = rw (p .is, check-broken ws hs n e z) refl
 
-    pub withdrawn-formed : (n : ℕ) → n ≡ nodesIf (wellFormed ws hs) ws → (n ≡ 0 → ⊥) → (l : ℕ) → l ≡ len → (o : ImageOut)
-        → o ≡ takenFrom (routesHeld ws hs) (keyOf a l) ws hs → o ≡ imageWithdrawn ws hs a len
-    unfolding imageWithdrawn
-    withdrawn-formed n e z l el o q =
-        rw (proper, check-formed ws hs n e z .0) (q ∙ ap (λ (y : ℕ). takenFrom (routesHeld ws hs) (keyOf a y) ws hs) el)
+      pub withdrawn-formed : (n ≡ 0 → ⊥) → {l : ℕ} → l ≡ p .len → {o : ImageOut} → o ≡ takenFrom (routesHeld ws hs) (keyOf (p .a) l) ws hs
+          → o ≡ imageWithdrawn ws hs (p .a) (p .len)
+      unfolding imageWithdrawn
+      withdrawn-formed z el q =
+          rw (p .is, check-formed ws hs n e z .0) (q ∙ ap (λ (y : ℕ). takenFrom (routesHeld ws hs) (keyOf (p .a) y) ws hs) el)
 
-    module _ (h : ℕ) where
-      pub announced-four : (u : Bool) → u ≡ hopFine h → not u ≡ true → imageOut (meansTreeAnnounced (announced.Refused 4)) ws hs ≡ imageAnnounced ws hs a len h
+      pub announced-broken : (f : FineHop) → n ≡ 0
+          → imageOut (meansTreeAnnounced (announced.Refused 13)) ws hs ≡ imageAnnounced ws hs (p .a) (p .len) (f .h)
       unfolding meansTreeAnnounced imageAnnounced
-      announced-four u e q = rw (proper, sym e ∙ not-true u q) refl
+      announced-broken f z = rw (p .is, f .is, check-broken ws hs n e z) refl
 
-      module _ (u : Bool) (eu : u ≡ hopFine h) (qu : not u ≡ false) where
-        pub fine-hop : hopFine h ≡ true
-        fine-hop = not-failed u (hopFine h) eu qu
-
-        pub announced-broken : (n : ℕ) → n ≡ nodesIf (wellFormed ws hs) ws → n ≡ 0
-            → imageOut (meansTreeAnnounced (announced.Refused 13)) ws hs ≡ imageAnnounced ws hs a len h
-        unfolding meansTreeAnnounced imageAnnounced
-        announced-broken n e z = rw (proper, fine-hop, check-broken ws hs n e z) refl
-
-        pub announced-formed : (n : ℕ) → n ≡ nodesIf (wellFormed ws hs) ws → (n ≡ 0 → ⊥) → (l : ℕ) → l ≡ len → (o : ImageOut)
-            → o ≡ putTo (routesHeld ws hs) (unmarkedRoute a l h) ws hs → o ≡ imageAnnounced ws hs a len h
-        unfolding imageAnnounced
-        announced-formed n e z l el o q =
-            rw (proper, fine-hop, check-formed ws hs n e z .0) (q ∙ ap (λ (y : ℕ). putTo (routesHeld ws hs) (unmarkedRoute a y h) ws hs) el)
+      pub announced-formed : (f : FineHop) → (n ≡ 0 → ⊥) → {l : ℕ} → l ≡ p .len → {o : ImageOut}
+          → o ≡ putTo (routesHeld ws hs) (unmarkedRoute (p .a) l (f .h)) ws hs → o ≡ imageAnnounced ws hs (p .a) (p .len) (f .h)
+      unfolding imageAnnounced
+      announced-formed f z el q =
+          rw (p .is, f .is, check-formed ws hs n e z .0) (q ∙ ap (λ (y : ℕ). putTo (routesHeld ws hs) (unmarkedRoute (p .a) y (f .h)) ws hs) el)

@@ -13,9 +13,9 @@ use Rattle.bits.proofs.Slots.{slot-up}
 use Rattle.routes.specs.Route.{keyOf, Prefix, Good}
 use Rattle.routes.specs.declared.Route.{Route}
 use Rattle.standing.specs.Standing.{stands, remove}
-use Rattle.tree.specs.Parts.{zeroPadded}
-use Rattle.tree.specs.Image.{node, bitHop, hops, imageBy, nodeStands, hopFor}
-use Rattle.tree.proofs.Lies.{inner-len}
+use Rattle.tree_image.specs.Parts.{zeroPadded}
+use Rattle.tree_image.specs.Image.{node, bitHop, hops, imageBy, nodeStands, hopFor}
+use Rattle.tree_image.proofs.Lies.{inner-len}
 use Rattle.tree_same.specs.Read.{reached, pathOf, bitFor, hopPlaceAt}
 use Rattle.tree_same.specs.Order.{standsAt}
 use Rattle.tree_same.specs.Holding.{Holding}

@@ -13,21 +13,21 @@ use Rattle.routes.specs.declared.Route.{Route}
 use Rattle.standing.specs.Cells.{best}
 use Rattle.standing.specs.Standing.{stands, insert, remove}
 use Rattle.standing.proofs.Standing.{insert-good, insert-replaces}
-use Rattle.tree.specs.Image.{Image, imageOf, onPath, nodeStands, hopFor, nodeNeed}
-use Rattle.tree.specs.Walk.{treeHopSaid, treeSaid}
-use Rattle.tree.proofs.Needs.{hops-need}
-use Rattle.tree.proofs.Serves.{image-serves, told-served}
+use Rattle.tree_image.specs.Image.{Image, imageOf, onPath, nodeStands, hopFor, nodeNeed}
+use Rattle.tree_image.specs.Walk.{treeHopSaid, treeSaid}
+use Rattle.tree_image.proofs.Needs.{hops-need}
+use Rattle.tree_image.proofs.Serves.{image-serves, told-served}
 use Rattle.tree_build.specs.Built.{ImageOut, built}
 use Rattle.tree_same.specs.Holding.{Holding}
 use Rattle.tree_same.specs.Listed.{routesHeld}
 use Rattle.tree_same.proofs.Same.{fits, image-held}
 use Rattle.tree_same.proofs.Holdings.{image-holding}
-use Rattle.tree_check.specs.Buildable.{inputOf}
-use Rattle.tree_check.specs.WellFormed.{nodesUsed, wellFormed}
-use Rattle.tree_check.proofs.Meaning.{well-formed-is, is-well-formed}
-use Rattle.tree_check.proofs.Held.{held-image}
-use Rattle.tree_check.proofs.Builds.{image-formed}
-use Rattle.tree_check.proofs.Exact.{input-built, made-fits}
+use Rattle.tree_formed.specs.Buildable.{inputOf}
+use Rattle.tree_formed.specs.WellFormed.{nodesUsed, wellFormed}
+use Rattle.tree_formed.proofs.Meaning.{well-formed-is, is-well-formed}
+use Rattle.tree_formed.proofs.Held.{held-image}
+use Rattle.tree_formed.proofs.Builds.{image-formed}
+use Rattle.tree_formed.proofs.Exact.{input-built, made-fits}
 use Rattle.tree_hold.proofs.Undone.{image-sizes}
 use Rattle.tree_change.specs.Changed.{unmarkedRoute, imageAnnounced, imageWithdrawn}
 use Rattle.tree_change.specs.Cases.{ImageAsked, routesWith, routesWithout, put-in, ImageLeft, Anew}

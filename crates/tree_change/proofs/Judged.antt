@@ -10,9 +10,9 @@ use Rattle.routes.specs.Route.{Prefix}
 use Rattle.routes.specs.Said.{Said}
 use Rattle.routes.proofs.Meaning.{prefix-true, true-prefix, hop-true, true-hop}
 use Rattle.tree_build.specs.Built.{ImageOut}
-use Rattle.tree_check.specs.Cases.{Narrow}
-use Rattle.tree_check.proofs.Exact.{passes-builds, builds-passes}
-use Rattle.tree_check.proofs.Judged.{not-built, no-image}
+use Rattle.tree_formed.specs.Cases.{Narrow}
+use Rattle.tree_formed.proofs.Exact.{passes-builds, builds-passes}
+use Rattle.tree_formed.proofs.Judged.{not-built, no-image}
 use Rattle.tree_change.specs.Cases.{ImageAsked, Announcing, Withdrawing, Offered, TreeAnnounce, TreeWithdraw}
 use Rattle.tree_change.specs.Changed.{imageAnnounced, imageWithdrawn}
 use Rattle.tree_change.proofs.Cases.{case-announced, announce-cases}

@@ -9,8 +9,8 @@ use lib.ListN.{length}
 use Rattle.bits.specs.Slot.{slot}
 use Rattle.routes.specs.Route.{Good}
 use Rattle.routes.specs.declared.Route.{Route}
-use Rattle.tree.specs.Image.{Image, imageOf, nodeStands, hopFor}
-use Rattle.tree.proofs.Serves.{agree}
+use Rattle.tree_image.specs.Image.{Image, imageOf, nodeStands, hopFor}
+use Rattle.tree_image.proofs.Serves.{agree}
 use Rattle.tree_same.specs.Read.{reached}
 use Rattle.tree_same.specs.Order.{ints, standsAt}
 use Rattle.tree_same.specs.Holding.{Holding}

@@ -18,10 +18,10 @@ use Rattle.routes.specs.declared.Route.{Route}
 use Rattle.routes.proofs.Goods.{good-fine, key-parts}
 use Rattle.standing.specs.Standing.{stands, insert, remove}
 use Rattle.standing.proofs.Standing.{remove-good}
-use Rattle.tree.specs.Image.{nodes, hops, imageBy, through, nodeStands, hopFor, nodeNeed}
-use Rattle.tree.specs.Parts.{zeroPadded}
-use Rattle.tree.proofs.Holds.{pad-at}
-use Rattle.tree.proofs.Lies.{any-mem, pass-make}
+use Rattle.tree_image.specs.Image.{nodes, hops, imageBy, through, nodeStands, hopFor, nodeNeed}
+use Rattle.tree_image.specs.Parts.{zeroPadded}
+use Rattle.tree_image.proofs.Holds.{pad-at}
+use Rattle.tree_image.proofs.Lies.{any-mem, pass-make}
 use Rattle.tree_same.specs.Order.{ints, standsAt}
 use Rattle.tree_same.specs.Holding.{Holding}
 use Rattle.tree_same.specs.Listed.{routesHeld}

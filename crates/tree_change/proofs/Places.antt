@@ -16,9 +16,9 @@ use Rattle.bits.proofs.Bools.{equal?, untrue}
 use Rattle.routes.specs.Route.{keyOf, Prefix}
 use Rattle.routes.specs.declared.Route.{Route}
 use Rattle.standing.specs.Standing.{stands}
-use Rattle.tree.specs.Node.{bitsOf, isSet}
-use Rattle.tree.specs.Image.{node, innerLen, bitHop, nodeStands, hopFor}
-use Rattle.tree.proofs.Lies.{inner-len}
+use Rattle.tree_image.specs.Node.{bitsOf, isSet}
+use Rattle.tree_image.specs.Image.{node, innerLen, bitHop, nodeStands, hopFor}
+use Rattle.tree_image.proofs.Lies.{inner-len}
 use Rattle.tree_build.specs.NodeRuns.{nodeBit}
 use Rattle.tree_same.specs.Read.{reached}
 use Rattle.tree_same.specs.Order.{standsAt}

@@ -15,15 +15,15 @@ use Rattle.bits.proofs.Bools.{decided, and-split, both, untrue}
 use Rattle.routes.specs.Route.{keyOf}
 use Rattle.routes.specs.declared.Route.{Route}
 use Rattle.standing.specs.Standing.{remove}
-use Rattle.tree.specs.Node.{bitsOf, childOf, isSet, childAt}
-use Rattle.tree.specs.Image.{node, word, nodeStands, hopFor}
+use Rattle.tree_image.specs.Node.{bitsOf, childOf, isSet, childAt}
+use Rattle.tree_image.specs.Image.{node, word, nodeStands, hopFor}
 use Rattle.tree_same.specs.Read.{reached, leads, hopPlaceAt}
 use Rattle.tree_same.specs.Order.{ints, Order, standsAt}
 use Rattle.tree_same.specs.Holding.{Holding}
 use Rattle.tree_same.specs.Listed.{routesHeld}
 use Rattle.tree_same.proofs.Back.{Shaped}
 use Rattle.tree_same.proofs.Same.{fits}
-use Rattle.tree_check.proofs.Builds.{word-some}
+use Rattle.tree_formed.proofs.Builds.{word-some}
 use Rattle.tree_hold.specs.More.{also, downTo}
 use Rattle.tree_hold.specs.Edits.{Grafted, Prunable, HopPut, Takable}
 use Rattle.tree_hold.proofs.Holds.{bits-fit, holding-same}

@@ -14,7 +14,7 @@ use Rattle.routes.specs.Route.{Fine}
 use Rattle.routes.specs.declared.Route.{Route}
 use Rattle.standing.specs.Standing.{insert}
 use Rattle.standing.proofs.Standing.{insert-good}
-use Rattle.tree.specs.Image.{node, bitHop, inner, nodeStands, hopFor}
+use Rattle.tree_image.specs.Image.{node, bitHop, inner, nodeStands, hopFor}
 use Rattle.tree_same.specs.Read.{reached, hopPlaceAt}
 use Rattle.tree_same.specs.Order.{standsAt}
 use Rattle.tree_same.specs.Holding.{Holding}

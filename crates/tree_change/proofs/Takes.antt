@@ -14,14 +14,14 @@ use Rattle.routes.specs.Said.{accepts}
 use Rattle.routes.specs.declared.Route.{Route}
 use Rattle.standing.specs.Standing.{stands}
 use Rattle.standing.proofs.Standing.{remove-good, remove-length}
-use Rattle.tree.specs.Image.{nodeNeed}
+use Rattle.tree_image.specs.Image.{nodeNeed}
 use Rattle.tree_build.specs.Built.{ImageOut}
 use Rattle.tree_same.specs.Listed.{routesHeld}
-use Rattle.tree_check.specs.WellFormed.{wellFormed}
+use Rattle.tree_formed.specs.WellFormed.{wellFormed}
 use Rattle.tree_change.specs.Changed.{takenFrom, imageWithdrawn}
 use Rattle.tree_change.specs.Cases.{routesWithout, imageIn, Fitted, Withdrawing, no-prefix, no-image, no-route, taken-out}
 use Rattle.tree_change.proofs.Needs.{fewer-nodes}
-use Rattle.tree_check.proofs.Exact.{made-fits}
+use Rattle.tree_formed.proofs.Exact.{made-fits}
 use Rattle.tree_change.proofs.Cases.{its-fit}
 
 module _ (ws hs : List ℕ) (a len : ℕ) (narrow : (j : ℕ) → getD ws j 0 < 2 ^ 32) where

@@ -15,14 +15,14 @@ use Rattle.routes.specs.declared.Route.{Route}
 use Rattle.routes.proofs.Meaning.{prefix-true}
 use Rattle.standing.specs.Standing.{stands, remove}
 use Rattle.standing.proofs.Changed.{remove-absent}
-use Rattle.tree.specs.Parts.{zeroPadded}
-use Rattle.tree.specs.Image.{hops, imageBy, nodeStands, hopFor, nodeNeed}
+use Rattle.tree_image.specs.Parts.{zeroPadded}
+use Rattle.tree_image.specs.Image.{hops, imageBy, nodeStands, hopFor, nodeNeed}
 use Rattle.tree_build.specs.Built.{ImageOut}
 use Rattle.tree_same.specs.Holding.{Holding}
 use Rattle.tree_same.specs.Listed.{routesHeld}
-use Rattle.tree_check.specs.WellFormed.{nodesUsed}
-use Rattle.tree_check.proofs.Meaning.{well-formed-is}
-use Rattle.tree_check.proofs.Held.{held-holds, held-image}
+use Rattle.tree_formed.specs.WellFormed.{nodesUsed}
+use Rattle.tree_formed.proofs.Meaning.{well-formed-is}
+use Rattle.tree_formed.proofs.Held.{held-holds, held-image}
 use Rattle.tree_hold.specs.More.{downTo, withHop}
 use Rattle.tree_hold.proofs.Paths.{insert-hops, stands-hop}
 use Rattle.tree_change.specs.Changed.{unmarkedRoute, imageAnnounced, imageWithdrawn, prefixPlace}

@@ -12,15 +12,15 @@ use Rattle.bits.specs.Count.{bit}
 use Rattle.bits.specs.Slot.{slot}
 use Rattle.bits.proofs.Slots.{slot-up, slot-zero}
 use Rattle.bits.proofs.Bools.{both}
-use Rattle.tree.specs.Node.{bitsOf, childOf, isSet, childAt}
-use Rattle.tree.specs.Image.{node, inner, imageBy}
-use Rattle.tree.proofs.Nodes.{inner-bit, child-bit}
+use Rattle.tree_image.specs.Node.{bitsOf, childOf, isSet, childAt}
+use Rattle.tree_image.specs.Image.{node, inner, imageBy}
+use Rattle.tree_image.proofs.Nodes.{inner-bit, child-bit}
 use Rattle.tree_same.specs.Read.{reached, leads}
 use Rattle.tree_same.specs.Order.{Order, standsAt}
 use Rattle.tree_same.specs.Holding.{Holding}
 use Rattle.tree_same.proofs.Back.{Shaped, bit-set-is, leads-is}
 use Rattle.tree_same.proofs.Holdings.{holds-image, holds-done}
-use Rattle.tree_check.proofs.Held.{fewer-exts, exts-next, exts-mono}
+use Rattle.tree_formed.proofs.Held.{fewer-exts, exts-next, exts-mono}
 use Rattle.tree_change.specs.Stages.{Descent}
 
 -- ---- step by step

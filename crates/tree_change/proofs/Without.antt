@@ -13,7 +13,7 @@ use Rattle.routes.specs.declared.Route.{Route}
 use Rattle.routes.proofs.Goods.{good-fine, key-parts}
 use Rattle.standing.specs.Standing.{Held, absent, stood, stands, routeAt, insert, remove}
 use Rattle.standing.proofs.Standing.{insert-good, insert-stands, remove-good, remove-stands, same-standing}
-use Rattle.tree.specs.Image.{nodeStands, hopFor}
+use Rattle.tree_image.specs.Image.{nodeStands, hopFor}
 use Rattle.tree_same.specs.Holding.{Holding}
 use Rattle.tree_same.proofs.Same.{at-listed}
 use Rattle.tree_hold.specs.More.{downTo, withHop}

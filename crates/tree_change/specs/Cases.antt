@@ -12,13 +12,13 @@ use Rattle.routes.specs.Said.{Said, accepted, refused}
 use Rattle.routes.specs.declared.Route.{Route}
 use Rattle.standing.specs.Served.{Served}
 use Rattle.standing.specs.Standing.{stands, insert, remove}
-use Rattle.tree.specs.Image.{nodeNeed, imageOf}
-use Rattle.tree.specs.Reads.{treeReads}
-use Rattle.tree.specs.Walk.{treeSaid}
+use Rattle.tree_image.specs.Image.{nodeNeed, imageOf}
+use Rattle.tree_image.specs.Reads.{treeReads}
+use Rattle.tree_image.specs.Walk.{treeSaid}
 use Rattle.tree_build.specs.Built.{ImageOut, imageOut, built}
 use Rattle.tree_same.specs.Listed.{routesHeld}
-use Rattle.tree_check.specs.Buildable.{inputOf, Buildable}
-use Rattle.tree_check.specs.WellFormed.{wellFormed}
+use Rattle.tree_formed.specs.Buildable.{inputOf, Buildable}
+use Rattle.tree_formed.specs.WellFormed.{wellFormed}
 use Rattle.tree_change.specs.Changed.{unmarkedRoute}
 
 -- a proper prefix, a fine hop and a well-formed image

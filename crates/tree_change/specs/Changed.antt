@@ -14,7 +14,7 @@ use Rattle.standing.specs.Standing.{stands, insert, remove}
 use Rattle.tree_build.specs.Built.{ImageOut, imageOut, madeOf}
 use Rattle.tree_same.specs.Read.{reached, hopPlaceAt, pathOf, bitFor}
 use Rattle.tree_same.specs.Listed.{routesHeld}
-use Rattle.tree_check.specs.WellFormed.{wellFormed}
+use Rattle.tree_formed.specs.WellFormed.{wellFormed}
 use Rattle.tree_change.specs.declared.TreeAnnounced.{TreeAnnounced}
 use Rattle.tree_change.specs.declared.TreeAnnounced.the-variants as announced
 use Rattle.tree_change.specs.declared.TreeWithdrawn.{TreeWithdrawn}

@@ -8,13 +8,13 @@ use Rattle.bits.specs.Slot.{slot}
 use Rattle.routes.specs.Route.{keyOf, Prefix, Fine, Good}
 use Rattle.routes.specs.declared.Route.{Route}
 use Rattle.standing.specs.Standing.{stands, insert, remove}
-use Rattle.tree.specs.Image.{nodeStands, hopFor, nodeNeed, imageOf}
-use Rattle.tree.specs.Node.{bitsOf, isSet}
+use Rattle.tree_image.specs.Image.{nodeStands, hopFor, nodeNeed, imageOf}
+use Rattle.tree_image.specs.Node.{bitsOf, isSet}
 use Rattle.tree_same.specs.Read.{reached, leads}
 use Rattle.tree_same.specs.Order.{ints, Order}
 use Rattle.tree_same.specs.Holding.{Holding}
 use Rattle.tree_same.specs.Listed.{routesHeld}
-use Rattle.tree_check.specs.WellFormed.{ordered, nodesIf}
+use Rattle.tree_formed.specs.WellFormed.{ordered, nodesIf}
 use Rattle.tree_change.specs.Changed.{unmarkedRoute}
 
 -- a well-formed image of n nodes and k hops: it holds the routes that are read out of it

@@ -6,7 +6,7 @@ ghost use mathlib.Core.Bool.{_&&_};
 ghost use Prim.Native.Nat.{_+_, _*_, _≤_, _<_};
 ghost use lib.Dec.{eqb, ltb};
 ghost use Rattle.bits.specs.Slot.{slot};
-ghost use Rattle.tree.specs.Node.{bitsOf};
+ghost use Rattle.tree_image.specs.Node.{bitsOf};
 ghost use Rattle.tree_same.specs.Read.{reached};
 ghost use Rattle.tree_change.specs.Stages.{Addable, Standing, OnPath, BecomeWith, BecomeWithout};
 

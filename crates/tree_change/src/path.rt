@@ -6,7 +6,7 @@ ghost use Prim.Native.Nat.{_+_, _*_, _/_, _%_, _≤_, _<_};
 ghost use lib.Dec.{eqb};
 ghost use lib.ListN.{length};
 ghost use Rattle.bits.specs.Slot.{slot};
-ghost use Rattle.tree.specs.Node.{bitsOf, isSet};
+ghost use Rattle.tree_image.specs.Node.{bitsOf, isSet};
 ghost use Rattle.tree_same.specs.Order.{Order};
 ghost use Rattle.tree_change.specs.Stages.{Descent, BitOf};
 

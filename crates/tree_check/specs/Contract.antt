@@ -3,8 +3,8 @@
 use mathlib.Core.List.{List}
 use mathlib.Core.Path.{_≡_}
 use Prim.Native.Nat.{ℕ}
-use Rattle.tree_check.specs.Answers.{meansTested, tested}
-use Rattle.tree_check.specs.declared.Tested.{Tested}
+use Rattle.tree_formed.specs.Answers.{meansTested, tested}
+use Rattle.tree_formed.specs.declared.Tested.{Tested}
 
 abbrev pub MeetsTreeTest : List ℕ → List ℕ → Tested → Type 0
 MeetsTreeTest words hops r = meansTested r ≡ tested words hops

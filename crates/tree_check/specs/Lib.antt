@@ -1,8 +1,2 @@
 -- When an image is well formed, what its test says, and what that is to mean.
-pub mod WellFormed
-pub mod Stretches
-pub mod Answers
 pub mod Contract
-pub mod Buildable
-pub mod Cases
-pub mod Visits

@@ -1,15 +1,15 @@
 // The test of an image: its bases in one pass, then its nodes from the root down, its hops, and zeros after the last used. Once the bases are
 // those of the fixed order no two child arrays share a node, so the way down meets each node once, whatever the arrays hold.
-pub mod bases;
 
-use crate::bases::after_children;
-use crate::bases::differ;
-use crate::bases::first_child;
-use crate::bases::shape;
 use bits::widen::word_to_index;
 use buffers::zeros::zeros16;
 use buffers::zeros::zeros32;
+use tree_bases::after_children;
+use tree_bases::differ;
+use tree_bases::first_child;
+use tree_bases::shape;
 use tree_build::fill;
+use tree_formed::Tested;
 ghost use mathlib.Core.Bool.{true};
 ghost use mathlib.Core.Path.{_≡_};
 ghost use Prim.Native.Nat.{_+_, _*_, _≤_, _<_};
@@ -17,14 +17,8 @@ ghost use lib.ListN.{length};
 ghost use Rattle.routes.specs.Input.{hopFine};
 ghost use Rattle.tree_same.specs.Order.{ints};
 ghost use Rattle.tree_check.specs.Contract.{MeetsTreeTest};
-ghost use Rattle.tree_check.specs.WellFormed.{ordered, childrenOk, rootOk, hopsFineTo, wellFormed, nodesIf};
-ghost use Rattle.tree_check.specs.Stretches.{Flagged, StretchLent, Stretch, Rooted};
-
-// What the test answers: the nodes and the hops in use, or that the image is not well formed.
-pub enum Tested {
-    Image(u32, u32),
-    Broken,
-}
+ghost use Rattle.tree_formed.specs.WellFormed.{ordered, childrenOk, rootOk, hopsFineTo, wellFormed, nodesIf};
+ghost use Rattle.tree_formed.specs.Stretches.{Flagged, StretchLent, Stretch, Rooted};
 
 // Whether each node of a stretch at depth 8 has bit 0 alone. No early end, so that it can be done several nodes at a time.
 fn ends_ok(words: &[u32], first: usize, n: usize) -> bool

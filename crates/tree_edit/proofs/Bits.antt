@@ -11,7 +11,7 @@ use lib.Pow.{pow-pos, shr-le}
 use borrow.Author.Tests.{eq-eqb, ne-eqb, eqb-true}
 use Rattle.bits.specs.Bit.{bitAt}
 use Rattle.bits.proofs.Bools.{equal?}
-use Rattle.tree.specs.Node.{isSet}
+use Rattle.tree_image.specs.Node.{isSet}
 use Rattle.tree_build.specs.NodeRuns.{WithBit}
 use Rattle.tree_build.proofs.Marks.{with-bit}
 

@@ -1,165 +1,310 @@
 -- The steps of each edit: what a loop asks of the numbers that it raises or lowers, and what the steps together leave.
-use mathlib.Core.Path.{_≡_, _∙_, ap, ap₂, subst}
+use mathlib.Core.Path.{_≡_, refl, _∙_, ap, ap₂, subst}
 use mathlib.Core.Bool.{false}
 use mathlib.Core.List.{List}
 use Prim.Native.Nat.{ℕ, suc, _+_, _-_, _*_, _^_, _≤_, _<_}
+use native.Mathlib.Nat.{le-refl}
 use native.Mathlib.Omega.{arith}
 use lib.ListN.{length, getD, set, length-set}
 use lib.Seq.{getD-set-other}
-use Rattle.lists.specs.Edit.{drawn}
-use Rattle.lists.proofs.EditMoves.{length-drawn}
-use Rattle.tree.specs.Node.{bitsOf, childOf, isSet, childAt}
+use Rattle.buffers.specs.Moves.{movedUp, movedDown, Movable}
+use Rattle.buffers.proofs.Draws.{length-drawn}
+use Rattle.tree_image.specs.Node.{bitsOf, childOf, isSet, childAt}
 use Rattle.tree_build.specs.NodeRuns.{WithBit}
 use Rattle.tree_build.specs.Queue.{put3}
 use Rattle.tree_build.proofs.Stores.{put3-length}
 use Rattle.tree_same.specs.Read.{hopPlaceAt}
-use Rattle.tree_check.proofs.Held.{fewer-ints, ints-next, ints-mono}
+use Rattle.tree_formed.proofs.Held.{fewer-ints, ints-next, ints-mono}
 use Rattle.tree_hold.specs.Moves.{each}
 use Rattle.tree_hold.specs.Edits.{Grafted, Prunable, HopPut, HopTaken, Takable}
-use Rattle.tree_hold.proofs.Each.{each-length, each-out, each-more}
+use Rattle.tree_hold.proofs.Each.{each-length, each-out, each-none, each-more}
 use Rattle.tree_hold.proofs.GraftMade.{graft-inside, graft-few, graft-done}
 use Rattle.tree_hold.proofs.PruneMade.{prune-inside, prune-done}
 use Rattle.tree_hold.proofs.HopMade.{put-inside, put-done}
 use Rattle.tree_hold.proofs.TakeMade.{take-inside, take-done}
-use Rattle.tree_edit.specs.Small.{Raisable, Lowerable, GraftReady, PutReady}
+use Rattle.tree_edit.specs.Small.{Stretch, Raisable, Lowerable, GraftReady, PutReady}
 
--- ---- the loops
+-- ---- the loops: word d of the nodes from a up to i is changed
 
-module _ (f : ℕ → ℕ) (ws₀ ws : List ℕ) (d a i : ℕ) (word : d < 3) (e : ws ≡ each f ws₀ d a i) where
+pub record Changing (f : ℕ → ℕ) (ws₀ : List ℕ) (d a b : ℕ) (ws : List ℕ) (i : ℕ) : Type 0 where
+  pub stretch : Stretch ws₀ d a b
+  pub begun : a ≤ i
+  pub within : i ≤ b
+  pub size : length ws ≡ length ws₀
+  pub is : ws ≡ each f ws₀ d a i
+
+pub changing-none : {f : ℕ → ℕ} {ws : List ℕ} {d a b : ℕ} → Stretch ws d a b → Changing f ws d a b ws a
+changing-none {f} {ws} {d} {a} s = record { stretch = s; begun = le-refl a; within = s .order; size = refl; is = each-none f ws d a }
+
+module _ {f : ℕ → ℕ} {ws₀ : List ℕ} {d a b : ℕ} {ws : List ℕ} {i : ℕ} (c : Changing f ws₀ d a b ws i) where
   -- the word that is read is still what it was
   pub still : getD ws (3 * i + d) 0 ≡ getD ws₀ (3 * i + d) 0
-  still = ap (λ (v : List ℕ). getD v (3 * i + d) 0) e ∙ each-out f ws₀ d a i (3 * i + d) (λ q u v. omega arith)
+  still = let word = c .stretch .word in
+      ap (λ (v : List ℕ). getD v (3 * i + d) 0) (c .is) ∙ each-out f ws₀ d a i (3 * i + d) (λ q u v. omega arith)
 
-  pub next-each : a ≤ i → set ws (3 * i + d) (f (getD ws (3 * i + d) 0)) ≡ each f ws₀ d a (i + 1)
-  next-each l =
-      ap (λ (z : ℕ). set ws (3 * i + d) (f z)) still ∙ ap (λ (v : List ℕ). set v (3 * i + d) (f (getD ws₀ (3 * i + d) 0))) e ∙ each-more f ws₀ d a i word l
-
--- ---- a graft
-
-module _ {ws : List ℕ} {n k x c : ℕ} (r : GraftReady ws n k x c) (y n′ k′ : ℕ) (place : y ≡ childAt (bitsOf ws x) (childOf ws x) c) (w1 : List ℕ)
-    (en : n′ ≡ n) (ek : k′ ≡ k)
-    (e1 : w1 ≡ put3 ws n 0 n′ k′) where
-  w1-is : w1 ≡ put3 ws n 0 n k
-  w1-is = e1 ∙ ap₂ (λ (u v : ℕ). put3 ws n 0 u v) en ek
-
-  pub graft-open : (3 * y ≤ 3 * n) × (3 * n + 3 ≤ length w1)
-  graft-open = (omega (arith, graft-inside (r .able) y place), omega (arith, r .able .room, ap length w1-is, put3-length ws n 0 n k))
-
-  module _ (w2 : List ℕ) (e2 : w2 ≡ drawn w1 (3 * y + 3) (3 * n + 3) (λ j. j - 3)) where
-    w2-is : w2 ≡ drawn (put3 ws n 0 n k) (3 * y + 3) (3 * n + 3) (λ j. j - 3)
-    w2-is = e2 ∙ ap (λ (v : List ℕ). drawn v (3 * y + 3) (3 * n + 3) (λ j. j - 3)) w1-is
-
-    long2 : length w2 ≡ length ws
-    long2 = ap length w2-is ∙ length-drawn (put3 ws n 0 n k) (λ j. j - 3) (3 * y + 3) (3 * n + 3) ∙ put3-length ws n 0 n k
-
-    pub graft-raise : Raisable w2 1 (x + 1) (n + 1)
-    graft-raise = record {
-      word = omega arith;
-      order = omega (arith, r .able .parent);
-      room = omega (arith, long2, r .able .room);
-      fits = λ i l u. omega (arith, ap (λ (v : List ℕ). childOf v i) w2-is, graft-few (r .able) y place i (omega arith), r .few);
-    }
-
-    module _ (w3 : List ℕ) (e3 : w3 ≡ each (λ z. z + 1) w2 1 (x + 1) (n + 1)) where
-      w3-is : w3 ≡ each (λ z. z + 1) (drawn (put3 ws n 0 n k) (3 * y + 3) (3 * n + 3) (λ j. j - 3)) 1 (x + 1) (n + 1)
-      w3-is = e3 ∙ ap (λ (v : List ℕ). each (λ z. z + 1) v 1 (x + 1) (n + 1)) w2-is
-
-      pub graft-size : length w3 ≡ length ws
-      graft-size = ap length e3 ∙ each-length (λ z. z + 1) w2 1 (x + 1) (n + 1) ∙ long2
-
-      pub graft-stores : (3 * y < length w3) × (3 * x < length w3)
-      graft-stores = (omega (arith, graft-size, graft-inside (r .able) y place, r .able .room), omega (arith, graft-size, r .able .parent, r .able .room))
-
-      pub graft-leaves : (v : ℕ) → WithBit (bitsOf ws x) (16 + c) v → Grafted ws (set (set w3 (3 * y) 0) (3 * x) v) n x c y
-      graft-leaves v bit = rw w3-is (graft-done (r .able) y place v bit)
-
--- ---- its reverse
-
-module _ {ws : List ℕ} {n k x c : ℕ} (r : Prunable ws n k x c) (y v : ℕ) (place : y ≡ childAt (bitsOf ws x) (childOf ws x) c)
-    (bit : WithBit v (16 + c) (bitsOf ws x))
-    (free : isSet v (16 + c) ≡ false) (fits : v < 2 ^ 32) where
-  pub prune-lower : Lowerable (set ws (3 * x) v) 1 (x + 1) (n + 1)
-  prune-lower = record {
-    word = omega arith;
-    order = omega (arith, r .parent);
-    room = omega (arith, length-set ws (3 * x) v, r .words .order .lent);
-    some = λ i l u. omega (arith, getD-set-other ws (3 * x) (3 * i + 1) v 0 (λ (e : 3 * i + 1 ≡ 3 * x). omega arith), r .words .order .child i u);
+  pub changing-more : i < b → Changing f ws₀ d a b (set ws (3 * i + d) (f (getD ws (3 * i + d) 0))) (i + 1)
+  changing-more t = record {
+    stretch = c .stretch;
+    begun = let l = c .begun in omega arith;
+    within = omega arith;
+    size = length-set ws _ _ ∙ c .size;
+    is = ap (λ (z : ℕ). set ws (3 * i + d) (f z)) still ∙ ap (λ (v : List ℕ). set v (3 * i + d) (f (getD ws₀ (3 * i + d) 0))) (c .is)
+        ∙ each-more f ws₀ d a i (c .stretch .word) (c .begun);
   }
 
-  module _ (w2 : List ℕ) (e2 : w2 ≡ each (λ z. z - 1) (set ws (3 * x) v) 1 (x + 1) (n + 1)) where
-    long2′ : length w2 ≡ length ws
-    long2′ = ap length e2 ∙ each-length (λ z. z - 1) (set ws (3 * x) v) 1 (x + 1) (n + 1) ∙ length-set ws (3 * x) v
+  pub changing-all : b ≤ i → ws ≡ each f ws₀ d a b
+  changing-all t = let q : i ≡ b = omega (arith, c .within) in c .is ∙ rw q
 
-    pub prune-close : (3 * y ≤ 3 * n) × (3 * n + 3 ≤ length w2)
-    prune-close = (omega (arith, prune-inside r y place), omega (arith, long2′, r .words .order .lent))
+-- ---- what is known after a step of an edit: what the edit found, and the list that its steps so far leave
 
-    module _ (w3 : List ℕ) (e3 : w3 ≡ drawn w2 (3 * y) (3 * n) (λ j. j + 3)) where
-      pub prune-put : 3 * n + 3 ≤ length w3
-      prune-put = omega (arith, ap length e3, length-drawn w2 (λ j. j + 3) (3 * y) (3 * n), long2′, r .words .order .lent)
+pub record After (A : Type 0) (f : A → List ℕ) : Type 0 where
+  pub found : A
+  pub list : List ℕ
+  pub is : list ≡ f found
 
-      pub prune-size : (w4 : List ℕ) → w4 ≡ put3 w3 n 0 0 0 → length w4 ≡ length ws
-      prune-size w4 e4 = ap length e4 ∙ put3-length w3 n 0 0 0 ∙ ap length e3 ∙ length-drawn w2 (λ j. j + 3) (3 * y) (3 * n) ∙ long2′
+abbrev pub first : {A : Type 0} {f : A → List ℕ} (a : A) {l : List ℕ} → l ≡ f a → After A f
+first a {l} e = record { found = a; list = l; is = e }
 
-      pub prune-leaves : (w4 : List ℕ) → w4 ≡ put3 w3 n 0 0 0 → Grafted w4 ws n x c (childAt (bitsOf ws x) (childOf ws x) c)
-      prune-leaves w4 e4 =
-          let q : w4 ≡ put3 (drawn (each (λ z. z - 1) (set ws (3 * x) v) 1 (x + 1) (n + 1)) (3 * y) (3 * n) (λ j. j + 3)) n 0 0 0 =
-          e4 ∙ ap (λ (u : List ℕ). put3 u n 0 0 0) (e3 ∙ ap (λ (u : List ℕ). drawn u (3 * y) (3 * n) (λ j. j + 3)) e2) in
-          subst (λ (z : ℕ). Grafted w4 ws n x c z) place (rw q (prune-done r y place v bit free fits))
+-- one step more
+abbrev pub next : {A : Type 0} {f : A → List ℕ} (g : A → List ℕ → List ℕ) (s : After A f) {l : List ℕ} → l ≡ g (s .found) (s .list) → After A
+    (λ a. g a (f a))
+next g s {l} e = record { found = s .found; list = l; is = e ∙ ap (g (s .found)) (s .is) }
 
--- ---- a hop put
+-- ---- a graft: the empty node is put after the last one, a gap opened at its place and the child bases raised
 
-module _ {ws hs : List ℕ} {n k x b : ℕ} (r : PutReady ws hs n k x b) (y : ℕ) (place : y ≡ hopPlaceAt ws x b) where
-  pub put-open : (y ≤ k) × (k + 1 ≤ length hs)
-  put-open = (put-inside (r .able) y place, r .able .room)
+pub record Grafting : Type 0 where
+  pub ws : List ℕ
+  pub n : ℕ
+  pub k : ℕ
+  pub x : ℕ
+  pub c : ℕ
+  pub y : ℕ
+  pub ready : GraftReady ws n k x c
+  pub place : y ≡ childAt (bitsOf ws x) (childOf ws x) c
 
-  pub put-raise : Raisable ws 2 (x + 1) n
-  put-raise = record {
-    word = omega arith;
-    order = omega (arith, r .able .parent);
-    room = omega (arith, r .able .words .order .lent);
-    fits = λ i l u. omega (arith, r .able .words .order .base i u, ints-mono ws i n (omega arith), r .able .words .hops, r .few);
-  }
+abbrev pub grafting : {ws : List ℕ} {n k x c y : ℕ} → GraftReady ws n k x c → y ≡ childAt (bitsOf ws x) (childOf ws x) c → Grafting
+grafting {ws} {n} {k} {x} {c} {y} r e = record { ws = ws; n = n; k = k; x = x; c = c; y = y; ready = r; place = e }
 
-  module _ (h1 : List ℕ) (eh : h1 ≡ drawn hs (y + 1) (k + 1) (λ j. j - 1)) where
-    pub put-store : y < length h1
-    put-store = omega (arith, ap length eh, length-drawn hs (λ j. j - 1) (y + 1) (k + 1), put-open .0, r .able .room)
+abbrev pub withLast : Grafting → List ℕ
+withLast g = put3 (g .ws) (g .n) 0 (g .n) (g .k)
 
-    pub put-leaves : (w1 : List ℕ) → w1 ≡ each (λ z. z + 1) ws 2 (x + 1) n → (v h : ℕ) → WithBit (bitsOf ws x) b v
-        → HopPut ws (set w1 (3 * x) v) hs (set h1 y h) n x b (hopPlaceAt ws x b) h
-    put-leaves w1 ew v h bit =
-        rw (ew, eh)
-        (subst (λ (z : ℕ). HopPut ws (set (each (λ z. z + 1) ws 2 (x + 1) n) (3 * x) v) hs (set (drawn hs (y + 1) (k + 1) (λ j. j - 1)) y h) n x b z h) place
-        (put-done (r .able) y place v h bit))
+abbrev pub opening : Grafting → List ℕ → List ℕ
+opening g w = movedUp w (3 * g .y) (3 * g .n) 3
 
--- ---- and taken away
+abbrev pub raising : Grafting → List ℕ → List ℕ
+raising g w = each (λ z. z + 1) w 1 (g .x + 1) (g .n + 1)
 
-module _ {ws hs : List ℕ} {n k x b : ℕ} (r : Takable ws hs n k x b) (y v : ℕ) (place : y ≡ hopPlaceAt ws x b) (bit : WithBit v b (bitsOf ws x))
-    (free : isSet v b ≡ false) (fits : v < 2 ^ 32) where
-  pub take-lower : Lowerable (set ws (3 * x) v) 2 (x + 1) n
-  take-lower = record {
-    word = omega arith;
-    order = omega (arith, r .parent);
-    room = omega (arith, length-set ws (3 * x) v, r .words .order .lent);
-    some = λ i l u.
-        omega (
-          arith,
-          getD-set-other ws (3 * x) (3 * i + 2) v 0 (λ (e : 3 * i + 2 ≡ 3 * x). omega arith),
-          r .words .order .base i u,
-          ints-mono ws (suc x) i (omega arith),
-          ints-next ws x,
-          fewer-ints (bitsOf ws x) b (r .small) (r .stands),
-        );
-  }
+pub last-put : (g : Grafting) {w : List ℕ} {n′ k′ : ℕ} → n′ ≡ g .n → k′ ≡ g .k → w ≡ put3 (g .ws) (g .n) 0 n′ k′ → w ≡ withLast g
+last-put g en ek e = e ∙ ap₂ (λ (u v : ℕ). put3 (g .ws) (g .n) 0 u v) en ek
 
-  pub take-close : (y ≤ k) × (k + 1 ≤ length hs)
-  take-close = (take-inside r y place, r .room)
+module _ (s : After Grafting withLast) where
+  pub graft-open : Movable (3 * s .found .y) (3 * s .found .n) 3 (length (s .list))
+  graft-open =
+      let g = s .found in
+      record {
+        rises = omega (arith, graft-inside (g .ready .able) (g .y) (g .place));
+        room = omega (arith, g .ready .able .room, ap length (s .is), put3-length (g .ws) (g .n) 0 (g .n) (g .k));
+      }
 
-  module _ (w2 h1 : List ℕ) (ew : w2 ≡ each (λ z. z - 1) (set ws (3 * x) v) 2 (x + 1) n) (eh : h1 ≡ drawn hs y k (λ j. j + 1)) where
-    pub take-size : length w2 ≡ length ws
-    take-size = ap length ew ∙ each-length (λ z. z - 1) (set ws (3 * x) v) 2 (x + 1) n ∙ length-set ws (3 * x) v
+module _ (s : After Grafting (λ g. opening g (withLast g))) where
+  long2 : length (s .list) ≡ length (s .found .ws)
+  long2 =
+      let g = s .found in ap length (s .is) ∙ length-drawn (withLast g) (λ j. j - 3) (3 * g .y + 3) (3 * g .n + 3) ∙ put3-length (g .ws) (g .n) 0 (g .n) (g .k)
 
-    pub take-leaves : HopTaken ws w2 hs (set h1 k 0) n x b
-    take-leaves =
-        rw (ew, eh)
-        (subst (λ (z : ℕ). HopPut (each (λ z. z - 1) (set ws (3 * x) v) 2 (x + 1) n) ws (set (drawn hs y k (λ j. j + 1)) k 0) hs n x b z (getD hs z 0)) place
-        (take-done r y place v bit free fits))
+  pub graft-raise : Raisable (s .list) 1 (s .found .x + 1) (s .found .n + 1)
+  graft-raise =
+      let g = s .found in
+      let r = g .ready in
+      record {
+        stretch = record { word = omega arith; order = omega (arith, r .able .parent); room = omega (arith, long2, r .able .room) };
+        fits = λ i l u. omega (arith, ap (λ (v : List ℕ). childOf v i) (s .is), graft-few (r .able) (g .y) (g .place) i (omega arith), r .few);
+      }
+
+module _ (s : After Grafting (λ g. raising g (opening g (withLast g)))) where
+  pub graft-size : length (s .list) ≡ length (s .found .ws)
+  graft-size =
+      let g = s .found in
+      ap length (s .is) ∙ each-length (λ z. z + 1) (opening g (withLast g)) 1 (g .x + 1) (g .n + 1) ∙ long2 (first g refl)
+
+  pub graft-stores : (3 * s .found .y < length (s .list)) × (3 * s .found .x < length (s .list))
+  graft-stores =
+      let g = s .found in
+      let able = g .ready .able in
+      (omega (arith, graft-size, graft-inside able (g .y) (g .place), able .room), omega (arith, graft-size, able .parent, able .room))
+
+  pub graft-leaves : (v : ℕ) → WithBit (bitsOf (s .found .ws) (s .found .x)) (16 + s .found .c) v
+      → Grafted (s .found .ws) (set (set (s .list) (3 * s .found .y) 0) (3 * s .found .x) v) (s .found .n) (s .found .x) (s .found .c) (s .found .y)
+  graft-leaves v bit = let g = s .found in rw (s .is) (graft-done (g .ready .able) (g .y) (g .place) v bit)
+
+-- ---- its reverse: the bit is cleared, the child bases lowered, the gap closed and the last node made blank
+
+-- v is the word w without the bit b
+abbrev Without : ℕ → ℕ → ℕ → Type 0
+Without v b w = WithBit v b w × (isSet v b ≡ false) × (v < 2 ^ 32)
+
+-- the bases after node x can be lowered, also once the bits of x are changed
+lowerable-set : (ws : List ℕ) (x v d b : ℕ) → 0 < d → d < 3 → x < b → 3 * b ≤ length ws → ((i : ℕ) → x < i → i < b → 1 ≤ getD ws (3 * i + d) 0)
+    → Lowerable (set ws (3 * x) v) d (x + 1) b
+lowerable-set ws x v d b z l u r some = record {
+  stretch = record { word = l; order = omega arith; room = omega (arith, length-set ws (3 * x) v) };
+  some = λ i p q.
+      omega (arith, getD-set-other ws (3 * x) (3 * i + d) v 0 (λ (e : 3 * i + d ≡ 3 * x). omega arith), some i (omega arith) q);
+}
+
+pub record Pruning : Type 0 where
+  pub ws : List ℕ
+  pub n : ℕ
+  pub k : ℕ
+  pub x : ℕ
+  pub c : ℕ
+  pub y : ℕ
+  pub v : ℕ
+  pub able : Prunable ws n k x c
+  pub place : y ≡ childAt (bitsOf ws x) (childOf ws x) c
+  pub bit : Without v (16 + c) (bitsOf ws x)
+
+abbrev pub pruning : {ws : List ℕ} {n k x c y v : ℕ} → Prunable ws n k x c → y ≡ childAt (bitsOf ws x) (childOf ws x) c
+    → Without v (16 + c) (bitsOf ws x) → Pruning
+pruning {ws} {n} {k} {x} {c} {y} {v} r e b = record { ws = ws; n = n; k = k; x = x; c = c; y = y; v = v; able = r; place = e; bit = b }
+
+abbrev pub cleared : Pruning → List ℕ
+cleared p = set (p .ws) (3 * p .x) (p .v)
+
+abbrev pub lowering : Pruning → List ℕ → List ℕ
+lowering p w = each (λ z. z - 1) w 1 (p .x + 1) (p .n + 1)
+
+abbrev pub closing : Pruning → List ℕ → List ℕ
+closing p w = movedDown w (3 * p .y) (3 * p .n) 3
+
+abbrev pub blanking : Pruning → List ℕ → List ℕ
+blanking p w = put3 w (p .n) 0 0 0
+
+pub prune-lower : (p : Pruning) → Lowerable (cleared p) 1 (p .x + 1) (p .n + 1)
+prune-lower p =
+    let r = p .able in
+    lowerable-set (p .ws) (p .x) (p .v) 1 (p .n + 1) (omega arith) (omega arith) (r .parent) (omega (arith, r .words .order .lent))
+    (λ i l u. omega (arith, r .words .order .child i u))
+
+module _ (s : After Pruning (λ p. lowering p (cleared p))) where
+  long-lowered : length (s .list) ≡ length (s .found .ws)
+  long-lowered =
+      let p = s .found in
+      ap length (s .is) ∙ each-length (λ z. z - 1) (cleared p) 1 (p .x + 1) (p .n + 1) ∙ length-set (p .ws) (3 * p .x) (p .v)
+
+  pub prune-close : Movable (3 * s .found .y) (3 * s .found .n) 3 (length (s .list))
+  prune-close =
+      let p = s .found in
+      record { rises = omega (arith, prune-inside (p .able) (p .y) (p .place)); room = omega (arith, long-lowered, p .able .words .order .lent) }
+
+module _ (s : After Pruning (λ p. closing p (lowering p (cleared p)))) where
+  long-closed : length (s .list) ≡ length (s .found .ws)
+  long-closed =
+      let p = s .found in
+      ap length (s .is) ∙ length-drawn (lowering p (cleared p)) (λ j. j + 3) (3 * p .y) (3 * p .n) ∙ long-lowered (first p refl)
+
+  pub prune-put : 3 * s .found .n + 3 ≤ length (s .list)
+  prune-put = omega (arith, long-closed, s .found .able .words .order .lent)
+
+module _ (s : After Pruning (λ p. blanking p (closing p (lowering p (cleared p))))) where
+  pub prune-size : length (s .list) ≡ length (s .found .ws)
+  prune-size = let p = s .found in ap length (s .is) ∙ put3-length (closing p (lowering p (cleared p))) (p .n) 0 0 0 ∙ long-closed (first p refl)
+
+  pub prune-leaves : Grafted (s .list) (s .found .ws) (s .found .n) (s .found .x) (s .found .c)
+      (childAt (bitsOf (s .found .ws) (s .found .x)) (childOf (s .found .ws) (s .found .x)) (s .found .c))
+  prune-leaves =
+      let p = s .found in
+      subst (λ (z : ℕ). Grafted (s .list) (p .ws) (p .n) (p .x) (p .c) z) (p .place)
+      (rw (s .is) (prune-done (p .able) (p .y) (p .place) (p .v) (p .bit .0) (p .bit .1) (p .bit .2)))
+
+-- ---- a hop put: a gap is opened at its place, and the hop bases raised
+
+pub record Putting : Type 0 where
+  pub ws : List ℕ
+  pub hs : List ℕ
+  pub n : ℕ
+  pub k : ℕ
+  pub x : ℕ
+  pub b : ℕ
+  pub y : ℕ
+  pub ready : PutReady ws hs n k x b
+  pub place : y ≡ hopPlaceAt ws x b
+
+abbrev pub putting : {ws hs : List ℕ} {n k x b y : ℕ} → PutReady ws hs n k x b → y ≡ hopPlaceAt ws x b → Putting
+putting {ws} {hs} {n} {k} {x} {b} {y} r e = record { ws = ws; hs = hs; n = n; k = k; x = x; b = b; y = y; ready = r; place = e }
+
+abbrev pub hopsOpened : Putting → List ℕ
+hopsOpened p = movedUp (p .hs) (p .y) (p .k) 1
+
+pub put-open : (p : Putting) → Movable (p .y) (p .k) 1 (length (p .hs))
+put-open p = record { rises = put-inside (p .ready .able) (p .y) (p .place); room = p .ready .able .room }
+
+pub put-raise : {ws hs : List ℕ} {n k x b : ℕ} → PutReady ws hs n k x b → Raisable ws 2 (x + 1) n
+put-raise {ws} {hs} {n} {k} {x} {b} r = record {
+  stretch = record { word = omega arith; order = omega (arith, r .able .parent); room = omega (arith, r .able .words .order .lent) };
+  fits = λ i l u. omega (arith, r .able .words .order .base i u, ints-mono ws i n (omega arith), r .able .words .hops, r .few);
+}
+
+module _ (s : After Putting hopsOpened) where
+  pub put-store : s .found .y < length (s .list)
+  put-store =
+      let p = s .found in
+      omega (arith, ap length (s .is), length-drawn (p .hs) (λ j. j - 1) (p .y + 1) (p .k + 1), put-open p .rises, p .ready .able .room)
+
+  pub put-leaves : {w : List ℕ} {v : ℕ} (h : ℕ) → w ≡ each (λ z. z + 1) (s .found .ws) 2 (s .found .x + 1) (s .found .n)
+      → WithBit (bitsOf (s .found .ws) (s .found .x)) (s .found .b) v
+      → HopPut (s .found .ws) (set w (3 * s .found .x) v) (s .found .hs) (set (s .list) (s .found .y) h) (s .found .n) (s .found .x) (s .found .b)
+      (hopPlaceAt (s .found .ws) (s .found .x) (s .found .b)) h
+  put-leaves {w} {v} h ew bit =
+      let p = s .found in
+      subst (λ (z : ℕ). HopPut (p .ws) (set w (3 * p .x) v) (p .hs) (set (s .list) (p .y) h) (p .n) (p .x) (p .b) z h) (p .place)
+      (rw (ew, s .is) (put-done (p .ready .able) (p .y) (p .place) v h bit))
+
+-- ---- and taken away: the bit is cleared, the hop bases lowered and the gap closed
+
+pub record Taking : Type 0 where
+  pub ws : List ℕ
+  pub hs : List ℕ
+  pub n : ℕ
+  pub k : ℕ
+  pub x : ℕ
+  pub b : ℕ
+  pub y : ℕ
+  pub v : ℕ
+  pub able : Takable ws hs n k x b
+  pub place : y ≡ hopPlaceAt ws x b
+  pub bit : Without v b (bitsOf ws x)
+
+abbrev pub taking : {ws hs : List ℕ} {n k x b y v : ℕ} → Takable ws hs n k x b → y ≡ hopPlaceAt ws x b → Without v b (bitsOf ws x) → Taking
+taking {ws} {hs} {n} {k} {x} {b} {y} {v} r e u = record { ws = ws; hs = hs; n = n; k = k; x = x; b = b; y = y; v = v; able = r; place = e; bit = u }
+
+abbrev pub basesLowered : Taking → List ℕ
+basesLowered t = each (λ z. z - 1) (set (t .ws) (3 * t .x) (t .v)) 2 (t .x + 1) (t .n)
+
+pub take-lower : (t : Taking) → Lowerable (set (t .ws) (3 * t .x) (t .v)) 2 (t .x + 1) (t .n)
+take-lower t =
+    let r = t .able in
+    lowerable-set (t .ws) (t .x) (t .v) 2 (t .n) (omega arith) (omega arith) (r .parent) (omega (arith, r .words .order .lent))
+    (λ i l u.
+    omega (
+      arith,
+      r .words .order .base i u,
+      ints-mono (t .ws) (suc (t .x)) i (omega arith),
+      ints-next (t .ws) (t .x),
+      fewer-ints (bitsOf (t .ws) (t .x)) (t .b) (r .small) (r .stands),
+    ))
+
+pub take-close : (t : Taking) → Movable (t .y) (t .k) 1 (length (t .hs))
+take-close t = record { rises = take-inside (t .able) (t .y) (t .place); room = t .able .room }
+
+module _ (s : After Taking basesLowered) where
+  pub take-size : length (s .list) ≡ length (s .found .ws)
+  take-size =
+      let t = s .found in
+      ap length (s .is) ∙ each-length (λ z. z - 1) (set (t .ws) (3 * t .x) (t .v)) 2 (t .x + 1) (t .n) ∙ length-set (t .ws) (3 * t .x) (t .v)
+
+  pub take-leaves : {h : List ℕ} → h ≡ movedDown (s .found .hs) (s .found .y) (s .found .k) 1
+      → HopTaken (s .found .ws) (s .list) (s .found .hs) (set h (s .found .k) 0) (s .found .n) (s .found .x) (s .found .b)
+  take-leaves {h} eh =
+      let t = s .found in
+      subst (λ (z : ℕ). HopPut (s .list) (t .ws) (set h (t .k) 0) (t .hs) (t .n) (t .x) (t .b) z (getD (t .hs) z 0)) (t .place)
+      (rw (s .is, eh) (take-done (t .able) (t .y) (t .place) (t .v) (t .bit .0) (t .bit .1) (t .bit .2)))

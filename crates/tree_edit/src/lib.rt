@@ -1,14 +1,15 @@
 // Edits of an image in place: a node or a hop more, or one less. Each leaves exactly the image of the routes with it or without it.
-pub mod moves;
+pub mod bases;
 
 use bits::widen::word_to_index;
+use buffers::moves;
 use tree_build::fill;
 use tree_build::run;
 ghost use mathlib.Core.Path.{_≡_};
 ghost use mathlib.Core.Bool.{true, false};
 ghost use Prim.Native.Nat.{_+_, _*_, _^_, _≤_, _<_};
 ghost use lib.ListN.{length};
-ghost use Rattle.tree.specs.Node.{bitsOf, childOf, isSet, childAt};
+ghost use Rattle.tree_image.specs.Node.{bitsOf, childOf, isSet, childAt};
 ghost use Rattle.tree_build.specs.NodeRuns.{WithBit};
 ghost use Rattle.tree_same.specs.Read.{hopPlaceAt};
 ghost use Rattle.tree_hold.specs.Edits.{Grafted, Pruned, HopPut, HopTaken, Prunable, Takable};
@@ -47,8 +48,8 @@ pub fn graft(words: &mut [u32], n: usize, k: usize, x: usize, c: u32) -> usize
     let word = words[3 * x];
     let y = child_place(words, x, c);
     fill::put_node(words, n, 0, fill::narrow(n), fill::narrow(k));
-    moves::open_words(words, 3 * y, 3 * n);
-    moves::raise(words, 1, x + 1, n + 1);
+    moves::up32(words, 3 * y, 3 * n, 3);
+    bases::raise(words, 1, x + 1, n + 1);
     words[3 * y] = 0;
     words[3 * x] = run::with_bit(word, 16 + c);
     y
@@ -62,8 +63,8 @@ pub fn prune(words: &mut [u32], n: usize, k: usize, x: usize, c: u32)
     let word = words[3 * x];
     let y = child_place(words, x, c);
     words[3 * x] = without_bit(word, 16 + c);
-    moves::lower(words, 1, x + 1, n + 1);
-    moves::close_words(words, 3 * y, 3 * n);
+    bases::lower(words, 1, x + 1, n + 1);
+    moves::down32(words, 3 * y, 3 * n, 3);
     fill::put_node(words, n, 0, 0, 0);
 }
 
@@ -74,9 +75,9 @@ pub fn put_hop(words: &mut [u32], hops: &mut [u16], n: usize, k: usize, x: usize
 {
     let word = words[3 * x];
     let y = hop_place(words, x, b);
-    moves::open_hops(hops, y, k);
+    moves::up16(hops, y, k, 1);
     hops[y] = h;
-    moves::raise(words, 2, x + 1, n);
+    bases::raise(words, 2, x + 1, n);
     words[3 * x] = run::with_bit(word, b);
 }
 
@@ -88,7 +89,7 @@ pub fn take_hop(words: &mut [u32], hops: &mut [u16], n: usize, k: usize, x: usiz
     let word = words[3 * x];
     let y = hop_place(words, x, b);
     words[3 * x] = without_bit(word, b);
-    moves::lower(words, 2, x + 1, n);
-    moves::close_hops(hops, y, k);
+    bases::lower(words, 2, x + 1, n);
+    moves::down16(hops, y, k, 1);
     hops[k] = 0;
 }

@@ -1,9 +1,9 @@
--- One word of each node of a stretch changed alike, one store at a time; and lists drawn from other places, by steps of any size.
+-- One word of each node of a stretch changed alike, one store at a time.
 use mathlib.Core.Path.{_≡_, refl, sym, _∙_, ap}
 use mathlib.Core.Logic.{_⊎_, inl, inr}
 use mathlib.Core.Bool.{Bool, true, cond, _&&_}
 use mathlib.Core.List.{List}
-use Prim.Native.Nat.{ℕ, _+_, _-_, _*_, _/_, _%_, _≤_, _<_}
+use Prim.Native.Nat.{ℕ, _+_, _*_, _/_, _%_, _≤_, _<_}
 use native.Mathlib.Omega.{arith}
 use lib.Dec.{eqb, leb, ltb}
 use lib.ListN.{length, getD, set, List·getD-eq-default}
@@ -11,8 +11,6 @@ use lib.Seq.{ext-getD}
 use borrow.Author.Tests.{eq-eqb, ne-eqb, eqb-true, le-leb, leb-true, lt-ltb, ltb-true}
 use Rattle.bits.proofs.Bools.{both, and-split, below?, equal?, untrue, same}
 use Rattle.bits.proofs.Tabs.{length-tabulate, getD-tabulate, tabulate-ext, set-tabulate}
-use Rattle.lists.specs.Edit.{drawn}
-use Rattle.lists.proofs.EditMoves.{drawn-before, drawn-after, drawn-lower, drawn-higher}
 use Rattle.tree_hold.specs.Moves.{among, each}
 
 -- nothing stands past the end of a list
@@ -74,20 +72,3 @@ module _ (f : ℕ → ℕ) (ws : List ℕ) (d a : ℕ) where
           below : (j % 3 ≡ d) × (a ≤ j / 3) × (j / 3 < i + 1) → (j / 3 < i) ⊎ (i ≤ j / 3) → j / 3 < i
           below s (inl w) = w
           below s (inr w) = let x = s .0 in let y = s .2 in absurd (n (omega arith))
-
--- a turn of a loop that moves elements up, or down, by d places: the one that is read is still what it was
-module _ (s : List ℕ) (d : ℕ) (some : 0 < d) where
-  pub up-step : (at e : ℕ) → 0 < at → at ≤ e → e + d ≤ length s
-      → set (drawn s (at + d) (e + d) (λ j. j - d)) (at - 1 + d) (getD (drawn s (at + d) (e + d) (λ j. j - d)) (at - 1) 0) ≡ drawn s (at - 1 + d)
-      (e + d) (λ j. j - d)
-  up-step at e z l h =
-      let v : getD (drawn s (at + d) (e + d) (λ j. j - d)) (at - 1) 0 ≡ getD s (at - 1 + d - d) 0 =
-      drawn-before s (λ j. j - d) (at + d) (e + d) (at - 1) (omega arith) (omega arith) ∙ ap (λ (x : ℕ). getD s x 0) (omega arith) in
-      let q : at + d ≡ at - 1 + d + 1 = omega arith in
-      ap (λ (x : ℕ). set (drawn s (at + d) (e + d) (λ j. j - d)) (at - 1 + d) x) v
-      ∙ ap (λ (b : ℕ). set (drawn s b (e + d) (λ j. j - d)) (at - 1 + d) (getD s (at - 1 + d - d) 0)) q
-      ∙ drawn-lower s (λ j. j - d) (at - 1 + d) (e + d) (omega arith) (omega arith)
-
-  pub down-step : (a at : ℕ) → a ≤ at → at + d < length s
-      → set (drawn s a at (λ j. j + d)) at (getD (drawn s a at (λ j. j + d)) (at + d) 0) ≡ drawn s a (at + 1) (λ j. j + d)
-  down-step a at l h = rw (drawn-after s (λ j. j + d) a at (at + d) h (omega arith)) (drawn-higher s (λ j. j + d) a at l (omega arith))

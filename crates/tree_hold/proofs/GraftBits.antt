@@ -16,9 +16,9 @@ use Rattle.bits.specs.Count.{count}
 use Rattle.bits.proofs.Bools.{below?, equal?}
 use Rattle.bits.proofs.Counts.{count-ext, without, without-other, without-same, count-without}
 use Rattle.bits.proofs.Packed.{rank-count, upper-count}
-use Rattle.tree.specs.Node.{bitsOf, isSet}
+use Rattle.tree_image.specs.Node.{bitsOf, isSet}
 use Rattle.tree_same.specs.Order.{exts, ints}
-use Rattle.tree_check.proofs.Held.{bit-of, exts-next, ints-next}
+use Rattle.tree_formed.proofs.Held.{bit-of, exts-next, ints-next}
 use Rattle.tree_hold.specs.Edits.{GraftedBits}
 
 ones-none : ones (0 / 2 ^ 16) ≡ 0

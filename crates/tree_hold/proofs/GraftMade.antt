@@ -12,15 +12,15 @@ use lib.Count.{ones}
 use Rattle.bits.specs.Count.{count}
 use Rattle.bits.proofs.Bools.{below?}
 use Rattle.bits.proofs.Packed.{upper-count}
-use Rattle.lists.specs.Edit.{drawn}
-use Rattle.lists.proofs.EditMoves.{length-drawn, drawn-in, drawn-before, drawn-after}
-use Rattle.tree.specs.Node.{bitsOf, childOf, baseOf, isSet, childAt}
-use Rattle.tree.proofs.Counts.{count-mono}
+use Rattle.buffers.specs.Moves.{movedUp}
+use Rattle.buffers.proofs.Draws.{length-drawn, drawn-in, drawn-before, drawn-after}
+use Rattle.tree_image.specs.Node.{bitsOf, childOf, baseOf, isSet, childAt}
+use Rattle.tree_image.proofs.Counts.{count-mono}
 use Rattle.tree_build.specs.NodeRuns.{WithBit}
 use Rattle.tree_build.specs.Queue.{put3}
 use Rattle.tree_build.proofs.Stores.{put3-length, put3-other, put3-at}
 use Rattle.tree_same.specs.Order.{exts, ints, Order}
-use Rattle.tree_check.proofs.Held.{bit-of, exts-next, exts-mono}
+use Rattle.tree_formed.proofs.Held.{bit-of, exts-next, exts-mono}
 use Rattle.tree_hold.specs.Moves.{each}
 use Rattle.tree_hold.specs.Edits.{Grafted, Graftable}
 use Rattle.tree_hold.proofs.Each.{past, each-length, each-in, each-out}
@@ -64,7 +64,7 @@ module _ {ws : List ℕ} {n k x c : ℕ} (r : Graftable ws n k x c) (y : ℕ) (p
   w1 = put3 ws n 0 n k
 
   abbrev w2 : List ℕ
-  w2 = drawn w1 (3 * y + 3) (3 * n + 3) (λ j. j - 3)
+  w2 = movedUp w1 (3 * y) (3 * n) 3
 
   abbrev w3 : List ℕ
   w3 = each (λ z. z + 1) w2 1 (x + 1) (n + 1)

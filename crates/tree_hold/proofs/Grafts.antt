@@ -16,19 +16,19 @@ use Rattle.bits.specs.Bit.{bitAt}
 use Rattle.bits.specs.Count.{bit, count}
 use Rattle.bits.proofs.Bools.{both, and-split, or-split, below?, equal?, untrue}
 use Rattle.bits.proofs.Packed.{packed-bit}
-use Rattle.tree.specs.Node.{bitsOf, childOf, baseOf, isSet, childAt}
-use Rattle.tree.specs.Image.{Node, node, innerLen, bitHop, inner, child, setBit, word}
-use Rattle.tree.specs.Done.{nodeNo}
-use Rattle.tree.proofs.Counts.{count-mono, count-less}
-use Rattle.tree.proofs.Nodes.{set-inner, set-child}
-use Rattle.tree.proofs.Lies.{inner-cases}
+use Rattle.tree_image.specs.Node.{bitsOf, childOf, baseOf, isSet, childAt}
+use Rattle.tree_image.specs.Image.{Node, node, innerLen, bitHop, inner, child, setBit, word}
+use Rattle.tree_image.specs.Done.{nodeNo}
+use Rattle.tree_image.proofs.Counts.{count-mono, count-less}
+use Rattle.tree_image.proofs.Nodes.{set-inner, set-child}
+use Rattle.tree_image.proofs.Lies.{inner-cases}
 use Rattle.tree_build.proofs.Marks.{word-bits}
 use Rattle.tree_same.specs.Read.{reached, hopPlaceAt}
 use Rattle.tree_same.specs.Order.{exts, ints, Order, standsAt}
 use Rattle.tree_same.specs.Holding.{Holding}
 use Rattle.tree_same.proofs.Back.{Shaped, bit-set-is}
 use Rattle.tree_same.proofs.Holdings.{stands-found}
-use Rattle.tree_check.proofs.Held.{fewer-exts, exts-next, exts-mono}
+use Rattle.tree_formed.proofs.Held.{fewer-exts, exts-next, exts-mono}
 use Rattle.tree_hold.specs.More.{also}
 use Rattle.tree_hold.specs.Edits.{Grafted}
 use Rattle.tree_hold.proofs.Holds.{word-fits}

@@ -7,8 +7,8 @@ use native.Mathlib.Numerals.{add-one}
 use lib.Dec.{ltb}
 use Rattle.bits.specs.Bit.{packedBits}
 use Rattle.bits.proofs.Packed.{packed-lt}
-use Rattle.tree.specs.Node.{bitsOf}
-use Rattle.tree.specs.Image.{Node, node, inner, child, setBit, word}
+use Rattle.tree_image.specs.Node.{bitsOf}
+use Rattle.tree_image.specs.Image.{Node, node, inner, child, setBit, word}
 use Rattle.tree_same.specs.Order.{ints, standsAt}
 use Rattle.tree_same.specs.Holding.{Holding}
 use Rattle.tree_same.proofs.Canonical.{canonical}

@@ -10,14 +10,14 @@ use lib.Count.{ones}
 use Rattle.bits.specs.Count.{count}
 use Rattle.bits.proofs.Bools.{below?}
 use Rattle.bits.proofs.Packed.{rank-count}
-use Rattle.lists.specs.Edit.{drawn}
-use Rattle.lists.proofs.EditMoves.{length-drawn, drawn-in, drawn-before, drawn-after}
-use Rattle.tree.specs.Node.{bitsOf, isSet}
-use Rattle.tree.proofs.Counts.{count-mono}
+use Rattle.buffers.specs.Moves.{movedUp}
+use Rattle.buffers.proofs.Draws.{length-drawn, drawn-in, drawn-before, drawn-after}
+use Rattle.tree_image.specs.Node.{bitsOf, isSet}
+use Rattle.tree_image.proofs.Counts.{count-mono}
 use Rattle.tree_build.specs.NodeRuns.{WithBit}
 use Rattle.tree_same.specs.Read.{hopPlaceAt}
 use Rattle.tree_same.specs.Order.{ints}
-use Rattle.tree_check.proofs.Held.{bit-of, ints-next, ints-mono}
+use Rattle.tree_formed.proofs.Held.{bit-of, ints-next, ints-mono}
 use Rattle.tree_hold.specs.Moves.{each}
 use Rattle.tree_hold.specs.Edits.{HopPut, Puttable}
 use Rattle.tree_hold.proofs.Each.{past, each-length, each-in, each-out}
@@ -43,7 +43,7 @@ module _ {ws hs : List ℕ} {n k x b : ℕ} (r : Puttable ws hs n k x b) (y : �
       )
 
   abbrev h1 : List ℕ
-  h1 = drawn hs (y + 1) (k + 1) (λ j. j - 1)
+  h1 = movedUp hs y k 1
 
   abbrev w1 : List ℕ
   w1 = each (λ z. z + 1) ws 2 (x + 1) n

@@ -18,8 +18,8 @@ use Rattle.routes.proofs.Goods.{good-fine, key-parts}
 use Rattle.standing.specs.Cells.{here, orElse}
 use Rattle.standing.specs.Standing.{isAt, stands, absent, stood, routeAt, insert, remove}
 use Rattle.standing.proofs.Standing.{one-prefix, insert-mem, insert-good, insert-stands, insert-but, remove-good, remove-stands, same-standing}
-use Rattle.tree.specs.Image.{through, nodeStands, hopFor, nodes, hops}
-use Rattle.tree.proofs.Lies.{any-is, any-mem, found-any, hop-of}
+use Rattle.tree_image.specs.Image.{through, nodeStands, hopFor, nodes, hops}
+use Rattle.tree_image.proofs.Lies.{any-is, any-mem, found-any, hop-of}
 use Rattle.tree_same.specs.Order.{standsAt}
 use Rattle.tree_same.proofs.Back.{Shaped}
 use Rattle.tree_same.proofs.Same.{at-listed}

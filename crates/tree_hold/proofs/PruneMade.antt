@@ -8,13 +8,13 @@ use native.Mathlib.Omega.{arith}
 use lib.ListN.{length, getD, set, length-set}
 use lib.Seq.{getD-set-same, getD-set-other}
 use Rattle.bits.proofs.Bools.{below?, equal?}
-use Rattle.lists.specs.Edit.{drawn}
-use Rattle.lists.proofs.EditMoves.{length-drawn, drawn-in, drawn-before, drawn-after}
-use Rattle.tree.specs.Node.{bitsOf, childOf, isSet, childAt}
+use Rattle.buffers.specs.Moves.{movedDown}
+use Rattle.buffers.proofs.Draws.{length-drawn, drawn-in, drawn-before, drawn-after}
+use Rattle.tree_image.specs.Node.{bitsOf, childOf, isSet, childAt}
 use Rattle.tree_build.specs.NodeRuns.{WithBit}
 use Rattle.tree_build.specs.Queue.{put3}
 use Rattle.tree_build.proofs.Stores.{put3-length, put3-other, put3-at}
-use Rattle.tree_check.proofs.Held.{fewer-exts, exts-next, exts-mono}
+use Rattle.tree_formed.proofs.Held.{fewer-exts, exts-next, exts-mono}
 use Rattle.tree_hold.specs.Moves.{each}
 use Rattle.tree_hold.specs.Edits.{GraftedBits, Grafted, Prunable}
 use Rattle.tree_hold.proofs.Each.{past, each-length, each-in, each-out}
@@ -44,7 +44,7 @@ module _ {ws′ : List ℕ} {n k x c : ℕ} (r : Prunable ws′ n k x c) (y : �
     v2 = each (λ z. z - 1) v1 1 (x + 1) (n + 1)
 
     abbrev v3 : List ℕ
-    v3 = drawn v2 (3 * y) (3 * n) (λ j. j + 3)
+    v3 = movedDown v2 (3 * y) (3 * n) 3
 
     abbrev ws : List ℕ
     ws = put3 v3 n 0 0 0

@@ -14,9 +14,9 @@ use Rattle.bits.specs.Bit.{bitAt}
 use Rattle.bits.proofs.Bools.{below?, equal?}
 use Rattle.bits.proofs.Counts.{count-ext, without, without-other, without-same, count-without}
 use Rattle.bits.proofs.Packed.{rank-count, upper-count}
-use Rattle.tree.specs.Node.{bitsOf, isSet}
+use Rattle.tree_image.specs.Node.{bitsOf, isSet}
 use Rattle.tree_same.specs.Order.{exts, ints}
-use Rattle.tree_check.proofs.Held.{bit-of, ints-next}
+use Rattle.tree_formed.proofs.Held.{bit-of, ints-next}
 use Rattle.tree_hold.specs.Edits.{MarkedBits}
 
 module _ {ws ws′ : List ℕ} {n x b : ℕ} (g : MarkedBits ws ws′ n x b) where

@@ -15,19 +15,19 @@ use Rattle.bits.specs.Bit.{bitAt}
 use Rattle.bits.specs.Count.{bit, count}
 use Rattle.bits.proofs.Bools.{and-split, below?, equal?, untrue}
 use Rattle.bits.proofs.Packed.{packed-bit, rank-count}
-use Rattle.tree.specs.Node.{bitsOf, baseOf, isSet}
-use Rattle.tree.specs.Image.{Node, node, innerLen, bitHop, inner, setBit, word}
-use Rattle.tree.specs.Done.{nodeNo}
-use Rattle.tree.proofs.Counts.{count-mono, count-less}
-use Rattle.tree.proofs.Nodes.{set-inner}
-use Rattle.tree.proofs.Lies.{inner-cases}
+use Rattle.tree_image.specs.Node.{bitsOf, baseOf, isSet}
+use Rattle.tree_image.specs.Image.{Node, node, innerLen, bitHop, inner, setBit, word}
+use Rattle.tree_image.specs.Done.{nodeNo}
+use Rattle.tree_image.proofs.Counts.{count-mono, count-less}
+use Rattle.tree_image.proofs.Nodes.{set-inner}
+use Rattle.tree_image.proofs.Lies.{inner-cases}
 use Rattle.tree_build.proofs.Marks.{word-bits}
 use Rattle.tree_same.specs.Read.{reached, hopPlaceAt}
 use Rattle.tree_same.specs.Order.{ints, Order, standsAt}
 use Rattle.tree_same.specs.Holding.{Holding}
 use Rattle.tree_same.proofs.Back.{Shaped}
 use Rattle.tree_same.proofs.Holdings.{stands-found}
-use Rattle.tree_check.proofs.Held.{bit-of, ints-next, ints-mono}
+use Rattle.tree_formed.proofs.Held.{bit-of, ints-next, ints-mono}
 use Rattle.tree_hold.specs.More.{withHop}
 use Rattle.tree_hold.specs.Edits.{HopPut}
 use Rattle.tree_hold.proofs.Holds.{word-fits}

@@ -10,7 +10,7 @@ use lib.ListN.{length, getD, set, length-set}
 use lib.Seq.{getD-set-same, getD-set-other}
 use borrow.Author.Tests.{eq-eqb, eqb-true, ltb-true}
 use Rattle.bits.proofs.Bools.{decided, below?, equal?, and-split}
-use Rattle.tree.specs.Image.{node, bitHop, inner}
+use Rattle.tree_image.specs.Image.{node, bitHop, inner}
 use Rattle.tree_same.specs.Read.{reached, hopPlaceAt}
 use Rattle.tree_same.specs.Order.{ints, standsAt}
 use Rattle.tree_same.specs.Holding.{Holding}

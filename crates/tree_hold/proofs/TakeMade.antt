@@ -8,13 +8,13 @@ use native.Mathlib.Omega.{arith}
 use lib.ListN.{length, getD, set, length-set}
 use lib.Seq.{getD-set-same, getD-set-other}
 use Rattle.bits.proofs.Bools.{below?, equal?}
-use Rattle.lists.specs.Edit.{drawn}
-use Rattle.lists.proofs.EditMoves.{length-drawn, drawn-in, drawn-before, drawn-after}
-use Rattle.tree.specs.Node.{bitsOf, baseOf, isSet}
+use Rattle.buffers.specs.Moves.{movedDown}
+use Rattle.buffers.proofs.Draws.{length-drawn, drawn-in, drawn-before, drawn-after}
+use Rattle.tree_image.specs.Node.{bitsOf, baseOf, isSet}
 use Rattle.tree_build.specs.NodeRuns.{WithBit}
 use Rattle.tree_same.specs.Read.{hopPlaceAt}
 use Rattle.tree_same.specs.Order.{ints}
-use Rattle.tree_check.proofs.Held.{fewer-ints, ints-next, ints-mono}
+use Rattle.tree_formed.proofs.Held.{fewer-ints, ints-next, ints-mono}
 use Rattle.tree_hold.specs.Moves.{each}
 use Rattle.tree_hold.specs.Edits.{MarkedBits, HopPut, Takable}
 use Rattle.tree_hold.proofs.Each.{past, each-length, each-in, each-out}
@@ -41,7 +41,7 @@ module _ {ws′ hs′ : List ℕ} {n k x b : ℕ} (r : Takable ws′ hs′ n k x
     ws = each (λ z. z - 1) v1 2 (x + 1) n
 
     abbrev g1 : List ℕ
-    g1 = drawn hs′ y k (λ j. j + 1)
+    g1 = movedDown hs′ y k 1
 
     abbrev hs : List ℕ
     hs = set g1 k 0

@@ -7,9 +7,9 @@ use native.Mathlib.Omega.{arith}
 use lib.Dec.{ltb}
 use lib.ListN.{length}
 use Rattle.bits.specs.Count.{bit}
-use Rattle.tree.specs.Node.{bitsOf}
-use Rattle.tree.specs.Image.{node, innerLen, bitHop, nodes, hops, Image, imageBy}
-use Rattle.tree.proofs.Nodes.{inner-bit}
+use Rattle.tree_image.specs.Node.{bitsOf}
+use Rattle.tree_image.specs.Image.{node, innerLen, bitHop, nodes, hops, Image, imageBy}
+use Rattle.tree_image.proofs.Nodes.{inner-bit}
 use Rattle.tree_build.proofs.Marks.{with-bit}
 use Rattle.tree_same.specs.Read.{reached, hopPlaceAt}
 use Rattle.tree_same.specs.Order.{ints, standsAt}

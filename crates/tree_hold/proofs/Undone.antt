@@ -13,11 +13,11 @@ use borrow.Author.Tests.{ne-eqb}
 use Rattle.bits.specs.Bit.{bitAt}
 use Rattle.bits.specs.Count.{bit}
 use Rattle.bits.proofs.Bools.{below?, equal?}
-use Rattle.tree.specs.Node.{bitsOf, childOf, baseOf, isSet, childAt}
-use Rattle.tree.specs.Parts.{zeroPadded}
-use Rattle.tree.specs.Image.{node, child, nodes, words, hops, Image, imageBy}
-use Rattle.tree.proofs.Nodes.{child-bit, words-length}
-use Rattle.tree.proofs.Holds.{pad-length}
+use Rattle.tree_image.specs.Node.{bitsOf, childOf, baseOf, isSet, childAt}
+use Rattle.tree_image.specs.Parts.{zeroPadded}
+use Rattle.tree_image.specs.Image.{node, child, nodes, words, hops, Image, imageBy}
+use Rattle.tree_image.proofs.Nodes.{child-bit, words-length}
+use Rattle.tree_image.proofs.Holds.{pad-length}
 use Rattle.tree_build.specs.NodeRuns.{WithBit}
 use Rattle.tree_build.proofs.Marks.{with-bit, word-bits}
 use Rattle.tree_same.specs.Read.{reached}
@@ -25,7 +25,7 @@ use Rattle.tree_same.specs.Order.{ints, standsAt}
 use Rattle.tree_same.specs.Holding.{Holding}
 use Rattle.tree_same.proofs.Back.{Shaped, bit-set-is}
 use Rattle.tree_same.proofs.Holdings.{nodes-are, hops-are, holds-image, stands-found, image-holding}
-use Rattle.tree_check.proofs.Held.{bit-of}
+use Rattle.tree_formed.proofs.Held.{bit-of}
 use Rattle.tree_hold.specs.More.{also}
 use Rattle.tree_hold.specs.Edits.{Grafted, Graftable, HopPut}
 use Rattle.tree_hold.proofs.Holds.{held-words}

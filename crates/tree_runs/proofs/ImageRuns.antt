@@ -14,14 +14,14 @@ use Rattle.routes.specs.Said.{accepted, accepts}
 use Rattle.routes.specs.declared.Route.{Route}
 use Rattle.standing.specs.Standing.{routeAt}
 use Rattle.standing.proofs.Standing.{insert-stands, remove-stands}
-use Rattle.tree.specs.Image.{Image, imageOf}
-use Rattle.tree.proofs.Marks.{image-unmarked, nodes-unmarked}
+use Rattle.tree_image.specs.Image.{Image, imageOf}
+use Rattle.tree_image.proofs.Marks.{image-unmarked, nodes-unmarked}
 use Rattle.tree_build.specs.Built.{ImageOut, imageOut, built}
 use Rattle.tree_build.proofs.Serves.{built-accepts}
 use Rattle.tree_same.specs.Listed.{routesHeld}
 use Rattle.tree_same.specs.OneImage.{Builds, SameArrays}
 use Rattle.tree_same.proofs.Plain.{plain-good}
-use Rattle.tree_check.proofs.Exact.{accepted-few}
+use Rattle.tree_formed.proofs.Exact.{accepted-few}
 use Rattle.tree_change.specs.Changed.{unmarkedRoute, imageAnnounced, imageWithdrawn}
 use Rattle.tree_change.specs.Cases.{ImageLeft}
 use Rattle.tree_change.proofs.Cases.{announce-leaves}

@@ -8,15 +8,15 @@ use lib.ListN.{length, getD}
 use Rattle.bits.proofs.Bools.{below?}
 use Rattle.routes.specs.Route.{Good}
 use Rattle.routes.specs.declared.Route.{Route}
-use Rattle.tree.specs.Node.{bitsOf, childOf, baseOf}
-use Rattle.tree.specs.Image.{nodeStands, hopFor, nodeNeed, imageOf}
-use Rattle.tree.proofs.Needs.{hops-need, nodes-most}
+use Rattle.tree_image.specs.Node.{bitsOf, childOf, baseOf}
+use Rattle.tree_image.specs.Image.{nodeStands, hopFor, nodeNeed, imageOf}
+use Rattle.tree_image.proofs.Needs.{hops-need, nodes-most}
 use Rattle.tree_build.specs.Built.{ImageOut}
 use Rattle.tree_same.specs.Order.{ints}
 use Rattle.tree_same.specs.Holding.{Holding}
 use Rattle.tree_same.proofs.Same.{fits}
 use Rattle.tree_same.proofs.Holdings.{hops-are, image-holding}
-use Rattle.tree_check.proofs.Held.{exts-mono, ints-mono}
+use Rattle.tree_formed.proofs.Held.{exts-mono, ints-mono}
 use Rattle.tree_hold.proofs.Holds.{bits-fit}
 use Rattle.tree_change.specs.Cases.{ImageLeft}
 

@@ -11,16 +11,16 @@ use Rattle.routes.specs.Route.{plain}
 use Rattle.routes.specs.declared.Route.{Route}
 use Rattle.standing.specs.Standing.{routeAt}
 use Rattle.standing.proofs.Standing.{same-standing}
-use Rattle.tree.specs.Image.{nodeNeed, imageOf}
+use Rattle.tree_image.specs.Image.{nodeNeed, imageOf}
 use Rattle.tree_build.specs.Built.{ImageOut, built}
 use Rattle.tree_same.specs.Listed.{routesHeld}
 use Rattle.tree_same.specs.OneImage.{Builds, SameArrays, SameUsed}
 use Rattle.tree_same.proofs.OneImage.{used-part-same}
-use Rattle.tree_check.specs.Buildable.{inputOf}
-use Rattle.tree_check.specs.WellFormed.{nodesUsed, wellFormed}
-use Rattle.tree_check.proofs.Meaning.{well-formed-is}
-use Rattle.tree_check.proofs.Held.{held-image}
-use Rattle.tree_check.proofs.Exact.{input-routes, input-built, made-fits}
+use Rattle.tree_formed.specs.Buildable.{inputOf}
+use Rattle.tree_formed.specs.WellFormed.{nodesUsed, wellFormed}
+use Rattle.tree_formed.proofs.Meaning.{well-formed-is}
+use Rattle.tree_formed.proofs.Held.{held-image}
+use Rattle.tree_formed.proofs.Exact.{input-routes, input-built, made-fits}
 use Rattle.tree_change.specs.Cases.{ImageLeft}
 use Rattle.tree_change.proofs.Fresh.{change-as-build}
 use Rattle.tree_runs.specs.ImageRuns.{ImageCall, imageAfter, imageStandingAfter, imageHeldByCalls}

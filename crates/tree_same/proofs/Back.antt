@@ -14,11 +14,11 @@ use borrow.Author.Tests.{ltb-false, le-leb, eqb-true, eq-eqb}
 use Rattle.bits.specs.Bit.{bitAt}
 use Rattle.bits.specs.Count.{bit}
 use Rattle.bits.proofs.Bools.{decided, both, and-split, untrue, below?}
-use Rattle.tree.specs.Node.{bitsOf, isSet}
-use Rattle.tree.specs.Parts.{zeroPadded}
-use Rattle.tree.specs.Image.{Node, node, bitHop, child, nodes, words, hops}
-use Rattle.tree.proofs.Nodes.{up-next, inner-bit, child-bit}
-use Rattle.tree.proofs.Holds.{Agree, bit-hop, node-words, child-found, hop-found}
+use Rattle.tree_image.specs.Node.{bitsOf, isSet}
+use Rattle.tree_image.specs.Parts.{zeroPadded}
+use Rattle.tree_image.specs.Image.{Node, node, bitHop, child, nodes, words, hops}
+use Rattle.tree_image.proofs.Nodes.{up-next, inner-bit, child-bit}
+use Rattle.tree_image.proofs.Holds.{Agree, bit-hop, node-words, child-found, hop-found}
 use Rattle.tree_same.specs.Read.{reached, leads, hopAt, pathOf, bitFor, readOut}
 use Rattle.tree_same.specs.Order.{standsAt}
 use Rattle.tree_same.proofs.Lists.{Hopping}

@@ -13,13 +13,13 @@ use lib.Count.{ones}
 use lib.ListN.{length, getD}
 use Rattle.bits.specs.Count.{count}
 use Rattle.bits.proofs.Bools.{below?}
-use Rattle.tree.specs.Node.{bitsOf, childOf, baseOf}
-use Rattle.tree.specs.Parts.{gather, before}
-use Rattle.tree.specs.Image.{Node, node, inner, bitHop, child, setBit, word, kids, hopsOf, nodes}
-use Rattle.tree.proofs.Counts.{count-hit}
+use Rattle.tree_image.specs.Node.{bitsOf, childOf, baseOf}
+use Rattle.tree_image.specs.Parts.{gather, before}
+use Rattle.tree_image.specs.Image.{Node, node, inner, bitHop, child, setBit, word, kids, hopsOf, nodes}
+use Rattle.tree_image.proofs.Counts.{count-hit}
 use Rattle.bits.proofs.Packed.{packed-lt, rank-count, upper-count}
-use Rattle.tree.proofs.Parts.{picked-length, picked-at, gather-at, gather-split, before-zero, before-next, before-all}
-use Rattle.tree.proofs.Nodes.{nodes-fix, up-next, ahead, inner-bit, child-bit}
+use Rattle.tree_image.proofs.Parts.{picked-length, picked-at, gather-at, gather-split, before-zero, before-next, before-all}
+use Rattle.tree_image.proofs.Nodes.{nodes-fix, up-next, ahead, inner-bit, child-bit}
 use Rattle.tree_same.specs.Read.{reached}
 use Rattle.tree_same.specs.Order.{exts, ints, Order, standsAt}
 

@@ -10,14 +10,14 @@ use lib.Count.{ones}
 use lib.ListN.{length, getD}
 use Rattle.bits.specs.Count.{count}
 use Rattle.bits.proofs.Packed.{rank-count}
-use Rattle.tree.specs.Node.{bitsOf, childOf, baseOf}
-use Rattle.tree.specs.Parts.{before, zeroPadded}
-use Rattle.tree.specs.Image.{node, inner, bitHop, word, kids, hopsOf, nodes, wordsFrom, words, hops, imageBy}
-use Rattle.tree.specs.Done.{nodeNo, Done, AllDone}
-use Rattle.tree.proofs.Parts.{before-all}
-use Rattle.tree.proofs.Nodes.{words-length, ahead, inner-bit}
-use Rattle.tree.proofs.Holds.{pad-length, pad-past, node-words, hop-found}
-use Rattle.tree.proofs.Filled.{all-filled}
+use Rattle.tree_image.specs.Node.{bitsOf, childOf, baseOf}
+use Rattle.tree_image.specs.Parts.{before, zeroPadded}
+use Rattle.tree_image.specs.Image.{node, inner, bitHop, word, kids, hopsOf, nodes, wordsFrom, words, hops, imageBy}
+use Rattle.tree_image.specs.Done.{nodeNo, Done, AllDone}
+use Rattle.tree_image.proofs.Parts.{before-all}
+use Rattle.tree_image.proofs.Nodes.{words-length, ahead, inner-bit}
+use Rattle.tree_image.proofs.Holds.{pad-length, pad-past, node-words, hop-found}
+use Rattle.tree_image.proofs.Filled.{all-filled}
 use Rattle.tree_same.specs.Read.{reached}
 use Rattle.tree_same.specs.Order.{ints, Order, standsAt}
 use Rattle.tree_same.specs.Holding.{Holding}

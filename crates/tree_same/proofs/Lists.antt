@@ -16,8 +16,8 @@ use Rattle.bits.proofs.Bools.{decided, both, and-split, below?}
 use Rattle.routes.specs.Route.{key, Fine, Good}
 use Rattle.routes.specs.declared.Route.{Route}
 use Rattle.standing.specs.Cells.{here}
-use Rattle.tree.specs.Image.{hopFor}
-use Rattle.tree.proofs.Lies.{any-is, found-any, hop-of}
+use Rattle.tree_image.specs.Image.{hopFor}
+use Rattle.tree_image.proofs.Lies.{any-is, found-any, hop-of}
 use Rattle.tree_same.specs.Listed.{routeOf, own, listed}
 
 -- members of two lists end to end

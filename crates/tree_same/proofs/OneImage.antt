@@ -13,12 +13,12 @@ use Rattle.routes.specs.Record.{routesIn}
 use Rattle.routes.specs.Route.{plain, Good}
 use Rattle.routes.specs.declared.Route.{Route}
 use Rattle.standing.specs.Cells.{here}
-use Rattle.tree.specs.Parts.{zeroPadded}
-use Rattle.tree.specs.Image.{Image, nodes, words, hops, nodeStands, hopFor, imageBy, imageOf, nodeNeed}
-use Rattle.tree.proofs.Lies.{any-is, found-any, hop-of}
-use Rattle.tree.proofs.Marks.{stands-plain, hops-plain}
-use Rattle.tree.proofs.Needs.{hops-need}
-use Rattle.tree.proofs.Nodes.{words-length}
+use Rattle.tree_image.specs.Parts.{zeroPadded}
+use Rattle.tree_image.specs.Image.{Image, nodes, words, hops, nodeStands, hopFor, imageBy, imageOf, nodeNeed}
+use Rattle.tree_image.proofs.Lies.{any-is, found-any, hop-of}
+use Rattle.tree_image.proofs.Marks.{stands-plain, hops-plain}
+use Rattle.tree_image.proofs.Needs.{hops-need}
+use Rattle.tree_image.proofs.Nodes.{words-length}
 use Rattle.tree_build.specs.Built.{ImageOut, built}
 use Rattle.tree_build.specs.Cases.{AcceptedBuild}
 use Rattle.tree_build.proofs.Serves.{built-accepts}

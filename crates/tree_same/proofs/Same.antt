@@ -18,12 +18,12 @@ use Rattle.standing.specs.Cells.{here}
 use Rattle.standing.specs.Standing.{Held, absent, stood, routeAt}
 use Rattle.standing.proofs.Standing.{same-standing}
 use Rattle.standing.proofs.Prefixes.{one-key}
-use Rattle.tree.specs.Image.{through, nodeStands, hopFor, Image, imageOf, imageBy, nodeNeed}
-use Rattle.tree.proofs.Lies.{any-is, found-any, hop-of, pass-parts}
-use Rattle.tree.proofs.Marks.{hops-plain, image-unmarked}
-use Rattle.tree.proofs.Levels.{parent-stands}
-use Rattle.tree.proofs.Needs.{hops-need}
-use Rattle.tree.proofs.Serves.{agree}
+use Rattle.tree_image.specs.Image.{through, nodeStands, hopFor, Image, imageOf, imageBy, nodeNeed}
+use Rattle.tree_image.proofs.Lies.{any-is, found-any, hop-of, pass-parts}
+use Rattle.tree_image.proofs.Marks.{hops-plain, image-unmarked}
+use Rattle.tree_image.proofs.Levels.{parent-stands}
+use Rattle.tree_image.proofs.Needs.{hops-need}
+use Rattle.tree_image.proofs.Serves.{agree}
 use Rattle.tree_same.specs.Read.{readOut}
 use Rattle.tree_same.specs.Order.{standsAt}
 use Rattle.tree_same.specs.Listed.{listed, SameHops, routesHeld}

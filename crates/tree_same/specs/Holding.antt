@@ -5,8 +5,8 @@ use mathlib.Core.List.{List}
 use mathlib.Core.Path.{_≡_}
 use Prim.Native.Nat.{ℕ, _*_, _≤_, _<_}
 use lib.ListN.{length, getD}
-use Rattle.tree.specs.Node.{bitsOf}
-use Rattle.tree.specs.Image.{node, inner, bitHop, word}
+use Rattle.tree_image.specs.Node.{bitsOf}
+use Rattle.tree_image.specs.Image.{node, inner, bitHop, word}
 use Rattle.tree_same.specs.Read.{reached, hopPlaceAt}
 use Rattle.tree_same.specs.Order.{ints, Order, standsAt}
 

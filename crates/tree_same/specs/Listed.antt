@@ -6,7 +6,7 @@ use mathlib.Core.Path.{_≡_}
 use Prim.Native.Nat.{ℕ, zero, suc, _+_, _-_, _*_, _^_}
 use lib.Dec.{ltb}
 use Rattle.routes.specs.declared.Route.{Route}
-use Rattle.tree.specs.Image.{hopFor}
+use Rattle.tree_image.specs.Image.{hopFor}
 use Rattle.tree_same.specs.Read.{readOut}
 
 -- the route of length l whose bits are q, to the hop h

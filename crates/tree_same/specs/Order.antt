@@ -7,7 +7,7 @@ use Prim.Native.Nat.{ℕ, zero, suc, _+_, _/_, _%_, _^_, _≤_, _<_}
 use lib.Count.{ones}
 use lib.Dec.{eqb}
 use lib.ListN.{length}
-use Rattle.tree.specs.Node.{bitsOf, childOf, baseOf}
+use Rattle.tree_image.specs.Node.{bitsOf, childOf, baseOf}
 
 -- the extending ones and the internal ones of the first i nodes
 unfoldable pub exts : List ℕ → ℕ → ℕ

@@ -6,7 +6,7 @@ use Prim.Native.Nat.{ℕ, zero, suc, _+_, _/_, _%_, _^_}
 use lib.Dec.{eqb, leb}
 use lib.ListN.{getD}
 use lib.Count.{ones}
-use Rattle.tree.specs.Node.{bitsOf, childOf, baseOf, isSet, innerBit, childAt}
+use Rattle.tree_image.specs.Node.{bitsOf, childOf, baseOf, isSet, innerBit, childAt}
 
 -- the node that the path p of 4 * m bits leads to
 unfoldable pub reached : List ℕ → ℕ → ℕ → ℕ

@@ -1,7 +1,7 @@
 // Tree bitmap images: built, looked up, refused and broken.
 use crate::samples;
-use tree::TreeFound;
 use tree_build::Built;
+use tree_image::TreeFound;
 use vectors_shared::list;
 use vectors_shared::print;
 
@@ -15,14 +15,12 @@ fn built(answer: Built) {
             print::value(hops as u64);
         }
         Built::RefusedAt(f, k) => {
-            print::text(b" refused");
-            print::value(f as u64);
+            print::refused(f);
             print::text(b" at");
             print::value(k as u64);
         }
         Built::Refused(f) => {
-            print::text(b" refused");
-            print::value(f as u64);
+            print::refused(f);
         }
     }
     print::end();
@@ -48,34 +46,14 @@ fn found(answer: TreeFound) {
     print::end();
 }
 
-fn words(list: &[u32]) {
-    print::text(b"words");
-    let mut i = 0;
-    while i < list.len() {
-        print::value32(list[i]);
-        i += 1;
-    }
-    print::end();
-}
-
-fn hops(list: &[u16]) {
-    print::text(b"hops");
-    let mut i = 0;
-    while i < list.len() {
-        print::value16(list[i]);
-        i += 1;
-    }
-    print::end();
-}
-
 // List A's image in arrays that held other numbers, and lookups in it.
 pub fn list_a() {
     let a = list::list_a();
     let mut ws = [9u32; 23];
     let mut hs = [9u16; 6];
     built(tree_build::build(&a, &mut ws, &mut hs));
-    words(&ws);
-    hops(&hs);
+    print::words(&ws);
+    print::hops(&hs);
     found(tree::lookup(&ws, &hs, 0x0A01_02C8));
     found(tree::lookup(&ws, &hs, 0x0A01_0301));
     found(tree::lookup(&ws, &hs, 0xC000_0201));
@@ -99,10 +77,10 @@ pub fn sizes() {
     let mut ws = [9u32; 20];
     let mut hs = [9u16; 4];
     built(tree_build::build(&a, &mut ws, &mut hs));
-    words(&ws);
-    hops(&hs);
+    print::words(&ws);
+    print::hops(&hs);
     built(tree_build::build(b"", &mut ws, &mut hs));
-    words(&ws);
+    print::words(&ws);
     found(tree::lookup(&ws, &hs, 0x0A01_02C8));
     let mut more = [9u32; 21];
     built(tree_build::build(&a, &mut more, &mut hs));
@@ -132,6 +110,6 @@ pub fn host_bits() {
     let mut ws = [9u32; 3];
     let mut hs = [9u16; 1];
     built(tree_build::build(&samples::loose(), &mut ws, &mut hs));
-    words(&ws);
-    hops(&hs);
+    print::words(&ws);
+    print::hops(&hs);
 }

@@ -9,6 +9,14 @@ use vectors_shared::print;
 ghost use Prim.Native.Nat.{_≤_};
 ghost use lib.ListN.{length};
 
+// A refusal, and the record that it meets.
+fn refused_at(f: u8, k: usize) {
+    print::text(b"refused");
+    print::value(f as u64);
+    print::text(b" at");
+    print::value(k as u64);
+}
+
 fn said(answer: Input) {
     match answer {
         Input::Good(n) => {
@@ -16,10 +24,7 @@ fn said(answer: Input) {
             print::value(n as u64);
         }
         Input::Refused(f, k) => {
-            print::text(b"refused");
-            print::value(f as u64);
-            print::text(b" at");
-            print::value(k as u64);
+            refused_at(f, k);
         }
         Input::TooMany => {
             print::text(b"refused 6");
@@ -46,10 +51,7 @@ fn got(answer: Got) {
             print::text(b"nothing");
         }
         Got::Refused(f, k) => {
-            print::text(b"refused");
-            print::value(f as u64);
-            print::text(b" at");
-            print::value(k as u64);
+            refused_at(f, k);
         }
         Got::TooMany => {
             print::text(b"refused 6");
@@ -58,48 +60,63 @@ fn got(answer: Got) {
     print::end();
 }
 
+// A route's record.
+fn record(r: Route) {
+    print::text(b"record");
+    print::bytes(&samples::one(r));
+    print::end();
+}
+
+fn checked(bytes: &[u8]) {
+    said(input::check_input(bytes));
+}
+
+fn read_back(bytes: &[u8], k: usize) {
+    got(input::route_at(bytes, k));
+}
+
 // The document's own record, list A whole, and one refusal of each kind.
 pub fn run() {
-    print::text(b"record");
-    print::bytes(&samples::one(samples::route(0x0A01_0280, 25, 0, 57)));
-    print::end();
+    record(samples::route(0x0A01_0280, 25, 0, 57));
     let a = list::list_a();
-    said(input::check_input(&a));
-    said(input::check_input(b""));
-    said(input::check_input(b"nine byte"));
-    got(input::route_at(&a, 4));
-    got(input::route_at(&a, 5));
-    got(input::route_at(b"nine byte", 0));
+    checked(&a);
+    checked(b"");
+    checked(b"nine byte");
+    read_back(&a, 4);
+    read_back(&a, 5);
+    read_back(b"nine byte", 0);
 }
 
 // An attached network: its record, and the route read back out of it.
 pub fn attached() {
-    let record = samples::one(samples::route(0x0A01_0000, 16, 1, 31));
-    print::text(b"record");
-    print::bytes(&record);
-    print::end();
-    got(input::route_at(&record, 0));
+    let r = samples::route(0x0A01_0000, 16, 1, 31);
+    record(r);
+    read_back(&samples::one(r), 0);
+}
+
+// 10.0.0.0/8 to hop 20, and this route after it.
+fn second(r: Route) {
+    checked(&samples::two(samples::route(0x0A00_0000, 8, 0, 20), r));
 }
 
 pub fn refusals() {
-    let good = samples::route(0x0A00_0000, 8, 0, 20);
-    said(input::check_input(&samples::two(good, samples::route(0x0B00_0000, 33, 0, 0))));
-    said(input::check_input(&samples::two(good, samples::route(0x0B00_0001, 24, 2, 0))));
-    said(input::check_input(&samples::two(good, samples::route(0x0B00_0000, 24, 2, 0))));
-    said(input::check_input(&samples::two(good, samples::route(0x0B00_0000, 24, 2, 32767))));
-    said(input::check_input(&samples::two(good, samples::route(0x0B00_0000, 24, 255, 32767))));
-    said(input::check_input(&samples::two(good, samples::route(0x0A00_0000, 8, 1, 20))));
-    said(input::check_input(&samples::two(good, samples::route(0x0B00_0000, 24, 1, 32767))));
-    said(input::check_input(&samples::two(good, samples::route(0x0B00_0000, 24, 0, 32767))));
-    said(input::check_input(&samples::two(good, samples::route(0x0B00_0000, 24, 0, 32768))));
-    said(input::check_input(&samples::two(good, samples::route(0x0A00_0000, 8, 0, 21))));
-    said(input::check_input(&samples::two(good, samples::route(0x0A00_0000, 7, 0, 21))));
-    said(input::check_input(&samples::two(good, samples::route(0x0A00_0000, 9, 0, 21))));
+    second(samples::route(0x0B00_0000, 33, 0, 0));
+    second(samples::route(0x0B00_0001, 24, 2, 0));
+    second(samples::route(0x0B00_0000, 24, 2, 0));
+    second(samples::route(0x0B00_0000, 24, 2, 32767));
+    second(samples::route(0x0B00_0000, 24, 255, 32767));
+    second(samples::route(0x0A00_0000, 8, 1, 20));
+    second(samples::route(0x0B00_0000, 24, 1, 32767));
+    second(samples::route(0x0B00_0000, 24, 0, 32767));
+    second(samples::route(0x0B00_0000, 24, 0, 32768));
+    second(samples::route(0x0A00_0000, 8, 0, 21));
+    second(samples::route(0x0A00_0000, 7, 0, 21));
+    second(samples::route(0x0A00_0000, 9, 0, 21));
 }
 
 // An input stays strict.
 pub fn host_bits() {
-    said(input::check_input(&samples::loose()));
+    checked(&samples::loose());
 }
 
 // So many routes of 24 bits, one after the other.
@@ -118,8 +135,8 @@ fn many(list: &mut [u8])
 pub fn most() {
     let mut list = [0u8; 32768];
     many(&mut list);
-    said(input::check_input(&list));
+    checked(&list);
     let mut more = [0u8; 32776];
     many(&mut more);
-    said(input::check_input(&more));
+    checked(&more);
 }

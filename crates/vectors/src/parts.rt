@@ -6,25 +6,27 @@ use runs::tally;
 use vectors_shared::list;
 use vectors_shared::print;
 
+// A word and a number, and again.
+fn two(word: &[u8], a: u64, then: &[u8], b: u64) {
+    print::text(word);
+    print::value(a);
+    print::text(then);
+    print::value(b);
+}
+
 fn said(answer: RunCheck) {
     match answer {
         RunCheck::Run { start, count } => {
-            print::text(b" from");
-            print::value(start as u64);
-            print::text(b" count");
-            print::value(count as u64);
+            two(b" from", start as u64, b" count", count as u64);
         }
         RunCheck::Refused(f, k) => {
-            print::text(b" refused");
-            print::value(f as u64);
-            print::text(b" at");
-            print::value(k as u64);
+            two(b" refused", f as u64, b" at", k as u64);
         }
         RunCheck::TooMany => {
-            print::text(b" refused 6");
+            print::refused(6);
         }
         RunCheck::NoPrefix => {
-            print::text(b" refused 3");
+            print::refused(3);
         }
     }
     print::end();

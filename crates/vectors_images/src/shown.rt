@@ -1,7 +1,7 @@
 // What the calls on an image answer, and what its arrays hold: of each node the bits in hexadecimal, and both bases.
 use tree_change::TreeAnnounced;
 use tree_change::TreeWithdrawn;
-use tree_check::Tested;
+use tree_formed::Tested;
 use vectors_shared::print;
 
 fn sizes(nodes: u32, hops: u32) {
@@ -82,17 +82,7 @@ fn words(list: &[u32]) {
     print::end();
 }
 
-fn hops(list: &[u16]) {
-    print::text(b"hops");
-    let mut i = 0;
-    while i < list.len() {
-        print::value16(list[i]);
-        i += 1;
-    }
-    print::end();
-}
-
 pub fn image(list: &[u32], then: &[u16]) {
     words(list);
-    hops(then);
+    print::hops(then);
 }

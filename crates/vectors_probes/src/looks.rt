@@ -4,8 +4,7 @@ use crate::linear;
 use bits::widen::byte_to_word;
 use routes::Route;
 use routes::record;
-use sail::lookup;
-use sail::lookup::Found;
+use sail::found::Found;
 use sail::table::Table;
 use std::num;
 
@@ -64,7 +63,7 @@ fn compare(
     addr: u32,
     s: Sums,
 ) -> Sums {
-    let f = lookup::lookup(
+    let f = sail_lookup::lookup(
         t,
         list,
         first,

@@ -1,4 +1,3 @@
-// What the programs of worked cases share: list A, and what they print: words and numbers, and the answers of a table's calls.
+// What the programs of worked cases share: list A, and the words and numbers that they print.
 pub mod list;
 pub mod print;
-pub mod table;

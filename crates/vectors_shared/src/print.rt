@@ -45,3 +45,25 @@ pub fn bytes(list: &[u8]) {
         i += 1;
     }
 }
+
+// An image's words, or other words.
+pub fn words(list: &[u32]) {
+    text(b"words");
+    let mut i = 0;
+    while i < list.len() {
+        value32(list[i]);
+        i += 1;
+    }
+    end();
+}
+
+// An image's hops.
+pub fn hops(list: &[u16]) {
+    text(b"hops");
+    let mut i = 0;
+    while i < list.len() {
+        value16(list[i]);
+        i += 1;
+    }
+    end();
+}

@@ -36,10 +36,13 @@ shl-byte c = omega arith
 
 add-byte : tie.Need-add-byte Inv-loop μ-loop
 add-byte c =
-    let lent = c .before .before .before .before .args in
+    let in-loop : tie.In-loop Inv-loop μ-loop = search in
+    let at-loop : tie.At-loop Inv-loop μ-loop = search in
+    let start : tie.Start Inv-loop μ-loop = search in
+    let lent = start .args in
     let f : ℕ → Bool = λ k. hopThere (lent .cells .now) (8 * lent .j + k) in
-    let at-loop = c .before .before .loop in
-    let small = byte-small f (at-loop .b) (at-loop .byte) (c .bit-of .result) (c .before .loop-test .taken) (at-loop .inv .1) (c .bit-of .ensures) in
+    let at-loop = at-loop .loop in
+    let small = byte-small f (at-loop .b) (at-loop .byte) (c .bit-of .result) (in-loop .loop-test .taken) (at-loop .inv .1) (c .bit-of .ensures) in
     record { fits = omega (arith, small) }
 
 add-b : tie.Need-add-b Inv-loop μ-loop
@@ -50,10 +53,13 @@ loop-less c = omega arith
 
 loop-again : tie.Need-loop-again Inv-loop μ-loop
 loop-again c =
-    let lent = c .before .before .before .before .args in
+    let in-loop : tie.In-loop Inv-loop μ-loop = search in
+    let at-loop : tie.At-loop Inv-loop μ-loop = search in
+    let start : tie.Start Inv-loop μ-loop = search in
+    let lent = start .args in
     let f : ℕ → Bool = λ k. hopThere (lent .cells .now) (8 * lent .j + k) in
-    let so-far = c .before .before .loop .inv .1 in
-    let turn = c .before .loop-test .taken in
+    let so-far = at-loop .loop .inv .1 in
+    let turn = in-loop .loop-test .taken in
     (omega arith, byte-more f _ _ _ turn so-far (c .bit-of .ensures), byte-small f _ _ _ turn so-far (c .bit-of .ensures))
 
 cast-result : tie.Need-cast-result Inv-loop μ-loop

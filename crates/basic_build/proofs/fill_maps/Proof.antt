@@ -18,10 +18,18 @@ same-length-2 c = search needs
 
 returns : tie.Need-returns
 returns c =
-    let input = c .before .before .before .before .before .before .before .before .before .before .before .before .pre .0 in
-    let cells = c .before .before .before .before .before .before .before .put-cells .ensures in
-    filled-in _ _ input _ _ cells (c .before .before .put-bits .ensures)
+    let after-put-bits : tie.After-put-bits = search in
+    let after-put-cells : tie.After-put-cells = search in
+    let start : tie.Start = search in
+    let input = start .pre .0 in
+    let cells = after-put-cells .put-cells .ensures in
+    filled-in _ _ input _ _ cells (after-put-bits .put-bits .ensures)
 
 pub fill-maps-spec : {M : Type 1} → statement M
 fill-maps-spec =
-    tie.close (tie.spec put-cells-requires put-bits-requires same-length same-length-2 returns)
+    tie.close (tie.spec
+    put-cells-requires
+    put-bits-requires
+    same-length
+    same-length-2
+    returns)

@@ -20,7 +20,9 @@ loop-holds : tie.Need-loop-holds Inv-loop μ-loop
 loop-holds c = (c .before .before .pre .bytes, λ i l. absurd (omega arith))
 
 byte-of-requires : tie.Need-byte-of-requires Inv-loop μ-loop
-byte-of-requires c κs = (c .before .before .before .before .pre .hops, omega arith)
+byte-of-requires c κs =
+    let start : tie.Start Inv-loop μ-loop = search in
+    (start .pre .hops, omega arith)
 
 slice-write-bits : tie.Need-slice-write-bits Inv-loop μ-loop
 slice-write-bits c = omega (arith, c .before .before .loop .inv .0)
@@ -33,14 +35,19 @@ loop-less c = omega arith
 
 loop-again : tie.Need-loop-again Inv-loop μ-loop
 loop-again c =
-    let at-loop = c .before .before .loop in
-    let cells = c .before .before .before .before .before .args .cells .now in
+    let at-loop : tie.At-loop Inv-loop μ-loop = search in
+    let start : tie.Start Inv-loop μ-loop = search in
+    let at-loop = at-loop .loop in
+    let cells = start .args .cells .now in
     let byte : ℕ → ℕ = λ i. packedBits (λ b. hopThere cells (8 * i + b)) 8 in
     let done = stored-more byte (at-loop .bits) (at-loop .j) _ (omega (arith, at-loop .inv .0)) (at-loop .inv .1) (c .byte-of .ensures) in
     (simp length-set (at-loop .inv .0), done)
 
 same-length : tie.Need-same-length Inv-loop μ-loop
-same-length c = omega (arith, c .before .loop .inv .0, c .before .before .before .before .pre .bytes)
+same-length c =
+    let at-loop : tie.At-loop Inv-loop μ-loop = search in
+    let start : tie.Start Inv-loop μ-loop = search in
+    omega (arith, at-loop .loop .inv .0, start .pre .bytes)
 
 returns : tie.Need-returns Inv-loop μ-loop
 returns c = bytes-all _ _ _ (c .before .loop .inv .0) (omega arith) (c .before .loop .inv .1)

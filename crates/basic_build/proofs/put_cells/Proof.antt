@@ -15,10 +15,15 @@ fill16-requires : tie.Need-fill16-requires Inv-loop μ-loop
 fill16-requires c κs = tt
 
 loop-holds : tie.Need-loop-holds Inv-loop μ-loop
-loop-holds c = (omega arith, put-none _ _ _ (c .before .before .fill16 .ensures) (c .before .before .before .before .before .before .pre .1))
+loop-holds c =
+    let after-fill16 : tie.After-fill16 Inv-loop μ-loop = search in
+    let start : tie.Start Inv-loop μ-loop = search in
+    (omega arith, put-none _ _ _ (after-fill16 .fill16 .ensures) (start .pre .1))
 
 read-record-requires : tie.Need-read-record-requires Inv-loop μ-loop
-read-record-requires c κs = omega (arith, c .before .before .before .before .before .before .before .before .before .pre .0 .room)
+read-record-requires c κs =
+    let start : tie.Start Inv-loop μ-loop = search in
+    omega (arith, start .pre .0 .room)
 
 put-requires : tie.Need-put-requires Inv-loop μ-loop
 put-requires c κs = c .before .before .before .loop .inv .1 .size
@@ -31,18 +36,28 @@ loop-less c = omega arith
 
 loop-again : tie.Need-loop-again Inv-loop μ-loop
 loop-again c =
-    let records = c .before .before .before .before .before .before .before .before .before .before .before .before .before .pre .0 in
-    let at-loop = c .before .before .before .before .before .before .loop in
-    let turn = c .before .before .before .before .before .loop-test .taken in
-    (omega arith, put-more _ _ records _ _ _ _ turn (c .before .before .before .read-record .ensures) (c .before .before .put .ensures) (at-loop .inv .1))
+    let after-put : tie.After-put Inv-loop μ-loop = search in
+    let after-read-record : tie.After-read-record Inv-loop μ-loop = search in
+    let in-loop : tie.In-loop Inv-loop μ-loop = search in
+    let at-loop : tie.At-loop Inv-loop μ-loop = search in
+    let start : tie.Start Inv-loop μ-loop = search in
+    let records = start .pre .0 in
+    let at-loop = at-loop .loop in
+    let turn = in-loop .loop-test .taken in
+    (omega arith, put-more _ _ records _ _ _ _ turn (after-read-record .read-record .ensures) (after-put .put .ensures) (at-loop .inv .1))
 
 same-length : tie.Need-same-length Inv-loop μ-loop
-same-length c = omega (arith, c .before .loop .inv .1 .size, c .before .before .before .before .before .before .before .before .pre .1)
+same-length c =
+    let at-loop : tie.At-loop Inv-loop μ-loop = search in
+    let start : tie.Start Inv-loop μ-loop = search in
+    omega (arith, at-loop .loop .inv .1 .size, start .pre .1)
 
 returns : tie.Need-returns Inv-loop μ-loop
 returns c =
-    let records = c .before .before .before .before .before .before .before .before .pre .0 in
-    put-all _ _ records _ _ (c .before .loop .inv .0) (omega arith) (c .before .loop .inv .1)
+    let at-loop : tie.At-loop Inv-loop μ-loop = search in
+    let start : tie.Start Inv-loop μ-loop = search in
+    let records = start .pre .0 in
+    put-all _ _ records _ _ (at-loop .loop .inv .0) (omega arith) (at-loop .loop .inv .1)
 
 pub put-cells-spec : {M : Type 1} → statement M
 put-cells-spec =

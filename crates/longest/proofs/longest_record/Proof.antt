@@ -29,7 +29,9 @@ sub-read-record : tie.Need-sub-read-record Inv-loop μ-loop
 sub-read-record c = search needs
 
 read-record-requires : tie.Need-read-record-requires Inv-loop μ-loop
-read-record-requires c κs = omega (arith, c .before .before .before .before .before .pre .room)
+read-record-requires c κs =
+    let start : tie.Start Inv-loop μ-loop = search in
+    omega (arith, start .pre .room)
 
 byte-to-word-requires : tie.Need-byte-to-word-requires Inv-loop μ-loop
 byte-to-word-requires c κs = search needs

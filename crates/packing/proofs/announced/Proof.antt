@@ -9,6 +9,31 @@ use borrow.Author.Needs.{needs}
 use Rattle.packing.proofs.announced.Statement.{statement}
 use Rattle.packing.proofs.announced.Tie as tie
 
+returns : tie.Need-returns
+unfolding meansAnnounce packed
+returns c =
+    let after-a : tie.After-a = search in
+    let start : tie.Start = search in
+    omega (arith, ap (λ (x : Announce). packChange (start .args .count) (meansAnnounce x)) (after-a .a .given .1))
+
+returns-2 : tie.Need-returns-2
+unfolding meansAnnounce packed
+returns-2 c =
+    let after-a2 : tie.After-a2 = search in
+    let start : tie.Start = search in
+    omega (arith, ap (λ (x : Announce). packChange (start .args .count) (meansAnnounce x)) (after-a2 .a2 .given .1))
+
+returns-3 : tie.Need-returns-3
+unfolding meansAnnounce packed
+returns-3 c =
+    let after-a3 : tie.After-a3 = search in
+    let start : tie.Start = search in
+    omega (
+      arith,
+      ap (λ (x : Announce). packChange (start .args .count) (meansAnnounce x))
+          (after-a3 .a3 .given .1),
+    )
+
 pub announced-spec : {M : Type 1} → statement M
 unfolding meansAnnounce packed
 announced-spec =
@@ -20,10 +45,6 @@ announced-spec =
     (λ c κs. search needs)
     (λ c. search needs)
     (λ c κs. search needs)
-    (λ c. omega (arith, ap (λ (x : Announce). packChange (c .before .before .before .before .args .count) (meansAnnounce x)) (c .before .before .a .given .1)))
-    (λ c. omega (arith, ap (λ (x : Announce). packChange (c .before .before .before .before .args .count) (meansAnnounce x)) (c .before .before .a2 .given .1)))
-    (λ c. omega (
-      arith,
-      ap (λ (x : Announce). packChange (c .before .before .before .before .args .count) (meansAnnounce x))
-          (c .before .before .a3 .given .1),
-    )))
+    returns
+    returns-2
+    returns-3)

@@ -25,6 +25,6 @@ built-spec =
     (λ c κs. search needs)
     (λ c. search needs)
     (λ c κs. search needs)
-    (λ c. omega (arith, ap (λ (x : Built). packBuilt (meansBuilt x)) (c .before .before .before .before .a .given .1)))
+    (λ c. let after-a : tie.After-a = search in omega (arith, ap (λ (x : Built). packBuilt (meansBuilt x)) (after-a .a .given .1)))
     (λ c. omega (arith, ap (λ (x : Built). packBuilt (meansBuilt x)) (c .before .before .a2 .given .1)))
     (λ c. omega (arith, ap (λ (x : Built). packBuilt (meansBuilt x)) (c .before .before .a3 .given .1))))

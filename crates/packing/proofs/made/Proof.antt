@@ -9,6 +9,13 @@ use borrow.Author.Needs.{needs}
 use Rattle.packing.proofs.made.Statement.{statement}
 use Rattle.packing.proofs.made.Tie as tie
 
+returns-2 : tie.Need-returns-2
+unfolding meansMade packed
+returns-2 c =
+    let after-a : tie.After-a = search in
+    let start : tie.Start = search in
+    omega (arith, ap (λ (x : Made). packChange (start .args .count) (meansMade x)) (after-a .a .given .1))
+
 pub made-spec : {M : Type 1} → statement M
 unfolding meansMade packed
 made-spec =
@@ -19,4 +26,4 @@ made-spec =
     (λ c. search needs)
     (λ c κs. search needs)
     (λ c. omega (arith, ap (λ (x : Made). packChange (c .before .before .before .args .count) (meansMade x)) (c .before .enum-told .given .1)))
-    (λ c. omega (arith, ap (λ (x : Made). packChange (c .before .before .before .before .args .count) (meansMade x)) (c .before .before .a .given .1))))
+    returns-2)

@@ -1,8 +1,8 @@
 -- `packing::tree_found`. Each answer of an image lookup has its word.
 use mathlib.Core.Path.{ap}
 use native.Mathlib.Omega.{arith}
-use Rattle.tree.specs.Walk.{meansTreeFound}
-use Rattle.tree.specs.declared.TreeFound.{TreeFound}
+use Rattle.tree_image.specs.Walk.{meansTreeFound}
+use Rattle.tree_image.specs.declared.TreeFound.{TreeFound}
 use Rattle.sail.specs.Word.{packFound, packed}
 use borrow.Author.Needs.{needs}
 use Rattle.packing.proofs.tree_found.Statement.{statement}

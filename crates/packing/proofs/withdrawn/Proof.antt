@@ -9,6 +9,24 @@ use borrow.Author.Needs.{needs}
 use Rattle.packing.proofs.withdrawn.Statement.{statement}
 use Rattle.packing.proofs.withdrawn.Tie as tie
 
+returns : tie.Need-returns
+unfolding meansWithdraw packed
+returns c =
+    let after-a : tie.After-a = search in
+    let start : tie.Start = search in
+    omega (arith, ap (λ (x : Withdraw). packChange (start .args .count) (meansWithdraw x)) (after-a .a .given .1))
+
+returns-2 : tie.Need-returns-2
+unfolding meansWithdraw packed
+returns-2 c =
+    let after-a2 : tie.After-a2 = search in
+    let start : tie.Start = search in
+    omega (
+      arith,
+      ap (λ (x : Withdraw). packChange (start .args .count) (meansWithdraw x))
+          (after-a2 .a2 .given .1),
+    )
+
 pub withdrawn-spec : {M : Type 1} → statement M
 unfolding meansWithdraw packed
 withdrawn-spec =
@@ -18,9 +36,5 @@ withdrawn-spec =
     (λ c κs. search needs)
     (λ c. search needs)
     (λ c κs. search needs)
-    (λ c. omega (arith, ap (λ (x : Withdraw). packChange (c .before .before .before .before .args .count) (meansWithdraw x)) (c .before .before .a .given .1)))
-    (λ c. omega (
-      arith,
-      ap (λ (x : Withdraw). packChange (c .before .before .before .before .args .count) (meansWithdraw x))
-          (c .before .before .a2 .given .1),
-    )))
+    returns
+    returns-2)

@@ -13,9 +13,9 @@ enum-told c = search needs
 
 put-standing-requires : tie.Need-put-standing-requires
 put-standing-requires c κs =
-    let told = c .before .before .before .before .before .before .before .before .before in
-    let load = told .before .before .before .before .before .before .before .before .before .before in
-    let start = load .before .before .before .before .before .before .before .before .before .before .before in
+    let told : tie.After-enum-told = search in
+    let load : tie.After-load = search in
+    let start : tie.Start = search in
     record { sound = done-sound _ _ _ (lent _ _ _ _ _ _ _ _) (load .load .ensures) (told .enum-told .given .1); room = start .pre }
 
 same-length : tie.Need-same-length
@@ -23,9 +23,9 @@ same-length c = c .before .before .put-standing .kept .1 .1 .1 .1 .1 .1 .1 .1 .1
 
 returns : tie.Need-returns
 returns c =
-    let put = c .before .before in
-    let told = put .before .before .before .before .before .before .before .before .before .before in
-    let load = told .before .before .before .before .before .before .before .before .before .before in
+    let put : tie.After-put-standing = search in
+    let told : tie.After-enum-told = search in
+    let load : tie.After-load = search in
     done-wrote _ _ _ (lent _ _ _ _ _ _ _ _) (load .load .ensures) (told .enum-told .given .1) (put .put-standing .ensures)
 
 -- of a refusal
@@ -34,8 +34,7 @@ enum-known-answer c = search needs
 
 refusal-text-requires : tie.Need-refusal-text-requires
 refusal-text-requires c κs =
-    let load = c .before .before .before .before .before .before .before .before .before .before .before .before in
-    let start = load .before .before .before .before .before .before .before .before .before .before .before in
+    let start : tie.Start = search in
     omega (arith, start .pre)
 
 same-length-2 : tie.Need-same-length-2
@@ -43,9 +42,9 @@ same-length-2 c = c .before .before .refusal-text .kept .1 .0
 
 returns-2 : tie.Need-returns-2
 returns-2 c =
-    let put = c .before .before in
-    let arm = put .before .before .before in
-    let load = arm .before .before .before .before .before .before .before .before .before .before in
+    let put : tie.After-refusal-text = search in
+    let arm : tie.After-answer = search in
+    let load : tie.After-load = search in
     refused-wrote _ _ _ (lent _ _ _ _ _ _ _ _) (load .load .ensures) _ (arm .answer .given .1) (put .refusal-text .ensures)
 
 -- and of one with an index
@@ -54,8 +53,7 @@ enum-known-answer-2 c = search needs
 
 refusal-at-text-requires : tie.Need-refusal-at-text-requires
 refusal-at-text-requires c κs =
-    let load = c .before .before .before .before .before .before .before .before .before .before .before .before in
-    let start = load .before .before .before .before .before .before .before .before .before .before .before in
+    let start : tie.Start = search in
     omega (arith, start .pre)
 
 same-length-3 : tie.Need-same-length-3
@@ -63,9 +61,9 @@ same-length-3 c = c .before .before .refusal-at-text .kept .1 .1 .0
 
 returns-3 : tie.Need-returns-3
 returns-3 c =
-    let put = c .before .before in
-    let arm = put .before .before .before in
-    let load = arm .before .before .before .before .before .before .before .before .before .before in
+    let put : tie.After-refusal-at-text = search in
+    let arm : tie.After-answer2 = search in
+    let load : tie.After-load = search in
     refused-at-wrote _ _ _ (lent _ _ _ _ _ _ _ _) (load .load .ensures) _ _ (arm .answer2 .given .1) (put .refusal-at-text .ensures)
 
 pub put-loaded-spec : {M : Type 1} → statement M

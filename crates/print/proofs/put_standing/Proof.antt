@@ -5,6 +5,10 @@ use Rattle.print.proofs.Ways.{standing-printable, standing-wrote, never
 use Rattle.print.proofs.put_standing.Statement.{statement}
 use Rattle.print.proofs.put_standing.Tie as tie
 
+-- Where it starts, seen from the first place that is named after it.
+abbrev start-of : tie.After-report → tie.Start
+start-of c = search
+
 report-requires : tie.Need-report-requires
 report-requires c κs = tt
 
@@ -16,9 +20,9 @@ cast-table-text c = search needs
 
 table-text-requires : tie.Need-table-text-requires
 table-text-requires c κs =
-    let arm = c .before .before .before in
-    let report = arm .before .before in
-    let start = report .before .before .before .before .before .before .before .before .before .before in
+    let arm : tie.After-routes = search in
+    let report : tie.After-report = search in
+    let start = start-of report in
     standing-printable _ _ (start .pre .sound) _ (report .report .ensures) _ _ _ (arm .routes .given .1) _ (omega arith) (start .pre .room)
 
 enum-known-number : tie.Need-enum-known-number
@@ -26,8 +30,7 @@ enum-known-number c = search needs
 
 refusal-text-requires : tie.Need-refusal-text-requires
 refusal-text-requires c κs =
-    let report = c .before .before .before .before in
-    let start = report .before .before .before .before .before .before .before .before .before .before in
+    let start : tie.Start = search in
     omega (arith, start .pre .room)
 
 same-length : tie.Need-same-length
@@ -35,10 +38,10 @@ same-length c = search needs
 
 returns : tie.Need-returns
 returns c =
-    let put = c .before .before in
-    let arm = put .before .before .before .before in
-    let report = arm .before .before in
-    let start = report .before .before .before .before .before .before .before .before .before .before in
+    let put : tie.After-table-text = search in
+    let arm : tie.After-routes = search in
+    let report : tie.After-report = search in
+    let start = start-of report in
     standing-wrote _ _ (start .pre .sound) _ (report .report .ensures) _ _ _ (arm .routes .given .1) (put .table-text .ensures)
 
 same-length-2 : tie.Need-same-length-2
@@ -46,9 +49,9 @@ same-length-2 c = search needs
 
 returns-2 : tie.Need-returns-2
 returns-2 c =
-    let arm = c .before .before .before .before .before in
-    let report = arm .before .before in
-    let start = report .before .before .before .before .before .before .before .before .before .before in
+    let arm : tie.After-number = search in
+    let report : tie.After-report = search in
+    let start = start-of report in
     absurd (never-refused _ _ (start .pre .sound) _ (report .report .ensures) _ (arm .number .given .1))
 
 pub put-standing-spec : {M : Type 1} → statement M

@@ -7,21 +7,22 @@ use Rattle.sail_announce.proofs.announce.Tie as tie
 
 returns : tie.Need-returns
 returns c =
-    let judged = c .before in
-    let clear = judged .before .before .before .before .before .before .before .before .before in
-    announce-refused _ _ _ _ _ _ _ (clear .clear-after .ensures) _ (judged .judge-announce .ensures) (c .if1 .taken)
+    let judged : tie.After-judge-announce = search in
+    let cleared : tie.After-clear-after = search in
+    announce-refused _ _ _ _ _ _ _ (cleared .clear-after .ensures) _ (judged .judge-announce .ensures) (c .if1 .taken)
 
 add-requires : tie.Need-add-requires
 add-requires c κs =
-    let judged = c .before .before .before .before .before .before .before .before .before in
-    judged .judge-announce .ensures .on (c .before .before .before .before .before .before .before .before .if1 .left)
+    let accepted : tie.Else1 = search in
+    let judged : tie.After-judge-announce = search in
+    judged .judge-announce .ensures .on (accepted .if1 .left)
 
 returns-2 : tie.Need-returns-2
 returns-2 c =
-    let added = c .before .before .before .before .before .before .before .before .before .before .before .before .before .before .before .before in
-    let clear = added .before .before .before .before .before .before .before .before .before .before .before .before .before .before .before .before
-    .before .before .before in
-    announce-cleared _ _ _ _ _ _ _ (clear .clear-after .ensures) _ refl _ (added .add .ensures)
+    let added : tie.After-add = search in
+    let judged : tie.After-judge-announce = search in
+    let cleared : tie.After-clear-after = search in
+    announce-cleared _ _ _ _ _ _ _ (cleared .clear-after .ensures) _ refl _ (added .add .ensures)
 
 pub announce-spec : {M : Type 1} → statement M
 announce-spec =
@@ -39,18 +40,12 @@ announce-spec =
     (λ c. refl)
     returns
     add-requires
-    (λ c. c .before .before .before .before .before .before .before .before .before .before .before .before .before .before .before .before .add .kept .1 .0)
-    (λ c. c .before .before .before .before .before .before .before .before .before .before .before .before .before .before .before .before .add .kept .1 .1 .0)
-    (λ c. c .before .before .before .before .before .before .before .before .before .before .before .before .before .before .before .before .add
-    .kept .1 .1 .1 .0)
-    (λ c. c .before .before .before .before .before .before .before .before .before .before .before .before .before .before .before .before .add
-    .kept .1 .1 .1 .1 .0)
-    (λ c. c .before .before .before .before .before .before .before .before .before .before .before .before .before .before .before .before .add
-    .kept .1 .1 .1 .1 .1 .0)
-    (λ c. c .before .before .before .before .before .before .before .before .before .before .before .before .before .before .before .before .add
-    .kept .1 .1 .1 .1 .1 .1 .0)
-    (λ c. c .before .before .before .before .before .before .before .before .before .before .before .before .before .before .before .before .add
-    .kept .1 .1 .1 .1 .1 .1 .1 .0)
-    (λ c. c .before .before .before .before .before .before .before .before .before .before .before .before .before .before .before .before .add
-    .kept .1 .1 .1 .1 .1 .1 .1 .1 .0)
+    (λ c. let added : tie.After-add = search in added .add .kept .1 .0)
+    (λ c. let added : tie.After-add = search in added .add .kept .1 .1 .0)
+    (λ c. let added : tie.After-add = search in added .add .kept .1 .1 .1 .0)
+    (λ c. let added : tie.After-add = search in added .add .kept .1 .1 .1 .1 .0)
+    (λ c. let added : tie.After-add = search in added .add .kept .1 .1 .1 .1 .1 .0)
+    (λ c. let added : tie.After-add = search in added .add .kept .1 .1 .1 .1 .1 .1 .0)
+    (λ c. let added : tie.After-add = search in added .add .kept .1 .1 .1 .1 .1 .1 .1 .0)
+    (λ c. let added : tie.After-add = search in added .add .kept .1 .1 .1 .1 .1 .1 .1 .1 .0)
     returns-2)

@@ -6,12 +6,15 @@ use Rattle.sail_announce.proofs.count_in.Statement.{statement}
 use Rattle.sail_announce.proofs.count_in.Tie as tie
 
 tick-requires : tie.Need-tick-requires
-tick-requires c κs = let added = c .before .before in added .before .before .before .before .pre .ticks (added .if1 .taken)
+tick-requires c κs =
+    let added : tie.Then1 = search in
+    let start : tie.Start = search in
+    start .pre .ticks (added .if1 .taken)
 
 returns : tie.Need-returns
 returns c =
-    let ticked = c .before .before .before .before in
-    let added = ticked .before .before .before in
+    let ticked : tie.After-tick = search in
+    let added : tie.Then1 = search in
     more (added .if1 .taken) _ (ticked .tick .ensures)
 
 returns-2 : tie.Need-returns-2

@@ -1,17 +1,13 @@
--- `sail_announce::count_with`. How many routes stand after one was put into n.
-use mathlib.Core.Path.{refl}
-use Rattle.lists.specs.Edit.{meansPut}
+-- `sail_announce::count_with`. How many routes stand after one was put into n, by whether its prefix stood.
 use borrow.Author.Needs.{needs}
 use Rattle.sail_announce.proofs.count_with.Statement.{statement}
 use Rattle.sail_announce.proofs.count_with.Tie as tie
 
+returns : tie.Need-returns
+returns c = (rw (c .if1 .taken), search needs)
+
+returns-2 : tie.Need-returns-2
+returns-2 c = (rw (c .if1 .left), search needs)
+
 pub count-with-spec : {M : Type 1} → statement M
-unfolding meansPut
-count-with-spec =
-    tie.close
-    (tie.spec
-    (λ c. search needs)
-    (λ c. search needs)
-    (λ c. search needs)
-    (λ c. (rw (c .enum-told .given .1) refl, search needs))
-    (λ c. (rw (c .enum-told2 .given .1) refl, search needs)))
+count-with-spec = tie.close (tie.spec returns (λ c. search needs) returns-2)

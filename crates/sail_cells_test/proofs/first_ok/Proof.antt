@@ -16,6 +16,19 @@ Inv-loop ws par p first o below want₀ n b₀ want b = (b ≤ n) × (length wan
 abbrev μ-loop : tie.MeasureT-loop
 μ-loop ws par p first o below want₀ n b₀ want b = n - b
 
+loop-again : tie.Need-loop-again Inv-loop μ-loop
+loop-again c =
+    let after-block-ok : tie.After-block-ok Inv-loop μ-loop = search in
+    let at-loop : tie.At-loop Inv-loop μ-loop = search in
+    let start : tie.Start Inv-loop μ-loop = search in
+    let l = at-loop .loop in (
+      omega arith,
+      search needs,
+      first-more _ _ _ _ _ _
+          (start .pre) _ _ (l .b) _ (l .inv .2)
+          (after-block-ok .block-ok .ensures) (c .if1 .left),
+    )
+
 pub first-ok-spec : {M : Type 1} → statement M
 first-ok-spec =
     tie.close
@@ -30,12 +43,6 @@ first-ok-spec =
     (λ c. search first-off)
     (λ c. search needs)
     (λ c. search needs)
-    (λ c. let l = c .before .before .before .before .before .before .loop in (
-      omega arith,
-      search needs,
-      first-more _ _ _ _ _ _
-          (c .before .before .before .before .before .before .before .before .before .before .before .before .pre) _ _ (l .b) _ (l .inv .2)
-          (c .before .before .before .block-ok .ensures) (c .if1 .left),
-    ))
+    loop-again
     (λ c. search needs)
     (λ c. search first-all))

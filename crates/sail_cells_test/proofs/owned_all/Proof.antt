@@ -19,27 +19,37 @@ Inv-loop ws par p d up e above cells own below want₀ c₀ want c = (c ≤ leng
 abbrev μ-loop : tie.MeasureT-loop
 μ-loop ws par p d up e above cells own below want₀ c₀ want c = length own - c
 
+chunk-ok-requires : tie.Need-chunk-ok-requires Inv-loop μ-loop
+chunk-ok-requires c κs =
+    let at-loop : tie.At-loop Inv-loop μ-loop = search in
+    let start : tie.Start Inv-loop μ-loop = search in (
+      still-pooled _ _ _ _ _ _ _ _ _ _ (start .pre) _
+          (at-loop .loop .inv .1),
+      search needs,
+    )
+
+loop-again : tie.Need-loop-again Inv-loop μ-loop
+loop-again c =
+    let after-chunk-ok : tie.After-chunk-ok Inv-loop μ-loop = search in
+    let at-loop : tie.At-loop Inv-loop μ-loop = search in (
+      omega arith,
+      search needs,
+      below-more _ _ (at-loop .loop .inv .2)
+          (passed (after-chunk-ok .chunk-ok .ensures) (c .if1 .left)),
+    )
+
 pub owned-all-spec : {M : Type 1} → statement M
 owned-all-spec =
     tie.close
     (tie.spec
     Inv-loop
     μ-loop
-    (λ c. (omega arith, c .before .before .before .before .before .before .before .before .pre .room, below-none _))
-    (λ c κs. (
-      still-pooled _ _ _ _ _ _ _ _ _ _ (c .before .before .before .before .before .before .before .before .before .before .before .pre) _
-          (c .before .before .loop .inv .1),
-      search needs,
-    ))
+    (λ c. let start : tie.Start Inv-loop μ-loop = search in (omega arith, start .pre .room, below-none _))
+    chunk-ok-requires
     (λ c. search needs)
     (λ c. refuted (c .before .before .before .chunk-ok .ensures) (c .if1 .taken) (λ h. h .each _ (omega arith)))
     (λ c. search needs)
     (λ c. search needs)
-    (λ c. (
-      omega arith,
-      search needs,
-      below-more _ _ (c .before .before .before .before .before .before .loop .inv .2)
-          (passed (c .before .before .before .chunk-ok .ensures) (c .if1 .left)),
-    ))
+    loop-again
     (λ c. search needs)
     (λ c. is-yes (record { each = λ k h. c .before .loop .inv .2 k (omega arith) })))

@@ -7,17 +7,20 @@ use Rattle.sail_cells_test.proofs.owner_cell.Statement.{statement}
 use Rattle.sail_cells_test.proofs.owner_cell.Tie as tie
 
 cell-place-requires : tie.Need-cell-place-requires
-cell-place-requires c κs = let told = c .before in owner-numbered _ _ _ _ (told .before .before .before .before .pre) _
-    (told .word-to-index .ensures .0) (c .if2 .left)
+cell-place-requires c κs =
+    let told : tie.After-word-to-index = search in
+    let start : tie.Start = search in
+    owner-numbered _ _ _ _ (start .pre) _ (told .word-to-index .ensures .0) (c .if2 .left)
 
 returns-2 : tie.Need-returns-2
 returns-2 c = hook-free _ _ _ _ (sym (c .before .word-to-index .ensures .0) ∙ c .if2 .taken)
 
 returns-3 : tie.Need-returns-3
 returns-3 c =
-    let used = c .before in
-    let told = used .before in
-    hook-at _ _ _ _ (told .before .before .if1 .left) _ (told .word-to-index .ensures .0) (used .if2 .left) _ (c .cell-place .ensures .0)
+    let used : tie.Else2 = search in
+    let told : tie.After-word-to-index = search in
+    let else1 : tie.Else1 = search in
+    hook-at _ _ _ _ (else1 .if1 .left) _ (told .word-to-index .ensures .0) (used .if2 .left) _ (c .cell-place .ensures .0)
 
 pub owner-cell-spec : {M : Type 1} → statement M
 owner-cell-spec =

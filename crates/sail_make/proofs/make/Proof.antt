@@ -6,9 +6,10 @@ use Rattle.sail_make.proofs.make.Tie as tie
 
 returns-2 : tie.Need-returns-2
 returns-2 c =
-    let blank = c .before .before .before .before .before .before .before .before .before .before .before .before .before .before .before .before .before in
-    let sized = blank .before .before .before .before .before .before .before .before .before in
-    make-makes _ _ _ (sized .before .sizes .ensures) (sized .if1 .left) _ (blank .blank .ensures)
+    let blank : tie.After-blank = search in
+    let sized : tie.Else1 = search in
+    let after-sizes : tie.After-sizes = search in
+    make-makes _ _ _ (after-sizes .sizes .ensures) (sized .if1 .left) _ (blank .blank .ensures)
 
 pub make-spec : {M : Type 1} → statement M
 make-spec =
@@ -25,20 +26,12 @@ make-spec =
     (λ c. refl)
     (λ c. make-refuses _ _ _ (c .before .sizes .ensures) (c .if1 .taken))
     (λ c κs. tt)
-    (λ c. c .before .before .before .before .before .before .before .before .before .before .before .before .before .before .before .before .before
-    .blank .kept .0)
-    (λ c. c .before .before .before .before .before .before .before .before .before .before .before .before .before .before .before .before .before
-    .blank .kept .1 .0)
-    (λ c. c .before .before .before .before .before .before .before .before .before .before .before .before .before .before .before .before .before
-    .blank .kept .1 .1 .0)
-    (λ c. c .before .before .before .before .before .before .before .before .before .before .before .before .before .before .before .before .before
-    .blank .kept .1 .1 .1 .0)
-    (λ c. c .before .before .before .before .before .before .before .before .before .before .before .before .before .before .before .before .before
-    .blank .kept .1 .1 .1 .1 .0)
-    (λ c. c .before .before .before .before .before .before .before .before .before .before .before .before .before .before .before .before .before
-    .blank .kept .1 .1 .1 .1 .1 .0)
-    (λ c. c .before .before .before .before .before .before .before .before .before .before .before .before .before .before .before .before .before
-    .blank .kept .1 .1 .1 .1 .1 .1 .0)
-    (λ c. c .before .before .before .before .before .before .before .before .before .before .before .before .before .before .before .before .before
-    .blank .kept .1 .1 .1 .1 .1 .1 .1 .0)
+    (λ c. let after-blank : tie.After-blank = search in after-blank .blank .kept .0)
+    (λ c. let after-blank : tie.After-blank = search in after-blank .blank .kept .1 .0)
+    (λ c. let after-blank : tie.After-blank = search in after-blank .blank .kept .1 .1 .0)
+    (λ c. let after-blank : tie.After-blank = search in after-blank .blank .kept .1 .1 .1 .0)
+    (λ c. let after-blank : tie.After-blank = search in after-blank .blank .kept .1 .1 .1 .1 .0)
+    (λ c. let after-blank : tie.After-blank = search in after-blank .blank .kept .1 .1 .1 .1 .1 .0)
+    (λ c. let after-blank : tie.After-blank = search in after-blank .blank .kept .1 .1 .1 .1 .1 .1 .0)
+    (λ c. let after-blank : tie.After-blank = search in after-blank .blank .kept .1 .1 .1 .1 .1 .1 .1 .0)
     returns-2)

@@ -7,21 +7,22 @@ use Rattle.sail_withdraw.proofs.withdraw.Tie as tie
 
 returns : tie.Need-returns
 returns c =
-    let judged = c .before in
-    let clear = judged .before .before .before .before .before .before .before .before .before in
-    withdraw-refused _ _ _ _ _ (clear .clear-after .ensures) _ (judged .judge-withdraw .ensures) (c .if1 .taken)
+    let judged : tie.After-judge-withdraw = search in
+    let cleared : tie.After-clear-after = search in
+    withdraw-refused _ _ _ _ _ (cleared .clear-after .ensures) _ (judged .judge-withdraw .ensures) (c .if1 .taken)
 
 take-requires : tie.Need-take-requires
 take-requires c κs =
-    let judged = c .before .before .before .before .before .before .before .before .before in
-    judged .judge-withdraw .ensures .on (c .before .before .before .before .before .before .before .before .if1 .left)
+    let accepted : tie.Else1 = search in
+    let judged : tie.After-judge-withdraw = search in
+    judged .judge-withdraw .ensures .on (accepted .if1 .left)
 
 returns-2 : tie.Need-returns-2
 returns-2 c =
-    let taken = c .before .before .before .before .before .before .before .before .before .before .before .before .before .before .before .before in
-    let clear = taken .before .before .before .before .before .before .before .before .before .before .before .before .before .before .before .before
-    .before .before .before in
-    withdraw-cleared _ _ _ _ _ (clear .clear-after .ensures) _ refl _ (taken .take .ensures)
+    let taken : tie.After-take = search in
+    let judged : tie.After-judge-withdraw = search in
+    let cleared : tie.After-clear-after = search in
+    withdraw-cleared _ _ _ _ _ (cleared .clear-after .ensures) _ refl _ (taken .take .ensures)
 
 pub withdraw-spec : {M : Type 1} → statement M
 withdraw-spec =
@@ -39,19 +40,12 @@ withdraw-spec =
     (λ c. refl)
     returns
     take-requires
-    (λ c. c .before .before .before .before .before .before .before .before .before .before .before .before .before .before .before .before .take .kept .1 .0)
-    (λ c. c .before .before .before .before .before .before .before .before .before .before .before .before .before .before .before .before .take
-    .kept .1 .1 .0)
-    (λ c. c .before .before .before .before .before .before .before .before .before .before .before .before .before .before .before .before .take
-    .kept .1 .1 .1 .0)
-    (λ c. c .before .before .before .before .before .before .before .before .before .before .before .before .before .before .before .before .take
-    .kept .1 .1 .1 .1 .0)
-    (λ c. c .before .before .before .before .before .before .before .before .before .before .before .before .before .before .before .before .take
-    .kept .1 .1 .1 .1 .1 .0)
-    (λ c. c .before .before .before .before .before .before .before .before .before .before .before .before .before .before .before .before .take
-    .kept .1 .1 .1 .1 .1 .1 .0)
-    (λ c. c .before .before .before .before .before .before .before .before .before .before .before .before .before .before .before .before .take
-    .kept .1 .1 .1 .1 .1 .1 .1 .0)
-    (λ c. c .before .before .before .before .before .before .before .before .before .before .before .before .before .before .before .before .take
-    .kept .1 .1 .1 .1 .1 .1 .1 .1 .0)
+    (λ c. let taken : tie.After-take = search in taken .take .kept .1 .0)
+    (λ c. let taken : tie.After-take = search in taken .take .kept .1 .1 .0)
+    (λ c. let taken : tie.After-take = search in taken .take .kept .1 .1 .1 .0)
+    (λ c. let taken : tie.After-take = search in taken .take .kept .1 .1 .1 .1 .0)
+    (λ c. let taken : tie.After-take = search in taken .take .kept .1 .1 .1 .1 .1 .0)
+    (λ c. let taken : tie.After-take = search in taken .take .kept .1 .1 .1 .1 .1 .1 .0)
+    (λ c. let taken : tie.After-take = search in taken .take .kept .1 .1 .1 .1 .1 .1 .1 .0)
+    (λ c. let taken : tie.After-take = search in taken .take .kept .1 .1 .1 .1 .1 .1 .1 .1 .0)
     returns-2)

@@ -1,6 +1,6 @@
 -- No bit keeps the place found before; a bit gives the hop base and the ones below it.
 use mathlib.Core.Path.{_∙_}
-use Rattle.tree.proofs.Walks.{better-none, better-at}
+use Rattle.tree_image.proofs.Walks.{better-none, better-at}
 use borrow.Author.Needs.{needs}
 use Rattle.tree.proofs.better.Statement.{statement}
 use Rattle.tree.proofs.better.Tie as tie

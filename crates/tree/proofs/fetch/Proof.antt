@@ -2,7 +2,7 @@
 -- counts one more than the nodes.
 use native.Mathlib.Omega.{arith}
 use borrow.Author.Needs.{needs}
-use Rattle.tree.proofs.Walks.{fetch-none, fetch-past, fetch-zero, fetch-big, fetch-hop}
+use Rattle.tree_image.proofs.Walks.{fetch-none, fetch-past, fetch-zero, fetch-big, fetch-hop}
 use Rattle.tree.proofs.fetch.Statement.{statement}
 use Rattle.tree.proofs.fetch.Tie as tie
 

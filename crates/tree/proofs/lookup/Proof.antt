@@ -2,8 +2,8 @@
 use mathlib.Core.Path.{_≡_, refl}
 use Prim.Native.Nat.{_≤_}
 use native.Mathlib.Omega.{arith}
-use Rattle.tree.specs.Walk.{walkFrom, treeSaid}
-use Rattle.tree.proofs.Walks.{walk-past, walk-broken, walk-last, walk-stop, walk-down}
+use Rattle.tree_image.specs.Walk.{walkFrom, treeSaid}
+use Rattle.tree_image.proofs.Walks.{walk-past, walk-broken, walk-last, walk-stop, walk-down}
 use Rattle.tree.proofs.lookup.Statement.{statement}
 use Rattle.tree.proofs.lookup.Tie as tie
 

@@ -1,7 +1,7 @@
 -- The one test of the code is that of `tryBit`.
 use mathlib.Core.Path.{refl}
 use native.Mathlib.Omega.{arith}
-use Rattle.tree.proofs.Walks.{try-hit, try-miss}
+use Rattle.tree_image.proofs.Walks.{try-hit, try-miss}
 use borrow.Author.Needs.{needs}
 use Rattle.tree.proofs.own_bit.Statement.{statement}
 use Rattle.tree.proofs.own_bit.Tie as tie

@@ -1,82 +1,62 @@
 -- The refusals in their order; where the image is well formed, what is put to its routes.
 use mathlib.Core.Path.{refl}
-use Rattle.tree_change.proofs.ChangeReturns.{is-formed, announced-three, announced-four, passed-route, announced-broken, announced-formed}
+use Rattle.tree_change.proofs.ChangeReturns.{Proper, proper, FineHop, fine, is-formed, passed-route}
+use Rattle.tree_change.proofs.ChangeReturns.{announced-three, announced-four, announced-broken, announced-formed}
 use Rattle.tree_change.proofs.announce.Statement.{statement}
 use Rattle.tree_change.proofs.announce.Tie as tie
 
-prefix-ok-requires : tie.Need-prefix-ok-requires
-prefix-ok-requires c κs = tt
+-- The tests that passed.
+abbrev prefix : tie.Else1 → Proper
+prefix c = proper _ _ (c .before .prefix-ok .ensures) (c .if1 .left)
 
-returns : tie.Need-returns
-returns c = announced-three _ _ _ _ _ _ (c .before .prefix-ok .ensures) (c .if1 .taken)
+abbrev hop : tie.Else2 → FineHop
+hop c = fine _ (c .before .hop-ok .ensures) (c .if2 .left)
 
-hop-ok-requires : tie.Need-hop-ok-requires
-hop-ok-requires c κs = tt
+no-prefix : tie.Need-returns
+no-prefix c = announced-three _ _ _ _ _ _ (c .before .prefix-ok .ensures) (c .if1 .taken)
 
-returns-2 : tie.Need-returns-2
-returns-2 c =
-    announced-four _ _ _ _ _ (c .before .before .before .prefix-ok .ensures) (c .before .before .if1 .left) _ _ (c .before .hop-ok .ensures) (c .if2 .taken)
+no-hop : tie.Need-returns-2
+no-hop c = let passed : tie.Else1 = search in announced-four _ _ (prefix passed) _ _ (c .before .hop-ok .ensures) (c .if2 .taken)
 
-check-requires : tie.Need-check-requires
-check-requires c κs = tt
-
-same-length : tie.Need-same-length
-same-length c = refl
-
-same-length-2 : tie.Need-same-length-2
-same-length-2 c = refl
-
-returns-3 : tie.Need-returns-3
-returns-3 c =
-    let at-check = c .before in
-    let at-hop = at-check .before .before .before .before in
-    announced-broken _ _ _ _ _ (at-hop .before .before .prefix-ok .ensures) (at-hop .before .if1 .left) _ _ (at-hop .hop-ok .ensures)
-    (at-check .before .before .before .if2 .left) _
-    (at-check .check .ensures) (c .if3 .taken)
-
-byte-to-word-requires : tie.Need-byte-to-word-requires
-byte-to-word-requires c κs = tt
+broken : tie.Need-returns-3
+broken c =
+    let fit : tie.Else2 = search in
+    let passed : tie.Else1 = search in
+    announced-broken _ _ (prefix passed) _ (c .before .check .ensures) (hop fit) (c .if3 .taken)
 
 put-requires : tie.Need-put-requires
 put-requires c κs =
-    let at-check = c .before .before .before .before in
-    let at-hop = at-check .before .before .before .before in (
-      is-formed _ _ _ (λ j. at-hop .before .before .before .before .slice-known .given j .fits) (at-check .check .ensures)
-          (c .before .before .before .if3 .left),
-      passed-route _ _ _ _ _ (at-hop .before .before .prefix-ok .ensures) (at-hop .before .if1 .left) (at-hop .hop-ok .ensures)
-          (at-check .before .before .before .if2 .left) _
-          (c .byte-to-word .ensures .0),
+    let whole : tie.Else3 = search in
+    let fit : tie.Else2 = search in
+    let passed : tie.Else1 = search in
+    let known : tie.After-slice-known = search in (
+      is-formed _ _ _ (λ j. known .slice-known .given j .fits) (whole .before .check .ensures) (whole .if3 .left),
+      passed-route (prefix passed) (hop fit) (c .byte-to-word .ensures .0),
     )
 
-same-length-3 : tie.Need-same-length-3
-same-length-3 c = c .before .before .before .before .put .kept .0
-
-same-length-4 : tie.Need-same-length-4
-same-length-4 c = c .before .before .before .before .put .kept .1 .0
-
-returns-4 : tie.Need-returns-4
-returns-4 c =
-    let at-put = c .before .before .before .before in
-    let at-check = at-put .before .before .before .before .before in
-    let at-hop = at-check .before .before .before .before in
-    announced-formed _ _ _ _ _ (at-hop .before .before .prefix-ok .ensures) (at-hop .before .if1 .left) _ _ (at-hop .hop-ok .ensures)
-    (at-check .before .before .before .if2 .left) _
-    (at-check .check .ensures) (at-put .before .before .before .before .if3 .left) _ (at-put .before .byte-to-word .ensures .0) _ (at-put .put .ensures)
+put : tie.Need-returns-4
+put c =
+    let done : tie.After-put = search in
+    let whole : tie.Else3 = search in
+    let fit : tie.Else2 = search in
+    let passed : tie.Else1 = search in
+    announced-formed _ _ (prefix passed) _ (whole .before .check .ensures) (hop fit) (whole .if3 .left) (done .before .byte-to-word .ensures .0)
+    (done .put .ensures)
 
 pub announce-spec : {M : Type 1} → statement M
 announce-spec =
     tie.close
     (tie.spec
-    prefix-ok-requires
-    returns
-    hop-ok-requires
-    returns-2
-    check-requires
-    same-length
-    same-length-2
-    returns-3
-    byte-to-word-requires
+    (λ c κs. tt)
+    no-prefix
+    (λ c κs. tt)
+    no-hop
+    (λ c κs. tt)
+    (λ c. refl)
+    (λ c. refl)
+    broken
+    (λ c κs. tt)
     put-requires
-    same-length-3
-    same-length-4
-    returns-4)
+    (λ c. let done : tie.After-put = search in done .put .kept .0)
+    (λ c. let done : tie.After-put = search in done .put .kept .1 .0)
+    put)

@@ -11,60 +11,79 @@ word-to-index-requires : tie.Need-word-to-index-requires
 word-to-index-requires c κs = tt
 
 returns : tie.Need-returns
-returns c = told-six (c .before .before .before .before .before .pre) (c .if1 .taken)
+returns c =
+    let start : tie.Start = search in
+    told-six (start .pre) (c .if1 .taken)
 
 add-if2 : tie.Need-add-if2
 add-if2 c = search needs
 
 returns-2 : tie.Need-returns-2
 returns-2 c =
-    let at-wide = c .before .before in
-    told-eleven (at-wide .before .before .before .before .pre) (c .before .if1 .left) _ (at-wide .word-to-index .ensures .0) (c .if2 .taken)
+    let else1 : tie.Else1 = search in
+    let at-wide : tie.After-word-to-index = search in
+    let start : tie.Start = search in
+    told-eleven (start .pre) (else1 .if1 .left) _ (at-wide .word-to-index .ensures .0) (c .if2 .taken)
 
 returns-3 : tie.Need-returns-3
 returns-3 c =
-    let at-wide = c .before .before .before in
-    told-twelve (at-wide .before .before .before .before .pre) (c .before .before .if1 .left) _ (at-wide .word-to-index .ensures .0) (c .before .if2 .left)
-    (c .if3 .taken)
+    let else2 : tie.Else2 = search in
+    let else1 : tie.Else1 = search in
+    let at-wide : tie.After-word-to-index = search in
+    let start : tie.Start = search in
+    told-twelve (start .pre) (else1 .if1 .left) _ (at-wide .word-to-index .ensures .0) (else2 .if2 .left) (c .if3 .taken)
 
 add-requires : tie.Need-add-requires
 add-requires c κs =
-    let at-if = c .before .before in
-    let at-wide = at-if .before .before .before in
-    add-ready (at-wide .before .before .before .before .pre) (at-if .before .before .if1 .left) _ (at-wide .word-to-index .ensures .0)
-    (at-if .before .if2 .left) (at-if .if3 .left)
+    let at-if : tie.Else3 = search in
+    let else2 : tie.Else2 = search in
+    let else1 : tie.Else1 = search in
+    let at-wide : tie.After-word-to-index = search in
+    let start : tie.Start = search in
+    add-ready (start .pre) (else1 .if1 .left) _ (at-wide .word-to-index .ensures .0) (else2 .if2 .left) (at-if .if3 .left)
 
 narrow-requires : tie.Need-narrow-requires
 narrow-requires c κs =
-    let at-if = c .before .before .before .before .before .before .before in
-    let at-wide = at-if .before .before .before in
-    add-few (at-wide .before .before .before .before .pre) (at-if .before .before .if1 .left) _ (at-wide .word-to-index .ensures .0) (at-if .before .if2 .left)
-    (c .before .before .before .before .add .ensures) .0
+    let after-add : tie.After-add = search in
+    let else2 : tie.Else2 = search in
+    let else1 : tie.Else1 = search in
+    let at-wide : tie.After-word-to-index = search in
+    let start : tie.Start = search in
+    add-few (start .pre) (else1 .if1 .left) _ (at-wide .word-to-index .ensures .0) (else2 .if2 .left) (after-add .add .ensures) .0
 
 add-narrow : tie.Need-add-narrow
 add-narrow c = search needs
 
 narrow-requires-2 : tie.Need-narrow-requires-2
 narrow-requires-2 c κs =
-    let at-if = c .before .before .before .before .before .before .before .before in
-    let at-wide = at-if .before .before .before in
-    add-few (at-wide .before .before .before .before .pre) (at-if .before .before .if1 .left) _ (at-wide .word-to-index .ensures .0) (at-if .before .if2 .left)
-    (c .before .before .before .before .before .add .ensures) .1
+    let after-add : tie.After-add = search in
+    let else2 : tie.Else2 = search in
+    let else1 : tie.Else1 = search in
+    let at-wide : tie.After-word-to-index = search in
+    let start : tie.Start = search in
+    add-few (start .pre) (else1 .if1 .left) _ (at-wide .word-to-index .ensures .0) (else2 .if2 .left) (after-add .add .ensures) .1
 
 same-length : tie.Need-same-length
-same-length c = c .before .before .before .before .before .before .add .kept .0
+same-length c =
+    let after-add : tie.After-add = search in
+    after-add .add .kept .0
 
 same-length-2 : tie.Need-same-length-2
-same-length-2 c = c .before .before .before .before .before .before .add .kept .1 .0
+same-length-2 c =
+    let after-add : tie.After-add = search in
+    after-add .add .kept .1 .0
 
 returns-4 : tie.Need-returns-4
 returns-4 c =
-    let at-add = c .before .before .before .before .before .before in
-    let at-if = at-add .before .before .before in
-    let at-wide = at-if .before .before .before in
-    told-added (at-wide .before .before .before .before .pre) (at-if .before .before .if1 .left) _ (at-wide .word-to-index .ensures .0)
-    (at-if .before .if2 .left) (at-if .if3 .left)
-    (at-add .add .ensures) _ _ (c .before .narrow .ensures) (c .narrow2 .ensures)
+    let after-narrow : tie.After-narrow = search in
+    let at-add : tie.After-add = search in
+    let at-if : tie.Else3 = search in
+    let else2 : tie.Else2 = search in
+    let else1 : tie.Else1 = search in
+    let at-wide : tie.After-word-to-index = search in
+    let start : tie.Start = search in
+    told-added (start .pre) (else1 .if1 .left) _ (at-wide .word-to-index .ensures .0) (else2 .if2 .left) (at-if .if3 .left) (at-add .add .ensures) _ _
+    (after-narrow .narrow .ensures) (c .narrow2 .ensures)
 
 pub put-new-spec : {M : Type 1} → statement M
 put-new-spec =

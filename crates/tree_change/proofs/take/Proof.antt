@@ -1,93 +1,69 @@
 -- The way down and the bit at its end tell whether the prefix stands; then it is taken out.
 use mathlib.Core.Path.{refl}
-use Rattle.tree_check.proofs.Steps.{not-failed}
-use Rattle.tree_change.specs.Stages.{Standing}
-use Rattle.tree_change.proofs.ChangeReturns.{ask-hops, ask-way, ask-end, is-standing, one-there, one-less, removed-few, told-nine, told-removed}
+use Rattle.tree_formed.proofs.Steps.{not-failed}
+use Rattle.tree_change.proofs.ChangeReturns.{ask-hops, ask-way, ask-end, Way, walked, Stood, is-standing}
+use Rattle.tree_change.proofs.ChangeReturns.{one-there, one-less, removed-few, told-nine, told-removed}
 use Rattle.tree_change.proofs.take.Statement.{statement}
 use Rattle.tree_change.proofs.take.Tie as tie
 
-hops-in-requires : tie.Need-hops-in-requires
-hops-in-requires c κs = ask-hops (c .before .before .before .pre .0)
+-- What is known at the end of the way.
+abbrev way : tie.After-is-there → Way
+way c =
+    let down : tie.After-descend = c .before .before in
+    let bit : tie.After-own-bit = down .before .before in
+    let counted : tie.After-hops-in = bit .before in
+    let lent : tie.After-slice-known2 = counted .before .before in
+    let start : tie.Start = lent .before .before in
+    walked (start .pre .0) (counted .hops-in .ensures) (start .pre .1) (bit .own-bit .ensures) (down .descend .ensures) (c .is-there .ensures)
+
+abbrev standing : tie.Else1 → Stood
+standing c = record { way = way (c .before); there = not-failed _ _ refl (c .if1 .left) }
 
 own-bit-requires : tie.Need-own-bit-requires
-own-bit-requires c κs = c .before .before .before .before .pre .1 .len-ok
+own-bit-requires c κs = let start : tie.Start = search in start .pre .1 .len-ok
 
 descend-requires : tie.Need-descend-requires
-descend-requires c κs = let pre = c .before .before .before .before .before .before .pre in ask-way (pre .0) (pre .1 .len-ok)
+descend-requires c κs = let start : tie.Start = search in ask-way (start .pre .0) (start .pre .1 .len-ok)
 
 is-there-requires : tie.Need-is-there-requires
 is-there-requires c κs =
-    ask-end (c .before .before .before .before .before .before .before .before .pre .0) (c .before .descend .ensures)
-    (c .before .before .before .own-bit .ensures)
-
-same-length : tie.Need-same-length
-same-length c = refl
-
-returns : tie.Need-returns
-returns c =
-    let at-way = c .before .before .before in
-    let pre = at-way .before .before .before .before .before .before .before .pre in
-    told-nine (pre .0) (at-way .before .before .before .hops-in .ensures) (pre .1) (at-way .before .before .own-bit .ensures)
-    (at-way .descend .ensures) _ (c .before .is-there .ensures)
-    (c .if1 .taken)
-
--- the prefix stands
-standing : (c : tie.Else1)
-    → Standing
-    (c .before .before .before .before .before .before .before .before .before .before .args .words .now)
-    (c .before .before .before .before .before .before .before .before .before .before .args .hops .now)
-    (c .before .before .before .before .before .before .before .before .before .before .args .n)
-    (c .before .before .before .before .before .before .hops-in .result)
-    (c .before .before .before .descend .result .at)
-    (c .before .before .before .before .before .before .before .before .before .before .args .addr)
-    (c .before .before .before .before .before .before .before .before .before .before .args .len)
-    (c .before .before .before .before .before .own-bit .result)
-standing c =
-    let at-way = c .before .before .before in
-    let pre = at-way .before .before .before .before .before .before .before .pre in
-    is-standing (pre .0) (at-way .before .before .before .hops-in .ensures) (pre .1) (at-way .before .before .own-bit .ensures)
-    (at-way .descend .ensures) _ (c .before .is-there .ensures)
-    (not-failed _ _ refl (c .if1 .left))
-
-sub-left : tie.Need-sub-left
-sub-left c = one-there (standing c)
-
-remove-requires : tie.Need-remove-requires
-remove-requires c κs = one-less (standing (c .before .before))
+    let down : tie.After-descend = search in
+    let bit : tie.After-own-bit = search in
+    let start : tie.Start = search in
+    ask-end (start .pre .0) (down .descend .ensures) (bit .own-bit .ensures)
 
 narrow-requires : tie.Need-narrow-requires
 narrow-requires c κs =
-    removed-few (standing (c .before .before .before .before .before .before .before)) (c .before .before .before .before .remove .ensures) .0
+    let done : tie.After-remove = search in
+    let there : tie.Else1 = search in
+    removed-few (is-standing (standing there)) (done .remove .ensures) .0
 
 narrow-requires-2 : tie.Need-narrow-requires-2
 narrow-requires-2 c κs =
-    removed-few (standing (c .before .before .before .before .before .before .before .before)) (c .before .before .before .before .before .remove .ensures) .1
+    let done : tie.After-remove = search in
+    let there : tie.Else1 = search in
+    removed-few (is-standing (standing there)) (done .remove .ensures) .1
 
-same-length-2 : tie.Need-same-length-2
-same-length-2 c = c .before .before .before .before .before .before .remove .kept .0
-
-same-length-3 : tie.Need-same-length-3
-same-length-3 c = c .before .before .before .before .before .before .remove .kept .1 .0
-
-returns-2 : tie.Need-returns-2
-returns-2 c =
-    told-removed (standing (c .before .before .before .before .before .before .before .before .before))
-    (c .before .before .before .before .before .before .remove .ensures) _ _ (c .before .narrow .ensures) (c .narrow2 .ensures)
+removed : tie.Need-returns-2
+removed c =
+    let done : tie.After-remove = search in
+    let there : tie.Else1 = search in
+    told-removed (is-standing (standing there)) (done .remove .ensures) _ _ (c .before .narrow .ensures) (c .narrow2 .ensures)
 
 pub take-spec : {M : Type 1} → statement M
 take-spec =
     tie.close
     (tie.spec
-    hops-in-requires
+    (λ c κs. let start : tie.Start = search in ask-hops (start .pre .0))
     own-bit-requires
     descend-requires
     is-there-requires
-    same-length
-    returns
-    sub-left
-    remove-requires
+    (λ c. refl)
+    (λ c. told-nine (way (c .before)) (c .if1 .taken))
+    (λ c. one-there (is-standing (standing c)))
+    (λ c κs. let there : tie.Else1 = search in one-less (is-standing (standing there)))
     narrow-requires
     narrow-requires-2
-    same-length-2
-    same-length-3
-    returns-2)
+    (λ c. let done : tie.After-remove = search in done .remove .kept .0)
+    (λ c. let done : tie.After-remove = search in done .remove .kept .1 .0)
+    removed)

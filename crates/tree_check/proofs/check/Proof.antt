@@ -1,5 +1,5 @@
 -- Each step that fails is one of the parts of `wellFormed`, and where none fails all of them hold.
-use Rattle.tree_check.proofs.Steps.{
+use Rattle.tree_formed.proofs.Steps.{
   not-failed,
   check-rooted,
   check-counted,

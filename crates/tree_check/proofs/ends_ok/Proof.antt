@@ -3,7 +3,7 @@ use mathlib.Core.Path.{_≡_, refl}
 use Prim.Native.Nat.{_+_, _-_, _≤_}
 use native.Mathlib.Omega.{arith}
 use borrow.Author.Needs.{needs}
-use Rattle.tree_check.proofs.Stretches.{EndsTo, ends-start, ends-next, ends-all}
+use Rattle.tree_formed.proofs.Stretches.{EndsTo, ends-start, ends-next, ends-all}
 use Rattle.tree_check.proofs.ends_ok.Statement.{statement}
 use Rattle.tree_check.proofs.ends_ok.Tie as tie
 

@@ -2,7 +2,7 @@
 use Prim.Native.Nat.{_-_, _≤_}
 use native.Mathlib.Omega.{arith}
 use borrow.Author.Needs.{needs}
-use Rattle.tree_check.proofs.Steps.{FineTo, fine-none, fine-more, fine-all}
+use Rattle.tree_formed.proofs.Steps.{FineTo, fine-none, fine-more, fine-all}
 use Rattle.tree_check.proofs.hops_fine.Statement.{statement}
 use Rattle.tree_check.proofs.hops_fine.Tie as tie
 

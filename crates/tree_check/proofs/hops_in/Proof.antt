@@ -1,6 +1,6 @@
 -- The hop base of the last node is the number of hops before it.
 use mathlib.Core.Path.{_∙_}
-use Rattle.tree_check.proofs.Steps.{hops-last}
+use Rattle.tree_formed.proofs.Steps.{hops-last}
 use borrow.Author.Needs.{needs}
 use Rattle.tree_check.proofs.hops_in.Statement.{statement}
 use Rattle.tree_check.proofs.hops_in.Tie as tie

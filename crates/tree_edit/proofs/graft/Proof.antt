@@ -1,142 +1,76 @@
 -- Each step is asked what the one before it left; together they leave the words with the new node.
 use lib.ListN.{length-set}
+use Rattle.tree_edit.proofs.Steps.{After, first, next, Grafting, grafting, withLast, opening, raising, last-put}
 use Rattle.tree_edit.proofs.Steps.{graft-open, graft-raise, graft-size, graft-stores, graft-leaves}
 use borrow.Author.Needs.{needs}
 use Rattle.tree_edit.proofs.graft.Statement.{statement}
 use Rattle.tree_edit.proofs.graft.Tie as tie
 
-mul-word : tie.Need-mul-word
-mul-word c = search needs
+-- What is known after each step.
+abbrev put : tie.After-put-node → After Grafting withLast
+put c =
+    let second : tie.After-narrow2 = c .before in
+    let other : tie.After-narrow = second .before in
+    let at : tie.After-child-place = other .before .before in
+    let lent : tie.After-slice-known2 = at .before .before in
+    let start : tie.Start = lent .before .before in
+    let found = grafting (start .pre) (at .child-place .ensures .0) in
+    first found (last-put found (other .narrow .ensures) (second .narrow2 .ensures) (c .put-node .ensures))
 
-mul-word-2 : tie.Need-mul-word-2
-mul-word-2 c = search needs
+abbrev opened : tie.After-up32 → After Grafting (λ g. opening g (withLast g))
+opened c =
+    let lent : tie.After-slice-known3 = c .before .before in
+    let before : tie.After-put-node = lent .before .before in
+    next opening (put before) (c .up32 .ensures)
 
-slice-read-word : tie.Need-slice-read-word
-slice-read-word c = search needs
+abbrev raised : tie.After-raise → After Grafting (λ g. raising g (opening g (withLast g)))
+raised c =
+    let lent : tie.After-slice-known4 = c .before .before in
+    let before : tie.After-up32 = lent .before .before in
+    next raising (opened before) (c .raise .ensures)
 
-child-place-requires : tie.Need-child-place-requires
-child-place-requires c κs = search needs
-
-narrow-requires : tie.Need-narrow-requires
-narrow-requires c κs = search needs
-
-narrow-requires-2 : tie.Need-narrow-requires-2
-narrow-requires-2 c κs = search needs
-
-put-node-requires : tie.Need-put-node-requires
-put-node-requires c κs = search needs
-
-mul-open-words : tie.Need-mul-open-words
-mul-open-words c = search needs
-
-mul-open-words-2 : tie.Need-mul-open-words-2
-mul-open-words-2 c = search needs
-
-open-words-requires : tie.Need-open-words-requires
-open-words-requires c κs =
-    let put = c .before .before .before in
-    let at = put .before .before .before .before in
-    graft-open (at .before .before .before .before .pre) _ _ _ (at .child-place .ensures .0) _
-    (put .before .before .narrow .ensures) (put .before .narrow2 .ensures) (put .put-node .ensures)
-
-add-raise : tie.Need-add-raise
-add-raise c = search needs
-
-add-raise-2 : tie.Need-add-raise-2
-add-raise-2 c = search needs
+up32-requires : tie.Need-up32-requires
+up32-requires c κs = let before : tie.After-put-node = search in graft-open (put before)
 
 raise-requires : tie.Need-raise-requires
-raise-requires c κs =
-    let opened = c .before .before .before in
-    let put = opened .before .before .before .before in
-    let at = put .before .before .before .before in
-    graft-raise (at .before .before .before .before .pre) _ _ _ (at .child-place .ensures .0) _
-    (put .before .before .narrow .ensures) (put .before .narrow2 .ensures) (put .put-node .ensures) _ (opened .open-words .ensures)
-
-mul-words : tie.Need-mul-words
-mul-words c = search needs
-
-mul-words-2 : tie.Need-mul-words-2
-mul-words-2 c = search needs
+raise-requires c κs = let before : tie.After-up32 = search in graft-raise (opened before)
 
 slice-write-words : tie.Need-slice-write-words
-slice-write-words c =
-    let raised = c .before .before in
-    let opened = raised .before .before .before .before in
-    let put = opened .before .before .before .before in
-    let at = put .before .before .before .before in
-    graft-stores (at .before .before .before .before .pre) _ _ _ (at .child-place .ensures .0) _
-    (put .before .before .narrow .ensures) (put .before .narrow2 .ensures) (put .put-node .ensures) _ (opened .open-words .ensures)
-    _ (raised .raise .ensures) .0
-
-add-with-bit : tie.Need-add-with-bit
-add-with-bit c = search needs
-
-with-bit-requires : tie.Need-with-bit-requires
-with-bit-requires c κs = search needs
-
-mul-words-3 : tie.Need-mul-words-3
-mul-words-3 c = search needs
-
-mul-words-4 : tie.Need-mul-words-4
-mul-words-4 c = search needs
+slice-write-words c = let before : tie.After-raise = search in graft-stores (raised before) .0
 
 slice-write-words-2 : tie.Need-slice-write-words-2
-slice-write-words-2 c =
-    let raised = c .before .before .before in
-    let opened = raised .before .before .before .before in
-    let put = opened .before .before .before .before in
-    let at = put .before .before .before .before in
-    simp length-set
-    (graft-stores (at .before .before .before .before .pre) _ _ _ (at .child-place .ensures .0) _
-    (put .before .before .narrow .ensures) (put .before .narrow2 .ensures) (put .put-node .ensures) _ (opened .open-words .ensures)
-    _ (raised .raise .ensures) .1)
+slice-write-words-2 c = let before : tie.After-raise = search in simp length-set (graft-stores (raised before) .1)
 
 same-length : tie.Need-same-length
-same-length c =
-    let raised = c .before .before .before in
-    let opened = raised .before .before .before .before in
-    let put = opened .before .before .before .before in
-    let at = put .before .before .before .before in
-    simp length-set
-    (graft-size (at .before .before .before .before .pre) _ _ _ (at .child-place .ensures .0) _
-    (put .before .before .narrow .ensures) (put .before .narrow2 .ensures) (put .put-node .ensures) _ (opened .open-words .ensures)
-    _ (raised .raise .ensures))
+same-length c = let before : tie.After-raise = search in simp length-set (graft-size (raised before))
 
 returns : tie.Need-returns
-returns c =
-    let raised = c .before .before .before in
-    let opened = raised .before .before .before .before in
-    let put = opened .before .before .before .before in
-    let at = put .before .before .before .before in
-    graft-leaves (at .before .before .before .before .pre) _ _ _ (at .child-place .ensures .0) _
-    (put .before .before .narrow .ensures) (put .before .narrow2 .ensures) (put .put-node .ensures) _ (opened .open-words .ensures)
-    _ (raised .raise .ensures) _ (c .with-bit .ensures)
+returns c = let before : tie.After-raise = search in graft-leaves (raised before) _ (c .with-bit .ensures)
 
 pub graft-spec : {M : Type 1} → statement M
 graft-spec =
     tie.close
     (tie.spec
-    mul-word
-    mul-word-2
-    slice-read-word
-    child-place-requires
-    narrow-requires
-    narrow-requires-2
-    put-node-requires
-    mul-open-words
-    mul-open-words-2
-    open-words-requires
-    add-raise
-    add-raise-2
+    (λ c. search needs)
+    (λ c. search needs)
+    (λ c. search needs)
+    (λ c κs. search needs)
+    (λ c κs. search needs)
+    (λ c κs. search needs)
+    (λ c κs. search needs)
+    (λ c. search needs)
+    (λ c. search needs)
+    up32-requires
+    (λ c. search needs)
+    (λ c. search needs)
     raise-requires
-    mul-words
-    mul-words-2
+    (λ c. search needs)
+    (λ c. search needs)
     slice-write-words
-    add-with-bit
-    with-bit-requires
-    mul-words-3
-    mul-words-4
+    (λ c. search needs)
+    (λ c κs. search needs)
+    (λ c. search needs)
+    (λ c. search needs)
     slice-write-words-2
     same-length
     returns)

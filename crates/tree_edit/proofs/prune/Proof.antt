@@ -1,114 +1,67 @@
 -- Each step is asked what the one before it left; together they leave the words without the node.
+use Rattle.tree_edit.proofs.Steps.{After, first, next, Pruning, pruning, cleared, lowering, closing, blanking}
 use Rattle.tree_edit.proofs.Steps.{prune-lower, prune-close, prune-put, prune-size, prune-leaves}
 use borrow.Author.Needs.{needs}
 use Rattle.tree_edit.proofs.prune.Statement.{statement}
 use Rattle.tree_edit.proofs.prune.Tie as tie
 
-mul-word : tie.Need-mul-word
-mul-word c = search needs
+-- What is known after each step.
+abbrev found : tie.After-without-bit → Pruning
+found c =
+    let at : tie.After-child-place = c .before in
+    let lent : tie.After-slice-known2 = at .before .before in
+    let start : tie.Start = lent .before .before in
+    pruning (start .pre) (at .child-place .ensures .0) (c .without-bit .ensures)
 
-mul-word-2 : tie.Need-mul-word-2
-mul-word-2 c = search needs
+abbrev lowered : tie.After-lower → After Pruning (λ p. lowering p (cleared p))
+lowered c = let before : tie.After-without-bit = c .before .before in first (found before) (c .lower .ensures)
 
-slice-read-word : tie.Need-slice-read-word
-slice-read-word c = search needs
+abbrev closed : tie.After-down32 → After Pruning (λ p. closing p (lowering p (cleared p)))
+closed c =
+    let lent : tie.After-slice-known3 = c .before .before in
+    let before : tie.After-lower = lent .before .before in
+    next closing (lowered before) (c .down32 .ensures)
 
-child-place-requires : tie.Need-child-place-requires
-child-place-requires c κs = search needs
-
-add-without-bit : tie.Need-add-without-bit
-add-without-bit c = search needs
-
-without-bit-requires : tie.Need-without-bit-requires
-without-bit-requires c κs = search needs
-
-mul-words : tie.Need-mul-words
-mul-words c = search needs
-
-mul-words-2 : tie.Need-mul-words-2
-mul-words-2 c = search needs
-
-slice-write-words : tie.Need-slice-write-words
-slice-write-words c = search needs
-
-add-lower : tie.Need-add-lower
-add-lower c = search needs
-
-add-lower-2 : tie.Need-add-lower-2
-add-lower-2 c = search needs
+abbrev blanked : tie.After-put-node → After Pruning (λ p. blanking p (closing p (lowering p (cleared p))))
+blanked c =
+    let lent : tie.After-slice-known4 = c .before .before in
+    let before : tie.After-down32 = lent .before .before in
+    next blanking (closed before) (c .put-node .ensures)
 
 lower-requires : tie.Need-lower-requires
-lower-requires c κs =
-    let cleared = c .before in
-    let at = cleared .before in
-    prune-lower (at .before .before .before .before .pre) _ _ (at .child-place .ensures .0)
-    (cleared .without-bit .ensures .0) (cleared .without-bit .ensures .1) (cleared .without-bit .ensures .2)
+lower-requires c κs = let before : tie.After-without-bit = search in prune-lower (found before)
 
-mul-close-words : tie.Need-mul-close-words
-mul-close-words c = search needs
-
-mul-close-words-2 : tie.Need-mul-close-words-2
-mul-close-words-2 c = search needs
-
-close-words-requires : tie.Need-close-words-requires
-close-words-requires c κs =
-    let lowered = c .before .before .before in
-    let cleared = lowered .before .before in
-    let at = cleared .before in
-    prune-close (at .before .before .before .before .pre) _ _ (at .child-place .ensures .0)
-    (cleared .without-bit .ensures .0) (cleared .without-bit .ensures .1) (cleared .without-bit .ensures .2) _ (lowered .lower .ensures)
+down32-requires : tie.Need-down32-requires
+down32-requires c κs = let before : tie.After-lower = search in prune-close (lowered before)
 
 put-node-requires : tie.Need-put-node-requires
-put-node-requires c κs =
-    let closed = c .before .before .before in
-    let lowered = closed .before .before .before .before in
-    let cleared = lowered .before .before in
-    let at = cleared .before in
-    prune-put (at .before .before .before .before .pre) _ _ (at .child-place .ensures .0)
-    (cleared .without-bit .ensures .0) (cleared .without-bit .ensures .1) (cleared .without-bit .ensures .2)
-    _ (lowered .lower .ensures) _ (closed .close-words .ensures)
+put-node-requires c κs = let before : tie.After-down32 = search in prune-put (closed before)
 
 same-length : tie.Need-same-length
-same-length c =
-    let blank = c .before .before in
-    let closed = blank .before .before .before .before in
-    let lowered = closed .before .before .before .before in
-    let cleared = lowered .before .before in
-    let at = cleared .before in
-    prune-size (at .before .before .before .before .pre) _ _ (at .child-place .ensures .0)
-    (cleared .without-bit .ensures .0) (cleared .without-bit .ensures .1) (cleared .without-bit .ensures .2)
-    _ (lowered .lower .ensures) _ (closed .close-words .ensures) _ (blank .put-node .ensures)
+same-length c = let before : tie.After-put-node = search in prune-size (blanked before)
 
 returns : tie.Need-returns
-returns c =
-    let blank = c .before .before in
-    let closed = blank .before .before .before .before in
-    let lowered = closed .before .before .before .before in
-    let cleared = lowered .before .before in
-    let at = cleared .before in
-    prune-leaves (at .before .before .before .before .pre) _ _ (at .child-place .ensures .0)
-    (cleared .without-bit .ensures .0) (cleared .without-bit .ensures .1) (cleared .without-bit .ensures .2)
-    _ (lowered .lower .ensures) _ (closed .close-words .ensures) _ (blank .put-node .ensures)
+returns c = let before : tie.After-put-node = search in prune-leaves (blanked before)
 
 pub prune-spec : {M : Type 1} → statement M
 prune-spec =
     tie.close
     (tie.spec
-    mul-word
-    mul-word-2
-    slice-read-word
-    child-place-requires
-    add-without-bit
-    without-bit-requires
-    mul-words
-    mul-words-2
-    slice-write-words
-    add-lower
-    add-lower-2
+    (λ c. search needs)
+    (λ c. search needs)
+    (λ c. search needs)
+    (λ c κs. search needs)
+    (λ c. search needs)
+    (λ c κs. search needs)
+    (λ c. search needs)
+    (λ c. search needs)
+    (λ c. search needs)
+    (λ c. search needs)
+    (λ c. search needs)
     lower-requires
-    mul-close-words
-    mul-close-words-2
-    close-words-requires
+    (λ c. search needs)
+    (λ c. search needs)
+    down32-requires
     put-node-requires
     same-length
     returns)

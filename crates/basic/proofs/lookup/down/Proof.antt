@@ -21,7 +21,9 @@ sub-l : tie.Need-sub-l Inv-loop μ-loop
 sub-l c = omega arith
 
 mapped-requires : tie.Need-mapped-requires Inv-loop μ-loop
-mapped-requires c κs = (c .before .before .before .before .pre, omega arith)
+mapped-requires c κs =
+    let start : tie.Start Inv-loop μ-loop = search in
+    (start .pre, omega arith)
 
 returns : tie.Need-returns Inv-loop μ-loop
 returns c =

@@ -21,9 +21,13 @@ add-result c = search needs
 
 returns : tie.Need-returns
 returns c =
-    let input = c .before .before .before .before .before .before .before .pre .0 in
-    let far = c .before .before .before .longest-record .ensures in
-    walk-long _ _ _ input _ _ _ far _ _ (c .before .before .if1 .taken) (c .before .read-record .ensures) (c .half-to-word .ensures .0)
+    let after-read-record : tie.After-read-record = search in
+    let then1 : tie.Then1 = search in
+    let after-longest-record : tie.After-longest-record = search in
+    let start : tie.Start = search in
+    let input = start .pre .0 in
+    let far = after-longest-record .longest-record .ensures in
+    walk-long _ _ _ input _ _ _ far _ _ (then1 .if1 .taken) (after-read-record .read-record .ensures) (c .half-to-word .ensures .0)
     (c .half-to-word .ensures .1)
 
 down-requires : tie.Need-down-requires
@@ -31,8 +35,11 @@ down-requires c κs = search needs
 
 returns-2 : tie.Need-returns-2
 returns-2 c =
-    let input = c .before .before .before .before .before .before .pre .0 in
-    walk-short _ _ _ input _ _ _ (c .before .before .longest-record .ensures) _ (c .before .if1 .left) (c .down .ensures)
+    let else1 : tie.Else1 = search in
+    let after-longest-record : tie.After-longest-record = search in
+    let start : tie.Start = search in
+    let input = start .pre .0 in
+    walk-short _ _ _ input _ _ _ (after-longest-record .longest-record .ensures) _ (else1 .if1 .left) (c .down .ensures)
 
 pub walk-spec : {M : Type 1} → statement M
 walk-spec =

@@ -30,7 +30,9 @@ shared-slice-read-walk : tie.Need-shared-slice-read-walk Inv-loop μ-loop
 shared-slice-read-walk c = search needs
 
 walk-requires : tie.Need-walk-requires Inv-loop μ-loop
-walk-requires c κs = c .before .before .before .before .before .before .before .before .before .pre
+walk-requires c κs =
+    let start : tie.Start Inv-loop μ-loop = search in
+    start .pre
 
 found-of-requires : tie.Need-found-of-requires Inv-loop μ-loop
 found-of-requires c κs = c .walk .ensures .1
@@ -42,7 +44,9 @@ mul-out : tie.Need-mul-out Inv-loop μ-loop
 mul-out c = search needs
 
 slice-write-out : tie.Need-slice-write-out Inv-loop μ-loop
-slice-write-out c = omega (arith, c .before .before .before .before .before .loop .inv .1)
+slice-write-out c =
+    let at-loop : tie.At-loop Inv-loop μ-loop = search in
+    omega (arith, at-loop .loop .inv .1)
 
 add-k : tie.Need-add-k Inv-loop μ-loop
 add-k c = search needs
@@ -52,11 +56,14 @@ loop-less c = omega arith
 
 loop-again : tie.Need-loop-again Inv-loop μ-loop
 loop-again c =
-    let at-loop = c .before .before .before .before .before .loop in
-    let top = c .before .before .before .before .before .before .before .before .before .before .before .before in
+    let after-found-of : tie.After-found-of Inv-loop μ-loop = search in
+    let after-walk : tie.After-walk Inv-loop μ-loop = search in
+    let at-loop : tie.At-loop Inv-loop μ-loop = search in
+    let top : tie.Start Inv-loop μ-loop = search in
+    let at-loop = at-loop .loop in
     let lent = top .args in
     let said : ℕ → ℕ = λ j. hopWord (basicSaid (lent .input .now) (lent .bits .now) (lent .cells .now) (getD (lent .addrs .now) j 0)) in
-    let done = each-word _ _ _ _ _ _ _ _ (top .pre) (c .before .before .walk .ensures .0) (c .before .found-of .ensures) (c .word .ensures) in (
+    let done = each-word _ _ _ _ _ _ _ _ (top .pre) (after-walk .walk .ensures .0) (after-found-of .found-of .ensures) (c .word .ensures) in (
       omega arith,
       simp length-set (at-loop .inv .1),
       stored-more said (at-loop .out) (at-loop .k) _ (omega (arith, at-loop .inv .1)) (at-loop .inv .2) done,

@@ -12,7 +12,10 @@ enum-known-n : tie.Need-enum-known-n
 enum-known-n c = search needs
 
 each-requires : tie.Need-each-requires
-each-requires c κs = good-told _ _ _ _ (c .before .before .before .before .check .ensures) _ (c .before .before .n .given .1)
+each-requires c κs =
+    let after-n : tie.After-n = search in
+    let after-check : tie.After-check = search in
+    good-told _ _ _ _ (after-check .check .ensures) _ (after-n .n .given .1)
 
 enum-known-f : tie.Need-enum-known-f
 enum-known-f c = search needs

@@ -24,8 +24,11 @@ add-result c = search needs
 
 returns : tie.Need-returns
 returns c =
-    let at = c .before .before .before .before .map-place .ensures .0 in
-    mapped-set _ _ _ _ _ _ at (c .before .before .before .is-set .ensures) _ (c .before .before .if1 .taken) (c .half-to-word .ensures)
+    let then1 : tie.Then1 = search in
+    let after-is-set : tie.After-is-set = search in
+    let after-map-place : tie.After-map-place = search in
+    let at = after-map-place .map-place .ensures .0 in
+    mapped-set _ _ _ _ _ _ at (after-is-set .is-set .ensures) _ (then1 .if1 .taken) (c .half-to-word .ensures)
 
 returns-2 : tie.Need-returns-2
 returns-2 c = mapped-clear _ _ _ _ _ _ (c .before .before .map-place .ensures .0) (c .before .is-set .ensures) (c .if1 .left)

@@ -1,33 +1,16 @@
 -- The invariant: the answer tells of the elements before j.
-use Prim.Native.Nat.{_-_, _≤_}
+use Prim.Native.Nat.{_-_}
 use native.Mathlib.Omega.{arith}
 use lib.ListN.{length}
-use borrow.Author.Needs.{needs}
-use Rattle.bits.specs.Tab.{Tells}
-use Rattle.buffers.proofs.Sames.{AgreeTo, other-length, agree-none, agree-stop, agree-more, agree-all}
+use Rattle.buffers.proofs.Sames.{Agreeing, other-length, agreeing-none, agreeing-stop, agreeing-more, agreeing-all}
 use Rattle.buffers.proofs.same.same16.Statement.{statement}
 use Rattle.buffers.proofs.same.same16.Tie as tie
 
 abbrev Inv-loop : tie.InvT-loop
-Inv-loop cells others same₀ j₀ same j = (j ≤ length cells) × Tells same (AgreeTo cells others j)
+Inv-loop cells others same₀ j₀ same j = Agreeing cells others same j
 
 abbrev μ-loop : tie.MeasureT-loop
 μ-loop cells others same₀ j₀ same j = length cells - j
-
-longer : tie.Need-returns Inv-loop μ-loop
-longer c = other-length _ _ (c .if1 .taken)
-
-loop-holds : tie.Need-loop-holds Inv-loop μ-loop
-loop-holds c = (omega arith, agree-none _ _)
-
-differ : tie.Need-loop-again Inv-loop μ-loop
-differ c = (omega arith, agree-stop _ _ _ (c .if2 .taken))
-
-agree : tie.Need-loop-again-2 Inv-loop μ-loop
-agree c = (omega arith, agree-more _ _ _ _ (c .if2 .left) (c .before .before .before .before .loop .inv .1))
-
-returns : tie.Need-returns-2 Inv-loop μ-loop
-returns c = agree-all _ _ _ _ (c .before .before .if1 .left) (omega arith) (c .before .loop .inv .1)
 
 pub same16-spec : {M : Type 1} → statement M
 same16-spec =
@@ -35,15 +18,15 @@ same16-spec =
     (tie.spec
     Inv-loop
     μ-loop
-    longer
-    loop-holds
-    (λ c. search needs)
-    (λ c. search needs)
-    (λ c. search needs)
-    (λ c. search needs)
-    (λ c. search needs)
-    (λ c. search needs)
-    differ
-    (λ c. search needs)
-    agree
-    returns)
+    (λ c. other-length _ _ (c .if1 .taken))
+    (λ c. agreeing-none (c .if1 .left))
+    (λ c. omega arith)
+    (λ c. omega arith)
+    (λ c. omega arith)
+    (λ c. omega arith)
+    (λ c. omega arith)
+    (λ c. omega arith)
+    (λ c. search agreeing-stop)
+    (λ c. omega arith)
+    (λ c. search agreeing-more)
+    (λ c. search agreeing-all))

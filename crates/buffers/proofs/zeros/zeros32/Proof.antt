@@ -1,30 +1,15 @@
 -- The invariant: the answer tells of the range up to j.
-use Prim.Native.Nat.{_-_, _≤_}
+use Prim.Native.Nat.{_-_}
 use native.Mathlib.Omega.{arith}
-use borrow.Author.Needs.{needs}
-use Rattle.bits.specs.Tab.{Tells}
-use Rattle.buffers.specs.Zeros.{Zeros}
-use Rattle.buffers.proofs.Blanks.{zeros-none, zeros-stop, zeros-more, zeros-all}
+use Rattle.buffers.proofs.Blanks.{Looking, looking-none, looking-stop, looking-more, looking-all}
 use Rattle.buffers.proofs.zeros.zeros32.Statement.{statement}
 use Rattle.buffers.proofs.zeros.zeros32.Tie as tie
 
 abbrev Inv-loop : tie.InvT-loop
-Inv-loop words from to all₀ j₀ all j = (from ≤ j) × (j ≤ to) × Tells all (Zeros words from j)
+Inv-loop words from to all₀ j₀ all j = Looking words from to all j
 
 abbrev μ-loop : tie.MeasureT-loop
 μ-loop words from to all₀ j₀ all j = to - j
-
-loop-holds : tie.Need-loop-holds Inv-loop μ-loop
-loop-holds c = (omega arith, search needs, zeros-none _ _)
-
-other : tie.Need-loop-again Inv-loop μ-loop
-other c = (omega arith, omega arith, search zeros-stop)
-
-zero : tie.Need-loop-again-2 Inv-loop μ-loop
-zero c = (omega arith, omega arith, search zeros-more)
-
-returns : tie.Need-returns Inv-loop μ-loop
-returns c = search zeros-all
 
 pub zeros32-spec : {M : Type 1} → statement M
 zeros32-spec =
@@ -32,12 +17,12 @@ zeros32-spec =
     (tie.spec
     Inv-loop
     μ-loop
-    loop-holds
-    (λ c. search needs)
-    (λ c. search needs)
-    (λ c. search needs)
-    (λ c. search needs)
-    other
-    (λ c. search needs)
-    zero
-    returns)
+    (λ c. looking-none (c .pre .rises))
+    (λ c. omega arith)
+    (λ c. omega arith)
+    (λ c. omega arith)
+    (λ c. omega arith)
+    (λ c. search looking-stop)
+    (λ c. omega arith)
+    (λ c. search looking-more)
+    (λ c. search looking-all))

@@ -1,7 +1,7 @@
 -- `cards::repairs::gh_repair`. The sizes and the words are judged first; then it is what the repair says and leaves.
 use mathlib.Core.Path.{refl, sym, _∙_}
 use borrow.Author.Needs.{needs}
-use Rattle.packing.proofs.Putting.{fault-none}
+use Rattle.packing_repairs.proofs.Putting.{fault-none}
 use Rattle.cards.proofs.Putting.{repair-off, repair-on}
 use Rattle.cards.proofs.repairs.gh_repair.Statement.{statement}
 use Rattle.cards.proofs.repairs.gh_repair.Tie as tie
@@ -11,19 +11,18 @@ abbrev judged : tie.Else1 → tie.After-words-fault
 judged c = c .before
 
 abbrev clear : tie.After-repair → tie.Else1
-clear c = c .before .before .before .before .before .before .before .before .before
+clear c = search
 
 abbrev put : tie.After-tell → tie.After-repair
-put c =
-    c .before .before .before .before .before .before .before .before .before .before .before .before .before .before .before .before .before .before .before
+put c = search
 
 refused : tie.Need-returns
 refused c = let w = c .before in repair-off _ _ _ _ _ (w .before .sizes .ensures) (w .words-fault .ensures) (c .if1 .taken) _ refl
 
 tell-requires : tie.Need-tell-requires
 tell-requires c κs =
-    let d = c .before .before .before .before .before .before .before .before .before in
-    let e = clear (d .before .before .before .before .before .before .before .before .before) in
+    let after-repair : tie.After-repair = search in
+    let e = clear after-repair in
     fault-none _ _ (sym (judged e .words-fault .ensures) ∙ e .if1 .left) .1
 
 returns-2 : tie.Need-returns-2

@@ -5,7 +5,7 @@ use Rattle.cards.proofs.tables.gh_announce.Tie as tie
 
 -- after the call, seen from the end
 abbrev called : tie.After-announced → tie.After-announce
-called c = c .before .before .before .before .before .before .before .before .before .before .before .before .before .before .before .before .before .before
+called c = search
 
 returns : tie.Need-returns
 returns c =

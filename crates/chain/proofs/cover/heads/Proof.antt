@@ -18,6 +18,29 @@ Inv-loop ws par₀ m₀ b₀ par m b = (b ≤ 257) × (length par ≡ length par
 abbrev μ-loop : tie.MeasureT-loop
 μ-loop ws par₀ m₀ b₀ par m b = 257 - b
 
+loop-again : tie.Need-loop-again Inv-loop μ-loop
+loop-again c =
+    let at-loop : tie.At-loop Inv-loop μ-loop = search in
+    let start : tie.Start Inv-loop μ-loop = search in
+    let l = at-loop .loop .inv in (
+      omega arith,
+      simp length-set (l .1),
+      parents-keep _ _ _ _ _ (omega arith)
+          (l .2),
+      heads-more _ _ _ _ (omega arith) (c .place-on .ensures) (l .3),
+      on-from _ _ _ _ (omega arith)
+          (start .pre .0 .words) (c .place-on .ensures),
+    )
+
+returns : tie.Need-returns Inv-loop μ-loop
+returns c =
+    let at-loop : tie.At-loop Inv-loop μ-loop = search in
+    let start : tie.Start Inv-loop μ-loop = search in
+    let l = at-loop .loop in
+    let q = start .pre .0 in
+    let e : l .b ≡ 257 = omega arith in
+    record { words = q .words; few = q .few; room = l .inv .1 ∙ q .room; parents = l .inv .2; heads = rw e at (l .inv .3) }
+
 pub heads-spec : {M : Type 1} → statement M
 heads-spec =
     tie.close
@@ -33,17 +56,6 @@ heads-spec =
     (λ c. search needs)
     (λ c. search needs)
     (λ c. search needs)
-    (λ c. let l = c .before .before .loop .inv in (
-      omega arith,
-      simp length-set (l .1),
-      parents-keep _ _ _ _ _ (omega arith)
-          (l .2),
-      heads-more _ _ _ _ (omega arith) (c .place-on .ensures) (l .3),
-      on-from _ _ _ _ (omega arith)
-          (c .before .before .before .before .before .pre .0 .words) (c .place-on .ensures),
-    ))
+    loop-again
     (λ c. c .before .loop .inv .1)
-    (λ c. let l = c .before .loop in
-    let q = c .before .before .before .before .pre .0 in
-    let e : l .b ≡ 257 = omega arith in
-    record { words = q .words; few = q .few; room = l .inv .1 ∙ q .room; parents = l .inv .2; heads = rw e at (l .inv .3) }))
+    returns)

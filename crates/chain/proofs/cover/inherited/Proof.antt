@@ -5,6 +5,12 @@ use borrow.Author.Needs.{needs}
 use Rattle.chain.proofs.cover.inherited.Statement.{statement}
 use Rattle.chain.proofs.cover.inherited.Tie as tie
 
+shared-slice-read-result : tie.Need-shared-slice-read-result
+shared-slice-read-result c =
+    let after-last-cover : tie.After-last-cover = search in
+    let start : tie.Start = search in
+    omega (arith, start .pre .1 .place .to, after-last-cover .last-cover .ensures .to)
+
 pub inherited-spec : {M : Type 1} → statement M
 inherited-spec =
     tie.close
@@ -13,6 +19,6 @@ inherited-spec =
     (λ c. (search none-best, search needs))
     (λ c. search needs)
     (λ c. search needs)
-    (λ c. omega (arith, c .before .before .before .before .before .pre .1 .place .to, c .before .before .last-cover .ensures .to))
+    shared-slice-read-result
     (λ c. search needs)
     (λ c. (search one-best, search one-small)))

@@ -12,6 +12,13 @@ Inv-loop ws par j p i m₀ m = LeftBelow ws j p i m
 abbrev μ-loop : tie.MeasureT-loop
 μ-loop ws par j p i m₀ m = m
 
+covering-requires : tie.Need-covering-requires Inv-loop μ-loop
+covering-requires c κs =
+    let at-loop : tie.At-loop Inv-loop μ-loop = search in
+    let start : tie.Start Inv-loop μ-loop = search in
+    let q = start .pre in
+    (search needs, q .words .fine (at-loop .loop .m - 1) (omega arith) .prefix .len-ok)
+
 pub last-cover-spec : {M : Type 1} → statement M
 last-cover-spec =
     tie.close
@@ -22,8 +29,7 @@ last-cover-spec =
     (λ c. search needs)
     (λ c. search needs)
     (λ c. search needs)
-    (λ c κs. let q = c .before .before .before .before .before .pre in
-    (search needs, q .words .fine (c .before .before .loop .m - 1) (omega arith) .prefix .len-ok))
+    covering-requires
     (λ c. search found)
     (λ c. search needs)
     (λ c. search needs)

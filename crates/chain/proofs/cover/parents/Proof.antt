@@ -17,6 +17,30 @@ Inv-loop ws par₀ k₀ par k = (k ≤ length ws) × (length par ≡ length par�
 abbrev μ-loop : tie.MeasureT-loop
 μ-loop ws par₀ k₀ par k = length ws - k
 
+last-cover-requires : tie.Need-last-cover-requires Inv-loop μ-loop
+last-cover-requires c κs =
+    let in-loop : tie.In-loop Inv-loop μ-loop = search in
+    let at-loop : tie.At-loop Inv-loop μ-loop = search in
+    let start : tie.Start Inv-loop μ-loop = search in
+    climb-self _ _ _ (start .pre .words) (in-loop .loop-test .taken) (omega arith) (at-loop .loop .inv .2)
+
+loop-again : tie.Need-loop-again Inv-loop μ-loop
+loop-again c =
+    let at-loop : tie.At-loop Inv-loop μ-loop = search in (
+      omega arith,
+      simp length-set (at-loop .loop .inv .1),
+      parents-more _ _ _ _ (omega arith)
+          (at-loop .loop .inv .2) (c .last-cover .ensures),
+    )
+
+returns : tie.Need-returns Inv-loop μ-loop
+returns c =
+    let at-loop : tie.At-loop Inv-loop μ-loop = search in
+    let start : tie.Start Inv-loop μ-loop = search in
+    let l = at-loop .loop in
+    let e : l .k ≡ length (now (start .args .ws)) = omega arith in
+    rw e at (l .inv .2)
+
 pub parents-spec : {M : Type 1} → statement M
 parents-spec =
     tie.close
@@ -28,20 +52,12 @@ parents-spec =
     (λ c. sym (length-take-le _ _ (omega arith)))
     (λ c. search needs)
     (λ c. search needs)
-    (λ c κs. climb-self _ _ _ (c .before .before .before .before .before .before .pre .words) (c .before .before .loop-test .taken) (omega arith)
-    (c .before .before .before .loop .inv .2))
+    last-cover-requires
     (λ c. omega (arith, c .last-cover .ensures .to))
     (λ c. search needs)
     (λ c. search needs)
     (λ c. search needs)
     (λ c. search needs)
-    (λ c. (
-      omega arith,
-      simp length-set (c .before .before .before .before .loop .inv .1),
-      parents-more _ _ _ _ (omega arith)
-          (c .before .before .before .before .loop .inv .2) (c .last-cover .ensures),
-    ))
+    loop-again
     (λ c. c .before .loop .inv .1)
-    (λ c. let l = c .before .loop in
-    let e : l .k ≡ length (now (c .before .before .before .before .args .ws)) = omega arith in
-    rw e at (l .inv .2)))
+    returns)

@@ -14,6 +14,22 @@ Inv-loop ws lo p i k₀ k = (lo ≤ k) × (k ≤ length ws) × InsideCell ws p i
 abbrev μ-loop : tie.MeasureT-loop
 μ-loop ws lo p i k₀ k = length ws - k
 
+returns : tie.Need-returns Inv-loop μ-loop
+returns c =
+    let at-loop : tie.At-loop Inv-loop μ-loop = search in
+    let start : tie.Start Inv-loop μ-loop = search in
+    let q = start .pre in
+    let l = at-loop .loop .inv in
+    run-is (q .0) (q .1) _ (l .0) (l .1) (l .2) (λ h e. c .if1 .taken e)
+
+loop-again : tie.Need-loop-again Inv-loop μ-loop
+loop-again c =
+    let at-loop : tie.At-loop Inv-loop μ-loop = search in
+    let start : tie.Start Inv-loop μ-loop = search in
+    let l = at-loop .loop .inv in
+    let a = start .args in
+    (omega arith, omega arith, inside-more (now (a .ws)) (a .p) _ _ _ (l .2) (c .if1 .left))
+
 pub run-end-spec : {M : Type 1} → statement M
 run-end-spec =
     tie.close
@@ -26,14 +42,10 @@ run-end-spec =
     (λ c. search needs)
     (λ c. search needs)
     (λ c. search needs)
-    (λ c. let q = c .before .before .before .before .pre in
-    let l = c .before .before .before .loop .inv in
-    run-is (q .0) (q .1) _ (l .0) (l .1) (l .2) (λ h e. c .if1 .taken e))
+    returns
     (λ c. search needs)
     (λ c. search needs)
-    (λ c. let l = c .before .before .before .loop .inv in
-    let a = c .before .before .before .before .args in
-    (omega arith, omega arith, inside-more (now (a .ws)) (a .p) _ _ _ (l .2) (c .if1 .left)))
+    loop-again
     (λ c. let q = c .before .before .pre in
     let l = c .before .loop .inv in
     run-is (q .0) (q .1) _ (l .0) (l .1) (l .2) (λ h e. omega arith)))

@@ -17,6 +17,17 @@ Inv-loop list out₀ n k₀ out k = (k ≤ n) × (length out ≡ n) × FilledTo 
 abbrev μ-loop : tie.MeasureT-loop
 μ-loop list out₀ n k₀ out k = n - k
 
+loop-again : tie.Need-loop-again Inv-loop μ-loop
+loop-again c =
+    let at-loop : tie.At-loop Inv-loop μ-loop = search in
+    let start : tie.Start Inv-loop μ-loop = search in
+    let l = at-loop .loop in (
+      omega arith,
+      simp length-set (l .inv .1),
+      filled-to-more
+          (wordAt (now (start .args .list))) (l .out) (l .k) _ (omega arith) (c .read-word .ensures) (l .inv .2),
+    )
+
 pub decode-spec : {M : Type 1} → statement M
 decode-spec =
     tie.close
@@ -29,11 +40,6 @@ decode-spec =
     (λ c. search needs)
     (λ c. search needs)
     (λ c. search needs)
-    (λ c. let l = c .before .before .loop in (
-      omega arith,
-      simp length-set (l .inv .1),
-      filled-to-more
-          (wordAt (now (c .before .before .before .before .before .args .list))) (l .out) (l .k) _ (omega arith) (c .read-word .ensures) (l .inv .2),
-    ))
+    loop-again
     (λ c. c .before .loop .inv .1)
     (λ c. filled-all _ _ _ _ (c .before .loop .inv .1) (omega arith) (c .before .loop .inv .2)))

@@ -4,6 +4,14 @@ use Rattle.lists.proofs.EditBytes.{removed-at}
 use Rattle.lists.proofs.edit.remove_at.Statement.{statement}
 use Rattle.lists.proofs.edit.remove_at.Tie as tie
 
+leaves : tie.Need-returns
+leaves c =
+    let written : tie.After-write-record = search in
+    let moved : tie.After-down8 = search in
+    let known : tie.After-slice-known = search in
+    let start : tie.Start = search in
+    rw (written .write-record .ensures, moved .down8 .ensures) (removed-at _ _ _ (λ i. known .slice-known .given i .fits) (start .pre))
+
 pub remove-at-spec : {M : Type 1} → statement M
 remove-at-spec =
     tie.close
@@ -14,6 +22,4 @@ remove-at-spec =
     (λ c κs. search needs)
     (λ c κs. search needs)
     (λ c. search needs)
-    (λ c. rw (c .before .before .write-record .ensures, c .before .before .before .before .before .before .move-down .ensures)
-    (removed-at _ _ _ (λ i. c .before .before .before .before .before .before .before .before .slice-known .given i .fits)
-    (c .before .before .before .before .before .before .before .before .before .pre))))
+    leaves)

@@ -17,6 +17,41 @@ Inv-loop ws h p base out₀ n m k₀ out k = (k ≤ length ws) × (out ≡ plann
 abbrev μ-loop : tie.MeasureT-loop
 μ-loop ws h p base out₀ n m k₀ out k = length ws - k
 
+loop-holds : tie.Need-loop-holds Inv-loop μ-loop
+loop-holds c =
+    let after-fill-range16 : tie.After-fill-range16 Inv-loop μ-loop = search in
+    let start : tie.Start Inv-loop μ-loop = search in
+    let a = start .args in
+    (search needs, after-fill-range16 .fill-range16 .ensures ∙ words-none (a .h) (now (a .out)) (now (a .ws)) (a .p) (a .base))
+
+paint-one-requires : tie.Need-paint-one-requires Inv-loop μ-loop
+paint-one-requires c κs =
+    let start : tie.Start Inv-loop μ-loop = search in
+    let s = start .pre in
+    record { fine = s .words .fine _ (search needs); deep = s .deep }
+
+loop-again : tie.Need-loop-again Inv-loop μ-loop
+loop-again c =
+    let after-paint-one : tie.After-paint-one Inv-loop μ-loop = search in
+    let in-loop : tie.In-loop Inv-loop μ-loop = search in
+    let at-loop : tie.At-loop Inv-loop μ-loop = search in
+    let start : tie.Start Inv-loop μ-loop = search in
+    let l = at-loop .loop in
+    let s = start .pre in (
+      search needs,
+      words-more _ (s .words) _ _ _ _ _ _ _ (in-loop .loop-test .taken) (l .inv .1)
+          (after-paint-one .paint-one .ensures),
+    )
+
+returns : tie.Need-returns Inv-loop μ-loop
+returns c =
+    let at-loop : tie.At-loop Inv-loop μ-loop = search in
+    let start : tie.Start Inv-loop μ-loop = search in
+    let l = at-loop .loop in
+    let a = start .args in
+    let e : length (now (a .ws)) ≤ l .k = search needs in
+    l .inv .1 ∙ rw (take-all (l .k) (now (a .ws)) e)
+
 pub plan-words-spec : {M : Type 1} → statement M
 plan-words-spec =
     tie.close
@@ -25,23 +60,13 @@ plan-words-spec =
     μ-loop
     (λ c. search needs)
     (λ c κs. search needs)
-    (λ c. let a = c .before .before .before .before .before .before .args in
-    (search needs, c .before .before .fill-range16 .ensures ∙ words-none (a .h) (now (a .out)) (now (a .ws)) (a .p) (a .base)))
+    loop-holds
     (λ c. search needs)
     (λ c. search needs)
     (λ c. search needs)
     (λ c. search needs)
-    (λ c κs. let s = c .before .before .before .before .before .before .before .before .before .before .pre in
-    record { fine = s .words .fine _ (search needs); deep = s .deep })
+    paint-one-requires
     (λ c. search needs)
-    (λ c. let l = c .before .before .before .before .before .before .loop in
-    let s = c .before .before .before .before .before .before .before .before .before .before .before .before .before .pre in (
-      search needs,
-      words-more _ (s .words) _ _ _ _ _ _ _ (c .before .before .before .before .before .loop-test .taken) (l .inv .1)
-          (c .before .before .paint-one .ensures),
-    ))
+    loop-again
     (λ c. ap length (c .before .loop .inv .1) ∙ length-planned-from _ _ _ _ _)
-    (λ c. let l = c .before .loop in
-    let a = c .before .before .before .before .before .before .before .before .args in
-    let e : length (now (a .ws)) ≤ l .k = search needs in
-    l .inv .1 ∙ rw (take-all (l .k) (now (a .ws)) e)))
+    returns)

@@ -18,29 +18,47 @@ Inv-loop run p base part o want₀ own ok₀ k₀ want ok k = (k ≤ length run)
 abbrev μ-loop : tie.MeasureT-loop
 μ-loop run p base part o want₀ own ok₀ k₀ want ok k = length run - k
 
+settle-one-requires : tie.Need-settle-one-requires Inv-loop μ-loop
+settle-one-requires c κs =
+    let at-loop : tie.At-loop Inv-loop μ-loop = search in
+    let start : tie.Start Inv-loop μ-loop = search in
+    let e = settled-length (at-loop .loop .inv .1) in
+    record { deep = start .pre .deep; same = omega arith; few = omega arith }
+
+loop-again : tie.Need-loop-again Inv-loop μ-loop
+loop-again c =
+    let after-settle-one : tie.After-settle-one Inv-loop μ-loop = search in
+    let in-loop : tie.In-loop Inv-loop μ-loop = search in
+    let at-loop : tie.At-loop Inv-loop μ-loop = search in (
+      omega arith,
+      run-no _ _ _ _ _ _ _ _ _ _ _ _ (in-loop .loop-test .taken)
+          (at-loop .loop .inv .1) (after-settle-one .settle-one .ensures) (c .if1 .taken),
+    )
+
+loop-again-2 : tie.Need-loop-again-2 Inv-loop μ-loop
+loop-again-2 c =
+    let after-settle-one : tie.After-settle-one Inv-loop μ-loop = search in
+    let in-loop : tie.In-loop Inv-loop μ-loop = search in
+    let at-loop : tie.At-loop Inv-loop μ-loop = search in (
+      omega arith,
+      run-yes _ _ _ _ _ _ _ _ _ _ _ _ (in-loop .loop-test .taken)
+          (at-loop .loop .inv .1) (after-settle-one .settle-one .ensures) (c .if1 .left),
+    )
+
 pub settle-spec : {M : Type 1} → statement M
 settle-spec =
     tie.close
     (tie.spec
     Inv-loop
     μ-loop
-    (λ c. (omega arith, run-none (now (c .before .before .before .before .args .run)) _ _ _ _ _ _))
+    (λ c. let start : tie.Start Inv-loop μ-loop = search in (omega arith, run-none (now (start .args .run)) _ _ _ _ _ _))
     (λ c. search needs)
     (λ c. search needs)
     (λ c. search needs)
-    (λ c κs. let e = settled-length (c .before .before .before .loop .inv .1) in
-    record { deep = c .before .before .before .before .before .before .before .before .pre .deep; same = omega arith; few = omega arith })
+    settle-one-requires
     (λ c. search needs)
-    (λ c. (
-      omega arith,
-      run-no _ _ _ _ _ _ _ _ _ _ _ _ (c .before .before .before .before .before .before .loop-test .taken)
-          (c .before .before .before .before .before .before .before .loop .inv .1) (c .before .before .before .settle-one .ensures) (c .if1 .taken),
-    ))
+    loop-again
     (λ c. search needs)
-    (λ c. (
-      omega arith,
-      run-yes _ _ _ _ _ _ _ _ _ _ _ _ (c .before .before .before .before .before .before .loop-test .taken)
-          (c .before .before .before .before .before .before .before .loop .inv .1) (c .before .before .before .settle-one .ensures) (c .if1 .left),
-    ))
+    loop-again-2
     (λ c. settled-length (c .before .loop .inv .1))
     (λ c. run-all _ _ _ _ _ _ _ _ _ _ (c .loop-test .left) (c .before .loop .inv .1)))

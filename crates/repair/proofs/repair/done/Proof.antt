@@ -14,5 +14,5 @@ done-spec =
     (λ c. record { fits = omega (arith, c .before .pre .few) })
     (λ c. record { fits = c .before .before .pre .first })
     (λ c. record { fits = c .before .before .before .pre .second })
-    (λ c. record { fits = c .before .before .before .before .pre .third })
+    (λ c. let start : tie.Start = search in record { fits = start .pre .third })
     (λ c. refl))

@@ -19,28 +19,33 @@ keep-requires c κs = let z = c .before .before in keep-asks _ _ _ _ (start z .p
 
 kept-fits : tie.Need-slice-reshare-prefix-weigh
 kept-fits c =
-    let k = c .before .before in
-    let z = sized k in
-    kept-in _ _ _ _ (start z .pre) (z .if1 .left) _ (k .before .before .looked .ensures) (k .keep .last .1 .1 .0) _ (k .keep .ensures) (k .keep .kept .1 .1 .0)
+    let after-keep : tie.After-keep = search in
+    let after-looked : tie.After-looked = search in
+    let z = sized after-keep in
+    kept-in _ _ _ _ (start z .pre) (z .if1 .left) _ (after-looked .looked .ensures) (after-keep .keep .last .1 .1 .0) _ (after-keep .keep .ensures)
+    (after-keep .keep .kept .1 .1 .0)
 
 kept-count : tie.Need-slice-aggregate-weigh
 kept-count c =
-    let k = c .before .before .before in
-    let z = sized k in
-    kept-room _ _ _ _ (start z .pre) (z .if1 .left) _ (k .before .before .looked .ensures) (k .keep .last .1 .1 .0) _ (k .keep .ensures)
-    (k .keep .kept .1 .1 .0)
+    let after-keep : tie.After-keep = search in
+    let after-looked : tie.After-looked = search in
+    let z = sized after-keep in
+    kept-room _ _ _ _ (start z .pre) (z .if1 .left) _ (after-looked .looked .ensures) (after-keep .keep .last .1 .1 .0) _ (after-keep .keep .ensures)
+    (after-keep .keep .kept .1 .1 .0)
 
 weigh-requires : tie.Need-weigh-requires
 weigh-requires c κs =
-    let k = c .before .before .before in
-    let z = sized k in
-    weigh-asks _ _ _ _ (start z .pre) (z .if1 .left) _ (k .before .before .looked .ensures) _ _ (k .keep .ensures)
+    let after-keep : tie.After-keep = search in
+    let after-looked : tie.After-looked = search in
+    let z = sized after-keep in
+    weigh-asks _ _ _ _ (start z .pre) (z .if1 .left) _ (after-looked .looked .ensures) _ _ (after-keep .keep .ensures)
 
 returns-2 : tie.Need-returns-2
 returns-2 c =
-    let k = c .before .before .before .before in
-    let z = sized k in
-    judge-weighed _ _ _ _ (start z .pre) (z .if1 .left) _ (k .before .before .looked .ensures) _ _ (k .keep .ensures) _ _ _ (c .weigh .ensures)
+    let after-keep : tie.After-keep = search in
+    let after-looked : tie.After-looked = search in
+    let z = sized after-keep in
+    judge-weighed _ _ _ _ (start z .pre) (z .if1 .left) _ (after-looked .looked .ensures) _ _ (after-keep .keep .ensures) _ _ _ (c .weigh .ensures)
 
 pub judge-spec : {M : Type 1} → statement M
 judge-spec =

@@ -17,13 +17,13 @@ abbrev judged : tie.Else1 → tie.After-judge
 judged c = c .before .before
 
 abbrev clear : tie.After-count-cells → tie.Else1
-clear c = c .before .before .before .before .before .before .before
+clear c = search
 
 abbrev counted : tie.After-load → tie.After-count-cells
-counted c = c .before .before .before .before .before .before .before .before .before .before
+counted c = search
 
 abbrev reloaded : tie.After-done → tie.After-load
-reloaded c = c .before .before .before .before .before .before .before .before .before .before .before .before .before .before .before .before .before .before
+reloaded c = search
 
 judge-requires : tie.Need-judge-requires
 judge-requires c κs = judge-asks _ _ _ (c .before .before .sizes .ensures) _ (length-replicate {A = ℕ} 32768 0)
@@ -51,9 +51,9 @@ input-count c =
 
 count-cells-requires : tie.Need-count-cells-requires
 count-cells-requires c κs =
-    let e = c .before .before .before .before .before .before in
-    let j = judged e in
-    counts-ask _ _ _ (sized j .sizes .ensures) _ _ (j .judge .ensures) (e .if1 .left)
+    let else1 : tie.Else1 = search in
+    let j = judged else1 in
+    counts-ask _ _ _ (sized j .sizes .ensures) _ _ (j .judge .ensures) (else1 .if1 .left)
 
 input-in-2 : tie.Need-array-share-prefix-kept-2
 input-in-2 c =
@@ -69,8 +69,8 @@ input-count-2 c =
 
 done-requires : tie.Need-done-requires
 done-requires c κs =
-    let d = c .before .before .before .before .before .before .before .before .before in
-    let n = counted (d .before .before .before .before .before .before .before .before) in
+    let after-load : tie.After-load = search in
+    let n = counted after-load in
     let e = clear n in
     let j = judged e in
     numbers-fit _ _ _ (sized j .sizes .ensures) _ _ (j .judge .ensures) (e .if1 .left) _ (n .count-cells .ensures)

@@ -6,6 +6,22 @@ use Rattle.routes.proofs.Puts.{put-halves}
 use Rattle.routes.proofs.record.write_record.Statement.{statement}
 use Rattle.routes.proofs.record.write_record.Tie as tie
 
+same-length : tie.Need-same-length
+same-length c =
+    let after-put-half3 : tie.After-put-half3 = search in
+    let after-put-half2 : tie.After-put-half2 = search in
+    let after-put-half : tie.After-put-half = search in
+    (simp length-set at (after-put-half3 .put-half3 .kept .0)) ∙ after-put-half2 .put-half2 .kept .0 ∙ after-put-half .put-half .kept .0
+
+returns : tie.Need-returns
+returns c =
+    let after-put-half3 : tie.After-put-half3 = search in
+    let after-put-half2 : tie.After-put-half2 = search in
+    let after-put-half : tie.After-put-half = search in
+    let start : tie.Start = search in
+    put-halves _ _ _ _ _ _ (start .pre) (after-put-half .put-half .ensures) (after-put-half2 .put-half2 .ensures)
+    (after-put-half3 .put-half3 .ensures)
+
 pub write-record-spec : {M : Type 1} → statement M
 write-record-spec =
     tie.close
@@ -22,8 +38,5 @@ write-record-spec =
     (λ c. simp length-set (omega arith))
     (λ c. omega arith)
     (λ c κs. simp length-set (omega arith))
-    (λ c. (simp length-set at (c .before .before .put-half3 .kept .0)) ∙ c .before .before .before .before .before .before .put-half2 .kept .0
-    ∙ c .before .before .before .before .before .before .before .before .before .before .put-half .kept .0)
-    (λ c. put-halves _ _ _ _ _ _ (c .before .before .before .before .before .before .before .before .before .before .before .before .before .pre)
-    (c .before .before .before .before .before .before .before .before .before .before .put-half .ensures)
-    (c .before .before .before .before .before .before .put-half2 .ensures) (c .before .before .put-half3 .ensures)))
+    same-length
+    returns)

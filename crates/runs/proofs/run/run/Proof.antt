@@ -22,11 +22,14 @@ not-run (Refused f k) h = refl
 not-run TooMany h = refl
 not-run NoPrefix h = refl
 
-told : (c : tie.After-known-told) → runSaid (c .before .before .before .before .before .args .list .now)
-    (c .before .before .before .before .before .args .addr) (c .before .before .before .before .before .args .len) ≡ accepted
+abbrev start-of : tie.After-known-told → tie.Start
+start-of c = search
+
+told : (c : tie.After-known-told) → runSaid (start-of c .args .list .now) (start-of c .args .addr) (start-of c .args .len) ≡ accepted
     (c .before .start .given .0 .0 ∷ c .before .start .given .0 .1 .0 ∷ [])
 unfolding meansRunCheck
-told c = sym (c .before .before .before .run-check .ensures) ∙ ap meansRunCheck (c .before .start .given .1)
+told c =
+    sym (c .before .before .before .run-check .ensures) ∙ ap meansRunCheck (c .before .start .given .1)
 
 pub run-spec : {M : Type 1} → statement M
 run-spec =

@@ -12,12 +12,37 @@ use borrow.Author.Needs.{needs}
 use Rattle.runs.proofs.run.run_check.Statement.{statement}
 use Rattle.runs.proofs.run.run_check.Tie as tie
 
-told : (c : tie.After-known-told) → inputSaid (c .before .before .before .before .before .args .list .now) ≡ accepted (c .before .n .given .0 .0 ∷ [])
+abbrev known-start : tie.After-known-told → tie.Start
+known-start c = search
+
+told : (c : tie.After-known-told) → inputSaid (known-start c .args .list .now) ≡ accepted (c .before .n .given .0 .0 ∷ [])
 told c = told-good _ _ (c .before .before .before .check-input .ensures) _ (c .before .n .given .1)
 
-proper : (c : tie.Else1) → Prefix (c .before .before .before .before .before .before .before .args .addr)
-    (c .before .before .before .before .before .before .before .args .len)
+abbrev proper-start : tie.Else1 → tie.Start
+proper-start c = search
+
+proper : (c : tie.Else1) → Prefix (proper-start c .args .addr) (proper-start c .args .len)
 proper c = prefix-true _ _ (sym (c .before .prefix-ok .ensures) ∙ not-false _ (c .if1 .left))
+
+sub-t14 : tie.Need-sub-t14
+sub-t14 c =
+    let after-past-key : tie.After-past-key = search in
+    let after-place : tie.After-place = search in
+    let after-key-of : tie.After-key-of = search in
+    let else1 : tie.Else1 = search in
+    let l = run-order _ _ _ _ (proper else1 .len-ok) in rw
+    (after-place .place .ensures .0, after-key-of .key-of .ensures .0, c .place2 .ensures .0, after-past-key .past-key .ensures) l
+
+returns-2 : tie.Need-returns-2
+returns-2 c =
+    let after-past-key : tie.After-past-key = search in
+    let after-place : tie.After-place = search in
+    let after-key-of : tie.After-key-of = search in
+    let else1 : tie.Else1 = search in
+    let after-prefix-ok : tie.After-prefix-ok = search in
+    let after-known-told : tie.After-known-told = search in
+    says-run _ _ _ _ (told after-known-told) _ (after-prefix-ok .prefix-ok .ensures) _ _ _ _ (else1 .if1 .left) (after-place .place .ensures .0)
+    (after-key-of .key-of .ensures .0) (c .place2 .ensures .0) (after-past-key .past-key .ensures)
 
 pub run-check-spec : {M : Type 1} → statement M
 run-check-spec =
@@ -30,13 +55,10 @@ run-check-spec =
     (λ c κs. search needs)
     (λ c κs. input-good _ _ (told (c .before .before .before)) .1)
     (λ c κs. proper (c .before .before) .len-ok)
-    (λ c κs. input-good _ _ (told (c .before .before .before .before .before)) .1)
-    (λ c. let l = run-order _ _ _ _ (proper (c .before .before .before .before) .len-ok) in rw
-    (c .before .before .place .ensures .0, c .before .before .before .key-of .ensures .0, c .place2 .ensures .0, c .before .past-key .ensures) l)
+    (λ c κs. let after-known-told : tie.After-known-told = search in input-good _ _ (told after-known-told) .1)
+    sub-t14
     (λ c. search needs)
     (λ c. search needs)
-    (λ c. says-run _ _ _ _ (told (c .before .before .before .before .before .before)) _
-    (c .before .before .before .before .before .prefix-ok .ensures) _ _ _ _ (c .before .before .before .before .if1 .left)
-    (c .before .before .place .ensures .0) (c .before .before .before .key-of .ensures .0) (c .place2 .ensures .0) (c .before .past-key .ensures))
+    returns-2
     (λ c. says-refused _ _ _ _ _ (told-refused _ _ (c .before .before .before .check-input .ensures) _ _ (c .before .f .given .1)))
     (λ c. says-many _ _ _ (told-many _ _ (c .before .before .check-input .ensures) (c .enum-told .given .1))))

@@ -15,7 +15,10 @@ abbrev μ-loop : tie.MeasureT-loop
 μ-loop list n counts₀ k₀ counts k = n - k
 
 short : (c : tie.After-length-at Inv-loop μ-loop) → c .length-at .result < 33
-short c = omega (arith, c .length-at .ensures, c .before .before .before .before .pre .each (c .before .before .loop .k) (omega arith) .prefix .len-ok)
+short c =
+    let at-loop : tie.At-loop Inv-loop μ-loop = search in
+    let start : tie.Start Inv-loop μ-loop = search in
+    omega (arith, c .length-at .ensures, start .pre .each (at-loop .loop .k) (omega arith) .prefix .len-ok)
 
 few : (c : tie.After-length-at Inv-loop μ-loop) → getD (c .before .before .loop .counts) (c .length-at .result) 0 ≤ c .before .before .loop .k
 few c = rw (c .before .before .loop .inv .1) (length-few _ _ _ (short c))

@@ -6,6 +6,20 @@ use borrow.Author.Needs.{needs}
 use Rattle.sail_chunks.proofs.chunks.close.Statement.{statement}
 use Rattle.sail_chunks.proofs.chunks.close.Tie as tie
 
+fill-range16-requires : tie.Need-fill-range16-requires
+fill-range16-requires c κs =
+    let closing : tie.Then1 = search in
+    let start : tie.Start = search in
+    close-range _ _ _ _ _ (start .pre) (closing .if1 .taken) _ _ (c .before .before .shifted .ensures .0) (c .before .shifted2 .ensures .0)
+
+returns : tie.Need-returns
+returns c =
+    let filled : tie.After-fill-range16 = search in
+    let sized : tie.After-shifted2 = search in
+    let begun : tie.After-shifted = search in
+    let closing : tie.Then1 = search in
+    close-on _ _ _ _ _ _ _ _ _ (closing .if1 .taken) refl (begun .shifted .ensures .0) (sized .shifted2 .ensures .0) (filled .fill-range16 .ensures)
+
 pub close-spec : {M : Type 1} → statement M
 close-spec =
     tie.close
@@ -15,11 +29,8 @@ close-spec =
     (λ c κs. let p = c .before .before .before .pre in (omega (arith, p .one (c .if1 .taken)), omega arith))
     (λ c κs. search needs)
     (λ c. search needs)
-    (λ c κs. close-range _ _ _ _ _ (c .before .before .before .before .before .before .pre) (c .before .before .before .if1 .taken) _ _
-    (c .before .before .shifted .ensures .0) (c .before .shifted2 .ensures .0))
+    fill-range16-requires
     (λ c. search needs)
     (λ c. search needs)
-    (λ c. close-on _ _ _ _ _ _ _ _ _ (c .before .before .before .before .before .before .if1 .taken) refl
-    (c .before .before .before .before .before .shifted .ensures .0) (c .before .before .before .before .shifted2 .ensures .0)
-    (c .before .before .fill-range16 .ensures))
+    returns
     (λ c. close-off _ _ _ _ _ (c .if1 .left)))

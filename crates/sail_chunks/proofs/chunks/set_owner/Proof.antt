@@ -12,7 +12,7 @@ set-owner-spec =
     (tie.spec
     (λ c κs. search needs)
     (λ c. search needs)
-    (λ c. let d = c .before .before .before .before in omega (arith, d .pre .some (c .before .before .if1 .taken)))
+    (λ c. let start : tie.Start = search in omega (arith, start .pre .some (c .before .before .if1 .taken)))
     (λ c. search needs)
     (λ c. hang-on _ _ _ _ _ (c .chunk-named .ensures .0) (c .before .before .if1 .taken) refl)
     (λ c. hang-off _ _ _ (c .if1 .left)))

@@ -6,12 +6,13 @@ use Rattle.sail_chunks.proofs.opening.to_open.Statement.{statement}
 use Rattle.sail_chunks.proofs.opening.to_open.Tie as tie
 
 sub-t14 : tie.Need-sub-t14
-sub-t14 c = let followed = c .before .before .before in named-first _ _ _ _ _ _ _ (followed .follow .ensures)
+sub-t14 c = let after-follow : tie.After-follow = search in named-first _ _ _ _ _ _ _ (after-follow .follow .ensures)
 
 returns : tie.Need-returns
 returns c =
-    let followed = c .before .before .before in
-    opens-is _ _ _ _ _ _ _ (followed .follow .ensures) _ _ (followed .before .byte-to-word .ensures .0) (search needs) _ _
+    let after-follow : tie.After-follow = search in
+    let start : tie.Start = search in
+    opens-is _ _ _ _ _ _ _ (after-follow .follow .ensures) (start .pre .valid) _ _ (after-follow .before .byte-to-word .ensures .0) (search needs) _ _
     (c .before .before .leaf-under .ensures)
     (c .before .leaf-under2 .ensures)
 

@@ -7,7 +7,7 @@ use Rattle.sail_chunks.proofs.trail.follow.Tie as tie
 
 -- where it starts, seen from after `slot`; and after `slot`, seen from the branch on which the first cell names a chunk
 abbrev start : tie.After-slot → tie.Start
-start c = c .before .before .before .before .before .before .before
+start c = search
 
 abbrev indexed : tie.Else1 → tie.After-slot
 indexed c = c .before .before

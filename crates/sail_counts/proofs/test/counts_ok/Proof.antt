@@ -5,43 +5,53 @@ use Rattle.sail_counts.proofs.Exact.{led1, led2, first-stray, second-st
 use Rattle.sail_counts.proofs.test.counts_ok.Statement.{statement}
 use Rattle.sail_counts.proofs.test.counts_ok.Tie as tie
 
+-- Where it starts, seen from the first place that is named after it.
+abbrev start-of : tie.After-idle-ok → tie.Start
+start-of c = search
+
 -- the places: `start`; `one` and `two` where the counts of a level are known to be 0 where no chunk hangs, or not
 returns : tie.Need-returns
 returns c =
-    let one = c .before in
-    let start = one .before .before .before .before .before .before .before .before in
+    let one : tie.After-idle-ok = search in
+    let start = start-of one in
     first-stray _ _ _ _ _ _ _ _ (start .pre) _ (one .idle-ok .ensures) (c .if1 .taken)
 
 returns-2 : tie.Need-returns-2
 returns-2 c =
-    let two = c .before in
-    let one = two .before .before in
-    let start = one .before .before .before .before .before .before .before .before in
+    let two : tie.After-idle-ok2 = search in
+    let one : tie.After-idle-ok = search in
+    let start = start-of one in
     second-stray _ _ _ _ _ _ _ _ (start .pre) _ (one .idle-ok .ensures) _ (two .idle-ok2 .ensures) (c .if2 .taken)
 
 runs-ok-requires : tie.Need-runs-ok-requires
-runs-ok-requires c κs = led1 _ _ _ _ _ _ _ _ (c .before .before .before .before .before .before .before .before .before .before .before .before .pre)
+runs-ok-requires c κs =
+    let start : tie.Start = search in
+    led1 _ _ _ _ _ _ _ _ (start .pre)
 
 returns-3 : tie.Need-returns-3
 returns-3 c =
-    let two = c .before .before .before .before in
-    let one = two .before .before in
-    let start = one .before .before .before .before .before .before .before .before in
-    first-wrong _ _ _ _ _ _ _ _ (start .pre) _ (one .idle-ok .ensures) _ (two .idle-ok2 .ensures) _ (c .before .runs-ok .ensures) (c .if3 .taken)
+    let after-runs-ok : tie.After-runs-ok = search in
+    let two : tie.After-idle-ok2 = search in
+    let one : tie.After-idle-ok = search in
+    let start = start-of one in
+    first-wrong _ _ _ _ _ _ _ _ (start .pre) _ (one .idle-ok .ensures) _ (two .idle-ok2 .ensures) _ (after-runs-ok .runs-ok .ensures) (c .if3 .taken)
 
 runs-ok-requires-2 : tie.Need-runs-ok-requires-2
 runs-ok-requires-2 c κs =
-    led2 _ _ _ _ _ _ _ _ (c .before .before .before .before .before .before .before .before .before .before .before .before .before .before .pre)
+    let start : tie.Start = search in
+    led2 _ _ _ _ _ _ _ _ (start .pre)
 
 returns-4 : tie.Need-returns-4
 returns-4 c =
-    let runs = c .before .before in
-    let on = runs .before .before in
-    let two = on .before in
-    let one = two .before .before in
-    let start = one .before .before .before .before .before .before .before .before in
-    counts-told _ _ _ _ _ _ _ _ (start .pre) _ (one .idle-ok .ensures) _ (two .idle-ok2 .ensures) _ (runs .runs-ok .ensures)
-    (two .before .if1 .left) (on .if2 .left) (c .before .if3 .left) _ (c .runs-ok2 .ensures)
+    let else3 : tie.Else3 = search in
+    let runs : tie.After-runs-ok = search in
+    let else2 : tie.Else2 = search in
+    let two : tie.After-idle-ok2 = search in
+    let else1 : tie.Else1 = search in
+    let one : tie.After-idle-ok = search in
+    let start = start-of one in
+    counts-told _ _ _ _ _ _ _ _ (start .pre) _ (one .idle-ok .ensures) _ (two .idle-ok2 .ensures) _ (runs .runs-ok .ensures) (else1 .if1 .left)
+    (else2 .if2 .left) (else3 .if3 .left) _ (c .runs-ok2 .ensures)
 
 pub counts-ok-spec : {M : Type 1} → statement M
 counts-ok-spec =

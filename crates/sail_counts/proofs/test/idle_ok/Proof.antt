@@ -23,16 +23,19 @@ loop-holds c = (omega arith, is-yes (below-none _))
 -- the cell's count is larger, or not
 loop-again : tie.Need-loop-again Inv-loop μ-loop
 loop-again c =
-    let asked = c .before in
-    let start = asked .before .before .before .before .before .before .before in
+    let asked : tie.After-idle-count Inv-loop μ-loop = search in
+    let start : tie.Start Inv-loop μ-loop = search in
     (omega arith, most-new (start .args .cells .now) (start .args .counts .now) _ _ (asked .idle-count .ensures) _ (c .if1 .taken))
 
 loop-again-2 : tie.Need-loop-again-2 Inv-loop μ-loop
 loop-again-2 c =
-    let asked = c .before in
-    let round = asked .before .before .before .before in
-    let start = round .before .before .before in
-    (omega arith, most-old (start .args .cells .now) (start .args .counts .now) _ _ (asked .idle-count .ensures) _ (c .if1 .left) (round .loop .inv .1))
+    let asked : tie.After-idle-count Inv-loop μ-loop = search in
+    let round : tie.At-loop Inv-loop μ-loop = search in
+    let start : tie.Start Inv-loop μ-loop = search in (
+      omega arith,
+      most-old (start .args .cells .now) (start .args .counts .now) _ _ (asked .idle-count .ensures) _ (c .if1 .left)
+          (round .loop .inv .1),
+    )
 
 returns : tie.Need-returns Inv-loop μ-loop
 returns c = tells-same (λ f. record { each = λ q h. f q (omega arith) }) (λ z q h. z .each q (omega arith)) (c .before .loop .inv .1)

@@ -10,55 +10,62 @@ returns-2 c = run-on _ _ _ _ _ _ _ (c .before .goes-on .ensures) (c .if2 .taken)
 
 mul-half-to-index : tie.Need-mul-half-to-index
 mul-half-to-index c =
-    let tested = c .before .before in
-    let start = tested .before .before .before .before .before in
+    let tested : tie.Else1 = search in
+    let start : tie.Start = search in
     let l = start .pre .0 .there _ (start .pre .1) (tested .if1 .left) in
     search needs
 
 shared-slice-read-half-to-index : tie.Need-shared-slice-read-half-to-index
 shared-slice-read-half-to-index c =
-    let tested = c .before .before .before in
-    let start = tested .before .before .before .before .before in
+    let tested : tie.Else1 = search in
+    let start : tie.Start = search in
     start .pre .0 .there _ (start .pre .1) (tested .if1 .left)
 
 cell-place-requires : tie.Need-cell-place-requires
 cell-place-requires c κs =
-    let tested = c .before .before .before .before in
-    let start = tested .before .before .before .before .before in
+    let tested : tie.Else1 = search in
+    let start : tie.Start = search in
     names-numbered _ _ _ _ _ _ (start .pre .0) (start .pre .1) (tested .if1 .left) _ (c .half-to-index .ensures)
 
 mul-half-to-index-2 : tie.Need-mul-half-to-index-2
 mul-half-to-index-2 c =
-    let tested = c .before .before .before .before .before in
-    let start = tested .before .before .before .before .before in
-    let l = counted-there _ _ _ _ _ _ (start .pre .0) (start .pre .1) (tested .if1 .left) _ (c .before .half-to-index .ensures) _ (c .cell-place .ensures .0) in
+    let after-half-to-index : tie.After-half-to-index = search in
+    let tested : tie.Else1 = search in
+    let start : tie.Start = search in
+    let l = counted-there _ _ _ _ _ _ (start .pre .0) (start .pre .1) (tested .if1 .left) _ (after-half-to-index .half-to-index .ensures) _
+    (c .cell-place .ensures .0) in
     search needs
 
 shared-slice-read-half-to-index-2 : tie.Need-shared-slice-read-half-to-index-2
 shared-slice-read-half-to-index-2 c =
-    let tested = c .before .before .before .before .before .before in
-    let start = tested .before .before .before .before .before in
-    counted-there _ _ _ _ _ _ (start .pre .0) (start .pre .1) (tested .if1 .left) _ (c .before .before .half-to-index .ensures) _
-    (c .before .cell-place .ensures .0)
+    let after-cell-place : tie.After-cell-place = search in
+    let after-half-to-index : tie.After-half-to-index = search in
+    let tested : tie.Else1 = search in
+    let start : tie.Start = search in
+    counted-there _ _ _ _ _ _ (start .pre .0) (start .pre .1) (tested .if1 .left) _ (after-half-to-index .half-to-index .ensures) _
+    (after-cell-place .cell-place .ensures .0)
 
 run-end-requires : tie.Need-run-end-requires
 run-end-requires c κs =
-    let off = c .before .before .before .before .before in
-    let asked = off .before in
-    let tested = asked .before in
-    let start = tested .before .before .before .before .before in
+    let off : tie.Else2 = search in
+    let asked : tie.After-goes-on = search in
+    let tested : tie.Else1 = search in
+    let start : tie.Start = search in
     let led = start .pre .0 in
     (led .words, run-from _ _ _ (tested .if1 .left) _ (asked .goes-on .ensures) (off .if2 .left) (led .words) (led .level) (start .pre .1))
 
 returns-3 : tie.Need-returns-3
 returns-3 c =
-    let found = c .before .before .before in
-    let off = found .before .before .before in
-    let asked = off .before in
-    let tested = asked .before in
-    let start = tested .before .before .before .before .before in
-    run-told _ _ _ _ _ _ (start .pre .0) (start .pre .1) (tested .if1 .left) _ (found .before .half-to-index .ensures) _ (found .cell-place .ensures .0)
-    _ (asked .goes-on .ensures) (off .if2 .left) _ _ (c .before .half-to-index2 .ensures .0) (c .run-end .ensures)
+    let after-half-to-index2 : tie.After-half-to-index2 = search in
+    let found : tie.After-cell-place = search in
+    let after-half-to-index : tie.After-half-to-index = search in
+    let off : tie.Else2 = search in
+    let asked : tie.After-goes-on = search in
+    let tested : tie.Else1 = search in
+    let start : tie.Start = search in
+    run-told _ _ _ _ _ _ (start .pre .0) (start .pre .1) (tested .if1 .left) _ (after-half-to-index .half-to-index .ensures) _
+    (found .cell-place .ensures .0) _ (asked .goes-on .ensures) (off .if2 .left) _ _ (after-half-to-index2 .half-to-index2 .ensures .0)
+    (c .run-end .ensures)
 
 pub run-ok-spec : {M : Type 1} → statement M
 run-ok-spec =

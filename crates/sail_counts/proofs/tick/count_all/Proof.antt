@@ -14,31 +14,44 @@ abbrev μ-loop : tie.MeasureT-loop
 μ-loop g list n first own2 long1₀ long2₀ k₀ long1 long2 k = n - k
 
 loop-holds : tie.Need-loop-holds Inv-loop μ-loop
-loop-holds c = (omega arith, none-come _ _ _ _ _ _ _ (c .before .before .before .before .before .pre))
+loop-holds c =
+    let start : tie.Start Inv-loop μ-loop = search in
+    (omega arith, none-come _ _ _ _ _ _ _ (start .pre))
 
 read-record-requires : tie.Need-read-record-requires Inv-loop μ-loop
-read-record-requires c κs = let w = c .before .before .before .before .before .before .before .pre in omega (arith, w .records .room)
+read-record-requires c κs =
+    let start : tie.Start Inv-loop μ-loop = search in
+    let w = start .pre in omega (arith, w .records .room)
 
 tick-requires : tie.Need-tick-requires Inv-loop μ-loop
 tick-requires c κs =
-    let read = c .before .before in
-    let round = read .before .before in
-    let start = round .before .before .before .before .before .before in
+    let read : tie.After-read-record Inv-loop μ-loop = search in
+    let round : tie.At-loop Inv-loop μ-loop = search in
+    let start : tie.Start Inv-loop μ-loop = search in
     next-tickable _ _ _ _ _ _ _ (start .pre) _ (omega arith) _ _ (round .loop .inv .1) _ (read .read-record .ensures)
 
 loop-again : tie.Need-loop-again Inv-loop μ-loop
 loop-again c =
-    let ticked = c .before .before .before .before in
-    let read = ticked .before .before .before in
-    let round = read .before .before in
-    let start = round .before .before .before .before .before .before in
-    (omega arith, next-come _ _ _ _ _ _ _ (start .pre) _ (omega arith) _ _ (round .loop .inv .1) _ (read .read-record .ensures) _ _ _ (ticked .tick .ensures))
+    let ticked : tie.After-tick Inv-loop μ-loop = search in
+    let read : tie.After-read-record Inv-loop μ-loop = search in
+    let round : tie.At-loop Inv-loop μ-loop = search in
+    let start : tie.Start Inv-loop μ-loop = search in (
+      omega arith,
+      next-come _ _ _ _ _ _ _ (start .pre) _ (omega arith) _ _ (round .loop .inv .1) _ (read .read-record .ensures) _ _ _
+          (ticked .tick .ensures),
+    )
 
 same-length : tie.Need-same-length Inv-loop μ-loop
-same-length c = let round = c .before in round .loop .inv .1 .counts1 ∙ sym (round .before .before .before .before .before .before .pre .counts1)
+same-length c =
+    let round : tie.At-loop Inv-loop μ-loop = search in
+    let start : tie.Start Inv-loop μ-loop = search in
+    round .loop .inv .1 .counts1 ∙ sym (start .pre .counts1)
 
 same-length-2 : tie.Need-same-length-2 Inv-loop μ-loop
-same-length-2 c = let round = c .before in round .loop .inv .1 .counts2 ∙ sym (round .before .before .before .before .before .before .pre .counts2)
+same-length-2 c =
+    let round : tie.At-loop Inv-loop μ-loop = search in
+    let start : tie.Start Inv-loop μ-loop = search in
+    round .loop .inv .1 .counts2 ∙ sym (start .pre .counts2)
 
 returns : tie.Need-returns Inv-loop μ-loop
 returns c = all-come _ _ _ _ _ _ _ (omega arith) (c .before .loop .inv .1)

@@ -7,38 +7,40 @@ use Rattle.sail_counts.proofs.tick.tick.Tie as tie
 -- the places: `start`; `one` where the first cell's place is known, `cell` where the cell is, and `two` where the second's place is
 second-place-requires : tie.Need-second-place-requires
 second-place-requires c κs =
-    let one = c .before .before in
-    let start = one .before .before .before .before .before in
+    let one : tie.After-slot = search in
+    let start : tie.Start = search in
     first-named _ _ _ _ _ _ _ _ (one .slot .ensures) (start .pre) _ (c .half-to-index .ensures)
 
 tick-at-requires : tie.Need-tick-at-requires
 tick-at-requires c κs =
-    let two = c .before in
-    let cell = two .before in
-    let one = cell .before .before in
-    let start = one .before .before .before .before .before in
-    ticks-one _ _ _ _ _ _ _ _ _ _ _ (one .before .byte-to-word .ensures .0) (one .slot .ensures) (cell .half-to-index .ensures .0)
-    (two .second-place .ensures .0)
-    (start .pre)
+    let two : tie.After-second-place = search in
+    let cell : tie.After-half-to-index = search in
+    let one : tie.After-slot = search in
+    let after-byte-to-word : tie.After-byte-to-word = search in
+    let start : tie.Start = search in
+    ticks-one _ _ _ _ _ _ _ _ _ _ _ (after-byte-to-word .byte-to-word .ensures .0) (one .slot .ensures) (cell .half-to-index .ensures .0)
+    (two .second-place .ensures .0) (start .pre)
 
 tick-at-requires-2 : tie.Need-tick-at-requires-2
 tick-at-requires-2 c κs =
-    let two = c .before .before .before .before .before in
-    let cell = two .before in
-    let one = cell .before .before in
-    let start = one .before .before .before .before .before in
-    ticks-two _ _ _ _ _ _ _ _ _ _ _ (one .before .byte-to-word .ensures .0) (one .slot .ensures) (cell .half-to-index .ensures .0)
-    (two .second-place .ensures .0)
-    (start .pre)
+    let two : tie.After-second-place = search in
+    let cell : tie.After-half-to-index = search in
+    let one : tie.After-slot = search in
+    let after-byte-to-word : tie.After-byte-to-word = search in
+    let start : tie.Start = search in
+    ticks-two _ _ _ _ _ _ _ _ _ _ _ (after-byte-to-word .byte-to-word .ensures .0) (one .slot .ensures) (cell .half-to-index .ensures .0)
+    (two .second-place .ensures .0) (start .pre)
 
 returns : tie.Need-returns
 returns c =
-    let ticked1 = c .before .before .before .before .before .before in
-    let two = ticked1 .before .before in
-    let cell = two .before in
-    let one = cell .before .before in
-    moved _ _ _ _ _ _ _ _ _ _ _ (one .before .byte-to-word .ensures .0) (one .slot .ensures) (cell .half-to-index .ensures .0) (two .second-place .ensures .0)
-    _ _ _ _ (ticked1 .tick-at .ensures) (c .before .before .tick-at2 .ensures)
+    let after-tick-at2 : tie.After-tick-at2 = search in
+    let ticked1 : tie.After-tick-at = search in
+    let two : tie.After-second-place = search in
+    let cell : tie.After-half-to-index = search in
+    let one : tie.After-slot = search in
+    let after-byte-to-word : tie.After-byte-to-word = search in
+    moved _ _ _ _ _ _ _ _ _ _ _ (after-byte-to-word .byte-to-word .ensures .0) (one .slot .ensures) (cell .half-to-index .ensures .0)
+    (two .second-place .ensures .0) _ _ _ _ (ticked1 .tick-at .ensures) (after-tick-at2 .tick-at2 .ensures)
 
 pub tick-spec : {M : Type 1} → statement M
 tick-spec =

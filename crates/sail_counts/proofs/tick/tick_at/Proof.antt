@@ -14,10 +14,16 @@ stepped-requires : tie.Need-stepped-requires
 stepped-requires c κs = c .before .before .before .pre .steps (c .before .if1 .taken)
 
 mul-counts : tie.Need-mul-counts
-mul-counts c = let l = c .before .before .before .before .pre .inside (c .before .before .if1 .taken) in search needs
+mul-counts c =
+    let then1 : tie.Then1 = search in
+    let start : tie.Start = search in
+    let l = start .pre .inside (then1 .if1 .taken) in search needs
 
 slice-write-counts : tie.Need-slice-write-counts
-slice-write-counts c = c .before .before .before .before .pre .inside (c .before .before .if1 .taken)
+slice-write-counts c =
+    let then1 : tie.Then1 = search in
+    let start : tie.Start = search in
+    start .pre .inside (then1 .if1 .taken)
 
 returns : tie.Need-returns
 returns c = tick-on _ _ _ _ _ (c .before .before .if1 .taken) (c .stepped .ensures)

@@ -5,6 +5,57 @@ use Rattle.sail_load.proofs.Loads.{says-sizes, says-bad, says-many, wei
 use Rattle.sail_load.proofs.load.judge.Statement.{statement}
 use Rattle.sail_load.proofs.load.judge.Tie as tie
 
+-- Where it starts, seen from the first place that is named after it.
+abbrev start-of : tie.After-sizes → tie.Start
+start-of c = search
+
+weigh-requires : tie.Need-weigh-requires
+weigh-requires c κs =
+    let after-n : tie.After-n = search in
+    let after-check-input : tie.After-check-input = search in
+    let else1 : tie.Else1 = search in
+    let after-sizes : tie.After-sizes = search in
+    let start = start-of after-sizes in
+    weighs (start .args .t) _ _ _ (after-sizes .sizes .ensures) (else1 .if1 .left) _
+    (told-good _ _ (after-check-input .check-input .ensures) _ (after-n .n .given .1))
+
+returns-2 : tie.Need-returns-2
+returns-2 c =
+    let after-weigh : tie.After-weigh = search in
+    let after-n : tie.After-n = search in
+    let after-check-input : tie.After-check-input = search in
+    let else1 : tie.Else1 = search in
+    let after-sizes : tie.After-sizes = search in
+    says-full _ _ _ _ (after-sizes .sizes .ensures) (else1 .if1 .left) _
+    (told-good _ _ (after-check-input .check-input .ensures) _ (after-n .n .given .1)) _ (after-weigh .weigh .ensures) (c .if2 .taken)
+
+returns-3 : tie.Need-returns-3
+returns-3 c =
+    let after-weigh : tie.After-weigh = search in
+    let after-n : tie.After-n = search in
+    let after-check-input : tie.After-check-input = search in
+    let else1 : tie.Else1 = search in
+    let after-sizes : tie.After-sizes = search in
+    says-done _ _ _ _ (after-sizes .sizes .ensures) (else1 .if1 .left) _
+    (told-good _ _ (after-check-input .check-input .ensures) _ (after-n .n .given .1)) _ (after-weigh .weigh .ensures) (c .if2 .left)
+
+returns-4 : tie.Need-returns-4
+returns-4 c =
+    let after-f : tie.After-f = search in
+    let after-check-input : tie.After-check-input = search in
+    let else1 : tie.Else1 = search in
+    let after-sizes : tie.After-sizes = search in
+    says-bad _ _ _ _ (after-sizes .sizes .ensures) (else1 .if1 .left) _ _
+    (told-refused _ _ (after-check-input .check-input .ensures) _ _ (after-f .f .given .1))
+
+returns-5 : tie.Need-returns-5
+returns-5 c =
+    let after-check-input : tie.After-check-input = search in
+    let else1 : tie.Else1 = search in
+    let after-sizes : tie.After-sizes = search in
+    says-many _ _ _ _ (after-sizes .sizes .ensures) (else1 .if1 .left)
+    (told-many _ _ (after-check-input .check-input .ensures) (c .enum-told .given .1))
+
 pub judge-spec : {M : Type 1} → statement M
 judge-spec =
     tie.close
@@ -13,20 +64,10 @@ judge-spec =
     (λ c. says-sizes _ _ _ _ (c .before .sizes .ensures) (c .if1 .taken))
     (λ c κs. search needs)
     (λ c. search needs)
-    (λ c κs. weighs (c .before .before .before .before .before .before .before .before .before .before .before .before .before .before .before .args
-    .t) _ _ _ (c .before .before .before .before .before .sizes .ensures) (c .before .before .before .before .if1 .left) _
-    (told-good _ _ (c .before .before .before .check-input .ensures) _ (c .before .n .given .1)))
-    (λ c. says-full _ _ _ _ (c .before .before .before .before .before .before .before .sizes .ensures)
-    (c .before .before .before .before .before .before .if1 .left) _
-    (told-good _ _ (c .before .before .before .before .before .check-input .ensures) _ (c .before .before .before .n .given .1)) _
-    (c .before .weigh .ensures) (c .if2 .taken))
+    weigh-requires
+    returns-2
     (λ c. search needs)
     (λ c. search needs)
-    (λ c. says-done _ _ _ _ (c .before .before .before .before .before .before .before .sizes .ensures)
-    (c .before .before .before .before .before .before .if1 .left) _
-    (told-good _ _ (c .before .before .before .before .before .check-input .ensures) _ (c .before .before .before .n .given .1)) _
-    (c .before .weigh .ensures) (c .if2 .left))
-    (λ c. says-bad _ _ _ _ (c .before .before .before .before .before .sizes .ensures) (c .before .before .before .before .if1 .left) _ _
-    (told-refused _ _ (c .before .before .before .check-input .ensures) _ _ (c .before .f .given .1)))
-    (λ c. says-many _ _ _ _ (c .before .before .before .before .sizes .ensures) (c .before .before .before .if1 .left)
-    (told-many _ _ (c .before .before .check-input .ensures) (c .enum-told .given .1))))
+    returns-3
+    returns-4
+    returns-5)

@@ -10,19 +10,19 @@ abbrev judged : tie.Then1 → tie.After-judge
 judged c = c .before .before
 
 abbrev accepted : tie.After-write-table → tie.Then1
-accepted c = c .before .before .before .before .before .before .before .before .before
+accepted c = search
 
 abbrev renewed : tie.After-g → tie.After-write-table
-renewed c = c .before .before .before .before .before .before .before .before .before .before .before .before .before .before .before .before .before
+renewed c = search
 
 abbrev branch : tie.After-g → tie.Then1
 branch c = accepted (renewed c)
 
 write-table-requires : tie.Need-write-table-requires
 write-table-requires c κs =
-    renewable _ _ _ _ _ (judged (c .before .before .before .before .before .before .before .before) .judge .ensures)
-    (c .before .before .before .before .before .before .before .before .before .accepts .ensures)
-    (c .before .before .before .before .before .before .before .before .if1 .taken)
+    let then1 : tie.Then1 = search in
+    let after-accepts : tie.After-accepts = search in
+    renewable _ _ _ _ _ (judged then1 .judge .ensures) (after-accepts .accepts .ensures) (then1 .if1 .taken)
 
 cast-count : tie.Need-cast-count
 cast-count c = record { fits = omega (arith, few _ _ _ _ _ (judged (branch c) .judge .ensures) (branch c .before .accepts .ensures) (branch c .if1 .taken)) }

@@ -4,6 +4,24 @@ use Rattle.sail_load.proofs.Loads.{weigh-six, weigh-seven, weigh-eight,
 use Rattle.sail_load.proofs.load.weigh.Statement.{statement}
 use Rattle.sail_load.proofs.load.weigh.Tie as tie
 
+returns-3 : tie.Need-returns-3
+returns-3 c =
+    let after-count-need2 : tie.After-count-need2 = search in
+    let else2 : tie.Else2 = search in
+    let after-count-need : tie.After-count-need = search in
+    let else1 : tie.Else1 = search in
+    weigh-eight _ _ _ _ _ _ (else1 .if1 .left) _ (after-count-need .count-need .ensures .0) (else2 .if2 .left) _
+    (after-count-need2 .count-need2 .ensures .0) (c .if3 .taken)
+
+returns-4 : tie.Need-returns-4
+returns-4 c =
+    let after-count-need2 : tie.After-count-need2 = search in
+    let else2 : tie.Else2 = search in
+    let after-count-need : tie.After-count-need = search in
+    let else1 : tie.Else1 = search in
+    weigh-none _ _ _ _ _ _ (else1 .if1 .left) _ (after-count-need .count-need .ensures .0) (else2 .if2 .left) _
+    (after-count-need2 .count-need2 .ensures .0) (c .if3 .left)
+
 pub weigh-spec : {M : Type 1} → statement M
 weigh-spec =
     tie.close
@@ -12,7 +30,5 @@ weigh-spec =
     (λ c κs. search needs)
     (λ c. weigh-seven _ _ _ _ _ _ (c .before .before .if1 .left) _ (c .before .count-need .ensures .0) (c .if2 .taken))
     (λ c κs. search needs)
-    (λ c. weigh-eight _ _ _ _ _ _ (c .before .before .before .before .if1 .left) _ (c .before .before .before .count-need .ensures .0)
-    (c .before .before .if2 .left) _ (c .before .count-need2 .ensures .0) (c .if3 .taken))
-    (λ c. weigh-none _ _ _ _ _ _ (c .before .before .before .before .if1 .left) _ (c .before .before .before .count-need .ensures .0)
-    (c .before .before .if2 .left) _ (c .before .count-need2 .ensures .0) (c .if3 .left)))
+    returns-3
+    returns-4)

@@ -6,68 +6,73 @@ use Rattle.sail_load.proofs.Renews.{fits-list, ownable, bare, pending, 
 use Rattle.sail_load.proofs.renew.write_table.Statement.{statement}
 use Rattle.sail_load.proofs.renew.write_table.Tie as tie
 
--- Places, each seen from the next one: where it starts; after the list is put; after the second pool, the third, the counts of both levels, the
--- owners of the second and those of the third are emptied; after the owners are filled; after the cells are painted; and after the routes are
--- counted, seen from the end.
+-- Places, each seen from the next one: where it starts; where the input is known; after the list is put; after the second pool, the third, the
+-- counts of both levels, the owners of the second and those of the third are emptied; after the owners are filled; after the cells are painted;
+-- and after the routes are counted, seen from the end.
 abbrev start : tie.After-put8 → tie.Start
-start c = c .before .before .before .before .before .before .before .before .before .before .before .before
+start c = search
+
+abbrev given : tie.After-put8 → tie.After-shared-slice-known
+given c = search
 
 abbrev listed : tie.After-fill16 → tie.After-put8
-listed c = c .before .before .before .before
+listed c = search
 
 abbrev second-empty : tie.After-fill162 → tie.After-fill16
-second-empty c = c .before .before .before .before
+second-empty c = search
 
 abbrev third-empty : tie.After-fill163 → tie.After-fill162
-third-empty c = c .before .before .before .before
+third-empty c = search
 
 abbrev long1-empty : tie.After-fill164 → tie.After-fill163
-long1-empty c = c .before .before .before .before
+long1-empty c = search
 
 abbrev long2-empty : tie.After-zero32 → tie.After-fill164
-long2-empty c = c .before .before .before .before
+long2-empty c = search
 
 abbrev own2-empty : tie.After-zero322 → tie.After-zero32
-own2-empty c = c .before .before .before .before
+own2-empty c = search
 
 abbrev own3-empty : tie.After-open-all → tie.After-zero322
-own3-empty c = c .before .before .before .before .before
+own3-empty c = search
 
 abbrev owned : tie.After-repaint-from-list → tie.After-open-all
-owned c = c .before .before .before .before .before .before .before .before .before .before
+owned c = search
 
 abbrev painted : tie.After-count-all → tie.After-repaint-from-list
-painted c = c .before .before .before .before .before .before .before .before .before .before .before
+painted c = search
 
 abbrev counted : tie.After-slice-known22 → tie.After-count-all
-counted c = c .before .before .before .before
+counted c = search
 
 put8-requires : tie.Need-put8-requires
-put8-requires c κs = let s = c .before .before .before .before .before .before .before .before .before .before .before in fits-list _ _ _ (s .pre)
+put8-requires c κs =
+    let start : tie.Start = search in
+    fits-list _ _ _ (start .pre)
 
 open-all-requires : tie.Need-open-all-requires
 open-all-requires c κs =
-    let o3 = c .before .before .before .before in
-    let o2 = own2-empty o3 in
+    let after-zero322 : tie.After-zero322 = search in
+    let o2 = own2-empty after-zero322 in
     let s = start (listed (second-empty (third-empty (long1-empty (long2-empty o2))))) in
-    ownable _ _ _ (s .pre) _ _ (o2 .zero32 .ensures) (o3 .zero322 .ensures)
+    ownable _ _ _ (s .pre) _ _ (o2 .zero32 .ensures) (after-zero322 .zero322 .ensures)
 
 repaint-requires : tie.Need-repaint-from-list-requires
 repaint-requires c κs =
-    let o = c .before .before .before .before .before .before .before .before .before in
-    let o3 = own3-empty o in
+    let after-open-all : tie.After-open-all = search in
+    let o3 = own3-empty after-open-all in
     let o2 = own2-empty o3 in
     let third = third-empty (long1-empty (long2-empty o2)) in
     let second = second-empty third in
     let s = start (listed second) in
     pending _ _ _ _ _ _ _
     (bare _ _ _ (s .pre) _ _ (o2 .zero32 .ensures) (o3 .zero322 .ensures)
-    _ _ _ _ (second .fill16 .ensures) (third .fill162 .ensures) (o .open-all .ensures))
+    _ _ _ _ (second .fill16 .ensures) (third .fill162 .ensures) (after-open-all .open-all .ensures))
 
 count-all-requires : tie.Need-count-all-requires
 count-all-requires c κs =
-    let p = c .before .before .before .before .before .before .before .before .before .before in
-    let o = owned p in
+    let after-repaint-from-list : tie.After-repaint-from-list = search in
+    let o = owned after-repaint-from-list in
     let o3 = own3-empty o in
     let o2 = own2-empty o3 in
     let l2 = long2-empty o2 in
@@ -76,10 +81,10 @@ count-all-requires c κs =
     let second = second-empty third in
     let list = listed second in
     let s = start list in
-    let input = list .before .before .before .before .before .before .before .before .before .before .before in
+    let input = given list in
     uncounted _ _ _ (s .pre) _ _ (o2 .zero32 .ensures) (o3 .zero322 .ensures) _ _ _ _ (second .fill16 .ensures) (third .fill162 .ensures)
     (o .open-all .ensures)
-    (λ j. omega (arith, input .shared-slice-known .given j)) _ _ _ _ (list .put8 .ensures) (p .repaint-from-list .ensures)
+    (λ j. omega (arith, input .shared-slice-known .given j)) _ _ _ _ (list .put8 .ensures) (after-repaint-from-list .repaint-from-list .ensures)
     _ _ (l1 .fill163 .ensures) (l2 .fill164 .ensures)
 
 same-list : tie.Need-same-length
@@ -132,7 +137,7 @@ returns c =
     let second = second-empty third in
     let list = listed second in
     let s = start list in
-    let input = list .before .before .before .before .before .before .before .before .before .before .before in
+    let input = given list in
     renews _ _ _ (s .pre) _ _ (o2 .zero32 .ensures) (o3 .zero322 .ensures) _ _ _ _ (second .fill16 .ensures) (third .fill162 .ensures)
     (o .open-all .ensures)
     (λ j. omega (arith, input .shared-slice-known .given j)) _ _ _ _ (list .put8 .ensures) (p .repaint-from-list .ensures)

@@ -14,17 +14,23 @@ Inv-loop p1 p2 first second chunks2 third chunks3 addrs out₀ half i₀ out i =
 abbrev μ-loop : tie.MeasureT-loop
 μ-loop p1 p2 first second chunks2 third chunks3 addrs out₀ half i₀ out i = half - i
 
+same-length : tie.Need-same-length Inv-loop μ-loop
+same-length c =
+    let at-loop : tie.At-loop Inv-loop μ-loop = search in
+    let start : tie.Start Inv-loop μ-loop = search in
+    at-loop .loop .inv .1 .even ∙ sym (start .pre .2 .even)
+
 pub stream-spec : {M : Type 1} → statement M
 stream-spec =
     tie.close
     (tie.spec
     Inv-loop
     μ-loop
-    (λ c. (search needs, c .before .before .before .before .before .pre .2))
+    (λ c. let start : tie.Start Inv-loop μ-loop = search in (search needs, start .pre .2))
     (λ c. omega arith)
     (λ c κs. (search needs, omega arith, search needs))
     (λ c. omega arith)
     (λ c. omega arith)
     (λ c. (omega arith, flows-at _ _ _ _ _ _ _ _ _ _ _ (omega arith) (c .before .before .round .ensures)))
-    (λ c. c .before .loop .inv .1 .even ∙ sym (c .before .before .before .before .before .before .before .pre .2 .even))
+    same-length
     (λ c. flows-at _ _ _ _ _ _ _ _ _ _ _ (omega arith) (c .before .loop .inv .1)))

@@ -1,17 +1,28 @@
 -- `sail_many::pass::read_thirds`: the words so far went one step on.
-use borrow.Author.Needs.{needs}
 use native.Mathlib.Omega.{arith}
-use Prim.Native.Nat.{_-_, _≤_}
-use Rattle.sail_many.proofs.Flows.{swept-none, swept-more, swept-all, spot-at}
-use Rattle.sail_many.specs.Words.{step3, Swept}
+use Prim.Native.Nat.{_-_}
+use Rattle.sail_many.proofs.Flows.{Sweeping, sweeping-none, spot-at, sweeping-more, sweeping-all}
+use Rattle.sail_many.specs.Words.{step3}
 use Rattle.sail_many.proofs.pass.read_thirds.Statement.{statement}
 use Rattle.sail_many.proofs.pass.read_thirds.Tie as tie
 
 abbrev Inv-loop : tie.InvT-loop
-Inv-loop p2 third chunks addrs out₀ from to i₀ out i = (from ≤ i) × (i ≤ to) × Swept (step3 p2 third chunks addrs) from i out₀ out
+Inv-loop p2 third chunks addrs out₀ from to i₀ out i = Sweeping (step3 p2 third chunks addrs) from to addrs out₀ out i
 
 abbrev μ-loop : tie.MeasureT-loop
 μ-loop p2 third chunks addrs out₀ from to i₀ out i = to - i
+
+ask : tie.Need-read-third-requires Inv-loop μ-loop
+ask c κs =
+    let turn : tie.At-loop Inv-loop μ-loop = search in
+    let start : tie.Start Inv-loop μ-loop = search in
+    (start .pre .0, start .pre .1, spot-at (turn .loop .inv) (omega arith))
+
+again : tie.Need-loop-again Inv-loop μ-loop
+again c =
+    let read : tie.After-read-third Inv-loop μ-loop = search in
+    let turn : tie.At-loop Inv-loop μ-loop = search in
+    sweeping-more (turn .loop .inv) (omega arith) (read .read-third .ensures)
 
 pub read-thirds-spec : {M : Type 1} → statement M
 read-thirds-spec =
@@ -19,15 +30,10 @@ read-thirds-spec =
     (tie.spec
     Inv-loop
     μ-loop
-    (λ c. (search needs, search needs, swept-none _ _ _))
-    (λ c κs. (search needs, search needs, search spot-at))
+    (λ c. let start : tie.Start Inv-loop μ-loop = search in sweeping-none (start .pre .2))
+    ask
     (λ c. omega arith)
     (λ c. omega arith)
-    (λ c. (
-      omega arith,
-      omega arith,
-      swept-more _ _ _ _ _ _ (search needs) (omega arith) (c .before .before .before .before .before .loop .inv .2)
-          (c .before .before .read-third .ensures),
-    ))
-    (λ c. c .before .loop .inv .2 .size)
-    (λ c. swept-all _ _ _ _ _ _ (c .before .loop .inv .1) (omega arith) (c .before .loop .inv .2)))
+    again
+    (λ c. c .before .loop .inv .swept .size)
+    (λ c. sweeping-all (c .before .loop .inv) (omega arith)))

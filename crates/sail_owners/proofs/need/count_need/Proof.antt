@@ -15,6 +15,48 @@ Inv-loop list n p m₀ last₀ k₀ m last k = (k ≤ n) × (m ≤ k) × NeedCou
 abbrev μ-loop : tie.MeasureT-loop
 μ-loop list n p m₀ last₀ k₀ m last k = n - k
 
+loop-again : tie.Need-loop-again Inv-loop μ-loop
+loop-again c =
+    let after-word-to-long : tie.After-word-to-long Inv-loop μ-loop = search in
+    let after-slot : tie.After-slot Inv-loop μ-loop = search in
+    let read : tie.After-read-record Inv-loop μ-loop = search in
+    let at-loop : tie.At-loop Inv-loop μ-loop = search in
+    let start : tie.Start Inv-loop μ-loop = search in
+    let l = at-loop .loop in
+    let q = start .pre in
+    let cell = after-word-to-long .word-to-long .ensures .0 ∙ after-slot .slot .ensures in (
+      omega arith,
+      omega arith,
+      counted-new _ _ _ _ _ _ (q .records) (omega arith) (q .level) (l .inv .2) _ (read .read-record .ensures) (omega arith) _ cell (c .if2 .taken),
+    )
+
+loop-again-2 : tie.Need-loop-again-2 Inv-loop μ-loop
+loop-again-2 c =
+    let after-word-to-long : tie.After-word-to-long Inv-loop μ-loop = search in
+    let after-slot : tie.After-slot Inv-loop μ-loop = search in
+    let read : tie.After-read-record Inv-loop μ-loop = search in
+    let at-loop : tie.At-loop Inv-loop μ-loop = search in
+    let start : tie.Start Inv-loop μ-loop = search in
+    let l = at-loop .loop in
+    let q = start .pre in
+    let cell = after-word-to-long .word-to-long .ensures .0 ∙ after-slot .slot .ensures in (
+      omega arith,
+      omega arith,
+      counted-had _ _ _ _ _ _ (q .records) (omega arith) (q .level) (l .inv .2) _ (read .read-record .ensures) (omega arith) _ cell (c .if2 .left),
+    )
+
+loop-again-3 : tie.Need-loop-again-3 Inv-loop μ-loop
+loop-again-3 c =
+    let read : tie.After-read-record Inv-loop μ-loop = search in
+    let at-loop : tie.At-loop Inv-loop μ-loop = search in
+    let start : tie.Start Inv-loop μ-loop = search in
+    let l = at-loop .loop in
+    let q = start .pre in (
+      omega arith,
+      omega arith,
+      counted-short _ _ _ _ _ _ (q .records) (omega arith) (q .level) (l .inv .2) _ (read .read-record .ensures) (omega arith),
+    )
+
 pub count-need-spec : {M : Type 1} → statement M
 count-need-spec =
     tie.close
@@ -23,41 +65,18 @@ count-need-spec =
     μ-loop
     (λ c. (omega arith, omega arith, counted-none _ _))
     (λ c κs. omega (arith, c .before .before .before .pre .records .room))
-    (λ c. omega (arith, c .before .before .before .before .pre .records .few))
+    (λ c. let start : tie.Start Inv-loop μ-loop = search in omega (arith, start .pre .records .few))
     (λ c κs. search needs)
     (λ c κs. search needs)
     (λ c κs. search needs)
     (λ c. omega arith)
-    (λ c. omega (arith, c .before .before .before .before .before .before .before .before .before .pre .records .few))
+    (λ c. let start : tie.Start Inv-loop μ-loop = search in omega (arith, start .pre .records .few))
     (λ c. omega arith)
-    (λ c.
-    let read = c .before .before .before .before .before in
-    let l = read .before .before .loop in
-    let q = read .before .before .before .before .pre in
-    let cell = c .before .word-to-long .ensures .0 ∙ c .before .before .slot .ensures in (
-      omega arith,
-      omega arith,
-      counted-new _ _ _ _ _ _ (q .records) (omega arith) (q .level) (l .inv .2) _ (read .read-record .ensures) (omega arith) _ cell (c .if2 .taken),
-    ))
+    loop-again
     (λ c. omega arith)
-    (λ c.
-    let read = c .before .before .before .before .before in
-    let l = read .before .before .loop in
-    let q = read .before .before .before .before .pre in
-    let cell = c .before .word-to-long .ensures .0 ∙ c .before .before .slot .ensures in (
-      omega arith,
-      omega arith,
-      counted-had _ _ _ _ _ _ (q .records) (omega arith) (q .level) (l .inv .2) _ (read .read-record .ensures) (omega arith) _ cell (c .if2 .left),
-    ))
+    loop-again-2
     (λ c. omega arith)
-    (λ c.
-    let read = c .before .before in
-    let l = read .before .before .loop in
-    let q = read .before .before .before .before .pre in (
-      omega arith,
-      omega arith,
-      counted-short _ _ _ _ _ _ (q .records) (omega arith) (q .level) (l .inv .2) _ (read .read-record .ensures) (omega arith),
-    ))
+    loop-again-3
     (λ c.
     let l = c .before .loop in
     let e : l .k ≡ c .before .before .before .args .n = omega arith in

@@ -16,32 +16,44 @@ loop-holds c = let s = c .before .before .before in (omega arith, passed-none _ 
 
 open-for-requires : tie.Need-open-for-requires Inv-loop μ-loop
 open-for-requires c κs =
-    let read = c .before .before in
-    let turn = read .before .before in
-    let s = turn .before .before .before .before in
-    passed-opens _ _ _ _ (s .pre) _ _ _ _ (turn .loop .inv .1) (omega arith) _ (read .read-record .ensures)
+    let read : tie.After-read-record Inv-loop μ-loop = search in
+    let turn : tie.At-loop Inv-loop μ-loop = search in
+    let start : tie.Start Inv-loop μ-loop = search in
+    passed-opens _ _ _ _ (start .pre) _ _ _ _ (turn .loop .inv .1) (omega arith) _ (read .read-record .ensures)
 
 add-k : tie.Need-add-k Inv-loop μ-loop
 add-k c =
-    let s = c .before .before .before .before .before .before .before .before .before .before .before .before .before in
-    omega (arith, s .pre .records .few)
+    let start : tie.Start Inv-loop μ-loop = search in
+    omega (arith, start .pre .records .few)
 
 loop-again : tie.Need-loop-again Inv-loop μ-loop
 loop-again c =
-    let opened = c .before .before .before .before in
-    let read = opened .before .before .before in
-    let turn = read .before .before in
-    let s = turn .before .before .before .before in
-    (omega arith, passed-more _ _ _ _ (s .pre) _ _ _ _ (turn .loop .inv .1) (omega arith) _ (read .read-record .ensures) _ _ _ (opened .open-for .ensures))
+    let opened : tie.After-open-for Inv-loop μ-loop = search in
+    let read : tie.After-read-record Inv-loop μ-loop = search in
+    let turn : tie.At-loop Inv-loop μ-loop = search in
+    let start : tie.Start Inv-loop μ-loop = search in (
+      omega arith,
+      passed-more _ _ _ _ (start .pre) _ _ _ _ (turn .loop .inv .1) (omega arith) _ (read .read-record .ensures) _ _ _
+          (opened .open-for .ensures),
+    )
 
 same-second : tie.Need-same-length Inv-loop μ-loop
-same-second c = let turn = c .before in let s = turn .before .before .before .before in passed-lengths _ _ _ _ (s .pre) _ _ _ _ (turn .loop .inv .1) .0
+same-second c =
+    let turn : tie.At-loop Inv-loop μ-loop = search in
+    let start : tie.Start Inv-loop μ-loop = search in
+    passed-lengths _ _ _ _ (start .pre) _ _ _ _ (turn .loop .inv .1) .0
 
 same-third : tie.Need-same-length-2 Inv-loop μ-loop
-same-third c = let turn = c .before in let s = turn .before .before .before .before in passed-lengths _ _ _ _ (s .pre) _ _ _ _ (turn .loop .inv .1) .1
+same-third c =
+    let turn : tie.At-loop Inv-loop μ-loop = search in
+    let start : tie.Start Inv-loop μ-loop = search in
+    passed-lengths _ _ _ _ (start .pre) _ _ _ _ (turn .loop .inv .1) .1
 
 returns : tie.Need-returns Inv-loop μ-loop
-returns c = let turn = c .before in let s = turn .before .before .before .before in passed-all _ _ _ _ (s .pre) _ _ _ _ (turn .loop .inv .1) (omega arith)
+returns c =
+    let turn : tie.At-loop Inv-loop μ-loop = search in
+    let start : tie.Start Inv-loop μ-loop = search in
+    passed-all _ _ _ _ (start .pre) _ _ _ _ (turn .loop .inv .1) (omega arith)
 
 pub open-all-spec : {M : Type 1} → statement M
 open-all-spec =

@@ -6,44 +6,78 @@ use Rattle.sail_owners.proofs.owners.open_for.Statement.{statement}
 use Rattle.sail_owners.proofs.owners.open_for.Tie as tie
 
 returns : tie.Need-returns
-returns c = opened-none _ _ _ _ _ (c .before .before .before .before .pre) (omega arith)
+returns c =
+    let start : tie.Start = search in
+    opened-none _ _ _ _ _ (start .pre) (omega arith)
 
 add-own-chunk : tie.Need-add-own-chunk
-add-own-chunk c = record {
-  fits = omega (
-    arith,
-    slot-small _ _ _ _ _ (c .before .before .before .before .before .before .before .before .pre) _
-        (c .slot .ensures),
-  );
-}
+add-own-chunk c =
+    let start : tie.Start = search in
+    record {
+      fits = omega (
+        arith,
+        slot-small _ _ _ _ _ (start .pre) _
+            (c .slot .ensures),
+      );
+    }
+
+-- Places, seen from after `slot`: where it starts, where the length is widened, and where it is more than p1.
+abbrev start-of : tie.After-slot → tie.Start
+start-of c = search
+
+abbrev wide-of : tie.After-slot → tie.After-byte-to-word
+wide-of c = search
+
+abbrev longer-of : tie.After-slot → tie.Else1
+longer-of c = search
 
 own-chunk-requires : tie.Need-own-chunk-requires
-own-chunk-requires c κs = hangs-second _ _ _ _ _ (c .before .before .before .before .before .before .before .before .pre) (omega arith) _ (c .slot .ensures)
+own-chunk-requires c κs =
+    let start : tie.Start = search in
+    hangs-second _ _ _ _ _ (start .pre) (omega arith) _ (c .slot .ensures)
 
 returns-2 : tie.Need-returns-2
 returns-2 c =
-    let first = c .before .before .before in
-    opened-second _ _ _ _ _ (first .before .before .before .before .before .before .before .before .before .pre) (omega arith) _
-    (first .before .slot .ensures) _ _ (first .own-chunk .ensures) (omega arith)
+    let first : tie.After-own-chunk = search in
+    let after-slot : tie.After-slot = search in
+    let start = start-of after-slot in
+    let wide = wide-of after-slot .byte-to-word .ensures .0 in
+    let longer = longer-of after-slot .if1 .left in
+    opened-second _ _ _ _ _ (start .pre) (omega (arith, longer, wide)) _ (after-slot .slot .ensures) _ _ (first .own-chunk .ensures)
+    (omega (arith, c .if2 .taken, wide))
 
 second-place-requires : tie.Need-second-place-requires
 second-place-requires c κs =
-    let first = c .before .before .before .before in
-    chunk-second _ _ _ _ _ (first .before .before .before .before .before .before .before .before .before .pre) (omega arith) _
-    (first .before .slot .ensures) _ _ (first .own-chunk .ensures) (first .own-chunk .kept .0)
+    let first : tie.After-own-chunk = search in
+    let after-slot : tie.After-slot = search in
+    let start = start-of after-slot in
+    let wide = wide-of after-slot .byte-to-word .ensures .0 in
+    let longer = longer-of after-slot .if1 .left in
+    chunk-second _ _ _ _ _ (start .pre) (omega (arith, longer, wide)) _ (after-slot .slot .ensures) _ _
+    (first .own-chunk .ensures) (first .own-chunk .kept .0)
 
 own-chunk-requires-2 : tie.Need-own-chunk-requires-2
 own-chunk-requires-2 c κs =
-    let first = c .before .before .before .before .before in
-    hangs-third _ _ _ _ _ (first .before .before .before .before .before .before .before .before .before .pre) (omega arith) _
-    (first .before .slot .ensures) _ _ (first .own-chunk .ensures) (omega arith) _ (c .second-place .ensures .0)
+    let first : tie.After-own-chunk = search in
+    let after-slot : tie.After-slot = search in
+    let start = start-of after-slot in
+    let wide = wide-of after-slot .byte-to-word .ensures .0 in
+    let longer = longer-of after-slot .if1 .left in
+    hangs-third _ _ _ _ _ (start .pre) (omega (arith, longer, wide)) _ (after-slot .slot .ensures) _ _ (first .own-chunk .ensures)
+    (omega (arith, c .before .before .if2 .left, wide)) _ (c .second-place .ensures .0)
 
 returns-3 : tie.Need-returns-3
 returns-3 c =
-    let first = c .before .before .before .before .before .before .before .before in
-    opened-third _ _ _ _ _ (first .before .before .before .before .before .before .before .before .before .pre) (omega arith) _
-    (first .before .slot .ensures) _ _ (first .own-chunk .ensures) (omega arith) _ (c .before .before .before .second-place .ensures .0) _ _
-    (c .before .before .own-chunk2 .ensures)
+    let after-own-chunk2 : tie.After-own-chunk2 = search in
+    let after-second-place : tie.After-second-place = search in
+    let longest : tie.Else2 = search in
+    let first : tie.After-own-chunk = search in
+    let after-slot : tie.After-slot = search in
+    let start = start-of after-slot in
+    let wide = wide-of after-slot .byte-to-word .ensures .0 in
+    let longer = longer-of after-slot .if1 .left in
+    opened-third _ _ _ _ _ (start .pre) (omega (arith, longer, wide)) _ (after-slot .slot .ensures) _ _ (first .own-chunk .ensures)
+    (omega (arith, longest .if2 .left, wide)) _ (after-second-place .second-place .ensures .0) _ _ (after-own-chunk2 .own-chunk2 .ensures)
 
 pub open-for-spec : {M : Type 1} → statement M
 open-for-spec =

@@ -7,19 +7,24 @@ use Rattle.sail_owners.proofs.owners.own_chunk.Statement.{statement}
 use Rattle.sail_owners.proofs.owners.own_chunk.Tie as tie
 
 returns : tie.Need-returns
-returns c = hung-had _ _ _ (c .before .before .before .before .pre) (c .before .last-is .ensures .0 (c .if1 .taken))
+returns c =
+    let after-last-is : tie.After-last-is = search in
+    let start : tie.Start = search in
+    hung-had _ _ _ (start .pre) (after-last-is .last-is .ensures .0 (c .if1 .taken))
 
 slice-write-own : tie.Need-slice-write-own
 slice-write-own c =
-    let asked = c .before .before .before in
-    let start = asked .before .before .before in
-    room _ _ _ (start .pre) (λ e. true≢false (sym (asked .last-is .ensures .1 e) ∙ c .before .before .if1 .left)) _ (c .next-free .ensures .0)
+    let else1 : tie.Else1 = search in
+    let asked : tie.After-last-is = search in
+    let start : tie.Start = search in
+    room _ _ _ (start .pre) (λ e. true≢false (sym (asked .last-is .ensures .1 e) ∙ else1 .if1 .left)) _ (c .next-free .ensures .0)
 
 returns-2 : tie.Need-returns-2
 returns-2 c =
-    let asked = c .before .before .before in
-    let start = asked .before .before .before in
-    hung-new _ _ _ (start .pre) (λ e. true≢false (sym (asked .last-is .ensures .1 e) ∙ c .before .before .if1 .left)) _ (c .next-free .ensures .0)
+    let else1 : tie.Else1 = search in
+    let asked : tie.After-last-is = search in
+    let start : tie.Start = search in
+    hung-new _ _ _ (start .pre) (λ e. true≢false (sym (asked .last-is .ensures .1 e) ∙ else1 .if1 .left)) _ (c .next-free .ensures .0)
 
 pub own-chunk-spec : {M : Type 1} → statement M
 own-chunk-spec =

@@ -8,40 +8,44 @@ use Rattle.sail_paint.proofs.from_list.repaint_with.Tie as tie
 
 -- Places: where it starts, seen from after `chained`; after `chained`, seen from after `repaint`; after `repaint`, seen from the end.
 abbrev start : tie.After-chained → tie.Start
-start words = words .before .before .before .before .before .before .before .before .before .before .before
+start words = search
 
 abbrev words : tie.After-repaint → tie.After-chained
-words painted = painted .before .before .before .before .before .before .before .before .before .before
+words painted = search
 
 abbrev painted : tie.After-slice-known10 → tie.After-repaint
-painted c = c .before .before .before .before .before .before
+painted c = search
 
 words-fit : tie.Need-slice-relend-prefix-chained
-words-fit c = let s = c .before .before .before .before .before .before .before .before in count-in _ _ (s .pre .0 .listed) _ _ (s .pre .1)
+words-fit c =
+    let start : tie.Start = search in
+    count-in _ _ (start .pre .0 .listed) _ _ (start .pre .1)
 
 words-count : tie.Need-slice-aggregate-chained
-words-count c = let s = c .before .before .before .before .before .before .before .before .before in count-room _ _ (s .pre .0 .listed) _ _ (s .pre .1)
+words-count c =
+    let start : tie.Start = search in
+    count-room _ _ (start .pre .0 .listed) _ _ (start .pre .1)
 
 chained-requires : tie.Need-chained-requires
 chained-requires c κs =
-    let s = c .before .before .before .before .before .before .before .before .before .before in
-    chain-room _ _ (s .pre .0 .listed) _ _ (s .pre .1)
+    let start : tie.Start = search in
+    chain-room _ _ (start .pre .0 .listed) _ _ (start .pre .1)
 
 front-fits : tie.Need-slice-reshare-prefix-repaint
 front-fits c =
-    let made = c .before .before .before .before in
+    let made : tie.After-chained = search in
     let s = start made in
     still-in _ _ (s .pre .0 .listed) _ _ (s .pre .1) (made .chained .last .1 .0) (made .chained .kept .1 .0)
 
 front-count : tie.Need-slice-aggregate-repaint
 front-count c =
-    let made = c .before .before .before .before .before in
+    let made : tie.After-chained = search in
     let s = start made in
     front-room _ _ (s .pre .0 .listed) _ _ (s .pre .1) (made .chained .last .1 .0) (made .chained .kept .1 .0)
 
 repaint-requires : tie.Need-repaint-requires
 repaint-requires c κs =
-    let made = c .before .before .before .before .before .before .before .before .before in
+    let made : tie.After-chained = search in
     let s = start made in
     front-stale _ _ _ _ _ _ (s .pre .0) _ _ (s .pre .1) _ (made .chained .kept .1 .0) _ (made .chained .ensures)
 

@@ -22,24 +22,26 @@ abbrev μ-loop : tie.MeasureT-loop
 
 range-end-requires : tie.Need-range-end-requires Inv-loop μ-loop
 range-end-requires c κs =
-    let s = c .before .before .before .before in
-    (s .pre .deep, omega (arith, c .slot .ensures, s .pre .prefix .addr-ok, shr-le (s .args .addr) (32 - s .args .p)))
+    let start : tie.Start Inv-loop μ-loop = search in
+    (start .pre .deep, omega (arith, c .slot .ensures, start .pre .prefix .addr-ok, shr-le (start .args .addr) (32 - start .args .p)))
 
 loop-holds : tie.Need-loop-holds Inv-loop μ-loop
 loop-holds c = (search needs, search needs, search first-none)
 
 paint-part-requires : tie.Need-paint-part-requires Inv-loop μ-loop
 paint-part-requires c κs =
-    let ended = c .before in
-    let turn = ended .before .before in
-    let ranged = turn .before in
-    let s = ranged .before .before .before .before .before in
-    first-part _ _ _ _ _ _ (s .pre) _ _ _ _ _ _ _ (ranged .before .slot .ensures) (ranged .range-end .ensures) (turn .loop .inv .2) (ended .block-end .ensures)
+    let ended : tie.After-block-end Inv-loop μ-loop = search in
+    let turn : tie.At-loop Inv-loop μ-loop = search in
+    let ranged : tie.After-range-end Inv-loop μ-loop = search in
+    let after-slot : tie.After-slot Inv-loop μ-loop = search in
+    let start : tie.Start Inv-loop μ-loop = search in
+    first-part _ _ _ _ _ _ (start .pre) _ _ _ _ _ _ _ (after-slot .slot .ensures) (ranged .range-end .ensures) (turn .loop .inv .2)
+    (ended .block-end .ensures)
 
 loop-again : tie.Need-loop-again Inv-loop μ-loop
 loop-again c =
-    let painted = c .before .before in
-    let turn = painted .before .before .before .before in
+    let painted : tie.After-paint-part Inv-loop μ-loop = search in
+    let turn : tie.At-loop Inv-loop μ-loop = search in
     (search needs, search needs, first-more _ _ _ _ _ _ _ _ (turn .loop .inv .0) (omega arith) (turn .loop .inv .2) (painted .paint-part .ensures))
 
 same-length : tie.Need-same-length Inv-loop μ-loop
@@ -47,10 +49,11 @@ same-length c = ap length (c .before .loop .inv .2) ∙ length-over _ _ _ _ _
 
 returns : tie.Need-returns Inv-loop μ-loop
 returns c =
-    let turn = c .before in
-    let ranged = turn .before in
-    let s = ranged .before .before .before .before .before in
-    first-all _ _ _ _ _ _ (s .pre) _ _ _ _ _ (ranged .before .slot .ensures) (ranged .range-end .ensures) (turn .loop .inv .1) (c .loop-test .left)
+    let turn : tie.At-loop Inv-loop μ-loop = search in
+    let ranged : tie.After-range-end Inv-loop μ-loop = search in
+    let after-slot : tie.After-slot Inv-loop μ-loop = search in
+    let start : tie.Start Inv-loop μ-loop = search in
+    first-all _ _ _ _ _ _ (start .pre) _ _ _ _ _ (after-slot .slot .ensures) (ranged .range-end .ensures) (turn .loop .inv .1) (c .loop-test .left)
     (turn .loop .inv .2)
 
 pub paint-first-spec : {M : Type 1} → statement M

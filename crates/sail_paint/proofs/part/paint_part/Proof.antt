@@ -6,13 +6,15 @@ use Rattle.sail_paint.proofs.part.paint_part.Statement.{statement}
 use Rattle.sail_paint.proofs.part.paint_part.Tie as tie
 
 plan-under-requires : tie.Need-plan-under-requires
-plan-under-requires c κs = let s = c .before .before .before .before in rw (mid-len _ _ _ (s .pre .inside)) (s .pre .block)
+plan-under-requires c κs =
+    let start : tie.Start = search in
+    rw (mid-len _ _ _ (start .pre .inside)) (start .pre .block)
 
 returns : tie.Need-returns
 returns c =
-    let planned = c .before .before in
-    let s = planned .before .before .before .before .before in
-    part-over _ _ _ _ _ _ _ (s .pre .rises) (s .pre .inside) (planned .plan-under .ensures)
+    let planned : tie.After-plan-under = search in
+    let start : tie.Start = search in
+    part-over _ _ _ _ _ _ _ (start .pre .rises) (start .pre .inside) (planned .plan-under .ensures)
 
 pub paint-part-spec : {M : Type 1} → statement M
 paint-part-spec =

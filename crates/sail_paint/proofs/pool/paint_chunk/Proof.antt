@@ -10,7 +10,7 @@ abbrev used : tie.After-stands-for → tie.Else1
 used c = c .before
 
 abbrev start : tie.After-stands-for → tie.Start
-start c = c .before .before .before .before .before .before
+start c = search
 
 abbrev stands : tie.Else2 → tie.After-stands-for
 stands c = c .before .before
@@ -22,7 +22,9 @@ free : tie.Need-returns
 free c = chunk-free _ _ _ _ _ _ _ _ _ _ _ (c .if1 .taken)
 
 stands-for-requires : tie.Need-stands-for-requires
-stands-for-requires c κs = let s = c .before .before .before .before .before in chunk-above _ _ _ _ _ _ _ _ _ _ (s .pre) (c .if1 .left)
+stands-for-requires c κs =
+    let start : tie.Start = search in
+    chunk-above _ _ _ _ _ _ _ _ _ _ (start .pre) (c .if1 .left)
 
 apart : tie.Need-returns-2
 apart c = chunk-apart _ _ _ _ _ _ _ _ _ _ _ _ _ (c .before .before .stands-for .ensures) (c .before .meets .ensures) (c .if2 .taken)
@@ -41,12 +43,14 @@ paint-part-requires c κs =
 
 painted : tie.Need-returns-3
 painted c =
-    let done = c .before .before in
-    let base = done .before .before in
+    let done : tie.After-paint-part = search in
+    let base : tie.After-shifted3 = search in
+    let after-shifted2 : tie.After-shifted2 = search in
+    let after-shifted : tie.After-shifted = search in
     let branch = paints base in
     let at = stands branch in
     chunk-over _ _ _ _ _ _ _ _ _ _ _ _ _ _ _ _ _ (used at .if1 .left) (at .stands-for .ensures) (branch .before .meets .ensures) (branch .if2 .left)
-    (base .before .before .shifted .ensures .0) (base .before .shifted2 .ensures .0) (base .shifted3 .ensures .0) (done .paint-part .ensures)
+    (after-shifted .shifted .ensures .0) (after-shifted2 .shifted2 .ensures .0) (base .shifted3 .ensures .0) (done .paint-part .ensures)
 
 pub paint-chunk-spec : {M : Type 1} → statement M
 paint-chunk-spec =

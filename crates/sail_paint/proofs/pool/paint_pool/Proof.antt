@@ -19,26 +19,28 @@ loop-holds c = (omega arith, pool-none _ _ _ _ _ _ _ _ _ _)
 
 paint-chunk-requires : tie.Need-paint-chunk-requires Inv-loop μ-loop
 paint-chunk-requires c κs =
-    let read = c .before in
-    let turn = read .before .before in
-    let s = turn .before .before .before .before .before .before in
-    pool-chunk _ _ _ _ _ _ _ _ _ _ _ _ (s .pre) (length-pooled _ _ _ _ _ _ _ _ _ _ _ _ (turn .loop .inv .1)) (read .before .loop-test .taken)
+    let read : tie.After-seen Inv-loop μ-loop = search in
+    let in-loop : tie.In-loop Inv-loop μ-loop = search in
+    let turn : tie.At-loop Inv-loop μ-loop = search in
+    let start : tie.Start Inv-loop μ-loop = search in
+    pool-chunk _ _ _ _ _ _ _ _ _ _ _ _ (start .pre) (length-pooled _ _ _ _ _ _ _ _ _ _ _ _ (turn .loop .inv .1)) (in-loop .loop-test .taken)
     (read .seen .ensures)
 
 loop-again : tie.Need-loop-again Inv-loop μ-loop
 loop-again c =
-    let painted = c .before .before in
-    let read = painted .before .before in
-    (search needs, pool-more _ _ _ _ _ _ _ _ _ _ _ _ _ _ (read .seen .ensures) (read .before .before .loop .inv .1) (painted .paint-chunk .ensures))
+    let painted : tie.After-paint-chunk Inv-loop μ-loop = search in
+    let read : tie.After-seen Inv-loop μ-loop = search in
+    let at-loop : tie.At-loop Inv-loop μ-loop = search in
+    (search needs, pool-more _ _ _ _ _ _ _ _ _ _ _ _ _ _ (read .seen .ensures) (at-loop .loop .inv .1) (painted .paint-chunk .ensures))
 
 same-length : tie.Need-same-length Inv-loop μ-loop
 same-length c = length-pooled _ _ _ _ _ _ _ _ _ _ _ _ (c .before .loop .inv .1)
 
 returns : tie.Need-returns Inv-loop μ-loop
 returns c =
-    let turn = c .before in
-    let s = turn .before .before .before .before .before .before in
-    pool-all _ _ _ _ _ _ _ _ _ _ _ _ (c .loop-test .left) (s .pre .chunks) (turn .loop .inv .1)
+    let turn : tie.At-loop Inv-loop μ-loop = search in
+    let start : tie.Start Inv-loop μ-loop = search in
+    pool-all _ _ _ _ _ _ _ _ _ _ _ _ (c .loop-test .left) (start .pre .chunks) (turn .loop .inv .1)
 
 pub paint-pool-spec : {M : Type 1} → statement M
 paint-pool-spec =

@@ -17,6 +17,43 @@ Inv-loop cells₀ own n c₀ cells c = (c ≤ length own) × (cells ≡ stampedB
 abbrev μ-loop : tie.MeasureT-loop
 μ-loop cells₀ own n c₀ cells c = length own - c
 
+slice-write-cells : tie.Need-slice-write-cells Inv-loop μ-loop
+slice-write-cells c =
+    let after-seen : tie.After-seen Inv-loop μ-loop = search in
+    let in-loop : tie.In-loop Inv-loop μ-loop = search in
+    let at-loop : tie.At-loop Inv-loop μ-loop = search in
+    let start : tie.Start Inv-loop μ-loop = search in
+    simp (ap length (at-loop .loop .inv .1), length-stamped)
+    (stamp-room _ _ (start .pre) _ _ (in-loop .loop-test .taken) (after-seen .seen .ensures) (c .if1 .taken))
+
+loop-again : tie.Need-loop-again Inv-loop μ-loop
+loop-again c =
+    let after-seen : tie.After-seen Inv-loop μ-loop = search in
+    let in-loop : tie.In-loop Inv-loop μ-loop = search in
+    let at-loop : tie.At-loop Inv-loop μ-loop = search in
+    let start : tie.Start Inv-loop μ-loop = search in (
+      search needs,
+      stamp-more _ _ (start .pre) _ _ (in-loop .loop-test .taken)
+          (after-seen .seen .ensures) _ (c .if1 .taken) (at-loop .loop .inv .1),
+    )
+
+loop-again-2 : tie.Need-loop-again-2 Inv-loop μ-loop
+loop-again-2 c =
+    let after-seen : tie.After-seen Inv-loop μ-loop = search in
+    let in-loop : tie.In-loop Inv-loop μ-loop = search in
+    let at-loop : tie.At-loop Inv-loop μ-loop = search in
+    let start : tie.Start Inv-loop μ-loop = search in (
+      search needs,
+      stamp-free _ _ (start .pre) _ _ (in-loop .loop-test .taken)
+          (after-seen .seen .ensures) _ (c .if1 .left) (at-loop .loop .inv .1),
+    )
+
+returns : tie.Need-returns Inv-loop μ-loop
+returns c =
+    let at-loop : tie.At-loop Inv-loop μ-loop = search in
+    let start : tie.Start Inv-loop μ-loop = search in
+    let l = at-loop .loop in let e : l .c ≡ length (now (start .args .own)) = omega arith in rw e at (l .inv .1)
+
 pub stamp-spec : {M : Type 1} → statement M
 stamp-spec =
     tie.close
@@ -30,20 +67,10 @@ stamp-spec =
     (λ c. search needs)
     (λ c. search needs)
     (λ c. search needs)
-    (λ c. simp (ap length (c .before .before .before .loop .inv .1), length-stamped)
-    (stamp-room _ _ (c .before .before .before .before .before .before .pre) _ _ (c .before .before .loop-test .taken) (c .before .seen .ensures)
-    (c .if1 .taken)))
+    slice-write-cells
     (λ c. search needs)
-    (λ c. (
-      search needs,
-      stamp-more _ _ (c .before .before .before .before .before .before .pre) _ _ (c .before .before .loop-test .taken)
-          (c .before .seen .ensures) _ (c .if1 .taken) (c .before .before .before .loop .inv .1),
-    ))
+    loop-again
     (λ c. search needs)
-    (λ c. (
-      search needs,
-      stamp-free _ _ (c .before .before .before .before .before .before .pre) _ _ (c .before .before .loop-test .taken)
-          (c .before .seen .ensures) _ (c .if1 .left) (c .before .before .before .loop .inv .1),
-    ))
+    loop-again-2
     (λ c. ap length (c .before .loop .inv .1) ∙ length-stamped _ _ _)
-    (λ c. let l = c .before .loop in let e : l .c ≡ length (now (c .before .before .before .before .args .own)) = omega arith in rw e at (l .inv .1)))
+    returns)

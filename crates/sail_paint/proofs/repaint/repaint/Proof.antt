@@ -9,25 +9,27 @@ use Rattle.sail_paint.proofs.repaint.repaint.Tie as tie
 -- Places, each seen from the next one: where it starts, after the first cells are painted, and stamped, after the second are, and after the
 -- third are painted, seen from the end.
 abbrev start : tie.After-paint-first → tie.Start
-start c = c .before .before .before .before .before .before .before .before .before
+start c = search
 
 abbrev painted1 : tie.After-stamp → tie.After-paint-first
-painted1 c = c .before .before .before .before
+painted1 c = search
 
 abbrev stamped1 : tie.After-paint-pool → tie.After-stamp
-stamped1 c = c .before .before .before .before
+stamped1 c = search
 
 abbrev painted2 : tie.After-stamp2 → tie.After-paint-pool
-painted2 c = c .before .before .before .before
+painted2 c = search
 
 abbrev stamped2 : tie.After-paint-pool2 → tie.After-stamp2
-stamped2 c = c .before .before .before .before
+stamped2 c = search
 
 abbrev painted3 : tie.After-slice-known8 → tie.After-paint-pool2
 painted3 c = c .before .before
 
 paint-first-requires : tie.Need-paint-first-requires
-paint-first-requires c κs = let s = c .before .before .before .before .before .before .before .before in first-asks _ _ _ _ _ _ (s .pre)
+paint-first-requires c κs =
+    let start : tie.Start = search in
+    first-asks _ _ _ _ _ _ (start .pre)
 
 stamp-requires : tie.Need-stamp-requires
 stamp-requires c κs = let p1 = c .before .before .before in first-stamps _ _ _ _ _ _ (start p1 .pre) _ (p1 .paint-first .kept .1 .1 .1 .1 .1 .0)

@@ -11,7 +11,7 @@ use Rattle.sail_sound.proofs.test.sound_with.Tie as tie
 
 -- Places: where it starts, seen from the branch on which the list is good; and that branch, seen from after `chained`.
 abbrev start : tie.Else1 → tie.Start
-start c = c .before .before .before .before .before .before .before .before .before .before .before .before .before
+start c = search
 
 abbrev good : tie.After-chained → tie.Else1
 good c = c .before .before .before
@@ -30,27 +30,28 @@ chained-requires c κs = let g = c .before .before in chain-room _ _ (passed (g 
 
 front-fits : tie.Need-slice-reshare-prefix-table-ok
 front-fits c =
-    let made = c .before .before .before .before .before in
+    let made : tie.After-chained = search in
     let g = good made in
     still-in _ _ (passed (g .before .list-ok .ensures) (g .if1 .left)) _ _ (start g .pre .1) (made .chained .last .1 .0) (made .chained .kept .1 .0)
 
 front-count : tie.Need-slice-aggregate-table-ok
 front-count c =
-    let made = c .before .before .before .before .before .before in
+    let made : tie.After-chained = search in
     let g = good made in
     front-room _ _ (passed (g .before .list-ok .ensures) (g .if1 .left)) _ _ (start g .pre .1) (made .chained .last .1 .0) (made .chained .kept .1 .0)
 
 table-ok-requires : tie.Need-table-ok-requires
 table-ok-requires c κs =
-    let made = c .before .before .before .before .before .before .before in
+    let made : tie.After-chained = search in
     let g = good made in (
-      front-ready _ _ (passed (g .before .list-ok .ensures) (g .if1 .left)) _ _ (start g .pre .1) _ (made .chained .kept .1 .0) _ (made .chained .ensures),
+      front-ready _ _ (passed (g .before .list-ok .ensures) (g .if1 .left)) _ _ (start g .pre .1) _ (made .chained .kept .1 .0) _
+          (made .chained .ensures),
       (celled-of _ _ (start g .pre .0), beside-of _ _ (start g .pre .0)),
     )
 
 returns-2 : tie.Need-returns-2
 returns-2 c =
-    let made = c .before .before .before .before .before .before .before .before in
+    let made : tie.After-chained = search in
     let g = good made in
     table-tried _ _ (start g .pre .0) (passed (g .before .list-ok .ensures) (g .if1 .left)) _ _ (start g .pre .1) _ (made .chained .kept .1 .0) _
     (made .chained .ensures) _ (c .table-ok .ensures)

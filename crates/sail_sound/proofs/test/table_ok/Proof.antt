@@ -8,7 +8,7 @@ use Rattle.sail_sound.proofs.test.table_ok.Tie as tie
 
 -- where it starts, seen from the branch on which the levels pass
 abbrev start : tie.Else1 → tie.Start
-start c = c .before .before .before .before .before .before .before .before .before .before .before
+start c = search
 
 returns : tie.Need-returns
 returns c = levels-fail _ _ _ _ _ _ _ _ _ _ (c .before .levels-ok .ensures) (c .if1 .taken)
@@ -22,4 +22,8 @@ returns-2 : tie.Need-returns-2
 returns-2 c = counts-tell _ _ _ _ _ _ _ _ _ _ (c .before .before .levels-ok .ensures) (c .before .if1 .left) _ (c .counts-ok .ensures)
 
 pub table-ok-spec : {M : Type 1} → statement M
-table-ok-spec = tie.close (tie.spec (λ c κs. search needs) returns counts-ok-requires returns-2)
+table-ok-spec = tie.close (tie.spec
+    (λ c κs. search needs)
+    returns
+    counts-ok-requires
+    returns-2)

@@ -7,6 +7,18 @@ use borrow.Author.Needs.{needs}
 use Rattle.text.proofs.line.put_address.Statement.{statement}
 use Rattle.text.proofs.line.put_address.Tie as tie
 
+returns : tie.Need-returns
+unfolding dotted labelled ascii
+returns c =
+    let after-put-labelled3 : tie.After-put-labelled3 = search in
+    let after-put-labelled2 : tie.After-put-labelled2 = search in
+    let after-put-labelled : tie.After-put-labelled = search in
+    let after-put-number : tie.After-put-number = search in
+    wrote-more
+    (wrote-more (wrote-more (after-put-number .put-number .ensures) (after-put-labelled .put-labelled .ensures))
+    (after-put-labelled2 .put-labelled2 .ensures))
+    (after-put-labelled3 .put-labelled3 .ensures)
+
 pub put-address-spec : {M : Type 1} → statement M
 unfolding dotted labelled ascii
 put-address-spec =
@@ -14,20 +26,10 @@ put-address-spec =
     (tie.spec
     (λ c κs. record { room = omega (arith, length-dotted (c .before .before .args .addr)) })
     (λ c. search needs)
-    (λ c κs. record { room = omega (arith, length-dotted (c .before .before .before .before .before .before .before .args .addr)) })
+    (λ c κs. let start : tie.Start = search in record { room = omega (arith, length-dotted (start .args .addr)) })
     (λ c. search needs)
-    (λ c κs. record {
-      room = omega (
-        arith,
-        length-dotted
-            (c .before .before .before .before .before .before .before .before .before .before .before .before .args .addr),
-      );
-    })
+    (λ c κs. let start : tie.Start = search in record { room = omega (arith, length-dotted (start .args .addr)) })
     (λ c. search needs)
-    (λ c κs. let s = c .before .before .before .before .before .before .before .before .before .before .before .before .before .before .before
-    .before .before in record { room = omega (arith, length-dotted (s .args .addr), s .pre .room) })
+    (λ c κs. let start : tie.Start = search in record { room = omega (arith, length-dotted (start .args .addr), start .pre .room) })
     (λ c. search needs)
-    (λ c. wrote-more (wrote-more (wrote-more (c .before .before .before .before .before .before .before .before .before .before .before .before
-    .before .before .before .before .before .put-number .ensures)
-    (c .before .before .before .before .before .before .before .before .before .before .before .before .put-labelled .ensures))
-    (c .before .before .before .before .before .before .before .put-labelled2 .ensures)) (c .before .before .put-labelled3 .ensures)))
+    returns)

@@ -12,38 +12,43 @@ put-address-requires c κs = record { room = omega (arith, length-line (c .befor
 
 put-labelled-requires : tie.Need-put-labelled-requires
 unfolding labelled ascii
-put-labelled-requires c κs = record { room = omega (arith, length-line (c .before .before .before .before .before .before .before .before .args .r)) }
+put-labelled-requires c κs =
+    let start : tie.Start = search in
+    record { room = omega (arith, length-line (start .args .r)) }
 
 put-labelled-requires-2 : tie.Need-put-labelled-requires-2
 unfolding labelled ascii
-put-labelled-requires-2 c κs = record {
-  room = omega
-      (arith, length-line (c .before .before .before .before .before .before .before .before .before .before .before .before .before .before .args .r));
-}
+put-labelled-requires-2 c κs =
+    let start : tie.Start = search in
+    record {
+      room = omega
+          (arith, length-line (start .args .r));
+    }
 
 put-mark-requires : tie.Need-put-mark-requires
 unfolding labelled ascii
 put-mark-requires c κs =
-    let start = c .before .before .before .before .before .before .before .before .before .before .before .before .before .before .before .before
-    .before .before in
+    let start : tie.Start = search in
     record { room = omega (arith, length-line (start .args .r), start .pre .room) }
 
 put-byte-requires : tie.Need-put-byte-requires
 unfolding labelled ascii
 put-byte-requires c κs =
-    let start = c .before .before .before .before .before .before .before .before .before .before .before .before .before .before .before .before
-    .before .before .before .before .before .before in
+    let start : tie.Start = search in
     record { room = omega (arith, length-line (start .args .r), start .pre .room) }
 
 returns : tie.Need-returns
 unfolding routeLine labelled ascii
 returns c =
-    let marked = c .before .before .before .before .before .before in
-    let hop = marked .before .before .before .before in
-    let length = hop .before .before .before .before .before .before in
-    let address = length .before .before .before .before .before .before in
-    wrote-more (wrote-more (wrote-more (wrote-more (address .put-address .ensures) (length .put-labelled .ensures)) (hop .put-labelled2 .ensures))
-    (marked .put-mark .ensures)) (c .before .before .put-byte .ensures)
+    let after-put-byte : tie.After-put-byte = search in
+    let marked : tie.After-put-mark = search in
+    let hop : tie.After-put-labelled2 = search in
+    let length : tie.After-put-labelled = search in
+    let address : tie.After-put-address = search in
+    wrote-more
+    (wrote-more (wrote-more (wrote-more (address .put-address .ensures) (length .put-labelled .ensures)) (hop .put-labelled2 .ensures))
+    (marked .put-mark .ensures))
+    (after-put-byte .put-byte .ensures)
 
 pub put-route-spec : {M : Type 1} → statement M
 put-route-spec =

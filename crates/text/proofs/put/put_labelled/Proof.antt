@@ -4,11 +4,23 @@ use borrow.Author.Needs.{needs}
 use Rattle.text.proofs.put.put_labelled.Statement.{statement}
 use Rattle.text.proofs.put.put_labelled.Tie as tie
 
+put-number-requires : tie.Need-put-number-requires
+put-number-requires c κs =
+    let after-put-text : tie.After-put-text = search in
+    let start : tie.Start = search in
+    room-then _ _ (start .pre) (after-put-text .put-text .ensures)
+
+returns : tie.Need-returns
+returns c =
+    let after-put-number : tie.After-put-number = search in
+    let after-put-text : tie.After-put-text = search in
+    wrote-more (after-put-text .put-text .ensures) (after-put-number .put-number .ensures)
+
 pub put-labelled-spec : {M : Type 1} → statement M
 put-labelled-spec =
     tie.close
     (tie.spec
     (λ c κs. room-first _ _ (c .before .before .before .pre))
-    (λ c κs. room-then _ _ (c .before .before .before .before .before .before .before .pre) (c .before .before .before .put-text .ensures))
+    put-number-requires
     (λ c. search needs)
-    (λ c. wrote-more (c .before .before .before .before .before .before .put-text .ensures) (c .before .before .put-number .ensures)))
+    returns)

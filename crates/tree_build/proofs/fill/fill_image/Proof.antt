@@ -16,6 +16,33 @@ Inv-loop list words₀ hops₀ i₀ t₀ h₀ words hops i t h = State list word
 abbrev μ-loop : tie.MeasureT-loop
 μ-loop list words₀ hops₀ i₀ t₀ h₀ words hops i t h = length (nodesIn list) - i
 
+add-i : tie.Need-add-i Inv-loop μ-loop
+add-i c =
+    let in-loop : tie.In-loop Inv-loop μ-loop = search in
+    let at-loop : tie.At-loop Inv-loop μ-loop = search in
+    omega (
+      arith,
+      node-taken _ _ _ _ _ _ (at-loop .loop .inv .0)
+          (in-loop .loop-test .taken),
+      at-loop .loop .inv .0 .room .words-fit,
+    )
+
+loop-less : tie.Need-loop-less Inv-loop μ-loop
+loop-less c =
+    let in-loop : tie.In-loop Inv-loop μ-loop = search in
+    let at-loop : tie.At-loop Inv-loop μ-loop = search in
+    omega (
+      arith,
+      node-taken _ _ _ _ _ _ (at-loop .loop .inv .0)
+          (in-loop .loop-test .taken),
+    )
+
+returns : tie.Need-returns Inv-loop μ-loop
+returns c =
+    let at-loop : tie.At-loop Inv-loop μ-loop = search in
+    let start : tie.Start Inv-loop μ-loop = search in
+    filled _ _ _ _ _ _ (at-loop .loop .inv .0) (c .loop-test .left) (start .args .words .now) (start .args .hops .now) (omega arith) (omega arith)
+
 pub fill-image-spec : {M : Type 1} → statement M
 fill-image-spec =
     tie.close
@@ -23,23 +50,11 @@ fill-image-spec =
     Inv-loop
     μ-loop
     (λ c κs. search needs)
-    (λ c. (c .before .before .before .before .start .ensures, refl, refl))
+    (λ c. let after-start : tie.After-start Inv-loop μ-loop = search in (after-start .start .ensures, refl, refl))
     (λ c κs. search state-waits)
-    (λ c. omega (
-      arith,
-      node-taken _ _ _ _ _ _ (c .before .before .before .before .before .before .before .before .loop .inv .0)
-          (c .before .before .before .before .before .before .before .loop-test .taken),
-      c .before .before .before .before .before .before .before
-          .before .loop .inv .0 .room .words-fit,
-    ))
-    (λ c. omega (
-      arith,
-      node-taken _ _ _ _ _ _ (c .before .before .before .before .before .before .before .before .loop .inv .0)
-          (c .before .before .before .before .before .before .before .loop-test .taken),
-    ))
-    (λ c. (c .before .before .before .before .step .ensures, omega arith, omega arith))
+    add-i
+    loop-less
+    (λ c. let after-step : tie.After-step Inv-loop μ-loop = search in (after-step .step .ensures, omega arith, omega arith))
     (λ c. search needs)
     (λ c. search needs)
-    (λ c. filled _ _ _ _ _ _ (c .before .loop .inv .0) (c .loop-test .left)
-    (c .before .before .before .before .before .before .before .before .before .before .before .before .args .words .now)
-    (c .before .before .before .before .before .before .before .before .before .before .before .before .args .hops .now) (omega arith) (omega arith)))
+    returns)

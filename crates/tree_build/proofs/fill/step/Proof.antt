@@ -5,6 +5,41 @@ use borrow.Author.Needs.{needs}
 use Rattle.tree_build.proofs.fill.step.Statement.{statement}
 use Rattle.tree_build.proofs.fill.step.Tie as tie
 
+-- Where it starts, seen from the first place that is named below.
+abbrev start-of : tie.After-word-to-index → tie.Start
+start-of c = search
+
+put-node-requires : tie.Need-put-node-requires
+put-node-requires c κs =
+    let after-put-kids : tie.After-put-kids = search in
+    let after-put-hops : tie.After-put-hops = search in
+    let after-node-word : tie.After-node-word = search in
+    let after-word-to-index2 : tie.After-word-to-index2 = search in
+    let after-word-to-index : tie.After-word-to-index = search in
+    let start = start-of after-word-to-index in
+    node-room _ _ _ _ _ _ (start .pre) _ _ _ refl (after-word-to-index .word-to-index .ensures .0) (after-word-to-index2 .word-to-index2 .ensures .0)
+    _ (after-node-word .node-word .ensures) _ (after-put-hops .put-hops .ensures) _ (after-put-kids .put-kids .ensures)
+
+returns : tie.Need-returns
+returns c =
+    let after-ones-below2 : tie.After-ones-below2 = search in
+    let after-word-to-index3 : tie.After-word-to-index3 = search in
+    let after-ones-below : tie.After-ones-below = search in
+    let after-put-node : tie.After-put-node = search in
+    let after-narrow2 : tie.After-narrow2 = search in
+    let after-narrow : tie.After-narrow = search in
+    let after-put-kids : tie.After-put-kids = search in
+    let after-put-hops : tie.After-put-hops = search in
+    let after-node-word : tie.After-node-word = search in
+    let after-word-to-index2 : tie.After-word-to-index2 = search in
+    let after-word-to-index : tie.After-word-to-index = search in
+    let start = start-of after-word-to-index in
+    state-next _ _ _ _ _ _ (start .pre) _ _ _ refl (after-word-to-index .word-to-index .ensures .0) (after-word-to-index2 .word-to-index2 .ensures .0)
+    _ (after-node-word .node-word .ensures) _ (after-put-hops .put-hops .ensures) _ (after-put-kids .put-kids .ensures) _ _
+    (after-narrow .narrow .ensures) (after-narrow2 .narrow2 .ensures) _ (after-put-node .put-node .ensures) _ _
+    (after-word-to-index3 .word-to-index3 .ensures .0 ∙ after-ones-below .ones-below .ensures .0)
+    (c .word-to-index4 .ensures .0 ∙ after-ones-below2 .ones-below2 .ensures .0)
+
 pub step-spec : {M : Type 1} → statement M
 step-spec =
     tie.close
@@ -27,13 +62,7 @@ step-spec =
     (λ c κs. search kids-ready)
     (λ c κs. search needs)
     (λ c κs. search needs)
-    (λ c κs. node-room _ _ _ _ _ _ (c .before .before .before .before .before .before .before .before .before .before .before .before .before .before
-    .before .before .before .before .before .before .pre) _ _ _ refl
-    (c .before .before .before .before .before .before .before .before .before .before .before .before .before .before .word-to-index .ensures
-    .0) (c .before .before .before .before .before .before .before .before .before .before .before .before .word-to-index2 .ensures .0) _
-    (c .before .before .before .before .before .before .before .before .before .before .before .node-word .ensures) _
-    (c .before .before .before .before .before .before .before .before .before .put-hops .ensures) _
-    (c .before .before .before .before .before .put-kids .ensures))
+    put-node-requires
     (λ c κs. search needs)
     (λ c κs. search needs)
     (λ c. search needs)
@@ -42,18 +71,4 @@ step-spec =
     (λ c. search needs)
     (λ c. search needs)
     (λ c. search needs)
-    (λ c. state-next _ _ _ _ _ _ (c .before .before .before .before .before .before .before .before .before .before .before .before .before .before
-    .before .before .before .before .before .before .before .before .before .before .before .before .before .pre) _ _ _ refl
-    (c .before .before .before .before .before .before .before .before .before .before .before .before .before .before .before .before .before
-    .before .before .before .before .word-to-index .ensures .0)
-    (c .before .before .before .before .before .before .before .before .before .before .before .before .before .before .before .before .before
-    .before .before .word-to-index2 .ensures .0) _
-    (c .before .before .before .before .before .before .before .before .before .before .before .before .before .before .before .before .before
-    .before .node-word .ensures) _ (c .before .before .before .before .before .before .before .before .before .before .before .before .before
-    .before .before .before .put-hops .ensures) _
-    (c .before .before .before .before .before .before .before .before .before .before .before .before .put-kids .ensures) _ _
-    (c .before .before .before .before .before .before .before .before .narrow .ensures)
-    (c .before .before .before .before .before .before .before .narrow2 .ensures) _
-    (c .before .before .before .before .before .before .put-node .ensures) _ _
-    (c .before .before .word-to-index3 .ensures .0 ∙ c .before .before .before .ones-below .ensures .0)
-    (c .word-to-index4 .ensures .0 ∙ c .before .ones-below2 .ensures .0)))
+    returns)

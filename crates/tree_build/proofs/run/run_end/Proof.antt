@@ -12,6 +12,18 @@ Inv-loop list m a e path k₀ k = (a < k) × (k ≤ e) × AllTo list m a k
 abbrev μ-loop : tie.MeasureT-loop
 μ-loop list m a e path k₀ k = e - k
 
+loop-again : tie.Need-loop-again Inv-loop μ-loop
+loop-again c =
+    let after-passes : tie.After-passes Inv-loop μ-loop = search in
+    let at-loop : tie.At-loop Inv-loop μ-loop = search in
+    let after-slot : tie.After-slot Inv-loop μ-loop = search in
+    let after-read-record : tie.After-read-record Inv-loop μ-loop = search in (
+      omega arith,
+      omega arith,
+      all-more _ _ _ _ _ (after-read-record .read-record .ensures)
+          (after-slot .slot .ensures) _ _ (after-passes .passes .ensures) (at-loop .loop .inv .2) (c .if1 .left),
+    )
+
 pub run-end-spec : {M : Type 1} → statement M
 run-end-spec =
     tie.close
@@ -27,10 +39,5 @@ run-end-spec =
     (λ c. search run-stops)
     (λ c. search needs)
     (λ c. search needs)
-    (λ c. (
-      omega arith,
-      omega arith,
-      all-more _ _ _ _ _ (c .before .before .before .before .before .read-record .ensures)
-          (c .before .before .before .before .slot .ensures) _ _ (c .before .passes .ensures) (c .before .before .before .loop .inv .2) (c .if1 .left),
-    ))
+    loop-again
     (λ c. search run-ends))

@@ -16,12 +16,16 @@ loop-holds : tie.Need-loop-holds Inv-loop μ-loop
 loop-holds c = grow-start (c .before .before .pre)
 
 turn-requires : tie.Need-turn-requires Inv-loop μ-loop
-turn-requires c κs = omega (arith, c .before .before .before .before .before .pre .new .fine .prefix .len-ok)
+turn-requires c κs =
+    let start : tie.Start Inv-loop μ-loop = search in
+    omega (arith, start .pre .new .fine .prefix .len-ok)
 
 graft-requires : tie.Need-graft-requires Inv-loop μ-loop
 graft-requires c κs =
-    let at-loop = c .before .before .before in
-    grow-ready (at-loop .before .before .before .pre) (at-loop .loop .inv) (c .before .before .loop-test .taken) _ (c .turn .ensures .0)
+    let in-loop : tie.In-loop Inv-loop μ-loop = search in
+    let at-loop : tie.At-loop Inv-loop μ-loop = search in
+    let start : tie.Start Inv-loop μ-loop = search in
+    grow-ready (start .pre) (at-loop .loop .inv) (in-loop .loop-test .taken) _ (c .turn .ensures .0)
 
 add-m : tie.Need-add-m Inv-loop μ-loop
 add-m c = omega arith
@@ -34,15 +38,19 @@ loop-less c = omega arith
 
 loop-again : tie.Need-loop-again Inv-loop μ-loop
 loop-again c =
-    let at-turn = c .before .before .before in
-    let at-loop = at-turn .before .before .before in
-    grow-next (at-loop .before .before .before .pre) (at-loop .loop .inv) (at-turn .before .before .loop-test .taken) _ (at-turn .turn .ensures .0)
-    (c .before .before .graft .ensures)
+    let after-graft : tie.After-graft Inv-loop μ-loop = search in
+    let at-turn : tie.After-turn Inv-loop μ-loop = search in
+    let in-loop : tie.In-loop Inv-loop μ-loop = search in
+    let at-loop : tie.At-loop Inv-loop μ-loop = search in
+    let start : tie.Start Inv-loop μ-loop = search in
+    grow-next (start .pre) (at-loop .loop .inv) (in-loop .loop-test .taken) _ (at-turn .turn .ensures .0) (after-graft .graft .ensures)
 
 put-hop-requires : tie.Need-put-hop-requires Inv-loop μ-loop
 put-hop-requires c κs =
-    let at-loop = c .before .before .before in
-    grow-put (at-loop .before .before .before .pre) (at-loop .loop .inv) (c .before .before .loop-test .left)
+    let after-loop : tie.After-loop Inv-loop μ-loop = search in
+    let at-loop : tie.At-loop Inv-loop μ-loop = search in
+    let start : tie.Start Inv-loop μ-loop = search in
+    grow-put (start .pre) (at-loop .loop .inv) (after-loop .loop-test .left)
 
 same-length : tie.Need-same-length Inv-loop μ-loop
 same-length c = omega arith
@@ -52,9 +60,11 @@ same-length-2 c = omega arith
 
 returns : tie.Need-returns Inv-loop μ-loop
 returns c =
-    let at-put = c .before .before .before .before in
-    let at-loop = at-put .before .before .before .before in
-    grow-done (at-loop .before .before .before .pre) (at-loop .loop .inv) (at-put .before .before .before .loop-test .left) (at-put .put-hop .ensures)
+    let at-put : tie.After-put-hop Inv-loop μ-loop = search in
+    let after-loop : tie.After-loop Inv-loop μ-loop = search in
+    let at-loop : tie.At-loop Inv-loop μ-loop = search in
+    let start : tie.Start Inv-loop μ-loop = search in
+    grow-done (start .pre) (at-loop .loop .inv) (after-loop .loop-test .left) (at-put .put-hop .ensures)
 
 pub add-spec : {M : Type 1} → statement M
 add-spec =

@@ -20,7 +20,11 @@ shared-slice-read-result : tie.Need-shared-slice-read-result
 shared-slice-read-result c = search needs
 
 returns-2 : tie.Need-returns-2
-returns-2 c = bare-node _ _ _ _ (c .before .before .before .before .pre) (c .before .before .if1 .left) _ _ (c .before .descend .ensures)
+returns-2 c =
+    let after-descend : tie.After-descend = search in
+    let else1 : tie.Else1 = search in
+    let start : tie.Start = search in
+    bare-node _ _ _ _ (start .pre) (else1 .if1 .left) _ _ (after-descend .descend .ensures)
 
 pub bare-spec : {M : Type 1} → statement M
 bare-spec =

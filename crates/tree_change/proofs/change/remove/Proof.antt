@@ -21,27 +21,36 @@ abbrev μ-loop : tie.MeasureT-loop
 μ-loop words₀ hops n k at addr len b m₀ nodes₀ words m nodes = m
 
 take-hop-requires : tie.Need-take-hop-requires Inv-loop μ-loop
-take-hop-requires c κs = take-ready _ (c .before .before .before .before .pre)
+take-hop-requires c κs =
+    let start : tie.Start Inv-loop μ-loop = search in
+    take-ready _ (start .pre)
 
 loop-holds : tie.Need-loop-holds Inv-loop μ-loop
 loop-holds c = ((λ rs g. g), refl)
 
 -- what is held at the loop's head: the routes without the prefix
+abbrev start-of : tie.At-loop Inv-loop μ-loop → tie.Start Inv-loop μ-loop
+start-of c = search
+
+abbrev take-hop-of : tie.At-loop Inv-loop μ-loop → tie.After-take-hop Inv-loop μ-loop
+take-hop-of c = search
+
 held : (c : tie.At-loop Inv-loop μ-loop)
     → Midway
-    (remove (keyOf (c .before .before .before .before .before .before .before .before .before .before .args .addr)
-    (c .before .before .before .before .before .before .before .before .before .before .args .len))
-    (routesHeld (c .before .before .before .before .before .before .before .before .before .before .args .words .now)
-    (c .before .before .before .before .before .before .before .before .before .before .args .hops .now)))
-    (c .before .before .before .before .before .before .before .before .before .before .args .addr)
+    (remove (keyOf (start-of c .args .addr)
+    (start-of c .args .len))
+    (routesHeld (start-of c .args .words .now)
+    (start-of c .args .hops .now)))
+    (start-of c .args .addr)
     (c .loop .m)
     (c .loop .words)
-    (c .before .before .before .before .before .take-hop .last .1 .0)
+    (take-hop-of c .take-hop .last .1 .0)
     (c .loop .nodes)
-    (c .before .before .before .before .before .before .before .before .before .before .args .k)
+    (start-of c .args .k)
 held c =
-    let at-take = c .before .before .before .before .before in
-    c .loop .inv .0 _ (shrink-start _ (at-take .before .before .before .before .before .pre) (at-take .take-hop .ensures))
+    let at-take : tie.After-take-hop Inv-loop μ-loop = search in
+    let start : tie.Start Inv-loop μ-loop = search in
+    c .loop .inv .0 _ (shrink-start _ (start .pre) (at-take .take-hop .ensures))
 
 bare-requires : tie.Need-bare-requires Inv-loop μ-loop
 bare-requires c κs = shrink-path (held (c .before))
@@ -53,36 +62,51 @@ sub-nodes : tie.Need-sub-nodes Inv-loop μ-loop
 sub-nodes c = shrink-some (held (c .before .before .before)) _ (c .before .bare .ensures) (c .if1 .taken) .1
 
 add-descend : tie.Need-add-descend Inv-loop μ-loop
-add-descend c = omega (arith, held (c .before .before .before .before) .holds .order .lent)
+add-descend c =
+    let at-loop : tie.At-loop Inv-loop μ-loop = search in
+    omega (arith, held at-loop .holds .order .lent)
 
 descend-requires : tie.Need-descend-requires Inv-loop μ-loop
-descend-requires c κs = shrink-up (held (c .before .before .before .before)) _ (c .before .before .bare .ensures) (c .before .if1 .taken)
+descend-requires c κs =
+    let then1 : tie.Then1 Inv-loop μ-loop = search in
+    let after-bare : tie.After-bare Inv-loop μ-loop = search in
+    let at-loop : tie.At-loop Inv-loop μ-loop = search in
+    shrink-up (held at-loop) _ (after-bare .bare .ensures) (then1 .if1 .taken)
 
 turn-requires : tie.Need-turn-requires Inv-loop μ-loop
 turn-requires c κs =
-    let at-if = c .before .before .before in
-    let at-loop = at-if .before .before .before in
-    omega (arith, held at-loop .deep, shrink-some (held at-loop) _ (at-if .before .bare .ensures) (at-if .if1 .taken) .0)
+    let at-if : tie.Then1 Inv-loop μ-loop = search in
+    let after-bare : tie.After-bare Inv-loop μ-loop = search in
+    let at-loop : tie.At-loop Inv-loop μ-loop = search in
+    omega (arith, held at-loop .deep, shrink-some (held at-loop) _ (after-bare .bare .ensures) (at-if .if1 .taken) .0)
 
 prune-requires : tie.Need-prune-requires Inv-loop μ-loop
 prune-requires c κs =
-    let at-if = c .before .before .before .before in
-    shrink-ready (held (at-if .before .before .before)) _ (at-if .before .bare .ensures) (at-if .if1 .taken) (c .before .before .descend .ensures) _
-    (c .turn .ensures .0)
+    let after-descend : tie.After-descend Inv-loop μ-loop = search in
+    let at-if : tie.Then1 Inv-loop μ-loop = search in
+    let after-bare : tie.After-bare Inv-loop μ-loop = search in
+    let at-loop : tie.At-loop Inv-loop μ-loop = search in
+    shrink-ready (held at-loop) _ (after-bare .bare .ensures) (at-if .if1 .taken) (after-descend .descend .ensures) _ (c .turn .ensures .0)
 
 loop-less : tie.Need-loop-less Inv-loop μ-loop
 loop-less c =
-    let at-if = c .before .before .before .before .before .before .before in
-    omega (arith, shrink-some (held (at-if .before .before .before)) _ (at-if .before .bare .ensures) (at-if .if1 .taken) .0)
+    let at-if : tie.Then1 Inv-loop μ-loop = search in
+    let after-bare : tie.After-bare Inv-loop μ-loop = search in
+    let at-loop : tie.At-loop Inv-loop μ-loop = search in
+    omega (arith, shrink-some (held at-loop) _ (after-bare .bare .ensures) (at-if .if1 .taken) .0)
 
 loop-again : tie.Need-loop-again Inv-loop μ-loop
 loop-again c =
-    let at-prune = c .before .before in
-    let at-if = at-prune .before .before .before .before .before in (
+    let at-prune : tie.After-prune Inv-loop μ-loop = search in
+    let after-turn : tie.After-turn Inv-loop μ-loop = search in
+    let after-descend : tie.After-descend Inv-loop μ-loop = search in
+    let at-if : tie.Then1 Inv-loop μ-loop = search in
+    let after-bare : tie.After-bare Inv-loop μ-loop = search in
+    let at-loop : tie.At-loop Inv-loop μ-loop = search in (
       (λ rs g.
-          shrink-next (at-if .before .before .before .loop .inv .0 rs g) _ (at-if .before .bare .ensures) (at-if .if1 .taken)
-          (at-prune .before .before .before .descend .ensures) _
-          (at-prune .before .turn .ensures .0) (at-prune .prune .ensures)),
+          shrink-next (at-loop .loop .inv .0 rs g) _ (after-bare .bare .ensures) (at-if .if1 .taken)
+          (after-descend .descend .ensures) _
+          (after-turn .turn .ensures .0) (at-prune .prune .ensures)),
       omega arith,
     )
 

@@ -2,8 +2,8 @@
 use mathlib.Core.Path.{sym, _∙_}
 use Prim.Native.Nat.{_-_, _≤_}
 use native.Mathlib.Omega.{arith}
-use Rattle.tree_check.proofs.Meaning.{not-true}
-use Rattle.tree_check.proofs.Steps.{not-failed}
+use Rattle.tree_formed.proofs.Meaning.{not-true}
+use Rattle.tree_formed.proofs.Steps.{not-failed}
 use Rattle.tree_change.proofs.Ways.{Walked, walk-start, walk-next, walk-end, walk-stop}
 use Rattle.tree_change.proofs.path.descend.Statement.{statement}
 use Rattle.tree_change.proofs.path.descend.Tie as tie
@@ -37,9 +37,12 @@ is-set-requires c κs = omega arith
 
 returns : tie.Need-returns Inv-loop μ-loop
 returns c =
-    let at-turn = c .before .before .before in
-    walk-stop _ _ _ _ _ _ _ (at-turn .before .before .loop .inv .0) (at-turn .before .loop-test .taken) (at-turn .turn .ensures .0)
-    (sym (c .before .is-set .ensures) ∙ not-true _ (c .if1 .taken))
+    let after-is-set : tie.After-is-set Inv-loop μ-loop = search in
+    let at-turn : tie.After-turn Inv-loop μ-loop = search in
+    let in-loop : tie.In-loop Inv-loop μ-loop = search in
+    let at-loop : tie.At-loop Inv-loop μ-loop = search in
+    walk-stop _ _ _ _ _ _ _ (at-loop .loop .inv .0) (in-loop .loop-test .taken) (at-turn .turn .ensures .0)
+    (sym (after-is-set .is-set .ensures) ∙ not-true _ (c .if1 .taken))
 
 child-place-requires : tie.Need-child-place-requires Inv-loop μ-loop
 child-place-requires c κs = omega arith
@@ -52,11 +55,15 @@ loop-less c = omega arith
 
 loop-again : tie.Need-loop-again Inv-loop μ-loop
 loop-again c =
-    let at-turn = c .before .before .before .before in
-    let at-start = at-turn .before .before .before .before in (
-      walk-next _ _ _ _ _ _ _ (at-start .pre .0) (at-turn .before .before .loop .inv .0)
-          (at-turn .before .before .before .shared-slice-known .given _ .fits) (omega arith) (at-turn .turn .ensures .0)
-          (not-failed _ _ (c .before .before .is-set .ensures) (c .before .if1 .left)) (c .child-place .ensures .0),
+    let else1 : tie.Else1 Inv-loop μ-loop = search in
+    let after-is-set : tie.After-is-set Inv-loop μ-loop = search in
+    let at-turn : tie.After-turn Inv-loop μ-loop = search in
+    let at-loop : tie.At-loop Inv-loop μ-loop = search in
+    let after-shared-slice-known : tie.After-shared-slice-known Inv-loop μ-loop = search in
+    let at-start : tie.Start Inv-loop μ-loop = search in (
+      walk-next _ _ _ _ _ _ _ (at-start .pre .0) (at-loop .loop .inv .0)
+          (after-shared-slice-known .shared-slice-known .given _ .fits) (omega arith) (at-turn .turn .ensures .0)
+          (not-failed _ _ (after-is-set .is-set .ensures) (else1 .if1 .left)) (c .child-place .ensures .0),
       omega arith,
     )
 

@@ -26,6 +26,6 @@ many-spec =
     (λ c κs. omega arith)
     (λ c. search needs)
     (λ c. search needs)
-    (λ c. (omega arith, omega arith, c .before .before .write-record .kept .0 ∙ c .before .before .before .before .before .before .loop .inv .2))
+    (λ c. let at-loop : tie.At-loop Inv-loop μ-loop = search in (omega arith, omega arith, c .before .before .write-record .kept .0 ∙ at-loop .loop .inv .2))
     (λ c. search needs)
     (λ c. search needs))

@@ -1,0 +1,2 @@
+-- How an announcement on an image is packed.
+pub mod ImageAnswers

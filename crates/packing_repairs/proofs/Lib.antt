@@ -1,0 +1,2 @@
+-- That the answer of a repair is read back.
+pub mod Putting

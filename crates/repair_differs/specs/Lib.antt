@@ -1,0 +1,2 @@
+-- What counting asks, and what it counts.
+pub mod Differs

@@ -1,8 +1,0 @@
--- `sail::lookup::opens`. Whether a cell names one of a pool's chunks.
-use borrow.Author.Needs.{needs}
-use Rattle.sail.proofs.Steps.{wraps-below}
-use Rattle.sail.proofs.lookup.opens.Statement.{statement}
-use Rattle.sail.proofs.lookup.opens.Tie as tie
-
-pub opens-spec : {M : Type 1} → statement M
-opens-spec = tie.close (tie.spec (λ c κs. search needs) (λ c. search wraps-below))

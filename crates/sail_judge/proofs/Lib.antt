@@ -1,0 +1,3 @@
+-- Laws of each way out of a judge.
+pub mod AnnounceJudges
+pub mod WithdrawJudges

@@ -1,0 +1,127 @@
+-- `sail_judge::announce::judge_room`: each way has its law.
+use borrow.Author.Needs.{needs}
+use Rattle.sail_chunks.proofs.Trails.{serving-of}
+use Rattle.sail_judge.proofs.AnnounceJudges.{room-stands, room-full, room-second, room-third, room-enough}
+use Rattle.sail_judge.proofs.announce.judge_room.Statement.{statement}
+use Rattle.sail_judge.proofs.announce.judge_room.Tie as tie
+
+-- where it starts, seen from after `key_of`
+abbrev begun : tie.After-key-of → tie.Start
+begun c =
+    let known : tie.After-shared-slice-known8 = search in
+    let start : tie.Start = search in
+    start
+
+place-requires : tie.Need-place-requires
+place-requires c κs = begun c .pre .sound .listed .records
+
+stands-at-requires : tie.Need-stands-at-requires
+stands-at-requires c κs =
+    let after-key : tie.After-key-of = search in
+    let start : tie.Start = begun after-key in
+    record { records = start .pre .sound .listed .records; place = c .place .ensures .0 }
+
+returns : tie.Need-returns
+returns c =
+    let after-stands : tie.After-stands-at = search in
+    let after-place : tie.After-place = search in
+    let after-key : tie.After-key-of = search in
+    let start : tie.Start = begun after-key in
+    rw (c .nothing .ensures)
+    (room-stands _ _ _ _ _ _ (start .pre) (after-key .key-of .ensures .0) (after-place .place .ensures .0) (after-stands .stands-at .ensures)
+    (c .before .if1 .taken))
+
+returns-2 : tie.Need-returns-2
+returns-2 c =
+    let else1 : tie.Else1 = search in
+    let after-stands : tie.After-stands-at = search in
+    let after-place : tie.After-place = search in
+    let after-key : tie.After-key-of = search in
+    let start : tie.Start = begun after-key in
+    room-full _ _ _ _ _ _ (start .pre) (after-key .key-of .ensures .0) (after-place .place .ensures .0) (after-stands .stands-at .ensures)
+    (else1 .if1 .left) (c .before .if2 .taken) _ (c .refusal .ensures)
+
+to-open-requires : tie.Need-to-open-requires
+to-open-requires c κs =
+    let after-key : tie.After-key-of = search in
+    let start : tie.Start = begun after-key in
+    serving-of _ _ (start .pre .sound)
+
+wanting-requires : tie.Need-wanting-requires
+wanting-requires c κs =
+    let after-key : tie.After-key-of = search in
+    let start : tie.Start = begun after-key in
+    start .pre .sound .sized .few2
+
+returns-3 : tie.Need-returns-3
+returns-3 c =
+    let after-wanting : tie.After-wanting = search in
+    let after-open : tie.After-to-open = search in
+    let else2 : tie.Else2 = search in
+    let else1 : tie.Else1 = search in
+    let after-stands : tie.After-stands-at = search in
+    let after-place : tie.After-place = search in
+    let after-key : tie.After-key-of = search in
+    let start : tie.Start = begun after-key in
+    room-second _ _ _ _ _ _ (start .pre) (after-key .key-of .ensures .0) (after-place .place .ensures .0) (after-stands .stands-at .ensures)
+    (else1 .if1 .left) (else2 .if2 .left) _ (after-open .to-open .ensures)
+    _ (after-wanting .wanting .ensures) (c .before .if3 .taken) _ (c .refusal2 .ensures)
+
+wanting-requires-2 : tie.Need-wanting-requires-2
+wanting-requires-2 c κs =
+    let after-key : tie.After-key-of = search in
+    let start : tie.Start = begun after-key in
+    start .pre .sound .sized .few3
+
+returns-4 : tie.Need-returns-4
+returns-4 c =
+    let after-third : tie.After-wanting2 = search in
+    let else3 : tie.Else3 = search in
+    let after-second : tie.After-wanting = search in
+    let after-open : tie.After-to-open = search in
+    let else2 : tie.Else2 = search in
+    let else1 : tie.Else1 = search in
+    let after-stands : tie.After-stands-at = search in
+    let after-place : tie.After-place = search in
+    let after-key : tie.After-key-of = search in
+    let start : tie.Start = begun after-key in
+    room-third _ _ _ _ _ _ (start .pre) (after-key .key-of .ensures .0) (after-place .place .ensures .0) (after-stands .stands-at .ensures)
+    (else1 .if1 .left) (else2 .if2 .left) _ (after-open .to-open .ensures)
+    _ (after-second .wanting .ensures) (else3 .if3 .left) _ (after-third .wanting2 .ensures) (c .before .if4 .taken) _ (c .refusal3 .ensures)
+
+returns-5 : tie.Need-returns-5
+returns-5 c =
+    let after-third : tie.After-wanting2 = search in
+    let else3 : tie.Else3 = search in
+    let after-second : tie.After-wanting = search in
+    let after-open : tie.After-to-open = search in
+    let else2 : tie.Else2 = search in
+    let else1 : tie.Else1 = search in
+    let after-stands : tie.After-stands-at = search in
+    let after-place : tie.After-place = search in
+    let after-key : tie.After-key-of = search in
+    let start : tie.Start = begun after-key in
+    room-enough _ _ _ _ _ _ (start .pre) (after-key .key-of .ensures .0) (after-place .place .ensures .0) (after-stands .stands-at .ensures)
+    (else1 .if1 .left) (else2 .if2 .left) _ (after-open .to-open .ensures)
+    _ (after-second .wanting .ensures) (else3 .if3 .left) _ (after-third .wanting2 .ensures) (c .if4 .left)
+
+pub judge-room-spec : {M : Type 1} → statement M
+judge-room-spec =
+    tie.close
+    (tie.spec
+    (λ c. search needs)
+    (λ c κs. tt)
+    place-requires
+    stands-at-requires
+    (λ c κs. tt)
+    returns
+    (λ c κs. tt)
+    returns-2
+    to-open-requires
+    wanting-requires
+    (λ c κs. tt)
+    returns-3
+    wanting-requires-2
+    (λ c κs. tt)
+    returns-4
+    returns-5)

@@ -1,0 +1,90 @@
+-- `sail_judge::withdraw::judge_withdraw`. The number with which the withdrawal is refused, by the first condition that holds; 0 where it is accepted.
+use Rattle.sail_sound.proofs.TableTest.{tried-sound}
+use Rattle.sail_judge.proofs.WithdrawJudges.{leave-sizes, leave-prefix, leave-sound, leave-stands, leave-absent}
+use borrow.Author.Needs.{needs}
+use Rattle.sail_judge.proofs.withdraw.judge_withdraw.Statement.{statement}
+use Rattle.sail_judge.proofs.withdraw.judge_withdraw.Tie as tie
+
+returns : tie.Need-returns
+returns c = leave-sizes _ _ _ _ _ (c .before .sizes .ensures) (c .if1 .taken)
+
+returns-2 : tie.Need-returns-2
+returns-2 c =
+    let proper : tie.After-prefix-ok = search in
+    let else1 : tie.Else1 = search in
+    let sized : tie.After-sizes = search in
+    leave-prefix _ _ _ _ _ (sized .sizes .ensures) (else1 .if1 .left) _ (proper .prefix-ok .ensures) (c .if2 .taken)
+
+sound-requires : tie.Need-sound-requires
+sound-requires c κs =
+    let else1 : tie.Else1 = search in
+    let sized : tie.After-sizes = search in
+    sized .sizes .ensures .facts (else1 .if1 .left)
+
+returns-3 : tie.Need-returns-3
+returns-3 c =
+    let tried : tie.After-sound = search in
+    let else2 : tie.Else2 = search in
+    let proper : tie.After-prefix-ok = search in
+    let else1 : tie.Else1 = search in
+    let sized : tie.After-sizes = search in
+    leave-sound _ _ _ _ _ (sized .sizes .ensures) (else1 .if1 .left) _ (proper .prefix-ok .ensures) (else2 .if2 .left) _ (tried .sound .ensures) (c .if3 .taken)
+
+place-requires : tie.Need-place-requires
+place-requires c κs =
+    let else3 : tie.Else3 = search in
+    let tried : tie.After-sound = search in
+    tried-sound _ _ _ (tried .sound .ensures) (else3 .if3 .left) .listed .records
+
+stands-at-requires : tie.Need-stands-at-requires
+stands-at-requires c κs =
+    let else3 : tie.Else3 = search in
+    let tried : tie.After-sound = search in
+    record { records = tried-sound _ _ _ (tried .sound .ensures) (else3 .if3 .left) .listed .records; place = c .place .ensures .0 }
+
+returns-4 : tie.Need-returns-4
+returns-4 c =
+    let standing : tie.After-stands-at = search in
+    let placed : tie.After-place = search in
+    let named : tie.After-key-of = search in
+    let else3 : tie.Else3 = search in
+    let tried : tie.After-sound = search in
+    let else2 : tie.Else2 = search in
+    let proper : tie.After-prefix-ok = search in
+    let else1 : tie.Else1 = search in
+    let sized : tie.After-sizes = search in
+    leave-stands _ _ _ _ _ (sized .sizes .ensures) (else1 .if1 .left) _ (proper .prefix-ok .ensures) (else2 .if2 .left) _
+    (tried .sound .ensures) (else3 .if3 .left) _ _ _
+    (named .key-of .ensures .0) (placed .place .ensures .0) (standing .stands-at .ensures) (c .if4 .taken)
+
+returns-5 : tie.Need-returns-5
+returns-5 c =
+    let standing : tie.After-stands-at = search in
+    let placed : tie.After-place = search in
+    let named : tie.After-key-of = search in
+    let else3 : tie.Else3 = search in
+    let tried : tie.After-sound = search in
+    let else2 : tie.Else2 = search in
+    let proper : tie.After-prefix-ok = search in
+    let else1 : tie.Else1 = search in
+    let sized : tie.After-sizes = search in
+    leave-absent _ _ _ _ _ (sized .sizes .ensures) (else1 .if1 .left) _ (proper .prefix-ok .ensures) (else2 .if2 .left) _
+    (tried .sound .ensures) (else3 .if3 .left) _ _ _
+    (named .key-of .ensures .0) (placed .place .ensures .0) (standing .stands-at .ensures) (c .if4 .left)
+
+pub judge-withdraw-spec : {M : Type 1} → statement M
+judge-withdraw-spec =
+    tie.close
+    (tie.spec
+    (λ c κs. tt)
+    returns
+    (λ c κs. tt)
+    returns-2
+    sound-requires
+    returns-3
+    (λ c. search needs)
+    (λ c κs. tt)
+    place-requires
+    stands-at-requires
+    returns-4
+    returns-5)

@@ -1,0 +1,3 @@
+-- What the judges of changes promise.
+pub mod Announce
+pub mod Withdraw

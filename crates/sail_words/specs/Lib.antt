@@ -1,0 +1,2 @@
+-- What lookups answer as words.
+pub mod Lookups

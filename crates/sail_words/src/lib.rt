@@ -1,0 +1,136 @@
+// Lookups that answer with a word: of one address, and of many with one check of geometry and sizes. The walk answers with the
+// word itself, so nothing is packed after it.
+ghost use mathlib.Core.Path.{_≡_};
+ghost use Rattle.sail.specs.Geometry.{standardGeo};
+ghost use Rattle.sail.specs.Lent.{lent};
+ghost use Rattle.sail.specs.Walk.{lookupSaid};
+ghost use Rattle.sail.specs.Word.{packFound};
+ghost use Rattle.sail_words.specs.Lookups.{tableOf, wordsCard, manyCard};
+use sail::geometry::Geometry;
+use sail::table::Table;
+use sail::table::sizes;
+use sail_lookup::walk;
+use sail_many::flow::many;
+
+// One lookup.
+pub fn look(
+    t: Table,
+    list: &[u8],
+    first: &[u16],
+    second: &[u16],
+    third: &[u16],
+    own2: &[u32],
+    own3: &[u32],
+    long1: &[u16],
+    long2: &[u16],
+    addr: u32,
+) -> u64
+    ensures { λ r. ⌜ r ≡ packFound (lookupSaid t
+        (lent (now (list .entry)) (now (first .entry)) (now (second .entry)) (now (third .entry)) (now (own2 .entry)) (now (own3 .entry))
+        (now (long1 .entry)) (now (long2 .entry))) addr) ⌝ }
+{
+    let z = sizes(t, list, first, second, third, own2, own3, long1, long2);
+    if z != 0 {
+        return z as u64;
+    }
+    walk(
+        t.geometry,
+        list,
+        first,
+        second,
+        third,
+        own2,
+        own3,
+        long1,
+        long2,
+        addr,
+    ) as u64
+}
+
+// The same at the standard geometry, whose shifts the compiler then knows.
+pub fn look_standard(
+    count: u32,
+    list: &[u8],
+    first: &[u16],
+    second: &[u16],
+    third: &[u16],
+    own2: &[u32],
+    own3: &[u32],
+    long1: &[u16],
+    long2: &[u16],
+    addr: u32,
+) -> u64
+    ensures { λ r. ⌜ r ≡ packFound (lookupSaid (tableOf (standardGeo .p1) (standardGeo .p2) count)
+        (lent (now (list .entry)) (now (first .entry)) (now (second .entry)) (now (third .entry)) (now (own2 .entry)) (now (own3 .entry))
+        (now (long1 .entry)) (now (long2 .entry))) addr) ⌝ }
+{
+    let geometry = Geometry::STANDARD;
+    let z = sizes(
+        Table { geometry, count },
+        list,
+        first,
+        second,
+        third,
+        own2,
+        own3,
+        long1,
+        long2,
+    );
+    if z != 0 {
+        return z as u64;
+    }
+    walk(
+        geometry,
+        list,
+        first,
+        second,
+        third,
+        own2,
+        own3,
+        long1,
+        long2,
+        addr,
+    ) as u64
+}
+
+// Many lookups with one check of geometry and sizes.
+pub fn look_each(
+    t: Table,
+    list: &[u8],
+    first: &[u16],
+    second: &[u16],
+    third: &[u16],
+    own2: &[u32],
+    own3: &[u32],
+    long1: &[u16],
+    long2: &[u16],
+    addrs: &[u32],
+    out: &mut [u32],
+) -> u64
+    ensures { λ r. ⌜ wordsCard r (now (out .exit)) ≡ manyCard t
+        (lent (now (list .entry)) (now (first .entry)) (now (second .entry)) (now (third .entry)) (now (own2 .entry)) (now (own3 .entry))
+        (now (long1 .entry)) (now (long2 .entry))) (now (addrs .entry)) (now (out .entry)) ⌝ }
+{
+    let z = sizes(t, list, first, second, third, own2, own3, long1, long2);
+    if z != 0 {
+        return z as u64;
+    }
+    if out.len() != addrs.len() {
+        return 2;
+    }
+    let g = t.geometry;
+    let p1 = g.p1;
+    let p2 = g.p2;
+    many(
+        p1,
+        p2,
+        first,
+        second,
+        own2.len(),
+        third,
+        own3.len(),
+        addrs,
+        out,
+    );
+    0
+}

@@ -1,0 +1,29 @@
+-- `vectors_play::edit::put8` is safe and ends.
+use mathlib.Core.Path.{_≡_}
+use Prim.Native.Nat.{_-_, _≤_}
+use lib.ListN.{length}
+use borrow.Author.Needs.{needs}
+use Rattle.vectors_play.proofs.edit.put8.Statement.{statement}
+use Rattle.vectors_play.proofs.edit.put8.Tie as tie
+
+abbrev Inv-loop : tie.InvT-loop
+Inv-loop out₀ from to v w e i₀ out i = (length out ≡ length out₀) × (e ≤ length out₀)
+
+abbrev μ-loop : tie.MeasureT-loop
+μ-loop out₀ from to v w e i₀ out i = e - i
+
+pub put8-spec : {M : Type 1} → statement M
+put8-spec =
+    tie.close
+    (tie.spec
+    Inv-loop
+    μ-loop
+    (λ c κs. search needs)
+    (λ c κs. search needs)
+    (λ c. search needs)
+    (λ c. search needs)
+    (λ c. search needs)
+    (λ c. search needs)
+    (λ c. search needs)
+    (λ c. search needs)
+    (λ c. search needs))

@@ -1,0 +1,43 @@
+// The steps of two scripts, one after the other.
+use crate::script;
+use crate::turn;
+use crate::world;
+
+// No script has more than 700 steps, those counted that it draws.
+pub fn play(
+    head: &[u8],
+    script: &[u8],
+    list: &mut [u8],
+    first: &mut [u16],
+    second: &mut [u16],
+    third: &mut [u16],
+    own2: &mut [u32],
+    own3: &mut [u32],
+    long1: &mut [u16],
+    long2: &mut [u16],
+) {
+    let mut w = world::start();
+    let mut k = 0u32;
+    while k < 700 {
+        let l = script::line_in(head, script, w.at);
+        let s = world::next(w, l, list);
+        let bytes = world::bytes(w);
+        let n = world::count(w);
+        let t = w.table;
+        let r = turn::turn(
+            s,
+            t,
+            world::records(&bytes, n),
+            list,
+            first,
+            second,
+            third,
+            own2,
+            own3,
+            long1,
+            long2,
+        );
+        w = world::after(w, l, s, r, list);
+        k += 1;
+    }
+}
