@@ -80,19 +80,19 @@ module _ (s : List ℕ) (d : ℕ) where
   down-step a at l h = rw (drawn-after s (λ j. j + d) a at (at + d) h (omega arith)) (drawn-higher s (λ j. j + d) a at l (omega arith))
 
 -- the loop that moves up: the elements of l from `at` on and before e are moved by d
-pub record Rising (l : List ℕ) (a e d : ℕ) (out : List ℕ) (at : ℕ) : Type 0 where
+pub record MovingUp (l : List ℕ) (a e d : ℕ) (out : List ℕ) (at : ℕ) : Type 0 where
   pub low : a ≤ at
   pub high : at ≤ e
   pub room : e + d ≤ length l
   pub size : length out ≡ length l
   pub is : out ≡ movedUp l at e d
 
-pub rising-none : {l : List ℕ} {a e d : ℕ} → Movable a e d (length l) → Rising l a e d l e
-rising-none {l} {a} {e} m = record { low = m .rises; high = le-refl e; room = m .room; size = refl; is = drawn-none l _ _ }
+pub moving-up-none : {l : List ℕ} {a e d : ℕ} → Movable a e d (length l) → MovingUp l a e d l e
+moving-up-none {l} {a} {e} m = record { low = m .rises; high = le-refl e; room = m .room; size = refl; is = drawn-none l _ _ }
 
-module _ {l : List ℕ} {a e d : ℕ} {out : List ℕ} {at : ℕ} (r : Rising l a e d out at) where
-  pub rising-more : a < at → Rising l a e d (set out (at - 1 + d) (getD out (at - 1) 0)) (at - 1)
-  rising-more t = record {
+module _ {l : List ℕ} {a e d : ℕ} {out : List ℕ} {at : ℕ} (r : MovingUp l a e d out at) where
+  pub moving-up-more : a < at → MovingUp l a e d (set out (at - 1 + d) (getD out (at - 1) 0)) (at - 1)
+  moving-up-more t = record {
     low = omega arith;
     high = let h = r .high in omega arith;
     room = r .room;
@@ -100,23 +100,23 @@ module _ {l : List ℕ} {a e d : ℕ} {out : List ℕ} {at : ℕ} (r : Rising l 
     is = rw (r .is) (up-step l d at e (omega arith) (r .high) (r .room));
   }
 
-  pub rising-all : at ≤ a → out ≡ movedUp l a e d
-  rising-all t = let q : at ≡ a = omega (arith, r .low) in r .is ∙ rw q
+  pub moving-up-all : at ≤ a → out ≡ movedUp l a e d
+  moving-up-all t = let q : at ≡ a = omega (arith, r .low) in r .is ∙ rw q
 
 -- the loop that moves down: those from a on and before `at` are moved
-pub record Sinking (l : List ℕ) (a e d : ℕ) (out : List ℕ) (at : ℕ) : Type 0 where
+pub record MovingDown (l : List ℕ) (a e d : ℕ) (out : List ℕ) (at : ℕ) : Type 0 where
   pub low : a ≤ at
   pub high : at ≤ e
   pub room : e + d ≤ length l
   pub size : length out ≡ length l
   pub is : out ≡ movedDown l a at d
 
-pub sinking-none : {l : List ℕ} {a e d : ℕ} → Movable a e d (length l) → Sinking l a e d l a
-sinking-none {l} {a} m = record { low = le-refl a; high = m .rises; room = m .room; size = refl; is = drawn-none l _ _ }
+pub moving-down-none : {l : List ℕ} {a e d : ℕ} → Movable a e d (length l) → MovingDown l a e d l a
+moving-down-none {l} {a} m = record { low = le-refl a; high = m .rises; room = m .room; size = refl; is = drawn-none l _ _ }
 
-module _ {l : List ℕ} {a e d : ℕ} {out : List ℕ} {at : ℕ} (r : Sinking l a e d out at) where
-  pub sinking-more : at < e → Sinking l a e d (set out at (getD out (at + d) 0)) (at + 1)
-  sinking-more t = record {
+module _ {l : List ℕ} {a e d : ℕ} {out : List ℕ} {at : ℕ} (r : MovingDown l a e d out at) where
+  pub moving-down-more : at < e → MovingDown l a e d (set out at (getD out (at + d) 0)) (at + 1)
+  moving-down-more t = record {
     low = let h = r .low in omega arith;
     high = omega arith;
     room = r .room;
@@ -124,5 +124,5 @@ module _ {l : List ℕ} {a e d : ℕ} {out : List ℕ} {at : ℕ} (r : Sinking l
     is = rw (r .is) (down-step l d a at (r .low) (omega (arith, r .room)));
   }
 
-  pub sinking-all : e ≤ at → out ≡ movedDown l a e d
-  sinking-all t = let q : at ≡ e = omega (arith, r .high) in r .is ∙ rw q
+  pub moving-down-all : e ≤ at → out ≡ movedDown l a e d
+  moving-down-all t = let q : at ≡ e = omega (arith, r .high) in r .is ∙ rw q

@@ -259,26 +259,26 @@ pub is-fine : (a len h : ℕ) → properPrefix a len ≡ true → hopFine h ≡ 
 is-fine a len h p q = let k = hop-true h q in record { prefix = prefix-true a len p; hop-one = k .0; hop-ok = k .1; mark-ok = omega arith }
 
 -- a prefix that passed its test, and a hop that passed its own
-pub record Proper : Type 0 where
+pub record PassedPrefix : Type 0 where
   pub a : ℕ
   pub len : ℕ
   pub is : properPrefix a len ≡ true
 
-abbrev pub proper : (a len : ℕ) {t : Bool} → t ≡ properPrefix a len → not t ≡ false → Proper
+abbrev pub proper : (a len : ℕ) {t : Bool} → t ≡ properPrefix a len → not t ≡ false → PassedPrefix
 proper a len {t} e q = record { a = a; len = len; is = not-failed t (properPrefix a len) e q }
 
-pub record FineHop : Type 0 where
+pub record PassedHop : Type 0 where
   pub h : ℕ
   pub is : hopFine h ≡ true
 
-abbrev pub fine : (h : ℕ) {t : Bool} → t ≡ hopFine h → not t ≡ false → FineHop
+abbrev pub fine : (h : ℕ) {t : Bool} → t ≡ hopFine h → not t ≡ false → PassedHop
 fine h {t} e q = record { h = h; is = not-failed t (hopFine h) e q }
 
 -- the prefix and the route of them; the length goes on as a wider number
-pub passed-prefix : (p : Proper) {l : ℕ} → l ≡ p .len → Prefix (p .a) l
+pub passed-prefix : (p : PassedPrefix) {l : ℕ} → l ≡ p .len → Prefix (p .a) l
 passed-prefix p e = subst (λ (z : ℕ). Prefix (p .a) z) (sym e) (prefix-true (p .a) (p .len) (p .is))
 
-pub passed-route : (p : Proper) (f : FineHop) {l : ℕ} → l ≡ p .len → Fine (unmarkedRoute (p .a) l (f .h))
+pub passed-route : (p : PassedPrefix) (f : PassedHop) {l : ℕ} → l ≡ p .len → Fine (unmarkedRoute (p .a) l (f .h))
 passed-route p f e = subst (λ (z : ℕ). Fine (unmarkedRoute (p .a) z (f .h))) (sym e) (is-fine (p .a) (p .len) (f .h) (p .is) (f .is))
 
 module _ (ws hs : List ℕ) where
@@ -292,7 +292,7 @@ module _ (ws hs : List ℕ) where
   unfolding meansTreeWithdrawn imageWithdrawn
   withdrawn-three a len t e q = rw (sym e ∙ not-true t q) refl
 
-  module _ (p : Proper) where
+  module _ (p : PassedPrefix) where
     pub announced-four : (h : ℕ) (u : Bool) → u ≡ hopFine h → not u ≡ true
         → imageOut (meansTreeAnnounced (announced.Refused 4)) ws hs ≡ imageAnnounced ws hs (p .a) (p .len) h
     unfolding meansTreeAnnounced imageAnnounced
@@ -309,12 +309,12 @@ module _ (ws hs : List ℕ) where
       withdrawn-formed z el q =
           rw (p .is, check-formed ws hs n e z .0) (q ∙ ap (λ (y : ℕ). takenFrom (routesHeld ws hs) (keyOf (p .a) y) ws hs) el)
 
-      pub announced-broken : (f : FineHop) → n ≡ 0
+      pub announced-broken : (f : PassedHop) → n ≡ 0
           → imageOut (meansTreeAnnounced (announced.Refused 13)) ws hs ≡ imageAnnounced ws hs (p .a) (p .len) (f .h)
       unfolding meansTreeAnnounced imageAnnounced
       announced-broken f z = rw (p .is, f .is, check-broken ws hs n e z) refl
 
-      pub announced-formed : (f : FineHop) → (n ≡ 0 → ⊥) → {l : ℕ} → l ≡ p .len → {o : ImageOut}
+      pub announced-formed : (f : PassedHop) → (n ≡ 0 → ⊥) → {l : ℕ} → l ≡ p .len → {o : ImageOut}
           → o ≡ putTo (routesHeld ws hs) (unmarkedRoute (p .a) l (f .h)) ws hs → o ≡ imageAnnounced ws hs (p .a) (p .len) (f .h)
       unfolding imageAnnounced
       announced-formed f z el q =

@@ -22,18 +22,18 @@ use Rattle.tree_hold.proofs.GraftMade.{graft-inside, graft-few, graft-done}
 use Rattle.tree_hold.proofs.PruneMade.{prune-inside, prune-done}
 use Rattle.tree_hold.proofs.HopMade.{put-inside, put-done}
 use Rattle.tree_hold.proofs.TakeMade.{take-inside, take-done}
-use Rattle.tree_edit.specs.Small.{Stretch, Raisable, Lowerable, GraftReady, PutReady}
+use Rattle.tree_edit.specs.Small.{WordsLent, Raisable, Lowerable, GraftReady, PutReady}
 
 -- ---- the loops: word d of the nodes from a up to i is changed
 
 pub record Changing (f : ℕ → ℕ) (ws₀ : List ℕ) (d a b : ℕ) (ws : List ℕ) (i : ℕ) : Type 0 where
-  pub stretch : Stretch ws₀ d a b
+  pub stretch : WordsLent ws₀ d a b
   pub begun : a ≤ i
   pub within : i ≤ b
   pub size : length ws ≡ length ws₀
   pub is : ws ≡ each f ws₀ d a i
 
-pub changing-none : {f : ℕ → ℕ} {ws : List ℕ} {d a b : ℕ} → Stretch ws d a b → Changing f ws d a b ws a
+pub changing-none : {f : ℕ → ℕ} {ws : List ℕ} {d a b : ℕ} → WordsLent ws d a b → Changing f ws d a b ws a
 changing-none {f} {ws} {d} {a} s = record { stretch = s; begun = le-refl a; within = s .order; size = refl; is = each-none f ws d a }
 
 module _ {f : ℕ → ℕ} {ws₀ : List ℕ} {d a b : ℕ} {ws : List ℕ} {i : ℕ} (c : Changing f ws₀ d a b ws i) where
@@ -88,8 +88,8 @@ grafting {ws} {n} {k} {x} {c} {y} r e = record { ws = ws; n = n; k = k; x = x; c
 abbrev pub withLast : Grafting → List ℕ
 withLast g = put3 (g .ws) (g .n) 0 (g .n) (g .k)
 
-abbrev pub opening : Grafting → List ℕ → List ℕ
-opening g w = movedUp w (3 * g .y) (3 * g .n) 3
+abbrev pub gapOpened : Grafting → List ℕ → List ℕ
+gapOpened g w = movedUp w (3 * g .y) (3 * g .n) 3
 
 abbrev pub raising : Grafting → List ℕ → List ℕ
 raising g w = each (λ z. z + 1) w 1 (g .x + 1) (g .n + 1)
@@ -106,7 +106,7 @@ module _ (s : After Grafting withLast) where
         room = omega (arith, g .ready .able .room, ap length (s .is), put3-length (g .ws) (g .n) 0 (g .n) (g .k));
       }
 
-module _ (s : After Grafting (λ g. opening g (withLast g))) where
+module _ (s : After Grafting (λ g. gapOpened g (withLast g))) where
   long2 : length (s .list) ≡ length (s .found .ws)
   long2 =
       let g = s .found in ap length (s .is) ∙ length-drawn (withLast g) (λ j. j - 3) (3 * g .y + 3) (3 * g .n + 3) ∙ put3-length (g .ws) (g .n) 0 (g .n) (g .k)
@@ -120,11 +120,11 @@ module _ (s : After Grafting (λ g. opening g (withLast g))) where
         fits = λ i l u. omega (arith, ap (λ (v : List ℕ). childOf v i) (s .is), graft-few (r .able) (g .y) (g .place) i (omega arith), r .few);
       }
 
-module _ (s : After Grafting (λ g. raising g (opening g (withLast g)))) where
+module _ (s : After Grafting (λ g. raising g (gapOpened g (withLast g)))) where
   pub graft-size : length (s .list) ≡ length (s .found .ws)
   graft-size =
       let g = s .found in
-      ap length (s .is) ∙ each-length (λ z. z + 1) (opening g (withLast g)) 1 (g .x + 1) (g .n + 1) ∙ long2 (first g refl)
+      ap length (s .is) ∙ each-length (λ z. z + 1) (gapOpened g (withLast g)) 1 (g .x + 1) (g .n + 1) ∙ long2 (first g refl)
 
   pub graft-stores : (3 * s .found .y < length (s .list)) × (3 * s .found .x < length (s .list))
   graft-stores =
@@ -173,8 +173,8 @@ cleared p = set (p .ws) (3 * p .x) (p .v)
 abbrev pub lowering : Pruning → List ℕ → List ℕ
 lowering p w = each (λ z. z - 1) w 1 (p .x + 1) (p .n + 1)
 
-abbrev pub closing : Pruning → List ℕ → List ℕ
-closing p w = movedDown w (3 * p .y) (3 * p .n) 3
+abbrev pub gapClosed : Pruning → List ℕ → List ℕ
+gapClosed p w = movedDown w (3 * p .y) (3 * p .n) 3
 
 abbrev pub blanking : Pruning → List ℕ → List ℕ
 blanking p w = put3 w (p .n) 0 0 0
@@ -196,7 +196,7 @@ module _ (s : After Pruning (λ p. lowering p (cleared p))) where
       let p = s .found in
       record { rises = omega (arith, prune-inside (p .able) (p .y) (p .place)); room = omega (arith, long-lowered, p .able .words .order .lent) }
 
-module _ (s : After Pruning (λ p. closing p (lowering p (cleared p)))) where
+module _ (s : After Pruning (λ p. gapClosed p (lowering p (cleared p)))) where
   long-closed : length (s .list) ≡ length (s .found .ws)
   long-closed =
       let p = s .found in
@@ -205,9 +205,9 @@ module _ (s : After Pruning (λ p. closing p (lowering p (cleared p)))) where
   pub prune-put : 3 * s .found .n + 3 ≤ length (s .list)
   prune-put = omega (arith, long-closed, s .found .able .words .order .lent)
 
-module _ (s : After Pruning (λ p. blanking p (closing p (lowering p (cleared p))))) where
+module _ (s : After Pruning (λ p. blanking p (gapClosed p (lowering p (cleared p))))) where
   pub prune-size : length (s .list) ≡ length (s .found .ws)
-  prune-size = let p = s .found in ap length (s .is) ∙ put3-length (closing p (lowering p (cleared p))) (p .n) 0 0 0 ∙ long-closed (first p refl)
+  prune-size = let p = s .found in ap length (s .is) ∙ put3-length (gapClosed p (lowering p (cleared p))) (p .n) 0 0 0 ∙ long-closed (first p refl)
 
   pub prune-leaves : Grafted (s .list) (s .found .ws) (s .found .n) (s .found .x) (s .found .c)
       (childAt (bitsOf (s .found .ws) (s .found .x)) (childOf (s .found .ws) (s .found .x)) (s .found .c))
@@ -218,7 +218,7 @@ module _ (s : After Pruning (λ p. blanking p (closing p (lowering p (cleared p)
 
 -- ---- a hop put: a gap is opened at its place, and the hop bases raised
 
-pub record Putting : Type 0 where
+pub record PuttingHop : Type 0 where
   pub ws : List ℕ
   pub hs : List ℕ
   pub n : ℕ
@@ -229,13 +229,13 @@ pub record Putting : Type 0 where
   pub ready : PutReady ws hs n k x b
   pub place : y ≡ hopPlaceAt ws x b
 
-abbrev pub putting : {ws hs : List ℕ} {n k x b y : ℕ} → PutReady ws hs n k x b → y ≡ hopPlaceAt ws x b → Putting
-putting {ws} {hs} {n} {k} {x} {b} {y} r e = record { ws = ws; hs = hs; n = n; k = k; x = x; b = b; y = y; ready = r; place = e }
+abbrev pub puttingHop : {ws hs : List ℕ} {n k x b y : ℕ} → PutReady ws hs n k x b → y ≡ hopPlaceAt ws x b → PuttingHop
+puttingHop {ws} {hs} {n} {k} {x} {b} {y} r e = record { ws = ws; hs = hs; n = n; k = k; x = x; b = b; y = y; ready = r; place = e }
 
-abbrev pub hopsOpened : Putting → List ℕ
+abbrev pub hopsOpened : PuttingHop → List ℕ
 hopsOpened p = movedUp (p .hs) (p .y) (p .k) 1
 
-pub put-open : (p : Putting) → Movable (p .y) (p .k) 1 (length (p .hs))
+pub put-open : (p : PuttingHop) → Movable (p .y) (p .k) 1 (length (p .hs))
 put-open p = record { rises = put-inside (p .ready .able) (p .y) (p .place); room = p .ready .able .room }
 
 pub put-raise : {ws hs : List ℕ} {n k x b : ℕ} → PutReady ws hs n k x b → Raisable ws 2 (x + 1) n
@@ -244,7 +244,7 @@ put-raise {ws} {hs} {n} {k} {x} {b} r = record {
   fits = λ i l u. omega (arith, r .able .words .order .base i u, ints-mono ws i n (omega arith), r .able .words .hops, r .few);
 }
 
-module _ (s : After Putting hopsOpened) where
+module _ (s : After PuttingHop hopsOpened) where
   pub put-store : s .found .y < length (s .list)
   put-store =
       let p = s .found in
@@ -261,7 +261,7 @@ module _ (s : After Putting hopsOpened) where
 
 -- ---- and taken away: the bit is cleared, the hop bases lowered and the gap closed
 
-pub record Taking : Type 0 where
+pub record TakingHop : Type 0 where
   pub ws : List ℕ
   pub hs : List ℕ
   pub n : ℕ
@@ -274,13 +274,13 @@ pub record Taking : Type 0 where
   pub place : y ≡ hopPlaceAt ws x b
   pub bit : Without v b (bitsOf ws x)
 
-abbrev pub taking : {ws hs : List ℕ} {n k x b y v : ℕ} → Takable ws hs n k x b → y ≡ hopPlaceAt ws x b → Without v b (bitsOf ws x) → Taking
-taking {ws} {hs} {n} {k} {x} {b} {y} {v} r e u = record { ws = ws; hs = hs; n = n; k = k; x = x; b = b; y = y; v = v; able = r; place = e; bit = u }
+abbrev pub takingHop : {ws hs : List ℕ} {n k x b y v : ℕ} → Takable ws hs n k x b → y ≡ hopPlaceAt ws x b → Without v b (bitsOf ws x) → TakingHop
+takingHop {ws} {hs} {n} {k} {x} {b} {y} {v} r e u = record { ws = ws; hs = hs; n = n; k = k; x = x; b = b; y = y; v = v; able = r; place = e; bit = u }
 
-abbrev pub basesLowered : Taking → List ℕ
+abbrev pub basesLowered : TakingHop → List ℕ
 basesLowered t = each (λ z. z - 1) (set (t .ws) (3 * t .x) (t .v)) 2 (t .x + 1) (t .n)
 
-pub take-lower : (t : Taking) → Lowerable (set (t .ws) (3 * t .x) (t .v)) 2 (t .x + 1) (t .n)
+pub take-lower : (t : TakingHop) → Lowerable (set (t .ws) (3 * t .x) (t .v)) 2 (t .x + 1) (t .n)
 take-lower t =
     let r = t .able in
     lowerable-set (t .ws) (t .x) (t .v) 2 (t .n) (omega arith) (omega arith) (r .parent) (omega (arith, r .words .order .lent))
@@ -293,10 +293,10 @@ take-lower t =
       fewer-ints (bitsOf (t .ws) (t .x)) (t .b) (r .small) (r .stands),
     ))
 
-pub take-close : (t : Taking) → Movable (t .y) (t .k) 1 (length (t .hs))
+pub take-close : (t : TakingHop) → Movable (t .y) (t .k) 1 (length (t .hs))
 take-close t = record { rises = take-inside (t .able) (t .y) (t .place); room = t .able .room }
 
-module _ (s : After Taking basesLowered) where
+module _ (s : After TakingHop basesLowered) where
   pub take-size : length (s .list) ≡ length (s .found .ws)
   take-size =
       let t = s .found in

@@ -5,18 +5,18 @@ use lib.ListN.{length, getD}
 use Rattle.tree_hold.specs.Edits.{Graftable, Puttable}
 
 -- there is a word d of each node from a up to b
-pub record Stretch (ws : List ℕ) (d a b : ℕ) : Type 0 where
+pub record WordsLent (ws : List ℕ) (d a b : ℕ) : Type 0 where
   pub word : d < 3
   pub order : a ≤ b
   pub room : 3 * b ≤ length ws
 
 -- these words can be one more, and one less
 pub record Raisable (ws : List ℕ) (d a b : ℕ) : Type 0 where
-  pub stretch : Stretch ws d a b
+  pub stretch : WordsLent ws d a b
   pub fits : (i : ℕ) → a ≤ i → i < b → getD ws (3 * i + d) 0 + 1 < 2 ^ 32
 
 pub record Lowerable (ws : List ℕ) (d a b : ℕ) : Type 0 where
-  pub stretch : Stretch ws d a b
+  pub stretch : WordsLent ws d a b
   pub some : (i : ℕ) → a ≤ i → i < b → 1 ≤ getD ws (3 * i + d) 0
 
 -- an edit may be made, and its numbers fit

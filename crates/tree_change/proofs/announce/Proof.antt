@@ -1,15 +1,15 @@
 -- The refusals in their order; where the image is well formed, what is put to its routes.
 use mathlib.Core.Path.{refl}
-use Rattle.tree_change.proofs.ChangeReturns.{Proper, proper, FineHop, fine, is-formed, passed-route}
+use Rattle.tree_change.proofs.ChangeReturns.{PassedPrefix, proper, PassedHop, fine, is-formed, passed-route}
 use Rattle.tree_change.proofs.ChangeReturns.{announced-three, announced-four, announced-broken, announced-formed}
 use Rattle.tree_change.proofs.announce.Statement.{statement}
 use Rattle.tree_change.proofs.announce.Tie as tie
 
 -- The tests that passed.
-abbrev prefix : tie.Else1 → Proper
+abbrev prefix : tie.Else1 → PassedPrefix
 prefix c = proper _ _ (c .before .prefix-ok .ensures) (c .if1 .left)
 
-abbrev hop : tie.Else2 → FineHop
+abbrev hop : tie.Else2 → PassedHop
 hop c = fine _ (c .before .hop-ok .ensures) (c .if2 .left)
 
 no-prefix : tie.Need-returns

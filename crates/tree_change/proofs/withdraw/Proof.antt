@@ -1,11 +1,11 @@
 -- The refusals in their order; where the image is well formed, what is taken from its routes.
 use mathlib.Core.Path.{refl}
-use Rattle.tree_change.proofs.ChangeReturns.{Proper, proper, is-formed, passed-prefix, withdrawn-three, withdrawn-broken, withdrawn-formed}
+use Rattle.tree_change.proofs.ChangeReturns.{PassedPrefix, proper, is-formed, passed-prefix, withdrawn-three, withdrawn-broken, withdrawn-formed}
 use Rattle.tree_change.proofs.withdraw.Statement.{statement}
 use Rattle.tree_change.proofs.withdraw.Tie as tie
 
 -- The test that passed.
-abbrev prefix : tie.Else1 → Proper
+abbrev prefix : tie.Else1 → PassedPrefix
 prefix c = proper _ _ (c .before .prefix-ok .ensures) (c .if1 .left)
 
 broken : tie.Need-returns-2

@@ -1,5 +1,5 @@
 -- Each step is asked what the one before it left; together they leave the words without the node.
-use Rattle.tree_edit.proofs.Steps.{After, first, next, Pruning, pruning, cleared, lowering, closing, blanking}
+use Rattle.tree_edit.proofs.Steps.{After, first, next, Pruning, pruning, cleared, lowering, gapClosed, blanking}
 use Rattle.tree_edit.proofs.Steps.{prune-lower, prune-close, prune-put, prune-size, prune-leaves}
 use borrow.Author.Needs.{needs}
 use Rattle.tree_edit.proofs.prune.Statement.{statement}
@@ -16,13 +16,13 @@ found c =
 abbrev lowered : tie.After-lower → After Pruning (λ p. lowering p (cleared p))
 lowered c = let before : tie.After-without-bit = c .before .before in first (found before) (c .lower .ensures)
 
-abbrev closed : tie.After-down32 → After Pruning (λ p. closing p (lowering p (cleared p)))
+abbrev closed : tie.After-down32 → After Pruning (λ p. gapClosed p (lowering p (cleared p)))
 closed c =
     let lent : tie.After-slice-known3 = c .before .before in
     let before : tie.After-lower = lent .before .before in
-    next closing (lowered before) (c .down32 .ensures)
+    next gapClosed (lowered before) (c .down32 .ensures)
 
-abbrev blanked : tie.After-put-node → After Pruning (λ p. blanking p (closing p (lowering p (cleared p))))
+abbrev blanked : tie.After-put-node → After Pruning (λ p. blanking p (gapClosed p (lowering p (cleared p))))
 blanked c =
     let lent : tie.After-slice-known4 = c .before .before in
     let before : tie.After-down32 = lent .before .before in

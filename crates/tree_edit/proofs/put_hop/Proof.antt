@@ -1,17 +1,17 @@
 -- Each step is asked what the one before it left; together they leave the arrays with the hop.
-use Rattle.tree_edit.proofs.Steps.{After, first, Putting, putting, hopsOpened, put-open, put-raise, put-store, put-leaves}
+use Rattle.tree_edit.proofs.Steps.{After, first, PuttingHop, puttingHop, hopsOpened, put-open, put-raise, put-store, put-leaves}
 use borrow.Author.Needs.{needs}
 use Rattle.tree_edit.proofs.put_hop.Statement.{statement}
 use Rattle.tree_edit.proofs.put_hop.Tie as tie
 
 -- What is known after each step.
-abbrev found : tie.After-hop-place → Putting
+abbrev found : tie.After-hop-place → PuttingHop
 found c =
     let lent : tie.After-slice-known3 = c .before .before in
     let start : tie.Start = lent .before .before .before in
-    putting (start .pre) (c .hop-place .ensures .0)
+    puttingHop (start .pre) (c .hop-place .ensures .0)
 
-abbrev opened : tie.After-up16 → After Putting hopsOpened
+abbrev opened : tie.After-up16 → After PuttingHop hopsOpened
 opened c = let before : tie.After-hop-place = c .before .before in first (found before) (c .up16 .ensures)
 
 up16-requires : tie.Need-up16-requires

@@ -1,18 +1,18 @@
 -- Each step is asked what the one before it left; together they leave the arrays without the hop.
-use Rattle.tree_edit.proofs.Steps.{After, first, Taking, taking, basesLowered, take-lower, take-close, take-size, take-leaves}
+use Rattle.tree_edit.proofs.Steps.{After, first, TakingHop, takingHop, basesLowered, take-lower, take-close, take-size, take-leaves}
 use borrow.Author.Needs.{needs}
 use Rattle.tree_edit.proofs.take_hop.Statement.{statement}
 use Rattle.tree_edit.proofs.take_hop.Tie as tie
 
 -- What is known after each step.
-abbrev found : tie.After-without-bit → Taking
+abbrev found : tie.After-without-bit → TakingHop
 found c =
     let at : tie.After-hop-place = c .before in
     let lent : tie.After-slice-known3 = at .before .before in
     let start : tie.Start = lent .before .before .before in
-    taking (start .pre) (at .hop-place .ensures .0) (c .without-bit .ensures)
+    takingHop (start .pre) (at .hop-place .ensures .0) (c .without-bit .ensures)
 
-abbrev lowered : tie.After-lower → After Taking basesLowered
+abbrev lowered : tie.After-lower → After TakingHop basesLowered
 lowered c = let before : tie.After-without-bit = c .before .before in first (found before) (c .lower .ensures)
 
 lower-requires : tie.Need-lower-requires

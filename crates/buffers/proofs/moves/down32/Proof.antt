@@ -1,12 +1,12 @@
 -- The invariant: those before `at` are moved.
 use Prim.Native.Nat.{_-_}
 use native.Mathlib.Omega.{arith}
-use Rattle.buffers.proofs.Draws.{Sinking, sinking-none, sinking-more, sinking-all}
+use Rattle.buffers.proofs.Draws.{MovingDown, moving-down-none, moving-down-more, moving-down-all}
 use Rattle.buffers.proofs.moves.down32.Statement.{statement}
 use Rattle.buffers.proofs.moves.down32.Tie as tie
 
 abbrev Inv-loop : tie.InvT-loop
-Inv-loop words₀ a e step at₀ words at = Sinking words₀ a e step words at
+Inv-loop words₀ a e step at₀ words at = MovingDown words₀ a e step words at
 
 abbrev μ-loop : tie.MeasureT-loop
 μ-loop words₀ a e step at₀ words at = e - at
@@ -17,7 +17,7 @@ down32-spec =
     (tie.spec
     Inv-loop
     μ-loop
-    (λ c. sinking-none (c .pre))
+    (λ c. moving-down-none (c .pre))
     (λ c. omega arith)
     (λ c. omega arith)
     (λ c. omega arith)
@@ -25,6 +25,6 @@ down32-spec =
     (λ c. omega arith)
     (λ c. omega arith)
     (λ c. omega arith)
-    (λ c. sinking-more (c .before .before .loop .inv) (omega arith))
+    (λ c. moving-down-more (c .before .before .loop .inv) (omega arith))
     (λ c. c .before .loop .inv .size)
-    (λ c. sinking-all (c .before .loop .inv) (omega arith)))
+    (λ c. moving-down-all (c .before .loop .inv) (omega arith)))

@@ -1,12 +1,12 @@
 -- The invariant: those before `at` are moved.
 use Prim.Native.Nat.{_-_}
 use native.Mathlib.Omega.{arith}
-use Rattle.buffers.proofs.Draws.{Sinking, sinking-none, sinking-more, sinking-all}
+use Rattle.buffers.proofs.Draws.{MovingDown, moving-down-none, moving-down-more, moving-down-all}
 use Rattle.buffers.proofs.moves.down8.Statement.{statement}
 use Rattle.buffers.proofs.moves.down8.Tie as tie
 
 abbrev Inv-loop : tie.InvT-loop
-Inv-loop bytes₀ a e step at₀ bytes at = Sinking bytes₀ a e step bytes at
+Inv-loop bytes₀ a e step at₀ bytes at = MovingDown bytes₀ a e step bytes at
 
 abbrev μ-loop : tie.MeasureT-loop
 μ-loop bytes₀ a e step at₀ bytes at = e - at
@@ -17,12 +17,12 @@ down8-spec =
     (tie.spec
     Inv-loop
     μ-loop
-    (λ c. sinking-none (c .pre))
+    (λ c. moving-down-none (c .pre))
     (λ c. omega arith)
     (λ c. omega arith)
     (λ c. omega arith)
     (λ c. omega arith)
     (λ c. omega arith)
-    (λ c. sinking-more (c .before .before .loop .inv) (omega arith))
+    (λ c. moving-down-more (c .before .before .loop .inv) (omega arith))
     (λ c. c .before .loop .inv .size)
-    (λ c. sinking-all (c .before .loop .inv) (omega arith)))
+    (λ c. moving-down-all (c .before .loop .inv) (omega arith)))

@@ -1,11 +1,11 @@
 -- The invariant: those from `at` on are moved.
 use native.Mathlib.Omega.{arith}
-use Rattle.buffers.proofs.Draws.{Rising, rising-none, rising-more, rising-all}
+use Rattle.buffers.proofs.Draws.{MovingUp, moving-up-none, moving-up-more, moving-up-all}
 use Rattle.buffers.proofs.moves.up16.Statement.{statement}
 use Rattle.buffers.proofs.moves.up16.Tie as tie
 
 abbrev Inv-loop : tie.InvT-loop
-Inv-loop cells₀ a e step at₀ cells at = Rising cells₀ a e step cells at
+Inv-loop cells₀ a e step at₀ cells at = MovingUp cells₀ a e step cells at
 
 abbrev μ-loop : tie.MeasureT-loop
 μ-loop cells₀ a e step at₀ cells at = at
@@ -16,7 +16,7 @@ up16-spec =
     (tie.spec
     Inv-loop
     μ-loop
-    (λ c. rising-none (c .pre))
+    (λ c. moving-up-none (c .pre))
     (λ c. omega arith)
     (λ c. omega arith)
     (λ c. omega arith)
@@ -24,6 +24,6 @@ up16-spec =
     (λ c. omega arith)
     (λ c. omega arith)
     (λ c. omega arith)
-    (λ c. rising-more (c .before .before .loop .inv) (omega arith))
+    (λ c. moving-up-more (c .before .before .loop .inv) (omega arith))
     (λ c. c .before .loop .inv .size)
-    (λ c. rising-all (c .before .loop .inv) (omega arith)))
+    (λ c. moving-up-all (c .before .loop .inv) (omega arith)))
