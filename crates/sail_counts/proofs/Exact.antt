@@ -30,7 +30,7 @@ use Rattle.sail_theory.proofs.places.Pools.{shows-fits}
 use Rattle.sail_theory.proofs.places.Rendered.{top-clear}
 use Rattle.standing.proofs.TwoLevels.{long-down, slot-down}
 use Rattle.sail_counts.specs.Counted.{Counts}
-use Rattle.sail_counts.specs.CountsTest.{idle, Idle, lenIn, cellIn, Tallied, Led, Countable, root}
+use Rattle.sail_counts.specs.CountsTest.{idle, Idle, lenIn, cellIn, Tallied, Led, Countable, rootCell}
 use Rattle.sail_counts.proofs.Leads.{NamedAbove, first-leads, second-leads}
 use Rattle.sail_counts.proofs.Ticks.{served-count}
 
@@ -148,7 +148,7 @@ module _ (ws : List ℕ) (g : Geometry) (first second own2 own3 long1 long2 : Li
   abbrev v2 : Level
   v2 = level2 g (chunksOf own2)
 
-  fair1 : Fair ws v1 (chunksOf own2) first (g .p1) root
+  fair1 : Fair ws v1 (chunksOf own2) first (g .p1) rootCell
   fair1 = record {
     words = w .words;
     shows = w .shows1;
@@ -174,8 +174,8 @@ module _ (ws : List ℕ) (g : Geometry) (first second own2 own3 long1 long2 : Li
         second-leads g z (routesOfWords ws) first own2 (w .cells1) (w .shows1) a s (rw (← slot-down (g .p1) (g .p2) a (omega arith) (omega arith)) at up);
   }
 
-  pub led1 : Led ws (g .p1) (g .p1) root long1
-  led1 = let z = w .valid in level-led ws v1 (chunksOf own2) first (g .p1) root long1 fair1 (omega arith) (omega arith) (w .counts1 ∙ w .cells1)
+  pub led1 : Led ws (g .p1) (g .p1) rootCell long1
+  led1 = let z = w .valid in level-led ws v1 (chunksOf own2) first (g .p1) rootCell long1 fair1 (omega arith) (omega arith) (w .counts1 ∙ w .cells1)
 
   pub led2 : Led ws (g .p2) (bits2 g) first long2
   led2 = let z = w .valid in level-led ws v2 (chunksOf own3) second (bits2 g) first long2 fair2 (omega arith) (omega arith) (w .counts2 ∙ w .cells2)
@@ -185,20 +185,20 @@ module _ (ws : List ℕ) (g : Geometry) (first second own2 own3 long1 long2 : Li
 
   module _ (a : Bool) (idle1 : Tells a (Idle first long1)) where
     pub first-stray : not a ≡ true → Tells false Whole
-    first-stray e = refuted idle1 e (λ c. exact-idle ws v1 (chunksOf own2) first (g .p1) root long1 fair1 (c .first))
+    first-stray e = refuted idle1 e (λ c. exact-idle ws v1 (chunksOf own2) first (g .p1) rootCell long1 fair1 (c .first))
 
     module _ (b : Bool) (idle2 : Tells b (Idle second long2)) where
       pub second-stray : not b ≡ true → Tells false Whole
       second-stray e = refuted idle2 e (λ c. exact-idle ws v2 (chunksOf own3) second (bits2 g) first long2 fair2 (c .second))
 
-      module _ (r : Bool) (runs1 : Tells r (Tallied ws (g .p1) (g .p1) root long1)) where
+      module _ (r : Bool) (runs1 : Tells r (Tallied ws (g .p1) (g .p1) rootCell long1)) where
         pub first-wrong : not r ≡ true → Tells false Whole
-        first-wrong e = refuted runs1 e (λ c. exact-runs ws v1 (chunksOf own2) first (g .p1) root long1 fair1 (c .first))
+        first-wrong e = refuted runs1 e (λ c. exact-runs ws v1 (chunksOf own2) first (g .p1) rootCell long1 fair1 (c .first))
 
         pub counts-told : not a ≡ false → not b ≡ false → not r ≡ false → (t : Bool) → Tells t (Tallied ws (g .p2) (bits2 g) first long2) → Tells t Whole
         counts-told x y z t = tells-same
             (λ runs2. record {
-              first = level-exact ws v1 (chunksOf own2) first (g .p1) root long1 fair1 (passed idle1 x) (passed runs1 z);
+              first = level-exact ws v1 (chunksOf own2) first (g .p1) rootCell long1 fair1 (passed idle1 x) (passed runs1 z);
               second = level-exact ws v2 (chunksOf own3) second (bits2 g) first long2 fair2 (passed idle2 y) runs2;
             })
             (λ c. exact-runs ws v2 (chunksOf own3) second (bits2 g) first long2 fair2 (c .second))

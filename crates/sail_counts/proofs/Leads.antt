@@ -18,7 +18,7 @@ use Rattle.standing.proofs.TwoLevels.{slot-down}
 use Rattle.sail_theory.proofs.places.Places.{LiveFor, top-served, below-served}
 use Rattle.sail_theory.proofs.places.Pools.{shown-node, shows-fits, shows-shown}
 use Rattle.sail_counts.specs.Tick.{placeIn, secondAt}
-use Rattle.sail_counts.specs.CountsTest.{root}
+use Rattle.sail_counts.specs.CountsTest.{rootCell}
 
 -- the address's cell is in a chunk that a cell of `above` names, at the place that serves the address
 pub record NamedAbove (v : Level) (d : ℕ) (above : List ℕ) (a : ℕ) : Type 0 where
@@ -27,7 +27,7 @@ pub record NamedAbove (v : Level) (d : ℕ) (above : List ℕ) (a : ℕ) : Type 
   pub is : placeIn d above (slot (v .bits) a) ≡ v .serving a
   pub served : LiveFor v a
 
-pub first-leads : (p a : ℕ) → p ≤ 32 → a < 2 ^ 32 → NamedAbove (top p) p root a
+pub first-leads : (p a : ℕ) → p ≤ 32 → a < 2 ^ 32 → NamedAbove (top p) p rootCell a
 first-leads p a h s =
     let l = slot-lt p a h s in
     let z : slot p a / 2 ^ p ≡ 0 = div-eq-of-lt l in

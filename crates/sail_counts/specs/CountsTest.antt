@@ -49,8 +49,8 @@ pub record RunTold (ws : List ℕ) (p d : ℕ) (above counts : List ℕ) (k : �
   pub begins : p < lenIn ws k → (Goes ws p (cellIn ws p k) k → ⊥) → TrueCount ws p d above counts (cellIn ws p k)
 
 -- the first cells as one chunk, which a cell that holds 1 names
-abbrev pub root : List ℕ
-root = 1 ∷ []
+abbrev pub rootCell : List ℕ
+rootCell = 1 ∷ []
 
 -- What the functions rest on.
 

@@ -17,7 +17,7 @@ use Rattle.sail.specs.Lent.{cells}
 use Rattle.sail.specs.Sizes.{Celled}
 use Rattle.sail.specs.declared.geometry.Geometry.{Geometry}
 use Rattle.sail_cells_test.specs.Pool.{PoolOk, OwnedPool, FreeAll, FirstTestReady, Chunked, Pooled}
-use Rattle.sail_sound.specs.TableTest.{root, Passed, PassedAll}
+use Rattle.sail_sound.specs.TableTest.{rootOwner, Passed, PassedAll}
 
 -- no owner in a right pool names a place past the pool above
 pool-owners : (rs : List Route) (p d : ℕ) (above : List ℕ) (live : ℕ → Bool) (at : ℕ → ℕ) (own cells below : List ℕ)
@@ -29,7 +29,7 @@ pool-owners rs p d above live at own cells below k c = go (decLt c (length own))
     go (yes a) (no b) = omega arith
     go (no a) b = let h : length own ≤ c = omega arith in rw (List·getD-eq-default own 0 h) (omega arith)
 
-root-owner : (c : ℕ) → getD root c 0 ≤ 2 ^ 0
+root-owner : (c : ℕ) → getD rootOwner c 0 ≤ 2 ^ 0
 root-owner zero = omega arith
 root-owner (suc c) = omega arith
 
@@ -40,7 +40,7 @@ module _ (ws par : List ℕ) (ready : ChainReady ws par) (g : Geometry) (first s
       let v = s .valid in
       record { ready = ready; low = omega arith; deep = omega arith; cells = s .cells1; few = omega (arith, pow-mono (v .p1-high), s .cells1); room = room }
 
-  pub pooled2 : Pooled ws par (g .p2) (bits2 g) root (g .p1) first second own2 want
+  pub pooled2 : Pooled ws par (g .p2) (bits2 g) rootOwner (g .p1) first second own2 want
   pooled2 =
       let v = s .valid in
       record {
@@ -58,7 +58,7 @@ module _ (ws par : List ℕ) (ready : ChainReady ws par) (g : Geometry) (first s
         room = room;
       }
 
-  pub pooled3 : (rs : List Route) (b : Bool) → Tells b (OwnedPool rs (g .p2) (bits2 g) root (g .p1) first own2 second own3) → not b ≡ false
+  pub pooled3 : (rs : List Route) (b : Bool) → Tells b (OwnedPool rs (g .p2) (bits2 g) rootOwner (g .p1) first own2 second own3) → not b ≡ false
       → Pooled ws par 32 (bits3 g) own2 (bits2 g) second third own3 want
   pooled3 rs b t n =
       let v = s .valid in
@@ -92,7 +92,7 @@ module _ (rs : List Route) (g : Geometry) (first second third own2 own3 : List �
   pub first-fails : not b ≡ true → Tells false (Passed rs g (cells first second third own2 own3))
   first-fails n = refuted right n (λ h. h .cells1)
 
-  module _ (c : Bool) (pool : Tells c (OwnedPool rs (g .p2) (bits2 g) root (g .p1) first own2 second own3)) where
+  module _ (c : Bool) (pool : Tells c (OwnedPool rs (g .p2) (bits2 g) rootOwner (g .p1) first own2 second own3)) where
     pub second-fails : not c ≡ true → Tells false (Passed rs g (cells first second third own2 own3))
     second-fails n = refuted pool n (λ h. h .pool2)
 

@@ -30,7 +30,7 @@ use Rattle.sail_counts.specs.Counted.{Counts}
 use Rattle.sail_counts.specs.CountsTest.{Countable}
 use Rattle.sail_theory.proofs.places.Places.{chunk-lt, live-owner, chunk-live, chunk-part}
 use Rattle.sail_cells_test.specs.Pool.{chunkOf, PoolOk, FreeAll}
-use Rattle.sail_sound.specs.TableTest.{root, PassedAll, CountsBeside, PassedTable}
+use Rattle.sail_sound.specs.TableTest.{rootOwner, PassedAll, CountsBeside, PassedTable}
 use Rattle.sail_cells_test.proofs.Cells.{Cell, cell-as, right-cell, cells-right, part-at}
 
 -- each live cell of a level is as the routes ask
@@ -134,10 +134,10 @@ pool-same rs p d above live live′ at at′ own cells low u v k = record {
 
 -- the first cells as one chunk: each is live, and stands for itself
 module _ (p q : ℕ) (l : q < 2 ^ p) where
-  pub root-live : liveIn (entry root) p q ≡ true
+  pub root-live : liveIn (entry rootOwner) p q ≡ true
   root-live = rw (div-eq-of-lt l)
 
-  pub root-at : partOf (entry root) p itself q ≡ itself q
+  pub root-at : partOf (entry rootOwner) p itself q ≡ itself q
   root-at = rw (div-eq-of-lt l, mod-eq-of-lt l) (omega arith)
 
 -- what the test of the levels says of them, whatever else is lent
@@ -154,11 +154,11 @@ module _ (rs : List Route) (g : Geometry) (l : Cells) (s : Celled g l) where
   abbrev Pool2 : (ℕ → Bool) → (ℕ → ℕ) → Type 0
   Pool2 live at = PoolOk rs (g .p2) (bits2 g) (l .first) live at (l .own2) (l .second) (l .own3)
 
-  from-root : Pool2 (liveIn (entry root) (g .p1)) (partOf (entry root) (g .p1) itself) → Pool2 always itself
+  from-root : Pool2 (liveIn (entry rootOwner) (g .p1)) (partOf (entry rootOwner) (g .p1) itself) → Pool2 always itself
   from-root = pool-same rs (g .p2) (bits2 g) (l .first) _ always _ itself (l .own2) (l .second) (l .own3) (λ q u. root-live (g .p1) q (inside q u))
       (λ q u. root-at (g .p1) q (inside q u))
 
-  to-root : Pool2 always itself → Pool2 (liveIn (entry root) (g .p1)) (partOf (entry root) (g .p1) itself)
+  to-root : Pool2 always itself → Pool2 (liveIn (entry rootOwner) (g .p1)) (partOf (entry rootOwner) (g .p1) itself)
   to-root = pool-same rs (g .p2) (bits2 g) (l .first) always _ itself _ (l .own2) (l .second) (l .own3) (λ q u. sym (root-live (g .p1) q (inside q u)))
       (λ q u. sym (root-at (g .p1) q (inside q u)))
 

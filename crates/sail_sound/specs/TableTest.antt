@@ -17,13 +17,13 @@ use Rattle.sail_theory.specs.SoundTest.{sound?}
 use Rattle.sail_cells_test.specs.Pool.{OwnedPool, FreeAll}
 
 -- the first cells as one chunk, whose owner is 1
-abbrev pub root : List ℕ
-root = 1 ∷ []
+abbrev pub rootOwner : List ℕ
+rootOwner = 1 ∷ []
 
 -- the three levels, as the test goes through them: live cells alone
 pub record Passed (rs : List Route) (g : Geometry) (l : Cells) : Type 0 where
   pub cells1 : Right rs (g .p1) 0 (l .first) (l .own2) 1 (length (l .first))
-  pub pool2 : OwnedPool rs (g .p2) (bits2 g) root (g .p1) (l .first) (l .own2) (l .second) (l .own3)
+  pub pool2 : OwnedPool rs (g .p2) (bits2 g) rootOwner (g .p1) (l .first) (l .own2) (l .second) (l .own3)
   pub pool3 : OwnedPool rs 32 (bits3 g) (l .own2) (bits2 g) (l .second) (l .own3) (l .third) []
 
 -- and the free chunks of both pools

@@ -32,8 +32,8 @@ module _ (w b : ℕ) (fits : w < 2 ^ 32) (l : b < 32) (set : isSet w b ≡ true)
   there : bitAt w b ≡ 1
   there = eqb-true (bitAt w b) 1 set
 
-  pub cleared : WithBit r b w × (isSet r b ≡ false) × (r < 2 ^ 32)
-  cleared = (
+  pub bit-cleared : WithBit r b w × (isSet r b ≡ false) × (r < 2 ^ 32)
+  bit-cleared = (
     record { fits = fits; bits = λ k. go k (equal? k b) },
     ap (λ (x : ℕ). eqb x 1) (xor-bit b ∙ ap₂ (λ (x : ℕ) (t : Bool). bitXor x (cond t 1 0)) there (eq-eqb b b refl) ∙ xor-self 1),
     xor-lt 32 w _ fits (mod-lt (1 * 2 ^ b) (pow-pos 32)),

@@ -62,13 +62,13 @@ pub record After (A : Type 0) (f : A → List ℕ) : Type 0 where
   pub list : List ℕ
   pub is : list ≡ f found
 
-abbrev pub first : {A : Type 0} {f : A → List ℕ} (a : A) {l : List ℕ} → l ≡ f a → After A f
-first a {l} e = record { found = a; list = l; is = e }
+abbrev pub afterFirst : {A : Type 0} {f : A → List ℕ} (a : A) {l : List ℕ} → l ≡ f a → After A f
+afterFirst a {l} e = record { found = a; list = l; is = e }
 
 -- one step more
-abbrev pub next : {A : Type 0} {f : A → List ℕ} (g : A → List ℕ → List ℕ) (s : After A f) {l : List ℕ} → l ≡ g (s .found) (s .list) → After A
+abbrev pub afterNext : {A : Type 0} {f : A → List ℕ} (g : A → List ℕ → List ℕ) (s : After A f) {l : List ℕ} → l ≡ g (s .found) (s .list) → After A
     (λ a. g a (f a))
-next g s {l} e = record { found = s .found; list = l; is = e ∙ ap (g (s .found)) (s .is) }
+afterNext g s {l} e = record { found = s .found; list = l; is = e ∙ ap (g (s .found)) (s .is) }
 
 -- ---- a graft: the empty node is put after the last one, a gap opened at its place and the child bases raised
 
@@ -124,7 +124,7 @@ module _ (s : After Grafting (λ g. raising g (gapOpened g (withLast g)))) where
   pub graft-size : length (s .list) ≡ length (s .found .ws)
   graft-size =
       let g = s .found in
-      ap length (s .is) ∙ each-length (λ z. z + 1) (gapOpened g (withLast g)) 1 (g .x + 1) (g .n + 1) ∙ long2 (first g refl)
+      ap length (s .is) ∙ each-length (λ z. z + 1) (gapOpened g (withLast g)) 1 (g .x + 1) (g .n + 1) ∙ long2 (afterFirst g refl)
 
   pub graft-stores : (3 * s .found .y < length (s .list)) × (3 * s .found .x < length (s .list))
   graft-stores =
@@ -167,8 +167,8 @@ abbrev pub pruning : {ws : List ℕ} {n k x c y v : ℕ} → Prunable ws n k x c
     → Without v (16 + c) (bitsOf ws x) → Pruning
 pruning {ws} {n} {k} {x} {c} {y} {v} r e b = record { ws = ws; n = n; k = k; x = x; c = c; y = y; v = v; able = r; place = e; bit = b }
 
-abbrev pub cleared : Pruning → List ℕ
-cleared p = set (p .ws) (3 * p .x) (p .v)
+abbrev pub bitCleared : Pruning → List ℕ
+bitCleared p = set (p .ws) (3 * p .x) (p .v)
 
 abbrev pub lowering : Pruning → List ℕ → List ℕ
 lowering p w = each (λ z. z - 1) w 1 (p .x + 1) (p .n + 1)
@@ -179,35 +179,35 @@ gapClosed p w = movedDown w (3 * p .y) (3 * p .n) 3
 abbrev pub blanking : Pruning → List ℕ → List ℕ
 blanking p w = put3 w (p .n) 0 0 0
 
-pub prune-lower : (p : Pruning) → Lowerable (cleared p) 1 (p .x + 1) (p .n + 1)
+pub prune-lower : (p : Pruning) → Lowerable (bitCleared p) 1 (p .x + 1) (p .n + 1)
 prune-lower p =
     let r = p .able in
     lowerable-set (p .ws) (p .x) (p .v) 1 (p .n + 1) (omega arith) (omega arith) (r .parent) (omega (arith, r .words .order .lent))
     (λ i l u. omega (arith, r .words .order .child i u))
 
-module _ (s : After Pruning (λ p. lowering p (cleared p))) where
+module _ (s : After Pruning (λ p. lowering p (bitCleared p))) where
   long-lowered : length (s .list) ≡ length (s .found .ws)
   long-lowered =
       let p = s .found in
-      ap length (s .is) ∙ each-length (λ z. z - 1) (cleared p) 1 (p .x + 1) (p .n + 1) ∙ length-set (p .ws) (3 * p .x) (p .v)
+      ap length (s .is) ∙ each-length (λ z. z - 1) (bitCleared p) 1 (p .x + 1) (p .n + 1) ∙ length-set (p .ws) (3 * p .x) (p .v)
 
   pub prune-close : Movable (3 * s .found .y) (3 * s .found .n) 3 (length (s .list))
   prune-close =
       let p = s .found in
       record { rises = omega (arith, prune-inside (p .able) (p .y) (p .place)); room = omega (arith, long-lowered, p .able .words .order .lent) }
 
-module _ (s : After Pruning (λ p. gapClosed p (lowering p (cleared p)))) where
+module _ (s : After Pruning (λ p. gapClosed p (lowering p (bitCleared p)))) where
   long-closed : length (s .list) ≡ length (s .found .ws)
   long-closed =
       let p = s .found in
-      ap length (s .is) ∙ length-drawn (lowering p (cleared p)) (λ j. j + 3) (3 * p .y) (3 * p .n) ∙ long-lowered (first p refl)
+      ap length (s .is) ∙ length-drawn (lowering p (bitCleared p)) (λ j. j + 3) (3 * p .y) (3 * p .n) ∙ long-lowered (afterFirst p refl)
 
   pub prune-put : 3 * s .found .n + 3 ≤ length (s .list)
   prune-put = omega (arith, long-closed, s .found .able .words .order .lent)
 
-module _ (s : After Pruning (λ p. blanking p (gapClosed p (lowering p (cleared p))))) where
+module _ (s : After Pruning (λ p. blanking p (gapClosed p (lowering p (bitCleared p))))) where
   pub prune-size : length (s .list) ≡ length (s .found .ws)
-  prune-size = let p = s .found in ap length (s .is) ∙ put3-length (gapClosed p (lowering p (cleared p))) (p .n) 0 0 0 ∙ long-closed (first p refl)
+  prune-size = let p = s .found in ap length (s .is) ∙ put3-length (gapClosed p (lowering p (bitCleared p))) (p .n) 0 0 0 ∙ long-closed (afterFirst p refl)
 
   pub prune-leaves : Grafted (s .list) (s .found .ws) (s .found .n) (s .found .x) (s .found .c)
       (childAt (bitsOf (s .found .ws) (s .found .x)) (childOf (s .found .ws) (s .found .x)) (s .found .c))

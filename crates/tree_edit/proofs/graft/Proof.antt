@@ -1,6 +1,6 @@
 -- Each step is asked what the one before it left; together they leave the words with the new node.
 use lib.ListN.{length-set}
-use Rattle.tree_edit.proofs.Steps.{After, first, next, Grafting, grafting, withLast, gapOpened, raising, last-put}
+use Rattle.tree_edit.proofs.Steps.{After, afterFirst, afterNext, Grafting, grafting, withLast, gapOpened, raising, last-put}
 use Rattle.tree_edit.proofs.Steps.{graft-open, graft-raise, graft-size, graft-stores, graft-leaves}
 use borrow.Author.Needs.{needs}
 use Rattle.tree_edit.proofs.graft.Statement.{statement}
@@ -15,19 +15,19 @@ put c =
     let lent : tie.After-slice-known2 = at .before .before in
     let start : tie.Start = lent .before .before in
     let found = grafting (start .pre) (at .child-place .ensures .0) in
-    first found (last-put found (other .narrow .ensures) (second .narrow2 .ensures) (c .put-node .ensures))
+    afterFirst found (last-put found (other .narrow .ensures) (second .narrow2 .ensures) (c .put-node .ensures))
 
 abbrev opened : tie.After-up32 → After Grafting (λ g. gapOpened g (withLast g))
 opened c =
     let lent : tie.After-slice-known3 = c .before .before in
     let before : tie.After-put-node = lent .before .before in
-    next gapOpened (put before) (c .up32 .ensures)
+    afterNext gapOpened (put before) (c .up32 .ensures)
 
 abbrev raised : tie.After-raise → After Grafting (λ g. raising g (gapOpened g (withLast g)))
 raised c =
     let lent : tie.After-slice-known4 = c .before .before in
     let before : tie.After-up32 = lent .before .before in
-    next raising (opened before) (c .raise .ensures)
+    afterNext raising (opened before) (c .raise .ensures)
 
 up32-requires : tie.Need-up32-requires
 up32-requires c κs = let before : tie.After-put-node = search in graft-open (put before)

@@ -1,5 +1,5 @@
 -- Each step is asked what the one before it left; together they leave the words without the node.
-use Rattle.tree_edit.proofs.Steps.{After, first, next, Pruning, pruning, cleared, lowering, gapClosed, blanking}
+use Rattle.tree_edit.proofs.Steps.{After, afterFirst, afterNext, Pruning, pruning, bitCleared, lowering, gapClosed, blanking}
 use Rattle.tree_edit.proofs.Steps.{prune-lower, prune-close, prune-put, prune-size, prune-leaves}
 use borrow.Author.Needs.{needs}
 use Rattle.tree_edit.proofs.prune.Statement.{statement}
@@ -13,20 +13,20 @@ found c =
     let start : tie.Start = lent .before .before in
     pruning (start .pre) (at .child-place .ensures .0) (c .without-bit .ensures)
 
-abbrev lowered : tie.After-lower → After Pruning (λ p. lowering p (cleared p))
-lowered c = let before : tie.After-without-bit = c .before .before in first (found before) (c .lower .ensures)
+abbrev lowered : tie.After-lower → After Pruning (λ p. lowering p (bitCleared p))
+lowered c = let before : tie.After-without-bit = c .before .before in afterFirst (found before) (c .lower .ensures)
 
-abbrev closed : tie.After-down32 → After Pruning (λ p. gapClosed p (lowering p (cleared p)))
+abbrev closed : tie.After-down32 → After Pruning (λ p. gapClosed p (lowering p (bitCleared p)))
 closed c =
     let lent : tie.After-slice-known3 = c .before .before in
     let before : tie.After-lower = lent .before .before in
-    next gapClosed (lowered before) (c .down32 .ensures)
+    afterNext gapClosed (lowered before) (c .down32 .ensures)
 
-abbrev blanked : tie.After-put-node → After Pruning (λ p. blanking p (gapClosed p (lowering p (cleared p))))
+abbrev blanked : tie.After-put-node → After Pruning (λ p. blanking p (gapClosed p (lowering p (bitCleared p))))
 blanked c =
     let lent : tie.After-slice-known4 = c .before .before in
     let before : tie.After-down32 = lent .before .before in
-    next blanking (closed before) (c .put-node .ensures)
+    afterNext blanking (closed before) (c .put-node .ensures)
 
 lower-requires : tie.Need-lower-requires
 lower-requires c κs = let before : tie.After-without-bit = search in prune-lower (found before)

@@ -1,5 +1,5 @@
 -- Each step is asked what the one before it left; together they leave the arrays with the hop.
-use Rattle.tree_edit.proofs.Steps.{After, first, PuttingHop, puttingHop, hopsOpened, put-open, put-raise, put-store, put-leaves}
+use Rattle.tree_edit.proofs.Steps.{After, afterFirst, PuttingHop, puttingHop, hopsOpened, put-open, put-raise, put-store, put-leaves}
 use borrow.Author.Needs.{needs}
 use Rattle.tree_edit.proofs.put_hop.Statement.{statement}
 use Rattle.tree_edit.proofs.put_hop.Tie as tie
@@ -12,7 +12,7 @@ found c =
     puttingHop (start .pre) (c .hop-place .ensures .0)
 
 abbrev opened : tie.After-up16 → After PuttingHop hopsOpened
-opened c = let before : tie.After-hop-place = c .before .before in first (found before) (c .up16 .ensures)
+opened c = let before : tie.After-hop-place = c .before .before in afterFirst (found before) (c .up16 .ensures)
 
 up16-requires : tie.Need-up16-requires
 up16-requires c κs = let before : tie.After-hop-place = search in put-open (found before)

@@ -1,5 +1,5 @@
 -- Each step is asked what the one before it left; together they leave the arrays without the hop.
-use Rattle.tree_edit.proofs.Steps.{After, first, TakingHop, takingHop, basesLowered, take-lower, take-close, take-size, take-leaves}
+use Rattle.tree_edit.proofs.Steps.{After, afterFirst, TakingHop, takingHop, basesLowered, take-lower, take-close, take-size, take-leaves}
 use borrow.Author.Needs.{needs}
 use Rattle.tree_edit.proofs.take_hop.Statement.{statement}
 use Rattle.tree_edit.proofs.take_hop.Tie as tie
@@ -13,7 +13,7 @@ found c =
     takingHop (start .pre) (at .hop-place .ensures .0) (c .without-bit .ensures)
 
 abbrev lowered : tie.After-lower → After TakingHop basesLowered
-lowered c = let before : tie.After-without-bit = c .before .before in first (found before) (c .lower .ensures)
+lowered c = let before : tie.After-without-bit = c .before .before in afterFirst (found before) (c .lower .ensures)
 
 lower-requires : tie.Need-lower-requires
 lower-requires c κs = let before : tie.After-without-bit = search in take-lower (found before)

@@ -1,5 +1,5 @@
 -- What differs from a word at a set bit alone is the word without it.
-use Rattle.tree_edit.proofs.Bits.{cleared}
+use Rattle.tree_edit.proofs.Bits.{bit-cleared}
 use native.Mathlib.Omega.{arith}
 use borrow.Author.Needs.{needs}
 use Rattle.tree_edit.proofs.without_bit.Statement.{statement}
@@ -10,4 +10,4 @@ without-bit-spec =
     tie.close
     (tie.spec
     (λ c. search needs)
-    (λ c. cleared _ _ (omega arith) (c .pre .0) (c .pre .1)))
+    (λ c. bit-cleared _ _ (omega arith) (c .pre .0) (c .pre .1)))
