@@ -2,8 +2,8 @@
 -- of these are closed. What is then stale is painted.
 use mathlib.Core.Path.{_∙_}
 use native.Mathlib.Omega.{arith}
-use Rattle.sail_withdraw.proofs.Takes.{take-serving, take-some, take-there, take-tickable, take-one, take-second, take-third}
-use Rattle.sail_withdraw.proofs.Takes.{take-pending, take-done}
+use Rattle.sail_withdraw.proofs.Takes.{take-serving, take-some, take-there, take-tickable}
+use Rattle.sail_withdraw.proofs.Takes.{CountedOff, countedOff, take-one, take-second, take-third, take-pending, take-done}
 use borrow.Author.Needs.{needs}
 use Rattle.sail_withdraw.proofs.take.Statement.{statement}
 use Rattle.sail_withdraw.proofs.take.Tie as tie
@@ -15,90 +15,65 @@ begun c =
     let start : tie.Start = search in
     start
 
+-- what is known once the prefix is counted no more
+abbrev counted-off : tie.After-tick → CountedOff
+counted-off c =
+    let removed : tie.After-remove-at = search in
+    let followed : tie.After-follow = search in
+    countedOff (begun followed .pre) (removed .remove-at .ensures)
+    (c .tick .ensures) (c .tick .kept .1 .1 .1 .1 .0) (c .tick .kept .1 .1 .1 .1 .1 .0) (followed .follow .ensures)
+
 follow-requires : tie.Need-follow-requires
 follow-requires c κs =
     let known : tie.After-slice-known8 = search in
     let start : tie.Start = search in
-    take-serving _ _ _ _ _ (start .pre)
+    take-serving (start .pre)
 
 remove-at-requires : tie.Need-remove-at-requires
-remove-at-requires c κs =
-    let followed : tie.After-follow = search in
-    let start : tie.Start = begun followed in
-    take-there _ _ _ _ _ (start .pre)
+remove-at-requires c κs = let followed : tie.After-follow = search in take-there (begun followed .pre)
 
 some-stand : tie.Need-sub-m
 some-stand c =
     let removed : tie.After-remove-at = search in
     let followed : tie.After-follow = search in
-    let start : tie.Start = begun followed in
-    take-some _ _ _ _ _ (start .pre)
+    take-some (begun followed .pre)
 
 tick-requires : tie.Need-tick-requires
 tick-requires c κs =
     let removed : tie.After-remove-at = search in
     let followed : tie.After-follow = search in
-    let start : tie.Start = begun followed in
-    take-tickable _ _ _ _ _ (start .pre) _ (removed .remove-at .ensures)
+    take-tickable (begun followed .pre)
 
 first-names : tie.Need-sub-close
-first-names c =
-    let counted : tie.After-tick = search in
-    let removed : tie.After-remove-at = search in
-    let followed : tie.After-follow = search in
-    let start : tie.Start = begun followed in
-    let one = take-one _ _ _ _ _ (start .pre) _ (removed .remove-at .ensures) _ _ _ (counted .tick .ensures)
-    (counted .tick .kept .1 .1 .1 .1 .0) (counted .tick .kept .1 .1 .1 .1 .1 .0) _ _ (followed .follow .ensures) in
-    omega (arith, one .0)
+first-names c = let counted : tie.After-tick = search in omega (arith, take-one (counted-off counted) .0)
 
 second-size : tie.Need-sub-close-2
 second-size c =
     let counted : tie.After-tick = search in
-    let removed : tie.After-remove-at = search in
-    let followed : tie.After-follow = search in
-    let start : tie.Start = begun followed in
-    let v = start .pre .may .sound .sized .valid in
+    let valid = counted-off counted .ready .may .sound .sized .valid in
     omega arith
 
 close-requires : tie.Need-close-requires
-close-requires c κs =
-    let counted : tie.After-tick = search in
-    let removed : tie.After-remove-at = search in
-    let followed : tie.After-follow = search in
-    let start : tie.Start = begun followed in
-    take-second _ _ _ _ _ (start .pre) _ (removed .remove-at .ensures) _ _ _ (counted .tick .ensures)
-    (counted .tick .kept .1 .1 .1 .1 .0) (counted .tick .kept .1 .1 .1 .1 .1 .0) _ _ (followed .follow .ensures)
+close-requires c κs = let counted : tie.After-tick = search in take-second (counted-off counted)
 
 second-names : tie.Need-sub-close-3
 second-names c =
     let second : tie.After-close = search in
     let counted : tie.After-tick = search in
-    let removed : tie.After-remove-at = search in
-    let followed : tie.After-follow = search in
-    let start : tie.Start = begun followed in
-    let one = take-one _ _ _ _ _ (start .pre) _ (removed .remove-at .ensures) _ _ _ (counted .tick .ensures)
-    (counted .tick .kept .1 .1 .1 .1 .0) (counted .tick .kept .1 .1 .1 .1 .1 .0) _ _ (followed .follow .ensures) in
-    omega (arith, one .1)
+    omega (arith, take-one (counted-off counted) .1)
 
 third-size : tie.Need-sub-close-4
 third-size c =
     let second : tie.After-close = search in
     let counted : tie.After-tick = search in
-    let removed : tie.After-remove-at = search in
-    let followed : tie.After-follow = search in
-    let start : tie.Start = begun followed in
-    let v = start .pre .may .sound .sized .valid in
+    let valid = counted-off counted .ready .may .sound .sized .valid in
     omega arith
 
 close-requires-2 : tie.Need-close-requires-2
 close-requires-2 c κs =
     let second : tie.After-close = search in
     let counted : tie.After-tick = search in
-    let removed : tie.After-remove-at = search in
-    let followed : tie.After-follow = search in
-    let start : tie.Start = begun followed in
-    take-third _ _ _ _ _ (start .pre) _ (removed .remove-at .ensures) _ _ _ (counted .tick .ensures)
-    (counted .tick .kept .1 .1 .1 .1 .0) (counted .tick .kept .1 .1 .1 .1 .1 .0) _ _ (followed .follow .ensures)
+    take-third (counted-off counted)
 
 repaint-requires : tie.Need-repaint-from-list-requires
 repaint-requires c κs =
@@ -106,13 +81,7 @@ repaint-requires c κs =
     let third : tie.After-close2 = search in
     let second : tie.After-close = search in
     let counted : tie.After-tick = search in
-    let removed : tie.After-remove-at = search in
-    let followed : tie.After-follow = search in
-    let start : tie.Start = begun followed in
-    take-pending _ _ _ _ _ (start .pre) _ (removed .remove-at .ensures) _ _ _ (counted .tick .ensures)
-    (counted .tick .kept .1 .1 .1 .1 .0) (counted .tick .kept .1 .1 .1 .1 .1 .0) _ _ (followed .follow .ensures)
-    _ _ _ _ (second .close .ensures .0) (second .close .ensures .1) (third .close2 .ensures .0) (third .close2 .ensures .1)
-    _ (worded .byte-to-word .ensures .0)
+    take-pending (counted-off counted) (second .close .ensures) (third .close2 .ensures) (worded .byte-to-word .ensures .0)
 
 count-fits : tie.Need-cast-t48
 count-fits c =
@@ -120,10 +89,7 @@ count-fits c =
     let third : tie.After-close2 = search in
     let second : tie.After-close = search in
     let counted : tie.After-tick = search in
-    let removed : tie.After-remove-at = search in
-    let followed : tie.After-follow = search in
-    let start : tie.Start = begun followed in
-    let few = start .pre .may .sound .listed .records .few in
+    let few = counted-off counted .ready .may .sound .listed .records .few in
     omega arith
 
 same-list : tie.Need-same-length
@@ -186,13 +152,7 @@ returns c =
     let third : tie.After-close2 = search in
     let second : tie.After-close = search in
     let counted : tie.After-tick = search in
-    let removed : tie.After-remove-at = search in
-    let followed : tie.After-follow = search in
-    let start : tie.Start = begun followed in
-    take-done _ _ _ _ _ (start .pre) _ (removed .remove-at .ensures) _ _ _ (counted .tick .ensures)
-    (counted .tick .kept .1 .1 .1 .1 .0) (counted .tick .kept .1 .1 .1 .1 .1 .0) _ _ (followed .follow .ensures)
-    _ _ _ _ (second .close .ensures .0) (second .close .ensures .1) (third .close2 .ensures .0) (third .close2 .ensures .1)
-    _ _ _ (painted .repaint-from-list .ensures) _
+    take-done (counted-off counted) (second .close .ensures) (third .close2 .ensures) (painted .repaint-from-list .ensures) _
 
 pub take-spec : {M : Type 1} → statement M
 take-spec =
