@@ -1,7 +1,7 @@
 -- `sail_announce::add`. Chunks are opened and the route is put into the list, as was found; then what it touches is stale, and is painted. The first
 -- cells then lead to the place that serves the route, and it is counted there.
 use borrow.Author.Needs.{needs}
-use Rattle.sail_announce.proofs.Adds.{add-put, add-openable, add-few, add-pending, add-bookable, add-done}
+use Rattle.sail_announce.proofs.Adds.{add-put, add-openable, add-few, PutIn, putIn, add-pending, add-bookable, add-done}
 use Rattle.sail_announce.proofs.add.Statement.{statement}
 use Rattle.sail_announce.proofs.add.Tie as tie
 
@@ -12,56 +12,47 @@ begun c =
     let start : tie.Start = search in
     start
 
+-- what is known once the record is in the list and counted
+abbrev put-in : tie.After-count-with → PutIn
+put-in c =
+    let put : tie.After-put-at = search in
+    let opened : tie.After-open = search in
+    putIn (begun opened .pre) (put .put-at .ensures) (c .count-with .ensures .0) (opened .«open» .ensures)
+
 open-requires : tie.Need-open-requires
 open-requires c κs =
     let known : tie.After-slice-known8 = search in
     let start : tie.Start = search in
-    add-openable _ _ _ _ (start .pre)
+    add-openable (start .pre)
 
 put-at-requires : tie.Need-put-at-requires
-put-at-requires c κs =
-    let after-open : tie.After-open = search in
-    let start : tie.Start = begun after-open in
-    add-put _ _ _ _ (start .pre)
+put-at-requires c κs = let opened : tie.After-open = search in add-put (begun opened .pre)
 
 count-with-requires : tie.Need-count-with-requires
 count-with-requires c κs =
-    let after-put : tie.After-put-at = search in
-    let after-open : tie.After-open = search in
-    let start : tie.Start = begun after-open in
-    add-few _ _ _ _ (start .pre)
+    let put : tie.After-put-at = search in
+    let opened : tie.After-open = search in
+    add-few (begun opened .pre)
 
 repaint-requires : tie.Need-repaint-from-list-requires
 repaint-requires c κs =
-    let after-len : tie.After-byte-to-word = search in
-    let after-count : tie.After-count-with = search in
-    let after-put : tie.After-put-at = search in
-    let after-open : tie.After-open = search in
-    let start : tie.Start = begun after-open in
-    add-pending _ _ _ _ (start .pre) _ (after-put .put-at .ensures) _ (after-count .count-with .ensures .0)
-    _ _ (after-open .«open» .ensures .0) (after-open .«open» .ensures .1) _ (after-len .byte-to-word .ensures .0)
+    let worded : tie.After-byte-to-word = search in
+    let known : tie.After-count-with = search in
+    add-pending (put-in known) (worded .byte-to-word .ensures .0)
 
 count-in-requires : tie.Need-count-in-requires
 count-in-requires c κs =
     let painted : tie.After-repaint-from-list = search in
-    let after-count : tie.After-count-with = search in
-    let after-put : tie.After-put-at = search in
-    let after-open : tie.After-open = search in
-    let start : tie.Start = begun after-open in
-    add-bookable _ _ _ _ (start .pre) _ (after-put .put-at .ensures) _ (after-count .count-with .ensures .0)
-    _ _ (after-open .«open» .ensures .0) (after-open .«open» .ensures .1) _ _ _ (painted .repaint-from-list .ensures)
+    let known : tie.After-count-with = search in
+    add-bookable (put-in known) (painted .repaint-from-list .ensures)
 
 returns : tie.Need-returns
 returns c =
     let counted : tie.After-count-in = search in
     let painted : tie.After-repaint-from-list = search in
-    let after-count : tie.After-count-with = search in
-    let after-put : tie.After-put-at = search in
-    let after-open : tie.After-open = search in
-    let start : tie.Start = begun after-open in
-    add-done _ _ _ _ (start .pre) _ (after-put .put-at .ensures) _ (after-count .count-with .ensures .0)
-    _ _ (after-open .«open» .ensures .0) (after-open .«open» .ensures .1) _ _ _ (painted .repaint-from-list .ensures)
-    _ _ (counted .count-in .ensures) (counted .count-in .kept .1 .1 .1 .1 .0) (counted .count-in .kept .1 .1 .1 .1 .1 .0) _ _ (c .answer-of .ensures)
+    let known : tie.After-count-with = search in
+    add-done (put-in known) (painted .repaint-from-list .ensures)
+    (counted .count-in .ensures) (counted .count-in .kept .1 .1 .1 .1 .0) (counted .count-in .kept .1 .1 .1 .1 .1 .0) _ _ (c .answer-of .ensures)
 
 same-list : tie.Need-same-length
 same-list c =
