@@ -12,9 +12,9 @@ use Rattle.bits.proofs.Bools.{decided}
 use Rattle.routes.specs.Route.{key, keyOf}
 use Rattle.routes.specs.Record.{recordAt, routesOf}
 use Rattle.routes.specs.Said.{refused}
-use Rattle.standing.specs.Standing.{stands, remove}
+use Rattle.standing.specs.Standing.{remove}
 use Rattle.routes.specs.declared.Route.{Route}
-use Rattle.lists.specs.Edit.{RemoveAt, removed, countWithout, ListHolds}
+use Rattle.lists.specs.Edit.{RemoveAt, removed, ListHolds}
 use Rattle.lists.proofs.EditHolds.{remove-holds}
 use Rattle.buffers.specs.Fill.{filled}
 use Rattle.counts.specs.Counts.{OneMore}
