@@ -184,21 +184,27 @@ module _ {t : Table} {l : Lent} {a len at : ℕ} (ready : ToTake t l a len at) w
         (e1 ∙ w .sound .sized .counts1)
         (e2 ∙ w .sound .sized .counts2 ∙ w .sound .sized .cells2 ∙ ap (λ (y : ℕ). y * 2 ^ bits2 g) (sym (length-keep left v1 (l .own2))))
 
-    -- x1 and x2 are the cells of the address
+    -- x1 and x2 are the cells of the address; once chunks are closed, own2 and own3 are the owners, second and third the cells
     module _ {x1 x2 : ℕ} (k : Trailed g rs (l .own2) (l .own3) a x1 x2) where
-      own2-is : {own2 : List ℕ} → own2 ≡ withoutOwner (eqb (n .first) 0) (x1 - 1) (l .own2) → own2 ≡ keep left v1 (l .own2)
-      own2-is = own-is (losing1 t l a len w) (l .second) (g .p2) (w .sound .sized .cells2) (k .first) closes2
+      abbrev Closed2 : (own2 second : List ℕ) → Type 0
+      Closed2 own2 second = (own2 ≡ withoutOwner (eqb (n .first) 0) (x1 - 1) (l .own2)) × (second ≡ blanked (eqb (n .first) 0) (x1 - 1) (bits2 g) (l .second))
 
-      own3-is : {own3 : List ℕ} → own3 ≡ withoutOwner (eqb (n .second) 0) (x2 - 1) (l .own3) → own3 ≡ keep left v2 (l .own3)
-      own3-is = own-is (losing2 t l a len w) (l .third) 32 (w .sound .sized .cells3) (k .second) closes3
+      abbrev Closed3 : (own3 third : List ℕ) → Type 0
+      Closed3 own3 third = (own3 ≡ withoutOwner (eqb (n .second) 0) (x2 - 1) (l .own3)) × (third ≡ blanked (eqb (n .second) 0) (x2 - 1) (bits3 g) (l .third))
 
-      second-is : {second : List ℕ} → second ≡ blanked (eqb (n .first) 0) (x1 - 1) (bits2 g) (l .second)
-          → second ≡ blanked (alone left (g .p1) a len) (find (l .own2) (suc (v1 .serving a))) (bits2 g) (l .second)
-      second-is = cells-are (losing1 t l a len w) (l .second) (g .p2) (w .sound .sized .cells2) (k .first) closes2
-
-      third-is : {third : List ℕ} → third ≡ blanked (eqb (n .second) 0) (x2 - 1) (bits3 g) (l .third)
-          → third ≡ blanked (alone left (g .p2) a len) (find (l .own3) (suc (v2 .serving a))) (bits3 g) (l .third)
-      third-is = cells-are (losing2 t l a len w) (l .third) 32 (w .sound .sized .cells3) (k .second) closes3
+      chunks-left : {own2 second : List ℕ} → Closed2 own2 second → {own3 third : List ℕ} → Closed3 own3 third
+          → (own2 ≡ keep left v1 (l .own2)) × (own3 ≡ keep left v2 (l .own3))
+          × (second ≡ blanked (alone left (g .p1) a len) (find (l .own2) (suc (v1 .serving a))) (bits2 g) (l .second))
+          × (third ≡ blanked (alone left (g .p2) a len) (find (l .own3) (suc (v2 .serving a))) (bits3 g) (l .third))
+      chunks-left c2 c3 =
+          let z1 = losing1 t l a len w in
+          let z2 = losing2 t l a len w in
+          let sized = w .sound .sized in (
+            own-is z1 (l .second) (g .p2) (sized .cells2) (k .first) closes2 (c2 .0),
+            own-is z2 (l .third) 32 (sized .cells3) (k .second) closes3 (c3 .0),
+            cells-are z1 (l .second) (g .p2) (sized .cells2) (k .first) closes2 (c2 .1),
+            cells-are z2 (l .third) 32 (sized .cells3) (k .second) closes3 (c3 .1),
+          )
 
 -- ---- what is known once the prefix is counted no more
 
@@ -272,25 +278,15 @@ module _ (o : CountedOff) where
       closable (o .ready) (losing2 _ _ _ _ (o .ready .may)) _ 32 (z .cells3) (o .trail .second) (closes3 (o .ready) (o .moved))
       (z .few3) (small (o .ready))
 
-  -- and once chunks are closed: own2 and own3 are the owners then, second and third the cells
-  abbrev Closed2 : (own2 second : List ℕ) → Type 0
-  Closed2 own2 second = (own2 ≡ withoutOwner (eqb (o .n .first) 0) (o .x1 - 1) (o .l .own2))
-      × (second ≡ blanked (eqb (o .n .first) 0) (o .x1 - 1) (bits2 (o .t .geometry)) (o .l .second))
-
-  abbrev Closed3 : (own3 third : List ℕ) → Type 0
-  Closed3 own3 third = (own3 ≡ withoutOwner (eqb (o .n .second) 0) (o .x2 - 1) (o .l .own3))
-      × (third ≡ blanked (eqb (o .n .second) 0) (o .x2 - 1) (bits3 (o .t .geometry)) (o .l .third))
-
-  module _ {own2 second : List ℕ} (c2 : Closed2 own2 second) {own3 third : List ℕ} (c3 : Closed3 own3 third) where
+  -- and once chunks are closed
+  module _ {own2 second : List ℕ} (c2 : Closed2 (o .ready) (o .moved) (o .trail) own2 second)
+      {own3 third : List ℕ} (c3 : Closed3 (o .ready) (o .moved) (o .trail) own3 third) where
     pub take-pending : {x : ℕ} → x ≡ o .len
         → Pending (o .t .geometry) (o .t .count - 1) (o .a) x (o .s) (cells (o .l .first) second third own2 own3)
     take-pending q =
         let under = farewell-underway _ _ _ _ (o .ready .may) in
-        let is2 = own2-is (o .ready) (o .moved) (o .trail) (c2 .0) in
-        let is3 = own3-is (o .ready) (o .moved) (o .trail) (c3 .0) in
-        let at2 = second-is (o .ready) (o .moved) (o .trail) (c2 .1) in
-        let at3 = third-is (o .ready) (o .moved) (o .trail) (c3 .1) in
-        rw (q, is2, is3, at2, at3) (record {
+        let is = chunks-left (o .ready) (o .moved) (o .trail) c2 c3 in
+        rw (q, is .0, is .1, is .2, is .3) (record {
           listed = holds .listed;
           stale = λ ws par ready z. underway-stale _ _ _ _ _ _ under ws par ready (z ∙ holds .routes);
         })
@@ -303,11 +299,8 @@ module _ (o : CountedOff) where
     unfolding meansWithdraw
     take-done h b =
         let under = farewell-underway _ _ _ _ (o .ready .may) in
-        let is2 = own2-is (o .ready) (o .moved) (o .trail) (c2 .0) in
-        let is3 = own3-is (o .ready) (o .moved) (o .trail) (c3 .0) in
-        let at2 = second-is (o .ready) (o .moved) (o .trail) (c2 .1) in
-        let at3 = third-is (o .ready) (o .moved) (o .trail) (c3 .1) in
-        let h′ = underway-asked _ _ _ _ _ _ under _ _ _ (rw (holds .routes, is2, is3, at2, at3) at h) in
+        let is = chunks-left (o .ready) (o .moved) (o .trail) c2 c3 in
+        let h′ = underway-asked _ _ _ _ _ _ under _ _ _ (rw (holds .routes, is .0, is .1, is .2, is .3) at h) in
         let are = counts-left (o .ready) (o .moved) (o .same1) (o .same2) in
-        rw (count-is (o .ready), list-is, h′ .is-first, h′ .is-second, h′ .is-third, is2, is3, are .0, are .1)
+        rw (count-is (o .ready), list-is, h′ .is-first, h′ .is-second, h′ .is-third, is .0, is .1, are .0, are .1)
         (sym (ap (outWithFlag b) (taking-is _ _ _ _ (o .ready .may))))
