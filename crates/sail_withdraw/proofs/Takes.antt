@@ -291,7 +291,7 @@ module _ (o : CountedOff) where
           stale = λ ws par ready z. underway-stale _ _ _ _ _ _ under ws par ready (z ∙ holds .routes);
         })
 
-    pub take-done : {first third′ second′ : List ℕ}
+    pub take-done : {first second′ third′ : List ℕ}
         → Repainted (o .t .geometry) (routesOf (o .s) (o .t .count - 1)) (cells (o .l .first) second third own2 own3) first second′ third′ → (b : Bool)
         → out (meansWithdraw (withdraw.Removed b)) (record { geometry = o .t .geometry; count = o .t .count - 1 })
         (lent (o .s) first second′ third′ own2 own3 (o .long1) (o .long2))
