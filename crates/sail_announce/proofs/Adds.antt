@@ -1,8 +1,8 @@
 -- An announcement step by step: what each step asks, and what they leave.
 use mathlib.Core.Path.{_≡_, refl, sym, _∙_, ap}
-use mathlib.Core.Bool.{Bool, true, false, not}
+use mathlib.Core.Bool.{Bool, true, not}
 use mathlib.Core.List.{List, [], _∷_}
-use Prim.Native.Nat.{ℕ, _+_, _*_, _/_, _^_, _≤_}
+use Prim.Native.Nat.{ℕ, _*_, _/_, _^_, _≤_}
 use native.Mathlib.Omega.{arith}
 use lib.Dec.{eqb}
 use lib.ListN.{length}
@@ -64,7 +64,9 @@ module _ (t : Table) (l : Lent) (a len hop mark x : ℕ) (e : x ≡ cut len a) w
   unfolding announced
   announce-cleared c f o q = q ∙ rw (f, e)
 
-module _ (t : Table) (l : Lent) (r : Route) (f : AnnounceVerdict) (ready : ToAdd t l r f) where
+-- ---- what is known before the list changes
+
+module _ {t : Table} {l : Lent} {r : Route} {f : AnnounceVerdict} (ready : ToAdd t l r f) where
   abbrev w : Announceable t l r
   w = ready .may
 
@@ -97,7 +99,7 @@ module _ (t : Table) (l : Lent) (r : Route) (f : AnnounceVerdict) (ready : ToAdd
   add-few = w .sound .listed .records .few
 
   -- s is the list with the route put in, and m the number of routes in it
-  module _ (s : List ℕ) (list-is : s ≡ inserted (l .list) (t .count) r) (m : ℕ) (k : m ≡ countWith (f .stands) (t .count)) where
+  module _ {s : List ℕ} (list-is : s ≡ inserted (l .list) (t .count) r) {m : ℕ} (k : m ≡ countWith (f .stands) (t .count)) where
     count-is : m ≡ length (insert r rs)
     count-is = k ∙ rw (ready .stood) (sym (rw length-routes at (insert-count r rs (standing-good t l (w .sound)))))
 
@@ -107,74 +109,104 @@ module _ (t : Table) (l : Lent) (r : Route) (f : AnnounceVerdict) (ready : ToAdd
         let c : m ≡ countWith (stands (key r) rs) (t .count) = rw (ready .stood) at k in
         rw (list-is, c) (insert-holds (l .list) (t .count) few r insertable)
 
-    module _ (own2 own3 : List ℕ) (o2 : own2 ≡ own2′) (o3 : own3 ≡ own3′) where
-      pub add-pending : (x : ℕ) → x ≡ r .len → Pending g m (r .addr) x s (cells (l .first) (l .second) (l .third) own2 own3)
-      add-pending x q = rw (q, o2, o3) (record {
-        listed = holds .listed;
-        stale = λ ws par ready z. underway-stale g (r .addr) (r .len) (insert r rs) l _ (welcome-underway t l r w) ws par ready (z ∙ holds .routes);
-      })
+  valid : Valid g
+  valid = w .sound .sized .valid
 
-      -- The cells are painted: the first ones lead to the place that serves the route, and the chunks opened for it have no long route yet.
-      module _ (first second third : List ℕ) (h : Repainted g (routesOf s m) (cells (l .first) (l .second) (l .third) own2 own3) first second third) where
-        asked : AsAsked g (insert r rs) (cells (l .first) (l .second) (l .third) own2′ own3′) first second third
-        asked = underway-asked g (r .addr) (r .len) (insert r rs) l _ (welcome-underway t l r w) first second third (rw (holds .routes, o2, o3) at h)
+  good : Good rs
+  good = standing-good t l (w .sound)
 
-        valid : Valid g
-        valid = w .sound .sized .valid
+  many2 : length (l .long2) ≡ length own2′ * 2 ^ bits2 g
+  many2 =
+      w .sound .sized .counts2 ∙ w .sound .sized .cells2
+      ∙ ap (λ (x : ℕ). x * 2 ^ bits2 g) (sym (length-open (level1 g) (l .own2) (find (l .own2) 0) r))
 
-        good : Good rs
-        good = standing-good t l (w .sound)
+  before : Counts rs g own2′ (l .long1) (l .long2)
+  before = open-counts g valid rs (l .own2) (l .long1) (l .long2) (record { first = w .sound .counted1; second = w .sound .counted2 }) r (find (l .own2) 0)
+      (ready1 t l r w)
 
-        many2 : length (l .long2) ≡ length own2′ * 2 ^ bits2 g
-        many2 =
-            w .sound .sized .counts2 ∙ w .sound .sized .cells2
-            ∙ ap (λ (x : ℕ). x * 2 ^ bits2 g) (sym (length-open (level1 g) (l .own2) (find (l .own2) 0) r))
+  new : not (f .stands) ≡ true → OneMore (r .addr) (r .len) rs (insert r rs)
+  new e = many-insert r rs (sym (ready .stood) ∙ not-true (f .stands) e)
 
-        guided : Guided g (insert r rs) (r .addr) (r .len) first own2′ (l .long1) (l .long2)
-        guided = record {
-          valid = valid;
-          cells1 = ap length (asked .is-first) ∙ length-pool (insert r rs) (level1 g) (chunksOf own2′);
-          shows1 = rw (asked .is-first) (pool-shows (insert r rs) (level1 g) (chunksOf own2′) (welcome-fits2 t l r w));
-          small = w .fine .prefix .addr-ok;
-          held = λ k.
-              insert-long r rs (w .fine) good (g .p1) (slot (g .p1) (r .addr))
-              ∙ rw (lt-ltb (g .p1) (r .len) k, eq-eqb (slot (g .p1) (r .addr)) (slot (g .p1) (r .addr)) refl);
-          counts1 = w .sound .sized .counts1;
-          counts2 = many2;
-        }
+  -- The cells are painted: the first ones lead to the place that serves the route, and the chunks opened for it have no long route yet.
+  module _ {first second third : List ℕ} (asked : AsAsked g (insert r rs) (cells (l .first) (l .second) (l .third) own2′ own3′) first second third) where
+    guided : Guided g (insert r rs) (r .addr) (r .len) first own2′ (l .long1) (l .long2)
+    guided = record {
+      valid = valid;
+      cells1 = ap length (asked .is-first) ∙ length-pool (insert r rs) (level1 g) (chunksOf own2′);
+      shows1 = rw (asked .is-first) (pool-shows (insert r rs) (level1 g) (chunksOf own2′) (welcome-fits2 t l r w));
+      small = w .fine .prefix .addr-ok;
+      held = λ k.
+          insert-long r rs (w .fine) good (g .p1) (slot (g .p1) (r .addr))
+          ∙ rw (lt-ltb (g .p1) (r .len) k, eq-eqb (slot (g .p1) (r .addr)) (slot (g .p1) (r .addr)) refl);
+      counts1 = w .sound .sized .counts1;
+      counts2 = many2;
+    }
 
-        before : Counts rs g own2′ (l .long1) (l .long2)
-        before = open-counts g valid rs (l .own2) (l .long1) (l .long2) (record { first = w .sound .counted1; second = w .sound .counted2 }) r
-            (find (l .own2) 0)
-            (ready1 t l r w)
+    counts : {long1 long2 : List ℕ} → Booked (not (f .stands)) g r first (l .long1) (l .long2) long1 long2 → Counts (insert r rs) g own2′ long1 long2
+    counts (more e left moved) =
+        up-counts g (insert r rs) (r .addr) (r .len) first own2′ (l .long1) (l .long2) guided rs (insert r rs) (new e) before _ _ left moved
+    counts (same e a b) =
+        rw (a, b)
+        (as-counts g valid rs own2′ (l .long1) (l .long2) before (insert r rs)
+        (many-replace r rs (w .fine) good (sym (ready .stood) ∙ not-false (f .stands) e)))
 
-        new : not (f .stands) ≡ true → OneMore (r .addr) (r .len) rs (insert r rs)
-        new e = many-insert r rs (sym (ready .stood) ∙ not-true (f .stands) e)
+-- ---- what is known once the record is in the list
 
-        pub add-bookable : Bookable (not (f .stands)) g r first (l .long1) (l .long2)
-        add-bookable = record {
-          ticks = λ e.
-              up-tickable g (insert r rs) (r .addr) (r .len) first own2′ (l .long1) (l .long2) guided rs (insert r rs) (new e)
-              (omega (arith, length-routes (l .list) (t .count), add-few)) before;
-        }
+-- s is the list with the route put in, m the number of routes in it, own2 and own3 the owners with the chunks opened
+pub record PutIn : Type 0 where
+  pub t : Table
+  pub l : Lent
+  pub r : Route
+  pub f : AnnounceVerdict
+  pub ready : ToAdd t l r f
+  pub s : List ℕ
+  pub put : s ≡ inserted (l .list) (t .count) r
+  pub m : ℕ
+  pub counted : m ≡ countWith (f .stands) (t .count)
+  pub own2 : List ℕ
+  pub own3 : List ℕ
+  pub open2 : own2 ≡ own2′ ready
+  pub open3 : own3 ≡ own3′ ready
 
-        module _ (long1 long2 : List ℕ) (booked : Booked (not (f .stands)) g r first (l .long1) (l .long2) long1 long2)
-            (e1 : length long1 ≡ length (l .long1)) (e2 : length long2 ≡ length (l .long2)) where
-          counts : Counts (insert r rs) g own2′ long1 long2
-          counts = go booked
-            where
-              go : Booked (not (f .stands)) g r first (l .long1) (l .long2) long1 long2 → Counts (insert r rs) g own2′ long1 long2
-              go (more e left moved) =
-                  up-counts g (insert r rs) (r .addr) (r .len) first own2′ (l .long1) (l .long2) guided rs (insert r rs) (new e) before long1 long2 left moved
-              go (same e a b) =
-                  rw (a, b)
-                  (as-counts g valid rs own2′ (l .long1) (l .long2) before (insert r rs)
-                  (many-replace r rs (w .fine) good (sym (ready .stood) ∙ not-false (f .stands) e)))
+abbrev pub putIn : {t : Table} {l : Lent} {r : Route} {f : AnnounceVerdict} (ready : ToAdd t l r f)
+    → {s : List ℕ} → s ≡ inserted (l .list) (t .count) r → {m : ℕ} → m ≡ countWith (f .stands) (t .count)
+    → {own2 own3 : List ℕ} → (own2 ≡ own2′ ready) × (own3 ≡ own3′ ready) → PutIn
+putIn {t} {l} {r} {f} w {s} e {m} k {own2} {own3} o =
+    record { t = t; l = l; r = r; f = f; ready = w; s = s; put = e; m = m; counted = k; own2 = own2; own3 = own3; open2 = o .0; open3 = o .1 }
 
-          module _ (n : Announce) (c : Bool) (q : meansAnnounce n ≡ accepted (bit c ∷ bit (f .stands) ∷ [])) where
-            pub add-done : out (meansAnnounce n) (record { geometry = g; count = m }) (lent s first second third own2 own3 long1 long2)
-                ≡ outWithFlag c (adding t l r)
-            add-done =
-                let are = counts-are g valid (insert r rs) own2′ long1 long2 counts (e1 ∙ w .sound .sized .counts1) (e2 ∙ many2) in
-                rw (q, ready .stood, count-is, list-is, asked .is-first, asked .is-second, asked .is-third, o2, o3, are .0, are .1)
-                (sym (ap (outWithFlag c) (adding-is t l r w)))
+module _ (p : PutIn) where
+  held : ListHolds (p .s) (p .m) (insert (p .r) (standing (p .t) (p .l)))
+  held = holds (p .ready) (p .put) (p .counted)
+
+  pub add-pending : {x : ℕ} → x ≡ p .r .len
+      → Pending (p .t .geometry) (p .m) (p .r .addr) x (p .s) (cells (p .l .first) (p .l .second) (p .l .third) (p .own2) (p .own3))
+  add-pending q = rw (q, p .open2, p .open3) (record {
+    listed = held .listed;
+    stale = λ ws par ready z. underway-stale _ _ _ _ _ _ (welcome-underway _ _ _ (p .ready .may)) ws par ready (z ∙ held .routes);
+  })
+
+  -- the cells are painted
+  module _ {first second third : List ℕ} (h : Repainted (p .t .geometry) (routesOf (p .s) (p .m))
+      (cells (p .l .first) (p .l .second) (p .l .third) (p .own2) (p .own3)) first second third) where
+    asked : AsAsked (p .t .geometry) (insert (p .r) (standing (p .t) (p .l)))
+        (cells (p .l .first) (p .l .second) (p .l .third) (own2′ (p .ready)) (own3′ (p .ready))) first second third
+    asked = underway-asked _ _ _ _ _ _ (welcome-underway _ _ _ (p .ready .may)) _ _ _ (rw (held .routes, p .open2, p .open3) at h)
+
+    pub add-bookable : Bookable (not (p .f .stands)) (p .t .geometry) (p .r) first (p .l .long1) (p .l .long2)
+    add-bookable = record {
+      ticks = λ e.
+          up-tickable _ _ _ _ _ _ _ _ (guided (p .ready) asked) _ _ (new (p .ready) e)
+          (omega (arith, length-routes (p .l .list) (p .t .count), add-few (p .ready))) (before (p .ready));
+    }
+
+    pub add-done : {long1 long2 : List ℕ} → Booked (not (p .f .stands)) (p .t .geometry) (p .r) first (p .l .long1) (p .l .long2) long1 long2
+        → length long1 ≡ length (p .l .long1) → length long2 ≡ length (p .l .long2)
+        → (n : Announce) (c : Bool) → meansAnnounce n ≡ accepted (bit c ∷ bit (p .f .stands) ∷ [])
+        → out (meansAnnounce n) (record { geometry = p .t .geometry; count = p .m }) (lent (p .s) first second third (p .own2) (p .own3) long1 long2)
+        ≡ outWithFlag c (adding (p .t) (p .l) (p .r))
+    add-done booked e1 e2 n c q =
+        let sized = p .ready .may .sound .sized in
+        let are = counts-are _ (sized .valid) _ (own2′ (p .ready)) _ _ (counts (p .ready) asked booked) (e1 ∙ sized .counts1) (e2 ∙ many2 (p .ready)) in
+        let count = count-is (p .ready) (p .put) (p .counted) in
+        rw (q, p .ready .stood, count, p .put, asked .is-first, asked .is-second, asked .is-third, p .open2, p .open3, are .0, are .1)
+        (sym (ap (outWithFlag c) (adding-is _ _ _ (p .ready .may))))

@@ -65,10 +65,16 @@ over rs r p own w fine limit h = go (decided (ltb p (r .len))) (decided (long rs
     go (inl e) (inr d) (inr z) = rw (e, d, le-leb limit (used own) z)
         (sym (lt-ltb limit (need (insert r rs) p) (omega (arith, w .counted, need-more r rs fine (w .good) p (w .small) e d))))
 
-module _ (t : Table) (l : Lent) (r : Route) where
-  abbrev rs : List Route
-  rs = standing t l
+-- c is the test of a pool: o tells whether a chunk is to be opened
+abbrev Wants : (o : Bool) (own : List ℕ) (c : Bool) → Type 0
+Wants o own c = c ≡ (o && leb (length own) (used own))
 
+-- it tells whether the need exceeds the pool
+wants : {rs : List Route} {r : Route} {p : ℕ} {own : List ℕ} → Enough rs p own → Fine r → {o : Bool} → o ≡ alone rs p (r .addr) (r .len)
+    → {c : Bool} → Wants o own c → c ≡ ltb (length own) (need (insert r rs) p)
+wants {rs} {r} {p} {own} w fine e z = z ∙ rw e (over rs r p own w fine (length own) (used-le (chunksOf own)))
+
+module _ (t : Table) (l : Lent) (r : Route) where
   -- what is told with the number n
   abbrev Told : ℕ → Type 0
   Told n = (f : AnnounceVerdict) → f .number ≡ n → AnnounceJudged t l r f
@@ -76,58 +82,7 @@ module _ (t : Table) (l : Lent) (r : Route) where
   off : (n : ℕ) → 1 ≤ n → Announce t l r (refused n) → Told n
   off n h x f e = judged-off (f .number) _ _ (rw e h) (rw e (announce-only t l r (refused n) x))
 
-  -- x is the key of the route, k its place, and b tells whether the prefix stands
-  module _ (x k : ℕ) (b : Bool) (p : Proper t l r) (named : x ≡ key r) (placed : k ≡ placeOf (l .list) (t .count) x) (e : b ≡ stands x rs) where
-    stands-is : b ≡ stands (key r) rs
-    stands-is = rw (← named) e
-
-    found : (o : Opening) → Announceable t l r → Opens (t .geometry) rs (l .own2) (r .addr) (r .len) o → AnnounceJudged t l r
-        (record { number = 0; at = k; stands = b; opens = o })
-    found o may opens = judged-on _ _ (record { may = may; at = rw (← named) placed; stood = stands-is; opens = opens })
-
-    pub room-stands : b ≡ true → AnnounceJudged t l r (record { number = 0; at = k; stands = true; opens = noOpening })
-    room-stands h =
-        let stood = sym stands-is ∙ h in
-        rw h at (found noOpening (replaced-welcome t l r p stood)
-        (opens-nothing (t .geometry) rs (l .own2) r (p .fine) (standing-good t l (p .sound)) stood))
-
-    pub room-full : b ≡ false → length (l .list) / 8 ≤ t .count → Told 6
-    room-full h f = off 6 (omega arith) (Announce.full p (sym stands-is ∙ h) (rw length-routes f))
-
-    module _ (h : b ≡ false) (f : t .count < length (l .list) / 8) (o : Opening) (opens : Opens (t .geometry) rs (l .own2) (r .addr) (r .len) o) where
-      roomy : Roomy t l r
-      roomy = record { proper = p; new = sym stands-is ∙ h; room = rw length-routes f }
-
-      -- the test of a pool tells whether the need exceeds it
-      seven : (c : Bool) → c ≡ (o .second && leb (length (l .own2)) (used (l .own2))) → c ≡ ltb (length (l .own2)) (need (insert r rs) (t .geometry .p1))
-      seven c z = z ∙ rw (opens .second) (over rs r (t .geometry .p1) (l .own2) (second-chunks t l (p .sound)) (p .fine) (length (l .own2))
-          (used-le (chunksOf (l .own2))))
-
-      eight : (c : Bool) → c ≡ (o .third && leb (length (l .own3)) (used (l .own3))) → c ≡ ltb (length (l .own3)) (need (insert r rs) (t .geometry .p2))
-      eight c z = z ∙ rw (opens .third) (over rs r (t .geometry .p2) (l .own3) (third-chunks t l (p .sound)) (p .fine) (length (l .own3))
-          (used-le (chunksOf (l .own3))))
-
-      module _ (c : Bool) (z : c ≡ (o .second && leb (length (l .own2)) (used (l .own2)))) where
-        pub room-second : c ≡ true → Told 7
-        room-second y = off 7 (omega arith) (Announce.second roomy (ltb-true _ _ (sym (seven c z) ∙ y)))
-
-        module _ (y : c ≡ false) (d : Bool) (u : d ≡ (o .third && leb (length (l .own3)) (used (l .own3)))) where
-          enough : need (insert r rs) (t .geometry .p1) ≤ length (l .own2)
-          enough = ltb-false _ _ (sym (seven c z) ∙ y)
-
-          pub room-third : d ≡ true → Told 8
-          room-third v = off 8 (omega arith) (Announce.third roomy enough (ltb-true _ _ (sym (eight d u) ∙ v)))
-
-          pub room-enough : d ≡ false → AnnounceJudged t l r (record { number = 0; at = k; stands = false; opens = o })
-          room-enough v = rw h at (found o (record {
-            fine = p .fine;
-            sound = p .sound;
-            roomy = omega (arith, insert-adds r rs (roomy .new), roomy .room);
-            enough2 = enough;
-            enough3 = ltb-false _ _ (sym (eight d u) ∙ v);
-          }) opens)
-
-  -- the steps before
+  -- the steps before the room is looked at
   module _ (z : ℕ) (check : SizesTold z (t .geometry) l) where
     pub judge-sizes : (z ≡ 0 → ⊥) → Told z
     unfolding announceSaid
@@ -155,3 +110,83 @@ module _ (t : Table) (l : Lent) (r : Route) where
 
         pub judge-proper : not d ≡ false → Proper t l r
         judge-proper y = record { fine = fine; sound = tried-sound t l d k y }
+
+-- ---- what is known once the prefix is sought in the list
+
+-- x is the key of the route, k its place, and b tells whether the prefix stands
+pub record Sought : Type 0 where
+  pub t : Table
+  pub l : Lent
+  pub r : Route
+  pub x : ℕ
+  pub k : ℕ
+  pub b : Bool
+  pub proper : Proper t l r
+  pub named : x ≡ key r
+  pub placed : k ≡ placeOf (l .list) (t .count) x
+  pub told : b ≡ stands x (standing t l)
+
+abbrev pub sought : {t : Table} {l : Lent} {r : Route} → Proper t l r → {x : ℕ} → x ≡ key r → {k : ℕ} → k ≡ placeOf (l .list) (t .count) x
+    → {b : Bool} → b ≡ stands x (standing t l) → Sought
+sought {t} {l} {r} p {x} n {k} e {b} h = record { t = t; l = l; r = r; x = x; k = k; b = b; proper = p; named = n; placed = e; told = h }
+
+module _ (s : Sought) where
+  stands-is : s .b ≡ stands (key (s .r)) (standing (s .t) (s .l))
+  stands-is = rw (s .named) at (s .told)
+
+  found : (o : Opening) → Announceable (s .t) (s .l) (s .r) → Opens (s .t .geometry) (standing (s .t) (s .l)) (s .l .own2) (s .r .addr) (s .r .len) o
+      → AnnounceJudged (s .t) (s .l) (s .r) (record { number = 0; at = s .k; stands = s .b; opens = o })
+  found o may opens = judged-on _ _ (record { may = may; at = rw (s .named) at (s .placed); stood = stands-is; opens = opens })
+
+  pub room-stands : s .b ≡ true → AnnounceJudged (s .t) (s .l) (s .r) (record { number = 0; at = s .k; stands = true; opens = noOpening })
+  room-stands h =
+      let stood = sym stands-is ∙ h in
+      rw h at (found noOpening (replaced-welcome _ _ _ (s .proper) stood)
+      (opens-nothing _ _ _ _ (s .proper .fine) (standing-good _ _ (s .proper .sound)) stood))
+
+  pub room-full : s .b ≡ false → length (s .l .list) / 8 ≤ s .t .count → Told (s .t) (s .l) (s .r) 6
+  room-full h f = off _ _ _ 6 (omega arith) (Announce.full (s .proper) (sym stands-is ∙ h) (rw length-routes f))
+
+-- ---- and once it is new, the list has room, and o tells which chunks are to be opened
+
+pub record Fitting : Type 0 where
+  pub s : Sought
+  pub new : s .b ≡ false
+  pub room : s .t .count < length (s .l .list) / 8
+  pub o : Opening
+  pub opens : Opens (s .t .geometry) (standing (s .t) (s .l)) (s .l .own2) (s .r .addr) (s .r .len) o
+
+abbrev pub fitting : (s : Sought) → s .b ≡ false → s .t .count < length (s .l .list) / 8
+    → {o : Opening} → Opens (s .t .geometry) (standing (s .t) (s .l)) (s .l .own2) (s .r .addr) (s .r .len) o → Fitting
+fitting s h f {o} e = record { s = s; new = h; room = f; o = o; opens = e }
+
+module _ (v : Fitting) where
+  roomy : Roomy (v .s .t) (v .s .l) (v .s .r)
+  roomy = record { proper = v .s .proper; new = sym (stands-is (v .s)) ∙ v .new; room = rw length-routes (v .room) }
+
+  module _ {c : Bool} (z : Wants (v .o .second) (v .s .l .own2) c) where
+    seven : c ≡ ltb (length (v .s .l .own2)) (need (insert (v .s .r) (standing (v .s .t) (v .s .l))) (v .s .t .geometry .p1))
+    seven = wants (second-chunks _ _ (v .s .proper .sound)) (v .s .proper .fine) (v .opens .second) z
+
+    pub room-second : c ≡ true → Told (v .s .t) (v .s .l) (v .s .r) 7
+    room-second y = off _ _ _ 7 (omega arith) (Announce.second roomy (ltb-true _ _ (sym seven ∙ y)))
+
+    module _ (y : c ≡ false) {d : Bool} (u : Wants (v .o .third) (v .s .l .own3) d) where
+      enough : need (insert (v .s .r) (standing (v .s .t) (v .s .l))) (v .s .t .geometry .p1) ≤ length (v .s .l .own2)
+      enough = ltb-false _ _ (sym seven ∙ y)
+
+      eight : d ≡ ltb (length (v .s .l .own3)) (need (insert (v .s .r) (standing (v .s .t) (v .s .l))) (v .s .t .geometry .p2))
+      eight = wants (third-chunks _ _ (v .s .proper .sound)) (v .s .proper .fine) (v .opens .third) u
+
+      pub room-third : d ≡ true → Told (v .s .t) (v .s .l) (v .s .r) 8
+      room-third h = off _ _ _ 8 (omega arith) (Announce.third roomy enough (ltb-true _ _ (sym eight ∙ h)))
+
+      pub room-enough : d ≡ false
+          → AnnounceJudged (v .s .t) (v .s .l) (v .s .r) (record { number = 0; at = v .s .k; stands = false; opens = v .o })
+      room-enough h = rw (v .new) at (found (v .s) (v .o) (record {
+        fine = v .s .proper .fine;
+        sound = v .s .proper .sound;
+        roomy = omega (arith, insert-adds (v .s .r) (standing (v .s .t) (v .s .l)) (roomy .new), roomy .room);
+        enough2 = enough;
+        enough3 = ltb-false _ _ (sym eight ∙ h);
+      }) (v .opens))

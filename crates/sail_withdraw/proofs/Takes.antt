@@ -12,9 +12,9 @@ use Rattle.bits.proofs.Bools.{decided}
 use Rattle.routes.specs.Route.{key, keyOf}
 use Rattle.routes.specs.Record.{recordAt, routesOf}
 use Rattle.routes.specs.Said.{refused}
-use Rattle.standing.specs.Standing.{stands, remove}
+use Rattle.standing.specs.Standing.{remove}
 use Rattle.routes.specs.declared.Route.{Route}
-use Rattle.lists.specs.Edit.{RemoveAt, removed, countWithout, ListHolds}
+use Rattle.lists.specs.Edit.{RemoveAt, removed, ListHolds}
 use Rattle.lists.proofs.EditHolds.{remove-holds}
 use Rattle.buffers.specs.Fill.{filled}
 use Rattle.counts.specs.Counts.{OneMore}
@@ -87,7 +87,9 @@ module _ (b : Bool) (c c′ : ℕ) (h : b ≡ true → c ≡ c′) where
   same-closing : (own cells : List ℕ) (d : ℕ) → Closing b own cells c′ d → Closing b own cells c d
   same-closing own cells d k = record { one = λ e. rw (h e) (k .one e); few = k .few; size = k .size; whole = k .whole }
 
-module _ (t : Table) (l : Lent) (a len at : ℕ) (ready : ToTake t l a len at) where
+-- ---- what is known before the list changes
+
+module _ {t : Table} {l : Lent} {a len at : ℕ} (ready : ToTake t l a len at) where
   abbrev w : Withdrawable t l a len
   w = ready .may
 
@@ -103,141 +105,202 @@ module _ (t : Table) (l : Lent) (a len at : ℕ) (ready : ToTake t l a len at) w
   pub take-serving : Serving g rs (l .first) (l .second) (l .own2) (l .own3)
   take-serving = serving-of t l (w .sound)
 
+  count-is : t .count - 1 ≡ length left
+  count-is = omega (arith, count-removed t l a len w)
+
   pub take-some : 1 ≤ t .count
   take-some = omega (arith, count-removed t l a len w)
 
   pub take-there : RemoveAt (l .list) (t .count) at
   take-there = record { listed = w .sound .listed; place = ready .place }
 
-  -- s is the list without the route, and m the number of routes in it
-  module _ (s : List ℕ) (e : s ≡ removed (l .list) (t .count) (key (recordAt (l .list) at))) where
-    abbrev m : ℕ
-    m = t .count - 1
+  -- the counts: the first cells lead to the place that serves the prefix
+  valid : Valid g
+  valid = w .sound .sized .valid
 
-    list-is : s ≡ removed (l .list) (t .count) (keyOf a len)
-    list-is = e ∙ rw (ready .named)
+  guided : Guided g rs a len (l .first) (l .own2) (l .long1) (l .long2)
+  guided = record {
+    valid = valid;
+    cells1 = w .sound .sized .cells1;
+    shows1 = w .sound .serves .first;
+    small = w .prefix .addr-ok;
+    held = was-long t l a len w (g .p1);
+    counts1 = w .sound .sized .counts1;
+    counts2 = w .sound .sized .counts2 ∙ w .sound .sized .cells2;
+  }
 
-    count-is : m ≡ length left
-    count-is = omega (arith, count-removed t l a len w)
+  goes : OneMore a len left rs
+  goes = many-remove a len rs (w .prefix .len-ok) (standing-good t l (w .sound)) (w .old)
 
-    holds : ListHolds s m left
-    holds =
-        let few : length (l .list) / 8 ≤ 4096 = omega (arith, w .sound .sized .room) in
-        let k : ListHolds (removed (l .list) (t .count) (keyOf a len)) (countWithout (stands (keyOf a len) rs) (t .count)) left
-        = remove-holds (l .list) (t .count) few (keyOf a len) (w .sound .listed) in
-        rw list-is (rw (w .old) at k)
+  before : Counts rs g (l .own2) (l .long1) (l .long2)
+  before = record { first = w .sound .counted1; second = w .sound .counted2 }
 
-    -- A level that the withdrawal may close a chunk at, and the pool of p bits below it: the cell x of the address names the chunk. Whether it is
-    -- closed is told by the count that is left.
-    module _ (v : Level) (own cells : List ℕ) (z : Losing rs left a v own) (p : ℕ) (size : length cells ≡ below v (chunksOf own) p .places) (x : ℕ)
-        (k : CellTells rs v own a x) (closes : Bool) (q : closes ≡ alone left (v .bits) a len) where
-      names : closes ≡ true → x - 1 ≡ find own (suc (v .serving a))
-      names h = told-chunk rs v own a x k (was-long t l a len w (v .bits) (alone-longer left (v .bits) a len (sym q ∙ h)))
+  pub take-tickable : Tickable g a len (l .first) (l .long1) (l .long2) false
+  take-tickable = down-tickable g rs a len (l .first) (l .own2) (l .long1) (l .long2) guided left rs goes before
 
-      closable : length own ≤ 4096 → p - v .bits ≤ 10 → Closing closes own cells (x - 1) (p - v .bits)
-      closable few small = same-closing _ _ _ names own cells (p - v .bits) (rw q (closing t l a len w v own z p cells size few small))
+  -- the first level, whose pool is the second, and the second one, whose pool is the third
+  abbrev v1 : Level
+  v1 = level1 g
 
-      own-is : (own′ : List ℕ) → own′ ≡ withoutOwner closes (x - 1) own → own′ ≡ keep left v own
-      own-is own′ o = o ∙ same-closed _ _ _ names own ∙ rw q (sym (keep-closes t l a len w v own z p cells size))
+  abbrev v2 : Level
+  v2 = level2 g (chunksOf (l .own2))
 
-      cells-are : (cells′ : List ℕ) → cells′ ≡ blanked closes (x - 1) (p - v .bits) cells
-          → cells′ ≡ blanked (alone left (v .bits) a len) (find own (suc (v .serving a))) (p - v .bits) cells
-      cells-are cells′ c = c ∙ same-blanked _ _ _ names (p - v .bits) cells ∙ rw q
+  small : bits3 g ≤ 10
+  small = let v = valid in omega arith
 
-    -- the counts: the first cells lead to the place that serves the prefix
-    valid : Valid g
-    valid = w .sound .sized .valid
+  -- A level that the withdrawal may close a chunk at, and the pool of p bits below it: the cell x of the address names the chunk. Whether it is
+  -- closed is told by the count that is left.
+  module _ {v : Level} {own : List ℕ} (z : Losing rs left a v own) (cells : List ℕ) (p : ℕ) (size : length cells ≡ below v (chunksOf own) p .places)
+      {x : ℕ} (k : CellTells rs v own a x) {closes : Bool} (q : closes ≡ alone left (v .bits) a len) where
+    names : closes ≡ true → x - 1 ≡ find own (suc (v .serving a))
+    names h = told-chunk rs v own a x k (was-long t l a len w (v .bits) (alone-longer left (v .bits) a len (sym q ∙ h)))
 
-    guided : Guided g rs a len (l .first) (l .own2) (l .long1) (l .long2)
-    guided = record {
-      valid = valid;
-      cells1 = w .sound .sized .cells1;
-      shows1 = w .sound .serves .first;
-      small = w .prefix .addr-ok;
-      held = was-long t l a len w (g .p1);
-      counts1 = w .sound .sized .counts1;
-      counts2 = w .sound .sized .counts2 ∙ w .sound .sized .cells2;
-    }
+    closable : length own ≤ 4096 → p - v .bits ≤ 10 → Closing closes own cells (x - 1) (p - v .bits)
+    closable few small = same-closing _ _ _ names own cells (p - v .bits) (rw q (closing t l a len w v own z p cells size few small))
 
-    goes : OneMore a len left rs
-    goes = many-remove a len rs (w .prefix .len-ok) (standing-good t l (w .sound)) (w .old)
+    own-is : {own′ : List ℕ} → own′ ≡ withoutOwner closes (x - 1) own → own′ ≡ keep left v own
+    own-is o = o ∙ same-closed _ _ _ names own ∙ rw q (sym (keep-closes t l a len w v own z p cells size))
 
-    before : Counts rs g (l .own2) (l .long1) (l .long2)
-    before = record { first = w .sound .counted1; second = w .sound .counted2 }
+    cells-are : {cells′ : List ℕ} → cells′ ≡ blanked closes (x - 1) (p - v .bits) cells
+        → cells′ ≡ blanked (alone left (v .bits) a len) (find own (suc (v .serving a))) (p - v .bits) cells
+    cells-are c = c ∙ same-blanked _ _ _ names (p - v .bits) cells ∙ rw q
 
-    pub take-tickable : Tickable g a len (l .first) (l .long1) (l .long2) false
-    take-tickable = down-tickable g rs a len (l .first) (l .own2) (l .long1) (l .long2) guided left rs goes before
+  -- the prefix is counted no more; n is what is left at its places
+  module _ {long1 long2 : List ℕ} {n : Left} (moved : CountsMoved g a len (l .first) (l .long1) (l .long2) false long1 long2 n) where
+    closes2 : eqb (n .first) 0 ≡ alone left (g .p1) a len
+    unfolding alone
+    closes2 = closes-first g rs a len (l .first) (l .own2) (l .long1) (l .long2) guided left rs goes before long1 long2 n moved
 
-    -- the prefix is counted no more; n is what is left at its places
-    module _ (long1 long2 : List ℕ) (n : Left) (moved : CountsMoved g a len (l .first) (l .long1) (l .long2) false long1 long2 n)
-        (e1 : length long1 ≡ length (l .long1)) (e2 : length long2 ≡ length (l .long2)) where
-      after : Counts left g (l .own2) long1 long2
-      after = down-counts g rs a len (l .first) (l .own2) (l .long1) (l .long2) guided left rs goes before long1 long2 n moved
+    closes3 : eqb (n .second) 0 ≡ alone left (g .p2) a len
+    unfolding alone
+    closes3 = closes-second g rs a len (l .first) (l .own2) (l .long1) (l .long2) guided left rs goes before long1 long2 n moved
 
-      closes2 : eqb (n .first) 0 ≡ alone left (g .p1) a len
-      unfolding alone
-      closes2 = closes-first g rs a len (l .first) (l .own2) (l .long1) (l .long2) guided left rs goes before long1 long2 n moved
+    -- the counts are those of the owners that are left: what is closed had none to count
+    counts-left : length long1 ≡ length (l .long1) → length long2 ≡ length (l .long2)
+        → (long1 ≡ longs left v1) × (long2 ≡ longs left (level2 g (chunksOf (keep left v1 (l .own2)))))
+    counts-left e1 e2 =
+        let after = down-counts g rs a len (l .first) (l .own2) (l .long1) (l .long2) guided left rs goes before long1 long2 n moved in
+        counts-are g valid left (keep left v1 (l .own2)) long1 long2 (keep-counts g valid left (l .own2) long1 long2 after)
+        (e1 ∙ w .sound .sized .counts1)
+        (e2 ∙ w .sound .sized .counts2 ∙ w .sound .sized .cells2 ∙ ap (λ (y : ℕ). y * 2 ^ bits2 g) (sym (length-keep left v1 (l .own2))))
 
-      closes3 : eqb (n .second) 0 ≡ alone left (g .p2) a len
-      unfolding alone
-      closes3 = closes-second g rs a len (l .first) (l .own2) (l .long1) (l .long2) guided left rs goes before long1 long2 n moved
+    -- x1 and x2 are the cells of the address; once chunks are closed, own2 and own3 are the owners, second and third the cells
+    module _ {x1 x2 : ℕ} (k : Trailed g rs (l .own2) (l .own3) a x1 x2) where
+      abbrev Closed2 : (own2 second : List ℕ) → Type 0
+      Closed2 own2 second = (own2 ≡ withoutOwner (eqb (n .first) 0) (x1 - 1) (l .own2)) × (second ≡ blanked (eqb (n .first) 0) (x1 - 1) (bits2 g) (l .second))
 
-      -- the first level with the second pool, and the second with the third; x1 and x2 are the cells of the address
-      module _ (x1 x2 : ℕ) (k : Trailed g rs (l .own2) (l .own3) a x1 x2) where
-        abbrev v2 : Level
-        v2 = level2 g (chunksOf (l .own2))
+      abbrev Closed3 : (own3 third : List ℕ) → Type 0
+      Closed3 own3 third = (own3 ≡ withoutOwner (eqb (n .second) 0) (x2 - 1) (l .own3)) × (third ≡ blanked (eqb (n .second) 0) (x2 - 1) (bits3 g) (l .third))
 
-        pub take-one : (1 ≤ x1) × (1 ≤ x2)
-        take-one = (told-one rs (level1 g) (l .own2) a x1 (k .first), told-one rs v2 (l .own3) a x2 (k .second))
+      chunks-left : {own2 second : List ℕ} → Closed2 own2 second → {own3 third : List ℕ} → Closed3 own3 third
+          → (own2 ≡ keep left v1 (l .own2)) × (own3 ≡ keep left v2 (l .own3))
+          × (second ≡ blanked (alone left (g .p1) a len) (find (l .own2) (suc (v1 .serving a))) (bits2 g) (l .second))
+          × (third ≡ blanked (alone left (g .p2) a len) (find (l .own3) (suc (v2 .serving a))) (bits3 g) (l .third))
+      chunks-left c2 c3 =
+          let z1 = losing1 t l a len w in
+          let z2 = losing2 t l a len w in
+          let sized = w .sound .sized in (
+            own-is z1 (l .second) (g .p2) (sized .cells2) (k .first) closes2 (c2 .0),
+            own-is z2 (l .third) 32 (sized .cells3) (k .second) closes3 (c3 .0),
+            cells-are z1 (l .second) (g .p2) (sized .cells2) (k .first) closes2 (c2 .1),
+            cells-are z2 (l .third) 32 (sized .cells3) (k .second) closes3 (c3 .1),
+          )
 
-        small : bits3 g ≤ 10
-        small = let v = valid in omega arith
+-- ---- what is known once the prefix is counted no more
 
-        pub take-second : Closing (eqb (n .first) 0) (l .own2) (l .second) (x1 - 1) (bits2 g)
-        take-second =
-            closable (level1 g) (l .own2) (l .second) (losing1 t l a len w) (g .p2) (w .sound .sized .cells2) x1 (k .first) _ closes2
-            (w .sound .sized .few2) (valid .near)
+-- s is the list without the route, n what is left at its places, x1 and x2 the cells of the address
+pub record CountedOff : Type 0 where
+  pub t : Table
+  pub l : Lent
+  pub a : ℕ
+  pub len : ℕ
+  pub at : ℕ
+  pub ready : ToTake t l a len at
+  pub s : List ℕ
+  pub taken : s ≡ removed (l .list) (t .count) (key (recordAt (l .list) at))
+  pub long1 : List ℕ
+  pub long2 : List ℕ
+  pub n : Left
+  pub moved : CountsMoved (t .geometry) a len (l .first) (l .long1) (l .long2) false long1 long2 n
+  pub same1 : length long1 ≡ length (l .long1)
+  pub same2 : length long2 ≡ length (l .long2)
+  pub x1 : ℕ
+  pub x2 : ℕ
+  pub trail : Trailed (t .geometry) (standing t l) (l .own2) (l .own3) a x1 x2
 
-        pub take-third : Closing (eqb (n .second) 0) (l .own3) (l .third) (x2 - 1) (bits3 g)
-        take-third =
-            closable v2 (l .own3) (l .third) (losing2 t l a len w) 32 (w .sound .sized .cells3) x2 (k .second) _ closes3 (w .sound .sized .few3) small
+abbrev pub countedOff : {t : Table} {l : Lent} {a len at : ℕ} → ToTake t l a len at
+    → {s : List ℕ} → s ≡ removed (l .list) (t .count) (key (recordAt (l .list) at))
+    → {long1 long2 : List ℕ} {n : Left} → CountsMoved (t .geometry) a len (l .first) (l .long1) (l .long2) false long1 long2 n
+    → length long1 ≡ length (l .long1) → length long2 ≡ length (l .long2)
+    → {x1 x2 : ℕ} → Trailed (t .geometry) (standing t l) (l .own2) (l .own3) a x1 x2 → CountedOff
+countedOff {t} {l} {a} {len} {at} r {s} e {long1} {long2} {n} m e1 e2 {x1} {x2} k = record {
+  t = t;
+  l = l;
+  a = a;
+  len = len;
+  at = at;
+  ready = r;
+  s = s;
+  taken = e;
+  long1 = long1;
+  long2 = long2;
+  n = n;
+  moved = m;
+  same1 = e1;
+  same2 = e2;
+  x1 = x1;
+  x2 = x2;
+  trail = k;
+}
 
-        module _ (own2 own3 second third : List ℕ)
-            (o2 : own2 ≡ withoutOwner (eqb (n .first) 0) (x1 - 1) (l .own2)) (s2 : second ≡ blanked (eqb (n .first) 0) (x1 - 1) (bits2 g) (l .second))
-            (o3 : own3 ≡ withoutOwner (eqb (n .second) 0) (x2 - 1) (l .own3)) (s3 : third ≡ blanked (eqb (n .second) 0) (x2 - 1) (bits3 g) (l .third)) where
-          own2-is : own2 ≡ keep left (level1 g) (l .own2)
-          own2-is = own-is (level1 g) (l .own2) (l .second) (losing1 t l a len w) (g .p2) (w .sound .sized .cells2) x1 (k .first) _ closes2 own2 o2
+module _ (o : CountedOff) where
+  list-is : o .s ≡ removed (o .l .list) (o .t .count) (keyOf (o .a) (o .len))
+  list-is = o .taken ∙ rw (o .ready .named)
 
-          own3-is : own3 ≡ keep left v2 (l .own3)
-          own3-is = own-is v2 (l .own3) (l .third) (losing2 t l a len w) 32 (w .sound .sized .cells3) x2 (k .second) _ closes3 own3 o3
+  holds : ListHolds (o .s) (o .t .count - 1) (left (o .ready))
+  holds =
+      let w₀ = o .ready .may in
+      let few : length (o .l .list) / 8 ≤ 4096 = omega (arith, w₀ .sound .sized .room) in
+      rw list-is (rw (w₀ .old) at (remove-holds (o .l .list) (o .t .count) few (keyOf (o .a) (o .len)) (w₀ .sound .listed)))
 
-          second-is : second ≡ blanked (alone left (g .p1) a len) (find (l .own2) (suc (level1 g .serving a))) (bits2 g) (l .second)
-          second-is =
-              cells-are (level1 g) (l .own2) (l .second) (losing1 t l a len w) (g .p2) (w .sound .sized .cells2) x1 (k .first) _ closes2 second s2
+  pub take-one : (1 ≤ o .x1) × (1 ≤ o .x2)
+  take-one = (told-one _ (v1 (o .ready)) _ _ _ (o .trail .first), told-one _ (v2 (o .ready)) _ _ _ (o .trail .second))
 
-          third-is : third ≡ blanked (alone left (g .p2) a len) (find (l .own3) (suc (v2 .serving a))) (bits3 g) (l .third)
-          third-is = cells-are v2 (l .own3) (l .third) (losing2 t l a len w) 32 (w .sound .sized .cells3) x2 (k .second) _ closes3 third s3
+  pub take-second : Closing (eqb (o .n .first) 0) (o .l .own2) (o .l .second) (o .x1 - 1) (bits2 (o .t .geometry))
+  take-second =
+      let z = o .ready .may .sound .sized in
+      closable (o .ready) (losing1 _ _ _ _ (o .ready .may)) _ (o .t .geometry .p2) (z .cells2) (o .trail .first) (closes2 (o .ready) (o .moved))
+      (z .few2) (z .valid .near)
 
-          pub take-pending : (x : ℕ) → x ≡ len → Pending g m a x s (cells (l .first) second third own2 own3)
-          take-pending x q = rw (q, own2-is, own3-is, second-is, third-is) (record {
-            listed = holds .listed;
-            stale = λ ws par ready z. underway-stale g a len left l _ (farewell-underway t l a len w) ws par ready (z ∙ holds .routes);
-          })
+  pub take-third : Closing (eqb (o .n .second) 0) (o .l .own3) (o .l .third) (o .x2 - 1) (bits3 (o .t .geometry))
+  take-third =
+      let z = o .ready .may .sound .sized in
+      closable (o .ready) (losing2 _ _ _ _ (o .ready .may)) _ 32 (z .cells3) (o .trail .second) (closes3 (o .ready) (o .moved))
+      (z .few3) (small (o .ready))
 
-          -- the counts are those of the owners that are left: what is closed had none to count
-          are : (long1 ≡ longs left (level1 g)) × (long2 ≡ longs left (level2 g (chunksOf (keep left (level1 g) (l .own2)))))
-          are =
-              counts-are g valid left (keep left (level1 g) (l .own2)) long1 long2 (keep-counts g valid left (l .own2) long1 long2 after)
-              (e1 ∙ w .sound .sized .counts1)
-              (e2 ∙ w .sound .sized .counts2 ∙ w .sound .sized .cells2 ∙ ap (λ (y : ℕ). y * 2 ^ bits2 g) (sym (length-keep left (level1 g) (l .own2))))
+  -- and once chunks are closed
+  module _ {own2 second : List ℕ} (c2 : Closed2 (o .ready) (o .moved) (o .trail) own2 second)
+      {own3 third : List ℕ} (c3 : Closed3 (o .ready) (o .moved) (o .trail) own3 third) where
+    pub take-pending : {x : ℕ} → x ≡ o .len
+        → Pending (o .t .geometry) (o .t .count - 1) (o .a) x (o .s) (cells (o .l .first) second third own2 own3)
+    take-pending q =
+        let under = farewell-underway _ _ _ _ (o .ready .may) in
+        let is = chunks-left (o .ready) (o .moved) (o .trail) c2 c3 in
+        rw (q, is .0, is .1, is .2, is .3) (record {
+          listed = holds .listed;
+          stale = λ ws par ready z. underway-stale _ _ _ _ _ _ under ws par ready (z ∙ holds .routes);
+        })
 
-          module _ (first′ second′ third′ : List ℕ) (h : Repainted g (routesOf s m) (cells (l .first) second third own2 own3) first′ second′ third′) where
-            pub take-done : (c : Bool)
-                → out (meansWithdraw (withdraw.Removed c)) (record { geometry = g; count = m }) (lent s first′ second′ third′ own2 own3 long1 long2)
-                ≡ outWithFlag c (taking t l a len)
-            unfolding meansWithdraw
-            take-done c =
-                let h′ = underway-asked g a len left l _ (farewell-underway t l a len w) first′ second′ third′
-                (rw (holds .routes, own2-is, own3-is, second-is, third-is) at h) in
-                rw (count-is, list-is, h′ .is-first, h′ .is-second, h′ .is-third, own2-is, own3-is, are .0, are .1)
-                (sym (ap (outWithFlag c) (taking-is t l a len w)))
+    pub take-done : {first second′ third′ : List ℕ}
+        → Repainted (o .t .geometry) (routesOf (o .s) (o .t .count - 1)) (cells (o .l .first) second third own2 own3) first second′ third′ → (b : Bool)
+        → out (meansWithdraw (withdraw.Removed b)) (record { geometry = o .t .geometry; count = o .t .count - 1 })
+        (lent (o .s) first second′ third′ own2 own3 (o .long1) (o .long2))
+        ≡ outWithFlag b (taking (o .t) (o .l) (o .a) (o .len))
+    unfolding meansWithdraw
+    take-done h b =
+        let under = farewell-underway _ _ _ _ (o .ready .may) in
+        let is = chunks-left (o .ready) (o .moved) (o .trail) c2 c3 in
+        let h′ = underway-asked _ _ _ _ _ _ under _ _ _ (rw (holds .routes, is .0, is .1, is .2, is .3) at h) in
+        let are = counts-left (o .ready) (o .moved) (o .same1) (o .same2) in
+        rw (count-is (o .ready), list-is, h′ .is-first, h′ .is-second, h′ .is-third, is .0, is .1, are .0, are .1)
+        (sym (ap (outWithFlag b) (taking-is _ _ _ _ (o .ready .may))))

@@ -1,74 +1,66 @@
 -- `sail_announce::add`. Chunks are opened and the route is put into the list, as was found; then what it touches is stale, and is painted. The first
 -- cells then lead to the place that serves the route, and it is counted there.
 use borrow.Author.Needs.{needs}
-use Rattle.sail_announce.proofs.Adds.{add-put, add-openable, add-few, add-pending, add-bookable, add-done}
+use Rattle.sail_announce.proofs.Adds.{add-put, add-openable, add-few, PutIn, putIn, add-pending, add-bookable, add-done}
 use Rattle.sail_announce.proofs.add.Statement.{statement}
 use Rattle.sail_announce.proofs.add.Tie as tie
 
--- where it starts, seen from after `open`
+-- Places, each seen from a later one.
 abbrev begun : tie.After-open → tie.Start
 begun c =
     let known : tie.After-slice-known8 = search in
     let start : tie.Start = search in
     start
 
+abbrev opened : tie.After-put-at → tie.After-open
+opened c = search
+
+abbrev put : tie.After-count-with → tie.After-put-at
+put c = search
+
+abbrev count-made : tie.After-repaint-from-list → tie.After-count-with
+count-made c = search
+
+-- what is known once the record is in the list and counted
+abbrev put-in : tie.After-count-with → PutIn
+put-in c =
+    putIn (begun (opened (put c)) .pre) (put c .put-at .ensures) (c .count-with .ensures .0) (opened (put c) .«open» .ensures)
+
 open-requires : tie.Need-open-requires
 open-requires c κs =
     let known : tie.After-slice-known8 = search in
     let start : tie.Start = search in
-    add-openable _ _ _ _ (start .pre)
+    add-openable (start .pre)
 
 put-at-requires : tie.Need-put-at-requires
-put-at-requires c κs =
-    let after-open : tie.After-open = search in
-    let start : tie.Start = begun after-open in
-    add-put _ _ _ _ (start .pre)
+put-at-requires c κs = let after-open : tie.After-open = search in add-put (begun after-open .pre)
 
 count-with-requires : tie.Need-count-with-requires
-count-with-requires c κs =
-    let after-put : tie.After-put-at = search in
-    let after-open : tie.After-open = search in
-    let start : tie.Start = begun after-open in
-    add-few _ _ _ _ (start .pre)
+count-with-requires c κs = let after-put : tie.After-put-at = search in add-few (begun (opened after-put) .pre)
 
 repaint-requires : tie.Need-repaint-from-list-requires
 repaint-requires c κs =
-    let after-len : tie.After-byte-to-word = search in
-    let after-count : tie.After-count-with = search in
-    let after-put : tie.After-put-at = search in
-    let after-open : tie.After-open = search in
-    let start : tie.Start = begun after-open in
-    add-pending _ _ _ _ (start .pre) _ (after-put .put-at .ensures) _ (after-count .count-with .ensures .0)
-    _ _ (after-open .«open» .ensures .0) (after-open .«open» .ensures .1) _ (after-len .byte-to-word .ensures .0)
+    let worded : tie.After-byte-to-word = search in
+    let known : tie.After-count-with = search in
+    add-pending (put-in known) (worded .byte-to-word .ensures .0)
 
 count-in-requires : tie.Need-count-in-requires
 count-in-requires c κs =
     let painted : tie.After-repaint-from-list = search in
-    let after-count : tie.After-count-with = search in
-    let after-put : tie.After-put-at = search in
-    let after-open : tie.After-open = search in
-    let start : tie.Start = begun after-open in
-    add-bookable _ _ _ _ (start .pre) _ (after-put .put-at .ensures) _ (after-count .count-with .ensures .0)
-    _ _ (after-open .«open» .ensures .0) (after-open .«open» .ensures .1) _ _ _ (painted .repaint-from-list .ensures)
+    add-bookable (put-in (count-made painted)) (painted .repaint-from-list .ensures)
 
 returns : tie.Need-returns
 returns c =
     let counted : tie.After-count-in = search in
     let painted : tie.After-repaint-from-list = search in
-    let after-count : tie.After-count-with = search in
-    let after-put : tie.After-put-at = search in
-    let after-open : tie.After-open = search in
-    let start : tie.Start = begun after-open in
-    add-done _ _ _ _ (start .pre) _ (after-put .put-at .ensures) _ (after-count .count-with .ensures .0)
-    _ _ (after-open .«open» .ensures .0) (after-open .«open» .ensures .1) _ _ _ (painted .repaint-from-list .ensures)
-    _ _ (counted .count-in .ensures) (counted .count-in .kept .1 .1 .1 .1 .0) (counted .count-in .kept .1 .1 .1 .1 .1 .0) _ _ (c .answer-of .ensures)
+    add-done (put-in (count-made painted)) (painted .repaint-from-list .ensures)
+    (counted .count-in .ensures) (counted .count-in .kept .1 .1 .1 .1 .0) (counted .count-in .kept .1 .1 .1 .1 .1 .0) _ _ (c .answer-of .ensures)
 
 same-list : tie.Need-same-length
 same-list c =
     let counted : tie.After-count-in = search in
     let painted : tie.After-repaint-from-list = search in
-    let after-put : tie.After-put-at = search in
-    after-put .put-at .kept .0
+    put (count-made painted) .put-at .kept .0
 
 same-first : tie.Need-same-length-2
 same-first c =
@@ -92,27 +84,19 @@ same-own2 : tie.Need-same-length-5
 same-own2 c =
     let counted : tie.After-count-in = search in
     let painted : tie.After-repaint-from-list = search in
-    let after-put : tie.After-put-at = search in
-    let after-open : tie.After-open = search in
-    after-open .«open» .kept .1 .1 .1 .0
+    opened (put (count-made painted)) .«open» .kept .1 .1 .1 .0
 
 same-own3 : tie.Need-same-length-6
 same-own3 c =
     let counted : tie.After-count-in = search in
     let painted : tie.After-repaint-from-list = search in
-    let after-put : tie.After-put-at = search in
-    let after-open : tie.After-open = search in
-    after-open .«open» .kept .1 .1 .1 .1 .0
+    opened (put (count-made painted)) .«open» .kept .1 .1 .1 .1 .0
 
 same-long1 : tie.Need-same-length-7
-same-long1 c =
-    let counted : tie.After-count-in = search in
-    counted .count-in .kept .1 .1 .1 .1 .0
+same-long1 c = let counted : tie.After-count-in = search in counted .count-in .kept .1 .1 .1 .1 .0
 
 same-long2 : tie.Need-same-length-8
-same-long2 c =
-    let counted : tie.After-count-in = search in
-    counted .count-in .kept .1 .1 .1 .1 .1 .0
+same-long2 c = let counted : tie.After-count-in = search in counted .count-in .kept .1 .1 .1 .1 .1 .0
 
 pub add-spec : {M : Type 1} → statement M
 add-spec =

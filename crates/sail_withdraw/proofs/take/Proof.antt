@@ -2,136 +2,98 @@
 -- of these are closed. What is then stale is painted.
 use mathlib.Core.Path.{_∙_}
 use native.Mathlib.Omega.{arith}
-use Rattle.sail_withdraw.proofs.Takes.{take-serving, take-some, take-there, take-tickable, take-one, take-second, take-third}
-use Rattle.sail_withdraw.proofs.Takes.{take-pending, take-done}
+use Rattle.sail_withdraw.proofs.Takes.{take-serving, take-some, take-there, take-tickable}
+use Rattle.sail_withdraw.proofs.Takes.{CountedOff, countedOff, take-one, take-second, take-third, take-pending, take-done}
 use borrow.Author.Needs.{needs}
 use Rattle.sail_withdraw.proofs.take.Statement.{statement}
 use Rattle.sail_withdraw.proofs.take.Tie as tie
 
--- where it starts, seen from after `follow`
+-- Places, each seen from a later one.
 abbrev begun : tie.After-follow → tie.Start
 begun c =
     let known : tie.After-slice-known8 = search in
     let start : tie.Start = search in
     start
 
+abbrev ticked : tie.After-close → tie.After-tick
+ticked c = search
+
+abbrev closed2 : tie.After-close2 → tie.After-close
+closed2 c = search
+
+abbrev closed3 : tie.After-repaint-from-list → tie.After-close2
+closed3 c = search
+
+-- what is known once the prefix is counted no more
+abbrev counted-off : tie.After-tick → CountedOff
+counted-off c =
+    let removed : tie.After-remove-at = search in
+    let followed : tie.After-follow = search in
+    countedOff (begun followed .pre) (removed .remove-at .ensures)
+    (c .tick .ensures) (c .tick .kept .1 .1 .1 .1 .0) (c .tick .kept .1 .1 .1 .1 .1 .0) (followed .follow .ensures)
+
 follow-requires : tie.Need-follow-requires
 follow-requires c κs =
     let known : tie.After-slice-known8 = search in
     let start : tie.Start = search in
-    take-serving _ _ _ _ _ (start .pre)
+    take-serving (start .pre)
 
 remove-at-requires : tie.Need-remove-at-requires
-remove-at-requires c κs =
-    let followed : tie.After-follow = search in
-    let start : tie.Start = begun followed in
-    take-there _ _ _ _ _ (start .pre)
+remove-at-requires c κs = let followed : tie.After-follow = search in take-there (begun followed .pre)
 
 some-stand : tie.Need-sub-m
 some-stand c =
     let removed : tie.After-remove-at = search in
     let followed : tie.After-follow = search in
-    let start : tie.Start = begun followed in
-    take-some _ _ _ _ _ (start .pre)
+    take-some (begun followed .pre)
 
 tick-requires : tie.Need-tick-requires
 tick-requires c κs =
     let removed : tie.After-remove-at = search in
     let followed : tie.After-follow = search in
-    let start : tie.Start = begun followed in
-    take-tickable _ _ _ _ _ (start .pre) _ (removed .remove-at .ensures)
+    take-tickable (begun followed .pre)
 
 first-names : tie.Need-sub-close
-first-names c =
-    let counted : tie.After-tick = search in
-    let removed : tie.After-remove-at = search in
-    let followed : tie.After-follow = search in
-    let start : tie.Start = begun followed in
-    let one = take-one _ _ _ _ _ (start .pre) _ (removed .remove-at .ensures) _ _ _ (counted .tick .ensures)
-    (counted .tick .kept .1 .1 .1 .1 .0) (counted .tick .kept .1 .1 .1 .1 .1 .0) _ _ (followed .follow .ensures) in
-    omega (arith, one .0)
+first-names c = let counted : tie.After-tick = search in omega (arith, take-one (counted-off counted) .0)
 
 second-size : tie.Need-sub-close-2
 second-size c =
     let counted : tie.After-tick = search in
-    let removed : tie.After-remove-at = search in
-    let followed : tie.After-follow = search in
-    let start : tie.Start = begun followed in
-    let v = start .pre .may .sound .sized .valid in
+    let valid = counted-off counted .ready .may .sound .sized .valid in
     omega arith
 
 close-requires : tie.Need-close-requires
-close-requires c κs =
-    let counted : tie.After-tick = search in
-    let removed : tie.After-remove-at = search in
-    let followed : tie.After-follow = search in
-    let start : tie.Start = begun followed in
-    take-second _ _ _ _ _ (start .pre) _ (removed .remove-at .ensures) _ _ _ (counted .tick .ensures)
-    (counted .tick .kept .1 .1 .1 .1 .0) (counted .tick .kept .1 .1 .1 .1 .1 .0) _ _ (followed .follow .ensures)
+close-requires c κs = let counted : tie.After-tick = search in take-second (counted-off counted)
 
 second-names : tie.Need-sub-close-3
-second-names c =
-    let second : tie.After-close = search in
-    let counted : tie.After-tick = search in
-    let removed : tie.After-remove-at = search in
-    let followed : tie.After-follow = search in
-    let start : tie.Start = begun followed in
-    let one = take-one _ _ _ _ _ (start .pre) _ (removed .remove-at .ensures) _ _ _ (counted .tick .ensures)
-    (counted .tick .kept .1 .1 .1 .1 .0) (counted .tick .kept .1 .1 .1 .1 .1 .0) _ _ (followed .follow .ensures) in
-    omega (arith, one .1)
+second-names c = let second : tie.After-close = search in omega (arith, take-one (counted-off (ticked second)) .1)
 
 third-size : tie.Need-sub-close-4
 third-size c =
     let second : tie.After-close = search in
-    let counted : tie.After-tick = search in
-    let removed : tie.After-remove-at = search in
-    let followed : tie.After-follow = search in
-    let start : tie.Start = begun followed in
-    let v = start .pre .may .sound .sized .valid in
+    let valid = counted-off (ticked second) .ready .may .sound .sized .valid in
     omega arith
 
 close-requires-2 : tie.Need-close-requires-2
-close-requires-2 c κs =
-    let second : tie.After-close = search in
-    let counted : tie.After-tick = search in
-    let removed : tie.After-remove-at = search in
-    let followed : tie.After-follow = search in
-    let start : tie.Start = begun followed in
-    take-third _ _ _ _ _ (start .pre) _ (removed .remove-at .ensures) _ _ _ (counted .tick .ensures)
-    (counted .tick .kept .1 .1 .1 .1 .0) (counted .tick .kept .1 .1 .1 .1 .1 .0) _ _ (followed .follow .ensures)
+close-requires-2 c κs = let second : tie.After-close = search in take-third (counted-off (ticked second))
 
 repaint-requires : tie.Need-repaint-from-list-requires
 repaint-requires c κs =
     let worded : tie.After-byte-to-word = search in
     let third : tie.After-close2 = search in
-    let second : tie.After-close = search in
-    let counted : tie.After-tick = search in
-    let removed : tie.After-remove-at = search in
-    let followed : tie.After-follow = search in
-    let start : tie.Start = begun followed in
-    take-pending _ _ _ _ _ (start .pre) _ (removed .remove-at .ensures) _ _ _ (counted .tick .ensures)
-    (counted .tick .kept .1 .1 .1 .1 .0) (counted .tick .kept .1 .1 .1 .1 .1 .0) _ _ (followed .follow .ensures)
-    _ _ _ _ (second .close .ensures .0) (second .close .ensures .1) (third .close2 .ensures .0) (third .close2 .ensures .1)
-    _ (worded .byte-to-word .ensures .0)
+    let second : tie.After-close = closed2 third in
+    take-pending (counted-off (ticked second)) (second .close .ensures) (third .close2 .ensures) (worded .byte-to-word .ensures .0)
 
 count-fits : tie.Need-cast-t48
 count-fits c =
     let painted : tie.After-repaint-from-list = search in
-    let third : tie.After-close2 = search in
-    let second : tie.After-close = search in
-    let counted : tie.After-tick = search in
-    let removed : tie.After-remove-at = search in
-    let followed : tie.After-follow = search in
-    let start : tie.Start = begun followed in
-    let few = start .pre .may .sound .listed .records .few in
+    let few = counted-off (ticked (closed2 (closed3 painted))) .ready .may .sound .listed .records .few in
     omega arith
 
 same-list : tie.Need-same-length
 same-list c =
     let painted : tie.After-repaint-from-list = search in
-    let third : tie.After-close2 = search in
-    let second : tie.After-close = search in
-    let counted : tie.After-tick = search in
+    let counted : tie.After-tick = ticked (closed2 (closed3 painted)) in
     let removed : tie.After-remove-at = search in
     removed .remove-at .kept .0
 
@@ -141,58 +103,31 @@ same-first c = let painted : tie.After-repaint-from-list = search in painted .re
 same-second : tie.Need-same-length-3
 same-second c =
     let painted : tie.After-repaint-from-list = search in
-    let third : tie.After-close2 = search in
-    let second : tie.After-close = search in
-    painted .repaint-from-list .kept .1 .1 .1 .1 .1 .1 .0 ∙ second .close .kept .1 .0
+    painted .repaint-from-list .kept .1 .1 .1 .1 .1 .1 .0 ∙ closed2 (closed3 painted) .close .kept .1 .0
 
 same-third : tie.Need-same-length-4
 same-third c =
     let painted : tie.After-repaint-from-list = search in
-    let third : tie.After-close2 = search in
-    painted .repaint-from-list .kept .1 .1 .1 .1 .1 .1 .1 .0 ∙ third .close2 .kept .1 .0
+    painted .repaint-from-list .kept .1 .1 .1 .1 .1 .1 .1 .0 ∙ closed3 painted .close2 .kept .1 .0
 
 same-own2 : tie.Need-same-length-5
-same-own2 c =
-    let painted : tie.After-repaint-from-list = search in
-    let third : tie.After-close2 = search in
-    let second : tie.After-close = search in
-    second .close .kept .0
+same-own2 c = let painted : tie.After-repaint-from-list = search in closed2 (closed3 painted) .close .kept .0
 
 same-own3 : tie.Need-same-length-6
-same-own3 c =
-    let painted : tie.After-repaint-from-list = search in
-    let third : tie.After-close2 = search in
-    third .close2 .kept .0
+same-own3 c = let painted : tie.After-repaint-from-list = search in closed3 painted .close2 .kept .0
 
 same-long1 : tie.Need-same-length-7
-same-long1 c =
-    let painted : tie.After-repaint-from-list = search in
-    let third : tie.After-close2 = search in
-    let second : tie.After-close = search in
-    let counted : tie.After-tick = search in
-    counted .tick .kept .1 .1 .1 .1 .0
+same-long1 c = let painted : tie.After-repaint-from-list = search in counted-off (ticked (closed2 (closed3 painted))) .same1
 
 same-long2 : tie.Need-same-length-8
-same-long2 c =
-    let painted : tie.After-repaint-from-list = search in
-    let third : tie.After-close2 = search in
-    let second : tie.After-close = search in
-    let counted : tie.After-tick = search in
-    counted .tick .kept .1 .1 .1 .1 .1 .0
+same-long2 c = let painted : tie.After-repaint-from-list = search in counted-off (ticked (closed2 (closed3 painted))) .same2
 
 returns : tie.Need-returns
 returns c =
     let painted : tie.After-repaint-from-list = search in
-    let third : tie.After-close2 = search in
-    let second : tie.After-close = search in
-    let counted : tie.After-tick = search in
-    let removed : tie.After-remove-at = search in
-    let followed : tie.After-follow = search in
-    let start : tie.Start = begun followed in
-    take-done _ _ _ _ _ (start .pre) _ (removed .remove-at .ensures) _ _ _ (counted .tick .ensures)
-    (counted .tick .kept .1 .1 .1 .1 .0) (counted .tick .kept .1 .1 .1 .1 .1 .0) _ _ (followed .follow .ensures)
-    _ _ _ _ (second .close .ensures .0) (second .close .ensures .1) (third .close2 .ensures .0) (third .close2 .ensures .1)
-    _ _ _ (painted .repaint-from-list .ensures) _
+    let third : tie.After-close2 = closed3 painted in
+    let second : tie.After-close = closed2 third in
+    take-done (counted-off (ticked second)) (second .close .ensures) (third .close2 .ensures) (painted .repaint-from-list .ensures) _
 
 pub take-spec : {M : Type 1} → statement M
 take-spec =

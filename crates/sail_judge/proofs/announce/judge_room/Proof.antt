@@ -1,7 +1,7 @@
 -- `sail_judge::announce::judge_room`: each way has its law.
 use borrow.Author.Needs.{needs}
 use Rattle.sail_chunks.proofs.Trails.{serving-of}
-use Rattle.sail_judge.proofs.AnnounceJudges.{room-stands, room-full, room-second, room-third, room-enough}
+use Rattle.sail_judge.proofs.AnnounceJudges.{Sought, sought, Fitting, fitting, room-stands, room-full, room-second, room-third, room-enough}
 use Rattle.sail_judge.proofs.announce.judge_room.Statement.{statement}
 use Rattle.sail_judge.proofs.announce.judge_room.Tie as tie
 
@@ -12,98 +12,69 @@ begun c =
     let start : tie.Start = search in
     start
 
+-- what is known once the prefix is sought, and once it is known which chunks are to be opened
+abbrev looked-up : tie.After-stands-at → Sought
+looked-up c =
+    let placed : tie.After-place = search in
+    let named : tie.After-key-of = search in
+    sought (begun named .pre) (named .key-of .ensures .0) (placed .place .ensures .0) (c .stands-at .ensures)
+
+abbrev fits : tie.After-to-open → Fitting
+fits c =
+    let else2 : tie.Else2 = search in
+    let else1 : tie.Else1 = search in
+    let known : tie.After-stands-at = search in
+    fitting (looked-up known) (else1 .if1 .left) (else2 .if2 .left) (c .to-open .ensures)
+
 place-requires : tie.Need-place-requires
 place-requires c κs = begun c .pre .sound .listed .records
 
 stands-at-requires : tie.Need-stands-at-requires
 stands-at-requires c κs =
-    let after-key : tie.After-key-of = search in
-    let start : tie.Start = begun after-key in
-    record { records = start .pre .sound .listed .records; place = c .place .ensures .0 }
+    let named : tie.After-key-of = search in
+    record { records = begun named .pre .sound .listed .records; place = c .place .ensures .0 }
 
 returns : tie.Need-returns
 returns c =
-    let after-stands : tie.After-stands-at = search in
-    let after-place : tie.After-place = search in
-    let after-key : tie.After-key-of = search in
-    let start : tie.Start = begun after-key in
-    rw (c .nothing .ensures)
-    (room-stands _ _ _ _ _ _ (start .pre) (after-key .key-of .ensures .0) (after-place .place .ensures .0) (after-stands .stands-at .ensures)
-    (c .before .if1 .taken))
+    let known : tie.After-stands-at = search in
+    rw (c .nothing .ensures) (room-stands (looked-up known) (c .before .if1 .taken))
 
 returns-2 : tie.Need-returns-2
 returns-2 c =
     let else1 : tie.Else1 = search in
-    let after-stands : tie.After-stands-at = search in
-    let after-place : tie.After-place = search in
-    let after-key : tie.After-key-of = search in
-    let start : tie.Start = begun after-key in
-    room-full _ _ _ _ _ _ (start .pre) (after-key .key-of .ensures .0) (after-place .place .ensures .0) (after-stands .stands-at .ensures)
-    (else1 .if1 .left) (c .before .if2 .taken) _ (c .refusal .ensures)
+    let known : tie.After-stands-at = search in
+    room-full (looked-up known) (else1 .if1 .left) (c .before .if2 .taken) _ (c .refusal .ensures)
 
 to-open-requires : tie.Need-to-open-requires
-to-open-requires c κs =
-    let after-key : tie.After-key-of = search in
-    let start : tie.Start = begun after-key in
-    serving-of _ _ (start .pre .sound)
+to-open-requires c κs = let named : tie.After-key-of = search in serving-of _ _ (begun named .pre .sound)
 
 wanting-requires : tie.Need-wanting-requires
-wanting-requires c κs =
-    let after-key : tie.After-key-of = search in
-    let start : tie.Start = begun after-key in
-    start .pre .sound .sized .few2
+wanting-requires c κs = let named : tie.After-key-of = search in begun named .pre .sound .sized .few2
 
 returns-3 : tie.Need-returns-3
 returns-3 c =
-    let after-wanting : tie.After-wanting = search in
-    let after-open : tie.After-to-open = search in
-    let else2 : tie.Else2 = search in
-    let else1 : tie.Else1 = search in
-    let after-stands : tie.After-stands-at = search in
-    let after-place : tie.After-place = search in
-    let after-key : tie.After-key-of = search in
-    let start : tie.Start = begun after-key in
-    room-second _ _ _ _ _ _ (start .pre) (after-key .key-of .ensures .0) (after-place .place .ensures .0) (after-stands .stands-at .ensures)
-    (else1 .if1 .left) (else2 .if2 .left) _ (after-open .to-open .ensures)
-    _ (after-wanting .wanting .ensures) (c .before .if3 .taken) _ (c .refusal2 .ensures)
+    let second : tie.After-wanting = search in
+    let known : tie.After-to-open = search in
+    room-second (fits known) (second .wanting .ensures) (c .before .if3 .taken) _ (c .refusal2 .ensures)
 
 wanting-requires-2 : tie.Need-wanting-requires-2
-wanting-requires-2 c κs =
-    let after-key : tie.After-key-of = search in
-    let start : tie.Start = begun after-key in
-    start .pre .sound .sized .few3
+wanting-requires-2 c κs = let named : tie.After-key-of = search in begun named .pre .sound .sized .few3
 
 returns-4 : tie.Need-returns-4
 returns-4 c =
-    let after-third : tie.After-wanting2 = search in
+    let third : tie.After-wanting2 = search in
     let else3 : tie.Else3 = search in
-    let after-second : tie.After-wanting = search in
-    let after-open : tie.After-to-open = search in
-    let else2 : tie.Else2 = search in
-    let else1 : tie.Else1 = search in
-    let after-stands : tie.After-stands-at = search in
-    let after-place : tie.After-place = search in
-    let after-key : tie.After-key-of = search in
-    let start : tie.Start = begun after-key in
-    room-third _ _ _ _ _ _ (start .pre) (after-key .key-of .ensures .0) (after-place .place .ensures .0) (after-stands .stands-at .ensures)
-    (else1 .if1 .left) (else2 .if2 .left) _ (after-open .to-open .ensures)
-    _ (after-second .wanting .ensures) (else3 .if3 .left) _ (after-third .wanting2 .ensures) (c .before .if4 .taken) _ (c .refusal3 .ensures)
+    let second : tie.After-wanting = search in
+    let known : tie.After-to-open = search in
+    room-third (fits known) (second .wanting .ensures) (else3 .if3 .left) (third .wanting2 .ensures) (c .before .if4 .taken) _ (c .refusal3 .ensures)
 
 returns-5 : tie.Need-returns-5
 returns-5 c =
-    let after-third : tie.After-wanting2 = search in
+    let third : tie.After-wanting2 = search in
     let else3 : tie.Else3 = search in
-    let after-second : tie.After-wanting = search in
-    let after-open : tie.After-to-open = search in
-    let else2 : tie.Else2 = search in
-    let else1 : tie.Else1 = search in
-    let after-stands : tie.After-stands-at = search in
-    let after-place : tie.After-place = search in
-    let after-key : tie.After-key-of = search in
-    let start : tie.Start = begun after-key in
-    room-enough _ _ _ _ _ _ (start .pre) (after-key .key-of .ensures .0) (after-place .place .ensures .0) (after-stands .stands-at .ensures)
-    (else1 .if1 .left) (else2 .if2 .left) _ (after-open .to-open .ensures)
-    _ (after-second .wanting .ensures) (else3 .if3 .left) _ (after-third .wanting2 .ensures) (c .if4 .left)
+    let second : tie.After-wanting = search in
+    let known : tie.After-to-open = search in
+    room-enough (fits known) (second .wanting .ensures) (else3 .if3 .left) (third .wanting2 .ensures) (c .if4 .left)
 
 pub judge-room-spec : {M : Type 1} → statement M
 judge-room-spec =
