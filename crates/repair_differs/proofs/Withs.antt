@@ -17,10 +17,10 @@ use Rattle.sail.specs.declared.geometry.Geometry.{Geometry}
 use Rattle.sail_owners.specs.Owners.{owners, Ownable}
 use Rattle.sail_theory.specs.Render.{Fits}
 use Rattle.sail_theory.specs.Calls.{Owners, ownersAfter, inputRoutes}
-use Rattle.repair_differs.specs.Differs.{Owned, Differing, wanted, freshOwners, DiffReady, Roomy}
+use Rattle.repair_differs.specs.Differs.{Owned, Differing, wanted, freshOwners, DiffReady, DiffRoom}
 use Rattle.repair_differs.specs.declared.Differs.{Differs}
 
-module _ (g : Geometry) (input first second third own2 own3 ws par want : List ℕ) (h : Roomy g input first second third own2 own3 ws par want) where
+module _ (g : Geometry) (input first second third own2 own3 ws par want : List ℕ) (h : DiffRoom g input first second third own2 own3 ws par want) where
   abbrev k : DiffReady g input (length own2) (length own3) first second third
   k = h .countable
 
@@ -112,7 +112,7 @@ module _ (g : Geometry) (input : List ℕ) (n2 n3 : ℕ) (first second third : L
   pub own-room3 : n3 ≡ length (take n3 (zeros 4096))
   own-room3 = sym (zeros-length 4096 n3 own-few3)
 
-  pub own-roomy : Roomy g input first second third (take n2 (zeros 4096)) (take n3 (zeros 4096)) (zeros 4096) (zeros 4353) (zeros 1024)
+  pub own-roomy : DiffRoom g input first second third (take n2 (zeros 4096)) (take n3 (zeros 4096)) (zeros 4096) (zeros 4353) (zeros 1024)
   own-roomy = record {
     countable = rw (← own-room2, ← own-room3) k;
     none2 = zeros-front 4096 n2 own-few2 ∙ ap zeros own-room2;

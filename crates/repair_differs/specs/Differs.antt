@@ -108,7 +108,7 @@ pub record DiffReady (g : Geometry) (input : List ℕ) (n2 n3 : ℕ) (first seco
   pub fits3 : Fits (inputRoutes input) (level2 g (chunksOf (freshOwners g input n2 n3 .own2))) (chunksOf (freshOwners g input n2 n3 .own3))
 
 -- the same, with owners of none in use, room for words and their chain, and for the plan of a block
-pub record Roomy (g : Geometry) (input first second third own2 own3 ws par want : List ℕ) : Type 0 where
+pub record DiffRoom (g : Geometry) (input first second third own2 own3 ws par want : List ℕ) : Type 0 where
   pub countable : DiffReady g input (length own2) (length own3) first second third
   pub none2 : own2 ≡ replicate (length own2) 0
   pub none3 : own3 ≡ replicate (length own3) 0

@@ -12,7 +12,7 @@ ghost use Rattle.sail_owners.specs.Owners.{owners};
 ghost use Rattle.sail_paint.specs.Paint.{standsFor};
 ghost use Rattle.sail_theory.specs.Calls.{inputRoutes};
 ghost use Rattle.repair_differs.specs.Differs.{offPlan, offZero, offAt, offName, CountIs, Differing, wanted, freshOwners};
-ghost use Rattle.repair_differs.specs.Differs.{DiffBlockReady, DiffFirstReady, DiffChunkReady, DiffPoolReady, DiffNamesReady, Owned, DiffReady, Roomy};
+ghost use Rattle.repair_differs.specs.Differs.{DiffBlockReady, DiffFirstReady, DiffChunkReady, DiffPoolReady, DiffNamesReady, Owned, DiffReady, DiffRoom};
 use bits::widen::half_to_index;
 use chain::list::chained;
 use chain::place::shifted;
@@ -226,7 +226,7 @@ fn count_with(
     par: &mut [u16],
     want: &mut [u16],
 ) -> Differs
-    requires { ⌜ Roomy g (now input) (now first) (now second) (now third) (now own2) (now own3) (now ws) (now par) (now want) ⌝ }
+    requires { ⌜ DiffRoom g (now input) (now first) (now second) (now third) (now own2) (now own3) (now ws) (now par) (now want) ⌝ }
     ensures { λ r. ⌜ Differing r (now (first .entry)) (now (second .entry)) (now (third .entry)) (wanted g (inputRoutes
         (now (input .entry))) (freshOwners g (now (input .entry)) (length (now (own2 .entry))) (length (now (own3 .entry))))) ⌝ }
 {

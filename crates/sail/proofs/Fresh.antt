@@ -7,6 +7,7 @@ use native.Mathlib.Omega.{arith}
 use lib.ListN.{getD, length, replicate, getD-replicate, length-replicate}
 use borrow.Author.Tests.{ltb-true}
 use Rattle.bits.specs.Tab.{tabulate}
+use Rattle.bits.proofs.Tabs.{getD-zeros}
 use Rattle.standing.specs.Cells.{any, first, best}
 use Rattle.routes.specs.Record.{routesOf, Listed}
 use Rattle.counts.proofs.Many.{many-none}
@@ -15,11 +16,6 @@ use Rattle.sail.specs.Level.{Level, Chunks, View, below, level1, level2}
 use Rattle.sail.specs.Sizes.{Sized}
 use Rattle.sail.specs.Sound.{Serves, Sound, freshTable, freshLent}
 use Rattle.sail.specs.declared.geometry.Geometry.{Geometry}
-
-pub zeros : (n i : ℕ) → _≡_ {A = ℕ} (getD (replicate n 0) i 0) 0
-zeros zero i = refl
-zeros (suc n) zero = refl
-zeros (suc n) (suc i) = zeros n i
 
 pub best-none : (p i : ℕ) → best [] p i ≡ 0
 unfolding best first
@@ -52,7 +48,7 @@ fresh-listed : (n : ℕ) → n % 8 ≡ 0 → Listed (replicate n 0) 0
 fresh-listed n e = record {
   records = record { room = omega arith; few = omega arith; each = λ k l. absurd (omega arith); rises = λ i j l u. absurd (omega arith) };
   whole = rw length-replicate e;
-  zeros = λ j h l. zeros n j;
+  zeros = λ j h l. getD-zeros n j;
 }
 
 fresh-sized : (g : Geometry) (l : Lent) → Sized g l → Sized g (freshLent l)
@@ -75,10 +71,10 @@ unfolding freshLent routesOf tabulate any
 fresh-sound g l s = record {
   sized = fresh-sized g l s;
   listed = fresh-listed (length (l .list)) (s .whole);
-  serves = none-serves g _ (λ q h. getD-replicate {A = ℕ} (length (l .first)) q 32768 0 (rw (s .cells1) h)) (zeros (length (l .own2)))
-      (zeros (length (l .own3)));
-  clear2 = record { blank = λ q h e. zeros (length (l .second)) q };
-  clear3 = record { blank = λ q h e. zeros (length (l .third)) q };
-  counted1 = record { true-there = λ q h e. zeros (length (l .long1)) q ∙ sym (many-none [] (g .p1) q refl); blank = λ q h e. zeros (length (l .long1)) q };
-  counted2 = record { true-there = λ q h e. zeros (length (l .long2)) q ∙ sym (many-none [] (g .p2) _ refl); blank = λ q h e. zeros (length (l .long2)) q };
+  serves = none-serves g _ (λ q h. getD-replicate {A = ℕ} (length (l .first)) q 32768 0 (rw (s .cells1) h)) (getD-zeros (length (l .own2)))
+      (getD-zeros (length (l .own3)));
+  clear2 = record { blank = λ q h e. getD-zeros (length (l .second)) q };
+  clear3 = record { blank = λ q h e. getD-zeros (length (l .third)) q };
+  counted1 = record { true-there = λ q h e. getD-zeros (length (l .long1)) q ∙ sym (many-none [] (g .p1) q refl); blank = λ q h e. getD-zeros (length (l .long1)) q };
+  counted2 = record { true-there = λ q h e. getD-zeros (length (l .long2)) q ∙ sym (many-none [] (g .p2) _ refl); blank = λ q h e. getD-zeros (length (l .long2)) q };
 }

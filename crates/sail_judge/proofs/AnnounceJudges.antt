@@ -149,7 +149,7 @@ module _ (s : Sought) where
 
 -- ---- and once it is new, the list has room, and o tells which chunks are to be opened
 
-pub record Fitting : Type 0 where
+pub record RoomLeft : Type 0 where
   pub s : Sought
   pub new : s .b ≡ false
   pub room : s .t .count < length (s .l .list) / 8
@@ -157,10 +157,10 @@ pub record Fitting : Type 0 where
   pub opens : Opens (s .t .geometry) (standing (s .t) (s .l)) (s .l .own2) (s .r .addr) (s .r .len) o
 
 abbrev pub fitting : (s : Sought) → s .b ≡ false → s .t .count < length (s .l .list) / 8
-    → {o : Opening} → Opens (s .t .geometry) (standing (s .t) (s .l)) (s .l .own2) (s .r .addr) (s .r .len) o → Fitting
+    → {o : Opening} → Opens (s .t .geometry) (standing (s .t) (s .l)) (s .l .own2) (s .r .addr) (s .r .len) o → RoomLeft
 fitting s h f {o} e = record { s = s; new = h; room = f; o = o; opens = e }
 
-module _ (v : Fitting) where
+module _ (v : RoomLeft) where
   roomy : Roomy (v .s .t) (v .s .l) (v .s .r)
   roomy = record { proper = v .s .proper; new = sym (stands-is (v .s)) ∙ v .new; room = rw length-routes (v .room) }
 

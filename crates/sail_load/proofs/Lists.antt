@@ -12,9 +12,9 @@ use Rattle.routes.specs.Record.{written}
 use Rattle.routes.proofs.Rows.{length-routes, length-written, byte-written, zero-written, listed-written}
 use Rattle.sail_theory.specs.Calls.{inputRoutes}
 use Rattle.buffers.specs.Fill.{padded}
-use Rattle.sail_load.specs.Renew.{Readable}
+use Rattle.sail_load.specs.Renew.{WholeRecords}
 
-module _ (s : List ℕ) (bytes : (j : ℕ) → getD s j 0 < 256) (good : Readable s) where
+module _ (s : List ℕ) (bytes : (j : ℕ) → getD s j 0 < 256) (good : WholeRecords s) where
   abbrev n : ℕ
   n = length s / 8
 

@@ -31,7 +31,7 @@ use Rattle.sail_theory.specs.Calls.{Owners, ownersAfter, noOwners, inputRoutes}
 use Rattle.sail_theory.proofs.places.Places.{chunk-lt, live-owner}
 use Rattle.sail_theory.proofs.places.Pools.{length-pool, pool-shows}
 use Rattle.standing.proofs.ListParts.{any-some}
-use Rattle.sail.proofs.Fresh.{zeros}
+use Rattle.bits.proofs.Tabs.{getD-zeros}
 use Rattle.sail_theory.proofs.calls.Load.{Fronts, fronts-none, settles}
 use Rattle.buffers.specs.Fill.{padded}
 use Rattle.sail_counts.specs.Counted.{Counts}
@@ -144,8 +144,8 @@ module _ (t : Table) (l : Lent) (input : List ℕ) (w : Renewable t input l) whe
             };
             fits2 = ends .fits2;
             fits3 = ends .fits3;
-            zero2 = λ q. rw s2 (zeros (length (l .second)) q);
-            zero3 = λ q. rw s3 (zeros (length (l .third)) q);
+            zero2 = λ q. rw s2 (getD-zeros (length (l .second)) q);
+            zero3 = λ q. rw s3 (getD-zeros (length (l .third)) q);
           }
 
       pub bare : Bare g input (cells (l .first) second third own2 own3)
@@ -181,8 +181,8 @@ module _ (t : Table) (l : Lent) (input : List ℕ) (w : Renewable t input l) whe
             shows1 = rw (asked .is-first) (pool-shows rs (level1 g) (chunksOf own2) (bare .fits2));
             counts1 = many1;
             counts2 = many2;
-            zero1 = λ q. rw n1 (zeros (length (l .long1)) q);
-            zero2 = λ q. rw n2 (zeros (length (l .long2)) q);
+            zero1 = λ q. rw n1 (getD-zeros (length (l .long1)) q);
+            zero2 = λ q. rw n2 (getD-zeros (length (l .long2)) q);
           }
 
           pub renews : (long1 long2 : List ℕ) → Counts rs g own2 long1 long2 → length long1 ≡ length c1 → length long2 ≡ length c2

@@ -14,13 +14,13 @@ use Rattle.sail_theory.specs.Calls.{ownersAfter, noOwners, inputRoutes, lentOf}
 use Rattle.sail_theory.specs.Facts.{Loadable}
 
 -- whole good records
-pub record Readable (input : List ℕ) : Type 0 where
+pub record WholeRecords (input : List ℕ) : Type 0 where
   pub whole : length input ≡ length input / 8 * 8
   pub records : Records input (length input / 8)
 
 -- owners that fit the input's routes, and pools of zeros
 pub record Bare (g : Geometry) (input : List ℕ) (l : Cells) : Type 0 where
-  pub readable : Readable input
+  pub readable : WholeRecords input
   pub celled : Celled g l
   pub fits2 : Fits (inputRoutes input) (level1 g) (chunksOf (l .own2))
   pub fits3 : Fits (inputRoutes input) (level2 g (chunksOf (l .own2))) (chunksOf (l .own3))
@@ -29,7 +29,7 @@ pub record Bare (g : Geometry) (input : List ℕ) (l : Cells) : Type 0 where
 
 -- an input whose routes may be loaded
 pub record Renewable (t : Table) (input : List ℕ) (l : Lent) : Type 0 where
-  pub readable : Readable input
+  pub readable : WholeRecords input
   pub loadable : Loadable t l (inputRoutes input)
 
 -- what is then lent: as the input's routes ask, with the owners of announcing them in order

@@ -21,7 +21,7 @@ use Rattle.sail_theory.specs.Calls.{opening, ownersAfter, noOwners, inputRoutes
 use Rattle.sail.specs.Level.{Level, chunksOf, level1}
 use Rattle.sail_theory.specs.Facts.{Loadable}
 use Rattle.standing.proofs.ListParts.{good-next}
-use Rattle.sail.proofs.Fresh.{zeros}
+use Rattle.bits.proofs.Tabs.{getD-zeros}
 use Rattle.sail_theory.proofs.owners.Chunks.{chunk-is, chunk-le}
 use Rattle.sail_owners.proofs.LoadPass.{Passing, passing, settled-snoc, next-free, climbs1, climbs2}
 use Rattle.sail_owners.proofs.RisingOwners.{Climbs, step-had, step-new}
@@ -110,7 +110,7 @@ none-reached : (own : List ℕ) → own ≡ replicate (length own) 0 → PassRea
 none-reached own e = record { past = record { few = omega arith; used = λ j i. absurd (omega arith) }; last = go (below? 0 (length own)) }
   where
     go : (0 < length own) ⊎ (length own ≤ 0) → find own 0 ≡ 0
-    go (inl l) = chunk-is (chunksOf own) 0 0 l (ap (λ (x : List ℕ). getD x 0 0) e ∙ zeros (length own) 0) (λ j i. absurd (omega arith))
+    go (inl l) = chunk-is (chunksOf own) 0 0 l (ap (λ (x : List ℕ). getD x 0 0) e ∙ getD-zeros (length own) 0) (λ j i. absurd (omega arith))
     go (inr l) = omega (arith, chunk-le (chunksOf own) 0)
 
 module _ (g : Geometry) (input start2 start3 : List ℕ) (w : Ownable g input start2 start3) where

@@ -29,7 +29,7 @@ use Rattle.sail_theory.proofs.places.Places.{chunk-lt, live-owner, part-up}
 use Rattle.sail_theory.proofs.owners.StillFit.{chunk-found}
 use Rattle.sail_theory.proofs.owners.GrantKeep.{grant-had, grant-new, had?}
 use Rattle.sail_theory.proofs.owners.OpenAt.{OpenReady, open-stays, open-fits, open-new, not-long}
-use Rattle.sail.proofs.Fresh.{zeros}
+use Rattle.bits.proofs.Tabs.{getD-zeros}
 
 -- a chunk before one in use is in use, and its owner is smaller
 abbrev pub Rising : List ℕ → Type 0
@@ -239,4 +239,4 @@ module _ (xs : List Route) (r : Route) (v : Level) (own : List ℕ) (w : Climbs 
       open-new xs r v own (find own 0) (w .ready) h (not-long xs r v own (find own 0) (w .ready) b (last-new own q (w .rising) (topmost b) n))
 
 pub zero-rising : (n : ℕ) → Rising (replicate n 0)
-zero-rising n c c′ l e = absurd (omega (arith, zeros n c′))
+zero-rising n c c′ l e = absurd (omega (arith, getD-zeros n c′))

@@ -8,7 +8,7 @@ ghost use lib.Count.{ones};
 ghost use Rattle.bits.specs.Tab.{Tells};
 ghost use Rattle.tree_image.specs.Node.{bitsOf, childOf};
 ghost use Rattle.tree_same.specs.Order.{Order};
-ghost use Rattle.tree_formed.specs.Stretches.{Flagged, OwnBits, Own, EndsAt, Nodes, Begun, UpTo, NodesShaped};
+ghost use Rattle.tree_formed.specs.Stretches.{Flagged, OwnBits, Own, EndsAt, Nodes, Begun, NodesUpTo, NodesShaped};
 
 // How many children the word of a node names.
 pub fn children(word: u32) -> u32
@@ -75,7 +75,7 @@ fn off_own(word: u32) -> u32
 // How many faults the m nodes after the root have: 0 where there is none. A base is that of the node before and that node's own ones.
 fn faults(words: &[u32], m: usize) -> u32
     requires { ⌜ Begun (now words) m ⌝ }
-    ensures { λ r. ⌜ (r ≡ 0 → UpTo (now (words .entry)) m) × (UpTo (now (words .entry)) m → r ≡ 0) ⌝ }
+    ensures { λ r. ⌜ (r ≡ 0 → NodesUpTo (now (words .entry)) m) × (NodesUpTo (now (words .entry)) m → r ≡ 0) ⌝ }
 {
     let mut bad: u32 = 0;
     let mut i: usize = 0;

@@ -12,7 +12,7 @@ use Rattle.tree_image.specs.Image.{Node, node, kids, hopsOf, words, hops, image
 use Rattle.tree_image.specs.Done.{AllDone}
 use Rattle.tree_image.proofs.Parts.{before-zero, before-all}
 use Rattle.tree_image.proofs.Nodes.{up-next, ahead}
-use Rattle.tree_image.proofs.Holds.{zeros}
+use Rattle.bits.proofs.Tabs.{getD-zeros}
 use Rattle.tree_image.proofs.Filled.{all-filled}
 use Rattle.tree_build.specs.NodeRuns.{standsIn, hopIn, pathAt}
 use Rattle.tree_build.specs.Queue.{put3, Waits, nodesIn, nodeIn, hopsBefore, ImageRoom, State, ImageFilled}
@@ -49,8 +49,8 @@ module _ (s : List ℕ) (w h : ℕ) (room : ImageRoom s w h) (ws₀ hs : List �
     hop = sym (before-zero (hopsOf (hopIn s)) (nodesIn s));
     done = λ x u. absurd (omega arith);
     wait = λ x l u. let q : x ≡ 0 = omega arith in rw (q, root-is) waits;
-    rest = λ j u. ap (λ (y : List ℕ). getD y j 0) eq ∙ put3-other ws₀ 0 0 0 n j (inr u) ∙ ap (λ (y : List ℕ). getD y j 0) zw ∙ zeros w j;
-    blank = λ j u. ap (λ (y : List ℕ). getD y j 0) zh ∙ zeros h j;
+    rest = λ j u. ap (λ (y : List ℕ). getD y j 0) eq ∙ put3-other ws₀ 0 0 0 n j (inr u) ∙ ap (λ (y : List ℕ). getD y j 0) zw ∙ getD-zeros w j;
+    blank = λ j u. ap (λ (y : List ℕ). getD y j 0) zh ∙ getD-zeros h j;
   }
     where
       root-is : nodeIn s 0 ≡ node 0 0

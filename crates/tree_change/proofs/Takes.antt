@@ -75,16 +75,16 @@ module _ (ws hs : List ℕ) (a len : ℕ) (narrow : (j : ℕ) → getD ws j 0 < 
       go o (no-route e g k) u = (refl, refl)
       go o (taken-out e g k) u = absurd (true≢false u)
 
-  pub record Taken : Type 0 where
+  pub record TakenOut : Type 0 where
     pub prefix : properPrefix a len ≡ true
     pub image : wellFormed ws hs ≡ true
     pub stood : stands (keyOf a len) (routesHeld ws hs) ≡ true
     pub told : after ≡ imageIn rs′ ws hs (nodeNeed rs′ ∷ length rs′ ∷ [])
 
-  pub withdraw-taken : accepts (after .said) ≡ true → Taken
+  pub withdraw-taken : accepts (after .said) ≡ true → TakenOut
   withdraw-taken f = go after refl (withdraw-cases after .0 refl) f
     where
-      go : (o : ImageOut) → after ≡ o → Withdrawing ws hs a len o → accepts (o .said) ≡ true → Taken
+      go : (o : ImageOut) → after ≡ o → Withdrawing ws hs a len o → accepts (o .said) ≡ true → TakenOut
       go o q (no-prefix e) u = absurd (true≢false (sym u))
       go o q (no-image e g) u = absurd (true≢false (sym u))
       go o q (no-route e g k) u = absurd (true≢false (sym u))

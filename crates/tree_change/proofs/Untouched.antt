@@ -29,7 +29,7 @@ use Rattle.tree_change.specs.Changed.{unmarkedRoute, imageAnnounced, ima
 use Rattle.tree_change.specs.Cases.{ImageAsked, routesWith, ImageLeft}
 use Rattle.tree_change.proofs.ChangeReturns.{is-fine}
 use Rattle.tree_change.proofs.Cases.{its-fit, announce-put}
-use Rattle.tree_change.proofs.Takes.{Taken, withdraw-taken}
+use Rattle.tree_change.proofs.Takes.{TakenOut, withdraw-taken}
 use Rattle.tree_change.proofs.Fresh.{announce-left, change-sizes, change-holds}
 use Rattle.tree_change.proofs.Without.{out-again}
 use Rattle.tree_change.proofs.Frame.{place-shared, cells-shared}
@@ -118,7 +118,7 @@ module _ (ws hs : List ℕ) (a len h : ℕ) (narrow : (j : ℕ) → getD ws j 0 
   announce-hops-before j l = new-cells j l ∙ sym (old-cells (decided (stands (keyOf a len) rs)) j l)
 
 module _ (ws hs : List ℕ) (a len : ℕ) (narrow : (j : ℕ) → getD ws j 0 < 2 ^ 32) (ok : accepts (imageWithdrawn ws hs a len .said) ≡ true) where
-  taken : Taken ws hs a len narrow
+  taken : TakenOut ws hs a len narrow
   taken = withdraw-taken ws hs a len narrow ok
 
   pub withdraw-hops-before : (j : ℕ) → j < prefixPlace ws len (slot len a) → getD (imageWithdrawn ws hs a len .hops) j 0 ≡ getD hs j 0

@@ -26,16 +26,16 @@ use Rattle.tree_change.specs.Stages.{Descent}
 -- ---- step by step
 
 -- node x is the one of depth m of the path
-pub record Walked (ws : List ℕ) (n a x m : ℕ) : Type 0 where
+pub record WayDown (ws : List ℕ) (n a x m : ℕ) : Type 0 where
   pub inside : x < n
   pub at : x ≡ reached ws m (slot (4 * m) a)
   pub stands : leads ws m (slot (4 * m) a) ≡ true
 
-pub walk-start : (ws : List ℕ) (n a : ℕ) → Order ws n → a < 2 ^ 32 → Walked ws n a 0 0
+pub walk-start : (ws : List ℕ) (n a : ℕ) → Order ws n → a < 2 ^ 32 → WayDown ws n a 0 0
 unfolding reached leads
 walk-start ws n a o l = record { inside = omega (arith, o .whole); at = refl; stands = eq-eqb (slot 0 a) 0 (slot-zero 0 a l refl) }
 
-module _ (ws : List ℕ) (n a x m c y : ℕ) (o : Order ws n) (w : Walked ws n a x m) (fits : bitsOf ws x < 2 ^ 32) (deep : m < 8)
+module _ (ws : List ℕ) (n a x m c y : ℕ) (o : Order ws n) (w : WayDown ws n a x m) (fits : bitsOf ws x < 2 ^ 32) (deep : m < 8)
     (turn : c ≡ slot (4 * (m + 1)) a % 16) (set : isSet (bitsOf ws x) (16 + c) ≡ true) (place : y ≡ childAt (bitsOf ws x) (childOf ws x) c) where
   abbrev p : ℕ
   p = slot (4 * suc m) a
@@ -49,7 +49,7 @@ module _ (ws : List ℕ) (n a x m c y : ℕ) (o : Order ws n) (w : Walked ws n a
   its-node : x ≡ reached ws m (p / 16)
   its-node = w .at ∙ ap (reached ws m) (sym parent)
 
-  stepped : Walked ws n a y (suc m)
+  stepped : WayDown ws n a y (suc m)
   unfolding reached leads
   stepped = record {
     inside =
@@ -68,13 +68,13 @@ module _ (ws : List ℕ) (n a x m c y : ℕ) (o : Order ws n) (w : Walked ws n a
         (subst (λ (z : ℕ). isSet (bitsOf ws z) (16 + p % 16) ≡ true) its-node (subst (λ (d : ℕ). isSet (bitsOf ws x) (16 + d) ≡ true) its-turn set));
   }
 
-  pub walk-next : Walked ws n a y (m + 1)
-  walk-next = subst (Walked ws n a y) (sym (add-one m)) stepped
+  pub walk-next : WayDown ws n a y (m + 1)
+  walk-next = subst (WayDown ws n a y) (sym (add-one m)) stepped
 
-pub walk-end : (ws : List ℕ) (n a deep x m : ℕ) → Walked ws n a x m → deep ≤ m → m ≤ deep → Descent ws n a deep x m
+pub walk-end : (ws : List ℕ) (n a deep x m : ℕ) → WayDown ws n a x m → deep ≤ m → m ≤ deep → Descent ws n a deep x m
 walk-end ws n a deep x m w l u = record { upto = u; inside = w .inside; at = w .at; stands = w .stands; stop = λ v. absurd (omega arith) }
 
-pub walk-stop : (ws : List ℕ) (n a deep x m c : ℕ) → Walked ws n a x m → m < deep → c ≡ slot (4 * (m + 1)) a % 16 → isSet (bitsOf ws x) (16 + c) ≡ false
+pub walk-stop : (ws : List ℕ) (n a deep x m c : ℕ) → WayDown ws n a x m → m < deep → c ≡ slot (4 * (m + 1)) a % 16 → isSet (bitsOf ws x) (16 + c) ≡ false
     → Descent ws n a deep x m
 walk-stop ws n a deep x m c w l e f = record {
   upto = omega arith;

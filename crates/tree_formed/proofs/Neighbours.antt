@@ -15,7 +15,7 @@ use Rattle.bits.proofs.Bools.{below?, untrue}
 use Rattle.tree_image.specs.Node.{bitsOf, childOf, baseOf}
 use Rattle.tree_same.specs.Order.{exts, ints, Order}
 use Rattle.tree_formed.specs.WellFormed.{nodesUsed, wellFormed}
-use Rattle.tree_formed.specs.Stretches.{Flagged, OwnBits, Own, PassedOver, EndsAt, Nodes, Begun, UpTo, NodesShaped}
+use Rattle.tree_formed.specs.Stretches.{Flagged, OwnBits, Own, PassedOver, EndsAt, Nodes, Begun, NodesUpTo, NodesShaped}
 use Rattle.tree_formed.proofs.Meaning.{well-formed-is, is-ordered}
 use Rattle.tree_formed.proofs.Held.{exts-next, ints-next, exts-mono}
 use Rattle.tree_formed.proofs.TestReturns.{check-few}
@@ -68,8 +68,8 @@ ints-few ws (suc i) = omega (arith, ints-few ws i, ones-le 15 (bitsOf ws i % 2 ^
 
 -- `bad` is 0 exactly where the bases up to node i are right
 pub record Faulty (ws : List ℕ) (i bad : ℕ) : Type 0 where
-  pub is : bad ≡ 0 → UpTo ws i
-  pub of : UpTo ws i → bad ≡ 0
+  pub is : bad ≡ 0 → NodesUpTo ws i
+  pub of : NodesUpTo ws i → bad ≡ 0
   pub few : bad ≤ 3 * i
 
 pub faults-start : (ws : List ℕ) (m : ℕ) → Begun ws m → Faulty ws 0 0
@@ -136,7 +136,7 @@ module _ (ws : List ℕ) (narrow : (j : ℕ) → getD ws j 0 < 2 ^ 32) (i : ℕ)
     few = omega (arith, f .few, s .on-own .one, s .on-child .one, s .on-hop .one);
   })
     where
-      forth : UpTo ws i → a ≡ 0 → b ≡ 0 → c ≡ 0 → UpTo ws (suc i)
+      forth : NodesUpTo ws i → a ≡ 0 → b ≡ 0 → c ≡ 0 → NodesUpTo ws (suc i)
       forth u za zb zc =
           let q = sym next-child ∙ s .on-child .is zb ∙ sum-child (u .child i (omega arith)) (u .base i (omega arith)) in
           let r = sym next-base ∙ s .on-hop .is zc ∙ sum-hop (u .child i (omega arith)) (u .base i (omega arith)) in
@@ -146,7 +146,7 @@ module _ (ws : List ℕ) (narrow : (j : ℕ) → getD ws j 0 < 2 ^ 32) (i : ℕ)
             own = λ j x l. up-to (λ k. 0 < k → OwnBits (bitsOf ws k)) i (λ k v y. u .own k y v) (λ y. subst OwnBits next-bits (s .on-own .is za)) j l x;
           }
 
-      back : UpTo ws (suc i) → bad + (a + b + c) ≡ 0
+      back : NodesUpTo ws (suc i) → bad + (a + b + c) ≡ 0
       back u =
           let child-here = u .child i (omega arith) in
           let base-here = u .base i (omega arith) in
@@ -161,8 +161,8 @@ module _ (ws : List ℕ) (narrow : (j : ℕ) → getD ws j 0 < 2 ^ 32) (i : ℕ)
           }) in
           omega (arith, za, zb, zc, before)
 
-pub faults-end : (ws : List ℕ) (m i bad : ℕ) → i ≤ m → m ≤ i → Faulty ws i bad → (bad ≡ 0 → UpTo ws m) × (UpTo ws m → bad ≡ 0)
-faults-end ws m i bad a b f = let q : i ≡ m = omega arith in subst (λ (k : ℕ). (bad ≡ 0 → UpTo ws k) × (UpTo ws k → bad ≡ 0)) q (f .is, f .of)
+pub faults-end : (ws : List ℕ) (m i bad : ℕ) → i ≤ m → m ≤ i → Faulty ws i bad → (bad ≡ 0 → NodesUpTo ws m) × (NodesUpTo ws m → bad ≡ 0)
+faults-end ws m i bad a b f = let q : i ≡ m = omega arith in subst (λ (k : ℕ). (bad ≡ 0 → NodesUpTo ws k) × (NodesUpTo ws k → bad ≡ 0)) q (f .is, f .of)
 
 -- ---- the first n nodes
 
@@ -178,22 +178,22 @@ module _ (ws : List ℕ) (n : ℕ) (k : Nodes ws n) where
   unfolding ints
   order-base f = no-order ws n (λ o. f (o .0 .base 0 (k .some)))
 
-  order-up : Order ws n × Own ws n → UpTo ws (n - 1)
+  order-up : Order ws n × Own ws n → NodesUpTo ws (n - 1)
   order-up o = record {
     child = λ j l. o .0 .child j (omega (arith, k .some));
     base = λ j l. o .0 .base j (omega (arith, k .some));
     own = λ j x l. o .1 .each j x (omega (arith, k .some));
   }
 
-  module _ (r : ℕ) (of : UpTo ws (n - 1) → r ≡ 0) where
+  module _ (r : ℕ) (of : NodesUpTo ws (n - 1) → r ≡ 0) where
     pub order-faults : (r ≡ 0 → ⊥) → Tells false (Order ws n × Own ws n)
     order-faults f = no-order ws n (λ o. f (of (order-up o)))
 
-  module _ (r : ℕ) (is : r ≡ 0 → UpTo ws (n - 1)) (z : r ≡ 0) (x : ℕ) where
+  module _ (r : ℕ) (is : r ≡ 0 → NodesUpTo ws (n - 1)) (z : r ≡ 0) (x : ℕ) where
     pub order-end : x ≡ childOf ws (n - 1) + ones (bitsOf ws (n - 1) / 2 ^ 16) → Tells (eqb x n) (Order ws n × Own ws n)
     order-end ex = (λ e. forth (eqb-true x n e), λ o. eq-eqb x n (omega (arith, whole, o .0 .whole, later (n - 1) (omega (arith, k .some)), more)))
       where
-        u : UpTo ws (n - 1)
+        u : NodesUpTo ws (n - 1)
         u = is z
 
         last : suc (n - 1) ≡ n

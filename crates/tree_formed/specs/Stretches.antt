@@ -51,7 +51,7 @@ pub record Begun (ws : List ℕ) (m : ℕ) : Type 0 where
   pub base : baseOf ws 0 ≡ 0
 
 -- the bases of the nodes up to node i are those of the fixed order, and their own bitmaps are well formed
-pub record UpTo (ws : List ℕ) (i : ℕ) : Type 0 where
+pub record NodesUpTo (ws : List ℕ) (i : ℕ) : Type 0 where
   pub child : (j : ℕ) → j ≤ i → childOf ws j ≡ 1 + exts ws j
   pub base : (j : ℕ) → j ≤ i → baseOf ws j ≡ ints ws j
   pub own : (j : ℕ) → 0 < j → j ≤ i → OwnBits (bitsOf ws j)

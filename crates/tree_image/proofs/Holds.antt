@@ -12,6 +12,7 @@ use lib.Seq.{getD-append-add}
 use borrow.Author.Tests.{lt-ltb, le-ltb, ltb-true, ltb-false}
 use Rattle.bits.specs.Bit.{bitAt}
 use Rattle.bits.specs.Count.{bit, count}
+use Rattle.bits.proofs.Tabs.{getD-zeros}
 use Rattle.tree_image.specs.Node.{bitsOf, childOf, baseOf, childAt}
 use Rattle.tree_image.specs.Parts.{before, zeroPadded}
 use Rattle.tree_image.specs.Image.{Node, node, bitHop, child, inner, word, kids, hopsOf, nodes, words, hops}
@@ -27,15 +28,10 @@ pad-length n xs h = simp (length-append, length-replicate) (omega arith)
 pub pad-at : (n : ℕ) (xs : List ℕ) (i : ℕ) → i < length xs → getD (zeroPadded n xs) i 0 ≡ getD xs i 0
 pad-at n xs i h = List·getD-append xs (replicate (n - length xs) 0) 0 i h
 
-pub zeros : (k j : ℕ) → _≡_ {A = ℕ} (getD (replicate k 0) j 0) 0
-zeros zero j = refl
-zeros (suc k) zero = refl
-zeros (suc k) (suc j) = zeros k j
-
 pub pad-past : (n : ℕ) (xs : List ℕ) (j : ℕ) → length xs ≤ j → getD (zeroPadded n xs) j 0 ≡ 0
 pad-past n xs j l =
     let e : j ≡ length xs + (j - length xs) = omega arith in
-    ap (λ (k : ℕ). getD (zeroPadded n xs) k 0) e ∙ getD-append-add xs (replicate (n - length xs) 0) (j - length xs) 0 ∙ zeros (n - length xs) (j - length xs)
+    ap (λ (k : ℕ). getD (zeroPadded n xs) k 0) e ∙ getD-append-add xs (replicate (n - length xs) 0) (j - length xs) 0 ∙ getD-zeros (n - length xs) (j - length xs)
 
 bit-on : (b : Bool) → bit b ≡ 1 → b ≡ true
 bit-on true e = refl

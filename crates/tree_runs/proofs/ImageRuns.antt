@@ -129,35 +129,35 @@ module _ (s ws hs : List ℕ) (n k : ℕ) (b : Builds s ws hs n k) where
 
   -- ---- runs
 
-  pub record RunIs (cs : List ImageCall) : Type 0 where
+  pub record ImageRunIs (cs : List ImageCall) : Type 0 where
     pub left : ImageLeft (imageStandingAfter s ws hs cs) ws hs (imageAfter s ws hs cs)
     pub stands-so : (j : ℕ) → routeAt j (imageStandingAfter s ws hs cs) ≡ imageHeldByCalls s ws hs cs j
 
   -- the arrays as they are after a run are what is lent to the next call
-  lent-next : (cs : List ImageCall) → RunIs cs → Itself (imageAfter s ws hs cs .words) (imageAfter s ws hs cs .hops)
+  lent-next : (cs : List ImageCall) → ImageRunIs cs → Itself (imageAfter s ws hs cs .words) (imageAfter s ws hs cs .hops)
   lent-next cs w =
       let z = change-sizes (w .left) in
       let l = resized (sym (z .0)) (sym (z .1)) (w .left) in
       record { fit = l .fit; unmarked = l .unmarked; words = l .words; hops = l .hops }
 
-  next : (c : ImageCall) (cs : List ImageCall) → RunIs cs → ImageLeaves (imageAfter s ws hs cs .words) (imageAfter s ws hs cs .hops) c
+  next : (c : ImageCall) (cs : List ImageCall) → ImageRunIs cs → ImageLeaves (imageAfter s ws hs cs .words) (imageAfter s ws hs cs .hops) c
       (imageAfter s ws hs (c ∷ cs))
   unfolding imageAfter
   next c cs w = leaves _ _ (lent-next cs w) c
 
   -- what stands for a prefix, if the call is accepted and if it is not
-  either : (c : ImageCall) (cs : List ImageCall) → RunIs cs → (b : Bool) (j : ℕ)
+  either : (c : ImageCall) (cs : List ImageCall) → ImageRunIs cs → (b : Bool) (j : ℕ)
       → routeAt j (cond b (imageRoutesAfter c (imageStandingAfter s ws hs cs)) (imageStandingAfter s ws hs cs)) ≡ cond b
       (imageHeldAfter c j (imageHeldByCalls s ws hs cs j)) (imageHeldByCalls s ws hs cs j)
   either c cs w true j = says-so c (imageStandingAfter s ws hs cs) j ∙ ap (imageHeldAfter c j) (w .stands-so j)
   either c cs w false j = w .stands-so j
 
-  run-is : (cs : List ImageCall) → RunIs cs
+  run-is : (cs : List ImageCall) → ImageRunIs cs
   unfolding imageAfter imageHeldByCalls
   run-is [] = record { left = rw (change-stands begun) begun; stands-so = λ j. ap (routeAt j) (change-stands begun) }
   run-is (c ∷ cs) = go (run-is cs)
     where
-      go : RunIs cs → RunIs (c ∷ cs)
+      go : ImageRunIs cs → ImageRunIs (c ∷ cs)
       go w =
           let z = change-sizes (w .left) in
           let m = next c cs w in

@@ -20,7 +20,8 @@ use Rattle.sail.specs.Sizes.{Sized}
 use Rattle.sail.specs.Sound.{freshTable, freshLent}
 use Rattle.sail.specs.declared.geometry.Geometry.{Geometry}
 use Rattle.sail.specs.declared.table.Table.{Table}
-use Rattle.sail.proofs.Fresh.{zeros, best-none}
+use Rattle.sail.proofs.Fresh.{best-none}
+use Rattle.bits.proofs.Tabs.{getD-zeros}
 use Rattle.sail_theory.specs.Render.{pool, longs, Fits, roomOf}
 use Rattle.sail_theory.specs.Calls.{noOwners, makeSaid, Out, lentOf, made}
 use Rattle.sail_theory.specs.Facts.{TableHolds}
@@ -35,9 +36,9 @@ use Rattle.sail_theory.proofs.calls.Outcomes.{outcome-said, outcome-ref
 pub no-fits : (v : Level) (m : ℕ) → Fits [] v (chunksOf (replicate m 0))
 unfolding any
 no-fits v m = record {
-  lies = λ c q l e. absurd (omega (arith, zeros m c));
+  lies = λ c q l e. absurd (omega (arith, getD-zeros m c));
   has = λ q l e d. absurd (false≢true d);
-  once = λ c q l e. absurd (omega (arith, zeros m c));
+  once = λ c q l e. absurd (omega (arith, getD-zeros m c));
 }
 
 -- an array of one number
@@ -61,7 +62,7 @@ module _ (t : Table) (l : Lent) (z : Sized (t .geometry) l) where
   free-pool v m p k n e =
       let w : Level = below v (chunksOf (replicate m 0)) p in
       let all : w .places ≡ n = ap (λ (x : ℕ). x * 2 ^ (p - v .bits)) (length-replicate m 0) ∙ sym e in
-      constant 0 n (pool [] w k) (length-pool [] w k ∙ all) (λ q h. pool-clear [] w k .blank q (rw all h) (rw zeros))
+      constant 0 n (pool [] w k) (length-pool [] w k ∙ all) (λ q h. pool-clear [] w k .blank q (rw all h) (rw getD-zeros))
 
   -- nothing is counted there
   free-longs : (v : Level) (m p n : ℕ) → n ≡ m * 2 ^ (p - v .bits) → replicate n 0 ≡ longs [] (below v (chunksOf (replicate m 0)) p)
@@ -69,7 +70,7 @@ module _ (t : Table) (l : Lent) (z : Sized (t .geometry) l) where
       let w : Level = below v (chunksOf (replicate m 0)) p in
       let all : w .places ≡ n = ap (λ (x : ℕ). x * 2 ^ (p - v .bits)) (length-replicate m 0) ∙ sym e in
       let counted = tallies-counted [] (w .bits) (w .places) (w .live) (w .at) in
-      constant 0 n (longs [] w) (length-tallies [] _ _ _ _ ∙ all) (λ q h. counted .blank q (rw all h) (rw zeros))
+      constant 0 n (longs [] w) (length-tallies [] _ _ _ _ ∙ all) (λ q h. counted .blank q (rw all h) (rw getD-zeros))
 
   -- array by array: no cell is deep where there are no routes, no place below the first level is live, and nothing is counted
   pub fresh-rendered : freshLent l ≡ lentOf t l [] (noOwners l)

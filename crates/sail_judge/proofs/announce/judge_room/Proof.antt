@@ -1,7 +1,7 @@
 -- `sail_judge::announce::judge_room`: each way has its law.
 use borrow.Author.Needs.{needs}
 use Rattle.sail_chunks.proofs.Trails.{serving-of}
-use Rattle.sail_judge.proofs.AnnounceJudges.{Sought, sought, Fitting, fitting, room-stands, room-full, room-second, room-third, room-enough}
+use Rattle.sail_judge.proofs.AnnounceJudges.{Sought, sought, RoomLeft, fitting, room-stands, room-full, room-second, room-third, room-enough}
 use Rattle.sail_judge.proofs.announce.judge_room.Statement.{statement}
 use Rattle.sail_judge.proofs.announce.judge_room.Tie as tie
 
@@ -19,7 +19,7 @@ looked-up c =
     let named : tie.After-key-of = search in
     sought (begun named .pre) (named .key-of .ensures .0) (placed .place .ensures .0) (c .stands-at .ensures)
 
-abbrev fits : tie.After-to-open → Fitting
+abbrev fits : tie.After-to-open → RoomLeft
 fits c =
     let else2 : tie.Else2 = search in
     let else1 : tie.Else1 = search in

@@ -4,12 +4,12 @@ use Prim.Native.Nat.{_-_, _≤_}
 use native.Mathlib.Omega.{arith}
 use Rattle.tree_formed.proofs.Meaning.{not-true}
 use Rattle.tree_formed.proofs.Steps.{not-failed}
-use Rattle.tree_change.proofs.Ways.{Walked, walk-start, walk-next, walk-end, walk-stop}
+use Rattle.tree_change.proofs.Ways.{WayDown, walk-start, walk-next, walk-end, walk-stop}
 use Rattle.tree_change.proofs.path.descend.Statement.{statement}
 use Rattle.tree_change.proofs.path.descend.Tie as tie
 
 abbrev Inv-loop : tie.InvT-loop
-Inv-loop words n addr deep at₀ depth₀ at depth = Walked words n addr at depth × (depth ≤ deep)
+Inv-loop words n addr deep at₀ depth₀ at depth = WayDown words n addr at depth × (depth ≤ deep)
 
 abbrev μ-loop : tie.MeasureT-loop
 μ-loop words n addr deep at₀ depth₀ at depth = deep - depth
