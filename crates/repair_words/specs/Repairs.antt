@@ -1,4 +1,4 @@
--- What the exported repair answers and leaves.
+-- What a repair with words beside it answers and leaves.
 use mathlib.Core.Bool.{cond}
 use mathlib.Core.List.{List}
 use Prim.Native.Nat.{ℕ}

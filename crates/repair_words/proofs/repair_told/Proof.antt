@@ -1,10 +1,10 @@
--- `cards::repairs::gh_repair`. The sizes and the words are judged first; then it is what the repair says and leaves.
+-- The sizes and the words are judged first; then it is what the repair says and leaves.
 use mathlib.Core.Path.{refl, sym, _∙_}
 use borrow.Author.Needs.{needs}
 use Rattle.packing_repairs.proofs.Putting.{fault-none}
-use Rattle.cards.proofs.Putting.{repair-off, repair-on}
-use Rattle.cards.proofs.repairs.gh_repair.Statement.{statement}
-use Rattle.cards.proofs.repairs.gh_repair.Tie as tie
+use Rattle.repair_words.proofs.RepairReturns.{repair-off, repair-on}
+use Rattle.repair_words.proofs.repair_told.Statement.{statement}
+use Rattle.repair_words.proofs.repair_told.Tie as tie
 
 -- Places, each seen from a later one: after `words_fault`; where nothing speaks against it; after `repair`; after `tell`.
 abbrev judged : tie.Else1 → tie.After-words-fault
@@ -34,8 +34,8 @@ returns-2 c =
     repair-on _ _ _ _ _ (w .before .sizes .ensures) (w .words-fault .ensures) (e .if1 .left)
     _ _ _ (r .repair .ensures) _ (told .tell .ensures) _ (c .repaired .ensures)
 
-pub gh-repair-spec : {M : Type 1} → statement M
-gh-repair-spec =
+pub repair-told-spec : {M : Type 1} → statement M
+repair-told-spec =
     tie.close
     (tie.spec
     (λ c κs. search needs)
