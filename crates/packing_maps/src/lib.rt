@@ -1,6 +1,6 @@
 // The answers of the calls on bit maps.
-use basic::check::BasicAnswer;
-use basic::lookup::BasicFound;
+use basic::answers::BasicAnswer;
+use basic::answers::BasicFound;
 use bits::widen::byte_to_long;
 use bits::widen::half_to_long;
 use packing::refused_at;

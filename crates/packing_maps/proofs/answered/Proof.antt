@@ -3,7 +3,7 @@ use mathlib.Core.Path.{ap}
 use native.Mathlib.Omega.{arith}
 use Rattle.routes.specs.Said.{packed}
 use Rattle.basic.specs.Calls.{meansBasicAnswer}
-use Rattle.basic.specs.declared.check.BasicAnswer.{BasicAnswer}
+use Rattle.basic.specs.declared.answers.BasicAnswer.{BasicAnswer}
 use Rattle.packing.specs.Pack.{packNone}
 use borrow.Author.Needs.{needs}
 use Rattle.packing_maps.proofs.answered.Statement.{statement}

@@ -3,7 +3,7 @@ use mathlib.Core.Path.{ap}
 use native.Mathlib.Omega.{arith}
 use Rattle.routes.specs.Said.{packed}
 use Rattle.basic.specs.Calls.{meansBasicFound, packHop}
-use Rattle.basic.specs.declared.lookup.BasicFound.{BasicFound}
+use Rattle.basic.specs.declared.answers.BasicFound.{BasicFound}
 use borrow.Author.Needs.{needs}
 use Rattle.packing_maps.proofs.hop_found.Statement.{statement}
 use Rattle.packing_maps.proofs.hop_found.Tie as tie

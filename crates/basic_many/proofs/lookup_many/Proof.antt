@@ -1,9 +1,9 @@
 -- One law for each arm of the check.
 use Rattle.basic.proofs.Checks.{good-told}
-use Rattle.basic.proofs.LookupReturns.{many-good, many-refused, many-number}
+use Rattle.basic_many.proofs.ManyReturns.{many-good, many-refused, many-number}
 use borrow.Author.Needs.{needs}
-use Rattle.basic.proofs.many.lookup_many.Statement.{statement}
-use Rattle.basic.proofs.many.lookup_many.Tie as tie
+use Rattle.basic_many.proofs.lookup_many.Statement.{statement}
+use Rattle.basic_many.proofs.lookup_many.Tie as tie
 
 check-requires : tie.Need-check-requires
 check-requires c κs = search needs

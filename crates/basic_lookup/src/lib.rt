@@ -1,7 +1,8 @@
-// Lookup: down from the longest length, first in the record list, then in the maps.
-use crate::check::Ready;
-use crate::check::check;
-use crate::maps::mapped;
+// Lookup in bit maps: down from the longest length, first in the record list, then in the maps.
+use basic::answers::BasicFound;
+use basic::check::Ready;
+use basic::check::check;
+use basic::maps::mapped;
 use bits::widen::half_to_word;
 use longest::longest_record;
 use routes::input::hop_ok;
@@ -11,18 +12,10 @@ ghost use Prim.Native.Nat.{_≤_};
 ghost use lib.ListN.{length};
 ghost use Rattle.routes.specs.Record.{GoodInput, routesIn};
 ghost use Rattle.standing.specs.Down.{down};
 ghost use Rattle.basic.specs.Maps.{MapSizes};
 ghost use Rattle.basic.specs.Walk.{mapped, basicWalk, metSaid};
 ghost use Rattle.basic.specs.Calls.{meansBasicFound};
 ghost use Rattle.basic.specs.Contract.{MeetsBasicLookup};
-
-// What a lookup finds: a hop, no route, or a refusal.
-pub enum BasicFound {
-    Hop(u16),
-    NoRoute,
-    RefusedAt(u8, usize),
-    Refused(u8),
-}
 
 // The levels 16 to 0: 1 + the hop of the first set bit; 0 where none is set.
 fn down(bits: &[u8], cells: &[u16], addr: u32) -> u32

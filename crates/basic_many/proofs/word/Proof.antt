@@ -1,8 +1,8 @@
 -- One law for each case of the answer.
 use borrow.Author.Needs.{needs}
-use Rattle.basic.proofs.LookupReturns.{word-hop, word-none, word-index, word-number}
-use Rattle.basic.proofs.many.word.Statement.{statement}
-use Rattle.basic.proofs.many.word.Tie as tie
+use Rattle.basic_many.proofs.ManyReturns.{word-hop, word-none, word-index, word-number}
+use Rattle.basic_many.proofs.word.Statement.{statement}
+use Rattle.basic_many.proofs.word.Tie as tie
 
 enum-known-f : tie.Need-enum-known-f
 enum-known-f c = search needs

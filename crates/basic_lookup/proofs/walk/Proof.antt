@@ -1,8 +1,8 @@
 -- The longest record of 17 bits or more decides; where there is none, the maps do.
-use Rattle.basic.proofs.Walks.{walk-long, walk-short}
+use Rattle.basic_lookup.proofs.WalkReturns.{walk-long, walk-short}
 use borrow.Author.Needs.{needs}
-use Rattle.basic.proofs.lookup.walk.Statement.{statement}
-use Rattle.basic.proofs.lookup.walk.Tie as tie
+use Rattle.basic_lookup.proofs.walk.Statement.{statement}
+use Rattle.basic_lookup.proofs.walk.Tie as tie
 
 longest-record-requires : tie.Need-longest-record-requires
 longest-record-requires c κs = search needs

@@ -1,8 +1,8 @@
 -- One law for each return.
-use Rattle.basic.proofs.LookupReturns.{told-none, told-hop, told-broken}
+use Rattle.basic_lookup.proofs.LookupReturns.{told-none, told-hop, told-broken}
 use borrow.Author.Needs.{needs}
-use Rattle.basic.proofs.lookup.found_of.Statement.{statement}
-use Rattle.basic.proofs.lookup.found_of.Tie as tie
+use Rattle.basic_lookup.proofs.found_of.Statement.{statement}
+use Rattle.basic_lookup.proofs.found_of.Tie as tie
 
 returns : tie.Need-returns
 returns c = search told-none

@@ -1,9 +1,9 @@
 -- One law for each arm of the check.
 use Rattle.basic.proofs.Checks.{good-told}
-use Rattle.basic.proofs.LookupReturns.{look-good, look-refused, look-number}
+use Rattle.basic_lookup.proofs.LookupReturns.{look-good, look-refused, look-number}
 use borrow.Author.Needs.{needs}
-use Rattle.basic.proofs.lookup.lookup.Statement.{statement}
-use Rattle.basic.proofs.lookup.lookup.Tie as tie
+use Rattle.basic_lookup.proofs.lookup.Statement.{statement}
+use Rattle.basic_lookup.proofs.lookup.Tie as tie
 
 check-requires : tie.Need-check-requires
 check-requires c κs = search needs

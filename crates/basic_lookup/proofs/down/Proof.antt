@@ -2,11 +2,11 @@
 use mathlib.Core.Path.{_≡_, refl}
 use Prim.Native.Nat.{_≤_}
 use Rattle.standing.specs.Down.{down}
 use Rattle.basic.specs.Walk.{mapped}
-use Rattle.basic.proofs.Walks.{turn-some, turn-none, turns-done}
+use Rattle.basic_lookup.proofs.WalkReturns.{turn-some, turn-none, turns-done}
 use native.Mathlib.Omega.{arith}
-use Rattle.basic.proofs.lookup.down.Statement.{statement}
-use Rattle.basic.proofs.lookup.down.Tie as tie
+use Rattle.basic_lookup.proofs.down.Statement.{statement}
+use Rattle.basic_lookup.proofs.down.Tie as tie
 
 abbrev Inv-loop : tie.InvT-loop
 Inv-loop bits cells addr l₀ l = (l ≤ 17) × (down (mapped bits cells addr) 17 ≡ down (mapped bits cells addr) l)

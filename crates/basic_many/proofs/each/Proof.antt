@@ -2,13 +2,13 @@
 use mathlib.Core.Path.{_≡_}
 use Prim.Native.Nat.{ℕ, _-_, _≤_, _<_}
 use lib.ListN.{length, getD, length-set}
 use Rattle.basic.specs.Calls.{basicSaid, hopWord}
-use Rattle.basic.proofs.LookupReturns.{each-word, each-refused, each-done}
+use Rattle.basic_many.proofs.ManyReturns.{each-word, each-refused, each-done}
 use Rattle.bits.proofs.Tabs.{stored-more}
 use borrow.Author.Needs.{needs}
 use native.Mathlib.Omega.{arith}
-use Rattle.basic.proofs.many.each.Statement.{statement}
-use Rattle.basic.proofs.many.each.Tie as tie
+use Rattle.basic_many.proofs.each.Statement.{statement}
+use Rattle.basic_many.proofs.each.Tie as tie
 
 abbrev Inv-loop : tie.InvT-loop
 Inv-loop input n bits cells addrs out₀ m k₀ out k = (k ≤ m) × (length out ≡ m)

@@ -1,18 +1,18 @@
-// Many lookups: input and sizes are checked once, and each word is what one lookup answers.
-use crate::check::BasicAnswer;
-use crate::check::Ready;
-use crate::check::check;
-use crate::lookup::BasicFound;
-use crate::lookup::found_of;
-use crate::lookup::walk;
+// Many lookups in bit maps: input and sizes are checked once, and each word is what one lookup answers.
+use basic::answers::BasicAnswer;
+use basic::answers::BasicFound;
+use basic::check::Ready;
+use basic::check::check;
+use basic_lookup::found_of;
+use basic_lookup::walk;
 use bits::widen::byte_to_word;
 use bits::widen::half_to_word;
 ghost use mathlib.Core.Path.{_≡_};
 ghost use lib.ListN.{length};
 ghost use Rattle.routes.specs.Record.{GoodInput};
 ghost use Rattle.basic.specs.Maps.{MapSizes};
 ghost use Rattle.basic.specs.Calls.{meansBasicFound, meansBasicAnswer, hopWord, many, manyOf};
 ghost use Rattle.basic.specs.Contract.{MeetsBasicMany};
 
 // An answer as a word: the hop in bits 16 to 31, or the refusal's number in bits 0 to 7, with bit 8 set where it has an index.
 fn word(f: BasicFound) -> u32
