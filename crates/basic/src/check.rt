@@ -11,13 +11,6 @@ pub enum Ready {
     Refused(u8),
 }
 
-// What a call that fills arrays answers.
-pub enum BasicAnswer {
-    Done,
-    RefusedAt(u8, usize),
-    Refused(u8),
-}
-
 // Whether the arrays have 16,384 bytes and 131,071 cells.
 fn sizes(bits: usize, cells: usize) -> bool
     ensures { λ r. ⌜ r ≡ mapSizesFit bits cells ⌝ }

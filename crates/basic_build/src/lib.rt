@@ -1,5 +1,5 @@
 // The build of the maps from a record input: the hops of the short routes go into their cells, then the bits follow from the cells.
-use basic::check::BasicAnswer;
+use basic::answers::BasicAnswer;
 use basic::check::Ready;
 use basic::check::check;
 use basic::maps::map_place;

@@ -31,10 +31,10 @@ use Rattle.tree_change.proofs.Takes.{withdraw-cases, left-fit}
 use Rattle.packing.specs.Pack.{packBuilt}
 use Rattle.packing.specs.Unpack.{unpackBuilt, FitsWord, BuiltFits}
 use Rattle.packing.specs.Parts.{parts, builtParts}
-use Rattle.packing_images.specs.ImageAnswers.{packImage, unpackImage, ImageFits, imageParts, Words32}
+use Rattle.packing.specs.ImageAnswers.{packImage, unpackImage, ImageFits, imageParts, Words32}
 use Rattle.packing.proofs.Unpacks.{built-read}
 use Rattle.packing.proofs.Parts.{built-parts}
-use Rattle.packing_images.proofs.ImageAnswers.{image-read, image-parts}
+use Rattle.packing.proofs.ImageAnswers.{image-read, image-parts}
 use Rattle.cards.specs.Cards.{imageCard, imageCardOf}
 use Rattle.cards.specs.Images.{changedCardOf}
 use Rattle.cards.specs.Narrow.{AlikeOver}

@@ -1,6 +1,6 @@
 // List A's maps, changed by a fault.
 use crate::say;
-use basic::many::lookup_many;
+use basic_many::lookup_many;
 use vectors_shared::list;
 use vectors_shared::print;
 

@@ -1,6 +1,6 @@
 // Arrays of other sizes, and inputs that are refused. A refusal writes nothing.
 use crate::say;
-use basic::many::lookup_many;
+use basic_many::lookup_many;
 use vectors_shared::list;
 use vectors_shared::print;
 

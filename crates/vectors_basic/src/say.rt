@@ -1,8 +1,8 @@
 // Answers and maps, as words.
-use basic::check::BasicAnswer;
-use basic::lookup::BasicFound;
-use basic::lookup::lookup;
+use basic::answers::BasicAnswer;
+use basic::answers::BasicFound;
 use basic_build::build;
+use basic_lookup::lookup;
 use vectors_shared::print;
 
 // A refusal, and the record that it meets.
