@@ -3,14 +3,14 @@ use bits::widen::byte_to_long;
 use bits::widen::word_to_long;
 use packing::flag;
 use packing::narrow;
-use tree_change::TreeAnnounced;
-use tree_change::TreeWithdrawn;
 use tree_formed::Tested;
+use tree_theory::TreeAnnounced;
+use tree_theory::TreeWithdrawn;
 ghost use mathlib.Core.Path.{_≡_};
 ghost use Prim.Native.Nat.{_+_, _*_, _%_, _^_};
 ghost use Rattle.bits.specs.Count.{bit};
 ghost use Rattle.tree_formed.specs.Answers.{meansTested};
-ghost use Rattle.tree_change.specs.Changed.{meansTreeAnnounced, meansTreeWithdrawn};
+ghost use Rattle.tree_theory.specs.Changed.{meansTreeAnnounced, meansTreeWithdrawn};
 ghost use Rattle.packing.specs.Pack.{packBuilt};
 ghost use Rattle.packing_images.specs.ImageAnswers.{packImage};
 

@@ -12,7 +12,7 @@ use Rattle.routes.specs.Input.{properPrefix, hopFine}
 use Rattle.routes.specs.Route.{keyOf, Prefix, Fine}
 use Rattle.routes.specs.Said.{accepted}
 use Rattle.routes.specs.declared.Route.{Route}
-use Rattle.routes.proofs.Meaning.{prefix-true, hop-true}
+use Rattle.routes.proofs.Meaning.{prefix-true}
 use Rattle.standing.specs.Standing.{stands, insert, remove}
 use Rattle.standing.proofs.Standing.{insert-replaces}
 use Rattle.standing.proofs.Changed.{insert-adds, remove-takes}
@@ -20,6 +20,8 @@ use Rattle.tree_image.specs.Node.{bitsOf, isSet}
 use Rattle.tree_image.specs.Image.{nodeStands, hopFor, nodeNeed, imageOf}
 use Rattle.tree_image.proofs.Needs.{hops-need}
 use Rattle.tree_build.specs.Built.{ImageOut, imageOut, madeOf}
+use Rattle.tree_room.specs.Lack.{Lack, short-nodes, short-hops, has-room}
+use Rattle.tree_room.proofs.Room.{room-is}
 use Rattle.tree_same.specs.Order.{ints, Order}
 use Rattle.tree_same.specs.Listed.{routesHeld}
 use Rattle.tree_same.proofs.Holdings.{nodes-are, hops-are}
@@ -29,12 +31,13 @@ use Rattle.tree_formed.proofs.Steps.{not-failed}
 use Rattle.tree_formed.proofs.Held.{held-good, held-holds}
 use Rattle.tree_formed.proofs.Exact.{made-fits}
 use Rattle.tree_formed.proofs.TestReturns.{check-broken, check-formed, check-hops-in, check-few}
-use Rattle.tree_change.specs.declared.TreeAnnounced.the-variants as announced
-use Rattle.tree_change.specs.declared.TreeWithdrawn.the-variants as withdrawn
-use Rattle.tree_change.specs.Changed.{meansTreeAnnounced, meansTreeWithdrawn, unmarkedRoute, saying, putTo, takenFrom, imageAnnounced, imageWithdrawn}
-use Rattle.tree_change.specs.Stages.{Found, Descent, BitOf, ImageFormed, New, Addable, Standing, Become}
-use Rattle.tree_change.proofs.Places.{shaped, there-is, there-at}
-use Rattle.tree_change.proofs.Needs.{fewer-nodes, new-need}
+use Rattle.tree_theory.specs.declared.TreeAnnounced.the-variants as announced
+use Rattle.tree_theory.specs.declared.TreeWithdrawn.the-variants as withdrawn
+use Rattle.tree_theory.specs.Changed.{meansTreeAnnounced, meansTreeWithdrawn, unmarkedRoute, saying, putTo, takenFrom, imageAnnounced, imageWithdrawn}
+use Rattle.tree_theory.specs.Stages.{Found, Descent, BitOf, ImageFormed, New, Addable, Standing, Become}
+use Rattle.tree_theory.proofs.Places.{shaped, there-is, there-at}
+use Rattle.tree_theory.proofs.Needs.{fewer-nodes, new-need}
+use Rattle.tree_theory.proofs.Cases.{is-fine}
 
 -- what a change that fits leaves and says
 module _ {rs : List Route} {ws hs ws′ hs′ : List ℕ} {n : ℕ} (b : Become rs ws hs ws′ hs′ n) (fit : n ≤ length ws / 3)
@@ -81,31 +84,38 @@ module _ {ws hs : List ℕ} {n k x m a len h b : ℕ} (r : New ws hs n k x m a l
     unfolding putTo
     put-some = rw (le-ltb 4096 (length (insert r₁ rs)) (omega (arith, one-more)), r .absent) refl
 
-    pub told-eleven : (more : ℕ) → more ≡ len / 4 - m → length ws / 3 < n + more → imageOut (meansTreeAnnounced (announced.Refused 11)) ws hs
-        ≡ putTo rs r₁ ws hs
-    unfolding meansTreeAnnounced madeOf
-    told-eleven more e u = sym (put-some ∙ rw (lt-ltb (length ws / 3) (nodeNeed (insert r₁ rs)) (omega (arith, new-need r))) refl)
-
-    module _ (more : ℕ) (e : more ≡ len / 4 - m) (u : n + more ≤ length ws / 3) where
-      pub told-twelve : length hs ≤ k → imageOut (meansTreeAnnounced (announced.Refused 12)) ws hs ≡ putTo rs r₁ ws hs
+    module _ (more : ℕ) (e : more ≡ len / 4 - m) where
+      told-eleven : length ws / 3 < n + more → imageOut (meansTreeAnnounced (announced.Refused 11)) ws hs ≡ putTo rs r₁ ws hs
       unfolding meansTreeAnnounced madeOf
-      told-twelve v =
+      told-eleven u = sym (put-some ∙ rw (lt-ltb (length ws / 3) (nodeNeed (insert r₁ rs)) (omega (arith, new-need r))) refl)
+
+      told-twelve : n + more ≤ length ws / 3 → length hs < k + 1 → imageOut (meansTreeAnnounced (announced.Refused 12)) ws hs ≡ putTo rs r₁ ws hs
+      unfolding meansTreeAnnounced madeOf
+      told-twelve u v =
           let n = le-ltb (length ws / 3) (nodeNeed (insert r₁ rs)) (omega (arith, new-need r)) in
           let k = lt-ltb (length hs) (length (insert r₁ rs)) (omega (arith, one-more)) in
           sym (put-some ∙ rw (n, k) refl)
 
-      pub add-ready : k < length hs → Addable ws hs n k x m a len h b
-      add-ready v = record { new = r; words-room = omega arith; hops-room = omega arith }
+      pub told-lack : {f : ℕ} → Lack (length ws) (length hs) (n + more) (k + 1) f → (f ≡ 0 → ⊥)
+          → imageOut (meansTreeAnnounced (announced.Refused f)) ws hs ≡ putTo rs r₁ ws hs
+      told-lack (short-nodes u) z = told-eleven u
+      told-lack (short-hops u v) z = told-twelve u v
+      told-lack (has-room u v) z = absurd (z refl)
 
-      pub add-few : {ws′ hs′ : List ℕ} {nodes : ℕ} → Become (insert r₁ rs) ws hs ws′ hs′ nodes → (nodes < 2 ^ 32) × (k + 1 < 2 ^ 32)
-      add-few g = (omega (arith, g .nodes, new-need r, r .found .few-nodes, r .fine .prefix .len-ok), omega arith)
+      module _ {f : ℕ} (lack : Lack (length ws) (length hs) (n + more) (k + 1) f) (none : f ≡ 0) where
+        pub add-ready : Addable ws hs n k x m a len h b
+        add-ready = let room = room-is lack none in record { new = r; words-room = omega (arith, e, room .0); hops-room = room .1 }
 
-      pub told-added : {ws′ hs′ : List ℕ} {nodes : ℕ} → k < length hs → Become (insert r₁ rs) ws hs ws′ hs′ nodes → (p q : ℕ) → p ≡ nodes → q ≡ k + 1
-          → imageOut (meansTreeAnnounced (announced.Added p q)) ws′ hs′ ≡ putTo rs r₁ ws hs
-      unfolding meansTreeAnnounced
-      told-added {ws′} {hs′} {nodes} v g p q ep eq =
-          ap₂ (λ (y z : ℕ). imageOut (accepted (0 ∷ y ∷ z ∷ [])) ws′ hs′) ep eq
-          ∙ made-is g (omega (arith, g .nodes, new-need r)) (k + 1) (sym one-more) (omega arith) 0 ∙ sym put-some
+        pub add-few : {ws′ hs′ : List ℕ} {nodes : ℕ} → Become (insert r₁ rs) ws hs ws′ hs′ nodes → (nodes < 2 ^ 32) × (k + 1 < 2 ^ 32)
+        add-few g = (omega (arith, g .nodes, new-need r, r .found .few-nodes, r .fine .prefix .len-ok), omega arith)
+
+        pub told-added : {ws′ hs′ : List ℕ} {nodes : ℕ} → Become (insert r₁ rs) ws hs ws′ hs′ nodes → (p q : ℕ) → p ≡ nodes → q ≡ k + 1
+            → imageOut (meansTreeAnnounced (announced.Added p q)) ws′ hs′ ≡ putTo rs r₁ ws hs
+        unfolding meansTreeAnnounced
+        told-added {ws′} {hs′} {nodes} g p q ep eq =
+            let room = room-is lack none in
+            ap₂ (λ (y z : ℕ). imageOut (accepted (0 ∷ y ∷ z ∷ [])) ws′ hs′) ep eq
+            ∙ made-is g (omega (arith, g .nodes, new-need r, e, room .0)) (k + 1) (sym one-more) (room .1) 0 ∙ sym put-some
 
 -- ---- a prefix that stands
 
@@ -253,10 +263,6 @@ is-formed ws hs n narrow e z =
       nodes = o .2;
       lent = (o .0, o .1);
     }
-
--- a route of a proper prefix and a fine hop
-pub is-fine : (a len h : ℕ) → properPrefix a len ≡ true → hopFine h ≡ true → Fine (unmarkedRoute a len h)
-is-fine a len h p q = let k = hop-true h q in record { prefix = prefix-true a len p; hop-one = k .0; hop-ok = k .1; mark-ok = omega arith }
 
 -- a prefix that passed its test, and a hop that passed its own
 pub record PassedPrefix : Type 0 where
