@@ -1,6 +1,6 @@
 // A change of an image that was found well formed: a prefix put in, its hop replaced, or a prefix taken out.
 use crate::path;
-use crate::path::Reached;
+use crate::path::PathEnd;
 ghost use mathlib.Core.Path.{_≡_};
 ghost use mathlib.Core.Bool.{_&&_};
 ghost use Prim.Native.Nat.{_+_, _*_, _≤_, _<_};
@@ -16,15 +16,15 @@ pub fn add(
     hops: &mut [u16],
     n: usize,
     k: usize,
-    from: Reached,
+    from: PathEnd,
     addr: u32,
     len: u32,
     hop: u16,
-    b: u32,
 ) -> usize
-    requires { ⌜ Addable (now words) (now hops) n k (from .at) (from .depth) addr len hop b ⌝ }
+    requires { ⌜ Addable (now words) (now hops) n k (from .at) (from .depth) addr len hop (from .bit) ⌝ }
     ensures { λ r. ⌜ BecomeWith (now (words .entry)) (now (hops .entry)) addr len hop (now (words .exit)) (now (hops .exit)) r ⌝ }
 {
+    let b = from.bit;
     let deep = len / 4;
     let mut m = from.depth;
     let mut at = from.at;

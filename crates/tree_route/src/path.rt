@@ -8,7 +8,7 @@ ghost use lib.ListN.{length};
 ghost use Rattle.bits.specs.Slot.{slot};
 ghost use Rattle.tree_image.specs.Node.{bitsOf, isSet};
 ghost use Rattle.tree_same.specs.Order.{Order};
-ghost use Rattle.tree_theory.specs.Stages.{Descent, BitOf};
+ghost use Rattle.tree_theory.specs.Stages.{Descent, BitOf, PathEnds};
 
 // A node of the path, and its depth.
 pub struct Reached {
@@ -49,7 +49,7 @@ pub fn descend(words: &[u32], n: usize, addr: u32, deep: u32) -> Reached
 }
 
 // The internal bit of a prefix in its node, which is at depth len / 4.
-pub fn own_bit(addr: u32, len: u32) -> u32
+fn own_bit(addr: u32, len: u32) -> u32
     requires { ⌜ len ≤ 32 ⌝ }
     ensures { λ r. ⌜ BitOf addr len r ⌝ }
 {
@@ -57,7 +57,7 @@ pub fn own_bit(addr: u32, len: u32) -> u32
 }
 
 // Whether the way down reached the depth of the prefix, and its bit is set there.
-pub fn is_there(words: &[u32], r: Reached, deep: u32, b: u32) -> bool
+fn is_there(words: &[u32], r: Reached, deep: u32, b: u32) -> bool
     requires { ⌜ (3 * r .at < length (now words)) × (b < 15) ⌝ }
     ensures { λ t. ⌜ t ≡ (eqb (r .depth) deep && isSet (bitsOf (now (words .entry)) (r .at)) b) ⌝ }
 {
@@ -66,4 +66,28 @@ pub fn is_there(words: &[u32], r: Reached, deep: u32, b: u32) -> bool
     }
     let at = r.at;
     bits::is_set(words[3 * at], b)
+}
+
+// Where the path of a prefix ends: the last node met with its depth, the bit of the prefix in its own node, and whether the prefix stands.
+pub struct PathEnd {
+    pub at: usize,
+    pub depth: u32,
+    pub bit: u32,
+    pub there: bool,
+}
+
+// The way down to the node of a prefix, and whether the prefix stands there.
+pub fn seek(words: &[u32], n: usize, addr: u32, len: u32) -> PathEnd
+    requires { ⌜ Order (now words) n × (len ≤ 32) ⌝ }
+    ensures { λ r. ⌜ PathEnds (now (words .entry)) n addr len (r .at) (r .depth) (r .bit) (r .there) ⌝ }
+{
+    let bit = own_bit(addr, len);
+    let last = descend(words, n, addr, len / 4);
+    let there = is_there(words, last, len / 4, bit);
+    PathEnd {
+        at: last.at,
+        depth: last.depth,
+        bit: bit,
+        there: there,
+    }
 }

@@ -1,8 +1,9 @@
 -- What holds on the way of a change: the image as it was found well formed, the way down the path of a prefix, and what the arrays become.
-use mathlib.Core.Bool.{true, false}
+use mathlib.Core.Bool.{Bool, true, false, _&&_}
 use mathlib.Core.List.{List}
 use mathlib.Core.Path.{_≡_}
 use Prim.Native.Nat.{ℕ, _+_, _-_, _*_, _/_, _%_, _^_, _≤_, _<_}
+use lib.Dec.{eqb}
 use lib.ListN.{length}
 use Rattle.bits.specs.Slot.{slot}
 use Rattle.routes.specs.Route.{keyOf, Prefix, Fine, Good}
@@ -43,6 +44,12 @@ pub record OnPath (ws : List ℕ) (n a m : ℕ) : Type 0 where
 pub record BitOf (a len b : ℕ) : Type 0 where
   pub small : b < 15
   pub is : b ≡ 2 ^ (len % 4) - 1 + slot len a % 2 ^ (len % 4)
+
+-- the way down to the node of a prefix ends at node x of depth m; b is the bit of the prefix, and t tells whether it is set there
+pub record PathEnds (ws : List ℕ) (n a len x m b : ℕ) (t : Bool) : Type 0 where
+  pub bit : BitOf a len b
+  pub way : Descent ws n a (len / 4) x m
+  pub tells : t ≡ (eqb m (len / 4) && isSet (bitsOf ws x) b)
 
 -- n is the number of nodes that the test of a well-formed image answers
 pub record ImageFormed (ws hs : List ℕ) (n : ℕ) : Type 0 where

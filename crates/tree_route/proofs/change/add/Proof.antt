@@ -13,7 +13,7 @@ abbrev μ-loop : tie.MeasureT-loop
 μ-loop words₀ hops n k addr len hop b deep m₀ at₀ nodes₀ words m at nodes = deep - m
 
 loop-holds : tie.Need-loop-holds Inv-loop μ-loop
-loop-holds c = grow-start (c .before .before .pre)
+loop-holds c = let start : tie.Start Inv-loop μ-loop = search in grow-start (start .pre)
 
 turn-requires : tie.Need-turn-requires Inv-loop μ-loop
 turn-requires c κs =

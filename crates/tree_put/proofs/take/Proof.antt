@@ -1,36 +1,24 @@
 -- The way down and the bit at its end tell whether the prefix stands; then it is taken out.
 use mathlib.Core.Path.{refl}
 use Rattle.tree_formed.proofs.Steps.{not-failed}
-use Rattle.tree_change.proofs.ChangeReturns.{ask-hops, ask-way, ask-end, Way, walked, Stood, is-standing}
-use Rattle.tree_change.proofs.ChangeReturns.{one-there, one-less, removed-few, told-nine, told-removed}
-use Rattle.tree_change.proofs.take.Statement.{statement}
-use Rattle.tree_change.proofs.take.Tie as tie
+use Rattle.tree_put.proofs.PutReturns.{ask-hops, ask-way, Way, walked, Stood, is-standing}
+use Rattle.tree_put.proofs.PutReturns.{one-there, one-less, removed-few, told-nine, told-removed}
+use Rattle.tree_put.proofs.take.Statement.{statement}
+use Rattle.tree_put.proofs.take.Tie as tie
 
 -- What is known at the end of the way.
-abbrev way : tie.After-is-there → Way
+abbrev way : tie.After-seek → Way
 way c =
-    let down : tie.After-descend = c .before .before in
-    let bit : tie.After-own-bit = down .before .before in
-    let counted : tie.After-hops-in = bit .before in
+    let counted : tie.After-hops-in = c .before .before in
     let lent : tie.After-slice-known2 = counted .before .before in
     let start : tie.Start = lent .before .before in
-    walked (start .pre .0) (counted .hops-in .ensures) (start .pre .1) (bit .own-bit .ensures) (down .descend .ensures) (c .is-there .ensures)
+    walked (start .pre .0) (counted .hops-in .ensures) (start .pre .1) (c .seek .ensures)
 
 abbrev standing : tie.Else1 → Stood
-standing c = record { way = way (c .before); there = not-failed _ _ refl (c .if1 .left) }
+standing c = record { way = way (c .before .before); there = not-failed _ _ refl (c .if1 .left) }
 
-own-bit-requires : tie.Need-own-bit-requires
-own-bit-requires c κs = let start : tie.Start = search in start .pre .1 .len-ok
-
-descend-requires : tie.Need-descend-requires
-descend-requires c κs = let start : tie.Start = search in ask-way (start .pre .0) (start .pre .1 .len-ok)
-
-is-there-requires : tie.Need-is-there-requires
-is-there-requires c κs =
-    let down : tie.After-descend = search in
-    let bit : tie.After-own-bit = search in
-    let start : tie.Start = search in
-    ask-end (start .pre .0) (down .descend .ensures) (bit .own-bit .ensures)
+seek-requires : tie.Need-seek-requires
+seek-requires c κs = let start : tie.Start = search in ask-way (start .pre .0) (start .pre .1 .len-ok)
 
 narrow-requires : tie.Need-narrow-requires
 narrow-requires c κs =
@@ -55,11 +43,9 @@ take-spec =
     tie.close
     (tie.spec
     (λ c κs. let start : tie.Start = search in ask-hops (start .pre .0))
-    own-bit-requires
-    descend-requires
-    is-there-requires
+    seek-requires
     (λ c. refl)
-    (λ c. told-nine (way (c .before)) (c .if1 .taken))
+    (λ c. told-nine (way (c .before .before)) (c .if1 .taken))
     (λ c. one-there (is-standing (standing c)))
     (λ c κs. let there : tie.Else1 = search in one-less (is-standing (standing there)))
     narrow-requires

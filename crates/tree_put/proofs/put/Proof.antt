@@ -1,35 +1,23 @@
 -- The way down and the bit at its end tell whether the prefix stands; then it is replaced, or put in new.
 use mathlib.Core.Path.{refl}
 use native.Mathlib.Omega.{arith}
-use Rattle.tree_change.proofs.ChangeReturns.{ask-hops, ask-way, ask-end, Way, walked, Stood, is-standing, is-new, told-replaced}
-use Rattle.tree_change.proofs.put.Statement.{statement}
-use Rattle.tree_change.proofs.put.Tie as tie
+use Rattle.tree_put.proofs.PutReturns.{ask-hops, ask-way, Way, walked, Stood, is-standing, is-new, told-replaced}
+use Rattle.tree_put.proofs.put.Statement.{statement}
+use Rattle.tree_put.proofs.put.Tie as tie
 
 -- What is known at the end of the way.
-abbrev way : tie.After-is-there → Way
+abbrev way : tie.After-seek → Way
 way c =
-    let down : tie.After-descend = c .before .before in
-    let bit : tie.After-own-bit = down .before .before in
-    let counted : tie.After-hops-in = bit .before in
+    let counted : tie.After-hops-in = c .before .before in
     let lent : tie.After-slice-known2 = counted .before .before in
     let start : tie.Start = lent .before .before in
-    walked (start .pre .0) (counted .hops-in .ensures) (start .pre .1 .prefix) (bit .own-bit .ensures) (down .descend .ensures) (c .is-there .ensures)
+    walked (start .pre .0) (counted .hops-in .ensures) (start .pre .1 .prefix) (c .seek .ensures)
 
 abbrev standing : tie.Then1 → Stood
 standing c = record { way = way (c .before); there = c .if1 .taken }
 
-own-bit-requires : tie.Need-own-bit-requires
-own-bit-requires c κs = let start : tie.Start = search in start .pre .1 .prefix .len-ok
-
-descend-requires : tie.Need-descend-requires
-descend-requires c κs = let start : tie.Start = search in ask-way (start .pre .0) (start .pre .1 .prefix .len-ok)
-
-is-there-requires : tie.Need-is-there-requires
-is-there-requires c κs =
-    let down : tie.After-descend = search in
-    let bit : tie.After-own-bit = search in
-    let start : tie.Start = search in
-    ask-end (start .pre .0) (down .descend .ensures) (bit .own-bit .ensures)
+seek-requires : tie.Need-seek-requires
+seek-requires c κs = let start : tie.Start = search in ask-way (start .pre .0) (start .pre .1 .prefix .len-ok)
 
 replace-requires : tie.Need-replace-requires
 replace-requires c κs =
@@ -60,9 +48,7 @@ put-spec =
     tie.close
     (tie.spec
     (λ c κs. let start : tie.Start = search in ask-hops (start .pre .0))
-    own-bit-requires
-    descend-requires
-    is-there-requires
+    seek-requires
     replace-requires
     narrow-requires
     narrow-requires-2

@@ -1,8 +1,8 @@
 -- Each refusal is one of the definition's; where none is met there is room, and the routes then stand.
 use native.Mathlib.Omega.{arith}
-use Rattle.tree_change.proofs.ChangeReturns.{told-six, told-lack, add-ready, add-few, told-added}
-use Rattle.tree_change.proofs.put_new.Statement.{statement}
-use Rattle.tree_change.proofs.put_new.Tie as tie
+use Rattle.tree_put.proofs.PutReturns.{told-six, told-lack, add-ready, add-few, told-added}
+use Rattle.tree_put.proofs.put_new.Statement.{statement}
+use Rattle.tree_put.proofs.put_new.Tie as tie
 
 returns : tie.Need-returns
 returns c = let start : tie.Start = search in told-six (start .pre) (c .if1 .taken)
