@@ -3,7 +3,7 @@ ghost use mathlib.Core.Path.{_≡_};
 ghost use Rattle.tree_image.specs.Walk.{treeSaid};
 ghost use Rattle.tree_build.specs.Built.{built};
 ghost use Rattle.tree_formed.specs.Answers.{tested};
-ghost use Rattle.tree_change.specs.Changed.{imageAnnounced, imageWithdrawn};
+ghost use Rattle.tree_theory.specs.Changed.{imageAnnounced, imageWithdrawn};
 ghost use Rattle.sail.specs.Word.{packFound};
 ghost use Rattle.packing.specs.Pack.{packBuilt};
 ghost use Rattle.cards.specs.Cards.{imageCard, imageCardOf};

@@ -16,9 +16,9 @@ use Rattle.buffers.specs.Moves.{movedUp}
 use Rattle.buffers.proofs.Draws.{length-drawn, drawn-in, drawn-before, drawn-after}
 use Rattle.tree_image.specs.Node.{bitsOf, childOf, baseOf, isSet, childAt}
 use Rattle.tree_image.proofs.Counts.{count-mono}
-use Rattle.tree_build.specs.NodeRuns.{WithBit}
-use Rattle.tree_build.specs.Queue.{put3}
-use Rattle.tree_build.proofs.Stores.{put3-length, put3-other, put3-at}
+use Rattle.tree_node.specs.NodeRuns.{WithBit}
+use Rattle.tree_node.specs.Queue.{put3}
+use Rattle.tree_node.proofs.Stores.{put3-length, put3-other, put3-at}
 use Rattle.tree_same.specs.Order.{exts, ints, Order}
 use Rattle.tree_formed.proofs.Held.{bit-of, exts-next, exts-mono}
 use Rattle.tree_hold.specs.Moves.{each}

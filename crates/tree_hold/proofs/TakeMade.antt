@@ -11,7 +11,7 @@ use Rattle.bits.proofs.Bools.{below?, equal?}
 use Rattle.buffers.specs.Moves.{movedDown}
 use Rattle.buffers.proofs.Draws.{length-drawn, drawn-in, drawn-before, drawn-after}
 use Rattle.tree_image.specs.Node.{bitsOf, baseOf, isSet}
-use Rattle.tree_build.specs.NodeRuns.{WithBit}
+use Rattle.tree_node.specs.NodeRuns.{WithBit}
 use Rattle.tree_same.specs.Read.{hopPlaceAt}
 use Rattle.tree_same.specs.Order.{ints}
 use Rattle.tree_formed.proofs.Held.{fewer-ints, ints-next, ints-mono}

@@ -1,7 +1,7 @@
 // What the calls on an image answer, and what its arrays hold: of each node the bits in hexadecimal, and both bases.
-use tree_change::TreeAnnounced;
-use tree_change::TreeWithdrawn;
 use tree_formed::Tested;
+use tree_theory::TreeAnnounced;
+use tree_theory::TreeWithdrawn;
 use vectors_shared::print;
 
 fn sizes(nodes: u32, hops: u32) {
