@@ -16,6 +16,12 @@ Inv-loop list words₀ hops₀ i₀ t₀ h₀ words hops i t h = State list word
 abbrev μ-loop : tie.MeasureT-loop
 μ-loop list words₀ hops₀ i₀ t₀ h₀ words hops i t h = length (nodesIn list) - i
 
+step-requires : tie.Need-step-requires Inv-loop μ-loop
+step-requires c κs =
+    let in-loop : tie.In-loop Inv-loop μ-loop = search in
+    let at-loop : tie.At-loop Inv-loop μ-loop = search in
+    state-waits _ _ _ _ _ _ (at-loop .loop .inv .0) (in-loop .loop-test .taken)
+
 add-i : tie.Need-add-i Inv-loop μ-loop
 add-i c =
     let in-loop : tie.In-loop Inv-loop μ-loop = search in
@@ -49,9 +55,9 @@ fill-image-spec =
     (tie.spec
     Inv-loop
     μ-loop
-    (λ c κs. search needs)
+    (λ c κs. let start : tie.Start Inv-loop μ-loop = search in start .pre)
     (λ c. let after-start : tie.After-start Inv-loop μ-loop = search in (after-start .start .ensures, refl, refl))
-    (λ c κs. search state-waits)
+    step-requires
     add-i
     loop-less
     (λ c. let after-step : tie.After-step Inv-loop μ-loop = search in (after-step .step .ensures, omega arith, omega arith))
