@@ -2,8 +2,8 @@
 // those of the fixed order no two child arrays share a node, so the way down meets each node once, whatever the arrays hold.
 
 use bits::widen::word_to_index;
-use buffers::zeros::zeros16;
-use buffers::zeros::zeros32;
+use buffers_test::zeros::zeros16;
+use buffers_test::zeros::zeros32;
 use tree_bases::after_children;
 use tree_bases::differ;
 use tree_bases::first_child;

@@ -7,8 +7,8 @@ use native.Mathlib.Nat.{le-refl}
 use native.Mathlib.Omega.{arith}
 use lib.ListN.{length, getD, set, length-set}
 use lib.Seq.{getD-set-other}
-use Rattle.buffers.specs.Moves.{movedUp, movedDown, Movable}
-use Rattle.buffers.proofs.Draws.{length-drawn}
+use Rattle.moves.specs.Moves.{movedUp, movedDown, Movable}
+use Rattle.moves.proofs.Draws.{length-drawn}
 use Rattle.tree_image.specs.Node.{bitsOf, childOf, isSet, childAt}
 use Rattle.tree_build.specs.NodeRuns.{WithBit}
 use Rattle.tree_build.specs.Queue.{put3}

@@ -2,7 +2,6 @@
 pub mod bases;
 
 use bits::widen::word_to_index;
-use buffers::moves;
 use tree_build::fill;
 use tree_build::run;
 ghost use mathlib.Core.Path.{_≡_};
