@@ -1,5 +1,4 @@
 // A record put into an ascending list, or taken out of one, in the caller's array. The records after it move by one place.
-use buffers::moves;
 use routes::Route;
 use routes::record;
 ghost use mathlib.Core.Path.{_≡_};

@@ -17,8 +17,9 @@ use Rattle.sail.specs.declared.geometry.Geometry.{Geometry}
 use Rattle.sail_owners.specs.Owners.{owners, Ownable}
 use Rattle.sail_theory.specs.Render.{Fits}
 use Rattle.sail_theory.specs.Calls.{Owners, ownersAfter, inputRoutes}
-use Rattle.repair_differs.specs.Differs.{Owned, Differing, wanted, freshOwners, DiffReady, DiffRoom}
-use Rattle.repair_differs.specs.declared.Differs.{Differs}
+use Rattle.repair_levels.specs.Levels.{Owned, Differing, wanted}
+use Rattle.repair_differs.specs.Differs.{freshOwners, DiffReady, DiffRoom}
+use Rattle.repair_levels.specs.declared.Differs.{Differs}
 
 module _ (g : Geometry) (input first second third own2 own3 ws par want : List ℕ) (h : DiffRoom g input first second third own2 own3 ws par want) where
   abbrev k : DiffReady g input (length own2) (length own3) first second third

@@ -6,7 +6,7 @@ use Prim.Native.Nat.{ℕ}
 use lib.ListN.{length}
 use Rattle.bits.specs.Tab.{Tells}
 use Rattle.routes.specs.declared.Route.{Route}
-use Rattle.plan.specs.Part.{Right}
+use Rattle.plan_test.specs.Part.{Right}
 use Rattle.sail.specs.Geometry.{bits2, bits3}
 use Rattle.sail_counts.specs.Counted.{Counts}
 use Rattle.sail.specs.Lent.{Lent, Cells}

@@ -13,7 +13,7 @@ use sail::table::Table;
 use sail_cells_test::first_ok;
 use sail_cells_test::free_all;
 use sail_cells_test::owned_all;
-use sail_counts::test::counts_ok;
+use sail_counts_test::counts_ok;
 
 // The live cells of the three levels beside the routes of the words. The first cells are one chunk, whose owner is 1; a third
 // cell names no chunk.

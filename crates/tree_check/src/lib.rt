@@ -1,7 +1,7 @@
 // The test of an image: its bases in one pass, then its nodes from the root down, its hops, and zeros after the last used.
 use bits::widen::word_to_index;
-use buffers::zeros::zeros16;
-use buffers::zeros::zeros32;
+use buffers_test::zeros::zeros16;
+use buffers_test::zeros::zeros32;
 use tree_bases::shape;
 use tree_formed::Tested;
 use tree_levels::root_ok;

@@ -4,8 +4,8 @@ use mathlib.Core.List.{List}
 use Prim.Native.Nat.{ℕ, _+_, _-_, _*_, _≤_, _<_}
 use native.Mathlib.Omega.{arith}
 use lib.ListN.{length, set, length-set}
-use Rattle.buffers.specs.Moves.{movedUp, movedDown, Movable}
-use Rattle.buffers.proofs.Draws.{length-drawn}
+use Rattle.moves.specs.Moves.{movedUp, movedDown, Movable}
+use Rattle.moves.proofs.Draws.{length-drawn}
 use Rattle.tree_image.specs.Node.{bitsOf, childOf, childAt}
 use Rattle.tree_node.specs.NodeRuns.{WithBit}
 use Rattle.tree_node.specs.Queue.{put3}

@@ -1,6 +1,5 @@
 // A node more in an image, or one less, in place: an empty child put under a node or taken away. What is left is exactly the image with that node or
 // without it.
-use buffers::moves;
 use tree_node::put;
 use tree_node::run;
 use tree_places::bases;

@@ -12,8 +12,8 @@ use lib.Count.{ones}
 use Rattle.bits.specs.Count.{count}
 use Rattle.bits.proofs.Bools.{below?}
 use Rattle.bits.proofs.Packed.{upper-count}
-use Rattle.buffers.specs.Moves.{movedUp}
-use Rattle.buffers.proofs.Draws.{length-drawn, drawn-in, drawn-before, drawn-after}
+use Rattle.moves.specs.Moves.{movedUp}
+use Rattle.moves.proofs.Draws.{length-drawn, drawn-in, drawn-before, drawn-after}
 use Rattle.tree_image.specs.Node.{bitsOf, childOf, baseOf, isSet, childAt}
 use Rattle.tree_image.proofs.Counts.{count-mono}
 use Rattle.tree_node.specs.NodeRuns.{WithBit}

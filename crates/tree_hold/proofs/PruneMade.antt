@@ -8,8 +8,8 @@ use native.Mathlib.Omega.{arith}
 use lib.ListN.{length, getD, set, length-set}
 use lib.Seq.{getD-set-same, getD-set-other}
 use Rattle.bits.proofs.Bools.{below?, equal?}
-use Rattle.buffers.specs.Moves.{movedDown}
-use Rattle.buffers.proofs.Draws.{length-drawn, drawn-in, drawn-before, drawn-after}
+use Rattle.moves.specs.Moves.{movedDown}
+use Rattle.moves.proofs.Draws.{length-drawn, drawn-in, drawn-before, drawn-after}
 use Rattle.tree_image.specs.Node.{bitsOf, childOf, isSet, childAt}
 use Rattle.tree_node.specs.NodeRuns.{WithBit}
 use Rattle.tree_node.specs.Queue.{put3}

@@ -1,5 +1,4 @@
 // A hop more in an image, or one less, in place: what is left is exactly the image of the routes with it or without it.
-use buffers::moves;
 use tree_node::run;
 use tree_places::bases;
 ghost use Rattle.tree_same.specs.Read.{hopPlaceAt};

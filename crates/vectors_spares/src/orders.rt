@@ -1,7 +1,7 @@
 // List A by build, and by its five announcements on the empty image in each of the 120 orders; and with a route more that is withdrawn again.
 use crate::compare;
-use buffers::same::same16;
-use buffers::same::same32;
+use buffers_test::same::same16;
+use buffers_test::same::same32;
 use tree_change::announce;
 use tree_change::withdraw;
 use vectors_shared::list;

@@ -1,5 +1,5 @@
 -- `vectors::lines::attached`: what is printed is the part of the buffer that the text fills.
-use Rattle.text.proofs.Writes.{wrote-count}
+use Rattle.text_pieces.proofs.Writes.{wrote-count}
 use borrow.Author.Needs.{needs}
 use Rattle.vectors.proofs.lines.attached.Statement.{statement}
 use Rattle.vectors.proofs.lines.attached.Tie as tie
