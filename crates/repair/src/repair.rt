@@ -10,9 +10,9 @@ use repair_differs::count_cells;
 use repair_keep::keep;
 use repair_keep::looked;
 use sail::table::Table;
-use sail::table::sizes;
 use sail_load::load::load;
 use sail_load::load::weigh;
+use sail_sizes::sizes;
 
 // Put right, with the records dropped and the cells of each array that differ from before; or a refusal's number.
 pub enum Repaired {

@@ -8,12 +8,12 @@ ghost use Rattle.sail_load.specs.Answers.{meansLoaded};
 ghost use Rattle.sail_load.specs.Contract.{MeetsLoad};
 ghost use Rattle.sail_load.specs.Weigh.{terms, Weighs};
 use crate::renew::write_table;
+use input_check::input::check_input;
 use routes::input::Input;
-use routes::input::check_input;
 use sail::geometry::Geometry;
 use sail::table::Table;
-use sail::table::sizes;
 use sail_owners::need::count_need;
+use sail_sizes::sizes;
 
 // Loaded; or a refusal's number, with the index of a record where the input itself is at fault.
 pub enum Loaded {

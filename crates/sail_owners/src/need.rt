@@ -7,7 +7,7 @@ ghost use Rattle.sail_owners.specs.Need.{NeedReady};
 use bits::slot;
 use bits::widen::byte_to_word;
 use bits::widen::word_to_long;
-use routes::record::read_record;
+use records::record::read_record;
 
 // How many different cells of level p the first n records have that are longer than p. In an ascending list the records
 // of one cell stand together, but for records that are not longer than p: so a cell is new where it is not that of the

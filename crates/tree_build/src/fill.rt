@@ -5,7 +5,7 @@ use bits::widen::byte_to_word;
 use bits::widen::word_to_index;
 use buffers::fill::fill16;
 use buffers::fill::zero32;
-use routes::record;
+use records::record;
 ghost use mathlib.Core.Path.{_≡_};
 ghost use Prim.Native.Nat.{_+_, _*_, _^_, _≤_, _<_};
 ghost use lib.ListN.{length};

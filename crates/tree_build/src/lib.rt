@@ -3,7 +3,7 @@ pub mod count;
 pub mod fill;
 pub mod run;
 
-use routes::input;
+use input_check::input;
 use routes::input::Input;
 ghost use mathlib.Core.Path.{_≡_};
 ghost use Rattle.routes.specs.Record.{GoodInput, routesIn};
