@@ -1,5 +1,5 @@
 // What every call checks first: the record input, then the sizes of the two arrays.
-use routes::input;
+use input_check::input;
 use routes::input::Input;
 ghost use mathlib.Core.Path.{_≡_};
 ghost use Rattle.basic.specs.Calls.{mapSizesFit, readySaid, meansReady};

@@ -20,7 +20,7 @@ pub extern "C" fn gh_run(input: &[u8], addr: u32, len: u32) -> u64
 pub extern "C" fn gh_route(input: &[u8], index: u32) -> u64
     ensures { λ r. ⌜ r ≡ packRoute (routeSaid (now (input .entry)) index) ⌝ }
 {
-    packing_inputs::got(routes::input::route_at(input, index as usize))
+    packing_inputs::got(input_check::input::route_at(input, index as usize))
 }
 
 // The number of routes of each length, into 33 words.

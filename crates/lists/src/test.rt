@@ -1,5 +1,5 @@
 // The test of a list: whole records, the first n of them good, and zero bytes after them.
-use routes::input;
+use input_check::input;
 ghost use Prim.Native.Nat.{_*_, _≤_};
 ghost use lib.ListN.{length};
 ghost use Rattle.bits.specs.Tab.{Tells};

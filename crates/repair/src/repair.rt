@@ -10,8 +10,8 @@ use repair_judge::RepairJudged;
 use repair_judge::judge;
 use repair_levels::Differs;
 use sail::table::Table;
-use sail::table::sizes;
 use sail_load::load::load;
+use sail_sizes::sizes;
 
 // Put right, with the records dropped and the cells of each array that differ from before; or a refusal's number.
 pub enum Repaired {

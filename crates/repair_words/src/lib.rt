@@ -8,7 +8,7 @@ use packing_repairs::tell;
 use packing_repairs::words_fault;
 use repair::repair::repair;
 use sail::table::Table;
-use sail::table::sizes;
+use sail_sizes::sizes;
 
 // What is kept of the list is loaded. Into four words: the records dropped, and the first, second and third cells that differ from
 // before.

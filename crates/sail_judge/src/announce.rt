@@ -10,14 +10,14 @@ ghost use Rattle.sail_theory.specs.Cases.{Proper};
 ghost use Rattle.sail_judge.specs.Announce.{AnnounceJudged};
 use lists::edit;
 use lists::place::place;
+use records::record;
 use routes::Route;
 use routes::input;
-use routes::record;
 use sail::table::Table;
-use sail::table::sizes;
 use sail_chunks::opening::Opening;
 use sail_chunks::opening::nothing;
 use sail_chunks::opening::to_open;
+use sail_sizes::sizes;
 use sail_sound::report::in_use;
 use sail_sound::test::sound;
 

@@ -3,10 +3,10 @@ ghost use Rattle.sail.specs.Lent.{lent};
 ghost use Rattle.sail_judge.specs.Withdraw.{WithdrawJudged};
 use lists::edit;
 use lists::place::place;
+use records::record;
 use routes::input;
-use routes::record;
 use sail::table::Table;
-use sail::table::sizes;
+use sail_sizes::sizes;
 use sail_sound::test::sound;
 
 // The number of the refusal. Where it is 0: the place of the prefix's record in the list.

@@ -5,13 +5,13 @@ ghost use Rattle.sail.specs.Lent.{lent};
 ghost use Rattle.sail_theory.specs.Calls.{loadSaid};
 ghost use Rattle.sail_load.specs.Answers.{meansLoaded};
 ghost use Rattle.sail_load.specs.Contract.{MeetsLoad};
+use input_check::input::check_input;
 use routes::input::Input;
-use routes::input::check_input;
 use sail::geometry::Geometry;
 use sail::table::Table;
-use sail::table::sizes;
 use sail_need::weigh;
 use sail_renew::write_table;
+use sail_sizes::sizes;
 
 // Loaded; or a refusal's number, with the index of a record where the input itself is at fault.
 pub enum Loaded {

@@ -9,7 +9,7 @@ ghost use Rattle.sail_need.specs.Weigh.{terms, Weighs};
 use bits::slot;
 use bits::widen::byte_to_word;
 use bits::widen::word_to_long;
-use routes::record::read_record;
+use records::record::read_record;
 use sail::geometry::Geometry;
 
 // How many different cells of level p the first n records have that are longer than p. In an ascending list the records

@@ -9,7 +9,7 @@ ghost use Rattle.sail_sound.specs.Report.{ReportJudged};
 ghost use Rattle.sail_sound.specs.Contract.{MeetsReport};
 use crate::test::sound;
 use sail::table::Table;
-use sail::table::sizes;
+use sail_sizes::sizes;
 
 // What is wrong with a table: 1, 2 or 5, or 0.
 pub fn judged(

@@ -27,7 +27,7 @@ pub fn table_text(list: &[u8], n: usize, second: u32, third: u32, out: &mut [u8]
     let mut at = put_head(out, 0, n, second, third);
     let mut k = 0;
     while k < n {
-        at = put_route(out, at, routes::record::read_record(list, k));
+        at = put_route(out, at, records::record::read_record(list, k));
         k += 1;
     }
     at

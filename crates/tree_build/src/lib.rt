@@ -1,5 +1,5 @@
 // The build of a tree bitmap image from a record input.
-use routes::input;
+use input_check::input;
 use routes::input::Input;
 use tree_fill::fill_image;
 use tree_node::count::count_nodes;

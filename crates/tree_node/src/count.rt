@@ -1,7 +1,7 @@
 // The nodes that good records need, counted before anything is written: one pass over the list for each depth.
 use crate::run;
 use bits::widen::byte_to_word;
-use routes::record;
+use records::record;
 ghost use mathlib.Core.Path.{_≡_};
 ghost use Prim.Native.Nat.{_+_, _*_, _≤_};
 ghost use lib.ListN.{length};

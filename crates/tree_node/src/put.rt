@@ -3,7 +3,7 @@
 use crate::run;
 use bits::widen::byte_to_word;
 use bits::widen::word_to_index;
-use routes::record;
+use records::record;
 ghost use mathlib.Core.Path.{_≡_};
 ghost use Prim.Native.Nat.{_+_, _*_, _^_, _≤_, _<_};
 ghost use lib.ListN.{length};

@@ -1,6 +1,6 @@
 // The run of a node: the records whose routes pass through it, and the bit of the node at which each lies.
 use bits::widen::byte_to_word;
-use routes::record;
+use records::record;
 ghost use mathlib.Core.Path.{_≡_};
 ghost use Prim.Native.Nat.{_+_, _*_, _≤_, _<_};
 ghost use lib.ListN.{length};

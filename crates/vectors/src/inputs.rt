@@ -1,7 +1,7 @@
 // The record of a route, and what the check of an input says.
 use crate::samples;
+use input_check::input;
 use routes::Route;
-use routes::input;
 use routes::input::Got;
 use routes::input::Input;
 use vectors_shared::list;
@@ -126,7 +126,7 @@ fn many(list: &mut [u8])
     let n = list.len() / 8;
     let mut k = 0;
     while k < n {
-        routes::record::write_record(list, k, samples::route((k as u32) * 256, 24, 0, 1));
+        records::record::write_record(list, k, samples::route((k as u32) * 256, 24, 0, 1));
         k += 1;
     }
 }

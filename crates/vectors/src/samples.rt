@@ -1,6 +1,6 @@
 // Records, inputs of one and two records, and list A with a route attached.
+use records::record;
 use routes::Route;
-use routes::record;
 use vectors_shared::list;
 
 // List A with 10.1.0.0/16 attached: one byte is another.

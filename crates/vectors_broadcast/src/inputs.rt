@@ -1,6 +1,6 @@
 // Record inputs of one and of two routes.
+use records::record;
 use routes::Route;
-use routes::record;
 
 pub fn one(r: Route) -> [u8; 8] {
     let mut list = [0u8; 8];

@@ -25,7 +25,7 @@ fn hosts(list: &mut [u8])
     let n = list.len() / 8;
     let mut k = 0;
     while k < n {
-        routes::record::write_record(list, k, host(k as u32));
+        records::record::write_record(list, k, host(k as u32));
         k += 1;
     }
 }

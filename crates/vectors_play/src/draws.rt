@@ -2,7 +2,7 @@
 use crate::said::Said;
 use crate::step::Step;
 use crate::words;
-use routes::record;
+use records::record;
 use sail::table::Table;
 use std::num;
 use vectors_probes::draw;

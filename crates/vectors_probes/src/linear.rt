@@ -1,8 +1,8 @@
 // A linear search over the records of a list: what a table must answer, from document 01's words alone.
 use bits::widen::byte_to_word;
 use bits::widen::half_to_long;
+use records::record;
 use routes::Route;
-use routes::record;
 use sail::table::Table;
 ghost use Prim.Native.Nat.{_*_, _≤_};
 ghost use lib.ListN.{length};

@@ -2,8 +2,8 @@
 use crate::draw;
 use crate::linear;
 use bits::widen::byte_to_word;
+use records::record;
 use routes::Route;
-use routes::record;
 use sail::found::Found;
 use sail::table::Table;
 use std::num;

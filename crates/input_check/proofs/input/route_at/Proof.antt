@@ -1,10 +1,10 @@
--- `routes::input::route_at`: each arm has its law.
+-- `input_check::input::route_at`: each arm has its law.
 use native.Mathlib.Omega.{arith}
 use Rattle.routes.proofs.Meaning.{input-good}
 use Rattle.routes.proofs.Inputs.{told-good, told-refused, told-many, got-one, got-nothing, got-refused, got-many}
 use borrow.Author.Needs.{needs}
-use Rattle.routes.proofs.input.route_at.Statement.{statement}
-use Rattle.routes.proofs.input.route_at.Tie as tie
+use Rattle.input_check.proofs.input.route_at.Statement.{statement}
+use Rattle.input_check.proofs.input.route_at.Tie as tie
 
 read-record-requires : tie.Need-read-record-requires
 read-record-requires c κs =

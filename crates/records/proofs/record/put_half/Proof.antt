@@ -1,9 +1,9 @@
--- `routes::record::put_half`. Two bytes from a place on are made those of a number.
+-- `records::record::put_half`. Two bytes from a place on are made those of a number.
 use mathlib.Core.Path.{refl}
 use native.Mathlib.Omega.{arith}
 use lib.ListN.{length-set}
-use Rattle.routes.proofs.record.put_half.Statement.{statement}
-use Rattle.routes.proofs.record.put_half.Tie as tie
+use Rattle.records.proofs.record.put_half.Statement.{statement}
+use Rattle.records.proofs.record.put_half.Tie as tie
 
 pub put-half-spec : {M : Type 1} → statement M
 put-half-spec =

@@ -1,8 +1,8 @@
--- `routes::record::key_at`. The key of record k.
+-- `records::record::key_at`. The key of record k.
 use native.Mathlib.Omega.{arith}
 use Rattle.routes.proofs.Puts.{key-parts}
-use Rattle.routes.proofs.record.key_at.Statement.{statement}
-use Rattle.routes.proofs.record.key_at.Tie as tie
+use Rattle.records.proofs.record.key_at.Statement.{statement}
+use Rattle.records.proofs.record.key_at.Tie as tie
 
 pub key-at-spec : {M : Type 1} → statement M
 key-at-spec =

@@ -1,8 +1,8 @@
--- `routes::input::fault_at`. What is wrong with record k: by itself, or with its place after the one before.
+-- `input_check::input::fault_at`. What is wrong with record k: by itself, or with its place after the one before.
 use Rattle.routes.proofs.Faults.{by-itself, the-first, rising, not-rising}
 use borrow.Author.Needs.{needs}
-use Rattle.routes.proofs.input.fault_at.Statement.{statement}
-use Rattle.routes.proofs.input.fault_at.Tie as tie
+use Rattle.input_check.proofs.input.fault_at.Statement.{statement}
+use Rattle.input_check.proofs.input.fault_at.Tie as tie
 
 pub fault-at-spec : {M : Type 1} → statement M
 fault-at-spec =

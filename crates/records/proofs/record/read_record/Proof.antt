@@ -1,8 +1,8 @@
--- `routes::record::read_record`. The route of record k.
+-- `records::record::read_record`. The route of record k.
 use native.Mathlib.Omega.{arith}
 use Rattle.routes.proofs.Puts.{record-parts}
-use Rattle.routes.proofs.record.read_record.Statement.{statement}
-use Rattle.routes.proofs.record.read_record.Tie as tie
+use Rattle.records.proofs.record.read_record.Statement.{statement}
+use Rattle.records.proofs.record.read_record.Tie as tie
 
 pub read-record-spec : {M : Type 1} → statement M
 read-record-spec =

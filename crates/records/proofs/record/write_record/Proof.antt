@@ -1,10 +1,10 @@
--- `routes::record::write_record`. Record k of the list is made `r`, and nothing else changes.
+-- `records::record::write_record`. Record k of the list is made `r`, and nothing else changes.
 use mathlib.Core.Path.{_∙_}
 use lib.ListN.{length-set}
 use native.Mathlib.Omega.{arith}
 use Rattle.routes.proofs.Puts.{put-halves}
-use Rattle.routes.proofs.record.write_record.Statement.{statement}
-use Rattle.routes.proofs.record.write_record.Tie as tie
+use Rattle.records.proofs.record.write_record.Statement.{statement}
+use Rattle.records.proofs.record.write_record.Tie as tie
 
 same-length : tie.Need-same-length
 same-length c =

@@ -1,9 +1,9 @@
--- `routes::record::word_at`. Four bytes.
+-- `records::record::word_at`. Four bytes.
 use native.Mathlib.Omega.{arith}
 use borrow.Author.Needs.{needs}
 use Rattle.routes.proofs.Puts.{word-halves}
-use Rattle.routes.proofs.record.word_at.Statement.{statement}
-use Rattle.routes.proofs.record.word_at.Tie as tie
+use Rattle.records.proofs.record.word_at.Statement.{statement}
+use Rattle.records.proofs.record.word_at.Tie as tie
 
 pub word-at-spec : {M : Type 1} → statement M
 word-at-spec =

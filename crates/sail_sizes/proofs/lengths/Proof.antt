@@ -1,9 +1,9 @@
--- `sail::table::lengths`: each length that does not fit has its law.
+-- `sail_sizes::lengths`: each length that does not fit has its law.
 use borrow.Author.Needs.{needs}
 use native.Mathlib.Omega.{arith}
 use Rattle.sail.proofs.Fitting.{product-fits, off-whole, off-room, off-first, off-few2, off-second, off-few3, off-third, off-long1, on-long1}
-use Rattle.sail.proofs.table.lengths.Statement.{statement}
-use Rattle.sail.proofs.table.lengths.Tie as tie
+use Rattle.sail_sizes.proofs.lengths.Statement.{statement}
+use Rattle.sail_sizes.proofs.lengths.Tie as tie
 
 pub lengths-spec : {M : Type 1} → statement M
 lengths-spec =

@@ -1,13 +1,13 @@
--- `routes::input::check_input`: The invariant: no record that was passed has a fault.
+-- `input_check::input::check_input`: The invariant: no record that was passed has a fault.
 use mathlib.Core.Path.{_≡_}
 use mathlib.Core.Bool.{false}
 use Prim.Native.Nat.{ℕ, _-_, _≤_, _<_}
 use native.Mathlib.Omega.{arith}
 use borrow.Author.Count.{below-none, below-more}
 use Rattle.routes.specs.Input.{isBad}
 use Rattle.routes.proofs.Inputs.{fine-at, ragged, stopped, too-many, good}
-use Rattle.routes.proofs.input.check_input.Statement.{statement}
-use Rattle.routes.proofs.input.check_input.Tie as tie
+use Rattle.input_check.proofs.input.check_input.Statement.{statement}
+use Rattle.input_check.proofs.input.check_input.Tie as tie
 
 abbrev Inv-loop : tie.InvT-loop
 Inv-loop bytes n k₀ k = (k ≤ n) × ((j : ℕ) → j < k → isBad bytes j ≡ false)

@@ -1,8 +1,8 @@
--- `sail::table::sizes`. 1 where the geometry is outside the limits, 2 where a lent array has another size than it asks for, and 0 where all fit.
+-- `sail_sizes::sizes`. 1 where the geometry is outside the limits, 2 where a lent array has another size than it asks for, and 0 where all fit.
 use borrow.Author.Needs.{needs}
 use Rattle.sail.proofs.Fitting.{checked-0, checked-1, checked-2}
-use Rattle.sail.proofs.table.sizes.Statement.{statement}
-use Rattle.sail.proofs.table.sizes.Tie as tie
+use Rattle.sail_sizes.proofs.sizes.Statement.{statement}
+use Rattle.sail_sizes.proofs.sizes.Tie as tie
 
 pub sizes-spec : {M : Type 1} → statement M
 sizes-spec =

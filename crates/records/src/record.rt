@@ -1,14 +1,14 @@
 // One record of eight bytes: read, and written into a lent list.
-use crate::Route;
 use bits::widen::byte_to_half;
 use bits::widen::byte_to_long;
 use bits::widen::half_to_word;
 use bits::widen::word_to_long;
+use routes::Route;
 ghost use mathlib.Core.Path.{_≡_};
 ghost use Prim.Native.Nat.{_+_, _*_, _/_, _%_, _≤_, _<_, _^_};
 ghost use lib.ListN.{length, set};
 ghost use Rattle.routes.specs.Route.{key};
 ghost use Rattle.routes.specs.Record.{word32, word16, recordAt, putAt};
 
 // Two bytes from a place on, as a number.
 fn half_at(list: &[u8], at: usize) -> u16
