@@ -56,15 +56,15 @@ module _ (t : Table) (l : Lent) (k : Sound t l) (r : Reported) (e : meansReporte
 
 -- The line of what a load says.
 module _ (a : Loaded) {o : List ℕ} where
-  pub said-none : a ≡ Done → Wrote o 0 (saidText (meansLoaded a)) 0 o
+  pub no-line : a ≡ Done → Wrote o 0 (saidText (meansLoaded a)) 0 o
   unfolding meansLoaded saidText
-  said-none q = rw q (wrote-none zero-le)
+  no-line q = rw q (wrote-none zero-le)
 
   module _ {o₁ : List ℕ} {m : ℕ} where
-    pub said-refused : (n : ℕ) → a ≡ Refused n → Wrote o 0 (saidText (refused n)) m o₁ → Wrote o 0 (saidText (meansLoaded a)) m o₁
+    pub refusal-line : (n : ℕ) → a ≡ Refused n → Wrote o 0 (saidText (refused n)) m o₁ → Wrote o 0 (saidText (meansLoaded a)) m o₁
     unfolding meansLoaded
-    said-refused n q w = rw q w
+    refusal-line n q w = rw q w
 
-    pub said-refused-at : (n k : ℕ) → a ≡ RefusedAt n k → Wrote o 0 (saidText (refusedAt n k)) m o₁ → Wrote o 0 (saidText (meansLoaded a)) m o₁
+    pub refusal-at-line : (n k : ℕ) → a ≡ RefusedAt n k → Wrote o 0 (saidText (refusedAt n k)) m o₁ → Wrote o 0 (saidText (meansLoaded a)) m o₁
     unfolding meansLoaded
-    said-refused-at n k q w = rw q w
+    refusal-at-line n k q w = rw q w
