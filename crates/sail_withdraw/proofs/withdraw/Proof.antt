@@ -1,7 +1,7 @@
 -- `sail_withdraw::withdraw`: the address is cleared, the prefix judged, and then it is refused or taken.
 use mathlib.Core.Path.{refl}
 use borrow.Author.Needs.{needs}
-use Rattle.sail_withdraw.proofs.Takes.{withdraw-refused, withdraw-cleared}
+use Rattle.sail_withdraw.proofs.WithdrawReturns.{withdraw-refused, withdraw-removed}
 use Rattle.sail_withdraw.proofs.withdraw.Statement.{statement}
 use Rattle.sail_withdraw.proofs.withdraw.Tie as tie
 
@@ -22,7 +22,7 @@ returns-2 c =
     let taken : tie.After-take = search in
     let judged : tie.After-judge-withdraw = search in
     let cleared : tie.After-clear-after = search in
-    withdraw-cleared _ _ _ _ _ (cleared .clear-after .ensures) _ refl _ (taken .take .ensures)
+    withdraw-removed _ _ _ _ _ (cleared .clear-after .ensures) (taken .take .ensures) _ refl
 
 pub withdraw-spec : {M : Type 1} → statement M
 withdraw-spec =

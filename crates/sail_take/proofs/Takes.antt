@@ -1,4 +1,4 @@
--- A withdrawal step by step: what each step asks, and what they leave.
+-- A route taken out step by step: what each step asks, and what they leave.
 use mathlib.Core.Path.{_≡_, refl, sym, _∙_, ap}
 use mathlib.Core.Logic.{_⊎_, inl, inr}
 use mathlib.Core.Bool.{Bool, true, false, not, cond}
@@ -7,11 +7,9 @@ use Prim.Native.Nat.{ℕ, suc, _+_, _-_, _*_, _/_, _^_, _≤_}
 use native.Mathlib.Omega.{arith}
 use lib.Dec.{eqb}
 use lib.ListN.{length, set}
-use Rattle.bits.specs.Slot.{cut}
 use Rattle.bits.proofs.Bools.{decided}
 use Rattle.routes.specs.Route.{key, keyOf}
 use Rattle.routes.specs.Record.{recordAt, routesOf}
-use Rattle.routes.specs.Said.{refused}
 use Rattle.standing.specs.Standing.{remove}
 use Rattle.routes.specs.declared.Route.{Route}
 use Rattle.lists.specs.Edit.{RemoveAt, removed, ListHolds}
@@ -26,13 +24,12 @@ use Rattle.sail.specs.declared.geometry.Geometry.{Geometry}
 use Rattle.sail.specs.declared.table.Table.{Table}
 use Rattle.sail.proofs.Sounds.{standing-good}
 use Rattle.sail_theory.specs.Render.{find, longs}
-use Rattle.sail_theory.specs.Calls.{keep, Out, out, taking, outWithFlag, withdrawn}
+use Rattle.sail_theory.specs.Calls.{keep}
 use Rattle.sail.specs.Level.{Level, chunksOf, below, level1, level2}
 use Rattle.sail_theory.specs.Facts.{Withdrawable}
 use Rattle.sail_theory.proofs.owners.GrantKeep.{length-keep, Losing}
 use Rattle.sail_theory.proofs.calls.ChangeHolds.{losing1, losing2}
 use Rattle.sail_theory.proofs.calls.Outcomes.{count-removed, taking-is}
-use Rattle.sail_theory.proofs.calls.Cleared.{withdraw-off}
 use Rattle.sail_paint.specs.Stale.{Repainted}
 use Rattle.sail_chunks.specs.Chunks.{alone, withoutOwner, blanked, Closing}
 use Rattle.sail_paint.specs.Pending.{Pending}
@@ -46,23 +43,8 @@ use Rattle.sail_counts.specs.Counted.{Counts}
 use Rattle.sail_counts.specs.Tick.{Tickable, CountsMoved}
 use Rattle.sail_counts.specs.declared.tick.Left.{Left}
 use Rattle.sail_counts.proofs.Tallies.{Guided, down-tickable, down-counts, closes-first, closes-second, keep-counts, counts-are}
-use Rattle.sail_withdraw.specs.Answers.{meansWithdraw}
-use Rattle.sail_judge.specs.Withdraw.{ToTake, WithdrawJudged}
-use Rattle.sail_judge.specs.declared.withdraw.WithdrawVerdict.{WithdrawVerdict}
-use Rattle.sail_withdraw.specs.declared.answers.Withdraw.the-variants as withdraw
-
--- The address x is cut to the length before the prefix is judged.
-module _ (t : Table) (l : Lent) (a len x : ℕ) (e : x ≡ cut len a) where
-  -- a refusal leaves all as it was
-  pub withdraw-refused : (f : WithdrawVerdict) → WithdrawJudged t l x len f → (f .number ≡ 0 → ⊥)
-      → out (meansWithdraw (withdraw.Refused (f .number))) t l ≡ withdrawn t l a len
-  unfolding meansWithdraw
-  withdraw-refused f k h = sym (withdraw-off t l a len (refused (f .number)) (rw e at (k .off h)) refl)
-
-  -- what is taken is the cleared prefix, and bits were cleared where the address is another
-  pub withdraw-cleared : (c : Bool) → c ≡ not (eqb x a) → (o : Out) → o ≡ outWithFlag c (taking t l x len) → o ≡ withdrawn t l a len
-  unfolding withdrawn
-  withdraw-cleared c f o q = q ∙ rw (f, e)
+use Rattle.sail_judge.specs.Withdraw.{ToTake}
+use Rattle.sail_take.specs.Taken.{MeetsTake}
 
 -- which chunk is closed matters only where one is
 module _ (b : Bool) (c c′ : ℕ) (h : b ≡ true → c ≡ c′) where
@@ -292,15 +274,13 @@ module _ (o : CountedOff) where
         })
 
     pub take-done : {first second′ third′ : List ℕ}
-        → Repainted (o .t .geometry) (routesOf (o .s) (o .t .count - 1)) (cells (o .l .first) second third own2 own3) first second′ third′ → (b : Bool)
-        → out (meansWithdraw (withdraw.Removed b)) (record { geometry = o .t .geometry; count = o .t .count - 1 })
+        → Repainted (o .t .geometry) (routesOf (o .s) (o .t .count - 1)) (cells (o .l .first) second third own2 own3) first second′ third′
+        → MeetsTake (o .t) (o .l) (o .a) (o .len) (record { geometry = o .t .geometry; count = o .t .count - 1 })
         (lent (o .s) first second′ third′ own2 own3 (o .long1) (o .long2))
-        ≡ outWithFlag b (taking (o .t) (o .l) (o .a) (o .len))
-    unfolding meansWithdraw
-    take-done h b =
+    take-done h =
         let under = farewell-underway _ _ _ _ (o .ready .may) in
         let is = chunks-left (o .ready) (o .moved) (o .trail) c2 c3 in
         let h′ = underway-asked _ _ _ _ _ _ under _ _ _ (rw (holds .routes, is .0, is .1, is .2, is .3) at h) in
         let are = counts-left (o .ready) (o .moved) (o .same1) (o .same2) in
         rw (count-is (o .ready), list-is, h′ .is-first, h′ .is-second, h′ .is-third, is .0, is .1, are .0, are .1)
-        (sym (ap (outWithFlag b) (taking-is _ _ _ _ (o .ready .may))))
+        (sym (taking-is _ _ _ _ (o .ready .may)))

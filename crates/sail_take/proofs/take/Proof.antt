@@ -1,12 +1,12 @@
--- `sail_withdraw::take`. The cells of the address are read before the list changes; they name the chunks, and the counts that are left tell which
+-- `sail_take::take`. The cells of the address are read before the list changes; they name the chunks, and the counts that are left tell which
 -- of these are closed. What is then stale is painted.
 use mathlib.Core.Path.{_∙_}
 use native.Mathlib.Omega.{arith}
-use Rattle.sail_withdraw.proofs.Takes.{take-serving, take-some, take-there, take-tickable}
-use Rattle.sail_withdraw.proofs.Takes.{CountedOff, countedOff, take-one, take-second, take-third, take-pending, take-done}
+use Rattle.sail_take.proofs.Takes.{take-serving, take-some, take-there, take-tickable}
+use Rattle.sail_take.proofs.Takes.{CountedOff, countedOff, take-one, take-second, take-third, take-pending, take-done}
 use borrow.Author.Needs.{needs}
-use Rattle.sail_withdraw.proofs.take.Statement.{statement}
-use Rattle.sail_withdraw.proofs.take.Tie as tie
+use Rattle.sail_take.proofs.take.Statement.{statement}
+use Rattle.sail_take.proofs.take.Tie as tie
 
 -- Places, each seen from a later one.
 abbrev begun : tie.After-follow → tie.Start
@@ -84,7 +84,7 @@ repaint-requires c κs =
     let second : tie.After-close = closed2 third in
     take-pending (counted-off (ticked second)) (second .close .ensures) (third .close2 .ensures) (worded .byte-to-word .ensures .0)
 
-count-fits : tie.Need-cast-t48
+count-fits : tie.Need-cast-t46
 count-fits c =
     let painted : tie.After-repaint-from-list = search in
     let few = counted-off (ticked (closed2 (closed3 painted))) .ready .may .sound .listed .records .few in
@@ -127,7 +127,7 @@ returns c =
     let painted : tie.After-repaint-from-list = search in
     let third : tie.After-close2 = closed3 painted in
     let second : tie.After-close = closed2 third in
-    take-done (counted-off (ticked second)) (second .close .ensures) (third .close2 .ensures) (painted .repaint-from-list .ensures) _
+    take-done (counted-off (ticked second)) (second .close .ensures) (third .close2 .ensures) (painted .repaint-from-list .ensures)
 
 pub take-spec : {M : Type 1} → statement M
 take-spec =

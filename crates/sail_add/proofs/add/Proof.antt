@@ -1,9 +1,9 @@
--- `sail_announce::add`. Chunks are opened and the route is put into the list, as was found; then what it touches is stale, and is painted. The first
+-- `sail_add::add`. Chunks are opened and the route is put into the list, as was found; then what it touches is stale, and is painted. The first
 -- cells then lead to the place that serves the route, and it is counted there.
 use borrow.Author.Needs.{needs}
-use Rattle.sail_announce.proofs.Adds.{add-put, add-openable, add-few, PutIn, putIn, add-pending, add-bookable, add-done}
-use Rattle.sail_announce.proofs.add.Statement.{statement}
-use Rattle.sail_announce.proofs.add.Tie as tie
+use Rattle.sail_add.proofs.Adds.{add-put, add-openable, add-few, PutIn, putIn, add-pending, add-bookable, add-done}
+use Rattle.sail_add.proofs.add.Statement.{statement}
+use Rattle.sail_add.proofs.add.Tie as tie
 
 -- Places, each seen from a later one.
 abbrev begun : tie.After-open → tie.Start
@@ -54,7 +54,7 @@ returns c =
     let counted : tie.After-count-in = search in
     let painted : tie.After-repaint-from-list = search in
     add-done (put-in (count-made painted)) (painted .repaint-from-list .ensures)
-    (counted .count-in .ensures) (counted .count-in .kept .1 .1 .1 .1 .0) (counted .count-in .kept .1 .1 .1 .1 .1 .0) _ _ (c .answer-of .ensures)
+    (counted .count-in .ensures) (counted .count-in .kept .1 .1 .1 .1 .0) (counted .count-in .kept .1 .1 .1 .1 .1 .0)
 
 same-list : tie.Need-same-length
 same-list c =
@@ -110,7 +110,6 @@ add-spec =
     repaint-requires
     count-in-requires
     (λ c. search needs)
-    (λ c κs. tt)
     same-list
     same-first
     same-second

@@ -1,0 +1,2 @@
+-- What joins the code to the definition `taking`.
+pub mod Takes

@@ -1,0 +1,2 @@
+-- A route taken out of a sound table.
+pub mod Taken
