@@ -1,6 +1,6 @@
 -- A route added step by step: what each step asks, and what they leave.
 use mathlib.Core.Path.{_≡_, refl, sym, _∙_, ap}
-use mathlib.Core.Bool.{Bool, true, not}
+use mathlib.Core.Bool.{true, not}
 use mathlib.Core.List.{List}
 use Prim.Native.Nat.{ℕ, _*_, _/_, _^_, _≤_}
 use native.Mathlib.Omega.{arith}
@@ -16,7 +16,8 @@ use Rattle.standing.proofs.Changed.{insert-adds}
 use Rattle.standing.proofs.Standing.{insert-long}
 use Rattle.counts.specs.Counts.{OneMore}
 use Rattle.counts.proofs.Changed.{many-insert, many-replace}
-use Rattle.lists.specs.Edit.{Insertable, PutAt, inserted, countWith, ListHolds}
+use Rattle.chain.specs.List.{ChainedFront}
+use Rattle.lists.specs.Edit.{Insertable, inserted, countWith, ListHolds}
 use Rattle.lists.proofs.EditHolds.{insert-count, insert-holds}
 use Rattle.sail.specs.Geometry.{bits2, Valid}
 use Rattle.sail.specs.Lent.{Lent, lent, cells}
@@ -40,6 +41,7 @@ use Rattle.sail_chunks.proofs.Underway.{underway-stale, underway-asked}
 use Rattle.sail_counts.specs.Counted.{Counts}
 use Rattle.sail_counts.proofs.Tallies.{Guided, up-tickable, up-counts, open-counts, as-counts, counts-are}
 use Rattle.sail_add.specs.Added.{MeetsAdd}
+use Rattle.sail_add.specs.PutIn.{PutInReady}
 use Rattle.sail_add.specs.Booked.{Bookable, Booked, more, same}
 use Rattle.sail_judge.specs.Announce.{ToAdd}
 use Rattle.sail_judge.specs.declared.announce.AnnounceVerdict.{AnnounceVerdict}
@@ -69,13 +71,17 @@ module _ {t : Table} {l : Lent} {r : Route} {f : AnnounceVerdict} (ready : ToAdd
     room = λ e. omega (arith, w .roomy, insert-adds r rs e, length-routes (l .list) (t .count));
   }
 
-  pub add-put : PutAt (l .list) (t .count) (f .at) (f .stands) r
-  add-put = record { fits = insertable; place = ready .at; stood = ready .stood }
+  pub add-ready : {ws par : List ℕ} → ChainedFront (l .list) (t .count) ws par → PutInReady (l .list) (t .count) (f .at) (f .stands) r ws par
+  add-ready c = record {
+    fits = record { fits = insertable; place = ready .at; stood = ready .stood };
+    few = omega (arith, w .sound .sized .room);
+    chain = c;
+  }
 
   pub add-openable : Openable g r (f .opens) (l .own2) (l .own3)
   add-openable = openable t l r w (f .opens) (ready .opens)
 
-  pub add-few : t .count ≤ 4096
+  add-few : t .count ≤ 4096
   add-few = w .sound .listed .records .few
 
   -- s is the list with the route put in, and m the number of routes in it

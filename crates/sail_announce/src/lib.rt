@@ -57,7 +57,22 @@ pub fn announce(
         mark,
         hop,
     };
-    let f = judge_announce(t, list, first, second, third, own2, own3, long1, long2, r);
+    let mut ws = [0u64; 4096];
+    let mut par = [0u16; 4353];
+    let f = judge_announce(
+        t,
+        list,
+        first,
+        second,
+        third,
+        own2,
+        own3,
+        long1,
+        long2,
+        r,
+        &mut ws,
+        &mut par,
+    );
     if f.number != 0 {
         return Announced {
             answer: Announce::Refused(f.number),
@@ -76,6 +91,8 @@ pub fn announce(
         long2,
         r,
         f,
+        &mut ws,
+        &mut par,
     );
     Announced {
         answer: answer_of(f.stands, a != addr),

@@ -1,17 +1,33 @@
 // A route taken out of a sound table in which it stands.
+ghost use Rattle.chain.specs.List.{ChainedFront};
 ghost use Rattle.sail.specs.Lent.{lent};
 ghost use Rattle.sail_judge.specs.Withdraw.{ToTake};
 ghost use Rattle.sail_take.specs.Taken.{MeetsTake};
+ghost use Rattle.sail_take.specs.TakenOut.{TakeOutReady, ListTaken};
 use bits::widen::byte_to_word;
+use chain::list::chained_from;
 use lists::edit;
 use sail::table::Table;
 use sail_chunks::chunks::close;
 use sail_chunks::trail::follow;
 use sail_counts::tick::tick;
-use sail_paint::from_list::repaint_from_list;
+use sail_paint::repaint::repaint;
+
+// Record k taken out of the list's n records; the words of the list and their chain are gone on with from there. The answer
+// is how many routes are left.
+fn take_out(list: &mut [u8], n: usize, k: usize, ws: &mut [u64], par: &mut [u16]) -> usize
+    requires { ⌜ TakeOutReady (now list) n k (now ws) (now par) ⌝ }
+    ensures { λ m. ⌜ ListTaken (now (list .entry)) n k (now (list .exit)) m (now (ws .exit)) (now (par .exit)) ⌝ }
+{
+    edit::remove_at(list, n, k);
+    let m = n - 1;
+    chained_from(list, m, k, ws, par);
+    m
+}
 
 // The withdrawal, where the prefix stands: its record is taken out of the list and counted no more, chunks whose count falls
-// to 0 are closed, and what it touched is painted again. The answer is the new state.
+// to 0 are closed, and what it touched is painted again. `ws` and `par` have the words of the list and their chain. The answer
+// is the new state.
 pub fn take(
     t: Table,
     list: &mut [u8],
@@ -25,8 +41,11 @@ pub fn take(
     addr: u32,
     len: u8,
     at: usize,
+    ws: &mut [u64],
+    par: &mut [u16],
 ) -> Table
     requires { ⌜ ToTake t (lent (now list) (now first) (now second) (now third) (now own2) (now own3) (now long1) (now long2)) addr len at ⌝ }
+    requires { ⌜ ChainedFront (now list) (t .count) (now ws) (now par) ⌝ }
     ensures { λ u. ⌜ MeetsTake t (lent (now (list .entry)) (now (first .entry)) (now (second .entry)) (now (third .entry))
         (now (own2 .entry)) (now (own3 .entry)) (now (long1 .entry)) (now (long2 .entry))) addr len
         u (lent (now (list .exit)) (now (first .exit)) (now (second .exit)) (now (third .exit))
@@ -37,8 +56,7 @@ pub fn take(
     let p2 = g.p2;
     let n = t.count as usize;
     let v = follow(t, list, first, second, own2, own3, addr);
-    edit::remove_at(list, n, at);
-    let m = n - 1;
+    let m = take_out(list, n, at, ws, par);
     let left = tick(g, addr, len, first, long1, long2, false);
     close(
         own2,
@@ -54,10 +72,10 @@ pub fn take(
         (v.second - 1) as usize,
         32 - p2,
     );
-    repaint_from_list(
+    repaint(
+        &ws[..m],
+        par,
         g,
-        list,
-        m,
         addr,
         byte_to_word(len),
         first,

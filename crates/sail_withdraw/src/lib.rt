@@ -33,6 +33,8 @@ pub fn withdraw(
         (now (own2 .exit)) (now (own3 .exit)) (now (long1 .exit)) (now (long2 .exit))) ⌝ }
 {
     let a = clear_after(addr, len);
+    let mut ws = [0u64; 4096];
+    let mut par = [0u16; 4353];
     let f = judge_withdraw(
         t,
         list,
@@ -45,6 +47,8 @@ pub fn withdraw(
         long2,
         a,
         len,
+        &mut ws,
+        &mut par,
     );
     if f.number != 0 {
         return Withdrawn {
@@ -65,6 +69,8 @@ pub fn withdraw(
         a,
         len,
         f.at,
+        &mut ws,
+        &mut par,
     );
     Withdrawn {
         answer: Withdraw::Removed(a != addr),

@@ -18,25 +18,30 @@ accepted c = search
 returns : tie.Need-returns
 returns c =
     let at-judge : tie.After-judge-announce = search in
-    announce-refused _ _ _ _ _ _ _ (cut-off at-judge .clear-after .ensures) _ (at-judge .judge-announce .ensures) (c .if1 .taken)
+    announce-refused _ _ _ _ _ _ _ (cut-off at-judge .clear-after .ensures) _ (at-judge .judge-announce .ensures .0) (c .if1 .taken)
 
 add-requires : tie.Need-add-requires
-add-requires c κs = let at-else : tie.Else1 = search in judged at-else .judge-announce .ensures .on (at-else .if1 .left)
+add-requires c κs =
+    let at-else : tie.Else1 = search in
+    let told = judged at-else .judge-announce .ensures in
+    (told .0 .on (at-else .if1 .left), told .1 .on (at-else .if1 .left))
 
 returns-2 : tie.Need-returns-2
 returns-2 c =
     let added : tie.After-add = search in
     let at-else : tie.Else1 = accepted added in
     let at-judge : tie.After-judge-announce = judged at-else in
-    announce-added _ _ _ _ _ _ _ (cut-off at-judge .clear-after .ensures) _ (at-judge .judge-announce .ensures .on (at-else .if1 .left)) (added .add .ensures)
-    _ refl _ (c .answer-of .ensures)
+    announce-added _ _ _ _ _ _ _ (cut-off at-judge .clear-after .ensures) _
+    (at-judge .judge-announce .ensures .0 .on (at-else .if1 .left)) (added .add .ensures) _ refl _ (c .answer-of .ensures)
 
 pub announce-spec : {M : Type 1} → statement M
 announce-spec =
     tie.close
     (tie.spec
     (λ c κs. search needs)
-    (λ c κs. tt)
+    (λ c. search needs)
+    (λ c. search needs)
+    (λ c κs. record { words = search needs; chain = search needs })
     (λ c. refl)
     (λ c. refl)
     (λ c. refl)
@@ -46,6 +51,8 @@ announce-spec =
     (λ c. refl)
     (λ c. refl)
     returns
+    (λ c. search needs)
+    (λ c. search needs)
     add-requires
     (λ c κs. tt)
     (λ c. let added : tie.After-add = search in added .add .kept .1 .0)
