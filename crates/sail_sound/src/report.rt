@@ -30,7 +30,21 @@ pub fn judged(
     if s != 0 {
         return s;
     }
-    if sound(t, list, first, second, third, own2, own3, long1, long2) {
+    let mut ws = [0u64; 4096];
+    let mut par = [0u16; 4353];
+    if sound(
+        t,
+        list,
+        first,
+        second,
+        third,
+        own2,
+        own3,
+        long1,
+        long2,
+        &mut ws,
+        &mut par,
+    ) {
         return 0;
     }
     5

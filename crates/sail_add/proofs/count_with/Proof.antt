@@ -1,7 +1,7 @@
--- `sail_announce::count_with`. How many routes stand after one was put into n, by whether its prefix stood.
+-- `sail_add::count_with`. How many routes stand after one was put into n, by whether its prefix stood.
 use borrow.Author.Needs.{needs}
-use Rattle.sail_announce.proofs.count_with.Statement.{statement}
-use Rattle.sail_announce.proofs.count_with.Tie as tie
+use Rattle.sail_add.proofs.count_with.Statement.{statement}
+use Rattle.sail_add.proofs.count_with.Tie as tie
 
 returns : tie.Need-returns
 returns c = (rw (c .if1 .taken), search needs)

@@ -1,9 +1,9 @@
--- `sail_announce::count_in`: one step where the route is added, and none where it is not.
+-- `sail_add::count_in`: one step where the route is added, and none where it is not.
 use mathlib.Core.Path.{refl}
 use borrow.Author.Needs.{needs}
-use Rattle.sail_announce.specs.Booked.{more, same}
-use Rattle.sail_announce.proofs.count_in.Statement.{statement}
-use Rattle.sail_announce.proofs.count_in.Tie as tie
+use Rattle.sail_add.specs.Booked.{more, same}
+use Rattle.sail_add.proofs.count_in.Statement.{statement}
+use Rattle.sail_add.proofs.count_in.Tie as tie
 
 tick-requires : tie.Need-tick-requires
 tick-requires c κs =

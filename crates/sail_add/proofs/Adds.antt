@@ -1,17 +1,14 @@
--- An announcement step by step: what each step asks, and what they leave.
+-- A route added step by step: what each step asks, and what they leave.
 use mathlib.Core.Path.{_≡_, refl, sym, _∙_, ap}
-use mathlib.Core.Bool.{Bool, true, not}
-use mathlib.Core.List.{List, [], _∷_}
+use mathlib.Core.Bool.{true, not}
+use mathlib.Core.List.{List}
 use Prim.Native.Nat.{ℕ, _*_, _/_, _^_, _≤_}
 use native.Mathlib.Omega.{arith}
-use lib.Dec.{eqb}
 use lib.ListN.{length}
 use borrow.Author.Tests.{lt-ltb, eq-eqb, not-true, not-false}
-use Rattle.bits.specs.Count.{bit}
-use Rattle.bits.specs.Slot.{cut, slot}
+use Rattle.bits.specs.Slot.{slot}
 use Rattle.routes.specs.Route.{key, Good}
 use Rattle.routes.specs.Record.{routesOf}
-use Rattle.routes.specs.Said.{accepted, refused}
 use Rattle.standing.specs.Standing.{stands, insert}
 use Rattle.routes.specs.declared.Route.{Route}
 use Rattle.routes.proofs.Rows.{length-routes}
@@ -19,7 +16,8 @@ use Rattle.standing.proofs.Changed.{insert-adds}
 use Rattle.standing.proofs.Standing.{insert-long}
 use Rattle.counts.specs.Counts.{OneMore}
 use Rattle.counts.proofs.Changed.{many-insert, many-replace}
-use Rattle.lists.specs.Edit.{Insertable, PutAt, inserted, countWith, ListHolds}
+use Rattle.chain.specs.List.{ChainedFront}
+use Rattle.lists.specs.Edit.{Insertable, inserted, countWith, ListHolds}
 use Rattle.lists.proofs.EditHolds.{insert-count, insert-holds}
 use Rattle.sail.specs.Geometry.{bits2, Valid}
 use Rattle.sail.specs.Lent.{Lent, lent, cells}
@@ -28,14 +26,13 @@ use Rattle.sail.specs.declared.geometry.Geometry.{Geometry}
 use Rattle.sail.specs.declared.table.Table.{Table}
 use Rattle.sail.proofs.Sounds.{standing-good}
 use Rattle.sail_theory.specs.Render.{find}
-use Rattle.sail_theory.specs.Calls.{opening, route, Out, out, adding, outWithFlag, announced}
+use Rattle.sail_theory.specs.Calls.{opening}
 use Rattle.sail.specs.Level.{chunksOf, level1, level2}
 use Rattle.sail_theory.specs.Facts.{Announceable}
 use Rattle.sail_theory.proofs.calls.Outcomes.{adding-is}
 use Rattle.sail_theory.proofs.calls.ChangeHolds.{ready1, welcome-fits2}
 use Rattle.sail_theory.proofs.owners.OpenAt.{length-open}
 use Rattle.sail_theory.proofs.places.Pools.{length-pool, pool-shows}
-use Rattle.sail_theory.proofs.calls.Cleared.{announce-off}
 use Rattle.sail_paint.specs.Stale.{Repainted, AsAsked}
 use Rattle.sail_paint.specs.Pending.{Pending}
 use Rattle.sail_chunks.specs.ToOpen.{Openable}
@@ -43,26 +40,11 @@ use Rattle.sail_chunks.proofs.AnnounceUnderway.{openable, welcome-underway}
 use Rattle.sail_chunks.proofs.Underway.{underway-stale, underway-asked}
 use Rattle.sail_counts.specs.Counted.{Counts}
 use Rattle.sail_counts.proofs.Tallies.{Guided, up-tickable, up-counts, open-counts, as-counts, counts-are}
-use Rattle.sail_announce.specs.Answers.{meansAnnounce}
-use Rattle.sail_announce.specs.Booked.{Bookable, Booked, more, same}
-use Rattle.sail_judge.specs.Announce.{ToAdd, AnnounceJudged}
+use Rattle.sail_add.specs.Added.{MeetsAdd}
+use Rattle.sail_add.specs.PutIn.{PutInReady}
+use Rattle.sail_add.specs.Booked.{Bookable, Booked, more, same}
+use Rattle.sail_judge.specs.Announce.{ToAdd}
 use Rattle.sail_judge.specs.declared.announce.AnnounceVerdict.{AnnounceVerdict}
-use Rattle.sail_announce.specs.declared.answers.Announce.{Announce}
-use Rattle.sail_announce.specs.declared.answers.Announce.the-variants as announce
-
--- The address x is cut to its length before the route is judged.
-module _ (t : Table) (l : Lent) (a len hop mark x : ℕ) (e : x ≡ cut len a) where
-  -- a refusal leaves all as it was
-  pub announce-refused : (f : AnnounceVerdict) → AnnounceJudged t l (route x len hop mark) f → (f .number ≡ 0 → ⊥)
-      → out (meansAnnounce (announce.Refused (f .number))) t l ≡ announced t l (route a len hop mark)
-  unfolding meansAnnounce
-  announce-refused f k h = sym (announce-off t l (route a len hop mark) (refused (f .number)) (rw e at (k .off h)) refl)
-
-  -- what is added is the cleared route, and bits were cleared where the address is another
-  pub announce-cleared : (c : Bool) → c ≡ not (eqb x a) → (o : Out) → o ≡ outWithFlag c (adding t l (route x len hop mark)) → o ≡ announced t l
-      (route a len hop mark)
-  unfolding announced
-  announce-cleared c f o q = q ∙ rw (f, e)
 
 -- ---- what is known before the list changes
 
@@ -89,13 +71,17 @@ module _ {t : Table} {l : Lent} {r : Route} {f : AnnounceVerdict} (ready : ToAdd
     room = λ e. omega (arith, w .roomy, insert-adds r rs e, length-routes (l .list) (t .count));
   }
 
-  pub add-put : PutAt (l .list) (t .count) (f .at) (f .stands) r
-  add-put = record { fits = insertable; place = ready .at; stood = ready .stood }
+  pub add-ready : {ws par : List ℕ} → ChainedFront (l .list) (t .count) ws par → PutInReady (l .list) (t .count) (f .at) (f .stands) r ws par
+  add-ready c = record {
+    fits = record { fits = insertable; place = ready .at; stood = ready .stood };
+    few = omega (arith, w .sound .sized .room);
+    chain = c;
+  }
 
   pub add-openable : Openable g r (f .opens) (l .own2) (l .own3)
   add-openable = openable t l r w (f .opens) (ready .opens)
 
-  pub add-few : t .count ≤ 4096
+  add-few : t .count ≤ 4096
   add-few = w .sound .listed .records .few
 
   -- s is the list with the route put in, and m the number of routes in it
@@ -201,12 +187,10 @@ module _ (p : PutIn) where
 
     pub add-done : {long1 long2 : List ℕ} → Booked (not (p .f .stands)) (p .t .geometry) (p .r) first (p .l .long1) (p .l .long2) long1 long2
         → length long1 ≡ length (p .l .long1) → length long2 ≡ length (p .l .long2)
-        → (n : Announce) (c : Bool) → meansAnnounce n ≡ accepted (bit c ∷ bit (p .f .stands) ∷ [])
-        → out (meansAnnounce n) (record { geometry = p .t .geometry; count = p .m }) (lent (p .s) first second third (p .own2) (p .own3) long1 long2)
-        ≡ outWithFlag c (adding (p .t) (p .l) (p .r))
-    add-done booked e1 e2 n c q =
+        → MeetsAdd (p .t) (p .l) (p .r) (record { geometry = p .t .geometry; count = p .m }) (lent (p .s) first second third (p .own2) (p .own3) long1 long2)
+    add-done booked e1 e2 =
         let sized = p .ready .may .sound .sized in
         let are = counts-are _ (sized .valid) _ (own2′ (p .ready)) _ _ (counts (p .ready) asked booked) (e1 ∙ sized .counts1) (e2 ∙ many2 (p .ready)) in
         let count = count-is (p .ready) (p .put) (p .counted) in
-        rw (q, p .ready .stood, count, p .put, asked .is-first, asked .is-second, asked .is-third, p .open2, p .open3, are .0, are .1)
-        (sym (ap (outWithFlag c) (adding-is _ _ _ (p .ready .may))))
+        rw (count, p .put, asked .is-first, asked .is-second, asked .is-third, p .open2, p .open3, are .0, are .1)
+        (sym (adding-is _ _ _ (p .ready .may)))

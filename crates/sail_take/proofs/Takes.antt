@@ -1,20 +1,19 @@
--- A withdrawal step by step: what each step asks, and what they leave.
-use mathlib.Core.Path.{_≡_, refl, sym, _∙_, ap}
+-- A route taken out step by step: what each step asks, and what they leave.
+use mathlib.Core.Path.{_≡_, sym, _∙_, ap}
 use mathlib.Core.Logic.{_⊎_, inl, inr}
-use mathlib.Core.Bool.{Bool, true, false, not, cond}
+use mathlib.Core.Bool.{Bool, true, false, cond}
 use mathlib.Core.List.{List}
 use Prim.Native.Nat.{ℕ, suc, _+_, _-_, _*_, _/_, _^_, _≤_}
 use native.Mathlib.Omega.{arith}
 use lib.Dec.{eqb}
 use lib.ListN.{length, set}
-use Rattle.bits.specs.Slot.{cut}
 use Rattle.bits.proofs.Bools.{decided}
 use Rattle.routes.specs.Route.{key, keyOf}
 use Rattle.routes.specs.Record.{recordAt, routesOf}
-use Rattle.routes.specs.Said.{refused}
 use Rattle.standing.specs.Standing.{remove}
 use Rattle.routes.specs.declared.Route.{Route}
-use Rattle.lists.specs.Edit.{RemoveAt, removed, ListHolds}
+use Rattle.chain.specs.List.{ChainedFront}
+use Rattle.lists.specs.Edit.{removed, ListHolds}
 use Rattle.lists.proofs.EditHolds.{remove-holds}
 use Rattle.buffers.specs.Fill.{filled}
 use Rattle.counts.specs.Counts.{OneMore}
@@ -26,13 +25,12 @@ use Rattle.sail.specs.declared.geometry.Geometry.{Geometry}
 use Rattle.sail.specs.declared.table.Table.{Table}
 use Rattle.sail.proofs.Sounds.{standing-good}
 use Rattle.sail_theory.specs.Render.{find, longs}
-use Rattle.sail_theory.specs.Calls.{keep, Out, out, taking, outWithFlag, withdrawn}
+use Rattle.sail_theory.specs.Calls.{keep}
 use Rattle.sail.specs.Level.{Level, chunksOf, below, level1, level2}
 use Rattle.sail_theory.specs.Facts.{Withdrawable}
 use Rattle.sail_theory.proofs.owners.GrantKeep.{length-keep, Losing}
 use Rattle.sail_theory.proofs.calls.ChangeHolds.{losing1, losing2}
 use Rattle.sail_theory.proofs.calls.Outcomes.{count-removed, taking-is}
-use Rattle.sail_theory.proofs.calls.Cleared.{withdraw-off}
 use Rattle.sail_paint.specs.Stale.{Repainted}
 use Rattle.sail_chunks.specs.Chunks.{alone, withoutOwner, blanked, Closing}
 use Rattle.sail_paint.specs.Pending.{Pending}
@@ -46,23 +44,9 @@ use Rattle.sail_counts.specs.Counted.{Counts}
 use Rattle.sail_counts.specs.Tick.{Tickable, CountsMoved}
 use Rattle.sail_counts.specs.declared.tick.Left.{Left}
 use Rattle.sail_counts.proofs.Tallies.{Guided, down-tickable, down-counts, closes-first, closes-second, keep-counts, counts-are}
-use Rattle.sail_withdraw.specs.Answers.{meansWithdraw}
-use Rattle.sail_judge.specs.Withdraw.{ToTake, WithdrawJudged}
-use Rattle.sail_judge.specs.declared.withdraw.WithdrawVerdict.{WithdrawVerdict}
-use Rattle.sail_withdraw.specs.declared.answers.Withdraw.the-variants as withdraw
-
--- The address x is cut to the length before the prefix is judged.
-module _ (t : Table) (l : Lent) (a len x : ℕ) (e : x ≡ cut len a) where
-  -- a refusal leaves all as it was
-  pub withdraw-refused : (f : WithdrawVerdict) → WithdrawJudged t l x len f → (f .number ≡ 0 → ⊥)
-      → out (meansWithdraw (withdraw.Refused (f .number))) t l ≡ withdrawn t l a len
-  unfolding meansWithdraw
-  withdraw-refused f k h = sym (withdraw-off t l a len (refused (f .number)) (rw e at (k .off h)) refl)
-
-  -- what is taken is the cleared prefix, and bits were cleared where the address is another
-  pub withdraw-cleared : (c : Bool) → c ≡ not (eqb x a) → (o : Out) → o ≡ outWithFlag c (taking t l x len) → o ≡ withdrawn t l a len
-  unfolding withdrawn
-  withdraw-cleared c f o q = q ∙ rw (f, e)
+use Rattle.sail_judge.specs.Withdraw.{ToTake}
+use Rattle.sail_take.specs.Taken.{MeetsTake}
+use Rattle.sail_take.specs.TakenOut.{TakeOutReady}
 
 -- which chunk is closed matters only where one is
 module _ (b : Bool) (c c′ : ℕ) (h : b ≡ true → c ≡ c′) where
@@ -108,11 +92,12 @@ module _ {t : Table} {l : Lent} {a len at : ℕ} (ready : ToTake t l a len at) w
   count-is : t .count - 1 ≡ length left
   count-is = omega (arith, count-removed t l a len w)
 
-  pub take-some : 1 ≤ t .count
-  take-some = omega (arith, count-removed t l a len w)
-
-  pub take-there : RemoveAt (l .list) (t .count) at
-  take-there = record { listed = w .sound .listed; place = ready .place }
+  pub take-ready : {ws par : List ℕ} → ChainedFront (l .list) (t .count) ws par → TakeOutReady (l .list) (t .count) at ws par
+  take-ready c = record {
+    fits = record { listed = w .sound .listed; place = ready .place };
+    few = omega (arith, w .sound .sized .room);
+    chain = c;
+  }
 
   -- the counts: the first cells lead to the place that serves the prefix
   valid : Valid g
@@ -208,7 +193,7 @@ module _ {t : Table} {l : Lent} {a len at : ℕ} (ready : ToTake t l a len at) w
 
 -- ---- what is known once the prefix is counted no more
 
--- s is the list without the route, n what is left at its places, x1 and x2 the cells of the address
+-- s is the list without the route, m the number of its routes, n what is left at its places, x1 and x2 the cells of the address
 pub record CountedOff : Type 0 where
   pub t : Table
   pub l : Lent
@@ -218,6 +203,8 @@ pub record CountedOff : Type 0 where
   pub ready : ToTake t l a len at
   pub s : List ℕ
   pub taken : s ≡ removed (l .list) (t .count) (key (recordAt (l .list) at))
+  pub m : ℕ
+  pub counted : m ≡ t .count - 1
   pub long1 : List ℕ
   pub long2 : List ℕ
   pub n : Left
@@ -229,11 +216,11 @@ pub record CountedOff : Type 0 where
   pub trail : Trailed (t .geometry) (standing t l) (l .own2) (l .own3) a x1 x2
 
 abbrev pub countedOff : {t : Table} {l : Lent} {a len at : ℕ} → ToTake t l a len at
-    → {s : List ℕ} → s ≡ removed (l .list) (t .count) (key (recordAt (l .list) at))
+    → {s : List ℕ} → s ≡ removed (l .list) (t .count) (key (recordAt (l .list) at)) → {m : ℕ} → m ≡ t .count - 1
     → {long1 long2 : List ℕ} {n : Left} → CountsMoved (t .geometry) a len (l .first) (l .long1) (l .long2) false long1 long2 n
     → length long1 ≡ length (l .long1) → length long2 ≡ length (l .long2)
     → {x1 x2 : ℕ} → Trailed (t .geometry) (standing t l) (l .own2) (l .own3) a x1 x2 → CountedOff
-countedOff {t} {l} {a} {len} {at} r {s} e {long1} {long2} {n} m e1 e2 {x1} {x2} k = record {
+countedOff {t} {l} {a} {len} {at} r {s} e {m} c {long1} {long2} {n} v e1 e2 {x1} {x2} k = record {
   t = t;
   l = l;
   a = a;
@@ -242,10 +229,12 @@ countedOff {t} {l} {a} {len} {at} r {s} e {long1} {long2} {n} m e1 e2 {x1} {x2} 
   ready = r;
   s = s;
   taken = e;
+  m = m;
+  counted = c;
   long1 = long1;
   long2 = long2;
   n = n;
-  moved = m;
+  moved = v;
   same1 = e1;
   same2 = e2;
   x1 = x1;
@@ -257,11 +246,11 @@ module _ (o : CountedOff) where
   list-is : o .s ≡ removed (o .l .list) (o .t .count) (keyOf (o .a) (o .len))
   list-is = o .taken ∙ rw (o .ready .named)
 
-  holds : ListHolds (o .s) (o .t .count - 1) (left (o .ready))
+  holds : ListHolds (o .s) (o .m) (left (o .ready))
   holds =
       let w₀ = o .ready .may in
       let few : length (o .l .list) / 8 ≤ 4096 = omega (arith, w₀ .sound .sized .room) in
-      rw list-is (rw (w₀ .old) at (remove-holds (o .l .list) (o .t .count) few (keyOf (o .a) (o .len)) (w₀ .sound .listed)))
+      rw (list-is, o .counted) (rw (w₀ .old) at (remove-holds (o .l .list) (o .t .count) few (keyOf (o .a) (o .len)) (w₀ .sound .listed)))
 
   pub take-one : (1 ≤ o .x1) × (1 ≤ o .x2)
   take-one = (told-one _ (v1 (o .ready)) _ _ _ (o .trail .first), told-one _ (v2 (o .ready)) _ _ _ (o .trail .second))
@@ -282,7 +271,7 @@ module _ (o : CountedOff) where
   module _ {own2 second : List ℕ} (c2 : Closed2 (o .ready) (o .moved) (o .trail) own2 second)
       {own3 third : List ℕ} (c3 : Closed3 (o .ready) (o .moved) (o .trail) own3 third) where
     pub take-pending : {x : ℕ} → x ≡ o .len
-        → Pending (o .t .geometry) (o .t .count - 1) (o .a) x (o .s) (cells (o .l .first) second third own2 own3)
+        → Pending (o .t .geometry) (o .m) (o .a) x (o .s) (cells (o .l .first) second third own2 own3)
     take-pending q =
         let under = farewell-underway _ _ _ _ (o .ready .may) in
         let is = chunks-left (o .ready) (o .moved) (o .trail) c2 c3 in
@@ -292,15 +281,13 @@ module _ (o : CountedOff) where
         })
 
     pub take-done : {first second′ third′ : List ℕ}
-        → Repainted (o .t .geometry) (routesOf (o .s) (o .t .count - 1)) (cells (o .l .first) second third own2 own3) first second′ third′ → (b : Bool)
-        → out (meansWithdraw (withdraw.Removed b)) (record { geometry = o .t .geometry; count = o .t .count - 1 })
+        → Repainted (o .t .geometry) (routesOf (o .s) (o .m)) (cells (o .l .first) second third own2 own3) first second′ third′
+        → MeetsTake (o .t) (o .l) (o .a) (o .len) (record { geometry = o .t .geometry; count = o .m })
         (lent (o .s) first second′ third′ own2 own3 (o .long1) (o .long2))
-        ≡ outWithFlag b (taking (o .t) (o .l) (o .a) (o .len))
-    unfolding meansWithdraw
-    take-done h b =
+    take-done h =
         let under = farewell-underway _ _ _ _ (o .ready .may) in
         let is = chunks-left (o .ready) (o .moved) (o .trail) c2 c3 in
         let h′ = underway-asked _ _ _ _ _ _ under _ _ _ (rw (holds .routes, is .0, is .1, is .2, is .3) at h) in
         let are = counts-left (o .ready) (o .moved) (o .same1) (o .same2) in
-        rw (count-is (o .ready), list-is, h′ .is-first, h′ .is-second, h′ .is-third, is .0, is .1, are .0, are .1)
-        (sym (ap (outWithFlag b) (taking-is _ _ _ _ (o .ready .may))))
+        rw (o .counted ∙ count-is (o .ready), list-is, h′ .is-first, h′ .is-second, h′ .is-third, is .0, is .1, are .0, are .1)
+        (sym (taking-is _ _ _ _ (o .ready .may)))
