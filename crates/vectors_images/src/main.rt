@@ -3,6 +3,7 @@
 mod broken;
 mod changes;
 mod most;
+mod play;
 mod shown;
 
 fn main() {

@@ -61,7 +61,7 @@ pub fn withdrawn(answer: TreeWithdrawn) {
 // The first word of a node.
 fn bits(word: u32) {
     print::text(b" | ");
-    io::print_hex(libc::STDOUT_FILENO, word as u64, 8);
+    print::hex(word);
 }
 
 fn word(place: usize, word: u32) {
