@@ -9,8 +9,8 @@ pub fn tests() {
     let mut ws = [9u32; 23];
     let mut hs = [9u16; 7];
     play(
-        b"build; put 19: 8; test; build; put 22: 1; test; build; hop 5: 1; test\n\
-        build; hop 4: 0; test; build; hop 4: 32768; test; build; hop 4: 57; test",
+        b"(build); put 19: 8; test; (build); put 22: 1; test; (build); hop 5: 1; test\n\
+        (build); hop 4: 0; test; (build); hop 4: 32768; test; (build); hop 4: 57; test",
         &mut ws,
         &mut hs,
     );
@@ -47,8 +47,8 @@ pub fn order() {
     let mut ws = [9u32; 23];
     let mut hs = [9u16; 7];
     play(
-        b"build; hop 4: 0; announce 10.1.2.1/24 to 0; announce 10.1.2.0/24 to 0; announce 10.1.2.0/24 to 1\n\
-        withdraw 11.0.0.0/7; withdraw 11.0.0.0/8; build; withdraw 11.0.0.0/8",
+        b"(build); hop 4: 0; announce 10.1.2.1/24 to 0; announce 10.1.2.0/24 to 0; announce 10.1.2.0/24 to 1\n\
+        withdraw 11.0.0.0/7; withdraw 11.0.0.0/8; (build); withdraw 11.0.0.0/8",
         &mut ws,
         &mut hs,
     );

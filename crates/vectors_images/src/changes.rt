@@ -6,13 +6,13 @@ pub fn one_route() {
     let mut ws = [9u32; 27];
     let mut hs = [9u16; 6];
     play(
-        b"build; test; image\n\
-        build; withdraw 10.1.2.128/25; image\n\
-        build; announce 10.1.2.64/26 to 9; image\n\
-        build; announce 0.0.0.0/1 to 9; image\n\
-        build; announce 10.1.2.200/32 to 70; image\n\
-        build; announce 10.1.2.0/24 to 45; image\n\
-        build; withdraw 0.0.0.0/0; image",
+        b"(build); test; image\n\
+        (build); withdraw 10.1.2.128/25; image\n\
+        (build); announce 10.1.2.64/26 to 9; image\n\
+        (build); announce 0.0.0.0/1 to 9; image\n\
+        (build); announce 10.1.2.200/32 to 70; image\n\
+        (build); announce 10.1.2.0/24 to 45; image\n\
+        (build); withdraw 0.0.0.0/0; image",
         &mut ws,
         &mut hs,
     );
@@ -23,7 +23,7 @@ pub fn branch() {
     let mut ws = [9u32; 39];
     let mut hs = [9u16; 6];
     play(
-        b"build; announce 192.0.2.0/24 to 3; image; withdraw 192.0.2.0/24; image",
+        b"(build); announce 192.0.2.0/24 to 3; image; withdraw 192.0.2.0/24; image",
         &mut ws,
         &mut hs,
     );
@@ -34,19 +34,19 @@ pub fn room() {
     let mut short = [9u32; 38];
     let mut hs = [9u16; 6];
     play(
-        b"build; announce 192.0.2.0/24 to 3; image",
+        b"(build); announce 192.0.2.0/24 to 3; image",
         &mut short,
         &mut hs,
     );
     let mut ws = [9u32; 39];
     let mut few = [9u16; 5];
     play(
-        b"build; announce 192.0.2.0/24 to 3; image",
+        b"(build); announce 192.0.2.0/24 to 3; image",
         &mut ws,
         &mut few,
     );
     play(
-        b"build; announce 192.0.2.0/24 to 3; image; build; announce 0.0.0.0/0 to 7; image",
+        b"(build); announce 192.0.2.0/24 to 3; image; (build); announce 0.0.0.0/0 to 7; image",
         &mut short,
         &mut few,
     );

@@ -1,8 +1,7 @@
-// Runs the worked cases of record inputs, and prints what they give: masks, records and their check, runs, tallies, printed text, images built
-// and looked up, and directed broadcast, of which a line has an address and what versions 1 and 2 say of it, or a version and its refusal. The
-// file stdout has what the documents and RFC 3021 say of them.
+// Runs the worked cases of record inputs, and prints what they give: masks, records and their check, runs, tallies, printed text, and directed
+// broadcast, of which a line has an address and what versions 1 and 2 say of it, or a version and its refusal. The file stdout has what the
+// documents and RFC 3021 say of them.
 mod casts;
-mod images;
 mod lines;
 mod masks;
 mod parts;
@@ -22,11 +21,6 @@ fn main() {
     parts::attached();
     parts::host_bits();
     lines::attached();
-    images::list_a();
-    images::host();
-    images::sizes();
-    images::broken();
-    images::host_bits();
     casts::two_hosts();
     casts::four();
     casts::host_of_its_own();
