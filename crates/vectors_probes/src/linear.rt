@@ -19,12 +19,6 @@ pub fn standing(t: Table, list: &[u8]) -> usize
     n
 }
 
-// These records, as that part of the list.
-pub fn records(t: Table, list: &[u8]) -> &[u8] {
-    let e = standing(t, list) * 8;
-    &list[..e]
-}
-
 // Whether the first len bits of two addresses agree.
 fn agree(len: u32, a: u32, b: u32) -> bool {
     if 32 < len {
