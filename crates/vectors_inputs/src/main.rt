@@ -2,20 +2,20 @@
 // broadcast, of which a line has an address and what versions 1 and 2 say of it, or a version and its refusal. The file stdout has what the
 // documents and RFC 3021 say of them.
 mod casts;
+mod inputs;
 mod lines;
 mod masks;
 mod parts;
-mod records;
 mod samples;
 mod told;
 
 fn main() {
     masks::run();
-    records::run();
-    records::attached();
-    records::refusals();
-    records::most();
-    records::host_bits();
+    inputs::run();
+    inputs::attached();
+    inputs::refusals();
+    inputs::most();
+    inputs::host_bits();
     parts::run();
     parts::tallies();
     parts::attached();

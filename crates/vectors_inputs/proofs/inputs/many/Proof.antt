@@ -1,11 +1,11 @@
--- `vectors_inputs::records::many` is safe and ends.
+-- `vectors_inputs::inputs::many` is safe and ends.
 use Prim.Native.Nat.{_-_, _*_, _≤_}
 use native.Mathlib.Omega.{arith}
 use mathlib.Core.Path.{_≡_, _∙_}
 use lib.ListN.{length}
 use borrow.Author.Needs.{needs}
-use Rattle.vectors_inputs.proofs.records.many.Statement.{statement}
-use Rattle.vectors_inputs.proofs.records.many.Tie as tie
+use Rattle.vectors_inputs.proofs.inputs.many.Statement.{statement}
+use Rattle.vectors_inputs.proofs.inputs.many.Tie as tie
 
 abbrev Inv-loop : tie.InvT-loop
 Inv-loop list₀ n k₀ list k = (k ≤ n) × (n * 8 ≤ length list₀) × (length list ≡ length list₀)
