@@ -2,12 +2,12 @@
 -- the failure of those before it.
 use mathlib.Core.Path.{_≡_, refl, sym, ap, _∙_, subst}
 use mathlib.Core.Logic.{_⊎_, inl, inr, _≢_}
-use mathlib.Core.Bool.{Bool, true, false, _&&_, true≢false, false≢true}
+use mathlib.Core.Bool.{Bool, true, false, cond, _&&_, true≢false, false≢true}
 use mathlib.Core.List.{List, [], _∷_, List·Memᴰ}
 use Prim.Native.Nat.{ℕ, zero, suc, _/_, _≤_, _<_}
 use native.Mathlib.Nat.{eq-or-lt-of-le, le-refl, le-step, le-of-suc-le-suc}
 use native.Mathlib.Omega.{arith}
-use lib.Dec.{ltb}
+use lib.Dec.{eqb, ltb}
 use lib.ListN.{length, getD}
 use borrow.Author.Tests.{ltb-true, lt-ltb, eq-eqb, ne-eqb}
 use Rattle.bits.specs.Tab.{tabulate}
@@ -29,7 +29,7 @@ use Rattle.standing.proofs.Longest.{First, first-is, best-is}
 use Rattle.standing.proofs.Downs.{down-skip, down-at}
 use Rattle.basic.specs.Maps.{mapBitFor, cellFor}
 use Rattle.basic.specs.Walk.{mapped, basicWalk, metSaid}
-use Rattle.basic.specs.Calls.{mapSizesFit, readySaid, basicSaid, hopWord, manyOf, manyAfter, basicMany}
+use Rattle.basic.specs.Calls.{mapSizesFit, readySaid, basicSaid, hopWord, Many, many, manyOf, manyAfter, basicMany}
 use Rattle.basic.specs.Meaning.{Unready, Prepared, NoLong, FirstSet, BasicLookup, BasicLookups}
 use Rattle.basic.proofs.Checks.{fit-sizes, sizes-fit, ready-is}
 use Rattle.basic.proofs.Walks.{walk-maps, walk-list}
@@ -213,3 +213,17 @@ module _ (s bs cs ads ws : List ℕ) where
       go (BasicLookups.unready x n) h = absurd (true≢false (sym h ∙ unready-refuses n))
       go (BasicLookups.uneven p n) h = absurd (false≢true h)
       go (BasicLookups.done p q) h = ap (λ (ys : List ℕ). getD ys k 0) (many-done p q) ∙ getD-tabulate (length ads) _ k 0 u
+
+-- "A refusal returns its number": the words are as before the call
+pub refused-leaves-words : (s bs cs ads ws : List ℕ) → accepts (basicMany s bs cs ads ws .said) ≡ false → basicMany s bs cs ads ws .words ≡ ws
+unfolding basicMany manyOf
+refused-leaves-words s bs cs ads ws e = go (readySaid s (length bs) (length cs)) (eqb (length ws) (length ads)) e
+  where
+    either : Bool → Many
+    either t = cond t (many (accepted []) (tabulate (length ads) (λ k. hopWord (basicSaid s bs cs (getD ads k 0))))) (many (refused 2) ws)
+
+    go : (x : Said) (t : Bool) → accepts (manyAfter x (either t) ws .said) ≡ false → manyAfter x (either t) ws .words ≡ ws
+    go (Said.accepted vs) true q = absurd (true≢false q)
+    go (Said.accepted vs) false q = refl
+    go (Said.refused n) t q = refl
+    go (Said.refusedAt n k) t q = refl

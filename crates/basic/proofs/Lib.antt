@@ -2,7 +2,7 @@
 pub mod Places
 pub mod Walks
 pub mod Checks
-pub mod LookupReturns
+pub mod Injective
 pub mod OneAnswer
 pub mod Serves
 pub mod Judged

@@ -4,9 +4,9 @@ use mathlib.Core.List.{List}
 use Prim.Native.Nat.{ℕ}
 use Rattle.basic.specs.Calls.{Many}
 use Rattle.basic.specs.Contract.{MeetsBasicLookup, MeetsBasicMany}
-use Rattle.basic.specs.declared.check.BasicAnswer.{BasicAnswer}
-use Rattle.basic.specs.declared.lookup.BasicFound.{BasicFound}
-use Rattle.basic.proofs.LookupReturns.{basic-found-injective, basic-answer-injective}
+use Rattle.basic.specs.declared.answers.BasicAnswer.{BasicAnswer}
+use Rattle.basic.specs.declared.answers.BasicFound.{BasicFound}
+use Rattle.basic.proofs.Injective.{basic-found-injective, basic-answer-injective}
 
 module _ (input bits cells : List ℕ) where
   pub one-answer-basic-lookup : (addr : ℕ) (x y : BasicFound) → MeetsBasicLookup input bits cells addr x → MeetsBasicLookup input bits cells addr y → x ≡ y

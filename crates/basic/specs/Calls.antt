@@ -11,10 +11,10 @@ use Rattle.routes.specs.Said.{Said, accepted, refused, refusedAt, andThen, pack
 use Rattle.basic.specs.Walk.{basicWalk, metSaid}
 use Rattle.basic.specs.declared.check.Ready.{Ready}
 use Rattle.basic.specs.declared.check.Ready.the-variants as ready
-use Rattle.basic.specs.declared.check.BasicAnswer.{BasicAnswer}
-use Rattle.basic.specs.declared.check.BasicAnswer.the-variants as answer
-use Rattle.basic.specs.declared.lookup.BasicFound.{BasicFound}
-use Rattle.basic.specs.declared.lookup.BasicFound.the-variants as found
+use Rattle.basic.specs.declared.answers.BasicAnswer.{BasicAnswer}
+use Rattle.basic.specs.declared.answers.BasicAnswer.the-variants as answer
+use Rattle.basic.specs.declared.answers.BasicFound.{BasicFound}
+use Rattle.basic.specs.declared.answers.BasicFound.the-variants as found
 
 -- "16,384 bytes", "131,071 hop cells"
 unfoldable pub mapSizesFit : ℕ → ℕ → Bool

@@ -4,8 +4,8 @@ use mathlib.Core.List.{List}
 use mathlib.Core.Path.{_≡_}
 use Prim.Native.Nat.{ℕ}
 use Rattle.basic.specs.Calls.{meansBasicFound, meansBasicAnswer, basicSaid, many, basicMany}
-use Rattle.basic.specs.declared.check.BasicAnswer.{BasicAnswer}
-use Rattle.basic.specs.declared.lookup.BasicFound.{BasicFound}
+use Rattle.basic.specs.declared.answers.BasicAnswer.{BasicAnswer}
+use Rattle.basic.specs.declared.answers.BasicFound.{BasicFound}
 
 abbrev pub MeetsBasicLookup : List ℕ → List ℕ → List ℕ → ℕ → BasicFound → Type 0
 MeetsBasicLookup input bits cells addr r = meansBasicFound r ≡ basicSaid input bits cells addr

@@ -1,5 +1,5 @@
 // What every call checks first: the record input, then the sizes of the two arrays.
-use routes::input;
+use input_check::input;
 use routes::input::Input;
 ghost use mathlib.Core.Path.{_≡_};
 ghost use Rattle.basic.specs.Calls.{mapSizesFit, readySaid, meansReady};
@@ -7,13 +7,6 @@ ghost use Rattle.basic.specs.Calls.{mapSizesFit, readySaid, meansReady};
 // So many good records and arrays of the right sizes; a refusal with the index of a record; or a refusal by its number alone.
 pub enum Ready {
     Good(usize),
-    RefusedAt(u8, usize),
-    Refused(u8),
-}
-
-// What a call that fills arrays answers.
-pub enum BasicAnswer {
-    Done,
     RefusedAt(u8, usize),
     Refused(u8),
 }

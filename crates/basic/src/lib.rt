@@ -1,6 +1,5 @@
-// Basic SAIL for cards without chunk memory: bits and hop cells for lengths 0 to 16, and the record list for anything longer. The walk down
-// through them, of one address and of many.
+// Basic SAIL for cards without chunk memory: bits and hop cells for lengths 0 to 16, and the record list for anything longer. The check of what is
+// lent, and the bit and the cell of a prefix; what the calls say is in specs/.
+pub mod answers;
 pub mod check;
-pub mod lookup;
-pub mod many;
 pub mod maps;

@@ -12,7 +12,7 @@ use Rattle.basic.specs.Meaning.{Prepared}
 use Rattle.basic.specs.Calls.{readySaid, meansReady, meansBasicAnswer}
 use Rattle.basic.specs.declared.check.Ready.{Ready}
 use Rattle.basic.specs.declared.check.Ready.the-variants as ready
-use Rattle.basic.specs.declared.check.BasicAnswer.the-variants as answer
+use Rattle.basic.specs.declared.answers.BasicAnswer.the-variants as answer
 use Rattle.basic.proofs.Checks.{ready-means, said-good, said-refused, said-number}
 use Rattle.basic_build.specs.Built.{MapsOut, mapsOut, mapsAfter, basicBuilt, MapsFilled}
 

@@ -2,8 +2,8 @@
 use mathlib.Core.Path.{_≡_, sym, _∙_, ap}
 use mathlib.Core.List.{List}
 use Prim.Native.Nat.{ℕ}
-use Rattle.basic.specs.declared.check.BasicAnswer.{BasicAnswer}
-use Rattle.basic.proofs.LookupReturns.{basic-answer-injective}
+use Rattle.basic.specs.declared.answers.BasicAnswer.{BasicAnswer}
+use Rattle.basic.proofs.Injective.{basic-answer-injective}
 use Rattle.basic_build.specs.Built.{MapsOut}
 use Rattle.basic_build.specs.Contract.{MeetsBasicBuild}
 

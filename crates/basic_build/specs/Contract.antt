@@ -4,7 +4,7 @@ use mathlib.Core.List.{List}
 use mathlib.Core.Path.{_≡_}
 use Prim.Native.Nat.{ℕ}
 use Rattle.basic.specs.Calls.{meansBasicAnswer}
-use Rattle.basic.specs.declared.check.BasicAnswer.{BasicAnswer}
+use Rattle.basic.specs.declared.answers.BasicAnswer.{BasicAnswer}
 use Rattle.basic_build.specs.Built.{mapsOut, basicBuilt}
 
 abbrev pub MeetsBasicBuild : List ℕ → List ℕ → List ℕ → BasicAnswer → List ℕ → List ℕ → Type 0

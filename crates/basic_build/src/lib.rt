@@ -1,12 +1,12 @@
 // The build of the maps from a record input: the hops of the short routes go into their cells, then the bits follow from the cells.
-use basic::check::BasicAnswer;
+use basic::answers::BasicAnswer;
 use basic::check::Ready;
 use basic::check::check;
 use basic::maps::map_place;
 use bits::widen::byte_to_word;
 use buffers::fill::fill16;
+use records::record;
 use routes::Route;
-use routes::record;
 ghost use mathlib.Core.Path.{_≡_};
 ghost use Prim.Native.Nat.{_+_, _*_, _<_};
 ghost use lib.ListN.{length};

@@ -1,11 +1,11 @@
 // Directed broadcast: whether an address is the highest one of the attached network that it lies in. The older rule counts networks of 0 to 31
 // bits. The newer leaves out those of 31, whose two addresses are two hosts (RFC 3021).
 use bits::widen::byte_to_word;
+use input_check::input;
 use longest::longest_record;
+use records::record;
 use routes::Route;
-use routes::input;
 use routes::input::Input;
-use routes::record;
 ghost use mathlib.Core.Path.{_≡_};
 ghost use Rattle.routes.specs.Record.{GoodInput, routesIn};
 ghost use Rattle.routes.specs.Route.{Prefix};

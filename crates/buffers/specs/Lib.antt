@@ -1,4 +1,2 @@
--- What is written over a list of numbers, what is moved in it, and a range of it that is zero.
+-- What is written over a list of numbers.
 pub mod Fill
-pub mod Moves
-pub mod Zeros

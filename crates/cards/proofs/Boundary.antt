@@ -45,7 +45,7 @@ use Rattle.packing.specs.Unpack.{
   Cells16,
 }
 use Rattle.cards.specs.Cards.{cardOf, imageCardOf}
-use Rattle.packing.specs.Tallies.{tallyCard}
+use Rattle.packing_inputs.specs.Tallies.{tallyCard}
 use Rattle.sail_words.specs.Lookups.{wordsCard, lowFound, manyCard}
 use Rattle.packing.proofs.Unpacks.{
   found-read,

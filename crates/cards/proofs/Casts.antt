@@ -12,8 +12,8 @@ use Rattle.broadcast.specs.Meaning.{Casting}
 use Rattle.broadcast.proofs.Judged.{cast-judged}
 use Rattle.packing.specs.Unpack.{FitsWord}
 use Rattle.packing.specs.Parts.{parts}
-use Rattle.packing.specs.Casts.{packCast, unpackCast, CastFits, castParts}
-use Rattle.packing.proofs.Casts.{cast-read, cast-parts}
+use Rattle.packing_inputs.specs.Casts.{packCast, unpackCast, CastFits, castParts}
+use Rattle.packing_inputs.proofs.Casts.{cast-read, cast-parts}
 use Rattle.cards.proofs.Fits.{refused-fits}
 
 module _ (version : ℕ) (input : List ℕ) (addr : ℕ) (short : length input < 2 ^ 35) where

@@ -17,8 +17,8 @@ use Rattle.basic_build.specs.Built.{MapsOut, mapsOut, basicBuilt, BasicBuild}
 use Rattle.basic_build.proofs.Judged.{build-judged}
 use Rattle.packing.specs.Pack.{packNone}
 use Rattle.packing.specs.Unpack.{unpackNone, FitsWord}
-use Rattle.packing.specs.Hops.{unpackHop, HopFits, NoneFits}
-use Rattle.packing.proofs.Hops.{hop-read, nothing-read, word-read}
+use Rattle.packing_maps.specs.Hops.{unpackHop, HopFits, NoneFits}
+use Rattle.packing_maps.proofs.Hops.{hop-read, nothing-read, word-read}
 use Rattle.sail_words.specs.Lookups.{wordsCard}
 use Rattle.cards.specs.Maps.{mapsCard, mapsCardOf, hopsCard}
 use Rattle.cards.proofs.Fits.{refused-fits}

@@ -23,18 +23,18 @@ use Rattle.tree_formed.specs.Answers.{tested}
 use Rattle.tree_formed.specs.WellFormed.{nodesUsed, hopsIn, wellFormed}
 use Rattle.tree_formed.proofs.Meaning.{well-formed-is}
 use Rattle.tree_formed.proofs.Held.{held-good, held-nodes, held-hops}
-use Rattle.tree_change.specs.Changed.{unmarkedRoute, imageAnnounced, imageWithdrawn}
-use Rattle.tree_change.specs.Cases.{ImageAsked, routesWith, routesWithout, Announcing, Withdrawing}
-use Rattle.tree_change.proofs.ChangeReturns.{is-fine}
-use Rattle.tree_change.proofs.Cases.{announce-cases, its-fit}
-use Rattle.tree_change.proofs.Takes.{withdraw-cases, left-fit}
+use Rattle.tree_theory.specs.Changed.{unmarkedRoute, imageAnnounced, imageWithdrawn}
+use Rattle.tree_theory.specs.Cases.{ImageAsked, routesWith, routesWithout, Announcing, Withdrawing}
+use Rattle.tree_theory.proofs.Cases.{is-fine}
+use Rattle.tree_theory.proofs.Cases.{announce-cases, its-fit}
+use Rattle.tree_theory.proofs.Takes.{withdraw-cases, left-fit}
 use Rattle.packing.specs.Pack.{packBuilt}
 use Rattle.packing.specs.Unpack.{unpackBuilt, FitsWord, BuiltFits}
 use Rattle.packing.specs.Parts.{parts, builtParts}
-use Rattle.packing_images.specs.ImageAnswers.{packImage, unpackImage, ImageFits, imageParts, Words32}
+use Rattle.packing.specs.ImageAnswers.{packImage, unpackImage, ImageFits, imageParts, Words32}
 use Rattle.packing.proofs.Unpacks.{built-read}
 use Rattle.packing.proofs.Parts.{built-parts}
-use Rattle.packing_images.proofs.ImageAnswers.{image-read, image-parts}
+use Rattle.packing.proofs.ImageAnswers.{image-read, image-parts}
 use Rattle.cards.specs.Cards.{imageCard, imageCardOf}
 use Rattle.cards.specs.Images.{changedCardOf}
 use Rattle.cards.specs.Narrow.{AlikeOver}

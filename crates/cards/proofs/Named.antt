@@ -35,7 +35,6 @@ use Rattle.packing.specs.Parts.{
   announceParts,
   withdrawParts,
   doneParts,
-  hopParts,
   noParts,
 }
 use Rattle.packing.proofs.Parts.{
@@ -47,11 +46,12 @@ use Rattle.packing.proofs.Parts.{
   announce-parts,
   withdraw-parts,
   done-parts,
-  hop-parts,
   none-parts,
 }
+use Rattle.packing_maps.specs.Hops.{hopParts}
+use Rattle.packing_maps.proofs.Hops.{hop-parts}
 use Rattle.cards.specs.Cards.{cardOf, imageCardOf}
-use Rattle.packing.specs.Tallies.{tallyCard}
+use Rattle.packing_inputs.specs.Tallies.{tallyCard}
 use Rattle.sail_words.specs.Lookups.{wordsCard, lowFound, manyCard}
 use Rattle.cards.specs.Maps.{mapsCardOf, hopsCard}
 use Rattle.cards.proofs.Fits.{input-fits, run-fits, route-fits, built-fits, tree-fits, lookup-fits, report-fits}

@@ -21,7 +21,7 @@ use Rattle.sail.specs.Walk.{lookupSaid}
 use Rattle.sail.specs.Word.{packFound}
 use Rattle.sail.specs.declared.table.Table.{Table}
 use Rattle.sail.proofs.Fitting.{Fault, fault-is, none-is}
-use Rattle.packing.specs.Tallies.{tallyCard}
+use Rattle.packing_inputs.specs.Tallies.{tallyCard}
 use Rattle.sail_words.specs.Lookups.{tableOf, WordsCard, wordsCard, lowFound, manyCard}
 
 -- the first number is p1, the second p2, the third the route count

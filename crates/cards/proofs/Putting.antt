@@ -8,10 +8,9 @@ use lib.ListN.{length}
 use borrow.Author.Tests.{eq-eqb, ne-eqb}
 use Rattle.routes.specs.Said.{Said, accepted, refused, refusedAt, accepts, packed}
 use Rattle.sail.specs.Lent.{Lent}
-use Rattle.sail.specs.Sizes.{sizesFault, SizesTold}
+use Rattle.sail.specs.Sizes.{sizesFault}
 use Rattle.sail.specs.declared.table.Table.{Table}
 use Rattle.sail.proofs.Fitting.{Fault, fault-is}
-use Rattle.sail_theory.specs.Calls.{Out, out}
 use Rattle.sail.specs.Cases.{Sizing}
 use Rattle.packing.specs.Unpack.{unpackNone, countOf}
 use Rattle.packing_repairs.specs.Repairs.{packCount, toldIn, numberSays, wordsFault}
@@ -20,22 +19,7 @@ use Rattle.repair_theory.specs.Repair.{changes, repaired}
 use Rattle.repair_theory.specs.Cases.{Repair}
 use Rattle.repair_theory.proofs.Judged.{repair-judged, repair-only}
 use Rattle.repair_theory.proofs.Repairs.{repair-said, repair-holds, refused-leaves-all-repair}
-use Rattle.cards.specs.Repairs.{repairCard, repairCardOf, repairOut}
-
--- What the function answers and leaves.
-module _ (t : Table) (l : Lent) (xs : List ℕ) (z f : ℕ) (check : SizesTold z (t .geometry) l) (fault : f ≡ wordsFault z (length xs)) where
-  fault-so : wordsFault (sizesFault (t .geometry) l) (length xs) ≡ f
-  fault-so = rw (← check .number) (sym fault)
-
-  pub repair-off : (f ≡ 0 → ⊥) → (r : ℕ) → r ≡ f → repairCard r l xs ≡ repairOut t l xs
-  unfolding repairOut
-  repair-off h r e = rw (fault-so, ne-eqb f 0 h, e)
-
-  pub repair-on : f ≡ 0 → (s : Said) (u : Table) (v : Lent) → out s u v ≡ repaired t l → (ys : List ℕ) → ys ≡ toldIn s xs → (r : ℕ) → r ≡ packCount (u .count) s
-      → repairCard r v ys ≡ repairOut t l xs
-  unfolding repairOut
-  repair-on h s u v is ys told r number =
-      rw (fault-so, eq-eqb f 0 h) ((λ i. repairCard (number i) v (told i)) ∙ ap (λ (o : Out). repairCardOf o xs) is)
+use Rattle.repair_words.specs.Repairs.{repairCardOf, repairOut}
 
 -- With four words it is what the repair says and leaves, whatever is lent.
 module _ (t : Table) (l : Lent) (xs : List ℕ) (four : length xs ≡ 4) where

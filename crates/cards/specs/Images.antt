@@ -1,6 +1,6 @@
 -- What an exported announcement on an image answers and leaves. A withdrawal is told as a build is (`imageCardOf`).
 use Rattle.tree_build.specs.Built.{ImageOut}
-use Rattle.packing_images.specs.ImageAnswers.{packImage}
+use Rattle.packing.specs.ImageAnswers.{packImage}
 use Rattle.cards.specs.Cards.{ImageCard, imageCard}
 
 unfoldable pub changedCardOf : ImageOut → ImageCard

@@ -3,4 +3,3 @@ pub mod Cards
 pub mod Maps
 pub mod Narrow
 pub mod Images
-pub mod Repairs

@@ -3,7 +3,7 @@ ghost use mathlib.Core.Path.{_≡_};
 ghost use Rattle.tree_image.specs.Walk.{treeSaid};
 ghost use Rattle.tree_build.specs.Built.{built};
 ghost use Rattle.tree_formed.specs.Answers.{tested};
-ghost use Rattle.tree_change.specs.Changed.{imageAnnounced, imageWithdrawn};
+ghost use Rattle.tree_theory.specs.Changed.{imageAnnounced, imageWithdrawn};
 ghost use Rattle.sail.specs.Word.{packFound};
 ghost use Rattle.packing.specs.Pack.{packBuilt};
 ghost use Rattle.cards.specs.Cards.{imageCard, imageCardOf};
@@ -16,7 +16,7 @@ use bits::narrow::narrow16;
 pub extern "C" fn gh_build(input: &[u8], words: &mut [u32], hops: &mut [u16]) -> u64
     ensures { λ r. ⌜ imageCard r (now (words .exit)) (now (hops .exit)) ≡ imageCardOf (built (now (input .entry)) (now (words .entry)) (now (hops .entry))) ⌝ }
 {
-    packing::built(tree_build::build(input, words, hops))
+    packing_images::built(tree_build::build(input, words, hops))
 }
 
 // The hop for one address, with the count of nodes read.
@@ -24,7 +24,7 @@ pub extern "C" fn gh_build(input: &[u8], words: &mut [u32], hops: &mut [u16]) ->
 pub extern "C" fn gh_tree_lookup(words: &[u32], hops: &[u16], addr: u32) -> u64
     ensures { λ r. ⌜ r ≡ packFound (treeSaid (now (words .entry)) (now (hops .entry)) addr) ⌝ }
 {
-    packing::tree_found(tree::lookup(words, hops, addr))
+    packing_images::tree_found(tree::lookup(words, hops, addr))
 }
 
 // The nodes and the hops in use of a well-formed image.

@@ -3,7 +3,7 @@ ghost use mathlib.Core.Path.{_≡_};
 ghost use Rattle.routes.specs.Answers.{routeSaid};
 ghost use Rattle.runs.specs.Run.{runSaid};
 ghost use Rattle.packing.specs.Pack.{packRun, packRoute};
-ghost use Rattle.packing.specs.Tallies.{tallyCard};
+ghost use Rattle.packing_inputs.specs.Tallies.{tallyCard};
 ghost use Rattle.sail_words.specs.Lookups.{wordsCard};
 use bits::narrow::narrow8;
 
@@ -12,7 +12,7 @@ use bits::narrow::narrow8;
 pub extern "C" fn gh_run(input: &[u8], addr: u32, len: u32) -> u64
     ensures { λ r. ⌜ r ≡ packRun (runSaid (now (input .entry)) addr len) ⌝ }
 {
-    packing::run(runs::run::run_check(input, addr, narrow8(len)))
+    packing_inputs::run(runs::run::run_check(input, addr, narrow8(len)))
 }
 
 // One route of the input, read back.
@@ -20,7 +20,7 @@ pub extern "C" fn gh_run(input: &[u8], addr: u32, len: u32) -> u64
 pub extern "C" fn gh_route(input: &[u8], index: u32) -> u64
     ensures { λ r. ⌜ r ≡ packRoute (routeSaid (now (input .entry)) index) ⌝ }
 {
-    packing::got(routes::input::route_at(input, index as usize))
+    packing_inputs::got(input_check::input::route_at(input, index as usize))
 }
 
 // The number of routes of each length, into 33 words.
@@ -28,5 +28,5 @@ pub extern "C" fn gh_route(input: &[u8], index: u32) -> u64
 pub extern "C" fn gh_tally(input: &[u8], out: &mut [u32]) -> u64
     ensures { λ r. ⌜ wordsCard r (now (out .exit)) ≡ tallyCard (now (input .entry)) (now (out .entry)) ⌝ }
 {
-    packing::tallies::tally_words(input, out)
+    packing_inputs::tallies::tally_words(input, out)
 }

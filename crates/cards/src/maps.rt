@@ -11,7 +11,7 @@ pub extern "C" fn gh_basic_build(input: &[u8], bits: &mut [u8], cells: &mut [u16
     ensures { λ r. ⌜ mapsCard r (now (bits .exit)) (now (cells .exit))
         ≡ mapsCardOf (basicBuilt (now (input .entry)) (now (bits .entry)) (now (cells .entry))) ⌝ }
 {
-    packing::maps::answered(basic_build::build(input, bits, cells))
+    packing_maps::answered(basic_build::build(input, bits, cells))
 }
 
 // The hop for one address.
@@ -19,7 +19,7 @@ pub extern "C" fn gh_basic_build(input: &[u8], bits: &mut [u8], cells: &mut [u16
 pub extern "C" fn gh_basic_lookup(input: &[u8], bits: &[u8], cells: &[u16], addr: u32) -> u64
     ensures { λ r. ⌜ r ≡ packHop (basicSaid (now (input .entry)) (now (bits .entry)) (now (cells .entry)) addr) ⌝ }
 {
-    packing::maps::hop_found(basic::lookup::lookup(input, bits, cells, addr))
+    packing_maps::hop_found(basic_lookup::lookup(input, bits, cells, addr))
 }
 
 // For each address the low 32 bits of what gh_basic_lookup answers. Input and sizes are checked once.
@@ -34,5 +34,5 @@ pub extern "C" fn gh_basic_lookup_many(
     ensures { λ r. ⌜ wordsCard r (now (out .exit))
         ≡ hopsCard (basicMany (now (input .entry)) (now (bits .entry)) (now (cells .entry)) (now (addrs .entry)) (now (out .entry))) ⌝ }
 {
-    packing::maps::answered(basic::many::lookup_many(input, bits, cells, addrs, out))
+    packing_maps::answered(basic_many::lookup_many(input, bits, cells, addrs, out))
 }

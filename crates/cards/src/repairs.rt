@@ -2,14 +2,10 @@
 ghost use mathlib.Core.Path.{_≡_};
 ghost use Rattle.sail.specs.Lent.{lent};
 ghost use Rattle.sail_words.specs.Lookups.{tableOf};
-ghost use Rattle.cards.specs.Repairs.{repairCard, repairOut};
-use packing_repairs::repaired;
-use packing_repairs::tell;
-use packing_repairs::words_fault;
-use repair::repair::repair;
+ghost use Rattle.repair_words.specs.Repairs.{repairCard, repairOut};
+use repair_words::repair_told;
 use sail::geometry::Geometry;
 use sail::table::Table;
-use sail::table::sizes;
 
 // What is kept of the list is loaded. Into four words: the records dropped, and the first, second and third cells that differ from
 // before.
@@ -35,16 +31,16 @@ pub extern "C" fn gh_repair(
         (now (long1 .entry)) (now (long2 .entry))) (now (out .entry)) ⌝ }
 {
     let geometry = Geometry { p1, p2 };
-    let t = Table { geometry, count };
-    let z = sizes(t, list, first, second, third, own2, own3, long1, long2);
-    let f = words_fault(z, out.len());
-    if f != 0 {
-        return f as u64;
-    }
-    let c = repair(t, list, first, second, third, own2, own3, long1, long2);
-    let u = c.table;
-    let n = u.count;
-    let a = c.answer;
-    tell(a, out);
-    repaired(a, n)
+    repair_told(
+        Table { geometry, count },
+        list,
+        first,
+        second,
+        third,
+        own2,
+        own3,
+        long1,
+        long2,
+        out,
+    )
 }

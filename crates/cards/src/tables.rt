@@ -44,7 +44,7 @@ pub extern "C" fn gh_make(
     let t = c.table;
     let n = t.count;
     let a = c.answer;
-    packing::made(a, n)
+    packing_tables::made(a, n)
 }
 
 // A table of the input's routes; nothing of the old one is read.
@@ -83,7 +83,7 @@ pub extern "C" fn gh_load(
     let t = c.table;
     let n = t.count;
     let a = c.answer;
-    packing::loaded(a, n)
+    packing_tables::loaded(a, n)
 }
 
 // A route is added to the table, or replaces the hop and the mark of its prefix.
@@ -129,7 +129,7 @@ pub extern "C" fn gh_announce(
     let t = c.table;
     let n = t.count;
     let a = c.answer;
-    packing::announced(a, n)
+    packing_tables::announced(a, n)
 }
 
 // A route is taken out of the table.
@@ -171,7 +171,7 @@ pub extern "C" fn gh_withdraw(
     let t = c.table;
     let n = t.count;
     let a = c.answer;
-    packing::withdrawn(a, n)
+    packing_tables::withdrawn(a, n)
 }
 
 // The route count and both needs.
@@ -194,7 +194,7 @@ pub extern "C" fn gh_report(
         (now (long1 .entry)) (now (long2 .entry)))) ⌝ }
 {
     let geometry = Geometry { p1, p2 };
-    packing::reported(sail_sound::report::report(
+    packing_tables::reported(sail_sound::report::report(
         Table { geometry, count },
         list,
         first,

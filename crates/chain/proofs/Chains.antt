@@ -88,6 +88,20 @@ module _ (ws par : List ℕ) where
   pub no-parents : Parents ws par 0
   no-parents = record { each = λ k l. absurd (not-suc-le-zero l) }
 
+  -- parents speak of the words up to the last of them alone
+  pub parents-same : (xs : List ℕ) (k : ℕ) → ((j : ℕ) → j < k → getD xs j 0 ≡ getD ws j 0) → Parents ws par k → Parents xs par k
+  parents-same xs k same ps = record { each = λ j l. last-same j l (ps .each j l) }
+    where
+      last-same : (j : ℕ) → j < k → LastCover ws j 32 (addrIn ws j) (getD par j 0) → LastCover xs j 32 (addrIn xs j) (getD par j 0)
+      last-same j l c = record {
+        to = c .to;
+        one = λ z. rw (same j l, same (getD par j 0 - 1) (omega (arith, c .to))) (c .one z);
+        none = λ i a b. rw (same j l, same i (omega arith)) (c .none i a b);
+      }
+
+  pub parents-fewer : (n k : ℕ) → k ≤ n → Parents ws par n → Parents ws par k
+  parents-fewer n k u ps = record { each = λ j l. ps .each j (omega arith) }
+
   parents-take : (k : ℕ) → Parents ws par k → Parents ws (take k par) k
   parents-take k ps = record { each = λ j l. rw (getD-take k par j 0 l) (ps .each j l) }
 
@@ -175,7 +189,7 @@ module _ {ws par : List ℕ} {lo p i : ℕ} (ready : ChainReady ws par) (start :
     level = start .level;
     to = pl .to;
     room = omega (arith, pl .to, ready .few, ready .room);
-    parents = record { each = λ k l. ready .parents .each k (omega (arith, pl .to)) };
+    parents = parents-fewer ws par (length ws) lo (pl .to) (ready .parents);
     upto = λ k l.
         let a = pl .below k l in
         let n : addrIn ws k ≤ i * 2 ^ (32 - p) = omega arith in

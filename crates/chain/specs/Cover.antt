@@ -23,6 +23,11 @@ pub record LastCover (ws : List ℕ) (j p i r : ℕ) : Type 0 where
 pub record Parents (ws par : List ℕ) (n : ℕ) : Type 0 where
   pub each : (k : ℕ) → k < n → LastCover ws k 32 (addrIn ws k) (getD par k 0)
 
+-- the first k of the words have their parents
+pub record ParentsBelow (ws par : List ℕ) (k : ℕ) : Type 0 where
+  pub place : k ≤ length ws
+  pub parents : Parents ws par k
+
 -- what it takes to go up the chain from word j: no word before j lies past cell i of level p
 pub record Climb (ws par : List ℕ) (j p i : ℕ) : Type 0 where
   pub words : Words ws

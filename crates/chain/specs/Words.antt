@@ -1,6 +1,7 @@
 -- A record as one word of 64 bits: its eight bytes, the first the highest. Words are in the order of their routes.
 use mathlib.Core.List.{List, map}
-use Prim.Native.Nat.{ℕ, suc, _+_, _*_, _<_}
+use mathlib.Core.Path.{_≡_}
+use Prim.Native.Nat.{ℕ, suc, _+_, _*_, _<_, _≤_}
 use lib.ListN.{length, getD}
 use Rattle.bits.specs.Bytes.{above2, above3, above4, byte, half}
 use Rattle.bits.specs.Tab.{tabulate}
@@ -15,6 +16,12 @@ wordAt s k = ((word32 s (k * 8) * 256 + getD s (k * 8 + 4) 0) * 256 + getD s (k 
 -- the first n records as words
 unfoldable pub wordsOf : List ℕ → ℕ → List ℕ
 wordsOf s n = tabulate n (wordAt s)
+
+-- the first k of these words are those of the records of s, which has a record for each word
+pub record WordsBelow (s : List ℕ) (k : ℕ) (ws : List ℕ) : Type 0 where
+  pub fits : length ws * 8 ≤ length s
+  pub place : k ≤ length ws
+  pub each : (j : ℕ) → j < k → getD ws j 0 ≡ wordAt s j
 
 -- the route of a word, by its parts
 abbrev pub addrOf : ℕ → ℕ

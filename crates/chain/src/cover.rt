@@ -6,7 +6,7 @@ ghost use Rattle.bits.specs.Slot.{slot};
 ghost use Rattle.standing.specs.Cells.{covers, best};
 ghost use Rattle.chain.specs.Words.{lenOf, routeOfWord, routesOfWords};
 ghost use Rattle.chain.specs.Place.{KeysBelow, InLevel, RunFrom};
-ghost use Rattle.chain.specs.Cover.{LastCover, Parents, Climb, WordsRoom, ChainReady};
+ghost use Rattle.chain.specs.Cover.{LastCover, Parents, ParentsBelow, Climb, WordsRoom, ChainReady};
 use super::place::place_between;
 use super::place::place_on;
 use super::place::under_key;
@@ -42,12 +42,13 @@ pub fn last_cover(ws: &[u64], par: &[u16], j: usize, p: u32, i: u64) -> usize
     0
 }
 
-// The parent of each word.
-fn parents(ws: &[u64], par: &mut [u16])
+// The parent of each word; those of the words before `from` stand there already.
+fn parents(ws: &[u64], from: usize, par: &mut [u16])
     requires { ⌜ WordsRoom (now ws) (now par) ⌝ }
+    requires { ⌜ ParentsBelow (now ws) (now par) from ⌝ }
     ensures { λ _. ⌜ Parents (now (ws .entry)) (now (par .exit)) (length (now (ws .entry))) ⌝ }
 {
-    let mut k = 0;
+    let mut k = from;
     while k < ws.len() {
         let m = last_cover(ws, &par[..k], k, 32, ws[k] / bytes::FOUR);
         par[k] = m as u16;
@@ -70,12 +71,13 @@ fn heads(ws: &[u64], par: &mut [u16])
     }
 }
 
-// The parents and the heads.
-pub fn ready(ws: &[u64], par: &mut [u16])
+// The parents from `from` on, and the heads.
+pub fn ready(ws: &[u64], from: usize, par: &mut [u16])
     requires { ⌜ WordsRoom (now ws) (now par) ⌝ }
+    requires { ⌜ ParentsBelow (now ws) (now par) from ⌝ }
     ensures { λ _. ⌜ ChainReady (now (ws .entry)) (now (par .exit)) ⌝ }
 {
-    parents(ws, par);
+    parents(ws, from, par);
     heads(ws, par);
 }
 

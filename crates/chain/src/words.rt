@@ -3,7 +3,7 @@ ghost use mathlib.Core.Path.{_≡_};
 ghost use Prim.Native.Nat.{_+_, _*_, _<_, _≤_};
 ghost use lib.ListN.{length};
 ghost use Rattle.routes.specs.Record.{word32};
-ghost use Rattle.chain.specs.Words.{wordAt, wordsOf};
+ghost use Rattle.chain.specs.Words.{wordAt, wordsOf, WordsBelow};
 use bits::bytes;
 use bits::widen::byte_to_long;
 
@@ -30,13 +30,13 @@ fn read_word(list: &[u8], k: usize) -> u64
         + (byte_to_long(list[at + 6]) * bytes::ONE + byte_to_long(list[at + 6 + 1]))
 }
 
-// As many records as out has room for, as words.
-pub fn decode(list: &[u8], out: &mut [u64])
-    requires { ⌜ length (now out) * 8 ≤ length (now list) ⌝ }
+// As many records as out has room for, as words; those before `from` stand there already.
+pub fn decode(list: &[u8], from: usize, out: &mut [u64])
+    requires { ⌜ WordsBelow (now list) from (now out) ⌝ }
     ensures { λ _. ⌜ now (out .exit) ≡ wordsOf (now (list .entry)) (length (now (out .entry))) ⌝ }
 {
     let n = out.len();
-    let mut k = 0;
+    let mut k = from;
     while k < n {
         out[k] = read_word(list, k);
         k += 1;

@@ -22,13 +22,13 @@ use Rattle.basic.specs.Maps.{isSetAt}
 use Rattle.basic.specs.Calls.{meansBasicFound, basicSaid, hopWord, basicMany}
 use Rattle.basic.specs.Contract.{MeetsBasicLookup, MeetsBasicMany}
 use Rattle.basic.specs.Meaning.{MapsOf, MapsServe, BasicLookup, BasicLookups}
-use Rattle.basic.specs.declared.check.BasicAnswer.{BasicAnswer}
-use Rattle.basic.specs.declared.lookup.BasicFound.{BasicFound}
-use Rattle.basic.specs.declared.lookup.BasicFound.the-variants as found
-use Rattle.basic.proofs.LookupReturns.{refused-leaves-words, basic-found-injective}
+use Rattle.basic.specs.declared.answers.BasicAnswer.{BasicAnswer}
+use Rattle.basic.specs.declared.answers.BasicFound.{BasicFound}
+use Rattle.basic.specs.declared.answers.BasicFound.the-variants as found
+use Rattle.basic.proofs.Injective.{basic-found-injective}
 use Rattle.basic.proofs.OneAnswer as lookup
 use Rattle.basic.proofs.Serves.{serves-best, serves-once, serves-none}
-use Rattle.basic.proofs.Judged.{lookup-only, lookup-judged, many-only, many-judged, many-words}
+use Rattle.basic.proofs.Judged.{lookup-only, lookup-judged, many-only, many-judged, many-words, refused-leaves-words}
 use Rattle.basic_build.specs.Built.{basicBuilt, BasicBuild}
 use Rattle.basic_build.specs.Contract.{MeetsBasicBuild}
 use Rattle.basic_build.proofs.BuildReturns.{refused-leaves}

@@ -26,16 +26,16 @@ use Rattle.tree_formed.proofs.AsBuilt.{formed-good}
 use Rattle.tree_formed.proofs.Judged.{tree-test-judged, tree-test-only}
 use Rattle.tree_formed.proofs.Serves.{formed-serves}
 use Rattle.tree_check.proofs.OneAnswer as test
-use Rattle.tree_change.specs.Cases.{routesWith, routesWithout, TreeAnnounce, TreeWithdraw, Anew}
-use Rattle.tree_change.specs.Changed.{prefixPlace, imageAnnounced, imageWithdrawn}
+use Rattle.tree_theory.specs.Cases.{routesWith, routesWithout, TreeAnnounce, TreeWithdraw, Anew}
+use Rattle.tree_theory.specs.Changed.{prefixPlace, imageAnnounced, imageWithdrawn}
 use Rattle.tree_change.specs.Contract.{MeetsTreeAnnounce, MeetsTreeWithdraw}
-use Rattle.tree_change.specs.declared.TreeAnnounced.{TreeAnnounced}
-use Rattle.tree_change.specs.declared.TreeWithdrawn.{TreeWithdrawn}
-use Rattle.tree_change.proofs.Cases.{announce-leaves}
-use Rattle.tree_change.proofs.Takes.{withdraw-leaves}
-use Rattle.tree_change.proofs.Judged.{tree-announce-judged, tree-announce-only, tree-withdraw-judged, tree-withdraw-only}
-use Rattle.tree_change.proofs.Fresh.{change-anew, announce-left, withdraw-left}
-use Rattle.tree_change.proofs.Untouched.{announce-hops-before, withdraw-hops-before}
+use Rattle.tree_theory.specs.declared.TreeAnnounced.{TreeAnnounced}
+use Rattle.tree_theory.specs.declared.TreeWithdrawn.{TreeWithdrawn}
+use Rattle.tree_theory.proofs.Cases.{announce-leaves}
+use Rattle.tree_theory.proofs.Takes.{withdraw-leaves}
+use Rattle.tree_theory.proofs.Judged.{tree-announce-judged, tree-announce-only, tree-withdraw-judged, tree-withdraw-only}
+use Rattle.tree_theory.proofs.Fresh.{change-anew, announce-left, withdraw-left}
+use Rattle.tree_theory.proofs.Untouched.{announce-hops-before, withdraw-hops-before}
 use Rattle.tree_change.proofs.OneAnswer as change
 
 -- Demand 1, "It carries its number": the call says s exactly where the condition that stands beside s holds

@@ -21,7 +21,7 @@ use Rattle.tree_same.specs.OneImage.{SameRoutes, Builds, SameArrays, SameUsed}
 use Rattle.tree_same.proofs.OneImage as builds
 use Rattle.tree_formed.specs.Cases.{Narrow}
 use Rattle.tree_formed.specs.WellFormed.{wellFormed}
-use Rattle.tree_change.specs.Cases.{ImageLeft}
+use Rattle.tree_theory.specs.Cases.{ImageLeft}
 use Rattle.tree_runs.specs.ImageRuns.{ImageCall, imageAfter, imageStandingAfter, imageHeldByCalls, imageRoutesAfter}
 use Rattle.tree_runs.proofs.ImageRuns as runs
 use Rattle.tree_runs.proofs.Same as same

@@ -30,7 +30,7 @@ use Rattle.tree_same.specs.Order.{exts, ints}
 use Rattle.tree_same.proofs.Same.{image-held}
 use Rattle.tree_formed.specs.WellFormed.{nodesUsed, ordered, allFrom, nodeOk, hopsOk, blankFrom, wellFormed}
 use Rattle.tree_formed.proofs.Exact.{built-passes}
-use Rattle.tree_change.specs.Changed.{unmarkedRoute, putTo, takenFrom, imageAnnounced, imageWithdrawn}
+use Rattle.tree_theory.specs.Changed.{unmarkedRoute, putTo, takenFrom, imageAnnounced, imageWithdrawn}
 use Rattle.examples.specs.Lines.{Hold}
 use Rattle.examples.specs.EdgesTreeChanges as changes
 use Rattle.examples.specs.EdgesTreeChanges.{Change, put, take, changed, imageIn, Asked, answer, edges}

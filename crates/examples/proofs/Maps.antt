@@ -20,8 +20,8 @@ use Rattle.basic.specs.Maps.{mapPlace, mapBitFor}
 use Rattle.basic.specs.Calls.{meansBasicFound, meansBasicAnswer, basicSaid, basicMany}
 use Rattle.basic.specs.Contract.{MeetsBasicLookup, MeetsBasicMany}
 use Rattle.basic.specs.Meaning.{Prepared, FirstSet, BasicLookup, BasicLookups}
-use Rattle.basic.specs.declared.check.BasicAnswer.the-variants as answer
-use Rattle.basic.specs.declared.lookup.BasicFound.the-variants as found
+use Rattle.basic.specs.declared.answers.BasicAnswer.the-variants as answer
+use Rattle.basic.specs.declared.answers.BasicFound.the-variants as found
 use Rattle.basic.proofs.Judged.{lookup-only, many-only}
 use Rattle.basic_build.specs.Built.{basicBuilt, BasicBuild}
 use Rattle.basic_build.specs.Contract.{MeetsBasicBuild}

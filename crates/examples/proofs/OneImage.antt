@@ -22,7 +22,7 @@ use Rattle.tree_image.specs.Parts.{picked, gather}
 use Rattle.tree_image.specs.Image.{kids, level, upTo}
 use Rattle.tree_build.specs.Built.{madeOf, built}
 use Rattle.tree_same.specs.OneImage.{Builds, SameArrays}
-use Rattle.tree_change.specs.Changed.{unmarkedRoute, imageWithdrawn}
+use Rattle.tree_theory.specs.Changed.{unmarkedRoute, imageWithdrawn}
 use Rattle.tree_runs.specs.ImageRuns.{ImageCall, announce, withdraw, imageDone, imageAfter, imageHeldByCalls}
 use Rattle.demands.proofs.OneImage.{one-image-plain, image-run-refused, runs-one-image-worked}
 use Rattle.examples.specs.Lines.{ip}

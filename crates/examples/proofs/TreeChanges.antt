@@ -49,13 +49,13 @@ use Rattle.tree_formed.specs.WellFormed.{nodesUsed, ordered, wellFormed}
 use Rattle.tree_formed.specs.declared.Tested.the-variants as ofTest
 use Rattle.tree_formed.proofs.AsBuilt.{test-as-build}
 use Rattle.tree_formed.proofs.Exact.{built-passes}
-use Rattle.tree_change.specs.Cases.{ImageAsked, routesWith, Announcing}
-use Rattle.tree_change.specs.Changed.{unmarkedRoute, meansTreeAnnounced, meansTreeWithdrawn, imageAnnounced, imageWithdrawn}
+use Rattle.tree_theory.specs.Cases.{ImageAsked, routesWith, Announcing}
+use Rattle.tree_theory.specs.Changed.{unmarkedRoute, meansTreeAnnounced, meansTreeWithdrawn, imageAnnounced, imageWithdrawn}
 use Rattle.tree_change.specs.Contract.{MeetsTreeAnnounce, MeetsTreeWithdraw}
-use Rattle.tree_change.specs.declared.TreeAnnounced.the-variants as ofAnnounce
-use Rattle.tree_change.specs.declared.TreeWithdrawn.the-variants as ofWithdraw
-use Rattle.tree_change.proofs.ChangeReturns.{is-fine}
-use Rattle.tree_change.proofs.Cases.{case-announced}
+use Rattle.tree_theory.specs.declared.TreeAnnounced.the-variants as ofAnnounce
+use Rattle.tree_theory.specs.declared.TreeWithdrawn.the-variants as ofWithdraw
+use Rattle.tree_theory.proofs.Cases.{is-fine}
+use Rattle.tree_theory.proofs.Cases.{case-announced}
 use Rattle.tree_formed.specs.Cases.{Narrow}
 use Rattle.tree_build.specs.Cases.{Build}
 use Rattle.tree_build.proofs.Judged.{build-only}

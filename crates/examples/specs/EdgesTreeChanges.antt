@@ -5,7 +5,7 @@ use lib.ListN.{replicate}
 use Rattle.routes.specs.ListA.{listA}
 use Rattle.routes.specs.Said.{Said, accepted, refused}
 use Rattle.tree_build.specs.Built.{ImageOut, built}
-use Rattle.tree_change.specs.Changed.{imageAnnounced, imageWithdrawn}
+use Rattle.tree_theory.specs.Changed.{imageAnnounced, imageWithdrawn}
 use Rattle.examples.specs.Lines.{ip, Line, _gives_}
 use Rattle.examples.specs.EdgesInputs.{rec}
 

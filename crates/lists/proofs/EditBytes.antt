@@ -7,8 +7,8 @@ use native.Mathlib.Omega.{arith}
 use lib.ListN.{length, getD, set, take, drop, length-append, length-drop, length-set, List·getD-append, List·getD-eq-default}
 use lib.Seq.{ext-getD, getD-set-same, getD-set-other, getD-take, getD-drop, length-take-le, getD-append-add}
 use Rattle.bits.proofs.Bools.{below?, equal?}
-use Rattle.buffers.specs.Moves.{movedUp, movedDown}
-use Rattle.buffers.proofs.Draws.{length-drawn, drawn-in, drawn-before, drawn-after}
+use Rattle.moves.specs.Moves.{movedUp, movedDown}
+use Rattle.moves.proofs.Draws.{length-drawn, drawn-in, drawn-before, drawn-after}
 use Rattle.routes.specs.Route.{key, Good}
 use Rattle.standing.specs.Standing.{insert, remove}
 use Rattle.routes.specs.Record.{recordAt, bytesOf, putAt, routesOf, noRoute, written, Listed}

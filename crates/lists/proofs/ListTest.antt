@@ -8,7 +8,7 @@ use Rattle.bits.specs.Tab.{Tells}
 use Rattle.bits.proofs.Tells.{tells-same, refuted, passed}
 use Rattle.routes.specs.Record.{Listed}
 use Rattle.routes.proofs.Meaning.{right-fault, fault-right, right-records, records-right}
-use Rattle.buffers.specs.Zeros.{Zeros}
+use Rattle.buffers_test.specs.Zeros.{Zeros}
 use Rattle.lists.specs.ListTest.{NoFaults}
 
 module _ (s : List ℕ) (n : ℕ) where

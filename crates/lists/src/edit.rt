@@ -1,7 +1,6 @@
 // A record put into an ascending list, or taken out of one, in the caller's array. The records after it move by one place.
-use buffers::moves;
+use records::record;
 use routes::Route;
-use routes::record;
 ghost use mathlib.Core.Path.{_≡_};
 ghost use Rattle.routes.specs.Route.{key};
 ghost use Rattle.routes.specs.Record.{recordAt, routesOf};

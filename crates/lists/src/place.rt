@@ -1,5 +1,5 @@
 // The place of a key in an ascending list of records.
-use routes::record;
+use records::record;
 ghost use mathlib.Core.Path.{_≡_};
 ghost use Prim.Native.Nat.{_≤_};
 ghost use Rattle.routes.specs.Record.{Records};

@@ -1,11 +1,11 @@
 // The test of a list: whole records, the first n of them good, and zero bytes after them.
-use routes::input;
+use input_check::input;
 ghost use Prim.Native.Nat.{_*_, _≤_};
 ghost use lib.ListN.{length};
 ghost use Rattle.bits.specs.Tab.{Tells};
 ghost use Rattle.routes.specs.Record.{Listed};
 ghost use Rattle.lists.specs.ListTest.{NoFaults};
-use buffers::zeros::zeros8;
+use buffers_test::zeros::zeros8;
 
 // Whether each of the first n records is right.
 fn all_right(list: &[u8], n: usize) -> bool

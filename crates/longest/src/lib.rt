@@ -1,7 +1,7 @@
 // The longest record that covers an address, found in an ascending list by halving. No list is scanned, and nothing is built.
 use bits::widen::byte_to_word;
 use lists::place::place;
-use routes::record;
+use records::record;
 ghost use mathlib.Core.Path.{_≡_};
 ghost use Prim.Native.Nat.{_+_, _≤_};
 ghost use Rattle.bits.specs.Slot.{cut};

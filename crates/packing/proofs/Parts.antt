@@ -8,10 +8,8 @@ use native.Mathlib.Omega.{arith}
 use borrow.Author.Tests.{eq-eqb, ne-eqb}
 use Rattle.routes.specs.Said.{Said, accepted, refused, refusedAt}
 use Rattle.sail.specs.Word.{packed, packFound}
-use Rattle.basic.specs.Calls.{packHop}
 use Rattle.packing.specs.Pack.{packReport, packChange, packBuilt, packRun, packNone, packRoute}
 use Rattle.packing.specs.Unpack.{field, FitsWord, FoundFits, ReportFits, BuiltFits, RunFits, RouteFits, AnnounceFits, WithdrawFits, DoneFits}
-use Rattle.packing.specs.Hops.{HopFits}
 use Rattle.packing.specs.Parts.{
   refusalParts,
   parts,
@@ -23,7 +21,6 @@ use Rattle.packing.specs.Parts.{
   announceParts,
   withdrawParts,
   doneParts,
-  hopParts,
   noParts,
 }
 use Rattle.packing.proofs.Unpacks.{field-is}
@@ -125,10 +122,6 @@ done-sum : (n x : ℕ) → n < 2 ^ 16 → x ≡ n * 65536 → Sums doneParts x
 unfolding doneParts
 done-sum n x j e = record { none = omega arith; sum = omega arith }
 
-hop-sum : (h x : ℕ) → h < 2 ^ 16 → x ≡ h * 65536 → Sums hopParts x
-unfolding hopParts
-hop-sum h x b e = record { none = omega arith; sum = omega arith }
-
 -- The theorem, for each layout.
 module _ (most : ℕ) (few : most ≤ 2 ^ 32) where
   pub found-parts : (s : Said) → FitsWord most FoundFits s → packFound s ≡ parts foundParts (packFound s)
@@ -188,14 +181,6 @@ module _ (most : ℕ) (few : most ≤ 2 ^ 32) where
     where
       go : (vs : List ℕ) → DoneFits count vs → Sums doneParts (packChange count (accepted vs))
       go _ (DoneFits.done j) = done-sum count _ j (omega arith)
-
-  pub hop-parts : (s : Said) → FitsWord most HopFits s → packHop s ≡ parts hopParts (packHop s)
-  unfolding packed
-  hop-parts = said-parts most few HopFits _ hopParts go
-    where
-      go : (vs : List ℕ) → HopFits vs → Sums hopParts (packHop (accepted vs))
-      go _ (HopFits.hop h a b) = hop-sum h _ b refl
-      go _ HopFits.none = hop-sum 0 _ (omega arith) refl
 
   pub none-parts : (P : List ℕ → Type 0) (s : Said) → FitsWord most P s → packNone s ≡ parts noParts (packNone s)
   unfolding packed noParts

@@ -1,7 +1,5 @@
 -- How answers are packed into one number, and how they are read back.
 pub mod Pack
 pub mod Unpack
-pub mod Hops
+pub mod ImageAnswers
 pub mod Parts
-pub mod Casts
-pub mod Tallies

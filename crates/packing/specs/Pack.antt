@@ -1,5 +1,5 @@
 -- How the values of each call are laid out in its answer of 64 bits. Refusals stand in routes/specs/Said.antt, the layout of a lookup in
--- sail/specs/Word.antt, that of a broadcast in Casts.antt.
+-- sail/specs/Word.antt, that of an announcement on an image in ImageAnswers.antt.
 use Prim.Native.Nat.{ℕ, _+_, _*_, _%_, _^_}
 use Rattle.routes.specs.Said.{Said}
 use Rattle.sail.specs.Word.{packed, value}

@@ -45,10 +45,6 @@ withdrawParts x = field 9 1 x * 2 ^ 9 + field 16 16 x * 2 ^ 16
 unfoldable pub doneParts : ℕ → ℕ
 doneParts x = field 16 16 x * 2 ^ 16
 
--- a lookup in bit maps: the hop
-unfoldable pub hopParts : ℕ → ℕ
-hopParts x = field 16 16 x * 2 ^ 16
-
 -- many lookups, the tally and the build of bit maps: nothing
 unfoldable pub noParts : ℕ → ℕ
 noParts x = 0

@@ -1,52 +1,20 @@
-// Answers as one number of 64 bits. Which value stands in which bits is said with each function's definition.
+// An answer as one number of 64 bits, from plain values. Which value stands in which bits is said with each definition in specs/; the crates above take
+// the answers of the calls apart.
 ghost use mathlib.Core.Path.{_≡_};
 ghost use Prim.Native.Nat.{_+_, _*_, _%_, _^_, _≤_, _<_};
 ghost use Rattle.bits.specs.Count.{bit};
-ghost use Rattle.sail_make.specs.Answers.{meansMade};
-ghost use Rattle.sail_load.specs.Answers.{meansLoaded};
-ghost use Rattle.sail_announce.specs.Answers.{meansAnnounce};
-ghost use Rattle.sail_withdraw.specs.Answers.{meansWithdraw};
-ghost use Rattle.sail_sound.specs.Report.{meansReported};
-ghost use Rattle.routes.specs.Answers.{meansInput, meansGot};
-ghost use Rattle.runs.specs.Run.{meansRunCheck};
-ghost use Rattle.tree_image.specs.Walk.{meansTreeFound};
-ghost use Rattle.tree_build.specs.Built.{meansBuilt};
-ghost use Rattle.sail.specs.Word.{packFound};
-ghost use Rattle.packing.specs.Pack.{packReport, packChange, packBuilt, packRun, packNone, packRoute};
-
-pub mod broadcasts;
-pub mod maps;
-pub mod tallies;
-
 use bits::widen::byte_to_long;
 use bits::widen::half_to_long;
 use bits::widen::word_to_long;
-use routes::input::Got;
-use routes::input::Input;
-use runs::run::RunCheck;
-use sail_announce::answers::Announce;
-use sail_load::load::Loaded;
-use sail_make::Made;
-use sail_sound::report::Reported;
-use sail_withdraw::answers::Withdraw;
-use tree_build::Built;
-use tree_image::TreeFound;
 
 // The low 16 bits of a number.
-pub fn narrow(x: u64) -> u64
+fn low_half(x: u32) -> u64
     ensures { λ r. ⌜ (r ≡ x % 65536) × (r < 65536) ⌝ }
 {
-    x % 65536
+    word_to_long(x) % 65536
 }
 
-// A refusal with an index.
-fn refused_at(n: u8, k: usize) -> u64
-    ensures { λ r. ⌜ r ≡ n + 256 + k % 2 ^ 32 * 2 ^ 32 ⌝ }
-{
-    byte_to_long(n) + 256 + (k as u64) % 4294967296 * 4294967296
-}
-
-pub fn flag(b: bool) -> u64
+fn flag(b: bool) -> u64
     ensures { λ r. ⌜ (r ≡ bit b) × (r ≤ 1) ⌝ }
 {
     if b {
@@ -55,124 +23,54 @@ pub fn flag(b: bool) -> u64
     0
 }
 
-// A change that was accepted: whether bits were cleared, whether a route was replaced, and the route count after it.
-fn changed(cleared: bool, replaced: bool, count: u32) -> u64
+// A refusal with an index.
+pub fn refused_at(n: u8, k: usize) -> u64
+    ensures { λ r. ⌜ r ≡ n + 256 + k % 2 ^ 32 * 2 ^ 32 ⌝ }
+{
+    byte_to_long(n) + 256 + (k as u64) % 4294967296 * 4294967296
+}
+
+// A lookup that counts its reads, and its hop; hop 0 is no route.
+pub fn found_number(reads: u32, hop: u16) -> u64
+    ensures { λ r. ⌜ r ≡ reads * 256 + hop * 65536 ⌝ }
+{
+    word_to_long(reads) * 256 + half_to_long(hop) * 65536
+}
+
+// A change of a table that was accepted: whether bits were cleared, whether a route was replaced, and the route count after it.
+pub fn changed(cleared: bool, replaced: bool, count: u32) -> u64
     ensures { λ r. ⌜ r ≡ bit cleared * 512 + bit replaced * 256 + count * 65536 ⌝ }
 {
     flag(cleared) * 512 + flag(replaced) * 256 + word_to_long(count) * 65536
 }
 
-pub fn reported(a: Reported) -> u64
-    ensures { λ r. ⌜ r ≡ packReport (meansReported a) ⌝ }
+// A table's report: its route count, and both needs.
+pub fn report_number(routes: u32, second: u32, third: u32) -> u64
+    ensures { λ r. ⌜ r ≡ routes % 65536 * 65536 + second % 65536 * 2 ^ 32 + third % 65536 * 2 ^ 48 ⌝ }
 {
-    match a {
-        Reported::Standing {
-            routes,
-            second,
-            third,
-        } => {
-            narrow(word_to_long(routes)) * 65536
-                + narrow(word_to_long(second)) * 4294967296
-                + narrow(word_to_long(third)) * 281474976710656
-        }
-        Reported::Refused(z) => byte_to_long(z),
-    }
+    low_half(routes) * 65536 + low_half(second) * 4294967296 + low_half(third) * 281474976710656
 }
 
-pub fn made(a: Made, count: u32) -> u64
-    ensures { λ r. ⌜ r ≡ packChange count (meansMade a) ⌝ }
+// An image: whether a hop was replaced, and the nodes and the hops in use.
+pub fn used(replaced: bool, nodes: u32, hops: u32) -> u64
+    ensures { λ r. ⌜ r ≡ bit replaced * 256 + hops % 65536 * 65536 + nodes * 2 ^ 32 ⌝ }
 {
-    match a {
-        Made::Done => changed(false, false, count),
-        Made::Refused(z) => byte_to_long(z),
-    }
+    flag(replaced) * 256 + low_half(hops) * 65536 + word_to_long(nodes) * 4294967296
 }
 
-pub fn loaded(a: Loaded, count: u32) -> u64
-    ensures { λ r. ⌜ r ≡ packChange count (meansLoaded a) ⌝ }
+// A run of a list: its first record, and how many.
+pub fn run_number(start: usize, count: usize) -> u64
+    ensures { λ r. ⌜ r ≡ start % 65536 * 65536 + count % 65536 * 2 ^ 32 ⌝ }
 {
-    match a {
-        Loaded::Done => changed(false, false, count),
-        Loaded::Refused(z) => byte_to_long(z),
-        Loaded::RefusedAt(z, k) => refused_at(z, k),
-    }
+    (start as u64) % 65536 * 65536 + (count as u64) % 65536 * 4294967296
 }
 
-pub fn announced(a: Announce, count: u32) -> u64
-    ensures { λ r. ⌜ r ≡ packChange count (meansAnnounce a) ⌝ }
+// A route by its four values.
+pub fn route_number(len: u8, mark: u8, hop: u16, addr: u32) -> u64
+    ensures { λ r. ⌜ r ≡ len % 128 * 256 + mark % 2 * 32768 + hop * 65536 + addr * 2 ^ 32 ⌝ }
 {
-    match a {
-        Announce::Added(c) => changed(c, false, count),
-        Announce::Replaced(c) => changed(c, true, count),
-        Announce::Refused(z) => byte_to_long(z),
-    }
-}
-
-pub fn withdrawn(a: Withdraw, count: u32) -> u64
-    ensures { λ r. ⌜ r ≡ packChange count (meansWithdraw a) ⌝ }
-{
-    match a {
-        Withdraw::Removed(c) => changed(c, false, count),
-        Withdraw::Refused(z) => byte_to_long(z),
-    }
-}
-
-pub fn tree_found(f: TreeFound) -> u64
-    ensures { λ r. ⌜ r ≡ packFound (meansTreeFound f) ⌝ }
-{
-    match f {
-        TreeFound::Hop(h, n) => word_to_long(n) * 256 + half_to_long(h) * 65536,
-        TreeFound::NoRoute(n) => word_to_long(n) * 256,
-        TreeFound::Broken => 13,
-    }
-}
-
-pub fn built(a: Built) -> u64
-    ensures { λ r. ⌜ r ≡ packBuilt (meansBuilt a) ⌝ }
-{
-    match a {
-        Built::Made(nodes, hops) => narrow(word_to_long(hops)) * 65536
-            + word_to_long(nodes) * 4294967296,
-        Built::RefusedAt(z, k) => refused_at(z, k),
-        Built::Refused(z) => byte_to_long(z),
-    }
-}
-
-pub fn run(a: RunCheck) -> u64
-    ensures { λ r. ⌜ r ≡ packRun (meansRunCheck a) ⌝ }
-{
-    match a {
-        RunCheck::Run { start, count } => {
-            narrow(start as u64) * 65536 + narrow(count as u64) * 4294967296
-        }
-        RunCheck::Refused(z, k) => refused_at(z, k),
-        RunCheck::TooMany => 6,
-        RunCheck::NoPrefix => 3,
-    }
-}
-
-pub fn input(a: Input) -> u64
-    ensures { λ r. ⌜ r ≡ packNone (meansInput a) ⌝ }
-{
-    match a {
-        Input::Good(_) => 0,
-        Input::Refused(z, k) => refused_at(z, k),
-        Input::TooMany => 6,
-    }
-}
-
-pub fn got(a: Got) -> u64
-    ensures { λ r. ⌜ r ≡ packRoute (meansGot a) ⌝ }
-{
-    match a {
-        Got::One(r) => {
-            byte_to_long(r.len) % 128 * 256
-                + byte_to_long(r.mark) % 2 * 32768
-                + half_to_long(r.hop) * 65536
-                + word_to_long(r.addr) * 4294967296
-        }
-        Got::Nothing => 0,
-        Got::Refused(z, k) => refused_at(z, k),
-        Got::TooMany => 6,
-    }
+    byte_to_long(len) % 128 * 256
+        + byte_to_long(mark) % 2 * 32768
+        + half_to_long(hop) * 65536
+        + word_to_long(addr) * 4294967296
 }

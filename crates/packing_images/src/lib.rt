@@ -1,24 +1,40 @@
-// The answers of the test and the changes of an image.
+// The answers of the calls on an image: build, lookup, the test and the changes.
 use bits::widen::byte_to_long;
-use bits::widen::word_to_long;
-use packing::flag;
-use packing::narrow;
-use tree_change::TreeAnnounced;
-use tree_change::TreeWithdrawn;
+use packing::found_number;
+use packing::refused_at;
+use packing::used;
+use tree_build::Built;
 use tree_formed::Tested;
+use tree_image::TreeFound;
+use tree_theory::TreeAnnounced;
+use tree_theory::TreeWithdrawn;
 ghost use mathlib.Core.Path.{_≡_};
-ghost use Prim.Native.Nat.{_+_, _*_, _%_, _^_};
-ghost use Rattle.bits.specs.Count.{bit};
+ghost use Rattle.sail.specs.Word.{packFound};
+ghost use Rattle.tree_image.specs.Walk.{meansTreeFound};
+ghost use Rattle.tree_build.specs.Built.{meansBuilt};
 ghost use Rattle.tree_formed.specs.Answers.{meansTested};
-ghost use Rattle.tree_change.specs.Changed.{meansTreeAnnounced, meansTreeWithdrawn};
+ghost use Rattle.tree_theory.specs.Changed.{meansTreeAnnounced, meansTreeWithdrawn};
 ghost use Rattle.packing.specs.Pack.{packBuilt};
-ghost use Rattle.packing_images.specs.ImageAnswers.{packImage};
+ghost use Rattle.packing.specs.ImageAnswers.{packImage};
 
-// What is accepted: whether a hop was replaced, and the nodes and the hops in use.
-fn used(replaced: bool, nodes: u32, hops: u32) -> u64
-    ensures { λ r. ⌜ r ≡ bit replaced * 256 + hops % 65536 * 65536 + nodes * 2 ^ 32 ⌝ }
+pub fn tree_found(f: TreeFound) -> u64
+    ensures { λ r. ⌜ r ≡ packFound (meansTreeFound f) ⌝ }
 {
-    flag(replaced) * 256 + narrow(word_to_long(hops)) * 65536 + word_to_long(nodes) * 4294967296
+    match f {
+        TreeFound::Hop(h, n) => found_number(n, h),
+        TreeFound::NoRoute(n) => found_number(n, 0),
+        TreeFound::Broken => 13,
+    }
+}
+
+pub fn built(a: Built) -> u64
+    ensures { λ r. ⌜ r ≡ packBuilt (meansBuilt a) ⌝ }
+{
+    match a {
+        Built::Made(nodes, hops) => used(false, nodes, hops),
+        Built::RefusedAt(z, k) => refused_at(z, k),
+        Built::Refused(z) => byte_to_long(z),
+    }
 }
 
 pub fn tested(a: Tested) -> u64

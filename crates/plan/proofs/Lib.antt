@@ -2,6 +2,4 @@
 pub mod Plans
 pub mod PlanUnder
 pub mod Ranges
-pub mod Settles
-pub mod Rights
 pub mod Unders

@@ -1,5 +1,4 @@
--- What a block of cells is planned to hold, and a lent part of cells beside its plan.
+-- What a block of cells is planned to hold, and how it is painted.
 pub mod Plan
 pub mod Paint
-pub mod Part
 pub mod Under

@@ -3,12 +3,10 @@
 use mathlib.Core.Bool.{cond}
 use mathlib.Core.List.{List, [], _∷_}
 use Prim.Native.Nat.{ℕ, _+_, _-_, _*_, _^_, _≤_}
-use lib.ListN.{length}
 use Rattle.standing.specs.Cells.{within}
 use Rattle.routes.specs.declared.Route.{Route}
 use Rattle.chain.specs.Place.{InLevel}
 use Rattle.chain.specs.Cover.{ChainReady}
-use Rattle.plan.specs.Part.{Beside}
 
 -- the routes longer than l that have the bits of cell i of level l
 unfoldable pub under : ℕ → ℕ → List Route → List Route
@@ -23,8 +21,3 @@ pub record Block (ws par : List ℕ) (l i p base n : ℕ) : Type 0 where
   pub deep : p ≤ 32
   pub from : i * 2 ^ (p - l) ≤ base
   pub to : base + n ≤ i * 2 ^ (p - l) + 2 ^ (p - l)
-
--- the same with a part of as many cells, and room for its plan
-pub record Tested (ws par : List ℕ) (l i p base o : ℕ) (part want : List ℕ) : Type 0 where
-  pub block : Block ws par l i p base (length want)
-  pub beside : Beside p o part want

@@ -1,4 +1,3 @@
-// Blocks of cells: planned by painting routes in list order, and a lent part of cells judged beside its plan.
+// Blocks of cells, planned by painting routes in list order.
 pub mod paint;
-pub mod part;
 pub mod under;

@@ -1,3 +1,3 @@
--- What is written at each way through the load and the report, and what the printed text is in document 01's words.
+-- What is written at each way through the load, and what the printed text is in document 01's words.
 pub mod Ways
 pub mod Meaning

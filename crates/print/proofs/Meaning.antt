@@ -1,7 +1,7 @@
 -- What is printed, in document 01's words, and that a statement leaves one answer.
 use mathlib.Core.Path.{_≡_, refl, sym, ap, _∙_}
 use mathlib.Core.Logic.{_⊎_, inl, inr, ⊎-elim}
-use mathlib.Core.Bool.{true, false, true≢false, false≢true}
+use mathlib.Core.Bool.{true, false, true≢false}
 use mathlib.Core.List.{List, _++_, append-assoc}
 use Prim.Native.Nat.{ℕ, _/_, _≤_, _<_}
 use native.Mathlib.Omega.{arith}
@@ -20,11 +20,14 @@ use Rattle.sail.specs.Cases.{Sizing}
 use Rattle.sail_theory.specs.Cases.{Readable, Load}
 use Rattle.sail_theory.proofs.calls.SomeCase.{load-judged}
 use Rattle.sail_theory.proofs.calls.Load.{accepted-loadable, load-said, load-holds}
-use Rattle.text.specs.Digits.{digitsIn, digitsOf}
-use Rattle.text.specs.Text.{ascii, labelled, headLine, routeLines, tableText, saidText}
-use Rattle.text.proofs.Writes.{wrote-front}
-use Rattle.print.specs.Printed.{smallTable, smallLent, standingText, lineOr, outText, printedText, page, Printed}
+use Rattle.text_pieces.specs.Digits.{digitsIn, digitsOf}
+use Rattle.text_pieces.specs.Pieces.{ascii, labelled}
+use Rattle.text.specs.Text.{headLine, routeLines, tableText, saidText}
+use Rattle.text_pieces.proofs.Writes.{wrote-front}
+use Rattle.print_said.specs.Standing.{standingText, page}
+use Rattle.print.specs.Printed.{smallTable, smallLent, lineOr, outText, printedText, Printed}
 use Rattle.print.specs.Cases.{AllRight, Prints}
+use Rattle.print.proofs.Ways.{line-none}
 
 small-sized : Sized smallGeo smallLent
 small-sized = record {
@@ -73,15 +76,10 @@ module _ (input : List ℕ) where
   -- and a table that was loaded holds the routes of the input
   table-text : accepts (loaded smallTable smallLent input .said) ≡ true
       → printedText input ≡ tableText (inputRoutes input) (need (inputRoutes input) 12) (need (inputRoutes input) 22)
-  unfolding printedText outText lineOr standingText
+  unfolding printedText outText standingText
   table-text e =
       let h = load-holds smallTable smallLent input e in
-      go (loaded smallTable smallLent input .said) e ∙ rw (h .routes, h .geometry)
-    where
-      go : (s : Said) → accepts s ≡ true → {t : List ℕ} → lineOr s t ≡ t
-      go (Said.accepted vs) e = refl
-      go (Said.refused n) e = absurd (false≢true e)
-      go (Said.refusedAt n k) e = absurd (false≢true e)
+      line-none (loaded smallTable smallLent input .said) _ e ∙ rw (h .routes, h .geometry)
 
   right : Readable smallTable smallLent input → AllRight input
   right w = record { whole = omega (arith, w .whole); each = λ k l. records-right input (length input / 8) (w .records) k l }

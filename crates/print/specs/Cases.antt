@@ -7,7 +7,8 @@ use Rattle.standing.specs.Cells.{need}
 use Rattle.routes.specs.Said.{refusedAt}
 use Rattle.routes.specs.Cases.{RightRecord, Checked}
 use Rattle.sail_theory.specs.Calls.{inputRoutes}
-use Rattle.text.specs.Text.{ascii, labelled, routeLines}
+use Rattle.text_pieces.specs.Pieces.{ascii, labelled}
+use Rattle.text.specs.Text.{routeLines}
 
 -- whole records, each fine and after the one before it
 pub record AllRight (input : List ℕ) : Type 0 where

@@ -3,15 +3,14 @@ use mathlib.Core.List.{List}
 use mathlib.Core.Path.{_≡_}
 use Prim.Native.Nat.{ℕ, _*_, _≤_, _<_}
 use lib.ListN.{length, replicate}
-use Rattle.standing.specs.Cells.{need}
 use Rattle.routes.specs.Said.{Said, accepted, refused, refusedAt}
 use Rattle.sail.specs.Geometry.{smallGeo}
 use Rattle.sail.specs.Lent.{Lent, lent}
-use Rattle.sail.specs.Sound.{Sound, standing}
 use Rattle.sail.specs.declared.table.Table.{Table}
 use Rattle.sail_theory.specs.Calls.{Out, loaded}
-use Rattle.text.specs.Text.{tableText, saidText}
-use Rattle.text.specs.Wrote.{Wrote}
+use Rattle.text.specs.Text.{saidText}
+use Rattle.text_pieces.specs.Wrote.{Wrote}
+use Rattle.print_said.specs.Standing.{standingText, page}
 
 -- "lends the small geometry with room for 64 records and 4 chunks in each pool". What the arrays hold before is no matter: load reads
 -- nothing of it
@@ -22,10 +21,6 @@ abbrev pub smallLent : Lent
 smallLent =
     lent (replicate (64 * 8) 0) (replicate 4096 0) (replicate (4 * 1024) 0) (replicate (4 * 1024) 0) (replicate 4 0) (replicate 4 0)
     (replicate 4096 0) (replicate (4 * 1024) 0)
-
--- "The first line gives the route count and both needs, then come prefix and hop in list order"
-unfoldable pub standingText : Table → Lent → List ℕ
-standingText t l = tableText (standing t l) (need (standing t l) (t .geometry .p1)) (need (standing t l) (t .geometry .p2))
 
 -- a refusal's one line; where nothing is refused, the text of the table
 unfoldable pub lineOr : Said → List ℕ → List ℕ
@@ -40,15 +35,6 @@ outText o = lineOr (o .said) (standingText (o .table) (o .lent))
 -- "loads, and prints"
 unfoldable pub printedText : List ℕ → List ℕ
 printedText input = outText (loaded smallTable smallLent input)
-
--- so many bytes have room for any of these texts
-abbrev pub page : ℕ
-page = 4096
-
--- what the text of a table's routes asks for
-pub record PageReady (t : Table) (l : Lent) (before : List ℕ) : Type 0 where
-  pub sound : Sound t l
-  pub room : page ≤ length before
 
 -- What `printed` answers and leaves: the text stands at the buffer's start, its length is answered, and the bytes after it stay. A buffer of
 -- less than a page stays as it was, and the answer is 0.

@@ -1,4 +1,3 @@
 -- Laws that the functions' proofs cite.
-pub mod Judging
 pub mod Repairing
 pub mod OneAnswer

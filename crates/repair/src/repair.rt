@@ -4,15 +4,14 @@ ghost use Rattle.routes.specs.Said.{accepted};
 ghost use Rattle.sail.specs.Lent.{lent};
 ghost use Rattle.repair.specs.Answers.{meansRepaired};
 ghost use Rattle.repair.specs.Contract.{MeetsRepair};
-ghost use Rattle.repair.specs.Judge.{RepairReady, SizesFirst, Small, numbers};
-use repair_differs::Differs;
+ghost use Rattle.repair.specs.Told.{Small, numbers};
 use repair_differs::count_cells;
-use repair_keep::keep;
-use repair_keep::looked;
+use repair_judge::RepairJudged;
+use repair_judge::judge;
+use repair_levels::Differs;
 use sail::table::Table;
-use sail::table::sizes;
 use sail_load::load::load;
-use sail_load::load::weigh;
+use sail_sizes::sizes;
 
 // Put right, with the records dropped and the cells of each array that differ from before; or a refusal's number.
 pub enum Repaired {
@@ -29,38 +28,6 @@ pub enum Repaired {
 pub struct RepairedTable {
     pub answer: Repaired,
     pub table: Table,
-}
-
-// The number with which a repair is refused, or 0; and how many records are looked at, and how many of them kept.
-pub struct RepairJudged {
-    pub fault: u8,
-    pub looked: usize,
-    pub kept: usize,
-}
-
-// What is kept of the list, into `kept`, and whether there are chunks for it: 7 or 8 where there are not. z is the fault of the
-// sizes, which comes first.
-fn judge(z: u8, t: Table, list: &[u8], n2: usize, n3: usize, kept: &mut [u8]) -> RepairJudged
-    requires { ⌜ RepairReady z (t .geometry) (now list) (now kept) ⌝ }
-    ensures { λ r. ⌜ SizesFirst z t (now (list .entry)) n2 n3 (now (kept .exit)) r ⌝ }
-{
-    if z != 0 {
-        return RepairJudged {
-            fault: z,
-            looked: 0,
-            kept: 0,
-        };
-    }
-    let room = list.len() / 8;
-    let n = looked(t.count, room);
-    let m = keep(list, n, kept);
-    let end = m * 8;
-    let f = weigh(t.geometry, &kept[..end], m, room, n2, n3);
-    RepairJudged {
-        fault: f,
-        looked: n,
-        kept: m,
-    }
 }
 
 // The four numbers that are told.

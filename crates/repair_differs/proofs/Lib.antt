@@ -1,7 +1,2 @@
--- Laws of cells that are counted: in a block, in a pool, in a level, in a table.
-pub mod Counts
-pub mod Blocks
-pub mod Pools
-pub mod Parts
-pub mod Levels
+-- Laws of room that is lent for counting.
 pub mod Withs

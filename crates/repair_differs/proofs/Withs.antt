@@ -4,11 +4,9 @@ use mathlib.Core.List.{List, _++_}
 use Prim.Native.Nat.{ℕ, _+_, _-_, _*_, _/_, _^_, _≤_}
 use native.Mathlib.Omega.{arith}
 use lib.ListN.{length, take, drop, replicate, length-replicate, replicate-append-replicate}
-use lib.Seq.{take-at}
-use Rattle.routes.specs.Record.{Listed}
+use lib.Seq.{length-take-le, length-front, take-at}
 use Rattle.chain.specs.Words.{routesOfWords}
 use Rattle.chain.specs.List.{ChainRoom, Chained}
-use Rattle.chain.proofs.Fronts as fronts
 use Rattle.sail.specs.Geometry.{bits2, bits3}
 use Rattle.sail.specs.Lent.{cells}
 use Rattle.sail.specs.Level.{chunksOf, level1, level2}
@@ -17,8 +15,9 @@ use Rattle.sail.specs.declared.geometry.Geometry.{Geometry}
 use Rattle.sail_owners.specs.Owners.{owners, Ownable}
 use Rattle.sail_theory.specs.Render.{Fits}
 use Rattle.sail_theory.specs.Calls.{Owners, ownersAfter, inputRoutes}
-use Rattle.repair_differs.specs.Differs.{Owned, Differing, wanted, freshOwners, DiffReady, DiffRoom}
-use Rattle.repair_differs.specs.declared.Differs.{Differs}
+use Rattle.repair_levels.specs.Levels.{Owned, Differing, wanted}
+use Rattle.repair_differs.specs.Differs.{freshOwners, DiffReady, DiffRoom}
+use Rattle.repair_levels.specs.declared.Differs.{Differs}
 
 module _ (g : Geometry) (input first second third own2 own3 ws par want : List ℕ) (h : DiffRoom g input first second third own2 own3 ws par want) where
   abbrev k : DiffReady g input (length own2) (length own3) first second third
@@ -30,29 +29,29 @@ module _ (g : Geometry) (input first second third own2 own3 ws par want : List �
   abbrev n : ℕ
   n = length input / 8
 
-  listed : Listed input n
-  listed = record { records = k .ownable .records; whole = omega (arith, k .whole); zeros = λ j a b. absurd (omega (arith, k .whole)) }
-
   pub words-in : n ≤ length ws
-  words-in = fronts.count-in input n listed ws par (h .scratch)
+  words-in = omega (arith, k .ownable .records .few, h .scratch .words)
 
   pub words-room : n ≡ length (take n ws)
-  words-room = fronts.count-room input n listed ws par (h .scratch)
+  words-room = sym (length-take-le n ws words-in)
 
   pub words-chain : ChainRoom input (take n ws) par
-  words-chain = fronts.chain-room input n listed ws par (h .scratch)
+  words-chain = record { records = rw (← words-room) (k .ownable .records); room = h .scratch .chain }
 
   module _ (words : List ℕ) (kept : length words ≡ length (take n ws)) where
     pub front-in : n ≤ length (words ++ drop n ws)
-    front-in = fronts.still-in input n listed ws par (h .scratch) words kept
+    front-in = omega (arith, length-front ws words n kept, words-in)
+
+    front : take n (words ++ drop n ws) ≡ words
+    front = take-at words (drop n ws) n (kept ∙ sym words-room)
 
     pub front-room : n ≡ length (take n (words ++ drop n ws))
-    front-room = fronts.front-room input n listed ws par (h .scratch) words kept
+    front-room = words-room ∙ sym kept ∙ ap length (sym front)
 
     module _ (chain : List ℕ) (made : Chained input (length (take n ws)) words chain) (after2 after3 : List ℕ)
         (settles : owners after2 after3 ≡ ownersAfter g (owners own2 own3) (inputRoutes input)) where
       routes : routesOfWords (take n (words ++ drop n ws)) ≡ inputRoutes input
-      routes = fronts.front-routes input n listed ws par (h .scratch) words kept chain made
+      routes = rw (front, made .routes, ← words-room)
 
       -- the owners are those of the load
       owned : owners after2 after3 ≡ freshOwners g input (length own2) (length own3)
@@ -75,7 +74,7 @@ module _ (g : Geometry) (input first second third own2 own3 ws par want : List �
 
         pub all-owned : Owned g (take n (words ++ drop n ws)) chain (cells first second third after2 after3) want
         all-owned = record {
-          ready = fronts.front-ready input n listed ws par (h .scratch) words kept chain made;
+          ready = rw front (made .ready);
           celled = celled;
           fits2 = rw routes (subst (λ (o : Owners). Fits (inputRoutes input) (level1 g) (chunksOf (o .own2))) (sym owned) (k .fits2));
           fits3 = rw routes (subst (λ (o : Owners). Fits (inputRoutes input) (level2 g (chunksOf (o .own2))) (chunksOf (o .own3))) (sym owned) (k .fits3));

@@ -1,2 +1,2 @@
--- What counting asks, and what it counts.
+-- What counting asks.
 pub mod Differs

@@ -2,10 +2,10 @@
 ghost use mathlib.Core.Path.{_≡_};
 ghost use Prim.Native.Nat.{min};
 ghost use Rattle.repair_keep.specs.Keep.{Keeps, KeptIn};
+use records::record::key_of;
+use records::record::read_record;
+use records::record::write_record;
 use routes::input::route_fault;
-use routes::record::key_of;
-use routes::record::read_record;
-use routes::record::write_record;
 
 // How many records are looked at: up to the route count, or to the end of the room if that is less.
 pub fn looked(count: u32, room: usize) -> usize

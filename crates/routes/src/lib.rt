@@ -1,7 +1,6 @@
-// Routes, the records that hold them, the check of a record input, and the prefix that an address and a length mean.
+// Routes, what is wrong with one by itself, and the prefix that an address and a length mean.
 pub mod input;
 pub mod prefix;
-pub mod record;
 
 // A route: the prefix of `len` bits of `addr`, and the hop that it leads to. `mark` is 1 for a network on our own port,
 // an attached one, and 0 for one behind a neighbour.

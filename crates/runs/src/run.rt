@@ -1,9 +1,10 @@
 // The run under a prefix: the records of that length or longer inside it. They stand together in an ascending list.
 use bits::widen::byte_to_word;
+use input_check::input::check_input;
 use lists::place::place;
+use records::record;
 use routes::input;
 use routes::input::Input;
-use routes::record;
 ghost use mathlib.Core.Path.{_≡_};
 ghost use Prim.Native.Nat.{_≤_};
 ghost use Rattle.runs.specs.Run.{pastKey, IsRun};
@@ -29,7 +30,7 @@ pub enum RunCheck {
 pub fn run_check(list: &[u8], addr: u32, len: u8) -> RunCheck
     ensures { λ r. ⌜ MeetsRunCheck (now (list .entry)) addr len r ⌝ }
 {
-    match input::check_input(list) {
+    match check_input(list) {
         Input::Good(n) => {
             if !input::prefix_ok(addr, len) {
                 return RunCheck::NoPrefix;

@@ -1,6 +1,6 @@
 // The tally of an input: how many records of each length.
 use bits::widen::byte_to_word;
-use routes::input;
+use input_check::input;
 use routes::input::Input;
 ghost use mathlib.Core.Path.{_≡_};
 ghost use Prim.Native.Nat.{_+_, _*_, _≤_};

@@ -75,6 +75,12 @@ fresh-sound g l s = record {
       (getD-zeros (length (l .own3)));
   clear2 = record { blank = λ q h e. getD-zeros (length (l .second)) q };
   clear3 = record { blank = λ q h e. getD-zeros (length (l .third)) q };
-  counted1 = record { true-there = λ q h e. getD-zeros (length (l .long1)) q ∙ sym (many-none [] (g .p1) q refl); blank = λ q h e. getD-zeros (length (l .long1)) q };
-  counted2 = record { true-there = λ q h e. getD-zeros (length (l .long2)) q ∙ sym (many-none [] (g .p2) _ refl); blank = λ q h e. getD-zeros (length (l .long2)) q };
+  counted1 = record {
+    true-there = λ q h e. getD-zeros (length (l .long1)) q ∙ sym (many-none [] (g .p1) q refl);
+    blank = λ q h e. getD-zeros (length (l .long1)) q;
+  };
+  counted2 = record {
+    true-there = λ q h e. getD-zeros (length (l .long2)) q ∙ sym (many-none [] (g .p2) _ refl);
+    blank = λ q h e. getD-zeros (length (l .long2)) q;
+  };
 }

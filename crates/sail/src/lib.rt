@@ -1,4 +1,4 @@
-// SAIL tables that are read: geometry, sizes, places and lookup.
+// SAIL tables that are read: geometry, state, places in a pool, and what a lookup answers.
 pub mod found;
 pub mod geometry;
 pub mod place;

@@ -1,4 +1,4 @@
 -- What joins the code of announce to its definition, and that its answers are told apart.
-pub mod Adds
+pub mod AnnounceReturns
 pub mod Injective
 pub mod OneAnswer

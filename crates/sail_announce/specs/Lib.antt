@@ -1,4 +1,3 @@
 -- What announce answers.
 pub mod Answers
 pub mod Contract
-pub mod Booked

@@ -11,8 +11,8 @@ use lib.Seq.{length-take-le}
 use borrow.Rule.Slice.PartMut.{mid-len}
 use Rattle.bits.specs.Tab.{Tells}
 use Rattle.routes.specs.declared.Route.{Route}
-use Rattle.plan.specs.Part.{Right}
-use Rattle.plan.specs.Under.{Tested}
+use Rattle.plan_test.specs.Part.{Right}
+use Rattle.plan_test.specs.Part.{Tested}
 use Rattle.bits.proofs.Tells.{is-yes, refuted, passed}
 use Rattle.sail.specs.Geometry.{Power}
 use Rattle.sail_cells_test.specs.Pool.{partAt, Blocked, FirstTestReady}

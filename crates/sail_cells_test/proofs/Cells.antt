@@ -9,7 +9,7 @@ use lib.ListN.{getD, drop}
 use lib.Seq.{getD-take, getD-drop}
 use Rattle.standing.specs.Cells.{long, best}
 use Rattle.routes.specs.declared.Route.{Route}
-use Rattle.plan.specs.Part.{NamesBack, Right}
+use Rattle.plan_test.specs.Part.{NamesBack, Right}
 use Rattle.sail_cells_test.specs.Pool.{partAt}
 
 -- the cell that stands for cell i of level p holds v, and has the owner number o

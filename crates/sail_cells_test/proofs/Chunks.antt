@@ -12,8 +12,8 @@ use borrow.Author.Tests.{lt-ltb, le-ltb, ltb-true}
 use Rattle.bits.specs.Tab.{Tells}
 use Rattle.routes.specs.declared.Route.{Route}
 use Rattle.buffers.specs.Fill.{Range}
-use Rattle.buffers.specs.Zeros.{Zeros}
-use Rattle.plan.specs.Part.{Right}
+use Rattle.buffers_test.specs.Zeros.{Zeros}
+use Rattle.plan_test.specs.Part.{Right}
 use Rattle.bits.proofs.Tells.{is-no, is-yes, tells-same}
 use Rattle.sail.specs.Geometry.{Power}
 use Rattle.sail.specs.Level.{itself, liveIn, partOf, entry}

@@ -5,10 +5,10 @@ use mathlib.Core.Bool.{Bool, true, false}
 use mathlib.Core.List.{List}
 use Prim.Native.Nat.{ℕ, suc, _+_, _-_, _*_, _^_, _≤_, _<_}
 use lib.ListN.{length, getD, take, drop}
-use Rattle.buffers.specs.Zeros.{Zeros}
+use Rattle.buffers_test.specs.Zeros.{Zeros}
 use Rattle.routes.specs.declared.Route.{Route}
 use Rattle.chain.specs.Cover.{ChainReady}
-use Rattle.plan.specs.Part.{Right}
+use Rattle.plan_test.specs.Part.{Right}
 use Rattle.sail.specs.Level.{itself, liveIn, partOf, entry}
 
 -- n cells from place a on

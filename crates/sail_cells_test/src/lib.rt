@@ -5,15 +5,15 @@ ghost use Prim.Native.Nat.{_+_, _*_, _^_, _≤_, _<_};
 ghost use lib.ListN.{length, getD};
 ghost use Rattle.bits.specs.Tab.{Tells};
 ghost use Rattle.chain.specs.Words.{routesOfWords};
-ghost use Rattle.plan.specs.Part.{Right};
+ghost use Rattle.plan_test.specs.Part.{Right};
 ghost use Rattle.sail.specs.Geometry.{Power};
 ghost use Rattle.sail_cells_test.specs.Pool.{partAt, OwnedRight, OwnedChunk, OwnedPool, FreeIsZero, FreeAll, Chunked};
 ghost use Rattle.sail_cells_test.specs.Pool.{Blocked, FirstTestReady, OwnerCellReady, OwnerCell, OwnedReady, Pooled};
 use bits::widen::half_to_index;
 use bits::widen::word_to_index;
-use buffers::zeros::zeros16;
+use buffers_test::zeros::zeros16;
 use chain::place::shifted;
-use plan::under::right_under;
+use plan_test::under::right_under;
 use sail::place::cell_place;
 
 // How many cells a block has whose places take d bits.

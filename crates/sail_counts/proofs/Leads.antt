@@ -1,42 +1,20 @@
 -- From the cell of an address at a level to the place that serves the address: in the first level at once, in the second by its first cell.
-use mathlib.Core.Path.{_≡_, sym, _∙_, ap}
+use mathlib.Core.Path.{_≡_, _∙_, ap}
 use mathlib.Core.Bool.{true}
 use mathlib.Core.List.{List}
-use Prim.Native.Nat.{ℕ, _+_, _-_, _*_, _/_, _%_, _^_, _≤_, _<_}
-use native.Mathlib.Nat.{div-eq-of-lt, mod-eq-of-lt}
+use Prim.Native.Nat.{ℕ, _+_, _*_, _%_, _^_, _<_}
 use native.Mathlib.Omega.{arith}
-use lib.ListN.{getD, length}
+use lib.ListN.{length}
 use Rattle.bits.specs.Slot.{slot}
-use Rattle.bits.proofs.Slots.{slot-lt}
 use Rattle.standing.specs.Cells.{long}
 use Rattle.routes.specs.declared.Route.{Route}
 use Rattle.sail.specs.Geometry.{bits2, Valid}
-use Rattle.sail.specs.Level.{Level, entry, chunksOf, top, level1, level2}
+use Rattle.sail.specs.Level.{entry, chunksOf, level1, level2}
 use Rattle.sail.specs.Sound.{Shows}
 use Rattle.sail.specs.declared.geometry.Geometry.{Geometry}
-use Rattle.standing.proofs.TwoLevels.{slot-down}
 use Rattle.sail_theory.proofs.places.Places.{LiveFor, top-served, below-served}
 use Rattle.sail_theory.proofs.places.Pools.{shown-node, shows-fits, shows-shown}
-use Rattle.sail_counts.specs.Tick.{placeIn, secondAt}
-use Rattle.sail_counts.specs.CountsTest.{rootCell}
-
--- the address's cell is in a chunk that a cell of `above` names, at the place that serves the address
-pub record NamedAbove (v : Level) (d : ℕ) (above : List ℕ) (a : ℕ) : Type 0 where
-  pub there : slot (v .bits) a / 2 ^ d < length above
-  pub some : 1 ≤ getD above (slot (v .bits) a / 2 ^ d) 0
-  pub is : placeIn d above (slot (v .bits) a) ≡ v .serving a
-  pub served : LiveFor v a
-
-pub first-leads : (p a : ℕ) → p ≤ 32 → a < 2 ^ 32 → NamedAbove (top p) p rootCell a
-first-leads p a h s =
-    let l = slot-lt p a h s in
-    let z : slot p a / 2 ^ p ≡ 0 = div-eq-of-lt l in
-    record {
-      there = rw z (omega arith);
-      some = rw z (omega arith);
-      is = rw (z, mod-eq-of-lt l) (omega arith);
-      served = top-served p a h s;
-    }
+use Rattle.sail_counts.specs.Tick.{secondAt}
 
 module _ (g : Geometry) (valid : Valid g) (rs : List Route) (first own2 : List ℕ) (cells1 : length first ≡ 2 ^ g .p1)
     (shows1 : Shows rs (level1 g) (chunksOf own2) (entry first)) (a : ℕ) (small : a < 2 ^ 32) where
@@ -58,13 +36,3 @@ module _ (g : Geometry) (valid : Valid g) (rs : List Route) (first own2 : List �
     second-served =
         below-served rs (level1 g) (chunksOf own2) (shows-fits rs (level1 g) (chunksOf own2) (entry first) shows1) (g .p2) a (omega arith) (omega arith)
         served1 e
-
-    pub second-leads : NamedAbove (level2 g (chunksOf own2)) (bits2 g) first a
-    second-leads =
-        let up : slot (g .p2) a / 2 ^ bits2 g ≡ slot (g .p1) a = sym (slot-down (g .p1) (g .p2) a (omega arith) (omega arith)) in
-        record {
-          there = rw up first-there;
-          some = rw up (shows1 .node (slot (g .p1) a) (served1 .inside) (served1 .used) e .one);
-          is = rw up second-place;
-          served = second-served;
-        }

@@ -2,8 +2,6 @@
 pub mod Owners
 pub mod Ticks
 pub mod Steps
-pub mod CountRuns
 pub mod Leads
-pub mod Exact
 pub mod Tallies
 pub mod Loads

@@ -1,15 +1,17 @@
 -- The routes of records that come one by one: each time the counts are those of the routes that came.
 use mathlib.Core.Path.{_≡_, refl, sym, _∙_, ap, subst}
-use mathlib.Core.Bool.{true}
+use mathlib.Core.Bool.{true, or-true}
 use mathlib.Core.List.{List, [], _∷_, _++_}
-use Prim.Native.Nat.{ℕ, _+_, _*_, _^_, _<_}
+use Prim.Native.Nat.{ℕ, zero, suc, _+_, _*_, _^_, _<_}
+use native.Mathlib.Nat.{not-suc-le-zero, le-of-suc-le-suc}
 use native.Mathlib.Omega.{arith}
-use lib.ListN.{length}
+use lib.ListN.{length, getD}
 use borrow.Author.Tests.{lt-ltb, eq-eqb}
 use Rattle.bits.specs.Slot.{slot}
 use Rattle.bits.specs.Tab.{tabulate}
 use Rattle.bits.proofs.Bools.{both}
-use Rattle.routes.specs.Record.{recordAt, routesOf}
+use Rattle.standing.specs.Cells.{any, within, long}
+use Rattle.routes.specs.Record.{recordAt, routesOf, noRoute}
 use Rattle.routes.specs.declared.Route.{Route}
 use Rattle.routes.proofs.Rows.{length-routes, nth-route, routes-snoc}
 use Rattle.counts.specs.Counts.{OneMore}
@@ -19,8 +21,14 @@ use Rattle.sail.specs.declared.geometry.Geometry.{Geometry}
 use Rattle.sail_counts.specs.Counted.{Counts}
 use Rattle.sail_counts.specs.Tick.{Tickable, CountsMoved, Uncounted}
 use Rattle.sail_counts.specs.declared.tick.Left.{Left}
-use Rattle.sail_counts.proofs.Exact.{long-at}
 use Rattle.sail_counts.proofs.Tallies.{length-ticked, Guided, up-tickable, up-counts, none-counts}
+
+-- a route that stands in the list makes its cells long
+pub long-at : (rs : List Route) (p i k : ℕ) → k < length rs → within p i (getD rs k noRoute) ≡ true → long rs p i ≡ true
+unfolding any
+long-at [] p i k l e = absurd (not-suc-le-zero l)
+long-at (r ∷ rs) p i zero l e = rw e
+long-at (r ∷ rs) p i (suc k) l e = rw (long-at rs p i k (le-of-suc-le-suc l) e) (or-true (within p i r))
 
 -- the counts of the first k routes
 pub record Come (g : Geometry) (s : List ℕ) (k : ℕ) (own2 long1 long2 : List ℕ) : Type 0 where

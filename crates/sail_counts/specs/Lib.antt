@@ -1,4 +1,3 @@
--- The counts of a table's first two levels, one route more or less in them, and their test.
+-- The counts of a table's first two levels, and one route more or less in them.
 pub mod Counted
 pub mod Tick
-pub mod CountsTest

@@ -2,7 +2,7 @@
 use mathlib.Core.Bool.{Bool, true, false, cond}
 use mathlib.Core.List.{List}
 use mathlib.Core.Path.{_≡_}
-use Prim.Native.Nat.{ℕ, suc, _-_, _*_, _/_, _^_, _≤_, _<_}
+use Prim.Native.Nat.{ℕ, suc, _-_, _*_, _^_, _≤_, _<_}
 use lib.Dec.{ltb}
 use lib.ListN.{length, getD, set}
 use Rattle.bits.specs.Slot.{slot}
@@ -25,10 +25,6 @@ ticked longer up q counts = cond longer (set counts q (step up (getD counts q 0)
 -- what is then left there; 1 where the route is no longer than the level, so that 0 says: no long route is left
 unfoldable pub leftAt : Bool → Bool → ℕ → List ℕ → ℕ
 leftAt longer up q counts = cond longer (step up (getD counts q 0)) 1
-
--- the place in a pool of chunks of 2 ^ d cells that serves cell i of its level; `above` are the cells that name its chunks
-abbrev pub placeIn : ℕ → List ℕ → ℕ → ℕ
-placeIn d above i = cellPlace d (getD above (i / 2 ^ d) 0) i
 
 -- the first cell of the address a, and the place of its second
 abbrev pub firstCell : Geometry → List ℕ → ℕ → ℕ

@@ -1,3 +1,2 @@
-// The counts of long routes that a SAIL table stores: one route more or less in them, and their test.
-pub mod test;
+// The counts of a table: one route more or less in them.
 pub mod tick;

@@ -5,7 +5,7 @@ ghost use Rattle.sail_counts.specs.Counted.{Counts};
 ghost use Rattle.sail_counts.specs.Tick.{step, Steps, Ticks, Ticked, Tickable, CountsMoved, Uncounted};
 use bits::widen::byte_to_word;
 use bits::widen::half_to_index;
-use routes::record::read_record;
+use records::record::read_record;
 use sail::geometry::Geometry;
 use sail::place::second_place;
 

@@ -1,3 +1,4 @@
 -- Laws of each way out of a judge.
+pub mod ChainLeft
 pub mod AnnounceJudges
 pub mod WithdrawJudges

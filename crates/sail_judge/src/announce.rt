@@ -4,20 +4,22 @@ ghost use mathlib.Core.Path.{_≡_};
 ghost use Prim.Native.Nat.{_≤_};
 ghost use lib.Dec.{leb};
 ghost use lib.ListN.{length};
+ghost use Rattle.chain.specs.List.{Scratch};
 ghost use Rattle.sail.specs.Lent.{lent};
 ghost use Rattle.sail.specs.Sound.{used};
 ghost use Rattle.sail_theory.specs.Cases.{Proper};
+ghost use Rattle.sail_judge.specs.Chain.{ChainLeft};
 ghost use Rattle.sail_judge.specs.Announce.{AnnounceJudged};
 use lists::edit;
 use lists::place::place;
+use records::record;
 use routes::Route;
 use routes::input;
-use routes::record;
 use sail::table::Table;
-use sail::table::sizes;
 use sail_chunks::opening::Opening;
 use sail_chunks::opening::nothing;
 use sail_chunks::opening::to_open;
+use sail_sizes::sizes;
 use sail_sound::report::in_use;
 use sail_sound::test::sound;
 
@@ -100,7 +102,7 @@ fn judge_room(
 }
 
 // The number with which the announcement is refused, by the first condition that holds; 0 where it is accepted, and what was
-// found of it.
+// found of it. The words of the list and their chain are then in `ws` and `par`.
 pub fn judge_announce(
     t: Table,
     list: &[u8],
@@ -112,9 +114,13 @@ pub fn judge_announce(
     long1: &[u16],
     long2: &[u16],
     r: Route,
+    ws: &mut [u64],
+    par: &mut [u16],
 ) -> AnnounceVerdict
+    requires { ⌜ Scratch (now ws) (now par) ⌝ }
     ensures { λ f. ⌜ AnnounceJudged t (lent (now (list .entry)) (now (first .entry)) (now (second .entry)) (now (third .entry))
-        (now (own2 .entry)) (now (own3 .entry)) (now (long1 .entry)) (now (long2 .entry))) r f ⌝ }
+        (now (own2 .entry)) (now (own3 .entry)) (now (long1 .entry)) (now (long2 .entry))) r f
+        × ChainLeft (f .number) (now (list .entry)) (t .count) (now (ws .exit)) (now (par .exit)) ⌝ }
 {
     let s = sizes(t, list, first, second, third, own2, own3, long1, long2);
     if s != 0 {
@@ -124,7 +130,19 @@ pub fn judge_announce(
     if f != 0 {
         return refusal(f);
     }
-    if !sound(t, list, first, second, third, own2, own3, long1, long2) {
+    if !sound(
+        t,
+        list,
+        first,
+        second,
+        third,
+        own2,
+        own3,
+        long1,
+        long2,
+        ws,
+        par,
+    ) {
         return refusal(5);
     }
     judge_room(t, list, first, second, third, own2, own3, long1, long2, r)

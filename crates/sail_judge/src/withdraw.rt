@@ -1,12 +1,14 @@
 // The judge of a withdrawal: whether it is refused, and where it is not, where the record stands.
+ghost use Rattle.chain.specs.List.{Scratch};
 ghost use Rattle.sail.specs.Lent.{lent};
+ghost use Rattle.sail_judge.specs.Chain.{ChainLeft};
 ghost use Rattle.sail_judge.specs.Withdraw.{WithdrawJudged};
 use lists::edit;
 use lists::place::place;
+use records::record;
 use routes::input;
-use routes::record;
 use sail::table::Table;
-use sail::table::sizes;
+use sail_sizes::sizes;
 use sail_sound::test::sound;
 
 // The number of the refusal. Where it is 0: the place of the prefix's record in the list.
@@ -16,7 +18,7 @@ pub struct WithdrawVerdict {
 }
 
 // The number with which the withdrawal is refused, by the first condition that holds; 0 where it is accepted, and the place
-// of the prefix's record.
+// of the prefix's record. The words of the list and their chain are then in `ws` and `par`.
 pub fn judge_withdraw(
     t: Table,
     list: &[u8],
@@ -29,9 +31,13 @@ pub fn judge_withdraw(
     long2: &[u16],
     addr: u32,
     len: u8,
+    ws: &mut [u64],
+    par: &mut [u16],
 ) -> WithdrawVerdict
+    requires { ⌜ Scratch (now ws) (now par) ⌝ }
     ensures { λ f. ⌜ WithdrawJudged t (lent (now (list .entry)) (now (first .entry)) (now (second .entry)) (now (third .entry))
-        (now (own2 .entry)) (now (own3 .entry)) (now (long1 .entry)) (now (long2 .entry))) addr len f ⌝ }
+        (now (own2 .entry)) (now (own3 .entry)) (now (long1 .entry)) (now (long2 .entry))) addr len f
+        × ChainLeft (f .number) (now (list .entry)) (t .count) (now (ws .exit)) (now (par .exit)) ⌝ }
 {
     let s = sizes(t, list, first, second, third, own2, own3, long1, long2);
     if s != 0 {
@@ -40,7 +46,19 @@ pub fn judge_withdraw(
     if !input::prefix_ok(addr, len) {
         return WithdrawVerdict { number: 3, at: 0 };
     }
-    if !sound(t, list, first, second, third, own2, own3, long1, long2) {
+    if !sound(
+        t,
+        list,
+        first,
+        second,
+        third,
+        own2,
+        own3,
+        long1,
+        long2,
+        ws,
+        par,
+    ) {
         return WithdrawVerdict { number: 5, at: 0 };
     }
     let n = t.count as usize;

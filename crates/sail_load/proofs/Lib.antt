@@ -1,5 +1,3 @@
 -- Laws that the functions' proofs cite.
-pub mod Lists
-pub mod Renews
 pub mod Loads
 pub mod OneAnswer

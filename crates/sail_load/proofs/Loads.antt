@@ -2,53 +2,26 @@
 use mathlib.Core.Path.{_≡_, refl, sym, _∙_, ap}
 use mathlib.Core.Bool.{Bool, true, false}
 use mathlib.Core.List.{List, [], _∷_}
-use Prim.Native.Nat.{ℕ, _/_, _<_, _≤_}
+use Prim.Native.Nat.{ℕ, _/_, _≤_}
 use native.Mathlib.Omega.{arith}
 use lib.ListN.{length}
-use borrow.Author.Tests.{lt-ltb, le-ltb}
-use Rattle.standing.specs.Cells.{need}
 use Rattle.routes.specs.Record.{routesOf}
-use Rattle.routes.specs.declared.Route.{Route}
 use Rattle.routes.specs.Said.{accepted, refused, refusedAt, accepts}
 use Rattle.routes.specs.Input.{inputSaid}
 use Rattle.routes.proofs.Rows.{length-routes}
 use Rattle.routes.proofs.Meaning.{input-good}
 use Rattle.sail.specs.Lent.{Lent}
 use Rattle.sail.specs.Sizes.{sizesFault, SizesTold}
-use Rattle.sail.specs.declared.geometry.Geometry.{Geometry}
 use Rattle.sail.specs.declared.table.Table.{Table}
 use Rattle.sail_theory.specs.Render.{roomOf}
-use Rattle.sail_theory.specs.Calls.{chunksFault, loadFault, loadSaid, out, loaded, inputRoutes}
+use Rattle.sail_theory.specs.Calls.{loadFault, loadSaid, out, loaded, inputRoutes}
 use Rattle.sail_theory.proofs.calls.Load.{accepted-loadable, loadable-said, load-is, load-off}
 use Rattle.sail_load.specs.Answers.{meansLoaded}
-use Rattle.sail_load.specs.Weigh.{terms, Weighs}
-use Rattle.sail_load.specs.Renew.{Renewable, anew}
+use Rattle.sail_need.specs.Weigh.{terms, Weighs}
+use Rattle.sail_renew.specs.Renew.{Renewable, anew}
 use Rattle.sail_load.specs.declared.load.Loaded.{Loaded}
 use Rattle.sail_load.specs.declared.load.Loaded.the-variants.{Done, Refused, RefusedAt}
 use Rattle.sail_make.proofs.Makes.{or-refused}
-
--- 6, 7 and 8
-module _ (g : Geometry) (s : List ℕ) (n room most2 most3 : ℕ) where
-  abbrev rs : List Route
-  rs = routesOf s n
-
-  pub weigh-six : room < n → 6 ≡ loadFault (terms g room most2 most3) rs
-  unfolding loadFault
-  weigh-six h = rw (length-routes s n, lt-ltb room n h)
-
-  module _ (h : n ≤ room) (m : ℕ) (first : m ≡ need rs (g .p1)) where
-    pub weigh-seven : most2 < m → 7 ≡ loadFault (terms g room most2 most3) rs
-    unfolding loadFault chunksFault
-    weigh-seven a = rw (length-routes s n, le-ltb room n h, ← first, lt-ltb most2 m a)
-
-    module _ (a : m ≤ most2) (k : ℕ) (second : k ≡ need rs (g .p2)) where
-      pub weigh-eight : most3 < k → 8 ≡ loadFault (terms g room most2 most3) rs
-      unfolding loadFault chunksFault
-      weigh-eight b = rw (length-routes s n, le-ltb room n h, ← first, le-ltb most2 m a, ← second, lt-ltb most3 k b)
-
-      pub weigh-none : k ≤ most3 → 0 ≡ loadFault (terms g room most2 most3) rs
-      unfolding loadFault chunksFault
-      weigh-none b = rw (length-routes s n, le-ltb room n h, ← first, le-ltb most2 m a, ← second, le-ltb most3 k b)
 
 -- what each way through the judgement says
 module _ (t : Table) (l : Lent) (input : List ℕ) (z : ℕ) (check : SizesTold z (t .geometry) l) where

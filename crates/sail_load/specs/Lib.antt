@@ -1,5 +1,3 @@
--- What load answers, and what its steps ask and leave.
+-- What load answers, and its statement.
 pub mod Answers
 pub mod Contract
-pub mod Renew
-pub mod Weigh

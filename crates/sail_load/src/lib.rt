@@ -1,3 +1,2 @@
 // A table loaded from a record input.
 pub mod load;
-pub mod renew;

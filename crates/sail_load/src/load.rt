@@ -1,19 +1,17 @@
 // A table loaded from a record input.
 ghost use mathlib.Core.Path.{_≡_};
-ghost use Rattle.routes.specs.Record.{routesOf};
 ghost use Rattle.routes.specs.Said.{accepts};
 ghost use Rattle.sail.specs.Lent.{lent};
-ghost use Rattle.sail_theory.specs.Calls.{loadFault, loadSaid};
+ghost use Rattle.sail_theory.specs.Calls.{loadSaid};
 ghost use Rattle.sail_load.specs.Answers.{meansLoaded};
 ghost use Rattle.sail_load.specs.Contract.{MeetsLoad};
-ghost use Rattle.sail_load.specs.Weigh.{terms, Weighs};
-use crate::renew::write_table;
+use input_check::input::check_input;
 use routes::input::Input;
-use routes::input::check_input;
 use sail::geometry::Geometry;
 use sail::table::Table;
-use sail::table::sizes;
-use sail_owners::need::count_need;
+use sail_need::weigh;
+use sail_renew::write_table;
+use sail_sizes::sizes;
 
 // Loaded; or a refusal's number, with the index of a record where the input itself is at fault.
 pub enum Loaded {
@@ -26,23 +24,6 @@ pub enum Loaded {
 pub struct LoadedTable {
     pub answer: Loaded,
     pub table: Table,
-}
-
-// Whether n good records find room: 6, 7 or 8 where they do not, and else 0.
-pub fn weigh(g: Geometry, input: &[u8], n: usize, room: usize, most2: usize, most3: usize) -> u8
-    requires { ⌜ Weighs g (now input) n ⌝ }
-    ensures { λ r. ⌜ r ≡ loadFault (terms g room most2 most3) (routesOf (now (input .entry)) n) ⌝ }
-{
-    if room < n {
-        return 6;
-    }
-    if most2 < count_need(input, n, g.p1) {
-        return 7;
-    }
-    if most3 < count_need(input, n, g.p2) {
-        return 8;
-    }
-    0
 }
 
 // What load answers. Nothing is written, and nothing is read of the old table but its geometry and its sizes.
@@ -79,7 +60,8 @@ fn judge(
     }
 }
 
-fn accepts(a: Loaded) -> bool
+// Whether an input was accepted.
+pub fn accepts(a: Loaded) -> bool
     ensures { λ r. ⌜ r ≡ accepts (meansLoaded a) ⌝ }
 {
     match a {

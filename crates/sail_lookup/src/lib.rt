@@ -12,7 +12,7 @@ use sail::found::Found;
 use sail::geometry::Geometry;
 use sail::place::cell_place;
 use sail::table::Table;
-use sail::table::sizes;
+use sail_sizes::sizes;
 
 // What a leaf says that is read as the n-th cell, as a word.
 fn leaf(v: u16, n: u32) -> u32

@@ -7,7 +7,7 @@ use buffers::fill::fill16;
 use buffers::fill::zero8;
 use buffers::fill::zero32;
 use sail::table::Table;
-use sail::table::sizes;
+use sail_sizes::sizes;
 
 // Made, or a refusal's number.
 pub enum Made {

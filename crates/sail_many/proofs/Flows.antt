@@ -1,30 +1,18 @@
--- Words of many addresses: steps at one place, passes over a range, and turns.
+-- Words of many addresses: passes over a range, and turns.
 use mathlib.Core.List.{List}
 use mathlib.Core.Logic.{_⊎_, inl, inr}
 use mathlib.Core.Path.{_≡_, refl, ap, _∙_}
 use Prim.Native.Nat.{ℕ, _+_, _≤_, _<_}
 use native.Mathlib.Nat.{le-refl}
 use native.Mathlib.Omega.{arith}
-use lib.ListN.{length, getD, length-set}
-use lib.Seq.{getD-set-same, getD-set-other}
+use lib.ListN.{length, getD}
 use Rattle.bits.specs.Tab.{tabulate}
 use Rattle.bits.proofs.Tabs.{is-tabulate}
 use Rattle.bits.proofs.Bools.{below?}
 use Rattle.sail.specs.Geometry.{standardGeo}
-use Rattle.sail_many.specs.Words.{step1, step2, step3, answerAt, put, turned, Flowing, Flows, Swept, AddrRange, Spot, LevelsReady}
-
-module _ (f : ℕ → ℕ → ℕ) (j : ℕ) (out : List ℕ) where
-  pub length-put : length (put f j out) ≡ length out
-  unfolding put
-  length-put = length-set out j (f j (getD out j 0))
-
-  pub put-same : j < length out → getD (put f j out) j 0 ≡ f j (getD out j 0)
-  unfolding put
-  put-same h = getD-set-same out j (f j (getD out j 0)) 0 h
-
-  pub put-other : (k : ℕ) → (k ≡ j → ⊥) → getD (put f j out) k 0 ≡ getD out k 0
-  unfolding put
-  put-other k n = getD-set-other out j k (f j (getD out j 0)) 0 n
+use Rattle.sail_step.specs.Words.{step1, step2, step3, put, turned, Spot, LevelsReady}
+use Rattle.sail_step.proofs.Words.{length-put, put-same, put-other}
+use Rattle.sail_many.specs.Flows.{answerAt, Flowing, Flows, Swept, AddrRange}
 
 -- a pass over a range, place by place
 swept-none : (f : ℕ → ℕ → ℕ) (from : ℕ) (out : List ℕ) → Swept f from from out out
@@ -80,10 +68,6 @@ module _ {f : ℕ → ℕ → ℕ} {from to : ℕ} {ads out ys : List ℕ} {i : 
 
 -- a turn
 module _ (f1 : ℕ → ℕ) (f2 f3 : ℕ → ℕ → ℕ) (j : ℕ) (out : List ℕ) where
-  pub turned-is : (xs ys zs : List ℕ) → xs ≡ put (λ k _. f1 k) (j + 16) out → ys ≡ put f2 (j + 8) xs → zs ≡ put f3 j ys → zs ≡ turned f1 f2 f3 j out
-  unfolding turned
-  turned-is xs ys zs a b c = c ∙ ap (put f3 j) (b ∙ ap (put f2 (j + 8)) a)
-
   length-turned : length (turned f1 f2 f3 j out) ≡ length out
   unfolding turned
   length-turned = length-put f3 j _ ∙ length-put f2 (j + 8) _ ∙ length-put _ (j + 16) out

@@ -1,4 +1,3 @@
 -- Laws of words on their way, and what they answer.
-pub mod Words
 pub mod Flows
 pub mod LookupWords

@@ -15,8 +15,8 @@ use Rattle.sail.specs.Word.{Word}
 use Rattle.sail.specs.declared.geometry.Geometry.{Geometry}
 use Rattle.sail.proofs.Words.{word-leaf}
 use Rattle.sail.proofs.Steps.{leaf1, off1, leaf2, off2, leaf3, off3}
-use Rattle.sail_many.specs.Words.{cellWord, chunkOfWord, word1, word2, word3, LevelsReady}
-use Rattle.sail_many.proofs.Words.{down-not, down-on, last-stays, last-early, last-not, last-leaf, last-off}
+use Rattle.sail_step.specs.Words.{cellWord, chunkOfWord, word1, word2, word3, LevelsReady}
+use Rattle.sail_step.proofs.Words.{down-not, down-on, last-stays, last-early, last-not, last-leaf, last-off}
 
 -- the word of a cell: a leaf's is its answer and leads nowhere; another's has the top bit set, leads to its chunk, and tells how many were read
 module _ (n v : ℕ) (b : v < 65536) (f : n ≤ 3) where

@@ -1,2 +1,2 @@
--- The words of addresses on their way through a table.
-pub mod Words
+-- Many addresses on their way through a table at once.
+pub mod Flows

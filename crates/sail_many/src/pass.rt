@@ -1,10 +1,11 @@
 // One level for a range of addresses.
 ghost use Prim.Native.Nat.{_-_, _≤_};
 ghost use lib.ListN.{length};
-ghost use Rattle.sail_many.specs.Words.{step1, step2, step3, Firsts, Below, Whole, AddrRange, Swept};
-use crate::word::read_first;
-use crate::word::read_second;
-use crate::word::read_third;
+ghost use Rattle.sail_step.specs.Words.{step1, step2, step3, Firsts, Below, Whole};
+ghost use Rattle.sail_many.specs.Flows.{AddrRange, Swept};
+use sail_step::word::read_first;
+use sail_step::word::read_second;
+use sail_step::word::read_third;
 
 pub fn read_firsts(p1: u32, first: &[u16], addrs: &[u32], out: &mut [u32], from: usize, to: usize)
     requires { ⌜ Firsts p1 (length (now first)) × AddrRange from to (now addrs) (now out) ⌝ }

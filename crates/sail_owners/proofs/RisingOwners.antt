@@ -8,15 +8,14 @@ use Prim.Native.Nat.{ℕ, suc, _+_, _-_, _*_, _/_, _^_, _≤_, _<_}
 use native.Mathlib.Omega.{arith}
 use native.Mathlib.Nat.{mod-lt, div-add-mod', le-refl, eq-or-lt-of-le}
 use lib.Arith.{digits-lt}
-use lib.Dec.{eqb, ltb}
+use lib.Dec.{ltb}
 use lib.ListN.{getD, length, set, replicate, List·getD-eq-default}
 use lib.Pow.{pow-pos, shr-mono}
 use lib.Seq.{getD-set-other, getD-set-same, set-out}
-use borrow.Author.Tests.{eqb-true, lt-ltb}
+use borrow.Author.Tests.{lt-ltb}
 use Rattle.bits.specs.Slot.{slot}
-use Rattle.bits.proofs.Bools.{decided, and-split, equal?, below?}
+use Rattle.bits.proofs.Bools.{decided, equal?, below?}
 use Rattle.routes.specs.Route.{key}
-use Rattle.standing.specs.Cells.{within, long}
 use Rattle.standing.specs.Standing.{insert}
 use Rattle.routes.specs.declared.Route.{Route}
 use Rattle.routes.proofs.Goods.{good-fine}
@@ -24,7 +23,8 @@ use Rattle.sail.specs.Level.{Level, chunksOf, entry, top, below}
 use Rattle.sail_theory.specs.Render.{find, Fits}
 use Rattle.sail_theory.specs.Calls.{grant, openAt, opening}
 use Rattle.sail_theory.proofs.owners.Chunks.{chunk-at, chunk-before, chunk-has, free-zero}
-use Rattle.standing.proofs.ListParts.{insert-end, any-some}
+use Rattle.standing.proofs.ListParts.{insert-end}
+use Rattle.sail_need.proofs.NeedPass.{long-top}
 use Rattle.sail_theory.proofs.places.Places.{chunk-lt, live-owner, part-up}
 use Rattle.sail_theory.proofs.owners.StillFit.{chunk-found}
 use Rattle.sail_theory.proofs.owners.GrantKeep.{grant-had, grant-new, had?}
@@ -116,15 +116,6 @@ module _ (own : List ℕ) (q : ℕ) (up : Rising own) (top : (c x : ℕ) → get
               low : (c ≡ find own 0) ⊎ (c ≢ find own 0) → ⊥
               low (inl z) = omega (arith, is, free-zero own, ap (entry own) z)
               low (inr z) = omega (arith, l, free-zero own, up (find own 0) c (let w = l in omega arith) (omega (arith, is)) .0)
-
--- a long cell of routes up to r is no later than r's
-pub long-top : (r : Route) (rs : List Route) (p i : ℕ) → r .len ≤ 32 → ((s : Route) → List·Memᴰ s rs → (key s ≤ key r) × (s .len ≤ 32))
-    → long rs p i ≡ true → i ≤ slot p (r .addr)
-long-top r rs p i w h e = any-some (within p i) rs (i ≤ slot p (r .addr)) e (λ s m t.
-    let c = eqb-true (slot p (s .addr)) i (and-split (ltb p (s .len)) (eqb (slot p (s .addr)) i) t .1) in
-    let k = h s m in
-    let a : s .addr ≤ r .addr = omega (arith, k .0, k .1) in
-    omega (arith, c, shr-mono (32 - p) a))
 
 -- Places rise with the cells that they stand for.
 abbrev pub Rises : Level → Type 0

@@ -1,4 +1,2 @@
--- What counting needs and settling owners ask and leave.
-pub mod Need
+-- What settling owners asks and leaves.
 pub mod Owners
-pub mod LastLong

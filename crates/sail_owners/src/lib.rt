@@ -1,3 +1,2 @@
-// What the routes of an input need of the pools: how many chunks, and which owners.
-pub mod need;
+// The owners that the routes of an input ask for.
 pub mod owners;

@@ -9,8 +9,8 @@ ghost use Rattle.sail_theory.specs.Calls.{inputRoutes, ownersAfter};
 ghost use Rattle.sail_owners.specs.Owners.{owners, Past, LastIs, MayOwn, HasOwner, OpenForReady, Opened, Ownable};
 use bits::slot;
 use bits::widen::byte_to_word;
+use records::record::read_record;
 use routes::Route;
-use routes::record::read_record;
 use sail::geometry::Geometry;
 use sail::place::second_place;
 

@@ -10,7 +10,7 @@ use lib.Pow.{pow-mono}
 use Rattle.bits.specs.Tab.{Tells}
 use Rattle.routes.specs.declared.Route.{Route}
 use Rattle.chain.specs.Cover.{ChainReady}
-use Rattle.plan.specs.Part.{Right}
+use Rattle.plan_test.specs.Part.{Right}
 use Rattle.bits.proofs.Tells.{tells-same, refuted, passed}
 use Rattle.sail.specs.Geometry.{bits2, bits3}
 use Rattle.sail.specs.Lent.{cells}

@@ -27,7 +27,7 @@ use Rattle.sail.specs.declared.geometry.Geometry.{Geometry}
 use Rattle.sail.specs.declared.table.Table.{Table}
 use Rattle.sail.proofs.Fitting.{celled-of}
 use Rattle.sail_counts.specs.Counted.{Counts}
-use Rattle.sail_counts.specs.CountsTest.{Countable}
+use Rattle.sail_counts_test.specs.CountsTest.{Countable}
 use Rattle.sail_theory.proofs.places.Places.{chunk-lt, live-owner, chunk-live, chunk-part}
 use Rattle.sail_cells_test.specs.Pool.{chunkOf, PoolOk, FreeAll}
 use Rattle.sail_sound.specs.TableTest.{rootOwner, PassedAll, CountsBeside, PassedTable}

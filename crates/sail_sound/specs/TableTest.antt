@@ -1,12 +1,13 @@
 -- The whole test: what it goes through, and what it answers.
 use mathlib.Core.Path.{_≡_}
-use mathlib.Core.Bool.{Bool}
+use mathlib.Core.Bool.{Bool, true}
 use mathlib.Core.List.{List, [], _∷_}
 use Prim.Native.Nat.{ℕ}
 use lib.ListN.{length}
 use Rattle.bits.specs.Tab.{Tells}
 use Rattle.routes.specs.declared.Route.{Route}
-use Rattle.plan.specs.Part.{Right}
+use Rattle.chain.specs.List.{ChainedFront}
+use Rattle.plan_test.specs.Part.{Right}
 use Rattle.sail.specs.Geometry.{bits2, bits3}
 use Rattle.sail_counts.specs.Counted.{Counts}
 use Rattle.sail.specs.Lent.{Lent, Cells}
@@ -46,3 +47,8 @@ pub record PassedTable (rs : List Route) (g : Geometry) (l : Cells) (long1 long2
 pub record Tried (r : Bool) (t : Table) (l : Lent) : Type 0 where
   pub tells : Tells r (Sound t l)
   pub is : r ≡ sound? t l
+
+-- and where it is sound, the words of its routes are left with their chain at the front of the room that was lent
+pub record TriedWith (r : Bool) (t : Table) (l : Lent) (ws par : List ℕ) : Type 0 where
+  pub tried : Tried r t l
+  pub chained : r ≡ true → ChainedFront (l .list) (t .count) ws par

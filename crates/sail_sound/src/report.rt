@@ -9,7 +9,7 @@ ghost use Rattle.sail_sound.specs.Report.{ReportJudged};
 ghost use Rattle.sail_sound.specs.Contract.{MeetsReport};
 use crate::test::sound;
 use sail::table::Table;
-use sail::table::sizes;
+use sail_sizes::sizes;
 
 // What is wrong with a table: 1, 2 or 5, or 0.
 pub fn judged(
@@ -30,7 +30,21 @@ pub fn judged(
     if s != 0 {
         return s;
     }
-    if sound(t, list, first, second, third, own2, own3, long1, long2) {
+    let mut ws = [0u64; 4096];
+    let mut par = [0u16; 4353];
+    if sound(
+        t,
+        list,
+        first,
+        second,
+        third,
+        own2,
+        own3,
+        long1,
+        long2,
+        &mut ws,
+        &mut par,
+    ) {
         return 0;
     }
     5

@@ -5,15 +5,15 @@ ghost use Rattle.chain.specs.Cover.{ChainReady};
 ghost use Rattle.chain.specs.List.{Scratch};
 ghost use Rattle.sail.specs.Lent.{lent, cells};
 ghost use Rattle.sail.specs.Sizes.{Sized, Celled};
-ghost use Rattle.sail_sound.specs.TableTest.{Passed, PassedAll, CountsBeside, PassedTable, Tried};
-use chain::list::chained;
+ghost use Rattle.sail_sound.specs.TableTest.{Passed, PassedAll, CountsBeside, PassedTable, TriedWith};
+use chain::list::chained_from;
 use lists::test::list_ok;
 use sail::geometry::Geometry;
 use sail::table::Table;
 use sail_cells_test::first_ok;
 use sail_cells_test::free_all;
 use sail_cells_test::owned_all;
-use sail_counts::test::counts_ok;
+use sail_counts_test::counts_ok;
 
 // The live cells of the three levels beside the routes of the words. The first cells are one chunk, whose owner is 1; a third
 // cell names no chunk.
@@ -121,8 +121,9 @@ fn table_ok(
     counts_ok(ws, g, first, second, own2, own3, long1, long2)
 }
 
-// Whether a table of the right sizes is sound; `ws` and `par` are room for the words of its routes and their chain.
-pub fn sound_with(
+// Whether a table of the right sizes is sound; `ws` and `par` are room for the words of its routes and their chain, which are
+// left there.
+pub fn sound(
     t: Table,
     list: &[u8],
     first: &[u16],
@@ -137,14 +138,14 @@ pub fn sound_with(
 ) -> bool
     requires { ⌜ Sized (t .geometry) (lent (now list) (now first) (now second) (now third) (now own2) (now own3) (now long1) (now long2)) ⌝ }
     requires { ⌜ Scratch (now ws) (now par) ⌝ }
-    ensures { λ r. ⌜ Tried r t (lent (now (list .entry)) (now (first .entry)) (now (second .entry)) (now (third .entry)) (now (own2 .entry))
-        (now (own3 .entry)) (now (long1 .entry)) (now (long2 .entry))) ⌝ }
+    ensures { λ r. ⌜ TriedWith r t (lent (now (list .entry)) (now (first .entry)) (now (second .entry)) (now (third .entry)) (now (own2 .entry))
+        (now (own3 .entry)) (now (long1 .entry)) (now (long2 .entry))) (now (ws .exit)) (now (par .exit)) ⌝ }
 {
     let n = t.count as usize;
     if !list_ok(list, n) {
         return false;
     }
-    chained(list, &mut ws[..n], par);
+    chained_from(list, n, 0, ws, par);
     let g = t.geometry;
     table_ok(
         &ws[..n],
@@ -157,38 +158,5 @@ pub fn sound_with(
         own3,
         long1,
         long2,
-    )
-}
-
-// The same with room of its own.
-pub fn sound(
-    t: Table,
-    list: &[u8],
-    first: &[u16],
-    second: &[u16],
-    third: &[u16],
-    own2: &[u32],
-    own3: &[u32],
-    long1: &[u16],
-    long2: &[u16],
-) -> bool
-    requires { ⌜ Sized (t .geometry) (lent (now list) (now first) (now second) (now third) (now own2) (now own3) (now long1) (now long2)) ⌝ }
-    ensures { λ r. ⌜ Tried r t (lent (now (list .entry)) (now (first .entry)) (now (second .entry)) (now (third .entry)) (now (own2 .entry))
-        (now (own3 .entry)) (now (long1 .entry)) (now (long2 .entry))) ⌝ }
-{
-    let mut ws = [0u64; 4096];
-    let mut par = [0u16; 4353];
-    sound_with(
-        t,
-        list,
-        first,
-        second,
-        third,
-        own2,
-        own3,
-        long1,
-        long2,
-        &mut ws,
-        &mut par,
     )
 }

@@ -1,4 +1,4 @@
 -- What joins the code of withdraw to its definition, and that its answers are told apart.
-pub mod Takes
+pub mod WithdrawReturns
 pub mod Injective
 pub mod OneAnswer

@@ -14,7 +14,7 @@ use Rattle.sail.specs.Walk.{foundSaid, lookupSaid}
 use Rattle.sail.specs.declared.geometry.Geometry.{Geometry}
 use Rattle.sail.specs.declared.table.Table.{Table}
 use Rattle.sail.proofs.Steps.{look-on, look-not}
-use Rattle.sail_many.specs.Words.{answerAt}
+use Rattle.sail_many.specs.Flows.{answerAt}
 use Rattle.sail_many.proofs.LookupWords.{answer-is}
 use Rattle.sail.specs.Word.{packed, packFound, Word}
 use Rattle.sail_words.specs.Lookups.{wordsCard, manyCard}

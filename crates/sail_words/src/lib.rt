@@ -8,9 +8,9 @@ ghost use Rattle.sail.specs.Word.{packFound};
 ghost use Rattle.sail_words.specs.Lookups.{tableOf, wordsCard, manyCard};
 use sail::geometry::Geometry;
 use sail::table::Table;
-use sail::table::sizes;
 use sail_lookup::walk;
 use sail_many::flow::many;
+use sail_sizes::sizes;
 
 // One lookup.
 pub fn look(

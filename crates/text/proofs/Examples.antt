@@ -8,8 +8,10 @@ use Rattle.routes.specs.Record.{recordAt, routesOf}
 use Rattle.routes.specs.ListA.{listA}
 use Rattle.standing.specs.Cells.{need, any}
 use Rattle.routes.specs.Said.{refused, refusedAt}
-use Rattle.text.specs.Digits.{digitsIn, digitsOf}
-use Rattle.text.specs.Text.{ascii, labelled, dotted, markText, routeLine, routeLines, headLine, tableText, saidText}
+use Rattle.text_pieces.specs.Digits.{digitsIn, digitsOf}
+use Rattle.text_pieces.specs.Pieces.{ascii, labelled, dotted}
+use Rattle.text_routes.specs.RouteLine.{markText, routeLine}
+use Rattle.text.specs.Text.{routeLines, headLine, tableText, saidText}
 
 abbrev pub routesA : List Route
 routesA = routesOf listA 5

@@ -1,6 +1,3 @@
--- Laws of digits, of texts in a buffer and of lines, and document 01's example.
-pub mod Digits
-pub mod Writes
-pub mod Numbers
+-- Laws of lines, and document 01's example.
 pub mod Lines
 pub mod Examples

@@ -1,4 +1,2 @@
--- What the printed text is, and what a call writes of it.
-pub mod Digits
+-- What the printed text is.
 pub mod Text
-pub mod Wrote

@@ -1,48 +1,12 @@
-// Lines: a route's, a table's, and a refusal's.
-use crate::put;
-use bits::bytes;
-use routes::Route;
+// Lines: a table's, and a refusal's.
+use text_pieces::put;
+use text_routes::put_route;
 ghost use Prim.Native.Nat.{_≤_};
 ghost use lib.ListN.{length};
 ghost use Rattle.routes.specs.Record.{routesOf};
 ghost use Rattle.routes.specs.Said.{refused, refusedAt};
-ghost use Rattle.text.specs.Text.{dotted, markText, routeLine, headLine, tableText, saidText};
-ghost use Rattle.text.specs.Wrote.{TextRoom, Wrote, Printable};
-
-// An address, as four numbers with points between them.
-pub fn put_address(out: &mut [u8], at: usize, addr: u32) -> usize
-    requires { ⌜ TextRoom (now out) at (dotted addr) ⌝ }
-    ensures { λ r. ⌜ Wrote (now (out .entry)) at (dotted addr) r (now (out .exit)) ⌝ }
-{
-    let a = addr as u64;
-    let p = put::put_number(out, at, a / bytes::THREE);
-    let q = put::put_labelled(out, p, b".", a / bytes::TWO % bytes::ONE);
-    let r = put::put_labelled(out, q, b".", a / bytes::ONE % bytes::ONE);
-    put::put_labelled(out, r, b".", a % bytes::ONE)
-}
-
-// That the network is attached, where the mark is 1.
-fn put_mark(out: &mut [u8], at: usize, mark: u8) -> usize
-    requires { ⌜ TextRoom (now out) at (markText mark) ⌝ }
-    ensures { λ r. ⌜ Wrote (now (out .entry)) at (markText mark) r (now (out .exit)) ⌝ }
-{
-    if mark == 1 {
-        return put::put_text(out, at, b" attached");
-    }
-    at
-}
-
-// A route's line.
-pub fn put_route(out: &mut [u8], at: usize, r: Route) -> usize
-    requires { ⌜ TextRoom (now out) at (routeLine r) ⌝ }
-    ensures { λ n. ⌜ Wrote (now (out .entry)) at (routeLine r) n (now (out .exit)) ⌝ }
-{
-    let p = put_address(out, at, r.addr);
-    let q = put::put_labelled(out, p, b"/", r.len as u64);
-    let s = put::put_labelled(out, q, b" ", r.hop as u64);
-    let m = put_mark(out, s, r.mark);
-    put::put_byte(out, m, b'\n')
-}
+ghost use Rattle.text_pieces.specs.Wrote.{TextRoom, Wrote};
+ghost use Rattle.text.specs.Text.{headLine, tableText, saidText, Printable};
 
 // A table's first line.
 fn put_head(out: &mut [u8], at: usize, n: usize, second: u32, third: u32) -> usize
@@ -63,7 +27,7 @@ pub fn table_text(list: &[u8], n: usize, second: u32, third: u32, out: &mut [u8]
     let mut at = put_head(out, 0, n, second, third);
     let mut k = 0;
     while k < n {
-        at = put_route(out, at, routes::record::read_record(list, k));
+        at = put_route(out, at, records::record::read_record(list, k));
         k += 1;
     }
     at

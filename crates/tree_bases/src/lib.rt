@@ -80,12 +80,11 @@ fn faults(words: &[u32], m: usize) -> u32
     let mut bad: u32 = 0;
     let mut i: usize = 0;
     while i < m {
-        let word = words[3 * i];
-        let child = std::num::wrapping_add_u32(words[3 * i + 1], children(word));
-        let hop = std::num::wrapping_add_u32(words[3 * i + 2], bits::ones_below(word, 15));
-        bad += off_own(words[3 * i + 3])
-            + differ(words[3 * i + 4], child)
-            + differ(words[3 * i + 5], hop);
+        let at = 3 * i;
+        let word = words[at];
+        let child = std::num::wrapping_add_u32(words[at + 1], children(word));
+        let hop = std::num::wrapping_add_u32(words[at + 2], bits::ones_below(word, 15));
+        bad += off_own(words[at + 3]) + differ(words[at + 4], child) + differ(words[at + 5], hop);
         i += 1;
     }
     bad

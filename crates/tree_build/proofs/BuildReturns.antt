@@ -1,5 +1,5 @@
 -- What each answer of a build says, and what it leaves.
-use mathlib.Core.Path.{_≡_, sym, _∙_, ap, subst}
+use mathlib.Core.Path.{_≡_, refl, sym, _∙_, ap, subst}
 use mathlib.Core.List.{List}
 use Prim.Native.Nat.{ℕ, _/_, _≤_, _<_}
 use native.Mathlib.Omega.{arith}
@@ -15,13 +15,15 @@ use Rattle.routes.proofs.Meaning.{input-good}
 use Rattle.routes.proofs.Rows.{length-routes}
 use Rattle.tree_image.specs.Image.{nodeNeed}
 use Rattle.tree_image.proofs.Needs.{hops-need}
+use Rattle.tree_room.specs.Lack.{Lack, short-nodes, short-hops, has-room}
+use Rattle.tree_room.proofs.Room.{room-is}
 use Rattle.tree_build.specs.declared.Built.{Built}
 use Rattle.tree_build.specs.declared.Built.the-variants.{Made, RefusedAt, Refused}
 use Rattle.tree_build.specs.Built.{meansBuilt, ImageOut, imageOut, madeOf, built}
-use Rattle.tree_build.specs.Count.{nodesTo}
-use Rattle.tree_build.specs.Queue.{ImageRoom, ImageFilled}
-use Rattle.tree_build.proofs.NodeRuns.{good-list}
-use Rattle.tree_build.proofs.Levels.{nodes-counted}
+use Rattle.tree_node.specs.Count.{nodesTo}
+use Rattle.tree_fill.specs.Fill.{ImageRoom, ImageFilled}
+use Rattle.tree_node.proofs.NodeRuns.{good-list}
+use Rattle.tree_node.proofs.Levels.{nodes-counted}
 
 -- answers that are told the same are the same
 pub meansBuilt-injective : (x y : Built) → meansBuilt x ≡ meansBuilt y → x ≡ y
@@ -50,45 +52,49 @@ module _ (s : List ℕ) (n : ℕ) (ok : GoodInput s n) (x : ℕ) (ex : (x ≡ no
   routes-are : length (routesIn s) ≡ n
   routes-are = length-routes s (length s / 8) ∙ sym all
 
-  pub few-nodes : length ws / 3 < x → imageOut (meansBuilt (Refused 11)) ws hs ≡ madeOf (routesIn s) ws hs
+  few-nodes : length ws / 3 < x → imageOut (meansBuilt (Refused 11)) ws hs ≡ madeOf (routesIn s) ws hs
   unfolding madeOf meansBuilt
   few-nodes l = rw (lt-ltb (length ws / 3) (nodeNeed (routesIn s)) (omega (arith, nodes-are)))
 
-  module _ (l : x ≤ length ws / 3) where
-    pub few-hops : length hs < n → imageOut (meansBuilt (Refused 12)) ws hs ≡ madeOf (routesIn s) ws hs
+  few-hops : x ≤ length ws / 3 → length hs < n → imageOut (meansBuilt (Refused 12)) ws hs ≡ madeOf (routesIn s) ws hs
+  unfolding madeOf meansBuilt
+  few-hops l u = rw (
+    le-ltb (length ws / 3) (nodeNeed (routesIn s)) (omega (arith, nodes-are)),
+    lt-ltb (length hs) (length (routesIn s)) (omega (arith, routes-are)),
+  )
+
+  pub no-room : {f : ℕ} → Lack (length ws) (length hs) x n f → (f ≡ 0 → ⊥) → imageOut (meansBuilt (Refused f)) ws hs ≡ madeOf (routesIn s) ws hs
+  no-room (short-nodes l) z = few-nodes l
+  no-room (short-hops l u) z = few-hops l u
+  no-room (has-room l u) z = absurd (z refl)
+
+  module _ {f : ℕ} (lack : Lack (length ws) (length hs) x n f) (none : f ≡ 0) where
+    pub roomy : ImageRoom s (length ws) (length hs)
+    roomy =
+        let h = hops-need (routesIn s) (good-list s good) in
+        let room = room-is lack none in
+        record {
+          records = good;
+          whole = omega (arith, ok .whole);
+          words-room = omega (arith, nodes-are, room .0);
+          hops-room = omega (arith, h, routes-are, room .1);
+          words-fit = omega (arith, nodes-are, ex .1);
+          hops-fit = omega (arith, h, routes-are, ok .records .few);
+        }
+
+    pub made : {ws′ hs′ : List ℕ} → ImageFilled s ws hs ws′ hs′ → (a b : ℕ) → a ≡ x → b ≡ n
+        → imageOut (meansBuilt (Made a b)) ws′ hs′ ≡ madeOf (routesIn s) ws hs
     unfolding madeOf meansBuilt
-    few-hops u = rw (
-      le-ltb (length ws / 3) (nodeNeed (routesIn s)) (omega (arith, nodes-are)),
-      lt-ltb (length hs) (length (routesIn s))
-          (omega (arith, routes-are)),
-    )
-
-    module _ (u : n ≤ length hs) where
-      pub roomy : ImageRoom s (length ws) (length hs)
-      roomy =
-          let h = hops-need (routesIn s) (good-list s good) in
-          record {
-            records = good;
-            whole = omega (arith, ok .whole);
-            words-room = omega (arith, nodes-are);
-            hops-room = omega (arith, h, routes-are);
-            words-fit = omega (arith, nodes-are, ex .1);
-            hops-fit = omega (arith, h, routes-are, ok .records .few);
-          }
-
-      pub made : (ws′ hs′ : List ℕ) → ImageFilled s ws hs ws′ hs′ → (a b : ℕ) → a ≡ x → b ≡ n → imageOut (meansBuilt (Made a b)) ws′ hs′ ≡ madeOf
-          (routesIn s) ws hs
-      unfolding madeOf meansBuilt
-      made ws′ hs′ f a b ea eb =
-          rw (
-            le-ltb (length ws / 3) (nodeNeed (routesIn s)) (omega (arith, nodes-are)),
-            le-ltb (length hs) (length (routesIn s))
-                (omega (arith, routes-are)),
-            f .words,
-            f .hops,
-            ea ∙ nodes-are,
-            eb ∙ sym routes-are,
-          )
+    made g a b ea eb =
+        let room = room-is lack none in
+        rw (
+          le-ltb (length ws / 3) (nodeNeed (routesIn s)) (omega (arith, nodes-are, room .0)),
+          le-ltb (length hs) (length (routesIn s)) (omega (arith, routes-are, room .1)),
+          g .words,
+          g .hops,
+          ea ∙ nodes-are,
+          eb ∙ sym routes-are,
+        )
 
 -- the arms of the input's check
 module _ (s : List ℕ) (i : Input) (e : meansInput i ≡ inputSaid s) (ws hs : List ℕ) where

@@ -1,14 +1,4 @@
--- What joins the code to the image.
-pub mod Marks
-pub mod Scans
-pub mod Stores
-pub mod NodeRuns
-pub mod Words
-pub mod Hops
-pub mod Kids
-pub mod Steps
-pub mod Ends
-pub mod Levels
+-- What each answer of a build says, and what an accepted one serves.
 pub mod BuildReturns
 pub mod OneAnswer
 pub mod Serves

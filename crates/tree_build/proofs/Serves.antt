@@ -20,7 +20,7 @@ use Rattle.tree_image.specs.Walk.{treeHopSaid, treeSaid}
 use Rattle.tree_image.proofs.Serves.{image-serves}
 use Rattle.tree_build.specs.Built.{madeOf, afterInput, built}
 use Rattle.tree_build.specs.Cases.{AcceptedBuild}
-use Rattle.tree_build.proofs.NodeRuns.{good-list}
+use Rattle.tree_node.proofs.NodeRuns.{good-list}
 
 made-accepts : (rs : List Route) (ws hs vs : List ℕ) → Good rs → madeOf rs ws hs .said ≡ accepted vs → AcceptedBuild rs ws hs vs (madeOf rs ws hs)
 unfolding madeOf

@@ -1,7 +1,4 @@
--- What a build answers and leaves, and what holds while it works.
+-- What a build answers and leaves.
 pub mod Built
 pub mod Cases
 pub mod Contract
-pub mod NodeRuns
-pub mod Count
-pub mod Queue

@@ -1,10 +1,10 @@
 // The build of a tree bitmap image from a record input.
-pub mod count;
-pub mod fill;
-pub mod run;
-
-use routes::input;
+use input_check::input;
 use routes::input::Input;
+use tree_fill::fill_image;
+use tree_node::count::count_nodes;
+use tree_node::put::narrow;
+use tree_room::lack;
 ghost use mathlib.Core.Path.{_≡_};
 ghost use Rattle.routes.specs.Record.{GoodInput, routesIn};
 ghost use Rattle.tree_build.specs.Built.{meansBuilt, imageOut, madeOf};
@@ -17,21 +17,19 @@ pub enum Built {
     Refused(u8),
 }
 
-// Good records into the two arrays: 11 where too few whole nodes are lent, 12 where too few hops are.
+// Good records into the two arrays, where there is room for their image.
 fn make(list: &[u8], n: usize, words: &mut [u32], hops: &mut [u16]) -> Built
     requires { ⌜ GoodInput (now list) n ⌝ }
     ensures { λ r. ⌜ imageOut (meansBuilt r) (now (words .exit)) (now (hops .exit))
         ≡ madeOf (routesIn (now (list .entry))) (now (words .entry)) (now (hops .entry)) ⌝ }
 {
-    let nodes = count::count_nodes(list, n);
-    if words.len() / 3 < nodes {
-        return Built::Refused(11);
+    let nodes = count_nodes(list, n);
+    let fault = lack(words.len(), hops.len(), nodes, n);
+    if fault != 0 {
+        return Built::Refused(fault);
     }
-    if hops.len() < n {
-        return Built::Refused(12);
-    }
-    fill::fill_image(list, words, hops);
-    Built::Made(fill::narrow(nodes), fill::narrow(n))
+    fill_image(list, words, hops);
+    Built::Made(narrow(nodes), narrow(n))
 }
 
 // Builds the image of a record input. A refusal leaves both arrays as they were.

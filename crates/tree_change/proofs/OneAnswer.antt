@@ -4,11 +4,11 @@ use mathlib.Core.List.{List}
 use Prim.Native.Nat.{ℕ}
 use Rattle.routes.specs.Said.{Said}
 use Rattle.tree_build.specs.Built.{ImageOut, imageOut}
-use Rattle.tree_change.specs.Changed.{meansTreeAnnounced, meansTreeWithdrawn}
+use Rattle.tree_theory.specs.Changed.{meansTreeAnnounced, meansTreeWithdrawn}
 use Rattle.tree_change.specs.Contract.{MeetsTreeAnnounce, MeetsTreeWithdraw}
-use Rattle.tree_change.specs.declared.TreeAnnounced.{TreeAnnounced}
-use Rattle.tree_change.specs.declared.TreeWithdrawn.{TreeWithdrawn}
-use Rattle.tree_change.proofs.Cases.{meansTreeAnnounced-injective, meansTreeWithdrawn-injective}
+use Rattle.tree_theory.specs.declared.TreeAnnounced.{TreeAnnounced}
+use Rattle.tree_theory.specs.declared.TreeWithdrawn.{TreeWithdrawn}
+use Rattle.tree_theory.proofs.Cases.{meansTreeAnnounced-injective, meansTreeWithdrawn-injective}
 
 -- the answer is known from what it says, and the rest is part of the outcome
 one-end : {A : Type 0} (says : A → Said) → ((a b : A) → says a ≡ says b → a ≡ b) → (x y : A) (ws ws′ hs hs′ : List ℕ) (o : ImageOut)

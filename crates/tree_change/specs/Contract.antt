@@ -4,9 +4,9 @@ use mathlib.Core.List.{List}
 use mathlib.Core.Path.{_≡_}
 use Prim.Native.Nat.{ℕ}
 use Rattle.tree_build.specs.Built.{imageOut}
-use Rattle.tree_change.specs.Changed.{meansTreeAnnounced, meansTreeWithdrawn, imageAnnounced, imageWithdrawn}
-use Rattle.tree_change.specs.declared.TreeAnnounced.{TreeAnnounced}
-use Rattle.tree_change.specs.declared.TreeWithdrawn.{TreeWithdrawn}
+use Rattle.tree_theory.specs.Changed.{meansTreeAnnounced, meansTreeWithdrawn, imageAnnounced, imageWithdrawn}
+use Rattle.tree_theory.specs.declared.TreeAnnounced.{TreeAnnounced}
+use Rattle.tree_theory.specs.declared.TreeWithdrawn.{TreeWithdrawn}
 
 abbrev pub MeetsTreeAnnounce : List ℕ → List ℕ → ℕ → ℕ → ℕ → TreeAnnounced → List ℕ → List ℕ → Type 0
 MeetsTreeAnnounce words hops addr len hop r ws hs = imageOut (meansTreeAnnounced r) ws hs ≡ imageAnnounced words hops addr len hop

@@ -1,5 +1,2 @@
--- What announce and withdraw on an image answer and leave, and what holds on the way.
-pub mod Changed
-pub mod Stages
-pub mod Cases
+-- The statements of announce and withdraw on an image.
 pub mod Contract

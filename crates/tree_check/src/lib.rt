@@ -1,15 +1,11 @@
-// The test of an image: its bases in one pass, then its nodes from the root down, its hops, and zeros after the last used. Once the bases are
-// those of the fixed order no two child arrays share a node, so the way down meets each node once, whatever the arrays hold.
-
+// The test of an image: its bases in one pass, then its nodes from the root down, its hops, and zeros after the last used.
 use bits::widen::word_to_index;
-use buffers::zeros::zeros16;
-use buffers::zeros::zeros32;
-use tree_bases::after_children;
-use tree_bases::differ;
-use tree_bases::first_child;
+use buffers_test::zeros::zeros16;
+use buffers_test::zeros::zeros32;
 use tree_bases::shape;
-use tree_build::fill;
 use tree_formed::Tested;
+use tree_levels::root_ok;
+use tree_node::put;
 ghost use mathlib.Core.Bool.{true};
 ghost use mathlib.Core.Path.{_≡_};
 ghost use Prim.Native.Nat.{_+_, _*_, _≤_, _<_};
@@ -17,80 +13,8 @@ ghost use lib.ListN.{length};
 ghost use Rattle.routes.specs.Input.{hopFine};
 ghost use Rattle.tree_same.specs.Order.{ints};
 ghost use Rattle.tree_check.specs.Contract.{MeetsTreeTest};
-ghost use Rattle.tree_formed.specs.WellFormed.{ordered, childrenOk, rootOk, hopsFineTo, wellFormed, nodesIf};
-ghost use Rattle.tree_formed.specs.Stretches.{Flagged, StretchLent, Stretch, Rooted};
-
-// Whether each node of a stretch at depth 8 has bit 0 alone. No early end, so that it can be done several nodes at a time.
-fn ends_ok(words: &[u32], first: usize, n: usize) -> bool
-    requires { ⌜ StretchLent (now words) first n ⌝ }
-    ensures { λ r. ⌜ r ≡ childrenOk 0 n (now (words .entry)) first ⌝ }
-{
-    let end = first + n;
-    let mut bad: u32 = 0;
-    let mut at = first;
-    while at < end {
-        bad += differ(words[3 * at], 1);
-        at += 1;
-    }
-    bad == 0
-}
-
-// How many nodes of an array are tested in one stretch.
-fn stretch(n: usize) -> usize
-    ensures { λ r. ⌜ (r ≤ n) × (0 < n → 0 < r) ⌝ }
-{
-    if n < 1024 {
-        return n;
-    }
-    1024
-}
-
-// Nodes side by side are well formed when their own bitmaps are and their child arrays are, which stand side by side too. What holds of own bitmaps at
-// every depth is known from the pass over all nodes.
-pub fn nodes_ok(words: &[u32], first: usize, n: usize, left: u32) -> bool
-    requires { ⌜ Stretch (now words) first n left × (0 < n) ⌝ }
-    ensures { λ r. ⌜ r ≡ childrenOk left n (now (words .entry)) first ⌝ }
-{
-    if left == 0 {
-        return ends_ok(words, first, n);
-    }
-    let from = first_child(words, first);
-    let to = after_children(words, first + n - 1);
-    children_ok(words, from, to - from, left - 1)
-}
-
-// A child array, or several side by side, is well formed when each of its nodes is: those of its first stretch, and the others.
-pub fn children_ok(words: &[u32], first: usize, n: usize, left: u32) -> bool
-    requires { ⌜ Stretch (now words) first n left ⌝ }
-    ensures { λ r. ⌜ r ≡ childrenOk left n (now (words .entry)) first ⌝ }
-{
-    if n == 0 {
-        return true;
-    }
-    let m = stretch(n);
-    if nodes_ok(words, first, m, left) {
-        children_ok(words, first + m, n - m, left)
-    } else {
-        false
-    }
-}
-
-// The root may be bare.
-fn root_ok(words: &[u32]) -> bool
-    requires { ⌜ Rooted (now words) ⌝ }
-    ensures { λ r. ⌜ r ≡ rootOk (now (words .entry)) ⌝ }
-{
-    let word = words[0];
-    if word == 0 {
-        return true;
-    }
-    if bits::is_set(word, 15) {
-        return false;
-    }
-    let from = first_child(words, 0);
-    let to = after_children(words, 0);
-    children_ok(words, from, to - from, 7)
-}
+ghost use Rattle.tree_formed.specs.WellFormed.{ordered, hopsFineTo, wellFormed, nodesIf};
+ghost use Rattle.tree_formed.specs.Stretches.{Flagged};
 
 // The hops of the first n nodes: the hop base of the last one and its own.
 pub fn hops_in(words: &[u32], n: usize) -> usize
@@ -113,7 +37,7 @@ fn off_hop(hop: u16) -> u16
     0
 }
 
-// Whether the first k hops are 1 to 32,767 each. No early end, as above.
+// Whether the first k hops are 1 to 32,767 each. No early end, so that it can be done several hops at a time.
 fn hops_fine(hops: &[u16], k: usize) -> bool
     requires { ⌜ (k ≤ length (now hops)) × (k ≤ 4096) ⌝ }
     ensures { λ r. ⌜ r ≡ hopsFineTo (now (hops .entry)) k ⌝ }
@@ -166,5 +90,5 @@ pub fn test(words: &[u32], hops: &[u16]) -> Tested
         return Tested::Broken;
     }
     let k = hops_in(words, n);
-    Tested::Image(fill::narrow(n), fill::narrow(k))
+    Tested::Image(put::narrow(n), put::narrow(k))
 }

@@ -47,7 +47,7 @@ use Rattle.tree_image.proofs.Holds.{pad-length, pad-at, node-words, child-place
 use Rattle.tree_image.proofs.Lies.{any-is, any-mem, pass-make, kidOf, kid-at, bitOf, bit-at, hop-of}
 use Rattle.tree_image.proofs.Needs.{hops-need}
 use Rattle.tree_image.proofs.Serves.{agree, words-after, hops-after}
-use Rattle.tree_build.proofs.Marks.{word-bits}
+use Rattle.tree_node.proofs.Marks.{word-bits}
 use Rattle.tree_same.specs.Order.{ints, Order}
 use Rattle.tree_same.proofs.Canonical.{ext-ones}
 use Rattle.tree_same.proofs.Same.{hopping, fits}

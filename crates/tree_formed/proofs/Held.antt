@@ -28,7 +28,7 @@ use Rattle.tree_image.proofs.Needs.{hops-need}
 use Rattle.tree_image.proofs.Nodes.{set-inner, set-child}
 use Rattle.tree_image.proofs.Lies.{any-is, pass-parts, hop-of, inner-cases, inner-len}
 use Rattle.tree_image.proofs.Serves.{agree}
-use Rattle.tree_build.proofs.Marks.{word-bits}
+use Rattle.tree_node.proofs.Marks.{word-bits}
 use Rattle.tree_same.specs.Read.{reached, leads, hopAt, pathOf, bitFor, readOut}
 use Rattle.tree_same.specs.Order.{standsAt, exts, ints}
 use Rattle.tree_same.specs.Holding.{Holding}

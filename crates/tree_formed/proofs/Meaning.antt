@@ -14,7 +14,7 @@ use Rattle.bits.specs.Tab.{every}
 use Rattle.bits.proofs.Searches.{firstOf-is, firstOf-le, firstOf-before}
 use Rattle.bits.proofs.Bools.{both, and-split, or-split, below?}
 use Rattle.bits.proofs.Tabs.{every-true, true-every}
-use Rattle.buffers.specs.Zeros.{Zeros}
+use Rattle.buffers_test.specs.Zeros.{Zeros}
 use Rattle.routes.specs.Input.{hopFine}
 use Rattle.routes.proofs.Meaning.{hop-true, true-hop}
 use Rattle.tree_image.specs.Node.{bitsOf, childOf, baseOf}

@@ -12,7 +12,7 @@ use borrow.Author.Tests.{leb-true, le-leb, eqb-true, eq-eqb}
 use Rattle.bits.specs.Tab.{Tells}
 use Rattle.bits.proofs.Bools.{decided, both, and-split, untrue, below?, same}
 use Rattle.bits.proofs.Tabs.{every-true, true-every}
-use Rattle.buffers.specs.Zeros.{Zeros}
+use Rattle.buffers_test.specs.Zeros.{Zeros}
 use Rattle.routes.specs.Input.{hopFine}
 use Rattle.tree_image.specs.Node.{bitsOf, baseOf}
 use Rattle.tree_same.specs.Order.{ints, Order}

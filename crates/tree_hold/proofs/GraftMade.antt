@@ -12,13 +12,13 @@ use lib.Count.{ones}
 use Rattle.bits.specs.Count.{count}
 use Rattle.bits.proofs.Bools.{below?}
 use Rattle.bits.proofs.Packed.{upper-count}
-use Rattle.buffers.specs.Moves.{movedUp}
-use Rattle.buffers.proofs.Draws.{length-drawn, drawn-in, drawn-before, drawn-after}
+use Rattle.moves.specs.Moves.{movedUp}
+use Rattle.moves.proofs.Draws.{length-drawn, drawn-in, drawn-before, drawn-after}
 use Rattle.tree_image.specs.Node.{bitsOf, childOf, baseOf, isSet, childAt}
 use Rattle.tree_image.proofs.Counts.{count-mono}
-use Rattle.tree_build.specs.NodeRuns.{WithBit}
-use Rattle.tree_build.specs.Queue.{put3}
-use Rattle.tree_build.proofs.Stores.{put3-length, put3-other, put3-at}
+use Rattle.tree_node.specs.NodeRuns.{WithBit}
+use Rattle.tree_node.specs.Queue.{put3}
+use Rattle.tree_node.proofs.Stores.{put3-length, put3-other, put3-at}
 use Rattle.tree_same.specs.Order.{exts, ints, Order}
 use Rattle.tree_formed.proofs.Held.{bit-of, exts-next, exts-mono}
 use Rattle.tree_hold.specs.Moves.{each}

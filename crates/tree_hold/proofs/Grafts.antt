@@ -22,7 +22,7 @@ use Rattle.tree_image.specs.Done.{nodeNo}
 use Rattle.tree_image.proofs.Counts.{count-mono, count-less}
 use Rattle.tree_image.proofs.Nodes.{set-inner, set-child}
 use Rattle.tree_image.proofs.Lies.{inner-cases}
-use Rattle.tree_build.proofs.Marks.{word-bits}
+use Rattle.tree_node.proofs.Marks.{word-bits}
 use Rattle.tree_same.specs.Read.{reached, hopPlaceAt}
 use Rattle.tree_same.specs.Order.{exts, ints, Order, standsAt}
 use Rattle.tree_same.specs.Holding.{Holding}

@@ -10,11 +10,11 @@ use lib.Count.{ones}
 use Rattle.bits.specs.Count.{count}
 use Rattle.bits.proofs.Bools.{below?}
 use Rattle.bits.proofs.Packed.{rank-count}
-use Rattle.buffers.specs.Moves.{movedUp}
-use Rattle.buffers.proofs.Draws.{length-drawn, drawn-in, drawn-before, drawn-after}
+use Rattle.moves.specs.Moves.{movedUp}
+use Rattle.moves.proofs.Draws.{length-drawn, drawn-in, drawn-before, drawn-after}
 use Rattle.tree_image.specs.Node.{bitsOf, isSet}
 use Rattle.tree_image.proofs.Counts.{count-mono}
-use Rattle.tree_build.specs.NodeRuns.{WithBit}
+use Rattle.tree_node.specs.NodeRuns.{WithBit}
 use Rattle.tree_same.specs.Read.{hopPlaceAt}
 use Rattle.tree_same.specs.Order.{ints}
 use Rattle.tree_formed.proofs.Held.{bit-of, ints-next, ints-mono}

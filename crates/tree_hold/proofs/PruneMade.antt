@@ -8,12 +8,12 @@ use native.Mathlib.Omega.{arith}
 use lib.ListN.{length, getD, set, length-set}
 use lib.Seq.{getD-set-same, getD-set-other}
 use Rattle.bits.proofs.Bools.{below?, equal?}
-use Rattle.buffers.specs.Moves.{movedDown}
-use Rattle.buffers.proofs.Draws.{length-drawn, drawn-in, drawn-before, drawn-after}
+use Rattle.moves.specs.Moves.{movedDown}
+use Rattle.moves.proofs.Draws.{length-drawn, drawn-in, drawn-before, drawn-after}
 use Rattle.tree_image.specs.Node.{bitsOf, childOf, isSet, childAt}
-use Rattle.tree_build.specs.NodeRuns.{WithBit}
-use Rattle.tree_build.specs.Queue.{put3}
-use Rattle.tree_build.proofs.Stores.{put3-length, put3-other, put3-at}
+use Rattle.tree_node.specs.NodeRuns.{WithBit}
+use Rattle.tree_node.specs.Queue.{put3}
+use Rattle.tree_node.proofs.Stores.{put3-length, put3-other, put3-at}
 use Rattle.tree_formed.proofs.Held.{fewer-exts, exts-next, exts-mono}
 use Rattle.tree_hold.specs.Moves.{each}
 use Rattle.tree_hold.specs.Edits.{GraftedBits, Grafted, Prunable}

@@ -10,7 +10,7 @@ use Rattle.bits.specs.Count.{bit}
 use Rattle.tree_image.specs.Node.{bitsOf}
 use Rattle.tree_image.specs.Image.{node, innerLen, bitHop, nodes, hops, Image, imageBy}
 use Rattle.tree_image.proofs.Nodes.{inner-bit}
-use Rattle.tree_build.proofs.Marks.{with-bit}
+use Rattle.tree_node.proofs.Marks.{with-bit}
 use Rattle.tree_same.specs.Read.{reached, hopPlaceAt}
 use Rattle.tree_same.specs.Order.{ints, standsAt}
 use Rattle.tree_same.specs.Holding.{Holding}

@@ -18,8 +18,8 @@ use Rattle.tree_image.specs.Parts.{zeroPadded}
 use Rattle.tree_image.specs.Image.{node, child, nodes, words, hops, Image, imageBy}
 use Rattle.tree_image.proofs.Nodes.{child-bit, words-length}
 use Rattle.tree_image.proofs.Holds.{pad-length}
-use Rattle.tree_build.specs.NodeRuns.{WithBit}
-use Rattle.tree_build.proofs.Marks.{with-bit, word-bits}
+use Rattle.tree_node.specs.NodeRuns.{WithBit}
+use Rattle.tree_node.proofs.Marks.{with-bit, word-bits}
 use Rattle.tree_same.specs.Read.{reached}
 use Rattle.tree_same.specs.Order.{ints, standsAt}
 use Rattle.tree_same.specs.Holding.{Holding}

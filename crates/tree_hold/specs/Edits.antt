@@ -6,7 +6,7 @@ use mathlib.Core.Path.{_≡_}
 use Prim.Native.Nat.{ℕ, suc, _+_, _*_, _/_, _^_, _≤_, _<_}
 use lib.ListN.{length, getD}
 use Rattle.tree_image.specs.Node.{bitsOf, childOf, baseOf, isSet, childAt}
-use Rattle.tree_build.specs.NodeRuns.{WithBit}
+use Rattle.tree_node.specs.NodeRuns.{WithBit}
 use Rattle.tree_same.specs.Read.{hopPlaceAt}
 use Rattle.tree_same.specs.Order.{exts, ints, Order}
 

@@ -31,7 +31,8 @@ pad-at n xs i h = List·getD-append xs (replicate (n - length xs) 0) 0 i h
 pub pad-past : (n : ℕ) (xs : List ℕ) (j : ℕ) → length xs ≤ j → getD (zeroPadded n xs) j 0 ≡ 0
 pad-past n xs j l =
     let e : j ≡ length xs + (j - length xs) = omega arith in
-    ap (λ (k : ℕ). getD (zeroPadded n xs) k 0) e ∙ getD-append-add xs (replicate (n - length xs) 0) (j - length xs) 0 ∙ getD-zeros (n - length xs) (j - length xs)
+    ap (λ (k : ℕ). getD (zeroPadded n xs) k 0) e
+    ∙ getD-append-add xs (replicate (n - length xs) 0) (j - length xs) 0 ∙ getD-zeros (n - length xs) (j - length xs)
 
 bit-on : (b : Bool) → bit b ≡ 1 → b ≡ true
 bit-on true e = refl

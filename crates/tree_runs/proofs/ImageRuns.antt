@@ -22,11 +22,11 @@ use Rattle.tree_same.specs.Listed.{routesHeld}
 use Rattle.tree_same.specs.OneImage.{Builds, SameArrays}
 use Rattle.tree_same.proofs.Plain.{plain-good}
 use Rattle.tree_formed.proofs.Exact.{accepted-few}
-use Rattle.tree_change.specs.Changed.{unmarkedRoute, imageAnnounced, imageWithdrawn}
-use Rattle.tree_change.specs.Cases.{ImageLeft}
-use Rattle.tree_change.proofs.Cases.{announce-leaves}
-use Rattle.tree_change.proofs.Takes.{withdraw-leaves}
-use Rattle.tree_change.proofs.Fresh.{change-stands, change-sizes, announce-left, withdraw-left}
+use Rattle.tree_theory.specs.Changed.{unmarkedRoute, imageAnnounced, imageWithdrawn}
+use Rattle.tree_theory.specs.Cases.{ImageLeft}
+use Rattle.tree_theory.proofs.Cases.{announce-leaves}
+use Rattle.tree_theory.proofs.Takes.{withdraw-leaves}
+use Rattle.tree_theory.proofs.Fresh.{change-stands, change-sizes, announce-left, withdraw-left}
 use Rattle.tree_runs.specs.ImageRuns.{
   ImageCall,
   announce,

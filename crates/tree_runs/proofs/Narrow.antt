@@ -18,7 +18,7 @@ use Rattle.tree_same.proofs.Same.{fits}
 use Rattle.tree_same.proofs.Holdings.{hops-are, image-holding}
 use Rattle.tree_formed.proofs.Held.{exts-mono, ints-mono}
 use Rattle.tree_hold.proofs.Holds.{bits-fit}
-use Rattle.tree_change.specs.Cases.{ImageLeft}
+use Rattle.tree_theory.specs.Cases.{ImageLeft}
 
 module _ (rs : List Route) (w h : ℕ) (g : Good rs) (few : length rs ≤ 4096) (room : 3 * nodeNeed rs ≤ w) (space : length rs ≤ h) where
   abbrev ws : List ℕ

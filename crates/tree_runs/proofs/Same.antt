@@ -21,8 +21,8 @@ use Rattle.tree_formed.specs.WellFormed.{nodesUsed, wellFormed}
 use Rattle.tree_formed.proofs.Meaning.{well-formed-is}
 use Rattle.tree_formed.proofs.Held.{held-image}
 use Rattle.tree_formed.proofs.Exact.{input-routes, input-built, made-fits}
-use Rattle.tree_change.specs.Cases.{ImageLeft}
-use Rattle.tree_change.proofs.Fresh.{change-as-build}
+use Rattle.tree_theory.specs.Cases.{ImageLeft}
+use Rattle.tree_theory.proofs.Fresh.{change-as-build}
 use Rattle.tree_runs.specs.ImageRuns.{ImageCall, imageAfter, imageStandingAfter, imageHeldByCalls}
 use Rattle.tree_runs.proofs.ImageRuns.{image-run, image-run-standing}
 

@@ -11,7 +11,7 @@ use Rattle.routes.specs.declared.Route.{Route}
 use Rattle.standing.specs.Standing.{Held, absent, stood, routeAt, insert, remove}
 use Rattle.tree_build.specs.Built.{ImageOut, built}
 use Rattle.tree_same.specs.Listed.{routesHeld}
-use Rattle.tree_change.specs.Changed.{unmarkedRoute, imageAnnounced, imageWithdrawn}
+use Rattle.tree_theory.specs.Changed.{unmarkedRoute, imageAnnounced, imageWithdrawn}
 
 -- an announcement of address, length and hop; a withdrawal of address and length
 pub data ImageCall : Type 0 where

@@ -1,5 +1,6 @@
 // Runs worked cases of the bit maps, and prints what they give. The file stdout has what document 02 and the figure of source document
 // 000 say of them.
+mod case;
 mod damage;
 mod maps;
 mod refusals;
@@ -12,10 +13,7 @@ fn main() {
     damage::bits();
     damage::cells();
     damage::many();
-    refusals::fewer_bytes();
-    refusals::more_bytes();
-    refusals::fewer_cells();
-    refusals::more_cells();
+    refusals::sizes();
     refusals::order();
     refusals::many();
 }

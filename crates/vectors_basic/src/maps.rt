@@ -1,14 +1,11 @@
-// Maps built into arrays that held other numbers, and lookups in them.
-use crate::say;
+// Maps built, and lookups in them.
+use crate::case;
 use vectors_shared::list;
 
-fn maps(word: &[u8], input: &[u8], addrs: &[u32]) {
-    let mut bits = [9u8; 16384];
-    let mut cells = [9u16; 131071];
-    say::built(word, input, &mut bits, &mut cells);
-    say::bits(&bits);
-    say::cells(&cells);
-    say::finds(input, &bits, &cells, addrs);
+fn shown(word: &[u8], input: &[u8], addrs: &[u32]) {
+    let mut c = case::plain();
+    c.maps = true;
+    case::play(word, input, addrs, c);
 }
 
 // The source's figure, its nine prefixes as records: 0/0 to hop 6, 32/3 to 3, 44/6 to 9, 48/4 to 1, 64/2 to 3, 128/1 to 4, 224/3 to 7, 224/4
@@ -25,7 +22,7 @@ pub fn figure() {
         0xF000_0000,
         0,
     ];
-    maps(
+    shown(
         b"figure",
         b"\x00\x00\x00\x00\x00\x00\x00\x06\x20\x00\x00\x00\x03\x00\x00\x03\x2C\x00\x00\x00\x06\x00\x00\x09\
         \x30\x00\x00\x00\x04\x00\x00\x01\x40\x00\x00\x00\x02\x00\x00\x03\x80\x00\x00\x00\x01\x00\x00\x04\
@@ -44,12 +41,12 @@ pub fn list_a() {
         0x0A02_0001,
         0xC000_0201,
     ];
-    maps(b"list a", &a, &addrs);
+    shown(b"list a", &a, &addrs);
 }
 
 // List A without its default route.
 pub fn no_default() {
     let a = list::list_a();
     let addrs = [0x0A02_0001u32, 0xC000_0201];
-    maps(b"no default", &a[8..], &addrs);
+    shown(b"no default", &a[8..], &addrs);
 }

@@ -1,16 +1,10 @@
 // Answers and maps, as words.
-use basic::check::BasicAnswer;
-use basic::lookup::BasicFound;
-use basic::lookup::lookup;
+use basic::answers::BasicAnswer;
+use basic::answers::BasicFound;
 use basic_build::build;
+use basic_lookup::lookup;
+use basic_many::lookup_many;
 use vectors_shared::print;
-
-// A refusal, and the record that it meets.
-fn refused_at(number: u8, k: usize) {
-    print::refused(number);
-    print::text(b" at");
-    print::value(k as u64);
-}
 
 pub fn answered(answer: BasicAnswer) {
     match answer {
@@ -18,7 +12,7 @@ pub fn answered(answer: BasicAnswer) {
             print::text(b" done");
         }
         BasicAnswer::RefusedAt(f, k) => {
-            refused_at(f, k);
+            print::refused_at(f, k);
         }
         BasicAnswer::Refused(f) => {
             print::refused(f);
@@ -38,7 +32,7 @@ fn found(answer: BasicFound) {
             print::text(b" no route");
         }
         BasicFound::RefusedAt(f, k) => {
-            refused_at(f, k);
+            print::refused_at(f, k);
         }
         BasicFound::Refused(f) => {
             print::refused(f);
@@ -85,7 +79,7 @@ fn cell(k: usize, v: u16) {
 }
 
 // The bytes that are not zero, each with its place.
-pub fn bits(list: &[u8]) {
+fn bits(list: &[u8]) {
     let mut i = 0;
     while i < list.len() {
         byte(i, list[i]);
@@ -94,7 +88,7 @@ pub fn bits(list: &[u8]) {
 }
 
 // The cells that are not zero.
-pub fn cells(list: &[u16]) {
+fn cells(list: &[u16]) {
     let mut i = 0;
     while i < list.len() {
         cell(i, list[i]);
@@ -102,12 +96,46 @@ pub fn cells(list: &[u16]) {
     }
 }
 
+// Both, where they are to be shown.
+pub fn maps(shown: bool, list: &[u8], then: &[u16]) {
+    if shown {
+        bits(list);
+        cells(then);
+    }
+}
+
+// Many lookups, and the word of each.
+pub fn lookups(input: &[u8], bits: &[u8], cells: &[u16], addrs: &[u32], out: &mut [u32]) {
+    answered(lookup_many(input, bits, cells, addrs, out));
+    print::words(out);
+}
+
+// The five addresses of list A at once, where they are to be.
+pub fn many(asked: bool, input: &[u8], bits: &[u8], cells: &[u16]) {
+    if !asked {
+        return;
+    }
+    let addrs = [
+        0x0A01_02C8u32,
+        0x0A01_0205,
+        0x0A01_0301,
+        0x0A02_0001,
+        0xC000_0201,
+    ];
+    let mut out = [9u32; 5];
+    print::text(b"lookups");
+    lookups(input, bits, cells, &addrs, &mut out);
+}
+
 fn value8(v: u8) {
     print::value(v as u64);
 }
 
-// What a refused build has left: the first byte and the first cell.
-pub fn left(bits: &[u8], cells: &[u16]) {
+// What a refused build has left, where it is to be shown: the first byte and the first cell.
+pub fn left(shown: bool, bits: &[u8], cells: &[u16]) {
+    if !shown {
+        return;
+    }
     print::text(b"left");
     if 0 < bits.len() {
         value8(bits[0]);

@@ -1,41 +1,19 @@
 // Each cause of 13, and the order of the refusals.
-use crate::changes;
+use crate::play::play;
 use crate::shown;
-use tree_change::announce;
-use tree_change::withdraw;
 use tree_check::test;
-ghost use Prim.Native.Nat.{_<_};
 
-// List A's image with one word of 23 another.
-fn with_word(at: usize, value: u32)
-    requires { ⌜ at < 23 ⌝ }
-{
-    let mut ws = [9u32; 23];
-    let mut hs = [9u16; 7];
-    changes::list_a(&mut ws, &mut hs);
-    ws[at] = value;
-    shown::tested(test(&ws, &hs));
-}
-
-// With one hop of 7 another.
-fn with_hop(at: usize, value: u16)
-    requires { ⌜ at < 7 ⌝ }
-{
-    let mut ws = [9u32; 23];
-    let mut hs = [9u16; 7];
-    changes::list_a(&mut ws, &mut hs);
-    hs[at] = value;
-    shown::tested(test(&ws, &hs));
-}
-
-// The last node's child base, a word after the last node, a hop after the last, a used hop of 0 and one over 32,767; then as it was.
+// List A's image with the last node's child base another, a word after the last node, a hop after the last, a used hop of 0 and one over
+// 32,767; then as it was.
 pub fn tests() {
-    with_word(19, 8);
-    with_word(22, 1);
-    with_hop(5, 1);
-    with_hop(4, 0);
-    with_hop(4, 32768);
-    with_hop(4, 57);
+    let mut ws = [9u32; 23];
+    let mut hs = [9u16; 7];
+    play(
+        b"(build); put 19: 8; test; (build); put 22: 1; test; (build); hop 5: 1; test\n\
+        (build); hop 4: 0; test; (build); hop 4: 32768; test; (build); hop 4: 57; test",
+        &mut ws,
+        &mut hs,
+    );
 }
 
 // The image of 0.0.0.0/32 alone, with other bits in its node of depth 8.
@@ -63,30 +41,15 @@ pub fn nodes() {
     shown::tested(test(&about, &hs));
 }
 
-// An announcement on list A's image with a used hop of 0.
-fn announced(addr: u32, len: u8, hop: u16) {
-    let mut ws = [9u32; 23];
-    let mut hs = [9u16; 7];
-    changes::list_a(&mut ws, &mut hs);
-    hs[4] = 0;
-    shown::announced(announce(&mut ws, &mut hs, addr, len, hop));
-}
-
-// A withdrawal on list A's image with this fifth hop.
-fn withdrawn(fifth: u16, addr: u32, len: u8) {
-    let mut ws = [9u32; 23];
-    let mut hs = [9u16; 7];
-    changes::list_a(&mut ws, &mut hs);
-    hs[4] = fifth;
-    shown::withdrawn(withdraw(&mut ws, &mut hs, addr, len));
-}
-
-// A bad prefix before a bad hop, that before a broken image; a bad prefix before a broken image, that before an absent prefix.
+// With a used hop of 0: a bad prefix before a bad hop, that before a broken image; a bad prefix before a broken image, that before an absent
+// prefix.
 pub fn order() {
-    announced(0x0A01_0201, 24, 0);
-    announced(0x0A01_0200, 24, 0);
-    announced(0x0A01_0200, 24, 1);
-    withdrawn(0, 0x0B00_0000, 7);
-    withdrawn(0, 0x0B00_0000, 8);
-    withdrawn(57, 0x0B00_0000, 8);
+    let mut ws = [9u32; 23];
+    let mut hs = [9u16; 7];
+    play(
+        b"(build); hop 4: 0; announce 10.1.2.1/24 to 0; announce 10.1.2.0/24 to 0; announce 10.1.2.0/24 to 1\n\
+        withdraw 11.0.0.0/7; withdraw 11.0.0.0/8; (build); withdraw 11.0.0.0/8",
+        &mut ws,
+        &mut hs,
+    );
 }

@@ -1,61 +1,55 @@
 // Changes of list A's image, each from the image as it was built.
-use crate::shown;
-use tree_change::announce;
-use tree_change::withdraw;
-use tree_check::test;
-use vectors_shared::list;
-
-// Document 01's list A, built over whatever the arrays hold.
-pub fn list_a(words: &mut [u32], hops: &mut [u16]) {
-    tree_build::build(&list::list_a(), words, hops);
-}
-
-fn add(words: &mut [u32], hops: &mut [u16], addr: u32, len: u8, hop: u16) {
-    list_a(words, hops);
-    shown::announced(announce(words, hops, addr, len, hop));
-    shown::image(words, hops);
-}
-
-fn take(words: &mut [u32], hops: &mut [u16], addr: u32, len: u8) {
-    list_a(words, hops);
-    shown::withdrawn(withdraw(words, hops, addr, len));
-    shown::image(words, hops);
-}
+use crate::play::play;
 
 // As it is built; one route more or less, or another hop.
 pub fn one_route() {
     let mut ws = [9u32; 27];
     let mut hs = [9u16; 6];
-    list_a(&mut ws, &mut hs);
-    shown::tested(test(&ws, &hs));
-    shown::image(&ws, &hs);
-    take(&mut ws, &mut hs, 0x0A01_0280, 25);
-    add(&mut ws, &mut hs, 0x0A01_0240, 26, 9);
-    add(&mut ws, &mut hs, 0, 1, 9);
-    add(&mut ws, &mut hs, 0x0A01_02C8, 32, 70);
-    add(&mut ws, &mut hs, 0x0A01_0200, 24, 45);
-    take(&mut ws, &mut hs, 0, 0);
+    play(
+        b"(build); test; image\n\
+        (build); withdraw 10.1.2.128/25; image\n\
+        (build); announce 10.1.2.64/26 to 9; image\n\
+        (build); announce 0.0.0.0/1 to 9; image\n\
+        (build); announce 10.1.2.200/32 to 70; image\n\
+        (build); announce 10.1.2.0/24 to 45; image\n\
+        (build); withdraw 0.0.0.0/0; image",
+        &mut ws,
+        &mut hs,
+    );
 }
 
 // A path of its own: a node more at each of six depths, and away again.
 pub fn branch() {
     let mut ws = [9u32; 39];
     let mut hs = [9u16; 6];
-    add(&mut ws, &mut hs, 0xC000_0200, 24, 3);
-    shown::withdrawn(withdraw(&mut ws, &mut hs, 0xC000_0200, 24));
-    shown::image(&ws, &hs);
+    play(
+        b"(build); announce 192.0.2.0/24 to 3; image; withdraw 192.0.2.0/24; image",
+        &mut ws,
+        &mut hs,
+    );
 }
 
 // A node too few, a hop too few, and both; a replacement wants neither.
 pub fn room() {
     let mut short = [9u32; 38];
     let mut hs = [9u16; 6];
-    add(&mut short, &mut hs, 0xC000_0200, 24, 3);
+    play(
+        b"(build); announce 192.0.2.0/24 to 3; image",
+        &mut short,
+        &mut hs,
+    );
     let mut ws = [9u32; 39];
     let mut few = [9u16; 5];
-    add(&mut ws, &mut few, 0xC000_0200, 24, 3);
-    add(&mut short, &mut few, 0xC000_0200, 24, 3);
-    add(&mut short, &mut few, 0, 0, 7);
+    play(
+        b"(build); announce 192.0.2.0/24 to 3; image",
+        &mut ws,
+        &mut few,
+    );
+    play(
+        b"(build); announce 192.0.2.0/24 to 3; image; (build); announce 0.0.0.0/0 to 7; image",
+        &mut short,
+        &mut few,
+    );
 }
 
 // The last route away leaves the bare root, and it may be announced again.
@@ -63,11 +57,9 @@ pub fn last() {
     let mut ws = [9u32; 5];
     let mut hs = [9u16; 2];
     tree_build::build(b"\x00\x00\x00\x00\x00\x00\x00\x06", &mut ws, &mut hs);
-    shown::image(&ws, &hs);
-    shown::withdrawn(withdraw(&mut ws, &mut hs, 0, 0));
-    shown::image(&ws, &hs);
-    shown::tested(test(&ws, &hs));
-    shown::withdrawn(withdraw(&mut ws, &mut hs, 0, 0));
-    shown::announced(announce(&mut ws, &mut hs, 0, 0, 6));
-    shown::image(&ws, &hs);
+    play(
+        b"image; withdraw 0.0.0.0/0; image; test; withdraw 0.0.0.0/0; announce 0.0.0.0/0 to 6; image",
+        &mut ws,
+        &mut hs,
+    );
 }

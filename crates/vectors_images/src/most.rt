@@ -1,9 +1,6 @@
 // An image of 4,096 routes: a new prefix is one too many, and a replaced one is none.
-use crate::shown;
+use crate::play::play;
 use routes::Route;
-use tree_change::announce;
-use tree_change::withdraw;
-use tree_check::test;
 ghost use Prim.Native.Nat.{_≤_};
 ghost use lib.ListN.{length};
 
@@ -25,21 +22,20 @@ fn hosts(list: &mut [u8])
     let n = list.len() / 8;
     let mut k = 0;
     while k < n {
-        routes::record::write_record(list, k, host(k as u32));
+        records::record::write_record(list, k, host(k as u32));
         k += 1;
     }
 }
 
 pub fn run() {
     let mut list = [0u8; 32768];
-    hosts(&mut list);
     let mut ws = [9u32; 74547];
     let mut hs = [9u16; 4096];
+    hosts(&mut list);
     tree_build::build(&list, &mut ws, &mut hs);
-    shown::tested(test(&ws, &hs));
-    shown::announced(announce(&mut ws, &mut hs, 1, 32, 5));
-    shown::announced(announce(&mut ws, &mut hs, 0xFFF0_0000, 32, 5));
-    shown::withdrawn(withdraw(&mut ws, &mut hs, 0xFFF0_0000, 32));
-    shown::announced(announce(&mut ws, &mut hs, 0, 0, 5));
-    shown::tested(test(&ws, &hs));
+    play(
+        b"test; announce 0.0.0.1/32 to 5; announce 255.240.0.0/32 to 5; withdraw 255.240.0.0/32; announce 0.0.0.0/0 to 5; test",
+        &mut ws,
+        &mut hs,
+    );
 }

@@ -1,7 +1,9 @@
 // What the calls on an image answer, and what its arrays hold: of each node the bits in hexadecimal, and both bases.
-use tree_change::TreeAnnounced;
-use tree_change::TreeWithdrawn;
+use tree_build::Built;
 use tree_formed::Tested;
+use tree_image::TreeFound;
+use tree_theory::TreeAnnounced;
+use tree_theory::TreeWithdrawn;
 use vectors_shared::print;
 
 fn sizes(nodes: u32, hops: u32) {
@@ -14,6 +16,45 @@ fn sizes(nodes: u32, hops: u32) {
 
 fn refused(number: u8) {
     print::refused(number);
+    print::end();
+}
+
+pub fn built(answer: Built) {
+    print::text(b"image");
+    match answer {
+        Built::Made(nodes, hops) => {
+            print::text(b" nodes");
+            print::value(nodes as u64);
+            print::text(b" hops");
+            print::value(hops as u64);
+        }
+        Built::RefusedAt(f, k) => {
+            print::refused_at(f, k);
+        }
+        Built::Refused(f) => {
+            print::refused(f);
+        }
+    }
+    print::end();
+}
+
+pub fn found(answer: TreeFound) {
+    print::text(b"tree");
+    match answer {
+        TreeFound::Hop(h, n) => {
+            print::text(b" hop");
+            print::value(h as u64);
+            print::text(b" reads");
+            print::value(n as u64);
+        }
+        TreeFound::NoRoute(n) => {
+            print::text(b" no route reads");
+            print::value(n as u64);
+        }
+        TreeFound::Broken => {
+            print::text(b" refused 13");
+        }
+    }
     print::end();
 }
 
@@ -61,7 +102,7 @@ pub fn withdrawn(answer: TreeWithdrawn) {
 // The first word of a node.
 fn bits(word: u32) {
     print::text(b" | ");
-    io::print_hex(libc::STDOUT_FILENO, word as u64, 8);
+    print::hex(word);
 }
 
 fn word(place: usize, word: u32) {
@@ -84,5 +125,11 @@ fn words(list: &[u32]) {
 
 pub fn image(list: &[u32], then: &[u16]) {
     words(list);
+    print::hops(then);
+}
+
+// The arrays as plain numbers.
+pub fn numbers(list: &[u32], then: &[u16]) {
+    print::words(list);
     print::hops(then);
 }

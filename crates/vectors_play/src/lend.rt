@@ -1,6 +1,6 @@
 // The arrays that a script plays on.
-use crate::edit::most;
 use crate::play;
+use vectors_probes::edit::most;
 
 // How long each of them is.
 pub struct Room {

@@ -1,7 +1,6 @@
 // The steps of two scripts, one after the other.
-use crate::script;
 use crate::turn;
-use crate::world;
+use vectors_steps::world;
 
 // No script has more than 700 steps, those counted that it draws.
 pub fn play(
@@ -19,15 +18,12 @@ pub fn play(
     let mut w = world::start();
     let mut k = 0u32;
     while k < 700 {
-        let l = script::line_in(head, script, w.at);
+        let l = vectors_script::line_in(head, script, w.at);
         let s = world::next(w, l, list);
-        let bytes = world::bytes(w);
-        let n = world::count(w);
-        let t = w.table;
         let r = turn::turn(
             s,
-            t,
-            world::records(&bytes, n),
+            w.table,
+            w.input,
             list,
             first,
             second,

@@ -1,14 +1,16 @@
 // One step on a table.
-use crate::edit;
-use crate::only;
 use crate::said;
-use crate::said::Said;
-use crate::said::Turn;
-use crate::show;
-use crate::step::Step;
 use sail::table::Table;
 use sail_sound::report;
+use vectors_probes::edit;
 use vectors_probes::looks;
+use vectors_probes::only;
+use vectors_probes::show;
+use vectors_steps::step::Step;
+use vectors_steps::step::Turn;
+use vectors_steps::words::Said;
+use vectors_steps::world;
+use vectors_steps::world::Input;
 
 // A look at the table: what a call answers, or lines printed of what is lent.
 fn read(
@@ -23,8 +25,11 @@ fn read(
     long1: &[u16],
     long2: &[u16],
 ) -> Said {
-    match s {
-        Step::Lookup(addr) => said::of_lookup(sail_lookup::lookup(
+    let letter = s.letter;
+    let r = s.route;
+    let e = s.edit;
+    match letter {
+        b'f' => said::of_lookup(sail_lookup::lookup(
             t,
             list,
             first,
@@ -34,9 +39,9 @@ fn read(
             own3,
             long1,
             long2,
-            addr,
+            r.addr,
         )),
-        Step::Report => said::of_report(report::report(
+        b't' => said::of_report(report::report(
             t,
             list,
             first,
@@ -47,7 +52,7 @@ fn read(
             long1,
             long2,
         )),
-        Step::Look(x, sums) => Said::Looked(looks::look(
+        b'j' => said::of_looks(looks::look(
             t,
             list,
             first,
@@ -57,37 +62,33 @@ fn read(
             own3,
             long1,
             long2,
-            x,
-            sums,
+            s.x,
+            s.sums,
         )),
-        Step::Record(k) => {
-            show::record(list, k);
-            Said::Nothing
+        b'e' => {
+            show::record(list, e.array as usize);
+            said::nothing()
         }
-        Step::Cell(level, i) => {
-            if level == 1 {
-                show::cell(first, own2, i);
-                return Said::Nothing;
-            }
-            show::cell(second, own3, i);
-            Said::Nothing
+        b'c' => {
+            show::cell(e.array, e.from, first, second, own2, own3);
+            said::nothing()
         }
-        Step::Only => {
+        b'o' => {
             only::only_24(list, first, second, third, own2, own3, long1, long2);
-            Said::Nothing
+            said::nothing()
         }
-        Step::Sum => {
+        b'h' => {
             show::sums(list, first, second, third, own2, own3, long1, long2);
-            Said::Nothing
+            said::nothing()
         }
-        _ => Said::Nothing,
+        _ => said::nothing(),
     }
 }
 
 pub fn turn(
     s: Step,
     t: Table,
-    input: &[u8],
+    input: Input,
     list: &mut [u8],
     first: &mut [u16],
     second: &mut [u16],
@@ -97,8 +98,10 @@ pub fn turn(
     long1: &mut [u16],
     long2: &mut [u16],
 ) -> Turn {
-    match s {
-        Step::Make => said::after_make(sail_make::make(
+    let letter = s.letter;
+    let r = s.route;
+    match letter {
+        b'm' => said::after_make(sail_make::make(
             t,
             list,
             first,
@@ -109,21 +112,11 @@ pub fn turn(
             long1,
             long2,
         )),
-        Step::Load => said::after_load(sail_load::load::load(
-            t,
-            input,
-            list,
-            first,
-            second,
-            third,
-            own2,
-            own3,
-            long1,
-            long2,
-        )),
-        Step::Announce(addr, len, hop, mark) => {
-            said::after_announce(sail_announce::announce(
+        b'l' => {
+            let bytes = input.bytes;
+            said::after_load(sail_load::load::load(
                 t,
+                world::records(&bytes, input.records),
                 list,
                 first,
                 second,
@@ -132,13 +125,9 @@ pub fn turn(
                 own3,
                 long1,
                 long2,
-                addr,
-                len,
-                hop,
-                mark,
             ))
         }
-        Step::Withdraw(addr, len) => said::after_withdraw(sail_withdraw::withdraw(
+        b'a' => said::after_announce(sail_announce::announce(
             t,
             list,
             first,
@@ -148,10 +137,25 @@ pub fn turn(
             own3,
             long1,
             long2,
-            addr,
-            len,
+            r.addr,
+            r.len,
+            r.hop,
+            r.mark,
         )),
-        Step::Repair => said::after_repair(repair::repair::repair(
+        b'w' => said::after_withdraw(sail_withdraw::withdraw(
+            t,
+            list,
+            first,
+            second,
+            third,
+            own2,
+            own3,
+            long1,
+            long2,
+            r.addr,
+            r.len,
+        )),
+        b'r' => said::after_repair(repair::repair::repair(
             t,
             list,
             first,
@@ -162,40 +166,10 @@ pub fn turn(
             long1,
             long2,
         )),
-        Step::Put(a, from, to, v) => match a {
-            0 => {
-                edit::put8(list, from, to, v);
-                return said::stays(t, Said::Nothing);
-            }
-            1 => {
-                edit::put16(first, from, to, v);
-                return said::stays(t, Said::Nothing);
-            }
-            2 => {
-                edit::put16(second, from, to, v);
-                return said::stays(t, Said::Nothing);
-            }
-            3 => {
-                edit::put16(third, from, to, v);
-                return said::stays(t, Said::Nothing);
-            }
-            4 => {
-                edit::put32(own2, from, to, v);
-                return said::stays(t, Said::Nothing);
-            }
-            5 => {
-                edit::put32(own3, from, to, v);
-                return said::stays(t, Said::Nothing);
-            }
-            6 => {
-                edit::put16(long1, from, to, v);
-                return said::stays(t, Said::Nothing);
-            }
-            _ => {
-                edit::put16(long2, from, to, v);
-                return said::stays(t, Said::Nothing);
-            }
-        },
+        b'p' => {
+            edit::put(s.edit, list, first, second, third, own2, own3, long1, long2);
+            said::stays(t, said::nothing())
+        }
         _ => said::stays(
             t,
             read(s, t, list, first, second, third, own2, own3, long1, long2),

@@ -1,8 +1,8 @@
 // A linear search over the records of a list: what a table must answer, from document 01's words alone.
 use bits::widen::byte_to_word;
 use bits::widen::half_to_long;
+use records::record;
 use routes::Route;
-use routes::record;
 use sail::table::Table;
 ghost use Prim.Native.Nat.{_*_, _≤_};
 ghost use lib.ListN.{length};
@@ -17,12 +17,6 @@ pub fn standing(t: Table, list: &[u8]) -> usize
         return room;
     }
     n
-}
-
-// These records, as that part of the list.
-pub fn records(t: Table, list: &[u8]) -> &[u8] {
-    let e = standing(t, list) * 8;
-    &list[..e]
 }
 
 // Whether the first len bits of two addresses agree.

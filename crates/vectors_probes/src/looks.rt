@@ -2,8 +2,8 @@
 use crate::draw;
 use crate::linear;
 use bits::widen::byte_to_word;
+use records::record;
 use routes::Route;
-use routes::record;
 use sail::found::Found;
 use sail::table::Table;
 use std::num;
@@ -22,6 +22,20 @@ pub fn none() -> Sums {
         found: 0,
         differ: 0,
         sum: 0,
+    }
+}
+
+// They as four numbers, and back.
+pub fn numbers(s: Sums) -> [u64; 4] {
+    [s.looked, s.found, s.differ, s.sum]
+}
+
+pub fn of_numbers(v: [u64; 4]) -> Sums {
+    Sums {
+        looked: v[0],
+        found: v[1],
+        differ: v[2],
+        sum: v[3],
     }
 }
 
@@ -50,34 +64,6 @@ fn take(s: Sums, got: u64, want: u64) -> Sums {
     }
 }
 
-fn compare(
-    t: Table,
-    list: &[u8],
-    first: &[u16],
-    second: &[u16],
-    third: &[u16],
-    own2: &[u32],
-    own3: &[u32],
-    long1: &[u16],
-    long2: &[u16],
-    addr: u32,
-    s: Sums,
-) -> Sums {
-    let f = sail_lookup::lookup(
-        t,
-        list,
-        first,
-        second,
-        third,
-        own2,
-        own3,
-        long1,
-        long2,
-        addr,
-    );
-    take(s, number(f), linear::answer(t, list, addr))
-}
-
 // How many addresses a prefix of this length has, modulo 2^32.
 fn size(len: u8) -> u32 {
     let l = byte_to_word(len);
@@ -90,165 +76,52 @@ fn size(len: u8) -> u32 {
     1u32 << (32 - l)
 }
 
-// The first and the last address of a route's prefix, the one before and the one after.
-fn around(
-    t: Table,
-    list: &[u8],
-    first: &[u16],
-    second: &[u16],
-    third: &[u16],
-    own2: &[u32],
-    own3: &[u32],
-    long1: &[u16],
-    long2: &[u16],
-    r: Route,
-    s: Sums,
-) -> Sums {
-    let from = r.addr;
-    let end = num::wrapping_add_u32(from, size(r.len));
-    let last = num::wrapping_sub_u32(end, 1);
-    let before = num::wrapping_sub_u32(from, 1);
-    let a = compare(
-        t,
-        list,
-        first,
-        second,
-        third,
-        own2,
-        own3,
-        long1,
-        long2,
-        from,
-        s,
-    );
-    let b = compare(
-        t,
-        list,
-        first,
-        second,
-        third,
-        own2,
-        own3,
-        long1,
-        long2,
-        last,
-        a,
-    );
-    let c = compare(
-        t,
-        list,
-        first,
-        second,
-        third,
-        own2,
-        own3,
-        long1,
-        long2,
-        before,
-        b,
-    );
-    compare(
-        t,
-        list,
-        first,
-        second,
-        third,
-        own2,
-        own3,
-        long1,
-        long2,
-        end,
-        c,
-    )
+// An edge of a route's prefix: its first address, its last, the one before and the one after.
+fn edge(r: Route, k: usize) -> u32 {
+    let end = num::wrapping_add_u32(r.addr, size(r.len));
+    if k == 0 {
+        return r.addr;
+    }
+    if k == 1 {
+        return num::wrapping_sub_u32(end, 1);
+    }
+    if k == 2 {
+        return num::wrapping_sub_u32(r.addr, 1);
+    }
+    end
 }
 
-// The edges of every standing prefix.
-fn edges(
-    t: Table,
-    list: &[u8],
-    first: &[u16],
-    second: &[u16],
-    third: &[u16],
-    own2: &[u32],
-    own3: &[u32],
-    long1: &[u16],
-    long2: &[u16],
-    s: Sums,
-) -> Sums {
-    let n = linear::standing(t, list);
-    let mut u = s;
+// The number that is drawn after n others.
+fn later(seed: u64, n: u64) -> u64 {
+    let mut x = draw::next(seed);
     let mut k = 0;
     while k < n {
-        let r = record::read_record(list, k);
-        u = around(
-            t,
-            list,
-            first,
-            second,
-            third,
-            own2,
-            own3,
-            long1,
-            long2,
-            r,
-            u,
-        );
+        x = draw::next(x);
         k += 1;
     }
-    u
+    x
 }
 
-// The eight addresses that prefixes are drawn of, and after each a drawn one near it.
-fn drawn(
-    t: Table,
-    list: &[u8],
-    first: &[u16],
-    second: &[u16],
-    third: &[u16],
-    own2: &[u32],
-    own3: &[u32],
-    long1: &[u16],
-    long2: &[u16],
-    seed: u64,
-    s: Sums,
-) -> Sums {
-    let mut u = s;
-    let mut x = seed;
-    let mut i = 0u64;
-    while i < 8 {
-        u = compare(
-            t,
-            list,
-            first,
-            second,
-            third,
-            own2,
-            own3,
-            long1,
-            long2,
-            draw::base(i),
-            u,
-        );
-        x = draw::next(x);
-        u = compare(
-            t,
-            list,
-            first,
-            second,
-            third,
-            own2,
-            own3,
-            long1,
-            long2,
-            draw::near(i, x),
-            u,
-        );
-        i += 1;
+// By turns one of the eight addresses that prefixes are drawn of, and a drawn one near it.
+fn drawn(seed: u64, j: u64) -> u32 {
+    let i = j / 2;
+    if j % 2 == 0 {
+        return draw::base(i);
     }
-    u
+    draw::near(i, later(seed, i))
 }
 
-// All of these.
+// The j-th address that is looked up: the edges of each standing prefix, and then drawn ones.
+fn asked(t: Table, list: &[u8], seed: u64, j: usize) -> u32 {
+    let n = linear::standing(t, list);
+    let k = j / 4;
+    if k < n {
+        return edge(record::read_record(list, k), j % 4);
+    }
+    drawn(seed, num::wrapping_sub_usize(j, n * 4) as u64)
+}
+
+// Four edges of each prefix, and sixteen drawn addresses.
 pub fn look(
     t: Table,
     list: &[u8],
@@ -262,18 +135,25 @@ pub fn look(
     seed: u64,
     s: Sums,
 ) -> Sums {
-    let u = edges(t, list, first, second, third, own2, own3, long1, long2, s);
-    drawn(
-        t,
-        list,
-        first,
-        second,
-        third,
-        own2,
-        own3,
-        long1,
-        long2,
-        seed,
-        u,
-    )
+    let n = num::wrapping_add_usize(linear::standing(t, list) * 4, 16);
+    let mut u = s;
+    let mut j = 0;
+    while j < n {
+        let addr = asked(t, list, seed, j);
+        let f = sail_lookup::lookup(
+            t,
+            list,
+            first,
+            second,
+            third,
+            own2,
+            own3,
+            long1,
+            long2,
+            addr,
+        );
+        u = take(u, number(f), linear::answer(t, list, addr));
+        j += 1;
+    }
+    u
 }

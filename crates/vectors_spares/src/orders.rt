@@ -1,25 +1,31 @@
 // List A by build, and by its five announcements on the empty image in each of the 120 orders; and with a route more that is withdrawn again.
 use crate::compare;
-use buffers::same::same16;
-use buffers::same::same32;
+use buffers_test::same::same16;
+use buffers_test::same::same32;
+use routes::Route;
 use tree_change::announce;
 use tree_change::withdraw;
 use vectors_shared::list;
 use vectors_shared::print;
 ghost use Prim.Native.Nat.{_≤_};
 
+fn route(addr: u32, len: u8, hop: u16) -> Route {
+    Route {
+        addr,
+        len,
+        mark: 0,
+        hop,
+    }
+}
+
 // One of list A's routes.
-fn enter(words: &mut [u32], hops: &mut [u16], k: u32) {
-    if k == 0 {
-        announce(words, hops, 0, 0, 6);
-    } else if k == 1 {
-        announce(words, hops, 0x0A00_0000, 8, 20);
-    } else if k == 2 {
-        announce(words, hops, 0x0A01_0000, 16, 31);
-    } else if k == 3 {
-        announce(words, hops, 0x0A01_0200, 24, 44);
-    } else {
-        announce(words, hops, 0x0A01_0280, 25, 57);
+fn of_list_a(k: u32) -> Route {
+    match k {
+        0 => route(0, 0, 6),
+        1 => route(0x0A00_0000, 8, 20),
+        2 => route(0x0A01_0000, 16, 31),
+        3 => route(0x0A01_0200, 24, 44),
+        _ => route(0x0A01_0280, 25, 57),
     }
 }
 
@@ -44,7 +50,8 @@ fn pick(taken: u32, d: u32) -> u32
 // The route with d others before it among those not taken is announced; it is taken then.
 fn step(words: &mut [u32], hops: &mut [u16], taken: u32, d: u32) -> u32 {
     let k = pick(taken, d);
-    enter(words, hops, k);
+    let r = of_list_a(k);
+    announce(words, hops, r.addr, r.len, r.hop);
     taken | (1 << k)
 }
 
@@ -122,15 +129,19 @@ fn beside(words: &[u32], hops: &[u16]) {
 }
 
 // 192.0.2.0/24 announced and withdrawn again.
+fn there_and_back(words: &mut [u32], hops: &mut [u16]) {
+    tree_build::build(&list::list_a(), words, hops);
+    announce(words, hops, 0xC000_0200, 24, 3);
+    print::text(b"more:");
+    beside(words, hops);
+    withdraw(words, hops, 0xC000_0200, 24);
+    print::text(b"back:");
+    beside(words, hops);
+    used(words, hops);
+}
+
 pub fn detour() {
     let mut ws = [8u32; 39];
     let mut hs = [8u16; 6];
-    tree_build::build(&list::list_a(), &mut ws, &mut hs);
-    announce(&mut ws, &mut hs, 0xC000_0200, 24, 3);
-    print::text(b"more:");
-    beside(&ws, &hs);
-    withdraw(&mut ws, &mut hs, 0xC000_0200, 24);
-    print::text(b"back:");
-    beside(&ws, &hs);
-    used(&ws, &hs);
+    there_and_back(&mut ws, &mut hs);
 }

@@ -2,9 +2,9 @@
 use mathlib.Core.Path.{ap}
 use native.Mathlib.Omega.{arith}
 use Rattle.routes.specs.Said.{packed}
-use Rattle.tree_change.specs.Changed.{meansTreeAnnounced}
-use Rattle.tree_change.specs.declared.TreeAnnounced.{TreeAnnounced}
-use Rattle.packing_images.specs.ImageAnswers.{packImage}
+use Rattle.tree_theory.specs.Changed.{meansTreeAnnounced}
+use Rattle.tree_theory.specs.declared.TreeAnnounced.{TreeAnnounced}
+use Rattle.packing.specs.ImageAnswers.{packImage}
 use borrow.Author.Needs.{needs}
 use Rattle.packing_images.proofs.announced.Statement.{statement}
 use Rattle.packing_images.proofs.announced.Tie as tie

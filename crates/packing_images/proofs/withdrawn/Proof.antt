@@ -2,8 +2,8 @@
 use mathlib.Core.Path.{ap}
 use native.Mathlib.Omega.{arith}
 use Rattle.routes.specs.Said.{packed}
-use Rattle.tree_change.specs.Changed.{meansTreeWithdrawn}
-use Rattle.tree_change.specs.declared.TreeWithdrawn.{TreeWithdrawn}
+use Rattle.tree_theory.specs.Changed.{meansTreeWithdrawn}
+use Rattle.tree_theory.specs.declared.TreeWithdrawn.{TreeWithdrawn}
 use Rattle.packing.specs.Pack.{packBuilt}
 use borrow.Author.Needs.{needs}
 use Rattle.packing_images.proofs.withdrawn.Statement.{statement}

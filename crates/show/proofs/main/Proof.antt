@@ -1,7 +1,7 @@
 -- `show::main`: a page has room for what is printed, so the buffer holds as many bytes as are written out.
 use native.Mathlib.Omega.{arith}
 use borrow.Author.Needs.{needs}
-use Rattle.text.proofs.Writes.{wrote-count}
+use Rattle.text_pieces.proofs.Writes.{wrote-count}
 use Rattle.show.proofs.main.Statement.{statement}
 use Rattle.show.proofs.main.Tie as tie
 

@@ -1,6 +1,6 @@
 -- `cards::broadcasts::gh_broadcast`: what the call inside says, packed.
 use mathlib.Core.Path.{ap, _∙_}
-use Rattle.packing.specs.Casts.{packCast}
+use Rattle.packing_inputs.specs.Casts.{packCast}
 use borrow.Author.Needs.{needs}
 use Rattle.cards.proofs.broadcasts.gh_broadcast.Statement.{statement}
 use Rattle.cards.proofs.broadcasts.gh_broadcast.Tie as tie

@@ -1,4 +1,4 @@
--- `chain::cover::parents`: The invariant: the first k parents stand.
+-- `chain::cover::parents`. The invariant: the first k parents stand; at first they are those that stood.
 use mathlib.Core.Path.{_≡_, refl, sym}
 use Prim.Native.Nat.{_-_, _≤_}
 use lib.ListN.{length, length-set}
@@ -7,22 +7,27 @@ use native.Mathlib.Omega.{arith}
 use borrow.Author.Needs.{needs}
 use denote.Ref.{now}
 use Rattle.chain.specs.Cover.{Parents}
-use Rattle.chain.proofs.Chains.{no-parents, parents-more, climb-self}
+use Rattle.chain.proofs.Chains.{parents-more, climb-self}
 use Rattle.chain.proofs.cover.parents.Statement.{statement}
 use Rattle.chain.proofs.cover.parents.Tie as tie
 
 abbrev Inv-loop : tie.InvT-loop
-Inv-loop ws par₀ k₀ par k = (k ≤ length ws) × (length par ≡ length par₀) × Parents ws par k
+Inv-loop ws from par₀ k₀ par k = (k ≤ length ws) × (length par ≡ length par₀) × Parents ws par k
 
 abbrev μ-loop : tie.MeasureT-loop
-μ-loop ws par₀ k₀ par k = length ws - k
+μ-loop ws from par₀ k₀ par k = length ws - k
+
+loop-first : tie.Need-loop-holds Inv-loop μ-loop
+loop-first c =
+    let start : tie.Start Inv-loop μ-loop = search in
+    (start .pre .1 .place, refl, start .pre .1 .parents)
 
 last-cover-requires : tie.Need-last-cover-requires Inv-loop μ-loop
 last-cover-requires c κs =
     let in-loop : tie.In-loop Inv-loop μ-loop = search in
     let at-loop : tie.At-loop Inv-loop μ-loop = search in
     let start : tie.Start Inv-loop μ-loop = search in
-    climb-self _ _ _ (start .pre .words) (in-loop .loop-test .taken) (omega arith) (at-loop .loop .inv .2)
+    climb-self _ _ _ (start .pre .0 .words) (in-loop .loop-test .taken) (omega arith) (at-loop .loop .inv .2)
 
 loop-again : tie.Need-loop-again Inv-loop μ-loop
 loop-again c =
@@ -47,7 +52,7 @@ parents-spec =
     (tie.spec
     Inv-loop
     μ-loop
-    (λ c. (omega arith, refl, no-parents _ _))
+    loop-first
     (λ c. search needs)
     (λ c. sym (length-take-le _ _ (omega arith)))
     (λ c. search needs)

@@ -8,9 +8,9 @@ heads-requires : tie.Need-heads-requires
 heads-requires c κs =
     let after-parents : tie.After-parents = search in
     let start : tie.Start = search in
-    let q = start .pre in
+    let q = start .pre .0 in
     let e = after-parents .parents in
-    (record { words = q .words; few = q .few; room = e .kept .1 .0 ∙ q .room }, e .ensures)
+    (record { words = q .words; few = q .few; room = e .kept .1 .1 .0 ∙ q .room }, e .ensures)
 
 pub ready-spec : {M : Type 1} → statement M
 ready-spec =

@@ -1,10 +1,9 @@
--- `chain::words::decode`: The invariant: the first k words stand.
+-- `chain::words::decode`. The invariant: the first k words stand; at first they are those that stood.
 use mathlib.Core.Path.{_≡_, refl}
 use Prim.Native.Nat.{_-_, _≤_}
 use lib.ListN.{length, length-set}
 use native.Mathlib.Omega.{arith}
 use borrow.Author.Needs.{needs}
-use borrow.Author.Count.{below-none}
 use denote.Ref.{now}
 use Rattle.chain.specs.Words.{wordAt}
 use Rattle.chain.proofs.Decodes.{FilledTo, filled-to-more, filled-all}
@@ -12,10 +11,20 @@ use Rattle.chain.proofs.words.decode.Statement.{statement}
 use Rattle.chain.proofs.words.decode.Tie as tie
 
 abbrev Inv-loop : tie.InvT-loop
-Inv-loop list out₀ n k₀ out k = (k ≤ n) × (length out ≡ n) × FilledTo (wordAt list) out k
+Inv-loop list from out₀ n k₀ out k = (k ≤ n) × (length out ≡ n) × FilledTo (wordAt list) out k
 
 abbrev μ-loop : tie.MeasureT-loop
-μ-loop list out₀ n k₀ out k = n - k
+μ-loop list from out₀ n k₀ out k = n - k
+
+loop-first : tie.Need-loop-holds Inv-loop μ-loop
+loop-first c =
+    let start : tie.Start Inv-loop μ-loop = search in
+    (start .pre .place, refl, start .pre .each)
+
+read-word-requires : tie.Need-read-word-requires Inv-loop μ-loop
+read-word-requires c κs =
+    let start : tie.Start Inv-loop μ-loop = search in
+    omega (arith, start .pre .fits)
 
 loop-again : tie.Need-loop-again Inv-loop μ-loop
 loop-again c =
@@ -34,8 +43,8 @@ decode-spec =
     (tie.spec
     Inv-loop
     μ-loop
-    (λ c. (omega arith, refl, below-none _))
-    (λ c κs. search needs)
+    loop-first
+    read-word-requires
     (λ c. search needs)
     (λ c. search needs)
     (λ c. search needs)

@@ -1,25 +1,33 @@
 -- `sail_judge::withdraw::judge_withdraw`. The number with which the withdrawal is refused, by the first condition that holds; 0 where it is accepted.
+use native.Mathlib.Omega.{arith}
 use Rattle.sail_sound.proofs.TableTest.{tried-sound}
+use Rattle.sail_judge.proofs.ChainLeft.{refused-left, sound-left}
 use Rattle.sail_judge.proofs.WithdrawJudges.{leave-sizes, leave-prefix, leave-sound, leave-stands, leave-absent}
 use borrow.Author.Needs.{needs}
 use Rattle.sail_judge.proofs.withdraw.judge_withdraw.Statement.{statement}
 use Rattle.sail_judge.proofs.withdraw.judge_withdraw.Tie as tie
 
+-- where it starts, seen from after `sizes`
+abbrev begun : tie.After-sizes → tie.Start
+begun c = search
+
 returns : tie.Need-returns
-returns c = leave-sizes _ _ _ _ _ (c .before .sizes .ensures) (c .if1 .taken)
+returns c = (leave-sizes _ _ _ _ _ (c .before .sizes .ensures) (c .if1 .taken), refused-left (c .if1 .taken))
 
 returns-2 : tie.Need-returns-2
 returns-2 c =
     let proper : tie.After-prefix-ok = search in
     let else1 : tie.Else1 = search in
-    let sized : tie.After-sizes = search in
-    leave-prefix _ _ _ _ _ (sized .sizes .ensures) (else1 .if1 .left) _ (proper .prefix-ok .ensures) (c .if2 .taken)
+    let sized : tie.After-sizes = search in (
+      leave-prefix _ _ _ _ _ (sized .sizes .ensures) (else1 .if1 .left) _ (proper .prefix-ok .ensures) (c .if2 .taken),
+      refused-left (λ z. omega arith),
+    )
 
 sound-requires : tie.Need-sound-requires
 sound-requires c κs =
     let else1 : tie.Else1 = search in
     let sized : tie.After-sizes = search in
-    sized .sizes .ensures .facts (else1 .if1 .left)
+    (sized .sizes .ensures .facts (else1 .if1 .left), begun sized .pre)
 
 returns-3 : tie.Need-returns-3
 returns-3 c =
@@ -27,20 +35,23 @@ returns-3 c =
     let else2 : tie.Else2 = search in
     let proper : tie.After-prefix-ok = search in
     let else1 : tie.Else1 = search in
-    let sized : tie.After-sizes = search in
-    leave-sound _ _ _ _ _ (sized .sizes .ensures) (else1 .if1 .left) _ (proper .prefix-ok .ensures) (else2 .if2 .left) _ (tried .sound .ensures) (c .if3 .taken)
+    let sized : tie.After-sizes = search in (
+      leave-sound _ _ _ _ _ (sized .sizes .ensures) (else1 .if1 .left) _ (proper .prefix-ok .ensures) (else2 .if2 .left) _
+          (tried .sound .ensures .tried) (c .if3 .taken),
+      refused-left (λ z. omega arith),
+    )
 
 place-requires : tie.Need-place-requires
 place-requires c κs =
     let else3 : tie.Else3 = search in
     let tried : tie.After-sound = search in
-    tried-sound _ _ _ (tried .sound .ensures) (else3 .if3 .left) .listed .records
+    tried-sound _ _ _ (tried .sound .ensures .tried) (else3 .if3 .left) .listed .records
 
 stands-at-requires : tie.Need-stands-at-requires
 stands-at-requires c κs =
     let else3 : tie.Else3 = search in
     let tried : tie.After-sound = search in
-    record { records = tried-sound _ _ _ (tried .sound .ensures) (else3 .if3 .left) .listed .records; place = c .place .ensures .0 }
+    record { records = tried-sound _ _ _ (tried .sound .ensures .tried) (else3 .if3 .left) .listed .records; place = c .place .ensures .0 }
 
 returns-4 : tie.Need-returns-4
 returns-4 c =
@@ -52,10 +63,12 @@ returns-4 c =
     let else2 : tie.Else2 = search in
     let proper : tie.After-prefix-ok = search in
     let else1 : tie.Else1 = search in
-    let sized : tie.After-sizes = search in
-    leave-stands _ _ _ _ _ (sized .sizes .ensures) (else1 .if1 .left) _ (proper .prefix-ok .ensures) (else2 .if2 .left) _
-    (tried .sound .ensures) (else3 .if3 .left) _ _ _
-    (named .key-of .ensures .0) (placed .place .ensures .0) (standing .stands-at .ensures) (c .if4 .taken)
+    let sized : tie.After-sizes = search in (
+      leave-stands _ _ _ _ _ (sized .sizes .ensures) (else1 .if1 .left) _ (proper .prefix-ok .ensures) (else2 .if2 .left) _
+          (tried .sound .ensures .tried) (else3 .if3 .left) _ _ _
+          (named .key-of .ensures .0) (placed .place .ensures .0) (standing .stands-at .ensures) (c .if4 .taken),
+      sound-left (tried .sound .ensures) (else3 .if3 .left),
+    )
 
 returns-5 : tie.Need-returns-5
 returns-5 c =
@@ -67,10 +80,12 @@ returns-5 c =
     let else2 : tie.Else2 = search in
     let proper : tie.After-prefix-ok = search in
     let else1 : tie.Else1 = search in
-    let sized : tie.After-sizes = search in
-    leave-absent _ _ _ _ _ (sized .sizes .ensures) (else1 .if1 .left) _ (proper .prefix-ok .ensures) (else2 .if2 .left) _
-    (tried .sound .ensures) (else3 .if3 .left) _ _ _
-    (named .key-of .ensures .0) (placed .place .ensures .0) (standing .stands-at .ensures) (c .if4 .left)
+    let sized : tie.After-sizes = search in (
+      leave-absent _ _ _ _ _ (sized .sizes .ensures) (else1 .if1 .left) _ (proper .prefix-ok .ensures) (else2 .if2 .left) _
+          (tried .sound .ensures .tried) (else3 .if3 .left) _ _ _
+          (named .key-of .ensures .0) (placed .place .ensures .0) (standing .stands-at .ensures) (c .if4 .left),
+      refused-left (λ z. omega arith),
+    )
 
 pub judge-withdraw-spec : {M : Type 1} → statement M
 judge-withdraw-spec =
@@ -81,10 +96,16 @@ judge-withdraw-spec =
     (λ c κs. tt)
     returns-2
     sound-requires
+    (λ c. let tried : tie.After-sound = search in tried .sound .kept .1 .1 .1 .1 .1 .1 .1 .1 .1 .0)
+    (λ c. let tried : tie.After-sound = search in tried .sound .kept .1 .1 .1 .1 .1 .1 .1 .1 .1 .1 .0)
     returns-3
     (λ c. search needs)
     (λ c κs. tt)
     place-requires
     stands-at-requires
+    (λ c. let tried : tie.After-sound = search in tried .sound .kept .1 .1 .1 .1 .1 .1 .1 .1 .1 .0)
+    (λ c. let tried : tie.After-sound = search in tried .sound .kept .1 .1 .1 .1 .1 .1 .1 .1 .1 .1 .0)
     returns-4
+    (λ c. let tried : tie.After-sound = search in tried .sound .kept .1 .1 .1 .1 .1 .1 .1 .1 .1 .0)
+    (λ c. let tried : tie.After-sound = search in tried .sound .kept .1 .1 .1 .1 .1 .1 .1 .1 .1 .1 .0)
     returns-5)

@@ -3,7 +3,7 @@ use borrow.Author.Needs.{needs}
 use native.Mathlib.Omega.{arith}
 use mathlib.Core.Path.{sym, _∙_}
 use Prim.Native.Nat.{_-_, _*_, _≤_}
-use Rattle.sail_many.specs.Words.{Flows}
+use Rattle.sail_many.specs.Flows.{Flows}
 use Rattle.sail_many.proofs.Flows.{flows-at}
 use Rattle.sail_many.proofs.flow.stream.Statement.{statement}
 use Rattle.sail_many.proofs.flow.stream.Tie as tie

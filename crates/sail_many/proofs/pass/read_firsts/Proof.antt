@@ -2,7 +2,7 @@
 use native.Mathlib.Omega.{arith}
 use Prim.Native.Nat.{_-_}
 use Rattle.sail_many.proofs.Flows.{Sweeping, sweeping-none, spot-at, sweeping-more, sweeping-all}
-use Rattle.sail_many.specs.Words.{step1}
+use Rattle.sail_step.specs.Words.{step1}
 use Rattle.sail_many.proofs.pass.read_firsts.Statement.{statement}
 use Rattle.sail_many.proofs.pass.read_firsts.Tie as tie
 

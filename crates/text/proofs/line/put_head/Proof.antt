@@ -1,7 +1,8 @@
 -- `text::line::put_head`. A table's first line.
-use Rattle.text.specs.Text.{headLine, labelled, ascii}
+use Rattle.text_pieces.specs.Pieces.{labelled, ascii}
+use Rattle.text.specs.Text.{headLine}
 use native.Mathlib.Omega.{arith}
-use Rattle.text.proofs.Writes.{wrote-more}
+use Rattle.text_pieces.proofs.Writes.{wrote-more}
 use Rattle.text.proofs.Lines.{length-head}
 use borrow.Author.Needs.{needs}
 use Rattle.text.proofs.line.put_head.Statement.{statement}

@@ -1,8 +1,9 @@
 -- `text::line::refusal_at_text`. The line of a refusal with the index of a record.
-use Rattle.text.specs.Text.{saidText, labelled, ascii}
+use Rattle.text_pieces.specs.Pieces.{labelled, ascii}
+use Rattle.text.specs.Text.{saidText}
 use native.Mathlib.Omega.{arith}
-use Rattle.text.proofs.Writes.{wrote-more}
-use Rattle.text.proofs.Digits.{digits-few}
+use Rattle.text_pieces.proofs.Writes.{wrote-more}
+use Rattle.text_pieces.proofs.Digits.{digits-few}
 use borrow.Author.Needs.{needs}
 use Rattle.text.proofs.line.refusal_at_text.Statement.{statement}
 use Rattle.text.proofs.line.refusal_at_text.Tie as tie

@@ -6,8 +6,9 @@ use lib.ListN.{length}
 use borrow.Author.Needs.{needs}
 use Rattle.routes.specs.Record.{routesOf, Ranged}
 use Rattle.text.specs.Text.{routeLines}
-use Rattle.text.specs.Wrote.{Wrote}
-use Rattle.text.proofs.Lines.{line-few, head-few, lines-none, lines-wrote, table-wrote}
+use Rattle.text_pieces.specs.Wrote.{Wrote}
+use Rattle.text_routes.proofs.RouteLines.{line-few}
+use Rattle.text.proofs.Lines.{head-few, lines-none, lines-wrote, table-wrote}
 use Rattle.text.proofs.line.table_text.Statement.{statement}
 use Rattle.text.proofs.line.table_text.Tie as tie
 

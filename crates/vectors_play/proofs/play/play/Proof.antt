@@ -21,9 +21,7 @@ abbrev begun : tie.After-next Inv-loop μ-loop → tie.In-loop Inv-loop μ-loop
 begun c = search
 
 abbrev asked : tie.After-turn Inv-loop μ-loop → tie.After-next Inv-loop μ-loop
-asked c =
-    let after-records : tie.After-records Inv-loop μ-loop = search in
-    search
+asked c = search
 
 add-k : tie.Need-add-k Inv-loop μ-loop
 add-k c =
@@ -63,10 +61,6 @@ play-spec =
     (λ c κs. search needs)
     (λ c. search needs)
     (λ c κs. search needs)
-    (λ c κs. search needs)
-    (λ c κs. search needs)
-    (λ c κs. search needs)
-    (λ c. search needs)
     (λ c κs. search needs)
     (λ c κs. search needs)
     (λ c κs. search needs)

@@ -1,0 +1,3 @@
+-- Laws of the walk and of what a lookup says.
+mod WalkReturns
+mod LookupReturns

@@ -1,0 +1,2 @@
+-- Laws of what many lookups say.
+mod ManyReturns

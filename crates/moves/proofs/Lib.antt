@@ -1,0 +1,2 @@
+-- One law for loops that move up, and one for those that move down.
+pub mod Draws

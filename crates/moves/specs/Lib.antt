@@ -1,0 +1,2 @@
+-- What is moved in a list of numbers.
+pub mod Moves

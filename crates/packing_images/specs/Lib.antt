@@ -1,2 +1,0 @@
--- How an announcement on an image is packed.
-pub mod ImageAnswers

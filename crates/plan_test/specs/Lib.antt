@@ -1,0 +1,2 @@
+-- A lent part of cells beside its plan.
+pub mod Part

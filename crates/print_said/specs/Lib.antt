@@ -1,0 +1,2 @@
+-- The text of a sound table.
+pub mod Standing

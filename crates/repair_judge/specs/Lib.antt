@@ -1,0 +1,2 @@
+-- What judging a repair asks and tells.
+pub mod Judge

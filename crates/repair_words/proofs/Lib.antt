@@ -1,0 +1,2 @@
+-- Laws of a repair with words beside it.
+mod RepairReturns

@@ -1,0 +1,3 @@
+-- What joins the code to the definition `adding`.
+pub mod PutChain
+pub mod Adds

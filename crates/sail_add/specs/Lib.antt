@@ -1,0 +1,4 @@
+-- A route put into a sound table that has room for it.
+pub mod Added
+pub mod Booked
+pub mod PutIn

@@ -1,0 +1,4 @@
+-- Laws that the functions' proofs cite.
+pub mod NeedPass
+pub mod Needs
+pub mod Weighs

@@ -1,0 +1,3 @@
+-- Laws that the function's proof cites.
+pub mod Lists
+pub mod Renews

@@ -1,0 +1,2 @@
+-- What writing a table anew asks, and what it leaves.
+pub mod Renew

@@ -1,0 +1,2 @@
+-- Laws of a word and of one step of it.
+pub mod Words

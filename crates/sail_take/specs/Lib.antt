@@ -1,0 +1,3 @@
+-- A route taken out of a sound table.
+pub mod Taken
+pub mod TakenOut

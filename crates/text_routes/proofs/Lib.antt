@@ -1,0 +1,2 @@
+-- Laws of a route's line.
+pub mod RouteLines

@@ -1,0 +1,2 @@
+-- What a route's line is.
+pub mod RouteLine

@@ -1,2 +1,0 @@
--- What the numbers of an edit have to fit.
-pub mod Small

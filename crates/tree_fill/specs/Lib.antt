@@ -1,0 +1,2 @@
+-- What holds while an image is filled.
+pub mod Fill

@@ -1,0 +1,2 @@
+-- The steps of a graft and of its reverse.
+pub mod Steps

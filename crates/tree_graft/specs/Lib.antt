@@ -1,0 +1,2 @@
+-- What the numbers of a graft have to fit.
+pub mod Ready

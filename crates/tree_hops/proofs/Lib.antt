@@ -1,0 +1,2 @@
+-- The steps by which a hop is put or taken.
+pub mod Steps

@@ -1,0 +1,2 @@
+-- What the numbers of a hop that is put have to fit.
+pub mod Ready

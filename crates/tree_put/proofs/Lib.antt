@@ -1,0 +1,2 @@
+-- What is said at each return.
+pub mod PutReturns

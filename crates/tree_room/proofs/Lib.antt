@@ -1,0 +1,2 @@
+-- That nothing is lacking where there is room.
+pub mod Room

@@ -1,0 +1,2 @@
+-- What arrays lack for an image.
+pub mod Lack
