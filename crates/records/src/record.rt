@@ -11,7 +11,7 @@ ghost use Rattle.routes.specs.Route.{key};
 ghost use Rattle.routes.specs.Record.{word32, word16, recordAt, putAt};
 
 // Two bytes from a place on, as a number.
-fn half_at(list: &[u8], at: usize) -> u16
+pub fn half_at(list: &[u8], at: usize) -> u16
     requires { ⌜ at + 2 ≤ length (now list) ⌝ }
     ensures { λ r. ⌜ r ≡ word16 (now (list .entry)) at ⌝ }
 {
@@ -19,7 +19,7 @@ fn half_at(list: &[u8], at: usize) -> u16
 }
 
 // Four bytes.
-fn word_at(list: &[u8], at: usize) -> u32
+pub fn word_at(list: &[u8], at: usize) -> u32
     requires { ⌜ at + 4 ≤ length (now list) ⌝ }
     ensures { λ r. ⌜ r ≡ word32 (now (list .entry)) at ⌝ }
 {
@@ -57,7 +57,7 @@ pub fn key_at(list: &[u8], k: usize) -> u64
 }
 
 // Two bytes from a place on are made those of a number.
-fn put_half(list: &mut [u8], at: usize, h: u16)
+pub fn put_half(list: &mut [u8], at: usize, h: u16)
     requires { ⌜ at + 2 ≤ length (now list) ⌝ }
     ensures { λ _. ⌜ now (list .exit) ≡ set (set (now (list .entry)) at (h / 256)) (at + 1) (h % 256) ⌝ }
 {

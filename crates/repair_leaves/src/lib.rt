@@ -10,7 +10,7 @@ ghost use Rattle.sail_paint.specs.Paint.{standsFor};
 ghost use Rattle.repair_leaves.specs.Leaves.{offPlan, offZero, offAt, CountIs, DiffBlockReady, DiffFirstReady, DiffChunkReady, DiffPoolReady};
 use chain::place::shifted;
 use plan::under::plan_under;
-use sail_paint::place::seen;
+use sail_paint::place::owner_at;
 use sail_paint::place::stands_for;
 
 // How many cells of a part are planned as leaves and hold something else. No early end, and the first test reads both, so that it
@@ -139,7 +139,7 @@ pub fn off_pool(
     let mut m = 0;
     let mut c = 0;
     while c < n {
-        let o = seen(own, c);
+        let o = owner_at(own, c);
         m += off_chunk(ws, par, l, p, up, e, o, cells, c, want);
         c += 1;
     }

@@ -11,7 +11,7 @@ use bits::widen::half_to_index;
 use repair_leaves::off_first;
 use repair_leaves::off_pool;
 use sail::geometry::Geometry;
-use sail_paint::place::seen;
+use sail_paint::place::owner_at;
 
 // How many cells of each array differ.
 pub struct Differs {
@@ -29,7 +29,7 @@ fn off_names(cells: &[u16], own: &[u32]) -> usize
     let mut m = 0;
     let mut c = 0;
     while c < n {
-        let o = seen(own, c);
+        let o = owner_at(own, c);
         c += 1;
         if o != 0 {
             if half_to_index(cells[o - 1]) != c {

@@ -16,7 +16,7 @@ use Rattle.bits.proofs.Bools.{and-split, below?}
 use Rattle.routes.specs.Said.{Said, refused}
 use Rattle.sail.specs.Geometry.{bits2, bits3}
 use Rattle.sail.specs.Lent.{Lent}
-use Rattle.sail.specs.Level.{whole}
+use Rattle.sail.specs.Level.{View, whole}
 use Rattle.sail.specs.Sizes.{sizesFault, Sized, SizesTold}
 use Rattle.sail.specs.Pool.{Numbered, SecondChunk, Chunk}
 use Rattle.sail.specs.Walk.{cellPlace, cell2, cell3, leafSaid, stepSaid, oneOf, shut, walkSaid, foundSaid, lookupSaid}
@@ -107,46 +107,82 @@ wraps-below m v r e f g = go (below? r m) (below? r (2 ^ 64 - 1))
     go (inr b) (inl w) = rw (le-ltb r m b, le-leb 1 v (omega arith), lt-leb v m (omega arith))
     go (inr b) (inr w) = rw (le-ltb r m b, lt-leb 1 v (omega arith))
 
--- the code's three cells: the first by the address's first bits, the second and the third by their places in the pools
-module _ (g : Geometry) (l : Lent) (a : ℕ) (sized : Sized g l) where
-  steps : (v1 v2 v3 : ℕ) → v1 ≡ getD (l .first) (slot (g .p1) a) 0 → v2 ≡ getD (l .second) (cellPlace (bits2 g) v1 (slot (g .p2) a)) 0 → v3 ≡ getD
-      (l .third) (cellPlace (bits3 g) v2 a) 0
-      → stepSaid 1 (oneOf (length (l .own2))) v1 (stepSaid 2 (oneOf (length (l .own3))) v2 (stepSaid 3 shut v3 (refused 5))) ≡ foundSaid g l a
-  unfolding foundSaid walkSaid
+-- The code's three cells: the first by the address's first bits, the second and the third by their places in the pools. A law for each cell that the
+-- walk may end at, whichever chunks open.
+module _ (g : Geometry) (t : View) (opens2 opens3 : ℕ → Bool) (a : ℕ) where
+  steps : (v1 v2 v3 : ℕ) → v1 ≡ t .first (slot (g .p1) a) → v2 ≡ t .second (cellPlace (bits2 g) v1 (slot (g .p2) a)) → v3 ≡ t .third (cellPlace (bits3 g) v2 a)
+      → stepSaid 1 opens2 v1 (stepSaid 2 opens3 v2 (stepSaid 3 shut v3 (refused 5))) ≡ walkSaid g opens2 opens3 t a
+  unfolding walkSaid
   steps v1 v2 v3 e1 e2 e3 =
-      let q2 : v2 ≡ cell2 g (whole l) a = e2 ∙ ap (λ (x : ℕ). getD (l .second) (cellPlace (bits2 g) x (slot (g .p2) a)) 0) e1 in
-      let q3 : v3 ≡ cell3 g (whole l) a = e3 ∙ ap (λ (x : ℕ). getD (l .third) (cellPlace (bits3 g) x a) 0) q2 in
+      let q2 : v2 ≡ cell2 g t a = e2 ∙ ap (λ (x : ℕ). t .second (cellPlace (bits2 g) x (slot (g .p2) a))) e1 in
+      let q3 : v3 ≡ cell3 g t a = e3 ∙ ap (λ (x : ℕ). t .third (cellPlace (bits3 g) x a)) q2 in
       cc
+
+  module _ (v1 : ℕ) (e1 : v1 ≡ t .first (slot (g .p1) a)) where
+    pub walk-leaf1 : (w : ℕ) → 32768 ≤ v1 → Word w (leafSaid 1 v1) → Word w (walkSaid g opens2 opens3 t a)
+    walk-leaf1 w h = word-of w _ _ (step-leaf 1 _ v1 _ h ∙ steps v1 _ _ e1 refl refl)
+
+    module _ (b1 : Bool) (o1 : b1 ≡ opens2 v1) (low1 : v1 < 32768) where
+      pub walk-off1 : not b1 ≡ true → Word 5 (walkSaid g opens2 opens3 t a)
+      walk-off1 n = word-five _ (step-off 1 _ v1 _ low1 (closed b1 _ o1 n) ∙ steps v1 _ _ e1 refl refl)
+
+      module _ (on1 : not b1 ≡ false) (v2 : ℕ) (e2 : v2 ≡ t .second (cellPlace (bits2 g) v1 (slot (g .p2) a))) where
+        down1 : (v3 : ℕ) → v3 ≡ t .third (cellPlace (bits3 g) v2 a) → stepSaid 2 opens3 v2 (stepSaid 3 shut v3 (refused 5)) ≡ walkSaid g opens2 opens3 t a
+        down1 v3 e3 = step-on 1 _ v1 _ low1 (opened b1 _ o1 on1) ∙ steps v1 v2 v3 e1 e2 e3
+
+        pub walk-leaf2 : (w : ℕ) → 32768 ≤ v2 → Word w (leafSaid 2 v2) → Word w (walkSaid g opens2 opens3 t a)
+        walk-leaf2 w h = word-of w _ _ (step-leaf 2 _ v2 _ h ∙ down1 _ refl)
+
+        module _ (b2 : Bool) (o2 : b2 ≡ opens3 v2) (low2 : v2 < 32768) where
+          pub walk-off2 : not b2 ≡ true → Word 5 (walkSaid g opens2 opens3 t a)
+          walk-off2 n = word-five _ (step-off 2 _ v2 _ low2 (closed b2 _ o2 n) ∙ down1 _ refl)
+
+          module _ (on2 : not b2 ≡ false) (v3 : ℕ) (e3 : v3 ≡ t .third (cellPlace (bits3 g) v2 a)) where
+            down2 : stepSaid 3 shut v3 (refused 5) ≡ walkSaid g opens2 opens3 t a
+            down2 = step-on 2 _ v2 _ low2 (opened b2 _ o2 on2) ∙ down1 v3 e3
+
+            pub walk-leaf3 : (w : ℕ) → 32768 ≤ v3 → Word w (leafSaid 3 v3) → Word w (walkSaid g opens2 opens3 t a)
+            walk-leaf3 w h = word-of w _ _ (step-leaf 3 _ v3 _ h ∙ down2)
+
+            pub walk-off3 : v3 < 32768 → Word 5 (walkSaid g opens2 opens3 t a)
+            walk-off3 h = word-five _ (step-off 3 shut v3 _ h refl ∙ down2)
+
+-- where every chunk of a pool opens
+module _ (g : Geometry) (l : Lent) (a : ℕ) (sized : Sized g l) where
+  abbrev all2 : ℕ → Bool
+  all2 = oneOf (length (l .own2))
+
+  abbrev all3 : ℕ → Bool
+  all3 = oneOf (length (l .own3))
 
   module _ (v1 : ℕ) (e1 : v1 ≡ getD (l .first) (slot (g .p1) a) 0) where
     pub leaf1 : (w : ℕ) → 32768 ≤ v1 → Word w (leafSaid 1 v1) → Word w (foundSaid g l a)
-    leaf1 w h = word-of w _ _ (step-leaf 1 _ v1 _ h ∙ steps v1 _ _ e1 refl refl)
+    unfolding foundSaid
+    leaf1 = walk-leaf1 g (whole l) all2 all3 a v1 e1
 
     module _ (b1 : Bool) (o1 : b1 ≡ oneOf (length (l .own2)) v1) (low1 : v1 < 32768) where
       pub off1 : not b1 ≡ true → Word 5 (foundSaid g l a)
-      off1 n = word-five _ (step-off 1 _ v1 _ low1 (closed b1 _ o1 n) ∙ steps v1 _ _ e1 refl refl)
+      unfolding foundSaid
+      off1 = walk-off1 g (whole l) all2 all3 a v1 e1 b1 o1 low1
 
       module _ (on1 : not b1 ≡ false) (v2 : ℕ) (e2 : v2 ≡ getD (l .second) (cellPlace (bits2 g) v1 (slot (g .p2) a)) 0) where
-        down1 : (v3 : ℕ) → v3 ≡ getD (l .third) (cellPlace (bits3 g) v2 a) 0 → stepSaid 2 (oneOf (length (l .own3))) v2
-            (stepSaid 3 shut v3 (refused 5)) ≡ foundSaid g l a
-        down1 v3 e3 = step-on 1 _ v1 _ low1 (opened b1 _ o1 on1) ∙ steps v1 v2 v3 e1 e2 e3
-
         pub leaf2 : (w : ℕ) → 32768 ≤ v2 → Word w (leafSaid 2 v2) → Word w (foundSaid g l a)
-        leaf2 w h = word-of w _ _ (step-leaf 2 _ v2 _ h ∙ down1 _ refl)
+        unfolding foundSaid
+        leaf2 = walk-leaf2 g (whole l) all2 all3 a v1 e1 b1 o1 low1 on1 v2 e2
 
         module _ (b2 : Bool) (o2 : b2 ≡ oneOf (length (l .own3)) v2) (low2 : v2 < 32768) where
           pub off2 : not b2 ≡ true → Word 5 (foundSaid g l a)
-          off2 n = word-five _ (step-off 2 _ v2 _ low2 (closed b2 _ o2 n) ∙ down1 _ refl)
+          unfolding foundSaid
+          off2 = walk-off2 g (whole l) all2 all3 a v1 e1 b1 o1 low1 on1 v2 e2 b2 o2 low2
 
           module _ (on2 : not b2 ≡ false) (v3 : ℕ) (e3 : v3 ≡ getD (l .third) (cellPlace (bits3 g) v2 a) 0) where
-            down2 : stepSaid 3 shut v3 (refused 5) ≡ foundSaid g l a
-            down2 = step-on 2 _ v2 _ low2 (opened b2 _ o2 on2) ∙ down1 v3 e3
-
             pub leaf3 : (w : ℕ) → 32768 ≤ v3 → Word w (leafSaid 3 v3) → Word w (foundSaid g l a)
-            leaf3 w h = word-of w _ _ (step-leaf 3 _ v3 _ h ∙ down2)
+            unfolding foundSaid
+            leaf3 = walk-leaf3 g (whole l) all2 all3 a v1 e1 b1 o1 low1 on1 v2 e2 b2 o2 low2 on2 v3 e3
 
             pub off3 : v3 < 32768 → Word 5 (foundSaid g l a)
-            off3 h = word-five _ (step-off 3 shut v3 _ h refl ∙ down2)
+            unfolding foundSaid
+            off3 = walk-off3 g (whole l) all2 all3 a v1 e1 b1 o1 low1 on1 v2 e2 b2 o2 low2 on2 v3 e3
 
 -- with the sizes checked first
 module _ (t : Table) (l : Lent) (a r : ℕ) (told : SizesTold r (t .geometry) l) where

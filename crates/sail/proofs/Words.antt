@@ -1,15 +1,15 @@
 -- A lookup's word: of a leaf, of a refusal, and read back.
 use mathlib.Core.List.{[], _∷_}
-use mathlib.Core.Logic.{_⊎_, inl, inr}
+use mathlib.Core.Logic.{_⊎_, inl, inr, _≢_}
 use mathlib.Core.Path.{_≡_, refl, ap, _∙_}
 use Prim.Native.Nat.{ℕ, _+_, _-_, _*_, _/_, _%_, _≤_, _<_}
 use native.Mathlib.Omega.{arith}
-use borrow.Author.Tests.{eq-eqb, ne-eqb}
-use Rattle.bits.proofs.Bools.{below?}
+use borrow.Author.Tests.{eq-eqb, ne-eqb, le-leb, lt-leb}
+use Rattle.bits.proofs.Bools.{below?, equal?}
 use Rattle.routes.specs.Said.{Said, accepted, refused}
 use Rattle.standing.specs.Served.{hopSaid}
 use Rattle.sail.specs.Walk.{leafSaid}
-use Rattle.sail.specs.Word.{packed, packFound, saidOf, Word}
+use Rattle.sail.specs.Word.{packed, packFound, saidOf, Word, hasHop, hopInWord}
 
 pub word-of : (w : ℕ) (s t : Said) → s ≡ t → Word w s → Word w t
 word-of w s t e h = record { packs = h .packs ∙ ap packFound e; back = h .back ∙ e }
@@ -51,3 +51,13 @@ module _ (w : ℕ) where
     pub says-hop : (w / 65536 ≡ 0 → ⊥) → accepted (n ∷ w / 65536 ∷ []) ≡ saidOf w
     unfolding saidOf hopSaid
     says-hop z = rw (eq-eqb (w % 256) 0 e, ne-eqb (w / 65536) 0 z, r)
+
+-- a word of a lookup has a hop exactly where what it says has one
+pub word-hop : (w : ℕ) (s : Said) → Word w s → hopInWord w ≡ hasHop s
+unfolding saidOf hopSaid
+word-hop w s h = go (equal? (w % 256) 0) (below? w 65536) ∙ ap hasHop (h .back)
+  where
+    go : (w % 256 ≡ 0) ⊎ (w % 256 ≢ 0) → (w < 65536) ⊎ (65536 ≤ w) → hopInWord w ≡ hasHop (saidOf w)
+    go (inr n) z = rw (ne-eqb (w % 256) 0 n)
+    go (inl e) (inl z) = rw (eq-eqb (w % 256) 0 e, lt-leb 65536 w z, eq-eqb (w / 65536) 0 (omega arith))
+    go (inl e) (inr z) = rw (eq-eqb (w % 256) 0 e, le-leb 65536 w z, ne-eqb (w / 65536) 0 (λ q. omega arith))

@@ -26,7 +26,7 @@ use Rattle.sail.specs.declared.geometry.Geometry.{Geometry}
 use Rattle.sail.specs.declared.table.Table.{Table}
 use Rattle.sail.proofs.Sounds.{standing-good}
 use Rattle.sail_theory.specs.Render.{find}
-use Rattle.sail_theory.specs.Calls.{opening}
+use Rattle.sail_theory.specs.Calls.{openAt, opening}
 use Rattle.sail.specs.Level.{chunksOf, level1, level2}
 use Rattle.sail_theory.specs.Facts.{Announceable}
 use Rattle.sail_theory.proofs.calls.Outcomes.{adding-is}
@@ -78,8 +78,9 @@ module _ {t : Table} {l : Lent} {r : Route} {f : AnnounceVerdict} (ready : ToAdd
     chain = c;
   }
 
-  pub add-openable : Openable g r (f .opens) (l .own2) (l .own3)
-  add-openable = openable t l r w (f .opens) (ready .opens)
+  -- c2 and c3 are the lowest free chunks
+  pub add-openable : (c2 c3 : ℕ) → c2 ≡ find (l .own2) 0 → c3 ≡ find (l .own3) 0 → Openable g r (f .opens) c2 c3 (l .own2) (l .own3)
+  add-openable c2 c3 e2 e3 = rw (e2, e3) (openable t l r w (f .opens) (ready .opens))
 
   add-few : t .count ≤ 4096
   add-few = w .sound .listed .records .few
@@ -135,6 +136,12 @@ module _ {t : Table} {l : Lent} {r : Route} {f : AnnounceVerdict} (ready : ToAdd
         rw (a, b)
         (as-counts g valid rs own2′ (l .long1) (l .long2) before (insert r rs)
         (many-replace r rs (w .fine) good (sym (ready .stood) ∙ not-false (f .stands) e)))
+
+-- the lowest free chunks are opened
+pub opened-lowest : (g : Geometry) (r : Route) (was2 was3 own2 own3 : List ℕ) (c2 c3 : ℕ) → c2 ≡ find was2 0 → c3 ≡ find was3 0
+    → (own2 ≡ openAt (level1 g) was2 c2 r) × (own3 ≡ openAt (level2 g (chunksOf (openAt (level1 g) was2 c2 r))) was3 c3 r)
+    → (own2 ≡ opening (level1 g) was2 r) × (own3 ≡ opening (level2 g (chunksOf (opening (level1 g) was2 r))) was3 r)
+opened-lowest g r was2 was3 own2 own3 c2 c3 e2 e3 h = rw (e2, e3) at h
 
 -- ---- what is known once the record is in the list
 

@@ -14,6 +14,7 @@ use lists::edit;
 use routes::Route;
 use sail::geometry::Geometry;
 use sail::table::Table;
+use sail_chunks::chunks::chunk_named;
 use sail_chunks::opening::open;
 use sail_counts::tick::tick;
 use sail_judge::announce::AnnounceVerdict;
@@ -62,8 +63,8 @@ fn count_in(added: bool, g: Geometry, r: Route, first: &[u16], long1: &mut [u16]
 }
 
 // The announcement, where nothing speaks against it: chunks are opened, the route is put into the list, what it touches is
-// painted again, and it is counted. `ws` and `par` have the words of the list and their chain. The answer is the new
-// state.
+// painted again, and it is counted. `ws` and `par` have the words of the list and their chain, then too. The answer is the
+// new state.
 pub fn add(
     t: Table,
     list: &mut [u8],
@@ -84,11 +85,14 @@ pub fn add(
     ensures { λ u. ⌜ MeetsAdd t (lent (now (list .entry)) (now (first .entry)) (now (second .entry)) (now (third .entry))
         (now (own2 .entry)) (now (own3 .entry)) (now (long1 .entry)) (now (long2 .entry))) r
         u (lent (now (list .exit)) (now (first .exit)) (now (second .exit)) (now (third .exit))
-        (now (own2 .exit)) (now (own3 .exit)) (now (long1 .exit)) (now (long2 .exit))) ⌝ }
+        (now (own2 .exit)) (now (own3 .exit)) (now (long1 .exit)) (now (long2 .exit)))
+        × ChainedFront (now (list .exit)) (u .count) (now (ws .exit)) (now (par .exit)) ⌝ }
 {
     let g = t.geometry;
     let n = t.count as usize;
-    open(g, r, f.opens, own2, own3);
+    let c2 = chunk_named(own2, 0);
+    let c3 = chunk_named(own3, 0);
+    open(g, r, f.opens, c2, c3, own2, own3);
     let m = put_in(list, n, f.at, f.stands, r, ws, par);
     repaint(
         &ws[..m],

@@ -19,15 +19,16 @@ use Rattle.sail.specs.Sound.{Clear, standing}
 use Rattle.sail.specs.declared.geometry.Geometry.{Geometry}
 use Rattle.sail.specs.declared.table.Table.{Table}
 use Rattle.sail_theory.specs.Render.{find, Fits, roomOf}
-use Rattle.sail_theory.specs.Calls.{opening}
+use Rattle.sail_theory.specs.Calls.{Owners, openAt, opened, ownersOf}
 use Rattle.sail_theory.specs.Facts.{Announceable}
 use Rattle.sail_theory.proofs.places.Places.{live-owner}
 use Rattle.sail_theory.proofs.places.Pools.{shows-fits}
 use Rattle.sail_theory.proofs.owners.GrantKeep.{unhung}
 use Rattle.sail_theory.proofs.frames.LevelFrame.{below-same}
-use Rattle.sail_theory.proofs.owners.OpenAt.{Space, OpenReady, length-open, open-stays, open-fits, open-short, open-had, open-new}
-use Rattle.sail_theory.proofs.calls.ChangeHolds.{ready1, ready2}
-use Rattle.sail_theory.proofs.frames.TableFrame.{announce-frame}
+use Rattle.sail_theory.proofs.owners.Chunks.{chunk-le}
+use Rattle.sail_theory.proofs.owners.OpenAt.{Space, OpenReady, length-open, open-keeps, open-fits, open-short, open-had, open-new}
+use Rattle.sail_theory.proofs.calls.ChangeHolds.{AnnounceableAt, lowest-at}
+use Rattle.sail_theory.proofs.frames.TableFrame.{at-frame}
 use Rattle.sail_paint.specs.Stale.{meets}
 use Rattle.sail_chunks.specs.Chunks.{withOwner, alone, FreeToOpen}
 use Rattle.sail_chunks.specs.ToOpen.{Opens, OpensAt, Openable}
@@ -43,36 +44,36 @@ unfolding meets
 meets-own a len p l = rw (lt-leb len p l) (eq-eqb (slot p a) (slot p a) refl)
 
 -- where the route alone needs a chunk, one is free
-space-free : (rs : List Route) (r : Route) (v : Level) (own : List ℕ) → Space rs r v own (find own 0) → FreeToOpen (alone rs (v .bits) (r .addr) (r .len)) own
-space-free rs r v own s = record { some = λ e. let k = alone-parts rs (v .bits) (r .addr) (r .len) e in s (k .0) (k .1) .0 }
+space-free : (rs : List Route) (r : Route) (v : Level) (own : List ℕ) (c : ℕ) → Space rs r v own c → FreeToOpen (alone rs (v .bits) (r .addr) (r .len)) c own
+space-free rs r v own c s = record { some = λ e. let k = alone-parts rs (v .bits) (r .addr) (r .len) e in s (k .0) (k .1) .0 }
 
 -- A route that may be announced at a level whose places are v′, and were v before the level above it changed.
-module _ (rs : List Route) (r : Route) (v′ : Level) (own : List ℕ) (w : OpenReady rs r v′ own (find own 0)) where
+module _ (rs : List Route) (r : Route) (v′ : Level) (own : List ℕ) (k : ℕ) (w : OpenReady rs r v′ own k) where
   abbrev own′ : List ℕ
-  own′ = opening v′ own r
+  own′ = openAt v′ own k r
 
   abbrev needed : Type 0
   needed = alone rs (v′ .bits) (r .addr) (r .len) ≡ true
 
   -- a chunk is opened where the route alone needs it
-  pub open-hung : own′ ≡ withOwner (alone rs (v′ .bits) (r .addr) (r .len)) (suc (v′ .serving (r .addr))) own
+  pub open-hung : own′ ≡ withOwner (alone rs (v′ .bits) (r .addr) (r .len)) k (suc (v′ .serving (r .addr))) own
   unfolding withOwner alone
   open-hung = go (below? (v′ .bits) (r .len)) (decided (long rs (v′ .bits) (slot (v′ .bits) (r .addr))))
     where
       go : (v′ .bits < r .len) ⊎ (r .len ≤ v′ .bits)
           → (long rs (v′ .bits) (slot (v′ .bits) (r .addr)) ≡ true) ⊎ (long rs (v′ .bits) (slot (v′ .bits) (r .addr)) ≡ false)
           → own′
-          ≡ cond (ltb (v′ .bits) (r .len) && not (long rs (v′ .bits) (slot (v′ .bits) (r .addr)))) (set own (find own 0) (suc (v′ .serving (r .addr)))) own
-      go (inr h) d = open-short rs r v′ own (find own 0) w h ∙ rw (le-ltb (v′ .bits) (r .len) h)
-      go (inl h) (inl d) = open-had rs r v′ own (find own 0) w d ∙ rw (lt-ltb (v′ .bits) (r .len) h, d)
-      go (inl h) (inr d) = open-new rs r v′ own (find own 0) w h d .1 ∙ rw (lt-ltb (v′ .bits) (r .len) h, d)
+          ≡ cond (ltb (v′ .bits) (r .len) && not (long rs (v′ .bits) (slot (v′ .bits) (r .addr)))) (set own k (suc (v′ .serving (r .addr)))) own
+      go (inr h) d = open-short rs r v′ own k w h ∙ rw (le-ltb (v′ .bits) (r .len) h)
+      go (inl h) (inl d) = open-had rs r v′ own k w d ∙ rw (lt-ltb (v′ .bits) (r .len) h, d)
+      go (inl h) (inr d) = open-new rs r v′ own k w h d .1 ∙ rw (lt-ltb (v′ .bits) (r .len) h, d)
 
   -- told by the owners: the cell of the route is long exactly where a chunk hangs from the place that serves it
-  pub ready-opens : (b : Bool) → b ≡ alone rs (v′ .bits) (r .addr) (r .len) → OpensAt v′ own r b
+  pub ready-opens : (b : Bool) → b ≡ alone rs (v′ .bits) (r .addr) (r .len) → OpensAt v′ own r b k
   unfolding alone
   ready-opens b is = record {
     opens = is ∙ go (decided (ltb (v′ .bits) (r .len))) (decided (long rs (v′ .bits) (slot (v′ .bits) (r .addr))));
-    free = rw is (space-free rs r v′ own (w .space));
+    free = rw is (space-free rs r v′ own k (w .space));
   }
     where
       q : ℕ
@@ -94,8 +95,8 @@ module _ (rs : List Route) (r : Route) (v′ : Level) (own : List ℕ) (w : Open
     keeps : (c x : ℕ) → c < length own → getD own′ c 0 ≡ suc x → meets (r .addr) (r .len) (v′ .bits) (v′ .at x) ≡ false
         → (getD own c 0 ≡ suc x) × (v .at x ≡ v′ .at x)
     keeps c x h e m =
-        let k = hung-was own (alone rs (v′ .bits) (r .addr) (r .len)) (v′ .serving (r .addr)) c x (rw open-hung at e) new in
-        (k, over x (was .lies c x h k .1))
+        let z = hung-was own (alone rs (v′ .bits) (r .addr) (r .len)) k (v′ .serving (r .addr)) c x (rw open-hung at e) new in
+        (z, over x (was .lies c x h z .1))
       where
         new : needed → (x ≡ v′ .serving (r .addr)) → ⊥
         new b y =
@@ -106,22 +107,22 @@ module _ (rs : List Route) (r : Route) (v′ : Level) (own : List ℕ) (w : Open
     -- a chunk that is free now was free
     free : (q : ℕ) → below v′ (chunksOf own′) p .live q ≡ false → below v (chunksOf own) p .live q ≡ false
     free q e = untrue _ (λ u.
-        let o = open-stays v′ own r _ _ (live-owner v (chunksOf own) p q u) in
+        let o = open-keeps rs r v′ own k w _ _ (live-owner v (chunksOf own) p q u) in
         let live = lt-ltb 0 (getD own′ (q / 2 ^ (p - v .bits)) 0) (omega (arith, o)) in
         true≢false (sym live ∙ subst (λ (b : ℕ). ltb 0 (getD own′ (q / 2 ^ (p - b)) 0) ≡ false) bits e))
 
     pub opening-held : PoolUnderway (insert r rs) (r .addr) (r .len) v v′ p own own′ cells cells
     opening-held = record {
       bits = bits;
-      many = length-open v′ own (find own 0) r;
+      many = length-open v′ own k r;
       size = refl;
-      fits = open-fits rs r v′ own (find own 0) w;
+      fits = open-fits rs r v′ own k w;
       keeps = keeps;
       held = λ q l e. refl;
-      clear = record { blank = λ q l e. clear .blank q (rw bits at (rw (length-open v′ own (find own 0) r) at l)) (free q e) };
+      clear = record { blank = λ q l e. clear .blank q (rw bits at (rw (length-open v′ own k r) at l)) (free q e) };
     }
 
-module _ (t : Table) (l : Lent) (r : Route) (w : Announceable t l r) where
+module _ (t : Table) (l : Lent) (r : Route) (c2 c3 : ℕ) (w : AnnounceableAt t l r c2 c3) where
   abbrev g : Geometry
   g = t .geometry
 
@@ -129,19 +130,19 @@ module _ (t : Table) (l : Lent) (r : Route) (w : Announceable t l r) where
   rs = standing t l
 
   abbrev own2′ : List ℕ
-  own2′ = opening (level1 g) (l .own2) r
+  own2′ = openAt (level1 g) (l .own2) c2 r
 
   abbrev own3′ : List ℕ
-  own3′ = opening (level2 g (chunksOf own2′)) (l .own3) r
+  own3′ = openAt (level2 g (chunksOf own2′)) (l .own3) c3 r
 
   -- what `open` asks
-  pub openable : (o : Opening) → Opens g rs (l .own2) (r .addr) (r .len) o → Openable g r o (l .own2) (l .own3)
-  openable o k = record {
+  pub at-openable : c2 < 65536 → (o : Opening) → Opens g rs (l .own2) (r .addr) (r .len) o → Openable g r o c2 c3 (l .own2) (l .own3)
+  at-openable few o k = record {
     valid = w .sound .sized .valid;
     addr = w .fine .prefix .addr-ok;
-    few2 = w .sound .sized .few2;
-    second = ready-opens rs r (level1 g) (l .own2) (ready1 t l r w) (o .second) (k .second);
-    third = ready-opens rs r (level2 g (chunksOf own2′)) (l .own3) (ready2 t l r w) (o .third) (k .third);
+    few2 = few;
+    second = ready-opens rs r (level1 g) (l .own2) c2 (w .first) (o .second) (k .second);
+    third = ready-opens rs r (level2 g (chunksOf own2′)) (l .own3) c3 (w .second) (o .third) (k .third);
     chunk = k .chunk;
     few = k .few;
   }
@@ -150,22 +151,32 @@ module _ (t : Table) (l : Lent) (r : Route) (w : Announceable t l r) where
   over : (x : ℕ) → level2 g (chunksOf (l .own2)) .live x ≡ true → level2 g (chunksOf (l .own2)) .at x ≡ level2 g (chunksOf own2′) .at x
   over x e =
       let o = live-owner (level1 g) (chunksOf (l .own2)) (g .p2) x e in
-      let stays = open-stays (level1 g) (l .own2) r _ _ o in
+      let stays = open-keeps rs r (level1 g) (l .own2) c2 (w .first) _ _ o in
       sym (below-same (level1 g) (level1 g) (chunksOf (l .own2)) (chunksOf own2′) (g .p2) x refl (stays ∙ sym o) (λ z _. refl) .at e)
 
-  pub welcome-underway : Underway g (r .addr) (r .len) (insert r rs) l (cells (l .first) (l .second) (l .third) own2′ own3′)
-  welcome-underway =
+  pub at-underway : Underway g (r .addr) (r .len) (insert r rs) l (cells (l .first) (l .second) (l .third) own2′ own3′)
+  at-underway =
       let z = serving-of t l (w .sound) in
       record {
         sized = w .sound .sized;
         prefix = w .fine .prefix;
         room = roomOf l;
-        frame = announce-frame t l r w;
+        frame = at-frame t l r c2 c3 w;
         first = refl;
         second =
-            opening-held rs r (level1 g) (l .own2) (ready1 t l r w) (level1 g) refl
+            opening-held rs r (level1 g) (l .own2) c2 (w .first) (level1 g) refl
             (shows-fits rs (level1 g) (chunksOf (l .own2)) (entry (l .first)) (z .shows1)) (λ x _. refl)
             (g .p2) (l .second) (w .sound .clear2);
-        third = opening-held rs r (level2 g (chunksOf own2′)) (l .own3) (ready2 t l r w) (level2 g (chunksOf (l .own2))) refl
+        third = opening-held rs r (level2 g (chunksOf own2′)) (l .own3) c3 (w .second) (level2 g (chunksOf (l .own2))) refl
             (shows-fits rs (level2 g (chunksOf (l .own2))) (chunksOf (l .own3)) (entry (l .second)) (z .shows2)) over 32 (l .third) (w .sound .clear3);
       }
+
+-- the lowest free chunks
+module _ (t : Table) (l : Lent) (r : Route) (w : Announceable t l r) where
+  pub openable : (o : Opening) → Opens (t .geometry) (standing t l) (l .own2) (r .addr) (r .len) o
+      → Openable (t .geometry) r o (find (l .own2) 0) (find (l .own3) 0) (l .own2) (l .own3)
+  openable = at-openable t l r _ _ (lowest-at t l r w) (omega (arith, w .sound .sized .few2, chunk-le (chunksOf (l .own2)) 0))
+
+  pub welcome-underway : let o : Owners = opened (t .geometry) (ownersOf l) r in
+      Underway (t .geometry) (r .addr) (r .len) (insert r (standing t l)) l (cells (l .first) (l .second) (l .third) (o .own2) (o .own3))
+  welcome-underway = at-underway t l r _ _ (lowest-at t l r w)

@@ -51,13 +51,13 @@ module _ (rs : List Route) (p a len : ℕ) where
       go (inr d) = absurd (true≢false (sym (is-alone (lt-ltb p len h) d) ∙ e))
 
 -- a chunk hung, or not
-pub hang-on : (own own′ : List ℕ) (b : Bool) (o c : ℕ) → c ≡ find own 0 → b ≡ true → own′ ≡ set own c o → own′ ≡ withOwner b o own
+pub hang-on : (own own′ : List ℕ) (b : Bool) (c o : ℕ) → b ≡ true → own′ ≡ set own c o → own′ ≡ withOwner b c o own
 unfolding withOwner
-hang-on own own′ b o c e h w = rw (w, h, e)
+hang-on own own′ b c o h w = rw (w, h)
 
-pub hang-off : (own : List ℕ) (b : Bool) (o : ℕ) → b ≡ false → own ≡ withOwner b o own
+pub hang-off : (own : List ℕ) (b : Bool) (c o : ℕ) → b ≡ false → own ≡ withOwner b c o own
 unfolding withOwner
-hang-off own b o h = rw h
+hang-off own b c o h = rw h
 
 -- a chunk closed, or not
 module _ (b : Bool) (own cells : List ℕ) (c d : ℕ) where
@@ -77,14 +77,14 @@ module _ (b : Bool) (own cells : List ℕ) (c d : ℕ) where
   close-off h = (rw h, rw h)
 
 -- an owner that is there after a chunk was hung from z was there before, unless it is the new one
-pub hung-was : (own : List ℕ) (b : Bool) (z c x : ℕ) → getD (withOwner b (suc z) own) c 0 ≡ suc x → (b ≡ true → x ≢ z) → getD own c 0 ≡ suc x
+pub hung-was : (own : List ℕ) (b : Bool) (k z c x : ℕ) → getD (withOwner b k (suc z) own) c 0 ≡ suc x → (b ≡ true → x ≢ z) → getD own c 0 ≡ suc x
 unfolding withOwner
-hung-was own false z c x e other = e
-hung-was own true z c x e other = go (equal? c (find own 0)) (below? c (length own))
+hung-was own false k z c x e other = e
+hung-was own true k z c x e other = go (equal? c k) (below? c (length own))
   where
-    go : (c ≡ find own 0) ⊎ (c ≢ find own 0) → (c < length own) ⊎ (length own ≤ c) → getD own c 0 ≡ suc x
-    go (inr n) l = sym (getD-set-other own (find own 0) c (suc z) 0 n) ∙ e
+    go : (c ≡ k) ⊎ (c ≢ k) → (c < length own) ⊎ (length own ≤ c) → getD own c 0 ≡ suc x
+    go (inr n) l = sym (getD-set-other own k c (suc z) 0 n) ∙ e
     go (inl q) (inl l) = absurd (other refl (omega (arith, getD-set-same own c (suc z) 0 l, rw (← q) at e)))
     go (inl q) (inr l) =
-        let k : length (set own (find own 0) (suc z)) ≤ c = rw length-set l in
-        absurd (omega (arith, e, List·getD-eq-default (set own (find own 0) (suc z)) 0 k))
+        let j : length (set own k (suc z)) ≤ c = rw length-set l in
+        absurd (omega (arith, e, List·getD-eq-default (set own k (suc z)) 0 j))

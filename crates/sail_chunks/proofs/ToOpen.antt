@@ -23,7 +23,7 @@ use Rattle.sail.specs.Level.{Level, chunksOf, level1, level2}
 use Rattle.sail.specs.Walk.{cellPlace}
 use Rattle.sail.specs.declared.geometry.Geometry.{Geometry}
 use Rattle.sail_theory.specs.Render.{find}
-use Rattle.sail_theory.specs.Calls.{grant, openAt, opening}
+use Rattle.sail_theory.specs.Calls.{grant, openAt}
 use Rattle.sail_theory.proofs.owners.OpenAt.{find-hung}
 use Rattle.sail_chunks.specs.Chunks.{alone, withOwner}
 use Rattle.sail_chunks.specs.Trail.{CellTells, Trailed}
@@ -38,12 +38,11 @@ leaf-longer v p len h = rw (lt-ltb p len h)
 pub leaf-shorter : (v p len : ℕ) → len ≤ p → false ≡ (ltb p len && leb 32768 v)
 leaf-shorter v p len h = rw (le-ltb p len h)
 
-pub chunk-free : (b : Bool) (v c : ℕ) (own : List ℕ) → ChunkForReady v own → b ≡ true → c ≡ find own 0 → c ≤ length own → (c ≡ cond b (find own 0) v)
-    × (c < 65536)
-chunk-free b v c own n h e l = let f = n .few in (rw h e, omega arith)
+pub chunk-free : (b : Bool) (new c : ℕ) → ChunkForReady new c → b ≡ true → (new ≡ cond b new c) × (new < 65536)
+chunk-free b new c n h = (rw h, n .few)
 
-pub chunk-had : (b : Bool) (v : ℕ) (own : List ℕ) → ChunkForReady v own → b ≡ false → (v ≡ cond b (find own 0) v) × (v < 65536)
-chunk-had b v own n h = (rw h, n .small)
+pub chunk-had : (b : Bool) (new c : ℕ) → ChunkForReady new c → b ≡ false → (c ≡ cond b new c) × (c < 65536)
+chunk-had b new c n h = (rw h, n .small)
 
 -- what the cell of an address at a level tells
 module _ (rs : List Route) (v : Level) (own : List ℕ) (a x : ℕ) (k : CellTells rs v own a x) where
@@ -103,60 +102,60 @@ opens-nothing g rs own2 r fine good e = record {
         go (inr h) = rw h
 
 -- the owners of a level after what is opened there, and the chunk that then serves the route: the new one, or the one that was there
-module _ (v : Level) (own : List ℕ) (r : Route) (b : Bool) (k : OpensAt v own r b) where
+module _ (v : Level) (own : List ℕ) (r : Route) (b : Bool) (c : ℕ) (k : OpensAt v own r b c) where
   abbrev q : ℕ
   q = v .serving (r .addr)
 
-  pub opens-owner : opening v own r ≡ withOwner b (suc q) own
+  pub opens-owner : openAt v own c r ≡ withOwner b c (suc q) own
   unfolding openAt grant withOwner
   opens-owner = rw (k .opens) (go (ltb (v .bits) (r .len)) (below? (find own (suc q)) (length own)))
     where
       go : (x : Bool) → (find own (suc q) < length own) ⊎ (length own ≤ find own (suc q))
-          → cond x (cond (ltb (find own (suc q)) (length own)) own (set own (find own 0) (suc q))) own
-          ≡ cond (x && leb (length own) (find own (suc q))) (set own (find own 0) (suc q)) own
+          → cond x (cond (ltb (find own (suc q)) (length own)) own (set own c (suc q))) own
+          ≡ cond (x && leb (length own) (find own (suc q))) (set own c (suc q)) own
       go false h = refl
       go true (inl h) = rw (lt-ltb _ _ h, lt-leb _ _ h)
       go true (inr h) = rw (le-ltb _ _ h, le-leb _ _ h)
 
-  pub opens-serves : cond b (find own 0) (find own (suc q)) ≡ find (opening v own r) (suc q)
+  pub opens-serves : cond b c (find own (suc q)) ≡ find (openAt v own c r) (suc q)
   unfolding withOwner
   opens-serves = rw opens-owner (go (decided b))
     where
-      go : (b ≡ true) ⊎ (b ≡ false) → cond b (find own 0) (find own (suc q)) ≡ find (cond b (set own (find own 0) (suc q)) own) (suc q)
+      go : (b ≡ true) ⊎ (b ≡ false) → cond b c (find own (suc q)) ≡ find (cond b (set own c (suc q)) own) (suc q)
       go (inr e) = rw e
       go (inl e) =
           let none = leb-true _ _ (and-split (ltb (v .bits) (r .len)) _ (sym (k .opens) ∙ e) .1) in
-          rw e (sym (find-hung own (find own 0) q (k .free .some e) none))
+          rw e (sym (find-hung own c q (k .free .some e) none))
 
 -- what `open` leaves
-module _ (g : Geometry) (r : Route) (o : Opening) (own2 own3 : List ℕ) (w : Openable g r o own2 own3) where
+module _ (g : Geometry) (r : Route) (o : Opening) (c2 c3 : ℕ) (own2 own3 : List ℕ) (w : Openable g r o c2 c3 own2 own3) where
   abbrev next2 : List ℕ
-  next2 = opening (level1 g) own2 r
+  next2 = openAt (level1 g) own2 c2 r
 
-  pub opened-second : (x : ℕ) (own : List ℕ) → x ≡ slot (g .p1) (r .addr) → own ≡ withOwner (o .second) (x + 1) own2 → own ≡ next2
-  opened-second x own e h = h ∙ rw (e, add-one) (sym (opens-owner (level1 g) own2 r (o .second) (w .second)))
+  pub opened-second : (x : ℕ) (own : List ℕ) → x ≡ slot (g .p1) (r .addr) → own ≡ withOwner (o .second) c2 (x + 1) own2 → own ≡ next2
+  opened-second x own e h = h ∙ rw (e, add-one) (sym (opens-owner (level1 g) own2 r (o .second) c2 (w .second)))
 
   -- the second chunk that then serves the route, where a third one is opened
-  served-by : (c : ℕ) → c ≡ cond (o .second) (find own2 0) (o .chunk) → o .third ≡ true → c ≡ find next2 (suc (slot (g .p1) (r .addr)))
-  served-by c e y = e ∙ go (decided (o .second)) ∙ opens-serves (level1 g) own2 r (o .second) (w .second)
+  served-by : (c : ℕ) → c ≡ cond (o .second) c2 (o .chunk) → o .third ≡ true → c ≡ find next2 (suc (slot (g .p1) (r .addr)))
+  served-by c e y = e ∙ go (decided (o .second)) ∙ opens-serves (level1 g) own2 r (o .second) c2 (w .second)
     where
       go : (o .second ≡ true) ⊎ (o .second ≡ false)
-          → cond (o .second) (find own2 0) (o .chunk) ≡ cond (o .second) (find own2 0) (find own2 (suc (slot (g .p1) (r .addr))))
+          → cond (o .second) c2 (o .chunk) ≡ cond (o .second) c2 (find own2 (suc (slot (g .p1) (r .addr))))
       go (inl d) = rw d
       go (inr d) = rw (w .chunk y d)
 
-  pub opened-third : (c : ℕ) → c ≡ cond (o .second) (find own2 0) (o .chunk) → (q : ℕ) (own : List ℕ)
-      → q ≡ cellPlace (bits2 g) (c + 1) (slot (g .p2) (r .addr)) → own ≡ withOwner (o .third) (q + 1) own3
-      → own ≡ opening (level2 g (chunksOf next2)) own3 r
+  pub opened-third : (c : ℕ) → c ≡ cond (o .second) c2 (o .chunk) → (q : ℕ) (own : List ℕ)
+      → q ≡ cellPlace (bits2 g) (c + 1) (slot (g .p2) (r .addr)) → own ≡ withOwner (o .third) c3 (q + 1) own3
+      → own ≡ openAt (level2 g (chunksOf next2)) own3 c3 r
   unfolding withOwner
-  opened-third c z q own e h = h ∙ go (decided (o .third)) ∙ sym (opens-owner (level2 g (chunksOf next2)) own3 r (o .third) (w .third))
+  opened-third c z q own e h = h ∙ go (decided (o .third)) ∙ sym (opens-owner (level2 g (chunksOf next2)) own3 r (o .third) c3 (w .third))
     where
-      go : (o .third ≡ true) ⊎ (o .third ≡ false) → withOwner (o .third) (q + 1) own3 ≡ withOwner (o .third)
+      go : (o .third ≡ true) ⊎ (o .third ≡ false) → withOwner (o .third) c3 (q + 1) own3 ≡ withOwner (o .third) c3
           (suc (level2 g (chunksOf next2) .serving (r .addr))) own3
       go (inr y) = rw y
       go (inl y) =
           let n : c + 1 - 1 ≡ find next2 (suc (slot (g .p1) (r .addr))) = omega (arith, served-by c z y) in
-          ap (λ (x : ℕ). withOwner (o .third) x own3) (add-one q ∙ ap suc (e ∙ rw n))
+          ap (λ (x : ℕ). withOwner (o .third) c3 x own3) (add-one q ∙ ap suc (e ∙ rw n))
 
 -- the owner of a second chunk is small
 pub slot-small : (g : Geometry) (a x : ℕ) → Valid g → a < 2 ^ 32 → x ≡ slot (g .p1) a → x < 65536

@@ -9,11 +9,10 @@ use Rattle.bits.specs.Slot.{slot}
 use Rattle.standing.specs.Cells.{long}
 use Rattle.routes.specs.declared.Route.{Route}
 use Rattle.buffers.specs.Fill.{filled}
-use Rattle.sail_theory.specs.Render.{find}
 
--- the lowest free chunk with the owner o
-unfoldable pub withOwner : Bool → ℕ → List ℕ → List ℕ
-withOwner opens o own = cond opens (set own (find own 0) o) own
+-- chunk c with the owner o
+unfoldable pub withOwner : Bool → ℕ → ℕ → List ℕ → List ℕ
+withOwner opens c o own = cond opens (set own c o) own
 
 -- chunk c without an owner
 unfoldable pub withoutOwner : Bool → ℕ → List ℕ → List ℕ
@@ -23,9 +22,9 @@ withoutOwner closes c own = cond closes (set own c 0) own
 unfoldable pub blanked : Bool → ℕ → ℕ → List ℕ → List ℕ
 blanked closes c d cells = cond closes (filled cells (c * 2 ^ d) (c * 2 ^ d + 2 ^ d) 0) cells
 
--- where a chunk is to be opened, one is free
-pub record FreeToOpen (opens : Bool) (own : List ℕ) : Type 0 where
-  pub some : opens ≡ true → find own 0 < length own
+-- where a chunk is to be opened, c is one
+pub record FreeToOpen (opens : Bool) (c : ℕ) (own : List ℕ) : Type 0 where
+  pub some : opens ≡ true → c < length own
 
 -- where chunk c is to be closed, it is one of a pool of chunks of 2 ^ d cells
 pub record Closing (closes : Bool) (own cells : List ℕ) (c d : ℕ) : Type 0 where

@@ -10,15 +10,15 @@ use Rattle.routes.specs.declared.Route.{Route}
 use Rattle.sail.specs.Geometry.{Valid}
 use Rattle.sail.specs.Level.{Level, chunksOf, level1, level2}
 use Rattle.sail.specs.declared.geometry.Geometry.{Geometry}
-use Rattle.sail_theory.specs.Calls.{opening}
+use Rattle.sail_theory.specs.Calls.{openAt}
 use Rattle.sail_theory.specs.Render.{find}
 use Rattle.sail_chunks.specs.Chunks.{alone, FreeToOpen}
 use Rattle.sail_chunks.specs.declared.opening.Opening.{Opening}
 
--- a chunk by a cell of 16 bits, and a pool of few chunks
-pub record ChunkForReady (c : ℕ) (own : List ℕ) : Type 0 where
+-- two chunks by numbers of 16 bits
+pub record ChunkForReady (new c : ℕ) : Type 0 where
+  pub few : new < 65536
   pub small : c < 65536
-  pub few : length own ≤ 4096
 
 abbrev pub noOpening : Opening
 noOpening = record { second = false; third = false; chunk = 0 }
@@ -31,17 +31,17 @@ pub record Opens (g : Geometry) (rs : List Route) (own2 : List ℕ) (a len : ℕ
   pub few : o .chunk < 65536
 
 -- Whether a chunk of a level is opened for r, told by its owners: where r is longer than the level and no chunk hangs from the place that serves
--- it. Then one is free.
-pub record OpensAt (v : Level) (own : List ℕ) (r : Route) (b : Bool) : Type 0 where
+-- it. Then c is one.
+pub record OpensAt (v : Level) (own : List ℕ) (r : Route) (b : Bool) (c : ℕ) : Type 0 where
   pub opens : b ≡ (ltb (v .bits) (r .len) && leb (length own) (find own (suc (v .serving (r .addr)))))
-  pub free : FreeToOpen b own
+  pub free : FreeToOpen b c own
 
--- what is opened for r in both pools, and the second chunk that serves it where a third chunk is opened and no second one
-pub record Openable (g : Geometry) (r : Route) (o : Opening) (own2 own3 : List ℕ) : Type 0 where
+-- what is opened for r in both pools, as chunks c2 and c3, and the second chunk that serves it where a third chunk is opened and no second one
+pub record Openable (g : Geometry) (r : Route) (o : Opening) (c2 c3 : ℕ) (own2 own3 : List ℕ) : Type 0 where
   pub valid : Valid g
   pub addr : r .addr < 2 ^ 32
-  pub few2 : length own2 ≤ 4096
-  pub second : OpensAt (level1 g) own2 r (o .second)
-  pub third : OpensAt (level2 g (chunksOf (opening (level1 g) own2 r))) own3 r (o .third)
+  pub few2 : c2 < 65536
+  pub second : OpensAt (level1 g) own2 r (o .second) c2
+  pub third : OpensAt (level2 g (chunksOf (openAt (level1 g) own2 c2 r))) own3 r (o .third) c3
   pub chunk : o .third ≡ true → o .second ≡ false → o .chunk ≡ find own2 (suc (slot (g .p1) (r .addr)))
   pub few : o .chunk < 65536

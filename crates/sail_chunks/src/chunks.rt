@@ -21,13 +21,12 @@ pub fn chunk_named(own: &[u32], o: u32) -> usize
     c
 }
 
-// The lowest free chunk gets the owner o, where one is to be opened.
-pub fn set_owner(own: &mut [u32], opens: bool, o: u32)
-    requires { ⌜ FreeToOpen opens (now own) ⌝ }
-    ensures { λ _. ⌜ now (own .exit) ≡ withOwner opens o (now (own .entry)) ⌝ }
+// Chunk c gets the owner o, where it is to be opened.
+pub fn set_owner(own: &mut [u32], opens: bool, c: usize, o: u32)
+    requires { ⌜ FreeToOpen opens c (now own) ⌝ }
+    ensures { λ _. ⌜ now (own .exit) ≡ withOwner opens c o (now (own .entry)) ⌝ }
 {
     if opens {
-        let c = chunk_named(own, 0);
         own[c] = o;
     }
 }

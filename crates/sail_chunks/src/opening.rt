@@ -4,12 +4,10 @@ ghost use mathlib.Core.Bool.{cond, _&&_};
 ghost use Prim.Native.Nat.{_<_};
 ghost use lib.Dec.{ltb, leb};
 ghost use Rattle.routes.specs.Record.{routesOf};
-ghost use Rattle.sail_theory.specs.Render.{find};
-ghost use Rattle.sail_theory.specs.Calls.{opening};
+ghost use Rattle.sail_theory.specs.Calls.{openAt};
 ghost use Rattle.sail.specs.Level.{chunksOf, level1, level2};
 ghost use Rattle.sail_chunks.specs.Trail.{Serving};
 ghost use Rattle.sail_chunks.specs.ToOpen.{ChunkForReady, Openable, Opens, noOpening};
-use crate::chunks::chunk_named;
 use crate::chunks::set_owner;
 use crate::trail::follow;
 use bits::widen::byte_to_word;
@@ -47,13 +45,13 @@ fn leaf_under(v: u16, p: u32, len: u32) -> bool
     false
 }
 
-// The chunk that is to be opened, the lowest free one, or the one that is there.
-fn chunk_for(opens: bool, c: usize, own: &[u32]) -> usize
-    requires { ⌜ ChunkForReady c (now own) ⌝ }
-    ensures { λ r. ⌜ (r ≡ cond opens (find (now (own .entry)) 0) c) × (r < 65536) ⌝ }
+// The chunk that is to be opened, or the one that is there.
+fn chunk_for(opens: bool, new: usize, c: usize) -> usize
+    requires { ⌜ ChunkForReady new c ⌝ }
+    ensures { λ r. ⌜ (r ≡ cond opens new c) × (r < 65536) ⌝ }
 {
     if opens {
-        return chunk_named(own, 0);
+        return new;
     }
     c
 }
@@ -84,16 +82,25 @@ pub fn to_open(
     }
 }
 
-// The chunks that are to be opened for the route are opened, each the lowest that is free.
-pub fn open(g: Geometry, r: Route, o: Opening, own2: &mut [u32], own3: &mut [u32])
-    requires { ⌜ Openable g r o (now own2) (now own3) ⌝ }
-    ensures second { λ _. ⌜ now (own2 .exit) ≡ opening (level1 g) (now (own2 .entry)) r ⌝ }
+// The chunks that are to be opened for the route are opened: c2 of the second pool and c3 of the third, which the caller found
+// free.
+pub fn open(
+    g: Geometry,
+    r: Route,
+    o: Opening,
+    c2: usize,
+    c3: usize,
+    own2: &mut [u32],
+    own3: &mut [u32],
+)
+    requires { ⌜ Openable g r o c2 c3 (now own2) (now own3) ⌝ }
+    ensures second { λ _. ⌜ now (own2 .exit) ≡ openAt (level1 g) (now (own2 .entry)) c2 r ⌝ }
     ensures third { λ _. ⌜ now (own3 .exit)
-        ≡ opening (level2 g (chunksOf (opening (level1 g) (now (own2 .entry)) r))) (now (own3 .entry)) r ⌝ }
+        ≡ openAt (level2 g (chunksOf (openAt (level1 g) (now (own2 .entry)) c2 r))) (now (own3 .entry)) c3 r ⌝ }
 {
     let addr = r.addr;
-    let c = chunk_for(o.second, o.chunk, own2);
+    let c = chunk_for(o.second, c2, o.chunk);
     let q = second_place(g, c + 1, addr);
-    set_owner(own2, o.second, bits::slot(g.p1, addr) + 1);
-    set_owner(own3, o.third, q as u32 + 1);
+    set_owner(own2, o.second, c2, bits::slot(g.p1, addr) + 1);
+    set_owner(own3, o.third, c3, q as u32 + 1);
 }

@@ -28,9 +28,8 @@ use Rattle.sail_theory.proofs.places.Pools.{shows-fits}
 use Rattle.sail_theory.proofs.places.Rendered.{top-clear}
 use Rattle.standing.proofs.TwoLevels.{long-down, slot-down}
 use Rattle.sail_counts.specs.Counted.{Counts}
-use Rattle.sail_counts_test.specs.CountsTest.{idle, Idle, lenIn, cellIn, Tallied, Led, Countable, rootCell}
+use Rattle.sail_counts_test.specs.CountsTest.{idle, Idle, lenIn, cellIn, Tallied, Led, Countable, DeepCounts, rootCell}
 use Rattle.sail_counts.proofs.Loads.{long-at}
-use Rattle.sail_counts.proofs.Ticks.{served-count}
 use Rattle.sail_counts_test.proofs.Above.{NamedAbove, first-leads, second-leads}
 
 -- a word makes its cells long, and a long cell has one
@@ -52,15 +51,15 @@ long-word (w ∷ ws) p i e = go (or-split (within p i (routeOfWord w)) (long (ro
     go (inr y) ih = let x = ih y in record { k = suc (x .k); inside = suc-le-suc (x .inside); lies = x .lies }
 
 -- a cell that names a chunk is not idle; one of a free chunk, and a leaf, are
-busy : (x m : ℕ) → 1 ≤ x → x ≤ m → m < 32768 → idle x ≡ false
+pub busy : (x m : ℕ) → 1 ≤ x → x ≤ m → m < 32768 → idle x ≡ false
 unfolding idle
 busy x m a b c = rw (ne-eqb x 0 (λ z. omega arith), lt-leb 32768 x (omega arith))
 
-idle-free : (x : ℕ) → x ≡ 0 → idle x ≡ true
+pub idle-free : (x : ℕ) → x ≡ 0 → idle x ≡ true
 unfolding idle
 idle-free x e = rw (eq-eqb x 0 e)
 
-idle-leaf : (x : ℕ) → 32768 ≤ x → idle x ≡ true
+pub idle-leaf : (x : ℕ) → 32768 ≤ x → idle x ≡ true
 unfolding idle
 idle-leaf x h = rw (ne-eqb x 0 (λ z. omega arith), le-leb 32768 x h)
 
@@ -68,7 +67,6 @@ idle-leaf x h = rw (ne-eqb x 0 (λ z. omega arith), le-leb 32768 x h)
 pub record Fair (ws : List ℕ) (v : Level) (k : Chunks) (cells : List ℕ) (d : ℕ) (above : List ℕ) : Type 0 where
   pub words : Words ws
   pub shows : Shows (routesOfWords ws) v k (entry cells)
-  pub clear : Clear v (entry cells)
   pub few : k .many < 32768
   pub apart : Apart v
   pub size : length cells ≡ v .places
@@ -97,24 +95,34 @@ module _ (ws : List ℕ) (v : Level) (k : Chunks) (cells : List ℕ) (d : ℕ) (
     inside = λ j l n. let w = word-leads j l n in rw (w .is, many) (w .served .inside);
   }
 
-  pub level-exact : Idle cells counts → Tallied ws p d above counts → Counted rs v counts
-  level-exact i t = record {
-    true-there = λ q l e. there q l e (decided (deep rs v q));
-    blank = λ q l e. i .each q (rw (f .size) l) (idle-free (getD cells q 0) (f .clear .blank q l e));
-  }
+  -- a place from which a chunk hangs is that of a long word
+  pub level-deep : Tallied ws p d above counts → (q : ℕ) → q < v .places → v .live q ≡ true → deep rs v q ≡ true → getD counts q 0 ≡ howMany rs p (v .at q)
+  level-deep t q l e y =
+      let w = long-word ws p (v .at q) y in
+      let s = and-split (ltb p (lenIn ws (w .k))) (eqb (cellIn ws p (w .k)) (v .at q)) (w .lies) in
+      let n = ltb-true p (lenIn ws (w .k)) (s .0) in
+      let cell = eqb-true (cellIn ws p (w .k)) (v .at q) (s .1) in
+      let x = word-leads (w .k) (w .inside) n in
+      let here = f .apart (v .serving (addrIn ws (w .k))) q (x .served .inside) l (x .served .used) e (x .served .stands ∙ cell) in
+      ap (λ (z : ℕ). getD counts z 0) (sym here ∙ sym (x .is)) ∙ t .each (w .k) (w .inside) n .count ∙ ap (howMany rs p) cell
+
+  -- Where these are true, and what names no chunk counts 0, every live place is; and the others are 0 where their cells are.
+  pub level-true : Idle cells counts → ((q : ℕ) → q < v .places → v .live q ≡ true → deep rs v q ≡ true → getD counts q 0 ≡ howMany rs p (v .at q))
+      → (q : ℕ) → q < v .places → v .live q ≡ true → getD counts q 0 ≡ howMany rs p (v .at q)
+  level-true i t q l e = go (decided (deep rs v q))
     where
-      there : (q : ℕ) → q < v .places → v .live q ≡ true → (deep rs v q ≡ true) ⊎ (deep rs v q ≡ false) → getD counts q 0 ≡ howMany rs p (v .at q)
-      there q l e (inr n) =
+      go : (deep rs v q ≡ true) ⊎ (deep rs v q ≡ false) → getD counts q 0 ≡ howMany rs p (v .at q)
+      go (inl y) = t q l e y
+      go (inr n) =
           let x = f .shows .leaf q l e n in
           i .each q (rw (f .size) l) (idle-leaf (getD cells q 0) (omega arith)) ∙ sym (many-none rs p (v .at q) n)
-      there q l e (inl y) =
-          let w = long-word ws p (v .at q) y in
-          let s = and-split (ltb p (lenIn ws (w .k))) (eqb (cellIn ws p (w .k)) (v .at q)) (w .lies) in
-          let n = ltb-true p (lenIn ws (w .k)) (s .0) in
-          let cell = eqb-true (cellIn ws p (w .k)) (v .at q) (s .1) in
-          let x = word-leads (w .k) (w .inside) n in
-          let here = f .apart (v .serving (addrIn ws (w .k))) q (x .served .inside) l (x .served .used) e (x .served .stands ∙ cell) in
-          ap (λ (z : ℕ). getD counts z 0) (sym here ∙ sym (x .is)) ∙ t .each (w .k) (w .inside) n .count ∙ ap (howMany rs p) cell
+
+  pub level-exact : Clear v (entry cells) → Idle cells counts
+      → ((q : ℕ) → q < v .places → v .live q ≡ true → deep rs v q ≡ true → getD counts q 0 ≡ howMany rs p (v .at q)) → Counted rs v counts
+  level-exact clear i t = record {
+    true-there = level-true i t;
+    blank = λ q l e. i .each q (rw (f .size) l) (idle-free (getD cells q 0) (clear .blank q l e));
+  }
 
   pub exact-idle : Counted rs v counts → Idle cells counts
   exact-idle c = record { each = λ q l e. at q (rw (f .size) at l) e (decided (v .live q)) (decided (deep rs v q)) }
@@ -127,9 +135,14 @@ module _ (ws : List ℕ) (v : Level) (k : Chunks) (cells : List ℕ) (d : ℕ) (
           let n = f .shows .node q l u y in
           absurd (true≢false (sym e ∙ busy (getD cells q 0) (k .many) (n .one) (n .last) (f .few)))
 
-  pub exact-runs : Counted rs v counts → Tallied ws p d above counts
+  pub exact-runs : ((q : ℕ) → q < v .places → v .live q ≡ true → deep rs v q ≡ true → getD counts q 0 ≡ howMany rs p (v .at q)) → Tallied ws p d above counts
   exact-runs c = record {
-    each = λ j l n. let w = word-leads j l n in record { count = rw (w .is) (served-count rs v counts c (addrIn ws j) (w .served)) };
+    each = λ j l n.
+        let w = word-leads j l n in
+        let long = word-long ws p (cellIn ws p j) j l (both (lt-ltb p (lenIn ws j) n) (eq-eqb (cellIn ws p j) (cellIn ws p j) refl)) in
+        record {
+          count = rw (w .is) (c (v .serving (addrIn ws j)) (w .served .inside) (w .served .used) (rw (w .served .stands) long) ∙ ap (howMany rs p) (w .served .stands));
+        };
   }
 
 -- both levels, and the answers of `counts_ok`
@@ -144,7 +157,6 @@ module _ (ws : List ℕ) (g : Geometry) (first second own2 own3 long1 long2 : Li
   fair1 = record {
     words = w .words;
     shows = w .shows1;
-    clear = top-clear (g .p1) (entry first);
     few = omega (arith, w .few2);
     apart = top-apart (g .p1);
     size = w .cells1;
@@ -155,7 +167,6 @@ module _ (ws : List ℕ) (g : Geometry) (first second own2 own3 long1 long2 : Li
   fair2 = record {
     words = w .words;
     shows = w .shows2;
-    clear = w .clear2;
     few = omega (arith, w .few3);
     apart = below-apart (routesOfWords ws) v1 (chunksOf own2) (g .p2) (shows-fits (routesOfWords ws) v1 (chunksOf own2) (entry first) (w .shows1))
         (top-apart (g .p1));
@@ -172,25 +183,38 @@ module _ (ws : List ℕ) (g : Geometry) (first second own2 own3 long1 long2 : Li
   pub led2 : Led ws (g .p2) (bits2 g) first long2
   led2 = let z = w .valid in level-led ws v2 (chunksOf own3) second (bits2 g) first long2 fair2 (omega arith) (omega arith) (w .counts2 ∙ w .cells2)
 
-  abbrev Whole : Type 0
-  Whole = Counts (routesOfWords ws) g own2 long1 long2
+  abbrev Deep : Type 0
+  Deep = DeepCounts (routesOfWords ws) g own2 long1 long2
 
+  -- the answers of `deep_counts_ok`
   module _ (a : Bool) (idle1 : Tells a (Idle first long1)) where
-    pub first-stray : not a ≡ true → Tells false Whole
+    pub first-stray : not a ≡ true → Tells false Deep
     first-stray e = refuted idle1 e (λ c. exact-idle ws v1 (chunksOf own2) first (g .p1) rootCell long1 fair1 (c .first))
 
-    module _ (b : Bool) (idle2 : Tells b (Idle second long2)) where
-      pub second-stray : not b ≡ true → Tells false Whole
-      second-stray e = refuted idle2 e (λ c. exact-idle ws v2 (chunksOf own3) second (bits2 g) first long2 fair2 (c .second))
+    module _ (r : Bool) (runs1 : Tells r (Tallied ws (g .p1) (g .p1) rootCell long1)) where
+      pub first-wrong : not r ≡ true → Tells false Deep
+      first-wrong e = refuted runs1 e (λ c. exact-runs ws v1 (chunksOf own2) first (g .p1) rootCell long1 fair1 (λ q l u _. c .first .true-there q l u))
 
-      module _ (r : Bool) (runs1 : Tells r (Tallied ws (g .p1) (g .p1) rootCell long1)) where
-        pub first-wrong : not r ≡ true → Tells false Whole
-        first-wrong e = refuted runs1 e (λ c. exact-runs ws v1 (chunksOf own2) first (g .p1) rootCell long1 fair1 (c .first))
+      pub deep-told : not a ≡ false → not r ≡ false → (t : Bool) → Tells t (Tallied ws (g .p2) (bits2 g) first long2) → Tells t Deep
+      deep-told x z t = tells-same
+          (λ runs2. record {
+            first = level-exact ws v1 (chunksOf own2) first (g .p1) rootCell long1 fair1 (top-clear (g .p1) (entry first)) (passed idle1 x)
+                (level-deep ws v1 (chunksOf own2) first (g .p1) rootCell long1 fair1 (passed runs1 z));
+            deep2 = level-deep ws v2 (chunksOf own3) second (bits2 g) first long2 fair2 runs2;
+          })
+          (λ c. exact-runs ws v2 (chunksOf own3) second (bits2 g) first long2 fair2 (c .deep2))
 
-        pub counts-told : not a ≡ false → not b ≡ false → not r ≡ false → (t : Bool) → Tells t (Tallied ws (g .p2) (bits2 g) first long2) → Tells t Whole
-        counts-told x y z t = tells-same
-            (λ runs2. record {
-              first = level-exact ws v1 (chunksOf own2) first (g .p1) rootCell long1 fair1 (passed idle1 x) (passed runs1 z);
-              second = level-exact ws v2 (chunksOf own3) second (bits2 g) first long2 fair2 (passed idle2 y) runs2;
-            })
-            (λ c. exact-runs ws v2 (chunksOf own3) second (bits2 g) first long2 fair2 (c .second))
+  -- and those of `counts_ok`, where the cells of free chunks are 0
+  module _ (clear : Clear v2 (entry second)) where
+    abbrev Whole : Type 0
+    Whole = Counts (routesOfWords ws) g own2 long1 long2
+
+    pub counts-fail : (a : Bool) → Tells a Deep → not a ≡ true → Tells false Whole
+    counts-fail a told e = refuted told e (λ c. record { first = c .first; deep2 = λ q l u _. c .second .true-there q l u })
+
+    pub counts-told : (a : Bool) → Tells a Deep → not a ≡ false → (t : Bool) → Tells t (Idle second long2) → Tells t Whole
+    counts-told a told x t = tells-same
+        (λ i.
+        let d = passed told x in
+        record { first = d .first; second = level-exact ws v2 (chunksOf own3) second (bits2 g) first long2 fair2 clear i (d .deep2) })
+        (λ c. exact-idle ws v2 (chunksOf own3) second (bits2 g) first long2 fair2 (c .second))

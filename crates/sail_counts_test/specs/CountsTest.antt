@@ -11,8 +11,9 @@ use Rattle.counts.specs.Counts.{howMany}
 use Rattle.chain.specs.Words.{lenOf, routeOfWord, routesOfWords, Words}
 use Rattle.chain.specs.Cover.{addrIn}
 use Rattle.sail.specs.Geometry.{bits2, Valid}
-use Rattle.sail.specs.Level.{entry, chunksOf, level1, level2}
-use Rattle.sail.specs.Sound.{Shows, Clear}
+use Rattle.routes.specs.declared.Route.{Route}
+use Rattle.sail.specs.Level.{deep, entry, chunksOf, level1, level2}
+use Rattle.sail.specs.Sound.{Shows, Counted}
 use Rattle.sail.specs.Walk.{cellPlace}
 use Rattle.sail.specs.declared.geometry.Geometry.{Geometry}
 
@@ -52,6 +53,12 @@ pub record Goes (ws : List ℕ) (p i k : ℕ) : Type 0 where
 pub record RunTold (ws : List ℕ) (p d : ℕ) (above counts : List ℕ) (k : ℕ) : Type 0 where
   pub begins : p < lenIn ws k → (Goes ws p (cellIn ws p k) k → ⊥) → TrueCount ws p d above counts (cellIn ws p k)
 
+-- What the runs of words tell of the counts: those of first cells are true, and those of second cells from which a chunk hangs.
+pub record DeepCounts (rs : List Route) (g : Geometry) (own2 long1 long2 : List ℕ) : Type 0 where
+  pub first : Counted rs (level1 g) long1
+  pub deep2 : (q : ℕ) → q < level2 g (chunksOf own2) .places → level2 g (chunksOf own2) .live q ≡ true → deep rs (level2 g (chunksOf own2)) q ≡ true
+      → getD long2 q 0 ≡ howMany rs (g .p2) (level2 g (chunksOf own2) .at q)
+
 -- the first cells as one chunk, which a cell that holds 1 names
 abbrev pub rootCell : List ℕ
 rootCell = 1 ∷ []
@@ -67,7 +74,7 @@ pub record Led (ws : List ℕ) (p d : ℕ) (above counts : List ℕ) : Type 0 wh
   pub some : (k : ℕ) → k < length ws → p < lenIn ws k → 1 ≤ getD above (cellIn ws p k / 2 ^ d) 0
   pub inside : (k : ℕ) → k < length ws → p < lenIn ws k → placeIn d above (cellIn ws p k) < length counts
 
--- The first two levels of a table serve the routes of these words, the cells of free chunks are 0, and there are as many counts as cells.
+-- The first two levels of a table serve the routes of these words, and there are as many counts as cells. Of the cells of free chunks nothing is asked.
 pub record Countable (ws : List ℕ) (g : Geometry) (first second own2 own3 long1 long2 : List ℕ) : Type 0 where
   pub words : Words ws
   pub valid : Valid g
@@ -79,4 +86,3 @@ pub record Countable (ws : List ℕ) (g : Geometry) (first second own2 own3 long
   pub counts2 : length long2 ≡ length second
   pub shows1 : Shows (routesOfWords ws) (level1 g) (chunksOf own2) (entry first)
   pub shows2 : Shows (routesOfWords ws) (level2 g (chunksOf own2)) (chunksOf own3) (entry second)
-  pub clear2 : Clear (level2 g (chunksOf own2)) (entry second)

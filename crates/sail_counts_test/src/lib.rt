@@ -8,7 +8,9 @@ ghost use lib.ListN.{length};
 ghost use Rattle.bits.specs.Tab.{Tells};
 ghost use Rattle.chain.specs.Words.{routesOfWords};
 ghost use Rattle.sail_counts.specs.Counted.{Counts};
-ghost use Rattle.sail_counts_test.specs.CountsTest.{idle, Idle, Goes, RunTold, Tallied, Led, Countable};
+ghost use Rattle.sail_counts_test.specs.CountsTest.{idle, Idle, Goes, RunTold, Tallied, Led, Countable, DeepCounts};
+ghost use Rattle.sail.specs.Level.{entry, chunksOf, level2};
+ghost use Rattle.sail.specs.Sound.{Clear};
 use bits::bytes;
 use bits::widen::half_to_index;
 use chain::place::run_end;
@@ -95,8 +97,34 @@ pub fn runs_ok(ws: &[u64], p: u32, d: u32, above: &[u16], counts: &[u16]) -> boo
     true
 }
 
-// Whether the counts of both levels are true, where the levels serve the routes of the words and free chunks are zero. The
-// owners are not read: they say which cells are in use.
+// Whether the counts of first cells are true, and those of second cells from which a chunk hangs, where the levels serve the
+// routes of the words. The owners are not read: they say which cells are in use.
+pub fn deep_counts_ok(
+    ws: &[u64],
+    g: Geometry,
+    first: &[u16],
+    second: &[u16],
+    own2: &[u32],
+    own3: &[u32],
+    long1: &[u16],
+    long2: &[u16],
+) -> bool
+    requires { ⌜ Countable (now ws) g (now first) (now second) (now own2) (now own3) (now long1) (now long2) ⌝ }
+    ensures { λ r. ⌜ Tells r (DeepCounts (routesOfWords (now (ws .entry))) g (now (own2 .entry)) (now (long1 .entry)) (now (long2 .entry))) ⌝ }
+{
+    let p1 = g.p1;
+    let p2 = g.p2;
+    if !idle_ok(first, long1) {
+        return false;
+    }
+    let root = [1u16; 1];
+    if !runs_ok(ws, p1, p1, &root, long1) {
+        return false;
+    }
+    runs_ok(ws, p2, p2 - p1, first, long2)
+}
+
+// Whether the counts of both levels are true, where besides free chunks are zero.
 pub fn counts_ok(
     ws: &[u64],
     g: Geometry,
@@ -108,19 +136,11 @@ pub fn counts_ok(
     long2: &[u16],
 ) -> bool
     requires { ⌜ Countable (now ws) g (now first) (now second) (now own2) (now own3) (now long1) (now long2) ⌝ }
+    requires { ⌜ Clear (level2 g (chunksOf (now own2))) (entry (now second)) ⌝ }
     ensures { λ r. ⌜ Tells r (Counts (routesOfWords (now (ws .entry))) g (now (own2 .entry)) (now (long1 .entry)) (now (long2 .entry))) ⌝ }
 {
-    let p1 = g.p1;
-    let p2 = g.p2;
-    if !idle_ok(first, long1) {
+    if !deep_counts_ok(ws, g, first, second, own2, own3, long1, long2) {
         return false;
     }
-    if !idle_ok(second, long2) {
-        return false;
-    }
-    let root = [1u16; 1];
-    if !runs_ok(ws, p1, p1, &root, long1) {
-        return false;
-    }
-    runs_ok(ws, p2, p2 - p1, first, long2)
+    idle_ok(second, long2)
 }

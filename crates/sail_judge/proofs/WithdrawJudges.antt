@@ -1,9 +1,11 @@
 -- What the judge of a withdrawal answers.
-use mathlib.Core.Path.{_≡_, sym, _∙_}
+use mathlib.Core.Path.{_≡_, refl, sym, _∙_}
 use mathlib.Core.Bool.{Bool, true, false, not, true≢false}
+use mathlib.Core.List.{List}
 use Prim.Native.Nat.{ℕ, _≤_}
 use native.Mathlib.Omega.{arith}
 use borrow.Author.Tests.{not-true, not-false}
+use Rattle.routes.specs.Record.{routesOf, Records}
 use Rattle.routes.specs.Route.{keyOf, Prefix}
 use Rattle.routes.specs.Input.{properPrefix}
 use Rattle.routes.specs.Said.{refused}
@@ -13,15 +15,26 @@ use Rattle.lists.specs.Place.{placeOf}
 use Rattle.lists.proofs.EditPlaces.{found}
 use Rattle.sail.specs.Lent.{Lent}
 use Rattle.sail.specs.Sizes.{SizesTold}
-use Rattle.sail.specs.Sound.{Sound, standing}
+use Rattle.sail.specs.Sound.{Sound}
 use Rattle.sail.specs.declared.table.Table.{Table}
 use Rattle.sail_theory.specs.Calls.{withdrawSaid}
 use Rattle.sail_theory.specs.Cases.{Withdraw}
 use Rattle.sail_theory.proofs.calls.OneCase.{withdraw-only}
 use Rattle.sail_sound.specs.TableTest.{Tried}
 use Rattle.sail_sound.proofs.TableTest.{tried-sound}
-use Rattle.sail_theory.proofs.Judges.{judged-off, judged-on, or-said}
-use Rattle.sail_judge.specs.Withdraw.{WithdrawJudged}
+use Rattle.sail_theory.proofs.Judges.{judged-off, or-said}
+use Rattle.sail_judge.specs.Withdraw.{RecordFound, WithdrawJudged}
+use Rattle.sail_judge.specs.declared.withdraw.WithdrawVerdict.{WithdrawVerdict}
+
+-- the record of a prefix among n records: x is its key, at the key's place, and c tells whether a route of the key stands
+module _ (s : List ℕ) (n a len : ℕ) (h : Records s n) (x at : ℕ) (key : x ≡ keyOf a len) (placed : at ≡ placeOf s n x) (c : Bool) (f : c ≡ stands x (routesOf s n)) where
+  pub record-stands : c ≡ true → RecordFound s n a len (record { number = 0; at = at })
+  record-stands y =
+      let here = found s n at x (record { records = h; place = placed }) (sym f ∙ y) in
+      record { on = λ _. (here .0, here .1 ∙ key, rw (← key, ← f) y); off = λ z. absurd (z refl) }
+
+  pub record-absent : c ≡ false → RecordFound s n a len (record { number = 9; at = 0 })
+  record-absent y = record { on = λ z. absurd (omega arith); off = λ _. (refl, rw (← key, ← f) y) }
 
 module _ (t : Table) (l : Lent) (a len : ℕ) where
   -- what is told with the number n and the place at
@@ -30,6 +43,13 @@ module _ (t : Table) (l : Lent) (a len : ℕ) where
 
   no : (n : ℕ) → 1 ≤ n → Withdraw t l a len (refused n) → Left n 0
   no n h x = judged-off n _ _ h (withdraw-only t l a len (refused n) x)
+
+  -- a sound table, in which the prefix was looked for
+  pub found-judged : Prefix a len → Sound t l → (f : WithdrawVerdict) → RecordFound (l .list) (t .count) a len f → WithdrawJudged t l a len f
+  found-judged p s f r = record {
+    off = λ h. let x = r .off h in withdraw-only t l a len _ (rw (x .0) (Withdraw.absent p s (x .1)));
+    on = λ z. let x = r .on z in record { may = record { prefix = p; sound = s; old = x .2 }; place = x .0; named = x .1 };
+  }
 
   module _ (z : ℕ) (check : SizesTold z (t .geometry) l) where
     pub leave-sizes : (z ≡ 0 → ⊥) → Left z 0
@@ -47,19 +67,5 @@ module _ (t : Table) (l : Lent) (a len : ℕ) where
         pub leave-sound : not d ≡ true → Left 5 0
         leave-sound n = no 5 (omega arith) (Withdraw.unsound (check .facts h) is-prefix (λ s. true≢false (sym (k .tells .1 s) ∙ not-true d n)))
 
-        module _ (q : not d ≡ false) (x at : ℕ) (c : Bool) (key : x ≡ keyOf a len) (placed : at ≡ placeOf (l .list) (t .count) x)
-            (f : c ≡ stands x (standing t l)) where
-          is-sound : Sound t l
-          is-sound = tried-sound t l d k q
-
-          pub leave-stands : c ≡ true → Left 0 at
-          leave-stands y =
-              let here = found (l .list) (t .count) at x (record { records = is-sound .listed .records; place = placed }) (sym f ∙ y) in
-              judged-on _ _ (record {
-                may = record { prefix = is-prefix; sound = is-sound; old = rw (← key, ← f) y };
-                place = here .0;
-                named = here .1 ∙ key;
-              })
-
-          pub leave-absent : c ≡ false → Left 9 0
-          leave-absent y = no 9 (omega arith) (Withdraw.absent is-prefix is-sound (rw (← key, ← f) y))
+        pub leave-found : not d ≡ false → (f : WithdrawVerdict) → RecordFound (l .list) (t .count) a len f → WithdrawJudged t l a len f
+        leave-found q f r = found-judged is-prefix (tried-sound t l d k q) f r

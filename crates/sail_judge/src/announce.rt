@@ -56,7 +56,7 @@ fn refusal(number: u8) -> AnnounceVerdict
 }
 
 // 6, 7 or 8, for a fine route and a sound table. A prefix that stands meets none of them, and opens nothing.
-fn judge_room(
+pub fn judge_room(
     t: Table,
     list: &[u8],
     first: &[u16],

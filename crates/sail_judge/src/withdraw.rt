@@ -1,8 +1,9 @@
 // The judge of a withdrawal: whether it is refused, and where it is not, where the record stands.
 ghost use Rattle.chain.specs.List.{Scratch};
+ghost use Rattle.routes.specs.Record.{Records};
 ghost use Rattle.sail.specs.Lent.{lent};
 ghost use Rattle.sail_judge.specs.Chain.{ChainLeft};
-ghost use Rattle.sail_judge.specs.Withdraw.{WithdrawJudged};
+ghost use Rattle.sail_judge.specs.Withdraw.{RecordFound, WithdrawJudged};
 use lists::edit;
 use lists::place::place;
 use records::record;
@@ -15,6 +16,19 @@ use sail_sound::test::sound;
 pub struct WithdrawVerdict {
     pub number: u8,
     pub at: usize,
+}
+
+// Where the record of a prefix stands among the list's n records; 9 where the prefix does not stand.
+pub fn find_record(list: &[u8], n: usize, addr: u32, len: u8) -> WithdrawVerdict
+    requires { ⌜ Records (now list) n ⌝ }
+    ensures { λ f. ⌜ RecordFound (now (list .entry)) n addr len f ⌝ }
+{
+    let p = record::key_of(addr, len);
+    let k = place(list, n, p);
+    if edit::stands_at(list, n, k, p) {
+        return WithdrawVerdict { number: 0, at: k };
+    }
+    WithdrawVerdict { number: 9, at: 0 }
 }
 
 // The number with which the withdrawal is refused, by the first condition that holds; 0 where it is accepted, and the place
@@ -61,11 +75,5 @@ pub fn judge_withdraw(
     ) {
         return WithdrawVerdict { number: 5, at: 0 };
     }
-    let n = t.count as usize;
-    let p = record::key_of(addr, len);
-    let k = place(list, n, p);
-    if edit::stands_at(list, n, k, p) {
-        return WithdrawVerdict { number: 0, at: k };
-    }
-    WithdrawVerdict { number: 9, at: 0 }
+    find_record(list, t.count as usize, addr, len)
 }

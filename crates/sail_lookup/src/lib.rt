@@ -15,7 +15,7 @@ use sail::table::Table;
 use sail_sizes::sizes;
 
 // What a leaf says that is read as the n-th cell, as a word.
-fn leaf(v: u16, n: u32) -> u32
+pub fn leaf(v: u16, n: u32) -> u32
     requires { ⌜ (32768 ≤ v) × (n ≤ 3) ⌝ }
     ensures { λ r. ⌜ Word r (leafSaid n v) ⌝ }
 {
@@ -23,14 +23,14 @@ fn leaf(v: u16, n: u32) -> u32
 }
 
 // Whether a cell names one of a pool's chunks. One comparison does: 0 wraps to the largest number.
-fn opens(v: u16, chunks: usize) -> bool
+pub fn opens(v: u16, chunks: usize) -> bool
     ensures { λ r. ⌜ r ≡ oneOf chunks v ⌝ }
 {
     std::num::wrapping_sub_usize(v as usize, 1) < chunks
 }
 
 // The cell in chunk c, of a pool of so many chunks of 2^k cells, that serves cell i of its level.
-fn cell(pool: &[u16], chunks: usize, c: u16, k: u32, i: u32) -> u16
+pub fn cell(pool: &[u16], chunks: usize, c: u16, k: u32, i: u32) -> u16
     requires { ⌜ Chunk (length (now pool)) chunks c k ⌝ }
     ensures { λ r. ⌜ r ≡ getD (now (pool .entry)) (cellPlace k c i) 0 ⌝ }
 {
@@ -79,7 +79,7 @@ pub fn walk(
 }
 
 // What a word says.
-fn said(w: u32) -> Found
+pub fn said(w: u32) -> Found
     ensures { λ r. ⌜ meansFound r ≡ saidOf w ⌝ }
 {
     if w % 256 != 0 {

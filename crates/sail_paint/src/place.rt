@@ -7,7 +7,7 @@ ghost use Rattle.sail_paint.specs.Paint.{standsFor, Above};
 use sail::place::cell_place;
 
 // The owner of chunk c as it is read everywhere: 1 + the place of the cell that the chunk hangs from, 0 where it is free.
-pub fn seen(own: &[u32], c: usize) -> usize
+pub fn owner_at(own: &[u32], c: usize) -> usize
     requires { ⌜ c < length (now own) ⌝ }
     ensures { λ r. ⌜ (r ≡ getD (now (own .entry)) c 0) × (r < 4294967296) ⌝ }
 {
@@ -23,7 +23,7 @@ pub fn stands_for(up: &[u32], e: u32, q: usize) -> u64
     if e == 0 {
         return q as u64;
     }
-    cell_place(seen(up, q >> e), e, q) as u64
+    cell_place(owner_at(up, q >> e), e, q) as u64
 }
 
 // Whether cell i of level p lies under the prefix of len bits of addr, or holds it.

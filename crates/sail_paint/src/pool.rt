@@ -7,7 +7,7 @@ ghost use Rattle.sail.specs.Level.{partOf, entry};
 ghost use Rattle.sail_paint.specs.Paint.{overpainted, stamped, standsFor, staleOf, staleIn, ChunkOf, Pool, Stamps};
 use crate::part::paint_part;
 use crate::place::meets;
-use crate::place::seen;
+use crate::place::owner_at;
 use crate::place::stands_for;
 use chain::place::shifted;
 
@@ -65,7 +65,7 @@ pub fn paint_pool(
     let n = own.len();
     let mut c = 0;
     while c < n {
-        let o = seen(own, c);
+        let o = owner_at(own, c);
         paint_chunk(ws, par, addr, len, l, p, up, e, o, cells, c);
         c += 1;
     }
@@ -79,7 +79,7 @@ pub fn stamp(cells: &mut [u16], own: &[u32])
     let n = own.len();
     let mut c = 0;
     while c < n {
-        let o = seen(own, c);
+        let o = owner_at(own, c);
         let number = (c + 1) as u16;
         c += 1;
         if o != 0 {

@@ -2,5 +2,6 @@
 pub mod Levels
 pub mod Sounds
 pub mod TableTest
+pub mod SeenTest
 pub mod Reports
 pub mod OneAnswer

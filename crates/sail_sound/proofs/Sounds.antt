@@ -30,7 +30,7 @@ use Rattle.sail_counts.specs.Counted.{Counts}
 use Rattle.sail_counts_test.specs.CountsTest.{Countable}
 use Rattle.sail_theory.proofs.places.Places.{chunk-lt, live-owner, chunk-live, chunk-part}
 use Rattle.sail_cells_test.specs.Pool.{chunkOf, PoolOk, FreeAll}
-use Rattle.sail_sound.specs.TableTest.{rootOwner, PassedAll, CountsBeside, PassedTable}
+use Rattle.sail_sound.specs.TableTest.{rootOwner, Passed, PassedAll, CountsBeside, PassedTable}
 use Rattle.sail_cells_test.proofs.Cells.{Cell, cell-as, right-cell, cells-right, part-at}
 
 -- each live cell of a level is as the routes ask
@@ -162,26 +162,27 @@ module _ (rs : List Route) (g : Geometry) (l : Cells) (s : Celled g l) where
   to-root = pool-same rs (g .p2) (bits2 g) (l .first) always _ itself _ (l .own2) (l .second) (l .own3) (λ q u. sym (root-live (g .p1) q (inside q u)))
       (λ q u. sym (root-at (g .p1) q (inside q u)))
 
-  module _ (k : PassedAll rs g l) where
+  module _ (k : Passed rs g l) where
     pool2 : Pool2 always itself
-    pool2 = from-root (k .live .pool2)
+    pool2 = from-root (k .pool2)
 
     pub passed-first : Shows rs (level1 g) (chunksOf (l .own2)) (entry (l .first))
     passed-first = shows-of rs (level1 g) (l .first) (l .own2) (s .few2)
         (λ q u v. cell-as rs (g .p1) (l .own2) (omega arith) refl (omega arith)
-        (right-cell rs (g .p1) (l .own2) 0 (l .first) 1 (length (l .first)) (k .live .cells1) q (rw (s .cells1) u)))
+        (right-cell rs (g .p1) (l .own2) 0 (l .first) 1 (length (l .first)) (k .cells1) q (rw (s .cells1) u)))
         (pool-named rs (level1 g) (g .p2) (l .first) (l .own2) (l .second) (l .own3) (s .cells1) (s .cells2) pool2)
 
     pub passed-second : Shows rs v2 (chunksOf (l .own3)) (entry (l .second))
     passed-second = shows-of rs v2 (l .second) (l .own3) (s .few3)
         (pool-asked rs (level1 g) (g .p2) (l .first) (l .own2) (l .second) (l .own3) (s .cells1) (s .cells2) pool2)
-        (pool-named rs v2 32 (l .second) (l .own3) (l .third) [] (s .cells2) (s .cells3) (k .live .pool3))
+        (pool-named rs v2 32 (l .second) (l .own3) (l .third) [] (s .cells2) (s .cells3) (k .pool3))
 
     pub passed-third : Good rs → AllLeaves rs v3 (entry (l .third))
     passed-third good = record {
-      leaf = λ q i u. pool-asked rs v2 32 (l .second) (l .own3) (l .third) [] (s .cells2) (s .cells3) (k .live .pool3) q i u .leaf (none-longer rs _ good);
+      leaf = λ q i u. pool-asked rs v2 32 (l .second) (l .own3) (l .third) [] (s .cells2) (s .cells3) (k .pool3) q i u .leaf (none-longer rs _ good);
     }
 
+  module _ (k : PassedAll rs g l) where
     pub passed-clear2 : Clear v2 (entry (l .second))
     passed-clear2 = free-clear rs (level1 g) (g .p2) (l .first) (l .own2) (l .second) (l .own3) (s .cells1) (s .cells2) (k .free2)
 
@@ -189,26 +190,30 @@ module _ (rs : List Route) (g : Geometry) (l : Cells) (s : Celled g l) where
     passed-clear3 = free-clear rs v2 32 (l .second) (l .own3) (l .third) [] (s .cells2) (s .cells3) (k .free3)
 
   -- and back
-  pub levels-passed : Good rs → Shows rs (level1 g) (chunksOf (l .own2)) (entry (l .first)) → Shows rs v2 (chunksOf (l .own3)) (entry (l .second))
-      → AllLeaves rs v3 (entry (l .third)) → Clear v2 (entry (l .second)) → Clear v3 (entry (l .third)) → PassedAll rs g l
-  levels-passed good first second third clear2 clear3 = record {
-    live = record {
-      cells1 = cells-right rs (g .p1) (l .own2) 0 (l .first) 1 (length (l .first)) (λ q u.
-          cell-as rs (g .p1) (l .own2) (omega arith) refl (omega arith) (shows-asked rs (level1 g) (l .first) (l .own2) first q (inside q u) refl));
-      pool2 = to-root (pool-of rs (level1 g) (g .p2) (l .first) (l .own2) (l .second) (l .own3) (s .cells1) (s .cells2)
-          (shows-asked rs v2 (l .second) (l .own3) second) (shows-named rs (level1 g) (l .first) (l .own2) first));
-      pool3 = pool-of rs v2 32 (l .second) (l .own3) (l .third) [] (s .cells2) (s .cells3) third-asked (shows-named rs v2 (l .second) (l .own3) second);
-    };
-    free2 = clear-free rs (level1 g) (g .p2) (l .first) (l .own2) (l .second) (l .own3) (s .cells1) (s .cells2) clear2;
-    free3 = clear-free rs v2 32 (l .second) (l .own3) (l .third) [] (s .cells2) (s .cells3) clear3;
+  pub live-passed : Good rs → Shows rs (level1 g) (chunksOf (l .own2)) (entry (l .first)) → Shows rs v2 (chunksOf (l .own3)) (entry (l .second))
+      → AllLeaves rs v3 (entry (l .third)) → Passed rs g l
+  live-passed good first second third = record {
+    cells1 = cells-right rs (g .p1) (l .own2) 0 (l .first) 1 (length (l .first)) (λ q u.
+        cell-as rs (g .p1) (l .own2) (omega arith) refl (omega arith) (shows-asked rs (level1 g) (l .first) (l .own2) first q (inside q u) refl));
+    pool2 = to-root (pool-of rs (level1 g) (g .p2) (l .first) (l .own2) (l .second) (l .own3) (s .cells1) (s .cells2)
+        (shows-asked rs v2 (l .second) (l .own3) second) (shows-named rs (level1 g) (l .first) (l .own2) first));
+    pool3 = pool-of rs v2 32 (l .second) (l .own3) (l .third) [] (s .cells2) (s .cells3) third-asked (shows-named rs v2 (l .second) (l .own3) second);
   }
     where
       third-asked : Asked rs v3 (l .third) []
       third-asked q i u = record { leaf = λ e. third .leaf q i u; node = λ e. absurd (true≢false (sym e ∙ none-longer rs _ good)) }
 
+  pub levels-passed : Good rs → Shows rs (level1 g) (chunksOf (l .own2)) (entry (l .first)) → Shows rs v2 (chunksOf (l .own3)) (entry (l .second))
+      → AllLeaves rs v3 (entry (l .third)) → Clear v2 (entry (l .second)) → Clear v3 (entry (l .third)) → PassedAll rs g l
+  levels-passed good first second third clear2 clear3 = record {
+    live = live-passed good first second third;
+    free2 = clear-free rs (level1 g) (g .p2) (l .first) (l .own2) (l .second) (l .own3) (s .cells1) (s .cells2) clear2;
+    free3 = clear-free rs v2 32 (l .second) (l .own3) (l .third) [] (s .cells2) (s .cells3) clear3;
+  }
+
   -- what the test of the counts rests on
   pub countable : (ws par : List ℕ) → ChainReady ws par → routesOfWords ws ≡ rs → (long1 long2 : List ℕ) → CountsBeside (l .first)
-      (l .second) long1 long2 → PassedAll rs g l
+      (l .second) long1 long2 → Passed rs g l
       → Countable ws g (l .first) (l .second) (l .own2) (l .own3) long1 long2
   countable ws par ready e long1 long2 z k = record {
     words = ready .words;
@@ -221,7 +226,6 @@ module _ (rs : List Route) (g : Geometry) (l : Cells) (s : Celled g l) where
     counts2 = z .counts2;
     shows1 = rw e (passed-first k);
     shows2 = rw e (passed-second k);
-    clear2 = passed-clear2 k;
   }
 
 module _ (t : Table) (l : Lent) (s : Sized (t .geometry) l) (h : Listed (l .list) (t .count)) where
@@ -242,9 +246,9 @@ module _ (t : Table) (l : Lent) (s : Sized (t .geometry) l) (h : Listed (l .list
     sized = s;
     listed = h;
     serves = record {
-      first = passed-first rs (t .geometry) (cellsOf l) celled (k .levels);
-      second = passed-second rs (t .geometry) (cellsOf l) celled (k .levels);
-      third = passed-third rs (t .geometry) (cellsOf l) celled (k .levels) good;
+      first = passed-first rs (t .geometry) (cellsOf l) celled (k .levels .live);
+      second = passed-second rs (t .geometry) (cellsOf l) celled (k .levels .live);
+      third = passed-third rs (t .geometry) (cellsOf l) celled (k .levels .live) good;
     };
     clear2 = passed-clear2 rs (t .geometry) (cellsOf l) celled (k .levels);
     clear3 = passed-clear3 rs (t .geometry) (cellsOf l) celled (k .levels);

@@ -17,7 +17,7 @@ use sail_counts_test::counts_ok;
 
 // The live cells of the three levels beside the routes of the words. The first cells are one chunk, whose owner is 1; a third
 // cell names no chunk.
-fn live_ok(
+pub fn live_ok(
     ws: &[u64],
     par: &[u16],
     g: Geometry,

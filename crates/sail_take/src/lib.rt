@@ -49,7 +49,8 @@ pub fn take(
     ensures { λ u. ⌜ MeetsTake t (lent (now (list .entry)) (now (first .entry)) (now (second .entry)) (now (third .entry))
         (now (own2 .entry)) (now (own3 .entry)) (now (long1 .entry)) (now (long2 .entry))) addr len
         u (lent (now (list .exit)) (now (first .exit)) (now (second .exit)) (now (third .exit))
-        (now (own2 .exit)) (now (own3 .exit)) (now (long1 .exit)) (now (long2 .exit))) ⌝ }
+        (now (own2 .exit)) (now (own3 .exit)) (now (long1 .exit)) (now (long2 .exit)))
+        × ChainedFront (now (list .exit)) (u .count) (now (ws .exit)) (now (par .exit)) ⌝ }
 {
     let g = t.geometry;
     let p1 = g.p1;

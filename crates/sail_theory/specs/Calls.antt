@@ -42,6 +42,13 @@ openAt v own c r = cond (ltb (v .bits) (r .len)) (grant own c (v .serving (r .ad
 abbrev pub opening : Level → List ℕ → Route → List ℕ
 opening v own r = openAt v own (find own 0) r
 
+-- the owners after r is announced, where the chunks that it opens are c2 and c3
+abbrev pub openedAt : Geometry → Owners → ℕ → ℕ → Route → Owners
+openedAt g o c2 c3 r = record {
+  own2 = openAt (level1 g) (o .own2) c2 r;
+  own3 = openAt (level2 g (chunksOf (openAt (level1 g) (o .own2) c2 r))) (o .own3) c3 r;
+}
+
 -- the owners after r is announced
 abbrev pub opened : Geometry → Owners → Route → Owners
 opened g o r = record { own2 = opening (level1 g) (o .own2) r; own3 = opening (level2 g (chunksOf (opening (level1 g) (o .own2) r))) (o .own3) r }

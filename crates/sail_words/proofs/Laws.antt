@@ -1,5 +1,5 @@
 -- Words of lookups: why one is refused, and what it is; and those of many addresses.
-use mathlib.Core.Path.{_≡_, _∙_, sym, ap}
+use mathlib.Core.Path.{_≡_, refl, _∙_, sym, ap}
 use mathlib.Core.List.{List}
 use Prim.Native.Nat.{ℕ, _%_, _^_, _<_}
 use native.Mathlib.Omega.{arith}
@@ -7,16 +7,18 @@ use borrow.Author.Tests.{eq-eqb, ne-eqb}
 use lib.ListN.{length, getD}
 use Rattle.bits.proofs.Tabs.{is-tabulate, length-tabulate, getD-tabulate}
 use Rattle.bits.specs.Tab.{tabulate}
-use Rattle.routes.specs.Said.{Said}
+use Rattle.routes.specs.Said.{Said, refused}
 use Rattle.sail.specs.Lent.{Lent}
 use Rattle.sail.specs.Sizes.{sizesFault, SizesTold}
 use Rattle.sail.specs.Walk.{foundSaid, lookupSaid}
 use Rattle.sail.specs.declared.geometry.Geometry.{Geometry}
 use Rattle.sail.specs.declared.table.Table.{Table}
+use Rattle.sail.proofs.Fitting.{Fault, fault-is}
 use Rattle.sail.proofs.Steps.{look-on, look-not}
+use Rattle.sail.proofs.Words.{word-of}
 use Rattle.sail_many.specs.Flows.{answerAt}
 use Rattle.sail_many.proofs.LookupWords.{answer-is}
-use Rattle.sail.specs.Word.{packed, packFound, Word}
+use Rattle.sail.specs.Word.{packed, packFound, saidOf, Word}
 use Rattle.sail_words.specs.Lookups.{wordsCard, manyCard}
 
 -- the low 32 bits of the walk's answer
@@ -52,11 +54,19 @@ module _ (t : Table) (l : Lent) (ads xs : List ℕ) (r : ℕ) (told : SizesTold 
       (λ k h. ap (λ (zs : List ℕ). getD zs k 0) q ∙ getD-tabulate (length ads) _ k 0 h
       ∙ (let w = answer-is (t .geometry) l (getD ads k 0) (told .facts e) b1 b2 b3 in word-low _ _ (w .is) (w .fits)))
 
+-- 1 and 2 as words
+word-number : {g : Geometry} {l : Lent} {n : ℕ} → Fault g l n → (n ≡ 0 → ⊥) → Word n (refused n)
+unfolding packed saidOf
+word-number (Fault.none z) h = absurd (h refl)
+word-number (Fault.limits k) h = record { packs = refl; back = refl }
+word-number (Fault.size v k) h = record { packs = refl; back = refl }
+
 -- one address, after the check of the sizes
 module _ (t : Table) (l : Lent) (a r : ℕ) (told : SizesTold r (t .geometry) l) where
-  pub look-off : (z : ℕ) → z ≡ r → (r ≡ 0 → ⊥) → z ≡ packFound (lookupSaid t l a)
-  unfolding packed
-  look-off z e n = e ∙ ap packFound (look-not t l a r told n)
+  pub look-off : (z : ℕ) → z ≡ r → (r ≡ 0 → ⊥) → Word z (lookupSaid t l a)
+  look-off z e n =
+      let w : Word r (refused r) = rw (← told .number) at (word-number (fault-is (t .geometry) l) (λ q. n (told .number ∙ q))) in
+      rw e (word-of r _ _ (look-not t l a r told n) w)
 
-  pub look-is : r ≡ 0 → (w z : ℕ) → Word w (foundSaid (t .geometry) l a) → z ≡ w → z ≡ packFound (lookupSaid t l a)
-  look-is e w z found q = q ∙ look-on t l a r told w e found .packs
+  pub look-is : r ≡ 0 → (w z : ℕ) → Word w (foundSaid (t .geometry) l a) → z ≡ w → Word z (lookupSaid t l a)
+  look-is e w z found q = rw q (look-on t l a r told w e found)

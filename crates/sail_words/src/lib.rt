@@ -4,7 +4,7 @@ ghost use mathlib.Core.Path.{_≡_};
 ghost use Rattle.sail.specs.Geometry.{standardGeo};
 ghost use Rattle.sail.specs.Lent.{lent};
 ghost use Rattle.sail.specs.Walk.{lookupSaid};
-ghost use Rattle.sail.specs.Word.{packFound};
+ghost use Rattle.sail.specs.Word.{Word};
 ghost use Rattle.sail_words.specs.Lookups.{tableOf, wordsCard, manyCard};
 use sail::geometry::Geometry;
 use sail::table::Table;
@@ -25,7 +25,7 @@ pub fn look(
     long2: &[u16],
     addr: u32,
 ) -> u64
-    ensures { λ r. ⌜ r ≡ packFound (lookupSaid t
+    ensures { λ r. ⌜ Word r (lookupSaid t
         (lent (now (list .entry)) (now (first .entry)) (now (second .entry)) (now (third .entry)) (now (own2 .entry)) (now (own3 .entry))
         (now (long1 .entry)) (now (long2 .entry))) addr) ⌝ }
 {
@@ -60,7 +60,7 @@ pub fn look_standard(
     long2: &[u16],
     addr: u32,
 ) -> u64
-    ensures { λ r. ⌜ r ≡ packFound (lookupSaid (tableOf (standardGeo .p1) (standardGeo .p2) count)
+    ensures { λ r. ⌜ Word r (lookupSaid (tableOf (standardGeo .p1) (standardGeo .p2) count)
         (lent (now (list .entry)) (now (first .entry)) (now (second .entry)) (now (third .entry)) (now (own2 .entry)) (now (own3 .entry))
         (now (long1 .entry)) (now (long2 .entry))) addr) ⌝ }
 {

@@ -28,11 +28,11 @@ loop-holds c =
 
 off-chunk-requires : tie.Need-off-chunk-requires Inv-loop μ-loop
 off-chunk-requires c κs =
-    let after-seen : tie.After-seen Inv-loop μ-loop = search in
+    let after-owner : tie.After-owner-at Inv-loop μ-loop = search in
     let in-loop : tie.In-loop Inv-loop μ-loop = search in
     let at-loop : tie.At-loop Inv-loop μ-loop = search in
     let start : tie.Start Inv-loop μ-loop = search in
-    chunk-of _ _ _ _ _ _ _ _ _ (start .pre) _ (at-loop .loop .inv .1) _ _ (in-loop .loop-test .taken) (after-seen .seen .ensures)
+    chunk-of _ _ _ _ _ _ _ _ _ (start .pre) _ (at-loop .loop .inv .1) _ _ (in-loop .loop-test .taken) (after-owner .owner-at .ensures)
 
 add-m : tie.Need-add-m Inv-loop μ-loop
 add-m c =
@@ -47,7 +47,7 @@ add-m c =
 loop-again : tie.Need-loop-again Inv-loop μ-loop
 loop-again c =
     let after-off-chunk : tie.After-off-chunk Inv-loop μ-loop = search in
-    let after-seen : tie.After-seen Inv-loop μ-loop = search in
+    let after-owner : tie.After-owner-at Inv-loop μ-loop = search in
     let in-loop : tie.In-loop Inv-loop μ-loop = search in
     let turn : tie.At-loop Inv-loop μ-loop = search in
     let start : tie.Start Inv-loop μ-loop = search in (
@@ -55,7 +55,7 @@ loop-again c =
       search needs,
       pool-fits _ _ _ _ _ _ _ _ _ (start .pre) _ _ _ (turn .loop .inv .2) (in-loop .loop-test .taken)
           (after-off-chunk .off-chunk .ensures .few) .1,
-      pool-more _ _ _ _ _ _ _ _ _ (start .pre) _ _ _ _ _ (after-seen .seen .ensures) (turn .loop .inv .3)
+      pool-more _ _ _ _ _ _ _ _ _ (start .pre) _ _ _ _ _ (after-owner .owner-at .ensures) (turn .loop .inv .3)
           (after-off-chunk .off-chunk .ensures),
     )
 

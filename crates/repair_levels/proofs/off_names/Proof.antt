@@ -19,37 +19,37 @@ abbrev μ-loop : tie.MeasureT-loop
 
 cell-in : tie.Need-shared-slice-read-half-to-index Inv-loop μ-loop
 cell-in c =
-    let read : tie.After-seen Inv-loop μ-loop = search in
+    let read : tie.After-owner-at Inv-loop μ-loop = search in
     let start : tie.Start Inv-loop μ-loop = search in
-    start .pre .inside _ _ (read .before .loop-test .taken) (omega (arith, read .seen .ensures .0, c .before .if1 .taken))
+    start .pre .inside _ _ (read .before .loop-test .taken) (omega (arith, read .owner-at .ensures .0, c .before .if1 .taken))
 
 off : tie.Need-loop-again Inv-loop μ-loop
 off c =
     let used : tie.Then1 Inv-loop μ-loop = search in
-    let read : tie.After-seen Inv-loop μ-loop = search in
+    let read : tie.After-owner-at Inv-loop μ-loop = search in
     let turn : tie.At-loop Inv-loop μ-loop = search in
     let start : tie.Start Inv-loop μ-loop = search in
     counting-hit (turn .loop .inv) (omega arith)
-    (name-off (now (start .args .cells)) (now (start .args .own)) (turn .loop .c) _ (read .seen .ensures) (used .if1 .taken) _
+    (name-off (now (start .args .cells)) (now (start .args .own)) (turn .loop .c) _ (read .owner-at .ensures) (used .if1 .taken) _
     (c .before .half-to-index .ensures .0) (c .if2 .taken))
 
 same : tie.Need-loop-again-2 Inv-loop μ-loop
 same c =
     let used : tie.Then1 Inv-loop μ-loop = search in
-    let read : tie.After-seen Inv-loop μ-loop = search in
+    let read : tie.After-owner-at Inv-loop μ-loop = search in
     let turn : tie.At-loop Inv-loop μ-loop = search in
     let start : tie.Start Inv-loop μ-loop = search in
     counting-miss (turn .loop .inv) (omega arith)
-    (name-same (now (start .args .cells)) (now (start .args .own)) (turn .loop .c) _ (read .seen .ensures) (used .if1 .taken) _
+    (name-same (now (start .args .cells)) (now (start .args .own)) (turn .loop .c) _ (read .owner-at .ensures) (used .if1 .taken) _
     (c .before .half-to-index .ensures .0) (c .if2 .left))
 
 free : tie.Need-loop-again-3 Inv-loop μ-loop
 free c =
-    let read : tie.After-seen Inv-loop μ-loop = search in
+    let read : tie.After-owner-at Inv-loop μ-loop = search in
     let turn : tie.At-loop Inv-loop μ-loop = search in
     let start : tie.Start Inv-loop μ-loop = search in
     counting-miss (turn .loop .inv) (omega arith)
-    (name-none (now (start .args .cells)) (now (start .args .own)) (turn .loop .c) _ (read .seen .ensures) (c .if1 .left))
+    (name-none (now (start .args .cells)) (now (start .args .own)) (turn .loop .c) _ (read .owner-at .ensures) (c .if1 .left))
 
 pub off-names-spec : {M : Type 1} → statement M
 off-names-spec =

@@ -4,16 +4,25 @@ use native.Mathlib.Omega.{arith}
 use borrow.Author.Needs.{needs}
 use Rattle.chain.proofs.Fronts.{front-in, front-count}
 use Rattle.sail_paint.proofs.ByList.{front-stale, from-list}
-use Rattle.sail_add.proofs.Adds.{add-ready, add-openable, PutIn, putIn, add-pending, add-bookable, add-done}
+use Rattle.sail_add.proofs.Adds.{add-ready, add-openable, opened-lowest, PutIn, putIn, add-pending, add-bookable, add-done}
 use Rattle.sail_add.proofs.add.Statement.{statement}
 use Rattle.sail_add.proofs.add.Tie as tie
 
 -- Places, each seen from a later one.
-abbrev begun : tie.After-open → tie.Start
-begun c =
+abbrev start-of : tie.After-chunk-named → tie.Start
+start-of c =
     let known : tie.After-slice-known10 = search in
     let start : tie.Start = search in
     start
+
+abbrev lowest2 : tie.After-chunk-named2 → tie.After-chunk-named
+lowest2 c = search
+
+abbrev lowest3 : tie.After-open → tie.After-chunk-named2
+lowest3 c = search
+
+abbrev begun : tie.After-open → tie.Start
+begun c = start-of (lowest2 (lowest3 c))
 
 abbrev opened : tie.After-put-in → tie.After-open
 opened c = search
@@ -26,13 +35,15 @@ worded c = search
 
 -- what is known once the record is in the list
 abbrev known-put : tie.After-put-in → PutIn
-known-put c = putIn (begun (opened c) .pre .0) (c .put-in .ensures .list) (c .put-in .ensures .count) (opened c .«open» .ensures)
+known-put c = putIn (begun (opened c) .pre .0) (c .put-in .ensures .list) (c .put-in .ensures .count)
+    (opened-lowest _ _ _ _ _ _ _ _ (lowest2 (lowest3 (opened c)) .chunk-named .ensures .0) (lowest3 (opened c) .chunk-named2 .ensures .0)
+    (opened c .«open» .ensures))
 
 open-requires : tie.Need-open-requires
 open-requires c κs =
-    let known : tie.After-slice-known10 = search in
-    let start : tie.Start = search in
-    add-openable (start .pre .0)
+    let low3 : tie.After-chunk-named2 = search in
+    let low2 = lowest2 low3 in
+    add-openable (start-of low2 .pre .0) _ _ (low2 .chunk-named .ensures .0) (low3 .chunk-named2 .ensures .0)
 
 put-in-requires : tie.Need-put-in-requires
 put-in-requires c κs = let after-open : tie.After-open = search in add-ready (begun after-open .pre .0) (begun after-open .pre .1)
@@ -59,10 +70,12 @@ returns : tie.Need-returns
 returns c =
     let counted : tie.After-count-in = search in
     let painted : tie.After-repaint = search in
-    let word = worded painted in
-    add-done (known-put (put word))
-    (from-list (add-pending (known-put (put word)) (word .byte-to-word .ensures .0)) (put word .put-in .ensures .chain) (painted .repaint .ensures))
-    (counted .count-in .ensures) (counted .count-in .kept .1 .1 .1 .1 .0) (counted .count-in .kept .1 .1 .1 .1 .1 .0)
+    let word = worded painted in (
+      add-done (known-put (put word))
+          (from-list (add-pending (known-put (put word)) (word .byte-to-word .ensures .0)) (put word .put-in .ensures .chain) (painted .repaint .ensures))
+          (counted .count-in .ensures) (counted .count-in .kept .1 .1 .1 .1 .0) (counted .count-in .kept .1 .1 .1 .1 .1 .0),
+      put word .put-in .ensures .chain,
+    )
 
 -- once all is painted and counted: where the record was put in
 abbrev in-list : tie.After-count-in → tie.After-put-in
@@ -90,10 +103,10 @@ same-third c =
     painted .repaint .kept .1 .1 .1 .1 .1 .1 .1 .0
 
 same-own2 : tie.Need-same-length-5
-same-own2 c = let counted : tie.After-count-in = search in opened (in-list counted) .«open» .kept .1 .1 .1 .0
+same-own2 c = let counted : tie.After-count-in = search in opened (in-list counted) .«open» .kept .1 .1 .1 .1 .1 .0
 
 same-own3 : tie.Need-same-length-6
-same-own3 c = let counted : tie.After-count-in = search in opened (in-list counted) .«open» .kept .1 .1 .1 .1 .0
+same-own3 c = let counted : tie.After-count-in = search in opened (in-list counted) .«open» .kept .1 .1 .1 .1 .1 .1 .0
 
 same-long1 : tie.Need-same-length-7
 same-long1 c = let counted : tie.After-count-in = search in counted .count-in .kept .1 .1 .1 .1 .0
@@ -112,6 +125,8 @@ add-spec =
     tie.close
     (tie.spec
     (λ c. search needs)
+    (λ c κs. tt)
+    (λ c κs. tt)
     open-requires
     put-in-requires
     words-fit

@@ -32,7 +32,7 @@ returns-2 c =
     let at-else : tie.Else1 = accepted added in
     let at-judge : tie.After-judge-announce = judged at-else in
     announce-added _ _ _ _ _ _ _ (cut-off at-judge .clear-after .ensures) _
-    (at-judge .judge-announce .ensures .0 .on (at-else .if1 .left)) (added .add .ensures) _ refl _ (c .answer-of .ensures)
+    (at-judge .judge-announce .ensures .0 .on (at-else .if1 .left)) (added .add .ensures .0) _ refl _ (c .answer-of .ensures)
 
 pub announce-spec : {M : Type 1} → statement M
 announce-spec =

@@ -1,69 +1,26 @@
--- `sail_counts_test::counts_ok`. Whether the counts of both levels are true, where the levels serve the routes of the words and free chunks are
--- zero.
-use borrow.Author.Needs.{needs}
-use Rattle.sail_counts_test.proofs.Exact.{led1, led2, first-stray, second-stray, first-wrong, counts-told}
+-- `sail_counts_test::counts_ok`. Counts that fail where chunks hang decide; else every second cell that names no chunk is looked at.
+use Rattle.sail_counts_test.proofs.Exact.{counts-fail, counts-told}
 use Rattle.sail_counts_test.proofs.counts_ok.Statement.{statement}
 use Rattle.sail_counts_test.proofs.counts_ok.Tie as tie
 
--- Where it starts, seen from the first place that is named after it.
-abbrev start-of : tie.After-idle-ok → tie.Start
+abbrev start-of : tie.After-deep-counts-ok → tie.Start
 start-of c = search
 
--- the places: `start`; `one` and `two` where the counts of a level are known to be 0 where no chunk hangs, or not
 returns : tie.Need-returns
 returns c =
-    let one : tie.After-idle-ok = search in
-    let start = start-of one in
-    first-stray _ _ _ _ _ _ _ _ (start .pre) _ (one .idle-ok .ensures) (c .if1 .taken)
+    let counted : tie.After-deep-counts-ok = search in
+    let start = start-of counted in
+    counts-fail _ _ _ _ _ _ _ _ (start .pre .0) (start .pre .1) _ (counted .deep-counts-ok .ensures) (c .if1 .taken)
+
+idle-ok-requires : tie.Need-idle-ok-requires
+idle-ok-requires c κs = let start : tie.Start = search in start .pre .0 .counts2
 
 returns-2 : tie.Need-returns-2
 returns-2 c =
-    let two : tie.After-idle-ok2 = search in
-    let one : tie.After-idle-ok = search in
-    let start = start-of one in
-    second-stray _ _ _ _ _ _ _ _ (start .pre) _ (one .idle-ok .ensures) _ (two .idle-ok2 .ensures) (c .if2 .taken)
-
-runs-ok-requires : tie.Need-runs-ok-requires
-runs-ok-requires c κs =
-    let start : tie.Start = search in
-    led1 _ _ _ _ _ _ _ _ (start .pre)
-
-returns-3 : tie.Need-returns-3
-returns-3 c =
-    let after-runs-ok : tie.After-runs-ok = search in
-    let two : tie.After-idle-ok2 = search in
-    let one : tie.After-idle-ok = search in
-    let start = start-of one in
-    first-wrong _ _ _ _ _ _ _ _ (start .pre) _ (one .idle-ok .ensures) _ (two .idle-ok2 .ensures) _ (after-runs-ok .runs-ok .ensures) (c .if3 .taken)
-
-runs-ok-requires-2 : tie.Need-runs-ok-requires-2
-runs-ok-requires-2 c κs =
-    let start : tie.Start = search in
-    led2 _ _ _ _ _ _ _ _ (start .pre)
-
-returns-4 : tie.Need-returns-4
-returns-4 c =
-    let else3 : tie.Else3 = search in
-    let runs : tie.After-runs-ok = search in
-    let else2 : tie.Else2 = search in
-    let two : tie.After-idle-ok2 = search in
     let else1 : tie.Else1 = search in
-    let one : tie.After-idle-ok = search in
-    let start = start-of one in
-    counts-told _ _ _ _ _ _ _ _ (start .pre) _ (one .idle-ok .ensures) _ (two .idle-ok2 .ensures) _ (runs .runs-ok .ensures) (else1 .if1 .left)
-    (else2 .if2 .left) (else3 .if3 .left) _ (c .runs-ok2 .ensures)
+    let counted : tie.After-deep-counts-ok = search in
+    let start = start-of counted in
+    counts-told _ _ _ _ _ _ _ _ (start .pre .0) (start .pre .1) _ (counted .deep-counts-ok .ensures) (else1 .if1 .left) _ (c .idle-ok .ensures)
 
 pub counts-ok-spec : {M : Type 1} → statement M
-counts-ok-spec =
-    tie.close
-    (tie.spec
-    (λ c κs. search needs)
-    returns
-    (λ c κs. search needs)
-    returns-2
-    (λ c. search needs)
-    runs-ok-requires
-    returns-3
-    (λ c. search needs)
-    runs-ok-requires-2
-    returns-4)
+counts-ok-spec = tie.close (tie.spec (λ c κs. let start : tie.Start = search in start .pre .0) returns idle-ok-requires returns-2)

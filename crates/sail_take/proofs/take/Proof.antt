@@ -142,8 +142,10 @@ returns c =
     let third = closed3 word in
     let second = closed2 third in
     let pending = take-pending (counted-off (ticked second)) (second .close .ensures) (third .close2 .ensures) (word .byte-to-word .ensures .0) in
-    take-done (counted-off (ticked second)) (second .close .ensures) (third .close2 .ensures)
-    (from-list pending (out (ticked second) .take-out .ensures .chain) (painted .repaint .ensures))
+    let chain = out (ticked second) .take-out .ensures .chain in (
+      take-done (counted-off (ticked second)) (second .close .ensures) (third .close2 .ensures) (from-list pending chain (painted .repaint .ensures)),
+      chain,
+    )
 
 pub take-spec : {M : Type 1} → statement M
 take-spec =

@@ -20,12 +20,12 @@ use Rattle.sail.specs.Geometry.{bits2, bits3, Valid}
 use Rattle.sail.specs.Lent.{Lent}
 use Rattle.sail.specs.Level.{Level, chunksOf, level1, level2}
 use Rattle.sail.specs.Sizes.{Sized}
-use Rattle.sail.specs.Sound.{standing}
+use Rattle.sail.specs.Sound.{Sound, standing}
 use Rattle.sail.specs.declared.geometry.Geometry.{Geometry}
 use Rattle.sail.specs.declared.table.Table.{Table}
 use Rattle.sail.proofs.Sounds.{standing-good}
 use Rattle.sail_theory.specs.Render.{find, Fits, roomOf, Rendered}
-use Rattle.sail_theory.specs.Calls.{Owners, opened, ownersKept, ownersOf, stateOf, lentOf}
+use Rattle.sail_theory.specs.Calls.{Owners, openedAt, opened, ownersKept, ownersOf, stateOf, lentOf}
 use Rattle.sail_theory.specs.Facts.{SameSize, TableHolds, Announceable, Withdrawable}
 use Rattle.sail_theory.proofs.owners.Chunks.{chunk-at, used-free}
 use Rattle.sail_theory.proofs.places.Rendered.{sound-rendered, Renders, render-standing, render-sized, render-sound}
@@ -98,8 +98,15 @@ module _ (rs : List Route) (r : Route) (v : Level) (own : List ℕ) (w : Enough 
       let h = used-free (chunksOf own) (omega (arith, w .counted, need-more r rs fine (w .good) (v .bits) (w .small) e f)) in
       (h, chunk-at (chunksOf own) 0 h)
 
--- an announcement that is accepted: it may be made at the first level, and after that at the second
-module _ (t : Table) (l : Lent) (r : Route) (w : Announceable t l r) where
+-- A route may be announced in a sound table, and the chunks that it opens are c2 and c3: at the first level, and after that at the second.
+pub record AnnounceableAt (t : Table) (l : Lent) (r : Route) (c2 c3 : ℕ) : Type 0 where
+  pub fine : Fine r
+  pub sound : Sound t l
+  pub roomy : length (insert r (standing t l)) ≤ roomOf l
+  pub first : OpenReady (standing t l) r (level1 (t .geometry)) (l .own2) c2
+  pub second : OpenReady (standing t l) r (level2 (t .geometry) (chunksOf (openedAt (t .geometry) (ownersOf l) c2 c3 r .own2))) (l .own3) c3
+
+module _ (t : Table) (l : Lent) (r : Route) (c2 c3 : ℕ) (w : AnnounceableAt t l r c2 c3) where
   abbrev g : Geometry
   g = t .geometry
 
@@ -107,48 +114,71 @@ module _ (t : Table) (l : Lent) (r : Route) (w : Announceable t l r) where
   rs = standing t l
 
   abbrev now : Owners
-  now = opened g (ownersOf l) r
+  now = openedAt g (ownersOf l) c2 c3 r
+
+  pub at-fits2 : Fits (insert r rs) (level1 g) (chunksOf (now .own2))
+  at-fits2 = open-fits rs r (level1 g) (l .own2) c2 (w .first)
+
+  pub at-fits3 : Fits (insert r rs) (level2 g (chunksOf (now .own2))) (chunksOf (now .own3))
+  at-fits3 = open-fits rs r (level2 g (chunksOf (now .own2))) (l .own3) c3 (w .second)
+
+  pub at-holds : TableHolds t l (insert r rs) (stateOf t (insert r rs)) (lentOf t l (insert r rs) now)
+  at-holds = render-holds t l (insert r rs) now (record {
+    sized = w .sound .sized;
+    good = insert-good r rs (w .fine) (standing-good t l (w .sound));
+    roomy = w .roomy;
+    len2 = length-open (level1 g) (l .own2) c2 r;
+    len3 = length-open (level2 g (chunksOf (now .own2))) (l .own3) c3 r;
+    fits2 = at-fits2;
+    fits3 = at-fits3;
+  })
+
+-- an announcement that is accepted opens the lowest free chunks
+module _ (t : Table) (l : Lent) (r : Route) (w : Announceable t l r) where
+  abbrev geo : Geometry
+  geo = t .geometry
+
+  abbrev had : List Route
+  had = standing t l
+
+  abbrev after : Owners
+  after = opened geo (ownersOf l) r
 
   is : Rendered t l
   is = sound-rendered t l (w .sound)
 
-  valid : Valid g
+  valid : Valid geo
   valid = w .sound .sized .valid
 
-  pub ready1 : OpenReady rs r (level1 g) (l .own2) (find (l .own2) 0)
+  pub ready1 : OpenReady had r (level1 geo) (l .own2) (find (l .own2) 0)
   ready1 =
       let v = valid in
       record {
         fine = w .fine;
         good = standing-good t l (w .sound);
         fits = is .fits2;
-        apart = top-apart (g .p1);
-        served = λ e. top-served (g .p1) (r .addr) (omega arith) (w .fine .prefix .addr-ok);
-        space = enough-space rs r (level1 g) (l .own2) (seven t l (w .sound)) (w .fine) (w .enough2);
+        apart = top-apart (geo .p1);
+        served = λ e. top-served (geo .p1) (r .addr) (omega arith) (w .fine .prefix .addr-ok);
+        space = enough-space had r (level1 geo) (l .own2) (seven t l (w .sound)) (w .fine) (w .enough2);
       }
 
-  pub ready2 : OpenReady rs r (level2 g (chunksOf (now .own2))) (l .own3) (find (l .own3) 0)
+  pub ready2 : OpenReady had r (level2 geo (chunksOf (after .own2))) (l .own3) (find (l .own3) 0)
   ready2 =
       let v = valid in
-      ready-below rs r (level1 g) (l .own2) (find (l .own2) 0) ready1 (g .p2) (omega arith) (omega arith) (l .own3) (find (l .own3) 0) (is .fits3)
-      (enough-space rs r (level2 g (chunksOf (now .own2))) (l .own3) (eight t l (w .sound)) (w .fine) (w .enough3))
+      ready-below had r (level1 geo) (l .own2) (find (l .own2) 0) ready1 (geo .p2) (omega arith) (omega arith) (l .own3) (find (l .own3) 0) (is .fits3)
+      (enough-space had r (level2 geo (chunksOf (after .own2))) (l .own3) (eight t l (w .sound)) (w .fine) (w .enough3))
 
-  pub welcome-fits2 : Fits (insert r rs) (level1 g) (chunksOf (now .own2))
-  welcome-fits2 = open-fits rs r (level1 g) (l .own2) (find (l .own2) 0) ready1
+  pub lowest-at : AnnounceableAt t l r (find (l .own2) 0) (find (l .own3) 0)
+  lowest-at = record { fine = w .fine; sound = w .sound; roomy = w .roomy; first = ready1; second = ready2 }
 
-  pub welcome-fits3 : Fits (insert r rs) (level2 g (chunksOf (now .own2))) (chunksOf (now .own3))
-  welcome-fits3 = open-fits rs r (level2 g (chunksOf (now .own2))) (l .own3) (find (l .own3) 0) ready2
+  pub welcome-fits2 : Fits (insert r had) (level1 geo) (chunksOf (after .own2))
+  welcome-fits2 = at-fits2 t l r _ _ lowest-at
 
-  pub welcome-holds : TableHolds t l (insert r rs) (stateOf t (insert r rs)) (lentOf t l (insert r rs) now)
-  welcome-holds = render-holds t l (insert r rs) now (record {
-    sized = w .sound .sized;
-    good = insert-good r rs (w .fine) (standing-good t l (w .sound));
-    roomy = w .roomy;
-    len2 = length-open (level1 g) (l .own2) (find (l .own2) 0) r;
-    len3 = length-open (level2 g (chunksOf (now .own2))) (l .own3) (find (l .own3) 0) r;
-    fits2 = welcome-fits2;
-    fits3 = welcome-fits3;
-  })
+  pub welcome-fits3 : Fits (insert r had) (level2 geo (chunksOf (after .own2))) (chunksOf (after .own3))
+  welcome-fits3 = at-fits3 t l r _ _ lowest-at
+
+  pub welcome-holds : TableHolds t l (insert r had) (stateOf t (insert r had)) (lentOf t l (insert r had) after)
+  welcome-holds = at-holds t l r _ _ lowest-at
 
 -- a withdrawal that is accepted
 module _ (t : Table) (l : Lent) (a len : ℕ) (w : Withdrawable t l a len) where

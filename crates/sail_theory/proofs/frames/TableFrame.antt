@@ -23,7 +23,7 @@ use Rattle.sail.specs.declared.geometry.Geometry.{Geometry}
 use Rattle.sail.specs.declared.table.Table.{Table}
 use Rattle.sail.proofs.Sounds.{standing-good}
 use Rattle.sail_theory.specs.Render.{find, Rendered}
-use Rattle.sail_theory.specs.Calls.{Owners, grant, openAt, opening, opened, ownersKept, ownersOf, Out, lentOf, adding, taking}
+use Rattle.sail_theory.specs.Calls.{Owners, grant, openAt, opening, openedAt, opened, ownersKept, ownersOf, Out, lentOf, adding, taking}
 use Rattle.sail_theory.specs.Facts.{Announceable, Withdrawable}
 use Rattle.sail_theory.specs.Alters.{Alters, NoneUnder, SamePlace, Frame}
 use Rattle.sail_theory.proofs.owners.Chunks.{chunk-before}
@@ -31,8 +31,8 @@ use Rattle.sail_theory.proofs.places.Places.{chunk-lt, live-owner}
 use Rattle.sail_theory.proofs.places.Rendered.{sound-rendered, listed-good, last-fits}
 use Rattle.sail_theory.proofs.owners.StillFit.{kept-over}
 use Rattle.sail_theory.proofs.owners.GrantKeep.{length-keep, kept-was, kept-stays, keep-closed, grant-lowest}
-use Rattle.sail_theory.proofs.owners.OpenAt.{length-open, open-stays}
-use Rattle.sail_theory.proofs.calls.ChangeHolds.{welcome-fits2, welcome-fits3, farewell-fits2, farewell-fits3, less}
+use Rattle.sail_theory.proofs.owners.OpenAt.{length-open, open-stays, open-keeps}
+use Rattle.sail_theory.proofs.calls.ChangeHolds.{AnnounceableAt, at-fits2, at-fits3, lowest-at, farewell-fits2, farewell-fits3, less}
 use Rattle.sail_theory.proofs.calls.Outcomes.{adding-is, taking-is}
 use Rattle.sail_theory.proofs.frames.LevelFrame.{LevelMoved, framed, top-bounded, below-bounded, below-same}
 use Rattle.sail_theory.proofs.frames.PlacesRead.{reads-second, reads-third}
@@ -125,8 +125,8 @@ module _ (t : Table) (l : Lent) (a len : ℕ) (rs′ : List Route) (o : Owners) 
     third = rw (w .is .is-third) (framed _ _ _ _ _ _ moves3 a len (w .small) (w .but));
   }
 
--- Announce: a chunk in use keeps its owner, so each level moves as `LevelMoved` asks.
-module _ (t : Table) (l : Lent) (r : Route) (w : Announceable t l r) where
+-- Announce, whichever free chunks are opened: a chunk in use keeps its owner, so each level moves as `LevelMoved` asks.
+module _ (t : Table) (l : Lent) (r : Route) (c2 c3 : ℕ) (w : AnnounceableAt t l r c2 c3) where
   abbrev g : Geometry
   g = t .geometry
 
@@ -134,7 +134,7 @@ module _ (t : Table) (l : Lent) (r : Route) (w : Announceable t l r) where
   rs = standing t l
 
   abbrev o : Owners
-  o = opened g (ownersOf l) r
+  o = openedAt g (ownersOf l) c2 c3 r
 
   abbrev now : Lent
   now = lentOf t l (insert r rs) o
@@ -143,8 +143,14 @@ module _ (t : Table) (l : Lent) (r : Route) (w : Announceable t l r) where
   is = sound-rendered t l (w .sound)
 
   -- a chunk in use has its owner still
-  pub announce-moved1 : Moves1 t l (insert r rs) o
-  announce-moved1 =
+  stays2 : (c q : ℕ) → getD (l .own2) c 0 ≡ suc q → getD (o .own2) c 0 ≡ suc q
+  stays2 = open-keeps rs r (level1 g) (l .own2) c2 (w .first)
+
+  stays3 : (c q : ℕ) → getD (l .own3) c 0 ≡ suc q → getD (o .own3) c 0 ≡ suc q
+  stays3 = open-keeps rs r (second g o) (l .own3) c3 (w .second)
+
+  pub at-moved1 : Moves1 t l (insert r rs) o
+  at-moved1 =
       let v = w .sound .sized .valid in
       record {
         few = omega arith;
@@ -152,46 +158,66 @@ module _ (t : Table) (l : Lent) (r : Route) (w : Announceable t l r) where
         bits = refl;
         places = refl;
         was = is .fits2;
-        now = welcome-fits2 t l r w;
-        many = length-open (level1 g) (l .own2) _ r;
-        stay = λ c q e _. open-stays (level1 g) (l .own2) r c q e;
+        now = at-fits2 t l r c2 c3 w;
+        many = length-open (level1 g) (l .own2) c2 r;
+        stay = λ c q e _. stays2 c q e;
       }
 
-  pub announce-moved2 : Moves2 t l (insert r rs) o
-  announce-moved2 =
+  pub at-moved2 : Moves2 t l (insert r rs) o
+  at-moved2 =
       let v = w .sound .sized .valid in
       record {
         few = omega arith;
         bounded = below-bounded rs (level1 g) (chunksOf (l .own2)) (g .p2) (omega arith) (is .fits2) (top-bounded (g .p1));
         bits = refl;
-        places = ap (λ (n : ℕ). n * 2 ^ bits2 g) (announce-moved1 .many);
+        places = ap (λ (n : ℕ). n * 2 ^ bits2 g) (at-moved1 .many);
         was = is .fits3;
-        now = welcome-fits3 t l r w;
-        many = length-open (second g o) (l .own3) _ r;
-        stay = λ c q e _. open-stays (second g o) (l .own3) r c q e;
+        now = at-fits3 t l r c2 c3 w;
+        many = length-open (second g o) (l .own3) c3 r;
+        stay = λ c q e _. stays3 c q e;
       }
 
-  pub announce-frame : Frame g (r .addr) (r .len) l now
-  announce-frame = table-frame t l (r .addr) (r .len) (insert r rs) o (record {
+  pub at-frame : Frame g (r .addr) (r .len) l now
+  at-frame = table-frame t l (r .addr) (r .len) (insert r rs) o (record {
     is = is;
     small = w .fine .prefix .addr-ok;
     good = insert-good r rs (w .fine) (standing-good t l (w .sound));
     but = insert-but r rs (w .fine) (standing-good t l (w .sound));
-    moves1 = announce-moved1;
-    moves2 = announce-moved2;
+    moves1 = at-moved1;
+    moves2 = at-moved2;
   })
 
-  pub announce-kept : OwnersStay g l now
-  announce-kept = record {
-    same2 = λ c e. same-owner _ _ (λ x. open-stays (level1 g) (l .own2) r c x) e;
-    same3 = λ c e. same-owner _ _ (λ x. open-stays (second g o) (l .own3) r c x) e;
+  pub at-kept : OwnersStay g l now
+  at-kept = record {
+    same2 = λ c e. same-owner _ _ (stays2 c) e;
+    same3 = λ c e. same-owner _ _ (stays3 c) e;
     over = λ c q h e _.
         let y = live-owner (level1 g) (chunksOf (l .own2)) (g .p2) q (is .fits3 .lies c q h e .1) in
-        open-stays (level1 g) (l .own2) r _ _ y ∙ sym y;
+        stays2 _ _ y ∙ sym y;
   }
 
-  welcome-alters : Alters g (r .addr) (r .len) l now
-  welcome-alters = frame-alters t l (w .sound) (r .addr) (r .len) now announce-frame announce-kept
+  pub at-alters : Alters g (r .addr) (r .len) l now
+  at-alters = frame-alters t l (w .sound) (r .addr) (r .len) now at-frame at-kept
+
+-- the lowest ones
+module _ (t : Table) (l : Lent) (r : Route) (w : Announceable t l r) where
+  abbrev lent-then : Lent
+  lent-then = lentOf t l (insert r (standing t l)) (opened (t .geometry) (ownersOf l) r)
+
+  pub announce-moved1 : Moves1 t l (insert r (standing t l)) (opened (t .geometry) (ownersOf l) r)
+  announce-moved1 = at-moved1 t l r _ _ (lowest-at t l r w)
+
+  pub announce-moved2 : Moves2 t l (insert r (standing t l)) (opened (t .geometry) (ownersOf l) r)
+  announce-moved2 = at-moved2 t l r _ _ (lowest-at t l r w)
+
+  pub announce-frame : Frame (t .geometry) (r .addr) (r .len) l lent-then
+  announce-frame = at-frame t l r _ _ (lowest-at t l r w)
+
+  pub announce-kept : OwnersStay (t .geometry) l lent-then
+  announce-kept = at-kept t l r _ _ (lowest-at t l r w)
+
+  welcome-alters : Alters (t .geometry) (r .addr) (r .len) l lent-then
+  welcome-alters = at-alters t l r _ _ (lowest-at t l r w)
 
 pub adding-alters : (t : Table) (l : Lent) (r : Route) → Announceable t l r → Alters (t .geometry) (r .addr) (r .len) l (adding t l r .lent)
 adding-alters t l r w = subst (λ (o : Out). Alters (t .geometry) (r .addr) (r .len) l (o .lent)) (sym (adding-is t l r w)) (welcome-alters t l r w)

@@ -125,6 +125,14 @@ module _ (rs : List Route) (r : Route) (v : Level) (own : List ℕ) (c : ℕ) (w
               (ap (long rs (v .bits)) (w .served e .stands) ∙ not-long e h)
           at (inr y) = stayed (ap (λ (l : List ℕ). getD l j 0) is ∙ getD-set-other own c j (suc q) 0 y)
 
+  -- so owners stay
+  pub open-keeps : (j x : ℕ) → getD own j 0 ≡ suc x → getD own′ j 0 ≡ suc x
+  open-keeps j x e = go (grew j)
+    where
+      go : Grew rs v (chunksOf own) (chunksOf own′) j → getD own′ j 0 ≡ suc x
+      go (stayed y) = y ∙ e
+      go (came q z n d) = absurd (omega arith)
+
   -- then r may be announced at the level below
   pub ready-below : (p : ℕ) → v .bits ≤ p → p ≤ 32 → (low : List ℕ) (b : ℕ) → Fits rs (below v (chunksOf own) p) (chunksOf low)
       → Space rs r (below v (chunksOf own′) p) low b → OpenReady rs r (below v (chunksOf own′) p) low b

@@ -42,7 +42,7 @@ pub same-lookups : (t : Table) (l : Lent) (u : Table) (v : Lent) → Sound t l �
 same-lookups t l u v s k g e a h =
     sail-serves u v k a h ∙ ap₂ (λ (x : Geometry) (rs : List Route). hopSaid (cellsRead x rs a) (best rs 32 a)) g e ∙ sym (sail-serves t l s a h)
 
-same-used : (t : Table) (l : Lent) (u : Table) (v : Lent) → Sound t l → Sound u v → u .geometry ≡ t .geometry → standing u v ≡ standing t l
+pub same-used : (t : Table) (l : Lent) (u : Table) (v : Lent) → Sound t l → Sound u v → u .geometry ≡ t .geometry → standing u v ≡ standing t l
     → (used (v .own2) ≡ used (l .own2)) × (used (v .own3) ≡ used (l .own3))
 same-used t l u v s k g e =
     let m = chunks-need u v k in
@@ -51,12 +51,12 @@ same-used t l u v s k g e =
       m .1 ∙ ap₂ (λ (x : Geometry) (rs : List Route). need rs (x .p2)) g e ∙ sym (n .1),
     )
 
-same-longs : (t : Table) (l : Lent) (u : Table) (v : Lent) → Sound t l → Sound u v → u .geometry ≡ t .geometry → standing u v ≡ standing t l
+pub same-longs : (t : Table) (l : Lent) (u : Table) (v : Lent) → Sound t l → Sound u v → u .geometry ≡ t .geometry → standing u v ≡ standing t l
     → v .long1 ≡ l .long1
 same-longs t l u v s k g e =
     sound-rendered u v k .is-long1 ∙ ap₂ (λ (x : Geometry) (rs : List Route). longs rs (level1 x)) g e ∙ sym (sound-rendered t l s .is-long1)
 
-same-walks : (t : Table) (l : Lent) (u : Table) (v : Lent) → Sound t l → Sound u v → u .geometry ≡ t .geometry → standing u v ≡ standing t l
+pub same-walks : (t : Table) (l : Lent) (u : Table) (v : Lent) → Sound t l → Sound u v → u .geometry ≡ t .geometry → standing u v ≡ standing t l
     → (a : ℕ) → a < 2 ^ 32 → walkCounts (u .geometry) v a ≡ walkCounts (t .geometry) l a
 same-walks t l u v s k g e a h =
     counts-serve u v k a h

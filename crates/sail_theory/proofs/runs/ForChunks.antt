@@ -28,7 +28,7 @@ use Rattle.sail_theory.proofs.runs.AfterRun.{run-is}
 use Rattle.sail_theory.proofs.runs.WantOfChunks.{want-of-chunks}
 use Rattle.sail_theory.specs.WantOfChunks.{Wanting, ByNeed, ForChunks}
 
-wanting-exact : {m : Terms} {rs : List Route} {s : Said} → Wanting m rs s → ByNeed m rs s
+pub wanting-exact : {m : Terms} {rs : List Route} {s : Said} → Wanting m rs s → ByNeed m rs s
 wanting-exact (Wanting.second x) = record {
   seven = ((λ e. x), (λ y. refl));
   eight = ((λ e. absurd (let q : _≡_ {A = ℕ} 7 8 = cc in omega arith)), (λ y. absurd (omega (arith, y .0))));

@@ -42,7 +42,7 @@ use Rattle.sail_theory.proofs.calls.SameSizes.{terms-same}
 use Rattle.sail_theory.proofs.calls.Load.{load-said}
 use Rattle.sail_theory.proofs.runs.AfterRun.{run-is}
 
-wanting : (m : Terms) (rs : List Route) (vs : List ℕ) → Wanting m rs (orSay (chunksFault m rs) (accepted vs))
+pub wanting : (m : Terms) (rs : List Route) (vs : List ℕ) → Wanting m rs (orSay (chunksFault m rs) (accepted vs))
 unfolding chunksFault
 wanting m rs vs = go (below? (m .most2) (need rs (m .geometry .p1))) (below? (m .most3) (need rs (m .geometry .p2)))
   where
@@ -54,7 +54,7 @@ wanting m rs vs = go (below? (m .most2) (need rs (m .geometry .p1))) (below? (m 
     go (inr x) (inr y) = rw (le-ltb _ _ x, le-ltb _ _ y) (Wanting.neither x y vs)
 
 -- whether bits were cleared is told beside it
-wanting-told : {m : Terms} {rs : List Route} {s : Said} (b : Bool) → Wanting m rs s → Wanting m rs (withFlag b s)
+pub wanting-told : {m : Terms} {rs : List Route} {s : Said} (b : Bool) → Wanting m rs s → Wanting m rs (withFlag b s)
 wanting-told b (Wanting.second x) = Wanting.second x
 wanting-told b (Wanting.third x y) = Wanting.third x y
 wanting-told b (Wanting.neither x y vs) = Wanting.neither x y (bit b ∷ vs)

@@ -29,7 +29,7 @@ take-requires c κs =
 returns-2 : tie.Need-returns-2
 returns-2 c =
     let taken : tie.After-take = search in
-    withdraw-removed _ _ _ _ _ (cut-off (judged (accepted taken)) .clear-after .ensures) (taken .take .ensures) _ refl
+    withdraw-removed _ _ _ _ _ (cut-off (judged (accepted taken)) .clear-after .ensures) (taken .take .ensures .0) _ refl
 
 pub withdraw-spec : {M : Type 1} → statement M
 withdraw-spec =

@@ -1,4 +1,4 @@
--- `sail_chunks::chunks::set_owner`. The lowest free chunk gets the owner o, where one is to be opened.
+-- `sail_chunks::chunks::set_owner`. Chunk c gets the owner o, where it is to be opened.
 use native.Mathlib.Omega.{arith}
 use mathlib.Core.Path.{refl}
 use Rattle.sail_chunks.proofs.ChunkOwners.{hang-on, hang-off}
@@ -10,9 +10,8 @@ pub set-owner-spec : {M : Type 1} → statement M
 set-owner-spec =
     tie.close
     (tie.spec
-    (λ c κs. search needs)
+    (λ c. let on : tie.Then1 = search in let start : tie.Start = search in omega (arith, start .pre .some (on .if1 .taken)))
+    (λ c. let on : tie.Then1 = search in let start : tie.Start = search in omega (arith, start .pre .some (on .if1 .taken)))
     (λ c. search needs)
-    (λ c. let start : tie.Start = search in omega (arith, start .pre .some (c .before .before .if1 .taken)))
-    (λ c. search needs)
-    (λ c. hang-on _ _ _ _ _ (c .chunk-named .ensures .0) (c .before .before .if1 .taken) refl)
-    (λ c. hang-off _ _ _ (c .if1 .left)))
+    (λ c. let on : tie.Then1 = search in hang-on _ _ _ _ _ (on .if1 .taken) refl)
+    (λ c. hang-off _ _ _ _ (c .if1 .left)))

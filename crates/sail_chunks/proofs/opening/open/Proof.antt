@@ -6,7 +6,7 @@ use Rattle.sail_chunks.proofs.opening.open.Statement.{statement}
 use Rattle.sail_chunks.proofs.opening.open.Tie as tie
 
 chunk-for-requires : tie.Need-chunk-for-requires
-chunk-for-requires c κs = let start : tie.Start = search in record { small = start .pre .few; few = start .pre .few2 }
+chunk-for-requires c κs = let start : tie.Start = search in record { few = start .pre .few2; small = start .pre .few }
 
 add-second-place : tie.Need-add-second-place
 add-second-place c = omega (arith, c .chunk-for .ensures .1)
@@ -35,8 +35,8 @@ returns c =
     let after-place : tie.After-second-place = search in
     let after-chunk : tie.After-chunk-for = search in
     let start : tie.Start = search in (
-      opened-second _ _ _ _ _ (start .pre) _ _ (after-slot .slot .ensures) (after-second .set-owner .ensures),
-      opened-third _ _ _ _ _ (start .pre) _ (after-chunk .chunk-for .ensures .0) _ _ (after-place .second-place .ensures .0) (after-third .set-owner2 .ensures),
+      opened-second _ _ _ _ _ _ _ (start .pre) _ _ (after-slot .slot .ensures) (after-second .set-owner .ensures),
+      opened-third _ _ _ _ _ _ _ (start .pre) _ (after-chunk .chunk-for .ensures .0) _ _ (after-place .second-place .ensures .0) (after-third .set-owner2 .ensures),
     )
 
 pub open-spec : {M : Type 1} → statement M

@@ -2,7 +2,7 @@
 use native.Mathlib.Omega.{arith}
 use Rattle.sail_sound.proofs.TableTest.{tried-sound}
 use Rattle.sail_judge.proofs.ChainLeft.{refused-left, sound-left}
-use Rattle.sail_judge.proofs.WithdrawJudges.{leave-sizes, leave-prefix, leave-sound, leave-stands, leave-absent}
+use Rattle.sail_judge.proofs.WithdrawJudges.{leave-sizes, leave-prefix, leave-sound, leave-found}
 use borrow.Author.Needs.{needs}
 use Rattle.sail_judge.proofs.withdraw.judge_withdraw.Statement.{statement}
 use Rattle.sail_judge.proofs.withdraw.judge_withdraw.Tie as tie
@@ -41,50 +41,24 @@ returns-3 c =
       refused-left (λ z. omega arith),
     )
 
-place-requires : tie.Need-place-requires
-place-requires c κs =
+find-record-requires : tie.Need-find-record-requires
+find-record-requires c κs =
     let else3 : tie.Else3 = search in
     let tried : tie.After-sound = search in
     tried-sound _ _ _ (tried .sound .ensures .tried) (else3 .if3 .left) .listed .records
 
-stands-at-requires : tie.Need-stands-at-requires
-stands-at-requires c κs =
-    let else3 : tie.Else3 = search in
-    let tried : tie.After-sound = search in
-    record { records = tried-sound _ _ _ (tried .sound .ensures .tried) (else3 .if3 .left) .listed .records; place = c .place .ensures .0 }
-
 returns-4 : tie.Need-returns-4
 returns-4 c =
-    let standing : tie.After-stands-at = search in
-    let placed : tie.After-place = search in
-    let named : tie.After-key-of = search in
+    let found : tie.After-find-record = search in
     let else3 : tie.Else3 = search in
     let tried : tie.After-sound = search in
     let else2 : tie.Else2 = search in
     let proper : tie.After-prefix-ok = search in
     let else1 : tie.Else1 = search in
     let sized : tie.After-sizes = search in (
-      leave-stands _ _ _ _ _ (sized .sizes .ensures) (else1 .if1 .left) _ (proper .prefix-ok .ensures) (else2 .if2 .left) _
-          (tried .sound .ensures .tried) (else3 .if3 .left) _ _ _
-          (named .key-of .ensures .0) (placed .place .ensures .0) (standing .stands-at .ensures) (c .if4 .taken),
+      leave-found _ _ _ _ _ (sized .sizes .ensures) (else1 .if1 .left) _ (proper .prefix-ok .ensures) (else2 .if2 .left) _
+          (tried .sound .ensures .tried) (else3 .if3 .left) _ (found .find-record .ensures),
       sound-left (tried .sound .ensures) (else3 .if3 .left),
-    )
-
-returns-5 : tie.Need-returns-5
-returns-5 c =
-    let standing : tie.After-stands-at = search in
-    let placed : tie.After-place = search in
-    let named : tie.After-key-of = search in
-    let else3 : tie.Else3 = search in
-    let tried : tie.After-sound = search in
-    let else2 : tie.Else2 = search in
-    let proper : tie.After-prefix-ok = search in
-    let else1 : tie.Else1 = search in
-    let sized : tie.After-sizes = search in (
-      leave-absent _ _ _ _ _ (sized .sizes .ensures) (else1 .if1 .left) _ (proper .prefix-ok .ensures) (else2 .if2 .left) _
-          (tried .sound .ensures .tried) (else3 .if3 .left) _ _ _
-          (named .key-of .ensures .0) (placed .place .ensures .0) (standing .stands-at .ensures) (c .if4 .left),
-      refused-left (λ z. omega arith),
     )
 
 pub judge-withdraw-spec : {M : Type 1} → statement M
@@ -100,12 +74,7 @@ judge-withdraw-spec =
     (λ c. let tried : tie.After-sound = search in tried .sound .kept .1 .1 .1 .1 .1 .1 .1 .1 .1 .1 .0)
     returns-3
     (λ c. search needs)
-    (λ c κs. tt)
-    place-requires
-    stands-at-requires
+    find-record-requires
     (λ c. let tried : tie.After-sound = search in tried .sound .kept .1 .1 .1 .1 .1 .1 .1 .1 .1 .0)
     (λ c. let tried : tie.After-sound = search in tried .sound .kept .1 .1 .1 .1 .1 .1 .1 .1 .1 .1 .0)
-    returns-4
-    (λ c. let tried : tie.After-sound = search in tried .sound .kept .1 .1 .1 .1 .1 .1 .1 .1 .1 .0)
-    (λ c. let tried : tie.After-sound = search in tried .sound .kept .1 .1 .1 .1 .1 .1 .1 .1 .1 .1 .0)
-    returns-5)
+    returns-4)

@@ -12,5 +12,5 @@ stands-for-spec =
     (λ c. stands-itself _ _ _ (c .if1 .taken))
     (λ c. search needs)
     (λ c κs. c .before .before .pre .chunk (omega arith))
-    (λ c κs. owner-numbered _ _ _ _ (c .before .if1 .left) (c .seen .ensures) (c .before .before .before .pre))
-    (λ c. stands-is _ _ _ _ (c .before .before .if1 .left) (c .before .seen .ensures) _ (c .cell-place .ensures .0)))
+    (λ c κs. owner-numbered _ _ _ _ (c .before .if1 .left) (c .owner-at .ensures) (c .before .before .before .pre))
+    (λ c. stands-is _ _ _ _ (c .before .before .if1 .left) (c .before .owner-at .ensures) _ (c .cell-place .ensures .0)))

@@ -19,19 +19,19 @@ loop-holds c = (omega arith, pool-none _ _ _ _ _ _ _ _ _ _)
 
 paint-chunk-requires : tie.Need-paint-chunk-requires Inv-loop μ-loop
 paint-chunk-requires c κs =
-    let read : tie.After-seen Inv-loop μ-loop = search in
+    let read : tie.After-owner-at Inv-loop μ-loop = search in
     let in-loop : tie.In-loop Inv-loop μ-loop = search in
     let turn : tie.At-loop Inv-loop μ-loop = search in
     let start : tie.Start Inv-loop μ-loop = search in
     pool-chunk _ _ _ _ _ _ _ _ _ _ _ _ (start .pre) (length-pooled _ _ _ _ _ _ _ _ _ _ _ _ (turn .loop .inv .1)) (in-loop .loop-test .taken)
-    (read .seen .ensures)
+    (read .owner-at .ensures)
 
 loop-again : tie.Need-loop-again Inv-loop μ-loop
 loop-again c =
     let painted : tie.After-paint-chunk Inv-loop μ-loop = search in
-    let read : tie.After-seen Inv-loop μ-loop = search in
+    let read : tie.After-owner-at Inv-loop μ-loop = search in
     let at-loop : tie.At-loop Inv-loop μ-loop = search in
-    (search needs, pool-more _ _ _ _ _ _ _ _ _ _ _ _ _ _ (read .seen .ensures) (at-loop .loop .inv .1) (painted .paint-chunk .ensures))
+    (search needs, pool-more _ _ _ _ _ _ _ _ _ _ _ _ _ _ (read .owner-at .ensures) (at-loop .loop .inv .1) (painted .paint-chunk .ensures))
 
 same-length : tie.Need-same-length Inv-loop μ-loop
 same-length c = length-pooled _ _ _ _ _ _ _ _ _ _ _ _ (c .before .loop .inv .1)

@@ -19,33 +19,33 @@ abbrev μ-loop : tie.MeasureT-loop
 
 slice-write-cells : tie.Need-slice-write-cells Inv-loop μ-loop
 slice-write-cells c =
-    let after-seen : tie.After-seen Inv-loop μ-loop = search in
+    let after-owner : tie.After-owner-at Inv-loop μ-loop = search in
     let in-loop : tie.In-loop Inv-loop μ-loop = search in
     let at-loop : tie.At-loop Inv-loop μ-loop = search in
     let start : tie.Start Inv-loop μ-loop = search in
     simp (ap length (at-loop .loop .inv .1), length-stamped)
-    (stamp-room _ _ (start .pre) _ _ (in-loop .loop-test .taken) (after-seen .seen .ensures) (c .if1 .taken))
+    (stamp-room _ _ (start .pre) _ _ (in-loop .loop-test .taken) (after-owner .owner-at .ensures) (c .if1 .taken))
 
 loop-again : tie.Need-loop-again Inv-loop μ-loop
 loop-again c =
-    let after-seen : tie.After-seen Inv-loop μ-loop = search in
+    let after-owner : tie.After-owner-at Inv-loop μ-loop = search in
     let in-loop : tie.In-loop Inv-loop μ-loop = search in
     let at-loop : tie.At-loop Inv-loop μ-loop = search in
     let start : tie.Start Inv-loop μ-loop = search in (
       search needs,
       stamp-more _ _ (start .pre) _ _ (in-loop .loop-test .taken)
-          (after-seen .seen .ensures) _ (c .if1 .taken) (at-loop .loop .inv .1),
+          (after-owner .owner-at .ensures) _ (c .if1 .taken) (at-loop .loop .inv .1),
     )
 
 loop-again-2 : tie.Need-loop-again-2 Inv-loop μ-loop
 loop-again-2 c =
-    let after-seen : tie.After-seen Inv-loop μ-loop = search in
+    let after-owner : tie.After-owner-at Inv-loop μ-loop = search in
     let in-loop : tie.In-loop Inv-loop μ-loop = search in
     let at-loop : tie.At-loop Inv-loop μ-loop = search in
     let start : tie.Start Inv-loop μ-loop = search in (
       search needs,
       stamp-free _ _ (start .pre) _ _ (in-loop .loop-test .taken)
-          (after-seen .seen .ensures) _ (c .if1 .left) (at-loop .loop .inv .1),
+          (after-owner .owner-at .ensures) _ (c .if1 .left) (at-loop .loop .inv .1),
     )
 
 returns : tie.Need-returns Inv-loop μ-loop

@@ -1,7 +1,7 @@
 -- `sail_sound::test::table_ok`: levels that fail decide; else the counts do, which rest on them.
 use mathlib.Core.Path.{refl}
 use Rattle.bits.proofs.Tells.{passed}
-use Rattle.sail_sound.proofs.Sounds.{countable, levels-fail, counts-tell}
+use Rattle.sail_sound.proofs.Sounds.{passed-clear2, countable, levels-fail, counts-tell}
 use borrow.Author.Needs.{needs}
 use Rattle.sail_sound.proofs.test.table_ok.Statement.{statement}
 use Rattle.sail_sound.proofs.test.table_ok.Tie as tie
@@ -16,7 +16,8 @@ returns c = levels-fail _ _ _ _ _ _ _ _ _ _ (c .before .levels-ok .ensures) (c .
 counts-ok-requires : tie.Need-counts-ok-requires
 counts-ok-requires c κs =
     let s = start c in
-    countable _ _ _ (s .pre .1 .0) _ _ (s .pre .0) refl _ _ (s .pre .1 .1) (passed (c .before .levels-ok .ensures) (c .if1 .left))
+    let levels = passed (c .before .levels-ok .ensures) (c .if1 .left) in
+    (countable _ _ _ (s .pre .1 .0) _ _ (s .pre .0) refl _ _ (s .pre .1 .1) (levels .live), passed-clear2 _ _ _ (s .pre .1 .0) levels)
 
 returns-2 : tie.Need-returns-2
 returns-2 c = counts-tell _ _ _ _ _ _ _ _ _ _ (c .before .before .levels-ok .ensures) (c .before .if1 .left) _ (c .counts-ok .ensures)
