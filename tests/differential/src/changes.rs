@@ -41,17 +41,17 @@ fn asked(rng: &mut Rng, field: &Field, routes: &[Route]) -> Call {
 }
 
 /// An image of any content, as the plain implementation has it and as it is lent to the library.
-struct Pair {
+struct Twice {
     words: Vec<u32>,
     hops: Vec<u16>,
     lent_words: Fenced<u32>,
     lent_hops: Fenced<u16>,
 }
 
-impl Pair {
-    fn new(words: Vec<u32>, hops: Vec<u16>) -> Pair {
+impl Twice {
+    fn new(words: Vec<u32>, hops: Vec<u16>) -> Twice {
         let (lent_words, lent_hops) = (Fenced::new(&words), Fenced::new(&hops));
-        Pair { words, hops, lent_words, lent_hops }
+        Twice { words, hops, lent_words, lent_hops }
     }
 
     fn told(&self, what: &str) -> String {
@@ -103,7 +103,7 @@ impl Pair {
 
 /// A well-formed image and the routes that stand in it, worked out from the accepted calls alone.
 struct Standing {
-    pair: Pair,
+    twice: Twice,
     routes: Vec<Route>,
 }
 
@@ -116,18 +116,19 @@ impl Standing {
         run.count("build", &number(gh::build(&records(&routes), &mut words, &mut hops)).to_string());
         // A route of an image has no mark.
         routes.iter_mut().for_each(|r| r.mark = 0);
-        let built = Standing { pair: Pair::new(words, hops), routes };
-        (tree_change::well_formed(&built.pair.words, &built.pair.hops).as_ref() == Some(&built.routes)).then_some(built)
+        let built = Standing { twice: Twice::new(words, hops), routes };
+        (tree_change::well_formed(&built.twice.words, &built.twice.hops).as_ref() == Some(&built.routes))
+            .then_some(built)
     }
 
     /// One call, and what follows of it for the routes and the arrays.
     fn step(&mut self, run: &mut Run, rng: &mut Rng, call: Call) -> u64 {
-        let (words, hops) = (self.pair.words.clone(), self.pair.hops.clone());
+        let (words, hops) = (self.twice.words.clone(), self.twice.hops.clone());
         let was = self.routes.clone();
-        let is = self.pair.step(run, call);
-        let told = || self.pair.told(&format!("{call:x?}"));
+        let is = self.twice.step(run, call);
+        let told = || self.twice.told(&format!("{call:x?}"));
         if number(is) != 0 || matches!(call, Call::Test) {
-            if (&words, &hops) != (&self.pair.words, &self.pair.hops) {
+            if (&words, &hops) != (&self.twice.words, &self.twice.hops) {
                 run.fault("what changes nothing changed a word", &told);
             }
             return is;
@@ -139,9 +140,9 @@ impl Standing {
             self.routes.sort();
         }
         let place = hop_place(&was, addr, len);
-        if hops[..place] != self.pair.hops[..place] {
+        if hops[..place] != self.twice.hops[..place] {
             run.fault("a hop before the place of the changed one is altered", &|| {
-                self.pair.told(&format!("{call:x?}"))
+                self.twice.told(&format!("{call:x?}"))
             });
         }
         self.labels(run, call, is, was.len());
@@ -152,7 +153,7 @@ impl Standing {
     /// What an accepted change did.
     fn labels(&self, run: &mut Run, call: Call, is: u64, routes: usize) {
         let replaced = is >> 8 & 1 == 1;
-        let told = || self.pair.told(&format!("{call:x?}"));
+        let told = || self.twice.told(&format!("{call:x?}"));
         let label = match call {
             Call::Announce(..) if self.routes.len() == routes => "replaced",
             Call::Announce(..) => "added",
@@ -169,15 +170,15 @@ impl Standing {
     /// same words.
     fn as_built(&self, run: &mut Run, rng: &mut Rng, call: Call, is: u64) {
         let old = rng.word();
-        let mut words = Fenced::new(&vec![old; self.pair.words.len()]);
-        let mut hops = Fenced::new(&vec![old as u16; self.pair.hops.len()]);
+        let mut words = Fenced::new(&vec![old; self.twice.words.len()]);
+        let mut hops = Fenced::new(&vec![old as u16; self.twice.hops.len()]);
         let answer = gh::build(&records(&self.routes), &mut words, &mut hops);
-        let told = || self.pair.told(&format!("{call:x?}, beside a build of the routes then standing"));
+        let told = || self.twice.told(&format!("{call:x?}, beside a build of the routes then standing"));
         if answer != is & !(1 << 8) {
             run.fault("a build of the routes then standing says something else", &told);
         }
-        let differs = words.differs("words of the build", &self.pair.lent_words);
-        if let Some(what) = differs.or_else(|| hops.differs("hops of the build", &self.pair.lent_hops)) {
+        let differs = words.differs("words of the build", &self.twice.lent_words);
+        if let Some(what) = differs.or_else(|| hops.differs("hops of the build", &self.twice.lent_hops)) {
             run.fault(&what, &told);
         }
     }
@@ -186,9 +187,9 @@ impl Standing {
     fn look(&self, run: &mut Run) {
         for addr in edges(&self.routes) {
             run.lookups += 1;
-            let is = gh::tree_lookup(&self.pair.lent_words, &self.pair.lent_hops, addr);
+            let is = gh::tree_lookup(&self.twice.lent_words, &self.twice.lent_hops, addr);
             if is != plain::search_image(&self.routes, addr) {
-                let told = || self.pair.told(&format!("lookup of {addr:08x}"));
+                let told = || self.twice.told(&format!("lookup of {addr:08x}"));
                 run.fault("a linear search over the routes then standing finds another answer", &told);
             }
         }
@@ -196,17 +197,17 @@ impl Standing {
 
     /// Harm to a copy, and calls on it. The first call is the test.
     fn harmed(&self, run: &mut Run, rng: &mut Rng, field: &Field) {
-        let (mut words, mut hops) = (self.pair.words.clone(), self.pair.hops.clone());
+        let (mut words, mut hops) = (self.twice.words.clone(), self.twice.hops.clone());
         for _ in 0..rng.range(1, 2) {
             damage(rng, &mut words, &mut hops);
         }
         let place = self.differs_at(&words, &hops);
-        let mut pair = Pair::new(words, hops);
-        let is = pair.step(run, Call::Test);
+        let mut twice = Twice::new(words, hops);
+        let is = twice.step(run, Call::Test);
         run.count("tree_test", &format!("{} by {place}", number(is)));
         for _ in 0..3 {
             let call = asked(rng, field, &self.routes);
-            let then = pair.step(run, call);
+            let then = twice.step(run, call);
             if number(is) == 13 && [3, 4].contains(&number(then)) {
                 run.count(call.name(), &format!("{} before 13", number(then)));
             }
@@ -215,10 +216,10 @@ impl Standing {
 
     /// The kind of place at which an image first differs from this one.
     fn differs_at(&self, words: &[u32], hops: &[u16]) -> &'static str {
-        let answer = tree_change::test(&self.pair.words, &self.pair.hops);
+        let answer = tree_change::test(&self.twice.words, &self.twice.hops);
         let (nodes, used) = ((answer >> 32) as usize, (answer >> 16) as usize & 0xFFFF);
-        let word = words.iter().zip(&self.pair.words).position(|(a, b)| a != b);
-        let hop = hops.iter().zip(&self.pair.hops).position(|(a, b)| a != b);
+        let word = words.iter().zip(&self.twice.words).position(|(a, b)| a != b);
+        let hop = hops.iter().zip(&self.twice.hops).position(|(a, b)| a != b);
         match (word, hop) {
             (Some(k), _) if k >= 3 * nodes => "a word after the last",
             (Some(k), _) => ["bits", "a child base", "a hop base"][k % 3],
@@ -307,12 +308,12 @@ pub fn wild(run: &mut Run, rng: &mut Rng) {
         words.resize(words.len() + rng.below(6), 0);
         let mut hops: Vec<u16> = (0..used).map(|_| field.hop(rng)).collect();
         hops.resize(used + rng.below(3), 0);
-        let mut pair = Pair::new(words, hops);
-        let is = pair.step(run, Call::Test);
+        let mut twice = Twice::new(words, hops);
+        let is = twice.step(run, Call::Test);
         run.count("tree_test", &format!("{} of any bitmaps", number(is)));
-        let routes = tree_change::well_formed(&pair.words, &pair.hops).unwrap_or_default();
+        let routes = tree_change::well_formed(&twice.words, &twice.hops).unwrap_or_default();
         for _ in 0..3 {
-            pair.step(run, asked(rng, &field, &routes));
+            twice.step(run, asked(rng, &field, &routes));
         }
     }
 }

@@ -86,7 +86,7 @@ impl<T> DerefMut for Fenced<T> {
 }
 
 /// The eight arrays of a table, as lent to the library.
-pub struct Six {
+pub struct Eight {
     pub list: Fenced<u8>,
     pub first: Fenced<u16>,
     pub second: Fenced<u16>,
@@ -97,9 +97,9 @@ pub struct Six {
     pub long2: Fenced<u16>,
 }
 
-impl Six {
-    pub fn new(lent: &Lent) -> Six {
-        Six {
+impl Eight {
+    pub fn new(lent: &Lent) -> Eight {
+        Eight {
             list: Fenced::new(&lent.list),
             first: Fenced::new(&lent.first),
             second: Fenced::new(&lent.second),
@@ -165,34 +165,34 @@ impl Six {
     }
 }
 
-pub fn make(p1: u32, p2: u32, t: &mut Six) -> u64 {
+pub fn make(p1: u32, p2: u32, t: &mut Eight) -> u64 {
     raw::make(&mut t.lend_mut(p1, p2, 0))
 }
 
-pub fn load(p1: u32, p2: u32, input: &[u8], t: &mut Six) -> u64 {
+pub fn load(p1: u32, p2: u32, input: &[u8], t: &mut Eight) -> u64 {
     raw::load(&mut t.lend_mut(p1, p2, 0), input)
 }
 
-pub fn announce(p1: u32, p2: u32, count: u32, t: &mut Six, addr: u32, len: u32, hop: u32, mark: u32) -> u64 {
+pub fn announce(p1: u32, p2: u32, count: u32, t: &mut Eight, addr: u32, len: u32, hop: u32, mark: u32) -> u64 {
     raw::announce(&mut t.lend_mut(p1, p2, count), addr, len, hop, mark)
 }
 
-pub fn withdraw(p1: u32, p2: u32, count: u32, t: &mut Six, addr: u32, len: u32) -> u64 {
+pub fn withdraw(p1: u32, p2: u32, count: u32, t: &mut Eight, addr: u32, len: u32) -> u64 {
     raw::withdraw(&mut t.lend_mut(p1, p2, count), addr, len)
 }
 
-pub fn repair(p1: u32, p2: u32, count: u32, t: &mut Six, out: &mut [u32]) -> u64 {
+pub fn repair(p1: u32, p2: u32, count: u32, t: &mut Eight, out: &mut [u32]) -> u64 {
     raw::repair(&mut t.lend_mut(p1, p2, count), out)
 }
 
-pub fn report(p1: u32, p2: u32, count: u32, t: &Six) -> u64 {
+pub fn report(p1: u32, p2: u32, count: u32, t: &Eight) -> u64 {
     raw::report(&t.lend(p1, p2, count))
 }
 
-pub fn lookup(p1: u32, p2: u32, count: u32, t: &Six, addr: u32) -> u64 {
+pub fn lookup(p1: u32, p2: u32, count: u32, t: &Eight, addr: u32) -> u64 {
     raw::lookup(&t.lend(p1, p2, count), addr)
 }
 
-pub fn lookup_many(p1: u32, p2: u32, count: u32, t: &Six, addrs: &[u32], out: &mut [u32]) -> u64 {
+pub fn lookup_many(p1: u32, p2: u32, count: u32, t: &Eight, addrs: &[u32], out: &mut [u32]) -> u64 {
     raw::lookup_many(&t.lend(p1, p2, count), addrs, out)
 }

@@ -13,9 +13,9 @@ mod gh;
 mod images;
 mod inputs;
 mod maps;
-mod pair;
 mod run;
 mod tables;
+mod twice;
 
 use differential::gen::Rng;
 use run::Run;

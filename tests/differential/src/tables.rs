@@ -1,8 +1,8 @@
 //! Sequences of calls on tables: routes come and go, arrays are damaged and put right, sizes and geometries are wrong.
 
 use crate::damage::{renumber, Harm};
-use crate::pair::{used, Call, Pair};
 use crate::run::Run;
+use crate::twice::{used, Call, Twice};
 use differential::gen::{
     asked_hop, asked_loose_prefix, asked_mark, cut, damaged_input, loose, mark, spread, tidy, wide, Field, Rng,
 };
@@ -95,7 +95,7 @@ fn to_withdraw(rng: &mut Rng, field: &Field, standing: &[Route]) -> Call {
     Call::Withdraw(addr, r.len as u32)
 }
 
-fn to_load(rng: &mut Rng, field: &Field, t: &Pair) -> Call {
+fn to_load(rng: &mut Rng, field: &Field, t: &Twice) -> Call {
     let n = match rng.below(4) {
         0 => rng.range(0, t.plain.room()),
         1 => t.plain.room() + rng.range(0, 2),
@@ -123,7 +123,7 @@ fn to_repair(rng: &mut Rng) -> Call {
 }
 
 /// Any call, also where the table is not sound.
-fn any_call(rng: &mut Rng, field: &Field, t: &Pair, standing: &[Route]) -> Call {
+fn any_call(rng: &mut Rng, field: &Field, t: &Twice, standing: &[Route]) -> Call {
     match rng.below(14) {
         0..=3 => to_announce(rng, field, standing),
         4..=6 => to_withdraw(rng, field, standing),
@@ -152,7 +152,7 @@ pub fn episode(run: &mut Run, rng: &mut Rng) {
     }
     let mut lent = Lent::new(p1, p2, room, second, third);
     litter(rng, &mut lent);
-    let mut t = Pair::new(p1, p2, rng.below(room + 2) as u32, lent);
+    let mut t = Twice::new(p1, p2, rng.below(room + 2) as u32, lent);
     if rng.one_in(3) {
         for _ in 0..3 {
             let call = any_call(rng, &field, &t, &[]);
@@ -183,7 +183,7 @@ pub fn episode(run: &mut Run, rng: &mut Rng) {
     t.against_fresh_load(run);
 }
 
-fn one_step(run: &mut Run, rng: &mut Rng, field: &Field, t: &mut Pair, growing: bool) {
+fn one_step(run: &mut Run, rng: &mut Rng, field: &Field, t: &mut Twice, growing: bool) {
     let standing = t.standing.clone().expect("between steps the table is sound");
     match rng.below(100) {
         0..=57 => {
@@ -237,7 +237,7 @@ fn one_step(run: &mut Run, rng: &mut Rng, field: &Field, t: &mut Pair, growing: 
 
 /// Damages the arrays or the count at one to three places, makes some calls, and puts the table right again: as it
 /// was, by a repair, or by a load or a make, which read nothing of it.
-fn damaged(run: &mut Run, rng: &mut Rng, field: &Field, t: &mut Pair, standing: &[Route]) {
+fn damaged(run: &mut Run, rng: &mut Rng, field: &Field, t: &mut Twice, standing: &[Route]) {
     let (good, count) = (t.plain.clone(), t.count);
     for _ in 0..*rng.pick(&[1, 1, 1, 1, 2, 3]) {
         Harm { p1: t.p1, p2: t.p2, count: &mut t.count, t: &mut t.plain }.one(rng);
@@ -290,7 +290,7 @@ fn damaged(run: &mut Run, rng: &mut Rng, field: &Field, t: &mut Pair, standing: 
 }
 
 /// Some calls on a table beside the one at hand.
-fn odd_calls(run: &mut Run, rng: &mut Rng, field: &Field, mut odd: Pair, standing: &[Route]) {
+fn odd_calls(run: &mut Run, rng: &mut Rng, field: &Field, mut odd: Twice, standing: &[Route]) {
     for _ in 0..rng.range(2, 5) {
         let call = match rng.below(8) {
             0 => Call::Make,
@@ -305,7 +305,7 @@ fn odd_calls(run: &mut Run, rng: &mut Rng, field: &Field, mut odd: Pair, standin
 }
 
 /// One array has another length. Now and then the lengths fit again, and the table may even be sound.
-fn other_sizes(run: &mut Run, rng: &mut Rng, field: &Field, t: &Pair, standing: &[Route]) {
+fn other_sizes(run: &mut Run, rng: &mut Rng, field: &Field, t: &Twice, standing: &[Route]) {
     let mut lent = t.plain.clone();
     let (size2, size3) = (size2(t.p1, t.p2), size3(t.p2));
     // A length near this one, or far from it.
@@ -387,11 +387,11 @@ fn other_sizes(run: &mut Run, rng: &mut Rng, field: &Field, t: &Pair, standing: 
             }
         }
     }
-    odd_calls(run, rng, field, Pair::new(t.p1, t.p2, t.count, lent), standing);
+    odd_calls(run, rng, field, Twice::new(t.p1, t.p2, t.count, lent), standing);
 }
 
 /// Another geometry over the same arrays, or a wrong one over arrays that would fit it.
-fn other_geometry(run: &mut Run, rng: &mut Rng, field: &Field, t: &Pair, standing: &[Route]) {
+fn other_geometry(run: &mut Run, rng: &mut Rng, field: &Field, t: &Twice, standing: &[Route]) {
     if rng.one_in(2) {
         let (p1, p2) = match rng.below(8) {
             0 => (t.p1 - 1, t.p2),
@@ -403,7 +403,7 @@ fn other_geometry(run: &mut Run, rng: &mut Rng, field: &Field, t: &Pair, standin
             6 => (rng.word(), rng.word()),
             _ => *rng.pick(&[(0, 0), (u32::MAX, u32::MAX), (t.p1 + 32, t.p2 + 32), (t.p1, t.p2 | 1 << 31), (32, 32)]),
         };
-        odd_calls(run, rng, field, Pair::new(p1, p2, t.count, t.plain.clone()), standing);
+        odd_calls(run, rng, field, Twice::new(p1, p2, t.count, t.plain.clone()), standing);
     } else {
         let (p1, p2) = *rng.pick(&[
             (11, 21),
@@ -419,7 +419,7 @@ fn other_geometry(run: &mut Run, rng: &mut Rng, field: &Field, t: &Pair, standin
         ]);
         let mut lent = Lent::new(p1, p2, rng.range(0, 4), rng.range(0, 2), rng.range(0, 2));
         lent.first.fill(0x8000);
-        odd_calls(run, rng, field, Pair::new(p1, p2, 0, lent), standing);
+        odd_calls(run, rng, field, Twice::new(p1, p2, 0, lent), standing);
     }
 }
 
@@ -455,7 +455,7 @@ pub fn large(run: &mut Run, rng: &mut Rng, kind: u64) {
         }
     };
     let field = Field::new(rng, p1, p2);
-    let mut t = Pair::new(p1, p2, 0, Lent::new(p1, p2, 4096, second, third));
+    let mut t = Twice::new(p1, p2, 0, Lent::new(p1, p2, 4096, second, third));
     let answer = t.step(run, &Call::Load(records(&routes)));
     if number(answer) != 0 {
         // Too much for these pools: fewer routes.

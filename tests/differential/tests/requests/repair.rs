@@ -64,7 +64,8 @@ fn larger_than_the_last_kept() {
 #[test]
 fn cells_put_right() {
     let good = table(&list_a(), 1, 1);
-    let cases: [(fn(&mut Lent), [u32; 4]); 6] = [
+    type Harm = fn(&mut Lent);
+    let cases: [(Harm, [u32; 4]); 6] = [
         (|t| t.first[2562] = 0x8000, [0, 1, 0, 0]),
         (|t| t.second[9] = 0, [0, 0, 1, 0]),
         (|t| t.third[..4].fill(1), [0, 0, 0, 4]),

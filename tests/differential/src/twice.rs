@@ -1,7 +1,7 @@
 //! A table held twice, in the arrays of the plain implementation and in those lent to the library. Each call goes to
 //! both, and answers and arrays are compared.
 
-use crate::gh::{self, Fenced, Six};
+use crate::gh::{self, Eight, Fenced};
 use crate::run::Run;
 use differential::gen::{cut, edges, Rng};
 use differential::plain::{self, number, records, Lent, Route};
@@ -21,24 +21,24 @@ pub enum Call {
     LookupMany(Vec<u32>, usize),
 }
 
-pub struct Pair {
+pub struct Twice {
     pub p1: u32,
     pub p2: u32,
     pub count: u32,
     pub plain: Lent,
-    library: Six,
+    library: Eight,
     before: Lent,
     /// The standing routes, worked out from the accepted calls alone. Nothing while the table is not sound.
     pub standing: Option<Vec<Route>>,
 }
 
-impl Pair {
-    /// A pair over any content at all.
-    pub fn new(p1: u32, p2: u32, count: u32, plain: Lent) -> Pair {
-        let library = Six::new(&plain);
-        let mut pair = Pair { p1, p2, count, plain, library, before: Lent::default(), standing: None };
-        pair.look_again();
-        pair
+impl Twice {
+    /// A table held twice, over any content at all.
+    pub fn new(p1: u32, p2: u32, count: u32, plain: Lent) -> Twice {
+        let library = Eight::new(&plain);
+        let mut twice = Twice { p1, p2, count, plain, library, before: Lent::default(), standing: None };
+        twice.look_again();
+        twice
     }
 
     /// After a change from outside: the library's arrays follow, and the standing routes are read off if any stand.
@@ -335,7 +335,7 @@ impl Pair {
         let lent = &self.plain;
         let (size2, size3) = (plain::size2(self.p1, self.p2), plain::size3(self.p2));
         let fresh = Lent::new(self.p1, self.p2, lent.room(), lent.second.len() / size2, lent.third.len() / size3);
-        let mut fresh = Pair::new(self.p1, self.p2, 0, fresh);
+        let mut fresh = Twice::new(self.p1, self.p2, 0, fresh);
         let answer = fresh.step(run, &Call::Load(records(routes)));
         let told = || self.tell("against a fresh load");
         if number(answer) != 0 {
