@@ -93,6 +93,57 @@ pub fn look_standard(
     ) as u64
 }
 
+// One lookup by the state's three numbers: the quick way at the standard geometry, the other way else.
+pub fn look_by(
+    p1: u32,
+    p2: u32,
+    count: u32,
+    list: &[u8],
+    first: &[u16],
+    second: &[u16],
+    third: &[u16],
+    own2: &[u32],
+    own3: &[u32],
+    long1: &[u16],
+    long2: &[u16],
+    addr: u32,
+) -> u64
+    ensures { λ r. ⌜ Word r (lookupSaid (tableOf p1 p2 count)
+        (lent (now (list .entry)) (now (first .entry)) (now (second .entry)) (now (third .entry)) (now (own2 .entry)) (now (own3 .entry))
+        (now (long1 .entry)) (now (long2 .entry))) addr) ⌝ }
+{
+    let standard = Geometry::STANDARD;
+    if p1 == standard.p1 {
+        if p2 == standard.p2 {
+            return look_standard(
+                count,
+                list,
+                first,
+                second,
+                third,
+                own2,
+                own3,
+                long1,
+                long2,
+                addr,
+            );
+        }
+    }
+    let geometry = Geometry { p1, p2 };
+    look(
+        Table { geometry, count },
+        list,
+        first,
+        second,
+        third,
+        own2,
+        own3,
+        long1,
+        long2,
+        addr,
+    )
+}
+
 // Many lookups with one check of geometry and sizes.
 pub fn look_each(
     t: Table,
