@@ -1,0 +1,109 @@
+-- The step by any lookup `look`: what each way through it answers, which case of `Step` it is, and what it does to the packet.
+use mathlib.Core.Path.{_≡_, refl, sym, ap, _∙_, subst}
+use mathlib.Core.Logic.{_⊎_, inl, inr, _≢_, _↔_}
+use mathlib.Core.Bool.{Bool, true, false, cond, true≢false}
+use mathlib.Core.List.{List}
+use Prim.Native.Nat.{ℕ, _-_, _<_}
+use native.Mathlib.Omega.{arith}
+use lib.Dec.{eqb}
+use lib.ListN.{length, getD}
+use borrow.Author.Tests.{eq-eqb, ne-eqb}
+use Rattle.bits.proofs.Bools.{decided}
+use Rattle.routes.specs.Said.{Said, refused}
+use Rattle.sail.specs.Word.{packed, packFound, Word, hasHop, hopInWord}
+use Rattle.sail.proofs.Words.{word-hop}
+use Rattle.header.specs.Sums.{halfOf, rightSum, freshSum}
+use Rattle.header.specs.Header.{headerFault, lowered, Packet}
+use Rattle.header.specs.Step.{StepOut, stepOut, destination, hopped, stepped, StepCard, stepCard, stepCardOf}
+use Rattle.header.specs.Cases.{WrongHeader, FineHeader, Step}
+use Rattle.header.proofs.Faults.{Judged, header-judged, wrong-some, wrong-fault, fine-fault}
+use Rattle.header.proofs.Lowers.{lowered-length, lowered-other, lowered-life, mended-fresh, mended-right}
+
+module _ (look : ℕ → Said) (p : List ℕ) where
+  abbrev found : Said
+  found = look (destination p)
+
+  -- the two ways through the step, as the code takes them: f is what is wrong with the header
+  module _ (f : ℕ) (e : f ≡ headerFault p) where
+    pub step-refused : (f ≡ 0 → ⊥) → (r : ℕ) → r ≡ f → stepCard r p ≡ stepCardOf (stepped look p)
+    unfolding stepped stepCardOf packed
+    step-refused z r q = rw (← e, ne-eqb f 0 z) (ap (λ (x : ℕ). stepCard x p) q)
+
+    pub step-looked : f ≡ 0 → (a : ℕ) → a ≡ destination p → (w : ℕ) → Word w (look a) → (ys : List ℕ) → ys ≡ cond (hopInWord w) (lowered p) p
+        → stepCard w ys ≡ stepCardOf (stepped look p)
+    unfolding stepped stepCardOf
+    step-looked z a ea w h ys q =
+        let left : ys ≡ cond (hasHop found) (lowered p) p
+        = q ∙ ap (λ (b : Bool). cond b (lowered p) p) (word-hop w (look a) h ∙ ap (λ (x : ℕ). hasHop (look x)) ea) in
+        let packs : w ≡ packFound found = h .packs ∙ ap (λ (x : ℕ). packFound (look x)) ea in
+        rw (← e, eq-eqb f 0 z) (ap (λ (x : ℕ). stepCard x ys) packs ∙ ap (stepCard _) left)
+
+  -- what the step answers and leaves by what is wrong with the header
+  abbrev out : ℕ → StepOut
+  out n = cond (eqb n 0) (hopped found p) (stepOut (refused n) p)
+
+  out-is : stepped look p ≡ out (headerFault p)
+  unfolding stepped
+  out-is = refl
+
+  -- it is one case of `Step`,
+  pub step-judged : Step look p (stepped look p)
+  step-judged = rw out-is (go (header-judged p))
+    where
+      hop : FineHeader p → (hasHop found ≡ true) ⊎ (hasHop found ≡ false) → Step look p (hopped found p)
+      hop h (inl e) = rw e (Step.lowers h e)
+      hop h (inr e) = rw e (Step.left h e)
+
+      go : {n : ℕ} → Judged p n → Step look p (out n)
+      go {n} (Judged.wrong w) = rw (ne-eqb n 0 (λ z. omega (arith, wrong-some w .0))) (Step.wrong n w)
+      go (Judged.fine h) = hop h (decided (hasHop found))
+
+  -- and no other
+  pub step-only : (o : StepOut) → Step look p o → stepped look p ≡ o
+  step-only o (Step.wrong n w) = out-is ∙ ap out (wrong-fault w) ∙ rw (ne-eqb n 0 (λ z. omega (arith, wrong-some w .0)))
+  step-only o (Step.left h e) = out-is ∙ ap out (fine-fault h) ∙ rw e
+  step-only o (Step.lowers h e) = out-is ∙ ap out (fine-fault h) ∙ rw e
+
+  pub step-exactly : (o : StepOut) → (stepped look p ≡ o) ↔ Step look p o
+  step-exactly o = ((λ e. subst (Step look p) e step-judged), step-only o)
+
+  -- with a hop the header was fine, and is lowered
+  pub hop-lowers : hasHop (stepped look p .said) ≡ true → FineHeader p × (stepped look p .packet ≡ lowered p)
+  hop-lowers e = go step-judged e
+    where
+      go : {o : StepOut} → Step look p o → hasHop (o .said) ≡ true → FineHeader p × (o .packet ≡ lowered p)
+      go (Step.wrong n w) q = absurd (true≢false (sym q))
+      go (Step.left h n) q = absurd (true≢false (sym q ∙ n))
+      go (Step.lowers h n) q = (h, refl)
+
+  -- "No route leaves the header as it was", and so does every refusal
+  pub no-hop-leaves : hasHop (stepped look p .said) ≡ false → stepped look p .packet ≡ p
+  no-hop-leaves e = go step-judged e
+    where
+      go : {o : StepOut} → Step look p o → hasHop (o .said) ≡ false → o .packet ≡ p
+      go (Step.wrong n w) q = refl
+      go (Step.left h n) q = refl
+      go (Step.lowers h n) q = absurd (true≢false (sym n ∙ q))
+
+  abbrev packet′ : List ℕ
+  packet′ = stepped look p .packet
+
+  -- what holds of the packet as it was and as it is lowered holds of it after the step
+  after : (P : List ℕ → Type 0) → P p → P (lowered p) → P packet′
+  after P x y = go (decided (hasHop (stepped look p .said)))
+    where
+      go : (hasHop (stepped look p .said) ≡ true) ⊎ (hasHop (stepped look p .said) ≡ false) → P packet′
+      go (inl e) = subst P (sym (hop-lowers e .1)) y
+      go (inr e) = subst P (sym (no-hop-leaves e)) x
+
+  -- "no byte but those three differs", and there are as many
+  pub step-frame : (j : ℕ) → j ≢ 8 → j ≢ 10 → j ≢ 11 → getD packet′ j 0 ≡ getD p j 0
+  step-frame j a b c = after (λ (q : List ℕ). getD q j 0 ≡ getD p j 0) refl (lowered-other p j a b c)
+
+  pub step-length : length packet′ ≡ length p
+  step-length = after (λ (q : List ℕ). length q ≡ length p) refl (lowered-length p)
+
+  -- "lowers the time to live by one and mends the checksum": the checksum is then right, and the very number worked out afresh
+  pub step-mends : Packet p → hasHop (stepped look p .said) ≡ true
+      → (getD packet′ 8 0 ≡ getD p 8 0 - 1) × (rightSum packet′ ≡ true) × (halfOf packet′ 5 ≡ freshSum packet′)
+  step-mends b e = let h = hop-lowers e in rw (h .1) (lowered-life p (h .0 .room), mended-right p b (h .0), mended-fresh p b (h .0))

@@ -1,0 +1,2 @@
+-- That the statement leaves one answer.
+pub mod OneAnswer

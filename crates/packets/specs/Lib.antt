@@ -1,0 +1,2 @@
+-- The statement of the header step over a table.
+pub mod Contract
