@@ -1,10 +1,8 @@
 // The header step of a router.
-ghost use Rattle.header_words.specs.Contract.{MeetsStep};
+ghost use Rattle.packets.specs.Contract.{MeetsStep};
 ghost use Rattle.sail.specs.Lent.{lent};
 ghost use Rattle.sail_words.specs.Lookups.{tableOf};
-use header_words::step;
-use sail::geometry::Geometry;
-use sail::table::Table;
+use packets::step;
 
 // A packet's header is checked and its destination looked up; with a hop its time to live is lowered and its checksum mended.
 #[no_mangle]
@@ -26,9 +24,10 @@ pub extern "C" fn gh_step(
         (lent (now (list .entry)) (now (first .entry)) (now (second .entry)) (now (third .entry)) (now (own2 .entry)) (now (own3 .entry))
         (now (long1 .entry)) (now (long2 .entry))) (now (packet .entry)) r (now (packet .exit)) ⌝ }
 {
-    let geometry = Geometry { p1, p2 };
     step(
-        Table { geometry, count },
+        p1,
+        p2,
+        count,
         list,
         first,
         second,
