@@ -3,13 +3,13 @@ use mathlib.Core.Path.{_≡_, refl, sym, ap, _∙_, subst}
 use mathlib.Core.Logic.{_⊎_, inl, inr, _≢_, _↔_}
 use mathlib.Core.Bool.{Bool, true, false, cond, true≢false}
 use mathlib.Core.List.{List}
-use Prim.Native.Nat.{ℕ, _-_, _<_}
+use Prim.Native.Nat.{ℕ, _-_, _^_, _<_}
 use native.Mathlib.Omega.{arith}
 use lib.Dec.{eqb}
 use lib.ListN.{length, getD}
 use borrow.Author.Tests.{eq-eqb, ne-eqb}
 use Rattle.bits.proofs.Bools.{decided}
-use Rattle.routes.specs.Said.{Said, refused}
+use Rattle.routes.specs.Said.{Said, accepted, refused, refusedAt, accepts}
 use Rattle.sail.specs.Word.{packed, packFound, Word, hasHop, hopInWord}
 use Rattle.sail.proofs.Words.{word-hop}
 use Rattle.header.specs.Sums.{halfOf, rightSum, freshSum}
@@ -18,6 +18,20 @@ use Rattle.header.specs.Step.{StepOut, stepOut, destination, hopped, ste
 use Rattle.header.specs.Cases.{WrongHeader, FineHeader, Step}
 use Rattle.header.proofs.Faults.{Judged, header-judged, wrong-some, wrong-fault, fine-fault}
 use Rattle.header.proofs.Lowers.{lowered-length, lowered-other, lowered-life, mended-fresh, mended-right}
+
+-- the destination is an address
+pub destination-small : (p : List ℕ) → Packet p → destination p < 2 ^ 32
+destination-small p b = omega (arith, b .byte 16, b .byte 17, b .byte 18, b .byte 19)
+
+-- a lowered header is another one
+pub lowered-differs : (p : List ℕ) → FineHeader p → lowered p ≢ p
+lowered-differs p h e = omega (arith, lowered-life p (h .room), ap (λ (q : List ℕ). getD q 8 0) e, h .alive)
+
+-- what is refused has no hop
+pub refused-no-hop : (s : Said) → accepts s ≡ false → hasHop s ≡ false
+refused-no-hop (accepted vs) e = absurd (true≢false e)
+refused-no-hop (refused n) e = refl
+refused-no-hop (refusedAt n k) e = refl
 
 module _ (look : ℕ → Said) (p : List ℕ) where
   abbrev found : Said
@@ -67,6 +81,10 @@ module _ (look : ℕ → Said) (p : List ℕ) where
   pub step-exactly : (o : StepOut) → (stepped look p ≡ o) ↔ Step look p o
   step-exactly o = ((λ e. subst (Step look p) e step-judged), step-only o)
 
+  -- a fine header: the lookup's own answer
+  pub fine-said : FineHeader p → stepped look p .said ≡ found
+  fine-said h = ap (λ (o : StepOut). o .said) (out-is ∙ ap out (fine-fault h))
+
   -- with a hop the header was fine, and is lowered
   pub hop-lowers : hasHop (stepped look p .said) ≡ true → FineHeader p × (stepped look p .packet ≡ lowered p)
   hop-lowers e = go step-judged e
@@ -75,6 +93,9 @@ module _ (look : ℕ → Said) (p : List ℕ) where
       go (Step.wrong n w) q = absurd (true≢false (sym q))
       go (Step.left h n) q = absurd (true≢false (sym q ∙ n))
       go (Step.lowers h n) q = (h, refl)
+
+  pub fine-lowered : FineHeader p → hasHop found ≡ true → stepped look p .packet ≡ lowered p
+  fine-lowered h e = ap (λ (o : StepOut). o .packet) (step-only _ (Step.lowers h e))
 
   -- "No route leaves the header as it was", and so does every refusal
   pub no-hop-leaves : hasHop (stepped look p .said) ≡ false → stepped look p .packet ≡ p
