@@ -6,8 +6,9 @@ ghost use Rattle.sail.specs.Word.{packFound};
 ghost use Rattle.sail_words.specs.Lookups.{tableOf, wordsCard, manyCard};
 use sail::geometry::Geometry;
 use sail::table::Table;
-use sail_words::look_by;
+use sail_words::look;
 use sail_words::look_each;
+use sail_words::look_standard;
 
 // The hop for one address, with the count of cells read.
 #[no_mangle]
@@ -29,10 +30,26 @@ pub extern "C" fn gh_lookup(
         (lent (now (list .entry)) (now (first .entry)) (now (second .entry)) (now (third .entry)) (now (own2 .entry)) (now (own3 .entry))
         (now (long1 .entry)) (now (long2 .entry))) addr) ⌝ }
 {
-    look_by(
-        p1,
-        p2,
-        count,
+    let standard = Geometry::STANDARD;
+    if p1 == standard.p1 {
+        if p2 == standard.p2 {
+            return look_standard(
+                count,
+                list,
+                first,
+                second,
+                third,
+                own2,
+                own3,
+                long1,
+                long2,
+                addr,
+            );
+        }
+    }
+    let geometry = Geometry { p1, p2 };
+    look(
+        Table { geometry, count },
         list,
         first,
         second,

@@ -79,3 +79,6 @@ module _ (p1 p2 n : ℕ) (e1 : p1 ≡ standardGeo .p1) (e2 : p2 ≡ standardGeo 
 
   pub look-standard : (l : Lent) (a r : ℕ) → Word r (lookupSaid standard l a) → Word r (lookupSaid (tableOf p1 p2 n) l a)
   look-standard l a r q = rw (e1, e2) q
+
+  pub look-standard-packs : (l : Lent) (a r : ℕ) → Word r (lookupSaid standard l a) → r ≡ packFound (lookupSaid (tableOf p1 p2 n) l a)
+  look-standard-packs l a r q = look-standard l a r q .packs

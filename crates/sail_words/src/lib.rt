@@ -12,7 +12,7 @@ use sail_lookup::walk;
 use sail_many::flow::many;
 use sail_sizes::sizes;
 
-// One lookup.
+// One lookup. `gh_lookup` alone calls it, and so has it inside.
 pub fn look(
     t: Table,
     list: &[u8],
@@ -93,7 +93,8 @@ pub fn look_standard(
     ) as u64
 }
 
-// One lookup by the state's three numbers: the quick way at the standard geometry, the other way else.
+// One lookup by the state's three numbers, the quick way at the standard geometry, for the calls that look up on their way to something
+// else. `gh_lookup` chooses by its own text: a function with two callers is put into neither.
 pub fn look_by(
     p1: u32,
     p2: u32,
@@ -130,7 +131,7 @@ pub fn look_by(
         }
     }
     let geometry = Geometry { p1, p2 };
-    look(
+    let z = sizes(
         Table { geometry, count },
         list,
         first,
@@ -140,8 +141,22 @@ pub fn look_by(
         own3,
         long1,
         long2,
+    );
+    if z != 0 {
+        return z as u64;
+    }
+    walk(
+        geometry,
+        list,
+        first,
+        second,
+        third,
+        own2,
+        own3,
+        long1,
+        long2,
         addr,
-    )
+    ) as u64
 }
 
 // Many lookups with one check of geometry and sizes.
