@@ -2,14 +2,12 @@
 use mathlib.Core.Path.{_≡_, refl, sym, _∙_, subst, ap}
 use mathlib.Core.Logic.{_⊎_, inl, inr, _≢_, _↔_}
 use mathlib.Core.Bool.{true, false, true≢false}
-use mathlib.Core.List.{List, List·Memᴰ}
+use mathlib.Core.List.{List}
 use Prim.Native.Nat.{ℕ, _-_}
 use lib.ListN.{length, getD}
 use Rattle.bits.proofs.Bools.{decided}
 use Rattle.routes.specs.Said.{Said, accepts, noRouteAfter}
-use Rattle.routes.specs.declared.Route.{Route}
 use Rattle.routes.proofs.Judged.{exactly}
-use Rattle.standing.specs.Cells.{covers}
 use Rattle.standing.specs.Served.{Served}
 use Rattle.sail.specs.Lent.{Lent}
 use Rattle.sail.specs.Sound.{Sound, standing, cellsRead}
@@ -26,6 +24,7 @@ use Rattle.packets.specs.Contract.{MeetsStep}
 use Rattle.packets.specs.Cases.{Stepping}
 use Rattle.packets.proofs.Judged.{stepping-judged, stepping-only}
 use Rattle.packets.proofs.OneAnswer as answer
+use Rattle.demands.specs.Covered.{Covered}
 use Rattle.demands.proofs.Demand2.{sail-serves}
 
 module _ (t : Table) (l : Lent) (p : List ℕ) where
@@ -65,8 +64,8 @@ module _ (t : Table) (l : Lent) (p : List ℕ) where
   step-mends = steps.step-mends look p
 
   -- some standing route covers the destination
-  abbrev Covered : Type 0
-  Covered = (r : Route) × List·Memᴰ r (standing t l) × (covers 32 (destination p) r ≡ true)
+  abbrev Reached : Type 0
+  Reached = Covered (standing t l) (destination p)
 
   -- Demand 2, of a sound table
   module _ (sound : Sound t l) (b : Packet p) where
@@ -78,28 +77,28 @@ module _ (t : Table) (l : Lent) (p : List ℕ) where
         → Served (standing t l) (destination p) (cellsRead (t .geometry) (standing t l) (destination p)) (done .said)
     step-serves h = subst (Served _ _ _) (sym (fine-said look p h)) found-served
 
-    covered-hop : Covered → hasHop (look (destination p)) ≡ true
+    covered-hop : Reached → hasHop (look (destination p)) ≡ true
     covered-hop (r, m, c) = go found-served
       where
         go : {n : ℕ} {s : Said} → Served (standing t l) (destination p) n s → hasHop s ≡ true
         go (Served.hop h w) = refl
         go (Served.no-route z) = absurd (true≢false (sym c ∙ z r m))
 
-    hop-covered : hasHop (look (destination p)) ≡ true → Covered
+    hop-covered : hasHop (look (destination p)) ≡ true → Reached
     hop-covered e = go found-served e
       where
-        go : {n : ℕ} {s : Said} → Served (standing t l) (destination p) n s → hasHop s ≡ true → Covered
+        go : {n : ℕ} {s : Said} → Served (standing t l) (destination p) n s → hasHop s ≡ true → Reached
         go (Served.hop h w) q = (w .route, w .listed, w .covering)
         go (Served.no-route z) q = absurd (true≢false (sym q))
 
     -- the packet is lowered if its header is fine and a standing route covers its destination,
-    pub covered-lowers : FineHeader p → Covered → done .packet ≡ lowered p
+    pub covered-lowers : FineHeader p → Reached → done .packet ≡ lowered p
     covered-lowers h c = fine-lowered look p h (covered-hop c)
 
     -- and only then is it another than it was
-    pub lowered-exactly : (done .packet ≢ p) ↔ (FineHeader p × Covered)
+    pub lowered-exactly : (done .packet ≢ p) ↔ (FineHeader p × Reached)
     lowered-exactly = ((λ n. go n (decided (hasHop (done .said)))), (λ (h, c). λ e. lowered-differs p h (sym (covered-lowers h c) ∙ e)))
       where
-        go : done .packet ≢ p → (hasHop (done .said) ≡ true) ⊎ (hasHop (done .said) ≡ false) → FineHeader p × Covered
+        go : done .packet ≢ p → (hasHop (done .said) ≡ true) ⊎ (hasHop (done .said) ≡ false) → FineHeader p × Reached
         go n (inl e) = let h = hop-lowers look p e .0 in (h, hop-covered (ap hasHop (sym (fine-said look p h)) ∙ e))
         go n (inr e) = absurd (n (no-hop-leaves look p e))

@@ -11,6 +11,7 @@ use lib.ListN.{getD}
 use borrow.Author.Tests.{ltb-true}
 use Rattle.bits.proofs.Bools.{and-split}
 use Rattle.routes.specs.Said.{Said, packed, hopAfter, noRouteAfter}
+use Rattle.sail.specs.Sound.{standing}
 use Rattle.sail.specs.Walk.{lookupSaid}
 use Rattle.header.specs.Sums.{onesSum, freshSum, mendedSum, SameValue}
 use Rattle.header.specs.Header.{lowered, Packet}
@@ -18,7 +19,9 @@ use Rattle.header.specs.Step.{StepOut, stepOut, stepped, stepCardOf}
 use Rattle.header.specs.Cases.{FineHeader, Step}
 use Rattle.header.proofs.Steps.{step-only}
 use Rattle.packets.specs.Contract.{MeetsStep}
-use Rattle.demands.proofs.Headers.{Covered, one-answer-step, lowered-exactly}
+use Rattle.demands.specs.Covered.{Covered}
+use Rattle.demands.proofs.Headers.{one-answer-step, lowered-exactly}
+use Rattle.examples.specs.Lines.{ip}
 use Rattle.examples.specs.Starred.{loadedA, without0, answer, starred}
 use Rattle.examples.proofs.Witness.{line, t, l, soundA}
 
@@ -55,11 +58,11 @@ unfolding bytes?
 packet200 = record { byte = byte-of (to200 0x40 0xFE 0xFF) refl }
 
 -- what the lookups of the two destinations answer
-found200 : lookupSaid (t loadedA) (l loadedA) 167838408 ≡ hopAfter 3 57
+found200 : lookupSaid (t loadedA) (l loadedA) (ip 10 1 2 200) ≡ hopAfter 3 57
 unfolding starred answer
 found200 = line 1
 
-found192 : lookupSaid (t without0) (l without0) 3221225985 ≡ noRouteAfter 1
+found192 : lookupSaid (t without0) (l without0) (ip 192 0 2 1) ≡ noRouteAfter 1
 unfolding starred answer
 found192 = line 10
 
@@ -96,7 +99,7 @@ changed200 e =
     let z : _≡_ {A = ℕ} 0x3F 0x40 = ap (λ (q : List ℕ). getD q 8 0) (sym (ap (λ (o : StepOut). o .packet) step200) ∙ e) in
     omega arith
 
-pub covered200 : Covered (t loadedA) (l loadedA) (to200 0x40 0xFE 0xFF)
+pub covered200 : Covered (standing (t loadedA) (l loadedA)) (ip 10 1 2 200)
 covered200 = lowered-exactly (t loadedA) (l loadedA) (to200 0x40 0xFE 0xFF) soundA packet200 .0 changed200 .1
 
 -- "ones' complement value": 0000 and FFFF, and nothing else but equals
