@@ -1,6 +1,6 @@
 -- Packets and tables that meet what the theorems on the header step suppose, and answers that its statement refuses: on list A's table a packet to
 -- 10.1.2.200 is lowered, and with /0 withdrawn one to 192.0.2.1 is left.
-use mathlib.Core.Path.{_≡_, refl, sym, _∙_, ap, subst}
+use mathlib.Core.Path.{_≡_, refl, sym, _∙_, ap}
 use mathlib.Core.Logic.{_≢_}
 use mathlib.Core.Bool.{Bool, true, _&&_}
 use mathlib.Core.List.{List, [], _∷_}
@@ -13,7 +13,7 @@ use Rattle.bits.proofs.Bools.{and-split}
 use Rattle.routes.specs.Said.{Said, packed, hopAfter, noRouteAfter}
 use Rattle.sail.specs.Sound.{standing}
 use Rattle.sail.specs.Walk.{lookupSaid}
-use Rattle.header.specs.Sums.{onesSum, freshSum, mendedSum, SameValue}
+use Rattle.header.specs.Sums.{onesSum, mendedSum, SameValue}
 use Rattle.header.specs.Header.{lowered, Packet}
 use Rattle.header.specs.Step.{StepOut, stepOut, stepped, stepCardOf}
 use Rattle.header.specs.Cases.{FineHeader, Step}

@@ -1,7 +1,7 @@
 -- The lowered header: no byte but three differs, the time to live is one less, and the mended checksum is the very number worked out afresh.
-use mathlib.Core.Path.{_≡_, refl, sym, ap, ap₂, _∙_, subst}
+use mathlib.Core.Path.{_≡_, sym, ap, ap₂, _∙_, subst}
 use mathlib.Core.Logic.{_⊎_, inl, inr, _≢_}
-use mathlib.Core.Bool.{Bool, true, cond}
+use mathlib.Core.Bool.{true, cond}
 use mathlib.Core.List.{List}
 use Prim.Native.Nat.{ℕ, _+_, _-_, _*_, _/_, _%_, _≤_, _<_}
 use native.Mathlib.Omega.{arith}
@@ -10,8 +10,8 @@ use lib.ListN.{length, getD, set, length-set}
 use lib.Seq.{getD-set-same, getD-set-other}
 use borrow.Author.Tests.{eqb-true}
 use Rattle.bits.proofs.Bools.{equal?}
-use Rattle.header.specs.Sums.{halfOf, oplus, onesSum, rightSum, butSum, freshSum, mendedSum, plainSum, Folds, SameValue}
-use Rattle.header.specs.Header.{Lowerable, newSum, lowered, Packet}
+use Rattle.header.specs.Sums.{halfOf, oplus, rightSum, butSum, freshSum, mendedSum, plainSum, Folds, SameValue}
+use Rattle.header.specs.Header.{newSum, lowered, Packet}
 use Rattle.header.specs.Cases.{FineHeader}
 use Rattle.header.proofs.Sums.{folds-itself, folds-more, plain-ten, others, half-small, all-folds, but-folds, right-fresh}
 
@@ -74,9 +74,27 @@ module _ (p : List ℕ) (room : 20 ≤ length p) where
       go (inl e) = rw e
       go (inr n) = ap (cond (eqb i 5) 0) (half-other i a n)
 
+-- f is less than g by 256 at 4, and the same elsewhere
 shift-one : (f g : ℕ → ℕ) → f 4 + 256 ≡ g 4 → ((i : ℕ) → i ≢ 4 → f i ≡ g i) → plainSum f 10 + 256 ≡ plainSum g 10
 shift-one f g e same =
-    omega (arith, e, plain-ten f, plain-ten g, same 0 (λ q. omega arith), same 1 (λ q. omega arith), same 2 (λ q. omega arith), same 3 (λ q. omega arith), same 5 (λ q. omega arith), same 6 (λ q. omega arith), same 7 (λ q. omega arith), same 8 (λ q. omega arith), same 9 (λ q. omega arith))
+    omega (
+      arith,
+      e,
+      plain-ten f,
+      plain-ten g,
+      same 0 (λ q. omega arith),
+      same 1 (λ q. omega arith),
+      same 2 (λ q. omega arith),
+      same 3 (λ q. omega arith),
+      late 0,
+      late 1,
+      late 2,
+      late 3,
+      late 4,
+    )
+  where
+    late : (i : ℕ) → f (5 + i) ≡ g (5 + i)
+    late i = same (5 + i) (λ q. omega arith)
 
 mended-small : (hc m m′ : ℕ) → mendedSum hc m m′ ≤ 65535
 unfolding mendedSum

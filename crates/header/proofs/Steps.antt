@@ -14,8 +14,8 @@ use Rattle.sail.specs.Word.{packed, packFound, Word, hasHop, hopInWord}
 use Rattle.sail.proofs.Words.{word-hop}
 use Rattle.header.specs.Sums.{halfOf, rightSum, freshSum}
 use Rattle.header.specs.Header.{headerFault, lowered, Packet}
-use Rattle.header.specs.Step.{StepOut, stepOut, destination, hopped, stepped, StepCard, stepCard, stepCardOf}
-use Rattle.header.specs.Cases.{WrongHeader, FineHeader, Step}
+use Rattle.header.specs.Step.{StepOut, stepOut, destination, hopped, stepped, stepCard, stepCardOf}
+use Rattle.header.specs.Cases.{FineHeader, Step}
 use Rattle.header.proofs.Faults.{Judged, header-judged, wrong-some, wrong-fault, fine-fault}
 use Rattle.header.proofs.Lowers.{lowered-length, lowered-other, lowered-life, mended-fresh, mended-right}
 

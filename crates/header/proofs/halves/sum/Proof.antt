@@ -1,4 +1,5 @@
--- `header::halves::sum`. The invariant: the sum of the halves so far.
+-- `header::halves::sum`. The invariant: s is the ones' complement sum of the first i halves, and has 16 bits. A turn adds half i, and the measure is
+-- how many are left.
 use mathlib.Core.Path.{_≡_}
 use Prim.Native.Nat.{_-_, _≤_, _<_}
 use Rattle.header.specs.Sums.{halfOf, onesSum}
@@ -17,22 +18,27 @@ loop-holds : tie.Need-loop-holds Inv-loop μ-loop
 loop-holds c = (omega arith, sum-none (c .before .args .packet .now), omega arith)
 
 half-requires : tie.Need-half-requires Inv-loop μ-loop
-half-requires c κs = (omega arith, c .before .before .before .pre)
+half-requires c κs =
+    let start : tie.Start Inv-loop μ-loop = search in
+    (omega arith, start .pre)
 
 add-requires : tie.Need-add-requires Inv-loop μ-loop
-add-requires c κs = (c .before .before .loop .inv .2, c .half .ensures .1)
-
-add-i : tie.Need-add-i Inv-loop μ-loop
-add-i c = omega arith
-
-loop-less : tie.Need-loop-less Inv-loop μ-loop
-loop-less c = omega arith
+add-requires c κs =
+    let at-loop : tie.At-loop Inv-loop μ-loop = search in
+    (at-loop .loop .inv .2, c .half .ensures .1)
 
 loop-again : tie.Need-loop-again Inv-loop μ-loop
-loop-again c = (omega arith, sum-more (c .before .before .before .before .before .args .packet .now) _ _ _ _ (c .before .before .before .loop .inv .1) (c .before .half .ensures .0) (c .add .ensures .0), c .add .ensures .1)
+loop-again c =
+    let after-half : tie.After-half Inv-loop μ-loop = search in
+    let at-loop : tie.At-loop Inv-loop μ-loop = search in
+    let start : tie.Start Inv-loop μ-loop = search in
+    (omega arith, sum-more (start .args .packet .now) _ _ _ _ (at-loop .loop .inv .1) (after-half .half .ensures .0) (c .add .ensures .0), c .add .ensures .1)
 
 returns : tie.Need-returns Inv-loop μ-loop
-returns c = (sum-whole (c .before .before .before .args .packet .now) _ _ (c .before .loop .inv .0) (omega arith) (c .before .loop .inv .1), c .before .loop .inv .2)
+returns c =
+    let at-loop : tie.At-loop Inv-loop μ-loop = search in
+    let start : tie.Start Inv-loop μ-loop = search in
+    (sum-whole (start .args .packet .now) _ _ (at-loop .loop .inv .0) (omega arith) (at-loop .loop .inv .1), at-loop .loop .inv .2)
 
 pub sum-spec : {M : Type 1} → statement M
 sum-spec =
@@ -43,7 +49,7 @@ sum-spec =
     loop-holds
     half-requires
     add-requires
-    add-i
-    loop-less
+    (λ c. omega arith)
+    (λ c. omega arith)
     loop-again
     returns)
