@@ -17,7 +17,7 @@ use Rattle.sail.specs.declared.table.Table.{Table}
 use Rattle.header.specs.Sums.{halfOf, rightSum, freshSum}
 use Rattle.header.specs.Header.{lowered, Packet}
 use Rattle.header.specs.Step.{StepOut, destination, stepped}
-use Rattle.header.specs.Cases.{FineHeader}
+use Rattle.header.specs.Cases.{FineHeader, SameHeader}
 use Rattle.header.proofs.Steps as steps
 use Rattle.header.proofs.Steps.{destination-small, lowered-differs, refused-no-hop, fine-said, fine-lowered, hop-lowers, no-hop-leaves}
 use Rattle.packets.specs.Contract.{MeetsStep}
@@ -62,6 +62,10 @@ module _ (t : Table) (l : Lent) (p : List ℕ) where
   pub step-mends : Packet p → hasHop (done .said) ≡ true
       → (getD (done .packet) 8 0 ≡ getD p 8 0 - 1) × (rightSum (done .packet) ≡ true) × (halfOf (done .packet) 5 ≡ freshSum (done .packet))
   step-mends = steps.step-mends look p
+
+  -- "Given a packet's first 20 bytes": what is answered depends on no other
+  pub step-blind : (q : List ℕ) → SameHeader p q → done .said ≡ stepped look q .said
+  step-blind q s = steps.step-blind look s
 
   -- some standing route covers the destination
   abbrev Reached : Type 0

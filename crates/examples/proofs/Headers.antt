@@ -3,11 +3,11 @@
 use mathlib.Core.Path.{_≡_, refl, sym, _∙_, ap}
 use mathlib.Core.Logic.{_≢_}
 use mathlib.Core.Bool.{Bool, true, _&&_}
-use mathlib.Core.List.{List, [], _∷_}
+use mathlib.Core.List.{List, [], _∷_, _++_}
 use Prim.Native.Nat.{ℕ, zero, suc, _<_}
 use native.Mathlib.Omega.{arith}
 use lib.Dec.{ltb}
-use lib.ListN.{getD}
+use lib.ListN.{getD, length-append, List·getD-append}
 use borrow.Author.Tests.{ltb-true}
 use Rattle.bits.proofs.Bools.{and-split}
 use Rattle.routes.specs.Said.{Said, packed, hopAfter, noRouteAfter}
@@ -16,7 +16,7 @@ use Rattle.sail.specs.Walk.{lookupSaid}
 use Rattle.header.specs.Sums.{onesSum, mendedSum, SameValue}
 use Rattle.header.specs.Header.{lowered, Packet}
 use Rattle.header.specs.Step.{StepOut, stepOut, stepped, stepCardOf}
-use Rattle.header.specs.Cases.{FineHeader, Step}
+use Rattle.header.specs.Cases.{FineHeader, SameHeader, Step}
 use Rattle.header.proofs.Steps.{step-only}
 use Rattle.packets.specs.Contract.{MeetsStep}
 use Rattle.demands.specs.Covered.{Covered}
@@ -101,6 +101,14 @@ changed200 e =
 
 pub covered200 : Covered (standing (t loadedA) (l loadedA)) (ip 10 1 2 200)
 covered200 = lowered-exactly (t loadedA) (l loadedA) (to200 0x40 0xFE 0xFF) soundA packet200 .0 changed200 .1
+
+-- a packet with more after its header is answered alike
+pub longer200 : (xs : List ℕ) → SameHeader (to200 0x40 0xFE 0xFF ++ xs) (to200 0x40 0xFE 0xFF)
+longer200 xs = record {
+  room = rw (length-append (to200 0x40 0xFE 0xFF) xs) (omega arith);
+  room′ = omega arith;
+  bytes = λ j h. List·getD-append (to200 0x40 0xFE 0xFF) xs 0 j h;
+}
 
 -- "ones' complement value": 0000 and FFFF, and nothing else but equals
 value-apart : SameValue 0 1 → ⊥

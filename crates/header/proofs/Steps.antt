@@ -1,21 +1,22 @@
 -- The step by any lookup `look`: what each way through it answers, which case of `Step` it is, and what it does to the packet.
-use mathlib.Core.Path.{_≡_, refl, sym, ap, _∙_, subst}
+use mathlib.Core.Path.{_≡_, refl, sym, ap, ap₂, _∙_, subst}
 use mathlib.Core.Logic.{_⊎_, inl, inr, _≢_, _↔_}
 use mathlib.Core.Bool.{Bool, true, false, cond, true≢false}
 use mathlib.Core.List.{List}
-use Prim.Native.Nat.{ℕ, _-_, _^_, _<_}
+use Prim.Native.Nat.{ℕ, _+_, _-_, _*_, _^_, _<_}
 use native.Mathlib.Omega.{arith}
 use lib.Dec.{eqb}
 use lib.ListN.{length, getD}
-use borrow.Author.Tests.{eq-eqb, ne-eqb}
+use borrow.Author.Tests.{eq-eqb, ne-eqb, le-ltb}
 use Rattle.bits.proofs.Bools.{decided}
 use Rattle.routes.specs.Said.{Said, accepted, refused, refusedAt, accepts}
 use Rattle.sail.specs.Word.{packed, packFound, Word, hasHop, hopInWord}
 use Rattle.sail.proofs.Words.{word-hop}
-use Rattle.header.specs.Sums.{halfOf, rightSum, freshSum}
+use Rattle.header.specs.Sums.{halfOf, onesSum, rightSum, freshSum}
 use Rattle.header.specs.Header.{headerFault, lowered, Packet}
 use Rattle.header.specs.Step.{StepOut, stepOut, destination, hopped, stepped, stepCard, stepCardOf}
-use Rattle.header.specs.Cases.{FineHeader, Step}
+use Rattle.header.specs.Cases.{FineHeader, SameHeader, Step}
+use Rattle.header.proofs.Sums.{sum-same}
 use Rattle.header.proofs.Faults.{Judged, header-judged, wrong-some, wrong-fault, fine-fault}
 use Rattle.header.proofs.Lowers.{lowered-length, lowered-other, lowered-life, mended-fresh, mended-right}
 
@@ -59,6 +60,13 @@ module _ (look : ℕ → Said) (p : List ℕ) where
   out-is : stepped look p ≡ out (headerFault p)
   unfolding stepped
   out-is = refl
+
+  pub said-is : stepped look p .said ≡ cond (eqb (headerFault p) 0) found (refused (headerFault p))
+  said-is = ap (λ (o : StepOut). o .said) out-is ∙ go (eqb (headerFault p) 0)
+    where
+      go : (b : Bool) → cond b (hopped found p) (stepOut (refused (headerFault p)) p) .said ≡ cond b found (refused (headerFault p))
+      go true = refl
+      go false = refl
 
   -- it is one case of `Step`,
   pub step-judged : Step look p (stepped look p)
@@ -128,3 +136,23 @@ module _ (look : ℕ → Said) (p : List ℕ) where
   pub step-mends : Packet p → hasHop (stepped look p .said) ≡ true
       → (getD packet′ 8 0 ≡ getD p 8 0 - 1) × (rightSum packet′ ≡ true) × (halfOf packet′ 5 ≡ freshSum packet′)
   step-mends b e = let h = hop-lowers e in rw (h .1) (lowered-life p (h .0 .room), mended-right p b (h .0), mended-fresh p b (h .0))
+
+-- "Given a packet's first 20 bytes": what is answered depends on no other
+module _ (look : ℕ → Said) {p q : List ℕ} (s : SameHeader p q) where
+  same-halves : onesSum (halfOf p) 10 ≡ onesSum (halfOf q) 10
+  same-halves =
+      sum-same (halfOf p) (halfOf q) 10
+      (λ i l. ap₂ (λ (x y : ℕ). x * 256 + y) (s .bytes (2 * i) (omega arith)) (s .bytes (2 * i + 1) (omega arith)))
+
+  same-fault : headerFault p ≡ headerFault q
+  unfolding headerFault
+  same-fault =
+      rw (le-ltb (length p) 20 (s .room), le-ltb (length q) 20 (s .room′), s .bytes 0 (omega arith), same-halves, s .bytes 8 (omega arith))
+
+  same-destination : destination p ≡ destination q
+  same-destination =
+      omega (arith, s .bytes 16 (omega arith), s .bytes 17 (omega arith), s .bytes 18 (omega arith), s .bytes 19 (omega arith))
+
+  pub step-blind : stepped look p .said ≡ stepped look q .said
+  step-blind =
+      said-is look p ∙ ap₂ (λ (n a : ℕ). cond (eqb n 0) (look a) (refused n)) same-fault same-destination ∙ sym (said-is look q)

@@ -1,5 +1,5 @@
 -- Ones' complement sums: what they are modulo 65,535, and so when a checksum is right.
-use mathlib.Core.Path.{_≡_, refl, sym, ap, _∙_, subst}
+use mathlib.Core.Path.{_≡_, refl, sym, ap, ap₂, _∙_, subst}
 use mathlib.Core.Logic.{_⊎_, inl, inr, _↔_}
 use mathlib.Core.Bool.{Bool, true, false, cond}
 use mathlib.Core.List.{List}
@@ -42,6 +42,12 @@ pub sum-folds : (f : ℕ → ℕ) (n : ℕ) → ((i : ℕ) → i < n → f i ≤
 unfolding plainSum onesSum
 sum-folds f zero h = folds-itself 0 (omega arith)
 sum-folds f (suc n) h = folds-more (plainSum f n) (onesSum f n) (f n) (h n (le-refl (suc n))) (sum-folds f n (λ i l. h i (le-step l)))
+
+-- a sum is of its halves alone
+pub sum-same : (f g : ℕ → ℕ) (n : ℕ) → ((i : ℕ) → i < n → f i ≡ g i) → onesSum f n ≡ onesSum g n
+unfolding onesSum
+sum-same f g zero h = refl
+sum-same f g (suc n) h = ap₂ oplus (sum-same f g n (λ i l. h i (le-step l))) (h n (le-refl (suc n)))
 
 pub plain-ten : (f : ℕ → ℕ) → plainSum f 10 ≡ f 0 + f 1 + f 2 + f 3 + f 4 + f 5 + f 6 + f 7 + f 8 + f 9
 unfolding plainSum

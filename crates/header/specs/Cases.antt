@@ -28,6 +28,12 @@ pub record FineHeader (p : List ℕ) : Type 0 where
   pub right : rightSum p ≡ true
   pub alive : 2 ≤ getD p 8 0
 
+-- two packets with the same header
+pub record SameHeader (p q : List ℕ) : Type 0 where
+  pub room : 20 ≤ length p
+  pub room′ : 20 ≤ length q
+  pub bytes : (j : ℕ) → j < 20 → getD p j 0 ≡ getD q j 0
+
 -- the header's own refusal; a lookup without a hop, refused or not; a lookup with one
 pub data Step (look : ℕ → Said) (p : List ℕ) : StepOut → Type 0 where
   wrong : (n : ℕ) → WrongHeader p n → Step look p (stepOut (refused n) p)

@@ -10,7 +10,7 @@ use Rattle.header.specs.Sums.{halfOf, rightSum, mendedSum}
 unfoldable pub headerFault : List ℕ → ℕ
 headerFault p =
     cond (ltb (length p) 20) 19
-    (cond (not (eqb (getD p 0 0) 69)) 20
+    (cond (not (eqb (getD p 0 0) 0x45)) 20
     (cond (not (rightSum p)) 21
     (cond (ltb (getD p 8 0) 2) 22 0)))
 

@@ -19,7 +19,7 @@ pub fn judge(packet: &[u8]) -> u8
     if packet.len() < 20 {
         return 19;
     }
-    if packet[0] != 69 {
+    if packet[0] != 0x45 {
         return 20;
     }
     if sum(packet) != 65535 {
