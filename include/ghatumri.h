@@ -24,6 +24,7 @@
  *   own3    an owner for each chunk of the third pool
  *   long1   a count for each first cell: the routes longer than p1 that have its bits
  *   long2   a count for each cell of the second pool: the routes longer than p2 that have its bits, 0 in free chunks
+ *   packet  an IPv4 packet as it came, from its first byte on: GH_HEADER_BYTES of it or more
  *   words   3 words for each node of a tree image
  *   hops    the hops of a tree image
  *   bits    the bits of bit maps, GH_MAP_BYTES
@@ -34,7 +35,7 @@
  *
  * ADDRESSES are numbers in the order of the processor: 10.1.2.0 is 0x0A010200. What inet_addr answers, what stands in
  * struct in_addr and in a packet is in the order of the network: ntohl makes such a number of it. In a record the four
- * bytes stand as in a packet.
+ * bytes stand as in a packet, and gh_step reads them out of one.
  *
  * GEOMETRY. p1 is 12 to 16, p2 is 22 to 26, p2 - p1 at most 10. Standard is (16, 24), small is (12, 22).
  *
@@ -51,6 +52,7 @@
  *   gh_report        bits 16 to 31: routes; 32 to 47: need for second chunks; 48 to 63: need for third chunks
  *   gh_lookup        bits 8 to 15: cells read; 16 to 31: hop, 0 for no route
  *   gh_lookup_many   0; each word of out: the low 32 bits of what gh_lookup answers
+ *   gh_step          as gh_lookup
  *   gh_build         bits 16 to 31: hops; 32 to 63: nodes
  *   gh_tree_lookup   bits 8 to 15: nodes read, and one more where a hop is answered; 16 to 31: hop, 0 for no route
  *   gh_tree_test     bits 16 to 31: hops; 32 to 63: nodes
@@ -73,7 +75,8 @@
  *
  * THREADS. No call has memory of its own, so calls over different arrays may run at the same time, in threads and in
  * interrupts. Over the same arrays calls that only read them may run at the same time: every lookup, the report,
- * the test of an image, the run, the tally, a route read back, a broadcast. A call that writes an array (make, load,
+ * the test of an image, the run, the tally, a route read back, a broadcast, and a header step, which writes its packet
+ * alone. A call that writes an array (make, load,
  * announce, withdraw, repair, build) runs alone: no other call may use that array meanwhile, lookups neither. To change a
  * table beside readers, keep two sets of arrays: change the set that no reader uses, hand it to the readers (an atomic
  * pointer to the struct), wait until no reader has the old one, and copy arrays and count over or make the same change
@@ -149,6 +152,7 @@ extern "C" {
 #define GH_THIRD_CHUNK(p2)           ((size_t)1 << (32 - (p2)))       /* cells of a chunk of the third pool */
 #define GH_NODES_FOR(n)              (1 + (size_t)8 * (n))            /* enough for the image of any n routes */
 #define GH_WORDS_FOR(n)              (3 * GH_NODES_FOR(n))            /* the words of so many nodes; its hops are n */
+#define GH_HEADER_BYTES    20         /* of a packet, the least that gh_step takes */
 #define GH_TALLY_WORDS     33
 #define GH_REPAIR_WORDS    4          /* what gh_repair tells, in this order: */
 #define GH_DROPPED         0          /* records dropped */
@@ -180,6 +184,10 @@ enum gh_refusal {
     GH_REFUSED_NODES = 11,
     GH_REFUSED_HOPS = 12,
     GH_REFUSED_IMAGE = 13,
+    GH_REFUSED_SHORT = 19,
+    GH_REFUSED_HEADER = 20,
+    GH_REFUSED_CHECKSUM = 21,
+    GH_REFUSED_LIFE = 22,
     GH_REFUSED_VERSION = 23
 };
 
@@ -201,7 +209,11 @@ static inline const char *gh_meaning(unsigned number)
         /* 11 */ "too few whole nodes lent",
         /* 12 */ "too few hops lent",
         /* 13 */ "image broken on this walk: bit 15 set, child or hop beyond what is lent, no root, hop outside 1 to 32,767; image tested or changed: not well formed; bit maps: such a hop at the first set bit",
-        /* 14 to 22 */ 0, 0, 0, 0, 0, 0, 0, 0, 0,
+        /* 14 to 18 */ 0, 0, 0, 0, 0,
+        /* 19 */ "packet of fewer than 20 bytes",
+        /* 20 */ "version not 4, or header length not 5 words",
+        /* 21 */ "header checksum wrong",
+        /* 22 */ "time to live 0 or 1",
         /* 23 */ "version neither 1 nor 2",
     };
     return number < sizeof texts / sizeof *texts && texts[number] ? texts[number] : "no number of a refusal";
@@ -217,7 +229,7 @@ static inline const char *gh_meaning(unsigned number)
 #define GH_COUNT(a)        ((unsigned)((a) >> 16 & 0xffff))       /* changes and gh_report: routes */
 #define GH_NEED_SECOND(a)  ((unsigned)((a) >> 32 & 0xffff))       /* gh_report */
 #define GH_NEED_THIRD(a)   ((unsigned)((a) >> 48 & 0xffff))       /* gh_report */
-#define GH_READS(a)        ((unsigned)((a) >> 8 & 0xff))          /* gh_lookup: cells read; gh_tree_lookup: as above */
+#define GH_READS(a)        ((unsigned)((a) >> 8 & 0xff))          /* gh_lookup, gh_step: cells read; gh_tree_lookup: as above */
 #define GH_HOP(a)          ((unsigned)((a) >> 16 & 0xffff))       /* lookups and gh_route: hop, 0 for none */
 #define GH_HOPS(a)         ((unsigned)((a) >> 16 & 0xffff))       /* gh_build; test and changes of an image */
 #define GH_NODES(a)        ((uint32_t)((a) >> 32))                /* the same */
@@ -346,6 +358,25 @@ uint64_t gh_lookup_many(uint32_t p1, uint32_t p2, uint32_t count,
                         const uint16_t *GH_RESTRICT long2, size_t long2_len,
                         const uint32_t *GH_RESTRICT addrs, size_t addrs_len,
                         uint32_t *GH_RESTRICT out, size_t out_len);
+
+/* Takes an IPv4 packet one step on its way. Checks its header: version 4, five words, the checksum (RFC 791). Looks its
+ * destination up as gh_lookup does. With a hop it lowers the time to live by one and mends the checksum (RFC 1624): bytes
+ * 8, 10 and 11 change, and the mended checksum is the very number that would be worked out afresh. No route and every
+ * refusal leave the packet as it was. Of a checksum 0000 and FFFF are both zero, and either is taken. Total length,
+ * fragments and bytes from 20 on are not looked at. It takes up to 20 ns more than the lookup. Refusals: 19 for fewer than
+ * GH_HEADER_BYTES bytes, 20 for the version or the header length, 21 for the checksum, 22 for a time to live of 0 or 1;
+ * then those of gh_lookup. */
+GH_CALL
+uint64_t gh_step(uint32_t p1, uint32_t p2, uint32_t count,
+                 const uint8_t *GH_RESTRICT list, size_t list_len,
+                 const uint16_t *GH_RESTRICT first, size_t first_len,
+                 const uint16_t *GH_RESTRICT second, size_t second_len,
+                 const uint16_t *GH_RESTRICT third, size_t third_len,
+                 const uint32_t *GH_RESTRICT own2, size_t own2_len,
+                 const uint32_t *GH_RESTRICT own3, size_t own3_len,
+                 const uint16_t *GH_RESTRICT long1, size_t long1_len,
+                 const uint16_t *GH_RESTRICT long2, size_t long2_len,
+                 uint8_t *GH_RESTRICT packet, size_t packet_len);
 
 /* ---- Calls on tree images -------------------------------------------------------------------------------------- */
 
@@ -542,6 +573,13 @@ GH_CALL
 static inline uint64_t gh_table_lookup(const struct gh_table *t, uint32_t addr)
 {
     return gh_lookup(t->p1, t->p2, t->count, GH_LENT(t), addr);
+}
+
+/* As gh_step. */
+GH_CALL
+static inline uint64_t gh_table_step(const struct gh_table *t, uint8_t *GH_RESTRICT packet, size_t packet_len)
+{
+    return gh_step(t->p1, t->p2, t->count, GH_LENT(t), packet, packet_len);
 }
 
 /* As gh_lookup_many, for n addresses into n words. */

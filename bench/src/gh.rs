@@ -37,6 +37,28 @@ pub fn tree_each(image: ImageRef, look: TreeLookup, addrs: &[u32], out: &mut [u3
     }
 }
 
+/// A header from 192.0.2.1 to each address, with a time to live of 64 and its checksum.
+pub fn headers(addrs: &[u32]) -> Vec<[u8; 20]> {
+    let header = |addr: &u32| {
+        let mut header = [0x45, 0, 0, 40, 0, 1, 0x40, 0, 64, 6, 0, 0, 192, 0, 2, 1, 0, 0, 0, 0];
+        header[16..].copy_from_slice(&addr.to_be_bytes());
+        let sum: u32 = header.chunks(2).map(|half| u32::from(half[0]) << 8 | u32::from(half[1])).sum();
+        let sum = (sum & 0xFFFF) + (sum >> 16);
+        header[10..12].copy_from_slice(&(!(sum + (sum >> 16)) as u16).to_be_bytes());
+        header
+    };
+    addrs.iter().map(header).collect()
+}
+
+/// One step for each header, of a copy.
+#[inline(never)]
+pub fn steps(t: TableRef, headers: &[[u8; 20]], out: &mut [u32]) {
+    for (o, header) in out.iter_mut().zip(headers) {
+        let mut packet = *header;
+        *o = raw::step(&t, black_box(&mut packet)) as u32;
+    }
+}
+
 /// All of them in one call.
 pub fn many(t: TableRef, addrs: &[u32], out: &mut [u32]) {
     let answer = raw::lookup_many(&t, addrs, out);

@@ -194,6 +194,15 @@ fn ratio(contenders: &[Contender], one: &str, other: &str, limit: Option<f64>) {
     println!("  ratio {ratio:>6.2}  {one} / {other}{verdict}");
 }
 
+/// Prints how many nanoseconds longer one took than another, and whether that is within what is wanted.
+fn more(contenders: &[Contender], one: &str, other: &str, limit: f64) {
+    let times = |name: &str| contenders.iter().find(|c| c.name == name).map(|c| &c.times);
+    let (Some(a), Some(b)) = (times(one), times(other)) else { return };
+    let more = 1e9 * median(a.iter().zip(b).map(|(a, b)| a - b).collect());
+    let verdict = if more <= limit { "wanted: at most" } else { "OVER: wanted at most" };
+    println!("  more  {more:>6.2}  {one} - {other}   {verdict} {limit} ns");
+}
+
 /// Two contenders must have written the same, in the bits that `mask` has.
 fn agree(name: &str, one: &[u32], other: &[u32], shift: u32, mask: u32) {
     let differ = one.iter().zip(other).position(|(a, b)| a >> shift & mask != b & mask);
@@ -247,12 +256,14 @@ const MANY: &str = "gh_lookup_many";
 const RUST_MANY: &str = "Table::lookup_many of the Rust binding";
 const HAND_MANY: &str = "unchecked Rust loop";
 const EACH: &str = "gh_lookup";
+const STEP: &str = "gh_step, of a copy of the header";
 const HAND_EACH: &str = "unchecked Rust call, same arguments";
 const DIR: &str = "DIR-24-8, unchecked Rust loop";
 const TREE: &str = "gh_tree_lookup";
 const HAND_TREE: &str = "unchecked Rust tree bitmap call";
 
 fn lookups(rounds: usize, table: &Table, image: &Image, dir: &Dir248, rte: bool, addrs: &[u32]) {
+    let headers = gh::headers(addrs);
     {
         let mut out = vec![vec![0; addrs.len()]; 3];
         let (first, rest) = out.split_at_mut(1);
@@ -260,6 +271,8 @@ fn lookups(rounds: usize, table: &Table, image: &Image, dir: &Dir248, rte: bool,
         gh::many(table.view(), addrs, first);
         gh::each(table.view(), sys::gh_lookup, addrs, &mut rest[0]);
         agree(EACH, first, &rest[0], 0, u32::MAX);
+        gh::steps(table.view(), &headers, &mut rest[0]);
+        agree(STEP, first, &rest[0], 0, u32::MAX);
         unsafe { hand::lookup_many(table.view(), addrs, &mut rest[0]) };
         agree(HAND_MANY, first, &rest[0], 0, u32::MAX);
         gh::each(table.view(), hand::hand_lookup, addrs, &mut rest[0]);
@@ -288,6 +301,7 @@ fn lookups(rounds: usize, table: &Table, image: &Image, dir: &Dir248, rte: bool,
         contender(RUST_MANY, || t.lookup_many(&named, black_box(&mut answers)).unwrap()),
         contender(HAND_MANY, || unsafe { hand::lookup_many(t, addrs, black_box(&mut out())) }),
         contender(EACH, || gh::each(t, sys::gh_lookup, addrs, black_box(&mut out()))),
+        contender(STEP, || gh::steps(t, &headers, black_box(&mut out()))),
         contender(HAND_EACH, || gh::each(t, hand::hand_lookup, addrs, black_box(&mut out()))),
         contender(DIR, || unsafe { dir.lookup_many(addrs, black_box(&mut out())) }),
         contender(TREE, || gh::tree_each(image, sys::gh_tree_lookup, addrs, black_box(&mut out()))),
@@ -302,6 +316,7 @@ fn lookups(rounds: usize, table: &Table, image: &Image, dir: &Dir248, rte: bool,
     ratio(&contenders, MANY, HAND_MANY, Some(1.15));
     ratio(&contenders, RUST_MANY, MANY, None);
     ratio(&contenders, EACH, HAND_EACH, Some(1.5));
+    more(&contenders, STEP, EACH, 20.0);
     ratio(&contenders, MANY, DIR, None);
     for (name, _) in dpdk::LOOKS {
         ratio(&contenders, MANY, name, Some(0.6));

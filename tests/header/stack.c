@@ -24,6 +24,10 @@ static uint8_t bits[GH_MAP_BYTES];
 static uint16_t cells[GH_MAP_CELLS];
 #define MAPS input, sizeof input, bits, GH_MAP_BYTES, cells, GH_MAP_CELLS
 static const uint32_t here = IP(100, 16, 0, 77);
+/* From 192.0.2.1 to 100.16.0.77. */
+static uint8_t packet[GH_HEADER_BYTES] = {
+    0x45, 0, 0, 0x28, 0, 1, 0x40, 0, 0x40, 6, 0x14, 0x71, 192, 0, 2, 1, 100, 16, 0, 77,
+};
 
 static uint64_t nothing(void) { return 0; }
 static uint64_t make(void) { return gh_table_make(&t); }
@@ -34,6 +38,7 @@ static uint64_t repair(void) { return gh_table_repair(&t, told); }
 static uint64_t report(void) { return gh_table_report(&t); }
 static uint64_t lookup(void) { return gh_table_lookup(&t, here); }
 static uint64_t lookup_many(void) { return gh_table_lookup_many(&t, addrs, out, 1000); }
+static uint64_t step(void) { return gh_table_step(&t, packet, sizeof packet); }
 static uint64_t build(void) { return gh_build(input, sizeof input, words, GH_ELEMENTS(words), hops, N); }
 static uint64_t tree_lookup(void) { return gh_tree_lookup(words, GH_ELEMENTS(words), hops, N, here); }
 #define IMAGE step_words, GH_ELEMENTS(step_words), step_hops, STEPS
@@ -86,7 +91,7 @@ int main(void)
         { "make", make, GH_STACK, 0 }, { "load", load, GH_STACK_TABLE, 0 },
         { "withdraw", withdraw, GH_STACK_TABLE, 0 }, { "announce", announce, GH_STACK_TABLE, 0 },
         { "repair", repair, GH_STACK_REPAIR, 0 }, { "report", report, GH_STACK_TABLE, 0 }, { "lookup", lookup, GH_STACK, 0 },
-        { "lookup_many", lookup_many, GH_STACK, 0 }, { "build", build, GH_STACK, 0 },
+        { "lookup_many", lookup_many, GH_STACK, 0 }, { "step", step, GH_STACK, 0 }, { "build", build, GH_STACK, 0 },
         { "tree_lookup", tree_lookup, GH_STACK, 0 }, { "tree_test", tree_test, GH_STACK_IMAGE, 0 },
         { "tree_withdraw", tree_withdraw, GH_STACK_IMAGE, 0 }, { "tree_announce", tree_announce, GH_STACK_IMAGE, 0 },
         { "run", run, GH_STACK, 0 }, { "tally", tally, GH_STACK, 0 }, { "route", route, GH_STACK, 0 },

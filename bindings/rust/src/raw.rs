@@ -121,6 +121,12 @@ pub fn lookup_many(t: &TableRef, addrs: &[u32], out: &mut [u32]) -> u64 {
     unsafe { lend!(sys::gh_lookup_many, t, (addrs.as_ptr(), addrs.len(), out.as_mut_ptr(), out.len())) }
 }
 
+#[inline]
+#[must_use]
+pub fn step(t: &TableRef, packet: &mut [u8]) -> u64 {
+    unsafe { lend!(sys::gh_step, t, (packet.as_mut_ptr(), packet.len())) }
+}
+
 #[must_use]
 pub fn build(input: &[u8], words: &mut [u32], hops: &mut [u16]) -> u64 {
     let (w, h) = (words.len(), hops.len());

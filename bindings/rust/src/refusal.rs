@@ -54,6 +54,10 @@ reasons! {
     11 Nodes "too few whole nodes lent"
     12 Hops "too few hops lent"
     13 Image "image broken on this walk: bit 15 set, child or hop beyond what is lent, no root, hop outside 1 to 32,767; image tested or changed: not well formed; bit maps: such a hop at the first set bit"
+    19 Short "packet of fewer than 20 bytes"
+    20 Header "version not 4, or header length not 5 words"
+    21 Checksum "header checksum wrong"
+    22 Life "time to live 0 or 1"
     23 Version "version neither 1 nor 2"
 }
 

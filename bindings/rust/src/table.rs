@@ -120,6 +120,19 @@ impl<'a> TableRef<'a> {
         Ok(())
     }
 
+    /// Takes an IPv4 packet one step on its way: checks its header, looks its destination up, and with a hop lowers the
+    /// time to live by one and mends the checksum, in bytes 8, 10 and 11. No route and every refusal leave the packet as
+    /// it was. Bytes from 20 on are not looked at.
+    ///
+    /// # Errors
+    ///
+    /// 19 for fewer than 20 bytes, 20 for the version or the header length, 21 for the checksum, 22 for a time to live of
+    /// 0 or 1; then those of [`lookup`](TableRef::lookup).
+    #[inline]
+    pub fn step(&self, packet: &mut [u8]) -> Result<Found, Refusal> {
+        Answer::new(raw::step(self, packet)).found()
+    }
+
     /// The standing routes as a record input, to be handed to [`run`](crate::run), [`tally`](crate::tally) or an image.
     #[must_use]
     pub fn records(&self) -> &'a [u8] {
@@ -166,6 +179,16 @@ macro_rules! reads {
         /// 1, 2.
         pub fn lookup_many<A: Copy + Into<Ipv4Addr>>(&self, addrs: &[A], out: &mut [Answer]) -> Result<(), Refusal> {
             self.view().lookup_many(addrs, out)
+        }
+
+        /// As [`TableRef::step`].
+        ///
+        /// # Errors
+        ///
+        /// 19, 20, 21, 22, 1, 2, 5.
+        #[inline]
+        pub fn step(&self, packet: &mut [u8]) -> Result<Found, Refusal> {
+            self.view().step(packet)
         }
 
         /// As [`TableRef::records`].

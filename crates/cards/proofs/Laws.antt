@@ -3,17 +3,13 @@ use mathlib.Core.Path.{_≡_, _∙_, ap}
 use mathlib.Core.List.{List}
 use Prim.Native.Nat.{ℕ, min}
 use Rattle.routes.specs.Said.{Said}
-use Rattle.sail.specs.Geometry.{standardGeo}
 use Rattle.sail.specs.Lent.{Lent}
-use Rattle.sail.specs.Walk.{lookupSaid}
 use Rattle.sail.specs.declared.table.Table.{Table}
 use Rattle.sail_theory.specs.Calls.{route, Out, out, announced, withdrawn}
 use Rattle.tree_build.specs.Built as tree
-use Rattle.sail.specs.Word.{packFound}
 use Rattle.packing.specs.Pack.{packChange, packBuilt}
 use Rattle.cards.proofs.Narrow.{announced-narrow, withdrawn-narrow}
 use Rattle.cards.specs.Cards.{card, cardOf, imageCard, imageCardOf}
-use Rattle.sail_words.specs.Lookups.{tableOf}
 
 pub card-is : (s : Said) (t : Table) (l : Lent) (o : Out) (r : ℕ) → out s t l ≡ o → r ≡ packChange (t .count) s → card r l ≡ cardOf o
 unfolding cardOf
@@ -31,11 +27,3 @@ module _ (t : Table) (l : Lent) (a len n : ℕ) (e : n ≡ min len 255) (s : Sai
 pub image-card-is : (s : Said) (ws hs : List ℕ) (o : tree.ImageOut) (r : ℕ) → tree.imageOut s ws hs ≡ o → r ≡ packBuilt s → imageCard r ws hs ≡ imageCardOf o
 unfolding imageCardOf
 image-card-is s ws hs o r e q = ap (λ (x : ℕ). imageCard x ws hs) q ∙ ap imageCardOf e
-
--- the standard geometry, told by its two levels
-module _ (p1 p2 n : ℕ) (e1 : p1 ≡ standardGeo .p1) (e2 : p2 ≡ standardGeo .p2) where
-  abbrev standard : Table
-  standard = tableOf (standardGeo .p1) (standardGeo .p2) n
-
-  pub look-standard : (l : Lent) (a r : ℕ) → r ≡ packFound (lookupSaid standard l a) → r ≡ packFound (lookupSaid (tableOf p1 p2 n) l a)
-  look-standard l a r q = rw (e1, e2) q

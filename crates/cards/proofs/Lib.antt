@@ -6,6 +6,7 @@ pub mod Boundary
 pub mod Hops
 pub mod Outs
 pub mod Named
+pub mod Stepped
 pub mod Casts
 pub mod ImageCalls
 pub mod Putting

@@ -1,10 +1,11 @@
--- The demands, a file for each; and the demands of the calls on bit maps, of broadcasts and of images.
+-- The demands, a file for each; and the demands of the calls on bit maps, of broadcasts, of the header step, of repairs and of images.
 pub mod Demand1
 pub mod Demand2
 pub mod Demand3
 pub mod OneAnswer
 pub mod Basic
 pub mod Broadcasts
+pub mod Headers
 pub mod Repairs
 pub mod Images
 pub mod OneImage

@@ -8,6 +8,7 @@ use lib.ListN.{length, getD}
 use Rattle.bits.proofs.Tabs.{is-tabulate, length-tabulate, getD-tabulate}
 use Rattle.bits.specs.Tab.{tabulate}
 use Rattle.routes.specs.Said.{Said, refused}
+use Rattle.sail.specs.Geometry.{standardGeo}
 use Rattle.sail.specs.Lent.{Lent}
 use Rattle.sail.specs.Sizes.{sizesFault, SizesTold}
 use Rattle.sail.specs.Walk.{foundSaid, lookupSaid}
@@ -19,7 +20,7 @@ use Rattle.sail.proofs.Words.{word-of}
 use Rattle.sail_many.specs.Flows.{answerAt}
 use Rattle.sail_many.proofs.LookupWords.{answer-is}
 use Rattle.sail.specs.Word.{packed, packFound, saidOf, Word}
-use Rattle.sail_words.specs.Lookups.{wordsCard, manyCard}
+use Rattle.sail_words.specs.Lookups.{tableOf, wordsCard, manyCard}
 
 -- the low 32 bits of the walk's answer
 abbrev pub lowWalk : Geometry → Lent → ℕ → ℕ
@@ -70,3 +71,14 @@ module _ (t : Table) (l : Lent) (a r : ℕ) (told : SizesTold r (t .geometry) l)
 
   pub look-is : r ≡ 0 → (w z : ℕ) → Word w (foundSaid (t .geometry) l a) → z ≡ w → Word z (lookupSaid t l a)
   look-is e w z found q = rw q (look-on t l a r told w e found)
+
+-- the standard geometry, known by its two levels
+module _ (p1 p2 n : ℕ) (e1 : p1 ≡ standardGeo .p1) (e2 : p2 ≡ standardGeo .p2) where
+  abbrev standard : Table
+  standard = tableOf (standardGeo .p1) (standardGeo .p2) n
+
+  pub look-standard : (l : Lent) (a r : ℕ) → Word r (lookupSaid standard l a) → Word r (lookupSaid (tableOf p1 p2 n) l a)
+  look-standard l a r q = rw (e1, e2) q
+
+  pub look-standard-packs : (l : Lent) (a r : ℕ) → Word r (lookupSaid standard l a) → r ≡ packFound (lookupSaid (tableOf p1 p2 n) l a)
+  look-standard-packs l a r q = look-standard l a r q .packs

@@ -1,2 +1,2 @@
 -- Laws of lookups that answer with words.
-mod Laws
+pub mod Laws

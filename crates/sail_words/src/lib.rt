@@ -12,7 +12,7 @@ use sail_lookup::walk;
 use sail_many::flow::many;
 use sail_sizes::sizes;
 
-// One lookup.
+// One lookup. `gh_lookup` alone calls it, and so has it inside.
 pub fn look(
     t: Table,
     list: &[u8],
@@ -65,6 +65,72 @@ pub fn look_standard(
         (now (long1 .entry)) (now (long2 .entry))) addr) ⌝ }
 {
     let geometry = Geometry::STANDARD;
+    let z = sizes(
+        Table { geometry, count },
+        list,
+        first,
+        second,
+        third,
+        own2,
+        own3,
+        long1,
+        long2,
+    );
+    if z != 0 {
+        return z as u64;
+    }
+    walk(
+        geometry,
+        list,
+        first,
+        second,
+        third,
+        own2,
+        own3,
+        long1,
+        long2,
+        addr,
+    ) as u64
+}
+
+// One lookup by the state's three numbers, the quick way at the standard geometry, for the calls that look up on their way to something
+// else. `gh_lookup` chooses by its own text: a function with two callers is put into neither.
+pub fn look_by(
+    p1: u32,
+    p2: u32,
+    count: u32,
+    list: &[u8],
+    first: &[u16],
+    second: &[u16],
+    third: &[u16],
+    own2: &[u32],
+    own3: &[u32],
+    long1: &[u16],
+    long2: &[u16],
+    addr: u32,
+) -> u64
+    ensures { λ r. ⌜ Word r (lookupSaid (tableOf p1 p2 count)
+        (lent (now (list .entry)) (now (first .entry)) (now (second .entry)) (now (third .entry)) (now (own2 .entry)) (now (own3 .entry))
+        (now (long1 .entry)) (now (long2 .entry))) addr) ⌝ }
+{
+    let standard = Geometry::STANDARD;
+    if p1 == standard.p1 {
+        if p2 == standard.p2 {
+            return look_standard(
+                count,
+                list,
+                first,
+                second,
+                third,
+                own2,
+                own3,
+                long1,
+                long2,
+                addr,
+            );
+        }
+    }
+    let geometry = Geometry { p1, p2 };
     let z = sizes(
         Table { geometry, count },
         list,

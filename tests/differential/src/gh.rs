@@ -196,3 +196,8 @@ pub fn lookup(p1: u32, p2: u32, count: u32, t: &Eight, addr: u32) -> u64 {
 pub fn lookup_many(p1: u32, p2: u32, count: u32, t: &Eight, addrs: &[u32], out: &mut [u32]) -> u64 {
     raw::lookup_many(&t.lend(p1, p2, count), addrs, out)
 }
+
+#[cfg(feature = "step")]
+pub fn step(p1: u32, p2: u32, count: u32, t: &Eight, packet: &mut [u8]) -> u64 {
+    raw::step(&t.lend(p1, p2, count), packet)
+}

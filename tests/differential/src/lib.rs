@@ -3,6 +3,7 @@
 pub mod basic;
 pub mod broadcast;
 pub mod gen;
+pub mod header;
 pub mod plain;
 pub mod repair;
 pub mod tree_change;

@@ -13,7 +13,10 @@ mod gh;
 mod images;
 mod inputs;
 mod maps;
+mod parts;
 mod run;
+#[cfg(feature = "step")]
+mod steps;
 mod tables;
 mod twice;
 

@@ -300,7 +300,9 @@ fn odd_calls(run: &mut Run, rng: &mut Rng, field: &Field, mut odd: Twice, standi
             _ => any_call(rng, field, &odd, standing),
         };
         odd.step(run, &call);
-        odd.look(run, field.addr(rng));
+        let addr = field.addr(rng);
+        odd.look(run, addr);
+        odd.ask(run, rng, &[addr]);
     }
 }
 

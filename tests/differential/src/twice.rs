@@ -26,7 +26,7 @@ pub struct Twice {
     pub p2: u32,
     pub count: u32,
     pub plain: Lent,
-    library: Eight,
+    pub library: Eight,
     before: Lent,
     /// The standing routes, worked out from the accepted calls alone. Nothing while the table is not sound.
     pub standing: Option<Vec<Route>>,
@@ -48,7 +48,7 @@ impl Twice {
         self.standing = if sound { plain::sound(self.p1, self.p2, self.count, &self.plain) } else { None };
     }
 
-    fn tell(&self, call: &str) -> String {
+    pub fn tell(&self, call: &str) -> String {
         let lent = &self.plain;
         let mut told = format!(
             "call: {call}\ntable: geometry ({}, {}), count {}, list of {} bytes, cells {}, {}, {}, owners {}, {}\n",
@@ -326,7 +326,15 @@ impl Twice {
                 }
             }
         }
+        self.ask(run, rng, &addrs);
         self.look_all(run, addrs);
+    }
+
+    /// What else there is to ask at these addresses.
+    pub fn ask(&self, run: &mut Run, rng: &mut Rng, addrs: &[u32]) {
+        for ask in crate::parts::ASKED {
+            ask(run, rng, self, addrs);
+        }
     }
 
     /// A fresh load of the standing routes gives the same answers at the edges and has as many chunks in use.

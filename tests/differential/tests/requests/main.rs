@@ -5,6 +5,7 @@ use differential::plain::*;
 mod basic;
 mod broadcast;
 mod counts;
+mod header;
 mod host_bits;
 mod mark;
 mod one_image;

@@ -1,0 +1,2 @@
+-- What the demands speak of beyond the definitions of the calls.
+pub mod Covered
