@@ -1,20 +1,19 @@
 -- What a packet does to hop records: its own record counts it, and no other record changes.
-use mathlib.Core.Path.{_≡_, refl, sym, _∙_}
+use mathlib.Core.Path.{_≡_, refl, sym, _∙_, subst}
 use mathlib.Core.Logic.{_⊎_, inl, inr, _≢_}
-use mathlib.Core.Bool.{true, false, true≢false}
+use mathlib.Core.Bool.{Bool, true, false, cond, true≢false}
 use mathlib.Core.List.{List, [], _∷_}
 use Prim.Native.Nat.{ℕ, suc, _+_, _-_, _≤_, _<_, min}
 use native.Mathlib.Omega.{arith}
-use lib.ListN.{length, getD, set, length-set}
+use lib.ListN.{length, getD, length-set}
 use lib.Seq.{getD-set-same, getD-set-other}
-use borrow.Author.Tests.{eqb-true}
-use Rattle.bits.proofs.Bools.{below?, decided}
+use Rattle.bits.proofs.Bools.{below?, equal?, decided}
 use Rattle.routes.specs.Said.{Said, accepted, refused, refusedAt, accepts}
 use Rattle.hop_records.specs.Records.{noRecord, grown, countedBy, isUp, hasRecord, recordOf}
 use Rattle.hop_records.specs.Forward.{portSaid, forwardSaid, hopOf, recordsAfter}
 use Rattle.hop_records.specs.Steps.{sentBy}
 use Rattle.hop_records.specs.declared.HopRecord.{HopRecord}
-use Rattle.hop_records.proofs.Meanings.{record-is, record-not, port-none, port-down, port-up, after-none, after-down, after-up}
+use Rattle.hop_records.proofs.Meanings.{record-is, record-not, port-up, after-none, after-down, after-up}
 
 -- "after 4,294,967,295 the next value is 0"; before it, it is the next number
 pub counter-wraps : grown 4294967295 1 ≡ 0
@@ -77,6 +76,39 @@ module _ (rs : List HopRecord) (s : Said) (n : ℕ) where
   beyond-stays k b =
       by-record rs (hopOf s) _ (λ e. rw (after-none rs s n e)) (λ e u. rw (after-down rs s n u))
       (λ e u. forward-others k (λ q. true≢false (sym e ∙ record-not rs (hopOf s) (inr (omega arith)))))
+
+-- port and mark stay
+module _ (r : HopRecord) (n : ℕ) where
+  sent-port : sentBy r n .port ≡ r .port
+  sent-port = go (isUp r)
+    where
+      go : (b : Bool) → cond b (countedBy r n) r .port ≡ r .port
+      go true = refl
+      go false = refl
+
+  sent-mark : sentBy r n .up ≡ r .up
+  sent-mark = go (isUp r)
+    where
+      go : (b : Bool) → cond b (countedBy r n) r .up ≡ r .up
+      go true = refl
+      go false = refl
+
+-- the record at a place after a packet, in one word: as it was, or as it is sent to
+after-at : (P : HopRecord → Type 0) (rs : List HopRecord) (s : Said) (n k : ℕ) → P (getD rs k noRecord) → P (sentBy (getD rs k noRecord) n)
+    → P (getD (recordsAfter rs s n) k noRecord)
+after-at P rs s n k was sent = go (equal? (hopOf s) (suc k)) (below? k (min (length rs) 32767))
+  where
+    go : (hopOf s ≡ suc k) ⊎ (hopOf s ≢ suc k) → (k < min (length rs) 32767) ⊎ (min (length rs) 32767 ≤ k) → P (getD (recordsAfter rs s n) k noRecord)
+    go (inr d) l = subst P (sym (forward-others rs s n k d)) was
+    go (inl e) (inl l) = subst P (sym (forward-own rs s n k e (omega arith) (omega arith))) sent
+    go (inl e) (inr l) =
+        subst (λ (zs : List HopRecord). P (getD zs k noRecord)) (sym (after-none rs s n (record-not rs (hopOf s) (inr (omega arith))))) was
+
+pub keeps-port : (rs : List HopRecord) (s : Said) (n k : ℕ) → getD (recordsAfter rs s n) k noRecord .port ≡ getD rs k noRecord .port
+keeps-port rs s n k = after-at (λ (r : HopRecord). r .port ≡ getD rs k noRecord .port) rs s n k refl (sent-port (getD rs k noRecord) n)
+
+pub keeps-mark : (rs : List HopRecord) (s : Said) (n k : ℕ) → getD (recordsAfter rs s n) k noRecord .up ≡ getD rs k noRecord .up
+keeps-mark rs s n k = after-at (λ (r : HopRecord). r .up ≡ getD rs k noRecord .up) rs s n k refl (sent-mark (getD rs k noRecord) n)
 
 -- 14, 15 and lookup's refusals add nothing
 pub refused-adds : (rs : List HopRecord) (s : Said) (n : ℕ) → accepts (forwardSaid rs s) ≡ false → recordsAfter rs s n ≡ rs

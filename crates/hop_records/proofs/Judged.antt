@@ -17,10 +17,18 @@ use Rattle.standing.specs.Served.{Served}
 use Rattle.standing.proofs.Served.{served-once}
 use Rattle.sail.specs.Word.{saidOf, hasHop, hopInWord}
 use Rattle.hop_records.specs.Records.{isUp, hasRecord, recordOf}
-use Rattle.hop_records.specs.Forward.{portSaid, forwardSaid, packForward, countedWord}
+use Rattle.hop_records.specs.Forward.{portSaid, forwardSaid, hopOf, packForward, countedWord}
 use Rattle.hop_records.specs.Cases.{HasRecord, Forward, Counted, ForwardServed}
 use Rattle.hop_records.specs.declared.HopRecord.{HopRecord}
 use Rattle.hop_records.proofs.Meanings.{record-is, record-not, port-none, port-down, port-up}
+
+-- without a hop
+pub no-hop-zero : (s : Said) → hasHop s ≡ false → hopOf s ≡ 0
+no-hop-zero (accepted []) e = refl
+no-hop-zero (accepted (n ∷ [])) e = refl
+no-hop-zero (accepted (n ∷ h ∷ vs)) e = absurd (true≢false (sym (lt-ltb 1 (length (n ∷ h ∷ vs)) (omega arith)) ∙ e))
+no-hop-zero (refused k) e = refl
+no-hop-zero (refusedAt k i) e = refl
 
 module _ (rs : List HopRecord) where
   -- the test of a record is the meaning of having one

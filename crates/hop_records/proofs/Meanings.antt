@@ -154,7 +154,8 @@ module _ (rs : List HopRecord) (w : ℕ) where
         go (inl d) r =
             ap (λ (b : Bool). answerWord w (cond b (recordOf rs h .port + 2) 1)) d
             ∙ sym (answer-port w (recordOf rs h .port + 2) e z (λ q. omega arith) (λ q. omega arith))
-            ∙ (let v : w % 4294967296 + (recordOf rs h .port + 2 - 2) * 4294967296 ≡ reads * 256 + h * 65536 + recordOf rs h .port * 4294967296 = omega arith in
+            ∙ (let v : w % 4294967296 + (recordOf rs h .port + 2 - 2) * 4294967296 ≡ reads * 256 + h * 65536 + recordOf rs h .port * 4294967296 =
+            omega arith in
             v ∙ sym (ap packForward (port-up rs reads h r d)))
 
     hop-records : (n : ℕ) → (min (length rs) 32767 < h) ⊎ (h ≤ min (length rs) 32767) → (isUp (recordOf rs h) ≡ true) ⊎ (isUp (recordOf rs h) ≡ false)
@@ -183,7 +184,8 @@ module _ (rs : List HopRecord) (w : ℕ) where
       go : Reading w → sent rs place n ≡ recordsAfter rs (saidOf w) n
       go (Reading.number m) =
           ap (λ (k : ℕ). sent rs k n) (plain-past (rw (ne-eqb (w % 256) 0 m))) ∙ sym (past-is rs (length rs) n (omega arith))
-          ∙ sym (ap (λ (s : Said). recordsAfter rs s n) (sym (says-number w m)) ∙ after-none rs (refused (w % 256)) n (record-not rs 0 (inl (omega arith))))
+          ∙ sym (ap (λ (s : Said). recordsAfter rs s n) (sym (says-number w m)) ∙ after-none rs (refused (w % 256)) n
+          (record-not rs 0 (inl (omega arith))))
       go (Reading.none e z) =
           ap (λ (k : ℕ). sent rs k n) (plain-past (rw (eq-eqb (w % 256) 0 e, lt-leb 65536 w z))) ∙ sym (past-is rs (length rs) n (omega arith))
           ∙ sym (ap (λ (s : Said). recordsAfter rs s n) (sym (says-none w e reads refl (omega arith)))
@@ -193,7 +195,8 @@ module _ (rs : List HopRecord) (w : ℕ) where
           ∙ sym (ap (λ (s : Said). recordsAfter rs s n) (says e z))
 
   -- the three steps meet the statement of counting
-  pub count-meets : (zs : List HopRecord) (n k p r : ℕ) → k ≡ place → p ≡ sendAnswer rs k → zs ≡ sent rs k n → r ≡ answerWord w p → MeetsCount rs w n r zs
+  pub count-meets : (zs : List HopRecord) (n k p r : ℕ) → k ≡ place → p ≡ sendAnswer rs k → zs ≡ sent rs k n → r ≡ answerWord w p
+      → MeetsCount rs w n r zs
   count-meets zs n k p r ek ep ez er =
       (er ∙ ap (answerWord w) (ep ∙ ap (sendAnswer rs) ek) ∙ answer-is, ez ∙ ap (λ (x : ℕ). sent rs x n) ek ∙ records-are n)
 
@@ -212,7 +215,8 @@ module _ (rs : List HopRecord) (w : ℕ) (s : Said) (word : Word w s) where
   unfolding countedWord
   counted-said = go (decided (hopInWord w))
     where
-      go : (hopInWord w ≡ true) ⊎ (hopInWord w ≡ false) → cond (hopInWord w) (packForward (forwardSaid rs (saidOf w))) w ≡ packForward (forwardSaid rs s)
+      go : (hopInWord w ≡ true) ⊎ (hopInWord w ≡ false)
+          → cond (hopInWord w) (packForward (forwardSaid rs (saidOf w))) w ≡ packForward (forwardSaid rs s)
       go (inl e) = rw e (ap (λ (x : Said). packForward (forwardSaid rs x)) (word .back))
       go (inr e) = rw e (word .packs ∙ plain-pack rs s (sym (word-hop w s word) ∙ e))
 

@@ -15,7 +15,7 @@ use Rattle.hop_records.specs.Forward.{hopOf, recordsAfter}
 use Rattle.hop_records.specs.Runs.{Packet, recordsRun, packetsTo, octetsTo, sentMany, Counting}
 use Rattle.hop_records.specs.Steps.{sentBy}
 use Rattle.hop_records.specs.declared.HopRecord.{HopRecord}
-use Rattle.hop_records.proofs.Counts.{grown-twice, same-many, forward-own, forward-others, beyond-stays}
+use Rattle.hop_records.proofs.Counts.{grown-twice, same-many, forward-own, forward-others, beyond-stays, keeps-port, keeps-mark}
 
 -- a record with other counts
 abbrev with : HopRecord → ℕ → ℕ → HopRecord
@@ -83,3 +83,14 @@ unfolding recordsRun
 run-beyond [] rs k b = refl
 run-beyond (p ∷ ps) rs k b =
     run-beyond ps (recordsAfter rs (p .found) (p .octets)) k b ∙ beyond-stays rs (p .found) (p .octets) k b
+
+-- port and mark stay in every record
+pub run-port : (ps : List Packet) (rs : List HopRecord) (k : ℕ) → getD (recordsRun rs ps) k noRecord .port ≡ getD rs k noRecord .port
+unfolding recordsRun
+run-port [] rs k = refl
+run-port (p ∷ ps) rs k = run-port ps (recordsAfter rs (p .found) (p .octets)) k ∙ keeps-port rs (p .found) (p .octets) k
+
+pub run-mark : (ps : List Packet) (rs : List HopRecord) (k : ℕ) → getD (recordsRun rs ps) k noRecord .up ≡ getD rs k noRecord .up
+unfolding recordsRun
+run-mark [] rs k = refl
+run-mark (p ∷ ps) rs k = run-mark ps (recordsAfter rs (p .found) (p .octets)) k ∙ keeps-mark rs (p .found) (p .octets) k
