@@ -24,7 +24,7 @@ use Rattle.hop_records.proofs.Judged.{forward-judged, counted-only}
 use Rattle.hop_records.proofs.Meanings.{count-forwards}
 use Rattle.packing.specs.Unpack.{field, FitsWord, FoundFits, Cells16}
 use Rattle.packing.specs.Parts.{parts}
-use Rattle.packing.proofs.Unpacks.{ReadsAccepted, said-read}
+use Rattle.packing.proofs.Unpacks.{field-is, ReadsAccepted, said-read}
 use Rattle.packing.proofs.Parts.{Sums, said-parts}
 use Rattle.cards.specs.Packets.{forwardValues, unpackForward, ForwardFits, forwardParts, Ports16}
 use Rattle.cards.proofs.Fits.{lookup-fits}
@@ -36,7 +36,7 @@ unfolding packed forwardValues forwardParts
 port-read n h p x a b c d e =
     let f : field 8 8 x ≡ n = omega arith in
     let g : field 16 16 x ≡ h = omega arith in
-    let i : field 32 16 x ≡ p = omega arith in
+    let i : field 32 16 x ≡ p = field-is 32 16 (n * 256 + h * 65536) p 0 x (omega arith) d (omega arith) in
     (record { none = omega arith; back = rw (f, g, i, ne-eqb h 0 (λ z. omega arith)) }, record { none = omega arith; sum = rw (f, g, i) (omega arith) })
 
 none-read : (n x : ℕ) → n < 2 ^ 8 → x ≡ packForward (accepted (n ∷ [])) → ReadsAccepted forwardValues x (n ∷ []) × Sums forwardParts x
@@ -106,18 +106,26 @@ pub gh-count-same : (rs : List HopRecord) (w : ℕ) → hopInWord w ≡ false �
 gh-count-same rs w e = counted-only rs w w (Counted.no-hop e)
 
 -- a lookup's number is read back as what the lookup says
+hop-word : (n h w : ℕ) → n < 2 ^ 8 → 1 ≤ h → w ≡ n * 256 + h * 65536 → saidOf w ≡ accepted (n ∷ h ∷ [])
+unfolding saidOf hopSaid
+hop-word n h w a b e =
+    let low : w % 256 ≡ 0 = omega arith in
+    let f : w / 256 % 256 ≡ n = field-is 8 8 0 n h w (omega arith) a (omega arith) in
+    let g : w / 65536 ≡ h = omega arith in
+    rw (low, f, g, ne-eqb h 0 (λ z. omega arith))
+
+none-word : (n w : ℕ) → n < 2 ^ 8 → w ≡ n * 256 → saidOf w ≡ accepted (n ∷ [])
+unfolding saidOf hopSaid
+none-word n w a e =
+    let low : w % 256 ≡ 0 = omega arith in
+    let f : w / 256 % 256 ≡ n = field-is 8 8 0 n 0 w (omega arith) a (omega arith) in
+    let g : w / 65536 ≡ 0 = omega arith in
+    rw (low, f, g)
+
 found-word : (s : Said) → FitsWord 0 FoundFits s → Word (packFound s) s
-unfolding packed saidOf hopSaid
-found-word _ (FitsWord.values _ (FoundFits.hop n h a b c)) =
-    let low : (n * 256 + h * 65536) % 256 ≡ 0 = omega arith in
-    let f : (n * 256 + h * 65536) / 256 % 256 ≡ n = omega arith in
-    let g : (n * 256 + h * 65536) / 65536 ≡ h = omega arith in
-    record { packs = refl; back = rw (low, f, g, ne-eqb h 0 (λ z. omega arith)) }
-found-word _ (FitsWord.values _ (FoundFits.none n a)) =
-    let low : (n * 256 + 0 * 65536) % 256 ≡ 0 = omega arith in
-    let f : (n * 256 + 0 * 65536) / 256 % 256 ≡ n = omega arith in
-    let g : (n * 256 + 0 * 65536) / 65536 ≡ 0 = omega arith in
-    record { packs = refl; back = rw (low, f, g) }
+unfolding packed saidOf
+found-word _ (FitsWord.values _ (FoundFits.hop n h a b c)) = record { packs = refl; back = hop-word n h _ a b refl }
+found-word _ (FitsWord.values _ (FoundFits.none n a)) = record { packs = refl; back = none-word n (n * 256 + 0 * 65536) a (omega arith) }
 found-word _ (FitsWord.number n a b) =
     let low : n % 256 ≡ n = omega arith in
     record { packs = refl; back = rw (low, ne-eqb n 0 (λ z. omega arith)) }

@@ -7,6 +7,7 @@ use Rattle.examples.proofs.EdgesChanges.{blank-hold, runs-hold}
 use Rattle.examples.proofs.EdgesImages.{images-hold}
 use Rattle.examples.proofs.EdgesTreeChanges.{tree-changes-hold}
 use Rattle.examples.proofs.EdgesRepairs.{repairs-hold}
+use Rattle.examples.proofs.EdgesPackets.{packets-hold}
 
 pub edges-hold : Edges
 edges-hold = record {
@@ -18,4 +19,5 @@ edges-hold = record {
   images-of = images-hold;
   tree-changes-of = tree-changes-hold;
   repairs-of = repairs-hold;
+  packets-of = packets-hold;
 }
