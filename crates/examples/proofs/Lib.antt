@@ -10,7 +10,7 @@ pub mod EdgesLookups
 pub mod EdgesChanges
 pub mod EdgesImages
 pub mod EdgesRepairs
-pub mod EdgesPackets
+pub mod EdgesHopRecords
 pub mod EdgesTreeChanges
 pub mod TreeChanges
 pub mod Edges
@@ -26,4 +26,4 @@ pub mod NotByNeed
 pub mod NotHeld
 pub mod Broadcasts
 pub mod Repairs
-pub mod Packets
+pub mod HopRecords

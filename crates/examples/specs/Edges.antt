@@ -8,7 +8,7 @@ use Rattle.examples.specs.EdgesChanges as changes
 use Rattle.examples.specs.EdgesImages as images
 use Rattle.examples.specs.EdgesTreeChanges as treeChanges
 use Rattle.examples.specs.EdgesRepairs as repairs
-use Rattle.examples.specs.EdgesPackets as packets
+use Rattle.examples.specs.EdgesHopRecords as hopRecords
 
 pub record Edges : Type 0 where
   pub sizes-of : Hold blank.answer sizes.edges
@@ -19,4 +19,4 @@ pub record Edges : Type 0 where
   pub images-of : Hold images.answer images.edges
   pub tree-changes-of : Hold treeChanges.answer treeChanges.edges
   pub repairs-of : Hold repairs.answer repairs.edges
-  pub packets-of : Hold packets.answer packets.edges
+  pub hop-records-of : Hold hopRecords.answer hopRecords.edges

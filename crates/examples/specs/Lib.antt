@@ -8,6 +8,6 @@ pub mod EdgesLookups
 pub mod EdgesChanges
 pub mod EdgesImages
 pub mod EdgesRepairs
-pub mod EdgesPackets
+pub mod EdgesHopRecords
 pub mod Edges
 pub mod EdgesTreeChanges

@@ -17,10 +17,10 @@ use Rattle.hop_records.specs.Runs.{Packet, recordsRun, packetsTo, octetsTo, Cou
 use Rattle.hop_records.specs.Cases.{ForwardServed}
 use Rattle.hop_records.specs.Contract.{MeetsForward, MeetsCount}
 use Rattle.hop_records.specs.declared.HopRecord.{HopRecord}
-use Rattle.demands.proofs.Packets as demand
+use Rattle.demands.proofs.HopRecords as demand
 use Rattle.examples.specs.Lines.{ip}
 use Rattle.examples.specs.Starred.{loadedA, answer, starred}
-use Rattle.examples.specs.EdgesPackets.{hopRecord, holding, full}
+use Rattle.examples.specs.EdgesHopRecords.{hopRecord, holding, full}
 use Rattle.examples.proofs.Witness.{line, t, l, soundA}
 
 -- 10.1.2.200 of list A

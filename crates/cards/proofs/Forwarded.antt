@@ -26,7 +26,7 @@ use Rattle.packing.specs.Unpack.{field, FitsWord, FoundFits, Cells16}
 use Rattle.packing.specs.Parts.{parts}
 use Rattle.packing.proofs.Unpacks.{field-is, ReadsAccepted, said-read}
 use Rattle.packing.proofs.Parts.{Sums, said-parts}
-use Rattle.cards.specs.Packets.{forwardValues, unpackForward, ForwardFits, forwardParts, Ports16}
+use Rattle.cards.specs.Forwarded.{forwardValues, unpackForward, ForwardFits, forwardParts, Ports16}
 use Rattle.cards.proofs.Fits.{lookup-fits}
 
 -- the layout over its number

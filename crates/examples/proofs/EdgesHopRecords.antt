@@ -6,8 +6,8 @@ use Rattle.sail.specs.Word.{packed, saidOf}
 use Rattle.hop_records.specs.Records.{hasRecord}
 use Rattle.hop_records.specs.Forward.{portSaid, recordsAfter, countedWord}
 use Rattle.examples.specs.Lines.{Hold}
-use Rattle.examples.specs.EdgesPackets.{holding, answer, edges}
+use Rattle.examples.specs.EdgesHopRecords.{holding, answer, edges}
 
-pub packets-hold : Hold answer edges
+pub hop-records-hold : Hold answer edges
 unfolding Hold answer edges holding tabulate hasRecord portSaid recordsAfter countedWord saidOf hopSaid packed
-packets-hold = refl
+hop-records-hold = refl
