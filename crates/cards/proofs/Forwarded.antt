@@ -9,7 +9,7 @@ use lib.Dec.{eqb, leb}
 use lib.ListN.{length}
 use borrow.Author.Tests.{ne-eqb, lt-ltb, eqb-true, leb-true}
 use Rattle.bits.proofs.Bools.{and-split}
-use Rattle.routes.specs.Said.{Said, accepted, refused}
+use Rattle.routes.specs.Said.{Said, accepted}
 use Rattle.standing.specs.Served.{hopSaid}
 use Rattle.sail.specs.Lent.{Lent}
 use Rattle.sail.specs.Walk.{lookupSaid}

@@ -8,7 +8,7 @@ use hop_records::HopRecord;
 use hop_records::answer;
 use hop_records::place;
 use hop_records::send;
-use sail_words::look_by;
+use sail_words::look_forward;
 
 // A packet whose lookup answered `found`: its record is counted, and the answer has the port.
 #[no_mangle]
@@ -42,7 +42,7 @@ pub extern "C" fn gh_forward(
         (lent (now (list .entry)) (now (first .entry)) (now (second .entry)) (now (third .entry)) (now (own2 .entry)) (now (own3 .entry))
         (now (long1 .entry)) (now (long2 .entry))) addr) octets r (now (records .exit)) ⌝ }
 {
-    let found = look_by(
+    let found = look_forward(
         p1,
         p2,
         count,

@@ -1,5 +1,5 @@
 -- The demands of forwarding and counting packets (document 02, request a). Both take the table by `&`; what they change is the list of hop records.
-use mathlib.Core.Path.{_≡_, refl, sym, ap, _∙_, subst}
+use mathlib.Core.Path.{_≡_, refl, ap, _∙_, subst}
 use mathlib.Core.Logic.{_↔_, _≢_}
 use mathlib.Core.Bool.{false}
 use mathlib.Core.List.{List}

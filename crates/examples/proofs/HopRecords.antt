@@ -6,7 +6,7 @@ use Prim.Native.Nat.{ℕ, _+_, _*_, _^_}
 use native.Mathlib.Omega.{arith}
 use lib.ListN.{getD}
 use Rattle.bits.specs.Tab.{tabulate}
-use Rattle.routes.specs.Said.{Said, accepted, refused, hopAfter}
+use Rattle.routes.specs.Said.{Said, refused, hopAfter}
 use Rattle.standing.specs.Served.{hopSaid}
 use Rattle.sail.specs.Walk.{lookupSaid}
 use Rattle.sail.specs.Word.{packed, saidOf}

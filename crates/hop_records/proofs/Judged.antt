@@ -1,12 +1,12 @@
 -- What forwarding and counting answer: what goes with the case that holds (specs/Cases.antt), and nothing else.
 use mathlib.Core.Path.{_≡_, refl, sym, ap, _∙_, subst}
 use mathlib.Core.Logic.{_⊎_, inl, inr, _≢_}
-use mathlib.Core.Bool.{true, false, true≢false, false≢true}
+use mathlib.Core.Bool.{true, false, true≢false}
 use mathlib.Core.List.{List, [], _∷_}
 use Prim.Native.Nat.{ℕ, _≤_, _<_, min}
 use native.Mathlib.Omega.{arith}
 use lib.ListN.{length}
-use borrow.Author.Tests.{eq-eqb, ne-eqb, eqb-true, lt-ltb}
+use borrow.Author.Tests.{eq-eqb, ne-eqb, lt-ltb}
 use Rattle.bits.proofs.Bools.{below?, equal?, decided, untrue}
 use Rattle.routes.specs.Route.{Good}
 use Rattle.routes.specs.Said.{Said, accepted, refused, refusedAt, hopAfter}

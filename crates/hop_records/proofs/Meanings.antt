@@ -1,7 +1,7 @@
 -- What the steps of the code come to, for every word: the answer and the records of `MeetsCount`. And for a lookup's word, those of `MeetsForward`.
 -- A word without a hop has no place, so nothing is sent and it is answered as it is. One with a hop has the place before its hop's, if that is
 -- a place of the list at all; what `send` answers there is 0, 1 or the port and 2, which are the three cases of `portSaid`.
-use mathlib.Core.Path.{_≡_, refl, sym, ap, ap₂, _∙_}
+use mathlib.Core.Path.{_≡_, refl, sym, ap, _∙_}
 use mathlib.Core.Logic.{_⊎_, inl, inr, _≢_}
 use mathlib.Core.Bool.{Bool, true, false, _&&_, cond, true≢false}
 use mathlib.Core.List.{List, [], _∷_}

@@ -44,7 +44,7 @@ use denote.Triple.Table.{entered, cited}
 use denote.Triple.Statement.{Contract, Triple}
 use denote.Triple.Call.{calls-at}
 use denote.Triple.Clauses.{ensured, lasts}
-use denote.Triple.Walked.{says, needs, Stays, stay-slice, stay-none, walkOf, AllGo, Walks, ends-at, walked, goes-slice, goes-none, walk-meets}
+use denote.Triple.Walked.{says, Stays, stay-slice, stay-none, walkOf, AllGo, Walks, ends-at, walked, goes-slice, goes-none, walk-meets}
 use denote.Exit.{yes}
 use Rattle.hop_records.specs.Records.{noRecord}
 use Rattle.hop_records.specs.Steps.{sentBy, portOrDown}

@@ -1,6 +1,6 @@
 -- `cards::forwards::gh_forward`: a walk of its MIR, two calls in a row, written by `scripts/walk gh_forward`.
--- All that it knows of `look_by` and `gh_count` is that each meets its contract. The `&` slices are Copy: `look_by` gets a copy. The records go
--- to `gh_count` at their own lifetime, share and name.
+-- All that it knows of `look_forward` and `gh_count` is that each meets its contract. The `&` slices are Copy:
+-- `look_forward` gets a copy. The records go to `gh_count` at their own lifetime, share and name.
 use mathlib.Core.Path.{_≡_, refl}
 use Prim.Native.Nat.{ℕ, _<_, _^_}
 use mathlib.Core.List.{List, [], _∷_}
@@ -49,10 +49,10 @@ use Rattle.hop_records.specs.Contract.{MeetsCount, MeetsForward}
 use Rattle.hop_records.specs.declared.HopRecord.{HopRecord}
 use Rattle.hop_records.proofs.Meanings.{count-forwards}
 use Rattle.hop_records.proofs.HopRecord as T
-use Rattle.sail_words.proofs.look_by as find
-use Rattle.sail_words.proofs.look_by.Symbol as find-def
-use Rattle.sail_words.proofs.look_by.Symbol.{name as #find}
-use Rattle.sail_words.proofs.look_by.Met as find-thm
+use Rattle.sail_words.proofs.look_forward as find
+use Rattle.sail_words.proofs.look_forward.Symbol as find-def
+use Rattle.sail_words.proofs.look_forward.Symbol.{name as #find}
+use Rattle.sail_words.proofs.look_forward.Met as find-thm
 use Rattle.cards.proofs.forwards.gh_count as counting
 use Rattle.cards.proofs.forwards.gh_count.Symbol as count-def
 use Rattle.cards.proofs.forwards.gh_count.Symbol.{name as #count}
@@ -218,7 +218,7 @@ module _ {M : Type 1} (𝓤 : URA M) (H : Heap 𝓤) (A : Atoms 𝓤) (W : Given
   Post = walkOf 𝓤 H A f.ended stayed (f.clauses 𝓤 H A at-mem run) .post
       ((κs, (q0, (q1, (q2, (q3, (q4, (q5, (q6, (q7, (q8, tt))))))))), tt, args, at), tt)
 
-  -- the call of `look_by`
+  -- the call of `look_forward`
   abbrev κs′ : Lfts 8
   κs′ = (κ0, (κ1, (κ2, (κ3, (κ4, (κ5, (κ6, (κ7, tt))))))))
 
@@ -540,6 +540,6 @@ gh-forward-spec 𝓤 H 𝓜 𝓖 𝓡 =
     entered 𝓤 H (tripleOf 𝓤 H (𝓖 .A) f.signature (f.spec 𝓤 H (𝓖 .A) (𝓜 .mem) (𝓡 .run)))
     (tables 𝓤 H 𝓜 𝓡 code.env .C) (tables 𝓤 H 𝓜 𝓡 code.env .Λ) #gh_forward code.function (code.unfolded 𝓤 H 𝓜 𝓡)
     (meets 𝓤 H (𝓖 .A) (givenOf 𝓤 H 𝓜 𝓖) (𝓜 .mem) (𝓡 .run) (tablesOf 𝓤 H 𝓜 (tables 𝓤 H 𝓜 𝓡 code.env))
-    (cited 𝓤 H (Find 𝓤 H (𝓖 .A) (𝓜 .mem) (𝓡 .run)) 𝓜 𝓡 code.env #find find-def.routine code.calls-sail-words·look-by (find-thm.met 𝓤 H 𝓜 𝓖 𝓡))
+    (cited 𝓤 H (Find 𝓤 H (𝓖 .A) (𝓜 .mem) (𝓡 .run)) 𝓜 𝓡 code.env #find find-def.routine code.calls-sail-words·look-forward (find-thm.met 𝓤 H 𝓜 𝓖 𝓡))
     (cited 𝓤 H (Count 𝓤 H (𝓖 .A) (𝓜 .mem) (𝓡 .run)) 𝓜 𝓡 code.env #count count-def.routine code.calls-cards·forwards·gh-count
     (count-thm.met 𝓤 H 𝓜 𝓖 𝓡)))
