@@ -5,9 +5,9 @@ ghost use Rattle.sail.specs.Lent.{lent};
 ghost use Rattle.sail.specs.Walk.{lookupSaid};
 ghost use Rattle.sail_words.specs.Lookups.{tableOf};
 use hop_records::HopRecord;
-use hop_records::answer;
 use hop_records::place;
 use hop_records::send;
+use hop_records::without_record;
 use sail_words::look_forward;
 
 // A packet whose lookup answered `found`: its record is counted, and the answer has the port.
@@ -16,8 +16,8 @@ pub extern "C" fn gh_count(found: u64, records: &mut [HopRecord], octets: u32) -
     ensures { λ r. ⌜ MeetsCount (now (records .entry)) found octets r (now (records .exit)) ⌝ }
 {
     let k = place(found, records.len());
-    let s = send(records, k, octets);
-    answer(found, s)
+    let none = without_record(found);
+    send(records, k, octets, found, none)
 }
 
 // The lookup of an address with the port of its hop's record, which alone is counted.

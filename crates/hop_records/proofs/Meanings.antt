@@ -1,6 +1,6 @@
 -- What the steps of the code come to, for every word: the answer and the records of `MeetsCount`. And for a lookup's word, those of `MeetsForward`.
 -- A word without a hop has no place, so nothing is sent and it is answered as it is. One with a hop has the place before its hop's, if that is
--- a place of the list at all; what `send` answers there is 0, 1 or the port and 2, which are the three cases of `portSaid`.
+-- a place of the list at all: the answer there, and 14 past the end, are the three cases of `portSaid`.
 use mathlib.Core.Path.{_≡_, refl, sym, ap, _∙_}
 use mathlib.Core.Logic.{_⊎_, inl, inr, _≢_}
 use mathlib.Core.Bool.{Bool, true, false, _&&_, cond, true≢false}
@@ -19,9 +19,9 @@ use Rattle.sail.proofs.Words.{says-number, says-none, says-hop, word-hop}
 use Rattle.hop_records.specs.Records.{noRecord, countedBy, isUp, hasRecord, recordOf}
 use Rattle.hop_records.specs.Forward.{packed, portSaid, forwardSaid, hopOf, recordsAfter, packForward, countedWord}
 use Rattle.hop_records.specs.Contract.{MeetsForward, MeetsCount}
-use Rattle.hop_records.specs.Steps.{portOrDown, sent, sendAnswer, placeOfHop, answerWord}
+use Rattle.hop_records.specs.Steps.{sent, recordWord, plainWord, sendWord, placeOfHop}
 use Rattle.hop_records.specs.declared.HopRecord.{HopRecord}
-use Rattle.hop_records.proofs.Steps.{place-hop, place-large, answer-no-record, answer-down, answer-port, past-answer, past-is}
+use Rattle.hop_records.proofs.Steps.{place-hop, place-large, plain-hop, past-word, past-is}
 
 and-fails : (a : Bool) {b : Bool} → b ≡ false → (a && b) ≡ false
 and-fails true e = e
@@ -78,9 +78,9 @@ module _ (rs : List HopRecord) (k : ℕ) where
   unfolding sent
   sent-up n u = rw u
 
-  answer-at : k < length rs → sendAnswer rs k ≡ portOrDown (getD rs k noRecord)
-  unfolding sendAnswer
-  answer-at h = rw (lt-ltb k (length rs) h)
+  word-at : (w none : ℕ) → k < length rs → sendWord rs k w none ≡ recordWord (getD rs k noRecord) w
+  unfolding sendWord
+  word-at w none h = rw (lt-ltb k (length rs) h)
 
 -- the three kinds of words
 data Reading (w : ℕ) : Type 0 where
@@ -112,9 +112,10 @@ module _ (rs : List HopRecord) (w : ℕ) where
   unfolding placeOfHop
   plain-past e = rw e
 
-  plain-answer : hopInWord w ≡ false → (s : ℕ) → answerWord w s ≡ countedWord rs w
-  unfolding answerWord countedWord
-  plain-answer e s = rw e
+  plain-answer : hopInWord w ≡ false → sendWord rs place w (plainWord w) ≡ countedWord rs w
+  unfolding countedWord
+  plain-answer e =
+      ap (λ (k : ℕ). sendWord rs k w (plainWord w)) (plain-past e) ∙ sym (past-word rs (length rs) w (plainWord w) (omega arith)) ∙ rw e
 
   -- a word with a hop
   module _ (e : w % 256 ≡ 0) (z : 65536 ≤ w) where
@@ -136,27 +137,21 @@ module _ (rs : List HopRecord) (w : ℕ) where
     there l = sym (place-hop w (length rs) e z (omega arith))
 
     hop-answer : (min (length rs) 32767 < h) ⊎ (h ≤ min (length rs) 32767) → (isUp (recordOf rs h) ≡ true) ⊎ (isUp (recordOf rs h) ≡ false)
-        → answerWord w (sendAnswer rs place) ≡ countedWord rs w
+        → sendWord rs place w (plainWord w) ≡ countedWord rs w
     unfolding packed
     hop-answer (inl l) u =
-        ap (answerWord w) (sym (past-answer rs place (past l))) ∙ sym (answer-no-record w 0 e z refl)
+        sym (past-word rs place w (plainWord w) (past l)) ∙ sym (plain-hop w e z)
         ∙ sym (hop-counted ∙ ap packForward (port-none rs reads h (record-not rs h (inr l))))
     hop-answer (inr l) u =
-        let at : sendAnswer rs place ≡ portOrDown (recordOf rs h) = ap (sendAnswer rs) (there l) ∙ answer-at rs (h - 1) (omega arith) in
-        let e1 = record-is rs h (omega arith) l in
-        ap (answerWord w) at ∙ go u e1 ∙ sym hop-counted
+        ap (λ (k : ℕ). sendWord rs k w (plainWord w)) (there l) ∙ word-at rs (h - 1) w (plainWord w) (omega arith)
+        ∙ go u (record-is rs h (omega arith) l) ∙ sym hop-counted
       where
         go : (isUp (recordOf rs h) ≡ true) ⊎ (isUp (recordOf rs h) ≡ false) → hasRecord rs h ≡ true
-            → answerWord w (portOrDown (recordOf rs h)) ≡ packForward (portSaid rs reads h)
-        go (inr d) r =
-            ap (λ (b : Bool). answerWord w (cond b (recordOf rs h .port + 2) 1)) d ∙ sym (answer-down w 1 e z (λ q. omega arith) refl)
-            ∙ sym (ap packForward (port-down rs reads h r d))
+            → recordWord (recordOf rs h) w ≡ packForward (portSaid rs reads h)
+        go (inr d) r = rw d (sym (ap packForward (port-down rs reads h r d)))
         go (inl d) r =
-            ap (λ (b : Bool). answerWord w (cond b (recordOf rs h .port + 2) 1)) d
-            ∙ sym (answer-port w (recordOf rs h .port + 2) e z (λ q. omega arith) (λ q. omega arith))
-            ∙ (let v : w % 4294967296 + (recordOf rs h .port + 2 - 2) * 4294967296 ≡ reads * 256 + h * 65536 + recordOf rs h .port * 4294967296 =
-            omega arith in
-            v ∙ sym (ap packForward (port-up rs reads h r d)))
+            let v : w % 4294967296 + recordOf rs h .port * 4294967296 ≡ reads * 256 + h * 65536 + recordOf rs h .port * 4294967296 = omega arith in
+            rw d (v ∙ sym (ap packForward (port-up rs reads h r d)))
 
     hop-records : (n : ℕ) → (min (length rs) 32767 < h) ⊎ (h ≤ min (length rs) 32767) → (isUp (recordOf rs h) ≡ true) ⊎ (isUp (recordOf rs h) ≡ false)
         → sent rs place n ≡ recordsAfter rs (accepted (reads ∷ h ∷ [])) n
@@ -168,12 +163,12 @@ module _ (rs : List HopRecord) (w : ℕ) where
         ∙ sym (after-up rs (accepted (reads ∷ h ∷ [])) n (record-is rs h (omega arith) l) d)
 
   -- what the steps answer
-  answer-is : answerWord w (sendAnswer rs place) ≡ countedWord rs w
+  answer-is : sendWord rs place w (plainWord w) ≡ countedWord rs w
   answer-is = go (reading w)
     where
-      go : Reading w → answerWord w (sendAnswer rs place) ≡ countedWord rs w
-      go (Reading.number n) = plain-answer (rw (ne-eqb (w % 256) 0 n)) _
-      go (Reading.none e z) = plain-answer (rw (eq-eqb (w % 256) 0 e, lt-leb 65536 w z)) _
+      go : Reading w → sendWord rs place w (plainWord w) ≡ countedWord rs w
+      go (Reading.number n) = plain-answer (rw (ne-eqb (w % 256) 0 n))
+      go (Reading.none e z) = plain-answer (rw (eq-eqb (w % 256) 0 e, lt-leb 65536 w z))
       go (Reading.hop e z) = hop-answer e z (below? (min (length rs) 32767) h) (decided (isUp (recordOf rs h)))
 
   -- and leave
@@ -195,10 +190,12 @@ module _ (rs : List HopRecord) (w : ℕ) where
           ∙ sym (ap (λ (s : Said). recordsAfter rs s n) (says e z))
 
   -- the three steps meet the statement of counting
-  pub count-meets : (zs : List HopRecord) (n k p r : ℕ) → k ≡ place → p ≡ sendAnswer rs k → zs ≡ sent rs k n → r ≡ answerWord w p
+  pub count-meets : (zs : List HopRecord) (n k q r : ℕ) → k ≡ place → q ≡ plainWord w → r ≡ sendWord rs k w q → zs ≡ sent rs k n
       → MeetsCount rs w n r zs
-  count-meets zs n k p r ek ep ez er =
-      (er ∙ ap (answerWord w) (ep ∙ ap (sendAnswer rs) ek) ∙ answer-is, ez ∙ ap (λ (x : ℕ). sent rs x n) ek ∙ records-are n)
+  count-meets zs n k q r ek eq er ez = (
+    er ∙ ap (λ (x : ℕ). sendWord rs x w q) ek ∙ ap (sendWord rs place w) eq ∙ answer-is,
+    ez ∙ ap (λ (x : ℕ). sent rs x n) ek ∙ records-are n,
+  )
 
 -- an answer without a hop is a lookup's
 plain-pack : (rs : List HopRecord) (s : Said) → hasHop s ≡ false → packFound s ≡ packForward (forwardSaid rs s)

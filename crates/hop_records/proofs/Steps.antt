@@ -6,7 +6,7 @@ use lib.ListN.{length, getD, set}
 use lib.Seq.{set-out}
 use borrow.Author.Tests.{eq-eqb, ne-eqb, le-leb, lt-leb, lt-ltb, le-ltb}
 use Rattle.hop_records.specs.Records.{noRecord, countedBy}
-use Rattle.hop_records.specs.Steps.{sentBy, portOrDown, sent, sendAnswer, placeOfHop, answerWord}
+use Rattle.hop_records.specs.Steps.{sentBy, sent, recordWord, plainWord, sendWord, placeOfHop}
 use Rattle.hop_records.specs.declared.HopRecord.{HopRecord}
 
 module _ (r : HopRecord) where
@@ -16,11 +16,11 @@ module _ (r : HopRecord) where
   pub after-down : (n : ℕ) → (r .up ≡ 1 → ⊥) → r ≡ sentBy r n
   after-down n e = rw (ne-eqb (r .up) 1 e)
 
-  pub port-up : (p : ℕ) → r .up ≡ 1 → p ≡ r .port → p + 2 ≡ portOrDown r
-  port-up p e q = rw (eq-eqb (r .up) 1 e) (ap (λ (x : ℕ). x + 2) q)
+  pub with-up : (w p : ℕ) → r .up ≡ 1 → p ≡ r .port → w % 4294967296 + p * 4294967296 ≡ recordWord r w
+  with-up w p e q = rw (eq-eqb (r .up) 1 e) (ap (λ (x : ℕ). w % 4294967296 + x * 4294967296) q)
 
-  pub port-down : (r .up ≡ 1 → ⊥) → 1 ≡ portOrDown r
-  port-down e = rw (ne-eqb (r .up) 1 e)
+  pub with-down : (w : ℕ) → (r .up ≡ 1 → ⊥) → 15 ≡ recordWord r w
+  with-down w e = rw (ne-eqb (r .up) 1 e)
 
 module _ (w : ℕ) where
   module _ (none : ℕ) where
@@ -40,43 +40,28 @@ module _ (w : ℕ) where
     unfolding placeOfHop
     place-off n = rw (ne-eqb (w % 256) 0 n)
 
-  module _ (s : ℕ) where
-    pub answer-off : (w % 256 ≡ 0 → ⊥) → w ≡ answerWord w s
-    unfolding answerWord
-    answer-off n = rw (ne-eqb (w % 256) 0 n)
+  pub plain-hop : w % 256 ≡ 0 → 65536 ≤ w → 14 ≡ plainWord w
+  plain-hop e h = rw (eq-eqb (w % 256) 0 e, le-leb 65536 w h)
 
-    module _ (e : w % 256 ≡ 0) where
-      pub answer-none : w < 65536 → w ≡ answerWord w s
-      unfolding answerWord
-      answer-none h = rw (eq-eqb (w % 256) 0 e, lt-leb 65536 w h)
+  pub plain-none : w % 256 ≡ 0 → w < 65536 → w ≡ plainWord w
+  plain-none e h = rw (eq-eqb (w % 256) 0 e, lt-leb 65536 w h)
 
-      module _ (h : 65536 ≤ w) where
-        pub answer-no-record : s ≡ 0 → 14 ≡ answerWord w s
-        unfolding answerWord
-        answer-no-record z = rw (eq-eqb (w % 256) 0 e, le-leb 65536 w h, eq-eqb s 0 z)
-
-        module _ (n : s ≡ 0 → ⊥) where
-          pub answer-down : s ≡ 1 → 15 ≡ answerWord w s
-          unfolding answerWord
-          answer-down z = rw (eq-eqb (w % 256) 0 e, le-leb 65536 w h, ne-eqb s 0 n, eq-eqb s 1 z)
-
-          pub answer-port : (s ≡ 1 → ⊥) → w % 4294967296 + (s - 2) * 4294967296 ≡ answerWord w s
-          unfolding answerWord
-          answer-port z = rw (eq-eqb (w % 256) 0 e, le-leb 65536 w h, ne-eqb s 0 n, ne-eqb s 1 z)
+  pub plain-off : (w % 256 ≡ 0 → ⊥) → w ≡ plainWord w
+  plain-off n = rw (ne-eqb (w % 256) 0 n)
 
 -- the record at a place, and past the end
 module _ (rs : List HopRecord) (k : ℕ) where
-  pub send-answer : (p : ℕ) → k < length rs → p ≡ portOrDown (getD rs k noRecord) → p ≡ sendAnswer rs k
-  unfolding sendAnswer
-  send-answer p h e = rw (lt-ltb k (length rs) h) e
+  pub send-word : (w none p : ℕ) → k < length rs → p ≡ recordWord (getD rs k noRecord) w → p ≡ sendWord rs k w none
+  unfolding sendWord
+  send-word w none p h e = rw (lt-ltb k (length rs) h) e
 
   pub send-is : (n : ℕ) (r : HopRecord) → r ≡ sentBy (getD rs k noRecord) n → set rs k r ≡ sent rs k n
   unfolding sent
   send-is n r e = ap (set rs k) e
 
-  pub past-answer : length rs ≤ k → 0 ≡ sendAnswer rs k
-  unfolding sendAnswer
-  past-answer h = rw (le-ltb k (length rs) h)
+  pub past-word : (w none : ℕ) → length rs ≤ k → none ≡ sendWord rs k w none
+  unfolding sendWord
+  past-word w none h = rw (le-ltb k (length rs) h)
 
   pub past-is : (n : ℕ) → length rs ≤ k → rs ≡ sent rs k n
   unfolding sent

@@ -2,8 +2,8 @@
 // has a reference to a record is proved by a walk of its code, so there is one here, `send`; the others work on values.
 ghost use mathlib.Core.Path.{_≡_};
 ghost use Rattle.hop_records.specs.Records.{countedBy};
-ghost use Rattle.hop_records.specs.Steps.{sentBy, sent, portOrDown, sendAnswer, placeOfHop, answerWord};
-use bits::widen::half_to_word;
+ghost use Rattle.hop_records.specs.Steps.{sentBy, sent, recordWord, plainWord, sendWord, placeOfHop};
+use bits::widen::half_to_long;
 
 // One record. `up` is 1 for up; every other number is down.
 #[repr(C)]
@@ -36,14 +36,26 @@ pub fn after(r: HopRecord, n: u32) -> HopRecord
     r
 }
 
-// 1 if the record is down, and else 2 more than its port: with 0 for no record, a number for each answer.
-pub fn port_or_down(r: HopRecord) -> u32
-    ensures { λ p. ⌜ p ≡ portOrDown r ⌝ }
+// The answer with a record: a lookup's word with the port in bits 32 to 47, and 15 if the record is down.
+pub fn with_record(r: HopRecord, w: u64) -> u64
+    ensures { λ a. ⌜ a ≡ recordWord r w ⌝ }
 {
     if r.up == 1 {
-        return half_to_word(r.port) + 2;
+        return w % 4294967296 + half_to_long(r.port) * 4294967296;
     }
-    1
+    15
+}
+
+// The answer without one: 14 if the word has a hop, and else the word itself.
+pub fn without_record(w: u64) -> u64
+    ensures { λ a. ⌜ a ≡ plainWord w ⌝ }
+{
+    if w % 256 == 0 {
+        if 65536 <= w {
+            return 14;
+        }
+    }
+    w
 }
 
 // The place, from 0, of the record of a lookup's word; `none`, which is past the end, if the word has no hop, or one over 32,767.
@@ -60,35 +72,15 @@ pub fn place(w: u64, none: usize) -> usize
     none
 }
 
-// A lookup's word with the port in bits 32 to 47; 14 if there is no record, 15 if it is down; the word itself if it has no hop. `s` is the answer
-// of `send`.
-pub fn answer(w: u64, s: u32) -> u64
-    ensures { λ r. ⌜ r ≡ answerWord w s ⌝ }
+// A packet of n octets comes to the record at place k, which is counted if it is up. The answer is that of `with_record`; `none`, and no change, past the
+// end.
+pub fn send(records: &mut [HopRecord], k: usize, n: u32, w: u64, none: u64) -> u64
+    ensures { λ s. ⌜ (s ≡ sendWord (now (records .entry)) k w none) × (now (records .exit) ≡ sent (now (records .entry)) k n) ⌝ }
 {
-    if w % 256 != 0 {
-        return w;
-    }
-    if w < 65536 {
-        return w;
-    }
-    if s == 0 {
-        return 14;
-    }
-    if s == 1 {
-        return 15;
-    }
-    w % 4294967296 + ((s - 2) as u64) * 4294967296
-}
-
-// A packet of n octets comes to the record at place k, which is counted if it is up. The answer is that of `port_or_down`; 0, and no change, past
-// the end.
-pub fn send(records: &mut [HopRecord], k: usize, n: u32) -> u32
-    ensures { λ s. ⌜ (s ≡ sendAnswer (now (records .entry)) k) × (now (records .exit) ≡ sent (now (records .entry)) k n) ⌝ }
-{
-    let mut s = 0;
+    let mut s = none;
     if k < records.len() {
         let r = records[k];
-        s = port_or_down(r);
+        s = with_record(r, w);
         records[k] = after(r, n);
     }
     s
