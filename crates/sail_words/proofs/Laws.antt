@@ -79,11 +79,3 @@ module _ (p1 p2 n : ℕ) (e1 : p1 ≡ standardGeo .p1) (e2 : p2 ≡ standardGeo 
 
   pub look-standard : (l : Lent) (a r : ℕ) → Word r (lookupSaid standard l a) → Word r (lookupSaid (tableOf p1 p2 n) l a)
   look-standard l a r q = rw (e1, e2) q
-
-  -- and after the check of the sizes in it
-  module _ (l : Lent) (a r : ℕ) (told : SizesTold r (standard .geometry) l) where
-    pub look-standard-off : (z : ℕ) → z ≡ r → (r ≡ 0 → ⊥) → Word z (lookupSaid (tableOf p1 p2 n) l a)
-    look-standard-off z e m = look-standard l a z (look-off standard l a r told z e m)
-
-    pub look-standard-is : r ≡ 0 → (w z : ℕ) → Word w (foundSaid (standard .geometry) l a) → z ≡ w → Word z (lookupSaid (tableOf p1 p2 n) l a)
-    look-standard-is e w z found q = look-standard l a z (look-is standard l a r told e w z found q)

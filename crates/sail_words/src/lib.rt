@@ -144,8 +144,8 @@ pub fn look_by(
     )
 }
 
-// The same for `gh_forward` alone, with nothing below it that another calls: a function with two callers is put into neither, and to hand on twenty
-// numbers once more takes longer than the lookup.
+// The same for `gh_forward` alone: a function with two callers is put into neither, and to hand on twenty numbers once more takes longer than the
+// lookup.
 pub fn look_forward(
     p1: u32,
     p2: u32,
@@ -167,25 +167,8 @@ pub fn look_forward(
     let standard = Geometry::STANDARD;
     if p1 == standard.p1 {
         if p2 == standard.p2 {
-            let z = sizes(
-                Table {
-                    geometry: standard,
-                    count,
-                },
-                list,
-                first,
-                second,
-                third,
-                own2,
-                own3,
-                long1,
-                long2,
-            );
-            if z != 0 {
-                return z as u64;
-            }
-            return walk(
-                standard,
+            return look_standard(
+                count,
                 list,
                 first,
                 second,
@@ -195,7 +178,7 @@ pub fn look_forward(
                 long1,
                 long2,
                 addr,
-            ) as u64;
+            );
         }
     }
     let geometry = Geometry { p1, p2 };

@@ -1,6 +1,6 @@
--- `sail_words::look_forward`. At either geometry the check of the sizes, and then the walk.
+-- `sail_words::look_forward`. At the standard geometry what `look_standard` answers; else the check of the sizes, and the walk.
 use borrow.Author.Needs.{needs}
-use Rattle.sail_words.proofs.Laws.{look-off, look-is, look-standard-off, look-standard-is}
+use Rattle.sail_words.proofs.Laws.{look-off, look-is, look-standard}
 use Rattle.sail_words.proofs.look_forward.Statement.{statement}
 use Rattle.sail_words.proofs.look_forward.Tie as tie
 
@@ -9,14 +9,10 @@ look-forward-spec =
     tie.close
     (tie.spec
     (λ c κs. search needs)
-    (λ c. search needs)
-    (λ c. search look-standard-off)
-    (λ c κs. c .before .sizes .ensures .facts (c .if3 .left))
-    (λ c. search needs)
-    (λ c. search look-standard-is)
+    (λ c. search look-standard)
     (λ c κs. search needs)
     (λ c. search needs)
     (λ c. search look-off)
-    (λ c κs. c .before .sizes2 .ensures .facts (c .if4 .left))
+    (λ c κs. c .before .sizes .ensures .facts (c .if3 .left))
     (λ c. search needs)
     (λ c. search look-is))
