@@ -25,6 +25,7 @@
  *   long1   a count for each first cell: the routes longer than p1 that have its bits
  *   long2   a count for each cell of the second pool: the routes longer than p2 that have its bits, 0 in free chunks
  *   packet  an IPv4 packet as it came, from its first byte on: GH_HEADER_BYTES of it or more
+ *   records hop records, any number of them: hop h has records[h - 1]
  *   words   3 words for each node of a tree image
  *   hops    the hops of a tree image
  *   bits    the bits of bit maps, GH_MAP_BYTES
@@ -53,6 +54,8 @@
  *   gh_lookup        bits 8 to 15: cells read; 16 to 31: hop, 0 for no route
  *   gh_lookup_many   0; each word of out: the low 32 bits of what gh_lookup answers
  *   gh_step          as gh_lookup
+ *   gh_forward       as gh_lookup; with a hop, bits 32 to 47: its port
+ *   gh_count         the same, of what found has
  *   gh_build         bits 16 to 31: hops; 32 to 63: nodes
  *   gh_tree_lookup   bits 8 to 15: nodes read, and one more where a hop is answered; 16 to 31: hop, 0 for no route
  *   gh_tree_test     bits 16 to 31: hops; 32 to 63: nodes
@@ -76,7 +79,8 @@
  * THREADS. No call has memory of its own, so calls over different arrays may run at the same time, in threads and in
  * interrupts. Over the same arrays calls that only read them may run at the same time: every lookup, the report,
  * the test of an image, the run, the tally, a route read back, a broadcast, and a header step, which writes its packet
- * alone. A call that writes an array (make, load,
+ * alone. So may gh_forward and gh_count, each with hop records of its own, as a thread has: they write these alone. A call
+ * that writes an array (make, load,
  * announce, withdraw, repair, build) runs alone: no other call may use that array meanwhile, lookups neither. To change a
  * table beside readers, keep two sets of arrays: change the set that no reader uses, hand it to the readers (an atomic
  * pointer to the struct), wait until no reader has the old one, and copy arrays and count over or make the same change
@@ -140,6 +144,8 @@ extern "C" {
 #define GH_ATTACHED        1          /* and one on a port of ours */
 #define GH_OLDER_RULE      1          /* versions of gh_broadcast: networks of 0 to 31 bits have a broadcast */
 #define GH_NEWER_RULE      2          /* of 0 to 30 bits; a link of 31 bits has two hosts and none (RFC 3021) */
+#define GH_UP              1          /* marks of a hop record: up, */
+#define GH_DOWN            0          /* and down, as every other number is */
 
 #define GH_STANDARD_P1     16         /* the named geometries */
 #define GH_STANDARD_P2     24
@@ -184,6 +190,8 @@ enum gh_refusal {
     GH_REFUSED_NODES = 11,
     GH_REFUSED_HOPS = 12,
     GH_REFUSED_IMAGE = 13,
+    GH_REFUSED_RECORD = 14,
+    GH_REFUSED_DOWN = 15,
     GH_REFUSED_SHORT = 19,
     GH_REFUSED_HEADER = 20,
     GH_REFUSED_CHECKSUM = 21,
@@ -209,7 +217,9 @@ static inline const char *gh_meaning(unsigned number)
         /* 11 */ "too few whole nodes lent",
         /* 12 */ "too few hops lent",
         /* 13 */ "image broken on this walk: bit 15 set, child or hop beyond what is lent, no root, hop outside 1 to 32,767; image tested or changed: not well formed; bit maps: such a hop at the first set bit",
-        /* 14 to 18 */ 0, 0, 0, 0, 0,
+        /* 14 */ "the hop has no record",
+        /* 15 */ "the record is down",
+        /* 16 to 18 */ 0, 0, 0,
         /* 19 */ "packet of fewer than 20 bytes",
         /* 20 */ "version not 4, or header length not 5 words",
         /* 21 */ "header checksum wrong",
@@ -231,6 +241,7 @@ static inline const char *gh_meaning(unsigned number)
 #define GH_NEED_THIRD(a)   ((unsigned)((a) >> 48 & 0xffff))       /* gh_report */
 #define GH_READS(a)        ((unsigned)((a) >> 8 & 0xff))          /* gh_lookup, gh_step: cells read; gh_tree_lookup: as above */
 #define GH_HOP(a)          ((unsigned)((a) >> 16 & 0xffff))       /* lookups and gh_route: hop, 0 for none */
+#define GH_PORT(a)         ((unsigned)((uint64_t)(a) >> 32 & 0xffff)) /* gh_forward, gh_count: the port of that hop */
 #define GH_HOPS(a)         ((unsigned)((a) >> 16 & 0xffff))       /* gh_build; test and changes of an image */
 #define GH_NODES(a)        ((uint32_t)((a) >> 32))                /* the same */
 #define GH_RUN_FIRST(a)    ((unsigned)((a) >> 16 & 0xffff))       /* gh_run */
@@ -377,6 +388,40 @@ uint64_t gh_step(uint32_t p1, uint32_t p2, uint32_t count,
                  const uint16_t *GH_RESTRICT long1, size_t long1_len,
                  const uint16_t *GH_RESTRICT long2, size_t long2_len,
                  uint8_t *GH_RESTRICT packet, size_t packet_len);
+
+/* ---- Hop records ----------------------------------------------------------------------------------------------- */
+
+/* Where the packets of a hop go, and how many went there. Port and mark are the caller's: no call changes them. The counts
+ * are Counter32 (RFC 2578): after 4,294,967,295 the next value is 0. They start with whatever the caller puts there. */
+struct gh_hop_record {
+    uint16_t port;
+    uint8_t up;           /* GH_UP: up; every other number: down */
+    uint32_t packets;
+    uint32_t octets;
+};
+
+/* Looks the address of a packet up as gh_lookup does. With a hop it counts the packet in the record of that hop, one packet
+ * and so many octets, and answers the port too; no other record changes. No route changes nothing, nor does a refusal.
+ * Refusals: those of gh_lookup, 14 if the hop has no record, 15 if the record is down. */
+GH_CALL
+uint64_t gh_forward(uint32_t p1, uint32_t p2, uint32_t count,
+                    const uint8_t *GH_RESTRICT list, size_t list_len,
+                    const uint16_t *GH_RESTRICT first, size_t first_len,
+                    const uint16_t *GH_RESTRICT second, size_t second_len,
+                    const uint16_t *GH_RESTRICT third, size_t third_len,
+                    const uint32_t *GH_RESTRICT own2, size_t own2_len,
+                    const uint32_t *GH_RESTRICT own3, size_t own3_len,
+                    const uint16_t *GH_RESTRICT long1, size_t long1_len,
+                    const uint16_t *GH_RESTRICT long2, size_t long2_len,
+                    struct gh_hop_record *GH_RESTRICT records, size_t records_len,
+                    uint32_t addr, uint32_t octets);
+
+/* Counts a packet whose hop has been found already: found is what gh_lookup or gh_tree_lookup answered, or a word that
+ * gh_lookup_many wrote. After gh_lookup it does and answers what gh_forward would have. For any other number: one with a
+ * refusal's number, or with nothing from bit 16 on, is answered as it is, and nothing changes; else bits 16 and up are the
+ * hop, and one over GH_MOST_HOP has no record. Refusals: the one in found, 14, 15. */
+GH_CALL
+uint64_t gh_count(uint64_t found, struct gh_hop_record *records, size_t records_len, uint32_t octets);
 
 /* ---- Calls on tree images -------------------------------------------------------------------------------------- */
 
@@ -580,6 +625,14 @@ GH_CALL
 static inline uint64_t gh_table_step(const struct gh_table *t, uint8_t *GH_RESTRICT packet, size_t packet_len)
 {
     return gh_step(t->p1, t->p2, t->count, GH_LENT(t), packet, packet_len);
+}
+
+/* As gh_forward. */
+GH_CALL
+static inline uint64_t gh_table_forward(const struct gh_table *t, struct gh_hop_record *GH_RESTRICT records,
+                                        size_t records_len, uint32_t addr, uint32_t octets)
+{
+    return gh_forward(t->p1, t->p2, t->count, GH_LENT(t), records, records_len, addr, octets);
 }
 
 /* As gh_lookup_many, for n addresses into n words. */

@@ -1,7 +1,7 @@
 //! The proved library, through the Rust binding.
 
 use ghatumri::raw::{self, Lookup, TreeLookup};
-use ghatumri::{Geometry, ImageRef, Table, TableRef};
+use ghatumri::{sys, Geometry, HopRecord, ImageRef, Table, TableRef};
 use std::hint::black_box;
 
 /// A standard table of an input, with room for so many records and pools of so many chunks.
@@ -25,6 +25,28 @@ pub fn each(t: TableRef, look: Lookup, addrs: &[u32], out: &mut [u32]) {
     let look = black_box(look);
     for (o, &addr) in out.iter_mut().zip(addrs) {
         *o = unsafe { raw::lookup_by(look, &t, addr) } as u32;
+    }
+}
+
+/// The records of 64 hops, as many as the routes have.
+pub fn records() -> Vec<HopRecord> {
+    (1..=64).map(HopRecord::new).collect()
+}
+
+/// A packet of 1,500 octets to each address.
+#[inline(never)]
+pub fn forward_each(t: TableRef, records: &mut [HopRecord], addrs: &[u32], out: &mut [u32]) {
+    for (o, &addr) in out.iter_mut().zip(addrs) {
+        *o = raw::forward(&t, records, addr, 1500) as u32;
+    }
+}
+
+/// The same by two calls.
+#[inline(never)]
+pub fn count_each(t: TableRef, records: &mut [HopRecord], addrs: &[u32], out: &mut [u32]) {
+    let look: Lookup = black_box(sys::gh_lookup);
+    for (o, &addr) in out.iter_mut().zip(addrs) {
+        *o = raw::count(unsafe { raw::lookup_by(look, &t, addr) }, records, 1500) as u32;
     }
 }
 

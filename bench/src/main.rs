@@ -258,6 +258,8 @@ const HAND_MANY: &str = "unchecked Rust loop";
 const EACH: &str = "gh_lookup";
 const STEP: &str = "gh_step, of a copy of the header";
 const HAND_EACH: &str = "unchecked Rust call, same arguments";
+const FORWARD: &str = "gh_forward";
+const COUNTED: &str = "gh_lookup, then gh_count";
 const DIR: &str = "DIR-24-8, unchecked Rust loop";
 const TREE: &str = "gh_tree_lookup";
 const HAND_TREE: &str = "unchecked Rust tree bitmap call";
@@ -277,6 +279,11 @@ fn lookups(rounds: usize, table: &Table, image: &Image, dir: &Dir248, rte: bool,
         agree(HAND_MANY, first, &rest[0], 0, u32::MAX);
         gh::each(table.view(), hand::hand_lookup, addrs, &mut rest[0]);
         agree(HAND_EACH, first, &rest[0], 0, u32::MAX);
+        let mut records = gh::records();
+        gh::forward_each(table.view(), &mut records, addrs, &mut rest[0]);
+        agree(FORWARD, first, &rest[0], 0, u32::MAX);
+        gh::count_each(table.view(), &mut records, addrs, &mut rest[0]);
+        agree(COUNTED, first, &rest[0], 0, u32::MAX);
         unsafe { dir.lookup_many(addrs, &mut rest[0]) };
         agree(DIR, first, &rest[0], 16, 0xFFFF);
         if rte {
@@ -296,6 +303,8 @@ fn lookups(rounds: usize, table: &Table, image: &Image, dir: &Dir248, rte: bool,
     let named: Vec<Ipv4Addr> = addrs.iter().map(|&addr| addr.into()).collect();
     let mut answers = vec![Answer::default(); addrs.len()];
     let (t, image) = (table.view(), image.view());
+    let records = RefCell::new(gh::records());
+    let records = || records.borrow_mut();
     let mut contenders = vec![
         contender(MANY, || gh::many(t, addrs, black_box(&mut out()))),
         contender(RUST_MANY, || t.lookup_many(&named, black_box(&mut answers)).unwrap()),
@@ -303,6 +312,8 @@ fn lookups(rounds: usize, table: &Table, image: &Image, dir: &Dir248, rte: bool,
         contender(EACH, || gh::each(t, sys::gh_lookup, addrs, black_box(&mut out()))),
         contender(STEP, || gh::steps(t, &headers, black_box(&mut out()))),
         contender(HAND_EACH, || gh::each(t, hand::hand_lookup, addrs, black_box(&mut out()))),
+        contender(FORWARD, || gh::forward_each(t, &mut records(), addrs, black_box(&mut out()))),
+        contender(COUNTED, || gh::count_each(t, &mut records(), addrs, black_box(&mut out()))),
         contender(DIR, || unsafe { dir.lookup_many(addrs, black_box(&mut out())) }),
         contender(TREE, || gh::tree_each(image, sys::gh_tree_lookup, addrs, black_box(&mut out()))),
         contender(HAND_TREE, || gh::tree_each(image, hand::hand_tree_lookup, addrs, black_box(&mut out()))),
@@ -317,6 +328,8 @@ fn lookups(rounds: usize, table: &Table, image: &Image, dir: &Dir248, rte: bool,
     ratio(&contenders, RUST_MANY, MANY, None);
     ratio(&contenders, EACH, HAND_EACH, Some(1.5));
     more(&contenders, STEP, EACH, 20.0);
+    ratio(&contenders, FORWARD, EACH, Some(1.3));
+    ratio(&contenders, COUNTED, EACH, None);
     ratio(&contenders, MANY, DIR, None);
     for (name, _) in dpdk::LOOKS {
         ratio(&contenders, MANY, name, Some(0.6));

@@ -22,6 +22,7 @@ static uint32_t step_words[3 * (1 + 8 * 16)];
 static uint16_t step_hops[STEPS];
 static uint8_t bits[GH_MAP_BYTES];
 static uint16_t cells[GH_MAP_CELLS];
+static struct gh_hop_record records[9];
 #define MAPS input, sizeof input, bits, GH_MAP_BYTES, cells, GH_MAP_CELLS
 static const uint32_t here = IP(100, 16, 0, 77);
 /* From 192.0.2.1 to 100.16.0.77. */
@@ -39,6 +40,8 @@ static uint64_t report(void) { return gh_table_report(&t); }
 static uint64_t lookup(void) { return gh_table_lookup(&t, here); }
 static uint64_t lookup_many(void) { return gh_table_lookup_many(&t, addrs, out, 1000); }
 static uint64_t step(void) { return gh_table_step(&t, packet, sizeof packet); }
+static uint64_t forward(void) { return gh_table_forward(&t, records, GH_ELEMENTS(records), here, 1500); }
+static uint64_t count(void) { return gh_count((uint64_t)9 << 16, records, GH_ELEMENTS(records), 1500); }
 static uint64_t build(void) { return gh_build(input, sizeof input, words, GH_ELEMENTS(words), hops, N); }
 static uint64_t tree_lookup(void) { return gh_tree_lookup(words, GH_ELEMENTS(words), hops, N, here); }
 #define IMAGE step_words, GH_ELEMENTS(step_words), step_hops, STEPS
@@ -91,7 +94,8 @@ int main(void)
         { "make", make, GH_STACK, 0 }, { "load", load, GH_STACK_TABLE, 0 },
         { "withdraw", withdraw, GH_STACK_TABLE, 0 }, { "announce", announce, GH_STACK_TABLE, 0 },
         { "repair", repair, GH_STACK_REPAIR, 0 }, { "report", report, GH_STACK_TABLE, 0 }, { "lookup", lookup, GH_STACK, 0 },
-        { "lookup_many", lookup_many, GH_STACK, 0 }, { "step", step, GH_STACK, 0 }, { "build", build, GH_STACK, 0 },
+        { "lookup_many", lookup_many, GH_STACK, 0 }, { "step", step, GH_STACK, 0 }, { "forward", forward, GH_STACK, 0 },
+        { "count", count, GH_STACK, 0 }, { "build", build, GH_STACK, 0 },
         { "tree_lookup", tree_lookup, GH_STACK, 0 }, { "tree_test", tree_test, GH_STACK_IMAGE, 0 },
         { "tree_withdraw", tree_withdraw, GH_STACK_IMAGE, 0 }, { "tree_announce", tree_announce, GH_STACK_IMAGE, 0 },
         { "run", run, GH_STACK, 0 }, { "tally", tally, GH_STACK, 0 }, { "route", route, GH_STACK, 0 },
@@ -103,6 +107,8 @@ int main(void)
         put_record(input + GH_RECORD_BYTES * k, k << 20 | 77, 32, 9);
     for (uint32_t k = 0; k < 1000; k++)
         addrs[k] = k * 4294967u;
+    for (size_t k = 0; k < GH_ELEMENTS(records); k++)
+        records[k].up = GH_UP;
     /* At depth d the prefixes of ones and then 0 to 14, and the last of all; in ascending order. */
     uint8_t *at = steps;
     for (unsigned depth = 1; depth <= 8; depth++)

@@ -1,5 +1,7 @@
 //! What lookups answer.
 
+use crate::raw;
+use crate::records::{Forwarded, HopRecord};
 use crate::refusal::{answered, Refusal};
 use core::fmt;
 
@@ -11,6 +13,21 @@ pub struct Found {
     /// In a table, the cells read: 1 to 3. In an image, the nodes read, and one more where a hop is answered: 1 to 10,
     /// and at most 9 for no route.
     pub reads: u8,
+}
+
+impl Found {
+    /// Counts a packet of so many octets in the record of the hop that was found, and adds the port. No route changes
+    /// nothing, nor does a refusal. Together with [`TableRef::lookup`](crate::TableRef::lookup) it is
+    /// [`TableRef::forward`](crate::TableRef::forward).
+    ///
+    /// # Errors
+    ///
+    /// 14, 15.
+    #[inline]
+    pub fn count(self, records: &mut [HopRecord], octets: u32) -> Result<Forwarded, Refusal> {
+        let found = u64::from(self.reads) << 8 | u64::from(self.hop.unwrap_or(0)) << 16;
+        Forwarded::new(raw::count(found, records, octets))
+    }
 }
 
 /// The answer of one lookup among many, in 4 bytes. A new one has not been answered: it finds no route in 0 reads.
@@ -40,6 +57,16 @@ impl Answer {
         let answer = answered(self.0.into())?;
         let hop = (answer >> 16) as u16;
         Ok(Found { hop: (hop != 0).then_some(hop), reads: (answer >> 8) as u8 })
+    }
+
+    /// As [`Found::count`], of what was found.
+    ///
+    /// # Errors
+    ///
+    /// Those of [`found`](Answer::found), 14, 15.
+    #[inline]
+    pub fn count(self, records: &mut [HopRecord], octets: u32) -> Result<Forwarded, Refusal> {
+        Forwarded::new(raw::count(self.0.into(), records, octets))
     }
 }
 

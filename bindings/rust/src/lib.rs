@@ -3,7 +3,7 @@
 //! A table holds routes in SAIL form: a lookup in it reads 1 to 3 cells. An image is a tree bitmap built from a record
 //! input: small, and a lookup reads at most 9 nodes and one hop. Both are changed in place, route by route. Maps are bits
 //! and hops for cards that have neither chunks nor nodes. [`routes`], [`run`], [`tally`] and [`is_broadcast`] work on
-//! record inputs directly.
+//! record inputs directly. A [`HopRecord`] counts the packets and octets of a hop.
 //!
 //! Every call of the library underneath is proved for every content of the buffers, and none allocates or trusts them:
 //! a table that is damaged is refused with 5 and stays as it is, until a load or a repair puts it right. A call that is
@@ -51,6 +51,7 @@ mod maps;
 #[cfg(feature = "alloc")]
 mod owned;
 pub mod raw;
+mod records;
 mod refusal;
 mod route;
 pub mod sys;
@@ -64,6 +65,7 @@ pub use input::{route, routes, run, tally, Routes};
 pub use maps::{hop, MapsMut, MapsRef, MAP_BYTES, MAP_CELLS};
 #[cfg(feature = "alloc")]
 pub use owned::{Image, Maps, Table};
+pub use records::{Forwarded, HopRecord, Sent};
 pub use refusal::{Reason, Refusal};
 pub use route::{Mark, ParseRouteError, Route};
 pub use table::{Announced, Repaired, Report, TableMut, TableRef, Withdrawn};

@@ -5,6 +5,7 @@ use crate::geometry::{Geometry, MOST_CHUNKS, MOST_RECORDS};
 use crate::image::{self, words_for, Built, ImageAnnounced, ImageMut, ImageRef};
 use crate::input::Routes;
 use crate::maps::{self, MapsMut, MapsRef, MAP_BYTES, MAP_CELLS};
+use crate::records::{Forwarded, HopRecord};
 use crate::refusal::Refusal;
 use crate::route::Mark;
 use crate::table::{self, Announced, Repaired, Report, TableMut, TableRef, Withdrawn};

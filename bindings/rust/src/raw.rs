@@ -5,6 +5,7 @@
 //! and leaves it after a refusal. The rest of this crate, the comparison with a plain implementation and the measurements
 //! stand on these functions.
 
+use crate::records::HopRecord;
 use crate::sys;
 use crate::table::{TableMut, TableRef};
 
@@ -125,6 +126,18 @@ pub fn lookup_many(t: &TableRef, addrs: &[u32], out: &mut [u32]) -> u64 {
 #[must_use]
 pub fn step(t: &TableRef, packet: &mut [u8]) -> u64 {
     unsafe { lend!(sys::gh_step, t, (packet.as_mut_ptr(), packet.len())) }
+}
+
+#[inline]
+#[must_use]
+pub fn forward(t: &TableRef, records: &mut [HopRecord], addr: u32, octets: u32) -> u64 {
+    unsafe { lend!(sys::gh_forward, t, (records.as_mut_ptr(), records.len(), addr, octets)) }
+}
+
+#[inline]
+#[must_use]
+pub fn count(found: u64, records: &mut [HopRecord], octets: u32) -> u64 {
+    unsafe { sys::gh_count(found, records.as_mut_ptr(), records.len(), octets) }
 }
 
 #[must_use]

@@ -1,6 +1,8 @@
 //! The functions of `libghatumri.a`, as `include/ghatumri.h` declares them: a pointer and a length for each array. What
 //! holds of them stands there. [`raw`](crate::raw) has them over slices.
 
+use crate::records::HopRecord;
+
 extern "C" {
     pub fn gh_make(
         p1: u32,
@@ -206,6 +208,32 @@ extern "C" {
         packet: *mut u8,
         packet_len: usize,
     ) -> u64;
+    pub fn gh_forward(
+        p1: u32,
+        p2: u32,
+        count: u32,
+        list: *const u8,
+        list_len: usize,
+        first: *const u16,
+        first_len: usize,
+        second: *const u16,
+        second_len: usize,
+        third: *const u16,
+        third_len: usize,
+        own2: *const u32,
+        own2_len: usize,
+        own3: *const u32,
+        own3_len: usize,
+        long1: *const u16,
+        long1_len: usize,
+        long2: *const u16,
+        long2_len: usize,
+        records: *mut HopRecord,
+        records_len: usize,
+        addr: u32,
+        octets: u32,
+    ) -> u64;
+    pub fn gh_count(found: u64, records: *mut HopRecord, records_len: usize, octets: u32) -> u64;
     pub fn gh_build(
         input: *const u8,
         input_len: usize,

@@ -4,6 +4,7 @@ use crate::found::{Answer, Found};
 use crate::geometry::Geometry;
 use crate::input::{routes, Routes};
 use crate::raw;
+use crate::records::{Forwarded, HopRecord};
 use crate::refusal::{answered, Refusal};
 use crate::route::Mark;
 use core::fmt;
@@ -133,6 +134,17 @@ impl<'a> TableRef<'a> {
         Answer::new(raw::step(self, packet)).found()
     }
 
+    /// Looks the address of a packet up, and with a hop counts the packet and its octets in the record of that hop,
+    /// `records[hop - 1]`; no other record changes. No route changes nothing, nor does a refusal.
+    ///
+    /// # Errors
+    ///
+    /// 1, 2, 5 as [`lookup`](TableRef::lookup), 14 if the hop has no record, 15 if the record is down.
+    #[inline]
+    pub fn forward(&self, records: &mut [HopRecord], addr: impl Into<Ipv4Addr>, octets: u32) -> Result<Forwarded, Refusal> {
+        Forwarded::new(raw::forward(self, records, u32::from(addr.into()), octets))
+    }
+
     /// The standing routes as a record input, to be handed to [`run`](crate::run), [`tally`](crate::tally) or an image.
     #[must_use]
     pub fn records(&self) -> &'a [u8] {
@@ -189,6 +201,21 @@ macro_rules! reads {
         #[inline]
         pub fn step(&self, packet: &mut [u8]) -> Result<Found, Refusal> {
             self.view().step(packet)
+        }
+
+        /// As [`TableRef::forward`].
+        ///
+        /// # Errors
+        ///
+        /// 1, 2, 5, 14, 15.
+        #[inline]
+        pub fn forward(
+            &self,
+            records: &mut [HopRecord],
+            addr: impl Into<Ipv4Addr>,
+            octets: u32,
+        ) -> Result<Forwarded, Refusal> {
+            self.view().forward(records, addr, octets)
         }
 
         /// As [`TableRef::records`].

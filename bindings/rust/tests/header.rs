@@ -1,7 +1,7 @@
 //! The exported functions are declared three times: as they are proved (`crates/cards/src`), in the C header, and in
 //! `sys.rs`. Names, order and types of the arguments agree, and no function is left out.
 
-use ghatumri::{Geometry, Mark, Reason, Refusal, Rule, MOST_CHUNKS, MOST_RECORDS};
+use ghatumri::{Geometry, HopRecord, Mark, Reason, Refusal, Rule, MOST_CHUNKS, MOST_RECORDS};
 use std::collections::BTreeMap;
 use std::fs;
 use std::path::{Path, PathBuf};
@@ -55,6 +55,7 @@ fn header() -> Functions {
 fn in_c(word: &str) -> String {
     match word.trim() {
         "usize" => "size_t".to_string(),
+        "HopRecord" => "struct gh_hop_record".to_string(),
         w if w.starts_with('u') => format!("uint{}_t", &w[1..]),
         other => panic!("{other} is no type of the boundary"),
     }
@@ -176,6 +177,7 @@ fn one_limit() {
     assert_eq!(named("GH_STANDARD_P1", "GH_STANDARD_P2"), Geometry::STANDARD);
     assert_eq!(named("GH_SMALL_P1", "GH_SMALL_P2"), Geometry::SMALL);
     assert_eq!((define("GH_BEHIND"), define("GH_ATTACHED")), (Mark::Behind as usize, Mark::Attached as usize));
+    assert_eq!(define("GH_UP"), HopRecord::UP.into());
     assert_eq!((define("GH_OLDER_RULE"), define("GH_NEWER_RULE")), (Rule::Older as usize, Rule::Newer as usize));
 }
 

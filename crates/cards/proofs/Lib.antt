@@ -10,3 +10,4 @@ pub mod Stepped
 pub mod Casts
 pub mod ImageCalls
 pub mod Putting
+pub mod Forwarded

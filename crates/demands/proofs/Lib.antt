@@ -1,4 +1,4 @@
--- The demands, a file for each; and the demands of the calls on bit maps, of broadcasts, of the header step, of repairs and of images.
+-- The demands, a file for each; and the demands of the calls on bit maps, of broadcasts, of the header step, of hop records, of repairs and of images.
 pub mod Demand1
 pub mod Demand2
 pub mod Demand3
@@ -9,3 +9,4 @@ pub mod Headers
 pub mod Repairs
 pub mod Images
 pub mod OneImage
+pub mod HopRecords

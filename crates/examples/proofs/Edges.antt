@@ -8,6 +8,7 @@ use Rattle.examples.proofs.EdgesImages.{images-hold}
 use Rattle.examples.proofs.EdgesTreeChanges.{tree-changes-hold}
 use Rattle.examples.proofs.EdgesRepairs.{repairs-hold}
 use Rattle.examples.proofs.EdgesHeaders.{headers-hold}
+use Rattle.examples.proofs.EdgesHopRecords.{hop-records-hold}
 
 pub edges-hold : Edges
 edges-hold = record {
@@ -20,4 +21,5 @@ edges-hold = record {
   tree-changes-of = tree-changes-hold;
   repairs-of = repairs-hold;
   headers-of = headers-hold;
+  hop-records-of = hop-records-hold;
 }

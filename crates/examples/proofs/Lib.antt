@@ -11,6 +11,7 @@ pub mod EdgesChanges
 pub mod EdgesImages
 pub mod EdgesRepairs
 pub mod EdgesHeaders
+pub mod EdgesHopRecords
 pub mod EdgesTreeChanges
 pub mod TreeChanges
 pub mod Edges
@@ -27,3 +28,4 @@ pub mod NotHeld
 pub mod Broadcasts
 pub mod Repairs
 pub mod Headers
+pub mod HopRecords

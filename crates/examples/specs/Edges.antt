@@ -9,6 +9,7 @@ use Rattle.examples.specs.EdgesImages as images
 use Rattle.examples.specs.EdgesTreeChanges as treeChanges
 use Rattle.examples.specs.EdgesRepairs as repairs
 use Rattle.examples.specs.EdgesHeaders as headers
+use Rattle.examples.specs.EdgesHopRecords as hopRecords
 
 pub record Edges : Type 0 where
   pub sizes-of : Hold blank.answer sizes.edges
@@ -20,3 +21,4 @@ pub record Edges : Type 0 where
   pub tree-changes-of : Hold treeChanges.answer treeChanges.edges
   pub repairs-of : Hold repairs.answer repairs.edges
   pub headers-of : Hold headers.answer headers.edges
+  pub hop-records-of : Hold hopRecords.answer hopRecords.edges

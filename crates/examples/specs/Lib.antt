@@ -9,5 +9,6 @@ pub mod EdgesChanges
 pub mod EdgesImages
 pub mod EdgesRepairs
 pub mod EdgesHeaders
+pub mod EdgesHopRecords
 pub mod Edges
 pub mod EdgesTreeChanges

@@ -159,6 +159,72 @@ pub fn look_by(
     ) as u64
 }
 
+// The same for `gh_forward` alone: a function with two callers is put into neither, and to hand on twenty numbers once more takes longer than the
+// lookup.
+pub fn look_forward(
+    p1: u32,
+    p2: u32,
+    count: u32,
+    list: &[u8],
+    first: &[u16],
+    second: &[u16],
+    third: &[u16],
+    own2: &[u32],
+    own3: &[u32],
+    long1: &[u16],
+    long2: &[u16],
+    addr: u32,
+) -> u64
+    ensures { λ r. ⌜ Word r (lookupSaid (tableOf p1 p2 count)
+        (lent (now (list .entry)) (now (first .entry)) (now (second .entry)) (now (third .entry)) (now (own2 .entry)) (now (own3 .entry))
+        (now (long1 .entry)) (now (long2 .entry))) addr) ⌝ }
+{
+    let standard = Geometry::STANDARD;
+    if p1 == standard.p1 {
+        if p2 == standard.p2 {
+            return look_standard(
+                count,
+                list,
+                first,
+                second,
+                third,
+                own2,
+                own3,
+                long1,
+                long2,
+                addr,
+            );
+        }
+    }
+    let geometry = Geometry { p1, p2 };
+    let z = sizes(
+        Table { geometry, count },
+        list,
+        first,
+        second,
+        third,
+        own2,
+        own3,
+        long1,
+        long2,
+    );
+    if z != 0 {
+        return z as u64;
+    }
+    walk(
+        geometry,
+        list,
+        first,
+        second,
+        third,
+        own2,
+        own3,
+        long1,
+        long2,
+        addr,
+    ) as u64
+}
+
 // Many lookups with one check of geometry and sizes.
 pub fn look_each(
     t: Table,

@@ -2,6 +2,8 @@
 //!
 //! Each array that the library sees stands between two fences of known words, so that a write outside it shows.
 
+#[cfg(feature = "forward")]
+use differential::hop_records::HopRecord;
 use differential::plain::Lent;
 use ghatumri::{raw, Geometry, TableMut, TableRef};
 use std::ops::{Deref, DerefMut};
@@ -200,4 +202,44 @@ pub fn lookup_many(p1: u32, p2: u32, count: u32, t: &Eight, addrs: &[u32], out: 
 #[cfg(feature = "step")]
 pub fn step(p1: u32, p2: u32, count: u32, t: &Eight, packet: &mut [u8]) -> u64 {
     raw::step(&t.lend(p1, p2, count), packet)
+}
+
+#[cfg(feature = "forward")]
+pub fn forward(p1: u32, p2: u32, count: u32, t: &Eight, records: &mut Records, addr: u32, octets: u32) -> u64 {
+    raw::forward(&t.lend(p1, p2, count), records.lend(), addr, octets)
+}
+
+#[cfg(feature = "forward")]
+pub fn count(found: u64, records: &mut Records, octets: u32) -> u64 {
+    raw::count(found, records.lend(), octets)
+}
+
+/// Hop records as they are lent to the library, between two others that are up.
+#[cfg(feature = "forward")]
+pub struct Records(Vec<ghatumri::HopRecord>);
+
+#[cfg(feature = "forward")]
+impl Records {
+    const FENCE: HopRecord = HopRecord { port: 0xA55A, up: 1, packets: 0xA55A_C33C, octets: 0xC33C_A55A };
+
+    pub fn new(records: &[HopRecord]) -> Records {
+        let lent = |&HopRecord { port, up, packets, octets }: &_| ghatumri::HopRecord { port, up, packets, octets };
+        Records([&[Records::FENCE], records, &[Records::FENCE]].concat().iter().map(lent).collect())
+    }
+
+    pub fn lend(&mut self) -> &mut [ghatumri::HopRecord] {
+        let end = self.0.len() - 1;
+        &mut self.0[1..end]
+    }
+
+    /// The first record that is not as it should be.
+    pub fn differs(&self, should: &[HopRecord]) -> Option<String> {
+        let read = |r: &ghatumri::HopRecord| HopRecord { port: r.port, up: r.up, packets: r.packets, octets: r.octets };
+        let should = [&[Records::FENCE], should, &[Records::FENCE]].concat();
+        let k = self.0.iter().zip(&should).position(|(is, should)| read(is) != *should)?;
+        if k == 0 || k == self.0.len() - 1 {
+            return Some("a record outside the list was written".to_string());
+        }
+        Some(format!("the record of hop {k} is {:?} and should be {:?}", read(&self.0[k]), should[k]))
+    }
 }

@@ -4,6 +4,7 @@ pub mod basic;
 pub mod broadcast;
 pub mod gen;
 pub mod header;
+pub mod hop_records;
 pub mod plain;
 pub mod repair;
 pub mod tree_change;

@@ -9,6 +9,8 @@
 mod broadcasts;
 mod changes;
 mod damage;
+#[cfg(feature = "forward")]
+mod forwards;
 mod gh;
 mod images;
 mod inputs;

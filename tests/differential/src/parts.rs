@@ -9,6 +9,8 @@ pub const MUST_HAPPEN: &[&[(&str, &str)]] = &[
     crate::run::MUST_HAPPEN,
     #[cfg(feature = "step")]
     crate::steps::MUST_HAPPEN,
+    #[cfg(feature = "forward")]
+    crate::forwards::MUST_HAPPEN,
 ];
 
 /// Asks a table something at some of these addresses, and leaves it as it is.
@@ -18,4 +20,6 @@ pub type Ask = fn(&mut Run, &mut Rng, &Twice, &[u32]);
 pub const ASKED: &[Ask] = &[
     #[cfg(feature = "step")]
     crate::steps::ask,
+    #[cfg(feature = "forward")]
+    crate::forwards::ask,
 ];

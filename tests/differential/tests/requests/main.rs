@@ -6,6 +6,7 @@ mod basic;
 mod broadcast;
 mod counts;
 mod header;
+mod hop_records;
 mod host_bits;
 mod mark;
 mod one_image;
