@@ -1,18 +1,21 @@
 -- A field by steps is a field entry by entry, and the other way round; and what two fields that differ in bits of no meaning alone have in common.
 use mathlib.Core.Path.{_≡_, refl, sym, ap, ap₂, _∙_}
+use mathlib.Core.Logic.{_⊎_, inl, inr}
 use mathlib.Core.Bool.{Bool, true, false, cond, _||_}
 use mathlib.Core.List.{List, [], _∷_, _++_}
 use Prim.Native.Nat.{ℕ, zero, suc, _+_, _*_, _-_, _^_, _≤_, _<_}
 use native.Mathlib.Nat.{le-refl}
 use native.Mathlib.Omega.{arith}
 use lib.Dec.{ltb}
-use lib.ListN.{length, take, drop, length-append, length-drop, take-append-drop}
-use lib.Seq.{take-at, drop-at, take-all, take-take, length-take-le}
+use lib.ListN.{length, getD, take, drop, length-append, length-take, length-drop, take-append-drop, List·getD-append, List·getD-eq-default}
+use lib.Seq.{take-at, drop-at, take-all, take-take, length-take-le, getD-take, getD-append-add}
 use borrow.Author.Tests.{le-ltb, ltb-false}
 use Rattle.bits.specs.Slot.{slot, cut}
-use Rattle.bits.proofs.Bools.{or-none}
+use Rattle.bits.proofs.Bools.{below?, or-none}
+use Rattle.bits.proofs.Slots.{cut-le, cut-cut}
+use Rattle.routes.specs.Route.{Prefix}
 use Rattle.routes.specs.Record.{word32}
-use Rattle.fields.specs.Field.{Net, bytesFor, netIn, Field, brokenIn, netsIn, broken, entries, sizeOf, Alike}
+use Rattle.fields.specs.Field.{Net, bytesFor, netIn, Bytes8, Field, brokenIn, netsIn, broken, entries, sizeOf, Alike}
 
 -- steps past the last entry do nothing
 broken-enough : (n m : ℕ) (s : List ℕ) → length s ≤ n → length s ≤ m → brokenIn n s ≡ brokenIn m s
@@ -147,3 +150,36 @@ entries-cut a =
     let x = field-told (f .1) in
     let y = field-told (f .2) in
     (x .0 ∙ sym (y .0), x .1 ∙ sym (y .1))
+
+-- Every entry of bytes is of a prefix: its length is at most 32, its address has 32 bits, and is cut to the length.
+module _ (len : ℕ) (body rest : List ℕ) (b : Bytes8 (len ∷ (body ++ rest))) where
+  body-low : (k : ℕ) → getD (take (bytesFor len) body) k 0 < 256
+  body-low k = go (below? k (bytesFor len)) (below? k (length body))
+    where
+      go : (k < bytesFor len) ⊎ (bytesFor len ≤ k) → (k < length body) ⊎ (length body ≤ k) → getD (take (bytesFor len) body) k 0 < 256
+      go (inl h) (inl j) = rw (getD-take (bytesFor len) body k 0 h, sym (List·getD-append body rest 0 k j)) (b .each (suc k))
+      go (inl h) (inr j) = rw (getD-take (bytesFor len) body k 0 h, List·getD-eq-default body 0 {n = k} j) (omega arith)
+      go (inr h) j = rw (List·getD-eq-default (take (bytesFor len) body) 0 {n = k} (omega (arith, length-take (bytesFor len) body))) (omega arith)
+
+  net-prefix : len ≤ 32 → Prefix (netIn len body .addr) len
+  net-prefix h =
+      let w = word32 (take (bytesFor len) body) 0 in
+      record {
+        len-ok = h;
+        addr-ok = omega (arith, body-low 0, body-low 1, body-low 2, body-low 3, cut-le len w);
+        clear = cut-cut len w;
+      }
+
+  rest-bytes : Bytes8 rest
+  rest-bytes = record { each = λ k. rw (getD-append-add body rest k 0) at (b .each (suc (length body + k))) }
+
+pub field-prefix : {s : List ℕ} {ns : List Net} → Field s ns → Bytes8 s → (j : ℕ) (m : Net) → drop j ns ≡ m ∷ drop (suc j) ns → Prefix (m .addr) (m .len)
+field-prefix Field.none b zero m q = absurd (omega (arith, ap length q))
+field-prefix Field.none b (suc j) m q = absurd (omega (arith, ap length q))
+field-prefix (Field.more len body rest ns h e f) b zero m q =
+    let same : netIn len body ≡ m = first-net q in
+    rw (← same) (net-prefix len body rest b h)
+  where
+    first-net : {x y : Net} {xs ys : List Net} → x ∷ xs ≡ y ∷ ys → x ≡ y
+    first-net p = cc
+field-prefix (Field.more len body rest ns h e f) b (suc j) m q = field-prefix f (rest-bytes len body rest b) j m q

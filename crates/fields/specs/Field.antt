@@ -2,9 +2,9 @@
 use mathlib.Core.Bool.{Bool, true, false, cond, _||_}
 use mathlib.Core.List.{List, [], _∷_, _++_, map}
 use mathlib.Core.Path.{_≡_}
-use Prim.Native.Nat.{ℕ, zero, suc, _+_, _/_, _≤_}
+use Prim.Native.Nat.{ℕ, zero, suc, _+_, _/_, _≤_, _<_}
 use lib.Dec.{ltb}
-use lib.ListN.{length, take, drop}
+use lib.ListN.{length, getD, take, drop}
 use Rattle.bits.specs.Bytes.{above1, above2, above3, byte}
 use Rattle.bits.specs.Slot.{slot, cut}
 use Rattle.routes.specs.Record.{word32}
@@ -25,6 +25,10 @@ bytesFor len = (len + 7) / 8
 -- the prefix of an entry with this length byte and these bytes after it: as many of them as it needs, zeros after them, cut to the length
 abbrev pub netIn : ℕ → List ℕ → Net
 netIn len bytes = record { addr = cut len (word32 (take (bytesFor len) bytes) 0); len = len }
+
+-- bytes are numbers of 8 bits: so of every `&[u8]` that is lent
+pub record Bytes8 (s : List ℕ) : Type 0 where
+  pub each : (k : ℕ) → getD s k 0 < 256
 
 -- A field is entries end to end, and has the prefixes of these.
 pub data Field : List ℕ → List Net → Type 0 where
