@@ -9,3 +9,4 @@ pub mod Named
 pub mod Casts
 pub mod ImageCalls
 pub mod Putting
+pub mod RouteFields

@@ -9,6 +9,7 @@ use lib.ListN.{length, getD, take, drop, set, length-append, length-drop, List·
 use lib.Seq.{paste, paste-suc, length-paste, length-take-le, take-at, drop-at, drop-append-add, drop-drop, drop-nil}
 use Rattle.bits.specs.Tab.{tabulate}
 use Rattle.routes.specs.Record.{recordAt, routesOf, Records}
+use Rattle.routes.specs.Route.{Good}
 use Rattle.routes.specs.declared.Route.{Route}
 use Rattle.routes.proofs.Rows.{routes-snoc}
 use Rattle.fields.specs.Field.{bytesFor, entryBytes, entryOf, fieldOf}
@@ -31,6 +32,19 @@ same-long s at a len n k u room few h e = ap length e ∙ length-paste s at (ent
 
 pub length-entry : (a len : ℕ) → len ≤ 32 → length (entryOf a len) ≡ suc (bytesFor len)
 length-entry a len h = length-take-le (suc (bytesFor len)) (entryBytes a len) (omega arith)
+
+-- an entry takes at most five bytes
+pub field-most : (rs : List Route) → Good rs → length (fieldOf rs) ≤ 5 * length rs
+unfolding fieldOf Good
+field-most [] g = omega arith
+field-most (r ∷ rs) g =
+    omega (
+      arith,
+      field-most rs (g .2),
+      g .0 .prefix .len-ok,
+      length-append (entryOf (r .addr) (r .len)) (fieldOf rs),
+      length-entry (r .addr) (r .len) (g .0 .prefix .len-ok),
+    )
 
 fields-append : (rs qs : List Route) → fieldOf (rs ++ qs) ≡ fieldOf rs ++ fieldOf qs
 unfolding fieldOf

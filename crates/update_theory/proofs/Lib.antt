@@ -5,3 +5,4 @@ pub mod Loops
 pub mod Messages
 pub mod Turns
 pub mod Cases
+pub mod WrittenBack

@@ -2,21 +2,28 @@
 -- it was; and its statement leaves one answer.
 use mathlib.Core.Path.{_≡_, refl, sym, ap, _∙_}
 use mathlib.Core.Logic.{_⊎_, inl, inr, _≢_}
-use mathlib.Core.Bool.{true, false, true≢false}
-use mathlib.Core.List.{List, [], _∷_}
+use mathlib.Core.Bool.{Bool, true, false, cond, _||_}
+use mathlib.Core.List.{List, [], _∷_, _++_, map}
 use Prim.Native.Nat.{ℕ, zero, suc, _+_, _%_, _^_, _≤_}
 use native.Mathlib.Omega.{arith}
+use lib.Dec.{eqb}
 use lib.ListN.{length, take}
 use borrow.Author.Tests.{eq-eqb, ne-eqb}
 use Rattle.bits.proofs.Bools.{equal?}
+use Rattle.routes.specs.Input.{hopFine}
 use Rattle.routes.specs.Said.{Said, accepted, refused, refusedAt, accepts}
+use Rattle.fields.specs.Field.{Net, broken, entries, Alike}
+use Rattle.fields.specs.Message.{messageFault}
+use Rattle.fields.proofs.Fields.{entries-cut}
 use Rattle.sail.specs.Lent.{Lent}
+use Rattle.sail.specs.Sizes.{sizesFault}
 use Rattle.sail.specs.declared.table.Table.{Table}
 use Rattle.sail_theory.specs.Calls.{Out, out, Ends, route, announced}
+use Rattle.sail_theory.specs.SoundTest.{sound?}
 use Rattle.sail_theory.specs.CallRuns.{Call, done, after}
 use Rattle.sail_theory.proofs.calls.Cleared.{announce-refused}
-use Rattle.update_theory.specs.Deal.{Entry, goes, comes, allEntries, Dealt, dealBy, afterFirst, stopOf}
-use Rattle.update_theory.specs.Update.{Kept, keptOf, turn, faultOf, dealtOut, updated, callOf, runOn, keptAfter}
+use Rattle.update_theory.specs.Deal.{Entry, goes, comes, allEntries, Dealt, dealBy, afterFirst, updateFault, stopOf, dealtSaid}
+use Rattle.update_theory.specs.Update.{Kept, kept, keptOf, turn, faultOf, dealtOut, updated, callOf, runOn, keptAfter}
 use Rattle.update_theory.proofs.Deals.{deal-ends}
 
 -- a refusal of the whole message
@@ -24,6 +31,53 @@ pub refused-leaves-all-update : (t : Table) (l : Lent) (wd re : List ℕ) (hop :
     → updated t l wd re hop ≡ out (refused (faultOf t l wd re hop)) t l
 unfolding updated
 refused-leaves-all-update t l wd re hop n = rw (ne-eqb _ 0 n)
+
+-- said: a refusal without a count is one of the whole, and leaves the state and all that is lent
+pub refused-whole : (t : Table) (l : Lent) (wd re : List ℕ) (hop n : ℕ) → updated t l wd re hop .said ≡ refused n → updated t l wd re hop ≡ out (refused n) t l
+unfolding updated
+refused-whole t l wd re hop n e = go (equal? (faultOf t l wd re hop) 0) e
+  where
+    d : Dealt Kept
+    d = dealBy (turn hop) 0 (kept t l) (allEntries wd re)
+
+    counted : (b : Bool) (k j m : ℕ) → cond b (accepted (k ∷ [])) (refusedAt j m) ≡ refused n → ⊥
+    counted true k j m q = let z : _≡_ {A = ℕ} 0 1 = cc in omega arith
+    counted false k j m q = let z : _≡_ {A = ℕ} 0 1 = cc in omega arith
+
+    go : (faultOf t l wd re hop ≡ 0) ⊎ (faultOf t l wd re hop ≢ 0) → updated t l wd re hop .said ≡ refused n
+        → updated t l wd re hop ≡ out (refused n) t l
+    go (inl z) q =
+        let on : updated t l wd re hop .said ≡ dealtSaid d = rw (eq-eqb (faultOf t l wd re hop) 0 z) in
+        absurd (counted (eqb (d .stop) 0) (d .dealt % 2 ^ 32) (d .stop) (d .dealt % 2 ^ 32) (sym on ∙ q))
+    go (inr z) q =
+        let off = refused-leaves-all-update t l wd re hop z in
+        off ∙ ap (λ (x : Said). out x t l) (sym (ap (λ (o : Out). o .said) off) ∙ q)
+
+-- Bits of no meaning do not matter: what a message says and leaves goes by whether its fields are fields, and by their prefixes.
+module _ (t : Table) (l : Lent) (hop : ℕ) where
+  abbrev by : Bool → Bool → List Net → List Net → Out
+  by b c ns ms =
+      cond (eqb (fault b c) 0)
+      (dealtOut (dealBy (turn hop) 0 (kept t l) (map goes ns ++ map comes ms)))
+      (out (refused (fault b c)) t l)
+    where
+      fault : Bool → Bool → ℕ
+      fault b c = cond (eqb (sizesFault (t .geometry) l) 0) (cond (sound? t l) (cond (b || c) 17 (cond (hopFine hop) 0 4)) 5) (sizesFault (t .geometry) l)
+
+  updated-by : (wd re : List ℕ) → updated t l wd re hop ≡ by (broken wd) (broken re) (entries wd) (entries re)
+  unfolding updated updateFault messageFault
+  updated-by wd re = refl
+
+  pub update-same-fields : (wd re wd′ re′ : List ℕ) → Alike wd wd′ → Alike re re′ → updated t l wd re hop ≡ updated t l wd′ re′ hop
+  update-same-fields wd re wd′ re′ p q =
+      let a = entries-cut p in
+      let b = entries-cut q in
+      updated-by wd re
+      ∙ ap (λ (x : Bool). by x (broken re) (entries wd) (entries re)) (a .0)
+      ∙ ap (λ (x : Bool). by (broken wd′) x (entries wd) (entries re)) (b .0)
+      ∙ ap (λ (x : List Net). by (broken wd′) (broken re′) x (entries re)) (a .1)
+      ∙ ap (λ (x : List Net). by (broken wd′) (broken re′) (entries wd′) x) (b .1)
+      ∙ sym (updated-by wd′ re′)
 
 -- what stops leaves all as it was
 stop-accepts : (s : Said) → stopOf s ≢ 0 → accepts s ≡ false
