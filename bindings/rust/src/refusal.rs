@@ -54,6 +54,8 @@ reasons! {
     11 Nodes "too few whole nodes lent"
     12 Hops "too few hops lent"
     13 Image "image broken on this walk: bit 15 set, child or hop beyond what is lent, no root, hop outside 1 to 32,767; image tested or changed: not well formed; bit maps: such a hop at the first set bit"
+    17 Field "route field: a length over 32, or the field ends inside an entry"
+    18 Buffer "buffer too short for the route field"
     23 Version "version neither 1 nor 2"
 }
 

@@ -1,4 +1,4 @@
--- The demands, a file for each; and the demands of the calls on bit maps, of broadcasts and of images.
+-- The demands, a file for each; and the demands of the calls on bit maps, of broadcasts, of images and of messages.
 pub mod Demand1
 pub mod Demand2
 pub mod Demand3
@@ -8,3 +8,4 @@ pub mod Broadcasts
 pub mod Repairs
 pub mod Images
 pub mod OneImage
+pub mod Messages

@@ -94,22 +94,22 @@ module _ (count : ℕ) where
   pub stopped-routes : (n k : ℕ) → UpdateFits count (refusedAt n k) → countOf (packUpdate count (refusedAt n k)) ≡ count
   stopped-routes n k (UpdateFits.stopped _ _ a i h c) = stopped-laid n k i h c .routes
 
+  done-sum : (k : ℕ) → count < 2 ^ 16 → packUpdate count (accepted (k ∷ [])) ≡ count * 2 ^ 16 + k * 2 ^ 32
+  unfolding packUpdate
+  done-sum k c = let r : count % 65536 ≡ count = mod-eq-of-lt c in omega arith
+
+  stopped-sum : (n k : ℕ) → count < 2 ^ 16 → packUpdate count (refusedAt n k) ≡ n + 2 ^ 8 + count * 2 ^ 16 + k * 2 ^ 32
+  unfolding packUpdate
+  stopped-sum n k c = let r : count % 65536 ≡ count = mod-eq-of-lt c in omega arith
+
+  off-sum : (n : ℕ) → packUpdate count (refused n) ≡ n
+  unfolding packUpdate
+  off-sum n = refl
+
   pub update-parts : (s : Said) → UpdateFits count s → packUpdate count s ≡ updateParts (packUpdate count s)
   unfolding updateParts
-  update-parts _ (UpdateFits.done k h c) = let w = done-laid k h c in rw (w .number, w .routes, w .entries) (sum k c)
-    where
-      sum : (k : ℕ) → count < 2 ^ 16 → packUpdate count (accepted (k ∷ [])) ≡ count * 2 ^ 16 + k * 2 ^ 32
-      unfolding packUpdate
-      sum k c = let r : count % 65536 ≡ count = mod-eq-of-lt c in omega arith
+  update-parts _ (UpdateFits.done k h c) = let w = done-laid k h c in rw (w .number, w .routes, w .entries) (done-sum k c)
   update-parts _ (UpdateFits.stopped n k a i h c) =
       let w = stopped-laid n k i h c in
-      rw (w .number, w .mark, w .routes, w .entries, ne-eqb n 0 (λ z. omega arith)) (sum n k c)
-    where
-      sum : (n k : ℕ) → count < 2 ^ 16 → packUpdate count (refusedAt n k) ≡ n + 2 ^ 8 + count * 2 ^ 16 + k * 2 ^ 32
-      unfolding packUpdate
-      sum n k c = let r : count % 65536 ≡ count = mod-eq-of-lt c in omega arith
-  update-parts _ (UpdateFits.off n a i) = let w = off-laid n i in rw (w .number, w .mark, ne-eqb n 0 (λ z. omega arith)) (sum n)
-    where
-      sum : (n : ℕ) → packUpdate count (refused n) ≡ n
-      unfolding packUpdate
-      sum n = refl
+      rw (w .number, w .mark, w .routes, w .entries, ne-eqb n 0 (λ z. omega arith)) (stopped-sum n k c)
+  update-parts _ (UpdateFits.off n a i) = let w = off-laid n i in rw (w .number, w .mark, ne-eqb n 0 (λ z. omega arith)) (off-sum n)
