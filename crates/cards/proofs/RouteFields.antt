@@ -45,7 +45,7 @@ use Rattle.packing_fields.specs.Answers.{
   writtenParts,
   updateParts,
 }
-use Rattle.packing_fields.proofs.Reads.{written-read, written-parts, update-read, update-parts, done-routes, stopped-routes}
+use Rattle.packing_fields.proofs.ReadBack.{written-read, written-parts, update-read, update-parts, done-routes, stopped-routes}
 use Rattle.cards.specs.Cards.{card}
 use Rattle.cards.specs.Narrow.{AlikeOver}
 use Rattle.cards.specs.RouteFields.{writtenCardOf, updateCardOf}
