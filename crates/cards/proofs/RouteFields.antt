@@ -3,12 +3,12 @@
 -- record an input shorter than 2^35 bytes.
 use mathlib.Core.Path.{_≡_, refl, sym, _∙_, ap}
 use mathlib.Core.Logic.{_⊎_, inl, inr, _≢_}
-use mathlib.Core.Bool.{Bool, true, false, cond, _||_, true≢false}
+use mathlib.Core.Bool.{Bool, true, false, cond, _||_}
 use mathlib.Core.List.{List, [], _∷_}
-use Prim.Native.Nat.{ℕ, zero, suc, _+_, _*_, _/_, _%_, _^_, _≤_, _<_, min}
+use Prim.Native.Nat.{ℕ, _/_, _%_, _^_, _≤_, _<_, min}
 use native.Mathlib.Omega.{arith}
 use lib.ListN.{length}
-use Rattle.bits.proofs.Bools.{untrue}
+use Rattle.bits.proofs.Bools.{decided, untrue, equal?}
 use Rattle.routes.specs.Input.{hopFine}
 use Rattle.routes.specs.Cases.{Passes}
 use Rattle.routes.specs.Record.{routesIn}
@@ -29,9 +29,10 @@ use Rattle.sail_theory.specs.Calls.{Out, out}
 use Rattle.sail_theory.specs.SoundTest.{sound?}
 use Rattle.sail_words.specs.Lookups.{wordsCard}
 use Rattle.update_theory.specs.Cases.{ForRoom, six, seven, eight, Update}
-use Rattle.update_theory.specs.Deal.{updateFault}
+use Rattle.update_theory.specs.Deal.{allEntries, updateFault}
 use Rattle.update_theory.specs.Update.{faultOf, updated}
 use Rattle.update_theory.proofs.Cases.{update-judged, update-sound}
+use Rattle.update_theory.proofs.Faults.{fault-sizes, fault-unsound, fault-message}
 use Rattle.update_theory.proofs.Messages.{refused-leaves-all-update}
 use Rattle.packing.specs.Parts.{parts}
 use Rattle.packing.specs.Unpack.{countOf, FitsWord}
@@ -72,7 +73,7 @@ module _ (s buffer : List ℕ) (short : length s < 2 ^ 35) where
       go : {x : Said} → Write s buffer x → FitsWord (2 ^ 32) WrittenFits x
       go (Write.bad-input x b) = refused-fits WrittenFits s short (b .checked) (b .not-accepted)
       go (Write.short n g h) = FitsWord.number 18 (omega arith) (omega arith)
-      go (Write.put n g h) = FitsWord.values _ (WrittenFits.bytes _ (omega (arith, bytes-few n g)))
+      go (Write.put n g h) = FitsWord.values (length (fieldOf (routesIn s)) ∷ []) (WrittenFits.bytes (length (fieldOf (routesIn s))) (omega (arith, bytes-few n g)))
 
   pub gh-write-field-read : unpackWritten (writtenCardOf (fieldWritten s buffer) .answer) ≡ writeSaid s buffer
   unfolding writtenCardOf fieldWritten
@@ -84,19 +85,22 @@ module _ (s buffer : List ℕ) (short : length s < 2 ^ 35) where
 
 -- A message. Every hop over 32,767 is refused with one number, or what is before it is.
 module _ (t : Table) (l : Lent) (wd re : List ℕ) where
+  abbrev sizes : ℕ
+  sizes = sizesFault (t .geometry) l
+
   high : (hop : ℕ) → 32767 < hop → messageFault wd re hop ≡ cond (broken wd || broken re) 17 4
   unfolding messageFault
   high hop h = let no : hopFine hop ≡ false = untrue (hopFine hop) (λ e. let b = hop-true hop e in omega (arith, b .1)) in rw no
 
   high-fault : (hop : ℕ) → 32767 < hop → faultOf t l wd re hop ≢ 0
-  unfolding updateFault
-  high-fault hop h = rw (high hop h) (go (sizesFault (t .geometry) l) (sound? t l) (broken wd || broken re))
+  high-fault hop h = go (equal? sizes 0) (decided (sound? t l)) (broken wd || broken re) (high hop h)
     where
-      go : (n : ℕ) (ok b : Bool) → cond (lib.Dec.eqb n 0) (cond ok (cond b 17 4) 5) n ≢ 0
-      go zero true true e = omega arith
-      go zero true false e = omega arith
-      go zero false b e = omega arith
-      go (suc n) ok b e = omega arith
+      go : (sizes ≡ 0) ⊎ (sizes ≢ 0) → (sound? t l ≡ true) ⊎ (sound? t l ≡ false) → (b : Bool) → messageFault wd re hop ≡ cond b 17 4
+          → faultOf t l wd re hop ≢ 0
+      go (inr n) s b e z = n (sym (fault-sizes sizes (sound? t l) wd re hop n) ∙ z)
+      go (inl q) (inr s) b e z = omega (arith, fault-unsound sizes (sound? t l) wd re hop q s, z)
+      go (inl q) (inl s) true e z = omega (arith, fault-message sizes (sound? t l) wd re hop q s, e, z)
+      go (inl q) (inl s) false e z = omega (arith, fault-message sizes (sound? t l) wd re hop q s, e, z)
 
   fault-alike : (x y : ℕ) → 32767 < x → 32767 < y → faultOf t l wd re x ≡ faultOf t l wd re y
   unfolding updateFault
@@ -141,7 +145,7 @@ module _ (t : Table) (l : Lent) (wd re : List ℕ) where
             UpdateFits.stopped number (k % 2 ^ 32) (n .0) (n .1) (omega arith) (omega arith)
         go (Update.done ok p) =
             let few = update-sound t l wd re hop (ok .sound) .listed .records .few in
-            UpdateFits.done _ (omega arith) (omega arith)
+            UpdateFits.done (length (allEntries wd re) % 2 ^ 32) (omega arith) (omega arith)
 
     pub gh-update-read : unpackUpdate (updateCardOf o .answer) ≡ o .said
     unfolding updateCardOf
