@@ -25,7 +25,8 @@ use Rattle.sail_judge.specs.Withdraw.{RecordFound, ToTake}
 use Rattle.sail_judge.specs.declared.announce.AnnounceVerdict.{AnnounceVerdict}
 use Rattle.sail_judge.specs.declared.withdraw.WithdrawVerdict.{WithdrawVerdict}
 use Rattle.sail_add.specs.Added.{MeetsAdd}
-use Rattle.sail_take.specs.Taken.{MeetsTake}
+use Rattle.sail_take.specs.Taken.{TakenIn}
+use Rattle.sail_take.proofs.TakesAlone.{taken-alone}
 use Rattle.update_theory.specs.Deal.{stopOf}
 use Rattle.sail_deal.specs.Dealt.{Ready, IsIn, standsSo, Leaves, RouteDealt, PrefixDealt}
 use Rattle.sail_deal.proofs.Same.{adding-same, so-told}
@@ -53,7 +54,7 @@ module _ (t : Table) (l : Lent) (ws par : List ℕ) (ready : Ready t l ws par) w
   -- where the prefix stands, its record is there
   at-place : (r : Route) (f : AnnounceVerdict) → ToAdd t l r f → f .stands ≡ true → (f .at < t .count) × (key (recordAt (l .list) (f .at)) ≡ key r)
   at-place r f to e =
-      found (l .list) (t .count) (f .at) (key r) (record { records = ready .sound .listed .records; place = to .at }) (sym (to .stood) ∙ e)
+      found (l .list) (t .count) (f .at) (key r) (record { records = ready .sound .listed .records; place = to .found .at }) (sym (to .found .stood) ∙ e)
 
   pub found-in : (r : Route) (f : AnnounceVerdict) → ToAdd t l r f → IsIn (l .list) (f .at) (f .stands)
   found-in r f to = record { inside = λ e. omega (arith, at-place r f to e .0, ready .sound .listed .records .room) }
@@ -99,6 +100,6 @@ module _ (t : Table) (l : Lent) (u : Table) (e : Lent) (ws par : List ℕ) where
     left = ends-left l _ _ _ t u e ws par q (adding-holds t l r (to .may)) c;
   }
 
-  pub withdraw-takes : (a len at : ℕ) → ToTake t l a len at → MeetsTake t l a len u e → ChainedFront (e .list) (u .count) ws par
+  pub withdraw-takes : (a len at : ℕ) → ToTake t l a len at → TakenIn t l a len u e → ChainedFront (e .list) (u .count) ws par
       → PrefixDealt t l a len u e ws par
-  withdraw-takes a len at to q c = record { left = ends-left l _ _ _ t u e ws par q (taking-holds t l a len (to .may)) c }
+  withdraw-takes a len at to q c = record { left = ends-left l _ _ _ t u e ws par (taken-alone (to .may) q) (taking-holds t l a len (to .may)) c }

@@ -56,7 +56,17 @@ pub fn announce_sound(
         (lent (now (list .exit)) (now (first .exit)) (now (second .exit)) (now (third .exit))
         (now (own2 .exit)) (now (own3 .exit)) (now (long1 .exit)) (now (long2 .exit))) (now (ws .exit)) (now (par .exit)) ⌝ }
 {
-    let f = judge_room(t, list, first, second, third, own2, own3, long1, long2, r);
+    let f = judge_room(
+        t,
+        list,
+        first,
+        second,
+        own2,
+        own3,
+        r,
+        own2.len(),
+        own3.len(),
+    );
     if f.number != 0 {
         return Turned {
             number: f.number,

@@ -1,6 +1,7 @@
 -- `sail_deal::withdraw_sound`: the record is looked for, and passed over, or taken out.
 use mathlib.Core.Path.{refl}
 use borrow.Author.Needs.{needs}
+use Rattle.sail_take.proofs.TakesAlone.{take-alone}
 use Rattle.sail_deal.proofs.Deals.{withdraw-passes, found-take, withdraw-takes}
 use Rattle.sail_deal.proofs.withdraw_sound.Statement.{statement}
 use Rattle.sail_deal.proofs.withdraw_sound.Tie as tie
@@ -33,7 +34,7 @@ take-requires : tie.Need-take-requires
 take-requires c κs =
     let at-else : tie.Else1 = search in
     let found = looked at-else in (
-      found-take _ _ _ _ (begun found .pre .1) _ _ (begun found .pre .0) _ (found .find-record .ensures) (at-else .if1 .left),
+      take-alone (found-take _ _ _ _ (begun found .pre .1) _ _ (begun found .pre .0) _ (found .find-record .ensures) (at-else .if1 .left)),
       begun found .pre .1 .chain,
     )
 
