@@ -24,8 +24,8 @@ CONFIG = """
 log "{work}/log" all;
 router id 127.0.0.1;
 protocol device {{ }}
-protocol static first {{ ipv4; {first} }}
-protocol static later {{ ipv4; {later} }}
+protocol static one {{ ipv4; {first} }}
+protocol static two {{ ipv4; {later} }}
 protocol bgp peer {{
     local 127.0.0.1 port {port} as 64512;
     neighbor 127.0.0.2 as 64513;
@@ -123,12 +123,12 @@ def compare(work, port):
     session, table = Session(port), Table(lib)
     for withdrawn, reach in session.updates(lambda w, r: not w and not r):
         assert table.update(withdrawn, reach) & 0xFF == 0
-    assert set(table.prefixes()) == routes(work, ["first", "later"]) == set(FIRST + LATER)
+    assert set(table.prefixes()) == routes(work, ["one", "two"]) == set(FIRST + LATER)
 
-    asked(work, "disable", "later")
+    asked(work, "disable", "two")
     for withdrawn, reach in session.updates(lambda w, r: len(table.prefixes()) == len(FIRST)):
         assert table.update(withdrawn, reach) & 0xFF == 0
-    assert set(table.prefixes()) == routes(work, ["first"]) == set(FIRST)
+    assert set(table.prefixes()) == routes(work, ["one"]) == set(FIRST)
 
     # The list as a field of ours: origin, path and next hop before it.
     attributes = bytes.fromhex("40010100" "40020402" "01fc01" "4003047f000002")

@@ -1,11 +1,13 @@
 """Messages made by scapy, and fields of the library taken apart by scapy."""
 
 import ipaddress
+import logging
 import random
 import sys
 
 from table import Table, fields, library, messages
 
+logging.getLogger("scapy").setLevel(logging.ERROR)
 try:
     from scapy.contrib.bgp import BGPHeader, BGPNLRI_IPv4, BGPUpdate
     from scapy.packet import raw
