@@ -16,7 +16,7 @@ if not shutil.which("bird") or not shutil.which("birdc"):
     print("peers: no bird on this machine, its live messages are left out")
     sys.exit(0)
 
-lib = library(sys.argv[1] if len(sys.argv) > 1 else None)
+lib = library(sys.argv[1])
 signal.alarm(60)
 FIRST = ["0.0.0.0/0", "10.0.0.0/8", "10.1.0.0/16", "10.1.2.0/24", "10.1.2.128/25", "128.0.0.0/1", "203.0.113.7/32"]
 LATER = ["100.64.0.0/10", "172.16.0.0/12", "192.0.2.0/24", "198.51.100.0/22"]

@@ -15,7 +15,7 @@ except ImportError:
     print("peers: no scapy on this machine, its messages are left out")
     sys.exit(0)
 
-lib = library(sys.argv[1] if len(sys.argv) > 1 else None)
+lib = library(sys.argv[1])
 draw = random.Random(4271)
 
 
