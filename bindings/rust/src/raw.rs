@@ -2,8 +2,8 @@
 //! section ANSWERS tells how to read.
 //!
 //! Nothing is kept here: after an accepted change its caller sets [`TableMut::count`] from bits 16 to 31 of the answer,
-//! and leaves it after a refusal; after an [`update`] it sets it if bit 8 is set too. The rest of this crate, the comparison with a plain implementation and the measurements
-//! stand on these functions.
+//! and leaves it after a refusal; after an [`update`] it sets it if bit 8 is set too. The rest of this crate, the comparison
+//! with a plain implementation and the measurements stand on these functions.
 
 use crate::sys;
 use crate::table::{TableMut, TableRef};

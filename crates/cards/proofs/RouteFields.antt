@@ -1,7 +1,7 @@
 -- The calls on route fields: a hop may be narrowed; what they say has room in their answers, a caller that reads these by the header's fields has
 -- exactly what the call inside says, and nothing else is in them. Supposed is what the boundary's types give: bytes of 8 bits, and for the index of a
 -- record an input shorter than 2^35 bytes.
-use mathlib.Core.Path.{_≡_, refl, sym, _∙_, ap}
+use mathlib.Core.Path.{_≡_, sym, _∙_, ap}
 use mathlib.Core.Logic.{_⊎_, inl, inr, _≢_}
 use mathlib.Core.Bool.{Bool, true, false, cond, _||_}
 use mathlib.Core.List.{List, [], _∷_}
@@ -14,7 +14,7 @@ use Rattle.routes.specs.Cases.{Passes}
 use Rattle.routes.specs.Record.{routesIn}
 use Rattle.routes.specs.Said.{Said, accepted, refused, refusedAt}
 use Rattle.routes.proofs.Judged.{good-whole}
-use Rattle.routes.proofs.Meaning.{hop-true, input-checked}
+use Rattle.routes.proofs.Meaning.{hop-true}
 use Rattle.routes.proofs.Rows.{length-routes, records-good}
 use Rattle.fields.specs.Field.{Bytes8, broken, fieldOf}
 use Rattle.fields.specs.Message.{messageFault}

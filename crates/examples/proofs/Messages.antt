@@ -1,7 +1,7 @@
 -- Messages that meet what the theorems on them suppose, and what their claims refuse: fields that are none, fields that differ in more than bits of no
 -- meaning; the order of refusals; a message that stops with 7 in a second pool of one
 -- chunk; the writer at the size of its buffer and one byte below it.
-use mathlib.Core.Path.{_≡_, refl, sym, _∙_, ap}
+use mathlib.Core.Path.{_≡_, refl, _∙_, ap}
 use mathlib.Core.Bool.{true, false, true≢false}
 use mathlib.Core.List.{List, [], _∷_}
 use Prim.Native.Nat.{ℕ}

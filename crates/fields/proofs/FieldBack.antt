@@ -3,7 +3,7 @@ use mathlib.Core.Path.{_≡_, refl, sym, ap, _∙_}
 use mathlib.Core.Logic.{_⊎_, inl, inr}
 use mathlib.Core.Bool.{false}
 use mathlib.Core.List.{List, [], _∷_, _++_, map}
-use Prim.Native.Nat.{ℕ, suc, _+_, _*_, _/_, _≤_, _<_, _^_}
+use Prim.Native.Nat.{ℕ, _+_, _*_, _/_, _≤_, _<_, _^_}
 use native.Mathlib.Nat.{le-refl}
 use native.Mathlib.Omega.{arith}
 use lib.ListN.{length, take}
@@ -15,7 +15,7 @@ use Rattle.bits.proofs.Slots.{cut-more}
 use Rattle.routes.specs.Record.{word32}
 use Rattle.routes.specs.Route.{Prefix, Good}
 use Rattle.routes.specs.declared.Route.{Route}
-use Rattle.fields.specs.Field.{Net, netOf, bytesFor, netIn, Field, broken, entries, fieldFault, fieldOf}
+use Rattle.fields.specs.Field.{netOf, bytesFor, netIn, Field, broken, entries, fieldFault, fieldOf}
 use Rattle.fields.proofs.Fields.{field-told, field-length, told-field}
 
 abbrev four : ℕ → List ℕ

@@ -1,7 +1,7 @@
 -- A field by steps is a field entry by entry, and the other way round; and what two fields that differ in bits of no meaning alone have in common.
-use mathlib.Core.Path.{_≡_, refl, sym, ap, ap₂, _∙_}
+use mathlib.Core.Path.{_≡_, refl, sym, ap, _∙_}
 use mathlib.Core.Logic.{_⊎_, inl, inr}
-use mathlib.Core.Bool.{Bool, true, false, cond, _||_}
+use mathlib.Core.Bool.{Bool, false, _||_}
 use mathlib.Core.List.{List, [], _∷_, _++_}
 use Prim.Native.Nat.{ℕ, zero, suc, _+_, _*_, _-_, _^_, _≤_, _<_}
 use native.Mathlib.Nat.{le-refl}
@@ -10,7 +10,7 @@ use lib.Dec.{ltb}
 use lib.ListN.{length, getD, take, drop, length-append, length-take, length-drop, take-append-drop, List·getD-append, List·getD-eq-default}
 use lib.Seq.{take-at, drop-at, take-all, take-take, length-take-le, getD-take, getD-append-add}
 use borrow.Author.Tests.{le-ltb, ltb-false}
-use Rattle.bits.specs.Slot.{slot, cut}
+use Rattle.bits.specs.Slot.{cut}
 use Rattle.bits.proofs.Bools.{below?, or-none}
 use Rattle.bits.proofs.Slots.{cut-le, cut-cut}
 use Rattle.routes.specs.Route.{Prefix}

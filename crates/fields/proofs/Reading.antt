@@ -1,9 +1,9 @@
 -- Reading a field entry by entry: the check, an entry, and what is left after it.
-use mathlib.Core.Path.{_≡_, refl, sym, ap, _∙_}
+use mathlib.Core.Path.{_≡_, sym, ap, _∙_}
 use mathlib.Core.Logic.{_⊎_, inl, inr}
-use mathlib.Core.Bool.{Bool, true, false, cond, _||_, true≢false}
+use mathlib.Core.Bool.{true, false, _||_, true≢false}
 use mathlib.Core.List.{List, [], _∷_}
-use Prim.Native.Nat.{ℕ, suc, _+_, _-_, _*_, _^_, _≤_, _<_}
+use Prim.Native.Nat.{ℕ, _+_, _-_, _*_, _^_, _≤_, _<_}
 use native.Mathlib.Numerals.{add-one}
 use native.Mathlib.Omega.{arith}
 use lib.Dec.{ltb}
@@ -11,11 +11,11 @@ use lib.ListN.{length, getD, take, drop, length-drop, length-take, drop-of-lengt
 use lib.Seq.{drop-cons, drop-drop, getD-take, getD-drop}
 use borrow.Author.Tests.{lt-ltb, le-ltb}
 use Rattle.bits.specs.Slot.{cut}
-use Rattle.bits.proofs.Bools.{decided, below?}
+use Rattle.bits.proofs.Bools.{decided}
 use Rattle.bits.proofs.Slots.{cut-le, cut-cut}
 use Rattle.routes.specs.Route.{Prefix}
 use Rattle.routes.specs.Record.{word32}
-use Rattle.fields.specs.Field.{Net, bytesFor, netIn, broken, entries, fieldFault}
+use Rattle.fields.specs.Field.{bytesFor, netIn, broken, entries, fieldFault}
 use Rattle.fields.specs.Entry.{EntryAt, IsEntry, FieldFrom}
 use Rattle.fields.specs.declared.entry.Entry.{Entry}
 use Rattle.fields.proofs.Fields.{broken-step, broken-none, entries-step, entries-none, First, first-whole}

@@ -1,14 +1,14 @@
 -- What the writer says on each way through it, and what that means: no byte after the field is touched, and the field is read back.
 use mathlib.Core.Path.{_≡_, refl, sym, ap, _∙_}
 use mathlib.Core.Logic.{_⊎_, inl, inr}
-use mathlib.Core.Bool.{true, false, cond, true≢false, false≢true}
+use mathlib.Core.Bool.{true, false, true≢false, false≢true}
 use mathlib.Core.List.{List, [], _∷_, _++_, map}
 use Prim.Native.Nat.{ℕ, _+_, _-_, _*_, _/_, _≤_, _<_}
 use native.Mathlib.Omega.{arith}
 use lib.Dec.{ltb}
-use lib.ListN.{length, getD, take, drop, length-append, length-drop}
-use lib.Seq.{getD-append-add, getD-drop, take-append-seam, length-front, take-length}
-use borrow.Author.Tests.{lt-ltb, le-ltb, ltb-false}
+use lib.ListN.{length, getD, take, drop}
+use lib.Seq.{getD-append-add, getD-drop, take-append-seam}
+use borrow.Author.Tests.{lt-ltb, le-ltb}
 use Rattle.bits.proofs.Bools.{decided, below?}
 use Rattle.routes.specs.Input.{inputSaid}
 use Rattle.routes.specs.Record.{routesOf, routesIn}
@@ -18,7 +18,7 @@ use Rattle.routes.specs.Route.{Good}
 use Rattle.routes.proofs.Judged.{check-only, by-input}
 use Rattle.routes.proofs.Meaning.{input-good}
 use Rattle.routes.proofs.Rows.{records-good}
-use Rattle.fields.specs.Field.{Net, netOf, broken, entries, fieldFault, fieldOf}
+use Rattle.fields.specs.Field.{netOf, entries, fieldFault, fieldOf}
 use Rattle.fields.specs.Written.{meansWritten, writeSaid, FieldOut, fieldOut, over, fieldWritten, Write}
 use Rattle.fields.specs.declared.write.Written.{Written}
 use Rattle.fields.specs.declared.write.Written.the-variants as written

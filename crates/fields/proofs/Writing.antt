@@ -6,14 +6,14 @@ use native.Mathlib.Nat.{add-zero, le-refl}
 use native.Mathlib.Numerals.{add-one}
 use native.Mathlib.Omega.{arith}
 use lib.ListN.{length, getD, take, drop, set, length-append, length-drop, List·getD-eq-default}
-use lib.Seq.{paste, paste-suc, length-paste, length-take-le, take-at, drop-at, drop-append-add, drop-drop, drop-nil}
+use lib.Seq.{paste, paste-suc, length-paste, length-take-le, take-at, drop-append-add, drop-drop}
 use Rattle.bits.specs.Tab.{tabulate}
 use Rattle.routes.specs.Record.{recordAt, routesOf, Records}
 use Rattle.routes.specs.Route.{Good}
 use Rattle.routes.specs.declared.Route.{Route}
 use Rattle.routes.proofs.Rows.{routes-snoc}
 use Rattle.fields.specs.Field.{bytesFor, entryBytes, entryOf, fieldOf}
-use Rattle.fields.specs.Written.{over, EntryRoom, EntryPut, FieldRoom, FieldPut}
+use Rattle.fields.specs.Written.{EntryRoom, EntryPut, FieldPut}
 
 -- ---- an entry
 

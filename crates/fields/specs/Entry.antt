@@ -5,7 +5,7 @@ use mathlib.Core.Path.{_≡_}
 use Prim.Native.Nat.{ℕ, _+_, _≤_, _<_}
 use lib.ListN.{length, getD, drop}
 use Rattle.routes.specs.Route.{Prefix}
-use Rattle.fields.specs.Field.{Net, bytesFor, netIn, broken}
+use Rattle.fields.specs.Field.{bytesFor, netIn, broken}
 use Rattle.fields.specs.declared.entry.Entry.{Entry}
 
 -- an entry is at a place of s

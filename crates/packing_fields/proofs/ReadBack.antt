@@ -1,10 +1,10 @@
 -- What the writer and a message answer is read back, and nothing else is in it; and the routes after a message, also where it stopped.
-use mathlib.Core.Path.{_≡_, refl, ap}
+use mathlib.Core.Path.{_≡_, refl}
 use mathlib.Core.List.{List, [], _∷_}
 use Prim.Native.Nat.{ℕ, _+_, _*_, _%_, _^_, _≤_, _<_}
 use native.Mathlib.Nat.{mod-eq-of-lt}
 use native.Mathlib.Omega.{arith}
-use borrow.Author.Tests.{eq-eqb, ne-eqb}
+use borrow.Author.Tests.{ne-eqb}
 use Rattle.routes.specs.Said.{Said, accepted, refused, refusedAt, packed}
 use Rattle.packing.specs.Unpack.{field, refusalOf, unpacked, countOf, FitsWord}
 use Rattle.packing.specs.Parts.{parts}

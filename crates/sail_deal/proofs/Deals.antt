@@ -1,23 +1,23 @@
 -- Each way out: a refusal leaves the table, which is as ready as it was, and so does a route that stands as it is announced; what is left where it is
 -- accepted is sound.
 use mathlib.Core.Path.{_≡_, refl, sym, ap, _∙_}
-use mathlib.Core.Bool.{Bool, true, false}
+use mathlib.Core.Bool.{Bool, true}
 use mathlib.Core.List.{List, [], _∷_}
 use Prim.Native.Nat.{ℕ, _<_}
 use native.Mathlib.Omega.{arith}
 use lib.ListN.{getD}
 use Rattle.routes.specs.Record.{recordAt}
 use Rattle.routes.specs.Route.{Prefix, key}
-use Rattle.routes.specs.Said.{Said, accepted, refused}
+use Rattle.routes.specs.Said.{Said, refused}
 use Rattle.routes.specs.declared.Route.{Route}
 use Rattle.chain.specs.List.{ChainedFront}
 use Rattle.standing.proofs.Standing.{one-prefix}
 use Rattle.lists.proofs.EditPlaces.{found}
 use Rattle.sail.specs.Lent.{Lent}
 use Rattle.sail.specs.declared.table.Table.{Table}
-use Rattle.sail_theory.specs.Calls.{Out, out, Ends, adding, taking, announceSaid, withdrawSaid}
+use Rattle.sail_theory.specs.Calls.{Out, out, Ends, adding, taking}
 use Rattle.sail_theory.specs.Cases.{Proper, Withdraw}
-use Rattle.sail_theory.specs.Facts.{SameSize, TableHolds, Announceable, Withdrawable}
+use Rattle.sail_theory.specs.Facts.{SameSize, TableHolds}
 use Rattle.sail_theory.proofs.calls.OneCase.{withdraw-only}
 use Rattle.sail_theory.proofs.calls.Outcomes.{adding-off, adding-holds, taking-off, taking-holds}
 use Rattle.sail_judge.specs.Announce.{ToAdd, AnnounceJudged}

@@ -5,7 +5,6 @@ use mathlib.Core.Logic.{_⊎_, inl, inr}
 use mathlib.Core.Bool.{Bool, true, false}
 use mathlib.Core.List.{List, [], _∷_}
 use Prim.Native.Nat.{ℕ, zero, suc, _<_}
-use native.Mathlib.Omega.{arith}
 use lib.Dec.{eqb, ltb}
 use lib.ListN.{length, getD, set}
 use borrow.Author.Tests.{ltb-false, eqb-true, eq-eqb, ne-eqb}
@@ -24,7 +23,7 @@ use Rattle.sail.specs.Level.{Level, chunksOf, level1, level2}
 use Rattle.sail.specs.Sound.{standing}
 use Rattle.sail.specs.declared.table.Table.{Table}
 use Rattle.sail.proofs.Sounds.{standing-good}
-use Rattle.sail_theory.specs.Calls.{Owners, Out, out, openAt, opened, ownersOf, stateOf, lentOf, adding}
+use Rattle.sail_theory.specs.Calls.{Owners, out, openAt, opened, ownersOf, stateOf, lentOf, adding}
 use Rattle.sail_theory.specs.Cases.{Proper}
 use Rattle.sail_theory.specs.Facts.{Announceable}
 use Rattle.sail_theory.specs.Render.{Rendered}

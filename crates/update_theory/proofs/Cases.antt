@@ -3,28 +3,28 @@ use mathlib.Core.Path.{_≡_, refl, sym, ap, _∙_}
 use mathlib.Core.Logic.{_⊎_, inl, inr, _≢_, _↔_}
 use mathlib.Core.Bool.{true, false, true≢false}
 use mathlib.Core.List.{List, [], _∷_}
-use Prim.Native.Nat.{ℕ, suc, _+_, _%_, _^_, _≤_, _<_}
+use Prim.Native.Nat.{ℕ, _+_, _%_, _^_, _≤_, _<_}
 use native.Mathlib.Nat.{mod-eq-of-lt}
 use native.Mathlib.Omega.{arith}
 use lib.ListN.{length, drop, length-drop}
 use borrow.Author.Tests.{eq-eqb, ne-eqb}
 use Rattle.bits.proofs.Bools.{decided, untrue, equal?}
-use Rattle.routes.specs.Said.{Said, accepted, refused, refusedAt}
+use Rattle.routes.specs.Said.{Said, refused, refusedAt}
 use Rattle.routes.proofs.Judged.{exactly}
 use Rattle.fields.specs.Field.{Bytes8}
-use Rattle.fields.specs.Message.{messageFault, MessageFault, BothFields, HopOk}
+use Rattle.fields.specs.Message.{messageFault, MessageFault}
 use Rattle.fields.proofs.Messages.{message-fault-is, message-fault-only}
 use Rattle.sail.specs.Cases.{Sizing}
 use Rattle.sail.specs.Lent.{Lent}
-use Rattle.sail.specs.Sizes.{sizesFault, Sized}
+use Rattle.sail.specs.Sizes.{sizesFault}
 use Rattle.sail.specs.Sound.{Sound}
 use Rattle.sail.specs.declared.table.Table.{Table}
 use Rattle.sail.proofs.Fitting.{Fault, fault-is, none-is}
-use Rattle.sail_theory.specs.Calls.{Out, out}
+use Rattle.sail_theory.specs.Calls.{Out}
 use Rattle.sail_theory.specs.SoundTest.{sound?}
 use Rattle.sail_theory.proofs.places.SoundTest.{sound-tells}
 use Rattle.update_theory.specs.Cases.{ForRoom, six, seven, eight, Dealable, atEntry, Passed, StopsAt, Update}
-use Rattle.update_theory.specs.Deal.{Entry, goes, comes, allEntries, Dealt, dealBy, afterFirst, NthEntry, Ends, dealtSaid}
+use Rattle.update_theory.specs.Deal.{Entry, goes, comes, allEntries, Dealt, dealBy, NthEntry, Ends, dealtSaid}
 use Rattle.update_theory.specs.Update.{Kept, kept, keptOf, turn, faultOf, dealtOut, updated}
 use Rattle.update_theory.proofs.Deals.{deal-ends, ends-once, first-keeps, deal-keeps, all-few}
 use Rattle.update_theory.proofs.Faults.{fault-sizes, fault-unsound, fault-message}

@@ -1,10 +1,8 @@
 -- One entry more, the stop, the end; what the outcome means, and that one outcome means it.
 use mathlib.Core.Path.{_≡_, refl, sym, ap, ap₂, _∙_}
 use mathlib.Core.Logic.{_⊎_, inl, inr, _≢_}
-use mathlib.Core.Bool.{true, false, cond}
 use mathlib.Core.List.{List, [], _∷_, _++_, map}
 use Prim.Native.Nat.{ℕ, zero, suc, _+_, _-_, _%_, _^_, _≤_, _<_}
-use native.Mathlib.Nat.{mod-eq-of-lt}
 use native.Mathlib.Omega.{arith}
 use lib.Dec.{eqb}
 use lib.ListN.{length, drop, length-append, drop-of-length-le}
@@ -141,24 +139,34 @@ module _ {S : Type 0} (step : S → Entry → Turn S) where
   first-keeps P keeps (suc n) s [] p = p
   first-keeps P keeps (suc n) s (e ∷ es) p = first-keeps P keeps n (step s e .state) es (keeps s e p)
 
--- There are no more entries than bytes, so that fields of less than 4 GiB together are counted exactly.
+-- There are no more entries than bytes.
 map-length : {A B : Type 0} (f : A → B) (xs : List A) → length (map f xs) ≡ length xs
 map-length f [] = refl
 map-length f (x ∷ xs) = ap suc (map-length f xs)
 
 pub all-few : (wd re : List ℕ) → length (allEntries wd re) ≤ length wd + length re
 all-few wd re =
-    omega (
-      arith,
-      length-append (map goes (entries wd)) (map comes (entries re)),
-      map-length goes (entries wd),
-      map-length comes (entries re),
-      entries-few wd,
-      entries-few re,
-    )
+    rw length-append (omega (arith, map-length goes (entries wd), map-length comes (entries re), entries-few wd, entries-few re))
 
-pub count-exact : {S : Type 0} (step : S → Entry → Turn S) (s : S) (wd re : List ℕ) → length wd + length re < 2 ^ 32
-    → dealBy step 0 s (allEntries wd re) .dealt % 2 ^ 32 ≡ dealBy step 0 s (allEntries wd re) .dealt
-count-exact step s wd re h =
-    let w = deal-ends step 0 s (allEntries wd re) in
-    mod-eq-of-lt (omega (arith, w .few, w .count, all-few wd re))
+-- "Then withdraw, then announce": no prefix goes after one that comes
+come-only : (ms : List Net) (j : ℕ) (m : Net) → NthEntry (map comes ms) j (goes m) → ⊥
+come-only [] zero m q = omega (arith, ap length q)
+come-only [] (suc j) m q = omega (arith, ap length q)
+come-only (n ∷ ms) zero m q = comes-goes (head-same q)
+  where
+    comes-goes : {n m : Net} → comes n ≡ goes m → ⊥
+    comes-goes p = let z : _≡_ {A = ℕ} 0 1 = cc in omega arith
+come-only (n ∷ ms) (suc j) m q = come-only ms j m q
+
+goes-before : (ns ms : List Net) (i j : ℕ) (n m : Net) → NthEntry (map goes ns ++ map comes ms) i (comes n)
+    → NthEntry (map goes ns ++ map comes ms) j (goes m) → j < i
+goes-before [] ms i j n m p q = absurd (come-only ms j m q)
+goes-before (x ∷ ns) ms zero j n m p q = absurd (goes-comes (head-same p))
+  where
+    goes-comes : {n m : Net} → goes n ≡ comes m → ⊥
+    goes-comes p = let z : _≡_ {A = ℕ} 0 1 = cc in omega arith
+goes-before (x ∷ ns) ms (suc i) zero n m p q = omega arith
+goes-before (x ∷ ns) ms (suc i) (suc j) n m p q = let h = goes-before ns ms i j n m p q in omega arith
+
+pub goes-first : (wd re : List ℕ) (i j : ℕ) (n m : Net) → NthEntry (allEntries wd re) i (comes n) → NthEntry (allEntries wd re) j (goes m) → j < i
+goes-first wd re = goes-before (entries wd) (entries re)

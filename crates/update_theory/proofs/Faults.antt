@@ -1,5 +1,5 @@
 -- What refuses a message as a whole, in order: the sizes, then soundness, then the message itself.
-use mathlib.Core.Path.{_≡_, refl}
+use mathlib.Core.Path.{_≡_}
 use mathlib.Core.Logic.{_≢_}
 use mathlib.Core.Bool.{Bool, true, false}
 use mathlib.Core.List.{List}

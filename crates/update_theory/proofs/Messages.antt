@@ -18,7 +18,7 @@ use Rattle.fields.proofs.Fields.{entries-cut}
 use Rattle.sail.specs.Lent.{Lent}
 use Rattle.sail.specs.Sizes.{sizesFault}
 use Rattle.sail.specs.declared.table.Table.{Table}
-use Rattle.sail_theory.specs.Calls.{Out, out, Ends, route, announced}
+use Rattle.sail_theory.specs.Calls.{Out, out, route, announced}
 use Rattle.sail_theory.specs.SoundTest.{sound?}
 use Rattle.sail_theory.specs.CallRuns.{Call, done, after}
 use Rattle.sail_theory.proofs.calls.Cleared.{announce-refused}

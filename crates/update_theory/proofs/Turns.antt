@@ -1,7 +1,7 @@
 -- One entry of a message in a table: it leaves a sound table sound, and stops for want of room alone.
-use mathlib.Core.Path.{_≡_, refl, sym, ap, _∙_}
+use mathlib.Core.Path.{_≡_, refl, ap, _∙_}
 use mathlib.Core.Logic.{_≢_}
-use mathlib.Core.Bool.{Bool, true, false, false≢true}
+use mathlib.Core.Bool.{Bool, false, false≢true}
 use mathlib.Core.List.{List, [], _∷_, _++_, map}
 use Prim.Native.Nat.{ℕ, zero, suc}
 use native.Mathlib.Omega.{arith}
@@ -22,7 +22,7 @@ use Rattle.standing.specs.Standing.{stands}
 use Rattle.sail_theory.specs.Calls.{Out, out, route, withFlag, announceSaid, withdrawSaid, adding, withdrawn}
 use Rattle.sail_theory.specs.CallRuns.{done}
 use Rattle.sail_theory.specs.Cases.{Announce, Withdraw}
-use Rattle.sail_theory.proofs.calls.Cleared.{none-cleared, announce-fine, announce-said, withdraw-off}
+use Rattle.sail_theory.proofs.calls.Cleared.{announce-fine, withdraw-off}
 use Rattle.sail_theory.proofs.calls.OneCase.{announce-only, withdraw-only}
 use Rattle.sail_theory.proofs.calls.Outcomes.{adding-said}
 use Rattle.sail_theory.proofs.calls.SomeCase.{announce-judged}

@@ -1,6 +1,6 @@
 -- The field of a list, dealt to a fresh table that has room for these routes with the message's hop and mark 0: these then stand. Each entry is an
 -- announcement, and announced one by one they are all added, as in a load.
-use mathlib.Core.Path.{_≡_, refl, sym, ap, _∙_}
+use mathlib.Core.Path.{_≡_, refl, ap, _∙_}
 use mathlib.Core.Bool.{true}
 use mathlib.Core.List.{List, [], _∷_, _++_, map}
 use Prim.Native.Nat.{ℕ, suc, _+_, _%_, _^_}

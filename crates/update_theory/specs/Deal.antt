@@ -72,6 +72,6 @@ stopOf (refused n) = n
 stopOf (refusedAt n k) = n
 
 -- what is said: all entries; or the number of the refusal that stopped the work, and how many were dealt with before it. They are counted in 32 bits,
--- so exactly for fields of less than 4 GiB together (`count-exact`)
+-- so exactly for fields of less than 4 GiB together (`update-count-exact`)
 abbrev pub dealtSaid : {S : Type 0} → Dealt S → Said
 dealtSaid d = cond (eqb (d .stop) 0) (accepted (d .dealt % 2 ^ 32 ∷ [])) (refusedAt (d .stop) (d .dealt % 2 ^ 32))

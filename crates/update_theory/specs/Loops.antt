@@ -4,7 +4,7 @@ use mathlib.Core.List.{List, _++_, map}
 use mathlib.Core.Path.{_≡_}
 use Prim.Native.Nat.{ℕ, _%_, _^_}
 use lib.ListN.{drop}
-use Rattle.fields.specs.Field.{Net, entries}
+use Rattle.fields.specs.Field.{entries}
 use Rattle.fields.specs.Entry.{FieldFrom}
 use Rattle.update_theory.specs.Deal.{Entry, goes, comes, Turn, Dealt, dealBy}
 

@@ -16,7 +16,7 @@ if not shutil.which("bird") or not shutil.which("birdc"):
     print("peers: no bird on this machine, its live messages are left out")
     sys.exit(0)
 
-lib = library(sys.argv[1] if len(sys.argv) > 1 else None)
+lib = library(sys.argv[1])
 signal.alarm(60)
 FIRST = ["0.0.0.0/0", "10.0.0.0/8", "10.1.0.0/16", "10.1.2.0/24", "10.1.2.128/25", "128.0.0.0/1", "203.0.113.7/32"]
 LATER = ["100.64.0.0/10", "172.16.0.0/12", "192.0.2.0/24", "198.51.100.0/22"]
@@ -24,8 +24,8 @@ CONFIG = """
 log "{work}/log" all;
 router id 127.0.0.1;
 protocol device {{ }}
-protocol static first {{ ipv4; {first} }}
-protocol static later {{ ipv4; {later} }}
+protocol static one {{ ipv4; {first} }}
+protocol static two {{ ipv4; {later} }}
 protocol bgp peer {{
     local 127.0.0.1 port {port} as 64512;
     neighbor 127.0.0.2 as 64513;
@@ -123,12 +123,12 @@ def compare(work, port):
     session, table = Session(port), Table(lib)
     for withdrawn, reach in session.updates(lambda w, r: not w and not r):
         assert table.update(withdrawn, reach) & 0xFF == 0
-    assert set(table.prefixes()) == routes(work, ["first", "later"]) == set(FIRST + LATER)
+    assert set(table.prefixes()) == routes(work, ["one", "two"]) == set(FIRST + LATER)
 
-    asked(work, "disable", "later")
+    asked(work, "disable", "two")
     for withdrawn, reach in session.updates(lambda w, r: len(table.prefixes()) == len(FIRST)):
         assert table.update(withdrawn, reach) & 0xFF == 0
-    assert set(table.prefixes()) == routes(work, ["first"]) == set(FIRST)
+    assert set(table.prefixes()) == routes(work, ["one"]) == set(FIRST)
 
     # The list as a field of ours: origin, path and next hop before it.
     attributes = bytes.fromhex("40010100" "40020402" "01fc01" "4003047f000002")

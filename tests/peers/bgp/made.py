@@ -1,11 +1,13 @@
 """Messages made by scapy, and fields of the library taken apart by scapy."""
 
 import ipaddress
+import logging
 import random
 import sys
 
 from table import Table, fields, library, messages
 
+logging.getLogger("scapy").setLevel(logging.ERROR)
 try:
     from scapy.contrib.bgp import BGPHeader, BGPNLRI_IPv4, BGPUpdate
     from scapy.packet import raw
@@ -13,7 +15,7 @@ except ImportError:
     print("peers: no scapy on this machine, its messages are left out")
     sys.exit(0)
 
-lib = library(sys.argv[1] if len(sys.argv) > 1 else None)
+lib = library(sys.argv[1])
 draw = random.Random(4271)
 
 

@@ -6,7 +6,7 @@ import sys
 from table import Table, fields, library, messages
 
 here = os.path.dirname(os.path.abspath(__file__))
-lib = library(sys.argv[1] if len(sys.argv) > 1 else None)
+lib = library(sys.argv[1])
 with open(os.path.join(here, "bird-2.0.12-updates.bin"), "rb") as f:
     updates = [fields(body) for kind, body in messages(f.read()) if kind == 2]
 assert len(updates) == 4

@@ -5,11 +5,9 @@ import ipaddress
 import os
 import struct
 
-ROOT = os.path.join(os.path.dirname(os.path.abspath(__file__)), "..", "..", "..")
 
-
-def library(folder=None):
-    lib = ctypes.CDLL(os.path.join(folder or os.path.join(ROOT, "target", "native"), "libghatumri.so"))
+def library(folder):
+    lib = ctypes.CDLL(os.path.join(folder, "libghatumri.so"))
     for call in (lib.gh_make, lib.gh_update, lib.gh_write_field, lib.gh_report):
         call.restype = ctypes.c_uint64
     return lib

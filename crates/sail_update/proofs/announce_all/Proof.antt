@@ -1,5 +1,5 @@
 -- `sail_update::announce_all`. The invariant (`Announcing`): the table is sound, its chain is at hand, and what is left of the message is dealt with from here.
-use mathlib.Core.Path.{refl, sym, _∙_}
+use mathlib.Core.Path.{sym, _∙_}
 use Prim.Native.Nat.{_-_}
 use native.Mathlib.Omega.{arith}
 use Rattle.sail.specs.Lent.{lent}

@@ -1,5 +1,4 @@
 -- `sail_update::judge_update`: each way out has its law.
-use mathlib.Core.Path.{refl}
 use Rattle.sail_update.proofs.Judges.{stop-sizes, stop-sound, goes-on}
 use Rattle.sail_update.proofs.judge_update.Statement.{statement}
 use Rattle.sail_update.proofs.judge_update.Tie as tie

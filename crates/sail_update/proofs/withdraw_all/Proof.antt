@@ -1,8 +1,7 @@
 -- `sail_update::withdraw_all`. The invariant (`Withdrawing`): the table is sound, its chain is at hand, and what is left of the message is dealt with from here.
-use mathlib.Core.Path.{refl, sym, _∙_}
+use mathlib.Core.Path.{sym, _∙_}
 use Prim.Native.Nat.{_-_}
 use native.Mathlib.Omega.{arith}
-use borrow.Author.Needs.{needs}
 use Rattle.sail.specs.Lent.{lent}
 use Rattle.sail_update.proofs.Goings.{Withdrawing, going-start, going-end, going-entry, going-more}
 use Rattle.update_theory.proofs.Loops.{next-past}

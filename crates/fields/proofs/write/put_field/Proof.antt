@@ -1,14 +1,13 @@
 -- `fields::write::put_field`. The invariant: the field of the first k records is at the front, and the buffer after it is as it was.
-use mathlib.Core.Path.{_≡_, refl, sym, ap, _∙_}
-use mathlib.Core.List.{List, _++_}
-use Prim.Native.Nat.{ℕ, _+_, _-_, _≤_, _<_}
+use mathlib.Core.Path.{_≡_, _∙_}
+use mathlib.Core.List.{_++_}
+use Prim.Native.Nat.{_+_, _-_, _≤_, _<_}
 use native.Mathlib.Omega.{arith}
 use borrow.Author.Needs.{needs}
 use lib.ListN.{length, drop}
 use Rattle.routes.specs.Record.{routesOf}
-use Rattle.routes.specs.declared.Route.{Route}
 use Rattle.fields.specs.Field.{fieldOf}
-use Rattle.fields.proofs.Writing.{field-none, field-part, field-all, next-room, put-more, front-long, put-none, put-all}
+use Rattle.fields.proofs.Writing.{next-room, put-more, front-long, put-none, put-all}
 use Rattle.fields.proofs.write.put_field.Statement.{statement}
 use Rattle.fields.proofs.write.put_field.Tie as tie
 
