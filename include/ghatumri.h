@@ -3,8 +3,9 @@
  *
  * Link with libghatumri (pkg-config --cflags --libs ghatumri). No call keeps a pointer, allocates, or holds state: a
  * table is its geometry (p1, p2), its route count and eight arrays, and all of them belong to the caller. Every call
- * answers for every content of the arrays. A call that is refused leaves all of them as they were (gh_tally alone then
- * writes 33 zeros).
+ * answers for every content of the arrays. A call that is refused leaves all of them as they were, but for two: gh_tally
+ * then writes 33 zeros, and gh_update that stops for want of room (6, 7, 8) leaves the table as after the entries it
+ * had dealt with.
  *
  * Start with struct gh_table and the functions over it, at the end of this file: they keep the route count.
  *
@@ -30,6 +31,9 @@
  *   hops    the hops of a tree image
  *   bits    the bits of bit maps, GH_MAP_BYTES
  *   cells   the hops of bit maps, GH_MAP_CELLS
+ *   withdrawn, reach   what the withdrawn and the reachability field of a BGP message hold (RFC 4271), without their
+ *           length: prefixes end to end, each a length byte and then only as many bytes as the length needs. Bits after
+ *           the length have no meaning. An empty field has no prefixes
  *
  * NUMBERS. Every number goes in with 32 bits, whatever its limits, and none is cut: length 280 is refused with 3 as 33
  * is, hop 65,580 with 4 as 32,768 is, mark 257 with 10 as 2 is.
@@ -66,11 +70,15 @@
  *   gh_tally         0
  *   gh_route         bits 8 to 14: length; 15: mark; 16 to 31: hop; 32 to 63: address; no record of that index: all 0
  *   gh_broadcast     bit 8: the address is a directed broadcast
+ *   gh_update        bits 16 to 31: routes after the call; 32 to 63: entries. 6, 7, 8: the number, bit 8, and both as well,
+ *                    the entries being those dealt with before. Entries are exact for fields of less than 4 GiB together
+ *   gh_write_field   bits 32 to 63: bytes written
  *   gh_basic_build   0
  *   gh_basic_lookup  bits 16 to 31: hop, 0 for no route
  *   gh_basic_lookup_many   0; each word of out: the low 32 bits of what gh_basic_lookup answers
  *
- * Bits that are not named are 0. So the count of a refusal reads as 0, and the count of a lookup reads as its hop.
+ * Bits that are not named are 0. So the count of a refusal reads as 0 (but for 6, 7 and 8 of gh_update), and the count of a
+ * lookup reads as its hop.
  *
  * REFUSALS. The first that holds, in the order given with each call, is the answer. What each number means: gh_meaning.
  * "The input's" are 10 for the length (index: the number of whole records), then record by record 3, 4, 10 for the mark,
@@ -81,14 +89,14 @@
  * the test of an image, the run, the tally, a route read back, a broadcast, and a header step, which writes its packet
  * alone. So may gh_forward and gh_count, each with hop records of its own, as a thread has: they write these alone. A call
  * that writes an array (make, load,
- * announce, withdraw, repair, build) runs alone: no other call may use that array meanwhile, lookups neither. To change a
+ * announce, withdraw, update, repair, build) runs alone: no other call may use that array meanwhile, lookups neither. To change a
  * table beside readers, keep two sets of arrays: change the set that no reader uses, hand it to the readers (an atomic
  * pointer to the struct), wait until no reader has the old one, and copy arrays and count over or make the same change
  * there. There is no pointer in the arrays, so a copy of them with geometry and count is the same table. It is so with
  * images too: a change in place moves nodes, and a reader beside it would meet halves.
  *
- * STACK. gh_load, gh_announce, gh_withdraw and gh_report take at most GH_STACK_TABLE bytes of stack, gh_repair
- * GH_STACK_REPAIR, the test and the changes of an image GH_STACK_IMAGE, the others GH_STACK. On x86-64 and on Arm it is
+ * STACK. gh_load, gh_announce, gh_withdraw and gh_report take at most GH_STACK_TABLE bytes of stack, gh_update
+ * GH_STACK_UPDATE, gh_repair GH_STACK_REPAIR, the test and the changes of an image GH_STACK_IMAGE, the others GH_STACK. On x86-64 and on Arm it is
  * 44 KB for announce, withdraw and the report, 42 KB for load, 8.5 KB for an image, and under 200 bytes for each of the
  * others; on Arm 152 KB for repair. Only the test of an image is recursive: the test of a node calls that of its
  * children, and back, at most 17 calls for each of 8 depths.
@@ -165,10 +173,12 @@ extern "C" {
 #define GH_FIRST_OFF       1          /* first cells that differ from before */
 #define GH_SECOND_OFF      2          /* second cells */
 #define GH_THIRD_OFF       3          /* third cells */
+#define GH_MOST_FIELD      20480      /* bytes of a route field: a length byte and four for each of 4,096 prefixes */
 #define GH_MAP_BYTES       16384      /* the bits of bit maps */
 #define GH_MAP_CELLS       131071     /* their cells */
 
 #define GH_STACK_TABLE     49152      /* bytes of stack: load, announce, withdraw, report */
+#define GH_STACK_UPDATE    49152      /* update */
 #define GH_STACK_IMAGE     12288      /* gh_tree_test, gh_tree_announce, gh_tree_withdraw */
 #define GH_STACK_REPAIR    163840     /* repair */
 #define GH_STACK           1024       /* the other calls */
@@ -192,6 +202,8 @@ enum gh_refusal {
     GH_REFUSED_IMAGE = 13,
     GH_REFUSED_RECORD = 14,
     GH_REFUSED_DOWN = 15,
+    GH_REFUSED_FIELD = 17,
+    GH_REFUSED_BUFFER = 18,
     GH_REFUSED_SHORT = 19,
     GH_REFUSED_HEADER = 20,
     GH_REFUSED_CHECKSUM = 21,
@@ -219,7 +231,9 @@ static inline const char *gh_meaning(unsigned number)
         /* 13 */ "image broken on this walk: bit 15 set, child or hop beyond what is lent, no root, hop outside 1 to 32,767; image tested or changed: not well formed; bit maps: such a hop at the first set bit",
         /* 14 */ "the hop has no record",
         /* 15 */ "the record is down",
-        /* 16 to 18 */ 0, 0, 0,
+        /* 16 */ 0,
+        /* 17 */ "route field: a length over 32, or the field ends inside an entry",
+        /* 18 */ "buffer too short for the route field",
         /* 19 */ "packet of fewer than 20 bytes",
         /* 20 */ "version not 4, or header length not 5 words",
         /* 21 */ "header checksum wrong",
@@ -237,6 +251,8 @@ static inline const char *gh_meaning(unsigned number)
 #define GH_REPLACED(a)     ((unsigned)((a) >> 8 & 1))             /* gh_announce, gh_tree_announce */
 #define GH_CLEARED(a)      ((unsigned)((a) >> 9 & 1))             /* accepted gh_announce and gh_withdraw */
 #define GH_COUNT(a)        ((unsigned)((a) >> 16 & 0xffff))       /* changes and gh_report: routes */
+#define GH_ENTRIES(a)      ((uint32_t)((a) >> 32))                /* gh_update: entries dealt with */
+#define GH_BYTES(a)        ((uint32_t)((a) >> 32))                /* gh_write_field */
 #define GH_NEED_SECOND(a)  ((unsigned)((a) >> 32 & 0xffff))       /* gh_report */
 #define GH_NEED_THIRD(a)   ((unsigned)((a) >> 48 & 0xffff))       /* gh_report */
 #define GH_READS(a)        ((unsigned)((a) >> 8 & 0xff))          /* gh_lookup, gh_step: cells read; gh_tree_lookup: as above */
@@ -310,6 +326,27 @@ uint64_t gh_withdraw(uint32_t p1, uint32_t p2, uint32_t count,
                      uint16_t *GH_RESTRICT long1, size_t long1_len,
                      uint16_t *GH_RESTRICT long2, size_t long2_len,
                      uint32_t addr, uint32_t len);
+
+/* Deals a message to a table: the prefixes of `withdrawn` are withdrawn, and then those of `reach` announced with this hop
+ * and mark GH_BEHIND, in field order. One that is withdrawn and does not stand is passed over, and counts. All bytes of
+ * both fields are checked before anything is written. The first announcement for which there is no room stops the work:
+ * the answer is 6, 7 or 8 with the number of entries dealt with before it, of both fields, and the table is as after
+ * exactly those, with the routes that the answer gives. The hop is judged even if nothing is announced: where a message only
+ * withdraws, pass 1. Soundness is tested once for the message, and a prefix that stands with this hop and mark is
+ * passed over without a write. Refusals: 1, 2, 5, 17, 4, which leave all as it was; then 6, 7, 8 as they arise. */
+GH_CALL
+uint64_t gh_update(uint32_t p1, uint32_t p2, uint32_t count,
+                   uint8_t *GH_RESTRICT list, size_t list_len,
+                   uint16_t *GH_RESTRICT first, size_t first_len,
+                   uint16_t *GH_RESTRICT second, size_t second_len,
+                   uint16_t *GH_RESTRICT third, size_t third_len,
+                   uint32_t *GH_RESTRICT own2, size_t own2_len,
+                   uint32_t *GH_RESTRICT own3, size_t own3_len,
+                   uint16_t *GH_RESTRICT long1, size_t long1_len,
+                   uint16_t *GH_RESTRICT long2, size_t long2_len,
+                   const uint8_t *GH_RESTRICT withdrawn, size_t withdrawn_len,
+                   const uint8_t *GH_RESTRICT reach, size_t reach_len,
+                   uint32_t hop);
 
 /* Puts a table right after a memory fault, whatever it holds. Looks at the first count records of the list, or to the end
  * of its room if that is less; keeps each that is valid and larger than the last one kept, drops the others, and loads
@@ -483,6 +520,13 @@ uint64_t gh_tally(const uint8_t *GH_RESTRICT input, size_t input_len,
 GH_CALL
 uint64_t gh_route(const uint8_t *input, size_t input_len, uint32_t index);
 
+/* Writes the prefixes of an input as one reachability field, at the front of out, in their order; hops and marks are not in
+ * it. No byte after the field is touched. A field of 4,096 prefixes has at most GH_MOST_FIELD bytes. For the list of a
+ * table hand in its first GH_RECORD_BYTES * count bytes. Refusals: the input's, 18. */
+GH_CALL
+uint64_t gh_write_field(const uint8_t *GH_RESTRICT input, size_t input_len,
+                        uint8_t *GH_RESTRICT out, size_t out_len);
+
 /* Tells whether an address is a directed broadcast: the longest route that covers it is attached, the address is the
  * highest one of that route, and the route has at most 31 bits where version is GH_OLDER_RULE, at most 30 where it is
  * GH_NEWER_RULE. Refusals: 23 for any other version, whatever the input, then the input's. */
@@ -525,7 +569,8 @@ uint64_t gh_basic_lookup_many(const uint8_t *GH_RESTRICT input, size_t input_len
 /* ---- A table as one struct ------------------------------------------------------------------------------------- */
 
 /* All of a table. The caller sets everything once; gh_table_make or gh_table_load then makes it a table. After that only
- * the functions below write here, and only the count: an accepted change sets it, and a refusal leaves it. */
+ * the functions below write here, and only the count: an accepted change sets it, and so does gh_table_update that stops
+ * for want of room; any other refusal leaves it. */
 struct gh_table {
     uint32_t p1, p2;      /* the geometry */
     uint32_t count;       /* the route count */
@@ -599,6 +644,17 @@ GH_CALL
 static inline uint64_t gh_table_withdraw(struct gh_table *t, uint32_t addr, uint32_t len)
 {
     return gh_table_keep(t, gh_withdraw(t->p1, t->p2, t->count, GH_LENT(t), addr, len));
+}
+
+/* As gh_update. The count is taken over after a stop for want of room too: the table is then as after the entries before. */
+GH_CALL
+static inline uint64_t gh_table_update(struct gh_table *t, const uint8_t *GH_RESTRICT withdrawn, size_t withdrawn_len,
+                                       const uint8_t *GH_RESTRICT reach, size_t reach_len, uint32_t hop)
+{
+    uint64_t answer = gh_update(t->p1, t->p2, t->count, GH_LENT(t), withdrawn, withdrawn_len, reach, reach_len, hop);
+    if (GH_HAS_INDEX(answer))
+        t->count = GH_COUNT(answer);
+    return gh_table_keep(t, answer);
 }
 
 /* As gh_repair, into GH_REPAIR_WORDS words. */

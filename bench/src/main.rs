@@ -9,6 +9,7 @@ mod gh;
 mod hand;
 mod images;
 mod maps;
+mod messages;
 
 use ghatumri::{sys, Answer, Image, Mark, Table};
 use hand::Dir248;
@@ -449,6 +450,9 @@ fn main() {
     println!("\nchanges, the largest table, all chunks in use");
     let apart = scattered(&mut rng);
     change_table(rounds, &apart, 4096, 4096);
+
+    println!("\nmessages, time for one call");
+    messages::messages(4 * rounds, &all);
 
     println!("\nchanges of an image, time for one call");
     images::changes(4 * rounds, &all);

@@ -253,8 +253,7 @@ static void meanings(void)
     for (unsigned number = GH_REFUSED_GEOMETRY; number <= GH_REFUSED_VERSION; number++)
         if (strcmp(gh_meaning(number), none) != 0)
             printf("| %u | %s |\n", number, gh_meaning(number));
-    for (unsigned number = GH_REFUSED_DOWN + 1; number < GH_REFUSED_SHORT; number++)
-        CHECK(strcmp(gh_meaning(number), none), 0);
+    CHECK(strcmp(gh_meaning(GH_REFUSED_DOWN + 1), none), 0);
     CHECK(strcmp(gh_meaning(GH_REFUSED_VERSION + 1), none), 0);
 }
 

@@ -35,6 +35,8 @@ static uint64_t make(void) { return gh_table_make(&t); }
 static uint64_t load(void) { return gh_table_load(&t, input, sizeof input); }
 static uint64_t announce(void) { return gh_table_announce(&t, here, 32, 5, GH_BEHIND); }
 static uint64_t withdraw(void) { return gh_table_withdraw(&t, here, 32); }
+static const uint8_t here_field[] = { 32, 100, 16, 0, 77 };
+static uint64_t update(void) { return gh_table_update(&t, here_field, sizeof here_field, here_field, sizeof here_field, 5); }
 static uint64_t repair(void) { return gh_table_repair(&t, told); }
 static uint64_t report(void) { return gh_table_report(&t); }
 static uint64_t lookup(void) { return gh_table_lookup(&t, here); }
@@ -51,6 +53,8 @@ static uint64_t tree_announce(void) { return gh_tree_announce(IMAGE, UINT32_MAX,
 static uint64_t run(void) { return gh_run(input, sizeof input, IP(100, 0, 0, 0), 8); }
 static uint64_t tally(void) { return gh_tally(input, sizeof input, counts, GH_TALLY_WORDS); }
 static uint64_t route(void) { return gh_route(input, sizeof input, 7); }
+static uint8_t field[GH_MOST_FIELD];
+static uint64_t write_field(void) { return gh_write_field(input, sizeof input, field, sizeof field); }
 static uint64_t broadcast(void) { return gh_broadcast(GH_NEWER_RULE, input, sizeof input, here); }
 static uint64_t basic_build(void) { return gh_basic_build(MAPS); }
 static uint64_t basic_lookup(void) { return gh_basic_lookup(MAPS, here); }
@@ -93,13 +97,14 @@ int main(void)
         { "nothing", nothing, STACK, 0 },
         { "make", make, GH_STACK, 0 }, { "load", load, GH_STACK_TABLE, 0 },
         { "withdraw", withdraw, GH_STACK_TABLE, 0 }, { "announce", announce, GH_STACK_TABLE, 0 },
+        { "update", update, GH_STACK_UPDATE, 0 },
         { "repair", repair, GH_STACK_REPAIR, 0 }, { "report", report, GH_STACK_TABLE, 0 }, { "lookup", lookup, GH_STACK, 0 },
         { "lookup_many", lookup_many, GH_STACK, 0 }, { "step", step, GH_STACK, 0 }, { "forward", forward, GH_STACK, 0 },
         { "count", count, GH_STACK, 0 }, { "build", build, GH_STACK, 0 },
         { "tree_lookup", tree_lookup, GH_STACK, 0 }, { "tree_test", tree_test, GH_STACK_IMAGE, 0 },
         { "tree_withdraw", tree_withdraw, GH_STACK_IMAGE, 0 }, { "tree_announce", tree_announce, GH_STACK_IMAGE, 0 },
         { "run", run, GH_STACK, 0 }, { "tally", tally, GH_STACK, 0 }, { "route", route, GH_STACK, 0 },
-        { "broadcast", broadcast, GH_STACK, 0 },
+        { "write_field", write_field, GH_STACK, 0 }, { "broadcast", broadcast, GH_STACK, 0 },
         { "basic_build", basic_build, GH_STACK, 0 }, { "basic_lookup", basic_lookup, GH_STACK, 0 },
         { "basic_lookup_many", basic_lookup_many, GH_STACK, 0 },
     };

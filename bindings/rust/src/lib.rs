@@ -2,12 +2,13 @@
 //!
 //! A table holds routes in SAIL form: a lookup in it reads 1 to 3 cells. An image is a tree bitmap built from a record
 //! input: small, and a lookup reads at most 9 nodes and one hop. Both are changed in place, route by route. Maps are bits
-//! and hops for cards that have neither chunks nor nodes. [`routes`], [`run`], [`tally`] and [`is_broadcast`] work on
-//! record inputs directly. A [`HopRecord`] counts the packets and octets of a hop.
+//! and hops for cards that have neither chunks nor nodes. [`routes`], [`run`], [`tally`], [`write_field`] and
+//! [`is_broadcast`] work on record inputs directly. A [`HopRecord`] counts the packets and octets of a hop.
 //!
 //! Every call of the library underneath is proved for every content of the buffers, and none allocates or trusts them:
 //! a table that is damaged is refused with 5 and stays as it is, until a load or a repair puts it right. A call that is
-//! refused changes nothing.
+//! refused changes nothing. A message that finds no room for one of its routes is no error: [`Updated`] says how far it was
+//! dealt with.
 //!
 //! - [`TableMut`] and [`ImageMut`] are over buffers that you lend, and [`TableRef`] and [`ImageRef`] only read them.
 //! - [`Table`] and [`Image`] own their buffers. They need the feature `alloc`, which is on by default. Without it the
@@ -48,6 +49,7 @@ mod geometry;
 mod image;
 mod input;
 mod maps;
+mod message;
 #[cfg(feature = "alloc")]
 mod owned;
 pub mod raw;
@@ -63,6 +65,7 @@ pub use geometry::{Geometry, MOST_CHUNKS, MOST_RECORDS};
 pub use image::{words_for, Built, ImageAnnounced, ImageMut, ImageRef};
 pub use input::{route, routes, run, tally, Routes};
 pub use maps::{hop, MapsMut, MapsRef, MAP_BYTES, MAP_CELLS};
+pub use message::{write_field, Updated, MOST_FIELD};
 #[cfg(feature = "alloc")]
 pub use owned::{Image, Maps, Table};
 pub use records::{Forwarded, HopRecord, Sent};

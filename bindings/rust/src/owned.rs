@@ -5,6 +5,7 @@ use crate::geometry::{Geometry, MOST_CHUNKS, MOST_RECORDS};
 use crate::image::{self, words_for, Built, ImageAnnounced, ImageMut, ImageRef};
 use crate::input::Routes;
 use crate::maps::{self, MapsMut, MapsRef, MAP_BYTES, MAP_CELLS};
+use crate::message::Updated;
 use crate::records::{Forwarded, HopRecord};
 use crate::refusal::Refusal;
 use crate::route::Mark;
@@ -138,6 +139,15 @@ impl Table {
     /// 1, 2, 3 for a length over 32, 5, 9.
     pub fn withdraw(&mut self, addr: impl Into<Ipv4Addr>, len: u8) -> Result<Withdrawn, Refusal> {
         self.lend(|t| t.withdraw(addr, len))
+    }
+
+    /// As [`TableMut::update`].
+    ///
+    /// # Errors
+    ///
+    /// 1, 2, 5, 17, 4; nothing is then changed. 6, 7 and 8 are no error: see [`Updated::Stopped`].
+    pub fn update(&mut self, withdrawn: &[u8], reach: &[u8], hop: u16) -> Result<Updated, Refusal> {
+        self.lend(|t| t.update(withdrawn, reach, hop))
     }
 
     /// As [`TableMut::repair`].

@@ -2,8 +2,8 @@
 //! section ANSWERS tells how to read.
 //!
 //! Nothing is kept here: after an accepted change its caller sets [`TableMut::count`] from bits 16 to 31 of the answer,
-//! and leaves it after a refusal. The rest of this crate, the comparison with a plain implementation and the measurements
-//! stand on these functions.
+//! and leaves it after a refusal; after an [`update`] it sets it if bit 8 is set too. The rest of this crate, the comparison
+//! with a plain implementation and the measurements stand on these functions.
 
 use crate::records::HopRecord;
 use crate::sys;
@@ -88,6 +88,12 @@ pub fn announce(t: &mut TableMut, addr: u32, len: u32, hop: u32, mark: u32) -> u
 #[must_use]
 pub fn withdraw(t: &mut TableMut, addr: u32, len: u32) -> u64 {
     unsafe { lend!(sys::gh_withdraw, (t.count), mut t, (addr, len)) }
+}
+
+#[must_use]
+pub fn update(t: &mut TableMut, withdrawn: &[u8], reach: &[u8], hop: u32) -> u64 {
+    let (w, r) = (withdrawn.len(), reach.len());
+    unsafe { lend!(sys::gh_update, (t.count), mut t, (withdrawn.as_ptr(), w, reach.as_ptr(), r, hop)) }
 }
 
 #[must_use]
@@ -193,6 +199,11 @@ pub fn tally(input: &[u8], out: &mut [u32]) -> u64 {
 #[must_use]
 pub fn route(input: &[u8], index: u32) -> u64 {
     unsafe { sys::gh_route(input.as_ptr(), input.len(), index) }
+}
+
+#[must_use]
+pub fn write_field(input: &[u8], out: &mut [u8]) -> u64 {
+    unsafe { sys::gh_write_field(input.as_ptr(), input.len(), out.as_mut_ptr(), out.len()) }
 }
 
 #[must_use]

@@ -56,6 +56,8 @@ reasons! {
     13 Image "image broken on this walk: bit 15 set, child or hop beyond what is lent, no root, hop outside 1 to 32,767; image tested or changed: not well formed; bit maps: such a hop at the first set bit"
     14 Record "the hop has no record"
     15 Down "the record is down"
+    17 Field "route field: a length over 32, or the field ends inside an entry"
+    18 Buffer "buffer too short for the route field"
     19 Short "packet of fewer than 20 bytes"
     20 Header "version not 4, or header length not 5 words"
     21 Checksum "header checksum wrong"

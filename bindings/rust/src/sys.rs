@@ -94,6 +94,32 @@ extern "C" {
         addr: u32,
         len: u32,
     ) -> u64;
+    pub fn gh_update(
+        p1: u32,
+        p2: u32,
+        count: u32,
+        list: *mut u8,
+        list_len: usize,
+        first: *mut u16,
+        first_len: usize,
+        second: *mut u16,
+        second_len: usize,
+        third: *mut u16,
+        third_len: usize,
+        own2: *mut u32,
+        own2_len: usize,
+        own3: *mut u32,
+        own3_len: usize,
+        long1: *mut u16,
+        long1_len: usize,
+        long2: *mut u16,
+        long2_len: usize,
+        withdrawn: *const u8,
+        withdrawn_len: usize,
+        reach: *const u8,
+        reach_len: usize,
+        hop: u32,
+    ) -> u64;
     pub fn gh_repair(
         p1: u32,
         p2: u32,
@@ -264,6 +290,7 @@ extern "C" {
     pub fn gh_run(input: *const u8, input_len: usize, addr: u32, len: u32) -> u64;
     pub fn gh_tally(input: *const u8, input_len: usize, out: *mut u32, out_len: usize) -> u64;
     pub fn gh_route(input: *const u8, input_len: usize, index: u32) -> u64;
+    pub fn gh_write_field(input: *const u8, input_len: usize, out: *mut u8, out_len: usize) -> u64;
     pub fn gh_broadcast(version: u32, input: *const u8, input_len: usize, addr: u32) -> u64;
     pub fn gh_basic_build(
         input: *const u8,

@@ -3,6 +3,7 @@
 use crate::found::{Answer, Found};
 use crate::geometry::Geometry;
 use crate::input::{routes, Routes};
+use crate::message::{dealt, Updated};
 use crate::raw;
 use crate::records::{Forwarded, HopRecord};
 use crate::refusal::{answered, Refusal};
@@ -361,6 +362,20 @@ impl TableMut<'_> {
         let answer = raw::withdraw(self, u32::from(addr.into()), len.into());
         let answer = self.keep(answer)?;
         Ok(Withdrawn { cleared: cleared(answer) })
+    }
+
+    /// Deals a BGP message to the table: the prefixes of one route field are withdrawn, and those of the other announced with
+    /// the hop and [`Mark::Behind`]. A withdrawn prefix that does not stand is passed over. The hop is judged even if nothing
+    /// is announced: a message that only withdraws passes 1.
+    ///
+    /// # Errors
+    ///
+    /// 1, 2, 5, 17, 4; nothing is then changed. 6, 7 and 8 are no error: see [`Updated::Stopped`].
+    pub fn update(&mut self, withdrawn: &[u8], reach: &[u8], hop: u16) -> Result<Updated, Refusal> {
+        let answer = raw::update(self, withdrawn, reach, hop.into());
+        let updated = dealt(answer)?;
+        self.count = (answer >> 16) as u32 & 0xFFFF;
+        Ok(updated)
     }
 
     /// Puts the table right after a memory fault, whatever it holds: looks at the first [`count`](TableMut::count) records

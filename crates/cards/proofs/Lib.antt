@@ -11,3 +11,4 @@ pub mod Casts
 pub mod ImageCalls
 pub mod Putting
 pub mod Forwarded
+pub mod RouteFields

@@ -4,3 +4,4 @@ pub mod Maps
 pub mod Narrow
 pub mod Images
 pub mod Forwarded
+pub mod RouteFields

@@ -6,5 +6,6 @@ pub mod images;
 pub mod inputs;
 pub mod lookups;
 pub mod maps;
+pub mod messages;
 pub mod repairs;
 pub mod tables;

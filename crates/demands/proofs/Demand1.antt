@@ -4,7 +4,7 @@
 -- That every call answers for every input and ends is the language's own promise: a crate is built only where each of its functions is shown
 -- to end, and a call on offer has no `requires`. What it answers is its contract's equation; the theorems below say what the equations mean.
 -- Calls that take their arrays by `&` cannot change them. For those that change something, a refusal leaves all as it was. (A repair is in
--- Repairs.antt, the changes of an image in Images.antt.)
+-- Repairs.antt, the changes of an image in Images.antt, and messages, with the one exception, in Messages.antt.)
 use mathlib.Core.Path.{_≡_, refl, sym, _∙_, ap}
 use mathlib.Core.Logic.{_↔_}
 use mathlib.Core.Bool.{false, false≢true}

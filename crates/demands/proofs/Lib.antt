@@ -1,4 +1,5 @@
--- The demands, a file for each; and the demands of the calls on bit maps, of broadcasts, of the header step, of hop records, of repairs and of images.
+-- The demands, a file for each; and the demands of the calls on bit maps, of broadcasts, of the header step, of hop records, of messages, of repairs
+-- and of images.
 pub mod Demand1
 pub mod Demand2
 pub mod Demand3
@@ -10,3 +11,4 @@ pub mod Repairs
 pub mod Images
 pub mod OneImage
 pub mod HopRecords
+pub mod Messages

@@ -29,3 +29,4 @@ pub mod Broadcasts
 pub mod Repairs
 pub mod Headers
 pub mod HopRecords
+pub mod Messages

@@ -204,6 +204,14 @@ pub fn step(p1: u32, p2: u32, count: u32, t: &Eight, packet: &mut [u8]) -> u64 {
     raw::step(&t.lend(p1, p2, count), packet)
 }
 
+#[cfg(feature = "update")]
+pub use raw::write_field;
+
+#[cfg(feature = "update")]
+pub fn update(p1: u32, p2: u32, count: u32, t: &mut Eight, withdrawn: &[u8], reach: &[u8], hop: u32) -> u64 {
+    raw::update(&mut t.lend_mut(p1, p2, count), withdrawn, reach, hop)
+}
+
 #[cfg(feature = "forward")]
 pub fn forward(p1: u32, p2: u32, count: u32, t: &Eight, records: &mut Records, addr: u32, octets: u32) -> u64 {
     raw::forward(&t.lend(p1, p2, count), records.lend(), addr, octets)

@@ -98,6 +98,9 @@ fn ask(run: &mut Run, rng: &mut Rng, field: &Field, routes: &[Route], input: &[u
 
     crate::broadcasts::ask(run, rng, routes, &lent);
     crate::images::build(run, rng, input);
+    for ask in crate::parts::ASKED_INPUTS {
+        ask(run, rng, input);
+    }
     if let Some(what) = lent.differs("input", input) {
         run.fault(&what, &|| format!("over {}", tell(input)));
     }

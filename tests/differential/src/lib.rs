@@ -2,6 +2,7 @@
 
 pub mod basic;
 pub mod broadcast;
+pub mod fields;
 pub mod gen;
 pub mod header;
 pub mod hop_records;

@@ -21,6 +21,8 @@ mod run;
 mod steps;
 mod tables;
 mod twice;
+#[cfg(feature = "update")]
+mod updates;
 
 use differential::gen::Rng;
 use run::Run;

@@ -2,7 +2,7 @@
 
 use crate::run::Run;
 use crate::twice::Twice;
-use differential::gen::Rng;
+use differential::gen::{Field, Rng};
 
 /// What a run of full length must meet: calls, and labels as they are counted.
 pub const MUST_HAPPEN: &[&[(&str, &str)]] = &[
@@ -11,6 +11,8 @@ pub const MUST_HAPPEN: &[&[(&str, &str)]] = &[
     crate::steps::MUST_HAPPEN,
     #[cfg(feature = "forward")]
     crate::forwards::MUST_HAPPEN,
+    #[cfg(feature = "update")]
+    crate::updates::MUST_HAPPEN,
 ];
 
 /// Asks a table something at some of these addresses, and leaves it as it is.
@@ -22,4 +24,22 @@ pub const ASKED: &[Ask] = &[
     crate::steps::ask,
     #[cfg(feature = "forward")]
     crate::forwards::ask,
+];
+
+/// Changes a table of any content by one call, with routes of this field.
+pub type Change = fn(&mut Run, &mut Rng, &Field, &mut Twice);
+
+/// What changes a table besides the calls of document 01.
+pub const CHANGES: &[Change] = &[
+    #[cfg(feature = "update")]
+    crate::updates::change,
+];
+
+/// Asks something of a record input of any content.
+pub type AskInput = fn(&mut Run, &mut Rng, &[u8]);
+
+/// What is asked of a record input besides the calls of document 01.
+pub const ASKED_INPUTS: &[AskInput] = &[
+    #[cfg(feature = "update")]
+    crate::updates::write,
 ];

@@ -1,6 +1,7 @@
 //! Sequences of calls on tables: routes come and go, arrays are damaged and put right, sizes and geometries are wrong.
 
 use crate::damage::{renumber, Harm};
+use crate::parts::CHANGES;
 use crate::run::Run;
 use crate::twice::{used, Call, Twice};
 use differential::gen::{
@@ -185,7 +186,8 @@ pub fn episode(run: &mut Run, rng: &mut Rng) {
 
 fn one_step(run: &mut Run, rng: &mut Rng, field: &Field, t: &mut Twice, growing: bool) {
     let standing = t.standing.clone().expect("between steps the table is sound");
-    match rng.below(100) {
+    match rng.below(100 + 12 * CHANGES.len()) {
+        100.. => CHANGES[rng.below(CHANGES.len())](run, rng, field, t),
         0..=57 => {
             // Mostly announcing, then mostly withdrawing, so that the table fills and empties.
             let call = if rng.below(10) < if growing { 8 } else { 3 } {
@@ -250,6 +252,9 @@ fn damaged(run: &mut Run, rng: &mut Rng, field: &Field, t: &mut Twice, standing:
     t.step(run, &Call::Report);
     let call = if rng.one_in(2) { to_announce(rng, field, standing) } else { to_withdraw(rng, field, standing) };
     t.step(run, &call);
+    for change in CHANGES {
+        change(run, rng, field, t);
+    }
     if rng.one_in(3) {
         t.look_around(run, rng, 60);
     }
@@ -303,6 +308,9 @@ fn odd_calls(run: &mut Run, rng: &mut Rng, field: &Field, mut odd: Twice, standi
         let addr = field.addr(rng);
         odd.look(run, addr);
         odd.ask(run, rng, &[addr]);
+        for change in CHANGES {
+            change(run, rng, field, &mut odd);
+        }
     }
 }
 

@@ -5,6 +5,7 @@ use differential::plain::*;
 mod basic;
 mod broadcast;
 mod counts;
+mod fields;
 mod header;
 mod hop_records;
 mod host_bits;

@@ -1,0 +1,2 @@
+-- How the answers on route fields are packed and read.
+pub mod Answers

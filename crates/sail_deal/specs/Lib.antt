@@ -1,0 +1,2 @@
+-- One prefix more or less in a sound table.
+pub mod Dealt
