@@ -1,0 +1,2 @@
+-- A party's change on the real arrays of a box.
+pub mod Announces

@@ -1,0 +1,2 @@
+-- The laws of a party's lookup.
+pub mod Looks

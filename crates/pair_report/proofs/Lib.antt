@@ -1,0 +1,2 @@
+-- The laws of a party's report.
+pub mod Reports

@@ -1,0 +1,2 @@
+-- What a report says after the sizes.
+pub mod Told
