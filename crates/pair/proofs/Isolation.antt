@@ -23,7 +23,7 @@ use Rattle.pair.specs.Party.{Party, one, two, other, is}
 use Rattle.pair.specs.PairLent.{PairLent, side, roomFor}
 use Rattle.pair.specs.PairSound.{shareOf, standingFor, PairSound}
 use Rattle.pair.specs.PairCalls.{pairTerms, PairOut, freshPair, freshPairLent, pairMade, pairReported, pairLookupSaid}
-use Rattle.pair.specs.PairRuns.{By, pairDone, pairAfter, own}
+use Rattle.pair.specs.PairRuns.{By, pairDone, pairAfter, own, Alike, ToldAlike}
 use Rattle.pair.specs.declared.Share.{Share}
 use Rattle.pair.specs.declared.Pair.{Pair}
 use Rattle.pair.proofs.Sees.{for-both, PairHolds}
@@ -180,22 +180,7 @@ module _ (t : Pair) (b : PairLent) (made : accepts (pairMade t b .said) ≡ true
       (sym (length-routes (side w (now .lent) .list) (shareOf w (now .state) .count)))
       ∙ ap₂ (λ (g : Geometry) (xs : List Route). accepted (length xs ∷ need xs (g .p1) ∷ need xs (g .p2) ∷ [])) geometry-same (holds .routes w)
 
--- Two boxes that began with an accepted make, of one geometry. The party w has the same room and the same limits in both, and made the same calls. All
--- else may differ: the pools, the other's room and limits, and the other's calls. Then w is told the same.
-pub record Alike (w : Party) (t : Pair) (b : PairLent) (cs : List By) (t′ : Pair) (b′ : PairLent) (cs′ : List By) : Type 0 where
-  pub made : accepts (pairMade t b .said) ≡ true
-  pub made′ : accepts (pairMade t′ b′ .said) ≡ true
-  pub geometry : t .geometry ≡ t′ .geometry
-  pub room : roomFor w b ≡ roomFor w b′
-  pub limit2 : shareOf w t .most2 ≡ shareOf w t′ .most2
-  pub limit3 : shareOf w t .most3 ≡ shareOf w t′ .most3
-  pub calls : own w cs ≡ own w cs′
-
-pub record ToldAlike (w : Party) (o o′ : PairOut) : Type 0 where
-  pub calls : (k : Call) → pairDone w (o .state) (o .lent) k .said ≡ pairDone w (o′ .state) (o′ .lent) k .said
-  pub lookups : (a : ℕ) → a < 2 ^ 32 → pairLookupSaid w (o .state) (o .lent) a ≡ pairLookupSaid w (o′ .state) (o′ .lent) a
-  pub reports : pairReported w (o .state) (o .lent) ≡ pairReported w (o′ .state) (o′ .lent)
-
+-- Two boxes in which w has the same room and limits, and made the same calls: what w is told follows from these.
 pub isolation : (w : Party) (t : Pair) (b : PairLent) (cs : List By) (t′ : Pair) (b′ : PairLent) (cs′ : List By) → Alike w t b cs t′ b′ cs′
     → ToldAlike w (pairAfter t b cs) (pairAfter t′ b′ cs′)
 isolation w t b cs t′ b′ cs′ k =

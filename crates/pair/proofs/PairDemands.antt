@@ -24,13 +24,10 @@ use Rattle.standing.proofs.Standing.{remove-good, remove-any}
 use Rattle.standing.proofs.Changed.{insert-adds}
 use Rattle.standing.proofs.NeedAfter.{need-same, need-mono, stands-long}
 use Rattle.sail.specs.Lent.{Lent}
-use Rattle.sail.specs.Sizes.{Sized}
-use Rattle.sail.specs.Sound.{Sound, standing, used}
-use Rattle.sail.specs.Walk.{lookupSaid, walkCounts}
+use Rattle.sail.specs.Sound.{Sound, standing}
 use Rattle.sail.specs.declared.geometry.Geometry.{Geometry}
 use Rattle.sail.specs.declared.table.Table.{Table}
 use Rattle.sail.proofs.Sounds.{sail-serves}
-use Rattle.sail_theory.specs.Render.{roomOf}
 use Rattle.sail_theory.specs.Calls.{Terms, chunksFault, announceFault, withdrawFault, loadFault, orSay, inputRoutes, Out, cutRoute, cleared, loaded}
 use Rattle.sail_theory.specs.Cases.{Readable}
 use Rattle.sail_theory.specs.CallRuns.{Call, announce, withdraw, load, routesAfter, Formed, Carries}
@@ -41,11 +38,11 @@ use Rattle.sail_theory.proofs.calls.Load.{load-is, loadable-holds}
 use Rattle.sail_theory.proofs.runs.AsFresh.{same-lookups, same-used, same-longs, same-walks}
 use Rattle.sail_theory.proofs.runs.WantOfChunks.{wanting, wanting-told}
 use Rattle.sail_theory.proofs.runs.ForChunks.{wanting-exact}
-use Rattle.pair.specs.Party.{Party, view}
-use Rattle.pair.specs.PairLent.{PairLent, side, roomFor, sees}
-use Rattle.pair.specs.PairSound.{shareOf, tableFor, standingFor}
+use Rattle.pair.specs.Party.{Party}
+use Rattle.pair.specs.PairLent.{PairLent, roomFor, sees}
+use Rattle.pair.specs.PairSound.{tableFor, standingFor}
 use Rattle.pair.specs.PairCalls.{pairTerms, PairOut, pairMade, pairLookupSaid}
-use Rattle.pair.specs.PairRuns.{By, pairDone, pairAfter, own}
+use Rattle.pair.specs.PairRuns.{By, pairDone, pairAfter, own, LimitsLent, PairAsFresh}
 use Rattle.pair.specs.declared.Pair.{Pair}
 use Rattle.pair.proofs.Offers.{OnTerms}
 use Rattle.pair.proofs.PairFresh.{make-makeable}
@@ -126,25 +123,7 @@ module _ (t : Pair) (b : PairLent) (made : accepts (pairMade t b .said) ≡ true
       let deep : t .geometry .p2 ≤ 32 = rw (← g) (omega arith) in
       rw (pair-says t b made w cs k) (wanting-exact (reply-wants (pairTerms w t b) rs within-terms low deep k f))
 
-  -- A table of one party, of this geometry and room, with as many chunks lent as the party's limits.
-  pub record OfItsOwn (u : Table) (v : Lent) : Type 0 where
-    pub geometry : u .geometry ≡ t .geometry
-    pub sized : Sized (u .geometry) v
-    pub room : roomOf v ≡ roomFor w b
-    pub chunks2 : length (v .own2) ≡ shareOf w t .most2
-    pub chunks3 : length (v .own3) ≡ shareOf w t .most3
-
-  -- what the party has is as good as a load with the outcome o into such a table
-  pub record PairAsFresh (o : Out) : Type 0 where
-    pub accepted-too : accepts (o .said) ≡ true
-    pub lists : side w lt .list ≡ o .lent .list
-    pub lookups : (a : ℕ) → a < 2 ^ 32 → pairLookupSaid w st lt a ≡ lookupSaid (o .table) (o .lent) a
-    pub chunks2 : used (view w (lt .own2)) ≡ used (o .lent .own2)
-    pub chunks3 : used (view w (lt .own3)) ≡ used (o .lent .own3)
-    pub longs1 : side w lt .long1 ≡ o .lent .long1
-    pub longs2 : (a : ℕ) → a < 2 ^ 32 → walkCounts (st .geometry) (sees (st .geometry) w lt) a ≡ walkCounts (o .table .geometry) (o .lent) a
-
-  module _ (u : Table) (v : Lent) (its : OfItsOwn u v) (input : List ℕ) (c : Carries input (standingFor w st lt)) where
+  module _ (u : Table) (v : Lent) (its : LimitsLent w t b u v) (input : List ℕ) (c : Carries input (standingFor w st lt)) where
     abbrev xs : List Route
     xs = standingFor w st lt
 
@@ -183,7 +162,7 @@ module _ (t : Pair) (b : PairLent) (made : accepts (pairMade t b .said) ≡ true
     routes′ : standing (loaded u v input .table) (loaded u v input .lent) ≡ xs
     routes′ = loaded-holds .routes ∙ routes-are
 
-    pub pair-as-fresh : PairAsFresh (loaded u v input)
+    pub pair-as-fresh : PairAsFresh w st lt (loaded u v input)
     pair-as-fresh =
         let s = loaded-holds .sound in
         let n = same-used _ _ _ _ mine s geo routes′ in

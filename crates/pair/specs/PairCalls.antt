@@ -1,5 +1,5 @@
--- The calls of two parties on one box. Each is a function from the state and what is lent at entry to what it says, the state and what is lent
--- at exit, for every state and every contents.
+-- The calls of two parties on one box. Each is a function from the state and what is lent at entry to what it returns, the state and what is lent
+-- at exit, for every state and every contents. Bits after the length are cleared, and marks carried, as in a table of one.
 use mathlib.Core.Bool.{Bool, not, _&&_, cond}
 use mathlib.Core.List.{List, [], _∷_, map}
 use Prim.Native.Nat.{ℕ, suc, _-_}
@@ -27,7 +27,7 @@ use Rattle.pair.specs.declared.Pair.{Pair}
 
 -- Owners.
 
--- a chunk of the party hangs from its place q; if none did, it is c
+-- a chunk of the party hangs from its place q; if none did, it is now c
 unfoldable pub grantFor : Party → List ℕ → ℕ → ℕ → List ℕ
 grantFor w own c q = cond (ltb (find (view w own) (suc q)) (length (view w own))) own (set own c (ownerOf w q))
 
@@ -55,14 +55,15 @@ keepFor w rs v own = map (λ o. cond (eqb (seen w o) 0) o (cond (deep rs v (seen
 abbrev pub ownersKeptFor : Party → Geometry → List Route → Owners → Owners
 ownersKeptFor w g rs o = record { own2 = keepFor w rs (level1 g) (o .own2); own3 = keepFor w rs (level2 g (chunksOf (view w (o .own2)))) (o .own3) }
 
--- Refusals.
+-- Refusals. "The order of refusals stays": announce 1, 2, 3, 4, 10, 5, 6, 7, 8; withdraw 1, 2, 3, 5, 9; report and lookup 1, 2, 5. (What is returned,
+-- case by case: specs/PairCases.antt.)
 
--- what a party has for its routes: room in its own list, and its limits. "From then on 7 and 8 are given to a party exactly when its own need would
--- exceed its limit"
+-- what a party has for its routes: room in its own list (6), and its limits. "From then on 7 and 8 are given to a party exactly when its own need
+-- would exceed its limit"
 abbrev pub pairTerms : Party → Pair → PairLent → Terms
 pairTerms w t b = record { geometry = t .geometry; room = roomFor w b; most2 = shareOf w t .most2; most3 = shareOf w t .most3 }
 
--- "24, the two limits add to more than a pool's chunks, after 2 in make"
+-- "At make, each gets a limit of chunks in either pool": those in the state. "24, the two limits add to more than a pool's chunks, after 2 in make"
 unfoldable pub pairMakeSaid : Pair → PairLent → Said
 pairMakeSaid t b = orSay (pairSizesFault (t .geometry) b) (orSay (cond (limitsFit t b) 0 24) (accepted []))
 
@@ -79,7 +80,7 @@ pairWithdrawSaid w t b a len =
     (orSay (withdrawFault (pairSound? t b) (standingFor w t b) a len)
     (accepted []))
 
--- load "checks the standing table (5 after 2)"
+-- 1, 2, 5, the input's, 6, 7, 8: load "checks the standing table (5 after 2)"
 unfoldable pub pairLoadSaid : Party → Pair → PairLent → List ℕ → Said
 pairLoadSaid w t b input =
     orSay (pairSizesFault (t .geometry) b)
@@ -111,7 +112,7 @@ counting n s = record { count = n; most2 = s .most2; most3 = s .most3 }
 abbrev pub withCount : Party → ℕ → Pair → Pair
 withCount w n t = pairOf (t .geometry) (put w (counting n (shareOf w t)) (λ v. shareOf v t))
 
--- the box where these routes of the party stand with these owners: the party's table is what they ask, the other's is as it was
+-- the box in which these routes of the party stand with these owners: the party's table is what they ask, the other's is as it was
 abbrev pub pairLentOf : Party → Pair → PairLent → List Route → Owners → PairLent
 pairLentOf w t b rs o =
     boxOf (t .geometry) o
@@ -120,7 +121,7 @@ pairLentOf w t b rs o =
 abbrev pub pairLeaving : Said → Party → Pair → PairLent → List Route → Owners → PairOut
 pairLeaving s w t b rs o = pairOutcome s t b (withCount w (length rs) t) (pairLentOf w t b rs o)
 
--- a fresh box: limits as they were given
+-- a fresh box: no routes, the limits as they were given, leaves of hop 0 and zeros
 abbrev pub freshPair : Pair → Pair
 freshPair t = record { geometry = t .geometry; one = counting 0 (t .one); two = counting 0 (t .two) }
 
@@ -156,21 +157,22 @@ pairAnnounced w t b r = pairWithFlag (cleared (r .len) (r .addr)) (pairAdding w 
 unfoldable pub pairWithdrawn : Party → Pair → PairLent → ℕ → ℕ → PairOut
 pairWithdrawn w t b a len = pairWithFlag (cleared len a) (pairTaking w t b (cut len a) len)
 
--- "An accepted load acts as withdrawing all of one party's routes and then announcing the records"
+-- "An accepted load acts as withdrawing all of one party's routes and then announcing the records": its chunks are closed, and each record then opens
+-- the lowest free ones, between the other's (`pair-load-as`, proofs/PairLoadAs.antt, says it of the calls)
 unfoldable pub pairLoaded : Party → Pair → PairLent → List ℕ → PairOut
 pairLoaded w t b input =
     pairLeaving (pairLoadSaid w t b input) w t b
     (inputRoutes input)
     (ownersAfterFor w (t .geometry) (ownersKeptFor w (t .geometry) [] (pairOwners b)) (inputRoutes input))
 
--- the party's own count and needs
+-- the party's own route count and both its needs; it changes nothing
 unfoldable pub pairReported : Party → Pair → PairLent → Said
 pairReported w t b =
     orSay (pairSizesFault (t .geometry) b)
     (cond (not (pairSound? t b)) (refused 5)
     (accepted (shareOf w t .count ∷ need (standingFor w t b) (t .geometry .p1) ∷ need (standingFor w t b) (t .geometry .p2) ∷ [])))
 
--- "Lookup also breaks off with 5 at a chunk owned by the other": chunk v, from 1, opens to the party
+-- "Lookup also breaks off with 5 at a chunk owned by the other": chunk v, counted from 1, opens to the party
 abbrev pub opensFor : Party → List ℕ → ℕ → Bool
 opensFor w own v = oneOf (length own) v && not (foreign w (getD own (v - 1) 0))
 

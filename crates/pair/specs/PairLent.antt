@@ -1,4 +1,5 @@
--- What is lent to every call on a box of two: each party's list, first cells and counts for them; and what both share.
+-- What is lent to every call on a box of two. "Each of the two has his own list, first cells and counts for them; the two pools are shared": and with
+-- the pools the owners of their chunks, and the counts for the second pool's cells.
 use mathlib.Core.Bool.{Bool}
 use mathlib.Core.List.{List}
 use Prim.Native.Nat.{ℕ}
@@ -63,11 +64,12 @@ part w own d xs = ownPart (view w own) d xs
 abbrev pub viewed : Party → PairLent → Lent
 viewed w b = lent (side w b .list) (side w b .first) (b .second) (b .third) (view w (b .own2)) (view w (b .own3)) (side w b .long1) (b .long2)
 
--- The table that a party sees: a chunk that is not its own is free and zero.
+-- The table that a party sees: its own three arrays, and the pools with every chunk that is not its own free and zero. It is a table like any of one
+-- party, so all that is said of those may be said of it. (Of the cells as they are: specs/PairReading.antt.)
 abbrev pub sees : Geometry → Party → PairLent → Lent
 sees g w b = alone g (viewed w b)
 
--- The cells as they stand, with the owners as a party sees them: what its lookup walks through.
+-- The cells as they are, with the owners as a party sees them: what its lookup walks through.
 abbrev pub viewOf : Party → List ℕ → List ℕ → List ℕ → List ℕ → List ℕ → View
 viewOf w first second third own2 own3 = record {
   first = entry first;
@@ -84,7 +86,7 @@ seenBy w b = viewOf w (side w b .first) (b .second) (b .third) (b .own2) (b .own
 unfoldable pub joined : List ℕ → ℕ → List ℕ → List ℕ → List ℕ
 joined own d xs ys = laid ys (mine one own d) (entry xs)
 
--- the box of these owners, and of a table for each party
+-- the box of these owners, and of a table for each party: each then sees its own (`sees-own`, proofs/Sees.antt)
 abbrev pub boxOf : Geometry → Owners → (Party → Lent) → PairLent
 boxOf g o l =
     pairLent (l one .list) (l one .first) (l one .long1) (l two .list) (l two .first) (l two .long1)

@@ -35,16 +35,17 @@ tableFor w t = record { geometry = t .geometry; count = shareOf w t .count }
 abbrev pub standingFor : Party → Pair → PairLent → List Route
 standingFor w t b = standing (tableFor w t) (side w b)
 
--- 1: the geometry is outside the limits; else 2: a size is wrong, of what is lent to the first party or to the second; else 0
+-- 1: the geometry is outside the limits; else 2: a size is wrong, of what is lent to the first party or to the second; else 0. Every call, lookup too,
+-- is lent all eleven arrays and asks for all their sizes
 unfoldable pub pairSizesFault : Geometry → PairLent → ℕ
 pairSizesFault g b = cond (eqb (sizesFault g (side one b)) 0) (sizesFault g (side two b)) (sizesFault g (side one b))
 
--- what the check of the sizes answers: the number, and where it is 0, the facts
+-- what the check of the sizes answers: the number, and if it is 0, the facts
 pub record PairSizesTold (r : ℕ) (g : Geometry) (b : PairLent) : Type 0 where
   pub number : r ≡ pairSizesFault g b
   pub facts : r ≡ 0 → (w : Party) → Sized g (side w b)
 
--- "owner 0 is nobody's": where neither party sees a chunk as its own, the owner is 0
+-- "owner 0 is nobody's", and nothing else is: if neither party sees a chunk as its own, the owner is 0
 pub record Nobodys (own : List ℕ) : Type 0 where
   pub zero : (c : ℕ) → c < length own → seen one (getD own c 0) ≡ 0 → seen two (getD own c 0) ≡ 0 → getD own c 0 ≡ 0
 
@@ -52,9 +53,10 @@ pub record Nobodys (own : List ℕ) : Type 0 where
 pub record Spare (own : List ℕ) (d : ℕ) (xs : List ℕ) : Type 0 where
   pub blank : (q : ℕ) → q < length xs → mine one own d q ≡ false → mine two own d q ≡ false → getD xs q 0 ≡ 0
 
--- "Soundness is of both together, with needs within limits and limits that fit the pools"
+-- "Soundness is of both together, with needs within limits and limits that fit the pools". (`PairSound` holds exactly if `BoxReads` does, which says it
+-- of the cells and owners as they are: specs/PairReading.antt.)
 pub record PairSound (t : Pair) (b : PairLent) : Type 0 where
-  -- the table that each party sees is sound
+  -- "of both together": the table that each party sees is sound, with all of document 01's sentences and true counts
   pub each : (w : Party) → Sound (tableFor w t) (sees (t .geometry) w b)
   -- what is neither's has owner 0, cells 0 and counts 0
   pub nobodys2 : Nobodys (b .own2)
