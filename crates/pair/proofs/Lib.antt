@@ -12,3 +12,5 @@ pub mod Isolation
 pub mod PairDemands
 pub mod Lays
 pub mod PairHeld
+pub mod PairReading
+pub mod PairJudged

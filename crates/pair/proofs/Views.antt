@@ -38,6 +38,10 @@ unfolding seen
 seen-other one q h = omega arith
 seen-other two q h = rw (le-ltb (2147483648 + suc q) 2147483648 (omega arith))
 
+-- "An owner's top bit is 1 for the second party", and 0 for the first
+pub top-bit : (q : ℕ) → suc q < 2147483648 → (ownerOf one q / 2147483648 ≡ 0) × (ownerOf two q / 2147483648 ≡ 1)
+top-bit q h = (omega arith, omega arith)
+
 low : (o : ℕ) → o < 2147483648 → (seen one o ≡ o) × (seen two o ≡ 0)
 unfolding seen
 low o h = (rw (lt-ltb o 2147483648 h), omega arith)
@@ -57,6 +61,19 @@ seen-apart two o h = go (below? o 2147483648)
     go : (o < 2147483648) ⊎ (2147483648 ≤ o) → seen one o ≡ 0
     go (inl l) = absurd (h (low o l .1))
     go (inr l) = high o l .0
+
+-- an owner that a party sees as its own is the one of that place
+pub seen-back : (w : Party) (o : ℕ) → seen w o ≢ 0 → o ≡ ownerOf w (seen w o - 1)
+seen-back one o h = go (below? o 2147483648)
+  where
+    go : (o < 2147483648) ⊎ (2147483648 ≤ o) → o ≡ suc (seen one o - 1)
+    go (inl l) = omega (arith, low o l .0, h)
+    go (inr l) = absurd (h (high o l .0))
+seen-back two o h = go (below? o 2147483648)
+  where
+    go : (o < 2147483648) ⊎ (2147483648 ≤ o) → o ≡ 2147483648 + suc (seen two o - 1)
+    go (inl l) = absurd (h (low o l .1))
+    go (inr l) = omega (arith, high o l .1, h)
 
 -- the owners of a pool
 pub length-view : (w : Party) (own : List ℕ) → length (view w own) ≡ length own

@@ -119,13 +119,13 @@ module _ (w : Party) (t : Pair) (b : PairLent) where
 
   -- lookup: 1, 2, 5; a leaf returns its hop and how many cells were read
   module _ (a : ℕ) where
-    abbrev v1 : ℕ
+    abbrev pub v1 : ℕ
     v1 = cell1 (t .geometry) (seenBy w b) a
 
-    abbrev v2 : ℕ
+    abbrev pub v2 : ℕ
     v2 = cell2 (t .geometry) (seenBy w b) a
 
-    abbrev v3 : ℕ
+    abbrev pub v3 : ℕ
     v3 = cell3 (t .geometry) (seenBy w b) a
 
     -- the cell v leads to a chunk of a pool with these owners, which is not the other party's, or is
