@@ -14,3 +14,4 @@ pub mod Lays
 pub mod PairHeld
 pub mod PairReading
 pub mod PairJudged
+pub mod PairFrame

@@ -112,7 +112,7 @@ module _ (w : Party) (v : Level) (own : List ℕ) (r : Route) (small : ltb (v .b
 -- what is closed
 module _ (w : Party) (rs : List Route) (v : Level) where
   -- one owner
-  abbrev kept : ℕ → ℕ
+  abbrev pub kept : ℕ → ℕ
   kept o = cond (eqb (seen w o) 0) o (cond (deep rs v (seen w o - 1)) o 0)
 
   either : (b : Bool) (o : ℕ) → o ≡ 0 → _≡_ {A = ℕ} (cond b o 0) 0
@@ -151,7 +151,7 @@ module _ (w : Party) (rs : List Route) (v : Level) where
   unfolding keepFor
   keep-length own = length-map own _
 
-  getD-kept : (own : List ℕ) (c : ℕ) → c < length own → getD (keepFor w rs v own) c 0 ≡ kept (getD own c 0)
+  pub getD-kept : (own : List ℕ) (c : ℕ) → c < length own → getD (keepFor w rs v own) c 0 ≡ kept (getD own c 0)
   unfolding keepFor
   getD-kept [] c l = absurd (native.Mathlib.Nat.not-suc-le-zero l)
   getD-kept (o ∷ own) zero l = refl

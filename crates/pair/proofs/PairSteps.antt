@@ -5,13 +5,14 @@ use mathlib.Core.Bool.{true, false}
 use mathlib.Core.List.{List, [], _∷_}
 use Prim.Native.Nat.{ℕ, _≤_, _<_}
 use native.Mathlib.Omega.{arith}
+use lib.ListN.{length}
 use Rattle.bits.specs.Count.{bit}
 use Rattle.bits.specs.Slot.{cut}
-use Rattle.routes.specs.Route.{keyOf, key}
+use Rattle.routes.specs.Route.{keyOf, key, Fine}
 use Rattle.routes.specs.Said.{Said, accepted, accepts}
 use Rattle.routes.specs.declared.Route.{Route}
 use Rattle.routes.proofs.Rows.{length-routes}
-use Rattle.standing.specs.Cells.{within}
+use Rattle.standing.specs.Cells.{within, need}
 use Rattle.standing.specs.Standing.{stands, insert, remove}
 use Rattle.standing.proofs.Standing.{remove-good, remove-length, remove-any}
 use Rattle.sail.specs.declared.geometry.Geometry.{Geometry}
@@ -20,7 +21,7 @@ use Rattle.sail_theory.specs.CallRuns.{Call, announce, withdraw, load, routesAf
 use Rattle.sail_theory.specs.Replies.{reply}
 use Rattle.sail_theory.proofs.calls.Cleared.{telling-accepts}
 use Rattle.pair.specs.Party.{Party}
-use Rattle.pair.specs.PairLent.{PairLent, side, pairOwners}
+use Rattle.pair.specs.PairLent.{PairLent, side, pairOwners, roomFor}
 use Rattle.pair.specs.PairSound.{shareOf, standingFor, pairSizesFault, PairSound, pairSound?}
 use Rattle.pair.specs.PairCalls.{
   openedFor,
@@ -42,7 +43,7 @@ use Rattle.pair.specs.PairCalls.{
 }
 use Rattle.pair.specs.PairRuns.{pairDone}
 use Rattle.pair.specs.declared.Pair.{Pair}
-use Rattle.pair.proofs.Sees.{side-sized, PairHolds, shift-holds}
+use Rattle.pair.proofs.Sees.{side-sized, Shift, PairHolds, shift-holds}
 use Rattle.pair.proofs.Shifts.{routes-good, announce-shift, withdraw-shift, load-shift}
 use Rattle.pair.proofs.PairTest.{pair-sound-tells}
 use Rattle.pair.proofs.Offers.{OnTerms, announce-offer, load-offer}
@@ -55,22 +56,22 @@ module _ (w : Party) (t : Pair) (b : PairLent) where
   abbrev rs : List Route
   rs = standingFor w t b
 
-  announce-said : (r : Route) → pairAnnounced w t b r .said ≡ withFlag (cleared (r .len) (r .addr)) (pairAnnounceSaid w t b (cutRoute r))
+  pub announce-said : (r : Route) → pairAnnounced w t b r .said ≡ withFlag (cleared (r .len) (r .addr)) (pairAnnounceSaid w t b (cutRoute r))
   unfolding pairAnnounced pairAdding
   announce-said r = ap (withFlag (cleared (r .len) (r .addr))) (ends-said (pairAnnounceSaid w t b (cutRoute r)) t b _ _)
 
-  withdraw-said : (a len : ℕ) → pairWithdrawn w t b a len .said ≡ withFlag (cleared len a) (pairWithdrawSaid w t b (cut len a) len)
+  pub withdraw-said : (a len : ℕ) → pairWithdrawn w t b a len .said ≡ withFlag (cleared len a) (pairWithdrawSaid w t b (cut len a) len)
   unfolding pairWithdrawn pairTaking
   withdraw-said a len = ap (withFlag (cleared len a)) (ends-said (pairWithdrawSaid w t b (cut len a) len) t b _ _)
 
-  load-said : (input : List ℕ) → pairLoaded w t b input .said ≡ pairLoadSaid w t b input
+  pub load-said : (input : List ℕ) → pairLoaded w t b input .said ≡ pairLoadSaid w t b input
   unfolding pairLoaded
   load-said input = ends-said (pairLoadSaid w t b input) t b _ _
 
-  announce-accepts : (r : Route) → accepts (pairAnnounced w t b r .said) ≡ accepts (pairAnnounceSaid w t b (cutRoute r))
+  pub announce-accepts : (r : Route) → accepts (pairAnnounced w t b r .said) ≡ accepts (pairAnnounceSaid w t b (cutRoute r))
   announce-accepts r = ap accepts (announce-said r) ∙ telling-accepts (cleared (r .len) (r .addr)) (pairAnnounceSaid w t b (cutRoute r))
 
-  withdraw-accepts : (a len : ℕ) → accepts (pairWithdrawn w t b a len .said) ≡ accepts (pairWithdrawSaid w t b (cut len a) len)
+  pub withdraw-accepts : (a len : ℕ) → accepts (pairWithdrawn w t b a len .said) ≡ accepts (pairWithdrawSaid w t b (cut len a) len)
   withdraw-accepts a len = ap accepts (withdraw-said a len) ∙ telling-accepts (cleared len a) (pairWithdrawSaid w t b (cut len a) len)
 
   -- Refused, in any box: all as it was.
@@ -124,15 +125,43 @@ module _ (w : Party) (t : Pair) (b : PairLent) where
       enough3 = s .within3 w;
     }
 
-    -- where it is accepted, what is left holds the routes that would stand
-    announce-holds : (r : Route) → accepts (pairAnnounced w t b r .said) ≡ true
-        → PairHolds w t b (insert (cutRoute r) rs) (pairAnnounced w t b r .state) (pairAnnounced w t b r .lent)
-    unfolding pairAnnounced pairAdding pairAnnounceSaid
-    announce-holds r e =
+    -- What an accepted announcement rests on, and what it leaves; and what an accepted withdrawal leaves.
+    pub announce-offered : (r : Route) → accepts (pairAnnounced w t b r .said) ≡ true
+        → Fine (cutRoute r) × (length (insert (cutRoute r) rs) ≤ roomFor w b) × (need (insert (cutRoute r) rs) (g .p1) ≤ shareOf w t .most2)
+        × (need (insert (cutRoute r) rs) (g .p2) ≤ shareOf w t .most3)
+    unfolding pairAnnounceSaid
+    announce-offered r e =
         let v = s .each w .sized .valid in
         let c = cutRoute r in
         let said : accepts (pairAnnounceSaid w t b c) ≡ true = sym (announce-accepts r) ∙ e in
-        let f = announce-offer (pairTerms w t b) rs on-terms c (omega arith) (omega arith) (bit (stands (key c) rs) ∷ []) (rw (sizes, passes) at said) in
+        announce-offer (pairTerms w t b) rs on-terms c (omega arith) (omega arith) (bit (stands (key c) rs) ∷ []) (rw (sizes, passes) at said)
+
+    pub announce-lent : (r : Route) → accepts (pairAnnounced w t b r .said) ≡ true
+        → pairAnnounced w t b r .lent ≡ pairLentOf w t b (insert (cutRoute r) rs) (openedFor w g (pairOwners b) (cutRoute r))
+    unfolding pairAnnounced pairAdding
+    announce-lent r e =
+        ap (λ (o : PairOut). o .lent)
+        (ends-accepted (pairAnnounceSaid w t b (cutRoute r)) t b (withCount w _ t) (pairLentOf w t b _ _) (sym (announce-accepts r) ∙ e))
+
+    pub withdraw-lent : (a len : ℕ) → accepts (pairWithdrawn w t b a len .said) ≡ true → pairWithdrawn w t b a len .lent
+        ≡ pairLentOf w t b (remove (keyOf (cut len a) len) rs) (ownersKeptFor w g (remove (keyOf (cut len a) len) rs) (pairOwners b))
+    unfolding pairWithdrawn pairTaking
+    withdraw-lent a len e =
+        ap (λ (o : PairOut). o .lent)
+        (ends-accepted (pairWithdrawSaid w t b (cut len a) len) t b (withCount w _ t) (pairLentOf w t b _ _) (sym (withdraw-accepts a len) ∙ e))
+
+    pub prefix-shift : (k : ℕ) → Shift w t b (remove k rs) (ownersKeptFor w g (remove k rs) (pairOwners b))
+    prefix-shift k =
+        withdraw-shift t b s w (remove k rs) (remove-good k rs (routes-good t b s w)) (remove-length k rs) (λ p i h. remove-any (within p i) k rs h)
+
+    -- if it is accepted, what is left holds the routes that would stand
+    announce-holds : (r : Route) → accepts (pairAnnounced w t b r .said) ≡ true
+        → PairHolds w t b (insert (cutRoute r) rs) (pairAnnounced w t b r .state) (pairAnnounced w t b r .lent)
+    unfolding pairAnnounced pairAdding
+    announce-holds r e =
+        let c = cutRoute r in
+        let said : accepts (pairAnnounceSaid w t b c) ≡ true = sym (announce-accepts r) ∙ e in
+        let f = announce-offered r e in
         subst (λ (o : PairOut). PairHolds w t b (insert c rs) (o .state) (o .lent))
         (sym (ends-accepted (pairAnnounceSaid w t b c) t b _ (pairLentOf w t b _ (openedFor w g (pairOwners b) c)) said))
         (shift-holds w t b (insert c rs) (openedFor w g (pairOwners b) c) (announce-shift t b s w c (f .0) (f .1) (f .2) (f .3)))
@@ -146,8 +175,7 @@ module _ (w : Party) (t : Pair) (b : PairLent) where
         let left : List Route = remove k rs in
         subst (λ (o : PairOut). PairHolds w t b left (o .state) (o .lent))
         (sym (ends-accepted (pairWithdrawSaid w t b (cut len a) len) t b _ (pairLentOf w t b _ (ownersKeptFor w g left (pairOwners b))) said))
-        (shift-holds w t b left (ownersKeptFor w g left (pairOwners b))
-        (withdraw-shift t b s w left (remove-good k rs (routes-good t b s w)) (remove-length k rs) (λ p i h. remove-any (within p i) k rs h)))
+        (shift-holds w t b left (ownersKeptFor w g left (pairOwners b)) (prefix-shift k))
 
     load-holds : (input : List ℕ) → accepts (pairLoaded w t b input .said) ≡ true
         → PairHolds w t b (inputRoutes input) (pairLoaded w t b input .state) (pairLoaded w t b input .lent)

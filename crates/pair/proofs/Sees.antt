@@ -274,7 +274,7 @@ module _ (w : Party) (t : Pair) (b : PairLent) (rs : List Route) (o : Owners) (k
       (subst (λ (l : Lent). Seen g o (other w) l) (sym (put-other w asked (λ x. sees g x b)))
       (sees-seen g o (other w) b (k .sound .each (other w) .sized) (k .len2) (k .len3) (k .same2) (k .same3)))
 
-  mine-seen : sees g w v ≡ asked
+  pub mine-seen : sees g w v ≡ asked
   mine-seen = sees-own g o tables seens w ∙ put-own w asked (λ x. sees g x b)
 
   theirs-seen : sees g (other w) v ≡ sees g (other w) b
