@@ -15,3 +15,4 @@ pub mod PairHeld
 pub mod PairReading
 pub mod PairJudged
 pub mod PairFrame
+pub mod PairLoadAs

@@ -4,9 +4,8 @@ use mathlib.Core.Path.{_≡_, sym, _∙_, ap, ap₂, subst}
 use mathlib.Core.Logic.{_⊎_, inl, inr}
 use mathlib.Core.Bool.{true, false, cond}
 use mathlib.Core.List.{List, [], _∷_}
-use Prim.Native.Nat.{ℕ, _/_, _^_, _≤_, _<_}
+use Prim.Native.Nat.{ℕ, _/_, _≤_}
 use native.Mathlib.Omega.{arith}
-use lib.Dec.{ltb}
 use lib.ListN.{length}
 use borrow.Author.Tests.{le-ltb, lt-leb}
 use Rattle.bits.specs.Count.{bit}
@@ -14,7 +13,7 @@ use Rattle.bits.specs.Slot.{cut}
 use Rattle.bits.proofs.Bools.{decided}
 use Rattle.routes.specs.Route.{keyOf, key}
 use Rattle.routes.specs.Record.{written}
-use Rattle.routes.specs.Said.{Said, accepted, accepts}
+use Rattle.routes.specs.Said.{accepted, accepts}
 use Rattle.routes.specs.declared.Route.{Route}
 use Rattle.routes.proofs.Meaning.{fine-fault, true-prefix, input-good}
 use Rattle.routes.proofs.Rows.{length-routes}
@@ -41,7 +40,7 @@ use Rattle.sail_theory.proofs.runs.ForChunks.{wanting-exact}
 use Rattle.pair.specs.Party.{Party}
 use Rattle.pair.specs.PairLent.{PairLent, roomFor, sees}
 use Rattle.pair.specs.PairSound.{tableFor, standingFor}
-use Rattle.pair.specs.PairCalls.{pairTerms, PairOut, pairMade, pairLookupSaid}
+use Rattle.pair.specs.PairCalls.{pairTerms, PairOut, pairMade}
 use Rattle.pair.specs.PairRuns.{By, pairDone, pairAfter, own, LimitsLent, PairAsFresh}
 use Rattle.pair.specs.declared.Pair.{Pair}
 use Rattle.pair.proofs.Offers.{OnTerms}

@@ -1,13 +1,13 @@
 -- What a party's call changes. Of the other's nothing: what the other sees is as it was, and in a sound box a chunk that is the other's by its owner is
 -- one that it sees. Of the party's own cells an announcement or withdrawal alters those that `Alters` allows, in the table that it sees.
 use mathlib.Core.Path.{_≡_, refl, sym, _∙_, ap, ap₂, subst}
-use mathlib.Core.Logic.{_⊎_, inl, inr, _≢_, ⊎-elim}
-use mathlib.Core.Bool.{Bool, true, false, _&&_, false≢true}
+use mathlib.Core.Logic.{_⊎_, _≢_, ⊎-elim}
+use mathlib.Core.Bool.{true, false, false≢true}
 use mathlib.Core.List.{List, [], _∷_}
-use Prim.Native.Nat.{ℕ, _-_, _*_, _/_, _^_, _≤_, _<_}
+use Prim.Native.Nat.{ℕ, _-_, _*_, _/_, _^_, _<_}
 use native.Mathlib.Nat.{div-lt-iff-lt-mul}
 use native.Mathlib.Omega.{arith}
-use lib.Dec.{ltb, leb}
+use lib.Dec.{ltb}
 use lib.ListN.{getD, length}
 use lib.Pow.{pow-pos}
 use borrow.Author.Tests.{leb-true, ltb-true, lt-ltb}
@@ -26,29 +26,15 @@ use Rattle.sail.specs.Sound.{cellsRead}
 use Rattle.sail.specs.declared.geometry.Geometry.{Geometry}
 use Rattle.sail_theory.specs.Alters.{Alters}
 use Rattle.sail_theory.specs.Calls.{Owners, Out, cutRoute}
-use Rattle.sail_theory.specs.CallRuns.{Call, announce, withdraw, load, routesAfter}
+use Rattle.sail_theory.specs.CallRuns.{Call, announce, withdraw, load}
 use Rattle.sail_theory.specs.Facts.{Withdrawable}
 use Rattle.sail_theory.specs.Render.{find, rendered}
 use Rattle.sail_theory.proofs.calls.Outcomes.{taking-is}
 use Rattle.sail_theory.proofs.frames.TableFrame.{at-alters, taking-alters}
 use Rattle.pair.specs.Party.{Party, one, two, other, ownerOf, seen, foreign, view}
-use Rattle.pair.specs.PairLent.{PairLent, side, mine, part, pairOwners, roomFor, sees}
+use Rattle.pair.specs.PairLent.{PairLent, mine, part, pairOwners, roomFor, sees}
 use Rattle.pair.specs.PairSound.{shareOf, tableFor, standingFor, Nobodys, PairSound}
-use Rattle.pair.specs.PairCalls.{
-  openedFor,
-  ownersKeptFor,
-  PairOut,
-  withCount,
-  pairLentOf,
-  pairAnnounceSaid,
-  pairWithdrawSaid,
-  pairAdding,
-  pairTaking,
-  pairAnnounced,
-  pairWithdrawn,
-  pairReported,
-  pairLookupSaid,
-}
+use Rattle.pair.specs.PairCalls.{openedFor, ownersKeptFor, PairOut, pairAnnounced, pairWithdrawn, pairReported, pairLookupSaid}
 use Rattle.pair.specs.PairCases.{PairAnnounce, PairWithdraw, PairLoad}
 use Rattle.pair.specs.PairFrame.{OwnersKept, CellsKept, TheirsStay}
 use Rattle.pair.specs.PairRuns.{pairDone}
@@ -57,22 +43,10 @@ use Rattle.pair.specs.declared.Pair.{Pair}
 use Rattle.pair.proofs.Views.{seen-back, length-view, getD-view, length-part, part-mine}
 use Rattle.pair.proofs.Sees.{PairHolds, mine-seen}
 use Rattle.pair.proofs.PairOwners.{keep-view}
-use Rattle.pair.proofs.Offers.{announce-offer}
-use Rattle.pair.proofs.PairFresh.{ends-accepted}
-use Rattle.pair.proofs.Shifts.{announce-at, announce-views, announce-shift, withdraw-shift, routes-good}
+use Rattle.pair.proofs.Shifts.{announce-at, announce-views, announce-shift}
 use Rattle.pair.proofs.Finds.{pair-serves, pair-tells}
 use Rattle.pair.proofs.PairJudged.{pair-announce-judged, pair-withdraw-judged, pair-load-judged}
-use Rattle.pair.proofs.PairSteps.{
-  announce-accepts,
-  withdraw-accepts,
-  load-said,
-  refused-left,
-  announce-offered,
-  announce-lent,
-  withdraw-lent,
-  prefix-shift,
-  accepted-holds,
-}
+use Rattle.pair.proofs.PairSteps.{announce-accepts, withdraw-accepts, load-said, refused-left, announce-offered, announce-lent, withdraw-lent, prefix-shift, accepted-holds}
 use Rattle.pair.proofs.Isolation.{their-routes}
 
 -- in a sound box a chunk that is the other's by its owner is one that the other sees
@@ -210,9 +184,12 @@ module _ (w : Party) (t : Pair) (b : PairLent) where
         ⊎-elim (λ (e : accepts (next .said) ≡ true).
         let h = accepted-holds w t b (accepted-sound w t b c e) c e in (h .share, h .geometry, h .limits2 w, h .limits3 w))
         (λ (e : accepts (next .said) ≡ false).
-        let q = refused-left w t b c e .0 in
-        (ap (shareOf (other w)) q, ap {B = Geometry} (λ (x : Pair). x .geometry) q, ap {B = ℕ} (λ (x : Pair). shareOf w x .most2) q,
-        ap {B = ℕ} (λ (x : Pair). shareOf w x .most3) q))
+        let q = refused-left w t b c e .0 in (
+          ap (shareOf (other w)) q,
+          ap {B = Geometry} (λ (x : Pair). x .geometry) q,
+          ap {B = ℕ} (λ (x : Pair). shareOf w x .most2) q,
+          ap {B = ℕ} (λ (x : Pair). shareOf w x .most3) q,
+        ))
         (decided (accepts (next .said)))
 
     -- so the other's lookups and its report stay

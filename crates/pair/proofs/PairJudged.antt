@@ -1,8 +1,8 @@
 -- What each call on a box returns is decided by the first condition, in the documents' order, that holds: it is one of the cases of
 -- specs/PairCases.antt (`-judged`), and the cases exclude each other (`-only`). Each proof goes through the tests of the call's definition in their order.
-use mathlib.Core.Path.{_≡_, refl, sym, _∙_, ap}
+use mathlib.Core.Path.{_≡_, refl, sym, _∙_}
 use mathlib.Core.Logic.{_⊎_, inl, inr}
-use mathlib.Core.Bool.{Bool, true, false, not, _&&_, cond, true≢false}
+use mathlib.Core.Bool.{Bool, true, false, not, cond, true≢false}
 use mathlib.Core.List.{List, [], _∷_}
 use Prim.Native.Nat.{ℕ, zero, suc, _+_, _-_, _/_, _≤_, _<_}
 use native.Mathlib.Omega.{arith}
@@ -11,7 +11,7 @@ use lib.ListN.{length, getD}
 use borrow.Author.Tests.{lt-leb, le-leb, lt-ltb, le-ltb}
 use Rattle.bits.specs.Count.{bit}
 use Rattle.bits.proofs.Bools.{decided, below?, untrue}
-use Rattle.routes.specs.Route.{keyOf, key, Prefix, Fine}
+use Rattle.routes.specs.Route.{keyOf, key, Fine}
 use Rattle.routes.specs.Input.{properPrefix, routeFault}
 use Rattle.routes.specs.Said.{Said, accepted, refused, andThen}
 use Rattle.routes.specs.Cases.{Passes, WrongRoute, BadInput}
@@ -22,44 +22,16 @@ use Rattle.routes.proofs.Judged.{good-whole, bad-stops, by-input, check-only}
 use Rattle.standing.specs.Cells.{need}
 use Rattle.standing.specs.Standing.{stands, insert}
 use Rattle.sail.specs.Cases.{Stray}
-use Rattle.sail.specs.Geometry.{Valid}
-use Rattle.sail.specs.Reads.{Leads}
-use Rattle.sail.specs.Sizes.{sizesFault, Sized}
+use Rattle.sail.specs.Sizes.{Sized}
 use Rattle.sail.specs.Walk.{leafSaid, stepSaid, shut, walkSaid}
 use Rattle.sail.specs.declared.geometry.Geometry.{Geometry}
 use Rattle.sail.proofs.Fitting.{Fault, fault-is}
 use Rattle.sail_theory.specs.Calls.{chunksFault, announceFault, withdrawFault, loadFault, orSay, inputRoutes}
 use Rattle.pair.specs.Party.{Party, one, two, foreign}
-use Rattle.pair.specs.PairLent.{PairLent, side, roomFor, seenBy}
+use Rattle.pair.specs.PairLent.{PairLent, side, roomFor}
 use Rattle.pair.specs.PairSound.{shareOf, standingFor, pairSizesFault, limitsFit, PairSound, pairSound?}
-use Rattle.pair.specs.PairCalls.{
-  pairTerms,
-  pairMakeSaid,
-  pairAnnounceSaid,
-  pairWithdrawSaid,
-  pairLoadSaid,
-  pairReported,
-  opensFor,
-  pairLookupSaid,
-}
-use Rattle.pair.specs.PairCases.{
-  AllSized,
-  PairSizing,
-  PairMake,
-  PairProper,
-  PairRoomy,
-  PairAnnounce,
-  PairWithdraw,
-  PairReadable,
-  PairLoad,
-  PairReport,
-  Enters,
-  Theirs,
-  v1,
-  v2,
-  v3,
-  PairLookup,
-}
+use Rattle.pair.specs.PairCalls.{pairTerms, pairMakeSaid, pairAnnounceSaid, pairWithdrawSaid, pairLoadSaid, pairReported, opensFor, pairLookupSaid}
+use Rattle.pair.specs.PairCases.{AllSized, PairSizing, PairMake, PairProper, PairRoomy, PairAnnounce, PairWithdraw, PairReadable, PairLoad, PairReport, Enters, Theirs, v1, v2, v3, PairLookup}
 use Rattle.pair.specs.declared.Pair.{Pair}
 use Rattle.pair.proofs.Sees.{for-both, side-sized}
 use Rattle.pair.proofs.PairTest.{limits-tells, pair-sound-tells}
@@ -330,8 +302,12 @@ module _ (w : Party) (t : Pair) (b : PairLent) (input : List ℕ) where
       → pairLoadSaid w t b input ≡ orSay (cond (ltb (roomFor w b) many) 6 (chunksFault (pairTerms w t b) (inputRoutes input))) (accepted [])
   unfolding pairLoadSaid loadFault
   read-said k =
-      rw (sizes-none (t .geometry) b (all-sized t b (k .sound)), pair-sound-tells t b .1 (k .sound), good-input input many (k .whole) (k .records),
-      length-routes input many)
+      rw (
+        sizes-none (t .geometry) b (all-sized t b (k .sound)),
+        pair-sound-tells t b .1 (k .sound),
+        good-input input many (k .whole) (k .records),
+        length-routes input many,
+      )
 
   pub pair-load-only : (s : Said) → PairLoad w t b input s → pairLoadSaid w t b input ≡ s
   unfolding pairLoadSaid chunksFault

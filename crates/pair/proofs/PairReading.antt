@@ -1,10 +1,10 @@
 -- A box is sound exactly if `BoxReads` says so of its cells, owners and counts as they are: at the places of a party's own chunks it sees them as they are,
 -- and at every other place the pools' arrays are 0 for it.
-use mathlib.Core.Path.{_≡_, refl, sym, _∙_, ap}
+use mathlib.Core.Path.{_≡_, sym, _∙_, ap}
 use mathlib.Core.Logic.{_⊎_, inl, inr, _≢_}
 use mathlib.Core.Bool.{true, false}
 use mathlib.Core.List.{List}
-use Prim.Native.Nat.{ℕ, suc, _+_, _-_, _*_, _/_, _^_, _≤_, _<_}
+use Prim.Native.Nat.{ℕ, suc, _-_, _*_, _/_, _^_, _≤_, _<_}
 use native.Mathlib.Nat.{div-lt-iff-lt-mul, mul-le-mul}
 use native.Mathlib.Omega.{arith}
 use lib.Dec.{ltb}
@@ -12,11 +12,10 @@ use lib.ListN.{getD, length}
 use lib.Pow.{pow-pos, pow-mono}
 use borrow.Author.Tests.{ltb-false, le-ltb}
 use Rattle.bits.proofs.Bools.{equal?}
-use Rattle.routes.specs.declared.Route.{Route}
 use Rattle.sail.specs.Geometry.{bits2, bits3}
-use Rattle.sail.specs.Level.{Level, Chunks, entry, chunksOf, level1, level2, level3}
+use Rattle.sail.specs.Level.{Level, entry, chunksOf, level2, level3}
 use Rattle.sail.specs.Sizes.{Sized}
-use Rattle.sail.specs.Sound.{Sound, Shows}
+use Rattle.sail.specs.Sound.{Sound}
 use Rattle.sail.specs.declared.geometry.Geometry.{Geometry}
 use Rattle.sail_theory.proofs.calls.SameSizes.{size-sym, sized-same}
 use Rattle.pair.specs.Party.{Party, one, two, ownerOf, seen, view}

@@ -177,12 +177,18 @@ module _ (w : Party) (t : Pair) (b : PairLent) where
         (sym (ends-accepted (pairWithdrawSaid w t b (cut len a) len) t b _ (pairLentOf w t b _ (ownersKeptFor w g left (pairOwners b))) said))
         (shift-holds w t b left (ownersKeptFor w g left (pairOwners b)) (prefix-shift k))
 
+    pub load-offered : (input : List ℕ) → accepts (pairLoaded w t b input .said) ≡ true → OnTerms (pairTerms w t b) (inputRoutes input)
+    unfolding pairLoadSaid
+    load-offered input e =
+        let said : accepts (pairLoadSaid w t b input) ≡ true = sym (ap accepts (load-said input)) ∙ e in
+        load-offer (pairTerms w t b) input (rw (sizes, passes) at said)
+
     load-holds : (input : List ℕ) → accepts (pairLoaded w t b input .said) ≡ true
         → PairHolds w t b (inputRoutes input) (pairLoaded w t b input .state) (pairLoaded w t b input .lent)
-    unfolding pairLoaded pairLoadSaid
+    unfolding pairLoaded
     load-holds input e =
         let said : accepts (pairLoadSaid w t b input) ≡ true = sym (ap accepts (load-said input)) ∙ e in
-        let f = load-offer (pairTerms w t b) input (rw (sizes, passes) at said) in
+        let f = load-offered input e in
         let o : Owners = ownersAfterFor w g (ownersKeptFor w g [] (pairOwners b)) (inputRoutes input) in
         subst (λ (x : PairOut). PairHolds w t b (inputRoutes input) (x .state) (x .lent))
         (sym (ends-accepted (pairLoadSaid w t b input) t b _ (pairLentOf w t b _ o) said))

@@ -1,7 +1,7 @@
 -- What a party sees: of an owner, of the owners of a pool, and of an array over it. No chunk is seen as their own by both.
 use mathlib.Core.Path.{_≡_, refl, sym, _∙_, ap}
 use mathlib.Core.Logic.{_⊎_, inl, inr, _≢_}
-use mathlib.Core.Bool.{true, false, cond, true≢false}
+use mathlib.Core.Bool.{true, false, cond}
 use mathlib.Core.List.{List, [], _∷_, map}
 use Prim.Native.Nat.{ℕ, zero, suc, _+_, _-_, _/_, _^_, _≤_, _<_}
 use native.Mathlib.Omega.{arith}
@@ -11,10 +11,8 @@ use lib.Seq.{map-set-same, ext-getD}
 use borrow.Author.Tests.{ltb-true, lt-ltb, le-ltb}
 use Rattle.bits.proofs.Bools.{decided, below?}
 use Rattle.bits.specs.Count.{bit, count}
-use Rattle.bits.proofs.Tabs.{length-tabulate, getD-tabulate}
 use Rattle.sail.specs.Level.{inUse, entry}
 use Rattle.sail.specs.Sound.{used}
-use Rattle.sail_theory.specs.Render.{block}
 use Rattle.sail_theory.proofs.places.Pools.{length-laid, laid-at}
 use Rattle.sail_theory.proofs.places.Alone as alone
 use Rattle.sail_theory.proofs.places.Alone.{length-own, own-at, own-blank}

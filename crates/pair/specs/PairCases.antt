@@ -18,7 +18,6 @@ use Rattle.sail.specs.Geometry.{Valid}
 use Rattle.sail.specs.Reads.{Leads}
 use Rattle.sail.specs.Sizes.{Sized}
 use Rattle.sail.specs.Walk.{cell1, cell2, cell3, leafSaid}
-use Rattle.sail.specs.declared.geometry.Geometry.{Geometry}
 use Rattle.sail_theory.specs.Calls.{inputRoutes}
 use Rattle.pair.specs.Party.{Party, foreign}
 use Rattle.pair.specs.PairLent.{PairLent, side, roomFor, seenBy}

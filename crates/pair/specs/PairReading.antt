@@ -6,14 +6,12 @@ use mathlib.Core.Path.{_≡_}
 use Prim.Native.Nat.{ℕ, suc, _+_, _/_, _^_, _≤_, _<_}
 use lib.ListN.{getD, length}
 use Rattle.routes.specs.Record.{Listed}
-use Rattle.routes.specs.declared.Route.{Route}
 use Rattle.standing.specs.Cells.{need}
 use Rattle.counts.specs.Counts.{howMany}
 use Rattle.sail.specs.Geometry.{bits2, bits3}
 use Rattle.sail.specs.Level.{chunksOf, level1, level2}
 use Rattle.sail.specs.Sizes.{Sized}
 use Rattle.sail.specs.Sound.{Serves, Counted}
-use Rattle.sail.specs.declared.geometry.Geometry.{Geometry}
 use Rattle.pair.specs.Party.{Party, ownerOf, view}
 use Rattle.pair.specs.PairLent.{PairLent, side, mine, seenBy}
 use Rattle.pair.specs.PairSound.{shareOf, standingFor}
