@@ -7,4 +7,5 @@ pub mod Basic
 pub mod Broadcasts
 pub mod Repairs
 pub mod Images
+pub mod Pairs
 pub mod OneImage

@@ -25,3 +25,4 @@ pub mod NotByNeed
 pub mod NotHeld
 pub mod Broadcasts
 pub mod Repairs
+pub mod Pairs

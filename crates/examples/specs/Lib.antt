@@ -10,3 +10,4 @@ pub mod EdgesImages
 pub mod EdgesRepairs
 pub mod Edges
 pub mod EdgesTreeChanges
+pub mod Pairs

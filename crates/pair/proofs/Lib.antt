@@ -16,3 +16,5 @@ pub mod PairReading
 pub mod PairJudged
 pub mod PairFrame
 pub mod PairLoadAs
+pub mod PairOneEnd
+pub mod PairWants

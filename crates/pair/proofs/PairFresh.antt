@@ -4,7 +4,7 @@ use mathlib.Core.Path.{_≡_, refl, sym, _∙_, ap, subst}
 use mathlib.Core.Logic.{_⊎_, inl, inr}
 use mathlib.Core.Bool.{Bool, true, false, cond, true≢false, false≢true}
 use mathlib.Core.List.{List, [], _∷_, map}
-use Prim.Native.Nat.{ℕ, zero, suc, _+_, _≤_, _<_}
+use Prim.Native.Nat.{ℕ, zero, suc, _+_, _≤_}
 use native.Mathlib.Omega.{arith}
 use lib.Dec.{eqb}
 use lib.ListN.{getD, length, replicate, length-replicate}
@@ -22,14 +22,14 @@ use Rattle.sail.specs.Sound.{Sound, standing, freshTable, freshLent}
 use Rattle.sail.specs.declared.geometry.Geometry.{Geometry}
 use Rattle.sail.specs.declared.table.Table.{Table}
 use Rattle.sail.proofs.Fitting.{none-is}
-use Rattle.sail_theory.specs.Calls.{Out, orSay, made}
+use Rattle.sail_theory.specs.Calls.{Out, orSay}
 use Rattle.sail_theory.specs.Facts.{TableHolds}
 use Rattle.sail_theory.proofs.places.SoundTest.{sized-of}
 use Rattle.sail_theory.proofs.calls.Make.{make-is, make-holds}
 use Rattle.pair.specs.Party.{Party, one, two, seen, view}
 use Rattle.pair.specs.PairLent.{PairLent, side, roomFor, mine, part, sees}
 use Rattle.pair.specs.PairSound.{tableFor, standingFor, pairSizesFault, PairSound, limitsFit}
-use Rattle.pair.specs.PairCalls.{pairOut, pairOutcome, freshPair, freshPairLent, pairMakeSaid, pairMade}
+use Rattle.pair.specs.PairCalls.{PairOut, pairOut, pairOutcome, freshPair, freshPairLent, pairMakeSaid, pairMade}
 use Rattle.pair.specs.declared.Pair.{Pair}
 use Rattle.pair.proofs.Views.{seen-none, length-part, part-at}
 use Rattle.pair.proofs.Sees.{for-both}
@@ -196,6 +196,13 @@ module _ (t : Pair) (b : PairLent) where
       fits : (x : Bool) → accepts (orSay (cond x 0 24) (accepted [])) ≡ true → x ≡ true
       fits true e = refl
       fits false e = absurd (false≢true e)
+
+  pub make-left : accepts (pairMade t b .said) ≡ false → (pairMade t b .state ≡ t) × (pairMade t b .lent ≡ b)
+  unfolding pairMade
+  make-left e =
+      let said = ends-said (pairMakeSaid t b) t b (freshPair t) (freshPairLent b) in
+      let q = ends-refused (pairMakeSaid t b) t b (freshPair t) (freshPairLent b) (sym (ap accepts said) ∙ e) in
+      (ap (λ (o : PairOut). o .state) q, ap (λ (o : PairOut). o .lent) q)
 
   pub made-is : Makeable t b → pairMade t b ≡ pairOut (accepted []) (freshPair t) (freshPairLent b)
   unfolding pairMade pairMakeSaid

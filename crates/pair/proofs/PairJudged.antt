@@ -30,12 +30,12 @@ use Rattle.sail_theory.specs.Calls.{chunksFault, announceFault, withdrawFault, 
 use Rattle.pair.specs.Party.{Party, one, two, foreign}
 use Rattle.pair.specs.PairLent.{PairLent, side, roomFor}
 use Rattle.pair.specs.PairSound.{shareOf, standingFor, pairSizesFault, limitsFit, PairSound, pairSound?}
-use Rattle.pair.specs.PairCalls.{pairTerms, pairMakeSaid, pairAnnounceSaid, pairWithdrawSaid, pairLoadSaid, pairReported, opensFor, pairLookupSaid}
+use Rattle.pair.specs.PairCalls.{pairTerms, freshPair, freshPairLent, pairMakeSaid, pairMade, pairAnnounceSaid, pairWithdrawSaid, pairLoadSaid, pairReported, opensFor, pairLookupSaid}
 use Rattle.pair.specs.PairCases.{AllSized, PairSizing, PairMake, PairProper, PairRoomy, PairAnnounce, PairWithdraw, PairReadable, PairLoad, PairReport, Enters, Theirs, v1, v2, v3, PairLookup}
 use Rattle.pair.specs.declared.Pair.{Pair}
 use Rattle.pair.proofs.Sees.{for-both, side-sized}
 use Rattle.pair.proofs.PairTest.{limits-tells, pair-sound-tells}
-use Rattle.pair.proofs.PairFresh.{sizes-none}
+use Rattle.pair.proofs.PairFresh.{ends-said, sizes-none}
 
 -- the two answers of a test, and the two orders of two numbers
 abbrev Answer : Bool → Type 0
@@ -108,6 +108,10 @@ module _ (t : Pair) (b : PairLent) where
       go (inl x) y = inl x
       go (inr x) (inl y) = inr y
       go (inr x) (inr y) = absurd (true≢false (sym (limits-tells t b .1 (x, y)) ∙ e))
+
+  pub pair-make-said : pairMade t b .said ≡ pairMakeSaid t b
+  unfolding pairMade
+  pair-make-said = ends-said (pairMakeSaid t b) t b (freshPair t) (freshPairLent b)
 
   pub pair-make-judged : PairMake t b (pairMakeSaid t b)
   unfolding pairMakeSaid

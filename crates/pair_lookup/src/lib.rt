@@ -5,11 +5,12 @@ ghost use Prim.Native.Nat.{_≤_};
 ghost use lib.ListN.{length};
 ghost use Rattle.sail.specs.Lent.{cells};
 ghost use Rattle.sail.specs.Sizes.{Celled};
-ghost use Rattle.sail.specs.Walk.{walkSaid, meansFound};
+ghost use Rattle.sail.specs.Walk.{walkSaid};
 ghost use Rattle.sail.specs.Word.{Word};
 ghost use Rattle.pair.specs.Party.{partyOf, foreign};
 ghost use Rattle.pair.specs.PairLent.{pairLent, viewOf};
 ghost use Rattle.pair.specs.PairCalls.{opensFor, pairLookupSaid};
+ghost use Rattle.pair_lookup.specs.Contract.{MeetsPairLookup};
 use pair::Pair;
 use sail::found::Found;
 use sail::geometry::Geometry;
@@ -18,7 +19,7 @@ use sail_lookup::leaf;
 use sail_lookup::opens;
 use sail_lookup::said;
 
-// Whether a chunk with this owner is the other's; `guest` tells whether the party is the second.
+// Whether a chunk with this owner is the other's. `guest` is true for the second party.
 pub fn foreign(o: u32, guest: bool) -> bool
     ensures { λ r. ⌜ r ≡ foreign (partyOf guest) o ⌝ }
 {
@@ -42,7 +43,7 @@ fn opens_to(v: u16, own: &[u32], guest: bool) -> bool
     !foreign(own[c], guest)
 }
 
-// The walk, where the sizes are right. It answers with a word.
+// The walk, if the sizes are right. It answers with a word.
 fn walk(
     g: Geometry,
     first: &[u16],
@@ -80,7 +81,7 @@ fn walk(
     5
 }
 
-// The party's lookup as a word.
+// The party's lookup as a word: what other calls build on.
 pub fn look(
     t: Pair,
     list1: &[u8],
@@ -142,9 +143,9 @@ pub fn lookup(
     guest: bool,
     addr: u32,
 ) -> Found
-    ensures { λ r. ⌜ meansFound r ≡ pairLookupSaid (partyOf guest) t
+    ensures { λ r. ⌜ MeetsPairLookup (partyOf guest) t
         (pairLent (now (list1 .entry)) (now (first1 .entry)) (now (long11 .entry)) (now (list2 .entry)) (now (first2 .entry)) (now (long12 .entry))
-        (now (second .entry)) (now (third .entry)) (now (own2 .entry)) (now (own3 .entry)) (now (long2 .entry))) addr ⌝ }
+        (now (second .entry)) (now (third .entry)) (now (own2 .entry)) (now (own3 .entry)) (now (long2 .entry))) addr r ⌝ }
 {
     said(look(
         t,

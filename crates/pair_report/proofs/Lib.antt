@@ -1,2 +1,3 @@
 -- The laws of a party's report.
 pub mod Reports
+pub mod OneAnswer

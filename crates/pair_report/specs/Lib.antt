@@ -1,2 +1,3 @@
--- What a report says after the sizes.
+-- The statement of a party's report, and what it answers after the sizes.
 pub mod Told
+pub mod Contract

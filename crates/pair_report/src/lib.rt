@@ -5,9 +5,9 @@ ghost use Rattle.chain.specs.List.{Scratch};
 ghost use Rattle.sail_sound.specs.Report.{meansReported};
 ghost use Rattle.pair.specs.Party.{partyOf};
 ghost use Rattle.pair.specs.PairLent.{pairLent};
-ghost use Rattle.pair.specs.PairCalls.{pairReported};
 ghost use Rattle.pair.specs.PairSound.{shareOf};
 ghost use Rattle.pair_sound.specs.BoxTest.{Sight, BothSized};
+ghost use Rattle.pair_report.specs.Contract.{MeetsPairReport};
 ghost use Rattle.pair_report.specs.Told.{soundTold};
 use pair::Pair;
 use pair_sizes::sizes;
@@ -16,7 +16,7 @@ use sail_sound::report::Reported;
 use sail_sound::report::in_use;
 
 // How many routes the party has.
-fn count(t: Pair, guest: bool) -> u32
+pub fn count(t: Pair, guest: bool) -> u32
     ensures { λ r. ⌜ r ≡ shareOf (partyOf guest) t .count ⌝ }
 {
     let one = t.one;
@@ -27,7 +27,7 @@ fn count(t: Pair, guest: bool) -> u32
     one.count
 }
 
-// Where the sizes are right; the rest is room for the test.
+// If the sizes are right; the rest is room for the test.
 fn report_sized(
     t: Pair,
     guest: bool,
@@ -51,7 +51,8 @@ fn report_sized(
         (now second) (now third) (now own2) (now own3) (now long2)) ⌝ }
     requires { ⌜ Sight (now own2) (now own3) (now see2) (now see3) ⌝ }
     requires { ⌜ Scratch (now ws) (now par) ⌝ }
-    ensures { λ r. ⌜ meansReported r ≡ soundTold (partyOf guest) t (pairLent (now (list1 .entry)) (now (first1 .entry)) (now (long11 .entry)) (now (list2 .entry)) (now (first2 .entry)) (now (long12 .entry))
+    ensures { λ r. ⌜ meansReported r ≡ soundTold (partyOf guest) t
+        (pairLent (now (list1 .entry)) (now (first1 .entry)) (now (long11 .entry)) (now (list2 .entry)) (now (first2 .entry)) (now (long12 .entry))
         (now (second .entry)) (now (third .entry)) (now (own2 .entry)) (now (own3 .entry)) (now (long2 .entry))) ⌝ }
 {
     if !sound(
@@ -82,7 +83,7 @@ fn report_sized(
     }
 }
 
-// The report of the party; `guest` tells whether it is the second.
+// The report of the party. `guest` is true for the second.
 pub fn report(
     t: Pair,
     list1: &[u8],
@@ -98,8 +99,9 @@ pub fn report(
     long2: &[u16],
     guest: bool,
 ) -> Reported
-    ensures { λ r. ⌜ meansReported r ≡ pairReported (partyOf guest) t (pairLent (now (list1 .entry)) (now (first1 .entry)) (now (long11 .entry)) (now (list2 .entry)) (now (first2 .entry)) (now (long12 .entry))
-        (now (second .entry)) (now (third .entry)) (now (own2 .entry)) (now (own3 .entry)) (now (long2 .entry))) ⌝ }
+    ensures { λ r. ⌜ MeetsPairReport (partyOf guest) t
+        (pairLent (now (list1 .entry)) (now (first1 .entry)) (now (long11 .entry)) (now (list2 .entry)) (now (first2 .entry)) (now (long12 .entry))
+        (now (second .entry)) (now (third .entry)) (now (own2 .entry)) (now (own3 .entry)) (now (long2 .entry))) r ⌝ }
 {
     let z = sizes(
         t,
