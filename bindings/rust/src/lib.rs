@@ -10,7 +10,9 @@
 //! refused changes nothing.
 //!
 //! - [`TableMut`] and [`ImageMut`] are over buffers that you lend, and [`TableRef`] and [`ImageRef`] only read them.
-//! - [`Table`] and [`Image`] own their buffers. They need the feature `alloc`, which is on by default. Without it the
+//! - [`PairMut`] and [`PairRef`] are two parties' tables over pools that they share. What one party is answered depends on
+//!   nothing that the other does.
+//! - [`Table`], [`Pair`] and [`Image`] own their buffers. They need the feature `alloc`, which is on by default. Without it the
 //!   crate needs no allocator; in no case does it need `std`.
 //! - [`raw`] has every call as it crosses the boundary, with its packed answer.
 //!
@@ -50,6 +52,7 @@ mod input;
 mod maps;
 #[cfg(feature = "alloc")]
 mod owned;
+mod pair;
 pub mod raw;
 mod refusal;
 mod route;
@@ -63,7 +66,8 @@ pub use image::{words_for, Built, ImageAnnounced, ImageMut, ImageRef};
 pub use input::{route, routes, run, tally, Routes};
 pub use maps::{hop, MapsMut, MapsRef, MAP_BYTES, MAP_CELLS};
 #[cfg(feature = "alloc")]
-pub use owned::{Image, Maps, Table};
+pub use owned::{Image, Maps, Own, Pair, Table};
+pub use pair::{Limits, OwnMut, OwnRef, PairMut, PairRef, Party};
 pub use refusal::{Reason, Refusal};
 pub use route::{Mark, ParseRouteError, Route};
 pub use table::{Announced, Repaired, Report, TableMut, TableRef, Withdrawn};
