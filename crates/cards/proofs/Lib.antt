@@ -9,3 +9,7 @@ pub mod Named
 pub mod Casts
 pub mod ImageCalls
 pub mod Putting
+pub mod PairNarrow
+pub mod PairLaws
+pub mod PairFits
+pub mod PairBoundary

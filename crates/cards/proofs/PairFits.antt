@@ -1,8 +1,8 @@
 -- What the calls on a box return has room in their answers. Nothing is supposed but what the boundary's types give: cells of 16 bits (`PairCells16`), and
 -- for the index of a record an input shorter than 2^35 bytes.
-use mathlib.Core.Path.{_≡_, refl, sym, _∙_, ap}
+use mathlib.Core.Path.{_≡_, refl, _∙_, ap}
 use mathlib.Core.Bool.{Bool, true}
-use mathlib.Core.List.{List, [], _∷_}
+use mathlib.Core.List.{List, []}
 use Prim.Native.Nat.{ℕ, _^_, _≤_, _<_}
 use native.Mathlib.Omega.{arith}
 use lib.ListN.{length, getD}
@@ -20,7 +20,7 @@ use Rattle.packing.specs.Unpack.{FitsWord, FoundFits, ReportFits, AnnounceFits,
 use Rattle.pair.specs.Party.{Party, one, two, view}
 use Rattle.pair.specs.PairLent.{PairLent, side, sees}
 use Rattle.pair.specs.PairSound.{shareOf, tableFor, standingFor}
-use Rattle.pair.specs.PairCalls.{PairOut, pairMade, pairAnnounced, pairWithdrawn, pairLoaded, pairReported, pairLookupSaid}
+use Rattle.pair.specs.PairCalls.{pairMade, pairAnnounced, pairWithdrawn, pairLoaded, pairReported, pairLookupSaid}
 use Rattle.pair.specs.PairCases.{PairSizing, PairMake, PairAnnounce, PairWithdraw, PairLoad, PairReport, v1, v2, v3, PairLookup}
 use Rattle.pair.specs.PairRuns.{pairDone}
 use Rattle.pair.specs.declared.Pair.{Pair}

@@ -1,8 +1,10 @@
 -- Packed answers with what is lent for two parties. The state and the party come from their numbers: t0 and w0 are what the call inside is given.
 use mathlib.Core.Path.{_≡_, refl, _∙_, ap, ap₂}
-use mathlib.Core.Bool.{Bool, true, false, not}
+use mathlib.Core.Bool.{not}
 use Prim.Native.Nat.{ℕ, zero, suc, min}
+use native.Mathlib.Omega.{arith}
 use lib.Dec.{eqb}
+use borrow.Author.Tests.{ne-eqb}
 use Rattle.routes.specs.Said.{Said}
 use Rattle.sail.specs.Word.{packFound, Word}
 use Rattle.sail_theory.specs.Calls.{route}
@@ -17,8 +19,9 @@ use Rattle.cards.proofs.PairNarrow.{pair-announced-narrow, pair-withdra
 
 -- the party by its number
 pub party-is : (n : ℕ) → partyOf (not (eqb n 0)) ≡ partyAt n
+unfolding partyAt
 party-is zero = refl
-party-is (suc n) = refl
+party-is (suc n) = rw (ne-eqb (suc n) 0 (λ e. omega (arith, e)))
 
 pub pair-card-is : (w : Party) (s : Said) (u : Pair) (v : PairLent) (o : PairOut) (n r : ℕ) → pairOut s u v ≡ o → n ≡ shareOf w u .count
     → r ≡ packChange n s → pairCard r v ≡ pairCardOf w o

@@ -3,3 +3,4 @@ pub mod Cards
 pub mod Maps
 pub mod Narrow
 pub mod Images
+pub mod Pairs

@@ -29,7 +29,7 @@ pairStateOf p1 p2 count1 count2 most21 most31 most22 most32 = record {
 }
 
 -- 0 is the first party, any other number the second
-abbrev pub partyAt : ℕ → Party
+unfoldable pub partyAt : ℕ → Party
 partyAt zero = one
 partyAt (suc n) = two
 

@@ -4,5 +4,6 @@ pub mod images;
 pub mod inputs;
 pub mod lookups;
 pub mod maps;
+pub mod pairs;
 pub mod repairs;
 pub mod tables;

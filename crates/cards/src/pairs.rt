@@ -23,7 +23,7 @@ fn state(
     most2_two: u32,
     most3_two: u32,
 ) -> Pair
-    ensures { λ r. ⌜ r ≡ pairStateOf p1 p2 count_one count_two most2_one most3_one most2_two most3_two ⌝ }
+    ensures { λ r. ⌜ r ≡ pairStateOf p1 p2 «count_one» «count_two» «most2_one» «most3_one» «most2_two» «most3_two» ⌝ }
 {
     Pair {
         geometry: Geometry { p1, p2 },
@@ -71,7 +71,7 @@ pub extern "C" fn gh_pair_make(
     ensures { λ r. ⌜ pairCard r
         (pairLent (now (list1 .exit)) (now (first1 .exit)) (now (long11 .exit)) (now (list2 .exit)) (now (first2 .exit)) (now (long12 .exit))
         (now (second .exit)) (now (third .exit)) (now (own2 .exit)) (now (own3 .exit)) (now (long2 .exit)))
-        ≡ pairCardOf one (pairMade (pairStateOf p1 p2 0 0 most2_one most3_one most2_two most3_two)
+        ≡ pairCardOf one (pairMade (pairStateOf p1 p2 0 0 «most2_one» «most3_one» «most2_two» «most3_two»)
         (pairLent (now (list1 .entry)) (now (first1 .entry)) (now (long11 .entry)) (now (list2 .entry)) (now (first2 .entry)) (now (long12 .entry))
         (now (second .entry)) (now (third .entry)) (now (own2 .entry)) (now (own3 .entry)) (now (long2 .entry)))) ⌝ }
 {
@@ -119,12 +119,21 @@ pub extern "C" fn gh_pair_report(
     long2: &[u16],
     party: u32,
 ) -> u64
-    ensures { λ r. ⌜ r ≡ packReport (pairReported (partyAt party) (pairStateOf p1 p2 count_one count_two most2_one most3_one most2_two most3_two)
+    ensures { λ r. ⌜ r ≡ packReport (pairReported (partyAt party) (pairStateOf p1 p2 «count_one» «count_two» «most2_one» «most3_one» «most2_two» «most3_two»)
         (pairLent (now (list1 .entry)) (now (first1 .entry)) (now (long11 .entry)) (now (list2 .entry)) (now (first2 .entry)) (now (long12 .entry))
         (now (second .entry)) (now (third .entry)) (now (own2 .entry)) (now (own3 .entry)) (now (long2 .entry)))) ⌝ }
 {
     packing_tables::reported(pair_report::report(
-        state(p1, p2, count_one, count_two, most2_one, most3_one, most2_two, most3_two),
+        state(
+            p1,
+            p2,
+            count_one,
+            count_two,
+            most2_one,
+            most3_one,
+            most2_two,
+            most3_two,
+        ),
         list1,
         first1,
         long11,
@@ -165,12 +174,21 @@ pub extern "C" fn gh_pair_lookup(
     party: u32,
     addr: u32,
 ) -> u64
-    ensures { λ r. ⌜ r ≡ packFound (pairLookupSaid (partyAt party) (pairStateOf p1 p2 count_one count_two most2_one most3_one most2_two most3_two)
+    ensures { λ r. ⌜ r ≡ packFound (pairLookupSaid (partyAt party) (pairStateOf p1 p2 «count_one» «count_two» «most2_one» «most3_one» «most2_two» «most3_two»)
         (pairLent (now (list1 .entry)) (now (first1 .entry)) (now (long11 .entry)) (now (list2 .entry)) (now (first2 .entry)) (now (long12 .entry))
         (now (second .entry)) (now (third .entry)) (now (own2 .entry)) (now (own3 .entry)) (now (long2 .entry))) addr) ⌝ }
 {
     pair_lookup::look(
-        state(p1, p2, count_one, count_two, most2_one, most3_one, most2_two, most3_two),
+        state(
+            p1,
+            p2,
+            count_one,
+            count_two,
+            most2_one,
+            most3_one,
+            most2_two,
+            most3_two,
+        ),
         list1,
         first1,
         long11,
