@@ -9,6 +9,7 @@ mod gh;
 mod hand;
 mod images;
 mod maps;
+mod pairs;
 
 use ghatumri::{sys, Answer, Image, Mark, Table};
 use hand::Dir248;
@@ -407,11 +408,13 @@ fn main() {
         rounds
     );
     let maps = Maps::of(&input);
+    let pair = pairs::pair(&input, ROUTES, 4096, 256);
     let rte = dpdk::start(&all);
     for (name, addrs) in [("random", random_traffic(&mut rng)), ("prefix-based", prefix_traffic(&mut rng, &all))] {
         println!("\n{name} traffic, {} addresses, time for one", addrs.len());
         lookups(rounds, &table, &image, &dir, rte, &addrs);
         map_lookups(rounds, &maps, &addrs);
+        pairs::lookups(rounds, &table, &pair, &addrs);
     }
 
     println!("\nchanges, time for one call");
@@ -421,6 +424,9 @@ fn main() {
     println!("\nchanges, the largest table, all chunks in use");
     let apart = scattered(&mut rng);
     change_table(rounds, &apart, 4096, 4096);
+
+    println!("\nchanges of the largest box of two, all chunks in use");
+    pairs::changes(4 * rounds, &apart);
 
     println!("\nchanges of an image, time for one call");
     images::changes(4 * rounds, &all);
