@@ -1,6 +1,7 @@
 -- Packed answers with what is lent for two parties. The state and the party come from their numbers: t0 and w0 are what the call inside is given.
 use mathlib.Core.Path.{_≡_, refl, _∙_, ap, ap₂}
 use mathlib.Core.Bool.{not}
+use mathlib.Core.List.{List}
 use Prim.Native.Nat.{ℕ, zero, suc, min}
 use native.Mathlib.Omega.{arith}
 use lib.Dec.{eqb}
@@ -12,7 +13,7 @@ use Rattle.packing.specs.Pack.{packReport, packChange}
 use Rattle.pair.specs.Party.{Party, one, partyOf}
 use Rattle.pair.specs.PairLent.{PairLent}
 use Rattle.pair.specs.PairSound.{shareOf}
-use Rattle.pair.specs.PairCalls.{PairOut, pairOut, pairMade, pairAnnounced, pairWithdrawn, pairReported, pairLookupSaid}
+use Rattle.pair.specs.PairCalls.{PairOut, pairOut, pairMade, pairAnnounced, pairWithdrawn, pairLoaded, pairReported, pairLookupSaid}
 use Rattle.pair.specs.declared.Pair.{Pair}
 use Rattle.cards.specs.Pairs.{pairCard, pairCardOf, partyAt}
 use Rattle.cards.proofs.PairNarrow.{pair-announced-narrow, pair-withdrawn-narrow}
@@ -42,8 +43,11 @@ module _ (t0 t : Pair) (e : t0 ≡ t) (b : PairLent) where
 
     -- a call of a party that changes the box: what it ends with, and the count of the party that it is given
     module _ (s : Said) (u : Pair) (v : PairLent) (n r : ℕ) (c : n ≡ shareOf w0 u .count) (q : r ≡ packChange n s) where
-      pub pair-change-card : (o : Party → Pair → PairOut) → pairOut s u v ≡ o w0 t0 → pairCard r v ≡ pairCardOf w (o w t)
+      pair-change-card : (o : Party → Pair → PairOut) → pairOut s u v ≡ o w0 t0 → pairCard r v ≡ pairCardOf w (o w t)
       pair-change-card o is = pair-card-is w s u v _ n r (is ∙ ap₂ o f e) (c ∙ ap {B = ℕ} (λ (x : Party). shareOf x u .count) f) q
+
+      pub pair-load-card : (input : List ℕ) → pairOut s u v ≡ pairLoaded w0 t0 b input → pairCard r v ≡ pairCardOf w (pairLoaded w t b input)
+      pair-load-card input = pair-change-card (λ (p : Party) (m : Pair). pairLoaded p m b input)
 
       -- the same of calls whose numbers were narrowed
       pub pair-announce-card : (a len i hop j mark k : ℕ) → i ≡ min len 255 → j ≡ min hop 65535 → k ≡ min mark 255
