@@ -3,6 +3,7 @@ pub mod ChunkOwners
 pub mod Still
 pub mod SharedCells
 pub mod ClosedCells
+pub mod SharedClosing
 pub mod Underway
 pub mod AnnounceUnderway
 pub mod WithdrawUnderway
