@@ -1,0 +1,3 @@
+-- What joins the code to the definitions of the calls.
+pub mod Shuts
+pub mod Takings
