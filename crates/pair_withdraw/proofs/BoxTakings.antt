@@ -117,19 +117,19 @@ module _ (w : Party) (t : Pair) (b : PairLent) (s : PairSound t b) {a len : ℕ}
 -- ---- after the test of the box
 
 module _ {w : Party} {t : Pair} {b : PairLent} {see2 see3 ws par : List ℕ} {ok : Bool} (told : BoxTold ok w t b see2 see3 ws par) {a len : ℕ} (p : Prefix a len)
-    where
-  -- it is not sound
-  pub box-unsound : BothSized (t .geometry) b → not ok ≡ true → pairOut (refused 5) t b ≡ pairTaking w t b a len
-  unfolding pairTaking
-  box-unsound z e = rw (said-unsound w t b z p (sym (told .is) ∙ not-true ok e))
+  where
+    -- it is not sound
+    pub box-unsound : BothSized (t .geometry) b → not ok ≡ true → pairOut (refused 5) t b ≡ pairTaking w t b a len
+    unfolding pairTaking
+    box-unsound z e = rw (said-unsound w t b z p (sym (told .is) ∙ not-true ok e))
 
-  -- it is: what the change of the party's side asks
-  module _ (e : not ok ≡ false) where
-    abbrev passes : ok ≡ true
-    passes = not-false ok e
+    -- it is: what the change of the party's side asks
+    module _ (e : not ok ≡ false) where
+      abbrev passes : ok ≡ true
+      passes = not-false ok e
 
-    ready : SideReady w t (side w b) a len see2 see3 ws par
-    ready = record { prefix = p; sound = side-sound w t b (told .tells .0 passes); sight = box-sight w t b see2 see3 ws par (told .sight passes) }
+      ready : SideReady w t (side w b) a len see2 see3 ws par
+      ready = record { prefix = p; sound = side-sound w t b (told .tells .0 passes); sight = box-sight w t b see2 see3 ws par (told .sight passes) }
 
 -- by the code's flag
 module _ (guest : Bool) {t : Pair} {b : PairLent} {see2 see3 ws par : List ℕ} {ok : Bool} (told : BoxTold ok (partyOf guest) t b see2 see3 ws par)
