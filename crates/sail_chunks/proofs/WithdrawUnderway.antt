@@ -8,13 +8,11 @@ use lib.Dec.{ltb}
 use lib.ListN.{getD, length, set}
 use borrow.Author.Tests.{ltb-true, lt-ltb}
 use Rattle.bits.specs.Slot.{slot}
-use Rattle.bits.proofs.Tabs.{length-tabulate}
 use Rattle.routes.specs.Route.{keyOf}
 use Rattle.standing.specs.Cells.{long}
 use Rattle.standing.specs.Standing.{remove}
 use Rattle.routes.specs.declared.Route.{Route}
 use Rattle.standing.proofs.Changed.{remove-long}
-use Rattle.buffers.specs.Fill.{filled}
 use Rattle.sail.specs.Geometry.{bits2, bits3}
 use Rattle.sail.specs.Lent.{Lent, cells}
 use Rattle.sail.specs.Level.{Level, deep, entry, chunksOf, below, level1, level2}
@@ -27,13 +25,14 @@ use Rattle.sail_theory.specs.Calls.{keep, route}
 use Rattle.sail_theory.specs.Facts.{Withdrawable}
 use Rattle.sail_theory.proofs.frames.LevelFrame.{below-same}
 use Rattle.standing.proofs.NeedAfter.{stands-long}
+use Rattle.sail_theory.proofs.owners.Chunks.{chunk-at}
 use Rattle.sail_theory.proofs.owners.GrantKeep.{length-keep, kept-was, keep-closed, keep-stores, Losing}
 use Rattle.sail_theory.proofs.owners.StillFit.{kept-over}
 use Rattle.sail_theory.proofs.calls.ChangeHolds.{farewell-fits2, farewell-fits3, losing1, losing2, less}
 use Rattle.sail_theory.proofs.frames.TableFrame.{withdraw-frame}
 use Rattle.sail_chunks.specs.Chunks.{withoutOwner, blanked, alone, Closing}
 use Rattle.sail_chunks.proofs.ChunkOwners.{alone-longer}
-use Rattle.sail_chunks.proofs.ClosedCells.{closed-held, closed-blank}
+use Rattle.sail_chunks.proofs.ClosedCells.{length-blanked, closed-held, closed-blank}
 use Rattle.sail_chunks.proofs.Still.{PoolUnderway}
 use Rattle.sail_chunks.proofs.Underway.{Underway}
 
@@ -50,11 +49,6 @@ closes-is true false true c own f h = refl
 closes-is true false false c own f h = absurd (true≢false (sym (h refl)))
 closes-is false y true c own f h = absurd (true≢false (sym (f refl)))
 closes-is false y false c own f h = refl
-
-length-blanked : (b : Bool) (c d : ℕ) (cells : List ℕ) → length (blanked b c d cells) ≡ length cells
-unfolding blanked filled
-length-blanked true c d cells = length-tabulate (length cells) _
-length-blanked false c d cells = refl
 
 module _ (t : Table) (l : Lent) (a len : ℕ) (w : Withdrawable t l a len) where
   abbrev g : Geometry
@@ -93,12 +87,15 @@ module _ (t : Table) (l : Lent) (a len : ℕ) (w : Withdrawable t l a len) where
         ∙ closes-is (long rs (v .bits) (slot (v .bits) a)) (long left (v .bits) (slot (v .bits) a)) (ltb (v .bits) len) chunk own
         (λ e. was-long (v .bits) (ltb-true _ _ e)) (same-long (v .bits))
 
-    -- it is there
-    one : closes ≡ true → chunk < length own
+    -- it is there, and in use
+    pub one : closes ≡ true → chunk < length own
     one e =
         let d = was-long (v .bits) (alone-longer left (v .bits) a len e) in
         let s = z .served d in
         z .fits .has (v .serving a) (s .inside) (s .used) (rw (s .stands) d)
+
+    pub in-use : closes ≡ true → 0 < getD own chunk 0
+    in-use e = omega (arith, chunk-at (chunksOf own) (suc (v .serving a)) (one e))
 
     -- what closing asks
     pub closing : length own ≤ 4096 → p - v .bits ≤ 10 → Closing closes own cells chunk (p - v .bits)

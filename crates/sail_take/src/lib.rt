@@ -1,8 +1,7 @@
-// A route taken out of a sound table in which it stands.
+// A route taken out of a sound table in which it stands. Others may use the table's pools too: what they hold there is not read, and stays.
 ghost use Rattle.chain.specs.List.{ChainedFront};
 ghost use Rattle.sail.specs.Lent.{lent};
-ghost use Rattle.sail_judge.specs.Withdraw.{ToTake};
-ghost use Rattle.sail_take.specs.Taken.{MeetsTake};
+ghost use Rattle.sail_take.specs.Taken.{ToTakeIn, TakenIn};
 ghost use Rattle.sail_take.specs.TakenOut.{TakeOutReady, ListTaken};
 use bits::widen::byte_to_word;
 use chain::list::chained_from;
@@ -26,8 +25,9 @@ fn take_out(list: &mut [u8], n: usize, k: usize, ws: &mut [u64], par: &mut [u16]
 }
 
 // The withdrawal, where the prefix stands: its record is taken out of the list and counted no more, chunks whose count falls
-// to 0 are closed, and what it touched is painted again. `ws` and `par` have the words of the list and their chain. The answer
-// is the new state.
+// to 0 are closed, and what it touched is painted again. `ws` and `par` have the words of the list and their chain, at exit
+// those of the new list. `own2` and `own3` are the owners that the table sees: 0 for what is not its own. The answer is the new
+// state.
 pub fn take(
     t: Table,
     list: &mut [u8],
@@ -44,9 +44,9 @@ pub fn take(
     ws: &mut [u64],
     par: &mut [u16],
 ) -> Table
-    requires { ⌜ ToTake t (lent (now list) (now first) (now second) (now third) (now own2) (now own3) (now long1) (now long2)) addr len at ⌝ }
+    requires { ⌜ ToTakeIn t (lent (now list) (now first) (now second) (now third) (now own2) (now own3) (now long1) (now long2)) addr len at ⌝ }
     requires { ⌜ ChainedFront (now list) (t .count) (now ws) (now par) ⌝ }
-    ensures { λ u. ⌜ MeetsTake t (lent (now (list .entry)) (now (first .entry)) (now (second .entry)) (now (third .entry))
+    ensures { λ u. ⌜ TakenIn t (lent (now (list .entry)) (now (first .entry)) (now (second .entry)) (now (third .entry))
         (now (own2 .entry)) (now (own3 .entry)) (now (long1 .entry)) (now (long2 .entry))) addr len
         u (lent (now (list .exit)) (now (first .exit)) (now (second .exit)) (now (third .exit))
         (now (own2 .exit)) (now (own3 .exit)) (now (long1 .exit)) (now (long2 .exit)))

@@ -11,7 +11,8 @@ use Rattle.sail_theory.specs.Calls.{Ends, outWithFlag, withdrawn}
 use Rattle.sail_theory.proofs.calls.Cleared.{withdraw-off}
 use Rattle.sail_judge.specs.Withdraw.{WithdrawJudged}
 use Rattle.sail_judge.specs.declared.withdraw.WithdrawVerdict.{WithdrawVerdict}
-use Rattle.sail_take.specs.Taken.{MeetsTake}
+use Rattle.sail_take.specs.Taken.{TakenIn}
+use Rattle.sail_take.proofs.TakesAlone.{taken-alone}
 use Rattle.sail_withdraw.specs.Answers.{meansWithdraw}
 use Rattle.sail_withdraw.specs.declared.answers.Withdraw.the-variants as withdraw
 
@@ -22,8 +23,8 @@ module _ (t : Table) (l : Lent) (a len x : ℕ) (e : x ≡ cut len a) where
   unfolding meansWithdraw
   withdraw-refused f k h = sym (withdraw-off t l a len (refused (f .number)) (rw e at (k .off h)) refl)
 
-  -- what is taken is the cleared prefix, and bits were cleared where the address is another
-  pub withdraw-removed : {u : Table} {k : Lent} → MeetsTake t l x len u k → (c : Bool) → c ≡ not (eqb x a)
-      → Ends (meansWithdraw (withdraw.Removed c)) u k (withdrawn t l a len)
+  -- what is taken is the cleared prefix, and bits were cleared where the address is another; nobody else uses the pools
+  pub withdraw-removed : {f : WithdrawVerdict} → WithdrawJudged t l x len f → f .number ≡ 0 → {u : Table} {k : Lent} → TakenIn t l x len u k
+      → (c : Bool) → c ≡ not (eqb x a) → Ends (meansWithdraw (withdraw.Removed c)) u k (withdrawn t l a len)
   unfolding meansWithdraw withdrawn
-  withdraw-removed q c d = ap (outWithFlag c) q ∙ rw (d, e)
+  withdraw-removed j h q c d = ap (outWithFlag c) (taken-alone (j .on h .may) q) ∙ rw (d, e)

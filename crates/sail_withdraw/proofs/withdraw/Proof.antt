@@ -1,6 +1,7 @@
 -- `sail_withdraw::withdraw`: the address is cleared, the prefix judged, and then it is refused or taken.
 use mathlib.Core.Path.{refl}
 use borrow.Author.Needs.{needs}
+use Rattle.sail_take.proofs.TakesAlone.{take-alone}
 use Rattle.sail_withdraw.proofs.WithdrawReturns.{withdraw-refused, withdraw-removed}
 use Rattle.sail_withdraw.proofs.withdraw.Statement.{statement}
 use Rattle.sail_withdraw.proofs.withdraw.Tie as tie
@@ -24,12 +25,15 @@ take-requires : tie.Need-take-requires
 take-requires c κs =
     let at-else : tie.Else1 = search in
     let told = judged at-else .judge-withdraw .ensures in
-    (told .0 .on (at-else .if1 .left), told .1 .on (at-else .if1 .left))
+    (take-alone (told .0 .on (at-else .if1 .left)), told .1 .on (at-else .if1 .left))
 
 returns-2 : tie.Need-returns-2
 returns-2 c =
     let taken : tie.After-take = search in
-    withdraw-removed _ _ _ _ _ (cut-off (judged (accepted taken)) .clear-after .ensures) (taken .take .ensures .0) _ refl
+    let at-else = accepted taken in
+    let at-judge = judged at-else in
+    withdraw-removed _ _ _ _ _ (cut-off at-judge .clear-after .ensures) (at-judge .judge-withdraw .ensures .0) (at-else .if1 .left)
+    (taken .take .ensures .0) _ refl
 
 pub withdraw-spec : {M : Type 1} → statement M
 withdraw-spec =

@@ -1,0 +1,5 @@
+-- What joins the code to the definitions of the calls.
+pub mod Shuts
+pub mod Takings
+pub mod BoxTakings
+pub mod PairReturns
