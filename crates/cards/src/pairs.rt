@@ -5,8 +5,9 @@ ghost use Rattle.sail.specs.Word.{packFound};
 ghost use Rattle.packing.specs.Pack.{packReport};
 ghost use Rattle.pair.specs.Party.{one, partyOf};
 ghost use Rattle.pair.specs.PairLent.{pairLent};
-ghost use Rattle.pair.specs.PairCalls.{pairMade, pairReported, pairLookupSaid};
+ghost use Rattle.pair.specs.PairCalls.{pairMade, pairWithdrawn, pairReported, pairLookupSaid};
 ghost use Rattle.cards.specs.Pairs.{pairCard, pairCardOf, pairStateOf, partyAt};
+use bits::narrow::narrow8;
 use pair::Pair;
 use pair::Share;
 use pair_report::count;
@@ -93,6 +94,72 @@ pub extern "C" fn gh_pair_make(
     let n = count(s, false);
     let a = c.answer;
     packing_tables::made(a, n)
+}
+
+// A route of the party's is withdrawn.
+#[no_mangle]
+pub extern "C" fn gh_pair_withdraw(
+    p1: u32,
+    p2: u32,
+    count_one: u32,
+    count_two: u32,
+    most2_one: u32,
+    most3_one: u32,
+    most2_two: u32,
+    most3_two: u32,
+    list1: &mut [u8],
+    first1: &mut [u16],
+    long11: &mut [u16],
+    list2: &mut [u8],
+    first2: &mut [u16],
+    long12: &mut [u16],
+    second: &mut [u16],
+    third: &mut [u16],
+    own2: &mut [u32],
+    own3: &mut [u32],
+    long2: &mut [u16],
+    party: u32,
+    addr: u32,
+    len: u32,
+) -> u64
+    ensures { λ r. ⌜ pairCard r
+        (pairLent (now (list1 .exit)) (now (first1 .exit)) (now (long11 .exit)) (now (list2 .exit)) (now (first2 .exit)) (now (long12 .exit))
+        (now (second .exit)) (now (third .exit)) (now (own2 .exit)) (now (own3 .exit)) (now (long2 .exit)))
+        ≡ pairCardOf (partyAt party) (pairWithdrawn (partyAt party) (pairStateOf p1 p2 «count_one» «count_two» «most2_one» «most3_one» «most2_two» «most3_two»)
+        (pairLent (now (list1 .entry)) (now (first1 .entry)) (now (long11 .entry)) (now (list2 .entry)) (now (first2 .entry)) (now (long12 .entry))
+        (now (second .entry)) (now (third .entry)) (now (own2 .entry)) (now (own3 .entry)) (now (long2 .entry))) addr len) ⌝ }
+{
+    let guest = is_second(party);
+    let c = pair_withdraw::withdraw(
+        state(
+            p1,
+            p2,
+            count_one,
+            count_two,
+            most2_one,
+            most3_one,
+            most2_two,
+            most3_two,
+        ),
+        list1,
+        first1,
+        long11,
+        list2,
+        first2,
+        long12,
+        second,
+        third,
+        own2,
+        own3,
+        long2,
+        guest,
+        addr,
+        narrow8(len),
+    );
+    let s = c.state;
+    let n = count(s, guest);
+    let a = c.answer;
+    packing_tables::withdrawn(a, n)
 }
 
 // The party's route count and both its needs.
