@@ -2,25 +2,27 @@
 use mathlib.Core.Path.{_≡_, refl, sym, _∙_, ap, subst}
 use mathlib.Core.Bool.{Bool, not}
 use mathlib.Core.List.{List, [], _∷_}
-use Prim.Native.Nat.{ℕ, zero, suc}
+use Prim.Native.Nat.{ℕ, zero, suc, _≤_}
 use lib.Dec.{eqb}
+use lib.ListN.{length}
 use Rattle.bits.specs.Count.{bit}
 use Rattle.bits.specs.Slot.{cut}
-use Rattle.routes.specs.Said.{Said, accepted, refused, accepts}
+use Rattle.routes.specs.Said.{accepted, refused}
 use Rattle.routes.specs.declared.Route.{Route}
 use Rattle.sail.specs.Lent.{Lent}
+use Rattle.sail.specs.declared.geometry.Geometry.{Geometry}
 use Rattle.sail_announce.specs.Answers.{meansAnnounce}
 use Rattle.sail_announce.specs.declared.answers.Announce.{Announce}
 use Rattle.sail_announce.specs.declared.answers.Announce.the-variants as announce
-use Rattle.sail_theory.specs.Calls.{orSay, route, cleared, withFlag}
+use Rattle.sail_theory.specs.Calls.{orSay, route, withFlag}
 use Rattle.sail_theory.proofs.Judges.{or-said}
-use Rattle.pair.specs.Party.{Party, partyOf}
+use Rattle.pair.specs.Party.{Party, one, partyOf}
 use Rattle.pair.specs.PairLent.{PairLent, side}
 use Rattle.pair.specs.PairSound.{pairSizesFault, PairSizesTold}
-use Rattle.pair.specs.PairCalls.{pairAnnounceSaid, PairOut, pairOut, pairWithFlag, pairAdding, pairAnnounced}
+use Rattle.pair.specs.PairCalls.{pairAnnounceSaid, pairOut, pairWithFlag, pairAdding, pairAnnounced}
 use Rattle.pair.specs.declared.Pair.{Pair}
-use Rattle.pair.proofs.PairFresh.{ends-refused}
-use Rattle.pair_cells.specs.Sides.{SideSight, withSide}
+use Rattle.pair_sound.specs.BoxTest.{BothSized}
+use Rattle.pair_cells.specs.Sides.{withSide}
 use Rattle.pair_cells.proofs.Boxes.{box-sight}
 use Rattle.pair_announce.specs.Judged.{BoxJudged, BoxProper}
 use Rattle.pair_announce.specs.SideAdds.{TurnReady, TurnTaken, turnSaid}
@@ -66,6 +68,11 @@ module _ (t : Pair) (b : PairLent) (r : Route) (guest : Bool) {see2 see3 ws par 
     pub taken-for : {f : Turn} {e : Lent} {see2′ see3′ ws′ par′ : List ℕ} → TurnTaken w t (side w b) r f e see2′ see3′ ws′ par′
         → pairOut (turnSaid f) (f .state) (withSide w e b) ≡ pairAdding (partyOf guest) t b r
     taken-for {f} {e} d = side-adding t b (p .sound) r (p .fine) w f e (d .left) (d .stood) ∙ sym (ap (λ (v : Party). pairAdding v t b r) is)
+
+-- the sizes are right: both parties' arrays fit, and the pools have few chunks
+pub sizes-pass : {g : Geometry} {b : PairLent} {z : ℕ} → PairSizesTold z g b → z ≡ 0
+    → BothSized g b × (length (b .own2) ≤ 4096) × (length (b .own3) ≤ 4096)
+sizes-pass told e = (record { each = told .facts e }, told .facts e one .few2, told .facts e one .few3)
 
 -- the whole call
 module _ (w : Party) (t : Pair) (b : PairLent) (r : Route) where

@@ -212,8 +212,9 @@ pub fn announce(
         &mut ws,
         &mut par,
     );
+    let state = f.state;
     PairAnnounced {
         answer: answer(f.number, f.stood, a != route.addr),
-        state: f.state,
+        state,
     }
 }

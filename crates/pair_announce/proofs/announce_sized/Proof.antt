@@ -1,4 +1,5 @@
 -- `pair_announce::announce_sized`. The box is judged, and then the step is taken on the side of the party that calls.
+use mathlib.Core.Bool.{false}
 use mathlib.Core.Path.{refl, _∙_}
 use Rattle.pair_state.proofs.Guests.{guest-two, guest-one}
 use Rattle.pair_announce.proofs.Answers.{sized-refused, ready-for, taken-for}
@@ -28,7 +29,7 @@ returns : tie.Need-returns
 returns c =
     let stopped : tie.Then1 = search in
     let at : tie.After-judge = search in
-    sized-refused _ _ _ _ _ _ _ _ _ (at .judge .ensures) (stopped .if1 .taken) _
+    sized-refused _ _ _ _ _ _ _ _ _ (at .judge .ensures) (stopped .if1 .taken) false
 
 -- the second party's side
 abbrev second-side : tie.After-announce-sound → tie.Then2
@@ -45,7 +46,7 @@ announce-sound-requires c κs =
     let asked : tie.After-announce-sound-arg = search in
     let arm : tie.Then2 = search in
     let on = second-passed arm in
-    ready-for _ _ _ _ (back on .judge .ensures .on (on .if1 .left)) two (guest-two _ (arm .if2 .taken))
+    ready-for _ _ _ (begun (back on) .args .guest) (back on .judge .ensures .on (on .if1 .left)) two (guest-two _ (arm .if2 .taken))
 
 returns-2 : tie.Need-returns-2
 returns-2 c =
@@ -53,7 +54,7 @@ returns-2 c =
     let at = second-left left in
     let arm = second-side at in
     let on = second-passed arm in
-    taken-for _ _ _ _ (back on .judge .ensures .on (on .if1 .left)) two (guest-two _ (arm .if2 .taken)) (at .announce-sound .ensures)
+    taken-for _ _ _ (begun (back on) .args .guest) (back on .judge .ensures .on (on .if1 .left)) two (guest-two _ (arm .if2 .taken)) (at .announce-sound .ensures)
 
 -- the first party's side
 abbrev first-side : tie.After-announce-sound2 → tie.Else2
@@ -70,7 +71,7 @@ announce-sound-requires-2 c κs =
     let asked : tie.After-announce-sound-arg13 = search in
     let arm : tie.Else2 = search in
     let on = first-passed arm in
-    ready-for _ _ _ _ (back on .judge .ensures .on (on .if1 .left)) one (guest-one _ (arm .if2 .left))
+    ready-for _ _ _ (begun (back on) .args .guest) (back on .judge .ensures .on (on .if1 .left)) one (guest-one _ (arm .if2 .left))
 
 returns-3 : tie.Need-returns-3
 returns-3 c =
@@ -78,7 +79,7 @@ returns-3 c =
     let at = first-left left in
     let arm = first-side at in
     let on = first-passed arm in
-    taken-for _ _ _ _ (back on .judge .ensures .on (on .if1 .left)) one (guest-one _ (arm .if2 .left)) (at .announce-sound2 .ensures)
+    taken-for _ _ _ (begun (back on) .args .guest) (back on .judge .ensures .on (on .if1 .left)) one (guest-one _ (arm .if2 .left)) (at .announce-sound2 .ensures)
 
 -- where the judge was, seen from the ends of both arms
 abbrev judged2 : tie.After-slice-known31 → tie.After-judge
