@@ -5,7 +5,7 @@ ghost use Rattle.chain.specs.List.{ChainedFront};
 ghost use Rattle.lists.specs.Edit.{countWith};
 ghost use Rattle.sail.specs.Lent.{lent};
 ghost use Rattle.sail_judge.specs.Announce.{ToAdd};
-ghost use Rattle.sail_add.specs.Added.{MeetsAdd};
+ghost use Rattle.sail_add.specs.Added.{MeetsAdd, ToAddIn, MeetsAddIn};
 ghost use Rattle.sail_add.specs.Booked.{Bookable, Booked};
 ghost use Rattle.sail_add.specs.PutIn.{PutInReady, ListPut};
 use bits::widen::byte_to_word;
@@ -62,9 +62,58 @@ fn count_in(added: bool, g: Geometry, r: Route, first: &[u16], long1: &mut [u16]
     }
 }
 
-// The announcement, where nothing speaks against it: chunks are opened, the route is put into the list, what it touches is
-// painted again, and it is counted. `ws` and `par` have the words of the list and their chain, then too. The answer is the
-// new state.
+// The announcement, where nothing speaks against it: the chunks that it opens are c2 and c3, the route is put into the list,
+// what it touches is painted again, and it is counted. Others may use the pools too: of their chunks, whose owners are 0 here,
+// nothing is read or written. `ws` and `par` have the words of the list and their chain, then too. The answer is the new state.
+pub fn add_in(
+    t: Table,
+    list: &mut [u8],
+    first: &mut [u16],
+    second: &mut [u16],
+    third: &mut [u16],
+    own2: &mut [u32],
+    own3: &mut [u32],
+    long1: &mut [u16],
+    long2: &mut [u16],
+    r: Route,
+    f: AnnounceVerdict,
+    c2: usize,
+    c3: usize,
+    ws: &mut [u64],
+    par: &mut [u16],
+) -> Table
+    requires { ⌜ ToAddIn t (lent (now list) (now first) (now second) (now third) (now own2) (now own3) (now long1) (now long2)) r f c2 c3 ⌝ }
+    requires { ⌜ ChainedFront (now list) (t .count) (now ws) (now par) ⌝ }
+    ensures { λ u. ⌜ MeetsAddIn t (lent (now (list .entry)) (now (first .entry)) (now (second .entry)) (now (third .entry))
+        (now (own2 .entry)) (now (own3 .entry)) (now (long1 .entry)) (now (long2 .entry))) r c2 c3
+        u (lent (now (list .exit)) (now (first .exit)) (now (second .exit)) (now (third .exit))
+        (now (own2 .exit)) (now (own3 .exit)) (now (long1 .exit)) (now (long2 .exit)))
+        × ChainedFront (now (list .exit)) (u .count) (now (ws .exit)) (now (par .exit)) ⌝ }
+{
+    let g = t.geometry;
+    let n = t.count as usize;
+    open(g, r, f.opens, c2, c3, own2, own3);
+    let m = put_in(list, n, f.at, f.stands, r, ws, par);
+    repaint(
+        &ws[..m],
+        par,
+        g,
+        r.addr,
+        byte_to_word(r.len),
+        first,
+        second,
+        third,
+        own2,
+        own3,
+    );
+    count_in(!f.stands, g, r, first, long1, long2);
+    Table {
+        geometry: g,
+        count: m as u32,
+    }
+}
+
+// The announcement in a table that has its pools alone: the chunks that it opens are the lowest free ones.
 pub fn add(
     t: Table,
     list: &mut [u8],
@@ -88,27 +137,23 @@ pub fn add(
         (now (own2 .exit)) (now (own3 .exit)) (now (long1 .exit)) (now (long2 .exit)))
         × ChainedFront (now (list .exit)) (u .count) (now (ws .exit)) (now (par .exit)) ⌝ }
 {
-    let g = t.geometry;
-    let n = t.count as usize;
     let c2 = chunk_named(own2, 0);
     let c3 = chunk_named(own3, 0);
-    open(g, r, f.opens, c2, c3, own2, own3);
-    let m = put_in(list, n, f.at, f.stands, r, ws, par);
-    repaint(
-        &ws[..m],
-        par,
-        g,
-        r.addr,
-        byte_to_word(r.len),
+    add_in(
+        t,
+        list,
         first,
         second,
         third,
         own2,
         own3,
-    );
-    count_in(!f.stands, g, r, first, long1, long2);
-    Table {
-        geometry: g,
-        count: m as u32,
-    }
+        long1,
+        long2,
+        r,
+        f,
+        c2,
+        c3,
+        ws,
+        par,
+    )
 }

@@ -30,4 +30,4 @@ module _ (t : Table) (l : Lent) (a len hop mark x : ℕ) (e : x ≡ cut len a) (
       → (c : Bool) → c ≡ not (eqb x a) → (n : Announce) → meansAnnounce n ≡ accepted (bit c ∷ bit (f .stands) ∷ [])
       → Ends (meansAnnounce n) u k (announced t l (route a len hop mark))
   unfolding announced
-  announce-added ready q c d n m = rw (m, ready .stood) (ap (outWithFlag c) q ∙ rw (d, e))
+  announce-added ready q c d n m = rw (m, ready .found .stood) (ap (outWithFlag c) q ∙ rw (d, e))

@@ -1,4 +1,4 @@
--- An announcement under way: at most one chunk in each pool is hung, the lowest free one.
+-- An announcement under way: at most one chunk in each pool is hung, a free one.
 use mathlib.Core.Path.{_≡_, refl, sym, _∙_, ap, subst}
 use mathlib.Core.Logic.{_⊎_, inl, inr}
 use mathlib.Core.Bool.{Bool, true, false, not, _&&_, cond, true≢false}
@@ -19,15 +19,13 @@ use Rattle.sail.specs.Sound.{Clear, standing}
 use Rattle.sail.specs.declared.geometry.Geometry.{Geometry}
 use Rattle.sail.specs.declared.table.Table.{Table}
 use Rattle.sail_theory.specs.Render.{find, Fits, roomOf}
-use Rattle.sail_theory.specs.Calls.{Owners, openAt, opened, ownersOf}
-use Rattle.sail_theory.specs.Facts.{Announceable}
+use Rattle.sail_theory.specs.Calls.{openAt}
 use Rattle.sail_theory.proofs.places.Places.{live-owner}
 use Rattle.sail_theory.proofs.places.Pools.{shows-fits}
 use Rattle.sail_theory.proofs.owners.GrantKeep.{unhung}
 use Rattle.sail_theory.proofs.frames.LevelFrame.{below-same}
-use Rattle.sail_theory.proofs.owners.Chunks.{chunk-le}
 use Rattle.sail_theory.proofs.owners.OpenAt.{Space, OpenReady, length-open, open-keeps, open-fits, open-short, open-had, open-new}
-use Rattle.sail_theory.proofs.calls.ChangeHolds.{AnnounceableAt, lowest-at}
+use Rattle.sail_theory.proofs.calls.ChangeHolds.{AnnounceableAt}
 use Rattle.sail_theory.proofs.frames.TableFrame.{at-frame}
 use Rattle.sail_paint.specs.Stale.{meets}
 use Rattle.sail_chunks.specs.Chunks.{withOwner, alone, FreeToOpen}
@@ -170,13 +168,3 @@ module _ (t : Table) (l : Lent) (r : Route) (c2 c3 : ℕ) (w : AnnounceableAt t 
         third = opening-held rs r (level2 g (chunksOf own2′)) (l .own3) c3 (w .second) (level2 g (chunksOf (l .own2))) refl
             (shows-fits rs (level2 g (chunksOf (l .own2))) (chunksOf (l .own3)) (entry (l .second)) (z .shows2)) over 32 (l .third) (w .sound .clear3);
       }
-
--- the lowest free chunks
-module _ (t : Table) (l : Lent) (r : Route) (w : Announceable t l r) where
-  pub openable : (o : Opening) → Opens (t .geometry) (standing t l) (l .own2) (r .addr) (r .len) o
-      → Openable (t .geometry) r o (find (l .own2) 0) (find (l .own3) 0) (l .own2) (l .own3)
-  openable = at-openable t l r _ _ (lowest-at t l r w) (omega (arith, w .sound .sized .few2, chunk-le (chunksOf (l .own2)) 0))
-
-  pub welcome-underway : let o : Owners = opened (t .geometry) (ownersOf l) r in
-      Underway (t .geometry) (r .addr) (r .len) (insert r (standing t l)) l (cells (l .first) (l .second) (l .third) (o .own2) (o .own3))
-  welcome-underway = at-underway t l r _ _ (lowest-at t l r w)

@@ -1,49 +1,52 @@
 -- What the judges of an announcement answer.
-use mathlib.Core.Path.{_≡_, sym, _∙_}
+use mathlib.Core.Path.{_≡_, sym, _∙_, ap}
 use mathlib.Core.Logic.{_⊎_, inl, inr}
 use mathlib.Core.Bool.{Bool, true, false, not, _&&_, true≢false}
-use mathlib.Core.List.{List}
+use mathlib.Core.List.{List, [], _∷_}
 use Prim.Native.Nat.{ℕ, _/_, _≤_, _<_}
 use native.Mathlib.Nat.{pos-of-ne-zero}
 use native.Mathlib.Omega.{arith}
 use lib.Dec.{ltb, leb}
 use lib.ListN.{length}
-use borrow.Author.Tests.{ltb-true, ltb-false, lt-ltb, le-ltb, lt-leb, le-leb, not-true}
+use borrow.Author.Tests.{lt-ltb, le-ltb, lt-leb, le-leb, not-true}
+use Rattle.bits.specs.Count.{bit}
 use Rattle.bits.specs.Slot.{slot}
 use Rattle.bits.proofs.Bools.{decided, below?}
-use Rattle.routes.specs.Route.{key, Fine}
+use Rattle.routes.specs.Route.{key, Fine, Good}
+use Rattle.routes.specs.Record.{routesOf}
 use Rattle.standing.specs.Cells.{long, need}
 use Rattle.routes.specs.Input.{routeFault}
-use Rattle.routes.specs.Said.{refused}
+use Rattle.routes.specs.Said.{accepted, refused, accepts}
 use Rattle.standing.specs.Standing.{stands, insert}
 use Rattle.routes.specs.declared.Route.{Route}
 use Rattle.routes.specs.Cases.{WrongRoute}
-use Rattle.routes.proofs.Meaning.{RouteChecked, route-checked}
-use Rattle.routes.proofs.Rows.{length-routes}
-use Rattle.standing.proofs.Changed.{insert-adds}
+use Rattle.routes.proofs.Meaning.{RouteChecked, route-checked, fine-fault}
+use Rattle.routes.proofs.Rows.{length-routes, records-good}
 use Rattle.lists.specs.Place.{placeOf}
 use Rattle.sail.specs.Lent.{Lent}
 use Rattle.sail.specs.Sizes.{SizesTold}
 use Rattle.sail.specs.Level.{chunksOf}
 use Rattle.sail.specs.Sound.{standing, used}
 use Rattle.sail.specs.declared.table.Table.{Table}
-use Rattle.sail_theory.specs.Calls.{announceSaid}
-use Rattle.sail.proofs.Sounds.{standing-good}
-use Rattle.sail_theory.specs.Facts.{Announceable}
-use Rattle.sail_theory.specs.Cases.{Proper, Roomy, Announce}
+use Rattle.sail.proofs.Fitting.{none-is}
+use Rattle.sail.proofs.Sounds.{chunks-need}
+use Rattle.sail_theory.specs.Calls.{Terms, termsOf, chunksFault, announceFault, orSay, announceSaid}
+use Rattle.sail_theory.specs.Cases.{Proper, Announce}
 use Rattle.sail_theory.proofs.calls.OneCase.{announce-only}
-use Rattle.sail_theory.proofs.calls.Outcomes.{replaced-welcome}
-use Rattle.sail_theory.proofs.owners.UsedNeed.{Enough, seven as second-chunks, eight as third-chunks}
+use Rattle.sail_theory.proofs.calls.Outcomes.{accepted-welcome}
+use Rattle.sail_theory.proofs.places.SoundTest.{sound-tells}
+use Rattle.sail_theory.proofs.owners.UsedNeed.{Enough}
 use Rattle.sail_theory.proofs.owners.Chunks.{used-le}
 use Rattle.standing.proofs.NeedAfter.{need-more, need-same}
 use Rattle.sail_sound.specs.TableTest.{Tried}
 use Rattle.sail_chunks.specs.Chunks.{alone}
 use Rattle.sail_chunks.specs.ToOpen.{noOpening, Opens}
 use Rattle.sail_chunks.proofs.ToOpen.{opens-nothing}
+use Rattle.sail_chunks.proofs.Trails.{serving-of}
 use Rattle.sail_chunks.specs.declared.opening.Opening.{Opening}
 use Rattle.sail_sound.proofs.TableTest.{tried-sound}
-use Rattle.sail_theory.proofs.Judges.{judged-off, judged-on, or-said}
-use Rattle.sail_judge.specs.Announce.{AnnounceJudged}
+use Rattle.sail_theory.proofs.Judges.{judged-off, or-said}
+use Rattle.sail_judge.specs.Announce.{RoomReady, roomTerms, RoomJudged, AnnounceJudged}
 use Rattle.sail_judge.specs.declared.announce.AnnounceVerdict.{AnnounceVerdict}
 
 -- a limit that the chunks in use keep is exceeded exactly where a chunk is to be opened and as many as the limit are in use
@@ -64,15 +67,6 @@ over rs r p own w fine limit h = go (decided (ltb p (r .len))) (decided (long rs
         (sym (le-ltb limit (need (insert r rs) p) (omega (arith, w .counted, need-more r rs fine (w .good) p (w .small) e d))))
     go (inl e) (inr d) (inr z) = rw (e, d, le-leb limit (used own) z)
         (sym (lt-ltb limit (need (insert r rs) p) (omega (arith, w .counted, need-more r rs fine (w .good) p (w .small) e d))))
-
--- c is the test of a pool: o tells whether a chunk is to be opened
-abbrev Wants : (o : Bool) (own : List ℕ) (c : Bool) → Type 0
-Wants o own c = c ≡ (o && leb (length own) (used own))
-
--- it tells whether the need exceeds the pool
-wants : {rs : List Route} {r : Route} {p : ℕ} {own : List ℕ} → Enough rs p own → Fine r → {o : Bool} → o ≡ alone rs p (r .addr) (r .len)
-    → {c : Bool} → Wants o own c → c ≡ ltb (length own) (need (insert r rs) p)
-wants {rs} {r} {p} {own} w fine e z = z ∙ rw e (over rs r p own w fine (length own) (used-le (chunksOf own)))
 
 module _ (t : Table) (l : Lent) (r : Route) where
   -- what is told with the number n
@@ -111,82 +105,151 @@ module _ (t : Table) (l : Lent) (r : Route) where
         pub judge-proper : not d ≡ false → Proper t l r
         judge-proper y = record { fine = fine; sound = tried-sound t l d k y }
 
+-- What the judge of the room asks holds of a sound table, with all chunks that are lent for limits; and what it answers is then what is said.
+module _ {t : Table} {l : Lent} {r : Route} (p : Proper t l r) where
+  pub room-ready : RoomReady t (l .list) (l .first) (l .second) (l .own2) (l .own3) r (length (l .own2)) (length (l .own3))
+  room-ready = record {
+    fine = p .fine;
+    listed = p .sound .listed;
+    serving = serving-of t l (p .sound);
+    needed2 = chunks-need t l (p .sound) .0;
+    needed3 = chunks-need t l (p .sound) .1;
+    within2 = used-le (chunksOf (l .own2));
+    within3 = used-le (chunksOf (l .own3));
+  }
+
+  said : announceSaid t l r ≡ orSay (announceFault true (termsOf t l) (standing t l) r) (accepted (bit (stands (key r) (standing t l)) ∷ []))
+  unfolding announceSaid
+  said = rw (none-is (t .geometry) l (p .sound .sized), fine-fault r (p .fine), sound-tells t l .1 (p .sound))
+
+  pub room-judged : {f : AnnounceVerdict} → RoomJudged (termsOf t l) (l .list) (t .count) (l .own2) r f → AnnounceJudged t l r f
+  room-judged {f} j = record {
+    off = λ h. said ∙ or-said _ (f .number) _ (j .number) h;
+    on = λ z. record { may = accepted-welcome t l r (ap accepts said ∙ rw (sym (j .number) ∙ z)); found = j .found z };
+  }
+
 -- ---- what is known once the prefix is sought in the list
 
 -- x is the key of the route, k its place, and b tells whether the prefix stands
 pub record Sought : Type 0 where
   pub t : Table
-  pub l : Lent
+  pub s : List ℕ
+  pub first : List ℕ
+  pub second : List ℕ
+  pub own2 : List ℕ
+  pub own3 : List ℕ
   pub r : Route
+  pub most2 : ℕ
+  pub most3 : ℕ
+  pub ready : RoomReady t s first second own2 own3 r most2 most3
   pub x : ℕ
   pub k : ℕ
   pub b : Bool
-  pub proper : Proper t l r
   pub named : x ≡ key r
-  pub placed : k ≡ placeOf (l .list) (t .count) x
-  pub told : b ≡ stands x (standing t l)
+  pub placed : k ≡ placeOf s (t .count) x
+  pub told : b ≡ stands x (routesOf s (t .count))
 
-abbrev pub sought : {t : Table} {l : Lent} {r : Route} → Proper t l r → {x : ℕ} → x ≡ key r → {k : ℕ} → k ≡ placeOf (l .list) (t .count) x
-    → {b : Bool} → b ≡ stands x (standing t l) → Sought
-sought {t} {l} {r} p {x} n {k} e {b} h = record { t = t; l = l; r = r; x = x; k = k; b = b; proper = p; named = n; placed = e; told = h }
+abbrev pub sought : {t : Table} {s first second own2 own3 : List ℕ} {r : Route} {most2 most3 : ℕ} → RoomReady t s first second own2 own3 r most2 most3
+    → {x : ℕ} → x ≡ key r → {k : ℕ} → k ≡ placeOf s (t .count) x → {b : Bool} → b ≡ stands x (routesOf s (t .count)) → Sought
+sought {t} {s} {first} {second} {own2} {own3} {r} {most2} {most3} p {x} n {k} e {b} h = record {
+  t = t;
+  s = s;
+  first = first;
+  second = second;
+  own2 = own2;
+  own3 = own3;
+  r = r;
+  most2 = most2;
+  most3 = most3;
+  ready = p;
+  x = x;
+  k = k;
+  b = b;
+  named = n;
+  placed = e;
+  told = h;
+}
 
 module _ (s : Sought) where
-  stands-is : s .b ≡ stands (key (s .r)) (standing (s .t) (s .l))
+  abbrev rs : List Route
+  rs = routesOf (s .s) (s .t .count)
+
+  abbrev terms : Terms
+  terms = roomTerms (s .t) (s .s) (s .most2) (s .most3)
+
+  abbrev Answers : AnnounceVerdict → Type 0
+  Answers f = RoomJudged terms (s .s) (s .t .count) (s .own2) (s .r) f
+
+  good : Good rs
+  good = records-good (s .s) (s .t .count) (s .ready .listed .records)
+
+  stands-is : s .b ≡ stands (key (s .r)) rs
   stands-is = rw (s .named) at (s .told)
 
-  found : (o : Opening) → Announceable (s .t) (s .l) (s .r) → Opens (s .t .geometry) (standing (s .t) (s .l)) (s .l .own2) (s .r .addr) (s .r .len) o
-      → AnnounceJudged (s .t) (s .l) (s .r) (record { number = 0; at = s .k; stands = s .b; opens = o })
-  found o may opens = judged-on _ _ (record { may = may; at = rw (s .named) at (s .placed); stood = stands-is; opens = opens })
+  -- a refusal
+  stops : (n : ℕ) → 1 ≤ n → announceFault true terms rs (s .r) ≡ n → (f : AnnounceVerdict) → f .number ≡ n → Answers f
+  stops n h e f z = record { number = z ∙ sym e; found = λ y. absurd (omega arith) }
 
-  pub room-stands : s .b ≡ true → AnnounceJudged (s .t) (s .l) (s .r) (record { number = 0; at = s .k; stands = true; opens = noOpening })
+  -- none
+  passes : (o : Opening) → announceFault true terms rs (s .r) ≡ 0 → Opens (s .t .geometry) rs (s .own2) (s .r .addr) (s .r .len) o
+      → Answers (record { number = 0; at = s .k; stands = s .b; opens = o })
+  passes o e opens = record { number = sym e; found = λ _. record { at = rw (s .named) at (s .placed); stood = stands-is; opens = opens } }
+
+  pub room-stands : s .b ≡ true → Answers (record { number = 0; at = s .k; stands = true; opens = noOpening })
+  unfolding announceFault
   room-stands h =
       let stood = sym stands-is ∙ h in
-      rw h at (found noOpening (replaced-welcome _ _ _ (s .proper) stood)
-      (opens-nothing _ _ _ _ (s .proper .fine) (standing-good _ _ (s .proper .sound)) stood))
+      rw h at (passes noOpening (rw stood) (opens-nothing _ _ _ _ (s .ready .fine) good stood))
 
-  pub room-full : s .b ≡ false → length (s .l .list) / 8 ≤ s .t .count → Told (s .t) (s .l) (s .r) 6
-  room-full h f = off _ _ _ 6 (omega arith) (Announce.full (s .proper) (sym stands-is ∙ h) (rw length-routes f))
+  pub room-full : s .b ≡ false → length (s .s) / 8 ≤ s .t .count → (f : AnnounceVerdict) → f .number ≡ 6 → Answers f
+  unfolding announceFault
+  room-full h f =
+      stops 6 (omega arith) (rw (sym stands-is ∙ h, le-leb (length (s .s) / 8) (length rs) (rw length-routes f)))
 
 -- ---- and once it is new, the list has room, and o tells which chunks are to be opened
 
 pub record RoomLeft : Type 0 where
   pub s : Sought
   pub new : s .b ≡ false
-  pub room : s .t .count < length (s .l .list) / 8
+  pub room : s .t .count < length (s .s) / 8
   pub o : Opening
-  pub opens : Opens (s .t .geometry) (standing (s .t) (s .l)) (s .l .own2) (s .r .addr) (s .r .len) o
+  pub opens : Opens (s .t .geometry) (rs s) (s .own2) (s .r .addr) (s .r .len) o
 
-abbrev pub fitting : (s : Sought) → s .b ≡ false → s .t .count < length (s .l .list) / 8
-    → {o : Opening} → Opens (s .t .geometry) (standing (s .t) (s .l)) (s .l .own2) (s .r .addr) (s .r .len) o → RoomLeft
+abbrev pub fitting : (s : Sought) → s .b ≡ false → s .t .count < length (s .s) / 8
+    → {o : Opening} → Opens (s .t .geometry) (rs s) (s .own2) (s .r .addr) (s .r .len) o → RoomLeft
 fitting s h f {o} e = record { s = s; new = h; room = f; o = o; opens = e }
 
 module _ (v : RoomLeft) where
-  roomy : Roomy (v .s .t) (v .s .l) (v .s .r)
-  roomy = record { proper = v .s .proper; new = sym (stands-is (v .s)) ∙ v .new; room = rw length-routes (v .room) }
+  abbrev next : List Route
+  next = insert (v .s .r) (rs (v .s))
 
-  module _ {c : Bool} (z : Wants (v .o .second) (v .s .l .own2) c) where
-    seven : c ≡ ltb (length (v .s .l .own2)) (need (insert (v .s .r) (standing (v .s .t) (v .s .l))) (v .s .t .geometry .p1))
-    seven = wants (second-chunks _ _ (v .s .proper .sound)) (v .s .proper .fine) (v .opens .second) z
+  -- past 6
+  roomy : announceFault true (terms (v .s)) (rs (v .s)) (v .s .r) ≡ chunksFault (terms (v .s)) next
+  unfolding announceFault
+  roomy = rw (sym (stands-is (v .s)) ∙ v .new, lt-leb (length (v .s .s) / 8) (length (rs (v .s))) (rw length-routes (v .room)))
 
-    pub room-second : c ≡ true → Told (v .s .t) (v .s .l) (v .s .r) 7
-    room-second y = off _ _ _ 7 (omega arith) (Announce.second roomy (ltb-true _ _ (sym seven ∙ y)))
+  enough2 : Enough (rs (v .s)) (v .s .t .geometry .p1) (v .s .own2)
+  enough2 = let z = v .s .ready .serving .valid in record { good = good (v .s); small = omega arith; counted = v .s .ready .needed2 }
 
-    module _ (y : c ≡ false) {d : Bool} (u : Wants (v .o .third) (v .s .l .own3) d) where
-      enough : need (insert (v .s .r) (standing (v .s .t) (v .s .l))) (v .s .t .geometry .p1) ≤ length (v .s .l .own2)
-      enough = ltb-false _ _ (sym seven ∙ y)
+  enough3 : Enough (rs (v .s)) (v .s .t .geometry .p2) (v .s .own3)
+  enough3 = let z = v .s .ready .serving .valid in record { good = good (v .s); small = omega arith; counted = v .s .ready .needed3 }
 
-      eight : d ≡ ltb (length (v .s .l .own3)) (need (insert (v .s .r) (standing (v .s .t) (v .s .l))) (v .s .t .geometry .p2))
-      eight = wants (third-chunks _ _ (v .s .proper .sound)) (v .s .proper .fine) (v .opens .third) u
+  module _ {c : Bool} (z : c ≡ (v .o .second && leb (v .s .most2) (used (v .s .own2)))) where
+    seven : c ≡ ltb (v .s .most2) (need next (v .s .t .geometry .p1))
+    seven = z ∙ rw (v .opens .second) (over (rs (v .s)) (v .s .r) _ (v .s .own2) enough2 (v .s .ready .fine) (v .s .most2) (v .s .ready .within2))
 
-      pub room-third : d ≡ true → Told (v .s .t) (v .s .l) (v .s .r) 8
-      room-third h = off _ _ _ 8 (omega arith) (Announce.third roomy enough (ltb-true _ _ (sym eight ∙ h)))
+    pub room-second : c ≡ true → (f : AnnounceVerdict) → f .number ≡ 7 → Answers (v .s) f
+    unfolding chunksFault
+    room-second y = stops (v .s) 7 (omega arith) (roomy ∙ rw (sym seven ∙ y))
 
-      pub room-enough : d ≡ false
-          → AnnounceJudged (v .s .t) (v .s .l) (v .s .r) (record { number = 0; at = v .s .k; stands = false; opens = v .o })
-      room-enough h = rw (v .new) at (found (v .s) (v .o) (record {
-        fine = v .s .proper .fine;
-        sound = v .s .proper .sound;
-        roomy = omega (arith, insert-adds (v .s .r) (standing (v .s .t) (v .s .l)) (roomy .new), roomy .room);
-        enough2 = enough;
-        enough3 = ltb-false _ _ (sym eight ∙ h);
-      }) (v .opens))
+    module _ (y : c ≡ false) {d : Bool} (u : d ≡ (v .o .third && leb (v .s .most3) (used (v .s .own3)))) where
+      eight : d ≡ ltb (v .s .most3) (need next (v .s .t .geometry .p2))
+      eight = u ∙ rw (v .opens .third) (over (rs (v .s)) (v .s .r) _ (v .s .own3) enough3 (v .s .ready .fine) (v .s .most3) (v .s .ready .within3))
+
+      pub room-third : d ≡ true → (f : AnnounceVerdict) → f .number ≡ 8 → Answers (v .s) f
+      unfolding chunksFault
+      room-third h = stops (v .s) 8 (omega arith) (roomy ∙ rw (sym seven ∙ y, sym eight ∙ h))
+
+      pub room-enough : d ≡ false → Answers (v .s) (record { number = 0; at = v .s .k; stands = false; opens = v .o })
+      unfolding chunksFault
+      room-enough h = rw (v .new) at (passes (v .s) (v .o) (roomy ∙ rw (sym seven ∙ y, sym eight ∙ h)) (v .opens))

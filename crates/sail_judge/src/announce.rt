@@ -7,9 +7,8 @@ ghost use lib.ListN.{length};
 ghost use Rattle.chain.specs.List.{Scratch};
 ghost use Rattle.sail.specs.Lent.{lent};
 ghost use Rattle.sail.specs.Sound.{used};
-ghost use Rattle.sail_theory.specs.Cases.{Proper};
 ghost use Rattle.sail_judge.specs.Chain.{ChainLeft};
-ghost use Rattle.sail_judge.specs.Announce.{AnnounceJudged};
+ghost use Rattle.sail_judge.specs.Announce.{RoomReady, roomTerms, RoomJudged, AnnounceJudged};
 use lists::edit;
 use lists::place::place;
 use records::record;
@@ -55,22 +54,21 @@ fn refusal(number: u8) -> AnnounceVerdict
     }
 }
 
-// 6, 7 or 8, for a fine route and a sound table. A prefix that stands meets none of them, and opens nothing.
+// 6, 7 or 8, for a fine route and a table that serves its list and uses as many chunks as that needs. The limits are how many
+// it may use. A prefix that stands meets none of them, and opens nothing.
 pub fn judge_room(
     t: Table,
     list: &[u8],
     first: &[u16],
     second: &[u16],
-    third: &[u16],
     own2: &[u32],
     own3: &[u32],
-    long1: &[u16],
-    long2: &[u16],
     r: Route,
+    most2: usize,
+    most3: usize,
 ) -> AnnounceVerdict
-    requires { ⌜ Proper t (lent (now list) (now first) (now second) (now third) (now own2) (now own3) (now long1) (now long2)) r ⌝ }
-    ensures { λ f. ⌜ AnnounceJudged t (lent (now (list .entry)) (now (first .entry)) (now (second .entry)) (now (third .entry))
-        (now (own2 .entry)) (now (own3 .entry)) (now (long1 .entry)) (now (long2 .entry))) r f ⌝ }
+    requires { ⌜ RoomReady t (now list) (now first) (now second) (now own2) (now own3) r most2 most3 ⌝ }
+    ensures { λ f. ⌜ RoomJudged (roomTerms t (now (list .entry)) most2 most3) (now (list .entry)) (t .count) (now (own2 .entry)) r f ⌝ }
 {
     let n = t.count as usize;
     let p = record::key_of(r.addr, r.len);
@@ -87,10 +85,10 @@ pub fn judge_room(
         return refusal(6);
     }
     let o = to_open(t, list, first, second, own2, own3, r.addr, r.len);
-    if wanting(o.second, own2, own2.len()) {
+    if wanting(o.second, own2, most2) {
         return refusal(7);
     }
-    if wanting(o.third, own3, own3.len()) {
+    if wanting(o.third, own3, most3) {
         return refusal(8);
     }
     AnnounceVerdict {
@@ -145,5 +143,15 @@ pub fn judge_announce(
     ) {
         return refusal(5);
     }
-    judge_room(t, list, first, second, third, own2, own3, long1, long2, r)
+    judge_room(
+        t,
+        list,
+        first,
+        second,
+        own2,
+        own3,
+        r,
+        own2.len(),
+        own3.len(),
+    )
 }

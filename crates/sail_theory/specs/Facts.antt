@@ -1,12 +1,14 @@
 -- What holds where a call is accepted, as facts. A program's test of its arguments hands these on, and the part that changes the table
 -- rests on them.
-use mathlib.Core.Bool.{true}
+use mathlib.Core.Bool.{true, false}
 use mathlib.Core.List.{List}
 use mathlib.Core.Path.{_≡_}
-use Prim.Native.Nat.{ℕ, _≤_}
-use lib.ListN.{length}
+use Prim.Native.Nat.{ℕ, _≤_, _<_}
+use lib.Dec.{ltb}
+use lib.ListN.{getD, length}
+use Rattle.bits.specs.Slot.{slot}
 use Rattle.routes.specs.Route.{keyOf, Prefix, Fine, Good}
-use Rattle.standing.specs.Cells.{need}
+use Rattle.standing.specs.Cells.{long, need}
 use Rattle.routes.specs.Record.{written}
 use Rattle.standing.specs.Standing.{stands, insert}
 use Rattle.routes.specs.declared.Route.{Route}
@@ -49,6 +51,17 @@ pub record Announceable (t : Table) (l : Lent) (r : Route) : Type 0 where
   pub roomy : length (insert r (standing t l)) ≤ roomOf l
   pub enough2 : need (insert r (standing t l)) (t .geometry .p1) ≤ length (l .own2)
   pub enough3 : need (insert r (standing t l)) (t .geometry .p2) ≤ length (l .own3)
+
+-- The route r may be announced, and c2 and c3 are free chunks wherever it has to open one: where it is longer than a level, and no standing route
+-- that is longer than the level has its bits.
+pub record AnnounceableWith (t : Table) (l : Lent) (r : Route) (c2 c3 : ℕ) : Type 0 where
+  pub fine : Fine r
+  pub sound : Sound t l
+  pub roomy : length (insert r (standing t l)) ≤ roomOf l
+  pub free2 : ltb (t .geometry .p1) (r .len) ≡ true → long (standing t l) (t .geometry .p1) (slot (t .geometry .p1) (r .addr)) ≡ false
+      → (c2 < length (l .own2)) × (getD (l .own2) c2 0 ≡ 0)
+  pub free3 : ltb (t .geometry .p2) (r .len) ≡ true → long (standing t l) (t .geometry .p2) (slot (t .geometry .p2) (r .addr)) ≡ false
+      → (c3 < length (l .own3)) × (getD (l .own3) c3 0 ≡ 0)
 
 -- the prefix may be withdrawn
 pub record Withdrawable (t : Table) (l : Lent) (a len : ℕ) : Type 0 where

@@ -1,8 +1,9 @@
 -- A table whose pools others use too. Its owners are those that it sees: 0 for a chunk that is not its own, whatever that chunk holds.
-use mathlib.Core.Bool.{Bool, _||_}
+use mathlib.Core.Bool.{Bool, true, false, _||_}
 use mathlib.Core.List.{List}
-use Prim.Native.Nat.{ℕ}
-use lib.ListN.{length}
+use mathlib.Core.Path.{_≡_}
+use Prim.Native.Nat.{ℕ, _<_}
+use lib.ListN.{getD, length}
 use Rattle.sail.specs.Geometry.{bits2, bits3}
 use Rattle.sail.specs.Lent.{Lent}
 use Rattle.sail.specs.Level.{liveIn, entry}
@@ -25,6 +26,10 @@ alone g l = record {
   long1 = l .long1;
   long2 = ownPart (l .own2) (bits2 g) (l .long2);
 }
+
+-- a chunk that comes to these owners is blank: a place that is theirs after a change, and was not before, holds 0
+pub record ComesBlank (was own : List ℕ) (d : ℕ) (xs : List ℕ) : Type 0 where
+  pub zero : (q : ℕ) → q < length xs → liveIn (entry was) d q ≡ false → liveIn (entry own) d q ≡ true → getD xs q 0 ≡ 0
 
 -- place q lies in a chunk of the owners before a change or of those after it
 abbrev pub touched : List ℕ → List ℕ → ℕ → ℕ → Bool

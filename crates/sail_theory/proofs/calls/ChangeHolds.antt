@@ -16,7 +16,7 @@ use Rattle.routes.specs.declared.Route.{Route}
 use Rattle.standing.proofs.Standing.{insert-good, remove-good, remove-length, remove-any}
 use Rattle.standing.proofs.Changed.{remove-long}
 use Rattle.routes.proofs.Rows.{length-written, length-routes}
-use Rattle.sail.specs.Geometry.{bits2, bits3, Valid}
+use Rattle.sail.specs.Geometry.{bits2, bits3}
 use Rattle.sail.specs.Lent.{Lent}
 use Rattle.sail.specs.Level.{Level, chunksOf, level1, level2}
 use Rattle.sail.specs.Sizes.{Sized}
@@ -26,7 +26,7 @@ use Rattle.sail.specs.declared.table.Table.{Table}
 use Rattle.sail.proofs.Sounds.{standing-good}
 use Rattle.sail_theory.specs.Render.{find, Fits, roomOf, Rendered}
 use Rattle.sail_theory.specs.Calls.{Owners, openedAt, opened, ownersKept, ownersOf, stateOf, lentOf}
-use Rattle.sail_theory.specs.Facts.{SameSize, TableHolds, Announceable, Withdrawable}
+use Rattle.sail_theory.specs.Facts.{SameSize, TableHolds, Announceable, AnnounceableWith, Withdrawable}
 use Rattle.sail_theory.proofs.owners.Chunks.{chunk-at, used-free}
 use Rattle.sail_theory.proofs.places.Rendered.{sound-rendered, Renders, render-standing, render-sized, render-sound}
 use Rattle.sail_theory.proofs.owners.GrantKeep.{length-keep, keep-closed, Losing}
@@ -133,48 +133,67 @@ module _ (t : Table) (l : Lent) (r : Route) (c2 c3 : ℕ) (w : AnnounceableAt t 
     fits3 = at-fits3;
   })
 
--- an announcement that is accepted opens the lowest free chunks
-module _ (t : Table) (l : Lent) (r : Route) (w : Announceable t l r) where
+-- Said by facts: chunks that fit a level where they do, and any free ones to open, at the first level and below it.
+module _ (t : Table) (l : Lent) (r : Route) (c2 c3 : ℕ) (w : AnnounceableWith t l r c2 c3) where
   abbrev geo : Geometry
   geo = t .geometry
-
-  abbrev had : List Route
-  had = standing t l
-
-  abbrev after : Owners
-  after = opened geo (ownersOf l) r
 
   is : Rendered t l
   is = sound-rendered t l (w .sound)
 
-  valid : Valid geo
-  valid = w .sound .sized .valid
-
-  pub ready1 : OpenReady had r (level1 geo) (l .own2) (find (l .own2) 0)
-  ready1 =
-      let v = valid in
+  with1 : OpenReady (standing t l) r (level1 geo) (l .own2) c2
+  with1 =
+      let v = w .sound .sized .valid in
       record {
         fine = w .fine;
         good = standing-good t l (w .sound);
         fits = is .fits2;
         apart = top-apart (geo .p1);
         served = λ e. top-served (geo .p1) (r .addr) (omega arith) (w .fine .prefix .addr-ok);
-        space = enough-space had r (level1 geo) (l .own2) (seven t l (w .sound)) (w .fine) (w .enough2);
+        space = w .free2;
       }
 
-  pub ready2 : OpenReady had r (level2 geo (chunksOf (after .own2))) (l .own3) (find (l .own3) 0)
-  ready2 =
-      let v = valid in
-      ready-below had r (level1 geo) (l .own2) (find (l .own2) 0) ready1 (geo .p2) (omega arith) (omega arith) (l .own3) (find (l .own3) 0) (is .fits3)
-      (enough-space had r (level2 geo (chunksOf (after .own2))) (l .own3) (eight t l (w .sound)) (w .fine) (w .enough3))
+  pub with-at : AnnounceableAt t l r c2 c3
+  with-at =
+      let v = w .sound .sized .valid in
+      record {
+        fine = w .fine;
+        sound = w .sound;
+        roomy = w .roomy;
+        first = with1;
+        second = ready-below (standing t l) r (level1 geo) (l .own2) c2 with1 (geo .p2) (omega arith) (omega arith) (l .own3) c3 (is .fits3) (w .free3);
+      }
+
+-- an announcement that is accepted opens the lowest free chunks
+module _ (t : Table) (l : Lent) (r : Route) (w : Announceable t l r) where
+  abbrev had : List Route
+  had = standing t l
+
+  abbrev after : Owners
+  after = opened (t .geometry) (ownersOf l) r
+
+  pub lowest-with : AnnounceableWith t l r (find (l .own2) 0) (find (l .own3) 0)
+  lowest-with = record {
+    fine = w .fine;
+    sound = w .sound;
+    roomy = w .roomy;
+    free2 = enough-space had r (level1 (t .geometry)) (l .own2) (seven t l (w .sound)) (w .fine) (w .enough2);
+    free3 = enough-space had r (level2 (t .geometry) (chunksOf (after .own2))) (l .own3) (eight t l (w .sound)) (w .fine) (w .enough3);
+  }
 
   pub lowest-at : AnnounceableAt t l r (find (l .own2) 0) (find (l .own3) 0)
-  lowest-at = record { fine = w .fine; sound = w .sound; roomy = w .roomy; first = ready1; second = ready2 }
+  lowest-at = with-at t l r _ _ lowest-with
 
-  pub welcome-fits2 : Fits (insert r had) (level1 geo) (chunksOf (after .own2))
+  pub ready1 : OpenReady had r (level1 (t .geometry)) (l .own2) (find (l .own2) 0)
+  ready1 = lowest-at .first
+
+  pub ready2 : OpenReady had r (level2 (t .geometry) (chunksOf (after .own2))) (l .own3) (find (l .own3) 0)
+  ready2 = lowest-at .second
+
+  pub welcome-fits2 : Fits (insert r had) (level1 (t .geometry)) (chunksOf (after .own2))
   welcome-fits2 = at-fits2 t l r _ _ lowest-at
 
-  pub welcome-fits3 : Fits (insert r had) (level2 geo (chunksOf (after .own2))) (chunksOf (after .own3))
+  pub welcome-fits3 : Fits (insert r had) (level2 (t .geometry) (chunksOf (after .own2))) (chunksOf (after .own3))
   welcome-fits3 = at-fits3 t l r _ _ lowest-at
 
   pub welcome-holds : TableHolds t l (insert r had) (stateOf t (insert r had)) (lentOf t l (insert r had) after)

@@ -14,9 +14,13 @@ use Rattle.sail.specs.Level.{liveIn, entry}
 use Rattle.sail.specs.Sound.{Sound}
 use Rattle.sail.specs.declared.geometry.Geometry.{Geometry}
 use Rattle.sail.specs.declared.table.Table.{Table}
-use Rattle.sail_theory.specs.Render.{block}
-use Rattle.sail_theory.specs.Shared.{ownPart, alone, touched, mixed, mixedIn}
+use Rattle.sail_theory.specs.Render.{block, laid}
+use Rattle.sail_theory.specs.Shared.{ownPart, alone, ComesBlank, touched, mixed, mixedIn}
 use Rattle.sail_theory.proofs.places.Pools.{length-laid, laid-at}
+
+block-at : (n : ℕ) (live : ℕ → Bool) (value : ℕ → ℕ) (q : ℕ) → q < n → getD (block n live value) q 0 ≡ cond (live q) (value q) 0
+unfolding block
+block-at n live value q h = getD-tabulate n _ q 0 h
 
 -- outside the chunks of these owners the array is 0
 pub record Blank (own : List ℕ) (d : ℕ) (xs : List ℕ) : Type 0 where
@@ -65,6 +69,46 @@ module _ (was own : List ℕ) (d : ℕ) (old xs : List ℕ) where
       go q h (inl e) f = rw e
       go q h (inr e) (inl f) = rw (e, f)
       go q h (inr e) (inr f) = rw (e, f) (b .zero q h e ∙ sym (c .zero q (rw n h) f))
+
+-- where nothing else is in use, what comes is blank
+pub blank-comes : (was own : List ℕ) (d : ℕ) (old : List ℕ) → Blank was d old → ComesBlank was own d old
+blank-comes was own d old b = record { zero = λ q h e _. b .zero q h e }
+
+-- No chunk is closed: what was theirs is so still. Then an array laid over at live places is what a change leaves.
+module _ (was own : List ℕ) (d : ℕ) (old : List ℕ) (still : (q : ℕ) → liveIn (entry was) d q ≡ true → liveIn (entry own) d q ≡ true) where
+  pub touched-live : (q : ℕ) → touched was own d q ≡ liveIn (entry own) d q
+  touched-live q = go (decided (liveIn (entry was) d q))
+    where
+      go : (liveIn (entry was) d q ≡ true) ⊎ (liveIn (entry was) d q ≡ false) → touched was own d q ≡ liveIn (entry own) d q
+      go (inl e) = rw e (sym (still q e))
+      go (inr e) = rw e
+
+  -- what came is blank: the owners see what they saw
+  pub comes-part : ComesBlank was own d old → ownPart own d old ≡ ownPart was d old
+  comes-part b = ext-getD 0 _ _ (length-own own d old ∙ sym (length-own was d old)) (λ q h.
+      let k : q < length old = rw length-own at h in
+      own-at own d old q k ∙ go q k (decided (liveIn (entry was) d q)) (decided (liveIn (entry own) d q)) ∙ sym (own-at was d old q k))
+    where
+      go : (q : ℕ) → q < length old → (liveIn (entry was) d q ≡ true) ⊎ (liveIn (entry was) d q ≡ false)
+          → (liveIn (entry own) d q ≡ true) ⊎ (liveIn (entry own) d q ≡ false)
+          → cond (liveIn (entry own) d q) (getD old q 0) 0 ≡ cond (liveIn (entry was) d q) (getD old q 0) 0
+      go q h (inl e) f = rw (still q e, e)
+      go q h (inr e) (inl f) = rw (e, f) (b .zero q h e f)
+      go q h (inr e) (inr f) = rw (e, f)
+
+  pub laid-mixed : (value : ℕ → ℕ) (n : ℕ) → length old ≡ n → laid old (liveIn (entry own) d) value ≡ mixed was own d old (block n (liveIn (entry own) d) value)
+  laid-mixed value n size =
+      ext-getD 0 _ _ (length-laid old _ value ∙ sym (length-mixed was own d old _)) (λ q h.
+      let k : q < length old = rw length-laid at h in
+      laid-at old (liveIn (entry own) d) value q k ∙ go q (rw size at k) (decided (liveIn (entry own) d q))
+      ∙ sym (mixed-at was own d old (block n (liveIn (entry own) d) value) q k ∙ ap (λ (b : Bool). cond b (getD (block n (liveIn (entry own) d) value) q 0)
+      (getD old q 0)) (touched-live q)))
+    where
+      go : (q : ℕ) → q < n → (liveIn (entry own) d q ≡ true) ⊎ (liveIn (entry own) d q ≡ false)
+          → cond (liveIn (entry own) d q) (value q) (getD old q 0)
+          ≡ cond (liveIn (entry own) d q) (getD (block n (liveIn (entry own) d) value) q 0) (getD old q 0)
+      go q h (inl e) = rw e (sym (block-at n (liveIn (entry own) d) value q h ∙ rw e))
+      go q h (inr e) = rw e
 
 -- The pools of a sound table are 0 outside its own chunks.
 module _ (t : Table) (l : Lent) (s : Sound t l) where

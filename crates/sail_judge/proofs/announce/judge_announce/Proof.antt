@@ -1,7 +1,7 @@
 -- `sail_judge::announce::judge_announce`. The number with which the announcement is refused, by the first condition that holds; 0 where it is accepted.
 use native.Mathlib.Omega.{arith}
 use Rattle.sail_judge.proofs.ChainLeft.{refused-left, sound-left}
-use Rattle.sail_judge.proofs.AnnounceJudges.{judge-sizes, judge-route, judge-sound, judge-proper}
+use Rattle.sail_judge.proofs.AnnounceJudges.{judge-sizes, judge-route, judge-sound, judge-proper, room-ready, room-judged}
 use Rattle.sail_judge.proofs.announce.judge_announce.Statement.{statement}
 use Rattle.sail_judge.proofs.announce.judge_announce.Tie as tie
 
@@ -43,19 +43,27 @@ returns-3 c =
 
 judge-room-requires : tie.Need-judge-room-requires
 judge-room-requires c κs =
+    let else3 : tie.Else3 = search in
     let after-sound : tie.After-sound = search in
     let else2 : tie.Else2 = search in
     let after-fault : tie.After-route-fault = search in
     let else1 : tie.Else1 = search in
     let after-sizes : tie.After-sizes = search in
-    judge-proper _ _ _ _ (after-sizes .sizes .ensures) (else1 .if1 .left) _ (after-fault .route-fault .ensures) (else2 .if2 .left) _
-    (after-sound .sound .ensures .tried) (c .if3 .left)
+    room-ready (judge-proper _ _ _ _ (after-sizes .sizes .ensures) (else1 .if1 .left) _ (after-fault .route-fault .ensures) (else2 .if2 .left) _
+    (after-sound .sound .ensures .tried) (else3 .if3 .left))
 
 returns-4 : tie.Need-returns-4
 returns-4 c =
     let else3 : tie.Else3 = search in
     let after-sound : tie.After-sound = search in
-    (c .judge-room .ensures, sound-left (after-sound .sound .ensures) (else3 .if3 .left))
+    let else2 : tie.Else2 = search in
+    let after-fault : tie.After-route-fault = search in
+    let else1 : tie.Else1 = search in
+    let after-sizes : tie.After-sizes = search in (
+      room-judged (judge-proper _ _ _ _ (after-sizes .sizes .ensures) (else1 .if1 .left) _ (after-fault .route-fault .ensures) (else2 .if2 .left) _
+          (after-sound .sound .ensures .tried) (else3 .if3 .left)) (c .judge-room .ensures),
+      sound-left (after-sound .sound .ensures) (else3 .if3 .left),
+    )
 
 pub judge-announce-spec : {M : Type 1} → statement M
 judge-announce-spec =

@@ -1,6 +1,5 @@
 -- `sail_judge::announce::judge_room`: each way has its law.
 use borrow.Author.Needs.{needs}
-use Rattle.sail_chunks.proofs.Trails.{serving-of}
 use Rattle.sail_judge.proofs.AnnounceJudges.{Sought, sought, RoomLeft, fitting, room-stands, room-full, room-second, room-third, room-enough}
 use Rattle.sail_judge.proofs.announce.judge_room.Statement.{statement}
 use Rattle.sail_judge.proofs.announce.judge_room.Tie as tie
@@ -8,7 +7,7 @@ use Rattle.sail_judge.proofs.announce.judge_room.Tie as tie
 -- where it starts, seen from after `key_of`
 abbrev begun : tie.After-key-of → tie.Start
 begun c =
-    let known : tie.After-shared-slice-known8 = search in
+    let known : tie.After-shared-slice-known5 = search in
     let start : tie.Start = search in
     start
 
@@ -27,12 +26,12 @@ fits c =
     fitting (looked-up known) (else1 .if1 .left) (else2 .if2 .left) (c .to-open .ensures)
 
 place-requires : tie.Need-place-requires
-place-requires c κs = begun c .pre .sound .listed .records
+place-requires c κs = begun c .pre .listed .records
 
 stands-at-requires : tie.Need-stands-at-requires
 stands-at-requires c κs =
     let named : tie.After-key-of = search in
-    record { records = begun named .pre .sound .listed .records; place = c .place .ensures .0 }
+    record { records = begun named .pre .listed .records; place = c .place .ensures .0 }
 
 returns : tie.Need-returns
 returns c =
@@ -46,10 +45,10 @@ returns-2 c =
     room-full (looked-up known) (else1 .if1 .left) (c .before .if2 .taken) _ (c .refusal .ensures)
 
 to-open-requires : tie.Need-to-open-requires
-to-open-requires c κs = let named : tie.After-key-of = search in serving-of _ _ (begun named .pre .sound)
+to-open-requires c κs = let named : tie.After-key-of = search in begun named .pre .serving
 
 wanting-requires : tie.Need-wanting-requires
-wanting-requires c κs = let named : tie.After-key-of = search in begun named .pre .sound .sized .few2
+wanting-requires c κs = let named : tie.After-key-of = search in begun named .pre .serving .few2
 
 returns-3 : tie.Need-returns-3
 returns-3 c =
@@ -58,7 +57,7 @@ returns-3 c =
     room-second (fits known) (second .wanting .ensures) (c .before .if3 .taken) _ (c .refusal2 .ensures)
 
 wanting-requires-2 : tie.Need-wanting-requires-2
-wanting-requires-2 c κs = let named : tie.After-key-of = search in begun named .pre .sound .sized .few3
+wanting-requires-2 c κs = let named : tie.After-key-of = search in begun named .pre .serving .few3
 
 returns-4 : tie.Need-returns-4
 returns-4 c =
