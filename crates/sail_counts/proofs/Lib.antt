@@ -5,3 +5,4 @@ pub mod Steps
 pub mod Leads
 pub mod Tallies
 pub mod Loads
+pub mod SharedCounts
