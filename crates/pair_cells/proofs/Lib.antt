@@ -1,2 +1,3 @@
 -- A party's change on the real arrays of a box.
 pub mod Announces
+pub mod Mixes
