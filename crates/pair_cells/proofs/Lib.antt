@@ -1,3 +1,4 @@
 -- A party's change on the real arrays of a box.
 pub mod Announces
 pub mod Mixes
+pub mod Boxes
