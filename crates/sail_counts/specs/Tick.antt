@@ -7,11 +7,14 @@ use lib.Dec.{ltb}
 use lib.ListN.{length, getD, set}
 use Rattle.bits.specs.Slot.{slot}
 use Rattle.routes.specs.Record.{routesOf, Records}
+use Rattle.routes.specs.declared.Route.{Route}
 use Rattle.sail.specs.Geometry.{bits2, Valid}
-use Rattle.sail.specs.Level.{entry, chunksOf, level1}
+use Rattle.sail.specs.Level.{entry, liveIn, chunksOf, level1, level2}
 use Rattle.sail.specs.Sound.{Shows}
 use Rattle.sail.specs.Walk.{cellPlace}
 use Rattle.sail.specs.declared.geometry.Geometry.{Geometry}
+use Rattle.sail_theory.specs.Render.{longs}
+use Rattle.sail_theory.specs.Shared.{mixed}
 use Rattle.sail_counts.specs.declared.tick.Left.{Left}
 
 -- one more, or one less
@@ -60,7 +63,7 @@ pub record CountsMoved (g : Geometry) (a len : ℕ) (first long1 long2 : List �
   pub one : Ticked (ltb (g .p1) len) up (slot (g .p1) a) long1 long1′ (left .first)
   pub two : Ticked (ltb (g .p2) len) up (secondAt g first a) long2 long2′ (left .second)
 
--- n good records, first cells that serve their routes, and as many counts as cells, each of them 0
+-- n good records, first cells that serve their routes, and as many counts as cells; those of first cells and of live second cells are 0
 pub record Uncounted (g : Geometry) (s : List ℕ) (n : ℕ) (first own2 long1 long2 : List ℕ) : Type 0 where
   pub records : Records s n
   pub valid : Valid g
@@ -69,4 +72,9 @@ pub record Uncounted (g : Geometry) (s : List ℕ) (n : ℕ) (first own2 long1 l
   pub counts1 : length long1 ≡ 2 ^ g .p1
   pub counts2 : length long2 ≡ length own2 * 2 ^ bits2 g
   pub zero1 : (q : ℕ) → getD long1 q 0 ≡ 0
-  pub zero2 : (q : ℕ) → getD long2 q 0 ≡ 0
+  pub zero2 : (q : ℕ) → q < length long2 → liveIn (entry own2) (bits2 g) q ≡ true → getD long2 q 0 ≡ 0
+
+-- the counts of these routes at all first cells and at live second ones; the other second counts are what they were
+pub record CountedAll (rs : List Route) (g : Geometry) (own2 long2 long1′ long2′ : List ℕ) : Type 0 where
+  pub first : long1′ ≡ longs rs (level1 g)
+  pub second : long2′ ≡ mixed own2 own2 (bits2 g) long2 (longs rs (level2 g (chunksOf own2)))

@@ -1,8 +1,7 @@
 // One route more or less in the counts of a table, whose first cells lead to the place that serves the route.
 ghost use mathlib.Core.Path.{_≡_};
 ghost use Rattle.routes.specs.Record.{routesOf};
-ghost use Rattle.sail_counts.specs.Counted.{Counts};
-ghost use Rattle.sail_counts.specs.Tick.{step, Steps, Ticks, Ticked, Tickable, CountsMoved, Uncounted};
+ghost use Rattle.sail_counts.specs.Tick.{step, Steps, Ticks, Ticked, Tickable, CountsMoved, Uncounted, CountedAll};
 use bits::widen::byte_to_word;
 use bits::widen::half_to_index;
 use records::record::read_record;
@@ -66,8 +65,9 @@ pub fn tick(
     }
 }
 
-// The routes of the first n records come one by one, where all counts are 0. The first cells lead to the places of all of
-// them. The owners are not read: they say which cells are in use.
+// The routes of the first n records come one by one, where the counts of first cells and of live second cells are 0; the other
+// counts are not read, and stay. The first cells lead to the places of all routes. The owners are not read: they say which cells
+// are live.
 pub fn count_all(
     g: Geometry,
     list: &[u8],
@@ -78,7 +78,7 @@ pub fn count_all(
     long2: &mut [u16],
 )
     requires { ⌜ Uncounted g (now list) n (now first) (now own2) (now long1) (now long2) ⌝ }
-    ensures { λ _. ⌜ Counts (routesOf (now (list .entry)) n) g (now (own2 .entry)) (now (long1 .exit)) (now (long2 .exit)) ⌝ }
+    ensures { λ _. ⌜ CountedAll (routesOf (now (list .entry)) n) g (now (own2 .entry)) (now (long2 .entry)) (now (long1 .exit)) (now (long2 .exit)) ⌝ }
 {
     let mut k = 0;
     while k < n {

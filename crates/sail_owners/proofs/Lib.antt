@@ -1,5 +1,6 @@
 -- Laws that the functions' proofs cite.
 pub mod Packs
-pub mod Passes
+pub mod Sights
 pub mod RisingOwners
-pub mod LoadPass
+pub mod Froms
+pub mod Passes

@@ -1,12 +1,12 @@
 // The owners of a load, in one pass over its records. The routes ascend, and so do the places that chunks hang from: a
-// route's chunk is the last one opened, or the next that is free.
+// route's chunk is the last one opened, or the next that is free. Chunks that another table has stay as they are.
 ghost use mathlib.Core.Path.{_≡_};
 ghost use Prim.Native.Nat.{_≤_};
 ghost use lib.ListN.{length};
 ghost use Rattle.bits.specs.Tab.{Tells};
 ghost use Rattle.sail_theory.specs.Render.{find};
 ghost use Rattle.sail_theory.specs.Calls.{inputRoutes, ownersAfter};
-ghost use Rattle.sail_owners.specs.Owners.{owners, Past, LastIs, MayOwn, HasOwner, OpenForReady, Opened, Ownable};
+ghost use Rattle.sail_owners.specs.Owners.{owners, Past, LastIs, MayOwn, HasOwner, OpenForReady, Opened, ownersFrom, Between, Ownable};
 use bits::slot;
 use bits::widen::byte_to_word;
 use records::record::read_record;
@@ -14,16 +14,10 @@ use routes::Route;
 use sail::geometry::Geometry;
 use sail::place::second_place;
 
-// How far the pass over a pool has come: the last chunk that it opened, from 1, or 0; and the first chunk, from 0, that may be
-// free.
-pub struct Pass {
-    pub last: usize,
-    pub free: usize,
-}
-
+// How far the pass over each pool has come: the last chunk that it opened, from 1, or 0. Every chunk before it is in use.
 pub struct Passes {
-    pub second: Pass,
-    pub third: Pass,
+    pub second: usize,
+    pub third: usize,
 }
 
 // Whether there is a last chunk, the m-th, and its owner is o.
@@ -52,26 +46,30 @@ fn next_free(own: &[u32], from: usize) -> usize
     c
 }
 
-// A chunk has the owner o: the last one opened, or the next that is free.
-fn own_chunk(own: &mut [u32], u: Pass, o: u32) -> Pass
-    requires { ⌜ MayOwn (now own) u o ⌝ }
-    ensures { λ r. ⌜ HasOwner (now (own .entry)) u o (now (own .exit)) r ⌝ }
+// A chunk has the owner o: the last one opened, which is the m-th, or the next that is free. Answers which.
+fn own_chunk(own: &mut [u32], m: usize, o: u32) -> usize
+    requires { ⌜ MayOwn (now own) m o ⌝ }
+    ensures { λ r. ⌜ HasOwner (now (own .entry)) m o (now (own .exit)) r ⌝ }
 {
-    if last_is(own, u.last, o) {
-        return u;
+    if last_is(own, m, o) {
+        return m;
     }
-    let c = next_free(own, u.free);
+    let c = next_free(own, m);
     own[c] = o;
-    Pass {
-        last: c + 1,
-        free: c + 1,
-    }
+    c + 1
 }
 
-// Opens the chunks of a route that comes after all those before it.
-fn open_for(g: Geometry, r: Route, u: Passes, own2: &mut [u32], own3: &mut [u32]) -> Passes
-    requires { ⌜ OpenForReady g r u (now own2) (now own3) ⌝ }
-    ensures { λ v. ⌜ Opened g r (now (own2 .entry)) (now (own3 .entry)) u v (now (own2 .exit)) (now (own3 .exit)) ⌝ }
+// Opens the chunks of a route that comes after all those before it. `top` is added to each owner.
+fn open_for(
+    g: Geometry,
+    r: Route,
+    top: u32,
+    u: Passes,
+    own2: &mut [u32],
+    own3: &mut [u32],
+) -> Passes
+    requires { ⌜ OpenForReady top g r u (now own2) (now own3) ⌝ }
+    ensures { λ v. ⌜ Opened top g r (now (own2 .entry)) (now (own3 .entry)) u v (now (own2 .exit)) (now (own3 .exit)) ⌝ }
 {
     let p1 = g.p1;
     let p2 = g.p2;
@@ -82,12 +80,31 @@ fn open_for(g: Geometry, r: Route, u: Passes, own2: &mut [u32], own3: &mut [u32]
     }
     let at2 = u.second;
     let at3 = u.third;
-    let second = own_chunk(own2, at2, slot(p1, a) + 1);
+    let second = own_chunk(own2, at2, top + (slot(p1, a) + 1));
     if len <= p2 {
         return Passes { second, third: at3 };
     }
-    let third = own_chunk(own3, at3, second_place(g, second.last, a) as u32 + 1);
+    let third = own_chunk(own3, at3, top + (second_place(g, second, a) as u32 + 1));
     Passes { second, third }
+}
+
+// The owners after each record of the input is announced in order by a table that adds `top` to its owners. It has no chunk
+// before; others may.
+pub fn open_between(g: Geometry, input: &[u8], top: u32, own2: &mut [u32], own3: &mut [u32])
+    requires { ⌜ Between top g (now input) (now own2) (now own3) ⌝ }
+    ensures { λ _. ⌜ owners (now (own2 .exit)) (now (own3 .exit)) ≡ ownersFrom top g (owners (now (own2 .entry)) (now (own3 .entry)))
+        (inputRoutes (now (input .entry))) ⌝ }
+{
+    let n = input.len() / 8;
+    let mut u = Passes {
+        second: 0,
+        third: 0,
+    };
+    let mut k = 0;
+    while k < n {
+        u = open_for(g, read_record(input, k), top, u, own2, own3);
+        k += 1;
+    }
 }
 
 // The owners after each record of the input is announced in order, where none was before.
@@ -96,15 +113,5 @@ pub fn open_all(g: Geometry, input: &[u8], own2: &mut [u32], own3: &mut [u32])
     ensures { λ _. ⌜ owners (now (own2 .exit)) (now (own3 .exit)) ≡ ownersAfter g (owners (now (own2 .entry)) (now (own3 .entry)))
         (inputRoutes (now (input .entry))) ⌝ }
 {
-    let n = input.len() / 8;
-    let none = Pass { last: 0, free: 0 };
-    let mut u = Passes {
-        second: none,
-        third: none,
-    };
-    let mut k = 0;
-    while k < n {
-        u = open_for(g, read_record(input, k), u, own2, own3);
-        k += 1;
-    }
+    open_between(g, input, 0, own2, own3);
 }

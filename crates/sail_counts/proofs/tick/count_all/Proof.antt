@@ -1,4 +1,4 @@
--- `sail_counts::tick::count_all`: The invariant: the counts are those of the first k routes.
+-- `sail_counts::tick::count_all`: The invariant: the counts are those of the first k routes, and what others count is what it was.
 use mathlib.Core.Path.{sym, _∙_}
 use Prim.Native.Nat.{_-_, _≤_}
 use native.Mathlib.Omega.{arith}
@@ -8,7 +8,7 @@ use Rattle.sail_counts.proofs.tick.count_all.Statement.{statement}
 use Rattle.sail_counts.proofs.tick.count_all.Tie as tie
 
 abbrev Inv-loop : tie.InvT-loop
-Inv-loop g list n first own2 long1₀ long2₀ k₀ long1 long2 k = (k ≤ n) × Come g list k own2 long1 long2
+Inv-loop g list n first own2 long1₀ long2₀ k₀ long1 long2 k = (k ≤ n) × Come g list k own2 long2₀ long1 long2
 
 abbrev μ-loop : tie.MeasureT-loop
 μ-loop g list n first own2 long1₀ long2₀ k₀ long1 long2 k = n - k
@@ -54,7 +54,10 @@ same-length-2 c =
     round .loop .inv .1 .counts2 ∙ sym (start .pre .counts2)
 
 returns : tie.Need-returns Inv-loop μ-loop
-returns c = all-come _ _ _ _ _ _ _ (omega arith) (c .before .loop .inv .1)
+returns c =
+    let round : tie.At-loop Inv-loop μ-loop = search in
+    let start : tie.Start Inv-loop μ-loop = search in
+    all-come _ _ _ _ _ _ _ (start .pre) _ _ _ (omega arith) (round .loop .inv .1)
 
 pub count-all-spec : {M : Type 1} → statement M
 count-all-spec =
