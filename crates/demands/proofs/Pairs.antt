@@ -40,6 +40,15 @@ use Rattle.pair.specs.declared.Pair.{Pair}
 use Rattle.pair_make.specs.Contract.{MeetsPairMake}
 use Rattle.pair_make.specs.declared.MadePair.{MadePair}
 use Rattle.pair_make.proofs.OneAnswer as make
+use Rattle.pair_announce.specs.Contract.{MeetsPairAnnounce}
+use Rattle.pair_announce.specs.declared.turn.PairAnnounced.{PairAnnounced}
+use Rattle.pair_announce.proofs.OneAnswer as announcing
+use Rattle.pair_withdraw.specs.Contract.{MeetsPairWithdraw}
+use Rattle.pair_withdraw.specs.declared.answers.PairWithdrawn.{PairWithdrawn}
+use Rattle.pair_withdraw.proofs.OneAnswer as withdrawing
+use Rattle.pair_load.specs.Contract.{MeetsPairLoad}
+use Rattle.pair_load.specs.declared.answers.PairLoaded.{PairLoaded}
+use Rattle.pair_load.proofs.OneAnswer as loading
 use Rattle.pair_report.specs.Contract.{MeetsPairReport}
 use Rattle.pair_report.proofs.OneAnswer as report
 use Rattle.pair_lookup.specs.Contract.{MeetsPairLookup}
@@ -216,6 +225,18 @@ isolation = runs.isolation
 module _ (t : Pair) (b : PairLent) where
   pub one-answer-pair-make : (x y : MadePair) (u v : PairLent) → MeetsPairMake t b x u → MeetsPairMake t b y v → (x ≡ y) × (u ≡ v)
   one-answer-pair-make = make.one-answer-pair-make t b
+
+  pub one-answer-pair-announce : (w : Party) (r : Route) (x y : PairAnnounced) (u v : PairLent)
+      → MeetsPairAnnounce w t b r x u → MeetsPairAnnounce w t b r y v → (x ≡ y) × (u ≡ v)
+  one-answer-pair-announce w = announcing.one-answer-pair-announce w t b
+
+  pub one-answer-pair-withdraw : (w : Party) (addr len : ℕ) (x y : PairWithdrawn) (u v : PairLent)
+      → MeetsPairWithdraw w t b addr len x u → MeetsPairWithdraw w t b addr len y v → (x ≡ y) × (u ≡ v)
+  one-answer-pair-withdraw w = withdrawing.one-answer-pair-withdraw w t b
+
+  pub one-answer-pair-load : (w : Party) (input : List ℕ) (x y : PairLoaded) (u v : PairLent)
+      → MeetsPairLoad w t b input x u → MeetsPairLoad w t b input y v → (x ≡ y) × (u ≡ v)
+  one-answer-pair-load w = loading.one-answer-pair-load w t b
 
   pub one-answer-pair-report : (w : Party) (x y : Reported) → MeetsPairReport w t b x → MeetsPairReport w t b y → x ≡ y
   one-answer-pair-report w = report.one-answer-pair-report w t b

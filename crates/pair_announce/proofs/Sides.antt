@@ -270,8 +270,7 @@ module _ {w : Party} {t : Pair} {l : Lent} {r : Route} {f : AnnounceVerdict} {se
           × (e ≡ mixedIn (t .geometry) (among w l) (rendered (t .geometry) (roomOf l) next (view w (now .own2)) (view w (now .own3))))
       left =
           let z : MeetsAddIn (tableFor w t) (among w l) r (find (l .own2) 0) (find (l .own3) 0) u e
-          = rw (is, low2, low3, sight .seen2, sight .seen3) at m in
-          (
+          = rw (is, low2, low3, sight .seen2, sight .seen3) at m in (
             ap (λ (y : Table). y .count) (z .0),
             z .1 ∙ sym (ap₂ (λ (a b : List ℕ). mixedIn (t .geometry) (among w l) (rendered (t .geometry) (roomOf l) next a b)) (on .views .0) (on .views .1)),
           )
