@@ -58,17 +58,21 @@ module _ (t : Pair) (b : PairLent) (rs : List Route) (o : Owners) where
 
   pub shift-box : (w : Party) → Shift w t b rs o → withSide w (sideLeft w g (side w b) rs o) b ≡ pairLentOf w t b rs o
   shift-box one k = rw (
-    mixed-joined (b .own2) (o .own2) (bits2 g) (b .second) (asked one k .second) (k .sound .spare2) (seen one k .size2 ∙ more2 one k ∙ sym (sized one k .cells2))
+    mixed-joined (b .own2) (o .own2) (bits2 g) (b .second) (asked one k .second) (k .sound .spare2)
+        (seen one k .size2 ∙ more2 one k ∙ sym (sized one k .cells2))
         one (k .same2) (seen one k .blank2),
-    mixed-joined (b .own3) (o .own3) (bits3 g) (b .third) (asked one k .third) (k .sound .spare3) (seen one k .size3 ∙ more3 one k ∙ sym (sized one k .cells3))
+    mixed-joined (b .own3) (o .own3) (bits3 g) (b .third) (asked one k .third) (k .sound .spare3)
+        (seen one k .size3 ∙ more3 one k ∙ sym (sized one k .cells3))
         one (k .same3) (seen one k .blank3),
     mixed-joined (b .own2) (o .own2) (bits2 g) (b .long2) (asked one k .long2) (k .sound .uncounted)
         (seen one k .sizes ∙ more2 one k ∙ sym (sized one k .counts2 ∙ sized one k .cells2)) one (k .same2) (seen one k .uncounted),
   )
   shift-box two k = rw (
-    mixed-joined (b .own2) (o .own2) (bits2 g) (b .second) (asked two k .second) (k .sound .spare2) (seen two k .size2 ∙ more2 two k ∙ sym (sized two k .cells2))
+    mixed-joined (b .own2) (o .own2) (bits2 g) (b .second) (asked two k .second) (k .sound .spare2)
+        (seen two k .size2 ∙ more2 two k ∙ sym (sized two k .cells2))
         two (k .same2) (seen two k .blank2),
-    mixed-joined (b .own3) (o .own3) (bits3 g) (b .third) (asked two k .third) (k .sound .spare3) (seen two k .size3 ∙ more3 two k ∙ sym (sized two k .cells3))
+    mixed-joined (b .own3) (o .own3) (bits3 g) (b .third) (asked two k .third) (k .sound .spare3)
+        (seen two k .size3 ∙ more3 two k ∙ sym (sized two k .cells3))
         two (k .same3) (seen two k .blank3),
     mixed-joined (b .own2) (o .own2) (bits2 g) (b .long2) (asked two k .long2) (k .sound .uncounted)
         (seen two k .sizes ∙ more2 two k ∙ sym (sized two k .counts2 ∙ sized two k .cells2)) two (k .same2) (seen two k .uncounted),

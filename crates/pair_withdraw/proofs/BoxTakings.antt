@@ -31,7 +31,6 @@ use Rattle.pair_sound.specs.BoxTest.{BothSized, BoxTold}
 use Rattle.pair_cells.specs.Sides.{sideLeft, withSide, SideOut, sideOut}
 use Rattle.pair_cells.proofs.Boxes.{side-sound, box-sight, same-side, shift-box, shift-sound}
 use Rattle.pair_withdraw.specs.Taking.{SideReady, sideTaking}
-use Rattle.pair_withdraw.specs.Contract.{MeetsPairTake}
 
 owners-side : (w : Party) (b : PairLent) → ownersOf (side w b) ≡ pairOwners b
 owners-side one b = refl

@@ -3,3 +3,4 @@ pub mod Shuts
 pub mod Takings
 pub mod BoxTakings
 pub mod PairReturns
+pub mod OneAnswer

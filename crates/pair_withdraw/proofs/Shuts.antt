@@ -1,16 +1,15 @@
 -- The owners once a party closed chunks: where the party sees what is kept of what it saw, they are those that the definition of the call leaves.
 use mathlib.Core.Path.{_≡_, refl, sym, _∙_, ap}
 use mathlib.Core.Logic.{_⊎_, inl, inr}
-use mathlib.Core.Bool.{Bool, true, false, cond}
+use mathlib.Core.Bool.{true, false, cond}
 use mathlib.Core.List.{List, [], _∷_}
 use Prim.Native.Nat.{ℕ, zero, suc, _-_, _<_}
 use native.Mathlib.Nat.{not-suc-le-zero, le-of-suc-le-suc}
 use lib.Dec.{eqb}
 use lib.ListN.{getD, length}
-use lib.Seq.{ext-getD}
-use borrow.Author.Tests.{eq-eqb, ne-eqb, eqb-false}
+use borrow.Author.Tests.{eq-eqb, ne-eqb}
 use Rattle.bits.proofs.Bools.{decided}
-use Rattle.bits.proofs.Tabs.{length-tabulate, getD-tabulate, is-tabulate}
+use Rattle.bits.proofs.Tabs.{is-tabulate}
 use Rattle.routes.specs.declared.Route.{Route}
 use Rattle.sail.specs.Level.{Level, deep}
 use Rattle.sail_theory.specs.Calls.{keep}
@@ -33,10 +32,6 @@ pub shut-done : (w : Party) (see own now : List ℕ) → length now ≡ length o
     → ((c : ℕ) → c < length own → getD now c 0 ≡ ownerLeft w (getD see c 0) (getD own c 0)) → now ≡ shutFor w see own
 unfolding shutFor
 shut-done w see own now n h = is-tabulate 0 now (length own) _ n h
-
-pub length-shut : (w : Party) (see own : List ℕ) → length (shutFor w see own) ≡ length own
-unfolding shutFor
-length-shut w see own = length-tabulate (length own) _
 
 module _ (w : Party) (rs : List Route) (v : Level) where
   abbrev kept : ℕ → ℕ

@@ -1,5 +1,5 @@
 -- A withdrawal on a party's side, step by step: what each step asks, and what they leave.
-use mathlib.Core.Path.{_≡_, refl, sym, _∙_, ap}
+use mathlib.Core.Path.{_≡_, sym, _∙_, ap}
 use mathlib.Core.List.{List}
 use Prim.Native.Nat.{ℕ}
 use lib.ListN.{length}
@@ -62,7 +62,11 @@ module _ {w : Party} {t : Pair} {l : Lent} {a len : ℕ} {see2 see3 ws par : Lis
         pub to-take : ToTakeIn table seen a len (f .at)
         to-take =
             let k = rw own at (found .on h) in
-            rw (own, s .sight .seen2, s .sight .seen3) (record { may = record { prefix = s .prefix; sound = s .sound; old = k .2 }; place = k .0; named = k .1 })
+            rw (own, s .sight .seen2, s .sight .seen3) (record {
+              may = record { prefix = s .prefix; sound = s .sound; old = k .2 };
+              place = k .0;
+              named = k .1;
+            })
 
         pub to-chain : ChainedFront (l .list) (table .count) ws par
         to-chain = rw own (s .sight .chain)

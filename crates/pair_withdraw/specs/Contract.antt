@@ -1,4 +1,4 @@
--- The statement of withdraw in a box of two, as a predicate on what was given, what is answered with the state (both are r), and what is lent at exit (e).
+-- The statement of a party's withdrawal, as a predicate on what was given, what is answered, the state with it (both are r) and what is lent at exit (e).
 use mathlib.Core.List.{[]}
 use mathlib.Core.Path.{_≡_}
 use Prim.Native.Nat.{ℕ}
@@ -16,6 +16,6 @@ use Rattle.pair_withdraw.specs.declared.side.PairTaken.{PairTaken}
 abbrev pub MeetsPairTake : Party → Pair → PairLent → ℕ → ℕ → PairTaken → PairLent → Type 0
 MeetsPairTake w t b a len r e = pairOut (orSay (r .number) (accepted [])) (r .state) e ≡ pairTaking w t b a len
 
--- of any prefix: the call's `ensures`
+-- of any prefix: the call's `ensures`, which leaves one answer (proofs/OneAnswer.antt)
 abbrev pub MeetsPairWithdraw : Party → Pair → PairLent → ℕ → ℕ → PairWithdrawn → PairLent → Type 0
 MeetsPairWithdraw w t b addr len r e = pairOut (meansWithdraw (r .answer)) (r .state) e ≡ pairWithdrawn w t b addr len

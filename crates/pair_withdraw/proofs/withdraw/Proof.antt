@@ -41,7 +41,10 @@ returns-2 c =
 
 -- the pools have no more chunks than the room for what is seen
 room2 : tie.Need-array-borrow-prefix-see2
-room2 c = let at-proper : tie.Else2 = search in let at-else = fitting (checked at-proper) in omega (arith, few2 (measured at-else .sizes .ensures) (at-else .if1 .left))
+room2 c =
+    let at-proper : tie.Else2 = search in
+    let at-else = fitting (checked at-proper) in
+    omega (arith, few2 (measured at-else .sizes .ensures) (at-else .if1 .left))
 
 part2 : tie.Need-slice-aggregate-withdraw-sized
 part2 c =
@@ -50,7 +53,10 @@ part2 c =
     sym (length-take-le _ _ (omega (arith, few2 (measured at-else .sizes .ensures) (at-else .if1 .left))))
 
 room3 : tie.Need-array-borrow-prefix-see3
-room3 c = let at-proper : tie.Else2 = search in let at-else = fitting (checked at-proper) in omega (arith, few3 (measured at-else .sizes .ensures) (at-else .if1 .left))
+room3 c =
+    let at-proper : tie.Else2 = search in
+    let at-else = fitting (checked at-proper) in
+    omega (arith, few3 (measured at-else .sizes .ensures) (at-else .if1 .left))
 
 part3 : tie.Need-slice-aggregate-withdraw-sized-2
 part3 c =
@@ -86,7 +92,8 @@ returns-4 c =
     let at-end : tie.Else3 = search in
     let at-take = taken at-end in
     let at-sizes = measured (fitting (checked (proper at-take))) in
-    on-taken _ _ _ _ _ _ (cut-off at-sizes .clear-after .ensures) (at-take .withdraw-sized .result) _ (at-take .withdraw-sized .ensures) (at-end .if3 .left) _ refl
+    on-taken _ _ _ _ _ _ (cut-off at-sizes .clear-after .ensures) (at-take .withdraw-sized .result) _ (at-take .withdraw-sized .ensures)
+    (at-end .if3 .left) _ refl
 
 pub withdraw-spec : {M : Type 1} → statement M
 withdraw-spec =

@@ -46,6 +46,31 @@ returns-2 c =
 abbrev second-tried : tie.After-withdraw-sound → tie.After-sound
 second-tried c = tried (second-calls (second-taken c))
 
+-- what was seen is as long as it was
+second-see2 : tie.Need-same-length-27
+second-see2 c =
+    let at-take : tie.After-withdraw-sound = search in
+    at-take .withdraw-sound .kept .1 .1 .1 .1 .1 .1 .1 .1 .1 .1 .1 .1 .0
+    ∙ second-tried at-take .sound .kept .1 .1 .1 .1 .1 .1 .1 .1 .1 .1 .1 .1 .1 .0
+
+second-see3 : tie.Need-same-length-28
+second-see3 c =
+    let at-take : tie.After-withdraw-sound = search in
+    at-take .withdraw-sound .kept .1 .1 .1 .1 .1 .1 .1 .1 .1 .1 .1 .1 .1 .0
+    ∙ second-tried at-take .sound .kept .1 .1 .1 .1 .1 .1 .1 .1 .1 .1 .1 .1 .1 .1 .0
+
+second-words : tie.Need-same-length-29
+second-words c =
+    let at-take : tie.After-withdraw-sound = search in
+    at-take .withdraw-sound .kept .1 .1 .1 .1 .1 .1 .1 .1 .1 .1 .1 .1 .1 .1 .0
+    ∙ second-tried at-take .sound .kept .1 .1 .1 .1 .1 .1 .1 .1 .1 .1 .1 .1 .1 .1 .1 .0
+
+second-chain : tie.Need-same-length-30
+second-chain c =
+    let at-take : tie.After-withdraw-sound = search in
+    at-take .withdraw-sound .kept .1 .1 .1 .1 .1 .1 .1 .1 .1 .1 .1 .1 .1 .1 .1 .0
+    ∙ second-tried at-take .sound .kept .1 .1 .1 .1 .1 .1 .1 .1 .1 .1 .1 .1 .1 .1 .1 .1 .0
+
 -- the first party calls
 abbrev first-calls : tie.Else2 → tie.Else1
 first-calls c = search
@@ -70,6 +95,30 @@ returns-3 c =
 
 abbrev first-tried : tie.After-withdraw-sound2 → tie.After-sound
 first-tried c = tried (first-calls (first-taken c))
+
+first-see2 : tie.Need-same-length-42
+first-see2 c =
+    let at-take : tie.After-withdraw-sound2 = search in
+    at-take .withdraw-sound2 .kept .1 .1 .1 .1 .1 .1 .1 .1 .1 .1 .1 .1 .0
+    ∙ first-tried at-take .sound .kept .1 .1 .1 .1 .1 .1 .1 .1 .1 .1 .1 .1 .1 .0
+
+first-see3 : tie.Need-same-length-43
+first-see3 c =
+    let at-take : tie.After-withdraw-sound2 = search in
+    at-take .withdraw-sound2 .kept .1 .1 .1 .1 .1 .1 .1 .1 .1 .1 .1 .1 .1 .0
+    ∙ first-tried at-take .sound .kept .1 .1 .1 .1 .1 .1 .1 .1 .1 .1 .1 .1 .1 .1 .0
+
+first-words : tie.Need-same-length-44
+first-words c =
+    let at-take : tie.After-withdraw-sound2 = search in
+    at-take .withdraw-sound2 .kept .1 .1 .1 .1 .1 .1 .1 .1 .1 .1 .1 .1 .1 .1 .0
+    ∙ first-tried at-take .sound .kept .1 .1 .1 .1 .1 .1 .1 .1 .1 .1 .1 .1 .1 .1 .1 .0
+
+first-chain : tie.Need-same-length-45
+first-chain c =
+    let at-take : tie.After-withdraw-sound2 = search in
+    at-take .withdraw-sound2 .kept .1 .1 .1 .1 .1 .1 .1 .1 .1 .1 .1 .1 .1 .1 .1 .0
+    ∙ first-tried at-take .sound .kept .1 .1 .1 .1 .1 .1 .1 .1 .1 .1 .1 .1 .1 .1 .1 .1 .0
 
 pub withdraw-sized-spec : {M : Type 1} → statement M
 withdraw-sized-spec =
@@ -104,10 +153,10 @@ withdraw-sized-spec =
     (λ c. let at-take : tie.After-withdraw-sound = search in at-take .withdraw-sound .kept .1 .1 .1 .1 .1 .1 .0)
     (λ c. let at-take : tie.After-withdraw-sound = search in at-take .withdraw-sound .kept .1 .1 .1 .1 .1 .1 .1 .0)
     (λ c. let at-take : tie.After-withdraw-sound = search in at-take .withdraw-sound .kept .1 .1 .1 .1 .1 .1 .1 .1 .0)
-    (λ c. let at-take : tie.After-withdraw-sound = search in at-take .withdraw-sound .kept .1 .1 .1 .1 .1 .1 .1 .1 .1 .1 .1 .1 .0 ∙ second-tried at-take .sound .kept .1 .1 .1 .1 .1 .1 .1 .1 .1 .1 .1 .1 .1 .0)
-    (λ c. let at-take : tie.After-withdraw-sound = search in at-take .withdraw-sound .kept .1 .1 .1 .1 .1 .1 .1 .1 .1 .1 .1 .1 .1 .0 ∙ second-tried at-take .sound .kept .1 .1 .1 .1 .1 .1 .1 .1 .1 .1 .1 .1 .1 .1 .0)
-    (λ c. let at-take : tie.After-withdraw-sound = search in at-take .withdraw-sound .kept .1 .1 .1 .1 .1 .1 .1 .1 .1 .1 .1 .1 .1 .1 .0 ∙ second-tried at-take .sound .kept .1 .1 .1 .1 .1 .1 .1 .1 .1 .1 .1 .1 .1 .1 .1 .0)
-    (λ c. let at-take : tie.After-withdraw-sound = search in at-take .withdraw-sound .kept .1 .1 .1 .1 .1 .1 .1 .1 .1 .1 .1 .1 .1 .1 .1 .0 ∙ second-tried at-take .sound .kept .1 .1 .1 .1 .1 .1 .1 .1 .1 .1 .1 .1 .1 .1 .1 .1 .0)
+    second-see2
+    second-see3
+    second-words
+    second-chain
     returns-2
     withdraw-sound-requires-2
     (λ c. let at-take : tie.After-withdraw-sound2 = search in at-take .withdraw-sound2 .kept .1 .0)
@@ -121,8 +170,8 @@ withdraw-sized-spec =
     (λ c. let at-take : tie.After-withdraw-sound2 = search in at-take .withdraw-sound2 .kept .1 .1 .1 .1 .1 .1 .0)
     (λ c. let at-take : tie.After-withdraw-sound2 = search in at-take .withdraw-sound2 .kept .1 .1 .1 .1 .1 .1 .1 .0)
     (λ c. let at-take : tie.After-withdraw-sound2 = search in at-take .withdraw-sound2 .kept .1 .1 .1 .1 .1 .1 .1 .1 .0)
-    (λ c. let at-take : tie.After-withdraw-sound2 = search in at-take .withdraw-sound2 .kept .1 .1 .1 .1 .1 .1 .1 .1 .1 .1 .1 .1 .0 ∙ first-tried at-take .sound .kept .1 .1 .1 .1 .1 .1 .1 .1 .1 .1 .1 .1 .1 .0)
-    (λ c. let at-take : tie.After-withdraw-sound2 = search in at-take .withdraw-sound2 .kept .1 .1 .1 .1 .1 .1 .1 .1 .1 .1 .1 .1 .1 .0 ∙ first-tried at-take .sound .kept .1 .1 .1 .1 .1 .1 .1 .1 .1 .1 .1 .1 .1 .1 .0)
-    (λ c. let at-take : tie.After-withdraw-sound2 = search in at-take .withdraw-sound2 .kept .1 .1 .1 .1 .1 .1 .1 .1 .1 .1 .1 .1 .1 .1 .0 ∙ first-tried at-take .sound .kept .1 .1 .1 .1 .1 .1 .1 .1 .1 .1 .1 .1 .1 .1 .1 .0)
-    (λ c. let at-take : tie.After-withdraw-sound2 = search in at-take .withdraw-sound2 .kept .1 .1 .1 .1 .1 .1 .1 .1 .1 .1 .1 .1 .1 .1 .1 .0 ∙ first-tried at-take .sound .kept .1 .1 .1 .1 .1 .1 .1 .1 .1 .1 .1 .1 .1 .1 .1 .1 .0)
+    first-see2
+    first-see3
+    first-words
+    first-chain
     returns-3)

@@ -1,6 +1,6 @@
 -- `pair_withdraw::owners::shut`. The invariant: the owners before `c` are done, those from `c` on are as they were. A turn writes the one at `c`, and the
 -- measure is how many are left.
-use mathlib.Core.Path.{_≡_, refl, sym, _∙_, ap}
+use mathlib.Core.Path.{_≡_, refl, _∙_, ap}
 use Prim.Native.Nat.{ℕ, _-_, _≤_, _<_}
 use native.Mathlib.Omega.{arith}
 use borrow.Author.Needs.{needs}
