@@ -22,7 +22,16 @@ use Rattle.pair.specs.PairCalls.{pairMade, pairAnnounced, pairWithdrawn, pairLo
 use Rattle.pair.specs.PairRuns.{pairDone}
 use Rattle.pair.specs.declared.Pair.{Pair}
 use Rattle.cards.specs.Pairs.{pairCardOf, PairCells16}
-use Rattle.cards.proofs.PairFits.{pair-make-few, pair-make-fits, pair-lookup-fits, pair-report-fits, pair-few, pair-announce-fits, pair-withdraw-fits, pair-load-fits}
+use Rattle.cards.proofs.PairFits.{
+  pair-make-few,
+  pair-make-fits,
+  pair-lookup-fits,
+  pair-report-fits,
+  pair-few,
+  pair-announce-fits,
+  pair-withdraw-fits,
+  pair-load-fits,
+}
 
 module _ (t : Pair) (b : PairLent) where
   -- make

@@ -64,7 +64,8 @@ module _ (m : Terms) (rs : List Route) (on : OnTerms m rs) (low : m .geometry .p
       go (inl e) =
           let as-before : (p : ℕ) → p ≤ 32 → need (insert c rs) p ≡ need rs p
           = λ p h. need-same c rs (f .0) (on .good) p h (stands-long c rs (f .0) (on .good) e p) in
-          rw e (Wanting.neither (omega (arith, as-before (m .geometry .p1) low, on .enough2)) (omega (arith, as-before (m .geometry .p2) deep, on .enough3)) (1 ∷ []))
+          rw e (Wanting.neither (omega (arith, as-before (m .geometry .p1) low, on .enough2))
+          (omega (arith, as-before (m .geometry .p2) deep, on .enough3)) (1 ∷ []))
       go (inr e) = rw (e, lt-leb (m .room) (length rs) (omega (arith, insert-adds c rs e, f .1))) (wanting m (insert c rs) (0 ∷ []))
 
   withdraw-wants : (a len : ℕ) → Formed (withdraw a len) rs (m .room) → Wanting m (remove (keyOf (cut len a) len) rs) (reply m rs (withdraw a len))
@@ -74,7 +75,8 @@ module _ (m : Terms) (rs : List Route) (on : OnTerms m rs) (low : m .geometry .p
       let less : (p : ℕ) → p ≤ 32 → need (remove k rs) p ≤ need rs p
       = λ p h. need-mono (remove k rs) rs p h (remove-good k rs (on .good)) (on .good) (λ i e. remove-any (within p i) k rs e) in
       rw (true-prefix (cut len a) len (f .0), f .1)
-      (Wanting.neither (omega (arith, less (m .geometry .p1) low, on .enough2)) (omega (arith, less (m .geometry .p2) deep, on .enough3)) (bit (cleared len a) ∷ []))
+      (Wanting.neither (omega (arith, less (m .geometry .p1) low, on .enough2))
+      (omega (arith, less (m .geometry .p2) deep, on .enough3)) (bit (cleared len a) ∷ []))
 
   load-wants : (input : List ℕ) → Formed (load input) rs (m .room) → Wanting m (inputRoutes input) (reply m rs (load input))
   unfolding reply loadFault
@@ -111,7 +113,8 @@ module _ (t : Pair) (b : PairLent) (made : accepts (pairMade t b .said) ≡ true
 
   within-terms : OnTerms (pairTerms w t b) rs
   within-terms =
-      subst (λ (m : Terms). OnTerms m rs) (holds .terms w) (subst (λ (xs : List Route). OnTerms (pairTerms w st lt) xs) (holds .routes w) (on-terms w st lt (holds .sound)))
+      subst (λ (m : Terms). OnTerms m rs) (holds .terms w)
+      (subst (λ (xs : List Route). OnTerms (pairTerms w st lt) xs) (holds .routes w) (on-terms w st lt (holds .sound)))
 
   -- "7 and 8 are given to a party exactly when its own need would exceed its limit"
   pub pair-want : (k : Call) → Formed k rs (roomFor w b) → ByNeed (pairTerms w t b) (routesAfter k rs) (pairDone w st lt k .said)

@@ -46,7 +46,17 @@ use Rattle.pair.proofs.PairOwners.{keep-view}
 use Rattle.pair.proofs.Shifts.{announce-at, announce-views, announce-shift}
 use Rattle.pair.proofs.Finds.{pair-serves, pair-tells}
 use Rattle.pair.proofs.PairJudged.{pair-announce-judged, pair-withdraw-judged, pair-load-judged}
-use Rattle.pair.proofs.PairSteps.{announce-accepts, withdraw-accepts, load-said, refused-left, announce-offered, announce-lent, withdraw-lent, prefix-shift, accepted-holds}
+use Rattle.pair.proofs.PairSteps.{
+  announce-accepts,
+  withdraw-accepts,
+  load-said,
+  refused-left,
+  announce-offered,
+  announce-lent,
+  withdraw-lent,
+  prefix-shift,
+  accepted-holds,
+}
 use Rattle.pair.proofs.Isolation.{their-routes}
 
 -- in a sound box a chunk that is the other's by its owner is one that the other sees
@@ -85,7 +95,8 @@ module _ (w : Party) (own own′ : List ℕ) (n : Nobodys own) (n′ : Nobodys o
       stay q l f =
           let c : q / 2 ^ d < length own = div-lt-iff-lt-mul (pow-pos d) .1 (rw size at l) in
           let h = theirs-seen w (getD own (q / 2 ^ d) 0) (n .zero (q / 2 ^ d) c) f in
-          let there : mine (other w) own d q ≡ true = lt-ltb 0 (getD (view (other w) own) (q / 2 ^ d) 0) (omega (arith, getD-view (other w) own (q / 2 ^ d), h)) in
+          let there : mine (other w) own d q ≡ true
+          = lt-ltb 0 (getD (view (other w) own) (q / 2 ^ d) 0) (omega (arith, getD-view (other w) own (q / 2 ^ d), h)) in
           let there′ : mine (other w) own′ d q ≡ true = ap (λ (v : List ℕ). ltb 0 (getD v (q / 2 ^ d) 0)) same ∙ there in
           sym (part-mine (other w) own′ d xs′ q (rw many l) there′) ∙ ap (λ (ys : List ℕ). getD ys q 0) e ∙ part-mine (other w) own d xs q l there
 
@@ -101,7 +112,8 @@ module _ (w : Party) (t : Pair) (b : PairLent) where
   announce-was r (PairAnnounce.third k x y) e = absurd (false≢true e)
   announce-was r (PairAnnounce.added k x y) e = k .proper .sound
 
-  withdraw-was : (a len : ℕ) {s : Said} → PairWithdraw w t b a len s → accepts s ≡ true → Withdrawable (tableFor w t) (sees (t .geometry) w b) a len × PairSound t b
+  withdraw-was : (a len : ℕ) {s : Said} → PairWithdraw w t b a len s → accepts s ≡ true
+      → Withdrawable (tableFor w t) (sees (t .geometry) w b) a len × PairSound t b
   withdraw-was a len (PairWithdraw.sizing n h) e = absurd (false≢true e)
   withdraw-was a len (PairWithdraw.bad-prefix z h) e = absurd (false≢true e)
   withdraw-was a len (PairWithdraw.unsound z p h) e = absurd (false≢true e)
@@ -202,7 +214,8 @@ module _ (w : Party) (t : Pair) (b : PairLent) where
         ∙ ap₂ (λ (x : Geometry) (xs : List Route). hopSaid (cellsRead x xs a) (best xs 32 a)) (h .geometry)
         (their-routes w t b _ (next .state) (next .lent) h)
         ∙ sym (pair-serves t b s (other w) a l))
-        (λ (e : accepts (next .said) ≡ false). let q = refused-left w t b c e in ap₂ (λ (x : Pair) (v : PairLent). pairLookupSaid (other w) x v a) (q .0) (q .1))
+        (λ (e : accepts (next .said) ≡ false). let q = refused-left w t b c e in
+        ap₂ (λ (x : Pair) (v : PairLent). pairLookupSaid (other w) x v a) (q .0) (q .1))
         (decided (accepts (next .said)))
 
     pub others-report : pairReported (other w) (next .state) (next .lent) ≡ pairReported (other w) t b

@@ -101,7 +101,8 @@ module _ (t : Pair) (b : PairLent) (z : Makeable t b) where
 pub pair-lowest : (w : Party) (v : Level) (own : List ℕ) (r : Route) (k : ℕ) → getD own k 0 ≡ 0 → getD (openFor w v own r) k 0 ≢ 0
     → (j : ℕ) → j < k → getD own j 0 ≢ 0
 unfolding openFor grantFor
-pair-lowest w v own r k was now j l = go (ltb (v .bits) (r .len)) (ltb (find (view w own) (Prim.Native.Nat.suc (v .serving (r .addr)))) (length (view w own))) now
+pair-lowest w v own r k was now j l =
+    go (ltb (v .bits) (r .len)) (ltb (find (view w own) (Prim.Native.Nat.suc (v .serving (r .addr)))) (length (view w own))) now
   where
     q : ℕ
     q = v .serving (r .addr)

@@ -30,8 +30,37 @@ use Rattle.sail_theory.specs.Calls.{chunksFault, announceFault, withdrawFault, 
 use Rattle.pair.specs.Party.{Party, one, two, foreign}
 use Rattle.pair.specs.PairLent.{PairLent, side, roomFor}
 use Rattle.pair.specs.PairSound.{shareOf, standingFor, pairSizesFault, limitsFit, PairSound, pairSound?}
-use Rattle.pair.specs.PairCalls.{pairTerms, freshPair, freshPairLent, pairMakeSaid, pairMade, pairAnnounceSaid, pairWithdrawSaid, pairLoadSaid, pairReported, opensFor, pairLookupSaid}
-use Rattle.pair.specs.PairCases.{AllSized, PairSizing, PairMake, PairProper, PairRoomy, PairAnnounce, PairWithdraw, PairReadable, PairLoad, PairReport, Enters, Theirs, v1, v2, v3, PairLookup}
+use Rattle.pair.specs.PairCalls.{
+  pairTerms,
+  freshPair,
+  freshPairLent,
+  pairMakeSaid,
+  pairMade,
+  pairAnnounceSaid,
+  pairWithdrawSaid,
+  pairLoadSaid,
+  pairReported,
+  opensFor,
+  pairLookupSaid,
+}
+use Rattle.pair.specs.PairCases.{
+  AllSized,
+  PairSizing,
+  PairMake,
+  PairProper,
+  PairRoomy,
+  PairAnnounce,
+  PairWithdraw,
+  PairReadable,
+  PairLoad,
+  PairReport,
+  Enters,
+  Theirs,
+  v1,
+  v2,
+  v3,
+  PairLookup,
+}
 use Rattle.pair.specs.declared.Pair.{Pair}
 use Rattle.pair.proofs.Sees.{for-both, side-sized}
 use Rattle.pair.proofs.PairTest.{limits-tells, pair-sound-tells}

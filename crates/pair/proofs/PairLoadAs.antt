@@ -34,7 +34,25 @@ use Rattle.sail_theory.proofs.places.Rendered.{sound-rendered}
 use Rattle.pair.specs.Party.{Party, one, two, other, put, seen, view}
 use Rattle.pair.specs.PairLent.{PairLent, side, pairOwners, roomFor, sees, boxOf}
 use Rattle.pair.specs.PairSound.{shareOf, tableFor, standingFor, PairSound}
-use Rattle.pair.specs.PairCalls.{keepFor, openedFor, ownersAfterFor, ownersKeptFor, PairOut, pairOut, withCount, pairLentOf, pairAdding, pairTaking, pairWithFlag, pairAnnounced, pairWithdrawn, pairLoaded, pairLoadSaid, pairAnnounceSaid, pairWithdrawSaid}
+use Rattle.pair.specs.PairCalls.{
+  keepFor,
+  openedFor,
+  ownersAfterFor,
+  ownersKeptFor,
+  PairOut,
+  pairOut,
+  withCount,
+  pairLentOf,
+  pairAdding,
+  pairTaking,
+  pairWithFlag,
+  pairAnnounced,
+  pairWithdrawn,
+  pairLoaded,
+  pairLoadSaid,
+  pairAnnounceSaid,
+  pairWithdrawSaid,
+}
 use Rattle.pair.specs.PairCases.{PairAnnounce, PairWithdraw}
 use Rattle.pair.specs.PairRuns.{pairDone, withdrawAll, AllRemoved, announceEach, EachAdded}
 use Rattle.pair.specs.declared.Pair.{Pair}
@@ -85,7 +103,8 @@ module _ (w : Party) (ys zs : List Route) (v v′ : Level) (own : List ℕ)
       getD-kept w zs v′ was c k ∙ ap (kept w zs v′) (getD-kept w ys v own c j) ∙ one-kept c j ∙ sym (getD-kept w zs v own c j))
 
 -- the same party's table put in place of what a call of its own left
-box-same : (g : Geometry) (o : Owners) (w : Party) (x : Lent) (f f′ : Party → Lent) → f (other w) ≡ f′ (other w) → boxOf g o (put w x f) ≡ boxOf g o (put w x f′)
+box-same : (g : Geometry) (o : Owners) (w : Party) (x : Lent) (f f′ : Party → Lent) → f (other w) ≡ f′ (other w)
+    → boxOf g o (put w x f) ≡ boxOf g o (put w x f′)
 box-same g o one x f f′ e = ap (λ (l : Lent). boxOf g o (put one x (λ v. l))) e
 box-same g o two x f f′ e = ap (λ (l : Lent). boxOf g o (put two x (λ v. l))) e
 

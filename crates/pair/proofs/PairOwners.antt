@@ -81,7 +81,8 @@ module _ (w : Party) (v : Level) (own : List ℕ) (r : Route) (small : ltb (v .b
   unfolding openFor openAt
   open-view = go (ltb (v .bits) (r .len)) refl
     where
-      go : (b : Bool) → ltb (v .bits) (r .len) ≡ b → view w (cond b (grantFor w own (find own 0) q) own) ≡ cond b (grant (view w own) (find own 0) q) (view w own)
+      go : (b : Bool) → ltb (v .bits) (r .len) ≡ b → view w (cond b (grantFor w own (find own 0) q) own)
+          ≡ cond b (grant (view w own) (find own 0) q) (view w own)
       go true e = grant-view w own (find own 0) q (small e)
       go false e = refl
 

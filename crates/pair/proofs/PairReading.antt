@@ -167,8 +167,14 @@ module _ (t : Pair) (b : PairLent) where
             second = shows-live (standingFor w t b) (v2 w z) (chunksOf (view w (b .own3))) (entry (b .second)) _ (at2 w z) (p .serves .second);
             third = record { leaf = λ q l e. at3 w z q l e ∙ p .serves .third .leaf q l e };
           };
-          clear2 = record { blank = λ q l e. part-blank w (b .own2) (bits2 g) (b .second) .zero q (rw (length-part w (b .own2) (bits2 g) (b .second), places2 w z) l) e };
-          clear3 = record { blank = λ q l e. part-blank w (b .own3) (bits3 g) (b .third) .zero q (rw (length-part w (b .own3) (bits3 g) (b .third), places3 w z) l) e };
+          clear2 = record {
+            blank = λ q l e.
+                part-blank w (b .own2) (bits2 g) (b .second) .zero q (rw (length-part w (b .own2) (bits2 g) (b .second), places2 w z) l) e;
+          };
+          clear3 = record {
+            blank = λ q l e.
+                part-blank w (b .own3) (bits3 g) (b .third) .zero q (rw (length-part w (b .own3) (bits3 g) (b .third), places3 w z) l) e;
+          };
           counted1 = p .counted1;
           counted2 = record {
             true-there = λ q l e. atc w z q l e ∙ p .counted2 q (rw (places w z) l) e;

@@ -93,8 +93,10 @@ module _ (t : Pair) (b : PairLent) where
           spare2 = spare-tells _ _ (b .second) .0 (h .0);
           spare3 = spare-tells _ _ (b .third) .0 (i .0);
           uncounted = spare-tells _ _ (b .long2) .0 (j .0);
-          within2 = for-both (λ w. need (standingFor w t b) (t .geometry .p1) ≤ shareOf w t .most2) one (within-tells one .0 (k .0) .0) (within-tells two .0 (m .0) .0);
-          within3 = for-both (λ w. need (standingFor w t b) (t .geometry .p2) ≤ shareOf w t .most3) one (within-tells one .0 (k .0) .1) (within-tells two .0 (m .0) .1);
+          within2 = for-both (λ w. need (standingFor w t b) (t .geometry .p1) ≤ shareOf w t .most2) one
+              (within-tells one .0 (k .0) .0) (within-tells two .0 (m .0) .0);
+          within3 = for-both (λ w. need (standingFor w t b) (t .geometry .p2) ≤ shareOf w t .most3) one
+              (within-tells one .0 (k .0) .1) (within-tells two .0 (m .0) .1);
           fit2 = limits-tells .0 (m .1) .0;
           fit3 = limits-tells .0 (m .1) .1;
         }),

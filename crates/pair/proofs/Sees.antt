@@ -57,14 +57,17 @@ module _ (w : Party) (n : ℕ) (t : Pair) where
   share-own = share-is (t .geometry) (put w (counting n (shareOf w t)) (λ v. shareOf v t)) w ∙ put-own w (counting n (shareOf w t)) (λ v. shareOf v t)
 
   pub share-other : shareOf (other w) (withCount w n t) ≡ shareOf (other w) t
-  share-other = share-is (t .geometry) (put w (counting n (shareOf w t)) (λ v. shareOf v t)) (other w) ∙ put-other w (counting n (shareOf w t)) (λ v. shareOf v t)
+  share-other = share-is (t .geometry) (put w (counting n (shareOf w t)) (λ v. shareOf v t)) (other w)
+      ∙ put-other w (counting n (shareOf w t)) (λ v. shareOf v t)
 
   -- limits stay
   pub limits2 : (v : Party) → shareOf v (withCount w n t) .most2 ≡ shareOf v t .most2
-  limits2 = for-both (λ v. shareOf v (withCount w n t) .most2 ≡ shareOf v t .most2) w (ap {B = ℕ} (λ s. s .most2) share-own) (ap {B = ℕ} (λ s. s .most2) share-other)
+  limits2 = for-both (λ v. shareOf v (withCount w n t) .most2 ≡ shareOf v t .most2) w
+      (ap {B = ℕ} (λ s. s .most2) share-own) (ap {B = ℕ} (λ s. s .most2) share-other)
 
   pub limits3 : (v : Party) → shareOf v (withCount w n t) .most3 ≡ shareOf v t .most3
-  limits3 = for-both (λ v. shareOf v (withCount w n t) .most3 ≡ shareOf v t .most3) w (ap {B = ℕ} (λ s. s .most3) share-own) (ap {B = ℕ} (λ s. s .most3) share-other)
+  limits3 = for-both (λ v. shareOf v (withCount w n t) .most3 ≡ shareOf v t .most3) w
+      (ap {B = ℕ} (λ s. s .most3) share-own) (ap {B = ℕ} (λ s. s .most3) share-other)
 
 -- what a party sees has the sizes of what is lent to it
 pub seen-size : (g : Geometry) (w : Party) (b : PairLent) → SameSize (sees g w b) (side w b)

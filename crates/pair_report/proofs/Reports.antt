@@ -43,7 +43,8 @@ module _ (w : Party) (t : Pair) (b : PairLent) (see2 see3 ws par : List ℕ) (r 
   pub standing-told : not r ≡ false → (n m k : ℕ) → n ≡ shareOf w t .count → m ≡ used see2 → k ≡ used see3 → accepted (n ∷ m ∷ k ∷ []) ≡ soundTold w t b
   standing-told e n m k en em ek = go r (told .is) (told .tells .0) (told .sight) e
     where
-      go : (r : Bool) → r ≡ pairSound? t b → (r ≡ true → PairSound t b) → (r ≡ true → Rattle.pair_sound.specs.BoxTest.BoxSight w t b see2 see3 ws par) → not r ≡ false
+      go : (r : Bool) → r ≡ pairSound? t b → (r ≡ true → PairSound t b)
+          → (r ≡ true → Rattle.pair_sound.specs.BoxTest.BoxSight w t b see2 see3 ws par) → not r ≡ false
           → accepted (n ∷ m ∷ k ∷ []) ≡ soundTold w t b
       go false i s g e = absurd (false≢true (sym e))
       go true i s g e =

@@ -39,7 +39,8 @@ use Rattle.pair_sound.specs.BoxTest.{PartyRight, PoolsRight}
 -- a live second cell: its count is true exactly where it is true if a chunk hangs from it, and 0 if it names none
 module _ (rs : List Route) (v : Level) (k : Chunks) (few : k .many < 32768) (cells counts : ℕ → ℕ) (s : Shows rs v k cells) (q : ℕ) (l : q < v .places)
     (e : v .live q ≡ true) where
-  true-of : (deep rs v q ≡ true → counts q ≡ howMany rs (v .bits) (v .at q)) → (idle (cells q) ≡ true → counts q ≡ 0) → counts q ≡ howMany rs (v .bits) (v .at q)
+  true-of : (deep rs v q ≡ true → counts q ≡ howMany rs (v .bits) (v .at q)) → (idle (cells q) ≡ true → counts q ≡ 0)
+      → counts q ≡ howMany rs (v .bits) (v .at q)
   true-of t i = go (decided (deep rs v q))
     where
       go : (deep rs v q ≡ true) ⊎ (deep rs v q ≡ false) → counts q ≡ howMany rs (v .bits) (v .at q)
@@ -149,8 +150,14 @@ module _ (t : Pair) (b : PairLent) (z : (w : Party) → Sized (t .geometry) (sid
             second = shows-live rs v2 (chunksOf (view w (b .own3))) (entry (b .second)) _ at2 (r .serves .second);
             third = record { leaf = λ q l e. at3 q l e ∙ r .serves .third .leaf q l e };
           };
-          clear2 = record { blank = λ q l e. part-blank w (b .own2) (bits2 g) (b .second) .zero q (rw (length-part w (b .own2) (bits2 g) (b .second), places2) l) e };
-          clear3 = record { blank = λ q l e. part-blank w (b .own3) (bits3 g) (b .third) .zero q (rw (length-part w (b .own3) (bits3 g) (b .third), places3) l) e };
+          clear2 = record {
+            blank = λ q l e.
+                part-blank w (b .own2) (bits2 g) (b .second) .zero q (rw (length-part w (b .own2) (bits2 g) (b .second), places2) l) e;
+          };
+          clear3 = record {
+            blank = λ q l e.
+                part-blank w (b .own3) (bits3 g) (b .third) .zero q (rw (length-part w (b .own3) (bits3 g) (b .third), places3) l) e;
+          };
           counted1 = r .counts .first;
           counted2 = record {
             true-there = λ q l e.
@@ -193,7 +200,8 @@ module _ (t : Pair) (b : PairLent) (z : (w : Party) → Sized (t .geometry) (sid
   is-own w = subst (λ (l : Lent). PartyRight w (tableFor w t) (shareOf w t .most2) (shareOf w t .most3) l) (side-is w b)
 
   -- The box is sound exactly where each party's own, the pools and the limits are right.
-  pub box-sound : Own one → Own two → Pools → t .one .most2 + t .two .most2 ≤ length (b .own2) → t .one .most3 + t .two .most3 ≤ length (b .own3) → PairSound t b
+  pub box-sound : Own one → Own two → Pools → t .one .most2 + t .two .most2 ≤ length (b .own2) → t .one .most3 + t .two .most3 ≤ length (b .own3)
+      → PairSound t b
   box-sound p1 p2 k f2 f3 =
       let p : (w : Party) → PartyRight w (tableFor w t) (shareOf w t .most2) (shareOf w t .most3) (bare w)
       = for-both (λ w. PartyRight w (tableFor w t) (shareOf w t .most2) (shareOf w t .most3) (bare w)) one (is-own one p1) (is-own two p2) in

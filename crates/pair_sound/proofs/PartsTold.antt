@@ -37,7 +37,16 @@ module _ (g : Geometry) (w : Party) (l : Lent) (z : Sized g l) where
   })
 
   pub seen-sized : (see2 see3 : List ℕ) → see2 ≡ view w (l .own2) → see3 ≡ view w (l .own3)
-      → Sized g (record { list = l .list; first = l .first; second = l .second; third = l .third; own2 = see2; own3 = see3; long1 = l .long1; long2 = l .long2 })
+      → Sized g (record {
+        list = l .list;
+        first = l .first;
+        second = l .second;
+        third = l .third;
+        own2 = see2;
+        own3 = see3;
+        long1 = l .long1;
+        long2 = l .long2;
+      })
   seen-sized see2 see3 e2 e3 = rw (e2, e3) among-sized
 
 module _ (w : Party) (t : Table) (most2 most3 : ℕ) (l : Lent) where
@@ -59,7 +68,16 @@ module _ (w : Party) (t : Table) (most2 most3 : ℕ) (l : Lent) where
     }
 
     pub within : (n : ℕ) → n ≡ used see2 → n ≤ most2 → (m : ℕ) → m ≡ used see3 → m ≤ most3 → (r : Bool) (ws par : List ℕ)
-        → SeenWith r t (record { list = l .list; first = l .first; second = l .second; third = l .third; own2 = see2; own3 = see3; long1 = l .long1; long2 = l .long2 }) ws par
+        → SeenWith r t (record {
+          list = l .list;
+          first = l .first;
+          second = l .second;
+          third = l .third;
+          own2 = see2;
+          own3 = see3;
+          long1 = l .long1;
+          long2 = l .long2;
+        }) ws par
         → PartyTold r w t most2 most3 l see2 see3 ws par
     within n i2 h2 m i3 h3 r ws par s =
         let s′ : SeenWith r t (among w l) ws par = rw (e2, e3) at s in

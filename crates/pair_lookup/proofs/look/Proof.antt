@@ -12,6 +12,8 @@ look-spec =
     (λ c. search needs)
     (λ c. let s : tie.Then1 = search in look-not _ _ _ _ (s .before .sizes .ensures) _ (search needs) (s .if1 .taken) _ (search needs))
     (λ c κs. let s : tie.Else1 = search in second-celled _ _ _ (s .before .sizes .ensures) (s .if1 .left))
-    (λ c. let d : tie.Then2 = search in let s : tie.Else1 = search in look-second _ _ _ _ (s .before .sizes .ensures) (s .if1 .left) _ _ (d .if2 .taken) (c .walk .ensures))
+    (λ c. let d : tie.Then2 = search in let s : tie.Else1 = search in
+    look-second _ _ _ _ (s .before .sizes .ensures) (s .if1 .left) _ _ (d .if2 .taken) (c .walk .ensures))
     (λ c κs. let s : tie.Else1 = search in first-celled _ _ _ (s .before .sizes .ensures) (s .if1 .left))
-    (λ c. let d : tie.Else2 = search in let s : tie.Else1 = search in look-first _ _ _ _ (s .before .sizes .ensures) (s .if1 .left) _ _ (d .if2 .left) (c .walk2 .ensures)))
+    (λ c. let d : tie.Else2 = search in let s : tie.Else1 = search in
+    look-first _ _ _ _ (s .before .sizes .ensures) (s .if1 .left) _ _ (d .if2 .left) (c .walk2 .ensures)))

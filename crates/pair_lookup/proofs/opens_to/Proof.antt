@@ -12,7 +12,8 @@ opens-to-spec =
     tie.close
     (tie.spec
     (λ c κs. tt)
-    (λ c. let start : tie.Start = search in not-one (partyOf (start .args .guest)) (start .args .own .now) (start .args .v) _ (c .before .opens .ensures) (c .if1 .taken))
+    (λ c. let start : tie.Start = search in
+    not-one (partyOf (start .args .guest)) (start .args .own .now) (start .args .v) _ (c .before .opens .ensures) (c .if1 .taken))
     (λ c. let s : tie.Else1 = search in let start : tie.Start = search in
     omega (arith, is-named (length (start .args .own .now)) (start .args .v) _ (s .before .opens .ensures) (s .if1 .left)))
     (λ c. search needs)

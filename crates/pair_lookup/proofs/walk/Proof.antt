@@ -24,14 +24,16 @@ walk-spec =
     (λ c. search needs)
     (λ c. search needs)
     (λ c κs. let start : tie.Start = search in
-    open-chunk (partyOf (start .args .guest)) (start .args .own2 .now) _ _ _ _ (c .before .opens-to .ensures) (c .if2 .left) (search needs) (search needs) (search needs))
+    open-chunk (partyOf (start .args .guest)) (start .args .own2 .now) _ _ _ _ (c .before .opens-to .ensures) (c .if2 .left)
+    (search needs) (search needs) (search needs))
     (λ c κs. search needs)
     (λ c. search walk-leaf2)
     (λ c κs. search needs)
     (λ c. search walk-off2)
     (λ c. search needs)
     (λ c κs. let start : tie.Start = search in
-    open-chunk (partyOf (start .args .guest)) (start .args .own3 .now) _ _ _ _ (c .before .opens-to2 .ensures) (c .if4 .left) (search needs) (search needs) (search needs))
+    open-chunk (partyOf (start .args .guest)) (start .args .own3 .now) _ _ _ _ (c .before .opens-to2 .ensures) (c .if4 .left)
+    (search needs) (search needs) (search needs))
     (λ c κs. search needs)
     (λ c. search walk-leaf3)
     (λ c. search walk-off3))

@@ -25,7 +25,8 @@ loop-again c =
     let start : tie.Start Inv-loop μ-loop = search in
     let own = start .args .own .now in
     let w = partyOf (start .args .guest) in
-    let done = stored-more (λ (k : ℕ). seen w (getD own k 0)) (at .loop .out) (at .loop .c) _ (omega (arith, at .loop .inv .0)) (at .loop .inv .1) (c .seen .ensures) in
+    let done = stored-more (λ (k : ℕ). seen w (getD own k 0)) (at .loop .out) (at .loop .c) _
+    (omega (arith, at .loop .inv .0)) (at .loop .inv .1) (c .seen .ensures) in
     (simp length-set (at .loop .inv .0), done)
 
 pub view-spec : {M : Type 1} → statement M

@@ -16,9 +16,11 @@ report-spec =
     (λ c κs. tt)
     (λ c. report-off _ _ _ (c .before .sizes .ensures) _ (c .if1 .taken))
     (λ c. let l : tie.Else1 = search in omega (arith, few-chunks _ _ (both-sized _ _ _ (l .before .sizes .ensures) (l .if1 .left)) .0))
-    (λ c. let l : tie.Else1 = search in let z = both-sized _ _ _ (l .before .sizes .ensures) (l .if1 .left) in sym (length-take-le _ _ (omega (arith, few-chunks _ _ z .0))))
+    (λ c. let l : tie.Else1 = search in let z = both-sized _ _ _ (l .before .sizes .ensures) (l .if1 .left) in
+    sym (length-take-le _ _ (omega (arith, few-chunks _ _ z .0))))
     (λ c. let l : tie.Else1 = search in omega (arith, few-chunks _ _ (both-sized _ _ _ (l .before .sizes .ensures) (l .if1 .left)) .1))
-    (λ c. let l : tie.Else1 = search in let z = both-sized _ _ _ (l .before .sizes .ensures) (l .if1 .left) in sym (length-take-le _ _ (omega (arith, few-chunks _ _ z .1))))
+    (λ c. let l : tie.Else1 = search in let z = both-sized _ _ _ (l .before .sizes .ensures) (l .if1 .left) in
+    sym (length-take-le _ _ (omega (arith, few-chunks _ _ z .1))))
     (λ c. search needs)
     (λ c. search needs)
     (λ c κs.

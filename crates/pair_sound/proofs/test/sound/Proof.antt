@@ -59,7 +59,8 @@ party-ok-requires-2 c κs =
       z .0 .each two,
       (
         sight-kept (z .1 .0) (a .party-ok .kept .1 .1 .1 .1 .1 .1 .1 .1 .1 .1 .1 .1 .0) (a .party-ok .kept .1 .1 .1 .1 .1 .1 .1 .1 .1 .1 .1 .1 .1 .0),
-        scratch-kept (z .1 .1) (a .party-ok .kept .1 .1 .1 .1 .1 .1 .1 .1 .1 .1 .1 .1 .1 .1 .0) (a .party-ok .kept .1 .1 .1 .1 .1 .1 .1 .1 .1 .1 .1 .1 .1 .1 .1 .0),
+        scratch-kept (z .1 .1) (a .party-ok .kept .1 .1 .1 .1 .1 .1 .1 .1 .1 .1 .1 .1 .1 .1 .0)
+            (a .party-ok .kept .1 .1 .1 .1 .1 .1 .1 .1 .1 .1 .1 .1 .1 .1 .1 .0),
       ),
     )
 
@@ -98,7 +99,8 @@ party-ok-requires-4 c κs =
       z .0 .each one,
       (
         sight-kept (z .1 .0) (a .party-ok3 .kept .1 .1 .1 .1 .1 .1 .1 .1 .1 .1 .1 .1 .0) (a .party-ok3 .kept .1 .1 .1 .1 .1 .1 .1 .1 .1 .1 .1 .1 .1 .0),
-        scratch-kept (z .1 .1) (a .party-ok3 .kept .1 .1 .1 .1 .1 .1 .1 .1 .1 .1 .1 .1 .1 .1 .0) (a .party-ok3 .kept .1 .1 .1 .1 .1 .1 .1 .1 .1 .1 .1 .1 .1 .1 .1 .0),
+        scratch-kept (z .1 .1) (a .party-ok3 .kept .1 .1 .1 .1 .1 .1 .1 .1 .1 .1 .1 .1 .1 .1 .0)
+            (a .party-ok3 .kept .1 .1 .1 .1 .1 .1 .1 .1 .1 .1 .1 .1 .1 .1 .1 .0),
       ),
     )
 
