@@ -15,11 +15,10 @@ use Rattle.routes.specs.declared.Route.{Route}
 use Rattle.standing.specs.Cells.{need}
 use Rattle.standing.specs.Standing.{insert}
 use Rattle.sail.specs.Geometry.{bits2, bits3}
-use Rattle.sail.specs.Level.{Level, entry, liveIn, chunksOf, level1, level2}
+use Rattle.sail.specs.Level.{Level, chunksOf, level1, level2}
 use Rattle.sail.specs.declared.geometry.Geometry.{Geometry}
 use Rattle.sail_theory.specs.Render.{find}
 use Rattle.sail_theory.specs.Calls.{Owners, openAt}
-use Rattle.sail_theory.specs.Facts.{AnnounceableWith}
 use Rattle.sail_theory.specs.Shared.{ComesBlank}
 use Rattle.sail_theory.proofs.owners.Chunks.{chunk-le}
 use Rattle.sail_theory.proofs.owners.OpenAt.{OpenReady, length-open}
@@ -40,7 +39,7 @@ use Rattle.pair.proofs.Views.{mine-apart, length-view}
 use Rattle.pair.proofs.Sees.{Shift}
 use Rattle.pair.proofs.Shifts.{announce-at, announce-views, announce-shift}
 use Rattle.pair.proofs.Lays.{same-places}
-use Rattle.pair_announce.specs.Tagged.{tagged, OwnSeen, TagReady}
+use Rattle.pair_announce.specs.Tagged.{tagged, TagReady}
 use Rattle.pair_announce.proofs.TagLaws.{tagged-open}
 
 -- A place that the party has then, and had not before, was nobody's: the other sees the owners that it saw.

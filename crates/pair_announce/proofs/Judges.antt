@@ -13,7 +13,6 @@ use Rattle.sail_theory.specs.Calls.{announceFault}
 use Rattle.sail_theory.proofs.Judges.{or-said}
 use Rattle.pair.specs.Party.{Party}
 use Rattle.pair.specs.PairLent.{PairLent}
-use Rattle.pair.specs.PairSound.{pairSound?}
 use Rattle.pair.specs.PairCalls.{pairAnnounceSaid}
 use Rattle.pair.specs.declared.Pair.{Pair}
 use Rattle.pair.proofs.PairFresh.{sizes-none}

@@ -1,7 +1,6 @@
 -- Two outcomes that the statement of a party's announcement allows are the same: its answer, the state, and all that is lent.
 use mathlib.Core.Path.{_≡_, sym, _∙_, ap, ap₂}
 use Rattle.routes.specs.declared.Route.{Route}
-use Rattle.sail_announce.specs.Answers.{meansAnnounce}
 use Rattle.sail_announce.specs.declared.answers.Announce.{Announce}
 use Rattle.sail_announce.proofs.Injective.{announce-injective}
 use Rattle.pair.specs.Party.{Party}

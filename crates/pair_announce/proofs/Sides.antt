@@ -8,7 +8,7 @@ use native.Mathlib.Omega.{arith}
 use lib.ListN.{length}
 use Rattle.bits.specs.Count.{bit}
 use Rattle.routes.specs.Route.{key, Fine}
-use Rattle.routes.specs.Said.{Said, accepted, refused, accepts}
+use Rattle.routes.specs.Said.{Said, accepted, refused}
 use Rattle.routes.specs.declared.Route.{Route}
 use Rattle.routes.proofs.Meaning.{fine-fault}
 use Rattle.standing.specs.Cells.{need}
@@ -16,12 +16,12 @@ use Rattle.standing.specs.Standing.{stands, insert}
 use Rattle.chain.specs.List.{ChainedFront}
 use Rattle.sail.specs.Geometry.{bits2}
 use Rattle.sail.specs.Lent.{Lent, lent}
-use Rattle.sail.specs.Level.{chunksOf, level1, level2}
+use Rattle.sail.specs.Level.{level1}
 use Rattle.sail.specs.declared.geometry.Geometry.{Geometry}
 use Rattle.sail.specs.declared.table.Table.{Table}
 use Rattle.sail.proofs.Sounds.{chunks-need}
 use Rattle.sail_theory.specs.Render.{find, rendered, roomOf}
-use Rattle.sail_theory.specs.Calls.{Owners, openAt, openedAt, ownersOf, announceFault, orSay}
+use Rattle.sail_theory.specs.Calls.{Owners, openedAt, ownersOf, announceFault, orSay}
 use Rattle.sail_theory.specs.Shared.{ownPart, alone, mixedIn}
 use Rattle.sail_theory.proofs.places.Alone.{length-own}
 use Rattle.sail_chunks.proofs.SharedCells.{own-agree, serving-agree}
@@ -31,7 +31,7 @@ use Rattle.sail_judge.specs.declared.announce.AnnounceVerdict.{AnnounceVerdict}
 use Rattle.sail_add.specs.Added.{ToAddIn, MeetsAddIn}
 use Rattle.pair.specs.Party.{Party, one, two, view}
 use Rattle.pair.specs.PairLent.{PairLent, side, pairOwners, roomFor}
-use Rattle.pair.specs.PairSound.{shareOf, tableFor, standingFor, pairSizesFault, PairSound, pairSound?}
+use Rattle.pair.specs.PairSound.{shareOf, tableFor, standingFor, PairSound}
 use Rattle.pair.specs.PairCalls.{openedFor, pairAnnounceSaid, pairOut, pairOutcome, withCount, pairLentOf, pairAdding}
 use Rattle.pair.specs.declared.Pair.{Pair}
 use Rattle.pair.specs.declared.Share.{Share}
@@ -75,18 +75,22 @@ module _ (t : Pair) (b : PairLent) (s : PairSound t b) (r : Route) (fine : Fine 
       let o = announce-offer (sideTerms w t (side w b)) (standingFor w t b) (on-terms w t b s) r (omega arith) (omega arith) [] (rw (fine-fault r fine, e)) in
       (o .1, o .2, o .3)
 
+  -- the owners then, and as the party sees them
+  abbrev then : Party → Lent → Owners
+  then w l = openedFor w (t .geometry) (ownersOf l) r
+
+  abbrev seenThen : Party → Lent → Owners
+  seenThen w l = openedAt (t .geometry) (ownersOf (among w l)) (find (l .own2) 0) (find (l .own3) 0) r
+
   module _ (f : AnnounceVerdict) where
     -- Of the side of the party: what is asked before the route is put in, what the owners then are, and what may be written.
     pub record OnSide (w : Party) (l : Lent) : Type 0 where
       pub to-add : ToAddIn (tableFor w t) (among w l) r f (find (l .own2) 0) (find (l .own3) 0)
-      pub views : let o : Owners = openedAt (t .geometry) (ownersOf (among w l)) (find (l .own2) 0) (find (l .own3) 0) r in
-          (view w (openedFor w (t .geometry) (ownersOf l) r .own2) ≡ o .own2) × (view w (openedFor w (t .geometry) (ownersOf l) r .own3) ≡ o .own3)
-      pub owners2 : let o : Owners = openedAt (t .geometry) (ownersOf (among w l)) (find (l .own2) 0) (find (l .own3) 0) r in
-          tagged w (f .opens .second) (find (l .own2) 0) (o .own2) (l .own2) ≡ openedFor w (t .geometry) (ownersOf l) r .own2
-      pub owners3 : let o : Owners = openedAt (t .geometry) (ownersOf (among w l)) (find (l .own2) 0) (find (l .own3) 0) r in
-          tagged w (f .opens .third) (find (l .own3) 0) (o .own3) (l .own3) ≡ openedFor w (t .geometry) (ownersOf l) r .own3
-      pub tags2 : TagReady (f .opens .second) (find (l .own2) 0) (openedAt (t .geometry) (ownersOf (among w l)) (find (l .own2) 0) (find (l .own3) 0) r .own2) (l .own2)
-      pub tags3 : TagReady (f .opens .third) (find (l .own3) 0) (openedAt (t .geometry) (ownersOf (among w l)) (find (l .own2) 0) (find (l .own3) 0) r .own3) (l .own3)
+      pub views : (view w (then w l .own2) ≡ seenThen w l .own2) × (view w (then w l .own3) ≡ seenThen w l .own3)
+      pub owners2 : tagged w (f .opens .second) (find (l .own2) 0) (seenThen w l .own2) (l .own2) ≡ then w l .own2
+      pub owners3 : tagged w (f .opens .third) (find (l .own3) 0) (seenThen w l .own3) (l .own3) ≡ then w l .own3
+      pub tags2 : TagReady (f .opens .second) (find (l .own2) 0) (seenThen w l .own2) (l .own2)
+      pub tags3 : TagReady (f .opens .third) (find (l .own3) 0) (seenThen w l .own3) (l .own3)
 
     abbrev FoundIn : Party → Lent → Type 0
     FoundIn w l = Found (t .geometry) (l .list) (shareOf w t .count) (view w (l .own2)) r f
@@ -140,10 +144,10 @@ module _ (t : Pair) (b : PairLent) (s : PairSound t b) (r : Route) (fine : Fine 
   pub side-adding : (w : Party) (f : Turn) (e : Lent) → sideOut (f .number) (f .state) e ≡ sideAdding w t (side w b) r
       → (f .number ≡ 0 → f .stood ≡ stands (key r) (standingFor w t b)) → pairOut (turnSaid f) (f .state) (withSide w e b) ≡ pairAdding w t b r
   unfolding pairAdding sideAdding
-  side-adding w f e left stood = go (fault w) refl left ∙ sym (ap (λ (x : Said). pairOutcome x t b then asked) (said-is w))
+  side-adding w f e left stood = go (fault w) refl left ∙ sym (ap (λ (x : Said). pairOutcome x t b state asked) (said-is w))
     where
-      then : Pair
-      then = withCount w (length (insert r (standingFor w t b))) t
+      state : Pair
+      state = withCount w (length (insert r (standingFor w t b))) t
 
       asked : PairLent
       asked = pairLentOf w t b (insert r (standingFor w t b)) (openedFor w (t .geometry) (pairOwners b) r)
@@ -154,17 +158,17 @@ module _ (t : Pair) (b : PairLent) (s : PairSound t b) (r : Route) (fine : Fine 
           ∙ ap (λ (o : Owners). pairLentOf w t b (insert r (standingFor w t b)) (openedFor w (t .geometry) o r)) (side-owners w b)
 
       go : (n : ℕ) → fault w ≡ n → sideOut (f .number) (f .state) e ≡ sideEnds n t (side w b) (stateWith w t (side w b) r) (sideWith w t (side w b) r)
-          → pairOut (turnSaid f) (f .state) (withSide w e b) ≡ pairOutcome (orSay n (said w)) t b then asked
+          → pairOut (turnSaid f) (f .state) (withSide w e b) ≡ pairOutcome (orSay n (said w)) t b state asked
       go zero z h =
           let number : f .number ≡ 0 = ap (λ (x : SideOut). x .number) h in
-          let state : f .state ≡ then = ap (λ (x : SideOut). x .state) h in
+          let same : f .state ≡ state = ap (λ (x : SideOut). x .state) h in
           let lent : e ≡ sideWith w t (side w b) r = ap (λ (x : SideOut). x .lent) h in
-          rw (number, stood number, state, lent) (ap (λ (x : PairLent). pairOut (said w) then x) (left-is z))
+          rw (number, stood number, same, lent) (ap (λ (x : PairLent). pairOut (said w) state x) (left-is z))
       go (suc n) z h =
           let number : f .number ≡ suc n = ap (λ (x : SideOut). x .number) h in
-          let state : f .state ≡ t = ap (λ (x : SideOut). x .state) h in
+          let same : f .state ≡ t = ap (λ (x : SideOut). x .state) h in
           let lent : e ≡ side w b = ap (λ (x : SideOut). x .lent) h in
-          rw (number, state, lent) (ap (λ (x : PairLent). pairOut (refused (suc n)) t x) (same-side w b))
+          rw (number, same, lent) (ap (λ (x : PairLent). pairOut (refused (suc n)) t x) (same-side w b))
 
 -- ---- the side
 
@@ -281,7 +285,8 @@ module _ {w : Party} {t : Pair} {l : Lent} {r : Route} {f : AnnounceVerdict} {se
       pub enter-tags3 : TagReady (f .opens .third) c3 (e .own3) (l .own3)
       enter-tags3 = rw (left .1, low3, on .views .1) (on .tags3)
 
-      module _ {own2 own3 : List ℕ} (tag2 : own2 ≡ tagged w (f .opens .second) c2 (e .own2) (l .own2)) (tag3 : own3 ≡ tagged w (f .opens .third) c3 (e .own3) (l .own3)) where
+      module _ {own2 own3 : List ℕ} (tag2 : own2 ≡ tagged w (f .opens .second) c2 (e .own2) (l .own2))
+          (tag3 : own3 ≡ tagged w (f .opens .third) c3 (e .own3) (l .own3)) where
         owners2 : own2 ≡ now .own2
         owners2 = tag2 ∙ rw (left .1, low2, on .views .0) (on .owners2)
 
@@ -292,10 +297,12 @@ module _ {w : Party} {t : Pair} {l : Lent} {r : Route} {f : AnnounceVerdict} {se
             → Entered w t l r p (lent (e .list) (e .first) (e .second) (e .third) own2 own3 (e .long1) (e .long2)) (e .own2) (e .own3) ws′ par′
         enter-done {p} q {ws′} {par′} c = record {
           state = q ∙ ap (λ (n : ℕ). withCount w n t) (left .0);
-          side = rw (owners2, owners3) (ap (λ (y : Lent). lent (y .list) (y .first) (y .second) (y .third) (now .own2) (now .own3) (y .long1) (y .long2)) (left .1));
+          side = rw (owners2, owners3)
+              (ap (λ (y : Lent). lent (y .list) (y .first) (y .second) (y .third) (now .own2) (now .own3) (y .long1) (y .long2)) (left .1));
           sight = record {
             seen2 = ap (λ (y : Lent). y .own2) (left .1) ∙ ap (view w) (sym owners2);
             seen3 = ap (λ (y : Lent). y .own3) (left .1) ∙ ap (view w) (sym owners3);
-            chain = subst (λ (n : ℕ). ChainedFront (e .list) n ws′ par′) (sym (ap (λ (y : Pair). shareOf w y .count) q ∙ ap (λ (y : Share). y .count) (share-own w (u .count) t))) c;
+            chain = subst (λ (n : ℕ). ChainedFront (e .list) n ws′ par′)
+                (sym (ap (λ (y : Pair). shareOf w y .count) q ∙ ap (λ (y : Share). y .count) (share-own w (u .count) t))) c;
           };
         }

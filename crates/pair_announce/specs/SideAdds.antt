@@ -1,5 +1,5 @@
 -- An announcement on a party's side of a box: the number with which it is refused, or 0; the state; and the side that is left.
-use mathlib.Core.Bool.{Bool, true}
+use mathlib.Core.Bool.{true}
 use mathlib.Core.List.{List, [], _∷_}
 use mathlib.Core.Path.{_≡_}
 use Prim.Native.Nat.{ℕ, zero, suc}

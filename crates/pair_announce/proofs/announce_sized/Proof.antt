@@ -54,7 +54,8 @@ returns-2 c =
     let at = second-left left in
     let arm = second-side at in
     let on = second-passed arm in
-    taken-for _ _ _ (begun (back on) .args .guest) (back on .judge .ensures .on (on .if1 .left)) two (guest-two _ (arm .if2 .taken)) (at .announce-sound .ensures)
+    taken-for _ _ _ (begun (back on) .args .guest) (back on .judge .ensures .on (on .if1 .left)) two (guest-two _ (arm .if2 .taken))
+    (at .announce-sound .ensures)
 
 -- the first party's side
 abbrev first-side : tie.After-announce-sound2 → tie.Else2
@@ -79,7 +80,8 @@ returns-3 c =
     let at = first-left left in
     let arm = first-side at in
     let on = first-passed arm in
-    taken-for _ _ _ (begun (back on) .args .guest) (back on .judge .ensures .on (on .if1 .left)) one (guest-one _ (arm .if2 .left)) (at .announce-sound2 .ensures)
+    taken-for _ _ _ (begun (back on) .args .guest) (back on .judge .ensures .on (on .if1 .left)) one (guest-one _ (arm .if2 .left))
+    (at .announce-sound2 .ensures)
 
 -- where the judge was, seen from the ends of both arms
 abbrev judged2 : tie.After-slice-known31 → tie.After-judge
@@ -87,6 +89,55 @@ judged2 c = back (second-passed (second-side (second-left c)))
 
 abbrev judged1 : tie.After-slice-known43 → tie.After-judge
 judged1 c = back (first-passed (first-side (first-left c)))
+
+-- the room: as long as the judge left it, which is as it was
+see2-second : tie.Need-same-length-27
+see2-second c =
+    let left : tie.After-slice-known31 = search in
+    (second-left left .announce-sound .kept .1 .1 .1 .1 .1 .1 .1 .1 .1 .1 .1 .0)
+    ∙ (judged2 left .judge .kept .1 .1 .1 .1 .1 .1 .1 .1 .1 .1 .1 .1 .1 .1 .0)
+
+see3-second : tie.Need-same-length-28
+see3-second c =
+    let left : tie.After-slice-known31 = search in
+    (second-left left .announce-sound .kept .1 .1 .1 .1 .1 .1 .1 .1 .1 .1 .1 .1 .0)
+    ∙ (judged2 left .judge .kept .1 .1 .1 .1 .1 .1 .1 .1 .1 .1 .1 .1 .1 .1 .1 .0)
+
+ws-second : tie.Need-same-length-29
+ws-second c =
+    let left : tie.After-slice-known31 = search in
+    (second-left left .announce-sound .kept .1 .1 .1 .1 .1 .1 .1 .1 .1 .1 .1 .1 .1 .0)
+    ∙ (judged2 left .judge .kept .1 .1 .1 .1 .1 .1 .1 .1 .1 .1 .1 .1 .1 .1 .1 .1 .0)
+
+par-second : tie.Need-same-length-30
+par-second c =
+    let left : tie.After-slice-known31 = search in
+    (second-left left .announce-sound .kept .1 .1 .1 .1 .1 .1 .1 .1 .1 .1 .1 .1 .1 .1 .0)
+    ∙ (judged2 left .judge .kept .1 .1 .1 .1 .1 .1 .1 .1 .1 .1 .1 .1 .1 .1 .1 .1 .1 .0)
+
+see2-first : tie.Need-same-length-42
+see2-first c =
+    let left : tie.After-slice-known43 = search in
+    (first-left left .announce-sound2 .kept .1 .1 .1 .1 .1 .1 .1 .1 .1 .1 .1 .0)
+    ∙ (judged1 left .judge .kept .1 .1 .1 .1 .1 .1 .1 .1 .1 .1 .1 .1 .1 .1 .0)
+
+see3-first : tie.Need-same-length-43
+see3-first c =
+    let left : tie.After-slice-known43 = search in
+    (first-left left .announce-sound2 .kept .1 .1 .1 .1 .1 .1 .1 .1 .1 .1 .1 .1 .0)
+    ∙ (judged1 left .judge .kept .1 .1 .1 .1 .1 .1 .1 .1 .1 .1 .1 .1 .1 .1 .1 .0)
+
+ws-first : tie.Need-same-length-44
+ws-first c =
+    let left : tie.After-slice-known43 = search in
+    (first-left left .announce-sound2 .kept .1 .1 .1 .1 .1 .1 .1 .1 .1 .1 .1 .1 .1 .0)
+    ∙ (judged1 left .judge .kept .1 .1 .1 .1 .1 .1 .1 .1 .1 .1 .1 .1 .1 .1 .1 .1 .0)
+
+par-first : tie.Need-same-length-45
+par-first c =
+    let left : tie.After-slice-known43 = search in
+    (first-left left .announce-sound2 .kept .1 .1 .1 .1 .1 .1 .1 .1 .1 .1 .1 .1 .1 .1 .0)
+    ∙ (judged1 left .judge .kept .1 .1 .1 .1 .1 .1 .1 .1 .1 .1 .1 .1 .1 .1 .1 .1 .1 .0)
 
 pub announce-sized-spec : {M : Type 1} → statement M
 announce-sized-spec =
@@ -121,10 +172,10 @@ announce-sized-spec =
     (λ c. let left : tie.After-slice-known31 = search in second-left left .announce-sound .kept .1 .1 .1 .1 .1 .1 .0)
     (λ c. let left : tie.After-slice-known31 = search in second-left left .announce-sound .kept .1 .1 .1 .1 .1 .1 .1 .0)
     (λ c. let left : tie.After-slice-known31 = search in second-left left .announce-sound .kept .1 .1 .1 .1 .1 .1 .1 .1 .0)
-    (λ c. let left : tie.After-slice-known31 = search in (second-left left .announce-sound .kept .1 .1 .1 .1 .1 .1 .1 .1 .1 .1 .1 .0) ∙ (judged2 left .judge .kept .1 .1 .1 .1 .1 .1 .1 .1 .1 .1 .1 .1 .1 .1 .0))
-    (λ c. let left : tie.After-slice-known31 = search in (second-left left .announce-sound .kept .1 .1 .1 .1 .1 .1 .1 .1 .1 .1 .1 .1 .0) ∙ (judged2 left .judge .kept .1 .1 .1 .1 .1 .1 .1 .1 .1 .1 .1 .1 .1 .1 .1 .0))
-    (λ c. let left : tie.After-slice-known31 = search in (second-left left .announce-sound .kept .1 .1 .1 .1 .1 .1 .1 .1 .1 .1 .1 .1 .1 .0) ∙ (judged2 left .judge .kept .1 .1 .1 .1 .1 .1 .1 .1 .1 .1 .1 .1 .1 .1 .1 .1 .0))
-    (λ c. let left : tie.After-slice-known31 = search in (second-left left .announce-sound .kept .1 .1 .1 .1 .1 .1 .1 .1 .1 .1 .1 .1 .1 .1 .0) ∙ (judged2 left .judge .kept .1 .1 .1 .1 .1 .1 .1 .1 .1 .1 .1 .1 .1 .1 .1 .1 .1 .0))
+    see2-second
+    see3-second
+    ws-second
+    par-second
     returns-2
     announce-sound-requires-2
     (λ c. let left : tie.After-slice-known43 = search in first-left left .announce-sound2 .kept .1 .0)
@@ -138,8 +189,8 @@ announce-sized-spec =
     (λ c. let left : tie.After-slice-known43 = search in first-left left .announce-sound2 .kept .1 .1 .1 .1 .1 .1 .0)
     (λ c. let left : tie.After-slice-known43 = search in first-left left .announce-sound2 .kept .1 .1 .1 .1 .1 .1 .1 .0)
     (λ c. let left : tie.After-slice-known43 = search in first-left left .announce-sound2 .kept .1 .1 .1 .1 .1 .1 .1 .1 .0)
-    (λ c. let left : tie.After-slice-known43 = search in (first-left left .announce-sound2 .kept .1 .1 .1 .1 .1 .1 .1 .1 .1 .1 .1 .0) ∙ (judged1 left .judge .kept .1 .1 .1 .1 .1 .1 .1 .1 .1 .1 .1 .1 .1 .1 .0))
-    (λ c. let left : tie.After-slice-known43 = search in (first-left left .announce-sound2 .kept .1 .1 .1 .1 .1 .1 .1 .1 .1 .1 .1 .1 .0) ∙ (judged1 left .judge .kept .1 .1 .1 .1 .1 .1 .1 .1 .1 .1 .1 .1 .1 .1 .1 .0))
-    (λ c. let left : tie.After-slice-known43 = search in (first-left left .announce-sound2 .kept .1 .1 .1 .1 .1 .1 .1 .1 .1 .1 .1 .1 .1 .0) ∙ (judged1 left .judge .kept .1 .1 .1 .1 .1 .1 .1 .1 .1 .1 .1 .1 .1 .1 .1 .1 .0))
-    (λ c. let left : tie.After-slice-known43 = search in (first-left left .announce-sound2 .kept .1 .1 .1 .1 .1 .1 .1 .1 .1 .1 .1 .1 .1 .1 .0) ∙ (judged1 left .judge .kept .1 .1 .1 .1 .1 .1 .1 .1 .1 .1 .1 .1 .1 .1 .1 .1 .1 .0))
+    see2-first
+    see3-first
+    ws-first
+    par-first
     returns-3)
