@@ -161,8 +161,9 @@ pub freed-twice : (see own : List ℕ) → freed see (freed see own) ≡ freed s
 unfolding freed
 freed-twice see own =
     let n = length-tabulate {A = ℕ} (length own) (λ c. cond (inUse (entry see) c) 0 (getD own c 0)) in
-    ext-getD 0 _ _ (length-tabulate _ _) (λ c h.
-    let i : c < length (freed see own) = rw length-tabulate at h in
+    let m = length-tabulate {A = ℕ} (length (freed see own)) (λ c. cond (inUse (entry see) c) 0 (getD (freed see own) c 0)) in
+    ext-getD 0 _ _ m (λ c h.
+    let i : c < length (freed see own) = omega (arith, h, m) in
     let j : c < length own = omega (arith, i, n) in
     getD-tabulate (length (freed see own)) _ c 0 i ∙ ap (λ (x : ℕ). cond (inUse (entry see) c) 0 x) (getD-tabulate (length own) _ c 0 j)
     ∙ either (inUse (entry see) c) (getD own c 0) ∙ sym (getD-tabulate (length own) _ c 0 j))

@@ -1,5 +1,5 @@
 -- What the judge of a party's load says, each way through it.
-use mathlib.Core.Path.{_≡_, refl, sym, _∙_}
+use mathlib.Core.Path.{_≡_, sym, _∙_}
 use mathlib.Core.Bool.{Bool, true, false, not, true≢false, false≢true}
 use mathlib.Core.List.{List, [], _∷_}
 use Prim.Native.Nat.{ℕ, _/_, _≤_}
@@ -17,7 +17,7 @@ use Rattle.sail_need.specs.Weigh.{terms, Weighs}
 use Rattle.sail_load.specs.Answers.{meansLoaded}
 use Rattle.sail_load.specs.declared.load.Loaded.{Loaded}
 use Rattle.sail_load.specs.declared.load.Loaded.the-variants.{Done, Refused, RefusedAt}
-use Rattle.pair.specs.Party.{Party, one, two, partyOf}
+use Rattle.pair.specs.Party.{Party, one, partyOf}
 use Rattle.pair.specs.PairLent.{PairLent}
 use Rattle.pair.specs.PairSound.{shareOf, pairSizesFault, PairSizesTold, pairSound?}
 use Rattle.pair.specs.PairCalls.{pairLoadSaid}
