@@ -7,7 +7,8 @@
  * then writes 33 zeros, and gh_update that stops for want of room (6, 7, 8) leaves the table as after the entries it
  * had dealt with.
  *
- * Start with struct gh_table and the functions over it, at the end of this file: they keep the route count.
+ * Start with struct gh_table and the functions over it, at the end of this file: they keep the route count. Two parties
+ * that share the pools of one box have struct gh_pair, which keeps both counts.
  *
  * ARRAYS. An array is a pointer and then its length, counted in elements. A pointer is never null and is aligned
  * for its type, also where the length is 0 (gh_empty() is such a pointer). An array that a call writes overlaps no
@@ -27,6 +28,9 @@
  *   long2   a count for each cell of the second pool: the routes longer than p2 that have its bits, 0 in free chunks
  *   packet  an IPv4 packet as it came, from its first byte on: GH_HEADER_BYTES of it or more
  *   records hop records, any number of them: hop h has records[h - 1]
+ *   list1, first1, long11   of a box of two: the first party's own list, first cells and counts for them
+ *   list2, first2, long12   and the second party's. second, third, own2, own3 and long2 are shared; an owner's top bit is 1
+ *                           for a chunk of the second party, and owner 0 is nobody's
  *   words   3 words for each node of a tree image
  *   hops    the hops of a tree image
  *   bits    the bits of bit maps, GH_MAP_BYTES
@@ -60,6 +64,8 @@
  *   gh_step          as gh_lookup
  *   gh_forward       as gh_lookup; with a hop, bits 32 to 47: its port
  *   gh_count         the same, of what found has
+ *   gh_pair_make, gh_pair_load, gh_pair_announce, gh_pair_withdraw, gh_pair_report, gh_pair_lookup
+ *                    as the call of one party; routes and needs are the calling party's
  *   gh_build         bits 16 to 31: hops; 32 to 63: nodes
  *   gh_tree_lookup   bits 8 to 15: nodes read, and one more where a hop is answered; 16 to 31: hop, 0 for no route
  *   gh_tree_test     bits 16 to 31: hops; 32 to 63: nodes
@@ -96,10 +102,10 @@
  * images too: a change in place moves nodes, and a reader beside it would meet halves.
  *
  * STACK. gh_load, gh_announce, gh_withdraw and gh_report take at most GH_STACK_TABLE bytes of stack, gh_update
- * GH_STACK_UPDATE, gh_repair GH_STACK_REPAIR, the test and the changes of an image GH_STACK_IMAGE, the others GH_STACK. On x86-64 and on Arm it is
- * 44 KB for announce, withdraw and the report, 42 KB for load, 8.5 KB for an image, and under 200 bytes for each of the
- * others; on Arm 152 KB for repair. Only the test of an image is recursive: the test of a node calls that of its
- * children, and back, at most 17 calls for each of 8 depths.
+ * GH_STACK_UPDATE, the same calls on a box of two GH_STACK_PAIR, gh_repair GH_STACK_REPAIR, the test and the changes of an
+ * image GH_STACK_IMAGE, the others GH_STACK. On x86-64 and on Arm it is 44 KB for announce, withdraw and the report, 42 KB
+ * for load, 8.5 KB for an image, and under 200 bytes for each of the others; on Arm 152 KB for repair. Only the test of an
+ * image is recursive: the test of a node calls that of its children, and back, at most 17 calls for each of 8 depths.
  *
  * WHAT THE LIBRARY NEEDS: memcpy and memset, and nothing else of a C library.
  */
@@ -155,6 +161,9 @@ extern "C" {
 #define GH_UP              1          /* marks of a hop record: up, */
 #define GH_DOWN            0          /* and down, as every other number is */
 
+#define GH_PARTY_ONE       0          /* the parties of a box of two; any other number is the second too */
+#define GH_PARTY_TWO       1
+
 #define GH_STANDARD_P1     16         /* the named geometries */
 #define GH_STANDARD_P2     24
 #define GH_SMALL_P1        12
@@ -179,6 +188,7 @@ extern "C" {
 
 #define GH_STACK_TABLE     49152      /* bytes of stack: load, announce, withdraw, report */
 #define GH_STACK_UPDATE    49152      /* update */
+#define GH_STACK_PAIR      98304      /* the same calls on a box of two */
 #define GH_STACK_IMAGE     12288      /* gh_tree_test, gh_tree_announce, gh_tree_withdraw */
 #define GH_STACK_REPAIR    163840     /* repair */
 #define GH_STACK           1024       /* the other calls */
@@ -208,7 +218,8 @@ enum gh_refusal {
     GH_REFUSED_HEADER = 20,
     GH_REFUSED_CHECKSUM = 21,
     GH_REFUSED_LIFE = 22,
-    GH_REFUSED_VERSION = 23
+    GH_REFUSED_VERSION = 23,
+    GH_REFUSED_LIMITS = 24
 };
 
 /* What a number means. */
@@ -220,10 +231,10 @@ static inline const char *gh_meaning(unsigned number)
         /*  2 */ "a lent array has another size than it must, or too many chunks or records of room",
         /*  3 */ "length over 32, or a bit set after the length; announce and withdraw on a table: length over 32 alone",
         /*  4 */ "hop not 1 to 32,767",
-        /*  5 */ "table not sound; in lookup only: a chunk number is 0 or beyond its pool, or a third cell is no leaf",
+        /*  5 */ "table not sound; in lookup only: a chunk number is 0 or beyond its pool, a third cell is no leaf, or a chunk is owned by the other party",
         /*  6 */ "announce: list room full, in an image 4,096 routes stand; load: more records than room; any record input: over 4,096",
-        /*  7 */ "need for second chunks exceeds those lent",
-        /*  8 */ "need for third chunks exceeds those lent",
+        /*  7 */ "need for second chunks exceeds those lent, or the party's limit",
+        /*  8 */ "need for third chunks exceeds those lent, or the party's limit",
         /*  9 */ "withdrawn prefix doesn't stand",
         /* 10 */ "record input not a multiple of 8 bytes, mark over 1, or not ascending; announce: mark over 1",
         /* 11 */ "too few whole nodes lent",
@@ -239,6 +250,7 @@ static inline const char *gh_meaning(unsigned number)
         /* 21 */ "header checksum wrong",
         /* 22 */ "time to live 0 or 1",
         /* 23 */ "version neither 1 nor 2",
+        /* 24 */ "the two parties' limits add to more than a pool's chunks",
     };
     return number < sizeof texts / sizeof *texts && texts[number] ? texts[number] : "no number of a refusal";
 }
@@ -250,7 +262,7 @@ static inline const char *gh_meaning(unsigned number)
 #define GH_INDEX(a)        ((uint32_t)((a) >> 32))                /* refused: that index */
 #define GH_REPLACED(a)     ((unsigned)((a) >> 8 & 1))             /* gh_announce, gh_tree_announce */
 #define GH_CLEARED(a)      ((unsigned)((a) >> 9 & 1))             /* accepted gh_announce and gh_withdraw */
-#define GH_COUNT(a)        ((unsigned)((a) >> 16 & 0xffff))       /* changes and gh_report: routes */
+#define GH_COUNT(a)        ((unsigned)((a) >> 16 & 0xffff))       /* changes and reports: routes */
 #define GH_ENTRIES(a)      ((uint32_t)((a) >> 32))                /* gh_update: entries dealt with */
 #define GH_BYTES(a)        ((uint32_t)((a) >> 32))                /* gh_write_field */
 #define GH_NEED_SECOND(a)  ((unsigned)((a) >> 32 & 0xffff))       /* gh_report */
@@ -459,6 +471,122 @@ uint64_t gh_forward(uint32_t p1, uint32_t p2, uint32_t count,
  * hop, and one over GH_MOST_HOP has no record. Refusals: the one in found, 14, 15. */
 GH_CALL
 uint64_t gh_count(uint64_t found, struct gh_hop_record *records, size_t records_len, uint32_t octets);
+
+/* ---- Calls on a box of two parties ----------------------------------------------------------------------------- */
+
+/* Two parties share the two pools of one box. Each has its own list, first cells and counts for them, and a limit of
+ * chunks in either pool, most2 and most3. The state is p1, p2, either party's route count and its limits; the limits stay
+ * as they were given to gh_pair_make. What a party is answered depends on its own calls, the room of its list, its limits
+ * and the geometry, and on nothing that the other does or has. Each call is that of the party `party`: GH_PARTY_ONE, or any
+ * other number for the second. Costs: gh_pair_lookup reads 1 to 3 cells and an owner for each chunk; gh_pair_make writes
+ * all arrays; the others test the whole box first, both parties' parts of it.
+ *
+ * Makes a fresh box with no routes of either party. Reads nothing of the arrays. Refusals: 1, 2, 24 if the two limits add to
+ * more than a pool's chunks. */
+GH_CALL
+uint64_t gh_pair_make(uint32_t p1, uint32_t p2, uint32_t most2_one, uint32_t most3_one,
+                      uint32_t most2_two, uint32_t most3_two,
+                      uint8_t *GH_RESTRICT list1, size_t list1_len,
+                      uint16_t *GH_RESTRICT first1, size_t first1_len,
+                      uint16_t *GH_RESTRICT long11, size_t long11_len,
+                      uint8_t *GH_RESTRICT list2, size_t list2_len,
+                      uint16_t *GH_RESTRICT first2, size_t first2_len,
+                      uint16_t *GH_RESTRICT long12, size_t long12_len,
+                      uint16_t *GH_RESTRICT second, size_t second_len,
+                      uint16_t *GH_RESTRICT third, size_t third_len,
+                      uint32_t *GH_RESTRICT own2, size_t own2_len,
+                      uint32_t *GH_RESTRICT own3, size_t own3_len,
+                      uint16_t *GH_RESTRICT long2, size_t long2_len);
+
+/* Replaces all routes of the party by those of a record input, as withdrawing each of them and then announcing each record
+ * in order would; the chunks that it opens are the lowest free ones, between the other's. Refusals: 1, 2, 5, the input's,
+ * 6 if there are more records than room, 7, 8 by the party's limits. */
+GH_CALL
+uint64_t gh_pair_load(uint32_t p1, uint32_t p2, uint32_t count_one, uint32_t count_two,
+                      uint32_t most2_one, uint32_t most3_one, uint32_t most2_two, uint32_t most3_two,
+                      uint8_t *GH_RESTRICT list1, size_t list1_len,
+                      uint16_t *GH_RESTRICT first1, size_t first1_len,
+                      uint16_t *GH_RESTRICT long11, size_t long11_len,
+                      uint8_t *GH_RESTRICT list2, size_t list2_len,
+                      uint16_t *GH_RESTRICT first2, size_t first2_len,
+                      uint16_t *GH_RESTRICT long12, size_t long12_len,
+                      uint16_t *GH_RESTRICT second, size_t second_len,
+                      uint16_t *GH_RESTRICT third, size_t third_len,
+                      uint32_t *GH_RESTRICT own2, size_t own2_len,
+                      uint32_t *GH_RESTRICT own3, size_t own3_len,
+                      uint16_t *GH_RESTRICT long2, size_t long2_len,
+                      uint32_t party, const uint8_t *GH_RESTRICT input, size_t input_len);
+
+/* As gh_announce, for the party. Refusals: 1, 2, 3 for a length over 32, 4, 10, 5, 6 by the party's own room, 7, 8 by its
+ * limits; a replacement never meets 6 to 8. */
+GH_CALL
+uint64_t gh_pair_announce(uint32_t p1, uint32_t p2, uint32_t count_one, uint32_t count_two,
+                          uint32_t most2_one, uint32_t most3_one, uint32_t most2_two, uint32_t most3_two,
+                          uint8_t *GH_RESTRICT list1, size_t list1_len,
+                          uint16_t *GH_RESTRICT first1, size_t first1_len,
+                          uint16_t *GH_RESTRICT long11, size_t long11_len,
+                          uint8_t *GH_RESTRICT list2, size_t list2_len,
+                          uint16_t *GH_RESTRICT first2, size_t first2_len,
+                          uint16_t *GH_RESTRICT long12, size_t long12_len,
+                          uint16_t *GH_RESTRICT second, size_t second_len,
+                          uint16_t *GH_RESTRICT third, size_t third_len,
+                          uint32_t *GH_RESTRICT own2, size_t own2_len,
+                          uint32_t *GH_RESTRICT own3, size_t own3_len,
+                          uint16_t *GH_RESTRICT long2, size_t long2_len,
+                          uint32_t party, uint32_t addr, uint32_t len, uint32_t hop, uint32_t mark);
+
+/* As gh_withdraw, for the party. Refusals: 1, 2, 3 for a length over 32, 5, 9. */
+GH_CALL
+uint64_t gh_pair_withdraw(uint32_t p1, uint32_t p2, uint32_t count_one, uint32_t count_two,
+                          uint32_t most2_one, uint32_t most3_one, uint32_t most2_two, uint32_t most3_two,
+                          uint8_t *GH_RESTRICT list1, size_t list1_len,
+                          uint16_t *GH_RESTRICT first1, size_t first1_len,
+                          uint16_t *GH_RESTRICT long11, size_t long11_len,
+                          uint8_t *GH_RESTRICT list2, size_t list2_len,
+                          uint16_t *GH_RESTRICT first2, size_t first2_len,
+                          uint16_t *GH_RESTRICT long12, size_t long12_len,
+                          uint16_t *GH_RESTRICT second, size_t second_len,
+                          uint16_t *GH_RESTRICT third, size_t third_len,
+                          uint32_t *GH_RESTRICT own2, size_t own2_len,
+                          uint32_t *GH_RESTRICT own3, size_t own3_len,
+                          uint16_t *GH_RESTRICT long2, size_t long2_len,
+                          uint32_t party, uint32_t addr, uint32_t len);
+
+/* Reports the party's route count and both its needs, if the box is sound: both parties' parts of it, with needs within
+ * limits and limits that fit the pools. Refusals: 1, 2, 5. */
+GH_CALL
+uint64_t gh_pair_report(uint32_t p1, uint32_t p2, uint32_t count_one, uint32_t count_two,
+                        uint32_t most2_one, uint32_t most3_one, uint32_t most2_two, uint32_t most3_two,
+                        const uint8_t *list1, size_t list1_len,
+                        const uint16_t *first1, size_t first1_len,
+                        const uint16_t *long11, size_t long11_len,
+                        const uint8_t *list2, size_t list2_len,
+                        const uint16_t *first2, size_t first2_len,
+                        const uint16_t *long12, size_t long12_len,
+                        const uint16_t *second, size_t second_len,
+                        const uint16_t *third, size_t third_len,
+                        const uint32_t *own2, size_t own2_len,
+                        const uint32_t *own3, size_t own3_len,
+                        const uint16_t *long2, size_t long2_len,
+                        uint32_t party);
+
+/* Looks one address up in the party's table: 1 to 3 cells are read. The box need not be sound, and counts and limits are
+ * not looked at. Refusals: 1, 2, 5 in the form for lookups, and 5 at a chunk owned by the other party. */
+GH_CALL
+uint64_t gh_pair_lookup(uint32_t p1, uint32_t p2, uint32_t count_one, uint32_t count_two,
+                        uint32_t most2_one, uint32_t most3_one, uint32_t most2_two, uint32_t most3_two,
+                        const uint8_t *list1, size_t list1_len,
+                        const uint16_t *first1, size_t first1_len,
+                        const uint16_t *long11, size_t long11_len,
+                        const uint8_t *list2, size_t list2_len,
+                        const uint16_t *first2, size_t first2_len,
+                        const uint16_t *long12, size_t long12_len,
+                        const uint16_t *second, size_t second_len,
+                        const uint16_t *third, size_t third_len,
+                        const uint32_t *own2, size_t own2_len,
+                        const uint32_t *own3, size_t own3_len,
+                        const uint16_t *long2, size_t long2_len,
+                        uint32_t party, uint32_t addr);
 
 /* ---- Calls on tree images -------------------------------------------------------------------------------------- */
 
@@ -697,6 +825,94 @@ static inline uint64_t gh_table_lookup_many(const struct gh_table *t, const uint
                                             uint32_t *GH_RESTRICT out, size_t n)
 {
     return gh_lookup_many(t->p1, t->p2, t->count, GH_LENT(t), addrs, n, out, n);
+}
+
+/* ---- A box of two parties as one struct ------------------------------------------------------------------------ */
+
+/* All of a box of two. The caller sets everything once; gh_box_make then makes it a box. After that only the functions
+ * below write here, and only the count of the party that calls: an accepted change sets it, and a refusal leaves it. */
+struct gh_pair {
+    uint32_t p1, p2;                    /* the geometry */
+    uint32_t count[2];                  /* either party's route count, the first party's at GH_PARTY_ONE */
+    uint32_t most2[2], most3[2];        /* its limits of second and of third chunks */
+    uint8_t *list[2];                   /* each party's own arrays, and their lengths in elements */
+    size_t list_len[2];
+    uint16_t *first[2];
+    size_t first_len[2];
+    uint16_t *long1[2];
+    size_t long1_len[2];
+    uint16_t *second;                   /* the arrays that both share */
+    size_t second_len;
+    uint16_t *third;
+    size_t third_len;
+    uint32_t *own2;
+    size_t own2_len;
+    uint32_t *own3;
+    size_t own3_len;
+    uint16_t *long2;
+    size_t long2_len;
+};
+
+/* State and arrays as the calls above take them: gh_pair_report(GH_PAIR_STATE(b), GH_PAIR_LENT(b), party). */
+#define GH_PAIR_STATE(b) \
+    (b)->p1, (b)->p2, (b)->count[0], (b)->count[1], (b)->most2[0], (b)->most3[0], (b)->most2[1], (b)->most3[1]
+#define GH_PAIR_LENT(b) \
+    (b)->list[0], (b)->list_len[0], (b)->first[0], (b)->first_len[0], (b)->long1[0], (b)->long1_len[0], \
+    (b)->list[1], (b)->list_len[1], (b)->first[1], (b)->first_len[1], (b)->long1[1], (b)->long1_len[1], \
+    (b)->second, (b)->second_len, (b)->third, (b)->third_len, (b)->own2, (b)->own2_len, (b)->own3, (b)->own3_len, \
+    (b)->long2, (b)->long2_len
+
+/* The index of a party in the arrays of struct gh_pair. */
+static inline unsigned gh_party(uint32_t party)
+{
+    return party == GH_PARTY_ONE ? 0 : 1;
+}
+
+/* Takes the party's count over from the answer of its change, if it was accepted. */
+static inline uint64_t gh_box_keep(struct gh_pair *b, uint32_t party, uint64_t answer)
+{
+    if (GH_NUMBER(answer) == GH_ACCEPTED)
+        b->count[gh_party(party)] = GH_COUNT(answer);
+    return answer;
+}
+
+/* As gh_pair_make, gh_pair_load, gh_pair_announce, gh_pair_withdraw, gh_pair_report, gh_pair_lookup: the same answers. */
+GH_CALL
+static inline uint64_t gh_box_make(struct gh_pair *b)
+{
+    uint64_t answer = gh_pair_make(b->p1, b->p2, b->most2[0], b->most3[0], b->most2[1], b->most3[1], GH_PAIR_LENT(b));
+    return gh_box_keep(b, GH_PARTY_TWO, gh_box_keep(b, GH_PARTY_ONE, answer));
+}
+
+GH_CALL
+static inline uint64_t gh_box_load(struct gh_pair *b, uint32_t party, const uint8_t *input, size_t input_len)
+{
+    return gh_box_keep(b, party, gh_pair_load(GH_PAIR_STATE(b), GH_PAIR_LENT(b), party, input, input_len));
+}
+
+GH_CALL
+static inline uint64_t gh_box_announce(struct gh_pair *b, uint32_t party, uint32_t addr, uint32_t len, uint32_t hop,
+                                       uint32_t mark)
+{
+    return gh_box_keep(b, party, gh_pair_announce(GH_PAIR_STATE(b), GH_PAIR_LENT(b), party, addr, len, hop, mark));
+}
+
+GH_CALL
+static inline uint64_t gh_box_withdraw(struct gh_pair *b, uint32_t party, uint32_t addr, uint32_t len)
+{
+    return gh_box_keep(b, party, gh_pair_withdraw(GH_PAIR_STATE(b), GH_PAIR_LENT(b), party, addr, len));
+}
+
+GH_CALL
+static inline uint64_t gh_box_report(const struct gh_pair *b, uint32_t party)
+{
+    return gh_pair_report(GH_PAIR_STATE(b), GH_PAIR_LENT(b), party);
+}
+
+GH_CALL
+static inline uint64_t gh_box_lookup(const struct gh_pair *b, uint32_t party, uint32_t addr)
+{
+    return gh_pair_lookup(GH_PAIR_STATE(b), GH_PAIR_LENT(b), party, addr);
 }
 
 #ifdef __cplusplus

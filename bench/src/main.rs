@@ -10,6 +10,7 @@ mod hand;
 mod images;
 mod maps;
 mod messages;
+mod pairs;
 
 use ghatumri::{sys, Answer, Image, Mark, Table};
 use hand::Dir248;
@@ -436,11 +437,13 @@ fn main() {
         rounds
     );
     let maps = Maps::of(&input);
+    let pair = pairs::pair(&input, ROUTES, 4096, 256);
     let rte = dpdk::start(&all);
     for (name, addrs) in [("random", random_traffic(&mut rng)), ("prefix-based", prefix_traffic(&mut rng, &all))] {
         println!("\n{name} traffic, {} addresses, time for one", addrs.len());
         lookups(rounds, &table, &image, &dir, rte, &addrs);
         map_lookups(rounds, &maps, &addrs);
+        pairs::lookups(rounds, &table, &pair, &addrs);
     }
 
     println!("\nchanges, time for one call");
@@ -453,6 +456,8 @@ fn main() {
 
     println!("\nmessages, time for one call");
     messages::messages(4 * rounds, &all);
+    println!("\nchanges of the largest box of two, all chunks in use");
+    pairs::changes(4 * rounds, &apart);
 
     println!("\nchanges of an image, time for one call");
     images::changes(4 * rounds, &all);

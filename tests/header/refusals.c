@@ -250,11 +250,11 @@ static void meanings(void)
     CHECK(accepted, 0);
     CHECK(strcmp(gh_meaning(accepted), "accepted"), 0);
     const char *none = gh_meaning(UINT32_MAX);
-    for (unsigned number = GH_REFUSED_GEOMETRY; number <= GH_REFUSED_VERSION; number++)
+    for (unsigned number = GH_REFUSED_GEOMETRY; number <= GH_REFUSED_LIMITS; number++)
         if (strcmp(gh_meaning(number), none) != 0)
             printf("| %u | %s |\n", number, gh_meaning(number));
     CHECK(strcmp(gh_meaning(GH_REFUSED_DOWN + 1), none), 0);
-    CHECK(strcmp(gh_meaning(GH_REFUSED_VERSION + 1), none), 0);
+    CHECK(strcmp(gh_meaning(GH_REFUSED_LIMITS + 1), none), 0);
 }
 
 int main(void)

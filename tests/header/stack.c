@@ -14,6 +14,14 @@ static uint16_t first[GH_FIRST_CELLS(12)], second[N * GH_SECOND_CHUNK(12, 22)], 
 static uint32_t own2[N], own3[N];
 static uint16_t long1[GH_ELEMENTS(first)], long2[GH_ELEMENTS(second)];
 static struct gh_table t = GH_TABLE(12, 22, list, first, second, third, own2, own3, long1, long2);
+/* a box of two, in which the second party has all of it */
+static uint8_t no_list[GH_RECORD_BYTES];
+static uint16_t first_one[GH_ELEMENTS(first)], long_one[GH_ELEMENTS(first)];
+static struct gh_pair b = {
+    12, 22, { 0, 0 }, { 0, N }, { 0, N }, { no_list, list }, { sizeof no_list, sizeof list },
+    { first_one, first }, { GH_ELEMENTS(first), GH_ELEMENTS(first) }, { long_one, long1 }, { GH_ELEMENTS(first), GH_ELEMENTS(first) },
+    second, GH_ELEMENTS(second), third, GH_ELEMENTS(third), own2, N, own3, N, long2, GH_ELEMENTS(second),
+};
 static uint32_t words[GH_WORDS_FOR(N)], addrs[1000], out[1000], counts[GH_TALLY_WORDS], told[GH_REPAIR_WORDS];
 static uint16_t hops[N];
 #define STEPS (8 * 15 + 1)
@@ -44,6 +52,12 @@ static uint64_t lookup_many(void) { return gh_table_lookup_many(&t, addrs, out, 
 static uint64_t step(void) { return gh_table_step(&t, packet, sizeof packet); }
 static uint64_t forward(void) { return gh_table_forward(&t, records, GH_ELEMENTS(records), here, 1500); }
 static uint64_t count(void) { return gh_count((uint64_t)9 << 16, records, GH_ELEMENTS(records), 1500); }
+static uint64_t pair_make(void) { return gh_box_make(&b); }
+static uint64_t pair_load(void) { return gh_box_load(&b, GH_PARTY_TWO, input, sizeof input); }
+static uint64_t pair_announce(void) { return gh_box_announce(&b, GH_PARTY_TWO, here, 32, 5, GH_BEHIND); }
+static uint64_t pair_withdraw(void) { return gh_box_withdraw(&b, GH_PARTY_TWO, here, 32); }
+static uint64_t pair_report(void) { return gh_box_report(&b, GH_PARTY_TWO); }
+static uint64_t pair_lookup(void) { return gh_box_lookup(&b, GH_PARTY_TWO, here); }
 static uint64_t build(void) { return gh_build(input, sizeof input, words, GH_ELEMENTS(words), hops, N); }
 static uint64_t tree_lookup(void) { return gh_tree_lookup(words, GH_ELEMENTS(words), hops, N, here); }
 #define IMAGE step_words, GH_ELEMENTS(step_words), step_hops, STEPS
@@ -107,6 +121,9 @@ int main(void)
         { "write_field", write_field, GH_STACK, 0 }, { "broadcast", broadcast, GH_STACK, 0 },
         { "basic_build", basic_build, GH_STACK, 0 }, { "basic_lookup", basic_lookup, GH_STACK, 0 },
         { "basic_lookup_many", basic_lookup_many, GH_STACK, 0 },
+        { "pair_make", pair_make, GH_STACK, 0 }, { "pair_load", pair_load, GH_STACK_PAIR, 0 },
+        { "pair_withdraw", pair_withdraw, GH_STACK_PAIR, 0 }, { "pair_announce", pair_announce, GH_STACK_PAIR, 0 },
+        { "pair_report", pair_report, GH_STACK_PAIR, 0 }, { "pair_lookup", pair_lookup, GH_STACK, 0 },
     };
     for (uint32_t k = 0; k < N; k++)
         put_record(input + GH_RECORD_BYTES * k, k << 20 | 77, 32, 9);

@@ -11,7 +11,9 @@
 //! dealt with.
 //!
 //! - [`TableMut`] and [`ImageMut`] are over buffers that you lend, and [`TableRef`] and [`ImageRef`] only read them.
-//! - [`Table`] and [`Image`] own their buffers. They need the feature `alloc`, which is on by default. Without it the
+//! - [`PairMut`] and [`PairRef`] are two parties' tables over pools that they share. What one party is answered depends on
+//!   nothing that the other does.
+//! - [`Table`], [`Pair`] and [`Image`] own their buffers. They need the feature `alloc`, which is on by default. Without it the
 //!   crate needs no allocator; in no case does it need `std`.
 //! - [`raw`] has every call as it crosses the boundary, with its packed answer.
 //!
@@ -52,6 +54,7 @@ mod maps;
 mod message;
 #[cfg(feature = "alloc")]
 mod owned;
+mod pair;
 pub mod raw;
 mod records;
 mod refusal;
@@ -67,7 +70,8 @@ pub use input::{route, routes, run, tally, Routes};
 pub use maps::{hop, MapsMut, MapsRef, MAP_BYTES, MAP_CELLS};
 pub use message::{write_field, Updated, MOST_FIELD};
 #[cfg(feature = "alloc")]
-pub use owned::{Image, Maps, Table};
+pub use owned::{Image, Maps, Own, Pair, Table};
+pub use pair::{Limits, OwnMut, OwnRef, PairMut, PairRef, Party};
 pub use records::{Forwarded, HopRecord, Sent};
 pub use refusal::{Reason, Refusal};
 pub use route::{Mark, ParseRouteError, Route};

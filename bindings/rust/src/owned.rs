@@ -1,4 +1,4 @@
-//! Tables, images and maps that own their buffers.
+//! Tables, boxes of two parties, images and maps that own their buffers.
 
 use crate::found::{Answer, Found};
 use crate::geometry::{Geometry, MOST_CHUNKS, MOST_RECORDS};
@@ -6,6 +6,7 @@ use crate::image::{self, words_for, Built, ImageAnnounced, ImageMut, ImageRef};
 use crate::input::Routes;
 use crate::maps::{self, MapsMut, MapsRef, MAP_BYTES, MAP_CELLS};
 use crate::message::Updated;
+use crate::pair::{self, Limits, OwnMut, OwnRef, PairMut, PairRef, Party};
 use crate::records::{Forwarded, HopRecord};
 use crate::refusal::Refusal;
 use crate::route::Mark;
@@ -163,6 +164,193 @@ impl Table {
 impl fmt::Debug for Table {
     fn fmt(&self, f: &mut fmt::Formatter) -> fmt::Result {
         table::debug("Table", self.view(), f)
+    }
+}
+
+/// A party's own buffers in a [`Pair`].
+#[derive(Clone, PartialEq, Eq, Debug)]
+pub struct Own {
+    /// The party's route count. An accepted change of the party sets it.
+    pub count: u32,
+    pub limits: Limits,
+    /// Records of 8 bytes, as many as there is room for; those past the count are zero.
+    pub list: Vec<u8>,
+    pub first: Vec<u16>,
+    /// A count for each first cell: the party's routes longer than `p1` that have its bits.
+    pub long1: Vec<u16>,
+}
+
+impl Own {
+    fn new(geometry: Geometry, room: usize, limits: Limits) -> Own {
+        let cells = geometry.first_cells();
+        Own {
+            count: 0,
+            limits,
+            list: vec![0; 8 * room.min(MOST_RECORDS + 1)],
+            first: vec![0; cells],
+            long1: vec![0; cells],
+        }
+    }
+
+    fn view(&self) -> OwnRef<'_> {
+        OwnRef { count: self.count, limits: self.limits, list: &self.list, first: &self.first, long1: &self.long1 }
+    }
+
+    fn lend(&mut self) -> OwnMut<'_> {
+        OwnMut {
+            count: self.count,
+            limits: self.limits,
+            list: &mut self.list,
+            first: &mut self.first,
+            long1: &mut self.long1,
+        }
+    }
+}
+
+/// A box of two parties that owns its buffers: a [`PairMut`] over vectors.
+///
+/// ```
+/// use ghatumri::{Geometry, Limits, Mark, Pair, Party, Reason};
+///
+/// let mine = Limits { second: 1, third: 1 };
+/// let theirs = Limits { second: 3, third: 3 };
+/// let mut pair = Pair::new(Geometry::SMALL, (4, 4), (8, mine), (8, theirs))?;
+/// pair.announce(Party::One, [10, 1, 2, 0], 24, 44, Mark::Behind)?;
+/// pair.announce(Party::Two, [10, 1, 2, 0], 24, 9, Mark::Behind)?;
+/// assert_eq!(pair.lookup(Party::One, [10, 1, 2, 5])?.hop, Some(44));
+/// assert_eq!(pair.lookup(Party::Two, [10, 1, 2, 5])?.hop, Some(9));
+/// // One chunk is the first party's limit, though two are free.
+/// let refusal = pair.announce(Party::One, [10, 32, 0, 0], 24, 5, Mark::Behind).unwrap_err();
+/// assert_eq!(refusal.reason, Reason::Second);
+/// # Ok::<(), ghatumri::Refusal>(())
+/// ```
+#[derive(Clone, PartialEq, Eq)]
+pub struct Pair {
+    pub geometry: Geometry,
+    pub one: Own,
+    pub two: Own,
+    pub second: Vec<u16>,
+    pub third: Vec<u16>,
+    /// An owner for each chunk of the second pool: the top bit is 1 for the second party, and 0 is nobody's.
+    pub own2: Vec<u32>,
+    /// An owner for each chunk of the third pool.
+    pub own3: Vec<u32>,
+    /// A count for each cell of the second pool, 0 in free chunks.
+    pub long2: Vec<u16>,
+}
+
+impl Pair {
+    /// A fresh box with no routes: pools of so many second and third chunks, and for each party room for so many records and
+    /// its limits.
+    ///
+    /// # Errors
+    ///
+    /// 1, 2, 24 if the two limits add to more than a pool's chunks.
+    pub fn new(
+        geometry: Geometry,
+        chunks: (usize, usize),
+        one: (usize, Limits),
+        two: (usize, Limits),
+    ) -> Result<Pair, Refusal> {
+        let second = chunks.0.min(MOST_CHUNKS + 1);
+        let third = chunks.1.min(MOST_CHUNKS + 1);
+        let mut pair = Pair {
+            geometry,
+            one: Own::new(geometry, one.0, one.1),
+            two: Own::new(geometry, two.0, two.1),
+            second: vec![0; second * geometry.second_chunk()],
+            third: vec![0; third * geometry.third_chunk()],
+            own2: vec![0; second],
+            own3: vec![0; third],
+            long2: vec![0; second * geometry.second_chunk()],
+        };
+        pair.make()?;
+        Ok(pair)
+    }
+
+    /// The same box, only to be read.
+    #[inline]
+    #[must_use]
+    pub fn view(&self) -> PairRef<'_> {
+        PairRef {
+            geometry: self.geometry,
+            one: self.one.view(),
+            two: self.two.view(),
+            second: &self.second,
+            third: &self.third,
+            own2: &self.own2,
+            own3: &self.own3,
+            long2: &self.long2,
+        }
+    }
+
+    pair::pair_reads!();
+
+    /// Lends the buffers to a change, and keeps the counts that it leaves.
+    fn lend<T>(&mut self, change: impl FnOnce(&mut PairMut) -> T) -> T {
+        let mut lent = PairMut {
+            geometry: self.geometry,
+            one: self.one.lend(),
+            two: self.two.lend(),
+            second: &mut self.second,
+            third: &mut self.third,
+            own2: &mut self.own2,
+            own3: &mut self.own3,
+            long2: &mut self.long2,
+        };
+        let answer = change(&mut lent);
+        let counts = (lent.one.count, lent.two.count);
+        (self.one.count, self.two.count) = counts;
+        answer
+    }
+
+    /// Empties the box, whatever is in it. The limits stay as the fields have them.
+    ///
+    /// # Errors
+    ///
+    /// 1, 2, 24.
+    pub fn make(&mut self) -> Result<(), Refusal> {
+        self.lend(|b| b.make())
+    }
+
+    /// As [`PairMut::load`].
+    ///
+    /// # Errors
+    ///
+    /// 1, 2, 5, the input's, 6, 7, 8.
+    pub fn load(&mut self, party: Party, input: &[u8]) -> Result<usize, Refusal> {
+        self.lend(|b| b.load(party, input))
+    }
+
+    /// As [`PairMut::announce`].
+    ///
+    /// # Errors
+    ///
+    /// 1, 2, 3 for a length over 32, 4, 5, 6, 7, 8; a replacement never meets 6 to 8, and a [`Mark`] never 10.
+    pub fn announce(
+        &mut self,
+        party: Party,
+        addr: impl Into<Ipv4Addr>,
+        len: u8,
+        hop: u16,
+        mark: Mark,
+    ) -> Result<Announced, Refusal> {
+        self.lend(|b| b.announce(party, addr, len, hop, mark))
+    }
+
+    /// As [`PairMut::withdraw`].
+    ///
+    /// # Errors
+    ///
+    /// 1, 2, 3 for a length over 32, 5, 9.
+    pub fn withdraw(&mut self, party: Party, addr: impl Into<Ipv4Addr>, len: u8) -> Result<Withdrawn, Refusal> {
+        self.lend(|b| b.withdraw(party, addr, len))
+    }
+}
+
+impl fmt::Debug for Pair {
+    fn fmt(&self, f: &mut fmt::Formatter) -> fmt::Result {
+        pair::debug("Pair", self.view(), f)
     }
 }
 

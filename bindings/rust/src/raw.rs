@@ -1,10 +1,12 @@
 //! Each call as it crosses the boundary: arrays as slices, numbers of 32 bits, and the packed answer, which the header's
 //! section ANSWERS tells how to read.
 //!
-//! Nothing is kept here: after an accepted change its caller sets [`TableMut::count`] from bits 16 to 31 of the answer,
-//! and leaves it after a refusal; after an [`update`] it sets it if bit 8 is set too. The rest of this crate, the comparison
-//! with a plain implementation and the measurements stand on these functions.
+//! Nothing is kept here: after an accepted change its caller sets [`TableMut::count`], or the count of the party in
+//! [`PairMut`], from bits 16 to 31 of the answer, and leaves it after a refusal; after an [`update`] it sets it if bit 8 is
+//! set too. The rest of this crate, the comparison with a plain implementation and the measurements stand on these
+//! functions.
 
+use crate::pair::{PairMut, PairRef};
 use crate::records::HopRecord;
 use crate::sys;
 use crate::table::{TableMut, TableRef};
@@ -37,6 +39,56 @@ macro_rules! lend {
             $t.own3.as_ptr(), $t.own3.len(),
             $t.long1.as_ptr(), $t.long1.len(),
             $t.long2.as_ptr(), $t.long2.len(),
+            $($after),*
+        )
+    };
+}
+
+/// Calls a function that takes a box of two: its state, its arrays, and what comes after them. It is safe for the reason that
+/// is given at `lend`.
+macro_rules! lend_pair {
+    ($call:expr, ($($state:expr),*), mut $b:ident, ($($after:expr),*)) => {
+        $call(
+            $($state,)*
+            $b.one.list.as_mut_ptr(), $b.one.list.len(),
+            $b.one.first.as_mut_ptr(), $b.one.first.len(),
+            $b.one.long1.as_mut_ptr(), $b.one.long1.len(),
+            $b.two.list.as_mut_ptr(), $b.two.list.len(),
+            $b.two.first.as_mut_ptr(), $b.two.first.len(),
+            $b.two.long1.as_mut_ptr(), $b.two.long1.len(),
+            $b.second.as_mut_ptr(), $b.second.len(),
+            $b.third.as_mut_ptr(), $b.third.len(),
+            $b.own2.as_mut_ptr(), $b.own2.len(),
+            $b.own3.as_mut_ptr(), $b.own3.len(),
+            $b.long2.as_mut_ptr(), $b.long2.len(),
+            $($after),*
+        )
+    };
+    ($call:expr, mut $b:ident, ($($after:expr),*)) => {
+        lend_pair!(
+            $call,
+            (
+                $b.geometry.p1, $b.geometry.p2, $b.one.count, $b.two.count,
+                $b.one.limits.second, $b.one.limits.third, $b.two.limits.second, $b.two.limits.third
+            ),
+            mut $b, ($($after),*)
+        )
+    };
+    ($call:expr, $b:ident, ($($after:expr),*)) => {
+        $call(
+            $b.geometry.p1, $b.geometry.p2, $b.one.count, $b.two.count,
+            $b.one.limits.second, $b.one.limits.third, $b.two.limits.second, $b.two.limits.third,
+            $b.one.list.as_ptr(), $b.one.list.len(),
+            $b.one.first.as_ptr(), $b.one.first.len(),
+            $b.one.long1.as_ptr(), $b.one.long1.len(),
+            $b.two.list.as_ptr(), $b.two.list.len(),
+            $b.two.first.as_ptr(), $b.two.first.len(),
+            $b.two.long1.as_ptr(), $b.two.long1.len(),
+            $b.second.as_ptr(), $b.second.len(),
+            $b.third.as_ptr(), $b.third.len(),
+            $b.own2.as_ptr(), $b.own2.len(),
+            $b.own3.as_ptr(), $b.own3.len(),
+            $b.long2.as_ptr(), $b.long2.len(),
             $($after),*
         )
     };
@@ -144,6 +196,51 @@ pub fn forward(t: &TableRef, records: &mut [HopRecord], addr: u32, octets: u32) 
 #[must_use]
 pub fn count(found: u64, records: &mut [HopRecord], octets: u32) -> u64 {
     unsafe { sys::gh_count(found, records.as_mut_ptr(), records.len(), octets) }
+}
+
+#[must_use]
+pub fn pair_make(b: &mut PairMut) -> u64 {
+    unsafe {
+        lend_pair!(
+            sys::gh_pair_make,
+            (
+                b.geometry.p1,
+                b.geometry.p2,
+                b.one.limits.second,
+                b.one.limits.third,
+                b.two.limits.second,
+                b.two.limits.third
+            ),
+            mut b,
+            ()
+        )
+    }
+}
+
+#[must_use]
+pub fn pair_load(b: &mut PairMut, party: u32, input: &[u8]) -> u64 {
+    unsafe { lend_pair!(sys::gh_pair_load, mut b, (party, input.as_ptr(), input.len())) }
+}
+
+#[must_use]
+pub fn pair_announce(b: &mut PairMut, party: u32, addr: u32, len: u32, hop: u32, mark: u32) -> u64 {
+    unsafe { lend_pair!(sys::gh_pair_announce, mut b, (party, addr, len, hop, mark)) }
+}
+
+#[must_use]
+pub fn pair_withdraw(b: &mut PairMut, party: u32, addr: u32, len: u32) -> u64 {
+    unsafe { lend_pair!(sys::gh_pair_withdraw, mut b, (party, addr, len)) }
+}
+
+#[must_use]
+pub fn pair_report(b: &PairRef, party: u32) -> u64 {
+    unsafe { lend_pair!(sys::gh_pair_report, b, (party)) }
+}
+
+#[inline]
+#[must_use]
+pub fn pair_lookup(b: &PairRef, party: u32, addr: u32) -> u64 {
+    unsafe { lend_pair!(sys::gh_pair_lookup, b, (party, addr)) }
 }
 
 #[must_use]

@@ -45,10 +45,10 @@ reasons! {
     2 Size "a lent array has another size than it must, or too many chunks or records of room"
     3 Prefix "length over 32, or a bit set after the length; announce and withdraw on a table: length over 32 alone"
     4 Hop "hop not 1 to 32,767"
-    5 Unsound "table not sound; in lookup only: a chunk number is 0 or beyond its pool, or a third cell is no leaf"
+    5 Unsound "table not sound; in lookup only: a chunk number is 0 or beyond its pool, a third cell is no leaf, or a chunk is owned by the other party"
     6 Room "announce: list room full, in an image 4,096 routes stand; load: more records than room; any record input: over 4,096"
-    7 Second "need for second chunks exceeds those lent"
-    8 Third "need for third chunks exceeds those lent"
+    7 Second "need for second chunks exceeds those lent, or the party's limit"
+    8 Third "need for third chunks exceeds those lent, or the party's limit"
     9 Absent "withdrawn prefix doesn't stand"
     10 Input "record input not a multiple of 8 bytes, mark over 1, or not ascending; announce: mark over 1"
     11 Nodes "too few whole nodes lent"
@@ -63,6 +63,7 @@ reasons! {
     21 Checksum "header checksum wrong"
     22 Life "time to live 0 or 1"
     23 Version "version neither 1 nor 2"
+    24 Limits "the two parties' limits add to more than a pool's chunks"
 }
 
 impl Reason {

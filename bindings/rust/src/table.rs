@@ -47,6 +47,25 @@ fn cleared(answer: u64) -> bool {
     answer >> 9 & 1 == 1
 }
 
+impl Announced {
+    /// What an accepted announcement answered.
+    pub(crate) fn of(answer: u64) -> Announced {
+        let cleared = cleared(answer);
+        if answer >> 8 & 1 == 1 {
+            Announced::Replaced { cleared }
+        } else {
+            Announced::Added { cleared }
+        }
+    }
+}
+
+impl Withdrawn {
+    /// What an accepted withdrawal answered.
+    pub(crate) fn of(answer: u64) -> Withdrawn {
+        Withdrawn { cleared: cleared(answer) }
+    }
+}
+
 /// What a table holds.
 #[derive(Clone, Copy, PartialEq, Eq, Hash, Debug)]
 pub struct Report {
@@ -81,6 +100,13 @@ pub struct TableRef<'a> {
     pub long2: &'a [u16],
 }
 
+impl Report {
+    /// What an accepted report answered.
+    pub(crate) fn of(answer: u64) -> Report {
+        Report { routes: (answer >> 16) as u16, second: (answer >> 32) as u16, third: (answer >> 48) as u16 }
+    }
+}
+
 impl<'a> TableRef<'a> {
     /// The route count and both needs of a sound table.
     ///
@@ -88,8 +114,7 @@ impl<'a> TableRef<'a> {
     ///
     /// 1, 2, 5.
     pub fn report(&self) -> Result<Report, Refusal> {
-        let answer = answered(raw::report(self))?;
-        Ok(Report { routes: (answer >> 16) as u16, second: (answer >> 32) as u16, third: (answer >> 48) as u16 })
+        Ok(Report::of(answered(raw::report(self))?))
     }
 
     /// Looks one address up. The table need not be sound.
@@ -347,9 +372,7 @@ impl TableMut<'_> {
     /// 1, 2, 3 for a length over 32, 4, 5, 6, 7, 8; a replacement never meets 6 to 8, and a [`Mark`] never 10.
     pub fn announce(&mut self, addr: impl Into<Ipv4Addr>, len: u8, hop: u16, mark: Mark) -> Result<Announced, Refusal> {
         let answer = raw::announce(self, u32::from(addr.into()), len.into(), hop.into(), mark as u32);
-        let answer = self.keep(answer)?;
-        let cleared = cleared(answer);
-        Ok(if answer >> 8 & 1 == 1 { Announced::Replaced { cleared } } else { Announced::Added { cleared } })
+        Ok(Announced::of(self.keep(answer)?))
     }
 
     /// Removes the route of a prefix. Bits of the address after the length are cleared first, as by
@@ -360,8 +383,7 @@ impl TableMut<'_> {
     /// 1, 2, 3 for a length over 32, 5, 9.
     pub fn withdraw(&mut self, addr: impl Into<Ipv4Addr>, len: u8) -> Result<Withdrawn, Refusal> {
         let answer = raw::withdraw(self, u32::from(addr.into()), len.into());
-        let answer = self.keep(answer)?;
-        Ok(Withdrawn { cleared: cleared(answer) })
+        Ok(Withdrawn::of(self.keep(answer)?))
     }
 
     /// Deals a BGP message to the table: the prefixes of one route field are withdrawn, and those of the other announced with

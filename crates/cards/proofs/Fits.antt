@@ -64,7 +64,7 @@ bit-low true = omega arith
 bit-low false = omega arith
 
 -- 3, 4 and 10
-route-low : {r : Route} {f : ℕ} → WrongRoute r f → (1 ≤ f) × (f < 2 ^ 8)
+pub route-low : {r : Route} {f : ℕ} → WrongRoute r f → (1 ≤ f) × (f < 2 ^ 8)
 route-low (WrongRoute.prefix h) = (omega arith, omega arith)
 route-low (WrongRoute.hop p h) = (omega arith, omega arith)
 route-low (WrongRoute.mark p a b h) = (omega arith, omega arith)
@@ -81,7 +81,7 @@ module _ (P : List ℕ → Type 0) (s : List ℕ) (short : length s < 2 ^ 35) wh
   refused-fits (Checked.many w b m) e = FitsWord.number 6 (omega arith) (omega arith)
   refused-fits (Checked.good n w r) e = absurd (true≢false e)
 
-  bad-fits : (x : Said) → BadInput s x → FitsWord (2 ^ 32) P x
+  pub bad-fits : (x : Said) → BadInput s x → FitsWord (2 ^ 32) P x
   bad-fits x b = refused-fits (b .checked) (b .not-accepted)
 
 -- The calls on record inputs.
@@ -145,7 +145,7 @@ tree-fits ws hs a = go (tree-answers ws hs a)
     go TreeAnswer.broken = FitsWord.number 13 (omega arith) (omega arith)
 
 -- Lookup in a table, of any cells: 1 to 3 cells, and a hop of at most 15 bits.
-leaf-fits : (n v : ℕ) → n < 2 ^ 8 → v < 2 ^ 16 → FitsWord 0 FoundFits (leafSaid n v)
+pub leaf-fits : (n v : ℕ) → n < 2 ^ 8 → v < 2 ^ 16 → FitsWord 0 FoundFits (leafSaid n v)
 unfolding hopSaid
 leaf-fits n v a b = go (decided (eqb (v - 32768) 0))
   where

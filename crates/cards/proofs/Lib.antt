@@ -12,3 +12,7 @@ pub mod ImageCalls
 pub mod Putting
 pub mod Forwarded
 pub mod RouteFields
+pub mod PairNarrow
+pub mod PairLaws
+pub mod PairFits
+pub mod PairBoundary

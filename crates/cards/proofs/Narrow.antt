@@ -33,14 +33,14 @@ narrowed f limit top h alike x n e = go (below? top x)
     go (inl b) = alike n x (omega arith) (omega arith)
     go (inr b) = let q : n ≡ x = omega arith in ap f q
 
-prefix? : (a len : ℕ) → Prefix a len ⊎ (Prefix a len → ⊥)
+pub prefix? : (a len : ℕ) → Prefix a len ⊎ (Prefix a len → ⊥)
 prefix? a len = go (decided (properPrefix a len))
   where
     go : (properPrefix a len ≡ true) ⊎ (properPrefix a len ≡ false) → Prefix a len ⊎ (Prefix a len → ⊥)
     go (inl e) = inl (prefix-true a len e)
     go (inr e) = inr (λ p. true≢false (sym (true-prefix a len p) ∙ e))
 
-hop? : (hop : ℕ) → ((1 ≤ hop) × (hop ≤ 32767)) ⊎ (1 ≤ hop → hop ≤ 32767 → ⊥)
+pub hop? : (hop : ℕ) → ((1 ≤ hop) × (hop ≤ 32767)) ⊎ (1 ≤ hop → hop ≤ 32767 → ⊥)
 hop? hop = go (below? 0 hop) (below? 32767 hop)
   where
     go : (0 < hop) ⊎ (hop ≤ 0) → (32767 < hop) ⊎ (hop ≤ 32767) → ((1 ≤ hop) × (hop ≤ 32767)) ⊎ (1 ≤ hop → hop ≤ 32767 → ⊥)

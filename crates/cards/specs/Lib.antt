@@ -5,3 +5,4 @@ pub mod Narrow
 pub mod Images
 pub mod Forwarded
 pub mod RouteFields
+pub mod Pairs

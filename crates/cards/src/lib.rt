@@ -7,5 +7,6 @@ pub mod inputs;
 pub mod lookups;
 pub mod maps;
 pub mod messages;
+pub mod pairs;
 pub mod repairs;
 pub mod tables;

@@ -9,6 +9,7 @@ pub mod Broadcasts
 pub mod Headers
 pub mod Repairs
 pub mod Images
+pub mod Pairs
 pub mod OneImage
 pub mod HopRecords
 pub mod Messages

@@ -30,3 +30,4 @@ pub mod Repairs
 pub mod Headers
 pub mod HopRecords
 pub mod Messages
+pub mod Pairs

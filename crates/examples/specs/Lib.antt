@@ -12,3 +12,4 @@ pub mod EdgesHeaders
 pub mod EdgesHopRecords
 pub mod Edges
 pub mod EdgesTreeChanges
+pub mod Pairs

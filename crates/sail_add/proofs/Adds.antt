@@ -208,7 +208,8 @@ module _ {t : Table} {l : Lent} {r : Route} {f : AnnounceVerdict} {c2 c3 : ℕ} 
     module _ {long1 long2 : List ℕ} (booked : Booked (not (f .stands)) g r first (l .long1) (l .long2) long1 long2)
         (e1 : length long1 ≡ length (l .long1)) (e2 : length long2 ≡ length (l .long2)) where
       are : (long1 ≡ longs (insert r rs) (level1 g)) × (mine long2 ≡ longs (insert r rs) v2)
-      are = counts-are g valid (insert r rs) own2′ long1 (mine long2) (counts booked) (e1 ∙ w .sound .sized .counts1) (length-own own2′ (bits2 g) long2 ∙ e2 ∙ many2)
+      are = counts-are g valid (insert r rs) own2′ long1 (mine long2) (counts booked) (e1 ∙ w .sound .sized .counts1)
+          (length-own own2′ (bits2 g) long2 ∙ e2 ∙ many2)
 
       counts-mixed : long2 ≡ mixed (l .own2) own2′ (bits2 g) (l .long2) (longs (insert r rs) v2)
       counts-mixed =
@@ -271,8 +272,8 @@ module _ (p : PutIn) where
   add-pending q = rw (q, p .open2, p .open3) (record {
     listed = held .listed;
     stale = λ ws par ready z.
-        stale-agree _ ws par _ _ (p .l .first) (own (p .ready) .second) (own (p .ready) .third) (p .l .second) (p .l .third) (own2′ (p .ready)) (own3′ (p .ready))
-        (agree2 (p .ready)) (agree3 (p .ready))
+        stale-agree _ ws par _ _ (p .l .first) (own (p .ready) .second) (own (p .ready) .third) (p .l .second) (p .l .third)
+        (own2′ (p .ready)) (own3′ (p .ready)) (agree2 (p .ready)) (agree3 (p .ready))
         (underway-stale _ _ _ _ _ _ (at-underway _ _ _ _ _ (w (p .ready))) ws par ready (z ∙ held .routes));
   })
 

@@ -18,7 +18,7 @@ use sail_add::add;
 use sail_judge::announce::judge_announce;
 
 // What putting a route into the list answers for the table, by whether its prefix stood and whether bits were cleared.
-fn answer_of(stood: bool, cleared: bool) -> Announce
+pub fn answer_of(stood: bool, cleared: bool) -> Announce
     ensures { λ r. ⌜ meansAnnounce r ≡ accepted (bit cleared ∷ bit stood ∷ []) ⌝ }
 {
     if stood {

@@ -24,14 +24,14 @@ module _ (cells : List ℕ) (c d q : ℕ) (l : q < length cells) where
   abbrev from : ℕ
   from = c * 2 ^ d
 
-  filled-in : q / 2 ^ d ≡ c → getD (filled cells from (from + 2 ^ d) 0) q 0 ≡ 0
+  pub filled-in : q / 2 ^ d ≡ c → getD (filled cells from (from + 2 ^ d) 0) q 0 ≡ 0
   unfolding filled
   filled-in e =
       let lo : from ≤ q = rw (← e) (div-mul-le-self q (2 ^ d)) in
       let hi : q < from + 2 ^ d = rw (← e) (lt-div-mul-add (pow-pos d)) in
       getD-tabulate (length cells) _ q 0 l ∙ rw (between-in from (from + 2 ^ d) q lo hi)
 
-  filled-out : q / 2 ^ d ≢ c → getD (filled cells from (from + 2 ^ d) 0) q 0 ≡ getD cells q 0
+  pub filled-out : q / 2 ^ d ≢ c → getD (filled cells from (from + 2 ^ d) 0) q 0 ≡ getD cells q 0
   unfolding filled
   filled-out n = getD-tabulate (length cells) _ q 0 l ∙ go (side from (from + 2 ^ d) q)
     where

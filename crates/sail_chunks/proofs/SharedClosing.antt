@@ -55,7 +55,8 @@ module _ (b : Bool) (own : List ℕ) (c : ℕ) (one : b ≡ true → c < length 
 
   module _ (rs : List Route) (k : Chunks) where
     -- at a place of the table's own
-    inside : (q : ℕ) → q < length xs → touched own own′ d q ≡ true → cond (low .live q) (shown rs low k q) (getD (blanked b c d xs) q 0) ≡ getD (pool rs low k) q 0
+    inside : (q : ℕ) → q < length xs → touched own own′ d q ≡ true
+        → cond (low .live q) (shown rs low k q) (getD (blanked b c d xs) q 0) ≡ getD (pool rs low k) q 0
     inside q l t = go (decided (low .live q))
       where
         go : (low .live q ≡ true) ⊎ (low .live q ≡ false) → cond (low .live q) (shown rs low k q) (getD (blanked b c d xs) q 0) ≡ getD (pool rs low k) q 0

@@ -22,7 +22,7 @@ pub struct Fresh {
 }
 
 // Every first cell a leaf of hop 0, and zeros everywhere else.
-fn blank(
+pub fn blank(
     list: &mut [u8],
     first: &mut [u16],
     second: &mut [u16],

@@ -1,7 +1,7 @@
 -- The pass over the records of a load: after the first k of them the owners are those of announcing these k in order, and what the table sees of them
 -- fits these routes. A free chunk is there where one is to be opened: as many are in use as before the load and as the routes need that came.
 use mathlib.Core.Path.{_≡_, refl, sym, _∙_, ap, subst}
-use mathlib.Core.Bool.{true, false}
+use mathlib.Core.Bool.{true}
 use mathlib.Core.List.{List, [], _∷_, _++_, append-assoc}
 use Prim.Native.Nat.{ℕ, suc, _+_, _-_, _*_, _/_, _%_, _^_, _≤_, _<_}
 use native.Mathlib.Omega.{arith}
@@ -18,7 +18,7 @@ use Rattle.routes.specs.Record.{recordAt, noRoute}
 use Rattle.routes.specs.Route.{Fine, Good}
 use Rattle.routes.specs.declared.Route.{Route}
 use Rattle.routes.proofs.Rows.{length-routes, nth-route, records-good}
-use Rattle.standing.specs.Cells.{within, long, need}
+use Rattle.standing.specs.Cells.{within, need}
 use Rattle.standing.specs.Standing.{insert}
 use Rattle.standing.proofs.ListParts.{good-front, good-next, good-below, insert-end, any-front}
 use Rattle.standing.proofs.NeedAfter.{need-mono, need-more}
@@ -38,11 +38,22 @@ use Rattle.sail_theory.proofs.owners.Chunks.{used-free, free-zero}
 use Rattle.sail_theory.proofs.owners.OpenAt.{Space, OpenReady, ready-below}
 use Rattle.sail_theory.proofs.calls.ChangeHolds.{render-holds}
 use Rattle.sail_theory.proofs.calls.Make.{no-fits}
-use Rattle.sail_owners.specs.Owners.{owners, openFrom, secondFrom, placeFrom, ownersFrom, OpenForReady, Opened, NoneOwn, Between}
+use Rattle.sail_owners.specs.Owners.{owners, secondFrom, placeFrom, ownersFrom, OpenForReady, Opened, NoneOwn, Between}
 use Rattle.sail_owners.specs.declared.owners.Passes.{Passes}
 use Rattle.sail_owners.proofs.Froms.{from-snoc}
 use Rattle.sail_owners.proofs.Sights.{sight, length-sight, sight-free, sight-none, find-sight, Since, since-start, since-open, used-since}
-use Rattle.sail_owners.proofs.RisingOwners.{Reached, Climbs, none-reached, top-rises, sighted, climbs-fits, free, climbs-next, climbs-taken, climbs-below}
+use Rattle.sail_owners.proofs.RisingOwners.{
+  Reached,
+  Climbs,
+  none-reached,
+  top-rises,
+  sighted,
+  climbs-fits,
+  free,
+  climbs-next,
+  climbs-taken,
+  climbs-below,
+}
 
 -- a table of this geometry and as many chunks: the laws of announcing speak of one
 abbrev state : Geometry → Table

@@ -3,7 +3,7 @@
 -- comes after all that have a chunk, or is that of the last.
 use mathlib.Core.Path.{_≡_, sym, _∙_, ap, subst}
 use mathlib.Core.Logic.{_⊎_, inl, inr, _≢_}
-use mathlib.Core.Bool.{true, false, cond}
+use mathlib.Core.Bool.{true}
 use mathlib.Core.List.{List, [], _∷_, _++_, List·Memᴰ, List·Memᴰ·append-cases, List·Memᴰ·eq-of-singleton}
 use Prim.Native.Nat.{ℕ, suc, _+_, _-_, _*_, _/_, _^_, _≤_, _<_}
 use native.Mathlib.Omega.{arith}
@@ -13,25 +13,24 @@ use lib.Dec.{ltb}
 use lib.ListN.{getD, length, set, List·getD-eq-default}
 use lib.Pow.{pow-pos, shr-mono}
 use lib.Seq.{getD-set-other, getD-set-same}
-use borrow.Author.Tests.{ltb-true, lt-ltb, le-ltb}
+use borrow.Author.Tests.{lt-ltb, le-ltb}
 use Rattle.bits.specs.Slot.{slot}
 use Rattle.bits.proofs.Bools.{equal?, below?}
 use Rattle.routes.specs.Route.{key}
 use Rattle.standing.specs.Standing.{insert}
 use Rattle.routes.specs.declared.Route.{Route}
 use Rattle.routes.proofs.Goods.{good-fine}
-use Rattle.sail.specs.Level.{Level, chunksOf, entry, top, below}
+use Rattle.sail.specs.Level.{Level, chunksOf, top, below}
 use Rattle.sail_theory.specs.Render.{find, Fits}
 use Rattle.sail_theory.specs.Calls.{openAt}
 use Rattle.sail_theory.proofs.owners.Chunks.{chunk-at, chunk-has, free-zero}
 use Rattle.standing.proofs.ListParts.{insert-end}
 use Rattle.sail_need.proofs.NeedPass.{long-top}
 use Rattle.sail_theory.proofs.places.Places.{chunk-lt, live-owner, part-up}
-use Rattle.sail_theory.proofs.owners.GrantKeep.{grant-new}
 use Rattle.sail_theory.proofs.owners.OpenAt.{OpenReady, open-keeps, open-fits, not-long}
 use Rattle.sail_owners.specs.Owners.{openFrom, Past, LastIs, MayOwn, stays, goes, Next, Step, none, hung, Taken}
 use Rattle.sail_owners.proofs.Packs.{granted-had, granted-new}
-use Rattle.sail_owners.proofs.Sights.{sight, length-sight, sight-free, sight-own, sight-is, find-sight, sight-open, sight-set}
+use Rattle.sail_owners.proofs.Sights.{sight, length-sight, sight-own, find-sight, sight-open, sight-set}
 
 -- of two chunks of the table's own the later has the larger owner
 abbrev pub Rising : List ℕ → Type 0

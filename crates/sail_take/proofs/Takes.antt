@@ -1,4 +1,5 @@
--- A route taken out step by step: what each step asks, and what they leave.
+-- A route taken out step by step: what each step asks, and what they leave. The laws of a sound table are applied to the table alone. The code reads and
+-- writes the pools, which agree with it at the table's own places, and nothing else there.
 use mathlib.Core.Path.{_≡_, refl, sym, _∙_, ap}
 use mathlib.Core.Logic.{_⊎_, inl, inr}
 use mathlib.Core.Bool.{Bool, true, false, cond}
@@ -104,8 +105,8 @@ module _ {t : Table} {l : Lent} {a len at : ℕ} (ready : ToTakeIn t l a len at)
   size3 : length (l .third) ≡ length (l .own3) * 2 ^ bits3 g
   size3 = sym (length-own (l .own3) (bits3 g) (l .third)) ∙ w .sound .sized .cells3
 
-  size4 : length (l .long2) ≡ length (l .own2) * 2 ^ bits2 g
-  size4 = sym (length-own (l .own2) (bits2 g) (l .long2)) ∙ w .sound .sized .counts2 ∙ w .sound .sized .cells2
+  size-counts : length (l .long2) ≡ length (l .own2) * 2 ^ bits2 g
+  size-counts = sym (length-own (l .own2) (bits2 g) (l .long2)) ∙ w .sound .sized .counts2 ∙ w .sound .sized .cells2
 
   pub take-serving : Serving g rs (l .first) (l .second) (l .own2) (l .own3)
   take-serving =
@@ -134,7 +135,7 @@ module _ {t : Table} {l : Lent} {a len at : ℕ} (ready : ToTakeIn t l a len at)
     small = w .prefix .addr-ok;
     held = was-long t x a len w (g .p1);
     counts1 = w .sound .sized .counts1;
-    counts2 = size4;
+    counts2 = size-counts;
   }
 
   guided-own : Guided g rs a len (l .first) (l .own2) (l .long1) (x .long2)
@@ -225,7 +226,7 @@ module _ {t : Table} {l : Lent} {a len at : ℕ} (ready : ToTakeIn t l a len at)
           let after = down-counts g rs a len (l .first) (l .own2) (l .long1) (x .long2) guided-own left rs goes before long1 _ n moved-own in
           counts-are g valid left own2′ long1 (shared.ownPart (l .own2) (bits2 g) long2) (keep-counts g valid left (l .own2) long1 _ after)
           (e1 ∙ w .sound .sized .counts1)
-          (length-own (l .own2) (bits2 g) long2 ∙ e2 ∙ size4 ∙ ap (λ (y : ℕ). y * 2 ^ bits2 g) (sym (length-keep left v1 (l .own2))))
+          (length-own (l .own2) (bits2 g) long2 ∙ e2 ∙ size-counts ∙ ap (λ (y : ℕ). y * 2 ^ bits2 g) (sym (length-keep left v1 (l .own2))))
 
       -- a place in use is in use before
       was-live : (q : ℕ) → shared.touched (l .own2) own2′ (bits2 g) q ≡ true → liveIn (entry (l .own2)) (bits2 g) q ≡ true
@@ -380,7 +381,8 @@ module _ (o : CountedOff) where
         let is = chunks-left (o .ready) (o .moved) (o .trail) c2 c3 in
         let h′ = rw (holds .routes, is .0, is .1, is .2, is .3) at h in
         let are = counts-left (o .ready) (o .moved) (o .same1) (o .same2) in
-        let first-is = h′ .is-first ∙ laid-rendered _ (v1 (o .ready)) _ (o .l .first) (o .ready .may .sound .sized .cells1) (top-clear _ (entry (o .l .first))) in
+        let first-is = h′ .is-first
+        ∙ laid-rendered _ (v1 (o .ready)) _ (o .l .first) (o .ready .may .sound .sized .cells1) (top-clear _ (entry (o .l .first))) in
         let second-is = h′ .is-second
         ∙ painted (o .ready) (v1 (o .ready)) (v1 (o .ready)) (o .l .own2) z1 (o .l .second) (o .t .geometry .p2) (size2 (o .ready)) refl
         (chunksOf (own3′ (o .ready))) in

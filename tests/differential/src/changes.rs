@@ -164,6 +164,9 @@ impl Standing {
             run.fault("a replacement is told as none, or the other way round", &told);
         }
         run.count(call.name(), label);
+        if routes == plain::RECORDS_MAX {
+            run.count(call.name(), &format!("{label} of 4096"));
+        }
     }
 
     /// The library's own build of the routes then standing, into arrays of these lengths, says the same and leaves the
@@ -264,13 +267,25 @@ pub fn episode(run: &mut Run, rng: &mut Rng) {
     }
 }
 
-/// Images of 4,096 routes and of one less: 6 comes before 11 and 12.
+/// A full image, of 4,096 routes: a replacement goes in, one route more does not (6 comes before 11 and 12), and after a
+/// withdrawal it does if there is room. Then images of 4,096 routes and of some less.
 pub fn large(run: &mut Run, rng: &mut Rng) {
     let field = Field::new(rng, 16, 24);
-    let n = rng.range(4095, 4096);
-    let routes = spread(rng, n);
+    let routes = spread(rng, plain::RECORDS_MAX);
     let (words, hops) = room(rng, &routes);
     let mut image = Standing::new(run, rng, routes, words, hops).expect("there is room");
+    let full = *rng.pick(&image.routes);
+    let more = loop {
+        let r = field.route(rng);
+        if !image.routes.iter().any(|s| (s.addr, s.len) == (r.addr, r.len)) {
+            break r;
+        }
+    };
+    let hop = 1 + full.hop as u32 % 64;
+    image.step(run, rng, Call::Announce(full.addr, full.len as u32, hop));
+    image.step(run, rng, Call::Announce(more.addr, more.len as u32, hop));
+    image.step(run, rng, Call::Withdraw(full.addr, full.len as u32));
+    image.step(run, rng, Call::Announce(more.addr, more.len as u32, hop));
     for _ in 0..12 {
         let call = asked(rng, &field, &image.routes);
         image.step(run, rng, call);

@@ -81,7 +81,7 @@ fn routes_after(answer: u64) -> u64 {
 
 /// "Refusals: 1, 2 and the table's 5 first; 17, a length over 32 or a field that ends inside an entry; 4 for the hop; then
 /// 6, 7, 8 as they arise." Bits 16 to 31 are the routes after the call and bits 32 to 63 the entries dealt with, also
-/// if it stopped, which bit 8 says.
+/// if it stopped; bit 8 is then set.
 pub fn update_by(table: &mut impl Table, withdrawn: &[u8], reach: &[u8], hop: u32) -> u64 {
     let answer = table.report();
     if number(answer) != 0 {

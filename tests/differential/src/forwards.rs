@@ -1,10 +1,16 @@
-//! Packets forwarded and counted, on tables and records of any content.
+//! Packets forwarded and counted, on tables, boxes and records of any content.
 
 use crate::gh::{self, Records};
+#[cfg(feature = "pair_forward")]
+use crate::gh_pair;
+#[cfg(feature = "pair_forward")]
+use crate::pair_twice::PairTwice;
 use crate::run::Run;
 use crate::twice::Twice;
 use differential::gen::Rng;
 use differential::hop_records::{self as plain, counter32, HopRecord};
+#[cfg(feature = "pair_forward")]
+use differential::pair;
 use differential::plain::number;
 
 pub const MUST_HAPPEN: &[(&str, &str)] = &[
@@ -14,6 +20,10 @@ pub const MUST_HAPPEN: &[(&str, &str)] = &[
     ),
     ("count", "0, 1, 2, 5, 13, 14, 15, 19, 22, counted, no route, last record"),
 ];
+
+#[cfg(feature = "pair_forward")]
+pub const MUST_HAPPEN_OF_TWO: &[(&str, &str)] =
+    &[("pair_forward", "0, 1, 2, 5, 14, 15, counted, no route, octets wrap, last record, no records")];
 
 /// Hop records held twice, and what has been counted on them by the accepted calls alone.
 struct Counted {
@@ -88,27 +98,66 @@ impl Counted {
     }
 }
 
-/// A run of packets to some of these addresses.
+/// What packets are forwarded by: a table, or a party of a box.
+struct Router<'a> {
+    name: &'static str,
+    library: &'a dyn Fn(&mut Records, u32, u32) -> u64,
+    plain: &'a dyn Fn(&mut [HopRecord], u32, u32) -> u64,
+    /// The library's lookup in the same table.
+    lookup: &'a dyn Fn(u32) -> u64,
+    told: &'a dyn Fn(&str) -> String,
+}
+
+/// A run of packets through a table, to some of these addresses.
 pub fn ask(run: &mut Run, rng: &mut Rng, t: &Twice, addrs: &[u32]) {
-    let mut counted = Counted::new(plain::records(rng));
-    for _ in 0..10 {
-        let addr = if addrs.is_empty() { rng.word() } else { *rng.pick(addrs) };
-        let octets = plain::octets(rng);
-        if rng.one_in(3) {
-            let found =
-                if rng.one_in(3) { gh::lookup(t.p1, t.p2, t.count, &t.library, addr) } else { plain::found(rng) };
-            let is = gh::count(found, &mut counted.library, octets);
-            let should = plain::count(found, &mut counted.plain, octets);
-            counted.compare(run, "count", is, should, octets, &|| format!("call: Count({found:016x}, {octets})"));
-        } else {
-            let is = gh::forward(t.p1, t.p2, t.count, &t.library, &mut counted.library, addr, octets);
-            let should = plain::forward(t.p1, t.p2, t.count, &t.plain, &mut counted.plain, addr, octets);
-            let told = || t.tell(&format!("Forward({addr:08x}, {octets})"));
-            counted.compare(run, "forward", is, should, octets, &told);
-        }
-    }
-    counted.totals(run, &|| t.tell("a run of packets"));
+    let router = Router {
+        name: "forward",
+        library: &|records, addr, octets| gh::forward(t.p1, t.p2, t.count, &t.library, records, addr, octets),
+        plain: &|records, addr, octets| plain::forward(t.p1, t.p2, t.count, &t.plain, records, addr, octets),
+        lookup: &|addr| gh::lookup(t.p1, t.p2, t.count, &t.library, addr),
+        told: &|call| t.tell(call),
+    };
+    router.ask(run, rng, addrs);
     if let Some(what) = t.library.differs(&t.plain) {
         run.fault(&what, &|| t.tell("a run of packets"));
+    }
+}
+
+/// A run of packets through a party of a box.
+#[cfg(feature = "pair_forward")]
+pub fn ask_party(run: &mut Run, rng: &mut Rng, t: &PairTwice, party: u32, addrs: &[u32]) {
+    let router = Router {
+        name: "pair_forward",
+        library: &|records, addr, octets| gh_pair::forward(&t.state, &t.library, party, records, addr, octets),
+        plain: &|records, addr, octets| plain::count(pair::lookup(&t.state, &t.plain, party, addr), records, octets),
+        lookup: &|addr| gh_pair::lookup(&t.state, &t.library, party, addr),
+        told: &|call| t.tell(party, call),
+    };
+    router.ask(run, rng, addrs);
+    if let Some(what) = t.library.differs(&t.plain) {
+        run.fault(&what, &|| t.tell(party, "a run of packets"));
+    }
+}
+
+impl Router<'_> {
+    /// Packets forwarded, and packets counted on what was found.
+    fn ask(&self, run: &mut Run, rng: &mut Rng, addrs: &[u32]) {
+        let mut counted = Counted::new(plain::records(rng));
+        for _ in 0..10 {
+            let addr = if addrs.is_empty() { rng.word() } else { *rng.pick(addrs) };
+            let octets = plain::octets(rng);
+            if rng.one_in(3) {
+                let found = if rng.one_in(3) { (self.lookup)(addr) } else { plain::found(rng) };
+                let is = gh::count(found, &mut counted.library, octets);
+                let should = plain::count(found, &mut counted.plain, octets);
+                counted.compare(run, "count", is, should, octets, &|| format!("call: Count({found:016x}, {octets})"));
+            } else {
+                let is = (self.library)(&mut counted.library, addr, octets);
+                let should = (self.plain)(&mut counted.plain, addr, octets);
+                let told = || (self.told)(&format!("Forward({addr:08x}, {octets})"));
+                counted.compare(run, self.name, is, should, octets, &told);
+            }
+        }
+        counted.totals(run, &|| (self.told)("a run of packets"));
     }
 }

@@ -204,6 +204,9 @@ pub fn step(p1: u32, p2: u32, count: u32, t: &Eight, packet: &mut [u8]) -> u64 {
     raw::step(&t.lend(p1, p2, count), packet)
 }
 
+#[cfg(feature = "longest")]
+pub use raw::longest;
+
 #[cfg(feature = "update")]
 pub use raw::write_field;
 

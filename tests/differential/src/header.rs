@@ -41,7 +41,7 @@ fn set_checksum(header: &mut [u8], sum: u16) {
     header[CHECKSUM..CHECKSUM + 2].copy_from_slice(&sum.to_be_bytes());
 }
 
-/// RFC 1624, equation 3: HC' = ~(~HC + ~m + m'), where a half of the header changes from m to m'.
+/// RFC 1624, equation 3: HC' = ~(~HC + ~m + m'), when a half of the header changes from m to m'.
 pub fn mended(checksum: u16, was: u16, is: u16) -> u16 {
     let sum = !checksum as u32 + !was as u32 + is as u32;
     let once = (sum & 0xFFFF) + (sum >> 16);
@@ -92,7 +92,7 @@ pub fn step(p1: u32, p2: u32, count: u32, lent: &Lent, packet: &mut [u8]) -> u64
 // ---------------------------------------------------------------------------------------------------- packets
 
 /// A packet with a right header to this destination and bytes after it: all fields at random, the time to live often at
-/// its ends, the checksum often at those numbers where a sum carries or is zero.
+/// its ends, the checksum often one at which a sum carries or is zero.
 pub fn packet(rng: &mut Rng, destination: u32) -> Vec<u8> {
     let mut packet: Vec<u8> = (0..HEADER + rng.below(8) * rng.below(2)).map(|_| rng.word() as u8).collect();
     packet[0] = 0x45;

@@ -6,6 +6,7 @@ pub mod fields;
 pub mod gen;
 pub mod header;
 pub mod hop_records;
+pub mod pair;
 pub mod plain;
 pub mod repair;
 pub mod tree_change;

@@ -8,13 +8,25 @@
 
 mod broadcasts;
 mod changes;
+#[cfg(feature = "longest")]
+mod covers;
 mod damage;
 #[cfg(feature = "forward")]
 mod forwards;
 mod gh;
+#[cfg(feature = "pair")]
+mod gh_pair;
 mod images;
 mod inputs;
+#[cfg(feature = "pair")]
+mod isolated;
 mod maps;
+#[cfg(feature = "pair")]
+mod pair_damage;
+#[cfg(feature = "pair")]
+mod pair_twice;
+#[cfg(feature = "pair")]
+mod pairs;
 mod parts;
 mod run;
 #[cfg(feature = "step")]
@@ -25,6 +37,7 @@ mod twice;
 mod updates;
 
 use differential::gen::Rng;
+use parts::{EPISODES, LARGE};
 use run::Run;
 use std::time::{Instant, SystemTime, UNIX_EPOCH};
 
@@ -83,12 +96,14 @@ fn episode(run: &mut Run) {
         57 => inputs::long(run, &mut rng),
         77 => maps::long(run, &mut rng),
         27 => changes::large(run, &mut rng),
+        47 if !LARGE.is_empty() => LARGE[n as usize / 100 % LARGE.len()](run, &mut rng),
         k if k % 10 == 3 => inputs::episode(run, &mut rng),
         k if k % 10 == 6 => images::episode(run, &mut rng),
         k if k % 20 == 9 => images::wild(run, &mut rng),
         k if k % 20 == 15 => maps::episode(run, &mut rng),
         k if k % 20 == 5 => changes::wild(run, &mut rng),
         k if k % 10 == 1 => changes::episode(run, &mut rng),
+        k if k % 5 == 2 && !EPISODES.is_empty() => EPISODES[n as usize / 5 % EPISODES.len()](run, &mut rng),
         _ => tables::episode(run, &mut rng),
     }
 }

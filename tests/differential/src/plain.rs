@@ -24,11 +24,11 @@ pub fn refused_at(number: u8, index: usize) -> u64 {
     number as u64 | 1 << 8 | (index as u64) << 32
 }
 
-fn accepted_routes(count: usize) -> u64 {
+pub(crate) fn accepted_routes(count: usize) -> u64 {
     (count as u64) << 16
 }
 
-fn accepted_lookup(reads: u64, hop: u16) -> u64 {
+pub(crate) fn accepted_lookup(reads: u64, hop: u16) -> u64 {
     reads << 8 | (hop as u64) << 16
 }
 
@@ -175,13 +175,23 @@ pub fn tally(input: &[u8], out: &mut [u32]) -> u64 {
     }
 }
 
-/// Reads a route back out of an input, its mark in bit 15. An index beyond the end answers with all fields 0.
+/// A route in an answer, its mark in bit 15. All fields are 0 when there is none.
+fn packed_route(route: Option<&Route>) -> u64 {
+    route.map_or(0, |r| (r.len as u64) << 8 | (r.mark as u64) << 15 | (r.hop as u64) << 16 | (r.addr as u64) << 32)
+}
+
+/// Reads a route back out of an input. An index beyond the end is none's.
 pub fn route(input: &[u8], index: u32) -> u64 {
     match check_input(input) {
-        Ok(routes) => match routes.get(index as usize) {
-            Some(r) => (r.len as u64) << 8 | (r.mark as u64) << 15 | (r.hop as u64) << 16 | (r.addr as u64) << 32,
-            None => 0,
-        },
+        Ok(routes) => packed_route(routes.get(index as usize)),
+        Err(answer) => answer,
+    }
+}
+
+/// The longest record of an input that covers an address.
+pub fn longest(input: &[u8], addr: u32) -> u64 {
+    match check_input(input) {
+        Ok(routes) => packed_route(routes.iter().filter(|r| r.covers(addr)).max_by_key(|r| r.len)),
         Err(answer) => answer,
     }
 }
@@ -224,7 +234,7 @@ pub struct Lent {
     pub long2: Vec<u16>,
 }
 
-const LEAF: u16 = 0x8000;
+pub(crate) const LEAF: u16 = 0x8000;
 
 pub fn geometry_ok(p1: u32, p2: u32) -> bool {
     (12..=16).contains(&p1) && (22..=26).contains(&p2) && p2 - p1 <= 10
@@ -282,7 +292,7 @@ fn check_sizes(p1: u32, p2: u32, lent: &Lent) -> Result<(), u64> {
 }
 
 /// The cells of level `p` that are the first `p` bits of some route longer than `p`.
-fn long_cells(routes: &[Route], p: u32) -> BTreeSet<u32> {
+pub(crate) fn long_cells(routes: &[Route], p: u32) -> BTreeSet<u32> {
     routes.iter().filter(|r| r.len as u32 > p).map(|r| bits(r.addr, p)).collect()
 }
 
@@ -293,7 +303,7 @@ pub fn need(routes: &[Route], p: u32) -> usize {
 
 /// For each cell of level `p` that lies in cell `i` of the shorter level `d`: the hop of the longest route of length
 /// at most `p` that covers it, 0 for none. Shorter routes are written first and longer ones over them.
-fn hops_under(by_length: &[Route], d: u32, i: u32, p: u32) -> Vec<u16> {
+pub(crate) fn hops_under(by_length: &[Route], d: u32, i: u32, p: u32) -> Vec<u16> {
     let cells = 1u64 << (p - d);
     let begin = i as u64 * cells;
     let mut hops = vec![0; cells as usize];
@@ -311,14 +321,14 @@ fn hops_under(by_length: &[Route], d: u32, i: u32, p: u32) -> Vec<u16> {
     hops
 }
 
-fn sorted_by_length(routes: &[Route]) -> Vec<Route> {
+pub(crate) fn sorted_by_length(routes: &[Route]) -> Vec<Route> {
     let mut sorted = routes.to_vec();
     sorted.sort_by_key(|r| r.len);
     sorted
 }
 
 /// The list is good: the route count is at most its room and that many records pass the input checks.
-fn good_list(count: u32, list: &[u8]) -> Option<Vec<Route>> {
+pub(crate) fn good_list(count: u32, list: &[u8]) -> Option<Vec<Route>> {
     let count = count as usize;
     if count > list.len() / 8 {
         return None;
@@ -326,7 +336,8 @@ fn good_list(count: u32, list: &[u8]) -> Option<Vec<Route>> {
     check_input(&list[..8 * count]).ok()
 }
 
-/// The soundness of a table, by the points of document 01 and with request g's: "A sound table has them true." Answers the standing routes, or nothing when not sound.
+/// The soundness of a table, by the points of document 01 and with request g's: "A sound table has them true." Answers
+/// the standing routes, or nothing when not sound.
 pub fn sound(p1: u32, p2: u32, count: u32, lent: &Lent) -> Option<Vec<Route>> {
     let routes = good_list(count, &lent.list)?;
     // Records past the route count are zero bytes.
@@ -408,7 +419,7 @@ fn cell_of_place(p1: u32, p2: u32, own2: &[u32], place: usize) -> u32 {
 }
 
 /// What `long1` holds: for each first cell the routes longer than p1 that have its bits.
-fn counts_first(p1: u32, routes: &[Route]) -> Vec<u16> {
+pub(crate) fn counts_first(p1: u32, routes: &[Route]) -> Vec<u16> {
     let mut counts = vec![0; 1 << p1];
     for r in routes.iter().filter(|r| r.len as u32 > p1) {
         counts[bits(r.addr, p1) as usize] += 1;
@@ -522,7 +533,7 @@ fn check_needs(p1: u32, p2: u32, routes: &[Route], lent: &Lent) -> Result<(), u6
 }
 
 /// Both arms of a result are answers.
-fn either(r: Result<u64, u64>) -> u64 {
+pub(crate) fn either(r: Result<u64, u64>) -> u64 {
     match r {
         Ok(answer) | Err(answer) => answer,
     }
@@ -559,7 +570,7 @@ pub fn load(p1: u32, p2: u32, input: &[u8], lent: &mut Lent) -> u64 {
 
 /// Request b: "Announce and withdraw now clear the bits after the length"; "for announce and withdraw, 3 is now only a
 /// length over 32". Answers the cleared address and the length.
-fn check_prefix(addr: u32, len: u32) -> Result<(u32, u8), u64> {
+pub(crate) fn check_prefix(addr: u32, len: u32) -> Result<(u32, u8), u64> {
     if len > 32 {
         return Err(refused(3));
     }
@@ -567,12 +578,12 @@ fn check_prefix(addr: u32, len: u32) -> Result<(u32, u8), u64> {
 }
 
 /// Bit 9 of an accepted answer: they "say in an accepted answer whether any were cleared".
-fn told_cleared(given: u32, prefix: u32) -> u64 {
+pub(crate) fn told_cleared(given: u32, prefix: u32) -> u64 {
     ((given != prefix) as u64) << 9
 }
 
 /// Refusals 3, 4 and request d's: "announce meets 10 for a mark over 1, after 4 and before 5".
-fn check_route(addr: u32, len: u32, hop: u32, mark: u32) -> Result<Route, u64> {
+pub(crate) fn check_route(addr: u32, len: u32, hop: u32, mark: u32) -> Result<Route, u64> {
     let (addr, len) = check_prefix(addr, len)?;
     if !hop_ok(hop) {
         return Err(refused(4));
@@ -631,7 +642,7 @@ pub fn report(p1: u32, p2: u32, count: u32, lent: &Lent) -> u64 {
 }
 
 /// The place in a pool of `chunks` chunks where chunk number `cell` has its cell number `within`.
-fn place_in(cell: u16, chunks: usize, size: usize, within: usize) -> Result<usize, u64> {
+pub(crate) fn place_in(cell: u16, chunks: usize, size: usize, within: usize) -> Result<usize, u64> {
     let c = cell as usize;
     if c == 0 || c > chunks {
         return Err(refused(5));

@@ -84,7 +84,11 @@ fn say(answer: u64) -> String {
 pub const MUST_HAPPEN: &[(&str, &str)] = &[
     ("make", "0, 1, 2"),
     ("load", "0, 1, 2, 3 at, 4 at, 6, 7, 8, 10 at"),
-    ("announce", "0, 1, 2, 3, 4, 5, 6, 7, 8, 10, replaced, added and cleared, replaced and cleared, mark alone, room and chunks full, second opened, third opened, hole filled, wide length, wide hop, wide mark"),
+    (
+        "announce",
+        "0, 1, 2, 3, 4, 5, 6, 7, 8, 10, replaced, added and cleared, replaced and cleared, mark alone, \
+         room and chunks full, second opened, third opened, hole filled, wide length, wide hop, wide mark",
+    ),
     ("withdraw", "0, 1, 2, 3, 5, 9, cleared, second closed, third closed, under a cover, wide length"),
     (
         "repair",
@@ -107,8 +111,11 @@ pub const MUST_HAPPEN: &[(&str, &str)] = &[
         "0, 13, 13 by bits, 13 by a child base, 13 by a hop base, 13 by a hop, 13 by a word after the last, \
          13 by a hop after the last, 13 by room, 0 by a hop, 0 by room, 0 of any bitmaps, 13 of any bitmaps",
     ),
-    ("tree_announce", "0, 3, 4, 6, 11, 12, 13, added, replaced, 3 before 13, 4 before 13, wide length, wide hop"),
-    ("tree_withdraw", "0, 3, 9, 13, removed, none left, 3 before 13, wide length"),
+    (
+        "tree_announce",
+        "0, 3, 4, 6, 11, 12, 13, added, replaced, replaced of 4096, 3 before 13, 4 before 13, wide length, wide hop",
+    ),
+    ("tree_withdraw", "0, 3, 9, 13, removed, removed of 4096, none left, 3 before 13, wide length"),
     ("run", "0, 3, 3 at, 4 at, 6, 10 at, empty, some, wide length"),
     ("tally", "0, 2, 3 at, 4 at, 6, 10 at"),
     ("route", "0, 3 at, 4 at, 6, 10 at, none"),

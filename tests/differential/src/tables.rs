@@ -11,7 +11,7 @@ use differential::plain::{geometry_ok, need, number, records, size2, size3, Lent
 use differential::repair::memory_fault;
 
 /// All geometries, the cheap and the named ones more often.
-fn geometry(rng: &mut Rng) -> (u32, u32) {
+pub fn geometry(rng: &mut Rng) -> (u32, u32) {
     if rng.one_in(3) {
         loop {
             let (p1, p2) = (rng.range(12, 16) as u32, rng.range(22, 26) as u32);
@@ -24,7 +24,7 @@ fn geometry(rng: &mut Rng) -> (u32, u32) {
 }
 
 /// Room and pools, mostly so small that they fill.
-fn sizes(rng: &mut Rng) -> (usize, usize, usize) {
+pub fn sizes(rng: &mut Rng) -> (usize, usize, usize) {
     let room = match rng.below(12) {
         0 => rng.range(0, 2),
         1..=5 => rng.range(3, 12),
@@ -57,7 +57,7 @@ fn litter(rng: &mut Rng, t: &mut Lent) {
 
 /// A route to announce: a new one, a standing one with another hop, or with another mark alone, one that nests with a
 /// standing one, a bad one. One in three has loose bits after its length.
-fn to_announce(rng: &mut Rng, field: &Field, standing: &[Route]) -> Call {
+pub fn to_announce(rng: &mut Rng, field: &Field, standing: &[Route]) -> Call {
     if !standing.is_empty() && rng.one_in(16) {
         let r = rng.pick(standing);
         return Call::Announce(r.addr, r.len as u32, r.hop as u32, 1 - r.mark as u32);
@@ -86,7 +86,7 @@ fn to_announce(rng: &mut Rng, field: &Field, standing: &[Route]) -> Call {
     Call::Announce(addr, len, hop, mark)
 }
 
-fn to_withdraw(rng: &mut Rng, field: &Field, standing: &[Route]) -> Call {
+pub fn to_withdraw(rng: &mut Rng, field: &Field, standing: &[Route]) -> Call {
     if standing.is_empty() || rng.one_in(6) {
         let (addr, len) = asked_loose_prefix(rng, field, standing);
         return Call::Withdraw(addr, len);
@@ -96,16 +96,14 @@ fn to_withdraw(rng: &mut Rng, field: &Field, standing: &[Route]) -> Call {
     Call::Withdraw(addr, r.len as u32)
 }
 
-fn to_load(rng: &mut Rng, field: &Field, t: &Twice) -> Call {
+/// Records to load into a list of this room: standing ones, or others.
+pub fn to_load(rng: &mut Rng, field: &Field, room: usize, standing: &[Route]) -> Call {
     let n = match rng.below(4) {
-        0 => rng.range(0, t.plain.room()),
-        1 => t.plain.room() + rng.range(0, 2),
+        0 => rng.range(0, room),
+        1 => room + rng.range(0, 2),
         _ => rng.range(0, 12),
     };
-    let mut routes = match &t.standing {
-        Some(routes) if rng.one_in(3) => routes.clone(),
-        _ => field.routes(rng, n),
-    };
+    let mut routes = if !standing.is_empty() && rng.one_in(3) { standing.to_vec() } else { field.routes(rng, n) };
     if rng.one_in(4) {
         // Enough long routes to want more chunks than there are.
         for _ in 0..rng.range(1, 6) {
@@ -136,7 +134,7 @@ fn any_call(rng: &mut Rng, field: &Field, t: &Twice, standing: &[Route]) -> Call
             let room = if rng.one_in(3) { rng.range(0, 41) } else { n };
             Call::LookupMany((0..n).map(|_| field.addr(rng)).collect(), room)
         }
-        10 => to_load(rng, field, t),
+        10 => to_load(rng, field, t.plain.room(), standing),
         _ => Call::Make,
     }
 }
@@ -161,7 +159,7 @@ pub fn episode(run: &mut Run, rng: &mut Rng) {
         }
         t.look_around(run, rng, 40);
     }
-    let begin = if rng.one_in(3) { to_load(rng, &field, &t) } else { Call::Make };
+    let begin = if rng.one_in(3) { to_load(rng, &field, room, &[]) } else { Call::Make };
     t.step(run, &begin);
     if t.standing.is_none() {
         t.step(run, &Call::Make);
@@ -202,7 +200,7 @@ fn one_step(run: &mut Run, rng: &mut Rng, field: &Field, t: &mut Twice, growing:
         }
         62..=68 => t.look_around(run, rng, 160),
         69..=71 => {
-            let call = to_load(rng, field, t);
+            let call = to_load(rng, field, t.plain.room(), &standing);
             t.step(run, &call);
         }
         72 => {
@@ -260,7 +258,7 @@ fn damaged(run: &mut Run, rng: &mut Rng, field: &Field, t: &mut Twice, standing:
     }
     match rng.below(8) {
         0 => {
-            let call = to_load(rng, field, t);
+            let call = to_load(rng, field, t.plain.room(), standing);
             t.step(run, &call);
         }
         1 => {
@@ -314,12 +312,9 @@ fn odd_calls(run: &mut Run, rng: &mut Rng, field: &Field, mut odd: Twice, standi
     }
 }
 
-/// One array has another length. Now and then the lengths fit again, and the table may even be sound.
-fn other_sizes(run: &mut Run, rng: &mut Rng, field: &Field, t: &Twice, standing: &[Route]) {
-    let mut lent = t.plain.clone();
-    let (size2, size3) = (size2(t.p1, t.p2), size3(t.p2));
-    // A length near this one, or far from it.
-    let near = |rng: &mut Rng, len: usize, step: usize| match rng.below(8) {
+/// A length near this one, or far from it.
+pub fn near(rng: &mut Rng, len: usize, step: usize) -> usize {
+    match rng.below(8) {
         0 => len + 1,
         1 => len.saturating_sub(1),
         2 => len + step,
@@ -328,7 +323,13 @@ fn other_sizes(run: &mut Run, rng: &mut Rng, field: &Field, t: &Twice, standing:
         5 => 2 * len,
         6 => len / 2,
         _ => rng.below(2 * len + 2),
-    };
+    }
+}
+
+/// One array has another length. Now and then the lengths fit again, and the table may even be sound.
+fn other_sizes(run: &mut Run, rng: &mut Rng, field: &Field, t: &Twice, standing: &[Route]) {
+    let mut lent = t.plain.clone();
+    let (size2, size3) = (size2(t.p1, t.p2), size3(t.p2));
     match rng.below(14) {
         0 | 1 => {
             let n = near(rng, lent.list.len(), 8);
@@ -400,19 +401,24 @@ fn other_sizes(run: &mut Run, rng: &mut Rng, field: &Field, t: &Twice, standing:
     odd_calls(run, rng, field, Twice::new(t.p1, t.p2, t.count, lent), standing);
 }
 
+/// A geometry near this one, or far from it. Some are inside the limits.
+pub fn near_geometry(rng: &mut Rng, p1: u32, p2: u32) -> (u32, u32) {
+    match rng.below(8) {
+        0 => (p1 - 1, p2),
+        1 => (p1 + 1, p2),
+        2 => (p1, p2 - 1),
+        3 => (p1, p2 + 1),
+        4 => (p2, p1),
+        5 => (rng.range(0, 40) as u32, rng.range(0, 40) as u32),
+        6 => (rng.word(), rng.word()),
+        _ => *rng.pick(&[(0, 0), (u32::MAX, u32::MAX), (p1 + 32, p2 + 32), (p1, p2 | 1 << 31), (32, 32)]),
+    }
+}
+
 /// Another geometry over the same arrays, or a wrong one over arrays that would fit it.
 fn other_geometry(run: &mut Run, rng: &mut Rng, field: &Field, t: &Twice, standing: &[Route]) {
     if rng.one_in(2) {
-        let (p1, p2) = match rng.below(8) {
-            0 => (t.p1 - 1, t.p2),
-            1 => (t.p1 + 1, t.p2),
-            2 => (t.p1, t.p2 - 1),
-            3 => (t.p1, t.p2 + 1),
-            4 => (t.p2, t.p1),
-            5 => (rng.range(0, 40) as u32, rng.range(0, 40) as u32),
-            6 => (rng.word(), rng.word()),
-            _ => *rng.pick(&[(0, 0), (u32::MAX, u32::MAX), (t.p1 + 32, t.p2 + 32), (t.p1, t.p2 | 1 << 31), (32, 32)]),
-        };
+        let (p1, p2) = near_geometry(rng, t.p1, t.p2);
         odd_calls(run, rng, field, Twice::new(p1, p2, t.count, t.plain.clone()), standing);
     } else {
         let (p1, p2) = *rng.pick(&[

@@ -1,12 +1,18 @@
-//! Messages read into tables of any content, and fields written.
+//! Messages read into tables and boxes of any content, and fields written.
 
 use crate::gh::{self, Fenced};
+#[cfg(feature = "pair_update")]
+use crate::gh_pair;
 use crate::inputs::tell;
+#[cfg(feature = "pair_update")]
+use crate::pair_twice::PairTwice;
 use crate::run::Run;
 use crate::twice::{Call, Twice};
 use differential::fields::{self, damage, entries, field_of, Net};
 use differential::gen::{asked_hop, asked_prefix, Field, Rng};
-use differential::plain::{check_input, number, records, Route};
+#[cfg(feature = "pair_update")]
+use differential::pair;
+use differential::plain::{self, check_input, number, Route};
 
 pub const MUST_HAPPEN: &[(&str, &str)] = &[
     (
@@ -17,6 +23,13 @@ pub const MUST_HAPPEN: &[(&str, &str)] = &[
     ),
     ("write_field", "0, 3 at, 4 at, 6, 10 at, 18, to the last byte, bytes after it"),
 ];
+
+#[cfg(feature = "pair_update")]
+pub const MUST_HAPPEN_OF_TWO: &[(&str, &str)] = &[(
+    "pair_update",
+    "0, 1, 2, 4, 5, 6 at, 7 at, 8 at, 17, withdrawn, passed over, added, replaced, stopped at the first, \
+     stopped after some, stopped after withdrawals",
+)];
 
 /// A message: both fields, and the hop.
 #[derive(Debug)]
@@ -58,113 +71,162 @@ fn nets(rng: &mut Rng, field: &Field, standing: &[Route]) -> Vec<Net> {
 fn message(rng: &mut Rng, field: &Field, standing: &[Route]) -> Message {
     let (goes, comes) = (nets(rng, field, standing), nets(rng, field, standing));
     let (mut withdrawn, mut reach) = (field_of(rng, &goes), field_of(rng, &comes));
-    if rng.one_in(8) {
+    let broken = rng.one_in(8);
+    if broken {
         let one = if rng.one_in(2) { &mut withdrawn } else { &mut reach };
         damage(rng, one);
     }
-    // The hop of a standing route: what stands with it and mark 0 stays as it is.
     let hop = match standing {
+        // Of two refusals the first is given.
+        _ if broken && rng.one_in(3) => *rng.pick(&[0, 32_768, 65_580, u32::MAX]),
+        // The hop of a standing route: what stands with it and mark 0 stays as it is.
         [first, ..] if rng.one_in(3) => first.hop as u32,
         _ => asked_hop(rng, field),
     };
     Message { withdrawn, reach, hop }
 }
 
-/// One message in both.
+/// One message into a table, in both.
 pub fn change(run: &mut Run, rng: &mut Rng, field: &Field, t: &mut Twice) {
-    let listed = t.plain.room().min(t.count as usize);
-    let standing = check_input(&t.plain.list[..8 * listed]).unwrap_or_default();
-    let message = message(rng, field, &standing);
-    let was = t.plain.clone();
-    let withdrawn = Fenced::new(&message.withdrawn);
-    let reach = Fenced::new(&message.reach);
+    let message = message(rng, field, &listed(&t.plain.list, t.count));
+    let (was, (withdrawn, reach)) = (t.plain.clone(), message.lent());
     run.calls += 1;
     let is = gh::update(t.p1, t.p2, t.count, &mut t.library, &withdrawn, &reach, message.hop);
     let should = fields::update(t.p1, t.p2, t.count, &mut t.plain, &withdrawn, &reach, message.hop);
-    run.answered("update", is, should, &|| t.tell(&format!("Update({message:02x?})")));
-    let differs = t.library.differs(&t.plain).or_else(|| withdrawn.differs("withdrawn", &message.withdrawn));
-    if let Some(what) = differs.or_else(|| reach.differs("reach", &message.reach)) {
-        run.fault(&what, &|| t.tell(&format!("Update({message:02x?})")));
+    run.answered("update", is, should, &|| t.tell(&format!("{message:02x?}")));
+    let differs = t.library.differs(&t.plain).or_else(|| message.differs(&withdrawn, &reach));
+    if let Some(what) = differs {
+        run.fault(&what, &|| t.tell(&format!("{message:02x?}")));
     }
     if [0, 6, 7, 8].contains(&number(is)) {
         t.count = (is >> 16) as u32 & 0xFFFF;
-        account(run, t, &message, is);
+        let mut standing = t.standing.take().expect("a table that a message changes is sound");
+        message.account(run, "update", &mut standing, is);
+        let holds = holds(&t.plain.list, t.count, &standing);
+        t.standing = Some(standing);
+        if !holds {
+            run.fault("the list does not hold what stands", &|| t.tell(&format!("{message:02x?}")));
+        }
         t.step(run, &Call::Report);
     } else {
         if t.plain != was {
-            run.fault("what is refused changed the table", &|| t.tell(&format!("Update({message:02x?})")));
+            run.fault("what is refused changed the table", &|| t.tell(&format!("{message:02x?}")));
         }
-        refusals(run, &message, number(is));
+        message.refusals(run, "update", number(is));
     }
 }
 
-/// Which routes stand after exactly the entries dealt with, and whether the list holds these.
-fn account(run: &mut Run, t: &mut Twice, message: &Message, is: u64) {
-    let goes = entries(&message.withdrawn).expect("checked before the work");
-    let comes = entries(&message.reach).expect("checked before the work");
-    let dealt = (is >> 32) as usize;
-    let mut standing = t.standing.take().expect("a table that a message changes is sound");
-    for (k, &(addr, len)) in goes.iter().chain(&comes).take(dealt).enumerate() {
-        let place = standing.binary_search_by_key(&(addr, len), |r| (r.addr, r.len));
-        let route = Route { addr, len, hop: message.hop as u16, mark: 0 };
-        let label = match (k < goes.len(), place) {
-            (true, Ok(at)) => {
-                standing.remove(at);
-                "withdrawn"
-            }
-            (true, Err(_)) => "passed over",
-            (false, Ok(at)) => {
-                let was = std::mem::replace(&mut standing[at], route);
-                match was {
+/// One message into a party of a box, in both.
+#[cfg(feature = "pair_update")]
+pub fn change_party(run: &mut Run, rng: &mut Rng, field: &Field, t: &mut PairTwice, party: u32) {
+    let w = pair::party_of(party);
+    let message = message(rng, field, &listed(&t.plain.own[w].list, t.state.shares[w].count));
+    let (was, (withdrawn, reach)) = (t.plain.clone(), message.lent());
+    run.calls += 1;
+    let is = gh_pair::update(&t.state, &mut t.library, party, &withdrawn, &reach, message.hop);
+    let mut table = pair::Party { state: t.state, arrays: &mut t.plain, party };
+    let should = fields::update_by(&mut table, &withdrawn, &reach, message.hop);
+    run.answered("pair_update", is, should, &|| t.tell(party, &format!("{message:02x?}")));
+    let differs = t.library.differs(&t.plain).or_else(|| message.differs(&withdrawn, &reach));
+    if let Some(what) = differs {
+        run.fault(&what, &|| t.tell(party, &format!("{message:02x?}")));
+    }
+    if [0, 6, 7, 8].contains(&number(is)) {
+        t.state.shares[w].count = (is >> 16) as u32 & 0xFFFF;
+        let mut standing = t.standing.take().expect("a box that a message changes is sound");
+        message.account(run, "pair_update", &mut standing[w], is);
+        let holds = holds(&t.plain.own[w].list, t.state.shares[w].count, &standing[w]);
+        t.standing = Some(standing);
+        if !holds {
+            run.fault("the list does not hold what stands", &|| t.tell(party, &format!("{message:02x?}")));
+        }
+        t.step(run, party, &Call::Report);
+    } else {
+        if t.plain != was {
+            run.fault("what is refused changed the box", &|| t.tell(party, &format!("{message:02x?}")));
+        }
+        message.refusals(run, "pair_update", number(is));
+    }
+}
+
+/// The routes of a list of any content, none if it is not good.
+fn listed(list: &[u8], count: u32) -> Vec<Route> {
+    let many = (list.len() / 8).min(count as usize);
+    check_input(&list[..8 * many]).unwrap_or_default()
+}
+
+/// The list holds exactly these routes.
+fn holds(list: &[u8], count: u32, standing: &[Route]) -> bool {
+    let (records, rest) = list.split_at((8 * count as usize).min(list.len()));
+    records == plain::records(standing) && rest.iter().all(|&byte| byte == 0)
+}
+
+impl Message {
+    fn lent(&self) -> (Fenced<u8>, Fenced<u8>) {
+        (Fenced::new(&self.withdrawn), Fenced::new(&self.reach))
+    }
+
+    fn differs(&self, withdrawn: &Fenced<u8>, reach: &Fenced<u8>) -> Option<String> {
+        withdrawn.differs("withdrawn", &self.withdrawn).or_else(|| reach.differs("reach", &self.reach))
+    }
+
+    /// Which routes stand after exactly the entries dealt with.
+    fn account(&self, run: &mut Run, name: &'static str, standing: &mut Vec<Route>, is: u64) {
+        let goes = entries(&self.withdrawn).expect("checked before the work");
+        let comes = entries(&self.reach).expect("checked before the work");
+        let dealt = (is >> 32) as usize;
+        for (k, &(addr, len)) in goes.iter().chain(&comes).take(dealt).enumerate() {
+            let place = standing.binary_search_by_key(&(addr, len), |r| (r.addr, r.len));
+            let route = Route { addr, len, hop: self.hop as u16, mark: 0 };
+            let label = match (k < goes.len(), place) {
+                (true, Ok(at)) => {
+                    standing.remove(at);
+                    "withdrawn"
+                }
+                (true, Err(_)) => "passed over",
+                (false, Ok(at)) => match std::mem::replace(&mut standing[at], route) {
                     Route { mark: 1, .. } => "mark lost",
                     was if was == route => "stands",
                     _ => "replaced",
+                },
+                (false, Err(at)) => {
+                    standing.insert(at, route);
+                    "added"
                 }
-            }
-            (false, Err(at)) => {
-                standing.insert(at, route);
-                "added"
-            }
-        };
-        run.count("update", label);
+            };
+            run.count(name, label);
+        }
+        labels(run, name, &goes, &comes, dealt, number(is) != 0);
     }
-    labels(run, &goes, &comes, dealt, is);
-    let mut list = records(&standing);
-    list.resize(t.plain.list.len().max(list.len()), 0);
-    t.standing = Some(standing);
-    if let Some(what) = t.library.list.differs("list", &list) {
-        run.fault(&what, &|| t.tell(&format!("Update({message:02x?})")));
+
+    /// The order among the refusals that leave all as it was.
+    fn refusals(&self, run: &mut Run, name: &'static str, n: u8) {
+        let broken = entries(&self.withdrawn).is_none() || entries(&self.reach).is_none();
+        if n == 5 && broken {
+            run.count(name, "5 before 17");
+        }
+        if n == 17 && !plain::hop_ok(self.hop) {
+            run.count(name, "17 before 4");
+        }
+        if n == 4 && self.hop > 0xFFFF {
+            run.count(name, "wide hop");
+        }
     }
 }
 
-fn labels(run: &mut Run, goes: &[Net], comes: &[Net], dealt: usize, is: u64) {
-    let mut count = |label| run.count("update", label);
+fn labels(run: &mut Run, name: &'static str, goes: &[Net], comes: &[Net], dealt: usize, stopped: bool) {
+    let mut count = |label| run.count(name, label);
     if goes.len() + comes.len() == 0 {
         count("nothing to do");
     }
     if goes.iter().any(|net| comes.contains(net)) {
         count("in both fields");
     }
-    if number(is) != 0 {
+    if stopped {
         count(if dealt == goes.len() { "stopped at the first" } else { "stopped after some" });
         if !goes.is_empty() {
             count("stopped after withdrawals");
         }
-    }
-}
-
-/// The order among the refusals that leave all as it was.
-fn refusals(run: &mut Run, message: &Message, n: u8) {
-    let broken = entries(&message.withdrawn).is_none() || entries(&message.reach).is_none();
-    let bad_hop = !differential::plain::hop_ok(message.hop);
-    if n == 5 && broken {
-        run.count("update", "5 before 17");
-    }
-    if n == 17 && bad_hop {
-        run.count("update", "17 before 4");
-    }
-    if n == 4 && message.hop > 0xFFFF {
-        run.count("update", "wide hop");
     }
 }
 

@@ -195,6 +195,13 @@ fn routes_read_back() {
     assert_eq!(route(&input, 5), 0);
     assert_eq!(route(&input, u32::MAX), 0);
     assert_eq!(route(&input[..7], 0), refused_at(10, 0));
+    // The one that an address meets: list A's examples, with /0 withdrawn too.
+    assert_eq!(longest(&input, ip(10, 1, 2, 200)), route(&input, 4));
+    assert_eq!(longest(&input, ip(10, 1, 2, 5)), route(&input, 3));
+    assert_eq!(longest(&input, ip(10, 2, 0, 1)), route(&input, 1));
+    assert_eq!(longest(&input, ip(192, 0, 2, 1)), route(&input, 0));
+    assert_eq!(longest(&input[8..], ip(192, 0, 2, 1)), 0);
+    assert_eq!(longest(&input[..7], 0), refused_at(10, 0));
 }
 
 #[test]

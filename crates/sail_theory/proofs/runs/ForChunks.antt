@@ -49,12 +49,12 @@ small : {t : Table} {l : Lent} {n : ℕ} → Sizing t l n → (7 ≤ n) × (n �
 small (Sizing.limits h) w = omega (arith, w .0)
 small (Sizing.size v h) w = omega (arith, w .0)
 
-wrong-never : {r : Route} {n : ℕ} → WrongRoute r n → (7 ≤ n) × (n ≤ 8) → ⊥
+pub wrong-never : {r : Route} {n : ℕ} → WrongRoute r n → (7 ≤ n) × (n ≤ 8) → ⊥
 wrong-never (WrongRoute.prefix h) w = omega (arith, w .0)
 wrong-never (WrongRoute.hop p h) w = omega (arith, w .0)
 wrong-never (WrongRoute.mark p a b h) w = omega (arith, w .1)
 
-input-never : (s : List ℕ) (x : Said) → Checked s x → ForChunks x → ⊥
+pub input-never : (s : List ℕ) (x : Said) → Checked s x → ForChunks x → ⊥
 input-never s _ (Checked.ragged z) w = w
 input-never s _ (Checked.stopped k f z l b v p) w = w
 input-never s _ (Checked.many z b m) w = omega (arith, w .0)

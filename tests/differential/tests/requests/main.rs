@@ -9,8 +9,10 @@ mod fields;
 mod header;
 mod hop_records;
 mod host_bits;
+mod isolation;
 mod mark;
 mod one_image;
+mod pair;
 mod repair;
 mod tree_change;
 

@@ -1,7 +1,6 @@
 -- `sail_owners::owners::own_chunk`: the last chunk has the owner already, or the lowest free chunk gets it.
 use mathlib.Core.Path.{sym, _∙_}
 use mathlib.Core.Bool.{true≢false}
-use native.Mathlib.Omega.{arith}
 use borrow.Author.Needs.{needs}
 use Rattle.sail_owners.proofs.Packs.{room, hung-had, hung-new}
 use Rattle.sail_owners.proofs.owners.own_chunk.Statement.{statement}

@@ -1,0 +1,2 @@
+-- A party's side of a box, and what its changes leave there.
+pub mod Sides

@@ -1,0 +1,3 @@
+-- The laws of a party's lookup.
+pub mod Looks
+pub mod OneAnswer

@@ -1,0 +1,2 @@
+-- The statement of a party's lookup.
+pub mod Contract

@@ -1,0 +1,3 @@
+-- What make leaves and answers.
+pub mod PairMakes
+pub mod OneAnswer

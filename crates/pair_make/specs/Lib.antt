@@ -1,0 +1,2 @@
+-- The statement of make for two parties.
+pub mod Contract

@@ -1,0 +1,2 @@
+-- The laws of what a party sees.
+pub mod SeenOwners

@@ -1,0 +1,3 @@
+-- The laws of a party's report.
+pub mod Reports
+pub mod OneAnswer

@@ -1,0 +1,2 @@
+-- The two sides, one after the other.
+pub mod Sides

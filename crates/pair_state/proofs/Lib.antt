@@ -1,0 +1,2 @@
+-- The party that a call is made for.
+pub mod Guests
