@@ -10,15 +10,17 @@ use Rattle.bits.proofs.Bools.{decided, below?}
 use Rattle.standing.specs.Cells.{need}
 use Rattle.routes.specs.Said.{Said, accepted, refused, refusedAt, accepts}
 use Rattle.routes.specs.declared.Route.{Route}
-use Rattle.routes.proofs.Rows.{length-routes}
+use Rattle.routes.proofs.Rows.{length-routes, records-good}
 use Rattle.routes.specs.Cases.{Checked}
-use Rattle.routes.proofs.Meaning.{records-right}
+use Rattle.routes.proofs.Meaning.{records-right, right-records}
 use Rattle.sail.specs.Geometry.{smallGeo}
 use Rattle.sail.specs.Sizes.{Sized}
 use Rattle.sail_theory.specs.Calls.{inputRoutes, loadSaid, loaded}
 use Rattle.sail.specs.Cases.{Sizing}
 use Rattle.sail_theory.specs.Cases.{Readable, Load}
+use Rattle.sail_theory.specs.Facts.{Loadable}
 use Rattle.sail_theory.proofs.calls.SomeCase.{load-judged}
+use Rattle.sail_theory.proofs.calls.OneCase.{load-only}
 use Rattle.sail_theory.proofs.calls.Load.{accepted-loadable, load-said, load-holds}
 use Rattle.text_pieces.specs.Digits.{digitsIn, digitsOf}
 use Rattle.text_pieces.specs.Pieces.{ascii, labelled}
@@ -26,7 +28,7 @@ use Rattle.text.specs.Text.{headLine, routeLines, tableText, saidText}
 use Rattle.text_pieces.proofs.Writes.{wrote-front}
 use Rattle.print_said.specs.Standing.{standingText, page}
 use Rattle.print.specs.Printed.{smallTable, smallLent, lineOr, outText, printedText, Printed}
-use Rattle.print.specs.Cases.{AllRight, Prints}
+use Rattle.print.specs.Cases.{AllRight, Prints, records}
 use Rattle.print.proofs.Ways.{line-none}
 
 small-sized : Sized smallGeo smallLent
@@ -106,6 +108,41 @@ module _ (input : List ℕ) where
           rw (table-text (ap accepts (load-said smallTable smallLent input ∙ e)), words, length-routes)
           (Prints.table (right w) (rw length-routes at (k .roomy)) (k .enough2) (k .enough3))
 
+  readable : AllRight input → records input ≤ 4096 → Readable smallTable smallLent input
+  readable r few = record {
+    sized = small-sized;
+    whole = omega (arith, r .whole);
+    records = right-records input (length input / 8) (r .each) (omega (arith, r .whole)) few;
+  }
+
+  -- Nothing else is printed: each case is one of load's, and load says one thing of an input.
+  pub prints-only : (text : List ℕ) → Prints input text → printedText input ≡ text
+  unfolding saidText
+  prints-only _ (Prints.fault n k c) =
+      said-text _ (load-only smallTable smallLent input _ (Load.bad-input _ small-sized (record { checked = c; not-accepted = refl }))) refl
+  prints-only _ (Prints.six r m) = said-text _ (go (below? 4096 (length input / 8))) refl ∙ six-text
+    where
+      go : (4096 < length input / 8) ⊎ (length input / 8 ≤ 4096) → loadSaid smallTable smallLent input ≡ refused 6
+      go (inl h) =
+          let c = Checked.many (r .whole) (r .each) h in
+          load-only smallTable smallLent input _ (Load.bad-input _ small-sized (record { checked = c; not-accepted = refl }))
+      go (inr h) = load-only smallTable smallLent input _ (Load.full (readable r h) m)
+  prints-only _ (Prints.seven r m x) =
+      said-text _ (load-only smallTable smallLent input _ (Load.second (readable r (omega arith)) m x)) refl ∙ seven-text
+  prints-only _ (Prints.eight r m x y) =
+      said-text _ (load-only smallTable smallLent input _ (Load.third (readable r (omega arith)) m x y)) refl ∙ eight-text
+  prints-only _ (Prints.table r m x y) =
+      let w = readable r (omega arith) in
+      let k : Loadable smallTable smallLent (inputRoutes input) = record {
+        sized = small-sized;
+        good = records-good input (length input / 8) (w .records);
+        roomy = rw length-routes m;
+        enough2 = x;
+        enough3 = y;
+      } in
+      let e = load-only smallTable smallLent input _ (Load.done w k) in
+      table-text (ap accepts (load-said smallTable smallLent input ∙ e)) ∙ words _ _ _ ∙ rw length-routes refl
+
   -- The program reads 520 bytes. Where the input has more, they are 65 records, and no table is printed of them.
   pub long-refused : 512 < length input → accepts (loaded smallTable smallLent input .said) ≡ false
   long-refused h = go (decided (accepts (loaded smallTable smallLent input .said)))
@@ -116,6 +153,10 @@ module _ (input : List ℕ) where
       go (inl e) =
           let k = accepted-loadable smallTable smallLent input (sym (ap accepts (load-said smallTable smallLent input)) ∙ e) in
           absurd (omega (arith, k .0 .whole, rw length-routes at (k .1 .roomy)))
+
+-- one text for each input
+pub prints-once : (input x y : List ℕ) → Prints input x → Prints input y → x ≡ y
+prints-once input x y p q = sym (prints-only input x p) ∙ prints-only input y q
 
 -- Two answers that the statement of `printed` allows are the same, and leave the same buffer.
 pub one-answer-printed : {input before after after′ : List ℕ} {m n : ℕ}

@@ -1,2 +1,2 @@
--- What an image is, and what a lookup in it says.
+-- The statement of a lookup in an image.
 pub mod Contract

@@ -1,5 +1,5 @@
-// The nodes of an image one by one: whether their bases are those of the fixed order, and their own bitmaps well formed. Each node is held against the
-// next one, with no early end, so that it can be done several nodes at a time.
+// The nodes of an image one by one: whether their bases are those of the fixed order. Each node is compared with the next one, with no early end, so
+// that it can be done several nodes at a time.
 use bits::widen::word_to_index;
 ghost use mathlib.Core.Path.{_≡_};
 ghost use Prim.Native.Nat.{_+_, _*_, _/_, _^_, _≤_, _<_};
@@ -8,7 +8,7 @@ ghost use lib.Count.{ones};
 ghost use Rattle.bits.specs.Tab.{Tells};
 ghost use Rattle.tree_image.specs.Node.{bitsOf, childOf};
 ghost use Rattle.tree_same.specs.Order.{Order};
-ghost use Rattle.tree_formed.specs.Stretches.{Flagged, OwnBits, Own, EndsAt, Nodes, Begun, NodesUpTo, NodesShaped};
+ghost use Rattle.tree_formed.specs.Bases.{Flagged, EndsAt, Nodes, Begun, NodesUpTo, NodesShaped};
 
 // How many children the word of a node names.
 pub fn children(word: u32) -> u32
@@ -50,26 +50,13 @@ fn nodes_in(words: &[u32]) -> usize
 }
 
 // 1 where two numbers differ, and 0 where they do not.
-pub fn differ(a: u32, b: u32) -> u32
+fn differ(a: u32, b: u32) -> u32
     ensures { λ r. ⌜ Flagged r (a ≡ b) ⌝ }
 {
     if a == b {
         return 0;
     }
     1
-}
-
-// 1 where a node's own bitmaps are not well formed, wherever it stands below the root: no bit at all, or bit 15; and 0 where they are.
-fn off_own(word: u32) -> u32
-    ensures { λ r. ⌜ Flagged r (OwnBits word) ⌝ }
-{
-    if word == 0 {
-        return 1;
-    }
-    if bits::is_set(word, 15) {
-        return 1;
-    }
-    0
 }
 
 // How many faults the m nodes after the root have: 0 where there is none. A base is that of the node before and that node's own ones.
@@ -84,16 +71,16 @@ fn faults(words: &[u32], m: usize) -> u32
         let word = words[at];
         let child = std::num::wrapping_add_u32(words[at + 1], children(word));
         let hop = std::num::wrapping_add_u32(words[at + 2], bits::ones_below(word, 15));
-        bad += off_own(words[at + 3]) + differ(words[at + 4], child) + differ(words[at + 5], hop);
+        bad += differ(words[at + 4], child) + differ(words[at + 5], hop);
         i += 1;
     }
     bad
 }
 
-// Whether the first n nodes stand in the fixed order, and have all their children among them, and own bitmaps that are well formed.
+// Whether the first n nodes are in the fixed order, and have all their children among them.
 fn in_order(words: &[u32], n: usize) -> bool
     requires { ⌜ Nodes (now words) n ⌝ }
-    ensures { λ r. ⌜ Tells r (Order (now (words .entry)) n × Own (now (words .entry)) n) ⌝ }
+    ensures { λ r. ⌜ Tells r (Order (now (words .entry)) n) ⌝ }
 {
     if words[1] != 1 {
         return false;
@@ -108,8 +95,7 @@ fn in_order(words: &[u32], n: usize) -> bool
     after_children(words, last) == n
 }
 
-// The nodes in use, if the bases and the own bitmaps of each are right; 0 if not, and 0 for what is no image for other reasons: no image has more
-// than 32,769 nodes.
+// The nodes in use, if the bases of each are right; 0 if not, and 0 for what is no image for another reason: no image has more than 32,769 nodes.
 pub fn shape(words: &[u32]) -> usize
     ensures { λ r. ⌜ NodesShaped (now (words .entry)) r ⌝ }
 {

@@ -1,2 +1,2 @@
--- When an image is well formed, what its test says, and what that is to mean.
+-- The statement of the test of an image.
 pub mod Contract

@@ -1,10 +1,12 @@
 // The test of an image: its bases in one pass, then its nodes from the root down, its hops, and zeros after the last used.
+pub mod nodes;
+
+use crate::nodes::root_ok;
 use bits::widen::word_to_index;
 use buffers_test::zeros::zeros16;
 use buffers_test::zeros::zeros32;
 use tree_bases::shape;
 use tree_formed::Tested;
-use tree_levels::root_ok;
 use tree_node::put;
 ghost use mathlib.Core.Bool.{true};
 ghost use mathlib.Core.Path.{_≡_};
@@ -14,7 +16,7 @@ ghost use Rattle.routes.specs.Input.{hopFine};
 ghost use Rattle.tree_same.specs.Order.{ints};
 ghost use Rattle.tree_check.specs.Contract.{MeetsTreeTest};
 ghost use Rattle.tree_formed.specs.WellFormed.{ordered, hopsFineTo, wellFormed, nodesIf};
-ghost use Rattle.tree_formed.specs.Stretches.{Flagged};
+ghost use Rattle.tree_formed.specs.Bases.{Flagged};
 
 // The hops of the first n nodes: the hop base of the last one and its own.
 pub fn hops_in(words: &[u32], n: usize) -> usize

@@ -7,7 +7,7 @@ pub mod Serves
 pub mod Steps
 pub mod TestReturns
 pub mod Neighbours
-pub mod Stretches
+pub mod NodeTests
 pub mod AsBuilt
 pub mod Judged
 pub mod Visits

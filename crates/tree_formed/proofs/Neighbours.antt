@@ -15,11 +15,10 @@ use Rattle.bits.proofs.Bools.{below?, untrue}
 use Rattle.tree_image.specs.Node.{bitsOf, childOf, baseOf}
 use Rattle.tree_same.specs.Order.{exts, ints, Order}
 use Rattle.tree_formed.specs.WellFormed.{nodesUsed, wellFormed}
-use Rattle.tree_formed.specs.Stretches.{Flagged, OwnBits, Own, PassedOver, EndsAt, Nodes, Begun, NodesUpTo, NodesShaped}
+use Rattle.tree_formed.specs.Bases.{Flagged, PassedOver, EndsAt, Nodes, Begun, NodesUpTo, NodesShaped}
 use Rattle.tree_formed.proofs.Meaning.{well-formed-is, is-ordered}
 use Rattle.tree_formed.proofs.Held.{exts-next, ints-next, exts-mono}
 use Rattle.tree_formed.proofs.TestReturns.{check-few}
-use Rattle.tree_formed.proofs.Stretches.{formed-own}
 
 -- ---- the way to the first child of each level
 
@@ -70,7 +69,7 @@ ints-few ws (suc i) = omega (arith, ints-few ws i, ones-le 15 (bitsOf ws i % 2 ^
 pub record Faulty (ws : List ℕ) (i bad : ℕ) : Type 0 where
   pub is : bad ≡ 0 → NodesUpTo ws i
   pub of : NodesUpTo ws i → bad ≡ 0
-  pub few : bad ≤ 3 * i
+  pub few : bad ≤ 2 * i
 
 pub faults-start : (ws : List ℕ) (m : ℕ) → Begun ws m → Faulty ws 0 0
 unfolding exts ints
@@ -78,7 +77,6 @@ faults-start ws m b = record {
   is = λ z. record {
     child = λ j l. let q : j ≡ 0 = omega arith in rw q (b .child);
     base = λ j l. let q : j ≡ 0 = omega arith in rw q (b .base);
-    own = λ j a l. absurd (omega arith);
   };
   of = λ u. refl;
   few = omega arith;
@@ -91,21 +89,17 @@ up-to P i f a j l = go (below? i j)
     go (inl u) = let q : suc i ≡ j = omega arith in subst P q a
     go (inr u) = f j u
 
--- what the three flags of one step say, of the words as they are read
-pub record NodeStep (ws : List ℕ) (i x y child hop a b c : ℕ) : Type 0 where
+-- what the two flags of one step say, of the words as they are read
+pub record NodeStep (ws : List ℕ) (i x y child hop b c : ℕ) : Type 0 where
   pub kids : x ≡ ones (bitsOf ws i / 2 ^ 16)
   pub own : y ≡ ones (bitsOf ws i % 2 ^ 15)
   pub its-child : child ≡ (childOf ws i + x) % 2 ^ 32
   pub its-hop : hop ≡ (baseOf ws i + y) % 2 ^ 32
-  pub on-own : Flagged a (OwnBits (getD ws (3 * i + 3) 0))
   pub on-child : Flagged b (getD ws (3 * i + 4) 0 ≡ child)
   pub on-hop : Flagged c (getD ws (3 * i + 5) 0 ≡ hop)
 
-module _ (ws : List ℕ) (narrow : (j : ℕ) → getD ws j 0 < 2 ^ 32) (i : ℕ) (few : i ≤ 32768) (x y child hop a b c : ℕ)
-    (s : NodeStep ws i x y child hop a b c) where
-  next-bits : getD ws (3 * i + 3) 0 ≡ bitsOf ws (suc i)
-  next-bits = let q : 3 * i + 3 ≡ 3 * suc i = omega arith in ap (λ (j : ℕ). getD ws j 0) q
-
+module _ (ws : List ℕ) (narrow : (j : ℕ) → getD ws j 0 < 2 ^ 32) (i : ℕ) (few : i ≤ 32768) (x y child hop b c : ℕ)
+    (s : NodeStep ws i x y child hop b c) where
   next-child : getD ws (3 * i + 4) 0 ≡ childOf ws (suc i)
   next-child = let q : 3 * i + 4 ≡ 3 * suc i + 1 = omega arith in ap (λ (j : ℕ). getD ws j 0) q
 
@@ -129,69 +123,65 @@ module _ (ws : List ℕ) (narrow : (j : ℕ) → getD ws j 0 < 2 ^ 32) (i : ℕ)
     sum-hop : hop ≡ ints ws (suc i)
     sum-hop = omega (arith, s .own, s .its-hop, right-base, ints-next ws i, ints-few ws i, ones-le 15 (bitsOf ws i % 2 ^ 15) (omega arith))
 
-  pub faults-next : (bad : ℕ) → Faulty ws i bad → Faulty ws (i + 1) (bad + (a + b + c))
-  faults-next bad f = let q : suc i ≡ i + 1 = omega arith in subst (λ (k : ℕ). Faulty ws k (bad + (a + b + c))) q (record {
-    is = λ z. forth (f .is (omega (arith, z))) (omega (arith, z)) (omega (arith, z)) (omega (arith, z));
+  pub faults-next : (bad : ℕ) → Faulty ws i bad → Faulty ws (i + 1) (bad + (b + c))
+  faults-next bad f = let q : suc i ≡ i + 1 = omega arith in subst (λ (k : ℕ). Faulty ws k (bad + (b + c))) q (record {
+    is = λ z. forth (f .is (omega (arith, z))) (omega (arith, z)) (omega (arith, z));
     of = back;
-    few = omega (arith, f .few, s .on-own .one, s .on-child .one, s .on-hop .one);
+    few = omega (arith, f .few, s .on-child .one, s .on-hop .one);
   })
     where
-      forth : NodesUpTo ws i → a ≡ 0 → b ≡ 0 → c ≡ 0 → NodesUpTo ws (suc i)
-      forth u za zb zc =
+      forth : NodesUpTo ws i → b ≡ 0 → c ≡ 0 → NodesUpTo ws (suc i)
+      forth u zb zc =
           let q = sym next-child ∙ s .on-child .is zb ∙ sum-child (u .child i (omega arith)) (u .base i (omega arith)) in
           let r = sym next-base ∙ s .on-hop .is zc ∙ sum-hop (u .child i (omega arith)) (u .base i (omega arith)) in
           record {
             child = up-to (λ j. childOf ws j ≡ 1 + exts ws j) i (u .child) q;
             base = up-to (λ j. baseOf ws j ≡ ints ws j) i (u .base) r;
-            own = λ j x l. up-to (λ k. 0 < k → OwnBits (bitsOf ws k)) i (λ k v y. u .own k y v) (λ y. subst OwnBits next-bits (s .on-own .is za)) j l x;
           }
 
-      back : NodesUpTo ws (suc i) → bad + (a + b + c) ≡ 0
+      back : NodesUpTo ws (suc i) → bad + (b + c) ≡ 0
       back u =
           let child-here = u .child i (omega arith) in
           let base-here = u .base i (omega arith) in
           let next = u .child (suc i) (omega arith) in
-          let za = s .on-own .of (subst OwnBits (sym next-bits) (u .own (suc i) (omega arith) (omega arith))) in
           let zb = s .on-child .of (next-child ∙ next ∙ sym (sum-child child-here base-here)) in
           let zc = s .on-hop .of (next-base ∙ u .base (suc i) (omega arith) ∙ sym (sum-hop child-here base-here)) in
           let before = f .of (record {
             child = λ j l. u .child j (omega arith);
             base = λ j l. u .base j (omega arith);
-            own = λ j x l. u .own j x (omega arith);
           }) in
-          omega (arith, za, zb, zc, before)
+          omega (arith, zb, zc, before)
 
 pub faults-end : (ws : List ℕ) (m i bad : ℕ) → i ≤ m → m ≤ i → Faulty ws i bad → (bad ≡ 0 → NodesUpTo ws m) × (NodesUpTo ws m → bad ≡ 0)
 faults-end ws m i bad a b f = let q : i ≡ m = omega arith in subst (λ (k : ℕ). (bad ≡ 0 → NodesUpTo ws k) × (NodesUpTo ws k → bad ≡ 0)) q (f .is, f .of)
 
 -- ---- the first n nodes
 
-no-order : (ws : List ℕ) (n : ℕ) → (Order ws n × Own ws n → ⊥) → Tells false (Order ws n × Own ws n)
+no-order : (ws : List ℕ) (n : ℕ) → (Order ws n → ⊥) → Tells false (Order ws n)
 no-order ws n f = (λ e. absurd (false≢true e), λ o. absurd (f o))
 
 module _ (ws : List ℕ) (n : ℕ) (k : Nodes ws n) where
-  pub order-child : (childOf ws 0 ≡ 1 → ⊥) → Tells false (Order ws n × Own ws n)
+  pub order-child : (childOf ws 0 ≡ 1 → ⊥) → Tells false (Order ws n)
   unfolding exts
-  order-child f = no-order ws n (λ o. f (o .0 .child 0 (k .some)))
+  order-child f = no-order ws n (λ o. f (o .child 0 (k .some)))
 
-  pub order-base : (baseOf ws 0 ≡ 0 → ⊥) → Tells false (Order ws n × Own ws n)
+  pub order-base : (baseOf ws 0 ≡ 0 → ⊥) → Tells false (Order ws n)
   unfolding ints
-  order-base f = no-order ws n (λ o. f (o .0 .base 0 (k .some)))
+  order-base f = no-order ws n (λ o. f (o .base 0 (k .some)))
 
-  order-up : Order ws n × Own ws n → NodesUpTo ws (n - 1)
+  order-up : Order ws n → NodesUpTo ws (n - 1)
   order-up o = record {
-    child = λ j l. o .0 .child j (omega (arith, k .some));
-    base = λ j l. o .0 .base j (omega (arith, k .some));
-    own = λ j x l. o .1 .each j x (omega (arith, k .some));
+    child = λ j l. o .child j (omega (arith, k .some));
+    base = λ j l. o .base j (omega (arith, k .some));
   }
 
   module _ (r : ℕ) (of : NodesUpTo ws (n - 1) → r ≡ 0) where
-    pub order-faults : (r ≡ 0 → ⊥) → Tells false (Order ws n × Own ws n)
+    pub order-faults : (r ≡ 0 → ⊥) → Tells false (Order ws n)
     order-faults f = no-order ws n (λ o. f (of (order-up o)))
 
   module _ (r : ℕ) (is : r ≡ 0 → NodesUpTo ws (n - 1)) (z : r ≡ 0) (x : ℕ) where
-    pub order-end : x ≡ childOf ws (n - 1) + ones (bitsOf ws (n - 1) / 2 ^ 16) → Tells (eqb x n) (Order ws n × Own ws n)
-    order-end ex = (λ e. forth (eqb-true x n e), λ o. eq-eqb x n (omega (arith, whole, o .0 .whole, later (n - 1) (omega (arith, k .some)), more)))
+    pub order-end : x ≡ childOf ws (n - 1) + ones (bitsOf ws (n - 1) / 2 ^ 16) → Tells (eqb x n) (Order ws n)
+    order-end ex = (λ e. forth (eqb-true x n e), λ o. eq-eqb x n (omega (arith, whole, o .whole, later (n - 1) (omega (arith, k .some)), more)))
       where
         u : NodesUpTo ws (n - 1)
         u = is z
@@ -211,17 +201,14 @@ module _ (ws : List ℕ) (n : ℕ) (k : Nodes ws n) where
             let w = k .over i l in
             omega (arith, w .low, w .high, u .child (w .from) (omega (arith, w .low)), exts-mono ws (w .from) i (w .low))
 
-        forth : x ≡ n → Order ws n × Own ws n
-        forth e = (
-          record {
-            lent = omega (arith, k .lent);
-            whole = omega (arith, whole, e);
-            fewest = later;
-            child = λ i l. u .child i (omega arith);
-            base = λ i l. u .base i (omega arith);
-          },
-          record { each = λ j a b. u .own j a (omega arith) },
-        )
+        forth : x ≡ n → Order ws n
+        forth e = record {
+          lent = omega (arith, k .lent);
+          whole = omega (arith, whole, e);
+          fewest = later;
+          child = λ i l. u .child i (omega arith);
+          base = λ i l. u .base i (omega arith);
+        }
 
 -- ---- the nodes in use
 
@@ -231,9 +218,7 @@ module _ (ws : List ℕ) (n : ℕ) (e : EndsAt ws n) where
     lent = omega arith;
     few = omega arith;
     none = λ z hs. untrue (wellFormed ws hs) (wf hs);
-    some = λ f. absurd
-        (f refl);
-    own = record { each = λ j a b. absurd (omega arith) };
+    some = λ f. absurd (f refl);
   }
 
   -- a well-formed image has n nodes
@@ -252,20 +237,19 @@ module _ (ws : List ℕ) (n : ℕ) (e : EndsAt ws n) where
       few : (hs : List ℕ) → wellFormed ws hs ≡ true → nodesUsed ws ≤ 32769
       few hs t = check-few ws hs (nodesUsed ws) (rw t refl) (λ z. omega (arith, well-formed-is ws hs t .order .whole, z)) narrow .0
 
-  module _ (r : Bool) (t : Tells r (Order ws n × Own ws n)) where
+  module _ (r : Bool) (t : Tells r (Order ws n)) where
     pub shape-not : r ≡ false → NodesShaped ws 0
     shape-not f = no-image (λ hs w.
         let k = well-formed-is ws hs w in
-        true≢false (sym (t .1 (rw (its-nodes hs w) (k .order, formed-own ws (nodesUsed ws) (k .order) (k .root)))) ∙ f))
+        true≢false (sym (t .1 (rw (its-nodes hs w) (k .order))) ∙ f))
 
     pub shape-is : n ≤ 32769 → r ≡ true → NodesShaped ws n
     shape-is few f =
         let o = t .0 f in
-        let u = is-ordered ws n (o .0) in
+        let u = is-ordered ws n o in
         record {
-          lent = omega (arith, o .0 .lent);
+          lent = omega (arith, o .lent);
           few = few;
-          none = λ z. absurd (omega (arith, z, o .0 .whole));
+          none = λ z. absurd (omega (arith, z, o .whole));
           some = λ z. rw (u .1) (sym (u .0));
-          own = o .1;
         }

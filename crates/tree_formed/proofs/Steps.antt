@@ -17,7 +17,7 @@ use Rattle.routes.specs.Input.{hopFine}
 use Rattle.tree_image.specs.Node.{bitsOf, baseOf}
 use Rattle.tree_same.specs.Order.{ints, Order}
 use Rattle.tree_formed.specs.WellFormed.{nodesUsed, ordered, rootOk, hopsIn, hopsOk, hopsFineTo, blankFrom, wellFormed, nodesIf}
-use Rattle.tree_formed.specs.Stretches.{Flagged, Own, NodesShaped, Rooted}
+use Rattle.tree_formed.specs.Bases.{Flagged, NodesShaped, Siblings}
 use Rattle.tree_formed.proofs.Meaning.{not-true, ordered-is, blank-zeros, zeros-blank}
 
 -- ---- hops and zeros
@@ -80,11 +80,12 @@ module _ (ws : List ℕ) (n : ℕ) (s : NodesShaped ws n) (z : n ≡ 0 → ⊥) 
       go (inl t) = (t, sym (rw t at (s .some z)))
       go (inr t) = absurd (z (rw t at (s .some z)))
 
-  pub check-rooted : Rooted ws
-  check-rooted = record {
+  pub check-root-in : Siblings ws 0 1 8
+  check-root-in = record {
     order = its-order .0;
-    own = subst (Own ws) (sym (its-order .1)) (s .own);
+    inside = omega (arith, its-order .1, z);
     few = omega (arith, its-order .1, s .few);
+    deep = omega arith;
   }
 
   pub check-counted : (0 < n) × (3 * n ≤ length ws) × (n ≡ nodesIf (ordered ws) ws)

@@ -1,6 +1,6 @@
 -- When an image is well formed, what its test says, and what that is to mean.
 pub mod WellFormed
-pub mod Stretches
+pub mod Bases
 pub mod Answers
 pub mod Buildable
 pub mod Cases

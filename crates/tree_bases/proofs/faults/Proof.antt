@@ -1,4 +1,4 @@
--- The invariant: nothing was counted exactly where the bases so far are those of the fixed order, and the own bitmaps well formed.
+-- The invariant: nothing was counted exactly where the bases so far are those of the fixed order.
 use Prim.Native.Nat.{_-_, _≤_}
 use native.Mathlib.Omega.{arith}
 use Rattle.tree_formed.proofs.Neighbours.{Faulty, faults-start, faults-next, faults-end}
@@ -17,7 +17,6 @@ loop-holds c = let start : tie.Start Inv-loop μ-loop = search in (omega arith, 
 loop-again : tie.Need-loop-again Inv-loop μ-loop
 loop-again c =
     let kids : tie.After-differ Inv-loop μ-loop = search in
-    let own : tie.After-off-own Inv-loop μ-loop = search in
     let hop : tie.After-wrapping-add-u322 Inv-loop μ-loop = search in
     let after-ones-below : tie.After-ones-below Inv-loop μ-loop = search in
     let child : tie.After-wrapping-add-u32 Inv-loop μ-loop = search in
@@ -28,13 +27,12 @@ loop-again c =
     let start : tie.Start Inv-loop μ-loop = search in
     let inv = at-loop .loop .inv in (
       omega (arith, inv .0, entered .loop-test .taken),
-      faults-next _ (λ j. known .shared-slice-known .given j .fits) _ (omega (arith, inv .0, entered .loop-test .taken, start .pre .few)) _ _ _ _ _ _ _
+      faults-next _ (λ j. known .shared-slice-known .given j .fits) _ (omega (arith, inv .0, entered .loop-test .taken, start .pre .few)) _ _ _ _ _ _
           (record {
             kids = after-children .children .ensures .0;
             own = after-ones-below .ones-below .ensures .0;
             its-child = child .wrapping-add-u32 .ensures;
             its-hop = hop .wrapping-add-u322 .ensures;
-            on-own = own .off-own .ensures;
             on-child = kids .differ .ensures;
             on-hop = c .differ2 .ensures;
           }) _ (inv .1),
@@ -69,11 +67,6 @@ faults-spec =
     (λ c. omega arith)
     (λ c. omega arith)
     (λ c κs. tt)
-    (λ c. omega arith)
-    (λ c. omega arith)
-    (λ c. omega arith)
-    (λ c κs. tt)
-    (λ c. omega arith)
     (λ c. omega arith)
     (λ c. omega arith)
     (λ c. omega arith)

@@ -1,7 +1,7 @@
 -- Each step that fails is one of the parts of `wellFormed`, and where none fails all of them hold.
 use Rattle.tree_formed.proofs.Steps.{
   not-failed,
-  check-rooted,
+  check-root-in,
   check-counted,
   check-none,
   check-root,
@@ -34,7 +34,7 @@ check-spec =
     (tie.spec
     (λ c κs. search needs)
     (λ c. search check-none)
-    (λ c κs. check-rooted _ _ (c .before .shape .ensures) (c .if1 .left))
+    (λ c κs. check-root-in _ _ (c .before .shape .ensures) (c .if1 .left))
     (λ c. search check-root)
     (λ c κs. check-counted _ _ (c .before .before .before .shape .ensures) (c .before .before .if1 .left))
     (λ c. search check-room)

@@ -2,7 +2,7 @@
 use mathlib.Core.Path.{refl}
 use native.Mathlib.Omega.{arith}
 use Rattle.routes.proofs.Meaning.{hop-true, true-hop}
-use Rattle.tree_formed.proofs.Stretches.{flag-on, flag-off}
+use Rattle.tree_formed.proofs.NodeTests.{flag-on, flag-off}
 use Rattle.tree_check.proofs.off_hop.Statement.{statement}
 use Rattle.tree_check.proofs.off_hop.Tie as tie
 

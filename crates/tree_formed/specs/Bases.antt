@@ -1,10 +1,10 @@
--- What the functions of the test ask for and tell: of the bases, and of stretches of nodes, whose child arrays stand side by side in the fixed order.
+-- What the functions of the test ask for and answer: of the bases, and of nodes and their child arrays on the way down from the root.
 use mathlib.Core.Bool.{true, false}
 use mathlib.Core.List.{List}
 use mathlib.Core.Path.{_≡_}
 use Prim.Native.Nat.{ℕ, _+_, _*_, _≤_, _<_}
 use lib.ListN.{length, getD}
-use Rattle.tree_image.specs.Node.{bitsOf, childOf, baseOf, isSet}
+use Rattle.tree_image.specs.Node.{childOf, baseOf}
 use Rattle.tree_same.specs.Order.{exts, ints, Order}
 use Rattle.tree_formed.specs.WellFormed.{nodesUsed, ordered, wellFormed, nodesIf}
 
@@ -15,15 +15,6 @@ pub record Flagged (r : ℕ) (P : Type 0) : Type 0 where
   pub is : r ≡ 0 → P
   pub of : P → r ≡ 0
   pub one : r ≤ 1
-
--- a node other than the root has some bit, and not bit 15
-pub record OwnBits (word : ℕ) : Type 0 where
-  pub some : word ≡ 0 → ⊥
-  pub high : isSet word 15 ≡ false
-
--- so have all of the first n nodes but the root
-pub record Own (ws : List ℕ) (n : ℕ) : Type 0 where
-  pub each : (j : ℕ) → 0 < j → j < n → OwnBits (bitsOf ws j)
 
 -- node j stands between some node and its children
 pub record PassedOver (ws : List ℕ) (j : ℕ) : Type 0 where
@@ -50,38 +41,23 @@ pub record Begun (ws : List ℕ) (m : ℕ) : Type 0 where
   pub child : childOf ws 0 ≡ 1
   pub base : baseOf ws 0 ≡ 0
 
--- the bases of the nodes up to node i are those of the fixed order, and their own bitmaps are well formed
+-- the bases of the nodes up to node i are those of the fixed order
 pub record NodesUpTo (ws : List ℕ) (i : ℕ) : Type 0 where
   pub child : (j : ℕ) → j ≤ i → childOf ws j ≡ 1 + exts ws j
   pub base : (j : ℕ) → j ≤ i → baseOf ws j ≡ ints ws j
-  pub own : (j : ℕ) → 0 < j → j ≤ i → OwnBits (bitsOf ws j)
 
--- r is the number of nodes in use, the bases are those of the fixed order and own bitmaps well formed; or r is 0, and the words are those of no image
+-- r is the number of nodes in use, and the bases are those of the fixed order; or r is 0, and the words are those of no image
 pub record NodesShaped (ws : List ℕ) (r : ℕ) : Type 0 where
   pub lent : 3 * r ≤ length ws
   pub few : r ≤ 32769
   pub none : r ≡ 0 → (hs : List ℕ) → wellFormed ws hs ≡ false
   pub some : (r ≡ 0 → ⊥) → r ≡ nodesIf (ordered ws) ws
-  pub own : Own ws r
 
--- ---- stretches
+-- ---- the way down
 
--- n nodes from `first` on, of those in use and without the root, where the bases are in order and all own bitmaps well formed
-pub record Stretch (ws : List ℕ) (first n left : ℕ) : Type 0 where
+-- n nodes from `first` on, of those in use, with `left` levels of nodes below them, where the bases are those of the fixed order
+pub record Siblings (ws : List ℕ) (first n left : ℕ) : Type 0 where
   pub order : ordered ws ≡ true
-  pub own : Own ws (nodesUsed ws)
-  pub after : 0 < first
   pub inside : first + n ≤ nodesUsed ws
   pub few : nodesUsed ws ≤ 32769
   pub deep : left ≤ 8
-
--- as many nodes are lent
-pub record StretchLent (ws : List ℕ) (first n : ℕ) : Type 0 where
-  pub lent : 3 * (first + n) ≤ length ws
-  pub few : first + n ≤ 32769
-
--- what is asked of the test from the root down
-pub record Rooted (ws : List ℕ) : Type 0 where
-  pub order : ordered ws ≡ true
-  pub own : Own ws (nodesUsed ws)
-  pub few : nodesUsed ws ≤ 32769
