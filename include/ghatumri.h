@@ -61,7 +61,7 @@
  *   gh_report        bits 16 to 31: routes; 32 to 47: need for second chunks; 48 to 63: need for third chunks
  *   gh_lookup        bits 8 to 15: cells read; 16 to 31: hop, 0 for no route
  *   gh_lookup_many   0; each word of out: the low 32 bits of what gh_lookup answers
- *   gh_step          as gh_lookup
+ *   gh_step, gh_pair_step  as gh_lookup
  *   gh_forward       as gh_lookup; with a hop, bits 32 to 47: its port
  *   gh_count         the same, of what found has
  *   gh_pair_make, gh_pair_load, gh_pair_announce, gh_pair_withdraw, gh_pair_report, gh_pair_lookup
@@ -588,6 +588,24 @@ uint64_t gh_pair_lookup(uint32_t p1, uint32_t p2, uint32_t count_one, uint32_t c
                         const uint16_t *long2, size_t long2_len,
                         uint32_t party, uint32_t addr);
 
+/* Takes an IPv4 packet one step on its way, by the party's lookup: as gh_step. Refusals: 19 to 22, then those of
+ * gh_pair_lookup. */
+GH_CALL
+uint64_t gh_pair_step(uint32_t p1, uint32_t p2, uint32_t count_one, uint32_t count_two,
+                      uint32_t most2_one, uint32_t most3_one, uint32_t most2_two, uint32_t most3_two,
+                      const uint8_t *list1, size_t list1_len,
+                      const uint16_t *first1, size_t first1_len,
+                      const uint16_t *long11, size_t long11_len,
+                      const uint8_t *list2, size_t list2_len,
+                      const uint16_t *first2, size_t first2_len,
+                      const uint16_t *long12, size_t long12_len,
+                      const uint16_t *second, size_t second_len,
+                      const uint16_t *third, size_t third_len,
+                      const uint32_t *own2, size_t own2_len,
+                      const uint32_t *own3, size_t own3_len,
+                      const uint16_t *long2, size_t long2_len,
+                      uint32_t party, uint8_t *GH_RESTRICT packet, size_t packet_len);
+
 /* ---- Calls on tree images -------------------------------------------------------------------------------------- */
 
 /* Builds the tree image of a record input. Words and hops after the last used become zero. Images in arrays of equal
@@ -913,6 +931,13 @@ GH_CALL
 static inline uint64_t gh_box_lookup(const struct gh_pair *b, uint32_t party, uint32_t addr)
 {
     return gh_pair_lookup(GH_PAIR_STATE(b), GH_PAIR_LENT(b), party, addr);
+}
+
+/* As gh_pair_step. */
+GH_CALL
+static inline uint64_t gh_box_step(const struct gh_pair *b, uint32_t party, uint8_t *GH_RESTRICT packet, size_t packet_len)
+{
+    return gh_pair_step(GH_PAIR_STATE(b), GH_PAIR_LENT(b), party, packet, packet_len);
 }
 
 #ifdef __cplusplus

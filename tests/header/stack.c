@@ -58,6 +58,7 @@ static uint64_t pair_announce(void) { return gh_box_announce(&b, GH_PARTY_TWO, h
 static uint64_t pair_withdraw(void) { return gh_box_withdraw(&b, GH_PARTY_TWO, here, 32); }
 static uint64_t pair_report(void) { return gh_box_report(&b, GH_PARTY_TWO); }
 static uint64_t pair_lookup(void) { return gh_box_lookup(&b, GH_PARTY_TWO, here); }
+static uint64_t pair_step(void) { return gh_box_step(&b, GH_PARTY_TWO, packet, sizeof packet); }
 static uint64_t build(void) { return gh_build(input, sizeof input, words, GH_ELEMENTS(words), hops, N); }
 static uint64_t tree_lookup(void) { return gh_tree_lookup(words, GH_ELEMENTS(words), hops, N, here); }
 #define IMAGE step_words, GH_ELEMENTS(step_words), step_hops, STEPS
@@ -124,6 +125,7 @@ int main(void)
         { "pair_make", pair_make, GH_STACK, 0 }, { "pair_load", pair_load, GH_STACK_PAIR, 0 },
         { "pair_withdraw", pair_withdraw, GH_STACK_PAIR, 0 }, { "pair_announce", pair_announce, GH_STACK_PAIR, 0 },
         { "pair_report", pair_report, GH_STACK_PAIR, 0 }, { "pair_lookup", pair_lookup, GH_STACK, 0 },
+        { "pair_step", pair_step, GH_STACK, 0 },
     };
     for (uint32_t k = 0; k < N; k++)
         put_record(input + GH_RECORD_BYTES * k, k << 20 | 77, 32, 9);

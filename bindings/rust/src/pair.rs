@@ -85,6 +85,16 @@ impl<'a> PairRef<'a> {
         Answer::new(raw::pair_lookup(self, party as u32, u32::from(addr.into()))).found()
     }
 
+    /// Takes a packet one step on its way, by the party's lookup: as [`TableRef::step`](crate::TableRef::step).
+    ///
+    /// # Errors
+    ///
+    /// 19, 20, 21, 22, then those of [`lookup`](PairRef::lookup).
+    #[inline]
+    pub fn step(&self, party: Party, packet: &mut [u8]) -> Result<Found, Refusal> {
+        Answer::new(raw::pair_step(self, party as u32, packet)).found()
+    }
+
     /// The party's standing routes as a record input.
     #[must_use]
     pub fn records(&self, party: Party) -> &'a [u8] {
@@ -123,6 +133,16 @@ macro_rules! pair_reads {
         #[inline]
         pub fn lookup(&self, party: Party, addr: impl Into<Ipv4Addr>) -> Result<Found, Refusal> {
             self.view().lookup(party, addr)
+        }
+
+        /// As [`PairRef::step`].
+        ///
+        /// # Errors
+        ///
+        /// 19, 20, 21, 22, 1, 2, 5.
+        #[inline]
+        pub fn step(&self, party: Party, packet: &mut [u8]) -> Result<Found, Refusal> {
+            self.view().step(party, packet)
         }
 
         /// As [`PairRef::records`].

@@ -243,6 +243,12 @@ pub fn pair_lookup(b: &PairRef, party: u32, addr: u32) -> u64 {
     unsafe { lend_pair!(sys::gh_pair_lookup, b, (party, addr)) }
 }
 
+#[inline]
+#[must_use]
+pub fn pair_step(b: &PairRef, party: u32, packet: &mut [u8]) -> u64 {
+    unsafe { lend_pair!(sys::gh_pair_step, b, (party, packet.as_mut_ptr(), packet.len())) }
+}
+
 #[must_use]
 pub fn build(input: &[u8], words: &mut [u32], hops: &mut [u16]) -> u64 {
     let (w, h) = (words.len(), hops.len());

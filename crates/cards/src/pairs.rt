@@ -4,6 +4,7 @@ ghost use mathlib.Core.Path.{_≡_};
 ghost use Rattle.sail.specs.Word.{packFound};
 ghost use Rattle.sail_theory.specs.Calls.{route};
 ghost use Rattle.packing.specs.Pack.{packReport};
+ghost use Rattle.packets.specs.Contract.{MeetsPairStep};
 ghost use Rattle.pair.specs.Party.{one, partyOf};
 ghost use Rattle.pair.specs.PairLent.{pairLent};
 ghost use Rattle.pair.specs.PairCalls.{pairMade, pairAnnounced, pairWithdrawn, pairLoaded, pairReported, pairLookupSaid};
@@ -409,4 +410,62 @@ pub extern "C" fn gh_pair_lookup(
         is_second(party),
         addr,
     ) as u64
+}
+
+// A packet's header is checked and its destination looked up in the party's table; with a hop its time to live is lowered and its
+// checksum mended.
+#[no_mangle]
+pub extern "C" fn gh_pair_step(
+    p1: u32,
+    p2: u32,
+    count_one: u32,
+    count_two: u32,
+    most2_one: u32,
+    most3_one: u32,
+    most2_two: u32,
+    most3_two: u32,
+    list1: &[u8],
+    first1: &[u16],
+    long11: &[u16],
+    list2: &[u8],
+    first2: &[u16],
+    long12: &[u16],
+    second: &[u16],
+    third: &[u16],
+    own2: &[u32],
+    own3: &[u32],
+    long2: &[u16],
+    party: u32,
+    packet: &mut [u8],
+) -> u64
+    ensures { λ r. ⌜ MeetsPairStep (partyAt party) (pairStateOf p1 p2 «count_one» «count_two» «most2_one» «most3_one» «most2_two» «most3_two»)
+        (pairLent (now (list1 .entry)) (now (first1 .entry)) (now (long11 .entry)) (now (list2 .entry)) (now (first2 .entry)) (now (long12 .entry))
+        (now (second .entry)) (now (third .entry)) (now (own2 .entry)) (now (own3 .entry)) (now (long2 .entry))) (now (packet .entry)) r
+        (now (packet .exit)) ⌝ }
+{
+    packets::pairs::step(
+        state(
+            p1,
+            p2,
+            count_one,
+            count_two,
+            most2_one,
+            most3_one,
+            most2_two,
+            most3_two,
+        ),
+        list1,
+        first1,
+        long11,
+        list2,
+        first2,
+        long12,
+        second,
+        third,
+        own2,
+        own3,
+        long2,
+        is_second(party),
+        packet,
+    )
 }

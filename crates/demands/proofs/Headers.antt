@@ -20,9 +20,13 @@ use Rattle.header.specs.Step.{StepOut, destination, stepped}
 use Rattle.header.specs.Cases.{FineHeader, SameHeader}
 use Rattle.header.proofs.Steps as steps
 use Rattle.header.proofs.Steps.{destination-small, lowered-differs, refused-no-hop, fine-said, fine-lowered, hop-lowers, no-hop-leaves}
-use Rattle.packets.specs.Contract.{MeetsStep}
-use Rattle.packets.specs.Cases.{Stepping}
-use Rattle.packets.proofs.Judged.{stepping-judged, stepping-only}
+use Rattle.pair.specs.Party.{Party}
+use Rattle.pair.specs.PairLent.{PairLent}
+use Rattle.pair.specs.PairCalls.{pairLookupSaid}
+use Rattle.pair.specs.declared.Pair.{Pair}
+use Rattle.packets.specs.Contract.{MeetsStep, MeetsPairStep}
+use Rattle.packets.specs.Cases.{Stepping, PairStepping}
+use Rattle.packets.proofs.Judged.{stepping-judged, stepping-only, pair-stepping-judged, pair-stepping-only}
 use Rattle.packets.proofs.OneAnswer as answer
 use Rattle.demands.specs.Covered.{Covered}
 use Rattle.demands.proofs.Demand2.{sail-serves}
@@ -106,3 +110,27 @@ module _ (t : Table) (l : Lent) (p : List ℕ) where
         go : done .packet ≢ p → (hasHop (done .said) ≡ true) ⊎ (hasHop (done .said) ≡ false) → FineHeader p × Reached
         go n (inl e) = let h = hop-lowers look p e .0 in (h, hop-covered (ap hasHop (sym (fine-said look p h)) ∙ e))
         go n (inr e) = absurd (n (no-hop-leaves look p e))
+
+-- The same of a party's step in a box of two (request j): the laws are over any lookup.
+module _ (w : Party) (t : Pair) (b : PairLent) (p : List ℕ) where
+  abbrev its-look : ℕ → Said
+  its-look = pairLookupSaid w t b
+
+  abbrev its-done : StepOut
+  its-done = stepped its-look p
+
+  pub refused-number-pair-step : (s : Said) → (its-done .said ≡ s) ↔ PairStepping w t b p s
+  refused-number-pair-step = exactly (PairStepping w t b p) _ _ refl (pair-stepping-judged w t b p) (pair-stepping-only w t b p)
+
+  pub refused-leaves-all-pair-step : accepts (its-done .said) ≡ false → its-done .packet ≡ p
+  refused-leaves-all-pair-step e = no-hop-leaves its-look p (refused-no-hop (its-done .said) e)
+
+  pub one-answer-pair-step : (r s : ℕ) (q u : List ℕ) → MeetsPairStep w t b p r q → MeetsPairStep w t b p s u → (r ≡ s) × (q ≡ u)
+  one-answer-pair-step = answer.one-answer-pair-step w t b p
+
+  pub pair-step-frame : (j : ℕ) → j ≢ 8 → j ≢ 10 → j ≢ 11 → getD (its-done .packet) j 0 ≡ getD p j 0
+  pair-step-frame = steps.step-frame its-look p
+
+  pub pair-step-mends : Packet p → hasHop (its-done .said) ≡ true
+      → (getD (its-done .packet) 8 0 ≡ getD p 8 0 - 1) × (rightSum (its-done .packet) ≡ true) × (halfOf (its-done .packet) 5 ≡ freshSum (its-done .packet))
+  pair-step-mends = steps.step-mends its-look p

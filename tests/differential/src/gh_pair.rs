@@ -4,7 +4,7 @@ use crate::gh::Fenced;
 #[cfg(feature = "pair_forward")]
 use crate::gh::Records;
 use differential::pair::{Arrays, Own, Share, State};
-use ghatumri::{raw, Geometry, PairMut, PairRef};
+use ghatumri::{raw, Geometry, Limits, OwnMut, OwnRef, PairMut, PairRef};
 
 /// What a party has for itself, as lent to the library.
 struct Three {
@@ -23,6 +23,26 @@ impl Three {
         self.list.set(&own.list);
         self.first.set(&own.first);
         self.long1.set(&own.long1);
+    }
+
+    fn lend(&self, share: &Share) -> OwnRef<'_> {
+        OwnRef {
+            count: share.count,
+            limits: limits(share),
+            list: &self.list,
+            first: &self.first,
+            long1: &self.long1,
+        }
+    }
+
+    fn lend_mut(&mut self, share: &Share) -> OwnMut<'_> {
+        OwnMut {
+            count: share.count,
+            limits: limits(share),
+            list: &mut self.list,
+            first: &mut self.first,
+            long1: &mut self.long1,
+        }
     }
 
     fn differs(&self, names: [&str; 3], should: &Own) -> Option<String> {
@@ -81,14 +101,8 @@ impl Eleven {
         let [one, two] = &self.own;
         PairRef {
             geometry: Geometry { p1: s.p1, p2: s.p2 },
-            one: share(&s.shares[0]),
-            two: share(&s.shares[1]),
-            list1: &one.list,
-            first1: &one.first,
-            long11: &one.long1,
-            list2: &two.list,
-            first2: &two.first,
-            long12: &two.long1,
+            one: one.lend(&s.shares[0]),
+            two: two.lend(&s.shares[1]),
             second: &self.second,
             third: &self.third,
             own2: &self.own2,
@@ -101,14 +115,8 @@ impl Eleven {
         let [one, two] = &mut self.own;
         PairMut {
             geometry: Geometry { p1: s.p1, p2: s.p2 },
-            one: share(&s.shares[0]),
-            two: share(&s.shares[1]),
-            list1: &mut one.list,
-            first1: &mut one.first,
-            long11: &mut one.long1,
-            list2: &mut two.list,
-            first2: &mut two.first,
-            long12: &mut two.long1,
+            one: one.lend_mut(&s.shares[0]),
+            two: two.lend_mut(&s.shares[1]),
             second: &mut self.second,
             third: &mut self.third,
             own2: &mut self.own2,
@@ -118,8 +126,8 @@ impl Eleven {
     }
 }
 
-fn share(&Share { count, most2, most3 }: &Share) -> ghatumri::Share {
-    ghatumri::Share { count, most2, most3 }
+fn limits(share: &Share) -> Limits {
+    Limits { second: share.most2, third: share.most3 }
 }
 
 pub fn make(s: &State, t: &mut Eleven) -> u64 {
