@@ -125,18 +125,6 @@ pub reads-counted : (t : Table) (l : Lent) (a : ℕ) → Sized (t .geometry) l �
     → (n : ℕ) (vs : List ℕ) → lookupSaid t l a ≡ accepted (n ∷ vs) → Reads (t .geometry) l a n
 reads-counted t l a s h n vs e = found-reads (t .geometry) l a s h n vs (sym (look-walks t l a s) ∙ e)
 
--- one number of cells is read: a cell that is read and one that is not are told apart
-pub reads-once : (g : Geometry) (l : Lent) (a m n : ℕ) → Reads g l a m → Reads g l a n → m ≡ n
-reads-once g l a _ _ (one f s t) (one f′ s′ t′) = refl
-reads-once g l a _ _ (one f s t) (two f′ s′ t′) = absurd (s (s′ .at) (s′ .is))
-reads-once g l a _ _ (one f s t) (three f′ s′ t′) = absurd (s (s′ .at) (s′ .is))
-reads-once g l a _ _ (two f s t) (one f′ s′ t′) = absurd (s′ (s .at) (s .is))
-reads-once g l a _ _ (two f s t) (two f′ s′ t′) = refl
-reads-once g l a _ _ (two f s t) (three f′ s′ t′) = absurd (t (t′ .at) (t′ .is))
-reads-once g l a _ _ (three f s t) (one f′ s′ t′) = absurd (s′ (s .at) (s .is))
-reads-once g l a _ _ (three f s t) (two f′ s′ t′) = absurd (t′ (t .at) (t .is))
-reads-once g l a _ _ (three f s t) (three f′ s′ t′) = refl
-
 -- Two tables that hold the same in the cells that an address reads say the same of it: as the cells read are the same, each leads the walk on
 -- to the same place, and what is not read does not come up.
 module _ (g : Geometry) (l u : Lent) (a : ℕ) (same : SameRead g l u a) where

@@ -1,5 +1,5 @@
 -- What the calls of a run say, and which routes stand after it, by the routes alone: no cell and no owner is asked (`run-says` and `run-stood`,
--- proofs/runs/Replies.antt).
+-- proofs/Replies.antt).
 use mathlib.Core.Bool.{true, cond}
 use mathlib.Core.List.{List, [], _∷_}
 use Rattle.bits.specs.Count.{bit}
