@@ -13,4 +13,4 @@ pub mod Pairs
 pub mod OneImage
 pub mod HopRecords
 pub mod Messages
-pub mod Reads
+pub mod LookedAt

@@ -1,3 +1,3 @@
 -- What the demands speak of beyond the definitions of the calls.
 pub mod Covered
-pub mod Reads
+pub mod LookedAt

@@ -25,7 +25,7 @@ use Rattle.tree_image.specs.Node.{nibbleOf}
 use Rattle.tree_image.specs.Walk.{treeSaid}
 use Rattle.tree_image.specs.declared.Place.{Place}
 use Rattle.tree_image.proofs.Judged.{tree-judged, tree-only}
-use Rattle.demands.specs.Reads.{InCells, AfterNodes, cellBits, nodeBits}
+use Rattle.demands.specs.LookedAt.{InCells, AfterNodes, cellBits, nodeBits}
 
 -- the numbers, in the standard geometry and in an image
 pub cell-bits : (cellBits standardGeo 1 ≡ 16) × (cellBits standardGeo 2 ≡ 24) × (cellBits standardGeo 3 ≡ 32)
