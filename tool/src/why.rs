@@ -5,7 +5,7 @@ use crate::form::{File, Form, Lent};
 use crate::json::Object;
 use crate::stop::{Done, Stop};
 use crate::walk::{agree_image, agree_table, cells, nodes, nodes_read, Cell, Content, Node, Prefix};
-use ghatumri::{is_broadcast, route, routes, run, Image, Mark, Route, Rule, Table};
+use ghatumri::{is_broadcast, longest, route, routes, run, Image, Mark, Route, Rule, Table};
 use std::net::Ipv4Addr;
 
 pub fn why(addr: Ipv4Addr, file: &File, lent: &Lent) -> Done<Answer> {
@@ -57,7 +57,8 @@ fn list(file: &File) -> Done<Option<Vec<u8>>> {
     }
 }
 
-/// The routes that cover an address, the longest first: each prefix of it that heads its own run.
+/// The routes that cover an address, the longest first: each prefix of it that heads its own run. The first is the one that the library names
+/// as the longest.
 fn covering(list: &[u8], addr: Ipv4Addr) -> Vec<Route> {
     let heads = |len: u8| {
         let prefix = Prefix::of(addr.into(), len.into());
@@ -67,10 +68,19 @@ fn covering(list: &[u8], addr: Ipv4Addr) -> Vec<Route> {
     (0..=32).rev().filter_map(heads).collect()
 }
 
+/// Compares the routes that were found with the longest one by the library.
+fn agree_longest(best: Option<Route>, covering: &[Route]) -> Done<()> {
+    if best != covering.first().copied() {
+        return Err(Stop::Disagreement("the routes that cover the address do not begin with the longest".into()));
+    }
+    Ok(())
+}
+
 /// What the list gives: the longest route that covers the address, the shorter ones, and directed broadcasts.
 fn headline(answer: &mut Answer, addr: Ipv4Addr, list: Option<&[u8]>, marks: bool) -> Done<Option<u16>> {
     let covering = list.map_or(Vec::new(), |list| covering(list, addr));
-    let best = covering.first().copied();
+    let best = list.and_then(|list| longest(list, addr).ok().flatten());
+    agree_longest(best, &covering)?;
     let attached = best.filter(|_| marks).map(|r| r.mark == Mark::Attached);
     match (best, list) {
         (Some(r), _) => {
@@ -189,4 +199,20 @@ fn node_object(n: &Node) -> Object {
 /// The routes of a list that the library has accepted.
 pub fn accepted(name: &str, list: &[u8]) -> Done<Vec<Route>> {
     routes(list).map(Iterator::collect).map_err(|r| Stop::refused(name, r, r.meaning()))
+}
+
+#[cfg(test)]
+mod tests {
+    use super::*;
+
+    #[test]
+    fn another_longest_route_disagrees() {
+        let [short, long] = ["10.0.0.0/8 20", "10.1.0.0/16 31"].map(|line| line.parse::<Route>().unwrap());
+        let list: Vec<u8> = [short, long].iter().flat_map(Route::record).collect();
+        let found = covering(&list, [10, 1, 2, 3].into());
+        assert_eq!(found, [long, short]);
+        assert_eq!(agree_longest(Some(long), &found), Ok(()));
+        assert_eq!(agree_longest(Some(short), &found).unwrap_err().status(), 3);
+        assert_eq!(agree_longest(None, &found).unwrap_err().status(), 3);
+    }
 }
