@@ -1,4 +1,4 @@
-//! The forms of a file, told apart by content, and the routes of each.
+//! The forms of a file, recognised by content, and the routes of each.
 
 use crate::snapshot::{self, Boxed};
 use crate::stop::{Done, Stop};
@@ -89,7 +89,7 @@ fn accepted(name: &str, input: Vec<u8>) -> Done<Vec<u8>> {
     }
 }
 
-/// What the refusal of a record input means there: the three meanings of 10 and the two of 3 are told apart by asking the
+/// What the refusal of a record input means there: the three meanings of 10 and the two of 3 are distinguished by asking the
 /// library about the record alone.
 pub fn meaning(input: &[u8], refusal: Refusal) -> String {
     let at = refusal.index.unwrap_or(0) as usize;
@@ -113,7 +113,7 @@ pub fn meaning(input: &[u8], refusal: Refusal) -> String {
     }
 }
 
-/// Whether a length is refused by itself: that of a prefix with no bit set.
+/// Whether a length alone is refused, with no bit set in the prefix.
 pub fn over(len: u8) -> bool {
     run(&[], [0; 4], len).is_err()
 }

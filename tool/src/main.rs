@@ -1,6 +1,6 @@
 //! `ghatumri`: one command for lists, tables and images.
 //!
-//! No hop, need, count or route that it prints is worked out here: the library answers it. Where the command points at a
+//! No hop, need, count or route that it prints is worked out here: the library answers it. If the command points at a
 //! cell, a node or a record itself, it compares what it found with what the library answered, and a disagreement ends
 //! with status 3. Status 0 is a yes, 1 a no or a refusal, 2 a question that could not be asked.
 #![forbid(unsafe_code)]

@@ -70,7 +70,7 @@ fn bytes(t: &Table) -> usize {
     t.list.len() + 2 * halves + 4 * (t.own2.len() + t.own3.len())
 }
 
-/// The chunks of a pool that have an owner, and the cell that each owner stands for.
+/// The chunks of a pool that have an owner, and the cell that the owner number means.
 fn owners(own: &[u32]) -> impl Iterator<Item = (usize, usize)> + '_ {
     own.iter().enumerate().filter_map(|(k, &owner)| Some((k + 1, (owner as usize).checked_sub(1)?)))
 }
@@ -98,7 +98,7 @@ fn third(t: &Table) -> Vec<Owned> {
     owners(&t.own3).filter_map(owned).collect()
 }
 
-/// As many chunks have an owner as the report says are needed.
+/// As many chunks have an owner as the report gives as the need.
 fn agree_needs(pool: &str, owned: usize, need: u16) -> Done<()> {
     if owned != usize::from(need) {
         return Err(Stop::Disagreement(format!("{owned} {pool} chunks have an owner, and {need} are needed")));

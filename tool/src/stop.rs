@@ -30,7 +30,7 @@ pub enum Stop {
 pub type Done<T> = Result<T, Stop>;
 
 impl Stop {
-    /// A refusal with a meaning of its own.
+    /// A refusal, and what it means here.
     pub fn refused(file: &str, refusal: Refusal, meaning: impl Into<String>) -> Stop {
         Stop::Refused { file: file.into(), number: refusal.number(), index: refusal.index, meaning: meaning.into() }
     }

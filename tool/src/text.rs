@@ -87,7 +87,7 @@ fn bits_set(prefix: &str, meant: Option<Route>) -> String {
     format!("a bit is set after the length: {prefix}{meant}")
 }
 
-/// The route that an announcement makes of these, on a table of its own.
+/// The route that an announcement makes of these, on an empty table.
 fn announced(addr: Ipv4Addr, len: u8, hop: u16, mark: Mark) -> Option<Route> {
     let mut table = Table::new(Geometry::SMALL, 1, 1, 1).ok()?;
     table.announce(addr, len, hop, mark).ok()?;

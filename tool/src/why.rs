@@ -97,8 +97,8 @@ fn headline(answer: &mut Answer, addr: Ipv4Addr, list: Option<&[u8]>, marks: boo
         answer.line(format!("  also covered by {shorter}"));
     }
     let rules = [(Rule::Older, "older"), (Rule::Newer, "newer")];
-    let says = |rule| list.is_some_and(|list| is_broadcast(rule, list, addr) == Ok(true));
-    let broadcast: Vec<&str> = rules.into_iter().filter(|&(rule, _)| says(rule)).map(|(_, name)| name).collect();
+    let applies = |rule| list.is_some_and(|list| is_broadcast(rule, list, addr) == Ok(true));
+    let broadcast: Vec<&str> = rules.into_iter().filter(|&(rule, _)| applies(rule)).map(|(_, name)| name).collect();
     match broadcast.as_slice() {
         [] => {}
         [rule] => answer.line(format!("  directed broadcast by the {rule} rule")),

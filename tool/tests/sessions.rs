@@ -1,5 +1,5 @@
 //! Transcripts are played, those of `tests/sessions` and the examples of the man page: `$ COMMAND`, what it prints on standard output and
-//! standard error, and `[STATUS]` if that is not 0. A session has a folder of its own, which holds the files of `tests/sessions/files`.
+//! standard error, and `[STATUS]` if that is not 0. Each session has its own folder with the files of `tests/sessions/files`.
 
 mod common;
 

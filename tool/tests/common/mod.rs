@@ -1,4 +1,4 @@
-//! Running the command in a folder of its own.
+//! Running the command in a temporary folder.
 #![allow(dead_code)]
 
 use differential::gen::{Field, Rng};
