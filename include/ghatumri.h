@@ -75,6 +75,7 @@
  *   gh_run           bits 16 to 31: first record of the run; 32 to 47: records in it
  *   gh_tally         0
  *   gh_route         bits 8 to 14: length; 15: mark; 16 to 31: hop; 32 to 63: address; no record of that index: all 0
+ *   gh_longest       as gh_route; no route covers the address: all 0
  *   gh_broadcast     bit 8: the address is a directed broadcast
  *   gh_update        bits 16 to 31: routes after the call; 32 to 63: entries. 6, 7, 8: the number, bit 8, and both as well,
  *                    the entries being those dealt with before. Entries are exact for fields of less than 4 GiB together
@@ -268,15 +269,15 @@ static inline const char *gh_meaning(unsigned number)
 #define GH_NEED_SECOND(a)  ((unsigned)((a) >> 32 & 0xffff))       /* gh_report */
 #define GH_NEED_THIRD(a)   ((unsigned)((a) >> 48 & 0xffff))       /* gh_report */
 #define GH_READS(a)        ((unsigned)((a) >> 8 & 0xff))          /* gh_lookup, gh_step: cells read; gh_tree_lookup: as above */
-#define GH_HOP(a)          ((unsigned)((a) >> 16 & 0xffff))       /* lookups and gh_route: hop, 0 for none */
+#define GH_HOP(a)          ((unsigned)((a) >> 16 & 0xffff))       /* lookups, gh_route, gh_longest: hop, 0 for none */
 #define GH_PORT(a)         ((unsigned)((uint64_t)(a) >> 32 & 0xffff)) /* gh_forward, gh_count: the port of that hop */
 #define GH_HOPS(a)         ((unsigned)((a) >> 16 & 0xffff))       /* gh_build; test and changes of an image */
 #define GH_NODES(a)        ((uint32_t)((a) >> 32))                /* the same */
 #define GH_RUN_FIRST(a)    ((unsigned)((a) >> 16 & 0xffff))       /* gh_run */
 #define GH_RUN_RECORDS(a)  ((unsigned)((a) >> 32 & 0xffff))       /* gh_run */
-#define GH_ROUTE_LEN(a)    ((unsigned)((a) >> 8 & 0x7f))          /* gh_route */
-#define GH_ROUTE_MARK(a)   ((unsigned)((a) >> 15 & 1))            /* gh_route */
-#define GH_ROUTE_ADDR(a)   ((uint32_t)((a) >> 32))                /* gh_route */
+#define GH_ROUTE_LEN(a)    ((unsigned)((a) >> 8 & 0x7f))          /* gh_route, gh_longest */
+#define GH_ROUTE_MARK(a)   ((unsigned)((a) >> 15 & 1))            /* gh_route, gh_longest */
+#define GH_ROUTE_ADDR(a)   ((uint32_t)((a) >> 32))                /* gh_route, gh_longest */
 #define GH_BROADCAST(a)    ((unsigned)((a) >> 8 & 1))             /* gh_broadcast */
 
 /* ---- Calls on tables ------------------------------------------------------------------------------------------- */
@@ -672,6 +673,10 @@ uint64_t gh_route(const uint8_t *input, size_t input_len, uint32_t index);
 GH_CALL
 uint64_t gh_write_field(const uint8_t *GH_RESTRICT input, size_t input_len,
                         uint8_t *GH_RESTRICT out, size_t out_len);
+
+/* Reads the longest record of an input that covers an address. Refusals: the input's. */
+GH_CALL
+uint64_t gh_longest(const uint8_t *input, size_t input_len, uint32_t addr);
 
 /* Tells whether an address is a directed broadcast: the longest route that covers it is attached, the address is the
  * highest one of that route, and the route has at most 31 bits where version is GH_OLDER_RULE, at most 30 where it is

@@ -201,6 +201,18 @@ static void inputs(void)
     CHECK(gh_route(list_a, sizeof list_a, 5), 0);
     CHECK(gh_route(rows, sizeof rows, 65536 + 4), 0);
 
+    a = gh_longest(list_a, sizeof list_a, IP(10, 1, 2, 200));
+    CHECK(GH_NUMBER(a), 0);
+    CHECK(GH_ROUTE_ADDR(a), IP(10, 1, 2, 128));
+    CHECK(GH_ROUTE_LEN(a), 25);
+    CHECK(GH_HOP(a), 57);
+    a = gh_longest(list_a, sizeof list_a, IP(10, 1, 2, 127));
+    CHECK(GH_ROUTE_ADDR(a), IP(10, 1, 2, 0));
+    CHECK(GH_ROUTE_LEN(a), 24);
+    CHECK(GH_HOP(a), 44);
+    CHECK(GH_HOP(gh_longest(list_a, sizeof list_a, IP(192, 0, 2, 1))), 6);
+    CHECK(gh_longest(rows, sizeof rows, IP(192, 0, 2, 1)), 0);
+
     uint32_t counts[GH_TALLY_WORDS];
     CHECK(gh_tally(list_a, sizeof list_a, counts, GH_TALLY_WORDS), 0);
     for (unsigned len = 0; len <= GH_MOST_LENGTH; len++)

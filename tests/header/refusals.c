@@ -178,6 +178,8 @@ static uint64_t with_input(int call, const uint8_t *input, size_t len)
         return answer;
     case 4:
         return gh_route(input, len, 0);
+    case 5:
+        return gh_longest(input, len, 0);
     default:
         return gh_broadcast(GH_OLDER_RULE, input, len, 0);
     }
@@ -185,7 +187,7 @@ static uint64_t with_input(int call, const uint8_t *input, size_t len)
 
 static void record_inputs(void)
 {
-    for (int call = 0; call < 6; call++) {
+    for (int call = 0; call < 7; call++) {
         uint8_t bad[sizeof list_a];
         REFUSED_AT(with_input(call, list_a, 39), GH_REFUSED_INPUT, 4);
         memcpy(bad, list_a, sizeof bad);

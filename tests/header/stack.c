@@ -70,6 +70,7 @@ static uint64_t tally(void) { return gh_tally(input, sizeof input, counts, GH_TA
 static uint64_t route(void) { return gh_route(input, sizeof input, 7); }
 static uint8_t field[GH_MOST_FIELD];
 static uint64_t write_field(void) { return gh_write_field(input, sizeof input, field, sizeof field); }
+static uint64_t longest(void) { return gh_longest(input, sizeof input, here); }
 static uint64_t broadcast(void) { return gh_broadcast(GH_NEWER_RULE, input, sizeof input, here); }
 static uint64_t basic_build(void) { return gh_basic_build(MAPS); }
 static uint64_t basic_lookup(void) { return gh_basic_lookup(MAPS, here); }
@@ -119,6 +120,7 @@ int main(void)
         { "tree_lookup", tree_lookup, GH_STACK, 0 }, { "tree_test", tree_test, GH_STACK_IMAGE, 0 },
         { "tree_withdraw", tree_withdraw, GH_STACK_IMAGE, 0 }, { "tree_announce", tree_announce, GH_STACK_IMAGE, 0 },
         { "run", run, GH_STACK, 0 }, { "tally", tally, GH_STACK, 0 }, { "route", route, GH_STACK, 0 },
+        { "longest", longest, GH_STACK, 0 },
         { "write_field", write_field, GH_STACK, 0 }, { "broadcast", broadcast, GH_STACK, 0 },
         { "basic_build", basic_build, GH_STACK, 0 }, { "basic_lookup", basic_lookup, GH_STACK, 0 },
         { "basic_lookup_many", basic_lookup_many, GH_STACK, 0 },

@@ -73,10 +73,33 @@ impl FusedIterator for Routes<'_> {}
 ///
 /// The input's: 10 for its length; record by record 3, 4, 10; 6.
 pub fn route(input: &[u8], index: u32) -> Result<Option<Route>, Refusal> {
-    let answer = answered(raw::route(input, index))?;
+    Ok(unpacked(answered(raw::route(input, index))?))
+}
+
+/// The longest route of an input that covers an address, if any does.
+///
+/// ```
+/// use ghatumri::{longest, Mark, Route};
+///
+/// let input = [10, 0, 0, 0, 8, 0, 0, 20, 10, 1, 0, 0, 16, 1, 0, 31];
+/// assert_eq!(longest(&input, [10, 1, 2, 3])?, Some(Route::new([10, 1, 0, 0], 16, 31, Mark::Attached)));
+/// assert_eq!(longest(&input, [10, 2, 0, 0])?, Some(Route::new([10, 0, 0, 0], 8, 20, Mark::Behind)));
+/// assert_eq!(longest(&input, [11, 0, 0, 0])?, None);
+/// # Ok::<(), ghatumri::Refusal>(())
+/// ```
+///
+/// # Errors
+///
+/// The input's: 10 for its length; record by record 3, 4, 10; 6.
+pub fn longest(input: &[u8], addr: impl Into<Ipv4Addr>) -> Result<Option<Route>, Refusal> {
+    Ok(unpacked(answered(raw::longest(input, u32::from(addr.into())))?))
+}
+
+/// The route of a packed answer, if it has one.
+fn unpacked(answer: u64) -> Option<Route> {
     let hop = (answer >> 16) as u16;
     let mark = if answer >> 15 & 1 == 1 { Mark::Attached } else { Mark::Behind };
-    Ok((hop != 0).then(|| Route::new((answer >> 32) as u32, (answer >> 8) as u8 & 0x7F, hop, mark)))
+    (hop != 0).then(|| Route::new((answer >> 32) as u32, (answer >> 8) as u8 & 0x7F, hop, mark))
 }
 
 /// The run under a prefix: the records of that length or longer inside it, as that part of the input. An empty run

@@ -66,7 +66,7 @@ pub use broadcast::{is_broadcast, Rule};
 pub use found::{Answer, Found};
 pub use geometry::{Geometry, MOST_CHUNKS, MOST_RECORDS};
 pub use image::{words_for, Built, ImageAnnounced, ImageMut, ImageRef};
-pub use input::{route, routes, run, tally, Routes};
+pub use input::{longest, route, routes, run, tally, Routes};
 pub use maps::{hop, MapsMut, MapsRef, MAP_BYTES, MAP_CELLS};
 pub use message::{write_field, Updated, MOST_FIELD};
 #[cfg(feature = "alloc")]

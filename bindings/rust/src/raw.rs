@@ -310,6 +310,11 @@ pub fn write_field(input: &[u8], out: &mut [u8]) -> u64 {
 }
 
 #[must_use]
+pub fn longest(input: &[u8], addr: u32) -> u64 {
+    unsafe { sys::gh_longest(input.as_ptr(), input.len(), addr) }
+}
+
+#[must_use]
 pub fn broadcast(version: u32, input: &[u8], addr: u32) -> u64 {
     unsafe { sys::gh_broadcast(version, input.as_ptr(), input.len(), addr) }
 }

@@ -530,6 +530,7 @@ extern "C" {
     pub fn gh_tally(input: *const u8, input_len: usize, out: *mut u32, out_len: usize) -> u64;
     pub fn gh_route(input: *const u8, input_len: usize, index: u32) -> u64;
     pub fn gh_write_field(input: *const u8, input_len: usize, out: *mut u8, out_len: usize) -> u64;
+    pub fn gh_longest(input: *const u8, input_len: usize, addr: u32) -> u64;
     pub fn gh_broadcast(version: u32, input: *const u8, input_len: usize, addr: u32) -> u64;
     pub fn gh_basic_build(
         input: *const u8,

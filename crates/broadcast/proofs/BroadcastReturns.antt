@@ -17,7 +17,6 @@ use Rattle.routes.specs.declared.Route.{Route}
 use Rattle.routes.specs.declared.input.Input.{Input}
 use Rattle.routes.specs.declared.input.Input.the-variants as input
 use Rattle.routes.proofs.Inputs.{told-good, told-refused, told-many}
-use Rattle.routes.proofs.Meaning.{input-good}
 use Rattle.standing.specs.Standing.{stood}
 use Rattle.broadcast.specs.Cast.{versionFine, lastLen, highest, castOf, isBroadcast, castSaid, meansCast}
 use Rattle.broadcast.specs.declared.Cast.{Cast}
@@ -91,10 +90,6 @@ module _ (v : ℕ) (s : List ℕ) (a : ℕ) (b : Bool) (eb : b ≡ versionFine v
     pub says-many : i ≡ input.TooMany → meansCast cast.TooMany ≡ castSaid v s a
     unfolding meansCast castSaid
     says-many q = rw (← eb, not-false b fine, told-many s i e q)
-
--- what the check of the input hands on
-pub input-told : (s : List ℕ) (i : Input) → meansInput i ≡ inputSaid s → (n : ℕ) → i ≡ input.Good n → GoodInput s n
-input-told s i e n q = let g = input-good s n (told-good s i e n q) in record { records = g .1; whole = g .0 }
 
 -- an answer is read back from what it says
 readCast : Said → Cast

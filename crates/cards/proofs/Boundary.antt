@@ -16,6 +16,7 @@ use Rattle.routes.specs.Said.{Said, accepted, refused, andThen, accepts}
 use Rattle.routes.specs.declared.Route.{Route}
 use Rattle.routes.specs.Cases.{Checked}
 use Rattle.routes.proofs.Meaning.{input-checked}
+use Rattle.longest.specs.Said.{longestSaid}
 use Rattle.runs.specs.Run.{runSaid}
 use Rattle.runs.specs.Tally.{tallyOf}
 use Rattle.sail.specs.Lent.{Lent}
@@ -66,6 +67,7 @@ use Rattle.cards.proofs.Fits.{
   input-fits,
   run-fits,
   route-fits,
+  longest-fits,
   built-fits,
   tree-fits,
   lookup-fits,
@@ -161,6 +163,9 @@ module _ (s : List ℕ) (short : length s < 2 ^ 35) where
 
   pub gh-route-read : (k : ℕ) → unpackRoute (packRoute (routeSaid s k)) ≡ routeSaid s k
   gh-route-read k = route-read (2 ^ 32) (omega arith) _ (route-fits s short k)
+
+  pub gh-longest-read : (a : ℕ) → unpackRoute (packRoute (longestSaid s a)) ≡ longestSaid s a
+  gh-longest-read a = route-read (2 ^ 32) (omega arith) _ (longest-fits s short a)
 
   -- the tally's answer: 2 for the length of `out`, or what the input's check says, but for the number of records of a good input
   pub gh-tally-read : (xs : List ℕ) → unpackNone (tallyCard s xs .answer) ≡ cond (eqb (length xs) 33) (andThen (inputSaid s) (accepted [])) (refused 2)

@@ -22,6 +22,10 @@ use Rattle.routes.specs.declared.Route.{Route}
 use Rattle.routes.specs.Cases.{WrongRoute, WrongRecord, Checked, BadInput, RouteRead}
 use Rattle.routes.proofs.Meaning.{input-checked}
 use Rattle.routes.proofs.Rows.{length-routes, records-good}
+use Rattle.longest.specs.Cases.{LongestRead}
+use Rattle.longest.specs.Said.{longestSaid}
+use Rattle.longest.proofs.Judged.{good-routes, longest-judged}
+use Rattle.routes.proofs.Goods.{good-fine}
 use Rattle.runs.specs.Run.{pastKey, runStart, runCount, runSaid}
 use Rattle.lists.proofs.Places.{place-le}
 use Rattle.sail.specs.Lent.{Lent}
@@ -119,6 +123,17 @@ module _ (s : List ℕ) (short : length s < 2 ^ 35) where
           FitsWord.values _ (RouteFits.one (r .addr) (r .len) (r .mark) (r .hop) (f .prefix .addr-ok) (omega (arith, f .prefix .len-ok))
           (omega (arith, f .mark-ok)) (f .hop-one) (omega (arith, f .hop-ok)))
       go (RouteRead.past n g h) = FitsWord.values [] RouteFits.nothing
+
+  pub longest-fits : (a : ℕ) → FitsWord (2 ^ 32) RouteFits (longestSaid s a)
+  longest-fits a = go (longest-judged s a)
+    where
+      go : {x : Said} → LongestRead s a x → FitsWord (2 ^ 32) RouteFits x
+      go (LongestRead.bad-input x b) = bad-fits RouteFits s short x b
+      go (LongestRead.covered n g r w) =
+          let f = good-fine (routesIn s) (good-routes s n g) r (w .listed) in
+          FitsWord.values _ (RouteFits.one (r .addr) (r .len) (r .mark) (r .hop) (f .prefix .addr-ok) (omega (arith, f .prefix .len-ok))
+          (omega (arith, f .mark-ok)) (f .hop-one) (omega (arith, f .hop-ok)))
+      go (LongestRead.uncovered n g h) = FitsWord.values [] RouteFits.nothing
 
   pub built-fits : (ws hs : List ℕ) → FitsWord (2 ^ 32) BuiltFits (built s ws hs .said)
   built-fits ws hs = go (build-judged s ws hs)

@@ -10,6 +10,7 @@ use Rattle.bits.specs.Tab.{tabulate}
 use Rattle.routes.specs.Input.{inputSaid}
 use Rattle.routes.specs.Answers.{routeSaid}
 use Rattle.routes.specs.declared.Route.{Route}
+use Rattle.longest.specs.Said.{longestSaid}
 use Rattle.runs.specs.Run.{runSaid}
 use Rattle.runs.specs.Tally.{tallyOf}
 use Rattle.sail.specs.Lent.{Lent}
@@ -54,7 +55,7 @@ use Rattle.cards.specs.Cards.{cardOf, imageCardOf}
 use Rattle.packing_inputs.specs.Tallies.{tallyCard}
 use Rattle.sail_words.specs.Lookups.{wordsCard, lowFound, manyCard}
 use Rattle.cards.specs.Maps.{mapsCardOf, hopsCard}
-use Rattle.cards.proofs.Fits.{input-fits, run-fits, route-fits, built-fits, tree-fits, lookup-fits, report-fits}
+use Rattle.cards.proofs.Fits.{input-fits, run-fits, route-fits, longest-fits, built-fits, tree-fits, lookup-fits, report-fits}
 use Rattle.cards.proofs.Fits.{make-fits, load-fits, announce-fits, withdraw-fits}
 use Rattle.cards.proofs.Hops.{maps-fits, hop-fits, many-fits}
 
@@ -123,6 +124,9 @@ module _ (s : List ℕ) (short : length s < 2 ^ 35) where
 
   pub gh-route-named : (k : ℕ) → packRoute (routeSaid s k) ≡ parts routeParts (packRoute (routeSaid s k))
   gh-route-named k = route-parts (2 ^ 32) (omega arith) _ (route-fits s short k)
+
+  pub gh-longest-named : (a : ℕ) → packRoute (longestSaid s a) ≡ parts routeParts (packRoute (longestSaid s a))
+  gh-longest-named a = route-parts (2 ^ 32) (omega arith) _ (longest-fits s short a)
 
   pub gh-tally-named : (xs : List ℕ) → tallyCard s xs .answer ≡ parts noParts (tallyCard s xs .answer)
   unfolding tallyCard parts refusalParts noParts

@@ -20,6 +20,9 @@ use Rattle.routes.specs.declared.Route.{Route}
 use Rattle.routes.specs.Cases.{Checked, RouteRead}
 use Rattle.routes.proofs.Meaning.{input-checked}
 use Rattle.routes.proofs.Judged.{check-only, route-judged, route-only, exactly}
+use Rattle.longest.specs.Cases.{LongestRead}
+use Rattle.longest.specs.Said.{longestSaid}
+use Rattle.longest.proofs.Judged.{longest-judged, longest-only}
 use Rattle.runs.specs.Run.{runSaid, runOf, runAt}
 use Rattle.runs.specs.Tally.{tallyOf}
 use Rattle.runs.proofs.Runs.{run-refused}
@@ -89,6 +92,10 @@ refused-number-check-input bytes = exactly (Checked bytes) _ _ refl (input-check
 -- route_at: the input's
 pub refused-number-route-at : (bytes : List ℕ) (k : ℕ) (s : Said) → (routeSaid bytes k ≡ s) ↔ RouteRead bytes k s
 refused-number-route-at bytes k = exactly (RouteRead bytes k) _ _ refl (route-judged bytes k) (route-only bytes k)
+
+-- longest: the input's
+pub refused-number-longest : (bytes : List ℕ) (a : ℕ) (s : Said) → (longestSaid bytes a ≡ s) ↔ LongestRead bytes a s
+refused-number-longest bytes a = exactly (LongestRead bytes a) _ _ refl (longest-judged bytes a) (longest-only bytes a)
 
 -- run_check: the input's, then 3
 pub refused-number-run-check : (bytes : List ℕ) (a len : ℕ) (s : Said) → (runSaid bytes a len ≡ s) ↔ RunChecked bytes a len s

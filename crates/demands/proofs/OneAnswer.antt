@@ -11,6 +11,8 @@ use Rattle.routes.specs.Contract.{MeetsCheckInput, MeetsRouteAt}
 use Rattle.routes.specs.declared.input.Input.{Input}
 use Rattle.routes.specs.declared.input.Got.{Got}
 use Rattle.routes.proofs.OneAnswer as routes
+use Rattle.longest.specs.Contract.{MeetsLongest}
+use Rattle.longest.proofs.OneAnswer as longest
 use Rattle.runs.specs.Run.{IsRun}
 use Rattle.runs.specs.Tally.{IsTally}
 use Rattle.runs.specs.Contract.{MeetsRunCheck}
@@ -50,6 +52,9 @@ one-answer-check-input = routes.one-answer-check-input
 
 pub one-answer-route-at : (bytes : List ℕ) (index : ℕ) (x y : Got) → MeetsRouteAt bytes index x → MeetsRouteAt bytes index y → x ≡ y
 one-answer-route-at = routes.one-answer-route-at
+
+pub one-answer-longest : (bytes : List ℕ) (addr : ℕ) (x y : Got) → MeetsLongest bytes addr x → MeetsLongest bytes addr y → x ≡ y
+one-answer-longest = longest.one-answer-longest
 
 -- a part of the list is its elements and its place; a reference has nothing else that a program can see
 pub one-answer-run : (list : RefT (List ℕ)) (addr len : ℕ) (x y : RefT (List ℕ)) → IsRun list x addr len → IsRun list y addr len → (now x ≡ now y) ×

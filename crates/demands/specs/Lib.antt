@@ -1,2 +1,3 @@
 -- What the demands speak of beyond the definitions of the calls.
 pub mod Covered
+pub mod LookedAt

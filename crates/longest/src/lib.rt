@@ -1,7 +1,10 @@
 // The longest record that covers an address, found in an ascending list by halving. No list is scanned, and nothing is built.
 use bits::widen::byte_to_word;
+use input_check::input;
 use lists::place::place;
 use records::record;
+use routes::input::Got;
+use routes::input::Input;
 ghost use mathlib.Core.Path.{_≡_};
 ghost use Prim.Native.Nat.{_+_, _≤_};
 ghost use Rattle.bits.specs.Slot.{cut};
@@ -9,6 +12,7 @@ ghost use Rattle.routes.specs.Record.{Records};
 ghost use Rattle.routes.specs.Route.{keyOf};
 ghost use Rattle.lists.specs.Place.{placeOf};
 ghost use Rattle.longest.specs.Longest.{Shared, LongestRecord};
+ghost use Rattle.longest.specs.Contract.{MeetsLongest};
 
 // A length as a byte.
 fn narrow(len: u32) -> u8
@@ -62,4 +66,21 @@ pub fn longest_record(list: &[u8], n: usize, addr: u32, low: u32) -> usize
         m = same + 1;
     }
     0
+}
+
+// The longest route of an input that covers an address, and nothing if none does.
+pub fn longest(bytes: &[u8], addr: u32) -> Got
+    ensures { λ r. ⌜ MeetsLongest (now (bytes .entry)) addr r ⌝ }
+{
+    match input::check_input(bytes) {
+        Input::Good(n) => {
+            let k = longest_record(bytes, n, addr, 0);
+            if k == 0 {
+                return Got::Nothing;
+            }
+            Got::One(record::read_record(bytes, k - 1))
+        }
+        Input::Refused(f, k) => Got::Refused(f, k),
+        Input::TooMany => Got::TooMany,
+    }
 }

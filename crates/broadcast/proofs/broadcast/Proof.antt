@@ -1,5 +1,6 @@
 -- `broadcast::broadcast`: one law for each arm.
-use Rattle.broadcast.proofs.BroadcastReturns.{says-no-version, says-yes, says-no, says-refused, says-many, input-told}
+use Rattle.broadcast.proofs.BroadcastReturns.{says-no-version, says-yes, says-no, says-refused, says-many}
+use Rattle.longest.proofs.Returns.{input-told}
 use borrow.Author.Needs.{needs}
 use Rattle.broadcast.proofs.broadcast.Statement.{statement}
 use Rattle.broadcast.proofs.broadcast.Tie as tie
