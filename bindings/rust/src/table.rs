@@ -167,7 +167,12 @@ impl<'a> TableRef<'a> {
     ///
     /// 1, 2, 5 as [`lookup`](TableRef::lookup), 14 if the hop has no record, 15 if the record is down.
     #[inline]
-    pub fn forward(&self, records: &mut [HopRecord], addr: impl Into<Ipv4Addr>, octets: u32) -> Result<Forwarded, Refusal> {
+    pub fn forward(
+        &self,
+        records: &mut [HopRecord],
+        addr: impl Into<Ipv4Addr>,
+        octets: u32,
+    ) -> Result<Forwarded, Refusal> {
         Forwarded::new(raw::forward(self, records, u32::from(addr.into()), octets))
     }
 

@@ -59,7 +59,13 @@ fn forwarded() {
     expected[56].packets = 0;
     expected[56].octets = 1204;
     assert_eq!(records, expected);
-    let cases = [([10, 1, 2, 200], 57, 3), ([10, 1, 2, 5], 44, 3), ([10, 1, 3, 1], 31, 2), ([10, 2, 0, 1], 20, 1), ([192, 0, 2, 1], 6, 1)];
+    let cases = [
+        ([10, 1, 2, 200], 57, 3),
+        ([10, 1, 2, 5], 44, 3),
+        ([10, 1, 3, 1], 31, 2),
+        ([10, 2, 0, 1], 20, 1),
+        ([192, 0, 2, 1], 6, 1),
+    ];
     for (k, (addr, hop, reads)) in cases.into_iter().enumerate() {
         let octets = 40 + k as u32;
         assert_eq!(table.forward(&mut records, addr, octets), to(hop, reads));
