@@ -1,5 +1,5 @@
 -- Packed answers with what is lent for two parties. The state and the party come from their numbers: t0 and w0 are what the call inside is given.
-use mathlib.Core.Path.{_≡_, refl, _∙_, ap, ap₂}
+use mathlib.Core.Path.{_≡_, refl, _∙_, ap, ap₂, subst}
 use mathlib.Core.Bool.{not}
 use mathlib.Core.List.{List}
 use Prim.Native.Nat.{ℕ, zero, suc, min}
@@ -15,6 +15,7 @@ use Rattle.pair.specs.PairLent.{PairLent}
 use Rattle.pair.specs.PairSound.{shareOf}
 use Rattle.pair.specs.PairCalls.{PairOut, pairOut, pairMade, pairAnnounced, pairWithdrawn, pairLoaded, pairReported, pairLookupSaid}
 use Rattle.pair.specs.declared.Pair.{Pair}
+use Rattle.packets.specs.Contract.{MeetsPairStep}
 use Rattle.cards.specs.Pairs.{pairCard, pairCardOf, partyAt}
 use Rattle.cards.proofs.PairNarrow.{pair-announced-narrow, pair-withdrawn-narrow}
 
@@ -40,6 +41,9 @@ module _ (t0 t : Pair) (e : t0 ≡ t) (b : PairLent) where
 
     pub pair-lookup-card : (a r : ℕ) → Word r (pairLookupSaid w0 t0 b a) → r ≡ packFound (pairLookupSaid w t b a)
     pair-lookup-card a r h = h .packs ∙ ap packFound (ap₂ (λ (x : Party) (y : Pair). pairLookupSaid x y b a) f e)
+
+    pub pair-step-card : (p : List ℕ) (r : ℕ) (q : List ℕ) → MeetsPairStep w0 t0 b p r q → MeetsPairStep w t b p r q
+    pair-step-card p r q h = subst (λ (x : Party). MeetsPairStep x t b p r q) f (subst (λ (y : Pair). MeetsPairStep w0 y b p r q) e h)
 
     -- a call of a party that changes the box: what it ends with, and the count of the party that it is given
     module _ (s : Said) (u : Pair) (v : PairLent) (n r : ℕ) (c : n ≡ shareOf w0 u .count) (q : r ≡ packChange n s) where

@@ -5,10 +5,11 @@ use mathlib.Core.Path.{_≡_, refl, _∙_, ap}
 use mathlib.Core.Bool.{true, false, true≢false}
 use mathlib.Core.List.{List, [], _∷_}
 use Prim.Native.Nat.{ℕ}
+use native.Mathlib.Nat.{not-suc-le-zero}
 use native.Mathlib.Omega.{arith}
 use lib.ListN.{replicate}
 use Rattle.bits.specs.Search.{firstFrom, firstOf}
-use Rattle.bits.specs.Slot.{slot, cut}
+use Rattle.bits.specs.Slot.{cut}
 use Rattle.bits.specs.Tab.{tabulate}
 use Rattle.routes.specs.Input.{properPrefix, hopFine, routeFault, inOrder, faultAt, inputSaid}
 use Rattle.routes.specs.ListA.{listA}
@@ -23,7 +24,7 @@ use Rattle.sail_theory.specs.Calls.{Out, route, announced}
 use Rattle.sail_theory.specs.CallRuns.{after, done}
 use Rattle.sail_theory.proofs.runs.AfterRun.{run-sound}
 use Rattle.update_theory.specs.Cases.{ForRoom, Dealable, StopsAt, Update}
-use Rattle.update_theory.specs.Deal.{comes, allEntries, dealBy, dealtSaid, stopOf}
+use Rattle.update_theory.specs.Deal.{Entry, comes, allEntries, dealBy, dealtSaid, stopOf}
 use Rattle.update_theory.specs.Update.{kept, turn, updated}
 use Rattle.update_theory.proofs.Cases.{update-only, dealable-on}
 use Rattle.update_theory.proofs.Deals.{deal-stop}
@@ -47,19 +48,18 @@ cut-no-field ns f = true≢false (field-told f .0)
 
 -- 10.1.3.0/23 and 10.1.2.0/23 are one prefix, 10.1.3.0/24 and 10.1.2.0/24 are two
 pub alike : Alike (23 ∷ 10 ∷ 1 ∷ 3 ∷ []) (23 ∷ 10 ∷ 1 ∷ 2 ∷ [])
-unfolding slot
 alike = Alike.more 23 (10 ∷ 1 ∷ 3 ∷ []) (10 ∷ 1 ∷ 2 ∷ []) [] [] (omega arith) refl refl refl Alike.none
 
 pub unlike : Alike (24 ∷ 10 ∷ 1 ∷ 3 ∷ []) (24 ∷ 10 ∷ 1 ∷ 2 ∷ []) → ⊥
 unfolding netsIn cut
-unlike a = omega (arith, ap first-addr (entries-cut a .1))
+unlike a = let same : _≡_ {A = ℕ} 167838464 167838208 = ap first-addr (entries-cut a .1) in omega arith
   where
     first-addr : List Net → ℕ
     first-addr [] = 0
     first-addr (n ∷ ns) = n .addr
 
 -- The order of refusals on a sound table: a broken field before the hop, and either after soundness.
-abbrev sound-entered : Sound (t entered) (l entered)
+sound-entered : Sound (t entered) (l entered)
 sound-entered = run-sound table arrays sized entered
 
 no-hop : HopOk 0 → ⊥
@@ -88,7 +88,7 @@ pub hop-passes : (hop : ℕ) → HopOk hop → updated (t entered) (l entered) [
 unfolding netsIn
 hop-passes hop h =
     update-only (t entered) (l entered) [] [] hop _
-    (Update.done (record { sound = sound-entered; fields = both-empty; hop-ok = h }) (λ j e k. absurd (omega arith)))
+    (Update.done (record { sound = sound-entered; fields = both-empty; hop-ok = h }) (λ j e k. absurd (not-suc-le-zero k)))
 
 pub hop-limits : HopOk 1 × HopOk 32767
 hop-limits = (record { one = omega arith; most = omega arith }, record { one = omega arith; most = omega arith })
@@ -126,7 +126,7 @@ stop-is = ap stopOf said-other
 pub stopped : updated (t entered) (l entered) [] reach 45 .said ≡ refusedAt 7 0
 stopped =
     ap (λ (o : Out). o .said) (dealable-on (t entered) (l entered) [] reach 45 dealable)
-    ∙ ap (λ es. dealtSaid (dealBy (turn 45) 0 (kept (t entered) (l entered)) es)) entries-reach
+    ∙ ap (λ (es : List Entry). dealtSaid (dealBy (turn 45) 0 (kept (t entered) (l entered)) es)) entries-reach
     ∙ ap dealtSaid (deal-stop (turn 45) 0 (kept (t entered) (l entered)) _ [] (λ z. omega (arith, stop-is, z)))
     ∙ rw stop-is
 
