@@ -105,8 +105,9 @@
  * STACK. gh_load, gh_announce, gh_withdraw and gh_report take at most GH_STACK_TABLE bytes of stack, gh_update
  * GH_STACK_UPDATE, the same calls on a box of two GH_STACK_PAIR, gh_repair GH_STACK_REPAIR, the test and the changes of an
  * image GH_STACK_IMAGE, the others GH_STACK. On x86-64 and on Arm it is 44 KB for announce, withdraw and the report, 42 KB
- * for load, 8.5 KB for an image, and under 200 bytes for each of the others; on Arm 152 KB for repair. Only the test of an
- * image is recursive: the test of a node calls that of its children, and back, at most 17 calls for each of 8 depths.
+ * for load, 8.5 KB for an image; on Arm 152 KB for repair. On x86-64 it is 78 KB for announce, withdraw and the report on a
+ * box of two, 150 KB for its load, and under 600 bytes for each of the others. Only the test of an image is recursive: the
+ * test of a node calls that of its children, and back, at most 17 calls for each of 8 depths.
  *
  * WHAT THE LIBRARY NEEDS: memcpy and memset, and nothing else of a C library.
  */
@@ -189,7 +190,7 @@ extern "C" {
 
 #define GH_STACK_TABLE     49152      /* bytes of stack: load, announce, withdraw, report */
 #define GH_STACK_UPDATE    49152      /* update */
-#define GH_STACK_PAIR      98304      /* the same calls on a box of two */
+#define GH_STACK_PAIR      163840     /* the same calls on a box of two */
 #define GH_STACK_IMAGE     12288      /* gh_tree_test, gh_tree_announce, gh_tree_withdraw */
 #define GH_STACK_REPAIR    163840     /* repair */
 #define GH_STACK           1024       /* the other calls */

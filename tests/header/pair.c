@@ -87,13 +87,13 @@ static void changes(void)
     CHECK(gh_box_lookup(&b, 7, IP(10, 1, 2, 5)), gh_pair_lookup(GH_PAIR_STATE(&b), GH_PAIR_LENT(&b), GH_PARTY_TWO, IP(10, 1, 2, 5)));
     /* A header of TTL 2 to 10.1.2.5: the second party's hop, TTL 1 and the checksum that goes with it; then 22. */
     uint8_t packet[GH_HEADER_BYTES] = { 0x45, 0, 0, 0x28, 0, 1, 0x40, 0, 2, 6, 0xaa, 0xc8, 192, 0, 2, 1, 10, 1, 2, 5 };
-    REFUSED(gh_pair_step(GH_PAIR_STATE(&b), GH_PAIR_LENT(&b), GH_PARTY_TWO, packet, sizeof packet - 1), GH_REFUSED_SHORT);
+    CHECK(gh_pair_step(GH_PAIR_STATE(&b), GH_PAIR_LENT(&b), GH_PARTY_TWO, packet, sizeof packet - 1), GH_REFUSED_SHORT);
     CHECK(packet[8], 2);
     CHECK(gh_box_step(&b, GH_PARTY_TWO, packet, sizeof packet), gh_box_lookup(&b, GH_PARTY_TWO, IP(10, 1, 2, 5)));
     CHECK(packet[8], 1);
     CHECK(packet[10], 0xab);
     CHECK(packet[11], 0xc8);
-    REFUSED(gh_box_step(&b, GH_PARTY_TWO, packet, sizeof packet), GH_REFUSED_LIFE);
+    CHECK(gh_box_step(&b, GH_PARTY_TWO, packet, sizeof packet), GH_REFUSED_LIFE);
     /* A bit after the length is cleared, and a mark carried; a replacement. */
     a = gh_box_announce(&b, GH_PARTY_TWO, IP(10, 1, 2, 3), 24, 8, GH_ATTACHED);
     CHECK(GH_CLEARED(a), 1);
