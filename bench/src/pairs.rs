@@ -1,7 +1,7 @@
 //! A box of two parties: lookups next to those of a table of one, and changes next to one plain read of what is lent.
 
 use crate::{agree, contender, gh, measure, ratio, records, Route};
-use ghatumri::{raw, sys, Geometry, Limits, Mark, Pair, PairRef, Party, Table};
+use ghatumri::{raw, sys, Geometry, Limits, Mark, OwnRef, Pair, PairRef, Party, Table};
 use std::cell::RefCell;
 use std::hint::black_box;
 
@@ -42,22 +42,15 @@ pub fn lookups(rounds: usize, table: &Table, pair: &Pair, addrs: &[u32]) {
     ratio(&contenders, PAIR, EACH, Some(1.8));
 }
 
-/// Reads everything that is lent once. The sums keep the reads, and are as cheap as any.
+/// One plain read of all that is lent, as of a table of one.
 #[inline(never)]
-fn read_all(b: PairRef) -> u32 {
-    let cells = |xs: &[u16]| xs.iter().fold(0u16, |sum, x| sum.wrapping_add(*x)) as u32;
-    let owners = |xs: &[u32]| xs.iter().fold(0u32, |sum, x| sum.wrapping_add(*x));
-    let own = |list: &[u8], first: &[u16], long1: &[u16]| {
-        let bytes = list.iter().fold(0u8, |sum, x| sum.wrapping_add(*x)) as u32;
-        bytes.wrapping_add(cells(first)).wrapping_add(cells(long1))
-    };
-    own(b.one.list, b.one.first, b.one.long1)
-        .wrapping_add(own(b.two.list, b.two.first, b.two.long1))
-        .wrapping_add(cells(b.second))
-        .wrapping_add(cells(b.third))
-        .wrapping_add(cells(b.long2))
-        .wrapping_add(owners(b.own2))
-        .wrapping_add(owners(b.own3))
+fn read_all(b: PairRef) -> u64 {
+    let list = |list: &[u8]| list.iter().map(|&x| x as u64).sum::<u64>();
+    let cells = |cells: &[u16]| cells.iter().fold(0u32, |s, &x| s.wrapping_add(x as u32)) as u64;
+    let owners = |own: &[u32]| own.iter().fold(0u32, |s, &x| s.wrapping_add(x)) as u64;
+    let own = |o: OwnRef| list(o.list) + cells(o.first) + cells(o.long1);
+    let pools = cells(b.second) + cells(b.third) + cells(b.long2) + owners(b.own2) + owners(b.own3);
+    own(b.one) + own(b.two) + pools
 }
 
 /// The calls of the second party on a box of 4,096 chunks in either pool, half of them each party's, and all in use but for
