@@ -1,5 +1,5 @@
 -- What does not serve as a fresh load does, beside list A's table: a load that is refused, a table with another mark in its list, one with another
--- hop at one address, and one with another number of chunks in use. Each breaks one clause alone.
+-- hop at one address, one with another number of chunks in use, and one with another count at a first cell or at a second place.
 use mathlib.Core.Path.{_≡_, refl, sym, _∙_, ap}
 use mathlib.Core.Bool.{false≢true}
 use mathlib.Core.List.{List, [], _∷_}
@@ -17,7 +17,8 @@ use Rattle.sail.specs.Geometry.{standardGeo}
 use Rattle.sail.specs.Sizes.{Sized}
 use Rattle.sail.specs.Sound.{cellsRead}
 use Rattle.standing.specs.Served.{hopSaid}
-use Rattle.sail.specs.Walk.{lookupSaid}
+use Rattle.sail.specs.Lent.{Lent}
+use Rattle.sail.specs.Walk.{lookupSaid, walkCounts}
 use Rattle.sail.proofs.Sounds.{sail-serves}
 use Rattle.sail_theory.specs.Calls.{out}
 use Rattle.sail_theory.specs.CallRuns.{AsFresh}
@@ -26,7 +27,21 @@ use Rattle.sail.proofs.Judged.{lookup-only}
 use Rattle.examples.specs.Lines.{ip}
 use Rattle.routes.specs.ListA.{listA}
 use Rattle.examples.proofs.TableA.{stateA, lentA, sound-A, standing-A}
-use Rattle.examples.proofs.NotSound.{listIs, firstIs, own2Is, own3Is, long1Is, in-list, at-first, at-long1, none-here}
+use Rattle.examples.proofs.NotSound.{
+  listIs,
+  firstIs,
+  own2Is,
+  own3Is,
+  long1Is,
+  long2Is,
+  in-list,
+  at-first,
+  at-long1,
+  at-long2,
+  none-here,
+  names-one,
+  one-longer,
+}
 
 -- refused
 pub load-refused : (n : ℕ) → AsFresh stateA lentA (out (refused n) stateA lentA) → ⊥
@@ -89,3 +104,19 @@ more-third f = omega (arith, f .chunks3)
 -- another count at a first cell
 pub more-long : AsFresh stateA lentA (out (accepted []) stateA (long1Is 0 1)) → ⊥
 more-long f = omega (arith, none-here, at-long1 0 1 (omega arith), ap (λ (xs : List ℕ). getD xs 0 0) (f .longs1))
+
+-- another count at second place 2, which the lookup of 10.1.2.5 reads: no other clause speaks of it
+walked : (l : Lent) → getD (l .first) 2561 0 ≡ 1 → walkCounts standardGeo l (ip 10 1 2 5) ≡ getD (l .long1) 2561 0 ∷ getD (l .long2) 2 0 ∷ []
+unfolding walkCounts
+walked l e = rw e refl
+
+abbrev second-of : List ℕ → ℕ
+second-of (x ∷ y ∷ xs) = y
+second-of (x ∷ []) = 0
+second-of [] = 0
+
+pub less-long2 : AsFresh stateA lentA (out (accepted []) stateA (long2Is 2 0)) → ⊥
+less-long2 f =
+    let e = sym (walked lentA names-one) ∙ f .longs2 (ip 10 1 2 5) (omega arith) ∙ walked (long2Is 2 0) names-one in
+    let z : getD (lentA .long2) 2 0 ≡ getD (set (lentA .long2) 2 0) 2 0 = ap second-of e in
+    omega (arith, one-longer, at-long2 2 0 (omega arith), z)

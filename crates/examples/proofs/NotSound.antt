@@ -243,8 +243,15 @@ first-one-more s = omega (arith, first-count 2561 3 (omega arith) s, many-1)
 pub first-one-there : Sound stateA (long1Is 0 1) → ⊥
 first-one-there s = omega (arith, first-count 0 1 (omega arith) s, none-1)
 
-at-long2 : (q v : ℕ) → q < 512 → getD (set (lentA .long2) q v) q 0 ≡ v
+pub at-long2 : (q v : ℕ) → q < 512 → getD (set (lentA .long2) q v) q 0 ≡ v
 at-long2 q v h = getD-set-same (lentA .long2) q v 0 (rw (sound-A .sized .counts2, in-second) h)
+
+-- first cell 2561 names chunk 1, and one route is longer than 24 at second place 2
+pub names-one : getD (lentA .first) 2561 0 ≡ 1
+names-one = sound-A .serves .first .owned 0 2561 (omega arith) refl .3
+
+pub one-longer : getD (lentA .long2) 2 0 ≡ 1
+one-longer = sound-A .counted2 .true-there 2 (omega arith) refl ∙ asks-many 24 655618 ∙ many-2
 
 pub second-one-less : Sound stateA (long2Is 2 0) → ⊥
 second-one-less s =
