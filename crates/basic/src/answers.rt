@@ -1,7 +1,7 @@
 // What the calls on bit maps answer.
 
 // What a lookup finds: a hop, no route, or a refusal.
-#[derive(Drop)]
+#[derive(Clone, Copy)]
 pub enum BasicFound {
     Hop(u16),
     NoRoute,
@@ -10,7 +10,7 @@ pub enum BasicFound {
 }
 
 // What a call that fills arrays answers.
-#[derive(Drop)]
+#[derive(Clone, Copy)]
 pub enum BasicAnswer {
     Done,
     RefusedAt(u8, usize),

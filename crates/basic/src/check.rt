@@ -6,7 +6,7 @@ use input_check::input;
 use routes::input::Input;
 
 // So many good records and arrays of the right sizes; a refusal with the index of a record; or a refusal by its number alone.
-#[derive(Drop)]
+#[derive(Clone, Copy)]
 pub enum Ready {
     Good(usize),
     RefusedAt(u8, usize),

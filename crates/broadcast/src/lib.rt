@@ -14,7 +14,7 @@ use routes::Route;
 use routes::input::Input;
 
 // What is told of an address: it is a broadcast, or not; a version that is neither 1 nor 2 (23); the input's refusals.
-#[derive(Drop)]
+#[derive(Clone, Copy)]
 pub enum Cast {
     Yes,
     No,

@@ -14,7 +14,7 @@ pub fn bytes_for(len: u32) -> usize
 }
 
 // An entry: its prefix, and where the next one begins.
-#[derive(Drop)]
+#[derive(Clone, Copy)]
 pub struct Entry {
     pub addr: u32,
     pub len: u8,

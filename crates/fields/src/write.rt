@@ -12,7 +12,7 @@ use routes::input::Input;
 
 // What the writer answers: how many bytes the field has; that there is no room for them (18); or what the check of the input
 // refuses.
-#[derive(Drop)]
+#[derive(Clone, Copy)]
 pub enum Written {
     Bytes(usize),
     Short,

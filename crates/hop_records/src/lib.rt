@@ -8,7 +8,7 @@ use bits::widen::half_to_long;
 
 // One record. `up` is 1 for up; every other number is down.
 #[repr(C)]
-#[derive(Drop)]
+#[derive(Clone, Copy)]
 pub struct HopRecord {
     pub port: u16,
     pub up: u8,

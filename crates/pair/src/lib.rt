@@ -3,7 +3,7 @@
 use sail::geometry::Geometry;
 
 // One party's share: how many routes its list holds, and how many chunks of either pool it may use.
-#[derive(Drop)]
+#[derive(Clone, Copy)]
 pub struct Share {
     pub count: u32,
     pub most2: u32,
@@ -11,7 +11,7 @@ pub struct Share {
 }
 
 // The state: the geometry of both, and a share for each.
-#[derive(Drop)]
+#[derive(Clone, Copy)]
 pub struct Pair {
     pub geometry: Geometry,
     pub one: Share,

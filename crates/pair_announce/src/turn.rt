@@ -3,7 +3,7 @@ use pair::Pair;
 use sail_announce::answers::Announce;
 
 // A step on the party's side: the number of the refusal, or 0; then, whether the prefix stood; and the state.
-#[derive(Drop)]
+#[derive(Clone, Copy)]
 pub struct Turn {
     pub number: u8,
     pub stood: bool,
@@ -11,7 +11,7 @@ pub struct Turn {
 }
 
 // The call: what it answers, and the state.
-#[derive(Drop)]
+#[derive(Clone, Copy)]
 pub struct PairAnnounced {
     pub answer: Announce,
     pub state: Pair,

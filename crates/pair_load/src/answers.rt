@@ -3,7 +3,7 @@ use pair::Pair;
 use sail_load::load::Loaded;
 
 // The answer, and the state.
-#[derive(Drop)]
+#[derive(Clone, Copy)]
 pub struct PairLoaded {
     pub answer: Loaded,
     pub state: Pair,

@@ -11,7 +11,7 @@ use pair_sound::test::limits_ok;
 use sail_make::Made;
 
 // The answer, and the state with it.
-#[derive(Drop)]
+#[derive(Clone, Copy)]
 pub struct MadePair {
     pub answer: Made,
     pub state: Pair,

@@ -3,7 +3,7 @@ use pair::Pair;
 use sail_withdraw::answers::Withdraw;
 
 // The answer is that of a table of one.
-#[derive(Drop)]
+#[derive(Clone, Copy)]
 pub struct PairWithdrawn {
     pub answer: Withdraw,
     pub state: Pair,

@@ -12,7 +12,7 @@ use sail_judge::withdraw::find_record;
 use sail_take::take;
 
 // 0, or the number of the refusal; and the state.
-#[derive(Drop)]
+#[derive(Clone, Copy)]
 pub struct PairTaken {
     pub number: u8,
     pub state: Pair,

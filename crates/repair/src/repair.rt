@@ -14,7 +14,7 @@ use sail_load::load::load;
 use sail_sizes::sizes;
 
 // Put right, with the records dropped and the cells of each array that differ from before; or a refusal's number.
-#[derive(Drop)]
+#[derive(Clone, Copy)]
 pub enum Repaired {
     Done {
         dropped: u32,
@@ -26,7 +26,7 @@ pub enum Repaired {
 }
 
 // The answer, and the state beside it.
-#[derive(Drop)]
+#[derive(Clone, Copy)]
 pub struct RepairedTable {
     pub answer: Repaired,
     pub table: Table,

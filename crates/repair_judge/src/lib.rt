@@ -6,7 +6,7 @@ use sail::table::Table;
 use sail_need::weigh;
 
 // The number with which a repair is refused, or 0; and how many records are looked at, and how many of them kept.
-#[derive(Drop)]
+#[derive(Clone, Copy)]
 pub struct RepairJudged {
     pub fault: u8,
     pub looked: usize,

@@ -14,7 +14,7 @@ use sail::geometry::Geometry;
 use sail_paint::place::owner_at;
 
 // How many cells of each array differ.
-#[derive(Drop)]
+#[derive(Clone, Copy)]
 pub struct Differs {
     pub first: usize,
     pub second: usize,

@@ -43,7 +43,7 @@ pub fn route_fault(r: Route) -> u8
 }
 
 // What the check of an input says: so many good records; a refusal with its number and index; or too many records (6).
-#[derive(Drop)]
+#[derive(Clone, Copy)]
 pub enum Input {
     Good(usize),
     Refused(u8, usize),
@@ -51,7 +51,7 @@ pub enum Input {
 }
 
 // A route read back out of an input by its index: nothing where the input has no such record.
-#[derive(Drop)]
+#[derive(Clone, Copy)]
 pub enum Got {
     One(Route),
     Nothing,

@@ -4,7 +4,7 @@ pub mod prefix;
 
 // A route: the prefix of `len` bits of `addr`, and the hop that it leads to. `mark` is 1 for a network on our own port,
 // an attached one, and 0 for one behind a neighbour.
-#[derive(Drop)]
+#[derive(Clone, Copy)]
 pub struct Route {
     pub addr: u32,
     pub len: u8,

@@ -20,7 +20,7 @@ fn past_key(addr: u32, len: u8) -> u64
 
 // What the check of a run says: where the run starts and how many records it has; the input's refusals; or a prefix
 // that is none (3).
-#[derive(Drop)]
+#[derive(Clone, Copy)]
 pub enum RunCheck {
     Run { start: usize, count: usize },
     Refused(u8, usize),

@@ -31,7 +31,7 @@ fn lengths(list: &[u8], n: usize) -> [u32; 33]
 }
 
 // What the check of the input says, and the counts beside it; zeros where the input is refused.
-#[derive(Drop)]
+#[derive(Clone, Copy)]
 pub struct Tallied {
     pub answer: Input,
     pub counts: [u32; 33],

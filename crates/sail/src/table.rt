@@ -2,7 +2,7 @@
 use crate::geometry::Geometry;
 
 // The state: the geometry, and how many routes the list holds.
-#[derive(Drop)]
+#[derive(Clone, Copy)]
 pub struct Table {
     pub geometry: Geometry,
     pub count: u32,

@@ -16,7 +16,7 @@ use sail::table::Table;
 
 // Whether a second and whether a third chunk is to be opened; and the second chunk that serves the prefix, from 0, where one
 // is there.
-#[derive(Drop)]
+#[derive(Clone, Copy)]
 pub struct Opening {
     pub second: bool,
     pub third: bool,

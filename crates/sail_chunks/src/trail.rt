@@ -6,7 +6,7 @@ use sail::place::second_place;
 use sail::table::Table;
 
 // The first cell of an address; and its second cell, which is a leaf where the first is one.
-#[derive(Drop)]
+#[derive(Clone, Copy)]
 pub struct Trail {
     pub first: u16,
     pub second: u16,

@@ -10,7 +10,7 @@ use sail::place::second_place;
 
 // What is left, at the route's place, of the routes longer than the first level and than the second; 1 where the route is
 // no longer. So 0 says that the chunk that hangs there is needed no more.
-#[derive(Drop)]
+#[derive(Clone, Copy)]
 pub struct Left {
     pub first: u16,
     pub second: u16,

@@ -15,7 +15,7 @@ use sail_judge::withdraw::find_record;
 use sail_take::take;
 
 // What an announcement leaves: the number of its refusal, or 0, and the state.
-#[derive(Drop)]
+#[derive(Clone, Copy)]
 pub struct Turned {
     pub number: u8,
     pub table: Table,

@@ -18,7 +18,7 @@ use sail_sound::test::sound;
 
 // The number of the refusal. Where it is 0: the place of the route's key in the list, whether its prefix stands, and what is to
 // be opened for it.
-#[derive(Drop)]
+#[derive(Clone, Copy)]
 pub struct AnnounceVerdict {
     pub number: u8,
     pub at: usize,

@@ -14,7 +14,7 @@ use sail_sizes::sizes;
 use sail_sound::test::sound;
 
 // The number of the refusal. Where it is 0: the place of the prefix's record in the list.
-#[derive(Drop)]
+#[derive(Clone, Copy)]
 pub struct WithdrawVerdict {
     pub number: u8,
     pub at: usize,

@@ -15,7 +15,7 @@ use sail_renew::write_table;
 use sail_sizes::sizes;
 
 // Loaded; or a refusal's number, with the index of a record where the input itself is at fault.
-#[derive(Drop)]
+#[derive(Clone, Copy)]
 pub enum Loaded {
     Done,
     Refused(u8),
@@ -23,7 +23,7 @@ pub enum Loaded {
 }
 
 // The answer, and the state beside it.
-#[derive(Drop)]
+#[derive(Clone, Copy)]
 pub struct LoadedTable {
     pub answer: Loaded,
     pub table: Table,

@@ -9,14 +9,14 @@ use sail::table::Table;
 use sail_sizes::sizes;
 
 // Made, or a refusal's number.
-#[derive(Drop)]
+#[derive(Clone, Copy)]
 pub enum Made {
     Done,
     Refused(u8),
 }
 
 // The answer, and the state beside it.
-#[derive(Drop)]
+#[derive(Clone, Copy)]
 pub struct Fresh {
     pub answer: Made,
     pub table: Table,

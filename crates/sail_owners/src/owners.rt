@@ -14,7 +14,7 @@ use sail::geometry::Geometry;
 use sail::place::second_place;
 
 // How far the pass over each pool has come: the last chunk that it opened, from 1, or 0. Every chunk before it is in use.
-#[derive(Drop)]
+#[derive(Clone, Copy)]
 pub struct Passes {
     pub second: usize,
     pub third: usize,

@@ -57,7 +57,7 @@ pub fn in_use(own: &[u32]) -> u32
 }
 
 // What the report says: the route count and the needs for second and third chunks; or a refusal's number.
-#[derive(Drop)]
+#[derive(Clone, Copy)]
 pub enum Reported {
     Standing {
         routes: u32,

@@ -19,14 +19,14 @@ use sail_sizes::sizes;
 use sail_sound::test::sound;
 
 // What withdrawals leave: the state, and how many entries there were.
-#[derive(Drop)]
+#[derive(Clone, Copy)]
 pub struct Gone {
     pub table: Table,
     pub entries: u32,
 }
 
 // What announcements leave: the number of the refusal that stopped them, or 0; how many entries were dealt with; and the state.
-#[derive(Drop)]
+#[derive(Clone, Copy)]
 pub struct Came {
     pub number: u8,
     pub entries: u32,

@@ -2,8 +2,8 @@
 // output.
 fn main() {
     let mut input = [0u8; 520];
-    let n = io::read_full(libc::STDIN_FILENO, &mut input);
+    let n = io::read_full(0, &mut input);
     let mut out = [0u8; print::PAGE];
     let m = print::printed(&input[..n], &mut out);
-    io::write_all(libc::STDOUT_FILENO, &out[..m]);
+    io::write_all(1, &out[..m]);
 }

@@ -12,7 +12,7 @@ use tree_node::put::narrow;
 use tree_room::lack;
 
 // What a build answers: the nodes and the hops used; a refusal with the index of a record; or a refusal by its number alone.
-#[derive(Drop)]
+#[derive(Clone, Copy)]
 pub enum Built {
     Made(u32, u32),
     RefusedAt(u8, usize),

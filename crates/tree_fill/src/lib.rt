@@ -8,7 +8,7 @@ use buffers::fill::{fill16, zero32};
 use tree_node::{put, run};
 
 // How many nodes are done or wait, and how many hops are put.
-#[derive(Drop)]
+#[derive(Clone, Copy)]
 pub struct Sizes {
     pub nodes: usize,
     pub hops: usize,

@@ -2,7 +2,7 @@
 // `tree_bases` and `tree_check`.
 
 // What the test answers: the nodes and the hops in use, or that the image is not well formed.
-#[derive(Drop)]
+#[derive(Clone, Copy)]
 pub enum Tested {
     Image(u32, u32),
     Broken,

@@ -2,7 +2,7 @@
 // lookup is `tree`.
 
 // Where the hop of the deepest match stands among the hops.
-#[derive(Drop)]
+#[derive(Clone, Copy)]
 pub enum Place {
     Nowhere,
     At(usize),
@@ -10,7 +10,7 @@ pub enum Place {
 
 // What a lookup finds: a hop, with the count of nodes read and one more for the fetch of the hop; no route, with the count of nodes read;
 // or the image is broken on this walk.
-#[derive(Drop)]
+#[derive(Clone, Copy)]
 pub enum TreeFound {
     Hop(u16, u32),
     NoRoute(u32),

@@ -8,7 +8,7 @@ ghost use Rattle.tree_theory.specs.Stages.{Descent, BitOf, PathEnds};
 use tree_node::run;
 
 // A node of the path, and its depth.
-#[derive(Drop)]
+#[derive(Clone, Copy)]
 pub struct Reached {
     pub at: usize,
     pub depth: u32,
@@ -67,7 +67,7 @@ fn is_there(words: &[u32], r: Reached, deep: u32, b: u32) -> bool
 }
 
 // Where the path of a prefix ends: the last node met with its depth, the bit of the prefix in its own node, and whether the prefix stands.
-#[derive(Drop)]
+#[derive(Clone, Copy)]
 pub struct PathEnd {
     pub at: usize,
     pub depth: u32,

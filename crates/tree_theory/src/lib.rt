@@ -2,7 +2,7 @@
 // `tree_change`.
 
 // What announce answers: the prefix was new, or its hop was replaced, with the nodes and the hops then in use; or a refusal.
-#[derive(Drop)]
+#[derive(Clone, Copy)]
 pub enum TreeAnnounced {
     Added(u32, u32),
     Replaced(u32, u32),
@@ -10,7 +10,7 @@ pub enum TreeAnnounced {
 }
 
 // What withdraw answers: the nodes and the hops then in use; or a refusal.
-#[derive(Drop)]
+#[derive(Clone, Copy)]
 pub enum TreeWithdrawn {
     Removed(u32, u32),
     Refused(u8),

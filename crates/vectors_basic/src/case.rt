@@ -3,7 +3,7 @@ use crate::say;
 
 // How many bytes and cells are lent; after the build two bytes are cleared and a cell is made another, where these places are some; whether
 // the maps are shown, whether many addresses are looked up at once, and whether what is left is shown.
-#[derive(Drop)]
+#[derive(Clone, Copy)]
 pub struct Case {
     pub bytes: usize,
     pub cells: usize,

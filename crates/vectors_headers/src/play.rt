@@ -42,7 +42,7 @@ fn one(
     let w = step(
         g.p1, g.p2, t.count, list, first, second, third, own2, own3, long1, long2, packet,
     );
-    io::print_hex(libc::STDOUT_FILENO, w, 8);
+    io::print_hex(1, w, 8);
     print::bytes(packet);
     print::end();
 }

@@ -3,7 +3,7 @@ use crate::play;
 use vectors_probes::edit::most;
 
 // How long each of them is.
-#[derive(Drop)]
+#[derive(Clone, Copy)]
 pub struct Room {
     pub list: usize,
     pub first: usize,

@@ -42,7 +42,7 @@ pub fn near(i: u64, x: u64) -> u32 {
     std::num::wrapping_add_u32(base(i), pick(x, 65536) as u32)
 }
 
-#[derive(Drop)]
+#[derive(Clone, Copy)]
 pub struct Prefix {
     pub addr: u32,
     pub len: u8,

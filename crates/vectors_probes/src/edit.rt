@@ -2,7 +2,7 @@
 ghost use Rattle.std.specs.Prelude.{◌≤◌};
 
 // Which array: 0 is the list, 1 to 3 the cells, 4 and 5 the owners, 6 and 7 the counts. From which place, up to which, and the value.
-#[derive(Drop)]
+#[derive(Clone, Copy)]
 pub struct Edit {
     pub array: u32,
     pub from: usize,

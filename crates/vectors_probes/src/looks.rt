@@ -8,7 +8,7 @@ use sail::table::Table;
 use std::num;
 
 // How many lookups there were, how many of them found a hop and how many differ; and a sum over the answers.
-#[derive(Drop)]
+#[derive(Clone, Copy)]
 pub struct Sums {
     pub looked: u64,
     pub found: u64,

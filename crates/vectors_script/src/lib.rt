@@ -4,7 +4,7 @@ use std::num;
 
 // A step's first letter; whether it is in brackets; its numbers, how many there are, and whether the last byte was a digit; and where
 // the next step begins.
-#[derive(Drop)]
+#[derive(Clone, Copy)]
 pub struct Line {
     pub letter: u8,
     pub quiet: bool,

@@ -2,11 +2,11 @@
 use std::num;
 
 pub fn text(words: &[u8]) {
-    io::write_all(libc::STDOUT_FILENO, words);
+    io::write_all(1, words);
 }
 
 pub fn number(n: u64) {
-    io::print_decimal(libc::STDOUT_FILENO, n);
+    io::print_decimal(1, n);
 }
 
 // A space, and a number.
@@ -47,12 +47,12 @@ pub fn refused_at(number: u8, k: usize) {
 // A space, and a byte in hexadecimal.
 fn byte(b: u8) {
     text(b" ");
-    io::print_hex(libc::STDOUT_FILENO, b as u64, 2);
+    io::print_hex(1, b as u64, 2);
 }
 
 // A word in hexadecimal.
 pub fn hex(word: u32) {
-    io::print_hex(libc::STDOUT_FILENO, word as u64, 8);
+    io::print_hex(1, word as u64, 8);
 }
 
 pub fn bytes(list: &[u8]) {

@@ -13,7 +13,7 @@ use vectors_shared::print;
 // How many steps are left, a change and the lookups after it by turns; the next drawn number; the lookups so far; and how often each
 // answer came: a refusal at its number, added, replaced and removed at 11, 12 and 13, and at 14 how often one of these said that
 // bits were cleared.
-#[derive(Drop)]
+#[derive(Clone, Copy)]
 pub struct Draws {
     pub left: u32,
     pub x: u64,

@@ -8,7 +8,7 @@ use vectors_probes::looks::Sums;
 
 // Its letter; the route that it names; its numbers, of an edit or of a look; and for drawn lookups the number to draw from and the sums that
 // they are counted on.
-#[derive(Drop)]
+#[derive(Clone, Copy)]
 pub struct Step {
     pub letter: u8,
     pub route: Route,
@@ -18,7 +18,7 @@ pub struct Step {
 }
 
 // The state after a step, and what the step said.
-#[derive(Drop)]
+#[derive(Clone, Copy)]
 pub struct Turn {
     pub table: Table,
     pub said: Said,

@@ -81,7 +81,7 @@ pub fn show(k: usize, v: &[u64], from: usize) {
 }
 
 // A call, what it answers, and that bits were cleared; with the answer's numbers.
-#[derive(Drop)]
+#[derive(Clone, Copy)]
 pub struct Said {
     pub call: usize,
     pub answer: usize,

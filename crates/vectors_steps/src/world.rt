@@ -12,14 +12,14 @@ use vectors_probes::{linear, looks};
 use vectors_script::Line;
 
 // The input of a load, and how many records it has.
-#[derive(Drop)]
+#[derive(Clone, Copy)]
 pub struct Input {
     pub bytes: [u8; 192],
     pub records: usize,
 }
 
 // The state of the table, the place in the script, the drawn changes, and the input of a load.
-#[derive(Drop)]
+#[derive(Clone, Copy)]
 pub struct World {
     pub table: Table,
     pub at: usize,

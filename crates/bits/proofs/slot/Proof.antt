@@ -9,7 +9,7 @@ pub slot_spec : {M : Type 1} → statement M
 slot_spec =
     tie.close
     (tie.spec
-    (λ c. sym (slot-zero _ _ c.before.ranges.addr.fits c.if1.true))
+    (λ c. sym (slot-zero _ _ c.before.ranges.addr.fits c.if-p-eq0.true))
     (λ c. search rules)
     (λ c. search rules)
     (λ c. search rules))
