@@ -1,5 +1,7 @@
 // Bits of 32-bit numbers: the first bits of an address, and ones counted below a bit. And numbers of other widths: their
 // bytes, and numbers made wider or narrower.
+#![tactic(auto)]
+
 ghost use Rattle.std.specs.Prelude.{◌≡◌, ◌%◌, ◌^◌, ◌≤◌, ◌<◌, eqb};
 ghost use Rattle.std.specs.Int.Count.{ones};
 ghost use Rattle.bits.specs.Slot.{slot, cut, mask};

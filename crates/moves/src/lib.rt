@@ -1,5 +1,7 @@
 // Numbers moved by some places within their array, up or down, over those that stand there. Callers give the step as a constant, so that the
 // compiler puts it in.
+#![tactic(auto)]
+
 ghost use Rattle.std.specs.Prelude.{◌≡◌, length};
 ghost use Rattle.moves.specs.Moves.{moved_up, moved_down, Movable};
 

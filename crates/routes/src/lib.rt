@@ -1,4 +1,6 @@
 // Routes, what is wrong with one by itself, and the prefix that an address and a length mean.
+#![tactic(auto)]
+
 pub mod input;
 pub mod prefix;
 

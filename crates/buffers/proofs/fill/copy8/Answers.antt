@@ -1,15 +1,12 @@
-use Rattle.std.proofs.Common.{rules, ◌≡◌, ◌≤◌, length, ℕ, ◌+◌, ◌-◌, ◌*◌, ◌<◌, ◌/◌, ◌%◌, Bool, true, false, nat_eq, nat_lt, List, [], ◌∷◌, ◌++◌, slice_index_or, slice_set, bit_and, bit_or, Fits, w8, w32, w64, Bor, MutBor}
-use Rattle.buffers.specs.Fill.{Range, filled, all_set, copied, padded}
+use native.Mathlib.Omega.{arith}
+use Rattle.buffers.proofs.Copies.{copying-none, copying-more, copying-all}
 use Rattle.buffers.proofs.fill.copy8.Goals as goal
 
--- src/fill.rt:64:5
 pub loop-i-init : goal.loop-i-init
-loop-i-init c = ?
+loop-i-init c = copying-none
 
--- src/fill.rt:64:5
 pub loop-i-preserved : goal.loop-i-preserved
-loop-i-preserved c = ?
+loop-i-preserved c = copying-more c.loop-i.invariant (omega arith)
 
--- src/fill.rt:58:1
 pub returns : goal.returns
-returns c = ?
+returns c = copying-all c.loop-i.invariant (omega arith)
