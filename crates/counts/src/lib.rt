@@ -1,1 +1,2 @@
 // How many long routes a cell holds, and what is stored of it. This crate has definitions and proofs, and no code.
+#![tactic(auto)]
