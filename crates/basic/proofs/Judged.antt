@@ -129,7 +129,7 @@ module _ (s bs cs : List ℕ) (a : ℕ) where
   lookup-only _ (BasicLookup.unready x u) =
       let e = unready-only s bs cs x u in
       ap (λ (y : Said). and_then y (met_said (basic_walk (routes_in s) bs cs a))) e ∙ bad-stops x _ (unready-refuses u)
-  lookup-only _ (BasicLookup.in_List p h w l) =
+  lookup-only _ (BasicLookup.in_list p h w l) =
       let f = good-fine (routes_in s) (good p) w.route w.listed in
       prepared-walk (suc h) p (walk-list (routes_in s) bs cs a (good p) h w l)
       ∙ hop-said h (omega (arith, w.its_hop, f.hop_one)) (omega (arith, w.its_hop, f.hop_ok))
@@ -161,7 +161,7 @@ module _ (s bs cs : List ℕ) (a : ℕ) where
 
       list : Prepared s bs cs → (r : Route) → Memᴰ r (routes_in s) → 16 < r.len → covers 32 a r ≡ true → {h : ℕ} → Best (routes_in s) 32 a h → Judged
       list p r m l c (Best.none z n) = absurd (true≢false (sym c ∙ n r m))
-      list p r m l c (Best.one w) = told (BasicLookup.in_List p _ w (omega (arith, w.longest r m c)))
+      list p r m l c (Best.one w) = told (BasicLookup.in_list p _ w (omega (arith, w.longest r m c)))
 
       long : Prepared s bs cs → First longer (routes_in s) → Judged
       long p (First.found r m t z) =

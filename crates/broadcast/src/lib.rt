@@ -1,5 +1,7 @@
 // Directed broadcast: whether an address is the highest one of the attached network that it lies in. The older rule counts networks of 0 to 31
 // bits. The newer leaves out those of 31, whose two addresses are two hosts (RFC 3021).
+#![tactic(auto)]
+
 ghost use Rattle.std.specs.Prelude.{◌≡◌};
 ghost use Rattle.routes.specs.Record.{GoodInput, routes_in};
 ghost use Rattle.routes.specs.Route.{Prefix};

@@ -41,7 +41,7 @@ unready-fits P s bs cs short (Unready.bad_size n g h) = FitsWord.number 2 (omega
 looked-fits : (most : ℕ) (s bs cs : List ℕ) (a : ℕ) → ((x : Said) → Unready s bs cs x → FitsWord most HopFits x)
     → {x : Said} → BasicLookup s bs cs a x → FitsWord most HopFits x
 looked-fits most s bs cs a off (BasicLookup.unready x u) = off x u
-looked-fits most s bs cs a off (BasicLookup.in_List p h w l) =
+looked-fits most s bs cs a off (BasicLookup.in_list p h w l) =
     let f = good-fine (routes_in s) (records-good s (length s / 8) p.input.records) w.route w.listed in
     FitsWord.values _ (HopFits.hop h (omega (arith, w.its_hop, f.hop_one)) (omega (arith, w.its_hop, f.hop_ok)))
 looked-fits most s bs cs a off (BasicLookup.met p n l f lo hi) = FitsWord.values _ (HopFits.hop _ lo (omega arith))

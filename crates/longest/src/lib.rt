@@ -1,4 +1,6 @@
 // The longest record that covers an address, found in an ascending list by halving. No list is scanned, and nothing is built.
+#![tactic(auto)]
+
 ghost use Rattle.std.specs.Prelude.{◌≡◌, ◌+◌, ◌≤◌};
 ghost use Rattle.bits.specs.Slot.{cut};
 ghost use Rattle.routes.specs.Record.{Records};
