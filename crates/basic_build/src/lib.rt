@@ -1,5 +1,6 @@
 // The build of the maps from a record input: the hops of the short routes go into their cells, then the bits follow from the cells.
 #![tactic(auto)]
+
 ghost use Rattle.std.specs.Prelude.{◌≡◌, ◌+◌, ◌*◌, ◌<◌, length};
 ghost use Rattle.bits.specs.Bit.{packed_bits};
 ghost use Rattle.bits.specs.Count.{bit};

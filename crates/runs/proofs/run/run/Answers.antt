@@ -28,24 +28,24 @@ returns-in_default c =
 pub overflow_mul-a : goal.overflow_mul-a
 unfolding means_run_check
 overflow_mul-a c =
-    omega (arith, run_room _ _ _ _ _ ((let told_here : run_said c.args.list.now c.args.addr c.args.len ≡ accepted (c.in-Run.start ∷ c.in-Run.count ∷ []) unfolding means_run_check = sym c.run_check.ensures ∙ ap means_run_check c.in-Run.is in told_here)))
+    omega (arith, run_room _ _ _ _ _ ((let told_here : run_said c.args.list.now c.args.addr c.args.len ≡ accepted (c.in-Run.start ∷ c.in-Run.count ∷ []) = sym c.run_check.ensures ∙ ap means_run_check c.in-Run.is in told_here)))
 
 pub overflow_mul-e : goal.overflow_mul-e
 unfolding means_run_check
 overflow_mul-e c =
-    omega (arith, run_room _ _ _ _ _ ((let told_here : run_said c.args.list.now c.args.addr c.args.len ≡ accepted (c.in-Run.start ∷ c.in-Run.count ∷ []) unfolding means_run_check = sym c.run_check.ensures ∙ ap means_run_check c.in-Run.is in told_here)))
+    omega (arith, run_room _ _ _ _ _ ((let told_here : run_said c.args.list.now c.args.addr c.args.len ≡ accepted (c.in-Run.start ∷ c.in-Run.count ∷ []) = sym c.run_check.ensures ∙ ap means_run_check c.in-Run.is in told_here)))
 
 pub overflow_add-e : goal.overflow_add-e
 unfolding means_run_check
 overflow_add-e c =
-    omega (arith, run_room _ _ _ _ _ ((let told_here : run_said c.args.list.now c.args.addr c.args.len ≡ accepted (c.in-Run.start ∷ c.in-Run.count ∷ []) unfolding means_run_check = sym c.run_check.ensures ∙ ap means_run_check c.in-Run.is in told_here)))
+    omega (arith, run_room _ _ _ _ _ ((let told_here : run_said c.args.list.now c.args.addr c.args.len ≡ accepted (c.in-Run.start ∷ c.in-Run.count ∷ []) = sym c.run_check.ensures ∙ ap means_run_check c.in-Run.is in told_here)))
 
 pub slice_bounds-result-end-2 : goal.slice_bounds-result-end-2
 unfolding means_run_check
 slice_bounds-result-end-2 c =
-    omega (arith, run_room _ _ _ _ _ ((let told_here : run_said c.args.list.now c.args.addr c.args.len ≡ accepted (c.in-Run.start ∷ c.in-Run.count ∷ []) unfolding means_run_check = sym c.run_check.ensures ∙ ap means_run_check c.in-Run.is in told_here)))
+    omega (arith, run_room _ _ _ _ _ ((let told_here : run_said c.args.list.now c.args.addr c.args.len ≡ accepted (c.in-Run.start ∷ c.in-Run.count ∷ []) = sym c.run_check.ensures ∙ ap means_run_check c.in-Run.is in told_here)))
 
 pub returns : goal.returns
 unfolding means_run_check
 returns c =
-    is-run _ _ _ _ _ _ ((let told_here : run_said c.args.list.now c.args.addr c.args.len ≡ accepted (c.in-Run.start ∷ c.in-Run.count ∷ []) unfolding means_run_check = sym c.run_check.ensures ∙ ap means_run_check c.in-Run.is in told_here)) _ _ refl refl (omega arith) (omega arith)
+    is-run _ _ _ _ _ _ ((let told_here : run_said c.args.list.now c.args.addr c.args.len ≡ accepted (c.in-Run.start ∷ c.in-Run.count ∷ []) = sym c.run_check.ensures ∙ ap means_run_check c.in-Run.is in told_here)) _ _ refl refl (omega arith) (omega arith)

@@ -35,7 +35,7 @@ overflow_sub-result c =
 
 pub returns-else-not-prefix_ok : goal.returns-else-not-prefix_ok
 returns-else-not-prefix_ok c =
-    says-run _ _ _ _ ((let told_here : input_said c.args.list.now ≡ accepted (c.in-Good.n ∷ []) = told-good _ _ c.check_input.ensures _ c.in-Good.is in told_here)) _ c.prefix_ok.ensures _ _ _ _ c.if-not-prefix_ok.false c.place-start.ensures.0
+    says-run _ _ _ _ ((let told_here : input_said c.args.list.now ≡ accepted (c.in-Good.n ∷ []) = told-good _ _ c.check_input.ensures _ c.in-Good.is in told_here)) _ c.prefix_ok.ensures _ _ _ _ (ap not c.if-not-prefix_ok.false) c.place-start.ensures.0
     c.key_of.ensures.0 c.place-end.ensures.0 c.past_key.ensures
 
 pub returns-in-Refused : goal.returns-in-Refused
