@@ -6,7 +6,7 @@ use Prim.Native.Nat.{ℕ, ◌/◌}
 use native.Mathlib.Omega.{arith}
 use lib.ListN.{length}
 use Rattle.routes.specs.Record.{routes_of, GoodInput, routes_in}
-use Rattle.routes.specs.Said.{Said, accepted, refused, refused_at, accepts}
+use Rattle.routes.specs.Said.{Said, accepted, accepts}
 use Rattle.basic.specs.Maps.{map_cells, map_bits}
 use Rattle.basic.specs.Meaning.{Prepared}
 use Rattle.basic.specs.Calls.{ready_said, means_ready, means_basic_answer}

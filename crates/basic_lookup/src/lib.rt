@@ -1,4 +1,6 @@
 // Lookup in bit maps: down from the longest length, first in the record list, then in the maps.
+#![tactic(auto)]
+
 ghost use Rattle.std.specs.Prelude.{◌≡◌, ◌≤◌, length};
 ghost use Rattle.routes.specs.Record.{GoodInput, routes_in};
 ghost use Rattle.standing.specs.Down.{down};

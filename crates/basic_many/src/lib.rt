@@ -1,4 +1,6 @@
 // Many lookups in bit maps: input and sizes are checked once, and each word is what one lookup answers.
+#![tactic(auto)]
+
 ghost use Rattle.std.specs.Prelude.{◌≡◌, length};
 ghost use Rattle.routes.specs.Record.{GoodInput};
 ghost use Rattle.basic.specs.Maps.{MapSizes};

@@ -1,4 +1,6 @@
 // A route's line, written into a lent buffer.
+#![tactic(auto)]
+
 ghost use Rattle.text_pieces.specs.Wrote.{TextRoom, Wrote};
 ghost use Rattle.text_routes.specs.RouteLine.{mark_text, route_line};
 

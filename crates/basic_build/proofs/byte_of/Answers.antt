@@ -12,8 +12,7 @@ pub overflow_add-byte : goal.overflow_add-byte
 overflow_add-byte c =
     let lent = c.args in
     let f : ℕ → Bool = λ k. hop_there lent.cells.now (8 * lent.j + k) in
-    let c = c.loop-b in
-    let small = byte_small f c.b c.byte c.bit_of.result c.loop-b-test.true c.invariant.1 c.bit_of.ensures in
+    let small = byte_small f c.loop-b.b c.loop-b.byte c.bit_of.result c.loop-b-test.true c.loop-b.invariant.1 c.bit_of.ensures in
     record { fits = omega (arith, small) }
 
 pub loop-b-preserved : goal.loop-b-preserved

@@ -18,11 +18,10 @@ bounds-bits-j c = omega (arith, c.loop-j.invariant.0)
 
 pub loop-j-preserved : goal.loop-j-preserved
 loop-j-preserved c =
-    let c = c.loop-j in
     let cells = c.args.cells.now in
     let byte : ℕ → ℕ = λ i. packed_bits (λ b. hop_there cells (8 * i + b)) 8 in
-    let done = stored_more byte c.bits c.j _ (omega (arith, c.invariant.0)) c.invariant.1 c.byte_of.ensures in
-    (simp length-set c.invariant.0, done)
+    let done = stored_more byte c.loop-j.bits c.loop-j.j _ (omega (arith, c.loop-j.invariant.0)) c.loop-j.invariant.1 c.byte_of.ensures in
+    (simp length-set c.loop-j.invariant.0, done)
 
 pub returns : goal.returns
 returns c = bytes-all _ _ _ c.loop-j.invariant.0 (omega arith) c.loop-j.invariant.1

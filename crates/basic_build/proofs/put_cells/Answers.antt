@@ -14,9 +14,8 @@ put-requires c = c.loop-k.invariant.1.size
 pub loop-k-preserved : goal.loop-k-preserved
 loop-k-preserved c =
     let records = c.requires.0 in
-    let c = c.loop-k in
     let turn = c.loop-k-test.true in
-    (omega arith, put-more _ _ records _ _ _ _ turn c.read_record.ensures c.put.ensures c.invariant.1)
+    (omega arith, put-more _ _ records _ _ _ _ turn c.read_record.ensures c.put.ensures c.loop-k.invariant.1)
 
 pub returns : goal.returns
 returns c =

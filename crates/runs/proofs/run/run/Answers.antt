@@ -1,6 +1,6 @@
 -- `runs::run::run`: the part that the check found, or the empty part at the start.
 use mathlib.Core.Path.{◌≡◌, refl, sym, ap, ◌∙◌}
-use mathlib.Core.Logic.{⊎_elim}
+use Rattle.std.proofs.Common.{ℕ}
 use mathlib.Core.List.{[], ◌∷◌}
 use mathlib.Core.Bool.{false}
 use native.Mathlib.Omega.{arith}
@@ -12,10 +12,9 @@ use Rattle.runs.proofs.Runs.{run_room, is-run, no_run}
 use Rattle.runs.proofs.run.run.Goals as goal
 
 -- what came to the `else` is no run
-not-run : (x : RunCheck) → types.Run.OneOf (1 ∷ 2 ∷ 3 ∷ []) (denote.Enum.Declared.tag_of Rattle.runs.specs.contracts.run.RunCheck.the_type x) → accepts
-    (means_run_check x) ≡ false
+not-run : (x : RunCheck) → ((start count : ℕ) → x ≡ Run start count → ⊥) → accepts (means_run_check x) ≡ false
 unfolding means_run_check
-not-run (Run start count) h = absurd (⊎_elim (λ (e : 0 ≡ 1). omega arith) (⊎_elim (λ (e : 0 ≡ 2). omega arith) (λ (e : 0 ≡ 3). omega arith)) h)
+not-run (Run start count) h = absurd (h start count refl)
 not-run (Refused f k) h = refl
 not-run TooMany h = refl
 not-run NoPrefix h = refl
@@ -23,7 +22,7 @@ not-run NoPrefix h = refl
 pub returns-in_default : goal.returns-in_default
 returns-in_default c =
     no_run _ _ _ _ (ap accepts (sym c.run_check.ensures) ∙ not-run c.run_check.result
-    c.match.keys2) refl refl
+    c.in_default.not-Run) refl refl
 
 pub overflow_mul-a : goal.overflow_mul-a
 unfolding means_run_check
