@@ -1,5 +1,5 @@
 -- Packets one after the other: what they leave of the records, and how many go by a hop.
-use Rattle.std.specs.Prelude.{◌≡◌, ℕ, ◌+◌, ◌^◌, ◌<◌, cond, List, [], ◌∷◌, ◌==◌}
+use Rattle.std.specs.Prelude.{ℕ, ◌+◌, ◌^◌, ◌<◌, cond, List, [], ◌∷◌, ◌==◌}
 use Rattle.routes.specs.Said.{Said}
 use Rattle.hop_records.specs.Records.{grown, is_up}
 use Rattle.hop_records.specs.Forward.{hop_of, records_after}

@@ -1,5 +1,7 @@
-// Hop records: a port, an up or down mark, and counts of packets and octets; hop h at place h of a lent list, counted from 1. Each function that
-// has a reference to a record is proved by a walk of its code, so there is one here, `send`; the others work on values.
+// Hop records: a port, an up or down mark, and counts of packets and octets; hop h at place h of a lent list, counted from 1. One function has a
+// reference to records, `send`; the others work on values.
+#![tactic(auto)]
+
 ghost use Rattle.std.specs.Prelude.{◌≡◌};
 ghost use Rattle.hop_records.specs.Records.{counted_by};
 ghost use Rattle.hop_records.specs.Steps.{sent_by, sent, record_word, plain_word, send_word, place_of_hop};

@@ -1,5 +1,7 @@
 // An answer as one number of 64 bits, from plain values. Which value stands in which bits is said with each definition in specs/; the crates above take
 // the answers of the calls apart.
+#![tactic(auto)]
+
 ghost use Rattle.std.specs.Prelude.{◌≡◌, ◌+◌, ◌*◌, ◌%◌, ◌^◌, ◌≤◌, ◌<◌};
 ghost use Rattle.bits.specs.Count.{bit};
 

@@ -1,4 +1,6 @@
 // The answers of the calls on bit maps.
+#![tactic(auto)]
+
 ghost use Rattle.std.specs.Prelude.{◌≡◌};
 ghost use Rattle.basic.specs.Calls.{means_basic_found, means_basic_answer, pack_hop};
 ghost use Rattle.packing.specs.Pack.{pack_none};

@@ -1,5 +1,7 @@
 // A script, read: steps, with a `;` or the end of a line after each. The first letter of a step says what it is, and its numbers are
 // those in it, in order. In brackets, it prints nothing.
+#![tactic(auto)]
+
 use std::num;
 
 // A step's first letter; whether it is in brackets; its numbers, how many there are, and whether the last byte was a digit; and where
