@@ -23,7 +23,11 @@ slice_bounds-cells_seen_ok-end-2 c = front-count c.chained_from.ensures
 
 pub cells_seen_ok-requires : goal.cells_seen_ok-requires
 cells_seen_ok-requires c =
-    let all = (c.chained_from.ensures.chained.ready, (celled-of _ _ c.requires.sized, beside-of _ _ c.requires.sized)) in record { chain_ready = all.0; celled = all.1.0; counts_beside = all.1.1 }
+    record {
+      chain_ready = c.chained_from.ensures.chained.ready;
+      celled = celled-of _ _ c.requires.sized;
+      counts_beside = beside-of _ _ c.requires.sized;
+    }
 
 pub returns : goal.returns
 returns c =
