@@ -10,19 +10,28 @@ returns-then-not-prefix_ok c = announced-three _ _ _ _ _ _ c.prefix_ok.ensures (
 
 pub returns-then-not-hop_ok : goal.returns-then-not-hop_ok
 returns-then-not-hop_ok c =
-    announced-four _ _ ((let prefix_here : PassedPrefix = proper _ _ c.prefix_ok.ensures (ap not c.if-not-prefix_ok.false) in prefix_here)) _ _ c.hop_ok.ensures (ap not c.if-not-hop_ok.true)
+    -- the tests that passed
+    let prefix : PassedPrefix = proper _ _ c.prefix_ok.ensures (ap not c.if-not-prefix_ok.false) in
+    announced-four _ _ prefix _ _ c.hop_ok.ensures (ap not c.if-not-hop_ok.true)
 
 pub returns-then-n-eq0 : goal.returns-then-n-eq0
 returns-then-n-eq0 c =
-    announced-broken _ _ ((let prefix_here : PassedPrefix = proper _ _ c.prefix_ok.ensures (ap not c.if-not-prefix_ok.false) in prefix_here)) _ c.check-n.ensures ((let hop_here : PassedHop = fine _ c.hop_ok.ensures (ap not c.if-not-hop_ok.false) in hop_here)) c.if-n-eq0.true
+    let prefix : PassedPrefix = proper _ _ c.prefix_ok.ensures (ap not c.if-not-prefix_ok.false) in
+    let hop : PassedHop = fine _ c.hop_ok.ensures (ap not c.if-not-hop_ok.false) in
+    announced-broken _ _ prefix _ c.check-n.ensures hop c.if-n-eq0.true
 
 pub put-requires : goal.put-requires
-put-requires c = (
+put-requires c =
+    let prefix : PassedPrefix = proper _ _ c.prefix_ok.ensures (ap not c.if-not-prefix_ok.false) in
+    let hop : PassedHop = fine _ c.hop_ok.ensures (ap not c.if-not-hop_ok.false) in
+    (
   is-formed _ _ _ (λ j. (c.slice_known-1.given j).fits) c.check-n.ensures c.if-n-eq0.false,
-  passed-route ((let prefix_here : PassedPrefix = proper _ _ c.prefix_ok.ensures (ap not c.if-not-prefix_ok.false) in prefix_here)) ((let hop_here : PassedHop = fine _ c.hop_ok.ensures (ap not c.if-not-hop_ok.false) in hop_here)) c.byte_to_word.ensures.0,
+  passed-route prefix hop c.byte_to_word.ensures.0,
 )
 
 pub returns : goal.returns
 returns c =
-    announced-formed _ _ ((let prefix_here : PassedPrefix = proper _ _ c.prefix_ok.ensures (ap not c.if-not-prefix_ok.false) in prefix_here)) _ c.check-n.ensures ((let hop_here : PassedHop = fine _ c.hop_ok.ensures (ap not c.if-not-hop_ok.false) in hop_here)) c.if-n-eq0.false c.byte_to_word.ensures.0
+    let prefix : PassedPrefix = proper _ _ c.prefix_ok.ensures (ap not c.if-not-prefix_ok.false) in
+    let hop : PassedHop = fine _ c.hop_ok.ensures (ap not c.if-not-hop_ok.false) in
+    announced-formed _ _ prefix _ c.check-n.ensures hop c.if-n-eq0.false c.byte_to_word.ensures.0
     c.put.ensures

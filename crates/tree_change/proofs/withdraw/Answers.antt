@@ -9,14 +9,19 @@ returns-then-not-prefix_ok c = withdrawn-three _ _ _ _ _ c.prefix_ok.ensures (ap
 
 pub returns-then-n-eq0 : goal.returns-then-n-eq0
 returns-then-n-eq0 c =
-    withdrawn-broken _ _ ((let prefix_here : PassedPrefix = proper _ _ c.prefix_ok.ensures (ap not c.if-not-prefix_ok.false) in prefix_here)) _ c.check-n.ensures c.if-n-eq0.true
+    -- the test that passed
+    let prefix : PassedPrefix = proper _ _ c.prefix_ok.ensures (ap not c.if-not-prefix_ok.false) in
+    withdrawn-broken _ _ prefix _ c.check-n.ensures c.if-n-eq0.true
 
 pub take-requires : goal.take-requires
-take-requires c = (
+take-requires c =
+    let prefix : PassedPrefix = proper _ _ c.prefix_ok.ensures (ap not c.if-not-prefix_ok.false) in
+    (
   is-formed _ _ _ (λ j. (c.slice_known-1.given j).fits) c.check-n.ensures c.if-n-eq0.false,
-  passed-prefix ((let prefix_here : PassedPrefix = proper _ _ c.prefix_ok.ensures (ap not c.if-not-prefix_ok.false) in prefix_here)) c.byte_to_word.ensures.0,
+  passed-prefix prefix c.byte_to_word.ensures.0,
 )
 
 pub returns : goal.returns
 returns c =
-    withdrawn-formed _ _ ((let prefix_here : PassedPrefix = proper _ _ c.prefix_ok.ensures (ap not c.if-not-prefix_ok.false) in prefix_here)) _ c.check-n.ensures c.if-n-eq0.false c.byte_to_word.ensures.0 c.take.ensures
+    let prefix : PassedPrefix = proper _ _ c.prefix_ok.ensures (ap not c.if-not-prefix_ok.false) in
+    withdrawn-formed _ _ prefix _ c.check-n.ensures c.if-n-eq0.false c.byte_to_word.ensures.0 c.take.ensures
