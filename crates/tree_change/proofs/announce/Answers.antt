@@ -23,11 +23,10 @@ returns-then-n-eq0 c =
 pub put-requires : goal.put-requires
 put-requires c =
     let prefix : PassedPrefix = proper _ _ c.prefix_ok.ensures (ap not c.if-not-prefix_ok.false) in
-    let hop : PassedHop = fine _ c.hop_ok.ensures (ap not c.if-not-hop_ok.false) in
-    (
-  is-formed _ _ _ (λ j. (c.slice_known-1.given j).fits) c.check-n.ensures c.if-n-eq0.false,
-  passed-route prefix hop c.byte_to_word.ensures.0,
-)
+    let hop : PassedHop = fine _ c.hop_ok.ensures (ap not c.if-not-hop_ok.false) in (
+      is-formed _ _ _ (λ j. (c.slice_known-1.given j).fits) c.check-n.ensures c.if-n-eq0.false,
+      passed-route prefix hop c.byte_to_word.ensures.0,
+    )
 
 pub returns : goal.returns
 returns c =

@@ -15,11 +15,10 @@ returns-then-n-eq0 c =
 
 pub take-requires : goal.take-requires
 take-requires c =
-    let prefix : PassedPrefix = proper _ _ c.prefix_ok.ensures (ap not c.if-not-prefix_ok.false) in
-    (
-  is-formed _ _ _ (λ j. (c.slice_known-1.given j).fits) c.check-n.ensures c.if-n-eq0.false,
-  passed-prefix prefix c.byte_to_word.ensures.0,
-)
+    let prefix : PassedPrefix = proper _ _ c.prefix_ok.ensures (ap not c.if-not-prefix_ok.false) in (
+      is-formed _ _ _ (λ j. (c.slice_known-1.given j).fits) c.check-n.ensures c.if-n-eq0.false,
+      passed-prefix prefix c.byte_to_word.ensures.0,
+    )
 
 pub returns : goal.returns
 returns c =
