@@ -1,5 +1,7 @@
 // What a router does with a packet, over a table. The header step: the header is judged, its destination looked up, and with a hop
 // the header is lowered.
+#![tactic(auto)]
+
 pub mod pairs;
 
 ghost use Rattle.sail.specs.Lent.{lent};

@@ -1,5 +1,7 @@
 // Two parties in one box: what is lent for both, what their calls answer and leave, and the theorems on them. This crate has
 // definitions and proofs, and no code but the types of the state: the calls are written and proved in the crates above it.
+#![tactic(auto)]
+
 use sail::geometry::Geometry;
 
 // One party's share: how many routes its list holds, and how many chunks of either pool it may use.

@@ -1,5 +1,7 @@
 // A party's lookup in a box of two: the walk from a first cell of its own down to a leaf, which breaks off at a chunk of the
 // other's.
+#![tactic(auto)]
+
 ghost use Rattle.std.specs.Prelude.{◌≡◌, ◌≤◌, length};
 ghost use Rattle.sail.specs.Lent.{cells};
 ghost use Rattle.sail.specs.Sizes.{Celled};

@@ -1,4 +1,6 @@
 // The owners of a pool that two parties share, as either sees them.
+#![tactic(auto)]
+
 ghost use Rattle.std.specs.Prelude.{◌≡◌, ◌<◌, length};
 ghost use Rattle.bits.specs.Tab.{Tells};
 ghost use Rattle.pair.specs.Party.{party_of, seen, view};

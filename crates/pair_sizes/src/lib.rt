@@ -1,4 +1,6 @@
 // Whether what is lent for two parties has the sizes that the geometry asks for.
+#![tactic(auto)]
+
 ghost use Rattle.pair.specs.PairLent.{pair_lent};
 ghost use Rattle.pair.specs.PairSound.{PairSizesTold};
 

@@ -1,4 +1,6 @@
 // A party's part of the state of a box. `guest` tells whether the party is the second.
+#![tactic(auto)]
+
 ghost use Rattle.std.specs.Prelude.{◌≡◌};
 ghost use Rattle.pair.specs.Party.{party_of};
 ghost use Rattle.pair.specs.PairSound.{table_for};

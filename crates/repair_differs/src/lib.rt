@@ -1,5 +1,7 @@
 // How many cells of a table differ from those that a load of an input would leave, counted before anything is written: the owners that
 // the load would leave are settled, and the words of its routes made, in room of its own.
+#![tactic(auto)]
+
 ghost use Rattle.std.specs.Prelude.{length};
 ghost use Rattle.sail_theory.specs.Calls.{input_routes};
 ghost use Rattle.repair_levels.specs.Levels.{Differing, wanted};

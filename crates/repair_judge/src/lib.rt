@@ -1,4 +1,6 @@
 // Whether a table may be put right: what is kept of its list, and whether there are chunks for it.
+#![tactic(auto)]
+
 ghost use Rattle.repair_judge.specs.Judge.{RepairReady, SizesFirst};
 
 use repair_keep::{keep, looked};

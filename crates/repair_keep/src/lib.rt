@@ -1,4 +1,6 @@
 // What is kept of a list that may be damaged: each record that is valid and larger than the last one kept.
+#![tactic(auto)]
+
 ghost use Rattle.std.specs.Prelude.{◌≡◌, min};
 ghost use Rattle.repair_keep.specs.Keep.{Keeps, KeptIn};
 

@@ -1,5 +1,7 @@
 // How many cells of a level that are to be leaves, or 0 in a free chunk, hold something else: each block of cells is compared with its
 // plan, and free chunks with 0.
+#![tactic(auto)]
+
 ghost use Rattle.std.specs.Prelude.{◌+◌, ◌-◌, ◌*◌, ◌^◌, ◌≡◌, length, get_or};
 ghost use Rattle.chain.specs.Words.{routes_of_words};
 ghost use Rattle.plan.specs.Plan.{plan};

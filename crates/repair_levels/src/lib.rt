@@ -1,5 +1,7 @@
 // How many cells of the three levels differ from what routes and owners ask for: those that are to be leaves or 0, and those that are to
 // name a chunk. The latter are compared with that chunk's number, by one pass over the owners.
+#![tactic(auto)]
+
 ghost use Rattle.std.specs.Prelude.{length};
 ghost use Rattle.chain.specs.Words.{routes_of_words};
 ghost use Rattle.sail.specs.Lent.{cells};

@@ -1,5 +1,7 @@
 // The test of cells: blocks and chunks of them beside the routes. The same functions serve every level and every chunk
 // size. Scratch for the plan of a block is lent to them.
+#![tactic(auto)]
+
 ghost use Rattle.std.specs.Prelude.{◌≡◌, ◌+◌, ◌*◌, ◌^◌, ◌≤◌, ◌<◌, length, get_or};
 ghost use Rattle.bits.specs.Tab.{Tells};
 ghost use Rattle.chain.specs.Words.{routes_of_words};

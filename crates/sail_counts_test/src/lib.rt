@@ -1,6 +1,8 @@
 // The test of the counts. A cell from which no chunk hangs counts 0: one plain pass over cells and counts says so, without
 // an early end, so that many cells can be done at a time. The others are the cells of the routes longer than the level. In
 // the list the routes of one cell stand side by side, and their number is the cell's count.
+#![tactic(auto)]
+
 ghost use Rattle.std.specs.Prelude.{◌≡◌, cond, ◌≤◌, ◌<◌, length};
 ghost use Rattle.bits.specs.Tab.{Tells};
 ghost use Rattle.chain.specs.Words.{routes_of_words};

@@ -1,2 +1,4 @@
 // A table loaded from a record input.
+#![tactic(auto)]
+
 pub mod load;

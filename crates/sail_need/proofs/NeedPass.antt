@@ -33,7 +33,7 @@ long-top r rs p i w h e = any_some (within p i) rs (i ≤ slot p r.addr) e (λ s
 pub last_snoc : (p d : ℕ) (xs : List Route) (r : Route) → last_long p d (xs ++ (r ∷ [])) ≡ cond (ltb p r.len) (suc (slot p r.addr)) (last_long p d xs)
 unfolding last_long
 last_snoc p d [] r = refl
-last_snoc p d (x ∷ xs) r = last_snoc p _ xs r
+last_snoc p d (x ∷ xs) r = last_snoc p (cond (ltb p x.len) (suc (slot p x.addr)) d) xs r
 
 -- what is kept after the route x, where d was kept
 abbrev latest : ℕ → ℕ → Route → ℕ
@@ -43,7 +43,7 @@ latest p d x = cond (ltb p x.len) (suc (slot p x.addr)) d
 last-long : (p d : ℕ) (xs : List Route) (j : ℕ) → last_long p d xs ≡ suc j → (d ≡ suc j) ⊎ (long xs p j ≡ true)
 unfolding last_long any
 last-long p d [] j e = inl e
-last-long p d (x ∷ xs) j e = go (decided (ltb p x.len)) (last-long p _ xs j e)
+last-long p d (x ∷ xs) j e = go (decided (ltb p x.len)) (last-long p (latest p d x) xs j e)
   where
     go : (ltb p x.len ≡ true) ⊎ (ltb p x.len ≡ false) → (latest p d x ≡ suc j) ⊎ (long xs p j ≡ true)
         → (d ≡ suc j) ⊎ (long (x ∷ xs) p j ≡ true)
@@ -61,7 +61,7 @@ key-slot p x y h k l = shr_mono (32 - p) (omega arith)
 last-le : (p d : ℕ) (xs : List Route) → ((s : Route) → Memᴰ s xs → d ≤ suc (slot p s.addr)) → Good xs → d ≤ last_long p d xs
 unfolding last_long Good
 last-le p d [] h g = le_refl d
-last-le p d (x ∷ xs) h g = go (decided (ltb p x.len)) (last-le p _ xs)
+last-le p d (x ∷ xs) h g = go (decided (ltb p x.len)) (last-le p (latest p d x) xs)
   where
     here : d ≤ suc (slot p x.addr)
     here = h x (Memᴰ.head refl)
@@ -79,7 +79,7 @@ last-le p d (x ∷ xs) h g = go (decided (ltb p x.len)) (last-le p _ xs)
 last-top : (p d : ℕ) (xs : List Route) (i : ℕ) → Good xs → long xs p i ≡ true → i < last_long p d xs
 unfolding last_long any Good
 last-top p d [] i g e = absurd (false≢true e)
-last-top p d (x ∷ xs) i g e = go (or_split (within p i x) (long xs p i) e) (last-top p _ xs i g.2)
+last-top p d (x ∷ xs) i g e = go (or_split (within p i x) (long xs p i) e) (last-top p (latest p d x) xs i g.2)
   where
     go : (within p i x ≡ true) ⊎ (long xs p i ≡ true) → (long xs p i ≡ true → i < last_long p (latest p d x) xs) → i < last_long p (latest p d x) xs
     go (inr k) ih = ih k

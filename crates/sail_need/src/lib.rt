@@ -1,4 +1,6 @@
 // How many chunks the routes of a list need, counted in one pass; and whether what is lent is enough for them.
+#![tactic(auto)]
+
 ghost use Rattle.std.specs.Prelude.{◌≡◌, ◌≤◌};
 ghost use Rattle.standing.specs.Cells.{need};
 ghost use Rattle.routes.specs.Record.{routes_of};

@@ -1,4 +1,6 @@
 // All that is lent, written anew for the routes of an input: nothing of what it held is read.
+#![tactic(auto)]
+
 ghost use Rattle.std.specs.Prelude.{◌≡◌};
 ghost use Rattle.sail.specs.Lent.{lent};
 ghost use Rattle.sail_renew.specs.Renew.{Layable, laid_in, Wiped, Renewable, anew};

@@ -1,4 +1,6 @@
 // Whether what is lent with a table has the sizes that its geometry asks for.
+#![tactic(auto)]
+
 ghost use Rattle.std.specs.Prelude.{◌≡◌};
 ghost use Rattle.sail.specs.Geometry.{Valid};
 ghost use Rattle.sail.specs.Lent.{lent};

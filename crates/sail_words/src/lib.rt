@@ -1,5 +1,7 @@
 // Lookups that answer with a word: of one address, and of many with one check of geometry and sizes. The walk answers with the
 // word itself, so nothing is packed after it.
+#![tactic(auto)]
+
 ghost use Rattle.std.specs.Prelude.{◌≡◌};
 ghost use Rattle.sail.specs.Geometry.{standard_geo};
 ghost use Rattle.sail.specs.Lent.{lent};

@@ -1,4 +1,6 @@
 // Lookup in a tree bitmap image: three words for each node, and the hops beside them.
+#![tactic(auto)]
+
 ghost use Rattle.tree.specs.Contract.{MeetsTreeLookup};
 
 use tree_image::{Place, TreeFound};

@@ -1,5 +1,7 @@
 // The nodes of an image one by one: whether their bases are those of the fixed order. Each node is compared with the next one, with no early end, so
 // that it can be done several nodes at a time.
+#![tactic(auto)]
+
 ghost use Rattle.std.specs.Prelude.{◌≡◌, ◌+◌, ◌*◌, ◌/◌, ◌^◌, ◌<◌, ◌≤◌, length, count_ones};
 ghost use Rattle.bits.specs.Tab.{Tells};
 ghost use Rattle.tree_image.specs.Node.{bits_of, child_of};

@@ -1,4 +1,6 @@
 // The build of a tree bitmap image from a record input.
+#![tactic(auto)]
+
 ghost use Rattle.std.specs.Prelude.{◌≡◌};
 ghost use Rattle.routes.specs.Record.{GoodInput, routes_in};
 ghost use Rattle.tree_build.specs.Built.{means_built, image_out, made_of};

@@ -1,4 +1,6 @@
 // The test of an image: its bases in one pass, then its nodes from the root down, its hops, and zeros after the last used.
+#![tactic(auto)]
+
 pub mod nodes;
 
 ghost use Rattle.std.specs.Prelude.{true, ◌≡◌, ◌+◌, ◌*◌, ◌≤◌, ◌<◌, length};

@@ -1,5 +1,7 @@
 // An image filled in lent arrays that have the room for it. The words serve as the queue of nodes: the root waits first, and each node that is taken
 // gets its words and leaves its children waiting.
+#![tactic(auto)]
+
 ghost use Rattle.std.specs.Prelude.{◌+◌, length};
 ghost use Rattle.tree_fill.specs.Fill.{ImageRoom, State, NodeWaits, ImageFilled};
 

@@ -1,5 +1,7 @@
 // A node more in an image, or one less, in place: an empty child put under a node or taken away. What is left is exactly the image with that node or
 // without it.
+#![tactic(auto)]
+
 ghost use Rattle.tree_hold.specs.Edits.{Grafted, Pruned, Prunable};
 ghost use Rattle.tree_graft.specs.Ready.{GraftReady};
 

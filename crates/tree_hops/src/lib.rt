@@ -1,4 +1,6 @@
 // A hop more in an image, or one less, in place: what is left is exactly the image of the routes with it or without it.
+#![tactic(auto)]
+
 ghost use Rattle.tree_same.specs.Read.{hop_place_at};
 ghost use Rattle.tree_hold.specs.Edits.{HopPut, HopTaken, Takable};
 ghost use Rattle.tree_hops.specs.Ready.{PutReady};

@@ -1,5 +1,6 @@
 // What an image is and what a lookup in it says: definitions, laws, and the two types that they speak of. The code of the
 // lookup is `tree`.
+#![tactic(auto)]
 
 // Where the hop of the deepest match stands among the hops.
 #[derive(Clone, Copy)]

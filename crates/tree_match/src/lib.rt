@@ -1,4 +1,6 @@
 // What a lookup takes from one node of an image: its longest match, the place of that match's hop, the child that is next; and at last the hop itself.
+#![tactic(auto)]
+
 ghost use Rattle.std.specs.Prelude.{◌≡◌, ◌≤◌, ◌<◌};
 ghost use Rattle.tree_image.specs.Node.{nibble_of, try_bit, deepest_of, better_of, child_at};
 ghost use Rattle.tree_image.specs.Walk.{means_tree_found, fetched_from};

@@ -1,4 +1,6 @@
 // What an edit of an image in place rests on: the places of a child and of a hop, a bit cleared, and bases raised and lowered.
+#![tactic(auto)]
+
 pub mod bases;
 
 ghost use Rattle.std.specs.Prelude.{◌≡◌, true, ◌+◌, ◌*◌, ◌^◌, ◌≤◌, ◌<◌, length};

@@ -1,4 +1,6 @@
 // Whether arrays have the room for an image: refusals 11 and 12, for a build and for an announcement alike.
+#![tactic(auto)]
+
 ghost use Rattle.tree_room.specs.Lack.{Lack};
 
 // What so many words and hops lack for an image of so many nodes and routes: 11 where they are too few whole nodes, 12 where the hops are too few,

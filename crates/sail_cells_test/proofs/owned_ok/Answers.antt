@@ -1,0 +1,10 @@
+-- `sail_cells_test::owned_ok`. Whether the cell at place q of the pool above names chunk c, and the chunk is as the routes ask for the cells of level
+-- p that lie in cell i of level p - d.
+use Rattle.sail_cells_test.proofs.Chunks.{not_named, named-tells}
+use Rattle.sail_cells_test.proofs.owned_ok.Goals as goal
+
+pub returns-then-half_to_index-c : goal.returns-then-half_to_index-c
+returns-then-half_to_index-c c = not_named _ _ _ _ _ _ _ _ _ _ _ c.if-half_to_index-c.true c.half_to_index.ensures
+
+pub returns : goal.returns
+returns c = search named-tells
