@@ -1,4 +1,6 @@
 // Route fields of BGP messages: list A written as one, and bytes that are fields, or none. The file stdout has what document 02 and RFC 4271 say of them.
+#![tactic(auto)]
+
 mod field;
 
 fn main() {

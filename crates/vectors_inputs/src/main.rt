@@ -1,6 +1,8 @@
 // Runs the worked cases of record inputs, and prints what they give: masks, records and their check, runs, tallies, printed text, and directed
 // broadcast, of which a line has an address and what versions 1 and 2 say of it, or a version and its refusal. The file stdout has what the
 // documents and RFC 3021 say of them.
+#![tactic(auto)]
+
 mod casts;
 mod inputs;
 mod lines;
