@@ -1,5 +1,7 @@
 // One prefix more or less in a table that is known to be sound, with the words of its list and their chain at hand; what is left is
 // sound again, and the chain is that of its list.
+#![tactic(auto)]
+
 ghost use Rattle.std.specs.Prelude.{◌≡◌};
 ghost use Rattle.routes.specs.Route.{Prefix};
 ghost use Rattle.sail.specs.Lent.{lent};

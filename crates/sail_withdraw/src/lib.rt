@@ -1,4 +1,6 @@
 // Withdraw: a route is taken out of a table.
+#![tactic(auto)]
+
 ghost use Rattle.sail.specs.Lent.{lent};
 ghost use Rattle.sail_withdraw.specs.Contract.{MeetsWithdraw};
 
