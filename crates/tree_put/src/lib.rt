@@ -1,5 +1,7 @@
 // A route put to an image that was found well formed, or a prefix taken from it: what speaks against it is told (6, 11, 12, or 9), and where nothing
 // does the image is changed.
+#![tactic(auto)]
+
 ghost use Rattle.std.specs.Prelude.{◌≡◌};
 ghost use Rattle.routes.specs.Route.{Fine, Prefix};
 ghost use Rattle.tree_build.specs.Built.{image_out};
