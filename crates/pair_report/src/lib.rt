@@ -1,5 +1,7 @@
 // A party's report on a box of two: its route count and both its needs. In a sound box a party uses as many chunks as its routes
 // need, so the owners that it sees are counted, and no route is looked at again.
+#![tactic(auto)]
+
 ghost use Rattle.std.specs.Prelude.{◌≡◌};
 ghost use Rattle.chain.specs.List.{Scratch};
 ghost use Rattle.sail_sound.specs.Report.{means_reported};
