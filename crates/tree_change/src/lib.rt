@@ -1,5 +1,7 @@
 // Announce and withdraw on an image itself: no list, no state and no copy of it. The image is tested first; what the change leaves is what a
 // build of the routes then standing would.
+#![tactic(auto)]
+
 ghost use Rattle.tree_change.specs.Contract.{MeetsTreeAnnounce, MeetsTreeWithdraw};
 
 use bits::widen::byte_to_word;

@@ -7,20 +7,33 @@ use Rattle.tree_graft.proofs.graft.Goals as goal
 
 pub up32-requires : goal.up32-requires
 up32-requires c =
-    graft-open ((let put_here : After Grafting with_last = let found = grafting c.requires c.child_place-y.ensures.0 in after_first found (last-put found c.narrow.ensures c.narrow-2.ensures c.put_node.ensures) in put_here))
+    -- what is known after each step
+    let put : After Grafting with_last = let found = grafting c.requires c.child_place-y.ensures.0 in after_first found (last-put found c.narrow.ensures c.narrow-2.ensures c.put_node.ensures) in
+    graft-open put
 
 pub raise-requires : goal.raise-requires
 raise-requires c =
-    graft-raise ((let opened_here : After Grafting (λ g. gap_opened g (with_last g)) = after_next gap_opened ((let put_here : After Grafting with_last = let found = grafting c.requires c.child_place-y.ensures.0 in after_first found (last-put found c.narrow.ensures c.narrow-2.ensures c.put_node.ensures) in put_here)) c.up32.ensures in opened_here))
+    let put : After Grafting with_last = let found = grafting c.requires c.child_place-y.ensures.0 in after_first found (last-put found c.narrow.ensures c.narrow-2.ensures c.put_node.ensures) in
+    let opened : After Grafting (λ g. gap_opened g (with_last g)) = after_next gap_opened put c.up32.ensures in
+    graft-raise opened
 
 pub bounds-words-y : goal.bounds-words-y
 bounds-words-y c =
-    (graft-stores ((let raised_here : After Grafting (λ g. raising g (gap_opened g (with_last g))) = after_next raising ((let opened_here : After Grafting (λ g. gap_opened g (with_last g)) = after_next gap_opened ((let put_here : After Grafting with_last = let found = grafting c.requires c.child_place-y.ensures.0 in after_first found (last-put found c.narrow.ensures c.narrow-2.ensures c.put_node.ensures) in put_here)) c.up32.ensures in opened_here)) c.raise.ensures in raised_here))).0
+    let put : After Grafting with_last = let found = grafting c.requires c.child_place-y.ensures.0 in after_first found (last-put found c.narrow.ensures c.narrow-2.ensures c.put_node.ensures) in
+    let opened : After Grafting (λ g. gap_opened g (with_last g)) = after_next gap_opened put c.up32.ensures in
+    let raised : After Grafting (λ g. raising g (gap_opened g (with_last g))) = after_next raising opened c.raise.ensures in
+    (graft-stores raised).0
 
 pub bounds-words-x-2 : goal.bounds-words-x-2
 bounds-words-x-2 c =
-    simp length-set (graft-stores ((let raised_here : After Grafting (λ g. raising g (gap_opened g (with_last g))) = after_next raising ((let opened_here : After Grafting (λ g. gap_opened g (with_last g)) = after_next gap_opened ((let put_here : After Grafting with_last = let found = grafting c.requires c.child_place-y.ensures.0 in after_first found (last-put found c.narrow.ensures c.narrow-2.ensures c.put_node.ensures) in put_here)) c.up32.ensures in opened_here)) c.raise.ensures in raised_here))).1
+    let put : After Grafting with_last = let found = grafting c.requires c.child_place-y.ensures.0 in after_first found (last-put found c.narrow.ensures c.narrow-2.ensures c.put_node.ensures) in
+    let opened : After Grafting (λ g. gap_opened g (with_last g)) = after_next gap_opened put c.up32.ensures in
+    let raised : After Grafting (λ g. raising g (gap_opened g (with_last g))) = after_next raising opened c.raise.ensures in
+    simp length-set (graft-stores raised).1
 
 pub returns : goal.returns
 returns c =
-    graft-leaves ((let raised_here : After Grafting (λ g. raising g (gap_opened g (with_last g))) = after_next raising ((let opened_here : After Grafting (λ g. gap_opened g (with_last g)) = after_next gap_opened ((let put_here : After Grafting with_last = let found = grafting c.requires c.child_place-y.ensures.0 in after_first found (last-put found c.narrow.ensures c.narrow-2.ensures c.put_node.ensures) in put_here)) c.up32.ensures in opened_here)) c.raise.ensures in raised_here)) _ c.with_bit.ensures
+    let put : After Grafting with_last = let found = grafting c.requires c.child_place-y.ensures.0 in after_first found (last-put found c.narrow.ensures c.narrow-2.ensures c.put_node.ensures) in
+    let opened : After Grafting (λ g. gap_opened g (with_last g)) = after_next gap_opened put c.up32.ensures in
+    let raised : After Grafting (λ g. raising g (gap_opened g (with_last g))) = after_next raising opened c.raise.ensures in
+    graft-leaves raised _ c.with_bit.ensures

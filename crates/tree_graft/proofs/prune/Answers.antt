@@ -6,16 +6,27 @@ use Rattle.tree_graft.proofs.prune.Goals as goal
 
 pub lower-requires : goal.lower-requires
 lower-requires c =
-    prune-lower ((let found_here : Pruning = pruning c.requires c.child_place-y.ensures.0 c.without_bit.ensures in found_here))
+    -- what is known after each step
+    let found : Pruning = pruning c.requires c.child_place-y.ensures.0 c.without_bit.ensures in
+    prune-lower found
 
 pub down32-requires : goal.down32-requires
 down32-requires c =
-    prune-close ((let lowered_here : After Pruning (λ p. lowering p (bit_cleared p)) = after_first ((let found_here : Pruning = pruning c.requires c.child_place-y.ensures.0 c.without_bit.ensures in found_here)) c.lower.ensures in lowered_here))
+    let found : Pruning = pruning c.requires c.child_place-y.ensures.0 c.without_bit.ensures in
+    let lowered : After Pruning (λ p. lowering p (bit_cleared p)) = after_first found c.lower.ensures in
+    prune-close lowered
 
 pub put_node-requires : goal.put_node-requires
 put_node-requires c =
-    prune-put ((let closed_here : After Pruning (λ p. gap_closed p (lowering p (bit_cleared p))) = after_next gap_closed ((let lowered_here : After Pruning (λ p. lowering p (bit_cleared p)) = after_first ((let found_here : Pruning = pruning c.requires c.child_place-y.ensures.0 c.without_bit.ensures in found_here)) c.lower.ensures in lowered_here)) c.down32.ensures in closed_here))
+    let found : Pruning = pruning c.requires c.child_place-y.ensures.0 c.without_bit.ensures in
+    let lowered : After Pruning (λ p. lowering p (bit_cleared p)) = after_first found c.lower.ensures in
+    let closed : After Pruning (λ p. gap_closed p (lowering p (bit_cleared p))) = after_next gap_closed lowered c.down32.ensures in
+    prune-put closed
 
 pub returns : goal.returns
 returns c =
-    prune-leaves ((let blanked_here : After Pruning (λ p. blanking p (gap_closed p (lowering p (bit_cleared p)))) = after_next blanking ((let closed_here : After Pruning (λ p. gap_closed p (lowering p (bit_cleared p))) = after_next gap_closed ((let lowered_here : After Pruning (λ p. lowering p (bit_cleared p)) = after_first ((let found_here : Pruning = pruning c.requires c.child_place-y.ensures.0 c.without_bit.ensures in found_here)) c.lower.ensures in lowered_here)) c.down32.ensures in closed_here)) c.put_node.ensures in blanked_here))
+    let found : Pruning = pruning c.requires c.child_place-y.ensures.0 c.without_bit.ensures in
+    let lowered : After Pruning (λ p. lowering p (bit_cleared p)) = after_first found c.lower.ensures in
+    let closed : After Pruning (λ p. gap_closed p (lowering p (bit_cleared p))) = after_next gap_closed lowered c.down32.ensures in
+    let blanked : After Pruning (λ p. blanking p (gap_closed p (lowering p (bit_cleared p)))) = after_next blanking closed c.put_node.ensures in
+    prune-leaves blanked

@@ -4,15 +4,22 @@ use Rattle.tree_places.proofs.After.{After, after_first}
 use Rattle.tree_hops.proofs.put_hop.Goals as goal
 
 pub up16-requires : goal.up16-requires
-up16-requires c = put-open ((let found_here : PuttingHop = putting_hop c.requires c.hop_place-y.ensures.0 in found_here))
+up16-requires c =
+    -- what is known after each step
+    let found : PuttingHop = putting_hop c.requires c.hop_place-y.ensures.0 in
+    put-open found
 
 pub bounds-hops-y : goal.bounds-hops-y
 bounds-hops-y c =
-    put-store ((let opened_here : After PuttingHop hops_opened = after_first ((let found_here : PuttingHop = putting_hop c.requires c.hop_place-y.ensures.0 in found_here)) c.up16.ensures in opened_here))
+    let found : PuttingHop = putting_hop c.requires c.hop_place-y.ensures.0 in
+    let opened : After PuttingHop hops_opened = after_first found c.up16.ensures in
+    put-store opened
 
 pub raise-requires : goal.raise-requires
 raise-requires c = put-raise c.requires
 
 pub returns : goal.returns
 returns c =
-    put-leaves ((let opened_here : After PuttingHop hops_opened = after_first ((let found_here : PuttingHop = putting_hop c.requires c.hop_place-y.ensures.0 in found_here)) c.up16.ensures in opened_here)) _ c.raise.ensures c.with_bit.ensures
+    let found : PuttingHop = putting_hop c.requires c.hop_place-y.ensures.0 in
+    let opened : After PuttingHop hops_opened = after_first found c.up16.ensures in
+    put-leaves opened _ c.raise.ensures c.with_bit.ensures

@@ -5,12 +5,17 @@ use Rattle.tree_hops.proofs.take_hop.Goals as goal
 
 pub lower-requires : goal.lower-requires
 lower-requires c =
-    take-lower ((let found_here : TakingHop = taking_hop c.requires c.hop_place-y.ensures.0 c.without_bit.ensures in found_here))
+    -- what is known after each step
+    let found : TakingHop = taking_hop c.requires c.hop_place-y.ensures.0 c.without_bit.ensures in
+    take-lower found
 
 pub down16-requires : goal.down16-requires
 down16-requires c =
-    take-close ((let found_here : TakingHop = taking_hop c.requires c.hop_place-y.ensures.0 c.without_bit.ensures in found_here))
+    let found : TakingHop = taking_hop c.requires c.hop_place-y.ensures.0 c.without_bit.ensures in
+    take-close found
 
 pub returns : goal.returns
 returns c =
-    take-leaves ((let lowered_here : After TakingHop bases_lowered = after_first ((let found_here : TakingHop = taking_hop c.requires c.hop_place-y.ensures.0 c.without_bit.ensures in found_here)) c.lower.ensures in lowered_here)) c.down16.ensures
+    let found : TakingHop = taking_hop c.requires c.hop_place-y.ensures.0 c.without_bit.ensures in
+    let lowered : After TakingHop bases_lowered = after_first found c.lower.ensures in
+    take-leaves lowered c.down16.ensures

@@ -11,23 +11,33 @@ seek-end-requires c = ask-way c.requires.0 c.requires.1.prefix.len_ok
 
 pub replace-requires : goal.replace-requires
 replace-requires c =
-    (is-standing ((let standing_here : Stood = record { way = (let way_here : Way = walked c.requires.0 c.hops_in-k.ensures c.requires.1.prefix c.seek-end.ensures in way_here); there = c.if-end.true } in standing_here)), c.requires.1.hop_one, c.requires.1.hop_ok)
+    -- what is known at the end of the way
+    let way : Way = walked c.requires.0 c.hops_in-k.ensures c.requires.1.prefix c.seek-end.ensures in
+    let standing : Stood = record { way = way; there = c.if-end.true } in
+    (is-standing standing, c.requires.1.hop_one, c.requires.1.hop_ok)
 
 pub narrow-requires : goal.narrow-requires
 narrow-requires c =
-    omega (arith, (is-standing ((let standing_here : Stood = record { way = (let way_here : Way = walked c.requires.0 c.hops_in-k.ensures c.requires.1.prefix c.seek-end.ensures in way_here); there = c.if-end.true } in standing_here))).found.few_nodes)
+    let way : Way = walked c.requires.0 c.hops_in-k.ensures c.requires.1.prefix c.seek-end.ensures in
+    let standing : Stood = record { way = way; there = c.if-end.true } in
+    omega (arith, (is-standing standing).found.few_nodes)
 
 pub narrow-requires-then-end : goal.narrow-requires-then-end
 narrow-requires-then-end c =
-    omega (arith, (is-standing ((let standing_here : Stood = record { way = (let way_here : Way = walked c.requires.0 c.hops_in-k.ensures c.requires.1.prefix c.seek-end.ensures in way_here); there = c.if-end.true } in standing_here))).found.few_hops)
+    let way : Way = walked c.requires.0 c.hops_in-k.ensures c.requires.1.prefix c.seek-end.ensures in
+    let standing : Stood = record { way = way; there = c.if-end.true } in
+    omega (arith, (is-standing standing).found.few_hops)
 
 pub returns-then-end : goal.returns-then-end
 returns-then-end c =
-    told-replaced (is-standing ((let standing_here : Stood = record { way = (let way_here : Way = walked c.requires.0 c.hops_in-k.ensures c.requires.1.prefix c.seek-end.ensures in way_here); there = c.if-end.true } in standing_here))) _ c.replace.ensures _ _ c.narrow.ensures c.narrow-then-end.ensures
+    let way : Way = walked c.requires.0 c.hops_in-k.ensures c.requires.1.prefix c.seek-end.ensures in
+    let standing : Stood = record { way = way; there = c.if-end.true } in
+    told-replaced (is-standing standing) _ c.replace.ensures _ _ c.narrow.ensures c.narrow-then-end.ensures
 
 pub put_new-requires : goal.put_new-requires
 put_new-requires c =
-    is-new ((let way_here : Way = walked c.requires.0 c.hops_in-k.ensures c.requires.1.prefix c.seek-end.ensures in way_here)) _ c.requires.1 c.if-end.false
+    let way : Way = walked c.requires.0 c.hops_in-k.ensures c.requires.1.prefix c.seek-end.ensures in
+    is-new way _ c.requires.1 c.if-end.false
 
 pub returns : goal.returns
 returns c = c.put_new.ensures
