@@ -1,5 +1,7 @@
 // Runs worked cases of the bit maps, and prints what they give. The file stdout has what document 02 and the figure of source document
 // 000 say of them.
+#![tactic(auto)]
+
 mod case;
 mod damage;
 mod maps;
