@@ -7,36 +7,27 @@ use Rattle.sail_sound.specs.Report.{means_reported}
 use Rattle.pair_report.proofs.Reports.{both-sized, few-chunks, report-off, report-on}
 use Rattle.pair_report.proofs.report.Goals as goal
 
-pub sizes-z-requires : goal.sizes-z-requires
-unfolding means_reported
-sizes-z-requires c = tt
-
 pub returns-then-z-ne0 : goal.returns-then-z-ne0
 unfolding means_reported
 returns-then-z-ne0 c = report-off _ _ _ c.sizes-z.ensures _ c.if-z-ne0.true
 
 pub slice_bounds-see2-end : goal.slice_bounds-see2-end
-unfolding means_reported
 slice_bounds-see2-end c = omega (arith, (few-chunks _ _ (both-sized _ _ _ c.sizes-z.ensures c.if-z-ne0.false)).0)
 
 pub slice_bounds-report_sized-end : goal.slice_bounds-report_sized-end
-unfolding means_reported
 slice_bounds-report_sized-end c =
     let z = both-sized _ _ _ c.sizes-z.ensures c.if-z-ne0.false in
     sym (length-take-le _ _ (omega (arith, (few-chunks _ _ z).0)))
 
 pub slice_bounds-see3-end : goal.slice_bounds-see3-end
-unfolding means_reported
 slice_bounds-see3-end c = omega (arith, (few-chunks _ _ (both-sized _ _ _ c.sizes-z.ensures c.if-z-ne0.false)).1)
 
 pub slice_bounds-report_sized-end-2 : goal.slice_bounds-report_sized-end-2
-unfolding means_reported
 slice_bounds-report_sized-end-2 c =
     let z = both-sized _ _ _ c.sizes-z.ensures c.if-z-ne0.false in
     sym (length-take-le _ _ (omega (arith, (few-chunks _ _ z).1)))
 
 pub report_sized-requires : goal.report_sized-requires
-unfolding means_reported
 report_sized-requires c =
     let z = both-sized _ _ _ c.sizes-z.ensures c.if-z-ne0.false in
     record {

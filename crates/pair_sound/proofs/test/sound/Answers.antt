@@ -14,6 +14,7 @@ pools_ok-requires c = pools-ready _ _ c.requires.both_sized
 pub returns-then-not-pools_ok : goal.returns-then-not-pools_ok
 returns-then-not-pools_ok c = no-pools _ _ c.requires.both_sized _ c.pools_ok.ensures (ap not c.if-not-pools_ok.true)
 
+-- the second party calls
 pub party_ok-requires : goal.party_ok-requires
 party_ok-requires c =
     let z = c.requires in
@@ -36,6 +37,7 @@ returns-then-guest c =
     second-told _ _ c.requires.both_sized _ c.limits_ok.ensures (ap not c.if-not-limits_ok.false) _ c.pools_ok.ensures (ap not c.if-not-pools_ok.false) _ c.party_ok.ensures.tells
     (ap not c.if-not-party_ok.false) _ c.if-guest.true _ _ _ _ _ c.party_ok-then-guest.ensures
 
+-- the first party calls
 pub party_ok-requires-2 : goal.party_ok-requires-2
 party_ok-requires-2 c =
     let z = c.requires in
