@@ -1,4 +1,6 @@
 // A route put into a sound table that has room for it, or in the place of the one of its prefix.
+#![tactic(auto)]
+
 ghost use Rattle.std.specs.Prelude.{◌≡◌, ◌≤◌};
 ghost use Rattle.chain.specs.List.{ChainedFront};
 ghost use Rattle.lists.specs.Edit.{count_with};

@@ -1,4 +1,6 @@
 // Announce: a route is added to a table, or replaces the one of its prefix.
+#![tactic(auto)]
+
 ghost use Rattle.std.specs.Prelude.{[], ◌∷◌, ◌≡◌};
 ghost use Rattle.bits.specs.Count.{bit};
 ghost use Rattle.routes.specs.Said.{accepted};

@@ -1,4 +1,6 @@
 // A route taken out of a sound table in which it stands. Others may use the table's pools too: what they hold there is not read, and stays.
+#![tactic(auto)]
+
 ghost use Rattle.chain.specs.List.{ChainedFront};
 ghost use Rattle.sail.specs.Lent.{lent};
 ghost use Rattle.sail_take.specs.Taken.{ToTakeIn, TakenIn};
