@@ -1,4 +1,6 @@
 // The answers of the calls on an image: build, lookup, the test and the changes.
+#![tactic(auto)]
+
 ghost use Rattle.std.specs.Prelude.{◌≡◌};
 ghost use Rattle.sail.specs.Word.{pack_found};
 ghost use Rattle.tree_image.specs.Walk.{means_tree_found};

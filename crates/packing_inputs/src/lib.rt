@@ -1,4 +1,6 @@
 // The answers of the calls on a record input: its check, a route, a run, a broadcast; a tally as words.
+#![tactic(auto)]
+
 ghost use Rattle.std.specs.Prelude.{◌≡◌};
 ghost use Rattle.routes.specs.Answers.{means_input, means_got};
 ghost use Rattle.runs.specs.Run.{means_run_check};

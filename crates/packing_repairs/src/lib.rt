@@ -1,4 +1,6 @@
 // The answer of a repair: a number, and four words beside it.
+#![tactic(auto)]
+
 ghost use Rattle.std.specs.Prelude.{◌≡◌, length};
 ghost use Rattle.repair.specs.Answers.{means_repaired};
 ghost use Rattle.packing_repairs.specs.Repairs.{pack_count, told_in, words_fault};

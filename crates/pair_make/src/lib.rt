@@ -1,4 +1,6 @@
 // Make for two parties: a fresh box.
+#![tactic(auto)]
+
 ghost use Rattle.std.specs.Prelude.{◌≡◌};
 ghost use Rattle.pair.specs.PairLent.{pair_lent};
 ghost use Rattle.pair.specs.PairCalls.{fresh_pair_lent};

@@ -1,4 +1,6 @@
 // The text of what a load says where it refuses, and of a sound table, whose report says what stands: written into a lent buffer.
+#![tactic(auto)]
+
 ghost use Rattle.std.specs.Prelude.{◌≤◌, length};
 ghost use Rattle.sail.specs.Lent.{lent};
 ghost use Rattle.sail_load.specs.Answers.{means_loaded};
