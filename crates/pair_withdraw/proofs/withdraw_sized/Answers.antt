@@ -12,6 +12,7 @@ returns-then-not-sound c =
     let given = c.requires in
     box-unsound c.sound.ensures given.prefix given.both_sized (ap not c.if-not-sound.true)
 
+-- the second party calls
 pub withdraw_sound-requires : goal.withdraw_sound-requires
 withdraw_sound-requires c = second-ready _ c.sound.ensures (ap not c.if-not-sound.false) c.requires.prefix c.if-guest.true
 
@@ -19,6 +20,7 @@ pub returns-then-guest : goal.returns-then-guest
 returns-then-guest c =
     second-done _ c.sound.ensures (ap not c.if-not-sound.false) c.requires.prefix c.if-guest.true c.withdraw_sound.ensures.0
 
+-- the first party calls
 pub withdraw_sound-requires-2 : goal.withdraw_sound-requires-2
 withdraw_sound-requires-2 c = first-ready _ c.sound.ensures (ap not c.if-not-sound.false) c.requires.prefix c.if-guest.false
 
