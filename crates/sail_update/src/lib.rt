@@ -1,4 +1,6 @@
 // A message: prefixes that are withdrawn, and then prefixes that are announced with one hop.
+#![tactic(auto)]
+
 ghost use Rattle.sail.specs.Lent.{lent};
 ghost use Rattle.chain.specs.List.{Scratch};
 ghost use Rattle.fields.specs.Entry.{FieldFrom};
