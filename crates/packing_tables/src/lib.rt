@@ -1,4 +1,6 @@
 // The answers of the calls on a table: make, load, announce, withdraw and the report.
+#![tactic(auto)]
+
 ghost use Rattle.std.specs.Prelude.{◌≡◌};
 ghost use Rattle.sail_make.specs.Answers.{means_made};
 ghost use Rattle.sail_load.specs.Answers.{means_loaded};
