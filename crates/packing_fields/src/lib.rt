@@ -1,4 +1,6 @@
 // The answers of the calls on route fields: a field that was written, and a message that was dealt to a table.
+#![tactic(auto)]
+
 ghost use Rattle.std.specs.Prelude.{◌≡◌, ◌+◌, ◌*◌, ◌%◌, ◌^◌, ◌≤◌};
 ghost use Rattle.fields.specs.Written.{means_written};
 ghost use Rattle.sail_update.specs.Answers.{means_update};
