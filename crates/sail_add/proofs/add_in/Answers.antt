@@ -20,20 +20,23 @@ slice_bounds-repaint-end-2 c = front-count c.put_in-m.ensures.chain
 
 pub repaint-requires : goal.repaint-requires
 repaint-requires c =
-    front-stale (add-pending ((let known_put_here : PutIn = put_in c.requires.to_add_in c.put_in-m.ensures.list c.put_in-m.ensures.count (c.open.ensures.second, c.open.ensures.third) in known_put_here)) c.byte_to_word.ensures.0) c.put_in-m.ensures.chain
+    let known_put : PutIn =
+    put_in c.requires.to_add_in c.put_in-m.ensures.list c.put_in-m.ensures.count (c.open.ensures.second, c.open.ensures.third) in
+    front-stale (add-pending known_put c.byte_to_word.ensures.0) c.put_in-m.ensures.chain
 
 pub count_in-requires : goal.count_in-requires
 count_in-requires c =
-    add-bookable ((let known_put_here : PutIn = put_in c.requires.to_add_in c.put_in-m.ensures.list c.put_in-m.ensures.count (c.open.ensures.second, c.open.ensures.third) in known_put_here))
-    (from_list (add-pending ((let known_put_here : PutIn = put_in c.requires.to_add_in c.put_in-m.ensures.list c.put_in-m.ensures.count (c.open.ensures.second, c.open.ensures.third) in known_put_here)) c.byte_to_word.ensures.0) c.put_in-m.ensures.chain c.repaint.ensures)
+    let known_put : PutIn =
+    put_in c.requires.to_add_in c.put_in-m.ensures.list c.put_in-m.ensures.count (c.open.ensures.second, c.open.ensures.third) in
+    add-bookable known_put
+    (from_list (add-pending known_put c.byte_to_word.ensures.0) c.put_in-m.ensures.chain c.repaint.ensures)
 
 pub overflow_cast-result : goal.overflow_cast-result
 overflow_cast-result c = omega (arith, c.put_in-m.ensures.few)
 
 pub returns : goal.returns
-returns c = (
-  add_done ((let known_put_here : PutIn = put_in c.requires.to_add_in c.put_in-m.ensures.list c.put_in-m.ensures.count (c.open.ensures.second, c.open.ensures.third) in known_put_here))
-      (from_list (add-pending ((let known_put_here : PutIn = put_in c.requires.to_add_in c.put_in-m.ensures.list c.put_in-m.ensures.count (c.open.ensures.second, c.open.ensures.third) in known_put_here)) c.byte_to_word.ensures.0) c.put_in-m.ensures.chain c.repaint.ensures)
-      c.count_in.ensures c.count_in.auto.long1 c.count_in.auto.long2,
-  c.put_in-m.ensures.chain,
-)
+returns c =
+    let known_put : PutIn =
+    put_in c.requires.to_add_in c.put_in-m.ensures.list c.put_in-m.ensures.count (c.open.ensures.second, c.open.ensures.third) in
+    let painted = from_list (add-pending known_put c.byte_to_word.ensures.0) c.put_in-m.ensures.chain c.repaint.ensures in
+    (add_done known_put painted c.count_in.ensures c.count_in.auto.long1 c.count_in.auto.long2, c.put_in-m.ensures.chain)

@@ -18,29 +18,47 @@ tick-left-requires c = take-tickable c.requires.to_take_in
 
 pub overflow_sub-v : goal.overflow_sub-v
 overflow_sub-v c =
-    omega (arith, (take-one ((let off_counted_here : CountedOff = counted_off c.requires.to_take_in c.take_out-m.ensures.list c.take_out-m.ensures.count c.tick-left.ensures c.tick-left.auto.long1 c.tick-left.auto.long2 c.follow-v.ensures in off_counted_here))).0)
+    let off_counted : CountedOff =
+    counted_off c.requires.to_take_in c.take_out-m.ensures.list c.take_out-m.ensures.count c.tick-left.ensures c.tick-left.auto.long1
+    c.tick-left.auto.long2 c.follow-v.ensures in
+    omega (arith, (take-one off_counted).0)
 
 pub overflow_sub-p2 : goal.overflow_sub-p2
 overflow_sub-p2 c =
-    let valid = ((let off_counted_here : CountedOff = counted_off c.requires.to_take_in c.take_out-m.ensures.list c.take_out-m.ensures.count c.tick-left.ensures c.tick-left.auto.long1 c.tick-left.auto.long2 c.follow-v.ensures in off_counted_here)).ready.may.sound.sized.valid in
+    let off_counted : CountedOff =
+    counted_off c.requires.to_take_in c.take_out-m.ensures.list c.take_out-m.ensures.count c.tick-left.ensures c.tick-left.auto.long1
+    c.tick-left.auto.long2 c.follow-v.ensures in
+    let valid = off_counted.ready.may.sound.sized.valid in
     omega arith
 
 pub close-requires : goal.close-requires
 close-requires c =
-    take_second ((let off_counted_here : CountedOff = counted_off c.requires.to_take_in c.take_out-m.ensures.list c.take_out-m.ensures.count c.tick-left.ensures c.tick-left.auto.long1 c.tick-left.auto.long2 c.follow-v.ensures in off_counted_here))
+    let off_counted : CountedOff =
+    counted_off c.requires.to_take_in c.take_out-m.ensures.list c.take_out-m.ensures.count c.tick-left.ensures c.tick-left.auto.long1
+    c.tick-left.auto.long2 c.follow-v.ensures in
+    take_second off_counted
 
 pub overflow_sub-v-2 : goal.overflow_sub-v-2
 overflow_sub-v-2 c =
-    omega (arith, (take-one ((let off_counted_here : CountedOff = counted_off c.requires.to_take_in c.take_out-m.ensures.list c.take_out-m.ensures.count c.tick-left.ensures c.tick-left.auto.long1 c.tick-left.auto.long2 c.follow-v.ensures in off_counted_here))).1)
+    let off_counted : CountedOff =
+    counted_off c.requires.to_take_in c.take_out-m.ensures.list c.take_out-m.ensures.count c.tick-left.ensures c.tick-left.auto.long1
+    c.tick-left.auto.long2 c.follow-v.ensures in
+    omega (arith, (take-one off_counted).1)
 
 pub overflow_sub-p2-2 : goal.overflow_sub-p2-2
 overflow_sub-p2-2 c =
-    let valid = ((let off_counted_here : CountedOff = counted_off c.requires.to_take_in c.take_out-m.ensures.list c.take_out-m.ensures.count c.tick-left.ensures c.tick-left.auto.long1 c.tick-left.auto.long2 c.follow-v.ensures in off_counted_here)).ready.may.sound.sized.valid in
+    let off_counted : CountedOff =
+    counted_off c.requires.to_take_in c.take_out-m.ensures.list c.take_out-m.ensures.count c.tick-left.ensures c.tick-left.auto.long1
+    c.tick-left.auto.long2 c.follow-v.ensures in
+    let valid = off_counted.ready.may.sound.sized.valid in
     omega arith
 
 pub close-requires-2 : goal.close-requires-2
 close-requires-2 c =
-    take-third ((let off_counted_here : CountedOff = counted_off c.requires.to_take_in c.take_out-m.ensures.list c.take_out-m.ensures.count c.tick-left.ensures c.tick-left.auto.long1 c.tick-left.auto.long2 c.follow-v.ensures in off_counted_here))
+    let off_counted : CountedOff =
+    counted_off c.requires.to_take_in c.take_out-m.ensures.list c.take_out-m.ensures.count c.tick-left.ensures c.tick-left.auto.long1
+    c.tick-left.auto.long2 c.follow-v.ensures in
+    take-third off_counted
 
 pub slice_bounds-repaint-end : goal.slice_bounds-repaint-end
 slice_bounds-repaint-end c = front-in c.take_out-m.ensures.chain
@@ -50,7 +68,11 @@ slice_bounds-repaint-end-2 c = front-count c.take_out-m.ensures.chain
 
 pub repaint-requires : goal.repaint-requires
 repaint-requires c =
-    front-stale (take-pending ((let off_counted_here : CountedOff = counted_off c.requires.to_take_in c.take_out-m.ensures.list c.take_out-m.ensures.count c.tick-left.ensures c.tick-left.auto.long1 c.tick-left.auto.long2 c.follow-v.ensures in off_counted_here)) (c.close.ensures.owner, c.close.ensures.blank) (c.close-2.ensures.owner, c.close-2.ensures.blank) c.byte_to_word.ensures.0)
+    let off_counted : CountedOff =
+    counted_off c.requires.to_take_in c.take_out-m.ensures.list c.take_out-m.ensures.count c.tick-left.ensures c.tick-left.auto.long1
+    c.tick-left.auto.long2 c.follow-v.ensures in
+    front-stale (take-pending off_counted (c.close.ensures.owner, c.close.ensures.blank)
+    (c.close-2.ensures.owner, c.close-2.ensures.blank) c.byte_to_word.ensures.0)
     c.take_out-m.ensures.chain
 
 pub overflow_cast-result : goal.overflow_cast-result
@@ -58,8 +80,14 @@ overflow_cast-result c = omega (arith, c.take_out-m.ensures.few)
 
 pub returns : goal.returns
 returns c =
-    let pending = take-pending ((let off_counted_here : CountedOff = counted_off c.requires.to_take_in c.take_out-m.ensures.list c.take_out-m.ensures.count c.tick-left.ensures c.tick-left.auto.long1 c.tick-left.auto.long2 c.follow-v.ensures in off_counted_here)) (c.close.ensures.owner, c.close.ensures.blank) (c.close-2.ensures.owner, c.close-2.ensures.blank) c.byte_to_word.ensures.0 in
+    let off_counted : CountedOff =
+    counted_off c.requires.to_take_in c.take_out-m.ensures.list c.take_out-m.ensures.count c.tick-left.ensures c.tick-left.auto.long1
+    c.tick-left.auto.long2 c.follow-v.ensures in
+    let pending =
+    take-pending off_counted (c.close.ensures.owner, c.close.ensures.blank)
+    (c.close-2.ensures.owner, c.close-2.ensures.blank) c.byte_to_word.ensures.0 in
     let chain = c.take_out-m.ensures.chain in (
-      take_done ((let off_counted_here : CountedOff = counted_off c.requires.to_take_in c.take_out-m.ensures.list c.take_out-m.ensures.count c.tick-left.ensures c.tick-left.auto.long1 c.tick-left.auto.long2 c.follow-v.ensures in off_counted_here)) (c.close.ensures.owner, c.close.ensures.blank) (c.close-2.ensures.owner, c.close-2.ensures.blank) (from_list pending chain c.repaint.ensures),
+      take_done off_counted (c.close.ensures.owner, c.close.ensures.blank) (c.close-2.ensures.owner, c.close-2.ensures.blank)
+          (from_list pending chain c.repaint.ensures),
       chain,
     )

@@ -6,7 +6,9 @@ use Rattle.sail_update.proofs.withdraw_all.Given as goal
 
 abbrev pub invariant-loop-at : goal.invariant-loop-at
 invariant-loop-at l =
-    Withdrawing l.initial.u (lent l.initial.list l.initial.first l.initial.second l.initial.third l.initial.own2 l.initial.own3 l.initial.long1 l.initial.long2) l.field l.k l.at l.u (lent l.list l.first l.second l.third l.own2 l.own3 l.long1 l.long2) l.ws l.par
+    Withdrawing l.initial.u
+    (lent l.initial.list l.initial.first l.initial.second l.initial.third l.initial.own2 l.initial.own3 l.initial.long1 l.initial.long2)
+    l.field l.k l.at l.u (lent l.list l.first l.second l.third l.own2 l.own3 l.long1 l.long2) l.ws l.par
 
 abbrev pub decreases-loop-at : goal.decreases-loop-at
 decreases-loop-at l = l.n - l.at

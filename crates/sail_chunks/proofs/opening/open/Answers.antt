@@ -23,4 +23,7 @@ set_owner-requires-2 c = c.requires.third.free
 
 pub returns : goal.returns
 returns c =
-    record { second = opened-second _ _ _ _ _ _ _ c.requires _ _ c.slot.ensures c.set_owner.ensures; third = opened-third _ _ _ _ _ _ _ c.requires _ c.chunk_for-c.ensures.0 _ _ c.second_place-q.ensures.0 c.set_owner-2.ensures }
+    record {
+      second = opened-second _ _ _ _ _ _ _ c.requires _ _ c.slot.ensures c.set_owner.ensures;
+      third = opened-third _ _ _ _ _ _ _ c.requires _ c.chunk_for-c.ensures.0 _ _ c.second_place-q.ensures.0 c.set_owner-2.ensures;
+    }

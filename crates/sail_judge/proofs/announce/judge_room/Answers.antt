@@ -10,11 +10,13 @@ stands_at-requires c = record { records = c.requires.listed.records; place = c.p
 
 pub returns-then-stands_at : goal.returns-then-stands_at
 returns-then-stands_at c =
-    rw c.nothing.ensures (room-stands ((let looked_up_here : Sought = sought c.requires c.key_of-p.ensures.0 c.place-k.ensures.0 c.stands_at.ensures in looked_up_here)) c.if-stands_at.true)
+    let looked_up : Sought = sought c.requires c.key_of-p.ensures.0 c.place-k.ensures.0 c.stands_at.ensures in
+    rw c.nothing.ensures (room-stands looked_up c.if-stands_at.true)
 
 pub returns-then-list-n : goal.returns-then-list-n
 returns-then-list-n c =
-    room-full ((let looked_up_here : Sought = sought c.requires c.key_of-p.ensures.0 c.place-k.ensures.0 c.stands_at.ensures in looked_up_here)) c.if-stands_at.false c.if-list-n.true _ c.refusal.ensures
+    let looked_up : Sought = sought c.requires c.key_of-p.ensures.0 c.place-k.ensures.0 c.stands_at.ensures in
+    room-full looked_up c.if-stands_at.false c.if-list-n.true _ c.refusal.ensures
 
 pub to_open-o-requires : goal.to_open-o-requires
 to_open-o-requires c = c.requires.serving
@@ -24,15 +26,21 @@ wanting-requires c = c.requires.serving.few2
 
 pub returns-then-wanting : goal.returns-then-wanting
 returns-then-wanting c =
-    room-second ((let fits_here : RoomLeft = fitting ((let looked_up_here : Sought = sought c.requires c.key_of-p.ensures.0 c.place-k.ensures.0 c.stands_at.ensures in looked_up_here)) c.if-stands_at.false c.if-list-n.false c.to_open-o.ensures in fits_here)) c.wanting.ensures c.if-wanting.true _ c.refusal-then-wanting.ensures
+    let looked_up : Sought = sought c.requires c.key_of-p.ensures.0 c.place-k.ensures.0 c.stands_at.ensures in
+    let fits : RoomLeft = fitting looked_up c.if-stands_at.false c.if-list-n.false c.to_open-o.ensures in
+    room-second fits c.wanting.ensures c.if-wanting.true _ c.refusal-then-wanting.ensures
 
 pub wanting-requires-2 : goal.wanting-requires-2
 wanting-requires-2 c = c.requires.serving.few3
 
 pub returns-then-wanting-2 : goal.returns-then-wanting-2
 returns-then-wanting-2 c =
-    room-third ((let fits_here : RoomLeft = fitting ((let looked_up_here : Sought = sought c.requires c.key_of-p.ensures.0 c.place-k.ensures.0 c.stands_at.ensures in looked_up_here)) c.if-stands_at.false c.if-list-n.false c.to_open-o.ensures in fits_here)) c.wanting.ensures c.if-wanting.false c.wanting-2.ensures c.if-wanting-2.true _ c.refusal-then-wanting-2.ensures
+    let looked_up : Sought = sought c.requires c.key_of-p.ensures.0 c.place-k.ensures.0 c.stands_at.ensures in
+    let fits : RoomLeft = fitting looked_up c.if-stands_at.false c.if-list-n.false c.to_open-o.ensures in
+    room-third fits c.wanting.ensures c.if-wanting.false c.wanting-2.ensures c.if-wanting-2.true _ c.refusal-then-wanting-2.ensures
 
 pub returns : goal.returns
 returns c =
-    room-enough ((let fits_here : RoomLeft = fitting ((let looked_up_here : Sought = sought c.requires c.key_of-p.ensures.0 c.place-k.ensures.0 c.stands_at.ensures in looked_up_here)) c.if-stands_at.false c.if-list-n.false c.to_open-o.ensures in fits_here)) c.wanting.ensures c.if-wanting.false c.wanting-2.ensures c.if-wanting-2.false
+    let looked_up : Sought = sought c.requires c.key_of-p.ensures.0 c.place-k.ensures.0 c.stands_at.ensures in
+    let fits : RoomLeft = fitting looked_up c.if-stands_at.false c.if-list-n.false c.to_open-o.ensures in
+    room-enough fits c.wanting.ensures c.if-wanting.false c.wanting-2.ensures c.if-wanting-2.false
