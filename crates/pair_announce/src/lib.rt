@@ -1,4 +1,6 @@
 // Announce, for one of two parties in a box: a route is added to its table, or replaces the one of its prefix.
+#![tactic(auto)]
+
 ghost use Rattle.std.specs.Prelude.{[], ◌∷◌, ◌≡◌};
 ghost use Rattle.bits.specs.Count.{bit};
 ghost use Rattle.chain.specs.List.{Scratch};

@@ -1,4 +1,6 @@
 // Load in a box of two: a party's table is loaded from a record input, and nothing of the other's is touched.
+#![tactic(auto)]
+
 ghost use Rattle.pair.specs.Party.{party_of};
 ghost use Rattle.pair.specs.PairLent.{pair_lent};
 ghost use Rattle.pair_load.specs.Contract.{MeetsPairLoad};

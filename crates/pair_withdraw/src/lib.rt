@@ -1,4 +1,6 @@
 // Withdraw in a box of two: a party's route is taken out, and nothing of the other's is touched.
+#![tactic(auto)]
+
 ghost use Rattle.chain.specs.List.{Scratch};
 ghost use Rattle.routes.specs.Route.{Prefix};
 ghost use Rattle.pair.specs.Party.{party_of};
