@@ -1,5 +1,7 @@
 // All that the printing program does between its read and its write: a record input is loaded, and the text of the table, or of the
 // refusal, is written into a lent buffer.
+#![tactic(auto)]
+
 ghost use Rattle.std.specs.Prelude.{◌≤◌, length};
 ghost use Rattle.text_pieces.specs.Wrote.{Wrote};
 ghost use Rattle.print_said.specs.Standing.{page};

@@ -1,5 +1,7 @@
 // A repair that answers with a number, and tells what it did in four words beside it. Geometry, sizes and words are judged before
 // anything is written.
+#![tactic(auto)]
+
 ghost use Rattle.std.specs.Prelude.{◌≡◌};
 ghost use Rattle.sail.specs.Lent.{lent};
 ghost use Rattle.repair_words.specs.Repairs.{repair_card, repair_out};
