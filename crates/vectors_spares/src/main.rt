@@ -1,5 +1,7 @@
 // One image for one set of routes, on document 01's list A: by build and by its announcements in every order, with a detour and with a mark the
 // arrays are the same to the byte; with another hop or another prefix they are not. The file stdout has what document 02 says of them.
+#![tactic(auto)]
+
 mod apart;
 mod compare;
 mod orders;

@@ -1,4 +1,6 @@
 // What a script makes of a table's calls: the steps that it asks for or draws, what they say, and where it stands after each.
+#![tactic(auto)]
+
 pub mod draws;
 pub mod step;
 pub mod words;
