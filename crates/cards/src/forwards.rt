@@ -1,5 +1,5 @@
-// Packets and hop records: one counted by the word of its lookup, and one looked up and counted. Both have a reference to records, so their proofs
-// are walks of their code; all that depends on a word or a record is below them, in `hop_records`.
+// Packets and hop records: one counted by the word of its lookup, and one looked up and counted. All that depends on a word or a record is below them,
+// in `hop_records`.
 ghost use Rattle.hop_records.specs.Contract.{MeetsCount, MeetsForward};
 ghost use Rattle.sail.specs.Lent.{lent};
 ghost use Rattle.sail.specs.Walk.{lookup_said};

@@ -1,4 +1,6 @@
 // The calls as C sees them: slices as pointer and length, and each answer packed into one number.
+#![tactic(auto)]
+
 pub mod broadcasts;
 pub mod forwards;
 pub mod headers;

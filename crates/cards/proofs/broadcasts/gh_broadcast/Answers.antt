@@ -1,0 +1,7 @@
+-- `cards::broadcasts::gh_broadcast`: what the call inside says, packed.
+use mathlib.Core.Path.{ap, ◌∙◌}
+use Rattle.packing_inputs.specs.Casts.{pack_cast}
+use Rattle.cards.proofs.broadcasts.gh_broadcast.Goals as goal
+
+pub returns : goal.returns
+returns c = c.cast_word.ensures ∙ ap pack_cast c.broadcast.ensures

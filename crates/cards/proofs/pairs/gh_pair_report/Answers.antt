@@ -1,0 +1,6 @@
+-- `cards::pairs::gh_pair_report`. The party's route count and both its needs.
+use Rattle.cards.proofs.PairLaws.{pair-report-card}
+use Rattle.cards.proofs.pairs.gh_pair_report.Goals as goal
+
+pub returns : goal.returns
+returns c = pair-report-card _ _ c.state.ensures _ _ _ c.is_second.ensures _ _ c.report.ensures c.reported.ensures
