@@ -1,5 +1,7 @@
 // Takes packets one step each on list A's table, and prints the word that answers and the bytes that are left. The file stdout has what RFC 1071
 // and RFC 1624 make of the headers, and the numbers of document 02.
+#![tactic(auto)]
+
 mod lend;
 mod play;
 

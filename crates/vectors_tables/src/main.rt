@@ -1,6 +1,8 @@
 // Runs the worked cases of tables, as scripts, and prints what they give. The file stdout has what the documents say of them; of a repair
 // it was worked out by hand from document 02's request. The counts and sums of the long runs were worked out apart from this code, from
 // the same drawn numbers.
+#![tactic(auto)]
+
 mod by_hand;
 mod long;
 mod repairs;
