@@ -247,11 +247,11 @@ route-refused k = refl
 unfoldable pub in_memory : List ℕ → Bor (List ℕ)
 in_memory bytes = record { ref_ptr = (3, 4096); now = bytes }
 
-pub run-part : IsRun (in_memory list_a) (record { ref_ptr = (3, 4112); ghost_name = 1; now = drop 16 list_a }) (ip 10 1 0 0) 16
+pub run-part : IsRun (in_memory list_a) (record { ref_ptr = (3, 4112); now = drop 16 list_a }) (ip 10 1 0 0) 16
 unfolding in_memory run_of run_at run_said input_said list_a record_at place_of first_of first_from fault_at route_fault in_order proper_prefix hop_fine cut
 run-part = record { holds = refl; stands = refl }
 
-pub run-refused : IsRun (in_memory (1 ∷ [])) (record { ref_ptr = (3, 4096); ghost_name = 1; now = [] }) (ip 10 1 0 0) 16
+pub run-refused : IsRun (in_memory (1 ∷ [])) (record { ref_ptr = (3, 4096); now = [] }) (ip 10 1 0 0) 16
 unfolding in_memory run_of run_at run_said input_said
 run-refused = record { holds = refl; stands = refl }
 
