@@ -14,7 +14,7 @@ loop-k-preserved-then-least-key c =
       omega (arith, c.key_of-key.ensures.1),
       room,
       passed-more _ _ _ _ _ c.loop-k.invariant.4 _ c.read_record-r.ensures _
-          c.route_fault.ensures c.if-route_fault-eq0.true _
+          c.route_fault.ensures (omega arith) _
           c.key_of-key.ensures.0 c.if-least-key.true _
           c.write_record.ensures (omega (arith, c.requires.few)) room,
     )
@@ -26,7 +26,7 @@ loop-k-preserved-else-least-key c = (
   c.loop-k.invariant.2,
   c.loop-k.invariant.3,
   passed-small _ _ _ _ _ c.loop-k.invariant.4 _ c.read_record-r.ensures _ c.route_fault.ensures
-      c.if-route_fault-eq0.true _ c.key_of-key.ensures.0 c.if-least-key.false,
+      (omega arith) _ c.key_of-key.ensures.0 c.if-least-key.false,
 )
 
 pub loop-k-preserved : goal.loop-k-preserved
@@ -36,7 +36,7 @@ loop-k-preserved c = (
   c.loop-k.invariant.2,
   c.loop-k.invariant.3,
   passed-wrong _ _ _ _ _ c.loop-k.invariant.4 _ c.read_record-r.ensures _ c.route_fault.ensures
-      c.if-route_fault-eq0.false,
+      (omega arith),
 )
 
 pub returns : goal.returns
