@@ -33,7 +33,7 @@ node_ok-returns-then-left-eq0 t c = node-last _ _ _ c.requires (sym c.is_set.ens
 
 pub node_ok-returns-then-word-eq0 : goal.node_ok-returns-then-word-eq0
 node_ok-returns-then-word-eq0 t c =
-    node-bare _ _ _ c.requires (sym c.is_set.ensures ∙ c.if-is_set.false) c.if-left-eq0.false c.if-word-eq0.true
+    node-bare _ _ _ c.requires (sym c.is_set.ensures ∙ c.if-is_set.false) c.if-left-eq0.false (omega arith)
 
 pub node_ok-first_child-first-requires : goal.node_ok-first_child-first-requires
 node_ok-first_child-first-requires t c = omega (arith, siblings-lent _ _ _ _ c.requires)
@@ -51,5 +51,5 @@ node_ok-children_ok-requires t c =
 pub node_ok-returns : goal.node_ok-returns
 node_ok-returns t c =
     c.children_ok.ensures
-    ∙ node-inner _ _ _ c.requires (sym c.is_set.ensures ∙ c.if-is_set.false) c.if-left-eq0.false c.if-word-eq0.false _ _ c.first_child-first.ensures.0
+    ∙ node-inner _ _ _ c.requires (sym c.is_set.ensures ∙ c.if-is_set.false) c.if-left-eq0.false (omega arith) _ _ c.first_child-first.ensures.0
     (c.word_to_index-n.ensures.0 ∙ c.children.ensures.0)
