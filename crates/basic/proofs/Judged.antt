@@ -16,7 +16,7 @@ use Rattle.bits.proofs.Bools.{decided, equal?, and_split, both, untrue}
 use Rattle.routes.specs.Route.{Good}
 use Rattle.routes.specs.Input.{hop_fine}
 use Rattle.routes.specs.Record.{GoodInput, routes_in}
-use Rattle.routes.specs.Said.{Said, accepted, refused, refused_at, and_then, accepts}
+use Rattle.routes.specs.Said.{Said, accepted, refused, and_then, accepts}
 use Rattle.routes.specs.declared.Route.{Route}
 use Rattle.routes.proofs.Goods.{good-fine}
 use Rattle.routes.specs.Cases.{Passes}

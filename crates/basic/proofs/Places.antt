@@ -20,7 +20,8 @@ use Rattle.bits.proofs.Searches.{first_of-is, first_of-le, first_of-before}
 use Rattle.bits.proofs.Tabs.{get_d_tabulate}
 use Rattle.bits.proofs.Packed.{packed-bit}
 use Rattle.basic.specs.Maps.{map_place, level_of, prefix_of, is_set_at, hop_there, map_bits}
-use Rattle.basic.specs.Walk.{mapped}
+use Rattle.std.specs.Prelude.{Some, None}
+use Rattle.basic.specs.Walk.{mapped, as_met}
 
 twice : (l : ℕ) → 2 ^ suc l ≡ 2 ^ l + 2 ^ l
 twice l = pow-suc 2 l ∙ omega arith
@@ -85,19 +86,17 @@ pub set_told : (bs : List ℕ) (i w k : ℕ) (b : Bool) → b ≡ eqb (bit_at w 
 set_told bs i w k b e p q = rw (e, p, q)
 
 module _ (bs cs : List ℕ) (a l i : ℕ) (b : Bool) (e : i ≡ map_place l (slot l a)) (t : b ≡ is_set_at bs i) where
-  pub mapped-set : (h : ℕ) → b ≡ true → (h ≡ get_or cs i 0) × (h < 65536) → (1 + h ≡ mapped bs cs a l) × (1 + h ≤ 65536)
+  pub mapped-set : b ≡ true → as_met (Some (get_or cs i 0)) ≡ mapped bs cs a l
   unfolding mapped
-  mapped-set h s p =
-      let u = p.1 in
+  mapped-set s =
       let set : is_set_at bs (map_place l (slot l a)) ≡ true = rw (← e) (sym t ∙ s) in
-      let cell : get_or cs (map_place l (slot l a)) 0 ≡ h = rw (← e) (sym p.0) in
-      (rw (set, cell) (omega arith), omega arith)
+      rw (set, e)
 
-  pub mapped-clear : b ≡ false → (0 ≡ mapped bs cs a l) × (0 ≤ 65536)
+  pub mapped-clear : b ≡ false → as_met None ≡ mapped bs cs a l
   unfolding mapped
   mapped-clear s =
       let clear : is_set_at bs (map_place l (slot l a)) ≡ false = rw (← e) (sym t ∙ s) in
-      (rw clear, omega arith)
+      rw clear
 
 -- a bit of the maps is set exactly where its cell holds a hop
 pub set_is : (cs : List ℕ) (i : ℕ) → i < 131072 → is_set_at (map_bits cs) i ≡ hop_there cs i

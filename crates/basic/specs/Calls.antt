@@ -1,16 +1,11 @@
 -- What the calls say, of any input and any arrays.
-use Rattle.std.specs.Prelude.{Bool, cond, ◌&&◌, List, [], ◌∷◌, ℕ, ◌*◌, ◌/◌, ◌%◌, ◌^◌, eqb, length, get_or}
+use Rattle.std.specs.Prelude.{Bool, cond, ◌&&◌, List, [], ◌∷◌, ℕ, ◌*◌, ◌/◌, ◌%◌, ◌^◌, eqb, length, get_or, Option, Some, None, Result}
 use Rattle.bits.specs.Tab.{tabulate}
 use Rattle.routes.specs.Input.{input_said}
 use Rattle.routes.specs.Record.{routes_in}
-use Rattle.routes.specs.Said.{Said, accepted, refused, refused_at, and_then, packed, value}
+use Rattle.refusals.specs.declared.Refused.{Refused}
+use Rattle.routes.specs.Said.{Said, accepted, refused, refused_at, and_then, said_by, packed, value}
 use Rattle.basic.specs.Walk.{basic_walk, met_said}
-use Rattle.basic.specs.declared.check.Ready.{Ready}
-use Rattle.basic.specs.declared.check.Ready.TheVariants as ready
-use Rattle.basic.specs.declared.answers.BasicAnswer.{BasicAnswer}
-use Rattle.basic.specs.declared.answers.BasicAnswer.TheVariants as answer
-use Rattle.basic.specs.declared.answers.BasicFound.{BasicFound}
-use Rattle.basic.specs.declared.answers.BasicFound.TheVariants as found
 
 -- "16,384 bytes", "131,071 hop cells"
 unfoldable pub map_sizes_fit : ℕ → ℕ → Bool
@@ -20,27 +15,24 @@ map_sizes_fit bits cells = eqb bits 16384 && eqb cells 131071
 unfoldable pub ready_said : List ℕ → ℕ → ℕ → Said
 ready_said s bits cells = and_then (input_said s) (cond (map_sizes_fit bits cells) (accepted (length s / 8 ∷ [])) (refused 2))
 
-unfoldable pub means_ready : Ready → Said
-means_ready (ready.Good n) = accepted (n ∷ [])
-means_ready (ready.RefusedAt f k) = refused_at f k
-means_ready (ready.Refused f) = refused f
+abbrev pub means_ready : Result ℕ Refused → Said
+means_ready = said_by (λ n. n ∷ [])
 
 -- a lookup: those, then the walk's own answer
 unfoldable pub basic_said : List ℕ → List ℕ → List ℕ → ℕ → Said
 basic_said s bits cells a = and_then (ready_said s (length bits) (length cells)) (met_said (basic_walk (routes_in s) bits cells a))
 
 -- a hop; nothing where there is no route
-unfoldable pub means_basic_found : BasicFound → Said
-means_basic_found (found.Hop h) = accepted (h ∷ [])
-means_basic_found found.NoRoute = accepted []
-means_basic_found (found.RefusedAt f k) = refused_at f k
-means_basic_found (found.Refused f) = refused f
+abbrev pub if_hop : Option ℕ → List ℕ
+if_hop None = []
+if_hop (Some h) = h ∷ []
+
+abbrev pub means_basic_found : Result (Option ℕ) Refused → Said
+means_basic_found = said_by if_hop
 
 -- a call that fills arrays: done, or refused
-unfoldable pub means_basic_answer : BasicAnswer → Said
-means_basic_answer answer.Done = accepted []
-means_basic_answer (answer.RefusedAt f k) = refused_at f k
-means_basic_answer (answer.Refused f) = refused f
+abbrev pub means_basic_answer : Result (Unit {0}) Refused → Said
+means_basic_answer = said_by (λ _. [])
 
 -- a lookup's answer as one number: its hop in bits 16 to 31, 0 there for no route
 abbrev pub pack_hop : Said → ℕ

@@ -1,5 +1,5 @@
 -- The walk of a lookup, down from the longest length, in arrays of any content.
-use Rattle.std.specs.Prelude.{cond, List, [], ◌∷◌, ℕ, zero, suc, ltb}
+use Rattle.std.specs.Prelude.{cond, List, [], ◌∷◌, ℕ, zero, suc, ltb, Option, Some, None}
 use Rattle.bits.specs.Slot.{slot}
 use Rattle.routes.specs.Said.{Said, accepted, refused}
 use Rattle.routes.specs.Input.{hop_fine}
@@ -7,6 +7,11 @@ use Rattle.routes.specs.declared.Route.{Route}
 use Rattle.standing.specs.Cells.{here, first}
 use Rattle.standing.specs.Down.{down}
 use Rattle.basic.specs.Maps.{map_bit_for, cell_for}
+
+-- what the code met, as a number: 1 + the hop, and 0 for none
+abbrev pub as_met : Option ℕ → ℕ
+as_met None = 0
+as_met (Some h) = suc h
 
 -- what the maps say of the first l bits of the address a: 1 + the hop in their cell where their bit is set, and 0 where it is not
 unfoldable pub mapped : List ℕ → List ℕ → ℕ → ℕ → ℕ

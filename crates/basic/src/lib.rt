@@ -2,6 +2,5 @@
 // lent, and the bit and the cell of a prefix; what the calls say is in specs/.
 #![tactic(auto)]
 
-pub mod answers;
 pub mod check;
 pub mod maps;

@@ -6,14 +6,14 @@ use Prim.Native.Nat.{ℕ, ◌/◌}
 use native.Mathlib.Omega.{arith}
 use lib.ListN.{length}
 use Rattle.routes.specs.Record.{routes_of, GoodInput, routes_in}
-use Rattle.routes.specs.Said.{Said, accepted, accepts}
+use Rattle.routes.specs.Said.{Said, accepted, accepts, said_by, refused_by}
 use Rattle.basic.specs.Maps.{map_cells, map_bits}
 use Rattle.basic.specs.Meaning.{Prepared}
 use Rattle.basic.specs.Calls.{ready_said, means_ready, means_basic_answer}
-use Rattle.basic.specs.declared.check.Ready.{Ready}
-use Rattle.basic.specs.declared.check.Ready.TheVariants as ready
-use Rattle.basic.specs.declared.answers.BasicAnswer.TheVariants as answer
-use Rattle.basic.proofs.Checks.{ready-means, said-good, said-refused, said-number}
+use Rattle.std.specs.Prelude.{Option, Some, None, Ok, Err}
+use Rattle.refusals.specs.Numbers.{number_of}
+use Rattle.refusals.specs.declared.Refused.{Refused}
+use Rattle.basic.proofs.Checks.{ready-means, ready-ok, ready-err}
 use Rattle.basic_build.specs.Built.{MapsOut, maps_out, maps_after, basic_built, MapsFilled}
 
 pub filled_in : (s : List ℕ) (n : ℕ) → GoodInput s n → (ys zs : List ℕ) → zs ≡ map_cells (routes_of s n) → ys ≡ map_bits zs → MapsFilled (routes_in s) ys zs
@@ -22,20 +22,21 @@ filled_in s n ok ys zs e q =
     let z : zs ≡ map_cells (routes_in s) = e ∙ ap (λ (x : ℕ). map_cells (routes_of s x)) d in
     record { bits = q ∙ ap map_bits z; cells = z }
 
--- the arms of the check
-module _ (s bs cs : List ℕ) (x : Ready) (e : means_ready x ≡ ready_said s (length bs) (length cs)) where
-  pub built-good : (n : ℕ) → x ≡ ready.Good n → (ys zs : List ℕ) → MapsFilled (routes_in s) ys zs
-      → maps_out (means_basic_answer answer.Done) ys zs ≡ basic_built s bs cs
-  unfolding basic_built means_basic_answer
-  built-good n q ys zs f = rw (said-good s (length bs) (length cs) x e n q, f.bits, f.cells)
+-- the ways out of the build
+module _ (s bs cs : List ℕ) where
+  pub built-good : (n : ℕ) → means_ready (Ok n) ≡ ready_said s (length bs) (length cs) → (ys zs : List ℕ) → MapsFilled (routes_in s) ys zs
+      → maps_out (means_basic_answer (Ok tt)) ys zs ≡ basic_built s bs cs
+  unfolding basic_built said_by
+  built-good n e ys zs f = rw (ready-ok s (length bs) (length cs) n e, f.bits, f.cells)
 
-  pub built-refused : (f k : ℕ) → x ≡ ready.RefusedAt f k → maps_out (means_basic_answer (answer.RefusedAt f k)) bs cs ≡ basic_built s bs cs
-  unfolding basic_built means_basic_answer
-  built-refused f k q = rw (said-refused s (length bs) (length cs) x e f k q)
-
-  pub built-number : (f : ℕ) → x ≡ ready.Refused f → maps_out (means_basic_answer (answer.Refused f)) bs cs ≡ basic_built s bs cs
-  unfolding basic_built means_basic_answer
-  built-number f q = rw (said-number s (length bs) (length cs) x e f q)
+  pub built-refused : (w : Refused) → means_ready (Err w) ≡ ready_said s (length bs) (length cs)
+      → maps_out (means_basic_answer (Err w)) bs cs ≡ basic_built s bs cs
+  unfolding basic_built said_by
+  built-refused w e = rw (ready-err s (length bs) (length cs) w e) (left (number_of w.why) w.at)
+    where
+      left : (n : ℕ) (o : Option ℕ) → maps_out (refused_by n o) bs cs ≡ maps_after (refused_by n o) (routes_in s) bs cs
+      left n None = refl
+      left n (Some k) = refl
 
 module _ (s bs cs : List ℕ) where
   -- a build that is accepted: the input is good, the sizes are right, and the arrays are its maps

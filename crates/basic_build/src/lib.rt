@@ -9,12 +9,10 @@ ghost use Rattle.basic.specs.Maps.{MapSizes, hop_there, map_cells, map_bits};
 ghost use Rattle.basic_build.specs.Built.{with_route, MapsFilled};
 ghost use Rattle.basic_build.specs.Contract.{MeetsBasicBuild};
 
-use basic::answers::BasicAnswer;
-use basic::check::{Ready, check};
+use basic::check::check;
 use basic::maps::map_place;
-use bits::widen::byte_to_word;
-use buffers::fill::fill16;
 use records::record;
+use refusals::Refused;
 use routes::Route;
 
 // The hop of a route of at most 16 bits goes into its cell.
@@ -22,7 +20,7 @@ fn put(cells: &mut [u16], r: Route)
     requires { length cells.old ≡ 131071 }
     ensures { cells.new ≡ with_route r cells.old }
 {
-    let len = byte_to_word(r.len);
+    let len = u32::from(r.len);
     if len <= 16 {
         let i = map_place(len, r.addr);
         cells[i] = r.hop;
@@ -34,11 +32,9 @@ fn put_cells(list: &[u8], n: usize, cells: &mut [u16])
     requires { Records list.now n × (length cells.old ≡ 131071) }
     ensures { cells.new ≡ map_cells (routes_of list.now n) }
 {
-    fill16(cells, 0);
-    let mut k = 0;
-    while k < n {
+    cells.fill(0);
+    for k in 0..n {
         put(cells, record::read_record(list, k));
-        k += 1;
     }
 }
 
@@ -47,12 +43,7 @@ fn bit_of(cells: &[u16], i: usize) -> u32
     requires { length cells.now ≡ 131071 }
     ensures { result ≡ bit (hop_there cells.now i) }
 {
-    if i < 131071 {
-        if cells[i] != 0 {
-            return 1;
-        }
-    }
-    0
+    if i < 131071 && cells[i] != 0 { 1 } else { 0 }
 }
 
 // Byte j: the bits of eight places, the lowest first.
@@ -61,10 +52,8 @@ fn byte_of(cells: &[u16], j: usize) -> u8
     ensures { result ≡ packed_bits (λ b. hop_there cells.now (8 * j + b)) 8 }
 {
     let mut byte = 0;
-    let mut b: u32 = 0;
-    while b < 8 {
+    for b in 0..8u32 {
         byte += bit_of(cells, 8 * j + (b as usize)) << b;
-        b += 1;
     }
     byte as u8
 }
@@ -74,10 +63,8 @@ fn put_bits(bits: &mut [u8], cells: &[u16])
     requires { MapSizes (length bits.old) (length cells.now) }
     ensures { bits.new ≡ map_bits cells.now }
 {
-    let mut j = 0;
-    while j < 16384 {
+    for j in 0..16384 {
         bits[j] = byte_of(cells, j);
-        j += 1;
     }
 }
 
@@ -91,16 +78,11 @@ fn fill_maps(input: &[u8], n: usize, bits: &mut [u8], cells: &mut [u16])
 }
 
 // The maps of a record input. A refusal leaves both arrays as they were.
-pub fn build(input: &[u8], bits: &mut [u8], cells: &mut [u16]) -> BasicAnswer
+pub fn build(input: &[u8], bits: &mut [u8], cells: &mut [u16]) -> Result<(), Refused>
     ensures { MeetsBasicBuild input.now bits.old cells.old
         result bits.new cells.new }
 {
-    match check(input, bits.len(), cells.len()) {
-        Ready::Good(n) => {
-            fill_maps(input, n, bits, cells);
-            BasicAnswer::Done
-        }
-        Ready::RefusedAt(f, k) => BasicAnswer::RefusedAt(f, k),
-        Ready::Refused(f) => BasicAnswer::Refused(f),
-    }
+    let n = check(input, bits.len(), cells.len())?;
+    fill_maps(input, n, bits, cells);
+    Ok(())
 }

@@ -1,73 +1,62 @@
 // Lookup in bit maps: down from the longest length, first in the record list, then in the maps.
 #![tactic(auto)]
 
-ghost use Rattle.std.specs.Prelude.{◌≡◌, ◌≤◌, length};
+ghost use Rattle.std.specs.Prelude.{◌≡◌, length};
 ghost use Rattle.routes.specs.Record.{GoodInput, routes_in};
 ghost use Rattle.standing.specs.Down.{down};
 ghost use Rattle.basic.specs.Maps.{MapSizes};
-ghost use Rattle.basic.specs.Walk.{mapped, basic_walk, met_said};
+ghost use Rattle.basic.specs.Walk.{mapped, as_met, basic_walk, met_said};
 ghost use Rattle.basic.specs.Calls.{means_basic_found};
 ghost use Rattle.basic.specs.Contract.{MeetsBasicLookup};
 
-use basic::answers::BasicFound;
-use basic::check::{Ready, check};
+use basic::check::check;
 use basic::maps::mapped;
-use bits::widen::half_to_word;
 use longest::longest_record;
 use records::record;
+use refusals::{Refusal, Refused};
 use routes::input::hop_ok;
 
-// The levels 16 to 0: 1 + the hop of the first set bit; 0 where none is set.
-fn down(bits: &[u8], cells: &[u16], addr: u32) -> u32
+// The levels 16 to 0: the hop of the first set bit.
+fn down(bits: &[u8], cells: &[u16], addr: u32) -> Option<u16>
     requires { MapSizes (length bits.now) (length cells.now) }
-    ensures { (result ≡ down (mapped bits.now cells.now addr) 17) × (result ≤ 65536) }
+    ensures { as_met result ≡ down (mapped bits.now cells.now addr) 17 }
 {
-    let mut l = 17;
-    while 0 < l {
-        l -= 1;
-        let w = mapped(bits, cells, addr, l);
-        if w != 0 {
-            return w;
+    for l in (0..17).rev() {
+        if let Some(hop) = mapped(bits, cells, addr, l) {
+            return Some(hop);
         }
     }
-    0
+    None
 }
 
-// All levels: 1 + the hop of the first that has one; 0 where none has.
-pub fn walk(input: &[u8], n: usize, bits: &[u8], cells: &[u16], addr: u32) -> u32
+// All levels: the hop of the first that has one.
+pub fn walk(input: &[u8], n: usize, bits: &[u8], cells: &[u16], addr: u32) -> Option<u16>
     requires { GoodInput input.now n × MapSizes (length bits.now) (length cells.now) }
-    ensures { (result ≡ basic_walk (routes_in input.now) bits.now cells.now addr) × (result ≤ 65536) }
+    ensures { as_met result ≡ basic_walk (routes_in input.now) bits.now cells.now addr }
 {
-    let k = longest_record(input, n, addr, 17);
-    if k != 0 {
-        let r = record::read_record(input, k - 1);
-        return 1 + half_to_word(r.hop);
+    match longest_record(input, n, addr, 17) {
+        Some(k) => Some(record::read_record(input, k).hop),
+        None => down(bits, cells, addr),
     }
-    down(bits, cells, addr)
 }
 
-// What the walk's number says.
-pub fn found_of(w: u32) -> BasicFound
-    requires { w ≤ 65536 }
-    ensures { means_basic_found result ≡ met_said w }
+// What the walk says.
+pub fn found_of(met: Option<u16>) -> Result<Option<u16>, Refused>
+    ensures { means_basic_found result ≡ met_said (as_met met) }
 {
-    if w == 0 {
-        return BasicFound::NoRoute;
+    let Some(hop) = met else {
+        return Ok(None);
+    };
+    if !hop_ok(hop) {
+        return Err(Refusal::Broken.into());
     }
-    let hop = (w - 1) as u16;
-    if hop_ok(hop) {
-        return BasicFound::Hop(hop);
-    }
-    BasicFound::Refused(13)
+    Ok(Some(hop))
 }
 
 // The hop of the longest route that covers the address.
-pub fn lookup(input: &[u8], bits: &[u8], cells: &[u16], addr: u32) -> BasicFound
+pub fn lookup(input: &[u8], bits: &[u8], cells: &[u16], addr: u32) -> Result<Option<u16>, Refused>
     ensures { MeetsBasicLookup input.now bits.now cells.now addr result }
 {
-    match check(input, bits.len(), cells.len()) {
-        Ready::Good(n) => found_of(walk(input, n, bits, cells, addr)),
-        Ready::RefusedAt(f, k) => BasicFound::RefusedAt(f, k),
-        Ready::Refused(f) => BasicFound::Refused(f),
-    }
+    let n = check(input, bits.len(), cells.len())?;
+    found_of(walk(input, n, bits, cells, addr))
 }

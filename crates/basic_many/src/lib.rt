@@ -6,21 +6,30 @@ ghost use Rattle.routes.specs.Record.{GoodInput};
 ghost use Rattle.basic.specs.Maps.{MapSizes};
 ghost use Rattle.basic.specs.Calls.{means_basic_found, means_basic_answer, hop_word, many, many_of};
 ghost use Rattle.basic.specs.Contract.{MeetsBasicMany};
+ghost use Rattle.routes.specs.Said.{told};
 
-use basic::answers::{BasicAnswer, BasicFound};
-use basic::check::{Ready, check};
+use basic::check::check;
 use basic_lookup::{found_of, walk};
-use bits::widen::{byte_to_word, half_to_word};
+use refusals::{Refusal, Refused};
 
-// An answer as a word: the hop in bits 16 to 31, or the refusal's number in bits 0 to 7, with bit 8 set where it has an index.
-fn word(f: BasicFound) -> u32
+// A refusal as a word: its number in bits 0 to 7, with bit 8 set where it has an index.
+fn refusal_word(e: Refused) -> u32
+    ensures { result ≡ hop_word (told e) }
+{
+    let number = u32::from(e.why.number());
+    match e.at {
+        Some(_) => number + 256,
+        None => number,
+    }
+}
+
+// An answer as a word: the hop in bits 16 to 31, 0 there for no route; or the refusal.
+fn word(f: Result<Option<u16>, Refused>) -> u32
     ensures { result ≡ hop_word (means_basic_found f) }
 {
     match f {
-        BasicFound::Hop(h) => half_to_word(h) * 65536,
-        BasicFound::NoRoute => 0,
-        BasicFound::RefusedAt(z, _) => byte_to_word(z) + 256,
-        BasicFound::Refused(z) => byte_to_word(z),
+        Ok(met) => u32::from(met.unwrap_or(0)) * 65536,
+        Err(e) => refusal_word(e),
     }
 }
 
@@ -32,21 +41,19 @@ fn each(
     cells: &[u16],
     addrs: &[u32],
     out: &mut [u32],
-) -> BasicAnswer
+) -> Result<(), Refused>
     requires { GoodInput input.now n × MapSizes (length bits.now) (length cells.now) }
     ensures { many (means_basic_answer result) out.new
         ≡ many_of input.now bits.now cells.now addrs.now out.old }
 {
     let m = addrs.len();
     if out.len() != m {
-        return BasicAnswer::Refused(2);
+        return Err(Refusal::Size.into());
     }
-    let mut k = 0;
-    while k < m {
+    for k in 0..m {
         out[k] = word(found_of(walk(input, n, bits, cells, addrs[k])));
-        k += 1;
     }
-    BasicAnswer::Done
+    Ok(())
 }
 
 // For each address the word of its lookup. A refusal leaves the words as they were.
@@ -56,13 +63,10 @@ pub fn lookup_many(
     cells: &[u16],
     addrs: &[u32],
     out: &mut [u32],
-) -> BasicAnswer
+) -> Result<(), Refused>
     ensures { MeetsBasicMany input.now bits.now cells.now addrs.now out.old
         result out.new }
 {
-    match check(input, bits.len(), cells.len()) {
-        Ready::Good(n) => each(input, n, bits, cells, addrs, out),
-        Ready::RefusedAt(f, k) => BasicAnswer::RefusedAt(f, k),
-        Ready::Refused(f) => BasicAnswer::Refused(f),
-    }
+    let n = check(input, bits.len(), cells.len())?;
+    each(input, n, bits, cells, addrs, out)
 }

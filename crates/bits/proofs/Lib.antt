@@ -6,5 +6,6 @@ pub mod Ones
 pub mod Searches
 pub mod Tabs
 pub mod Tells
+pub mod Numbers
 pub mod Counts
 pub mod Packed

@@ -5,3 +5,4 @@ pub mod Bytes
 pub mod Search
 pub mod Tab
 pub mod Count
+pub mod Number

@@ -9,6 +9,7 @@ ghost use Rattle.bits.specs.Bit.{bit_at};
 
 pub mod bytes;
 pub mod narrow;
+pub mod number;
 pub mod widen;
 
 // The first p bits of an address, as a number. Level 0 is set apart: no number is shifted by its whole width.

@@ -1,14 +1,13 @@
 -- What is said of an address: whether it is a directed broadcast under a version's rule.
-use Rattle.std.specs.Prelude.{Bool, false, ◌&&◌, ◌||◌, cond, List, [], ◌∷◌, ℕ, ◌+◌, ◌-◌, ◌^◌, eqb, leb}
+use Rattle.std.specs.Prelude.{Bool, false, ◌&&◌, ◌||◌, cond, List, [], ◌∷◌, ℕ, ◌+◌, ◌-◌, ◌^◌, eqb, leb, Result}
 use Rattle.bits.specs.Count.{bit}
 use Rattle.longest.specs.Best.{best_route}
 use Rattle.routes.specs.Input.{input_said}
 use Rattle.routes.specs.Record.{routes_in}
-use Rattle.routes.specs.Said.{Said, accepted, refused, refused_at, and_then}
+use Rattle.refusals.specs.declared.Refused.{Refused}
+use Rattle.routes.specs.Said.{Said, accepted, refused, and_then, said_by}
 use Rattle.routes.specs.declared.Route.{Route}
 use Rattle.standing.specs.Standing.{Held, absent, stood}
-use Rattle.broadcast.specs.declared.Cast.{Cast}
-use Rattle.broadcast.specs.declared.Cast.TheVariants as cast
 
 -- "version 1 the older, 2 the newer"
 unfoldable pub version_fine : ℕ → Bool
@@ -35,9 +34,6 @@ is_broadcast v rs a = cast_of v a (best_route rs a)
 unfoldable pub cast_said : ℕ → List ℕ → ℕ → Said
 cast_said v s a = cond (version_fine v) (and_then (input_said s) (accepted (bit (is_broadcast v (routes_in s) a) ∷ []))) (refused 23)
 
-unfoldable pub means_cast : Cast → Said
-means_cast cast.Yes = accepted (1 ∷ [])
-means_cast cast.No = accepted (0 ∷ [])
-means_cast cast.NoVersion = refused 23
-means_cast (cast.Refused f k) = refused_at f k
-means_cast cast.TooMany = refused 6
+-- 1 for a broadcast, 0 for none
+abbrev pub means_cast : Result Bool Refused → Said
+means_cast = said_by (λ b. bit b ∷ [])

@@ -1,4 +1,4 @@
--- One law for each kind of loop: what fills, and what copies.
+-- The test of a range, what `fill` leaves, and lists whose part is written over.
 pub mod Ranges
 pub mod Fills
-pub mod Copies
+pub mod Parts

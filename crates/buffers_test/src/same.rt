@@ -2,40 +2,18 @@
 ghost use Rattle.std.specs.Prelude.{◌≡◌};
 ghost use Rattle.bits.specs.Tab.{Tells};
 
-// Whether two lists of cells are the same.
-pub fn same16(cells: &[u16], others: &[u16]) -> bool
-    ensures { Tells result (cells.now ≡ others.now) }
-{
-    if cells.len() != others.len() {
-        return false;
-    }
-    let mut same = true;
-    let mut j = 0;
-    while j < cells.len() {
-        let x = cells[j];
-        let y = others[j];
-        j += 1;
-        if x != y {
-            same = false;
-        }
-    }
-    same
-}
+use bits::number::Number;
 
-// Whether two lists of words are the same.
-pub fn same32(words: &[u32], others: &[u32]) -> bool
-    ensures { Tells result (words.now ≡ others.now) }
+// Whether two lists of numbers are the same.
+pub fn same<T: Number>(numbers: &[T], others: &[T]) -> bool
+    ensures { Tells result (numbers.now ≡ others.now) }
 {
-    if words.len() != others.len() {
+    if numbers.len() != others.len() {
         return false;
     }
     let mut same = true;
-    let mut j = 0;
-    while j < words.len() {
-        let x = words[j];
-        let y = others[j];
-        j += 1;
-        if x != y {
+    for j in 0..numbers.len() {
+        if numbers[j] != others[j] {
             same = false;
         }
     }

@@ -2,53 +2,18 @@
 ghost use Rattle.std.specs.Prelude.{length};
 ghost use Rattle.bits.specs.Tab.{Tells};
 ghost use Rattle.buffers.specs.Fill.{Range};
-ghost use Rattle.buffers_test.specs.Zeros.{Zeros};
+ghost use Rattle.buffers_test.specs.Zeros.{AllZero};
 
-// Whether every byte from `from` up to `to` is 0.
-pub fn zeros8(bytes: &[u8], from: usize, to: usize) -> bool
-    requires { Range from to (length bytes.now) }
-    ensures { Tells result (Zeros bytes.now from to) }
+use bits::number::Number;
+
+// Whether every number from `from` up to `to` is 0.
+pub fn zeros<T: Number>(numbers: &[T], from: usize, to: usize) -> bool
+    requires { Range from to (length numbers.now) }
+    ensures { Tells result (AllZero T.ZERO numbers.now from to) }
 {
     let mut all = true;
-    let mut j = from;
-    while j < to {
-        let x = bytes[j];
-        j += 1;
-        if x != 0 {
-            all = false;
-        }
-    }
-    all
-}
-
-// Whether every cell from `from` up to `to` is 0.
-pub fn zeros16(cells: &[u16], from: usize, to: usize) -> bool
-    requires { Range from to (length cells.now) }
-    ensures { Tells result (Zeros cells.now from to) }
-{
-    let mut all = true;
-    let mut j = from;
-    while j < to {
-        let x = cells[j];
-        j += 1;
-        if x != 0 {
-            all = false;
-        }
-    }
-    all
-}
-
-// Whether every word from `from` up to `to` is 0.
-pub fn zeros32(words: &[u32], from: usize, to: usize) -> bool
-    requires { Range from to (length words.now) }
-    ensures { Tells result (Zeros words.now from to) }
-{
-    let mut all = true;
-    let mut j = from;
-    while j < to {
-        let x = words[j];
-        j += 1;
-        if x != 0 {
+    for j in from..to {
+        if numbers[j] != T::ZERO {
             all = false;
         }
     }

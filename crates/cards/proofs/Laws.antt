@@ -1,5 +1,8 @@
 -- Packed answers beside what is lent.
-use mathlib.Core.Path.{◌≡◌, ◌∙◌, ap}
+use mathlib.Core.Path.{◌≡◌, refl, ◌∙◌, ap}
+use Rattle.std.specs.Prelude.{Result, Ok, Err}
+use Rattle.std.specs.Result.{result_unwrap_or}
+use Rattle.sail_theory.specs.After.{state_after}
 use mathlib.Core.List.{List}
 use Prim.Native.Nat.{ℕ, min}
 use Rattle.routes.specs.Said.{Said}
@@ -14,6 +17,15 @@ use Rattle.cards.specs.Cards.{card, card_of, image_card, image_card_of}
 pub card-is : (s : Said) (t : Table) (l : Lent) (o : Out) (r : ℕ) → out s t l ≡ o → r ≡ pack_change t.count s → card r l ≡ card_of o
 unfolding card_of
 card-is s t l o r e q = ap (λ (x : ℕ). card x l) q ∙ ap card_of e
+
+-- a call that answers with the new state, or why there is none: a refusal leaves the one that was given
+pub or-after : {S E : Type 0} (t : S) (r : Result S E) → result_unwrap_or r t ≡ state_after t r
+or-after t (Ok u) = refl
+or-after t (Err e) = refl
+
+pub new-state-card : {E : Type 0} (s : Said) (t : Table) (x : Result Table E) (l : Lent) (o : Out) (r : ℕ) → out s (state_after t x) l ≡ o
+    → r ≡ pack_change (result_unwrap_or x t).count s → card r l ≡ card_of o
+new-state-card s t x l o r e q = card-is s (state_after t x) l o r e (q ∙ ap (λ (u : Table). pack_change u.count s) (or-after t x))
 
 -- the same of calls whose numbers were narrowed
 module _ (t : Table) (l : Lent) (a len n : ℕ) (e : n ≡ min len 255) (s : Said) (t' : Table) (l' : Lent) (r : ℕ) where

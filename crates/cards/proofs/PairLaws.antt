@@ -17,6 +17,10 @@ use Rattle.pair.specs.PairCalls.{PairOut, pair_out, pair_made, pair_announced, p
 use Rattle.pair.specs.declared.Pair.{Pair}
 use Rattle.packets.specs.Contract.{MeetsPairStep}
 use Rattle.cards.specs.Pairs.{pair_card, pair_card_of, party_at}
+use Rattle.std.specs.Prelude.{Result}
+use Rattle.std.specs.Result.{result_unwrap_or}
+use Rattle.sail_theory.specs.After.{state_after}
+use Rattle.cards.proofs.Laws.{or-after}
 use Rattle.cards.proofs.PairNarrow.{pair-announced-narrow, pair-withdrawn-narrow}
 
 -- the party by its number
@@ -24,6 +28,11 @@ pub party-is : (n : ℕ) → party_of (not (eqb n 0)) ≡ party_at n
 unfolding party_at
 party-is zero = refl
 party-is (suc n) = rw (ne_eqb (suc n) 0 (λ e. omega (arith, e)))
+
+-- the count of a party after a call that answers with the new state, or why there is none
+pub count-after : {E : Type 0} (w : Party) (t : Pair) (x : Result Pair E) (n : ℕ) {u : Pair} → n ≡ (share_of w u).count → u ≡ result_unwrap_or x t
+    → n ≡ (share_of w (state_after t x)).count
+count-after w t x n q e = q ∙ ap (λ (v : Pair). (share_of w v).count) (e ∙ or-after t x)
 
 pub pair-card-is : (w : Party) (s : Said) (u : Pair) (v : PairLent) (o : PairOut) (n r : ℕ) → pair_out s u v ≡ o → n ≡ (share_of w u).count
     → r ≡ pack_change n s → pair_card r v ≡ pair_card_of w o

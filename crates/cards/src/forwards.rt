@@ -6,7 +6,10 @@ ghost use Rattle.sail.specs.Walk.{lookup_said};
 ghost use Rattle.sail_words.specs.Lookups.{table_of};
 
 use hop_records::{HopRecord, place, send, without_record};
-use sail_words::look_forward;
+use sail::arrays::Arrays;
+use sail::geometry::Geometry;
+use sail::table::Table;
+use sail_words::look_quick;
 
 // A packet whose lookup answered `found`: its record is counted, and the answer has the port.
 #[unsafe(no_mangle)]
@@ -40,8 +43,20 @@ pub extern "C" fn gh_forward(
         (lent list.now first.now second.now third.now own2.now own3.now
         long1.now long2.now) addr) octets result records.new }
 {
-    let found = look_forward(
-        p1, p2, count, list, first, second, third, own2, own3, long1, long2, addr,
-    );
+    let t = Table {
+        geometry: Geometry { p1, p2 },
+        count,
+    };
+    let arrays = Arrays {
+        list,
+        first,
+        second,
+        third,
+        own2,
+        own3,
+        long1,
+        long2,
+    };
+    let found = look_quick(t, arrays, addr);
     gh_count(found, records, octets)
 }

@@ -4,6 +4,9 @@ ghost use Rattle.sail.specs.Lent.{lent};
 ghost use Rattle.sail_words.specs.Lookups.{table_of};
 
 use packets::step;
+use sail::arrays::Arrays;
+use sail::geometry::Geometry;
+use sail::table::Table;
 
 // A packet's header is checked and its destination looked up; with a hop its time to live is lowered and its checksum mended.
 #[unsafe(no_mangle)]
@@ -25,7 +28,19 @@ pub extern "C" fn gh_step(
         (lent list.now first.now second.now third.now own2.now own3.now
         long1.now long2.now) packet.old result packet.new }
 {
-    step(
-        p1, p2, count, list, first, second, third, own2, own3, long1, long2, packet,
-    )
+    let t = Table {
+        geometry: Geometry { p1, p2 },
+        count,
+    };
+    let arrays = Arrays {
+        list,
+        first,
+        second,
+        third,
+        own2,
+        own3,
+        long1,
+        long2,
+    };
+    step(t, arrays, packet)
 }

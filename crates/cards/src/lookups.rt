@@ -5,9 +5,10 @@ ghost use Rattle.sail.specs.Walk.{lookup_said};
 ghost use Rattle.sail.specs.Word.{pack_found};
 ghost use Rattle.sail_words.specs.Lookups.{table_of, words_card, many_card};
 
+use sail::arrays::Arrays;
 use sail::geometry::Geometry;
 use sail::table::Table;
-use sail_words::{look, look_each, look_standard};
+use sail_words::{look_each, look_quick};
 
 // The hop for one address, with the count of cells read.
 #[unsafe(no_mangle)]
@@ -29,17 +30,11 @@ pub extern "C" fn gh_lookup(
         (lent list.now first.now second.now third.now own2.now own3.now
         long1.now long2.now) addr) }
 {
-    let standard = Geometry::STANDARD;
-    if p1 == standard.p1 {
-        if p2 == standard.p2 {
-            return look_standard(
-                count, list, first, second, third, own2, own3, long1, long2, addr,
-            );
-        }
-    }
-    let geometry = Geometry { p1, p2 };
-    look(
-        Table { geometry, count },
+    let t = Table {
+        geometry: Geometry { p1, p2 },
+        count,
+    };
+    let arrays = Arrays {
         list,
         first,
         second,
@@ -48,8 +43,8 @@ pub extern "C" fn gh_lookup(
         own3,
         long1,
         long2,
-        addr,
-    )
+    };
+    look_quick(t, arrays, addr)
 }
 
 // For each address the low 32 bits of what gh_lookup answers. Geometry and sizes are checked once.
@@ -73,9 +68,11 @@ pub extern "C" fn gh_lookup_many(
         (lent list.now first.now second.now third.now own2.now own3.now
         long1.now long2.now) addrs.now out.old }
 {
-    let geometry = Geometry { p1, p2 };
-    look_each(
-        Table { geometry, count },
+    let t = Table {
+        geometry: Geometry { p1, p2 },
+        count,
+    };
+    let arrays = Arrays {
         list,
         first,
         second,
@@ -84,7 +81,6 @@ pub extern "C" fn gh_lookup_many(
         own3,
         long1,
         long2,
-        addrs,
-        out,
-    )
+    };
+    look_each(t, arrays, addrs, out)
 }

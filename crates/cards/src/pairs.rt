@@ -79,24 +79,12 @@ pub extern "C" fn gh_pair_make(
         (pair_lent list1.old first1.old long11.old list2.old first2.old long12.old
         second.old third.old own2.old own3.old long2.old)) }
 {
-    let c = pair_make::make(
-        state(p1, p2, 0, 0, most2_one, most3_one, most2_two, most3_two),
-        list1,
-        first1,
-        long11,
-        list2,
-        first2,
-        long12,
-        second,
-        third,
-        own2,
-        own3,
-        long2,
+    let t = state(p1, p2, 0, 0, most2_one, most3_one, most2_two, most3_two);
+    let made = pair_make::make(
+        t, list1, first1, long11, list2, first2, long12, second, third, own2, own3, long2,
     );
-    let s = c.state;
-    let n = count(s, false);
-    let a = c.answer;
-    packing_tables::made(a, n)
+    let n = count(made.unwrap_or(t), false);
+    packing_tables::made(made, n)
 }
 
 // The party's routes become those of the input, if the box is sound.
@@ -132,28 +120,15 @@ pub extern "C" fn gh_pair_load(
         second.old third.old own2.old own3.old long2.old) input.now) }
 {
     let guest = is_second(party);
-    let c = pair_load::load(
-        state(
-            p1, p2, count_one, count_two, most2_one, most3_one, most2_two, most3_two,
-        ),
-        list1,
-        first1,
-        long11,
-        list2,
-        first2,
-        long12,
-        second,
-        third,
-        own2,
-        own3,
-        long2,
-        guest,
+    let t = state(
+        p1, p2, count_one, count_two, most2_one, most3_one, most2_two, most3_two,
+    );
+    let loaded = pair_load::load(
+        t, list1, first1, long11, list2, first2, long12, second, third, own2, own3, long2, guest,
         input,
     );
-    let s = c.state;
-    let n = count(s, guest);
-    let a = c.answer;
-    packing_tables::loaded(a, n)
+    let n = count(loaded.unwrap_or(t), guest);
+    packing_tables::loaded(loaded, n)
 }
 
 // A route is added to the party's, or replaces the hop and the mark of its prefix.

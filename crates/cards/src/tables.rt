@@ -7,6 +7,7 @@ ghost use Rattle.cards.specs.Cards.{card, card_of};
 ghost use Rattle.sail_words.specs.Lookups.{table_of};
 
 use bits::narrow::{narrow8, narrow16};
+use sail::arrays::Arrays;
 use sail::geometry::Geometry;
 use sail::table::Table;
 
@@ -29,22 +30,12 @@ pub extern "C" fn gh_make(
         (lent list.old first.old second.old third.old own2.old own3.old
         long1.old long2.old)) }
 {
-    let geometry = Geometry { p1, p2 };
-    let c = sail_make::make(
-        Table { geometry, count: 0 },
-        list,
-        first,
-        second,
-        third,
-        own2,
-        own3,
-        long1,
-        long2,
-    );
-    let t = c.table;
-    let n = t.count;
-    let a = c.answer;
-    packing_tables::made(a, n)
+    let t = Table {
+        geometry: Geometry { p1, p2 },
+        count: 0,
+    };
+    let made = sail_make::make(t, list, first, second, third, own2, own3, long1, long2);
+    packing_tables::made(made, made.unwrap_or(t).count)
 }
 
 // A table of the input's routes; nothing of the old one is read.
@@ -67,23 +58,14 @@ pub extern "C" fn gh_load(
         (lent list.old first.old second.old third.old own2.old own3.old
         long1.old long2.old) input.now) }
 {
-    let geometry = Geometry { p1, p2 };
-    let c = sail_load::load::load(
-        Table { geometry, count: 0 },
-        input,
-        list,
-        first,
-        second,
-        third,
-        own2,
-        own3,
-        long1,
-        long2,
+    let t = Table {
+        geometry: Geometry { p1, p2 },
+        count: 0,
+    };
+    let loaded = sail_load::load::load(
+        t, input, list, first, second, third, own2, own3, long1, long2,
     );
-    let t = c.table;
-    let n = t.count;
-    let a = c.answer;
-    packing_tables::loaded(a, n)
+    packing_tables::loaded(loaded, loaded.unwrap_or(t).count)
 }
 
 // A route is added to the table, or replaces the hop and the mark of its prefix.
@@ -193,9 +175,11 @@ pub extern "C" fn gh_report(
         (lent list.now first.now second.now third.now own2.now own3.now
         long1.now long2.now)) }
 {
-    let geometry = Geometry { p1, p2 };
-    packing_tables::reported(sail_sound::report::report(
-        Table { geometry, count },
+    let t = Table {
+        geometry: Geometry { p1, p2 },
+        count,
+    };
+    let arrays = Arrays {
         list,
         first,
         second,
@@ -204,5 +188,6 @@ pub extern "C" fn gh_report(
         own3,
         long1,
         long2,
-    ))
+    };
+    packing_tables::reported(sail_sound::report::report(t, arrays))
 }

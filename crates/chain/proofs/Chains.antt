@@ -6,11 +6,10 @@ use Prim.Native.Nat.{ℕ, zero, suc, ◌+◌, ◌-◌, ◌*◌, ◌/◌, ◌^◌
 use native.Mathlib.Nat.{not-suc-le-zero, le_of_suc-le-suc, mul-le-mul_right, mul_assoc, div-mul-le_self}
 use native.Mathlib.Decide.{dec_lt}
 use native.Mathlib.Omega.{arith}
-use lib.Dec.{eqb}
 use lib.ListN.{length, get_or, take, set}
 use lib.Seq.{get_or-take, get_or-set_same, get_or-set_other, length-take-le}
 use lib.Pow.{shr_mono, shr_le, shl-shr, pow-add}
-use borrow.Author.Tests.{lt-leb, le-leb, eq-eqb}
+use borrow.Author.Tests.{le-leb, eq-eqb}
 use Rattle.bits.specs.Slot.{slot}
 use Rattle.bits.proofs.Bools.{both, untrue}
 use Rattle.bits.proofs.Slots.{slot-up, cut-is}
@@ -19,19 +18,11 @@ use Rattle.standing.specs.Cells.{covers, best, last_hop}
 use Rattle.routes.specs.declared.Route.{Route}
 use Rattle.standing.proofs.Longest.{cover-parts}
 use Rattle.standing.proofs.Paint.{best-last}
-use Rattle.chain.specs.Words.{addr_of, len_of, hop_of, route_of_word, routes_of_words, Words}
+use Rattle.chain.specs.Words.{len_of, hop_of, route_of_word, routes_of_words, Words}
 use Rattle.chain.specs.Place.{KeysBelow, Between, under_key, RunFrom}
 use Rattle.chain.specs.Cover.{addr_in, LastCover, Parents, Climb, Heads, ChainReady}
 use Rattle.chain.proofs.Decodes.{words-good}
 use Rattle.chain.proofs.Places.{keys, place-rises}
-
--- the code's test
-module _ (w p i : ℕ) where
-  pub too_long : p < len_of w → false ≡ covers p i (route_of_word w)
-  too_long h = simp (lt-leb (len_of w) p h)
-
-  pub tested : len_of w ≤ p → eqb (addr_of w / 2 ^ (32 - len_of w)) (i / 2 ^ (p - len_of w)) ≡ covers p i (route_of_word w)
-  tested h = simp (le-leb (len_of w) p h)
 
 -- the slot of a level above
 slot-above : (l p a : ℕ) → l ≤ p → p ≤ 32 → slot p a / 2 ^ (p - l) ≡ slot l a
@@ -47,8 +38,9 @@ pub record LeftBelow (ws : List ℕ) (j p i m : ℕ) : Type 0 where
 pub all_left : (ws : List ℕ) (j p i : ℕ) → LeftBelow ws j p i j
 all_left ws j p i = record { to = omega arith; none = λ k a b. absurd (omega arith) }
 
-pub found : {ws : List ℕ} {j p i m : ℕ} → LeftBelow ws j p i m → (b : Bool) → b ≡ covers p i (route_of_word (get_or ws (m - 1) 0)) → b ≡ true → LastCover ws j p i m
-found left b e t = record { to = left.to; one = λ z. sym e ∙ t; none = left.none }
+pub found : {ws : List ℕ} {j p i m : ℕ} → LeftBelow ws j p i m → 0 < m → (b : Bool) → b ≡ covers p i (route_of_word (get_or ws (m - 1) 0)) → b ≡ true
+    → LastCover ws j p i (m - 1 + 1)
+found {m = m} left z b e t = let q : m - 1 + 1 ≡ m = omega arith in rw q (record { to = left.to; one = λ z. sym e ∙ t; none = left.none })
 
 pub none_left : {ws : List ℕ} {j p i m : ℕ} → LeftBelow ws j p i m → m ≤ 0 → LastCover ws j p i 0
 none_left left z = record { to = omega arith; one = λ h. absurd (omega arith); none = λ k a b. left.none k (omega arith) b }
@@ -206,25 +198,28 @@ module _ {ws par : List ℕ} {lo p i : ℕ} (ready : ChainReady ws par) (start :
         pl.above k a b,
       ))
 
-  module _ {m : ℕ} (last : LastCover ws lo p i m) where
-    none_after : (k : ℕ) → m ≤ k → k < length ws → covers p i (route_of_word (get_or ws k 0)) ≡ false
-    none_after k a b = go (dec_lt k lo)
-      where
-        go : Dec (k < lo) → covers p i (route_of_word (get_or ws k 0)) ≡ false
-        go (yes d) = last.none k a d
-        go (no d) = none-past k (omega arith) b
+  none_after : {m : ℕ} → LastCover ws lo p i m → (k : ℕ) → m ≤ k → k < length ws → covers p i (route_of_word (get_or ws k 0)) ≡ false
+  none_after last k a b = go (dec_lt k lo)
+    where
+      go : Dec (k < lo) → covers p i (route_of_word (get_or ws k 0)) ≡ false
+      go (yes d) = last.none k a d
+      go (no d) = none-past k (omega arith) b
 
-    pub none-best : m ≡ 0 → 0 ≡ best (routes_of_words ws) p i
-    none-best e = sym (last_none (covers p i) ws 0 (λ k l. none_after k (omega arith) l)) ∙ best-last (routes_of_words ws) p i (words-good ws ready.words)
+  pub none-best : LastCover ws lo p i 0 → 0 ≡ best (routes_of_words ws) p i
+  none-best last =
+      sym (last_none (covers p i) ws 0 (λ k l. none_after last k (omega arith) l)) ∙ best-last (routes_of_words ws) p i (words-good ws ready.words)
 
-    module _ (some : m ≡ 0 → ⊥) where
-      in_list : m - 1 < length ws
-      in_list = omega (arith, last.to, pl.to)
+  module _ (k : ℕ) (last : LastCover ws lo p i (k + 1)) where
+    pub placed-in : k < length ws
+    placed-in = omega (arith, last.to, pl.to)
 
-      pub one-best : hop_of (get_or ws (m - 1) 0) ≡ best (routes_of_words ws) p i
-      one-best =
-          sym (last_one (covers p i) ws 0 (m - 1) in_list (last.one (omega arith)) (λ k a u. none_after k (omega arith) u))
-          ∙ best-last (routes_of_words ws) p i (words-good ws ready.words)
+    placed-covers : covers p i (route_of_word (get_or ws k 0)) ≡ true
+    placed-covers = let e : k + 1 - 1 ≡ k = omega arith in rw e at (last.one (omega arith))
 
-      pub one-small : hop_of (get_or ws (m - 1) 0) < 32768
-      one-small = omega (arith, (ready.words.fine (m - 1) in_list).hop_ok)
+    pub one-best : hop_of (get_or ws k 0) ≡ best (routes_of_words ws) p i
+    one-best =
+        sym (last_one (covers p i) ws 0 k placed-in placed-covers (λ j a u. none_after last j (omega arith) u))
+        ∙ best-last (routes_of_words ws) p i (words-good ws ready.words)
+
+    pub one-small : hop_of (get_or ws k 0) < 32768
+    one-small = omega (arith, (ready.words.fine k placed-in).hop_ok)

@@ -1,5 +1,5 @@
 -- The last word that covers a cell, and the chain that leads to it.
-use Rattle.std.specs.Prelude.{◌≡◌, true, false, List, ℕ, ◌+◌, ◌-◌, ◌*◌, ◌<◌, ◌≤◌, length, get_or}
+use Rattle.std.specs.Prelude.{◌≡◌, true, false, List, Option, None, Some, ℕ, ◌+◌, ◌-◌, ◌*◌, ◌<◌, ◌≤◌, length, get_or}
 use Rattle.bits.specs.Slot.{slot}
 use Rattle.standing.specs.Cells.{covers}
 use Rattle.chain.specs.Words.{addr_of, route_of_word, Words}
@@ -14,6 +14,11 @@ pub record LastCover (ws : List ℕ) (j p i r : ℕ) : Type 0 where
   pub to : r ≤ j
   pub one : 0 < r → covers p i (route_of_word (get_or ws (r - 1) 0)) ≡ true
   pub none : (k : ℕ) → r ≤ k → k < j → covers p i (route_of_word (get_or ws k 0)) ≡ false
+
+-- how an entry of 16 bits holds a place, or none: 1 + the place, or 0
+abbrev pub entry_of : Option ℕ → ℕ
+entry_of None = 0
+entry_of (Some k) = k + 1
 
 -- for each of the first n words, 1 + the last word before it that covers its address, or 0
 pub record Parents (ws par : List ℕ) (n : ℕ) : Type 0 where

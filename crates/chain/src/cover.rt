@@ -4,11 +4,10 @@ ghost use Rattle.bits.specs.Slot.{slot};
 ghost use Rattle.standing.specs.Cells.{covers, best};
 ghost use Rattle.chain.specs.Words.{len_of, route_of_word, routes_of_words};
 ghost use Rattle.chain.specs.Place.{KeysBelow, InLevel, RunFrom};
-ghost use Rattle.chain.specs.Cover.{LastCover, Parents, ParentsBelow, Climb, WordsRoom, ChainReady};
+ghost use Rattle.chain.specs.Cover.{LastCover, Parents, ParentsBelow, Climb, WordsRoom, ChainReady, entry_of};
 
 use super::place::{place_between, place_on, under_key};
 use bits::bytes;
-use bits::widen::half_to_index;
 
 // Whether the route of a word covers cell i of level p.
 fn covering(w: u64, p: u32, i: u64) -> bool
@@ -22,21 +21,30 @@ fn covering(w: u64, p: u32, i: u64) -> bool
     (w / bytes::FOUR) >> (32 - len) == i >> (p - len)
 }
 
-// The last of the words before j that covers cell i of level p: 1 + its place, or 0. It is j - 1, or stands in that
-// word's chain of parents.
-pub fn last_cover(ws: &[u64], par: &[u16], j: usize, p: u32, i: u64) -> usize
+// The place of the last of the words before j that covers cell i of level p. It is j - 1, or stands in that word's chain of
+// parents.
+pub fn last_cover(ws: &[u64], par: &[u16], j: usize, p: u32, i: u64) -> Option<usize>
     requires { Climb ws.now par.now j p i }
-    ensures { LastCover ws.now j p i result }
+    ensures { LastCover ws.now j p i (entry_of result) }
 {
+    // Stays: the loop goes from a word to its parent, so its steps are no range, and no iterator yields them.
     let mut m = j;
     while 0 < m {
         let k = m - 1;
         if covering(ws[k], p, i) {
-            return m;
+            return Some(k);
         }
-        m = half_to_index(par[k]);
+        m = usize::from(par[k]);
     }
-    0
+    None
+}
+
+// The entry of a place among fewer than 65,535 words, or of none.
+fn entry_of(place: Option<usize>) -> u16
+    requires { entry_of place < 65536 }
+    ensures { result ≡ entry_of place }
+{
+    place.map_or(0, |k| k as u16 + 1)
 }
 
 // The parent of each word; those of the words before `from` stand there already.
@@ -45,11 +53,8 @@ fn parents(ws: &[u64], from: usize, par: &mut [u16])
     requires parents_below { ParentsBelow ws.now par.old from }
     ensures { Parents ws.now par.new (length ws.now) }
 {
-    let mut k = from;
-    while k < ws.len() {
-        let m = last_cover(ws, &par[..k], k, 32, ws[k] / bytes::FOUR);
-        par[k] = m as u16;
-        k += 1;
+    for k in from..ws.len() {
+        par[k] = entry_of(last_cover(ws, &par[..k], k, 32, ws[k] / bytes::FOUR));
     }
 }
 
@@ -60,11 +65,9 @@ fn heads(ws: &[u64], par: &mut [u16])
     ensures { ChainReady ws.now par.new }
 {
     let mut m = 0;
-    let mut b: usize = 0;
-    while b < 257 {
-        m = place_on(ws, m, (b as u64) * bytes::FOUR);
+    for b in 0..257usize {
+        m = place_on(ws, m, b as u64 * bytes::FOUR);
         par[4096 + b] = m as u16;
-        b += 1;
     }
 }
 
@@ -85,7 +88,7 @@ pub fn place_from(ws: &[u64], par: &[u16], key: u64) -> usize
     ensures { KeysBelow ws.now key result }
 {
     let b = 4096 + (key / bytes::FOUR) as usize;
-    place_between(ws, half_to_index(par[b]), half_to_index(par[b + 1]), key)
+    place_between(ws, usize::from(par[b]), usize::from(par[b + 1]), key)
 }
 
 // Where the run under cell i of level p begins.
@@ -103,11 +106,10 @@ pub fn inherited(ws: &[u64], par: &[u16], lo: usize, p: u32, i: u64) -> u16
     requires run_from { RunFrom ws.now p i lo }
     ensures { (result ≡ best (routes_of_words ws.now) p i) × (result < 32768) }
 {
-    let m = last_cover(ws, par, lo, p, i);
-    if m == 0 {
-        return 0;
+    match last_cover(ws, par, lo, p, i) {
+        Some(k) => (ws[k] % bytes::TWO) as u16,
+        None => 0,
     }
-    (ws[m - 1] % bytes::TWO) as u16
 }
 
 // The same, where nothing is known of the run.

@@ -5,24 +5,13 @@ ghost use Rattle.chain.specs.Words.{Words};
 ghost use Rattle.chain.specs.Place.{KeysBelow, Between, under_key, InLevel, RunFrom, Run};
 
 use bits::bytes;
-use bits::widen::word_to_long;
 
 // How many words have a smaller key, by halving, where that is known to be no less than from and no more than to.
 pub fn place_between(ws: &[u64], from: usize, to: usize, key: u64) -> usize
     requires { Between ws.now key from to }
     ensures { KeysBelow ws.now key result }
 {
-    let mut lo = from;
-    let mut hi = to;
-    while lo < hi {
-        let mid = lo + (hi - lo) / 2;
-        if ws[mid] / bytes::THREE < key {
-            lo = mid + 1;
-        } else {
-            hi = mid;
-        }
-    }
-    lo
+    from + ws[from..to].partition_point(|w| *w / bytes::THREE < key)
 }
 
 // How many words have a smaller key.
@@ -38,14 +27,12 @@ pub fn place_on(ws: &[u64], from: usize, key: u64) -> usize
     requires { Between ws.now key from (length ws.now) }
     ensures { KeysBelow ws.now key result }
 {
-    let mut k = from;
-    while k < ws.len() {
+    for k in from..ws.len() {
         if key <= ws[k] / bytes::THREE {
             return k;
         }
-        k += 1;
     }
-    k
+    ws.len()
 }
 
 // The end of the run under cell i of level p, which begins at lo.
@@ -54,14 +41,12 @@ pub fn run_end(ws: &[u64], lo: usize, p: u32, i: u64) -> usize
     requires run_from { RunFrom ws.now p i lo }
     ensures { Run ws.now p i lo result }
 {
-    let mut k = lo;
-    while k < ws.len() {
+    for k in lo..ws.len() {
         if (ws[k] / bytes::FOUR) >> (32 - p) != i {
             return k;
         }
-        k += 1;
     }
-    k
+    ws.len()
 }
 
 // A number of j digits, shifted by k.
@@ -77,5 +62,5 @@ pub fn under_key(p: u32, i: u64) -> u64
     requires { InLevel p i }
     ensures { (result ≡ under_key p i) × (result < 1099511627776) }
 {
-    shifted(i, p, 32 - p) * bytes::ONE + (word_to_long(p) + 1)
+    shifted(i, p, 32 - p) * bytes::ONE + (u64::from(p) + 1)
 }

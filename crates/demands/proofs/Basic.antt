@@ -19,13 +19,13 @@ use Rattle.sail.specs.Walk.{lookup_said}
 use Rattle.sail.specs.declared.table.Table.{Table}
 use Rattle.sail.proofs.Sounds as sounds
 use Rattle.basic.specs.Maps.{is_set_at}
-use Rattle.basic.specs.Calls.{means_basic_found, basic_said, hop_word, basic_many}
+use Rattle.basic.specs.Calls.{if_hop, means_basic_found, basic_said, hop_word, basic_many}
 use Rattle.basic.specs.Contract.{MeetsBasicLookup, MeetsBasicMany}
 use Rattle.basic.specs.Meaning.{MapsOf, MapsServe, BasicLookup, BasicLookups}
-use Rattle.basic.specs.declared.answers.BasicAnswer.{BasicAnswer}
-use Rattle.basic.specs.declared.answers.BasicFound.{BasicFound}
-use Rattle.basic.specs.declared.answers.BasicFound.TheVariants as found
-use Rattle.basic.proofs.Injective.{basic-found-injective}
+use Rattle.std.specs.Prelude.{Option, None, Result, Err}
+use Rattle.refusals.specs.Numbers.{number_of}
+use Rattle.refusals.specs.declared.Refused.{Refused}
+use Rattle.routes.proofs.Saids.{said-number}
 use Rattle.basic.proofs.OneAnswer as lookup
 use Rattle.basic.proofs.Serves.{serves-best, serves-once, serves-none}
 use Rattle.basic.proofs.Judged.{lookup-only, lookup-judged, many-only, many-judged, many-words, refused-leaves-words}
@@ -37,10 +37,9 @@ use Rattle.basic_build.proofs.OneAnswer as build
 use Rattle.basic_build.proofs.Serves as worth
 
 -- Demand 1. "A refusal is never a hop": the answer of a lookup that is refused is the number alone.
-pub refused-no-hop-basic : (input bits cells : List ℕ) (a : ℕ) (r : BasicFound) → means_basic_found r ≡ basic_said input bits cells a
-    → (n : ℕ) → basic_said input bits cells a ≡ refused n → r ≡ found.Refused n
-unfolding means_basic_found
-refused-no-hop-basic input bits cells a r e n q = basic-found-injective r (found.Refused n) (e ∙ q)
+pub refused-no-hop-basic : (input bits cells : List ℕ) (a : ℕ) (r : Result (Option ℕ) Refused) → means_basic_found r ≡ basic_said input bits cells a
+    → (n : ℕ) → basic_said input bits cells a ≡ refused n → (w : Refused) × (r ≡ Err w) × (number_of w.why ≡ n) × (w.at ≡ None)
+refused-no-hop-basic input bits cells a r e n q = said-number if_hop n r (e ∙ q)
 
 -- "It carries its number": in order, with the failure of those before
 module _ (input bits cells : List ℕ) where
@@ -106,13 +105,14 @@ basic-many-words = many-words
 
 -- "Show that no second answer would satisfy it."
 module _ (input bits cells : List ℕ) where
-  pub one-answer-basic-build : (x y : BasicAnswer) (bs bs' cs cs' : List ℕ)
+  pub one-answer-basic-build : (x y : Result (Unit {0}) Refused) (bs bs' cs cs' : List ℕ)
       → MeetsBasicBuild input bits cells x bs cs → MeetsBasicBuild input bits cells y bs' cs' → (x ≡ y) × (bs ≡ bs') × (cs ≡ cs')
   one-answer-basic-build = build.one-answer-basic-build input bits cells
 
-  pub one-answer-basic-lookup : (addr : ℕ) (x y : BasicFound) → MeetsBasicLookup input bits cells addr x → MeetsBasicLookup input bits cells addr y → x ≡ y
+  pub one-answer-basic-lookup : (addr : ℕ) (x y : Result (Option ℕ) Refused)
+      → MeetsBasicLookup input bits cells addr x → MeetsBasicLookup input bits cells addr y → x ≡ y
   one-answer-basic-lookup = lookup.one-answer-basic-lookup input bits cells
 
-  pub one-answer-basic-lookup-many : (addrs words : List ℕ) (x y : BasicAnswer) (ws ws' : List ℕ)
+  pub one-answer-basic-lookup-many : (addrs words : List ℕ) (x y : Result (Unit {0}) Refused) (ws ws' : List ℕ)
       → MeetsBasicMany input bits cells addrs words x ws → MeetsBasicMany input bits cells addrs words y ws' → (x ≡ y) × (ws ≡ ws')
   one-answer-basic-lookup-many = lookup.one-answer-basic-lookup-many input bits cells

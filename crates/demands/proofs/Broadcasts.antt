@@ -8,7 +8,8 @@ use Rattle.routes.proofs.Judged.{exactly}
 use Rattle.broadcast.specs.Cast.{cast_said}
 use Rattle.broadcast.specs.Contract.{MeetsBroadcast}
 use Rattle.broadcast.specs.Meaning.{Casting}
-use Rattle.broadcast.specs.declared.Cast.{Cast}
+use Rattle.std.specs.Prelude.{Bool, Result}
+use Rattle.refusals.specs.declared.Refused.{Refused}
 use Rattle.broadcast.proofs.Judged.{cast-only, cast-judged}
 use Rattle.broadcast.proofs.OneAnswer as broadcast
 
@@ -18,6 +19,6 @@ refused-number-broadcast version input addr =
     exactly (Casting version input addr) _ _ refl (cast-judged version input addr) (cast-only version input addr)
 
 -- "Show that no second answer would satisfy it."
-pub one-answer-broadcast : (version : ℕ) (input : List ℕ) (addr : ℕ) (x y : Cast) → MeetsBroadcast version input addr x
+pub one-answer-broadcast : (version : ℕ) (input : List ℕ) (addr : ℕ) (x y : Result Bool Refused) → MeetsBroadcast version input addr x
     → MeetsBroadcast version input addr y → x ≡ y
 one-answer-broadcast = broadcast.one-answer-broadcast

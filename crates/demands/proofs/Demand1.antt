@@ -5,6 +5,7 @@
 -- to end, and a call on offer has no `requires`. What it answers is its contract's equation; the theorems below say what the equations mean.
 -- Calls that take their arrays by `&` cannot change them. For those that change something, a refusal leaves all as it was. (A repair is in
 -- Repairs.antt, the changes of an image in Images.antt, and messages, with the one exception, in Messages.antt.)
+use Rattle.std.specs.Prelude.{Result, Err}
 use mathlib.Core.Path.{◌≡◌, refl, sym, ◌∙◌, ap}
 use mathlib.Core.Logic.{◌↔◌}
 use mathlib.Core.Bool.{false, false≢true}
@@ -28,11 +29,14 @@ use Rattle.runs.specs.Tally.{tally_of}
 use Rattle.runs.proofs.Runs.{run-refused}
 use Rattle.runs.proofs.Tallies.{tally-refused}
 use Rattle.sail.specs.Lent.{Lent}
-use Rattle.sail.specs.Walk.{lookup_said, means_found}
+use Rattle.sail.specs.Walk.{lookup_said}
+use Rattle.routes.specs.Answers.{found_values, means_found}
+use Rattle.refusals.specs.declared.Refusal.{Refusal}
+use Rattle.refusals.specs.declared.Refusal.TheVariants as refusal
 use Rattle.sail.specs.declared.table.Table.{Table}
-use Rattle.sail.specs.declared.found.Found.{Found}
-use Rattle.sail.specs.declared.found.Found.TheVariants as found
-use Rattle.sail.proofs.Injective.{found-injective}
+use Rattle.routes.specs.declared.found.Found.{Found}
+use Rattle.routes.proofs.Saids.{plainly-refused}
+use Rattle.refusals.specs.Numbers.{number_of}
 use Rattle.sail_theory.specs.Calls.{made, cut_route, cleared, with_flag, announced, withdrawn, loaded, reported}
 use Rattle.sail_theory.specs.Cases.{Make, Announce, Withdraw, Load, Report}
 use Rattle.sail_theory.proofs.calls.SomeCase.{make-judged, announce-judged, withdraw-judged, load-judged, report-judged}
@@ -41,9 +45,7 @@ use Rattle.sail_theory.proofs.calls.Cleared.{announce-said, withdraw-said}
 use Rattle.sail_theory.proofs.calls.Make.{make-said}
 use Rattle.sail_theory.proofs.calls.Load.{load_said_lem}
 use Rattle.sail_theory.proofs.calls.Refusals.{told-exactly, make-leaves, load-leaves, announce-leaves, withdraw-leaves}
-use Rattle.tree_image.specs.Walk.{means_tree_found, tree_said}
-use Rattle.tree_image.specs.declared.TreeFound.{TreeFound}
-use Rattle.tree_image.specs.declared.TreeFound.TheVariants as tree_found
+use Rattle.tree_image.specs.Walk.{tree_said}
 use Rattle.tree_build.specs.Built.{built}
 use Rattle.tree_build.proofs.Serves.{refused-leaves}
 use Rattle.runs.specs.Cases.{RunChecked}
@@ -65,15 +67,14 @@ pub refused-at-no-values : (n k : ℕ) (vs : List ℕ) → refused_at n k ≡ ac
 refused-at-no-values n k vs e = let z : ◌≡◌ {A = ℕ} 0 1 = cc in omega arith
 
 -- so the answer of a lookup that is refused is the number alone
-pub refused-no-hop-lookup : (t : Table) (l : Lent) (a : ℕ) (r : Found) → means_found r ≡ lookup_said t l a → (n : ℕ) → lookup_said t l a ≡ refused n → r
-    ≡ found.Refused n
-unfolding means_found
-refused-no-hop-lookup t l a r e n q = found-injective r (found.Refused n) (e ∙ q)
+pub refused-no-hop-lookup : (t : Table) (l : Lent) (a : ℕ) (r : Result Found Refusal) → means_found r ≡ lookup_said t l a → (n : ℕ)
+    → lookup_said t l a ≡ refused n → (why : Refusal) × (r ≡ Err why) × (number_of why ≡ n)
+refused-no-hop-lookup t l a r e n q = plainly-refused found_values r n (e ∙ q)
 
 -- and in an image that number is 13
-pub refused-no-hop-tree : (ws hs : List ℕ) (a : ℕ) (r : TreeFound) → means_tree_found r ≡ tree_said ws hs a → (n : ℕ) → tree_said ws hs a ≡ refused n →
-    (n ≡ 13) × (r ≡ tree_found.Broken)
-refused-no-hop-tree ws hs a r e n q = refused-broken r n (e ∙ q)
+pub refused-no-hop-tree : (ws hs : List ℕ) (a : ℕ) (r : Result Found Refusal) → means_found r ≡ tree_said ws hs a → (n : ℕ) → tree_said ws hs a ≡ refused n →
+    (n ≡ 13) × (r ≡ Err refusal.Broken)
+refused-no-hop-tree ws hs a r e n q = refused-broken ws hs a n r e q
 
 -- a refused tally holds 33 zeros, and a refused run is the empty part at the list's start
 pub refused-tally : (bytes : List ℕ) → accepts (input_said bytes) ≡ false → tally_of bytes ≡ replicate 33 0

@@ -1,5 +1,6 @@
 -- The demands of the calls on an image itself: its test, and announce and withdraw in place. What is supposed of words is what their type gives,
 -- that each has 32 bits.
+use Rattle.std.specs.Prelude.{Result}
 use mathlib.Core.Path.{◌≡◌, refl}
 use mathlib.Core.Logic.{◌↔◌}
 use mathlib.Core.Bool.{true, false}
@@ -21,7 +22,8 @@ use Rattle.tree_formed.specs.Answers.{tested}
 use Rattle.tree_formed.specs.Cases.{Narrow, TreeTest}
 use Rattle.tree_check.specs.Contract.{MeetsTreeTest}
 use Rattle.tree_formed.specs.WellFormed.{well_formed}
-use Rattle.tree_formed.specs.declared.Tested.{Tested}
+use Rattle.refusals.specs.declared.Refusal.{Refusal}
+use Rattle.tree_image.specs.declared.Used.{Used}
 use Rattle.tree_formed.proofs.AsBuilt.{formed-good}
 use Rattle.tree_formed.proofs.Judged.{tree-test-judged, tree-test-only}
 use Rattle.tree_formed.proofs.Serves.{formed-serves}
@@ -29,8 +31,7 @@ use Rattle.tree_check.proofs.OneAnswer as test
 use Rattle.tree_theory.specs.Cases.{routes_with, routes_without, TreeAnnounce, TreeWithdraw, Anew}
 use Rattle.tree_theory.specs.Changed.{prefix_place, image_announced, image_withdrawn}
 use Rattle.tree_change.specs.Contract.{MeetsTreeAnnounce, MeetsTreeWithdraw}
-use Rattle.tree_theory.specs.declared.TreeAnnounced.{TreeAnnounced}
-use Rattle.tree_theory.specs.declared.TreeWithdrawn.{TreeWithdrawn}
+use Rattle.tree_theory.specs.declared.Announced.{Announced}
 use Rattle.tree_theory.proofs.Cases.{announce-leaves}
 use Rattle.tree_theory.proofs.Takes.{withdraw-leaves}
 use Rattle.tree_theory.proofs.Judged.{tree-announce-judged, tree-announce-only, tree-withdraw-judged, tree-withdraw-only}
@@ -94,13 +95,13 @@ module _ (ws hs : List ℕ) (narrow : Narrow ws) (a len : ℕ) where
 
 -- "Show that no second answer would satisfy it."
 module _ (words hops : List ℕ) where
-  pub one-answer-tree-test : (x y : Tested) → MeetsTreeTest words hops x → MeetsTreeTest words hops y → x ≡ y
+  pub one-answer-tree-test : (x y : Result Used Refusal) → MeetsTreeTest words hops x → MeetsTreeTest words hops y → x ≡ y
   one-answer-tree-test = test.one-answer-tree-test words hops
 
-  pub one-answer-tree-announce : (addr len hop : ℕ) (x y : TreeAnnounced) (ws ws' hs hs' : List ℕ)
+  pub one-answer-tree-announce : (addr len hop : ℕ) (x y : Result Announced Refusal) (ws ws' hs hs' : List ℕ)
       → MeetsTreeAnnounce words hops addr len hop x ws hs → MeetsTreeAnnounce words hops addr len hop y ws' hs' → (x ≡ y) × (ws ≡ ws') × (hs ≡ hs')
   one-answer-tree-announce = change.one-answer-tree-announce words hops
 
-  pub one-answer-tree-withdraw : (addr len : ℕ) (x y : TreeWithdrawn) (ws ws' hs hs' : List ℕ)
+  pub one-answer-tree-withdraw : (addr len : ℕ) (x y : Result Used Refusal) (ws ws' hs hs' : List ℕ)
       → MeetsTreeWithdraw words hops addr len x ws hs → MeetsTreeWithdraw words hops addr len y ws' hs' → (x ≡ y) × (ws ≡ ws') × (hs ≡ hs')
   one-answer-tree-withdraw = change.one-answer-tree-withdraw words hops

@@ -1,6 +1,7 @@
 -- An answer depends on the bits that its count stands for, whatever the table or the image holds: two addresses that agree on them get the same
 -- answer. The cells (or nodes) on the way of both are the same, one after the other, since each is found by bits on which they agree; a walk that
 -- ends sooner looks at fewer.
+use Rattle.std.specs.Prelude.{Option}
 use mathlib.Core.Path.{◌≡◌, refl, sym, ap, ◌∙◌, subst}
 use mathlib.Core.Bool.{Bool, true, false, cond}
 use mathlib.Core.List.{List, ◌∷◌}
@@ -23,7 +24,6 @@ use Rattle.standing.specs.Served.{hop_said}
 use Rattle.tree_image.specs.Cases.{Fetched, RightNode, Walked}
 use Rattle.tree_image.specs.Node.{nibble_of}
 use Rattle.tree_image.specs.Walk.{tree_said}
-use Rattle.tree_image.specs.declared.Place.{Place}
 use Rattle.tree_image.proofs.Judged.{tree-judged, tree-only}
 use Rattle.demands.specs.LookedAt.{InCells, AfterNodes, cell_bits, node_bits}
 
@@ -99,7 +99,7 @@ module _ (t : Table) (l : Lent) (a b : ℕ) where
 -- Images.
 module _ (hs : List ℕ) where
   -- the hop is read after as many nodes as the answer says
-  fetched-nodes : (m n : ℕ) {p : Place} {s : Said} → Fetched hs m p s → AfterNodes s n → n ≡ m
+  fetched-nodes : (m n : ℕ) {p : Option ℕ} {s : Said} → Fetched hs m p s → AfterNodes s n → n ≡ m
   fetched-nodes m n Fetched.no_match (AfterNodes.no_route e) = cc
   fetched-nodes m n Fetched.no_match (AfterNodes.hop h e) = let z : ◌≡◌ {A = ℕ} 0 1 = cc in absurd (omega arith)
   fetched-nodes m n (Fetched.beyond h l) (AfterNodes.no_route e) = let z : ◌≡◌ {A = ℕ} 0 1 = cc in absurd (omega arith)
@@ -115,7 +115,7 @@ module _ (ws hs : List ℕ) (a b n : ℕ) where
   not-broken (AfterNodes.hop h e) = let z : ◌≡◌ {A = ℕ} 0 1 = cc in omega arith
 
   -- a walk with d levels of nodes below it ends after 9 - d nodes or more
-  nodes-at-least : {d i : ℕ} {best : Place} {s : Said} → Walked ws hs a d i best s → AfterNodes s n → 9 - d ≤ n
+  nodes-at-least : {d i : ℕ} {best : Option ℕ} {s : Said} → Walked ws hs a d i best s → AfterNodes s n → 9 - d ≤ n
   nodes-at-least (Walked.lost d i best l) c = absurd (not-broken c)
   nodes-at-least (Walked.marked d i best l m) c = absurd (not-broken c)
   nodes-at-least (Walked.deepest i best s r f) c = omega (arith, fetched-nodes hs 9 n f c)
@@ -134,7 +134,7 @@ module _ (ws hs : List ℕ) (a b n : ℕ) where
     right : {i : ℕ} → RightNode ws hs a i → RightNode ws hs b i
     right r = record { lent = r.lent; clear = r.clear }
 
-    same-walk : {d i : ℕ} {best : Place} {s : Said} → Walked ws hs a d i best s → AfterNodes s n → Walked ws hs b d i best s
+    same-walk : {d i : ℕ} {best : Option ℕ} {s : Said} → Walked ws hs a d i best s → AfterNodes s n → Walked ws hs b d i best s
     same-walk (Walked.lost d i best l) c = Walked.lost d i best l
     same-walk (Walked.marked d i best l m) c = Walked.marked d i best l m
     same-walk (Walked.deepest i best s r f) c = Walked.deepest i best s (right r) f

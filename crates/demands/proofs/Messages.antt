@@ -14,7 +14,8 @@ use Rattle.routes.proofs.Judged.{exactly}
 use Rattle.fields.specs.Field.{Net, net_of, Bytes8, Field, broken, entries, field_fault, field_of, Alike}
 use Rattle.fields.specs.Message.{HopOk}
 use Rattle.fields.specs.Written.{write_said, field_out, field_written, means_written, Write}
-use Rattle.fields.specs.declared.write.Written.{Written}
+use Rattle.std.specs.Prelude.{Result}
+use Rattle.refusals.specs.declared.Refused.{Refused}
 use Rattle.fields.proofs.FieldBack as back
 use Rattle.fields.proofs.Fields as fields
 use Rattle.fields.proofs.WriterSays as writer
@@ -97,7 +98,7 @@ module _ (s buffer : List ℕ) where
       × (entries (take (length (field_of (routes_in s))) (field_written s buffer).out) ≡ map net_of (routes_in s))
   read-written = writer.read-written s buffer
 
-  pub one-answer-write : (x y : Written) (u v : List ℕ) → field_out (means_written x) u ≡ field_written s buffer
+  pub one-answer-write : (x y : Result ℕ Refused) (u v : List ℕ) → field_out (means_written x) u ≡ field_written s buffer
       → field_out (means_written y) v ≡ field_written s buffer → (x ≡ y) × (u ≡ v)
   one-answer-write = writer.one-answer-write s buffer
 

@@ -8,30 +8,29 @@ use mathlib.Core.List.{List}
 use Prim.Native.Nat.{ℕ}
 use denote.Ref.{Bor}
 use Rattle.routes.specs.Contract.{MeetsCheckInput, MeetsRouteAt}
-use Rattle.routes.specs.declared.input.Input.{Input}
-use Rattle.routes.specs.declared.input.Got.{Got}
+use Rattle.std.specs.Prelude.{Option, Result}
+use Rattle.refusals.specs.declared.Refused.{Refused}
+use Rattle.routes.specs.declared.Route.{Route}
 use Rattle.routes.proofs.OneAnswer as routes
 use Rattle.longest.specs.Contract.{MeetsLongest}
 use Rattle.longest.proofs.OneAnswer as longest
 use Rattle.runs.specs.Run.{IsRun}
 use Rattle.runs.specs.Tally.{IsTally}
 use Rattle.runs.specs.Contract.{MeetsRunCheck}
-use Rattle.runs.specs.declared.run.RunCheck.{RunCheck}
+use Rattle.runs.specs.declared.run.Span.{Span}
 use Rattle.runs.specs.declared.tally.Tallied.{Tallied}
 use Rattle.runs.proofs.OneAnswer as runs
 use Rattle.sail.specs.Lent.{Lent}
 use Rattle.sail.specs.Contract.{MeetsLookup}
 use Rattle.sail.specs.declared.table.Table.{Table}
-use Rattle.sail.specs.declared.found.Found.{Found}
+use Rattle.routes.specs.declared.found.Found.{Found}
 use Rattle.sail.proofs.OneAnswer as lookup
 use Rattle.sail_sound.specs.Contract.{MeetsReport}
-use Rattle.sail_sound.specs.declared.report.Reported.{Reported}
+use Rattle.sail_sound.specs.declared.report.Standing.{Standing}
 use Rattle.sail_sound.proofs.OneAnswer as report
 use Rattle.sail_make.specs.Contract.{MeetsMake}
-use Rattle.sail_make.specs.declared.Fresh.{Fresh}
 use Rattle.sail_make.proofs.OneAnswer as make
 use Rattle.sail_load.specs.Contract.{MeetsLoad}
-use Rattle.sail_load.specs.declared.load.LoadedTable.{LoadedTable}
 use Rattle.sail_load.proofs.OneAnswer as load
 use Rattle.sail_announce.specs.Contract.{MeetsAnnounce}
 use Rattle.sail_announce.specs.declared.answers.Announced.{Announced}
@@ -40,20 +39,22 @@ use Rattle.sail_withdraw.specs.Contract.{MeetsWithdraw}
 use Rattle.sail_withdraw.specs.declared.answers.Withdrawn.{Withdrawn}
 use Rattle.sail_withdraw.proofs.OneAnswer as withdraw
 use Rattle.tree.specs.Contract.{MeetsTreeLookup}
-use Rattle.tree_image.specs.declared.TreeFound.{TreeFound}
 use Rattle.tree.proofs.OneAnswer as tree
 use Rattle.tree_build.specs.Contract.{MeetsBuild}
-use Rattle.tree_build.specs.declared.Built.{Built}
+use Rattle.refusals.specs.declared.Refusal.{Refusal}
+use Rattle.tree_image.specs.declared.Used.{Used}
 use Rattle.tree_build.proofs.OneAnswer as build
 
 -- The calls on a record input.
-pub one-answer-check-input : (bytes : List ℕ) (x y : Input) → MeetsCheckInput bytes x → MeetsCheckInput bytes y → x ≡ y
+pub one-answer-check-input : (bytes : List ℕ) (x y : Result ℕ Refused) → MeetsCheckInput bytes x → MeetsCheckInput bytes y → x ≡ y
 one-answer-check-input = routes.one-answer-check-input
 
-pub one-answer-route-at : (bytes : List ℕ) (index : ℕ) (x y : Got) → MeetsRouteAt bytes index x → MeetsRouteAt bytes index y → x ≡ y
+pub one-answer-route-at : (bytes : List ℕ) (index : ℕ) (x y : Result (Option Route) Refused)
+    → MeetsRouteAt bytes index x → MeetsRouteAt bytes index y → x ≡ y
 one-answer-route-at = routes.one-answer-route-at
 
-pub one-answer-longest : (bytes : List ℕ) (addr : ℕ) (x y : Got) → MeetsLongest bytes addr x → MeetsLongest bytes addr y → x ≡ y
+pub one-answer-longest : (bytes : List ℕ) (addr : ℕ) (x y : Result (Option Route) Refused)
+    → MeetsLongest bytes addr x → MeetsLongest bytes addr y → x ≡ y
 one-answer-longest = longest.one-answer-longest
 
 -- a part of the list is its elements and its place; a reference has nothing else that a program can see
@@ -61,7 +62,8 @@ pub one-answer-run : (list : Bor (List ℕ)) (addr len : ℕ) (x y : Bor (List �
     (x.ref_ptr ≡ y.ref_ptr)
 one-answer-run = runs.one-answer-run
 
-pub one-answer-run-check : (list : List ℕ) (addr len : ℕ) (x y : RunCheck) → MeetsRunCheck list addr len x → MeetsRunCheck list addr len y → x ≡ y
+pub one-answer-run-check : (list : List ℕ) (addr len : ℕ) (x y : Result Span Refused)
+    → MeetsRunCheck list addr len x → MeetsRunCheck list addr len y → x ≡ y
 one-answer-run-check = runs.one-answer-run-check
 
 pub one-answer-tally : (bytes : List ℕ) (x y : Tallied) → IsTally bytes x → IsTally bytes y → x ≡ y
@@ -69,16 +71,16 @@ one-answer-tally = runs.one-answer-tally
 
 -- The calls on a table. Of one that changes it: the answer with the state beside it, and all that is lent at exit.
 module _ (t : Table) (l : Lent) where
-  pub one-answer-lookup : (addr : ℕ) (x y : Found) → MeetsLookup t l addr x → MeetsLookup t l addr y → x ≡ y
+  pub one-answer-lookup : (addr : ℕ) (x y : Result Found Refusal) → MeetsLookup t l addr x → MeetsLookup t l addr y → x ≡ y
   one-answer-lookup = lookup.one-answer-lookup t l
 
-  pub one-answer-report : (x y : Reported) → MeetsReport t l x → MeetsReport t l y → x ≡ y
+  pub one-answer-report : (x y : Result Standing Refusal) → MeetsReport t l x → MeetsReport t l y → x ≡ y
   one-answer-report = report.one-answer-report t l
 
-  pub one-answer-make : (x y : Fresh) (u v : Lent) → MeetsMake t l x u → MeetsMake t l y v → (x ≡ y) × (u ≡ v)
+  pub one-answer-make : (x y : Result Table Refusal) (u v : Lent) → MeetsMake t l x u → MeetsMake t l y v → (x ≡ y) × (u ≡ v)
   one-answer-make = make.one-answer-make t l
 
-  pub one-answer-load : (input : List ℕ) (x y : LoadedTable) (u v : Lent) → MeetsLoad t l input x u → MeetsLoad t l input y v → (x ≡ y) × (u ≡ v)
+  pub one-answer-load : (input : List ℕ) (x y : Result Table Refused) (u v : Lent) → MeetsLoad t l input x u → MeetsLoad t l input y v → (x ≡ y) × (u ≡ v)
   one-answer-load = load.one-answer-load t l
 
   pub one-answer-announce : (addr len hop mark : ℕ) (x y : Announced) (u v : Lent)
@@ -89,9 +91,9 @@ module _ (t : Table) (l : Lent) where
   one-answer-withdraw = withdraw.one-answer-withdraw t l
 
 -- The calls on an image. Of a build: its answer, and both arrays at exit.
-pub one-answer-tree-lookup : (words hops : List ℕ) (addr : ℕ) (x y : TreeFound) → MeetsTreeLookup words hops addr x → MeetsTreeLookup words hops addr y → x ≡ y
+pub one-answer-tree-lookup : (words hops : List ℕ) (addr : ℕ) (x y : Result Found Refusal) → MeetsTreeLookup words hops addr x → MeetsTreeLookup words hops addr y → x ≡ y
 one-answer-tree-lookup = tree.one-answer-tree-lookup
 
-pub one-answer-build : (input words hops : List ℕ) (x y : Built) (ws ws' hs hs' : List ℕ)
+pub one-answer-build : (input words hops : List ℕ) (x y : Result Used Refused) (ws ws' hs hs' : List ℕ)
     → MeetsBuild input words hops x ws hs → MeetsBuild input words hops y ws' hs' → (x ≡ y) × (ws ≡ ws') × (hs ≡ hs')
 one-answer-build = build.one-answer-build

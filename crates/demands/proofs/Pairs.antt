@@ -38,7 +38,6 @@ use Rattle.pair.specs.PairFrame.{TheirsStay}
 use Rattle.pair.specs.PairRuns.{By, pair_done, pair_after, pair_held, Alike, ToldAlike, LimitsLent, PairAsFresh, withdraw_all, AllRemoved, announce_each, EachAdded}
 use Rattle.pair.specs.declared.Pair.{Pair}
 use Rattle.pair_make.specs.Contract.{MeetsPairMake}
-use Rattle.pair_make.specs.declared.MadePair.{MadePair}
 use Rattle.pair_make.proofs.OneAnswer as make
 use Rattle.pair_announce.specs.Contract.{MeetsPairAnnounce}
 use Rattle.pair_announce.specs.declared.turn.PairAnnounced.{PairAnnounced}
@@ -47,14 +46,16 @@ use Rattle.pair_withdraw.specs.Contract.{MeetsPairWithdraw}
 use Rattle.pair_withdraw.specs.declared.answers.PairWithdrawn.{PairWithdrawn}
 use Rattle.pair_withdraw.proofs.OneAnswer as withdrawing
 use Rattle.pair_load.specs.Contract.{MeetsPairLoad}
-use Rattle.pair_load.specs.declared.answers.PairLoaded.{PairLoaded}
 use Rattle.pair_load.proofs.OneAnswer as loading
 use Rattle.pair_report.specs.Contract.{MeetsPairReport}
 use Rattle.pair_report.proofs.OneAnswer as report
 use Rattle.pair_lookup.specs.Contract.{MeetsPairLookup}
 use Rattle.pair_lookup.proofs.OneAnswer as lookup
-use Rattle.sail.specs.declared.found.Found.{Found}
-use Rattle.sail_sound.specs.declared.report.Reported.{Reported}
+use Rattle.std.specs.Prelude.{Result}
+use Rattle.refusals.specs.declared.Refusal.{Refusal}
+use Rattle.refusals.specs.declared.Refused.{Refused}
+use Rattle.routes.specs.declared.found.Found.{Found}
+use Rattle.sail_sound.specs.declared.report.Standing.{Standing}
 use Rattle.pair.proofs.PairReading.{sound-reads, reads-sound}
 use Rattle.pair.proofs.PairFresh.{make-makeable, make-left}
 use Rattle.pair.proofs.Finds as finds
@@ -223,7 +224,7 @@ isolation = runs.isolation
 
 -- "Show that no second answer would satisfy it": two outcomes that meet a call's statement are equal, in the answer, the state and all that is lent.
 module _ (t : Pair) (b : PairLent) where
-  pub one-answer-pair-make : (x y : MadePair) (u v : PairLent) → MeetsPairMake t b x u → MeetsPairMake t b y v → (x ≡ y) × (u ≡ v)
+  pub one-answer-pair-make : (x y : Result Pair Refusal) (u v : PairLent) → MeetsPairMake t b x u → MeetsPairMake t b y v → (x ≡ y) × (u ≡ v)
   one-answer-pair-make = make.one-answer-pair-make t b
 
   pub one-answer-pair-announce : (w : Party) (r : Route) (x y : PairAnnounced) (u v : PairLent)
@@ -234,12 +235,12 @@ module _ (t : Pair) (b : PairLent) where
       → MeetsPairWithdraw w t b addr len x u → MeetsPairWithdraw w t b addr len y v → (x ≡ y) × (u ≡ v)
   one-answer-pair-withdraw w = withdrawing.one-answer-pair-withdraw w t b
 
-  pub one-answer-pair-load : (w : Party) (input : List ℕ) (x y : PairLoaded) (u v : PairLent)
+  pub one-answer-pair-load : (w : Party) (input : List ℕ) (x y : Result Pair Refused) (u v : PairLent)
       → MeetsPairLoad w t b input x u → MeetsPairLoad w t b input y v → (x ≡ y) × (u ≡ v)
   one-answer-pair-load w = loading.one-answer-pair-load w t b
 
-  pub one-answer-pair-report : (w : Party) (x y : Reported) → MeetsPairReport w t b x → MeetsPairReport w t b y → x ≡ y
+  pub one-answer-pair-report : (w : Party) (x y : Result Standing Refusal) → MeetsPairReport w t b x → MeetsPairReport w t b y → x ≡ y
   one-answer-pair-report w = report.one-answer-pair-report w t b
 
-  pub one-answer-pair-lookup : (w : Party) (addr : ℕ) (x y : Found) → MeetsPairLookup w t b addr x → MeetsPairLookup w t b addr y → x ≡ y
+  pub one-answer-pair-lookup : (w : Party) (addr : ℕ) (x y : Result Found Refusal) → MeetsPairLookup w t b addr x → MeetsPairLookup w t b addr y → x ≡ y
   one-answer-pair-lookup w = lookup.one-answer-pair-lookup w t b

@@ -16,9 +16,11 @@ use Rattle.standing.specs.Standing.{stood}
 use Rattle.longest.specs.Best.{best_route, LongestRoute, BestRoute}
 use Rattle.longest.proofs.Bests.{best-route-is}
 use Rattle.sail_theory.specs.Calls.{route}
-use Rattle.broadcast.specs.Cast.{version_fine, last_len, highest, cast_of, is_broadcast, cast_said, means_cast}
+use Rattle.broadcast.specs.Cast.{version_fine, last_len, highest, cast_of, is_broadcast, cast_said}
 use Rattle.broadcast.specs.Meaning.{UpperOfTwo}
-use Rattle.broadcast.specs.declared.Cast.TheVariants as cast
+use Rattle.std.specs.Prelude.{Some, None, Ok, Err, true, false}
+use Rattle.refusals.specs.declared.Refusal.TheVariants as refusal
+use Rattle.routes.specs.Said.{said_by}
 use Rattle.broadcast.proofs.Casts.{rules-differ}
 use Rattle.broadcast.specs.Contract.{MeetsBroadcast}
 use Rattle.examples.specs.Lines.{ip}
@@ -48,20 +50,20 @@ pub upper : (n : ℕ) × GoodInput link n × UpperOfTwo (routes_in link) (ip 192
 upper = (rules-differ link (ip 192 0 2 1)).0 rules-part
 
 -- One answer: a broadcast under the older rule, none under the newer, no such version whatever the input, and an input that is refused.
-pub cast-older : MeetsBroadcast 1 link (ip 192 0 2 1) cast.Yes
-unfolding means_cast
+pub cast-older : MeetsBroadcast 1 link (ip 192 0 2 1) (Ok true)
+unfolding said_by
 cast-older = sym older
 
-pub cast-newer : MeetsBroadcast 2 link (ip 192 0 2 1) cast.No
-unfolding means_cast
+pub cast-newer : MeetsBroadcast 2 link (ip 192 0 2 1) (Ok false)
+unfolding said_by
 cast-newer = sym newer
 
-pub cast-version : (a : ℕ) → MeetsBroadcast 3 (1 ∷ []) a cast.NoVersion
-unfolding means_cast cast_said version_fine
+pub cast-version : (a : ℕ) → MeetsBroadcast 3 (1 ∷ []) a (Err (record { why = refusal.Version; at = None }))
+unfolding said_by cast_said version_fine
 cast-version a = refl
 
-pub cast-refused : (a : ℕ) → MeetsBroadcast 1 (1 ∷ []) a (cast.Refused 10 0)
-unfolding means_cast cast_said version_fine input_said
+pub cast-refused : (a : ℕ) → MeetsBroadcast 1 (1 ∷ []) a (Err (record { why = refusal.Record; at = Some 0 }))
+unfolding said_by cast_said version_fine input_said
 cast-refused a = refl
 
 -- An attached network, and a host in it with a route of its own: 10.0.0.0/24 and 10.0.0.255/32.

@@ -15,14 +15,16 @@ use Rattle.routes.specs.Input.{input_said}
 use Rattle.routes.specs.Record.{routes_of, GoodInput}
 use Rattle.routes.specs.Said.{accepted, refused, accepts}
 use Rattle.routes.proofs.Meaning.{input-good}
-use Rattle.sail.specs.Walk.{lookup_said, means_found}
+use Rattle.sail.specs.Walk.{lookup_said}
+use Rattle.routes.specs.Said.{said_plainly}
 use Rattle.sail_theory.specs.CallRuns.{after}
 use Rattle.basic.specs.Maps.{map_place, map_bit_for}
-use Rattle.basic.specs.Calls.{means_basic_found, means_basic_answer, basic_said, basic_many}
+use Rattle.basic.specs.Calls.{basic_said, basic_many}
 use Rattle.basic.specs.Contract.{MeetsBasicLookup, MeetsBasicMany}
 use Rattle.basic.specs.Meaning.{Prepared, FirstSet, BasicLookup, BasicLookups}
-use Rattle.basic.specs.declared.answers.BasicAnswer.TheVariants as answer
-use Rattle.basic.specs.declared.answers.BasicFound.TheVariants as found
+use Rattle.std.specs.Prelude.{Some, None, Ok, Err}
+use Rattle.refusals.specs.declared.Refusal.TheVariants as refusal
+use Rattle.routes.specs.Said.{said_by}
 use Rattle.basic.proofs.Judged.{lookup-only, many-only}
 use Rattle.basic_build.specs.Built.{basic_built, BasicBuild}
 use Rattle.basic_build.specs.Contract.{MeetsBasicBuild}
@@ -60,7 +62,7 @@ same-maps a h = table-as-maps list_a no_bits no_cells (ap accepts builds-A) a h 
     (after table arrays loaded_a).lent sound_a same-routes
 
 pub maps-57 : basic_said list_a (basic_built list_a no_bits no_cells).bits (basic_built list_a no_bits no_cells).cells (ip 10 1 2 200) ≡ accepted (57 ∷ [])
-unfolding means_found
+unfolding said_plainly
 maps-57 = sym (same-maps (ip 10 1 2 200) (omega arith)) ∙ ap uncounted (sym found-A)
 
 -- Damaged: the bit of level 0 is set, and its cell holds no hop.
@@ -92,21 +94,21 @@ refused-maps = lookup-only [] one_bit no_cells 0 (refused 13)
     (BasicLookup.broken prepared-none (λ r m l. absurd (Memᴰ.not-nil m)) 0 level-0 (λ l u. omega arith))
 
 -- One answer: outcomes that meet the statements.
-pub maps-A : MeetsBasicBuild list_a no_bits no_cells answer.Done (basic_built list_a no_bits no_cells).bits (basic_built list_a no_bits no_cells).cells
-unfolding means_basic_answer
+pub maps-A : MeetsBasicBuild list_a no_bits no_cells (Ok tt) (basic_built list_a no_bits no_cells).bits (basic_built list_a no_bits no_cells).cells
+unfolding said_by
 maps-A i = record { said = sym builds-A i; bits = (basic_built list_a no_bits no_cells).bits; cells = (basic_built list_a no_bits no_cells).cells }
 
-pub found-in-maps : MeetsBasicLookup list_a (basic_built list_a no_bits no_cells).bits (basic_built list_a no_bits no_cells).cells (ip 10 1 2 200) (found.Hop 57)
-unfolding means_basic_found
+pub found-in-maps : MeetsBasicLookup list_a (basic_built list_a no_bits no_cells).bits (basic_built list_a no_bits no_cells).cells (ip 10 1 2 200) (Ok (Some 57))
+unfolding said_by
 found-in-maps = sym maps-57
 
-pub broken-maps : MeetsBasicLookup [] one_bit no_cells 0 (found.Refused 13)
-unfolding means_basic_found
+pub broken-maps : MeetsBasicLookup [] one_bit no_cells 0 (Err (record { why = refusal.Broken; at = None }))
+unfolding said_by
 broken-maps = sym refused-maps
 
 many-none : (basic_many [] one_bit no_cells [] []).said ≡ accepted []
 many-none = many-only [] one_bit no_cells [] [] (accepted []) (BasicLookups.done prepared-none refl)
 
-pub many-in-maps : MeetsBasicMany [] one_bit no_cells [] [] answer.Done (basic_many [] one_bit no_cells [] []).words
-unfolding means_basic_answer
+pub many-in-maps : MeetsBasicMany [] one_bit no_cells [] [] (Ok tt) (basic_many [] one_bit no_cells [] []).words
+unfolding said_by
 many-in-maps i = record { said = sym many-none i; words = (basic_many [] one_bit no_cells [] []).words }

@@ -1,5 +1,6 @@
 -- Images that meet what the theorems on their test and their changes suppose: list A's, and one of 4,096 routes; calls on them that are accepted and
 -- refused; and outcomes that meet the statements. So none of the theorems speaks of nothing.
+use Rattle.std.specs.Prelude.{Ok, Err}
 use mathlib.Core.Path.{◌≡◌, refl, sym, ◌∙◌, ap, ap₂, subst}
 use mathlib.Core.Logic.{◌⊎◌, inl, inr}
 use mathlib.Core.Bool.{true, false}
@@ -19,7 +20,7 @@ use Rattle.routes.specs.Input.{proper_prefix, hop_fine, route_fault, in_order, f
 use Rattle.routes.specs.ListA.{list_a}
 use Rattle.routes.specs.Record.{record_at, Records, routes_of, routes_in, no_route}
 use Rattle.routes.specs.Route.{key, key_of, plain, Good}
-use Rattle.routes.specs.Said.{Said, accepted, refused, accepts}
+use Rattle.routes.specs.Said.{Said, accepted, refused, accepts, said_plainly}
 use Rattle.routes.specs.declared.Route.{Route}
 use Rattle.routes.specs.Cases.{Passes}
 use Rattle.routes.proofs.Judged.{good-whole}
@@ -43,17 +44,16 @@ use Rattle.tree_same.specs.Order.{exts}
 use Rattle.tree_same.proofs.Plain.{plain-good}
 use Rattle.tree_same.proofs.Same.{image-held}
 use Rattle.tree_hold.proofs.Undone.{image-sizes}
-use Rattle.tree_formed.specs.Answers.{means_tested, tested}
+use Rattle.tree_formed.specs.Answers.{tested}
 use Rattle.tree_check.specs.Contract.{MeetsTreeTest}
 use Rattle.tree_formed.specs.WellFormed.{nodes_used, ordered, well_formed}
-use Rattle.tree_formed.specs.declared.Tested.TheVariants as of_test
+use Rattle.refusals.specs.declared.Refusal.TheVariants as refusal
 use Rattle.tree_formed.proofs.AsBuilt.{test-as-build}
 use Rattle.tree_formed.proofs.Exact.{built-passes}
 use Rattle.tree_theory.specs.Cases.{ImageAsked, routes_with, Announcing}
-use Rattle.tree_theory.specs.Changed.{unmarked_route, means_tree_announced, means_tree_withdrawn, image_announced, image_withdrawn}
+use Rattle.tree_theory.specs.Changed.{unmarked_route, image_announced, image_withdrawn}
 use Rattle.tree_change.specs.Contract.{MeetsTreeAnnounce, MeetsTreeWithdraw}
-use Rattle.tree_theory.specs.declared.TreeAnnounced.TheVariants as of_announce
-use Rattle.tree_theory.specs.declared.TreeWithdrawn.TheVariants as of_withdraw
+use Rattle.tree_theory.specs.declared.Change.TheVariants as change
 use Rattle.tree_theory.proofs.Cases.{is-fine}
 use Rattle.tree_theory.proofs.Cases.{case-announced}
 use Rattle.tree_formed.specs.Cases.{Narrow}
@@ -138,23 +138,23 @@ unfolding edges answer changed
 refused-tree-withdraw = line 14
 
 -- One answer: outcomes that meet the statements.
-pub test-A : MeetsTreeTest ws hs (of_test.Image 7 5)
-unfolding means_tested
+pub test-A : MeetsTreeTest ws hs (Ok (record { nodes = 7; hops = 5 }))
+unfolding said_plainly
 test-A = sym tested-A
 
-pub test-broken : MeetsTreeTest [] [] of_test.Broken
-unfolding means_tested
+pub test-broken : MeetsTreeTest [] [] (Err refusal.Broken)
+unfolding said_plainly
 test-broken = sym refused-test
 
-pub announced-A : MeetsTreeAnnounce ws hs (ip 192 0 2 0) 24 3 (of_announce.Added 13 6)
+pub announced-A : MeetsTreeAnnounce ws hs (ip 192 0 2 0) 24 3 (Ok (record { change = change.Added; used = record { nodes = 13; hops = 6 } }))
     (image_announced ws hs (ip 192 0 2 0) 24 3).words (image_announced ws hs (ip 192 0 2 0) 24 3).hops
-unfolding means_tree_announced
+unfolding said_plainly
 announced-A i = record { said = sym added-A i; words = (image_announced ws hs (ip 192 0 2 0) 24 3).words; hops = (image_announced ws hs (ip 192 0 2 0) 24 3).hops }
 
-pub withdrawn-A : MeetsTreeWithdraw (image_in list_a 21 5).words (image_in list_a 21 5).hops (ip 10 1 2 128) 25 (of_withdraw.Removed 7 4)
+pub withdrawn-A : MeetsTreeWithdraw (image_in list_a 21 5).words (image_in list_a 21 5).hops (ip 10 1 2 128) 25 (Ok (record { nodes = 7; hops = 4 }))
     (image_withdrawn (image_in list_a 21 5).words (image_in list_a 21 5).hops (ip 10 1 2 128) 25).words
     (image_withdrawn (image_in list_a 21 5).words (image_in list_a 21 5).hops (ip 10 1 2 128) 25).hops
-unfolding means_tree_withdrawn
+unfolding said_plainly
 withdrawn-A i = record {
   said = sym removed-A i;
   words = (image_withdrawn (image_in list_a 21 5).words (image_in list_a 21 5).hops (ip 10 1 2 128) 25).words;

@@ -1,5 +1,6 @@
 -- Tables, images and calls that meet what the theorems on the demands suppose: the fresh table, list A loaded and built, and calls that are
 -- refused. So none of them speaks of nothing.
+use Rattle.std.specs.Prelude.{Some, Ok, Err}
 use mathlib.Core.Path.{◌≡◌, refl, sym, ◌∙◌, ap}
 use mathlib.Core.Logic.{◌≢◌}
 use mathlib.Core.Bool.{true, false, cond}
@@ -17,27 +18,26 @@ use Rattle.standing.specs.Cells.{any, best}
 use Rattle.standing.specs.Cells as cells
 use Rattle.routes.specs.Record.{record_at, routes_of, written, routes_in}
 use Rattle.routes.specs.Input.{proper_prefix, hop_fine, route_fault, in_order, fault_at, input_said}
-use Rattle.routes.specs.Said.{Said, accepted, refused, accepts}
+use Rattle.routes.specs.Said.{Said, accepted, refused, accepts, said_by, said_plainly}
 use Rattle.routes.specs.Answers.{means_input, means_got, route_said, ReadBack}
 use Rattle.routes.specs.Contract.{MeetsCheckInput, MeetsRouteAt}
 use Rattle.standing.specs.Standing.{route_at}
-use Rattle.routes.specs.declared.input.Input.TheVariants as of_input
-use Rattle.routes.specs.declared.input.Got.TheVariants as got
+use Rattle.std.specs.Prelude.{Some, None, Ok, Err}
+use Rattle.refusals.specs.declared.Refusal.TheVariants as refusal
+use Rattle.routes.specs.Said.{said_by}
 use Rattle.routes.specs.declared.Route.{Route}
 use Rattle.routes.proofs.Meaning.{prefix-true}
 use Rattle.lists.specs.Place.{place_of}
-use Rattle.runs.specs.Run.{run_said, means_run_check, run_of, run_at, IsRun}
+use Rattle.runs.specs.Run.{run_said, run_of, run_at, IsRun}
 use Rattle.runs.specs.Tally.{lengths_of, tally_of, IsTally}
 use Rattle.runs.specs.Contract.{MeetsRunCheck}
-use Rattle.runs.specs.declared.run.RunCheck.TheVariants as run_check
 use Rattle.sail.specs.Geometry.{standard_geo, valid_geo}
 use Rattle.sail.specs.Lent.{Lent}
 use Rattle.sail.specs.Sizes.{sizes_fault}
 use Rattle.sail.specs.Sound.{Sound, standing, fresh_table, fresh_lent}
-use Rattle.sail.specs.Walk.{lookup_said, means_found}
+use Rattle.sail.specs.Walk.{lookup_said}
 use Rattle.sail.specs.Contract.{MeetsLookup}
 use Rattle.sail.specs.declared.table.Table.{Table}
-use Rattle.sail.specs.declared.found.Found.TheVariants as found
 use Rattle.sail.proofs.Fresh.{fresh-sound}
 use Rattle.sail_theory.specs.Calls.{route, terms_of, withdraw_fault, Out, out, made, announced, withdrawn, loaded, reported}
 use Rattle.sail_theory.specs.CallRuns.{Call, announce, withdraw, load, done, after, held_by_calls, routes_after, Formed, standing_after, AsFresh}
@@ -45,15 +45,9 @@ use Rattle.sail_theory.specs.Render.{room_of}
 use Rattle.sail_theory.proofs.calls.Cleared.{telling-once, announce-said, announce-off}
 use Rattle.sail_theory.proofs.calls.Make.{make-said, make-is}
 use Rattle.sail_theory.proofs.calls.SameSizes.{size-refl}
-use Rattle.sail_sound.specs.Report.{means_reported}
 use Rattle.sail_sound.specs.Contract.{MeetsReport}
-use Rattle.sail_sound.specs.declared.report.Reported.TheVariants as of_report
-use Rattle.sail_make.specs.Answers.{means_made}
 use Rattle.sail_make.specs.Contract.{MeetsMake}
-use Rattle.sail_load.specs.Answers.{means_loaded}
 use Rattle.sail_load.specs.Contract.{MeetsLoad}
-use Rattle.sail_make.specs.declared.Made.TheVariants as of_make
-use Rattle.sail_load.specs.declared.load.Loaded.TheVariants as of_load
 use Rattle.sail_announce.specs.Answers.{means_announce}
 use Rattle.sail_announce.specs.Contract.{MeetsAnnounce}
 use Rattle.sail_withdraw.specs.Answers.{means_withdraw}
@@ -64,13 +58,12 @@ use Rattle.tree_image.specs.Node.{sound}
 use Rattle.tree_image.specs.Parts.{picked, gather}
 use Rattle.tree_image.specs.Image.{kids, level, up_to, on_path}
 use Rattle.tree_image.specs.Walk as walk
-use Rattle.tree_image.specs.Walk.{walk_from, tree_said, means_tree_found}
+use Rattle.tree_image.specs.Walk.{walk_from, tree_said}
 use Rattle.tree.specs.Contract.{MeetsTreeLookup}
-use Rattle.tree_image.specs.declared.TreeFound.TheVariants as tree_found
+use Rattle.refusals.specs.declared.Refusal.TheVariants as refusal
 use Rattle.tree_build.specs.Built as building
-use Rattle.tree_build.specs.Built.{means_built, made_of, built}
+use Rattle.tree_build.specs.Built.{made_of, built}
 use Rattle.tree_build.specs.Contract.{MeetsBuild}
-use Rattle.tree_build.specs.declared.Built.TheVariants as of_build
 use Rattle.tree_build.proofs.Serves.{built-serves}
 use Rattle.sail_theory.specs.Replies.{reply, stood}
 use Rattle.sail_theory.proofs.runs.Replies.{run-says, run-stood}
@@ -227,20 +220,20 @@ loads-A = ap accepts (line 0)
 told : (o : Out) (s : Said) → o.said ≡ s → out s o.table o.lent ≡ o
 told o s e i = out (sym e i) o.table o.lent
 
-pub checked-A : MeetsCheckInput list_a (of_input.Good 5)
-unfolding means_input
+pub checked-A : MeetsCheckInput list_a (Ok 5)
+unfolding said_by
 checked-A = sym good_a
 
-pub route-A : MeetsRouteAt list_a 4 (got.One (record { addr = ip 10 1 2 128; len = 25; mark = 0; hop = 57 }))
-unfolding means_got route_said list_a record_at
+pub route-A : MeetsRouteAt list_a 4 (Ok (Some (record { addr = ip 10 1 2 128; len = 25; mark = 0; hop = 57 })))
+unfolding said_by route_said list_a record_at
 route-A = rw good_a
 
-pub route-attached : MeetsRouteAt (10 ∷ 1 ∷ 0 ∷ 0 ∷ 16 ∷ 1 ∷ 0 ∷ 31 ∷ []) 0 (got.One (route (ip 10 1 0 0) 16 31 1))
-unfolding starred answer means_got route_said record_at
+pub route-attached : MeetsRouteAt (10 ∷ 1 ∷ 0 ∷ 0 ∷ 16 ∷ 1 ∷ 0 ∷ 31 ∷ []) 0 (Ok (Some (route (ip 10 1 0 0) 16 31 1)))
+unfolding starred answer said_by route_said record_at
 route-attached = rw (line 39)
 
-pub route-refused : (k : ℕ) → MeetsRouteAt (1 ∷ []) k (got.Refused 10 0)
-unfolding means_got route_said input_said
+pub route-refused : (k : ℕ) → MeetsRouteAt (1 ∷ []) k (Err (record { why = refusal.Record; at = Some 0 }))
+unfolding said_by route_said input_said
 route-refused k = refl
 
 -- list A lies somewhere in memory; its run under 10.1.0.0/16 is its part from byte 16 on, there
@@ -255,8 +248,8 @@ pub run-refused : IsRun (in_memory (1 ∷ [])) (record { ref_ptr = (3, 4096); no
 unfolding in_memory run_of run_at run_said input_said
 run-refused = record { holds = refl; stands = refl }
 
-pub run-A : MeetsRunCheck list_a (ip 10 1 0 0) 16 (run_check.Run 2 3)
-unfolding means_run_check run_said list_a record_at place_of first_of first_from proper_prefix cut
+pub run-A : MeetsRunCheck list_a (ip 10 1 0 0) 16 (Ok (record { start = 2; count = 3 }))
+unfolding said_by run_said list_a record_at place_of first_of first_from proper_prefix cut
 run-A = rw good_a
 
 -- one route of each of the lengths 0, 8, 16, 24 and 25
@@ -269,32 +262,32 @@ counts_a =
     ∷ 0
     ∷ []
 
-pub tally-A : IsTally list_a (record { answer = of_input.Good 5; counts = counts_a })
+pub tally-A : IsTally list_a (record { answer = Ok 5; counts = counts_a })
 unfolding tally_of lengths_of list_a input_said first_of first_from fault_at route_fault in_order proper_prefix hop_fine record_at cut tabulate count
 tally-A = record { answered = checked-A; counted = refl }
 
-pub found-A : MeetsLookup (t loaded_a) (l loaded_a) (ip 10 1 2 200) (found.Hop 57 3)
-unfolding starred answer means_found
+pub found-A : MeetsLookup (t loaded_a) (l loaded_a) (ip 10 1 2 200) (Ok (record { hop = Some 57; reads = 3 }))
+unfolding starred answer said_plainly
 found-A = sym (line 1)
 
-pub found-refused : (a : ℕ) → MeetsLookup (fresh_table (geo 16 27)) (bare (geo 16 27)) a (found.Refused 1)
-unfolding means_found
+pub found-refused : (a : ℕ) → MeetsLookup (fresh_table (geo 16 27)) (bare (geo 16 27)) a (Err refusal.Geometry)
+unfolding said_plainly
 found-refused a = sym (refused-lookup a)
 
-pub reported-refused : MeetsReport (fresh_table (geo 16 27)) (bare (geo 16 27)) (of_report.Refused 1)
-unfolding means_reported
+pub reported-refused : MeetsReport (fresh_table (geo 16 27)) (bare (geo 16 27)) (Err refusal.Geometry)
+unfolding said_plainly
 reported-refused = sym refused-report
 
-pub reported-A : MeetsReport (t loaded_a) (l loaded_a) (of_report.Standing 5 1 1)
-unfolding starred answer means_reported
+pub reported-A : MeetsReport (t loaded_a) (l loaded_a) (Ok (record { routes = 5; second = 1; third = 1 }))
+unfolding starred answer said_plainly
 reported-A = sym (line 11)
 
-pub made-fresh : MeetsMake table arrays (record { answer = of_make.Done; table = fresh_table standard_geo }) (fresh_lent arrays)
-unfolding table means_made
+pub made-fresh : MeetsMake table arrays (Ok (fresh_table standard_geo)) (fresh_lent arrays)
+unfolding table said_plainly
 made-fresh = sym (make-is table arrays sized)
 
-pub loaded-A : MeetsLoad (t []) (l []) list_a (record { answer = of_load.Done; table = t loaded_a }) (l loaded_a)
-unfolding starred answer after done means_loaded
+pub loaded-A : MeetsLoad (t []) (l []) list_a (Ok (t loaded_a)) (l loaded_a)
+unfolding starred answer after done said_by
 loaded-A = told (loaded (t []) (l []) list_a) (accepted []) (line 0)
 
 pub announced-first : MeetsAnnounce (t []) (l []) (ip 10 1 2 0) 24 44 0 (record { answer = of_announce.Added false; table = t entered }) (l entered)
@@ -320,8 +313,8 @@ pub withdrawn-A : MeetsWithdraw (t loaded_a) (l loaded_a) 0 0 (record { answer =
 unfolding starred answer after done means_withdraw
 withdrawn-A = told (withdrawn (t loaded_a) (l loaded_a) 0 0) (accepted (0 ∷ [])) (line 9)
 
-pub tree-found-A : MeetsTreeLookup image.words image.hops (ip 10 1 2 200) (tree_found.Hop 57 8)
-unfolding starred answer means_tree_found
+pub tree-found-A : MeetsTreeLookup image.words image.hops (ip 10 1 2 200) (Ok (record { hop = Some 57; reads = 8 }))
+unfolding starred answer said_plainly
 tree-found-A = sym (line 2)
 
 -- The largest count of an image is had: the image of one route of 32 bits, asked for that address, has 9 nodes on its path, and the hop.
@@ -340,16 +333,16 @@ host-told : walk.tree_hop_said (best (routes_in host) 32 (ip 10 1 2 200)) (on_pa
 unfolding host walk.tree_hop_said best routes_of record_at tabulate any cells.first count
 host-told = refl
 
-pub tree-found-ten : MeetsTreeLookup host_image.words host_image.hops (ip 10 1 2 200) (tree_found.Hop 57 10)
-unfolding means_tree_found
+pub tree-found-ten : MeetsTreeLookup host_image.words host_image.hops (ip 10 1 2 200) (Ok (record { hop = Some 57; reads = 10 }))
+unfolding said_plainly
 tree-found-ten = sym (built-serves host (replicate 27 0) (replicate 1 0) (9 ∷ 1 ∷ []) (ip 10 1 2 200) host-built (omega arith) ∙ host-told)
 
-pub tree-broken : (a : ℕ) → MeetsTreeLookup [] [] a tree_found.Broken
-unfolding means_tree_found
+pub tree-broken : (a : ℕ) → MeetsTreeLookup [] [] a (Err refusal.Broken)
+unfolding said_plainly
 tree-broken a = sym (refused-tree a)
 
-pub built-A : MeetsBuild list_a (replicate 21 0) (replicate 5 0) (of_build.Made 7 5) image.words image.hops
-unfolding image means_built
+pub built-A : MeetsBuild list_a (replicate 21 0) (replicate 5 0) (Ok (record { nodes = 7; hops = 5 })) image.words image.hops
+unfolding image said_by
 built-A i = record {
   said = sym built_a i;
   words = (built list_a (replicate 21 0) (replicate 5 0)).words;

@@ -23,6 +23,10 @@ broken-of s f e n = go (decided (broken s))
     go (inl b) = b
     go (inr b) = absurd (n (e ∙ rw b))
 
+fault-is : (s : List ℕ) (f : ℕ) → f ≡ field_fault s → (f ≡ 0 → ⊥) → f ≡ 17
+unfolding field_fault
+fault-is s f e n = e ∙ rw (broken-of s f e n)
+
 module _ (wd re : List ℕ) (hop : ℕ) where
   -- the number, by the first condition that holds
   gone-is : broken wd ≡ true → 17 ≡ message_fault wd re hop
@@ -85,12 +89,12 @@ module _ (wd re : List ℕ) (hop : ℕ) where
   off r n e = record { number = e; on = λ z. absurd (n z) }
 
   module _ (f : ℕ) (ef : f ≡ field_fault wd) where
-    pub stop-gone : (f ≡ 0 → ⊥) → MessageChecked wd re hop 17
-    stop-gone n = off 17 (λ q. omega arith) (gone-is (broken-of wd f ef n))
+    pub stop-gone : (f ≡ 0 → ⊥) → MessageChecked wd re hop f
+    stop-gone n = off f n (fault-is wd f ef n ∙ gone-is (broken-of wd f ef n))
 
     module _ (zf : f ≡ 0) (g : ℕ) (eg : g ≡ field_fault re) where
-      pub stop-come : (g ≡ 0 → ⊥) → MessageChecked wd re hop 17
-      stop-come n = off 17 (λ q. omega arith) (come-is (from_start wd f ef zf).whole (broken-of re g eg n))
+      pub stop-come : (g ≡ 0 → ⊥) → MessageChecked wd re hop g
+      stop-come n = off g n (fault-is re g eg n ∙ come-is (from_start wd f ef zf).whole (broken-of re g eg n))
 
       module _ (zg : g ≡ 0) (b : Bool) (eb : b ≡ hop_fine hop) where
         pub stop-hop : not b ≡ true → MessageChecked wd re hop 4

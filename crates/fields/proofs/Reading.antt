@@ -1,14 +1,15 @@
 -- Reading a field entry by entry: the check, an entry, and what is left after it.
 use mathlib.Core.Path.{◌≡◌, sym, ap, ◌∙◌}
 use mathlib.Core.Logic.{◌⊎◌, inl, inr}
-use mathlib.Core.Bool.{true, false, ◌||◌, true≢false}
-use mathlib.Core.List.{List, [], ◌∷◌}
-use Prim.Native.Nat.{ℕ, ◌+◌, ◌-◌, ◌*◌, ◌^◌, ◌≤◌, ◌<◌}
+use mathlib.Core.Bool.{true, false, ◌||◌}
+use mathlib.Core.List.{List, [], ◌∷◌, ◌++◌}
+use Rattle.std.specs.Int.{w32, from_be_bytes}
+use Prim.Native.Nat.{ℕ, ◌+◌, ◌-◌, ◌^◌, ◌≤◌, ◌<◌}
 use native.Mathlib.Numerals.{add-one}
 use native.Mathlib.Omega.{arith}
 use lib.Dec.{ltb}
-use lib.ListN.{length, get_or, take, drop, length-drop, length-take, drop_of_length-le, get_or-eq_default}
-use lib.Seq.{drop-cons, drop-drop, get_or-take, get_or-drop}
+use lib.ListN.{length, get_or, take, drop, length-drop, length-take, drop_of_length-le}
+use lib.Seq.{drop-cons, drop-drop}
 use borrow.Author.Tests.{lt-ltb, le-ltb}
 use Rattle.bits.specs.Slot.{cut}
 use Rattle.bits.proofs.Bools.{decided}
@@ -17,7 +18,6 @@ use Rattle.routes.specs.Route.{Prefix}
 use Rattle.routes.specs.Record.{word32}
 use Rattle.fields.specs.Field.{bytes_for, net_in, broken, entries, field_fault}
 use Rattle.fields.specs.Entry.{EntryAt, IsEntry, FieldFrom}
-use Rattle.fields.specs.declared.entry.Entry.{Entry}
 use Rattle.fields.proofs.Fields.{broken-step, broken-none, entries-step, entries_none, First, first-whole}
 
 pub drop_here : (s : List ℕ) (at : ℕ) → at < length s → drop at s ≡ get_or s at 0 ∷ drop (at + 1) s
@@ -91,44 +91,41 @@ module _ (s : List ℕ) (at : ℕ) (from : FieldFrom s at) where
 
 -- ---- one entry
 
--- a byte of it, and one past it
-pub byte-in : (s : List ℕ) (at n k x y : ℕ) → at + n ≤ length s → k < n → x ≡ get_or s (at + k) 0 → y ≡ x → y ≡ get_or (take n (drop at s)) k 0
-byte-in s at n k x y h l e q = q ∙ e ∙ sym (get_or-take n (drop at s) k 0 l ∙ get_or-drop at s k 0)
+-- at most four bytes, and zeros after them
+word-is : (x : List ℕ) → length x ≤ 4 → from_be_bytes w32 (x ++ drop (length x) (0 ∷ 0 ∷ 0 ∷ 0 ∷ [])) ≡ word32 x 0
+word-is [] h = omega arith
+word-is (a ∷ []) h = omega arith
+word-is (a ∷ b ∷ []) h = omega arith
+word-is (a ∷ b ∷ c ∷ []) h = omega arith
+word-is (a ∷ b ∷ c ∷ d ∷ []) h = omega arith
+word-is (a ∷ b ∷ c ∷ d ∷ e ∷ x) h = absurd (omega arith)
 
-pub byte_past : (s : List ℕ) (at n k : ℕ) → n ≤ k → 0 ≡ get_or (take n (drop at s)) k 0
-byte_past s at n k h = sym (get_or-eq_default (take n (drop at s)) 0 (omega (arith, length-take n (drop at s))))
-
-pub entry-is : (s : List ℕ) (at : ℕ) → EntryAt s at → (len l n b h0 h1 h2 h3 high low a : ℕ) → len ≡ get_or s at 0 → l ≡ len → n ≡ bytes_for l → b ≡ at + 1
-    → h0 ≡ get_or (take n (drop b s)) 0 0 → h1 ≡ get_or (take n (drop b s)) 1 0 → h2 ≡ get_or (take n (drop b s)) 2 0 → h3 ≡ get_or (take n (drop b s)) 3 0
-    → h0 < 256 → h1 < 256 → h2 < 256 → h3 < 256 → high ≡ h0 * 256 + h1 → low ≡ h2 * 256 + h3 → a ≡ cut l (high * 65536 + low)
-    → IsEntry s at (record { addr = a; len = len; next = b + n })
-entry-is s at k len l n b h0 h1 h2 h3 high low a e1 e2 e3 e4 q0 q1 q2 q3 b0 b1 b2 b3 w1 w2 ea = record { net = net; prefix = prefix; next = next }
+pub entry-is : (s : List ℕ) (at : ℕ) → EntryAt s at → (l n w a : ℕ) → l ≡ get_or s at 0 → n ≡ bytes_for l → (x : List ℕ) (m : ℕ) → m ≡ n
+    → x ≡ take m (drop (at + 1) s) → w ≡ from_be_bytes w32 (x ++ drop n (0 ∷ 0 ∷ 0 ∷ 0 ∷ [])) → w < 2 ^ 32 → a ≡ cut l w
+    → IsEntry s at (record { addr = a; len = get_or s at 0; next = at + 1 + n })
+entry-is s at k l n w a e q x m em ex ew small ea = record { net = net; prefix = prefix; next = omega arith }
   where
-    same-n : n ≡ bytes_for (get_or s at 0)
-    same-n = omega arith
+    len : ℕ
+    len = get_or s at 0
 
-    bytes : take n (drop b s) ≡ take (bytes_for (get_or s at 0)) (drop (at + 1) s)
-    bytes = rw (same-n, e4)
+    bytes : x ≡ take (bytes_for len) (drop (at + 1) s)
+    bytes = ex ∙ ap (λ (y : ℕ). take y (drop (at + 1) s)) (em ∙ q ∙ ap bytes_for e)
 
-    word : high * 65536 + low ≡ word32 (take n (drop b s)) 0
-    word = omega arith
+    long : length x ≡ n
+    long = omega (arith, ap length ex, length-take m (drop (at + 1) s), length-drop (at + 1) s, k.whole)
 
-    net : record { addr = a; len = len } ≡ net_in (get_or s at 0) (drop (at + 1) s)
-    net =
-        let le : l ≡ get_or s at 0 = e2 ∙ e1 in
-        let ad : a ≡ cut (get_or s at 0) (word32 (take (bytes_for (get_or s at 0)) (drop (at + 1) s)) 0)
-        = ea ∙ ap (cut l) (word ∙ ap (λ (x : List ℕ). word32 x 0) bytes) ∙ ap (λ (x : ℕ). cut x (word32 (take (bytes_for (get_or s at 0)) (drop (at + 1) s)) 0)) le in
-        cc
+    word : w ≡ word32 (take (bytes_for len) (drop (at + 1) s)) 0
+    word = ew ∙ rw (← long) (word-is x (omega (arith, long, k.len_ok))) ∙ ap (λ (y : List ℕ). word32 y 0) bytes
+
+    same : a ≡ cut len w
+    same = ea ∙ ap (λ (y : ℕ). cut y w) e
+
+    net : record { addr = a; len = len } ≡ net_in len (drop (at + 1) s)
+    net = let ad = same ∙ ap (cut len) word in cc
 
     prefix : Prefix a len
-    prefix =
-        let small : high * 65536 + low < 2 ^ 32 = omega arith in
-        let same : a ≡ cut len (high * 65536 + low) = ea ∙ ap (λ (x : ℕ). cut x (high * 65536 + low)) e2 in
-        record {
-          len_ok = omega (arith, k.len_ok);
-          addr_ok = omega (arith, same, cut-le len (high * 65536 + low));
-          clear = ap (cut len) same ∙ cut-cut len (high * 65536 + low) ∙ sym same;
-        }
-
-    next : b + n ≡ at + 1 + bytes_for (get_or s at 0)
-    next = omega arith
+    prefix = record {
+      len_ok = k.len_ok;
+      addr_ok = omega (arith, same, cut-le len w);
+      clear = ap (cut len) same ∙ cut-cut len w ∙ sym same;
+    }

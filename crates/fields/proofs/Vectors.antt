@@ -1,7 +1,7 @@
 -- Fields by hand: list A's, trailing bits, lengths of 32 and 33, entries that end early, and what is wrong with messages.
 use mathlib.Core.Path.{◌≡◌, refl}
 use mathlib.Core.List.{List, [], ◌∷◌, map}
-use Prim.Native.Nat.{ℕ, ◌*◌, ◌+◌, ◌/◌, ◌^◌}
+use Prim.Native.Nat.{ℕ}
 use Rattle.bits.specs.Slot.{cut}
 use Rattle.routes.specs.declared.Route.{Route}
 use Rattle.routes.specs.Input.{hop_fine}

@@ -3,16 +3,15 @@ use mathlib.Core.Path.{◌≡◌, refl, sym, ap, ◌∙◌}
 use mathlib.Core.Logic.{◌⊎◌, inl, inr}
 use mathlib.Core.Bool.{true, false, true≢false, false≢true}
 use mathlib.Core.List.{List, [], ◌∷◌, ◌++◌, map}
-use Prim.Native.Nat.{ℕ, ◌+◌, ◌-◌, ◌*◌, ◌/◌, ◌≤◌, ◌<◌}
+use Prim.Native.Nat.{ℕ, ◌+◌, ◌-◌, ◌/◌, ◌≤◌, ◌<◌}
 use native.Mathlib.Omega.{arith}
-use lib.Dec.{ltb}
 use lib.ListN.{length, get_or, take, drop}
 use lib.Seq.{get_or-append-add, get_or-drop, take-append_seam}
 use borrow.Author.Tests.{lt-ltb, le-ltb}
 use Rattle.bits.proofs.Bools.{decided, below?}
 use Rattle.routes.specs.Input.{input_said}
 use Rattle.routes.specs.Record.{routes_of, routes_in}
-use Rattle.routes.specs.Said.{Said, accepted, refused, refused_at, and_then, accepts}
+use Rattle.routes.specs.Said.{Said, accepted, refused, refused_at, and_then, accepts, said_by}
 use Rattle.routes.specs.Cases.{Passes}
 use Rattle.routes.specs.Route.{Good}
 use Rattle.routes.proofs.Judged.{check-only, by-input}
@@ -20,21 +19,24 @@ use Rattle.routes.proofs.Meaning.{input-good}
 use Rattle.routes.proofs.Rows.{records-good}
 use Rattle.fields.specs.Field.{net_of, entries, field_fault, field_of}
 use Rattle.fields.specs.Written.{means_written, write_said, FieldOut, field_out, over, field_written, Write}
-use Rattle.fields.specs.declared.write.Written.{Written}
-use Rattle.fields.specs.declared.write.Written.TheVariants as written
+use Rattle.std.specs.Prelude.{None, Result, Ok, Err}
+use Rattle.refusals.specs.declared.Refusal.TheVariants as refusal
+use Rattle.refusals.specs.declared.Refused.{Refused}
+use Rattle.routes.specs.Answers.{means_input}
+use Rattle.routes.proofs.Inputs.{input-ok, input-err}
+use Rattle.routes.proofs.Saids.{said-injective, and-then-told, told-off}
 use Rattle.fields.proofs.FieldBack.{field_back, field-fine}
 
 module _ (s out : List ℕ) where
-  pub say-refused : (f k : ℕ) → input_said s ≡ refused_at f k → field_out (means_written (written.Refused f k)) out ≡ field_written s out
-  unfolding field_written write_said means_written
-  say-refused f k e = rw e
-
-  pub say-many : input_said s ≡ refused 6 → field_out (means_written written.TooMany) out ≡ field_written s out
-  unfolding field_written write_said means_written
-  say-many e = rw e
+  pub say-refused : (w : Refused) → means_input (Err w) ≡ input_said s → field_out (means_written (Err w)) out ≡ field_written s out
+  unfolding field_written write_said said_by
+  say-refused w e = rw (input-err s w e, and-then-told w _, told-off w) refl
 
   -- the input is good, and size is the length of its field
-  module _ (n : ℕ) (e : input_said s ≡ accepted (n ∷ [])) where
+  module _ (n : ℕ) (t : means_input (Ok n) ≡ input_said s) where
+    e : input_said s ≡ accepted (n ∷ [])
+    e = input-ok s n t
+
     same : routes_of s n ≡ routes_in s
     same = let h = (input-good s n e).0 in ap (routes_of s) (omega arith)
 
@@ -42,19 +44,16 @@ module _ (s out : List ℕ) where
       is : size ≡ length (field_of (routes_in s))
       is = q ∙ ap (λ rs. length (field_of rs)) same
 
-      pub say-short : length out < size → field_out (means_written written.Short) out ≡ field_written s out
-      unfolding field_written write_said means_written
+      pub say-short : length out < size → field_out (means_written (Err (record { why = refusal.FieldRoom; at = None }))) out ≡ field_written s out
+      unfolding field_written write_said said_by
       say-short h = rw (e, ← is, lt-ltb (length out) size h)
 
       pub say-bytes : size ≤ length out → (u : List ℕ) → u ≡ over (field_of (routes_of s n)) out
-          → field_out (means_written (written.Bytes size)) u ≡ field_written s out
-      unfolding field_written write_said means_written
+          → field_out (means_written (Ok size)) u ≡ field_written s out
+      unfolding field_written write_said said_by
       say-bytes h u w =
           let there : u ≡ over (field_of (routes_in s)) out = w ∙ ap (λ rs. over (field_of rs) out) same in
           rw (e, ← is, le-ltb (length out) size h) (ap (field_out (accepted (size ∷ []))) (there ∙ ap (λ (k : ℕ). field_of (routes_in s) ++ drop k out) (sym is)))
-
-number_is : (n : ℕ) {m : ℕ} → refused n ≡ refused m → n ≡ m
-number_is n e = cc
 
 -- What this means. A refusal leaves the buffer as it was
 pub refused-leaves-write : (s out : List ℕ) → accepts (write_said s out) ≡ false → (field_written s out).out ≡ out
@@ -132,27 +131,11 @@ read-written s out e =
     = ap (take (length (field_of (routes_in s)))) p.there ∙ take-append_seam (field_of (routes_in s)) (drop (length (field_of (routes_in s))) out) in
     rw front (field-fine (routes_in s) p.good, field_back (routes_in s) p.good)
 
-written-injective : (x y : Written) → means_written x ≡ means_written y → x ≡ y
-unfolding means_written
-written-injective (written.Bytes n) (written.Bytes m) e = cc
-written-injective (written.Bytes n) written.Short e = cc
-written-injective (written.Bytes n) (written.Refused f k) e = cc
-written-injective (written.Bytes n) written.TooMany e = cc
-written-injective written.Short (written.Bytes m) e = cc
-written-injective written.Short written.Short e = refl
-written-injective written.Short (written.Refused f k) e = cc
-written-injective written.Short written.TooMany e = absurd (let z : 18 ≡ 6 = number_is 18 e in omega arith)
-written-injective (written.Refused f k) (written.Bytes m) e = cc
-written-injective (written.Refused f k) written.Short e = cc
-written-injective (written.Refused f k) (written.Refused g j) e = cc
-written-injective (written.Refused f k) written.TooMany e = cc
-written-injective written.TooMany (written.Bytes m) e = cc
-written-injective written.TooMany written.Short e = absurd (let z : 6 ≡ 18 = number_is 6 e in omega arith)
-written-injective written.TooMany (written.Refused f k) e = cc
-written-injective written.TooMany written.TooMany e = refl
+written-injective : (x y : Result ℕ Refused) → means_written x ≡ means_written y → x ≡ y
+written-injective = said-injective (λ n. n ∷ []) (λ vs. get_or vs 0 0) (λ n. refl)
 
 -- no second answer, and no second buffer
-pub one-answer-write : (s out : List ℕ) (x y : Written) (u v : List ℕ) → field_out (means_written x) u ≡ field_written s out
+pub one-answer-write : (s out : List ℕ) (x y : Result ℕ Refused) (u v : List ℕ) → field_out (means_written x) u ≡ field_written s out
     → field_out (means_written y) v ≡ field_written s out → (x ≡ y) × (u ≡ v)
 one-answer-write s out x y u v p q =
     let e = p ∙ sym q in

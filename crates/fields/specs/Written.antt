@@ -1,20 +1,16 @@
 -- The writer: what it says, and what the buffer then holds.
-use Rattle.std.specs.Prelude.{cond, List, [], ◌∷◌, ◌++◌, ◌≡◌, ℕ, suc, ◌+◌, ◌≤◌, ◌<◌, ltb, length, drop}
+use Rattle.std.specs.Prelude.{cond, List, [], ◌∷◌, ◌++◌, ◌≡◌, ℕ, suc, ◌+◌, ◌≤◌, ◌<◌, ltb, length, drop, Result}
 use Rattle.std.proofs.Math.Seq.{paste}
 use Rattle.routes.specs.Cases.{BadInput, Passes}
 use Rattle.routes.specs.Input.{input_said}
 use Rattle.routes.specs.Record.{Records, routes_of, routes_in}
-use Rattle.routes.specs.Said.{Said, accepted, refused, refused_at, and_then, accepts}
+use Rattle.refusals.specs.declared.Refused.{Refused}
+use Rattle.routes.specs.Said.{Said, accepted, refused, and_then, accepts, said_by}
 use Rattle.fields.specs.Field.{bytes_for, entry_bytes, field_of}
-use Rattle.fields.specs.declared.write.Written.{Written}
-use Rattle.fields.specs.declared.write.Written.TheVariants as written
 
--- what the code's answer says
-unfoldable pub means_written : Written → Said
-means_written (written.Bytes n) = accepted (n ∷ [])
-means_written written.Short = refused 18
-means_written (written.Refused f k) = refused_at f k
-means_written written.TooMany = refused 6
+-- what the code's answer says: how many bytes the field has
+abbrev pub means_written : Result ℕ Refused → Said
+means_written = said_by (λ n. n ∷ [])
 
 -- "The writer gives the record input's, then 18 when its buffer is too short"
 unfoldable pub write_said : List ℕ → List ℕ → Said

@@ -1,26 +1,27 @@
 // Whether a field is entries end to end, and nothing else.
 ghost use Rattle.std.specs.Prelude.{◌≡◌};
+ghost use Rattle.refusals.specs.Numbers.{fault_of};
 ghost use Rattle.fields.specs.Field.{field_fault};
 
 use crate::entry::bytes_for;
-use bits::widen::byte_to_word;
+use refusals::Refusal;
 
-// 17 where a length is over 32, or the field ends inside an entry; else 0. All bytes are looked at.
-pub fn field_fault(field: &[u8]) -> u8
-    ensures { result ≡ field_fault field.now }
+// Refused (17) where a length is over 32, or the field ends inside an entry. All bytes are looked at.
+pub fn check_field(field: &[u8]) -> Result<(), Refusal>
+    ensures { fault_of result ≡ field_fault field.now }
 {
     let n = field.len();
     let mut at = 0;
     while at < n {
-        let len = byte_to_word(field[at]);
+        let len = u32::from(field[at]);
         if 32 < len {
-            return 17;
+            return Err(Refusal::Field);
         }
         let size = 1 + bytes_for(len);
         if n - at < size {
-            return 17;
+            return Err(Refusal::Field);
         }
         at += size;
     }
-    0
+    Ok(())
 }

@@ -1,21 +1,19 @@
 // A message: prefixes that are withdrawn, prefixes that are announced, and one hop for these.
+ghost use Rattle.refusals.specs.Numbers.{fault_of};
 ghost use Rattle.fields.specs.Message.{MessageChecked};
 
-use crate::check::field_fault;
+use crate::check::check_field;
+use refusals::Refusal;
 use routes::input::hop_ok;
 
-// 17 if one of the fields is none, else 4 for the hop, else 0. All bytes of both fields are looked at before the hop.
-pub fn message_fault(withdrawn: &[u8], reach: &[u8], hop: u16) -> u8
-    ensures { MessageChecked withdrawn.now reach.now hop result }
+// Refused if one of the fields is none (17), else for the hop (4). All bytes of both fields are looked at before the hop.
+pub fn check_message(withdrawn: &[u8], reach: &[u8], hop: u16) -> Result<(), Refusal>
+    ensures { MessageChecked withdrawn.now reach.now hop (fault_of result) }
 {
-    if field_fault(withdrawn) != 0 {
-        return 17;
-    }
-    if field_fault(reach) != 0 {
-        return 17;
-    }
+    check_field(withdrawn)?;
+    check_field(reach)?;
     if !hop_ok(hop) {
-        return 4;
+        return Err(Refusal::Hop);
     }
-    0
+    Ok(())
 }

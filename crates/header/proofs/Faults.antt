@@ -1,15 +1,13 @@
 -- The sum of a header's halves as it is added up, the tests of a header in order, and the packet as it is lowered: a law for each return.
 use mathlib.Core.Path.{◌≡◌, refl, sym, ap, ap₂, ◌∙◌}
 use mathlib.Core.Logic.{◌⊎◌, inl, inr, ◌≢◌}
-use mathlib.Core.Bool.{true, false, cond}
+use mathlib.Core.Bool.{true, false}
 use mathlib.Core.List.{List}
 use Prim.Native.Nat.{ℕ, suc, ◌+◌, ◌-◌, ◌/◌, ◌%◌, ◌≤◌, ◌<◌}
 use native.Mathlib.Omega.{arith}
-use lib.Dec.{eqb}
 use lib.ListN.{length, get_or, set, length-set}
-use borrow.Author.Tests.{eq-eqb, ne_eqb, lt-ltb, le-ltb, le-leb, lt-leb}
+use borrow.Author.Tests.{eq-eqb, ne_eqb, lt-ltb, le-ltb}
 use Rattle.bits.proofs.Bools.{below?, equal?, decided}
-use Rattle.sail.specs.Word.{hop_in_word}
 use Rattle.header.specs.Sums.{half_of, oplus, ones_sum, right_sum, mended_sum}
 use Rattle.header.specs.Header.{header_fault, Lowerable, new_sum, lowered}
 use Rattle.header.specs.Cases.{Version4, WrongHeader, FineHeader}
@@ -28,9 +26,6 @@ sum_more p i s h x e q w = w ∙ next ∙ ap (ones_sum (half_of p)) (omega arith
   where
     next : oplus s h ≡ ones_sum (half_of p) (suc i)
     next = ap₂ oplus e q ∙ sym (sum-next (half_of p) i)
-
-pub sum-whole : (p : List ℕ) (i s : ℕ) → i ≤ 10 → 10 ≤ i → s ≡ ones_sum (half_of p) i → s ≡ ones_sum (half_of p) 10
-sum-whole p i s h l e = e ∙ ap (ones_sum (half_of p)) (omega arith)
 
 -- the tests, in order
 module _ (p : List ℕ) where
@@ -131,14 +126,3 @@ same_size p ys a x y e = rw e (simp length-set)
 pub lowered-told : (p ys : List ℕ) (x : ℕ) → x ≡ new_sum p → ys ≡ set (set (set p 8 (get_or p 8 0 - 1)) 10 (x / 256)) 11 (x % 256) → ys ≡ lowered p
 unfolding lowered
 lowered-told p ys x e q = q ∙ rw e
-
--- the packet after a lookup's word
-module _ (w : ℕ) (p : List ℕ) where
-  pub hop-done : w % 256 ≡ 0 → 65536 ≤ w → (ys : List ℕ) → ys ≡ lowered p → ys ≡ cond (hop_in_word w) (lowered p) p
-  hop-done e h ys q = rw (eq-eqb (w % 256) 0 e, le-leb 65536 w h) q
-
-  pub none_done : w % 256 ≡ 0 → w < 65536 → p ≡ cond (hop_in_word w) (lowered p) p
-  none_done e h = rw (eq-eqb (w % 256) 0 e, lt-leb 65536 w h)
-
-  pub off-done : (w % 256 ≡ 0 → ⊥) → p ≡ cond (hop_in_word w) (lowered p) p
-  off-done n = rw (ne_eqb (w % 256) 0 n)

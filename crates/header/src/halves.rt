@@ -2,7 +2,6 @@
 ghost use Rattle.std.specs.Prelude.{◌≡◌, ◌-◌, ◌≤◌, ◌<◌, length};
 ghost use Rattle.header.specs.Sums.{half_of, oplus, ones_sum, mended_sum};
 
-use bits::widen::half_to_word;
 use records::record::half_at;
 
 // Half i of a packet.
@@ -10,7 +9,7 @@ pub fn half(packet: &[u8], i: usize) -> u32
     requires { (i < 10) × (20 ≤ length packet.now) }
     ensures { (result ≡ half_of packet.now i) × (result < 65536) }
 {
-    half_to_word(half_at(packet, 2 * i))
+    u32::from(half_at(packet, 2 * i))
 }
 
 // The sum of two halves in ones' complement: the carry is added at the other end.
@@ -28,10 +27,8 @@ pub fn sum(packet: &[u8]) -> u32
     ensures { (result ≡ ones_sum (half_of packet.now) 10) × (result < 65536) }
 {
     let mut s = 0;
-    let mut i = 0;
-    while i < 10 {
+    for i in 0..10 {
         s = add(s, half(packet, i));
-        i += 1;
     }
     s
 }

@@ -1,29 +1,31 @@
 // The first 20 bytes of a packet: judged before the lookup of its destination, and changed after it.
 ghost use Rattle.std.specs.Prelude.{cond, ◌≡◌, ◌≤◌, length};
+ghost use Rattle.refusals.specs.Numbers.{fault_of};
 ghost use Rattle.sail.specs.Word.{hop_in_word};
 ghost use Rattle.header.specs.Header.{header_fault, Lowerable, lowered};
 ghost use Rattle.header.specs.Step as step;
 
 use crate::halves::{half, mended, sum};
 use records::record::{put_half, word_at};
+use refusals::Refusal;
 
-// What is wrong with a header, in order: 19 to 22; 0 if nothing is.
-pub fn judge(packet: &[u8]) -> u8
-    ensures { result ≡ header_fault packet.now }
+// What is wrong with a header, in order: 19 to 22.
+pub fn check_header(packet: &[u8]) -> Result<(), Refusal>
+    ensures { fault_of result ≡ header_fault packet.now }
 {
     if packet.len() < 20 {
-        return 19;
+        return Err(Refusal::Short);
     }
     if packet[0] != 0x45 {
-        return 20;
+        return Err(Refusal::Header);
     }
     if sum(packet) != 65535 {
-        return 21;
+        return Err(Refusal::Checksum);
     }
     if packet[8] < 2 {
-        return 22;
+        return Err(Refusal::Expired);
     }
-    0
+    Ok(())
 }
 
 // The address to which the packet goes.

@@ -6,9 +6,8 @@ ghost use Rattle.std.specs.Prelude.{◌≡◌};
 ghost use Rattle.hop_records.specs.Records.{counted_by};
 ghost use Rattle.hop_records.specs.Steps.{sent_by, sent, record_word, plain_word, send_word, place_of_hop};
 
-use bits::widen::half_to_long;
-
 // One record. `up` is 1 for up; every other number is down.
+// Stays: `up` is a byte and no bool. The record is laid out as in C, where a caller may store any byte.
 #[repr(C)]
 #[derive(Clone, Copy)]
 pub struct HopRecord {
@@ -23,10 +22,9 @@ fn counted(r: HopRecord, n: u32) -> HopRecord
     ensures { result ≡ counted_by r n }
 {
     HopRecord {
-        port: r.port,
-        up: r.up,
-        packets: std::num::wrapping_add_u32(r.packets, 1),
-        octets: std::num::wrapping_add_u32(r.octets, n),
+        packets: r.packets.wrapping_add(1),
+        octets: r.octets.wrapping_add(n),
+        ..r
     }
 }
 
@@ -45,7 +43,7 @@ pub fn with_record(r: HopRecord, w: u64) -> u64
     ensures { result ≡ record_word r w }
 {
     if r.up == 1 {
-        return w % 4294967296 + half_to_long(r.port) * 4294967296;
+        return w % 4294967296 + u64::from(r.port) * 4294967296;
     }
     15
 }

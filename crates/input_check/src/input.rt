@@ -1,62 +1,55 @@
 // The check of a record input, record by record, and a route read back out of one.
 ghost use Rattle.std.specs.Prelude.{◌≡◌, ◌+◌, ◌*◌, ◌≤◌, length};
+ghost use Rattle.refusals.specs.Numbers.{fault_of};
 ghost use Rattle.routes.specs.Input.{fault_at};
 ghost use Rattle.routes.specs.Contract.{MeetsCheckInput, MeetsRouteAt};
 
 use records::record;
-use routes::input::{Got, Input, route_fault};
+use refusals::{Refusal, Refused};
+use routes::Route;
+use routes::input::check_route;
 
 // What is wrong with record k: by itself, or with its place after the one before.
-pub fn fault_at(list: &[u8], k: usize) -> u8
+pub fn check_record(list: &[u8], k: usize) -> Result<(), Refusal>
     requires { (k + 1) * 8 ≤ length list.now }
-    ensures { result ≡ fault_at list.now k }
+    ensures { fault_of result ≡ fault_at list.now k }
 {
-    let f = route_fault(record::read_record(list, k));
-    if f != 0 {
-        return f;
-    }
+    check_route(record::read_record(list, k))?;
     if k == 0 {
-        return 0;
+        return Ok(());
     }
     if record::key_at(list, k - 1) < record::key_at(list, k) {
-        return 0;
+        return Ok(());
     }
-    10
+    Err(Refusal::Record)
 }
 
-pub fn check_input(bytes: &[u8]) -> Input
+// So many good records; or the first refusal, with the index of its record, or the number of whole records where the length is wrong.
+pub fn check_input(bytes: &[u8]) -> Result<usize, Refused>
     ensures { MeetsCheckInput bytes.now result }
 {
     let n = bytes.len() / 8;
     if bytes.len() % 8 != 0 {
-        return Input::Refused(10, n);
+        return Err(Refusal::Record.at(n));
     }
-    let mut k = 0;
-    while k < n {
-        let f = fault_at(bytes, k);
-        if f != 0 {
-            return Input::Refused(f, k);
+    for k in 0..n {
+        if let Err(why) = check_record(bytes, k) {
+            return Err(why.at(k));
         }
-        k += 1;
     }
     if 4096 < n {
-        return Input::TooMany;
+        return Err(Refusal::Room.into());
     }
-    Input::Good(n)
+    Ok(n)
 }
 
-// Nothing where the input has no such record.
-pub fn route_at(bytes: &[u8], index: usize) -> Got
+// None where the input has no such record.
+pub fn route_at(bytes: &[u8], index: usize) -> Result<Option<Route>, Refused>
     ensures { MeetsRouteAt bytes.now index result }
 {
-    match check_input(bytes) {
-        Input::Good(n) => {
-            if index < n {
-                return Got::One(record::read_record(bytes, index));
-            }
-            Got::Nothing
-        }
-        Input::Refused(f, k) => Got::Refused(f, k),
-        Input::TooMany => Got::TooMany,
+    let n = check_input(bytes)?;
+    if n <= index {
+        return Ok(None);
     }
+    Ok(Some(record::read_record(bytes, index)))
 }

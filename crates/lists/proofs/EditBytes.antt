@@ -95,7 +95,7 @@ pub inserted-at : (s : List ℕ) (n k : ℕ) (r : Route) → ((j : ℕ) → get_
     → put_at (moved_up s (k * 8) (n * 8) 8) k r ≡ inserted s n r
 inserted-at s n k r bytes ok =
     is-written (insert r rs) (length s / 8) (omega (arith, insert-length r rs, length-routes s n, ok.room)) (put_at moved k r)
-    (length-put moved k r room ∙ length-drawn s _ _ _ ∙ omega (arith, ok.listed.whole))
+    (length-put moved k r room ∙ length-drawn 0 s _ _ _ ∙ omega (arith, ok.listed.whole))
     (λ q m h l. at q m h l (below? q k) (equal? q k) (below? (q - 1) n))
   where
     rs : List Route
@@ -120,17 +120,17 @@ inserted-at s n k r bytes ok =
         (q * 8 + m) 0 ≡ byte_of (insert r rs) q m
     at q m h l (inl u) e p =
         put-before moved k r room (q * 8 + m) (omega arith)
-        ∙ drawn-before s _ (k * 8 + 8) (n * 8 + 8) (q * 8 + m) (omega arith) (omega arith)
+        ∙ drawn-before 0 s _ (k * 8 + 8) (n * 8 + 8) (q * 8 + m) (omega arith) (omega arith)
         ∙ rw (between-before r rs k before place after q u) (old s n bytes ok.listed q m h l)
     at q m h l (inr u) (inl e) p = rw (e, between-here r rs k before place after) (put_byte moved k r room m l)
     at q m h l (inr u) (inr e) (inl p) =
         let d : q * 8 + m - 8 ≡ (q - 1) * 8 + m = omega (arith, e) in
         put-after moved k r room (q * 8 + m) (omega (arith, e))
-        ∙ drawn-in s _ (k * 8 + 8) (n * 8 + 8) (q * 8 + m) (omega arith) (omega (arith, e)) (omega arith)
+        ∙ drawn-in 0 s _ (k * 8 + 8) (n * 8 + 8) (q * 8 + m) (omega arith) (omega (arith, e)) (omega arith)
         ∙ rw (d, between-after r rs k before place after q (omega (arith, e))) (old s n bytes ok.listed (q - 1) m (omega arith) l)
     at q m h l (inr u) (inr e) (inr p) =
         put-after moved k r room (q * 8 + m) (omega (arith, e))
-        ∙ drawn-after s _ (k * 8 + 8) (n * 8 + 8) (q * 8 + m) (omega arith) (omega (arith, e))
+        ∙ drawn-after 0 s _ (k * 8 + 8) (n * 8 + 8) (q * 8 + m) (omega arith) (omega (arith, e))
         ∙ rw (between-after r rs k before place after q (omega (arith, e)), none s n (q - 1) p, ← none s n q (omega arith)) (old s n bytes ok.listed q m h l)
 
 pub replaced-at : (s : List ℕ) (n k : ℕ) (r : Route) → ((j : ℕ) → get_or s j 0 < 256) → ReplaceAt s n k r → put_at s k r ≡ inserted s n r
@@ -164,7 +164,7 @@ removed-at s n k bytes ok =
     is-written (remove (key (get_or rs k no_route)) rs) (length s / 8)
     (omega (arith, remove-length (key (get_or rs k no_route)) rs, length-routes s n, ok.listed.records.room))
     (put_at moved (n - 1) no_route)
-    (length-put moved (n - 1) no_route room ∙ length-drawn s _ _ _ ∙ omega (arith, ok.listed.whole))
+    (length-put moved (n - 1) no_route room ∙ length-drawn 0 s _ _ _ ∙ omega (arith, ok.listed.whole))
     (λ q m h l. at q m h l (below? q k) (below? q (n - 1)) (equal? q (n - 1)))
     ∙ ap (λ (x : Route). removed s n (key x)) (nth-route s n k ok.place)
   where
@@ -187,16 +187,16 @@ removed-at s n k bytes ok =
         → get_or (put_at moved (n - 1) no_route) (q * 8 + m) 0 ≡ byte_of (remove (key (get_or rs k no_route)) rs) q m
     at q m h l (inl u) v e =
         put-before moved (n - 1) no_route room (q * 8 + m) (omega (arith, ok.place))
-        ∙ drawn-before s _ (k * 8) ((n - 1) * 8) (q * 8 + m) (omega arith) (omega arith)
+        ∙ drawn-before 0 s _ (k * 8) ((n - 1) * 8) (q * 8 + m) (omega arith) (omega arith)
         ∙ rw (without-before rs k good place q u) (old s n bytes ok.listed q m h l)
     at q m h l (inr u) (inl v) e =
         let d : q * 8 + m + 8 ≡ (q + 1) * 8 + m = omega arith in
         put-before moved (n - 1) no_route room (q * 8 + m) (omega arith)
-        ∙ drawn-in s _ (k * 8) ((n - 1) * 8) (q * 8 + m) (omega arith) (omega arith) (omega arith)
+        ∙ drawn-in 0 s _ (k * 8) ((n - 1) * 8) (q * 8 + m) (omega arith) (omega arith) (omega arith)
         ∙ rw (d, without_from rs k good place q u) (old s n bytes ok.listed (q + 1) m (omega (arith, ok.listed.records.room)) l)
     at q m h l (inr u) (inr v) (inl e) =
         rw (e, without_from rs k good place (n - 1) (omega (arith, ok.place)), none s n (n - 1 + 1) (omega arith)) (put_byte moved (n - 1) no_route room m l)
     at q m h l (inr u) (inr v) (inr e) =
         put-after moved (n - 1) no_route room (q * 8 + m) (omega (arith, e))
-        ∙ drawn-after s _ (k * 8) ((n - 1) * 8) (q * 8 + m) (omega arith) (omega arith)
+        ∙ drawn-after 0 s _ (k * 8) ((n - 1) * 8) (q * 8 + m) (omega arith) (omega arith)
         ∙ rw (without_from rs k good place q u, none s n (q + 1) (omega (arith, e)), ← none s n q (omega (arith, e))) (old s n bytes ok.listed q m h l)

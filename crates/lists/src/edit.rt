@@ -13,7 +13,7 @@ pub fn insert_at(list: &mut [u8], n: usize, k: usize, r: Route)
     requires { InsertAt list.old n k r }
     ensures { list.new ≡ inserted list.old n r }
 {
-    moves::up8(list, k * 8, n * 8, 8);
+    moves::up(list, k * 8, n * 8, 8);
     record::write_record(list, k, r);
 }
 
@@ -31,7 +31,7 @@ pub fn remove_at(list: &mut [u8], n: usize, k: usize)
     ensures { list.new ≡ removed list.old n (key (record_at list.old k)) }
 {
     let last = n - 1;
-    moves::down8(list, k * 8, last * 8, 8);
+    moves::down(list, k * 8, last * 8, 8);
     record::write_record(
         list,
         last,

@@ -6,6 +6,7 @@ ghost use Rattle.lists.specs.Place.{place_of};
 use records::record;
 
 // The first of n records that is not before the key k, by halving; n where all are.
+// Stays: std's `partition_point` is a slice's, whose elements are records. These are eight bytes each in a list of bytes, as C lends it.
 pub fn place(list: &[u8], n: usize, k: u64) -> usize
     requires { Records list.now n }
     ensures { (result ≡ place_of list.now n k) × (result ≤ n) }

@@ -4,7 +4,7 @@ ghost use Rattle.bits.specs.Tab.{Tells};
 ghost use Rattle.routes.specs.Record.{Listed};
 ghost use Rattle.lists.specs.ListTest.{NoFaults};
 
-use buffers_test::zeros::zeros8;
+use buffers_test::zeros::zeros;
 use input_check::input;
 
 // Whether each of the first n records is right.
@@ -12,12 +12,10 @@ fn all_right(list: &[u8], n: usize) -> bool
     requires { n * 8 ≤ length list.now }
     ensures { Tells result (NoFaults list.now n) }
 {
-    let mut k = 0;
-    while k < n {
-        if input::fault_at(list, k) != 0 {
+    for k in 0..n {
+        if input::check_record(list, k).is_err() {
             return false;
         }
-        k += 1;
     }
     true
 }
@@ -38,5 +36,5 @@ pub fn list_ok(list: &[u8], n: usize) -> bool
     if !all_right(list, n) {
         return false;
     }
-    zeros8(list, n * 8, list.len())
+    zeros(list, n * 8, list.len())
 }

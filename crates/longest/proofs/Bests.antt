@@ -5,7 +5,8 @@ use mathlib.Core.Logic.{◌⊎◌, inl, inr}
 use mathlib.Core.Bool.{Bool, true, false, cond, true≢false}
 use mathlib.Core.List.Memᴰ
 use mathlib.Core.List.{List, [], ◌∷◌, Memᴰ}
-use Prim.Native.Nat.{ℕ, ◌-◌, ◌≤◌, ◌<◌, zero-le}
+use Prim.Native.Nat.{ℕ, ◌≤◌, ◌<◌, zero-le}
+use Rattle.std.specs.Prelude.{Option, Some, None}
 use native.Mathlib.Omega.{arith}
 use lib.Dec.{ltb}
 use borrow.Author.Tests.{ltb-true, ltb-false}
@@ -117,28 +118,27 @@ module _ (rs : List Route) (good : Good rs) (a : ℕ) where
       go (Best.one w) =
           ap hop_or0 (best-route-only w.route (record { listed = w.listed; covering = w.covering; longest = w.longest })) ∙ sym w.its_hop
 
--- the record that is found among those of an input
-module _ (s : List ℕ) (n a k : ℕ) (ok : GoodInput s n) (found : LongestRecord s n a 0 k) where
+-- the route of the record that is found among those of an input, or that there is none
+abbrev pub held_at : List ℕ → Option ℕ → Held
+held_at s None = absent
+held_at s (Some k) = stood (record_at s k)
+
+module _ (s : List ℕ) (n a : ℕ) (ok : GoodInput s n) where
   all : routes_in s ≡ routes_of s n
   all = ap (routes_of s) (omega (arith, ok.whole))
 
-  pub no-best-record : k ≡ 0 → best_route (routes_in s) a ≡ absent
-  no-best-record z = rw all (best-route-none (routes_of s n) a (λ r m. go r (listed-record s n r m)))
+  pub best-record : {r : Option ℕ} → LongestRecord s n a 0 r → best_route (routes_in s) a ≡ held_at s r
+  best-record (LongestRecord.none clear) = rw all (best-route-none (routes_of s n) a (λ r m. go r (listed-record s n r m)))
     where
       go : (r : Route) → (j : ℕ) × (j < n) × (record_at s j ≡ r) → covers 32 a r ≡ false
-      go r p = subst (λ (t : Route). covers 32 a t ≡ false) p.2 (found.none z p.0 p.1 zero-le)
-
-  pub best-record : (k ≡ 0 → ⊥) → best_route (routes_in s) a ≡ stood (record_at s (k - 1))
-  best-record z =
-      let w = found.one (omega (arith, z)) in
-      rw all (best-route-only (routes_of s n) (records-good s n ok.records) a (record_at s (k - 1)) (record {
-        listed = record-listed s n (k - 1) (omega (arith, z, found.to));
+      go r p = subst (λ (t : Route). covers 32 a t ≡ false) p.2 (clear p.0 p.1 zero-le)
+  best-record (LongestRecord.one k u w) =
+      rw all (best-route-only (routes_of s n) (records-good s n ok.records) a (record_at s k) (record {
+        listed = record-listed s n k u;
         covering = w.covering;
         longest = λ t m c. go t c (listed-record s n t m);
       }))
     where
-      go : (t : Route) → covers 32 a t ≡ true → (j : ℕ) × (j < n) × (record_at s j ≡ t) → t.len ≤ (record_at s (k - 1)).len
+      go : (t : Route) → covers 32 a t ≡ true → (j : ℕ) × (j < n) × (record_at s j ≡ t) → t.len ≤ (record_at s k).len
       go t c p =
-          let e = p.2 in
-          subst (λ (r : Route). r.len ≤ (record_at s (k - 1)).len) e
-          ((found.one (omega (arith, z))).longest p.0 p.1 (subst (λ (r : Route). covers 32 a r ≡ true) (sym e) c))
+          subst (λ (r : Route). r.len ≤ (record_at s k).len) p.2 (w.longest p.0 p.1 (subst (λ (r : Route). covers 32 a r ≡ true) (sym p.2) c))

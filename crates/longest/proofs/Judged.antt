@@ -1,8 +1,8 @@
 -- What `longest` says: what is beside the case that holds (`LongestRead`), and nothing else. The input's check comes first; then `best_route` is the
 -- longest route that covers the address, of which a good list has one.
-use mathlib.Core.Path.{◌≡◌, refl, ap}
+use mathlib.Core.Path.{◌≡◌, ap}
 use mathlib.Core.List.{List}
-use Prim.Native.Nat.{ℕ, ◌*◌, ◌/◌}
+use Prim.Native.Nat.{ℕ, ◌/◌}
 use native.Mathlib.Omega.{arith}
 use lib.ListN.{length}
 use Rattle.routes.specs.Cases.{Passes}
@@ -12,9 +12,9 @@ use Rattle.routes.specs.Said.{Said}
 use Rattle.routes.proofs.Judged.{check-only, good-whole, bad-stops, by-input}
 use Rattle.routes.proofs.Rows.{records-good}
 use Rattle.standing.specs.Standing.{Held}
-use Rattle.longest.specs.Best.{best_route, BestRoute}
+use Rattle.longest.specs.Best.{BestRoute}
 use Rattle.longest.specs.Cases.{LongestRead}
-use Rattle.longest.specs.Said.{longest_said, values_held}
+use Rattle.longest.specs.Said.{longest_said}
 use Rattle.longest.proofs.Bests.{best-route-is, best-route-none, best-route-only}
 
 module _ (s : List ℕ) where

@@ -1,11 +1,12 @@
 -- One step down: the last record up to the first m - 1 bits of an address, where no record of m bits or more covers it. All records that
 -- cover the address come before it or are it, since each starts no later and is no longer. And where it does not cover the address, one that
 -- does reaches over it to the address, so that it is no longer than the bits that the two share.
-use mathlib.Core.Path.{◌≡◌, sym, ap, ◌∙◌}
+use mathlib.Core.Path.{◌≡◌, refl, sym, ap, ◌∙◌}
 use mathlib.Core.Logic.{◌⊎◌, inl, inr, ◌≢◌}
 use mathlib.Core.Bool.{true, false, true≢false}
 use mathlib.Core.List.{List}
 use Prim.Native.Nat.{ℕ, ◌+◌, ◌-◌, ◌*◌, ◌^◌, ◌≤◌, ◌<◌}
+use Rattle.std.specs.Prelude.{Option, Some, None}
 use native.Mathlib.Nat.{eq-or-lt_of_le, le_antisymm}
 use native.Mathlib.Omega.{arith}
 use lib.Pow.{shr_mono}
@@ -38,13 +39,9 @@ module _ (s : List ℕ) (n a : ℕ) (ok : Records s n) where
   none_over k u h = absurd (omega (arith, (ok.each k u).prefix.len_ok))
 
   -- no record is left
-  pub none_left : (low m : ℕ) → m ≤ low → NoneFrom s n a m → LongestRecord s n a low 0
+  pub none_left : (low m : ℕ) → m ≤ low → NoneFrom s n a m → LongestRecord s n a low None
   unfolding NoneFrom
-  none_left low m h more = record {
-    to = omega arith;
-    one = λ q. absurd (omega arith);
-    none = λ _ k u e. more k u (omega arith);
-  }
+  none_left low m h more = LongestRecord.none (λ k u e. more k u (omega arith))
 
   -- record j ascends to record i
   ascends : (j i : ℕ) → j ≤ i → i < n → key (record_at s j) ≤ key (record_at s i)
@@ -78,12 +75,8 @@ module _ (s : List ℕ) (n a : ℕ) (ok : Records s n) where
             absurd (omega (arith, starts, cut-mono r.len (m - 1) a (omega arith) (omega arith), place_after s n to ok j (rw (← ek.0) v) u))
 
     -- there is none
-    pub none-early : k ≡ 0 → LongestRecord s n a low 0
-    none-early z = record {
-      to = omega arith;
-      one = λ q. absurd (omega arith);
-      none = λ _ j u _. untrue (covers 32 a (record_at s j)) (λ c. omega (arith, early j u c));
-    }
+    pub none-early : k ≡ 0 → LongestRecord s n a low None
+    none-early z = LongestRecord.none (λ j u _. untrue (covers 32 a (record_at s j)) (λ c. omega (arith, early j u c)))
 
     -- the last of them
     module _ (z : k ≡ 0 → ⊥) (r : Route) (er : r ≡ record_at s (k - 1)) (len same : ℕ) (el : len ≡ r.len) (es : Shared r.addr a same) where
@@ -121,19 +114,12 @@ module _ (s : List ℕ) (n a : ℕ) (ok : Records s n) where
                   ascends j (k - 1) (omega (arith, early j u c)) last,
                 ))
 
-        pub found : low ≤ len → LongestRecord s n a low k
-        found e = record {
-          to = ek.1;
-          one = λ _. record { covering = over; enough = omega (arith, its-len); longest = longest };
-          none = λ q. absurd (z q);
-        }
+        pub found : low ≤ len → LongestRecord s n a low (Some (k - 1))
+        found e = LongestRecord.one (k - 1) last (record { covering = over; enough = omega (arith, its-len); longest = longest })
 
-        pub found-short : len < low → LongestRecord s n a low 0
-        found-short e = record {
-          to = omega arith;
-          one = λ q. absurd (omega arith);
-          none = λ _ j u l. untrue (covers 32 a (record_at s j)) (λ c. omega (arith, longest j u c, its-len));
-        }
+        pub found-short : len < low → LongestRecord s n a low None
+        found-short e =
+            LongestRecord.none (λ j u l. untrue (covers 32 a (record_at s j)) (λ c. omega (arith, longest j u c, its-len)))
 
       -- it does not: what covers the address shares with it at least its own bits
       module _ (h : same < len) where
@@ -181,23 +167,18 @@ module _ (s : List ℕ) (n a : ℕ) (ok : Records s n) where
       go (inr l) (inr k) = omega arith
 
 -- no second answer meets the contract
-pub one-longest : (s : List ℕ) (n a low r q : ℕ) → Records s n → LongestRecord s n a low r → LongestRecord s n a low q → r ≡ q
-one-longest s n a low r q ok x y = go (equal? r 0) (equal? q 0)
+pub one-longest : (s : List ℕ) (n a low : ℕ) (r q : Option ℕ) → Records s n → LongestRecord s n a low r → LongestRecord s n a low q → r ≡ q
+one-longest s n a low r q ok x y = go x y
   where
-    clash : (r q : ℕ) → LongestRecord s n a low r → LongestRecord s n a low q → r ≡ 0 → q ≢ 0 → ⊥
-    clash r q x y e z =
-        let o = y.one (omega (arith, z)) in
-        true≢false (sym o.covering ∙ x.none e (q - 1) (omega (arith, z, y.to)) o.enough)
+    clash : {A : Type 0} (k : ℕ) → k < n → LongestAt s n a low k
+        → ((j : ℕ) → j < n → low ≤ (record_at s j).len → covers 32 a (record_at s j) ≡ false) → A
+    clash k u w clear = absurd (true≢false (sym w.covering ∙ clear k u w.enough))
 
     any-low : {k : ℕ} → LongestAt s n a low k → LongestAt s n a 0 k
     any-low w = record { covering = w.covering; enough = omega arith; longest = w.longest }
 
-    go : (r ≡ 0) ⊎ (r ≢ 0) → (q ≡ 0) ⊎ (q ≢ 0) → r ≡ q
-    go (inl e) (inl z) = e ∙ sym z
-    go (inl e) (inr z) = absurd (clash r q x y e z)
-    go (inr e) (inl z) = absurd (clash q r y x z e)
-    go (inr e) (inr z) =
-        let o = any-low (x.one (omega (arith, e))) in
-        let p = any-low (y.one (omega (arith, z))) in
-        let w = same-record s n a ok (omega (arith, e, x.to)) (omega (arith, z, y.to)) o p in
-        omega (arith, e, z, w)
+    go : {r q : Option ℕ} → LongestRecord s n a low r → LongestRecord s n a low q → r ≡ q
+    go (LongestRecord.one i u v) (LongestRecord.one j w z) = ap (λ (k : ℕ). Some k) (same-record s n a ok u w (any-low v) (any-low z))
+    go (LongestRecord.one i u v) (LongestRecord.none clear) = clash i u v clear
+    go (LongestRecord.none clear) (LongestRecord.one j w z) = clash j w z clear
+    go (LongestRecord.none clear) (LongestRecord.none _) = refl

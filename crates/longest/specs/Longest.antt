@@ -1,5 +1,5 @@
 -- The longest of n records that covers an address, and how many first bits two addresses share.
-use Rattle.std.specs.Prelude.{true, false, List, ◌≡◌, ℕ, ◌-◌, ◌≤◌, ◌<◌}
+use Rattle.std.specs.Prelude.{true, false, List, ◌≡◌, ℕ, ◌≤◌, ◌<◌, Option, Some, None}
 use Rattle.bits.specs.Slot.{slot}
 use Rattle.routes.specs.Record.{record_at}
 use Rattle.standing.specs.Cells.{covers}
@@ -10,11 +10,10 @@ pub record LongestAt (s : List ℕ) (n a low k : ℕ) : Type 0 where
   pub enough : low ≤ (record_at s k).len
   pub longest : (j : ℕ) → j < n → covers 32 a (record_at s j) ≡ true → (record_at s j).len ≤ (record_at s k).len
 
--- r is 1 + the index of that record; or 0, and no record of at least `low` bits covers the address
-pub record LongestRecord (s : List ℕ) (n a low r : ℕ) : Type 0 where
-  pub to : r ≤ n
-  pub one : 0 < r → LongestAt s n a low (r - 1)
-  pub none : r ≡ 0 → (k : ℕ) → k < n → low ≤ (record_at s k).len → covers 32 a (record_at s k) ≡ false
+-- the index of that record; or none, and no record of at least `low` bits covers the address
+pub data LongestRecord (s : List ℕ) (n a low : ℕ) : Option ℕ → Type 0 where
+  one : (k : ℕ) → k < n → LongestAt s n a low k → LongestRecord s n a low (Some k)
+  none : ((k : ℕ) → k < n → low ≤ (record_at s k).len → covers 32 a (record_at s k) ≡ false) → LongestRecord s n a low None
 
 -- the first r bits of two addresses are the same, and no more are
 pub record Shared (a b r : ℕ) : Type 0 where

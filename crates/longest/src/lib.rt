@@ -9,11 +9,11 @@ ghost use Rattle.lists.specs.Place.{place_of};
 ghost use Rattle.longest.specs.Longest.{Shared, LongestRecord};
 ghost use Rattle.longest.specs.Contract.{MeetsLongest};
 
-use bits::widen::byte_to_word;
-use input_check::input;
+use input_check::input::check_input;
 use lists::place::place;
 use records::record;
-use routes::input::{Got, Input};
+use refusals::Refused;
+use routes::Route;
 
 // A length as a byte.
 fn narrow(len: u32) -> u8
@@ -42,10 +42,10 @@ fn records_to(list: &[u8], n: usize, addr: u32, len: u32) -> usize
     )
 }
 
-// The longest record of at least `low` bits that covers an address: 1 + its index among n, and 0 where there is none. No record of m bits or
-// more covers it. The last record up to the first m - 1 bits covers it, and then it is the longest; or any that covers it is no longer than
-// what the two share.
-pub fn longest_record(list: &[u8], n: usize, addr: u32, low: u32) -> usize
+// The index of the longest of n records that has at least `low` bits and covers an address; None where there is none. No record of m bits
+// or more covers it. The last record up to the first m - 1 bits covers it, and then it is the longest; or any that covers it is no longer
+// than what the two share.
+pub fn longest_record(list: &[u8], n: usize, addr: u32, low: u32) -> Option<usize>
     requires { Records list.now n }
     ensures { LongestRecord list.now n addr low result }
 {
@@ -53,35 +53,29 @@ pub fn longest_record(list: &[u8], n: usize, addr: u32, low: u32) -> usize
     while low < m {
         let k = records_to(list, n, addr, m - 1);
         if k == 0 {
-            return 0;
+            return None;
         }
         let r = record::read_record(list, k - 1);
-        let len = byte_to_word(r.len);
+        let len = u32::from(r.len);
         let same = shared(r.addr, addr);
         if len <= same {
             if len < low {
-                return 0;
+                return None;
             }
-            return k;
+            return Some(k - 1);
         }
         m = same + 1;
     }
-    0
+    None
 }
 
-// The longest route of an input that covers an address, and nothing if none does.
-pub fn longest(bytes: &[u8], addr: u32) -> Got
+// The longest route of an input that covers an address; None where none does.
+pub fn longest(bytes: &[u8], addr: u32) -> Result<Option<Route>, Refused>
     ensures { MeetsLongest bytes.now addr result }
 {
-    match input::check_input(bytes) {
-        Input::Good(n) => {
-            let k = longest_record(bytes, n, addr, 0);
-            if k == 0 {
-                return Got::Nothing;
-            }
-            Got::One(record::read_record(bytes, k - 1))
-        }
-        Input::Refused(f, k) => Got::Refused(f, k),
-        Input::TooMany => Got::TooMany,
-    }
+    let n = check_input(bytes)?;
+    let Some(k) = longest_record(bytes, n, addr, 0) else {
+        return Ok(None);
+    };
+    Ok(Some(record::read_record(bytes, k)))
 }

@@ -1,2 +1,2 @@
--- One law for loops that move up, and one for those that move down.
+-- Elements drawn from other places of a list, one store at a time.
 pub mod Draws

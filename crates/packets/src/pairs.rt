@@ -3,7 +3,7 @@ ghost use Rattle.pair.specs.Party.{party_of};
 ghost use Rattle.pair.specs.PairLent.{pair_lent};
 ghost use Rattle.packets.specs.Contract.{MeetsPairStep};
 
-use header::packet::{destination, finish, judge};
+use header::packet::{check_header, destination, finish};
 use pair::Pair;
 use pair_lookup::look;
 
@@ -30,9 +30,8 @@ pub fn step(
         second.now third.now own2.now own3.now long2.now) packet.old result
         packet.new }
 {
-    let f = judge(packet);
-    if f != 0 {
-        return f as u64;
+    if let Err(why) = check_header(packet) {
+        return u64::from(why.number());
     }
     let addr = destination(packet);
     let w = look(

@@ -4,44 +4,49 @@
 
 ghost use Rattle.std.specs.Prelude.{◌≡◌, ◌+◌, ◌*◌, ◌%◌, ◌^◌, ◌≤◌, ◌<◌};
 ghost use Rattle.bits.specs.Count.{bit};
+ghost use Rattle.routes.specs.Said.{told};
+ghost use Rattle.packing.specs.Pack.{pack_none};
 
-use bits::widen::{byte_to_long, half_to_long, word_to_long};
+use refusals::Refused;
+use routes::Route;
 
 // The low 16 bits of a number.
 fn low_half(x: u32) -> u64
     ensures { (result ≡ x % 65536) × (result < 65536) }
 {
-    word_to_long(x) % 65536
-}
-
-fn flag(b: bool) -> u64
-    ensures { (result ≡ bit b) × (result ≤ 1) }
-{
-    if b {
-        return 1;
-    }
-    0
+    u64::from(x) % 65536
 }
 
 // A refusal with an index.
 pub fn refused_at(n: u8, k: usize) -> u64
     ensures { result ≡ n + 256 + k % 2 ^ 32 * 2 ^ 32 }
 {
-    byte_to_long(n) + 256 + (k as u64) % 4294967296 * 4294967296
+    u64::from(n) + 256 + (k as u64) % 4294967296 * 4294967296
+}
+
+// A refusal: its number, and the index of a record, if it has one.
+pub fn refused(e: Refused) -> u64
+    ensures { result ≡ pack_none (told e) }
+{
+    let number = e.why.number();
+    match e.at {
+        Some(k) => refused_at(number, k),
+        None => u64::from(number),
+    }
 }
 
 // A lookup that counts its reads, and its hop; hop 0 is no route.
 pub fn found_number(reads: u32, hop: u16) -> u64
     ensures { result ≡ reads * 256 + hop * 65536 }
 {
-    word_to_long(reads) * 256 + half_to_long(hop) * 65536
+    u64::from(reads) * 256 + u64::from(hop) * 65536
 }
 
 // A change of a table that was accepted: whether bits were cleared, whether a route was replaced, and the route count after it.
 pub fn changed(cleared: bool, replaced: bool, count: u32) -> u64
     ensures { result ≡ bit cleared * 512 + bit replaced * 256 + count * 65536 }
 {
-    flag(cleared) * 512 + flag(replaced) * 256 + word_to_long(count) * 65536
+    u64::from(cleared) * 512 + u64::from(replaced) * 256 + u64::from(count) * 65536
 }
 
 // A table's report: its route count, and both needs.
@@ -55,7 +60,7 @@ pub fn report_number(routes: u32, second: u32, third: u32) -> u64
 pub fn used(replaced: bool, nodes: u32, hops: u32) -> u64
     ensures { result ≡ bit replaced * 256 + hops % 65536 * 65536 + nodes * 2 ^ 32 }
 {
-    flag(replaced) * 256 + low_half(hops) * 65536 + word_to_long(nodes) * 4294967296
+    u64::from(replaced) * 256 + low_half(hops) * 65536 + u64::from(nodes) * 4294967296
 }
 
 // A run of a list: its first record, and how many.
@@ -66,11 +71,11 @@ pub fn run_number(start: usize, count: usize) -> u64
 }
 
 // A route by its four values.
-pub fn route_number(len: u8, mark: u8, hop: u16, addr: u32) -> u64
-    ensures { result ≡ len % 128 * 256 + mark % 2 * 32768 + hop * 65536 + addr * 2 ^ 32 }
+pub fn route_number(r: Route) -> u64
+    ensures { result ≡ r.len % 128 * 256 + r.mark % 2 * 32768 + r.hop * 65536 + r.addr * 2 ^ 32 }
 {
-    byte_to_long(len) % 128 * 256
-        + byte_to_long(mark) % 2 * 32768
-        + half_to_long(hop) * 65536
-        + word_to_long(addr) * 4294967296
+    u64::from(r.len) % 128 * 256
+        + u64::from(r.mark) % 2 * 32768
+        + u64::from(r.hop) * 65536
+        + u64::from(r.addr) * 4294967296
 }

@@ -7,18 +7,16 @@ ghost use Rattle.sail_update.specs.Answers.{means_update};
 ghost use Rattle.packing_fields.specs.Answers.{pack_written, pack_update};
 
 use bits::widen::{byte_to_long, word_to_long};
-use fields::write::Written;
-use packing::refused_at;
+use packing::refused;
+use refusals::Refused;
 use sail_update::answers::Update;
 
-pub fn written(a: Written) -> u64
+pub fn written(a: Result<usize, Refused>) -> u64
     ensures { result ≡ pack_written (means_written a) }
 {
     match a {
-        Written::Bytes(n) => (n as u64) % 4294967296 * 4294967296,
-        Written::Short => 18,
-        Written::Refused(z, k) => refused_at(z, k),
-        Written::TooMany => 6,
+        Ok(n) => (n as u64) % 4294967296 * 4294967296,
+        Err(e) => refused(e),
     }
 }
 

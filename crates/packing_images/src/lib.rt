@@ -2,65 +2,64 @@
 #![tactic(auto)]
 
 ghost use Rattle.std.specs.Prelude.{◌≡◌};
+ghost use Rattle.routes.specs.Answers.{means_found};
 ghost use Rattle.sail.specs.Word.{pack_found};
-ghost use Rattle.tree_image.specs.Walk.{means_tree_found};
 ghost use Rattle.tree_build.specs.Built.{means_built};
 ghost use Rattle.tree_formed.specs.Answers.{means_tested};
 ghost use Rattle.tree_theory.specs.Changed.{means_tree_announced, means_tree_withdrawn};
 ghost use Rattle.packing.specs.Pack.{pack_built};
 ghost use Rattle.packing.specs.ImageAnswers.{pack_image};
 
-use bits::widen::byte_to_long;
-use packing::{found_number, refused_at, used};
-use tree_build::Built;
-use tree_formed::Tested;
-use tree_image::TreeFound;
-use tree_theory::{TreeAnnounced, TreeWithdrawn};
+use packing::{found_number, refused, used};
+use refusals::{Refusal, Refused};
+use routes::found::Found;
+use tree_image::Used;
+use tree_theory::{Announced, Change};
 
-pub fn tree_found(f: TreeFound) -> u64
-    ensures { result ≡ pack_found (means_tree_found f) }
+pub fn tree_found(a: Result<Found, Refusal>) -> u64
+    ensures { result ≡ pack_found (means_found a) }
 {
-    match f {
-        TreeFound::Hop(h, n) => found_number(n, h),
-        TreeFound::NoRoute(n) => found_number(n, 0),
-        TreeFound::Broken => 13,
+    match a {
+        Ok(f) => found_number(f.reads, f.hop.unwrap_or(0)),
+        Err(why) => u64::from(why.number()),
     }
 }
 
-pub fn built(a: Built) -> u64
+pub fn built(a: Result<Used, Refused>) -> u64
     ensures { result ≡ pack_built (means_built a) }
 {
     match a {
-        Built::Made(nodes, hops) => used(false, nodes, hops),
-        Built::RefusedAt(z, k) => refused_at(z, k),
-        Built::Refused(z) => byte_to_long(z),
+        Ok(u) => used(false, u.nodes, u.hops),
+        Err(e) => refused(e),
     }
 }
 
-pub fn tested(a: Tested) -> u64
+pub fn tested(a: Result<Used, Refusal>) -> u64
     ensures { result ≡ pack_built (means_tested a) }
 {
     match a {
-        Tested::Image(nodes, hops) => used(false, nodes, hops),
-        Tested::Broken => 13,
+        Ok(u) => used(false, u.nodes, u.hops),
+        Err(e) => u64::from(e.number()),
     }
 }
 
-pub fn announced(a: TreeAnnounced) -> u64
+pub fn announced(a: Result<Announced, Refusal>) -> u64
     ensures { result ≡ pack_image (means_tree_announced a) }
 {
     match a {
-        TreeAnnounced::Added(nodes, hops) => used(false, nodes, hops),
-        TreeAnnounced::Replaced(nodes, hops) => used(true, nodes, hops),
-        TreeAnnounced::Refused(z) => byte_to_long(z),
+        Ok(a) => match a.change {
+            Change::Added => used(false, a.used.nodes, a.used.hops),
+            Change::Replaced => used(true, a.used.nodes, a.used.hops),
+        },
+        Err(e) => u64::from(e.number()),
     }
 }
 
-pub fn withdrawn(a: TreeWithdrawn) -> u64
+pub fn withdrawn(a: Result<Used, Refusal>) -> u64
     ensures { result ≡ pack_built (means_tree_withdrawn a) }
 {
     match a {
-        TreeWithdrawn::Removed(nodes, hops) => used(false, nodes, hops),
-        TreeWithdrawn::Refused(z) => byte_to_long(z),
+        Ok(left) => used(false, left.nodes, left.hops),
+        Err(e) => u64::from(e.number()),
     }
 }

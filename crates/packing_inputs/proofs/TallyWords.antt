@@ -1,12 +1,10 @@
 -- The counts of a tally as words: there are 33 of them, also where the input is refused.
 use mathlib.Core.Bool.{Bool, true, false, cond}
-use mathlib.Core.Path.{◌≡◌, ◌∙◌, refl, sym, ap}
+use mathlib.Core.Path.{◌≡◌, ◌∙◌, refl, ap}
 use mathlib.Core.List.{List}
-use Prim.Native.Nat.{ℕ, ◌/◌, ◌<◌}
-use native.Mathlib.Omega.{arith}
+use Prim.Native.Nat.{ℕ, ◌/◌}
 use borrow.Author.Tests.{eq-eqb, ne_eqb}
-use lib.ListN.{length, get_or, replicate}
-use lib.Seq.{ext_get_or}
+use lib.ListN.{length, replicate}
 use Rattle.bits.proofs.Tabs.{length-tabulate}
 use Rattle.bits.specs.Count.{count}
 use Rattle.routes.specs.Said.{accepts}
@@ -23,13 +21,13 @@ module _ (s xs : List ℕ) where
   unfolding tally_card
   tally-short n = rw (ne_eqb (length xs) 33 n)
 
-  pub tally-all : length xs ≡ 33 → (t : Tallied) → IsTally s t → (ys : List ℕ) → length ys ≡ 33 → length t.counts ≡ 33
-      → ((k : ℕ) → k < 33 → get_or ys k 0 ≡ get_or t.counts k 0) → (r : ℕ) → r ≡ pack_none (means_input t.answer) → words_card r ys ≡ tally_card s xs
+  pub tally-all : length xs ≡ 33 → (t : Tallied) → IsTally s t → (ys : List ℕ) → ys ≡ t.counts
+      → (r : ℕ) → r ≡ pack_none (means_input t.answer) → words_card r ys ≡ tally_card s xs
   unfolding tally_card
-  tally-all n t is ys m c h r q =
+  tally-all n t is ys h r q =
       rw (eq-eqb (length xs) 33 n)
       (ap (λ (x : ℕ). words_card x ys) (q ∙ ap pack_none is.answered)
-      ∙ ap (words_card (pack_none (input_said s))) (ext_get_or 0 ys t.counts (m ∙ sym c) (λ k b. h k (omega arith)) ∙ is.counted))
+      ∙ ap (words_card (pack_none (input_said s))) (h ∙ is.counted))
 
 -- there are 33 counts, also where the input is refused
 cond-length : (b : Bool) (xs ys : List ℕ) (n : ℕ) → length xs ≡ n → length ys ≡ n → length (cond b xs ys) ≡ n

@@ -13,12 +13,6 @@ pub fn tally_words(bytes: &[u8], out: &mut [u32]) -> u64
         return 2;
     }
     let t = runs::tally::tally(bytes);
-    let answer = t.answer;
-    let counts = t.counts;
-    let mut k = 0;
-    while k < 33 {
-        out[k] = counts[k];
-        k += 1;
-    }
-    input(answer)
+    out.copy_from_slice(&t.counts);
+    input(t.answer)
 }

@@ -2,23 +2,22 @@
 #![tactic(auto)]
 
 ghost use Rattle.std.specs.Prelude.{◌≡◌, length};
+ghost use Rattle.refusals.specs.Numbers.{fault_of};
 ghost use Rattle.repair.specs.Answers.{means_repaired};
 ghost use Rattle.packing_repairs.specs.Repairs.{pack_count, told_in, words_fault};
 
-use bits::widen::{byte_to_long, word_to_long};
+use refusals::Refusal;
 use repair::repair::Repaired;
 
-// What is wrong with the sizes and with the number of words; 0 where nothing is.
-pub fn words_fault(z: u8, n: usize) -> u8
-    ensures { result ≡ words_fault z n }
+// What is wrong with the sizes, which were checked, and then with the number of words.
+pub fn check_words(sizes: Result<(), Refusal>, n: usize) -> Result<(), Refusal>
+    ensures { fault_of result ≡ words_fault (fault_of sizes) n }
 {
-    if z != 0 {
-        return z;
-    }
+    sizes?;
     if n != 4 {
-        return 2;
+        return Err(Refusal::Size);
     }
-    0
+    Ok(())
 }
 
 pub fn repaired(a: Repaired, count: u32) -> u64
@@ -30,8 +29,8 @@ pub fn repaired(a: Repaired, count: u32) -> u64
             first: _,
             second: _,
             third: _,
-        } => word_to_long(count) * 65536,
-        Repaired::Refused(z) => byte_to_long(z),
+        } => u64::from(count) * 65536,
+        Repaired::Refused(z) => u64::from(z),
     }
 }
 

@@ -2,50 +2,44 @@
 #![tactic(auto)]
 
 ghost use Rattle.std.specs.Prelude.{◌≡◌};
-ghost use Rattle.sail_make.specs.Answers.{means_made};
-ghost use Rattle.sail_load.specs.Answers.{means_loaded};
+ghost use Rattle.routes.specs.Said.{said_by, said_plainly};
+ghost use Rattle.sail_theory.specs.After.{no_values};
 ghost use Rattle.sail_announce.specs.Answers.{means_announce};
 ghost use Rattle.sail_withdraw.specs.Answers.{means_withdraw};
 ghost use Rattle.sail_sound.specs.Report.{means_reported};
 ghost use Rattle.packing.specs.Pack.{pack_report, pack_change};
 
-use bits::widen::byte_to_long;
-use packing::{changed, refused_at, report_number};
+use packing::{changed, refused, report_number};
+use refusals::{Refusal, Refused};
 use sail_announce::answers::Announce;
-use sail_load::load::Loaded;
-use sail_make::Made;
-use sail_sound::report::Reported;
+use sail_sound::report::Standing;
 use sail_withdraw::answers::Withdraw;
 
-pub fn reported(a: Reported) -> u64
+pub fn reported(a: Result<Standing, Refusal>) -> u64
     ensures { result ≡ pack_report (means_reported a) }
 {
     match a {
-        Reported::Standing {
-            routes,
-            second,
-            third,
-        } => report_number(routes, second, third),
-        Reported::Refused(z) => byte_to_long(z),
+        Ok(s) => report_number(s.routes, s.second, s.third),
+        Err(why) => u64::from(why.number()),
     }
 }
 
-pub fn made(a: Made, count: u32) -> u64
-    ensures { result ≡ pack_change count (means_made a) }
+// Of a table or of a box: the count is that of the state after the call.
+pub fn made<S: Copy>(a: Result<S, Refusal>, count: u32) -> u64
+    ensures { result ≡ pack_change count (said_plainly no_values a) }
 {
     match a {
-        Made::Done => changed(false, false, count),
-        Made::Refused(z) => byte_to_long(z),
+        Ok(_) => changed(false, false, count),
+        Err(why) => u64::from(why.number()),
     }
 }
 
-pub fn loaded(a: Loaded, count: u32) -> u64
-    ensures { result ≡ pack_change count (means_loaded a) }
+pub fn loaded<S: Copy>(a: Result<S, Refused>, count: u32) -> u64
+    ensures { result ≡ pack_change count (said_by no_values a) }
 {
     match a {
-        Loaded::Done => changed(false, false, count),
-        Loaded::Refused(z) => byte_to_long(z),
-        Loaded::RefusedAt(z, k) => refused_at(z, k),
+        Ok(_) => changed(false, false, count),
+        Err(why) => refused(why),
     }
 }
 
@@ -55,7 +49,7 @@ pub fn announced(a: Announce, count: u32) -> u64
     match a {
         Announce::Added(c) => changed(c, false, count),
         Announce::Replaced(c) => changed(c, true, count),
-        Announce::Refused(z) => byte_to_long(z),
+        Announce::Refused(z) => u64::from(z),
     }
 }
 
@@ -64,6 +58,6 @@ pub fn withdrawn(a: Withdraw, count: u32) -> u64
 {
     match a {
         Withdraw::Removed(c) => changed(c, false, count),
-        Withdraw::Refused(z) => byte_to_long(z),
+        Withdraw::Refused(z) => u64::from(z),
     }
 }

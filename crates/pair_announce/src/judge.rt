@@ -7,7 +7,8 @@ ghost use Rattle.pair_announce.specs.Judged.{BoxJudged};
 
 use pair::Pair;
 use pair_sound::test::sound;
-use routes::{Route, input};
+use routes::Route;
+use routes::input::check_route;
 
 // Where the sizes are right: what is wrong with the route alone (3, 4, 10), or 5, or 0. Then the owners as the party sees them
 // are in `see2` and `see3`, the words of its routes and their chain in `ws` and `par`.
@@ -40,9 +41,8 @@ pub fn judge(
         second.now third.now own2.now own3.now long2.now) r
         see2.new see3.new ws.new par.new }
 {
-    let n = input::route_fault(r);
-    if n != 0 {
-        return n;
+    if let Err(why) = check_route(r) {
+        return why.number();
     }
     if !sound(
         t, guest, list1, first1, long11, list2, first2, long12, second, third, own2, own3, long2,

@@ -22,7 +22,7 @@ use crate::enter::announce_sound;
 use crate::judge::judge;
 use crate::turn::{PairAnnounced, Turn};
 use pair::Pair;
-use pair_sizes::sizes;
+use pair_sizes::check_sizes;
 use routes::Route;
 use routes::prefix::clear_after;
 use sail_announce::answer_of;
@@ -116,12 +116,11 @@ pub fn announce(
         result (pair_lent list1.new first1.new long11.new list2.new first2.new long12.new
         second.new third.new own2.new own3.new long2.new) }
 {
-    let z = sizes(
+    if let Err(why) = check_sizes(
         t, list1, first1, long11, list2, first2, long12, second, third, own2, own3, long2,
-    );
-    if z != 0 {
+    ) {
         return PairAnnounced {
-            answer: Announce::Refused(z),
+            answer: Announce::Refused(why.number()),
             state: t,
         };
     }

@@ -6,14 +6,14 @@ use Prim.Native.Nat.{ℕ, ◌/◌, ◌≤◌}
 use native.Mathlib.Omega.{arith}
 use lib.ListN.{length}
 use Rattle.routes.specs.Input.{input_said}
-use Rattle.routes.specs.Said.{Said, accepted, refused, and_then, accepts}
+use Rattle.routes.specs.Said.{Said, accepted, refused, told, and_then, accepts}
 use Rattle.routes.specs.declared.Route.{Route}
+use Rattle.refusals.specs.declared.Refused.{Refused}
+use Rattle.routes.proofs.Saids.{told-off}
 use Rattle.routes.proofs.Judged.{good-whole, bad-stops, by-input}
 use Rattle.routes.proofs.Rows.{length-routes}
 use Rattle.sail.specs.Lent.{Lent}
 use Rattle.sail_theory.specs.Calls.{Owners, load_fault, or_say, input_routes, owners_of}
-use Rattle.sail_load.specs.Answers.{means_loaded}
-use Rattle.sail_load.specs.declared.load.Loaded.{Loaded}
 use Rattle.sail_renew.specs.Renew.{WholeRecords}
 use Rattle.pair.specs.Party.{Party, one, two}
 use Rattle.pair.specs.PairLent.{PairLent, side, pair_owners}
@@ -29,15 +29,6 @@ use Rattle.pair_cells.proofs.Boxes.{shift-box}
 use Rattle.pair_load.specs.Told.{sound_told}
 use Rattle.pair_load.specs.SideLoads.{LoadReady, load_owners, side_loaded}
 
--- the code's flag
-off : (b : Bool) → not b ≡ true → b ≡ false
-off true e = absurd (true≢false (sym e))
-off false e = refl
-
-on : (b : Bool) → not b ≡ false → b ≡ true
-on true e = refl
-on false e = absurd (false≢true (sym e))
-
 -- an input that is accepted has whole good records
 whole-input : (input : List ℕ) (rest : Said) → accepts (and_then (input_said input) rest) ≡ true → WholeRecords input
 whole-input input rest = by-input input (λ s. accepts (and_then s rest) ≡ true → WholeRecords input)
@@ -51,20 +42,19 @@ owners-side : (w : Party) (b : PairLent) → owners_of (side w b) ≡ pair_owner
 owners-side one b = refl
 owners-side two b = refl
 
-module _ (w : Party) (t : Pair) (b : PairLent) (input : List ℕ) (a : Loaded) (ok : Bool) (told : means_loaded a ≡ pair_load_said w t b input)
-    (says : ok ≡ accepts (means_loaded a)) where
+module _ (w : Party) (t : Pair) (b : PairLent) (input : List ℕ) where
   abbrev rs : List Route
   rs = input_routes input
 
-  pub load-refuses : not ok ≡ true → pair_out (means_loaded a) t b ≡ pair_loaded w t b input
+  pub load-refuses : (e : Refused) → told e ≡ pair_load_said w t b input → pair_out (told e) t b ≡ pair_loaded w t b input
   unfolding pair_loaded
-  load-refuses e =
-      let no : accepts (pair_load_said w t b input) ≡ false = sym (ap accepts told) ∙ sym says ∙ off ok e in
-      ap (λ (s : Said). pair_out s t b) told ∙ sym (ends-refused (pair_load_said w t b input) t b _ _ no)
+  load-refuses e q =
+      let no : accepts (pair_load_said w t b input) ≡ false = rw q at (told-off e) in
+      ap (λ (s : Said). pair_out s t b) q ∙ sym (ends-refused (pair_load_said w t b input) t b _ _ no)
 
-  module _ (e : not ok ≡ false) where
+  module _ (said : accepted [] ≡ pair_load_said w t b input) where
     yes-said : accepts (pair_load_said w t b input) ≡ true
-    yes-said = sym (ap accepts told) ∙ sym says ∙ on ok e
+    yes-said = rw (← said)
 
     sized : (pair_sizes_fault t.geometry b ≡ 0) × (accepts (sound_told w t b input) ≡ true)
     unfolding pair_load_said
@@ -102,7 +92,7 @@ module _ (w : Party) (t : Pair) (b : PairLent) (input : List ℕ) (a : Loaded) (
     few = load-ready.readable.records.few
 
     pub load-loads : (l : Lent) → l ≡ side_loaded w t (side w b) input → (u : Pair) → u ≡ with_count w (length input / 8) t
-        → pair_out (means_loaded a) u (with_side w l b) ≡ pair_loaded w t b input
+        → pair_out (accepted []) u (with_side w l b) ≡ pair_loaded w t b input
     unfolding pair_loaded
     load-loads l is u counts =
         let o : Owners = load_owners w t (pair_owners b) input in
@@ -111,18 +101,17 @@ module _ (w : Party) (t : Pair) (b : PairLent) (input : List ℕ) (a : Loaded) (
         = is ∙ ap (λ (x : Owners). side_left w t.geometry (side w b) rs (load_owners w t x input)) (owners-side w b) in
         let box : with_side w l b ≡ pair_lent_of w t b rs o = ap (λ (x : Lent). with_side w x b) side-is ∙ shift-box t b rs o w k in
         let state : u ≡ with_count w (length rs) t = counts ∙ ap (λ (n : ℕ). with_count w n t) (sym (length-routes input (length input / 8))) in
-        (λ i. record { said = told i; state = state i; lent = box i })
+        (λ i. record { said = said i; state = state i; lent = box i })
         ∙ sym (ends-accepted (pair_load_said w t b input) t b (with_count w (length rs) t) (pair_lent_of w t b rs o) yes-said)
 
 -- The same by the code's flag, which says whose side it is.
-module _ (v : Party) (t : Pair) (b : PairLent) (input : List ℕ) (a : Loaded) (ok : Bool) (told : means_loaded a ≡ pair_load_said v t b input)
-    (says : ok ≡ accepts (means_loaded a)) (e : not ok ≡ false) (w : Party) (is : v ≡ w) where
-  told-as : means_loaded a ≡ pair_load_said w t b input
-  told-as = rw is at told
+module _ (v : Party) (t : Pair) (b : PairLent) (input : List ℕ) (said : accepted [] ≡ pair_load_said v t b input) (w : Party) (is : v ≡ w) where
+  said-as : accepted [] ≡ pair_load_said w t b input
+  said-as = rw is at said
 
   pub ready-as : LoadReady w t (side w b) input
-  ready-as = load-ready w t b input a ok told-as says e
+  ready-as = load-ready w t b input said-as
 
   pub loads-as : (l : Lent) → l ≡ side_loaded w t (side w b) input → (u : Pair) → u ≡ with_count v (length input / 8) t
-      → pair_out (means_loaded a) u (with_side w l b) ≡ pair_loaded v t b input
-  loads-as l left u counts = rw is (load-loads w t b input a ok told-as says e l left u (rw is at counts))
+      → pair_out (accepted []) u (with_side w l b) ≡ pair_loaded v t b input
+  loads-as l left u counts = rw is (load-loads w t b input said-as l left u (rw is at counts))

@@ -2,7 +2,8 @@
 ghost use Rattle.std.specs.Prelude.{◌≡◌};
 ghost use Rattle.chain.specs.List.{Scratch};
 ghost use Rattle.sail.specs.Geometry.{Valid};
-ghost use Rattle.sail_load.specs.Answers.{means_loaded};
+ghost use Rattle.routes.specs.Said.{said_by};
+ghost use Rattle.sail_theory.specs.After.{no_values};
 ghost use Rattle.sail_need.specs.Weigh.{terms};
 ghost use Rattle.pair.specs.Party.{party_of};
 ghost use Rattle.pair.specs.PairLent.{pair_lent};
@@ -13,10 +14,9 @@ ghost use Rattle.pair_load.specs.Told.{input_told, sound_told};
 
 use input_check::input::check_input;
 use pair::{Pair, Share};
-use pair_sizes::sizes;
+use pair_sizes::check_sizes;
 use pair_sound::test::sound;
-use routes::input::Input;
-use sail_load::load::Loaded;
+use refusals::{Refusal, Refused};
 use sail_need::weigh;
 
 // The party's share.
@@ -32,28 +32,20 @@ fn share_of(t: Pair, guest: bool) -> Share
 }
 
 // What is said of the input: what is wrong with it, or 6, 7 or 8 by a room for records and the limits of a share.
-fn judge_input(t: Pair, share: Share, room: usize, input: &[u8]) -> Loaded
+fn judge_input(t: Pair, share: Share, room: usize, input: &[u8]) -> Result<(), Refused>
     requires { Valid t.geometry }
-    ensures { means_loaded result ≡ input_told (terms t.geometry room share.most2 share.most3) input.now }
+    ensures { said_by no_values result ≡ input_told (terms t.geometry room share.most2 share.most3) input.now }
 {
-    match check_input(input) {
-        Input::Good(n) => {
-            let f = weigh(
-                t.geometry,
-                input,
-                n,
-                room,
-                share.most2 as usize,
-                share.most3 as usize,
-            );
-            if f != 0 {
-                return Loaded::Refused(f);
-            }
-            Loaded::Done
-        }
-        Input::Refused(f, k) => Loaded::RefusedAt(f, k),
-        Input::TooMany => Loaded::Refused(6),
-    }
+    let n = check_input(input)?;
+    weigh(
+        t.geometry,
+        input,
+        n,
+        room,
+        share.most2 as usize,
+        share.most3 as usize,
+    )?;
+    Ok(())
 }
 
 // Where the sizes are right; the rest is room for the test.
@@ -76,12 +68,12 @@ fn judge_sized(
     see3: &mut [u32],
     ws: &mut [u64],
     par: &mut [u16],
-) -> Loaded
+) -> Result<(), Refused>
     requires both_sized { BothSized t.geometry (pair_lent list1.now first1.now long11.now list2.now first2.now long12.now
         second.now third.now own2.now own3.now long2.now) }
     requires sight { Sight own2.now own3.now see2.old see3.old }
     requires scratch { Scratch ws.old par.old }
-    ensures { means_loaded result ≡ sound_told (party_of guest) t
+    ensures { said_by no_values result ≡ sound_told (party_of guest) t
         (pair_lent list1.now first1.now long11.now list2.now first2.now long12.now
         second.now third.now own2.now own3.now long2.now) input.now }
 {
@@ -89,7 +81,7 @@ fn judge_sized(
         t, guest, list1, first1, long11, list2, first2, long12, second, third, own2, own3, long2,
         see2, see3, ws, par,
     ) {
-        return Loaded::Refused(5);
+        return Err(Refusal::Unsound.into());
     }
     let share = share_of(t, guest);
     if guest {
@@ -114,17 +106,14 @@ pub fn judge(
     long2: &[u16],
     guest: bool,
     input: &[u8],
-) -> Loaded
-    ensures { means_loaded result ≡ pair_load_said (party_of guest) t
+) -> Result<(), Refused>
+    ensures { said_by no_values result ≡ pair_load_said (party_of guest) t
         (pair_lent list1.now first1.now long11.now list2.now first2.now long12.now
         second.now third.now own2.now own3.now long2.now) input.now }
 {
-    let z = sizes(
+    check_sizes(
         t, list1, first1, long11, list2, first2, long12, second, third, own2, own3, long2,
-    );
-    if z != 0 {
-        return Loaded::Refused(z);
-    }
+    )?;
     let n2 = own2.len();
     let n3 = own3.len();
     let mut see2 = [0u32; 4096];

@@ -5,16 +5,14 @@ ghost use Rattle.pair.specs.Party.{party_of};
 ghost use Rattle.pair.specs.PairLent.{pair_lent};
 ghost use Rattle.pair_load.specs.Contract.{MeetsPairLoad};
 
-pub mod answers;
 pub mod judge;
 pub mod side;
 
-use crate::answers::PairLoaded;
 use crate::judge::judge;
 use crate::side::load_side;
 use pair::Pair;
 use pair_state::with_count;
-use sail_load::load::accepts;
+use refusals::Refused;
 
 // The party's routes become those of a record input: as withdrawing all of them, and then each announcement in order. `guest`
 // tells whether the party is the second. A refusal leaves the state and all that is lent as they were.
@@ -33,29 +31,26 @@ pub fn load(
     long2: &mut [u16],
     guest: bool,
     input: &[u8],
-) -> PairLoaded
+) -> Result<Pair, Refused>
     ensures { MeetsPairLoad (party_of guest) t
         (pair_lent list1.old first1.old long11.old list2.old first2.old long12.old
         second.old third.old own2.old own3.old long2.old) input.now result
         (pair_lent list1.new first1.new long11.new list2.new first2.new long12.new
         second.new third.new own2.new own3.new long2.new) }
 {
-    let answer = judge(
+    judge(
         t, list1, first1, long11, list2, first2, long12, second, third, own2, own3, long2, guest,
         input,
-    );
-    if !accepts(answer) {
-        return PairLoaded { answer, state: t };
-    }
+    )?;
     let state = with_count(t, guest, (input.len() / 8) as u32);
     if guest {
         load_side(
             t, list2, first2, long12, second, third, own2, own3, long2, true, input,
         );
-        return PairLoaded { answer, state };
+        return Ok(state);
     }
     load_side(
         t, list1, first1, long11, second, third, own2, own3, long2, false, input,
     );
-    PairLoaded { answer, state }
+    Ok(state)
 }

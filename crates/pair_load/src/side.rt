@@ -29,10 +29,8 @@ fn close_all(see: &[u32], own: &mut [u32], cells: &mut [u16], d: u32)
     ensures owner { own.new ≡ freed see.now own.old }
     ensures blank { cells.new ≡ emptied see.now d cells.old }
 {
-    let mut c = 0;
-    while c < see.len() {
+    for c in 0..see.len() {
         close(own, cells, see[c] != 0, c, d);
-        c += 1;
     }
 }
 

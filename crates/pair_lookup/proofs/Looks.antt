@@ -17,6 +17,7 @@ use Rattle.sail.specs.Sizes.{Sized, Celled}
 use Rattle.sail.specs.Walk.{one_of, walk_said}
 use Rattle.sail.specs.Word.{packed, said_of, Word}
 use Rattle.sail.specs.declared.geometry.Geometry.{Geometry}
+use Rattle.sail.proofs.Found.{Fives, walk-fives}
 use Rattle.sail.proofs.Steps.{named}
 use Rattle.sail.proofs.Words.{word_of}
 use Rattle.sail_theory.proofs.Judges.{or-said}
@@ -97,11 +98,21 @@ refusal-word z few n =
     let e : z % 256 ≡ z = omega arith in
     record { packs = refl; back = rw (e, ne_eqb z 0 n) }
 
+-- a party's lookup is refused with 5 alone where the sizes are right
+module _ (t : Pair) (b : PairLent) (a z : ℕ) (told : PairSizesTold z t.geometry b) where
+  pub pair-fives : z ≡ 0 → (w : Party) → Fives (pair_lookup_said w t b a)
+  unfolding pair_lookup_said
+  pair-fives e w = rw (sym told.number ∙ e) (walk-fives t.geometry _ _ _ a)
+
 -- after the sizes; `guest` tells whether the party is the second
 module _ (t : Pair) (b : PairLent) (a z : ℕ) (told : PairSizesTold z t.geometry b) where
   pub look-not : (w : Party) → z < 256 → (z ≡ 0 → ⊥) → (x : ℕ) → x ≡ z → Word x (pair_lookup_said w t b a)
   unfolding pair_lookup_said
   look-not w few n x e = rw e (word_of z (refused z) _ (sym (or-said (pair_sizes_fault t.geometry b) z _ told.number n)) (refusal-word z few n))
+
+  pub answer-not : (w : Party) → (z ≡ 0 → ⊥) → refused z ≡ pair_lookup_said w t b a
+  unfolding pair_lookup_said
+  answer-not w n = sym (or-said (pair_sizes_fault t.geometry b) z _ told.number n)
 
   on : z ≡ 0 → (w : Party) (x : ℕ) → Word x (walk_said t.geometry (opens_for w b.own2) (opens_for w b.own3) (seen_by w b) a)
       → Word x (pair_lookup_said w t b a)

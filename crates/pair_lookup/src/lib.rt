@@ -13,9 +13,11 @@ ghost use Rattle.pair.specs.PairCalls.{opens_for, pair_lookup_said};
 ghost use Rattle.pair_lookup.specs.Contract.{MeetsPairLookup};
 
 use pair::Pair;
-use sail::found::Found;
+use pair_sizes::check_sizes;
+use refusals::Refusal;
+use routes::found::Found;
 use sail::geometry::Geometry;
-use sail_lookup::{cell, leaf, opens, said};
+use sail_lookup::{cell, found_in, leaf, opens};
 
 // Whether a chunk with this owner is the other's. `guest` is true for the second party.
 pub fn foreign(o: u32, guest: bool) -> bool
@@ -100,11 +102,10 @@ pub fn look(
         (pair_lent list1.now first1.now long11.now list2.now first2.now long12.now
         second.now third.now own2.now own3.now long2.now) addr) }
 {
-    let z = pair_sizes::sizes(
+    if let Err(why) = check_sizes(
         t, list1, first1, long11, list2, first2, long12, second, third, own2, own3, long2,
-    );
-    if z != 0 {
-        return z as u32;
+    ) {
+        return u32::from(why.number());
     }
     let g = t.geometry;
     if guest {
@@ -129,13 +130,19 @@ pub fn lookup(
     long2: &[u16],
     guest: bool,
     addr: u32,
-) -> Found
+) -> Result<Found, Refusal>
     ensures { MeetsPairLookup (party_of guest) t
         (pair_lent list1.now first1.now long11.now list2.now first2.now long12.now
         second.now third.now own2.now own3.now long2.now) addr result }
 {
-    said(look(
-        t, list1, first1, long11, list2, first2, long12, second, third, own2, own3, long2, guest,
-        addr,
-    ))
+    check_sizes(
+        t, list1, first1, long11, list2, first2, long12, second, third, own2, own3, long2,
+    )?;
+    let g = t.geometry;
+    if guest {
+        return found_in(walk(g, first2, second, third, own2, own3, guest, addr)).ok_or(
+            Refusal::Unsound,
+        );
+    }
+    found_in(walk(g, first1, second, third, own2, own3, guest, addr)).ok_or(Refusal::Unsound)
 }

@@ -1,14 +1,16 @@
--- Two outcomes that the statement of make for two parties allows are the same: its answer, the state, and all that is lent.
-use mathlib.Core.Path.{◌≡◌}
-use Rattle.sail_make.specs.Answers.{means_made}
-use Rattle.sail_make.proofs.Makes.{made-injective}
+-- Two outcomes that the statement of make for two parties allows are the same: its answer, and all that is lent.
+use mathlib.Core.Path.{◌≡◌, sym, ◌∙◌, ap}
+use Rattle.std.specs.Prelude.{Result}
+use Rattle.refusals.specs.declared.Refusal.{Refusal}
+use Rattle.sail_theory.specs.After.{state_after}
+use Rattle.sail_theory.proofs.calls.OneState.{one_state_plainly}
 use Rattle.pair.specs.PairLent.{PairLent}
+use Rattle.pair.specs.PairCalls.{PairOut, pair_out}
 use Rattle.pair.specs.declared.Pair.{Pair}
-use Rattle.pair.proofs.PairOneEnd.{pair-one-end}
-use Rattle.pair_make.specs.Contract.{MeetsPairMake}
-use Rattle.pair_make.specs.declared.MadePair.{MadePair}
+use Rattle.pair_make.specs.Contract.{means_made_pair, MeetsPairMake}
 
-pub one-answer-pair-make : (t : Pair) (b : PairLent) (x y : MadePair) (u v : PairLent) → MeetsPairMake t b x u → MeetsPairMake t b y v
+pub one-answer-pair-make : (t : Pair) (b : PairLent) (x y : Result Pair Refusal) (u v : PairLent) → MeetsPairMake t b x u → MeetsPairMake t b y v
     → (x ≡ y) × (u ≡ v)
-one-answer-pair-make t b x y u v =
-    pair-one-end means_made made-injective (λ a s. record { answer = a; state = s }) x.answer y.answer x.state y.state u v _
+one-answer-pair-make t b x y u v p q =
+    let e : pair_out (means_made_pair x) (state_after t x) u ≡ pair_out (means_made_pair y) (state_after t y) v = p ∙ sym q in
+    (one_state_plainly t x y (ap (λ (z : PairOut). z.said) e) (ap (λ (z : PairOut). z.state) e), ap (λ (z : PairOut). z.lent) e)

@@ -12,8 +12,6 @@ use Rattle.bits.proofs.Tells.{passed, refuted}
 use Rattle.routes.specs.Said.{Said, accepted, refused}
 use Rattle.sail.specs.Lent.{Lent, lent}
 use Rattle.sail.specs.Sound.{fresh_lent}
-use Rattle.sail_make.specs.Answers.{means_made}
-use Rattle.sail_make.specs.declared.Made.TheVariants.{Done, Refused}
 use Rattle.sail_theory.proofs.Judges.{or-said}
 use Rattle.pair.specs.PairLent.{PairLent, pair_lent, side}
 use Rattle.pair.specs.Party.{one}
@@ -49,8 +47,8 @@ module _ (t : Pair) (b : PairLent) (z : ℕ) (check : PairSizesTold z t.geometry
   abbrev Fit : Type 0
   Fit = (t.one.most2 + t.two.most2 ≤ length b.own2) × (t.one.most3 + t.two.most3 ≤ length b.own3)
 
-  pub make-off : (z ≡ 0 → ⊥) → pair_out (means_made (Refused z)) t b ≡ pair_made t b
-  unfolding means_made pair_made pair_make_said
+  pub make-off : (z ≡ 0 → ⊥) → pair_out (refused z) t b ≡ pair_made t b
+  unfolding pair_made pair_make_said
   make-off h = sym (ap (λ (s : Said). pair_outcome s t b (fresh_pair t) (fresh_pair_lent b)) (or-said (pair_sizes_fault t.geometry b) z _ check.number h))
 
   -- by the case that holds
@@ -59,8 +57,7 @@ module _ (t : Pair) (b : PairLent) (z : ℕ) (check : PairSizesTold z t.geometry
   ends s c = sym (ap (λ (x : Said). pair_outcome x t b (fresh_pair t) (fresh_pair_lent b)) (pair-make-only t b s c))
 
   module _ (h : z ≡ 0) (fit : Bool) (tells : Tells fit Fit) where
-    pub make-over : not fit ≡ true → pair_out (means_made (Refused 24)) t b ≡ pair_made t b
-    unfolding means_made
+    pub make-over : not fit ≡ true → pair_out (refused 24) t b ≡ pair_made t b
     make-over e = ends (refused 24) (PairMake.over (check.facts h) (some (refuted tells e (λ (f : Fit). f)).1))
       where
         some : (Fit → ◌≡◌ {A = Bool} false true) → (length b.own2 < t.one.most2 + t.two.most2) ⊎ (length b.own3 < t.one.most3 + t.two.most3)
@@ -73,6 +70,5 @@ module _ (t : Pair) (b : PairLent) (z : ℕ) (check : PairSizesTold z t.geometry
             go (inr x) (inl y) = inr y
             go (inr x) (inr y) = absurd (mathlib.Core.Bool.false≢true (f (x, y)))
 
-    pub make-on : not fit ≡ false → (v : PairLent) → v ≡ fresh_pair_lent b → pair_out (means_made Done) (fresh_pair t) v ≡ pair_made t b
-    unfolding means_made
+    pub make-on : not fit ≡ false → (v : PairLent) → v ≡ fresh_pair_lent b → pair_out (accepted []) (fresh_pair t) v ≡ pair_made t b
     make-on e v q = let f = passed tells e in rw q (ends (accepted []) (PairMake.done (check.facts h) f.0 f.1))

@@ -8,6 +8,8 @@ use native.Mathlib.Omega.{arith}
 use lib.ListN.{length, get_or}
 use lib.Seq.{ext_get_or}
 use borrow.Author.Tests.{lt-ltb, le-ltb}
+use Rattle.std.specs.Prelude.{MatchBool}
+use Rattle.std.specs.List.{AllWithin, HoldsAt}
 use Rattle.bits.specs.Tab.{Tells}
 use Rattle.bits.proofs.Bools.{below?}
 use Rattle.pair.specs.Party.{Party, one, two, party_of, seen, view}
@@ -58,11 +60,18 @@ neither o x y n = go (below? o 2147483648) x y
     go (inr l) x y = absurd (n (omega arith))
 
 module _ (own : List ℕ) where
-  pub stray : (c : ℕ) → c < length own → get_or own c 0 ≡ 2147483648 → Tells false (Nobodys own)
+  stray : (c : ℕ) → c < length own → get_or own c 0 ≡ 2147483648 → Tells false (Nobodys own)
   stray c l e = (
     (λ f. absurd (false≢true f)),
     (λ n. absurd (omega (arith, e, n.zero c l (ap (seen one) e ∙ top-alone) (ap (seen two) e ∙ top-alone2)))),
   )
 
-  pub no_stray : (n : ℕ) → length own ≤ n → ((k : ℕ) → k < n → get_or own k 0 ≡ 2147483648 → ⊥) → Tells true (Nobodys own)
-  no_stray n h k = ((λ _. record { zero = λ c l x y. neither (get_or own c 0) x y (k c (omega arith)) }), (λ _. refl))
+  no_stray : ((k : ℕ) → k < length own → get_or own k 0 ≡ 2147483648 → ⊥) → Tells true (Nobodys own)
+  no_stray k = ((λ _. record { zero = λ c l x y. neither (get_or own c 0) x y (k c l) }), (λ _. refl))
+
+  -- what `all` says of the owners
+  pub nobodys : (r : Bool)
+      → MatchBool r (AllWithin (λ o. o ≡ 2147483648 → ⊥) own 0 (length own)) ((k : ℕ) × (k < length own) × HoldsAt (λ o. o ≡ 2147483648) own k)
+      → Tells r (Nobodys own)
+  nobodys true h = no_stray (λ k l. h k 0 (omega arith) l)
+  nobodys false h = stray h.0 h.1 (h.2 0)

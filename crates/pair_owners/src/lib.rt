@@ -27,11 +27,8 @@ pub fn view(own: &[u32], guest: bool, out: &mut [u32])
     requires { length out.old ≡ length own.now }
     ensures { out.new ≡ view (party_of guest) own.now }
 {
-    let n = own.len();
-    let mut c = 0;
-    while c < n {
+    for c in 0..own.len() {
         out[c] = seen(own[c], guest);
-        c += 1;
     }
 }
 
@@ -39,12 +36,5 @@ pub fn view(own: &[u32], guest: bool, out: &mut [u32])
 pub fn nobodys_ok(own: &[u32]) -> bool
     ensures { Tells result (Nobodys own.now) }
 {
-    let mut c = 0;
-    while c < own.len() {
-        if own[c] == 2147483648 {
-            return false;
-        }
-        c += 1;
-    }
-    true
+    own.iter().all(|o| *o != 2147483648)
 }

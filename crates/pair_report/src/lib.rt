@@ -13,9 +13,10 @@ ghost use Rattle.pair_report.specs.Contract.{MeetsPairReport};
 ghost use Rattle.pair_report.specs.Told.{sound_told};
 
 use pair::Pair;
-use pair_sizes::sizes;
+use pair_sizes::check_sizes;
 use pair_sound::test::sound;
-use sail_sound::report::{Reported, in_use};
+use refusals::Refusal;
+use sail_sound::report::{Standing, in_use};
 
 // How many routes the party has.
 pub fn count(t: Pair, guest: bool) -> u32
@@ -48,7 +49,7 @@ fn report_sized(
     see3: &mut [u32],
     ws: &mut [u64],
     par: &mut [u16],
-) -> Reported
+) -> Result<Standing, Refusal>
     requires both_sized { BothSized t.geometry (pair_lent list1.now first1.now long11.now list2.now first2.now long12.now
         second.now third.now own2.now own3.now long2.now) }
     requires sight { Sight own2.now own3.now see2.old see3.old }
@@ -61,13 +62,13 @@ fn report_sized(
         t, guest, list1, first1, long11, list2, first2, long12, second, third, own2, own3, long2,
         see2, see3, ws, par,
     ) {
-        return Reported::Refused(5);
+        return Err(Refusal::Unsound);
     }
-    Reported::Standing {
+    Ok(Standing {
         routes: count(t, guest),
         second: in_use(see2),
         third: in_use(see3),
-    }
+    })
 }
 
 // The report of the party. `guest` is true for the second.
@@ -85,17 +86,14 @@ pub fn report(
     own3: &[u32],
     long2: &[u16],
     guest: bool,
-) -> Reported
+) -> Result<Standing, Refusal>
     ensures { MeetsPairReport (party_of guest) t
         (pair_lent list1.now first1.now long11.now list2.now first2.now long12.now
         second.now third.now own2.now own3.now long2.now) result }
 {
-    let z = sizes(
+    check_sizes(
         t, list1, first1, long11, list2, first2, long12, second, third, own2, own3, long2,
-    );
-    if z != 0 {
-        return Reported::Refused(z);
-    }
+    )?;
     let n2 = own2.len();
     let n3 = own3.len();
     let mut see2 = [0u32; 4096];

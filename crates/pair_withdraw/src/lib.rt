@@ -15,7 +15,7 @@ pub mod side;
 use crate::answers::PairWithdrawn;
 use crate::side::{PairTaken, withdraw_sound};
 use pair::Pair;
-use pair_sizes::sizes;
+use pair_sizes::check_sizes;
 use pair_sound::test::sound;
 use routes::input;
 use routes::prefix::clear_after;
@@ -103,12 +103,11 @@ pub fn withdraw(
         second.new third.new own2.new own3.new long2.new) }
 {
     let a = clear_after(addr, len);
-    let z = sizes(
+    if let Err(why) = check_sizes(
         t, list1, first1, long11, list2, first2, long12, second, third, own2, own3, long2,
-    );
-    if z != 0 {
+    ) {
         return PairWithdrawn {
-            answer: Withdraw::Refused(z),
+            answer: Withdraw::Refused(why.number()),
             state: t,
         };
     }

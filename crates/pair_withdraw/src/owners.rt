@@ -20,10 +20,7 @@ pub fn shut(own: &mut [u32], see: &[u32], guest: bool)
     requires { length see.now ≡ length own.old }
     ensures { own.new ≡ shut_for (party_of guest) see.now own.old }
 {
-    let n = own.len();
-    let mut c = 0;
-    while c < n {
+    for c in 0..own.len() {
         own[c] = owner_left(own[c], see[c], guest);
-        c += 1;
     }
 }

@@ -8,13 +8,13 @@ use native.Mathlib.Decide.{dec_lt}
 use native.Mathlib.Numerals.{add-one}
 use native.Mathlib.Omega.{arith}
 use lib.Dec.{eqb, ltb}
-use lib.ListN.{length, get_or, take}
+use lib.ListN.{length, get_or, take, replicate, length-replicate, get_or-replicate}
 use lib.Seq.{take-suc}
 use lib.Pow.{pow-add, pow_pos, pow_mono, shl-shr}
 use borrow.Author.Tests.{lt-ltb, le-ltb, le-leb, lt-leb, eq-eqb, ne_eqb}
 use Rattle.bits.specs.Slot.{slot}
 use Rattle.bits.proofs.Slots.{shl_one, cut-is}
-use Rattle.bits.proofs.Tabs.{length-tabulate, get_d_tabulate, tabulate-ext}
+use Rattle.bits.proofs.Tabs.{length-tabulate, get_d_tabulate, tabulate-ext, is-tabulate}
 use Rattle.routes.specs.Route.{Fine, Good}
 use Rattle.standing.specs.Cells.{covers, within, any, last_hop}
 use Rattle.routes.specs.declared.Route.{Route}
@@ -112,17 +112,10 @@ span_more p l h =
     let e = shl_one 64 (p - l) (omega arith) in
     (e, omega (arith, e, pow_mono k))
 
--- its choice of what a route leaves
-pub ink-long : (p l v : ℕ) → p < l → 0 ≡ cond (ltb p l) 0 v
-ink-long p l v h = rw (lt-ltb p l h)
-
-pub ink-leaf : (p l v : ℕ) → l ≤ p → v ≡ cond (ltb p l) 0 v
-ink-leaf p l v h = rw (le-ltb p l h)
-
 -- no route: every cell is inherited
-pub words-none : (h : ℕ) (l ws : List ℕ) (p base : ℕ) → filled l 0 (length l) (32768 + h) ≡ planned_from h (routes_of_words (take 0 ws)) p base (length l)
-unfolding filled planned_from plan_from any last_hop
-words-none h l ws p base = tabulate-ext (length l) _ _ (λ j u. rw (between_in 0 (length l) j (omega arith) u))
+pub words-none : (h : ℕ) (l ws : List ℕ) (p base : ℕ) → replicate (length l) (32768 + h) ≡ planned_from h (routes_of_words (take 0 ws)) p base (length l)
+unfolding planned_from plan_from any last_hop
+words-none h l ws p base = is-tabulate 0 _ (length l) _ (length-replicate (length l) (32768 + h)) (λ j u. get_or-replicate {A = ℕ} (length l) j (32768 + h) 0 u)
 
 pub length-planned-from : (h : ℕ) (rs : List Route) (p base n : ℕ) → length (planned_from h rs p base n) ≡ n
 unfolding planned_from
@@ -130,11 +123,10 @@ length-planned-from h rs p base n = length-tabulate n _
 
 -- one word more, the k-th: its route is painted over
 pub words_more : (ws : List ℕ) → Words ws → (h p base m k : ℕ) (out after : List ℕ) → k < length ws → out ≡ planned_from h (routes_of_words (take k ws)) p base m
-    → after ≡ painted out p base (route_of_word (get_or ws (k + 1 - 1) 0)) → after ≡ planned_from h (routes_of_words (take (k + 1) ws)) p base m
+    → after ≡ painted out p base (route_of_word (get_or ws k 0)) → after ≡ planned_from h (routes_of_words (take (k + 1) ws)) p base m
 unfolding painted planned_from
 words_more ws good h p base m k out after l was e =
-    let z : k + 1 - 1 ≡ k = omega arith in
-    e ∙ rw (z, was, length-tabulate m _, add-one, take-suc ws k 0 l, map-append)
+    e ∙ rw (was, length-tabulate m _, add-one, take-suc ws k 0 l, map-append)
     (tabulate-ext m _ _ (λ j u. rw (get_d_tabulate {A = ℕ} m _ j 0)
     (sym (plan_snoc p (base + j) (route_of_word (get_or ws k 0)) h (routes_of_words (take k ws)) first))))
   where

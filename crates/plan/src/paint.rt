@@ -6,19 +6,13 @@ ghost use Rattle.plan.specs.Plan.{planned_from};
 ghost use Rattle.plan.specs.Paint.{painted, Paints, Plans};
 
 use bits::bytes;
-use buffers::fill::fill_range16;
+use buffers::fill::fill_range;
 
 // How far x lies past base, at most n.
 fn clip(x: usize, base: usize, n: usize) -> usize
     ensures { result ≡ min (x - base) n }
 {
-    if x <= base {
-        return 0;
-    }
-    if n < x - base {
-        return n;
-    }
-    x - base
+    x.saturating_sub(base).min(n)
 }
 
 // How many cells of level p a route of this length touches: those that it covers, or the one that it lies within.
@@ -54,7 +48,7 @@ pub fn paint_one(w: u64, p: u32, base: usize, out: &mut [u16])
     let cell = ((w / bytes::FOUR) >> (32 - p)) as usize;
     let end = cell + span(p, len);
     let v = ink(p, len, (w % bytes::TWO) as u16);
-    fill_range16(out, clip(cell, base, n), clip(end, base, n), v);
+    fill_range(out, clip(cell, base, n), clip(end, base, n), v);
 }
 
 // The cells of level p from base on, as many as `out` has: the hop h everywhere, and the routes over it in list order.
@@ -62,12 +56,8 @@ pub fn plan_words(ws: &[u64], h: u16, p: u32, base: usize, out: &mut [u16])
     requires { Plans ws.now h p }
     ensures { out.new ≡ planned_from h (routes_of_words ws.now) p base (length out.old) }
 {
-    let n = out.len();
-    let m = ws.len();
-    fill_range16(out, 0, n, 32768 + h);
-    let mut k = 0;
-    while k < m {
-        k += 1;
-        paint_one(ws[k - 1], p, base, out);
+    out.fill(32768 + h);
+    for k in 0..ws.len() {
+        paint_one(ws[k], p, base, out);
     }
 }

@@ -1,7 +1,7 @@
 -- A plan whose zeros became what the part holds.
 use mathlib.Core.Path.{◌≡◌, refl, sym, ap, subst, ◌∙◌}
 use mathlib.Core.Logic.{◌⊎◌, inl, inr}
-use mathlib.Core.Bool.{Bool, true, false, cond, not, ◌||◌, or-true, false≢true}
+use mathlib.Core.Bool.{Bool, true, false, cond, not, ◌||◌, ◌&&◌, and-true, and-false, or-true, false≢true}
 use mathlib.Core.List.{List, map-append}
 use Prim.Native.Nat.{ℕ, ◌+◌, ◌-◌, ◌/◌, ◌^◌, ◌<◌, ◌≤◌}
 use native.Mathlib.Numerals.{add-one}
@@ -156,11 +156,12 @@ module _ (run : List ℕ) (p base : ℕ) (part own : List ℕ) (o : ℕ) (want :
 
   module _ (k : ℕ) (mid after : List ℕ) (ok b : Bool) (l : k < length run) (was : Settled (by k) part own o want mid ok)
       (one : Settled (at k) part own o mid after b) where
-    pub run-no : not b ≡ true → Settled (by (k + 1)) part own o want after false
-    run-no e = settled-as part own o want _ _ after false (λ j. by-more k j l) (then-no part own o want (by k) (at k) mid after ok b was one (not-true b e))
-
-    pub run-yes : not b ≡ false → Settled (by (k + 1)) part own o want after ok
-    run-yes e = settled-as part own o want _ _ after ok (λ j. by-more k j l) (then-yes part own o want (by k) (at k) mid after ok b was one (not-false b e))
+    pub run-more : Settled (by (k + 1)) part own o want after (ok && b)
+    run-more = settled-as part own o want _ _ after (ok && b) (λ j. by-more k j l) (go b refl)
+      where
+        go : (x : Bool) → b ≡ x → Settled (λ j. by k j || at k j) part own o want after (ok && x)
+        go true e = rw (and-true ok) (then-yes part own o want (by k) (at k) mid after ok b was one e)
+        go false e = rw (and-false ok) (then-no part own o want (by k) (at k) mid after ok b was one e)
 
   pub run-all : (k : ℕ) (after : List ℕ) (ok : Bool) → length run ≤ k → Settled (by k) part own o want after ok
       → Settled (λ j. long (routes_of_words run) p (base + j)) part own o want after ok

@@ -9,22 +9,15 @@ ghost use Rattle.plan.specs.Plan.{planned_from};
 ghost use Rattle.plan_test.specs.Part.{NamesBack, Settled, Matches, Beside, Judges};
 
 use bits::bytes;
-use bits::widen::{half_to_index, word_to_index};
-use buffers_test::same::same16;
+use buffers_test::same::same;
 use plan::paint::plan_words;
 
 // Whether v is the number, from 1, of a chunk whose owner number is o.
 pub fn names(v: u16, own: &[u32], o: usize) -> bool
     ensures { Tells result (NamesBack v own.now o) }
 {
-    let c = half_to_index(v);
-    if c == 0 {
-        return false;
-    }
-    if own.len() < c {
-        return false;
-    }
-    word_to_index(own[c - 1]) == o
+    let c = usize::from(v);
+    1 <= c && c <= own.len() && own[c - 1] as usize == o
 }
 
 // The cell that the route of a word lies within, where it is one of the part: its plan becomes what it holds. Says
@@ -74,13 +67,8 @@ pub fn settle(
         want.old want.new result }
 {
     let mut ok = true;
-    let mut k = 0;
-    while k < run.len() {
-        let w = run[k];
-        k += 1;
-        if !settle_one(w, p, base, part, o, want, own) {
-            ok = false;
-        }
+    for w in run {
+        ok &= settle_one(*w, p, base, part, o, want, own);
     }
     ok
 }
@@ -105,5 +93,5 @@ pub fn as_planned(
     if !settle(run, p, base, part, o, want, own) {
         return false;
     }
-    same16(part, want)
+    same(part, want)
 }

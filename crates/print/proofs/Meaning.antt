@@ -8,7 +8,7 @@ use native.Mathlib.Omega.{arith}
 use lib.ListN.{length, take}
 use Rattle.bits.proofs.Bools.{decided, below?}
 use Rattle.standing.specs.Cells.{need}
-use Rattle.routes.specs.Said.{Said, accepted, refused, refused_at, accepts}
+use Rattle.routes.specs.Said.{Said, refused, refused_at, accepts}
 use Rattle.routes.specs.declared.Route.{Route}
 use Rattle.routes.proofs.Rows.{length-routes, records-good}
 use Rattle.routes.specs.Cases.{Checked}

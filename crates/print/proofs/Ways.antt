@@ -1,16 +1,18 @@
 -- What is written at each way through the load.
-use mathlib.Core.Path.{◌≡◌, refl, sym, ap, ◌∙◌, subst}
+use mathlib.Core.Path.{◌≡◌, refl, sym, ap, subst}
 use mathlib.Core.Bool.{true, false, true≢false}
-use mathlib.Core.List.{List}
+use mathlib.Core.List.{List, []}
 use Prim.Native.Nat.{ℕ}
-use Rattle.routes.specs.Said.{Said, accepted, refused, refused_at, accepts}
+use Rattle.std.specs.Prelude.{Option, Some, None, Result, Ok, Err}
+use Rattle.refusals.specs.declared.Refused.{Refused}
+use Rattle.routes.specs.Said.{Said, accepted, refused_by, told, said_by, accepts}
 use Rattle.sail.specs.Lent.{Lent}
 use Rattle.sail.specs.Sound.{Sound}
 use Rattle.sail.specs.declared.table.Table.{Table}
-use Rattle.sail_theory.specs.Calls.{Out, out, loaded}
+use Rattle.sail_theory.specs.After.{state_after}
+use Rattle.sail_theory.specs.Calls.{Out, out, Ends, loaded}
 use Rattle.sail_theory.proofs.calls.Load.{load-holds}
 use Rattle.sail_load.specs.Answers.{means_loaded}
-use Rattle.sail_load.specs.declared.load.Loaded.{Loaded}
 use Rattle.text_pieces.specs.Wrote.{Wrote}
 use Rattle.text.specs.Text.{said_text}
 use Rattle.print_said.specs.Standing.{standing_text}
@@ -30,23 +32,36 @@ line-none (Said.accepted vs) t h = refl
 line-none (Said.refused n) t h = absurd (true≢false (sym h))
 line-none (Said.refused_at n k) t h = absurd (true≢false (sym h))
 
+-- a refusal accepts nothing
+refused-by : (n : ℕ) (i : Option ℕ) → accepts (refused_by n i) ≡ false
+refused-by n None = refl
+refused-by n (Some k) = refl
+
+told-refused : (x : Refused) → accepts (told x) ≡ false
+told-refused x = refused-by _ x.at
+
 -- What load says and leaves is what is printed.
-module _ (input : List ℕ) (a : Loaded) (u : Table) (v : Lent) (e : out (means_loaded a) u v ≡ loaded small_table small_lent input) where
-  whole : out_text (out (means_loaded a) u v) ≡ printed_text input
+module _ (input : List ℕ) (r : Result Table Refused) (v : Lent)
+    (e : Ends (means_loaded r) (state_after small_table r) v (loaded small_table small_lent input)) where
+  whole : out_text (out (means_loaded r) (state_after small_table r) v) ≡ printed_text input
   unfolding printed_text
   whole = ap out_text e
 
-  pub done-sound : accepts (means_loaded a) ≡ true → Sound u v
-  done-sound q =
-      let s : accepts (loaded small_table small_lent input).said ≡ true = sym (ap (λ (o : Out). accepts o.said) e) ∙ q in
-      subst (λ (o : Out). Sound o.table o.lent) (sym e) (load-holds small_table small_lent input s).sound
+  module _ (u : Table) (q : r ≡ Ok u) where
+    ends : out (accepted []) u v ≡ loaded small_table small_lent input
+    unfolding said_by
+    ends = rw q at e
 
-  pub done-wrote : accepts (means_loaded a) ≡ true → {o o₁ : List ℕ} {m : ℕ} → Wrote o 0 (standing_text u v) m o₁
-      → Wrote o 0 (printed_text input) m o₁
-  unfolding out_text
-  done-wrote q w = rw (← whole, line-none (means_loaded a) (standing_text u v) q) w
+    pub done-sound : Sound u v
+    done-sound =
+        let s : accepts (loaded small_table small_lent input).said ≡ true = sym (ap (λ (o : Out). accepts o.said) ends) in
+        subst (λ (o : Out). Sound o.table o.lent) (sym ends) (load-holds small_table small_lent input s).sound
 
-  pub refused-wrote : accepts (means_loaded a) ≡ false → {o o₁ : List ℕ} {m : ℕ} → Wrote o 0 (said_text (means_loaded a)) m o₁
+    pub done-wrote : {o o₁ : List ℕ} {m : ℕ} → Wrote o 0 (standing_text u v) m o₁ → Wrote o 0 (printed_text input) m o₁
+    unfolding out_text said_by
+    done-wrote w = rw (← whole, q, line-none (accepted []) (standing_text u v) refl) w
+
+  pub refused-wrote : (x : Refused) → r ≡ Err x → {o o₁ : List ℕ} {m : ℕ} → Wrote o 0 (said_text (told x)) m o₁
       → Wrote o 0 (printed_text input) m o₁
-  unfolding out_text
-  refused-wrote h w = rw (← whole, line-or (means_loaded a) (standing_text u v) h) w
+  unfolding out_text said_by
+  refused-wrote x q w = rw (← whole, q, line-or (told x) (standing_text small_table v) (told-refused x)) w

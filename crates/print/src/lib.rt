@@ -8,9 +8,10 @@ ghost use Rattle.print_said.specs.Standing.{page};
 ghost use Rattle.print.specs.Printed.{printed_text, Printed};
 
 use print_said::{put_said, put_standing};
+use sail::arrays::Arrays;
 use sail::geometry::Geometry;
 use sail::table::Table;
-use sail_load::load;
+use sail_load::load::load;
 
 // Room for the text of any table with 64 routes, and for any refusal.
 pub const PAGE: usize = 4096;
@@ -32,7 +33,7 @@ fn put_loaded(input: &[u8], out: &mut [u8]) -> usize
         geometry: Geometry::SMALL,
         count: 0,
     };
-    let c = load::load(
+    match load(
         t,
         input,
         &mut list,
@@ -43,14 +44,23 @@ fn put_loaded(input: &[u8], out: &mut [u8]) -> usize
         &mut own3,
         &mut long1,
         &mut long2,
-    );
-    let answer = c.answer;
-    if load::accepts(answer) {
-        return put_standing(
-            c.table, &list, &first, &second, &third, &own2, &own3, &long1, &long2, out,
-        );
+    ) {
+        Ok(table) => put_standing(
+            table,
+            Arrays {
+                list: &list,
+                first: &first,
+                second: &second,
+                third: &third,
+                own2: &own2,
+                own3: &own3,
+                long1: &long1,
+                long2: &long2,
+            },
+            out,
+        ),
+        Err(e) => put_said(e, out),
     }
-    put_said(answer, out)
 }
 
 // What is printed of an input, from the buffer's start on; the answer is how many bytes that is. A buffer of less than a page is left as it

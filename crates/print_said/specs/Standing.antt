@@ -1,5 +1,5 @@
 -- The text of a sound table, and what writing it asks for.
-use Rattle.std.specs.Prelude.{List, ℕ, ◌≤◌, length}
+use Rattle.std.specs.Prelude.{List, ℕ, ◌+◌, ◌*◌, ◌≤◌, length}
 use Rattle.standing.specs.Cells.{need}
 use Rattle.sail.specs.Lent.{Lent}
 use Rattle.sail.specs.Sound.{Sound, standing}
@@ -10,11 +10,11 @@ use Rattle.text.specs.Text.{table_text}
 unfoldable pub standing_text : Table → Lent → List ℕ
 standing_text t l = table_text (standing t l) (need (standing t l) t.geometry.p1) (need (standing t l) t.geometry.p2)
 
--- so many bytes have room for any of these texts
+-- so many bytes have room for the text of any table with 64 routes
 abbrev pub page : ℕ
 page = 4096
 
--- what the text of a table's routes asks for
+-- What the text of a table's routes asks for: 64 bytes for the first line, 35 for each route's.
 pub record PageReady (t : Table) (l : Lent) (before : List ℕ) : Type 0 where
   pub sound : Sound t l
-  pub room : page ≤ length before
+  pub room : 64 + 35 * t.count ≤ length before

@@ -3,7 +3,6 @@ ghost use Rattle.std.specs.Prelude.{◌≡◌, ◌+◌, ◌*◌, ◌/◌, ◌%�
 ghost use Rattle.routes.specs.Route.{key};
 ghost use Rattle.routes.specs.Record.{word32, word16, record_at, put_at};
 
-use bits::widen::{byte_to_half, byte_to_long, half_to_word, word_to_long};
 use routes::Route;
 
 // Two bytes from a place on, as a number.
@@ -11,7 +10,7 @@ pub fn half_at(list: &[u8], at: usize) -> u16
     requires { at + 2 ≤ length list.now }
     ensures { result ≡ word16 list.now at }
 {
-    byte_to_half(list[at]) * 256 + byte_to_half(list[at + 1])
+    u16::from(list[at]) * 256 + u16::from(list[at + 1])
 }
 
 // Four bytes.
@@ -19,7 +18,7 @@ pub fn word_at(list: &[u8], at: usize) -> u32
     requires { at + 4 ≤ length list.now }
     ensures { result ≡ word32 list.now at }
 {
-    half_to_word(half_at(list, at)) * 65536 + half_to_word(half_at(list, at + 2))
+    u32::from(half_at(list, at)) * 65536 + u32::from(half_at(list, at + 2))
 }
 
 // The route of record k.
@@ -40,7 +39,7 @@ pub fn read_record(list: &[u8], k: usize) -> Route
 pub fn key_of(addr: u32, len: u8) -> u64
     ensures { (result ≡ addr * 256 + len) × (result < 2 ^ 40) }
 {
-    word_to_long(addr) * 256 + byte_to_long(len)
+    u64::from(addr) * 256 + u64::from(len)
 }
 
 // The key of record k.

@@ -7,11 +7,11 @@ ghost use Rattle.repair.specs.Contract.{MeetsRepair};
 ghost use Rattle.repair.specs.Told.{Small, numbers};
 
 use repair_differs::count_cells;
-use repair_judge::{RepairJudged, judge};
+use repair_judge::{Kept, judge};
 use repair_levels::Differs;
+use sail::arrays::Arrays;
 use sail::table::Table;
 use sail_load::load::load;
-use sail_sizes::sizes;
 
 // Put right, with the records dropped and the cells of each array that differ from before; or a refusal's number.
 #[derive(Clone, Copy)]
@@ -33,7 +33,7 @@ pub struct RepairedTable {
 }
 
 // The four numbers that are told.
-fn done(j: RepairJudged, d: Differs) -> Repaired
+fn done(j: Kept, d: Differs) -> Repaired
     requires { Small j d }
     ensures { means_repaired result ≡ accepted (numbers j d) }
 {
@@ -69,29 +69,7 @@ pub fn repair(
         long1.new long2.new) }
 {
     let mut kept = [0u8; 32768];
-    let z = sizes(t, list, first, second, third, own2, own3, long1, long2);
-    let j = judge(z, t, list, own2.len(), own3.len(), &mut kept);
-    let f = j.fault;
-    if f != 0 {
-        return RepairedTable {
-            answer: Repaired::Refused(f),
-            table: t,
-        };
-    }
-    let end = j.kept * 8;
-    let g = t.geometry;
-    let d = count_cells(
-        g,
-        &kept[..end],
-        first,
-        second,
-        third,
-        own2.len(),
-        own3.len(),
-    );
-    let loaded = load(
-        t,
-        &kept[..end],
+    let a = Arrays {
         list,
         first,
         second,
@@ -100,10 +78,31 @@ pub fn repair(
         own3,
         long1,
         long2,
+    };
+    let j = match judge(t, a, &mut kept) {
+        Ok(j) => j,
+        Err(why) => {
+            return RepairedTable {
+                answer: Repaired::Refused(why.number()),
+                table: t,
+            };
+        }
+    };
+    let input = &kept[..j.kept * 8];
+    let d = count_cells(
+        t.geometry,
+        input,
+        first,
+        second,
+        third,
+        own2.len(),
+        own3.len(),
     );
-    let u = loaded.table;
+    let loaded = load(
+        t, input, list, first, second, third, own2, own3, long1, long2,
+    );
     RepairedTable {
         answer: done(j, d),
-        table: u,
+        table: loaded.unwrap_or(t),
     }
 }

@@ -1,5 +1,5 @@
 -- What is kept of a list is weighed against the chunks there are.
-use mathlib.Core.Path.{◌≡◌, refl, sym, ◌∙◌}
+use mathlib.Core.Path.{◌≡◌, sym, ◌∙◌}
 use mathlib.Core.List.{List}
 use Prim.Native.Nat.{ℕ, ◌*◌, ◌/◌, ◌≤◌, min}
 use native.Mathlib.Omega.{arith}
@@ -8,40 +8,54 @@ use lib.Seq.{length-take-le}
 use borrow.Author.Tests.{le-ltb}
 use Rattle.routes.specs.Route.{Good}
 use Rattle.routes.specs.Record.{routes_of, Records}
+use Rattle.routes.specs.Said.{refused}
 use Rattle.routes.specs.declared.Route.{Route}
 use Rattle.routes.proofs.Rows.{routes-written, written_listed}
+use Rattle.sail.specs.Lent.{Lent}
+use Rattle.sail.specs.Sizes.{sizes_fault, SizesTold}
 use Rattle.sail.specs.declared.table.Table.{Table}
-use Rattle.sail_theory.specs.Calls.{load_fault}
+use Rattle.sail_theory.proofs.Judges.{or-said}
+use Rattle.sail_theory.specs.Calls.{terms_of, chunks_fault, load_fault}
 use Rattle.sail_need.specs.Weigh.{terms, Weighs}
-use Rattle.repair_theory.specs.Repair.{kept_of}
+use Rattle.repair_theory.specs.Repair.{kept_of, looked, kept_routes, repair_said}
 use Rattle.repair_theory.proofs.Kept.{kept-good}
 use Rattle.repair_keep.specs.Keep.{Keeps, KeptIn}
-use Rattle.repair_judge.specs.Judge.{RepairReady, SizesFirst}
+use Rattle.repair_judge.specs.Judge.{KeptIs}
 
-module _ (z : ℕ) (t : Table) (s : List ℕ) where
-  pub judge-sizes : (n2 n3 : ℕ) (bytes : List ℕ) → (z ≡ 0 → ⊥) → SizesFirst z t s n2 n3 bytes (record { fault = z; looked = 0; kept = 0 })
-  judge-sizes n2 n3 bytes h = record { off = λ _. refl; on = λ e. absurd (h e) }
+module _ (t : Table) (l : Lent) (z : ℕ) (check : SizesTold z t.geometry l) where
+  -- the sizes come first
+  pub judge-sizes : (z ≡ 0 → ⊥) → repair_said t l ≡ refused z
+  unfolding repair_said
+  judge-sizes n = or-said (sizes_fault t.geometry l) z _ check.number n
 
-  module _ (before : List ℕ) (h : RepairReady z t.geometry s before) (fits : z ≡ 0) (n : ℕ) (looks : n ≡ min t.count (length s / 8)) where
-    inside : n ≤ length s / 8
+  module _ (fits : z ≡ 0) (n : ℕ) (looks : n ≡ min t.count (length l.list / 8)) where
+    inside : n ≤ length l.list / 8
     inside = omega arith
 
-    pub keep-asks : Keeps s n before
-    keep-asks = record { inside = omega (arith, inside); few = omega (arith, inside, h.few fits); room = h.room }
+    pub keep-asks : (before : List ℕ) → length before ≡ 32768 → Keeps l.list n before
+    keep-asks before room = record { inside = omega (arith, inside); few = omega (arith, inside, (check.facts fits).room); room = room }
 
-    module _ (bytes : List ℕ) (m : ℕ) (k : KeptIn s n bytes m) where
+    module _ (bytes : List ℕ) (m : ℕ) (k : KeptIn l.list n bytes m) where
       abbrev rs : List Route
-      rs = kept_of s n
+      rs = kept_of l.list n
+
+      looks-so : n ≡ looked t l
+      unfolding looked
+      looks-so = looks
+
+      keeps-so : rs ≡ kept_routes t l
+      unfolding kept_routes
+      keeps-so = rw looks-so
 
       good : Good rs
-      good = kept-good s 0 0 n
+      good = kept-good l.list 0 0 n
 
       few : m ≤ 4096
-      few = omega (arith, k.few, inside, h.few fits)
+      few = omega (arith, k.few, inside, (check.facts fits).room)
 
-      module _ (same : length bytes ≡ length before) where
+      module _ (room : length bytes ≡ 32768) where
         pub kept_in : m * 8 ≤ length bytes
-        kept_in = omega (arith, few, h.room)
+        kept_in = omega (arith, few)
 
         pub kept-room : m * 8 ≡ length (take (m * 8) bytes)
         kept-room = sym (length-take-le (m * 8) bytes kept_in)
@@ -53,17 +67,25 @@ module _ (z : ℕ) (t : Table) (s : List ℕ) where
       records = rw (k.bytes, k.count) (written_listed rs (length rs) good (omega arith) (omega (arith, k.count, few))).records
 
       pub weigh-asks : Weighs t.geometry (take (m * 8) bytes) m
-      weigh-asks = record { valid = h.valid fits; records = records }
+      weigh-asks = record { valid = (check.facts fits).valid; records = records }
 
-      pub judge-weighed : (n2 n3 f : ℕ) → f ≡ load_fault (terms t.geometry (length s / 8) n2 n3) (routes_of (take (m * 8) bytes) m)
-          → SizesFirst z t s n2 n3 bytes (record { fault = f; looked = n; kept = m })
-      unfolding load_fault
-      judge-weighed n2 n3 f e = record {
-        off = λ y. absurd (y fits);
-        on = λ _. record {
-          looks = looks;
-          keeps = k.count;
-          input = k.bytes;
-          fault = e ∙ rw (routes, le-ltb (length s / 8) (length rs) (omega (arith, k.count, k.few, inside)));
-        };
-      }
+      -- they find room in their own list, so only chunks may lack
+      module _ (f : ℕ) (weighed : f ≡ load_fault (terms t.geometry (length l.list / 8) (length l.own2) (length l.own3))
+          (routes_of (take (m * 8) bytes) m)) where
+        chunks-so : f ≡ chunks_fault (terms_of t l) (kept_routes t l)
+        unfolding load_fault
+        chunks-so = rw (← keeps-so) (weighed ∙ rw (routes, le-ltb (length l.list / 8) (length rs) (omega (arith, k.count, k.few, inside))))
+
+        pub judge-chunks : (f ≡ 0 → ⊥) → repair_said t l ≡ refused f
+        unfolding repair_said
+        judge-chunks h =
+            rw (sym check.number ∙ fits) (or-said (chunks_fault (terms_of t l) (kept_routes t l)) f _ chunks-so h)
+
+        pub judge-kept : f ≡ 0 → KeptIs t l bytes (record { looked = n; kept = m })
+        judge-kept h = record {
+          sized = check.facts fits;
+          looks = looks-so;
+          keeps = rw (← keeps-so) k.count;
+          input = rw (← keeps-so, ← k.count) k.bytes;
+          enough = sym chunks-so ∙ h;
+        }

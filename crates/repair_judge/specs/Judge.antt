@@ -1,28 +1,23 @@
--- What judging a repair asks for, and what it tells: of the list alone, and of the number of chunks.
-use Rattle.std.specs.Prelude.{List, ◌≡◌, ℕ, ◌*◌, ◌/◌, ◌≤◌, min, length, take}
-use Rattle.routes.specs.Record.{written}
-use Rattle.sail.specs.Geometry.{Valid}
-use Rattle.sail.specs.declared.geometry.Geometry.{Geometry}
+-- What judging a repair tells: why it is refused, or what is kept.
+use Rattle.std.specs.Prelude.{List, ◌≡◌, ℕ, ◌*◌, length, take, Result, Ok, Err}
+use Rattle.refusals.specs.Numbers.{number_of}
+use Rattle.refusals.specs.declared.Refusal.{Refusal}
+use Rattle.routes.specs.Said.{refused}
+use Rattle.sail.specs.Lent.{Lent}
+use Rattle.sail.specs.Sizes.{Sized}
 use Rattle.sail.specs.declared.table.Table.{Table}
-use Rattle.sail_theory.specs.Calls.{chunks_fault}
-use Rattle.sail_need.specs.Weigh.{terms}
-use Rattle.repair_theory.specs.Repair.{kept_of}
-use Rattle.repair_judge.specs.declared.RepairJudged.{RepairJudged}
+use Rattle.sail_theory.specs.Calls.{terms_of, chunks_fault}
+use Rattle.repair_theory.specs.Repair.{looked, kept_routes, kept_bytes, repair_said}
+use Rattle.repair_judge.specs.declared.Kept.{Kept}
 
--- a geometry and a list of right sizes, where no fault of the sizes is given; and room for what is kept
-pub record RepairReady (z : ℕ) (g : Geometry) (s bytes : List ℕ) : Type 0 where
-  pub valid : z ≡ 0 → Valid g
-  pub few : z ≡ 0 → length s ≤ 32768
-  pub room : length bytes ≡ 32768
+-- the sizes are right; the records that are looked at, those of them that are kept, and there are chunks enough for these
+pub record KeptIs (t : Table) (l : Lent) (bytes : List ℕ) (k : Kept) : Type 0 where
+  pub sized : Sized t.geometry l
+  pub looks : k.looked ≡ looked t l
+  pub keeps : k.kept ≡ length (kept_routes t l)
+  pub input : take (k.kept * 8) bytes ≡ kept_bytes t l
+  pub enough : chunks_fault (terms_of t l) (kept_routes t l) ≡ 0
 
--- the records that are looked at, those of them that are kept, and whether n2 and n3 chunks are enough for these
-pub record KeptIs (t : Table) (s : List ℕ) (n2 n3 : ℕ) (bytes : List ℕ) (r : RepairJudged) : Type 0 where
-  pub looks : r.looked ≡ min t.count (length s / 8)
-  pub keeps : r.kept ≡ length (kept_of s r.looked)
-  pub input : take (r.kept * 8) bytes ≡ written (kept_of s r.looked) r.kept
-  pub fault : r.fault ≡ chunks_fault (terms t.geometry (length s / 8) n2 n3) (kept_of s r.looked)
-
--- the fault of the sizes is the first
-pub record SizesFirst (z : ℕ) (t : Table) (s : List ℕ) (n2 n3 : ℕ) (bytes : List ℕ) (r : RepairJudged) : Type 0 where
-  pub off : (z ≡ 0 → ⊥) → r.fault ≡ z
-  pub on : z ≡ 0 → KeptIs t s n2 n3 bytes r
+abbrev pub Judged : Table → Lent → List ℕ → Result Kept Refusal → Type 0
+Judged t l bytes (Ok k) = KeptIs t l bytes k
+Judged t l bytes (Err why) = repair_said t l ≡ refused (number_of why)

@@ -1,2 +1,2 @@
--- What judging a repair asks and tells.
+-- What judging a repair tells.
 pub mod Judge

@@ -1,41 +1,41 @@
 // Whether a table may be put right: what is kept of its list, and whether there are chunks for it.
 #![tactic(auto)]
 
-ghost use Rattle.repair_judge.specs.Judge.{RepairReady, SizesFirst};
+ghost use Rattle.std.specs.Prelude.{◌≡◌, length};
+ghost use Rattle.sail.specs.Arrays.{lent_by};
+ghost use Rattle.repair_judge.specs.Judge.{Judged};
 
+use refusals::Refusal;
 use repair_keep::{keep, looked};
+use sail::arrays::Arrays;
 use sail::table::Table;
 use sail_need::weigh;
+use sail_sizes::check_sizes;
 
-// The number with which a repair is refused, or 0; and how many records are looked at, and how many of them kept.
+// How many records are looked at, and how many of them are kept.
 #[derive(Clone, Copy)]
-pub struct RepairJudged {
-    pub fault: u8,
+pub struct Kept {
     pub looked: usize,
     pub kept: usize,
 }
 
-// What is kept of the list, into `kept`, and whether there are chunks for it: 7 or 8 where there are not. z is the fault of the
-// sizes, which comes first.
-pub fn judge(z: u8, t: Table, list: &[u8], n2: usize, n3: usize, kept: &mut [u8]) -> RepairJudged
-    requires { RepairReady z t.geometry list.now kept.old }
-    ensures { SizesFirst z t list.now n2 n3 kept.new result }
+// What is kept of the list, into `kept`: 1 or 2 for the sizes, which come first, and 7 or 8 where there are no chunks for it.
+pub fn judge(t: Table, a: Arrays, kept: &mut [u8]) -> Result<Kept, Refusal>
+    requires { length kept.old ≡ 32768 }
+    ensures { Judged t (lent_by a.entry) kept.new result }
 {
-    if z != 0 {
-        return RepairJudged {
-            fault: z,
-            looked: 0,
-            kept: 0,
-        };
-    }
-    let room = list.len() / 8;
+    check_sizes(t, a)?;
+    let room = a.list.len() / 8;
     let n = looked(t.count, room);
-    let m = keep(list, n, kept);
+    let m = keep(a.list, n, kept);
     let end = m * 8;
-    let f = weigh(t.geometry, &kept[..end], m, room, n2, n3);
-    RepairJudged {
-        fault: f,
-        looked: n,
-        kept: m,
-    }
+    weigh(
+        t.geometry,
+        &kept[..end],
+        m,
+        room,
+        a.own2.len(),
+        a.own3.len(),
+    )?;
+    Ok(Kept { looked: n, kept: m })
 }

@@ -5,17 +5,13 @@ ghost use Rattle.std.specs.Prelude.{◌≡◌, min};
 ghost use Rattle.repair_keep.specs.Keep.{Keeps, KeptIn};
 
 use records::record::{key_of, read_record, write_record};
-use routes::input::route_fault;
+use routes::input::check_route;
 
 // How many records are looked at: up to the route count, or to the end of the room if that is less.
 pub fn looked(count: u32, room: usize) -> usize
     ensures { result ≡ min count room }
 {
-    let n = count as usize;
-    if room < n {
-        return room;
-    }
-    n
+    usize::min(count as usize, room)
 }
 
 // The records of the first n that are kept, written to `out` end to end, and how many they are. `least` is 1 + the key of the
@@ -26,12 +22,10 @@ pub fn keep(list: &[u8], n: usize, out: &mut [u8]) -> usize
 {
     let mut least: u64 = 0;
     let mut m = 0;
-    let mut k = 0;
-    while k < n {
+    for k in 0..n {
         let r = read_record(list, k);
         let key = key_of(r.addr, r.len);
-        k += 1;
-        if route_fault(r) == 0 {
+        if let Ok(()) = check_route(r) {
             if least <= key {
                 write_record(out, m, r);
                 m += 1;

@@ -19,13 +19,10 @@ fn off_plan(part: &[u16], want: &[u16]) -> usize
     requires { length part.now ≡ length want.now }
     ensures { CountIs result (λ j. off_plan (get_or want.now j 0) (get_or part.now j 0)) (length part.now) }
 {
-    let n = part.len();
     let mut m = 0;
-    let mut j = 0;
-    while j < n {
+    for j in 0..part.len() {
         let x = part[j];
         let w = want[j];
-        j += 1;
         if x != w {
             if w != 0 {
                 m += 1;
@@ -36,16 +33,14 @@ fn off_plan(part: &[u16], want: &[u16]) -> usize
 }
 
 // How many cells of a part are not zero.
+// Stays: beside off_plan. One function for both would be given the test of a cell, as `off(part, |j| part[j] != 0)`, and the plan's test
+// needs the plan as well: the two loops are as short.
 fn off_zero(part: &[u16]) -> usize
     ensures { CountIs result (λ j. off_zero (get_or part.now j 0)) (length part.now) }
 {
-    let n = part.len();
     let mut m = 0;
-    let mut j = 0;
-    while j < n {
-        let x = part[j];
-        j += 1;
-        if x != 0 {
+    for x in part {
+        if *x != 0 {
             m += 1;
         }
     }
@@ -79,13 +74,10 @@ pub fn off_first(ws: &[u64], par: &[u16], p: u32, first: &[u16], want: &mut [u16
     requires { DiffFirstReady ws.now par.now p first.now want.old }
     ensures { CountIs result (off_at (routes_of_words ws.now) p always itself (entry first.now)) (length first.now) }
 {
-    let n = first.len() / 1024;
     let mut m = 0;
-    let mut b = 0;
-    while b < n {
+    for b in 0..first.len() / 1024 {
         let a = b * 1024;
         m += off_block(ws, par, p - 10, b as u64, p, a, first, a, a + 1024, want);
-        b += 1;
     }
     m
 }
@@ -135,13 +127,10 @@ pub fn off_pool(
     ensures { CountIs result (off_at (routes_of_words ws.now) p (live_in (entry own.now) (p - l)) (part_of (entry
         own.now) (p - l) (stands_for e up.now)) (entry cells.now)) (length cells.now) }
 {
-    let n = own.len();
     let mut m = 0;
-    let mut c = 0;
-    while c < n {
+    for c in 0..own.len() {
         let o = owner_at(own, c);
         m += off_chunk(ws, par, l, p, up, e, o, cells, c, want);
-        c += 1;
     }
     m
 }

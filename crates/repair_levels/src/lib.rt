@@ -10,7 +10,6 @@ ghost use Rattle.sail_owners.specs.Owners.{owners};
 ghost use Rattle.repair_leaves.specs.Leaves.{CountIs};
 ghost use Rattle.repair_levels.specs.Levels.{off_name, DiffNamesReady, Owned, Differing, wanted};
 
-use bits::widen::half_to_index;
 use repair_leaves::{off_first, off_pool};
 use sail::geometry::Geometry;
 use sail_paint::place::owner_at;
@@ -28,14 +27,12 @@ fn off_names(cells: &[u16], own: &[u32]) -> usize
     requires { DiffNamesReady own.now cells.now }
     ensures { CountIs result (off_name (entry own.now) (entry cells.now)) (length own.now) }
 {
-    let n = own.len();
     let mut m = 0;
-    let mut c = 0;
-    while c < n {
+    for c in 0..own.len() {
         let o = owner_at(own, c);
-        c += 1;
+        let number = c + 1;
         if o != 0 {
-            if half_to_index(cells[o - 1]) != c {
+            if usize::from(cells[o - 1]) != number {
                 m += 1;
             }
         }

@@ -6,10 +6,11 @@ ghost use Rattle.std.specs.Prelude.{◌≡◌};
 ghost use Rattle.sail.specs.Lent.{lent};
 ghost use Rattle.repair_words.specs.Repairs.{repair_card, repair_out};
 
-use packing_repairs::{repaired, tell, words_fault};
+use packing_repairs::{check_words, repaired, tell};
 use repair::repair::repair;
+use sail::arrays::Arrays;
 use sail::table::Table;
-use sail_sizes::sizes;
+use sail_sizes::check_sizes;
 
 // What is kept of the list is loaded. Into four words: the records dropped, and the first, second and third cells that differ from
 // before.
@@ -31,10 +32,18 @@ pub fn repair_told(
         (lent list.old first.old second.old third.old own2.old own3.old
         long1.old long2.old) out.old }
 {
-    let z = sizes(t, list, first, second, third, own2, own3, long1, long2);
-    let f = words_fault(z, out.len());
-    if f != 0 {
-        return f as u64;
+    let arrays = Arrays {
+        list,
+        first,
+        second,
+        third,
+        own2,
+        own3,
+        long1,
+        long2,
+    };
+    if let Err(why) = check_words(check_sizes(t, arrays), out.len()) {
+        return u64::from(why.number());
     }
     let c = repair(t, list, first, second, third, own2, own3, long1, long2);
     let u = c.table;

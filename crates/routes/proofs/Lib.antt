@@ -3,6 +3,7 @@ pub mod Goods
 pub mod Faults
 pub mod Meaning
 pub mod Judged
+pub mod Saids
 pub mod Inputs
 pub mod Puts
 pub mod Rows

@@ -1,6 +1,6 @@
 -- Routes: their order in a list, and when a route and a list of routes are good.
 use mathlib.Core.List.{List, [], ◌∷◌, Memᴰ}
-use Rattle.std.specs.Prelude.{◌≡◌, ℕ, ◌+◌, ◌-◌, ◌*◌, ◌^◌, ◌≤◌, ◌<◌}
+use Rattle.std.specs.Prelude.{◌≡◌, ℕ, ◌+◌, ◌*◌, ◌^◌, ◌≤◌, ◌<◌}
 use Rattle.bits.specs.Slot.{cut}
 use Rattle.routes.specs.declared.Route.{Route}
 

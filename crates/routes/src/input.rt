@@ -1,15 +1,16 @@
-// A record input: what is wrong with a route of it by itself, what its check says, and what is read back out of it.
+// What is wrong with a route by itself.
 ghost use Rattle.std.specs.Prelude.{◌≡◌};
+ghost use Rattle.refusals.specs.Numbers.{fault_of};
 ghost use Rattle.routes.specs.Input.{proper_prefix, hop_fine, route_fault};
 
 use crate::Route;
-use bits::widen::byte_to_word;
+use refusals::Refusal;
 
 // Whether a prefix has at most 32 bits, and no bit set after them.
 pub fn prefix_ok(addr: u32, len: u8) -> bool
     ensures { result ≡ proper_prefix addr len }
 {
-    let l = byte_to_word(len);
+    let l = u32::from(len);
     if 32 < l {
         return false;
     }
@@ -26,35 +27,18 @@ pub fn hop_ok(hop: u16) -> bool
     hop <= 32767
 }
 
-// What is wrong with a route by itself: 3, 4 or 10, or 0.
-pub fn route_fault(r: Route) -> u8
-    ensures { result ≡ route_fault r }
+// What is wrong with a route by itself, in order: its prefix (3), its hop (4), its mark (10).
+pub fn check_route(r: Route) -> Result<(), Refusal>
+    ensures { fault_of result ≡ route_fault r }
 {
     if !prefix_ok(r.addr, r.len) {
-        return 3;
+        return Err(Refusal::Prefix);
     }
     if !hop_ok(r.hop) {
-        return 4;
+        return Err(Refusal::Hop);
     }
     if 1 < r.mark {
-        return 10;
+        return Err(Refusal::Record);
     }
-    0
-}
-
-// What the check of an input says: so many good records; a refusal with its number and index; or too many records (6).
-#[derive(Clone, Copy)]
-pub enum Input {
-    Good(usize),
-    Refused(u8, usize),
-    TooMany,
-}
-
-// A route read back out of an input by its index: nothing where the input has no such record.
-#[derive(Clone, Copy)]
-pub enum Got {
-    One(Route),
-    Nothing,
-    Refused(u8, usize),
-    TooMany,
+    Ok(())
 }

@@ -1,6 +1,7 @@
 // Routes, what is wrong with one by itself, and the prefix that an address and a length mean.
 #![tactic(auto)]
 
+pub mod found;
 pub mod input;
 pub mod prefix;
 

@@ -2,14 +2,12 @@
 ghost use Rattle.std.specs.Prelude.{◌≡◌};
 ghost use Rattle.bits.specs.Slot.{cut};
 
-use bits::widen::byte_to_word;
-
 // The address with the bits after the length cleared. After a length over 32 there are none; who calls refuses that
 // length.
 pub fn clear_after(addr: u32, len: u8) -> u32
     ensures { result ≡ cut len addr }
 {
-    let n = byte_to_word(len);
+    let n = u32::from(len);
     if 32 < n {
         return addr;
     }

@@ -7,11 +7,13 @@ use Rattle.routes.proofs.Inputs.{input-injective}
 use Rattle.runs.specs.Run.{IsRun}
 use Rattle.runs.specs.Tally.{IsTally}
 use Rattle.runs.specs.Contract.{MeetsRunCheck}
-use Rattle.runs.specs.declared.run.RunCheck.{RunCheck}
+use Rattle.std.specs.Prelude.{Result}
+use Rattle.refusals.specs.declared.Refused.{Refused}
+use Rattle.runs.specs.declared.run.Span.{Span}
 use Rattle.runs.specs.declared.tally.Tallied.{Tallied}
 use Rattle.runs.proofs.Runs.{run-check-injective}
 
-pub one-answer-run-check : (list : List ℕ) (addr len : ℕ) (x y : RunCheck) → MeetsRunCheck list addr len x → MeetsRunCheck list addr len y → x ≡ y
+pub one-answer-run-check : (list : List ℕ) (addr len : ℕ) (x y : Result Span Refused) → MeetsRunCheck list addr len x → MeetsRunCheck list addr len y → x ≡ y
 one-answer-run-check list addr len x y p q = run-check-injective x y (p ∙ sym q)
 
 -- two runs of a list hold the same and stand at the same place: a part of the list is its elements and its place, and a reference has nothing

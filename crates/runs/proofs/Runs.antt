@@ -7,7 +7,6 @@ use Prim.Native.Nat.{ℕ, ◌+◌, ◌-◌, ◌*◌, ◌/◌, ◌%◌, ◌^◌, 
 use native.Mathlib.Omega.{arith}
 use lib.Pow.{pow_pos, pow_mono}
 use lib.ListN.{length, get_or, take, drop}
-use lib.Dec.{eqb}
 use borrow.Author.Tests.{not-true, not-false}
 use denote.Ref.{Bor}
 use Rattle.bits.specs.Slot.{slot, cut}
@@ -15,15 +14,20 @@ use Rattle.bits.proofs.Slots.{shl_one, cut-le, cut-gt, cut-more, cut_in, cut-slo
 use Rattle.bits.proofs.Bools.{untrue}
 use Rattle.routes.specs.Route.{key, key_of, Prefix}
 use Rattle.routes.specs.Record.{record_at, part, Records}
-use Rattle.routes.specs.Said.{Said, accepted, refused, refused_at, and_then, accepts}
+use Rattle.std.specs.Prelude.{None, Result, Ok, Err}
+use Rattle.refusals.specs.declared.Refusal.TheVariants as refusal
+use Rattle.refusals.specs.declared.Refused.{Refused}
+use Rattle.routes.specs.Answers.{means_input}
+use Rattle.routes.specs.Said.{Said, accepted, refused, refused_at, and_then, accepts, said_by}
+use Rattle.routes.proofs.Inputs.{input-ok, input-err}
+use Rattle.routes.proofs.Saids.{said-injective, and-then-told, told-off}
 use Rattle.routes.specs.Input.{proper_prefix, input_said}
 use Rattle.routes.specs.Cases.{Checked, ragged, stopped, many, good}
 use Rattle.routes.proofs.Parts.{part-record, part-good}
 use Rattle.routes.proofs.Meaning.{prefix-true, true-prefix, input-good, input-checked}
 use Rattle.lists.specs.Place.{place_of}
-use Rattle.runs.specs.Run.{past_key, run_start, run_end, run_count, run_said, means_run_check, run_of, run_at, IsRun}
-use Rattle.runs.specs.declared.run.RunCheck.{RunCheck}
-use Rattle.runs.specs.declared.run.RunCheck.TheVariants as check
+use Rattle.runs.specs.Run.{past_key, run_start, run_end, run_count, run_said, run_values, means_run_check, run_of, run_at, IsRun}
+use Rattle.runs.specs.declared.run.Span.{Span}
 use Rattle.lists.proofs.Places.{place-le, place-before, place_after, place_mono}
 
 -- which keys lie inside a prefix
@@ -166,26 +170,38 @@ size_is x l e h = (shl_one 64 (32 - x) (omega arith) ∙ ap (λ (y : ℕ). 2 ^ (
 
 -- what each way through `run_check` says
 module _ (s : List ℕ) (a l : ℕ) where
-  module _ (n : ℕ) (e : input_said s ≡ accepted (n ∷ [])) (b : Bool) (t : b ≡ proper_prefix a l) where
-    pub says-no-prefix : not b ≡ true → means_run_check check.NoPrefix ≡ run_said s a l
-    unfolding means_run_check run_said
-    says-no-prefix h = rw (e, ← t, not-true b h)
+  module _ (n : ℕ) (e : means_input (Ok n) ≡ input_said s) (b : Bool) (t : b ≡ proper_prefix a l) where
+    pub says-no-prefix : not b ≡ true → means_run_check (Err (record { why = refusal.Prefix; at = None })) ≡ run_said s a l
+    unfolding said_by run_said
+    says-no-prefix h = rw (input-ok s n e, ← t, not-true b h)
 
-    pub says-run : (x y j k : ℕ) → not b ≡ false → x ≡ place_of s n j → j ≡ key_of a l → y ≡ place_of s n k → k ≡ past_key a l → means_run_check
-        (check.Run x (y - x)) ≡ run_said s a l
-    unfolding means_run_check run_said
+    pub its-prefix : not b ≡ false → Prefix a l
+    its-prefix h = prefix-true a l (sym t ∙ not-false b h)
+
+    pub says-run : (x y j k : ℕ) → not b ≡ false → x ≡ place_of s n j → j ≡ key_of a l → y ≡ place_of s n k → k ≡ past_key a l
+        → means_run_check (Ok (record { start = x; count = y - x })) ≡ run_said s a l
+    unfolding said_by run_said
     says-run x y j k h p q p' q' =
-        let w = (input-good s n e).0 in
+        let w = (input-good s n (input-ok s n e)).0 in
         let d : length s / 8 ≡ n = omega arith in
-        rw (e, ← t, not-false b h, d, p, p', q, q')
+        rw (input-ok s n e, ← t, not-false b h, d, p, p', q, q')
 
-  pub says-refused : (f k : ℕ) → input_said s ≡ refused_at f k → means_run_check (check.Refused f k) ≡ run_said s a l
-  unfolding means_run_check run_said
-  says-refused f k e = rw e
+  pub says-refused : (w : Refused) → means_input (Err w) ≡ input_said s → means_run_check (Err w) ≡ run_said s a l
+  unfolding said_by run_said
+  says-refused w e = rw (input-err s w e) (sym (and-then-told w _))
 
-  pub says-many : input_said s ≡ refused 6 → means_run_check check.TooMany ≡ run_said s a l
-  unfolding means_run_check run_said
-  says-many e = rw e
+  -- what a caller of it knows by its arm
+  pub run-told : (r : Span) → means_run_check (Ok r) ≡ run_said s a l → run_said s a l ≡ accepted (r.start ∷ r.count ∷ [])
+  unfolding said_by
+  run-told r e = sym e
+
+  pub run-bytes : (r : Span) → means_run_check (Ok r) ≡ run_said s a l → r.start * 8 + r.count * 8 ≤ length s
+  run-bytes r e = omega (arith, run_room s a l r.start r.count (run-told r e))
+
+  pub not-told : (x : Result Span Refused) → means_run_check x ≡ run_said s a l → ((r : Span) → x ≡ Ok r → ⊥) → accepts (run_said s a l) ≡ false
+  unfolding said_by
+  not-told (Ok r) e h = absurd (h r refl)
+  not-told (Err w) e h = rw (← e) (told-off w)
 
 -- what `run` hands back
 module _ (list r : Bor (List ℕ)) (a l : ℕ) where
@@ -206,19 +222,6 @@ module _ (list r : Bor (List ℕ)) (a l : ℕ) where
       let o : list.ref_ptr.1 + 0 * 8 ≡ 0 + list.ref_ptr.1 = omega arith in
       record { holds = q ∙ sym z.0; stands = rw (z.1, o) p }
 
--- an answer is read back from what it says
-read_run : Said → RunCheck
-read_run (accepted vs) = check.Run (get_or vs 0 0) (get_or vs 1 0)
-read_run (refused n) = cond (eqb n 3) check.NoPrefix check.TooMany
-read_run (refused_at f k) = check.Refused f k
-
-read-run : (x : RunCheck) → read_run (means_run_check x) ≡ x
-unfolding means_run_check read_run
-read-run (check.Run start count) = refl
-read-run (check.Refused f k) = refl
-read-run check.TooMany = refl
-read-run check.NoPrefix = refl
-
 -- two answers that are told the same are the same
-pub run-check-injective : (x y : RunCheck) → means_run_check x ≡ means_run_check y → x ≡ y
-run-check-injective x y e = sym (read-run x) ∙ ap read_run e ∙ read-run y
+pub run-check-injective : (x y : Result Span Refused) → means_run_check x ≡ means_run_check y → x ≡ y
+run-check-injective = said-injective run_values (λ vs. record { start = get_or vs 0 0; count = get_or vs 1 0 }) (λ r. refl)

@@ -21,11 +21,12 @@ use Rattle.routes.specs.Said.{accepted, accepts}
 use Rattle.routes.specs.Input.{input_said}
 use Rattle.routes.specs.Answers.{means_input}
 use Rattle.routes.specs.declared.Route.{Route}
-use Rattle.routes.specs.declared.input.Input.{Input}
-use Rattle.routes.specs.declared.input.Input.TheVariants as input
+use Rattle.std.specs.Prelude.{Ok, Err}
+use Rattle.refusals.specs.declared.Refused.{Refused}
 use Rattle.routes.proofs.Meaning.{input-good}
-use Rattle.routes.proofs.Inputs.{told-good}
-use Rattle.runs.specs.Tally.{has_length, lengths_of, tally_of, IsTally, sum_below}
+use Rattle.routes.proofs.Inputs.{input-ok, input-err}
+use Rattle.routes.proofs.Saids.{told-off}
+use Rattle.runs.specs.Tally.{has_length, lengths_of, tally_of, sum_below}
 
 count-le : (f : ℕ → Bool) (n : ℕ) → count f n ≤ n
 unfolding count
@@ -87,12 +88,11 @@ module _ (s : List ℕ) where
   unfolding tally_of
   tally-refused e = rw e
 
-  pub is-tally : (i : Input) (n : ℕ) (cs : List ℕ) → means_input i ≡ input_said s → i ≡ input.Good n → cs ≡ lengths_of s n → IsTally s
-      (record { answer = input.Good n; counts = cs })
-  is-tally i n cs e q c = record { answered = ap means_input (sym q) ∙ e; counted = c ∙ sym (tally-good n (told-good s i e n q)) }
+  pub good-counts : (n : ℕ) (cs : List ℕ) → means_input (Ok n) ≡ input_said s → cs ≡ lengths_of s n → cs ≡ tally_of s
+  good-counts n cs e c = c ∙ sym (tally-good n (input-ok s n e))
 
-  pub no-tally : (i : Input) → means_input i ≡ input_said s → accepts (means_input i) ≡ false → IsTally s (record { answer = i; counts = replicate 33 0 })
-  no-tally i e q = record { answered = e; counted = sym (tally-refused (ap accepts (sym e) ∙ q)) }
+  pub no-counts : (w : Refused) → means_input (Err w) ≡ input_said s → replicate 33 0 ≡ tally_of s
+  no-counts w e = sym (tally-refused (rw (input-err s w e) (told-off w)))
 
 -- sums
 sum-ext : (f g : ℕ → ℕ) (n : ℕ) → ((i : ℕ) → i < n → f i ≡ g i) → sum_below f n ≡ sum_below g n

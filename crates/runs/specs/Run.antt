@@ -1,13 +1,13 @@
 -- The run under a prefix, and what the check beside it says.
-use Rattle.std.specs.Prelude.{ℕ, ◌+◌, ◌-◌, ◌*◌, ◌/◌, ◌^◌, ◌≡◌, cond, List, [], ◌∷◌, length}
+use Rattle.std.specs.Prelude.{ℕ, ◌+◌, ◌-◌, ◌*◌, ◌/◌, ◌^◌, ◌≡◌, cond, List, [], ◌∷◌, length, Result}
 use Rattle.std.specs.Borrow.{Bor}
 use Rattle.routes.specs.Route.{key_of}
 use Rattle.routes.specs.Record.{part}
-use Rattle.routes.specs.Said.{Said, accepted, refused, refused_at, and_then, accepts}
+use Rattle.refusals.specs.declared.Refused.{Refused}
+use Rattle.routes.specs.Said.{Said, accepted, refused, and_then, accepts, said_by}
 use Rattle.routes.specs.Input.{proper_prefix, input_said}
 use Rattle.lists.specs.Place.{place_of}
-use Rattle.runs.specs.declared.run.RunCheck.{RunCheck}
-use Rattle.runs.specs.declared.run.RunCheck.TheVariants as check
+use Rattle.runs.specs.declared.run.Span.{Span}
 
 -- the key of the first address after a prefix: every record inside the prefix is before it, and every later one is not
 abbrev pub past_key : ℕ → ℕ → ℕ
@@ -28,11 +28,12 @@ unfoldable pub run_said : List ℕ → ℕ → ℕ → Said
 run_said s a l =
     and_then (input_said s) (cond (proper_prefix a l) (accepted (run_start s a l ∷ run_count s a l ∷ [])) (refused 3))
 
-unfoldable pub means_run_check : RunCheck → Said
-means_run_check (check.Run start count) = accepted (start ∷ count ∷ [])
-means_run_check (check.Refused f k) = refused_at f k
-means_run_check check.TooMany = refused 6
-means_run_check check.NoPrefix = refused 3
+-- where it starts, and how many records it has
+abbrev pub run_values : Span → List ℕ
+run_values r = r.start ∷ r.count ∷ []
+
+abbrev pub means_run_check : Result Span Refused → Said
+means_run_check = said_by run_values
 
 -- the records of the run; none where it is refused
 unfoldable pub run_of : List ℕ → ℕ → ℕ → List ℕ

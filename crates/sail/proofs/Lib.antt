@@ -3,9 +3,9 @@ pub mod Geos
 pub mod Fitting
 pub mod Words
 pub mod Steps
+pub mod Found
 pub mod ReadCells
 pub mod Judged
-pub mod Injective
 pub mod OneAnswer
 pub mod Places
 pub mod Walks

@@ -9,8 +9,6 @@ use Rattle.sail.specs.Level.{View, whole}
 use Rattle.sail.specs.Sizes.{sizes_fault}
 use Rattle.sail.specs.declared.geometry.Geometry.{Geometry}
 use Rattle.sail.specs.declared.table.Table.{Table}
-use Rattle.sail.specs.declared.found.Found.{Found}
-use Rattle.sail.specs.declared.found.Found.TheVariants.{Hop, NoRoute, Refused}
 
 -- "Chunk c begins at cell (c - 1) times the chunk size": the place, in a pool of chunks of 2 ^ d cells, of the cell in chunk c that
 -- serves cell i of its level
@@ -78,9 +76,3 @@ lookup_said t l a =
     cond (eqb (sizes_fault t.geometry l) 0)
     (found_said t.geometry l a)
     (refused (sizes_fault t.geometry l))
-
--- what the code's answer says
-unfoldable pub means_found : Found → Said
-means_found (Hop h n) = hop_after n h
-means_found (NoRoute n) = no_route_after n
-means_found (Refused k) = refused k

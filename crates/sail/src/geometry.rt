@@ -4,7 +4,7 @@ ghost use Rattle.bits.specs.Tab.{Tells};
 ghost use Rattle.sail.specs.Geometry.{standard_geo, small_geo, bits2, bits3, Valid, Power};
 
 // A first cell is a cell of level p1, a second cell one of level p2. A third cell is one address.
-#[derive(Clone, Copy)]
+#[derive(Clone, Copy, Debug, PartialEq, Eq)]
 pub struct Geometry {
     pub p1: u32,
     pub p2: u32,

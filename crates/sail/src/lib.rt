@@ -1,7 +1,7 @@
-// SAIL tables that are read: geometry, state, places in a pool, and what a lookup answers.
+// SAIL tables that are read: geometry, state, what is lent, and places in a pool.
 #![tactic(auto)]
 
-pub mod found;
+pub mod arrays;
 pub mod geometry;
 pub mod place;
 pub mod table;

@@ -1,14 +1,15 @@
 -- A chunk in use, and a free one, as the code tests them.
-use mathlib.Core.Path.{◌≡◌, sym, ap, ◌∙◌}
+use mathlib.Core.Path.{◌≡◌, sym, ◌∙◌}
 use mathlib.Core.Bool.{Bool, true, false, true≢false}
 use mathlib.Core.List.{List}
 use Prim.Native.Nat.{ℕ, suc, ◌+◌, ◌-◌, ◌*◌, ◌/◌, ◌^◌, ◌≤◌, ◌<◌}
-use native.Mathlib.Nat.{mod-lt, div-lt_iff_lt-mul, mul-le-mul_right, add-mul, one-mul}
+use native.Mathlib.Nat.{mod-lt, mul-le-mul_right, add-mul, one-mul}
 use native.Mathlib.Omega.{arith}
 use lib.Arith.{digits_lt}
 use lib.ListN.{length, get_or}
 use lib.Pow.{pow_pos, pow_mono, pow-add}
-use borrow.Author.Tests.{lt-ltb, le-ltb, ltb-true}
+use borrow.Author.Tests.{ltb-true}
+use Rattle.std.specs.Prelude.{None}
 use Rattle.bits.specs.Tab.{Tells}
 use Rattle.routes.specs.declared.Route.{Route}
 use Rattle.buffers.specs.Fill.{Range}
@@ -17,55 +18,18 @@ use Rattle.plan_test.specs.Part.{Right}
 use Rattle.bits.proofs.Tells.{is-no, is-yes, tells-same}
 use Rattle.sail.specs.Geometry.{Power}
 use Rattle.sail.specs.Level.{itself, live_in, part_of, entry}
-use Rattle.sail.specs.Pool.{Numbered}
-use Rattle.sail.specs.Walk.{cell_place}
-use Rattle.sail_cells_test.specs.Pool.{part_at, OwnedRight, OwnedChunk, FreeIsZero, Chunked, OwnerCellReady, OwnerCell, OwnedReady, Pooled}
+use Rattle.sail_cells_test.specs.Pool.{part_at, OwnedRight, OwnedChunk, FreeIsZero, Chunked, OwnerCellReady, OwnerCell, StandsFor, OwnedReady, Pooled}
 
 -- the answers of `hung_ok`
 module _ (rs : List Route) (p d : ℕ) (above cells below : List ℕ) (c o q i v : ℕ) where
-  pub not_named : (v ≡ c + 1 → ⊥) → (v ≡ get_or above q 0) × (v < 65536) → Tells false (OwnedRight rs p d above cells below c o q i)
+  pub not_named : (v ≡ c + 1 → ⊥) → v ≡ get_or above q 0 → Tells false (OwnedRight rs p d above cells below c o q i)
   not_named n at = is-no (λ k. n (omega (arith, k.named)))
 
-  pub named-tells : v ≡ c + 1 → (v ≡ get_or above q 0) × (v < 65536) → q < length above → (a : ℕ) → (a ≡ c * 2 ^ d) × (a < 4194304) → (b : Bool)
+  pub named-tells : v ≡ c + 1 → v ≡ get_or above q 0 → q < length above → (a : ℕ) → (a ≡ c * 2 ^ d) × (a < 4194304) → (b : Bool)
       → Tells b (Right rs p (i * 2 ^ d) (part_at cells a (2 ^ d)) below o (2 ^ d)) → Tells b (OwnedRight rs p d above cells below c o q i)
   named-tells e at u a s b t =
       let t' = rw s.0 at t in
       tells-same (λ r. record { inside = u; named = omega arith; right = r }) (λ k. k.right) t'
-
--- the answers of `hook`
-module _ (up : List ℕ) (e n q : ℕ) where
-  pub hook-past : n ≤ q → OwnerCell up e n q 0
-  hook-past l = record {
-    none = λ z u. absurd (omega arith);
-    inside = λ u. absurd (omega arith);
-    lives = λ u. absurd
-        (omega arith);
-    cell = λ u. absurd (omega arith);
-  }
-
-  pub hook-free : get_or up (q / 2 ^ e) 0 ≡ 0 → OwnerCell up e n q 0
-  hook-free z = record {
-    none = λ y u. le-ltb 0 (get_or up (q / 2 ^ e) 0) (omega arith);
-    inside = λ u. absurd (omega arith);
-    lives = λ u. absurd
-        (omega arith);
-    cell = λ u. absurd (omega arith);
-  }
-
-  pub hook-at : q < n → (x : ℕ) → x ≡ get_or up (q / 2 ^ e) 0 → (x ≡ 0 → ⊥) → (r : ℕ) → r ≡ cell_place e x q → OwnerCell up e n q (1 + r)
-  hook-at l x i z r f = record {
-    none = λ y u. absurd (omega arith);
-    inside = λ u. l;
-    lives = λ u. lt-ltb 0 (get_or up (q / 2 ^ e) 0) (omega (arith, z));
-    cell = λ u. let g : 1 + r - 1 ≡ r = omega arith in g ∙ f ∙ ap (λ (y : ℕ). cell_place e y q) i;
-  }
-
-  module _ (h : OwnerCellReady up e n) where
-    pub up_room : q < n → q / 2 ^ e < length up
-    up_room l = (div-lt_iff_lt-mul (pow_pos e)).1 (omega arith)
-
-    pub owner-numbered : (x : ℕ) → x ≡ get_or up (q / 2 ^ e) 0 → (x ≡ 0 → ⊥) → Numbered x e
-    owner-numbered x i z = record { one = omega (arith, z); few = omega (arith, h.owners (q / 2 ^ e)); size = h.small }
 
 -- the chunk begins and ends in its pool
 pub chunk-room : (c n k : ℕ) → c < n → c * k + k ≤ n * k
@@ -91,51 +55,49 @@ module _ (ws par : List ℕ) (p d : ℕ) (up : List ℕ) (e : ℕ) (above cells 
           let f : p - d ≡ h.top + e = omega arith in
           rw (f, pow-add) (digits_lt m (mod-lt q (pow_pos e)))
 
-      pub hangs : (q r : ℕ) → (r ≡ 0 → ⊥) → OwnerCell up e (length above) q r → OwnedReady ws par p d above q (r - 1) cells c (1 + a) want
-      hangs q r n k =
+      pub hangs : (q i : ℕ) → StandsFor up e (length above) q i → OwnedReady ws par p d above q i cells c (1 + a) want
+      hangs q i k =
           let z = pow_mono h.small in
-          let u : 0 < r = omega (arith, n) in
           record {
             block = record {
               ready = h.ready;
               small = h.small;
               lower = omega arith;
               deep = h.deep;
-              cell = rw (k.cell u) (cell_in q (k.lives u));
+              cell = rw k.cell (cell_in q k.lives);
               inside = in-pool;
               few = omega arith;
               room = h.room;
             };
-            place = k.inside u;
+            place = k.inside;
             number = omega arith;
           }
 
-module _ (rs : List Route) (p d : ℕ) (up : List ℕ) (e : ℕ) (above cells below : List ℕ) (c x o : ℕ) (is : (o ≡ x) × (o < 4294967296)) where
+module _ (rs : List Route) (p d : ℕ) (up : List ℕ) (e : ℕ) (above cells below : List ℕ) (c o : ℕ) where
   abbrev Whole : Type 0
-  Whole = OwnedChunk rs p d up e above cells below c x
+  Whole = OwnedChunk rs p d up e above cells below c o
 
   pub free-passes : o ≡ 0 → Tells true Whole
   free-passes z = is-yes (record { lives = λ q k. absurd (omega arith); hangs = λ q k. absurd (omega arith) })
 
-  module _ (a : ℕ) (s : (a ≡ c * 2 ^ d) × (a < 4194304)) where
-    module _ (used : o ≡ 0 → ⊥) (r : ℕ) (k : OwnerCell up e (length above) (o - 1) r) where
-      owner : x ≡ suc (o - 1)
-      owner = omega (arith, used)
+  module _ (a : ℕ) (s : (a ≡ c * 2 ^ d) × (a < 4194304)) (used : o ≡ 0 → ⊥) where
+    owner : o ≡ suc (o - 1)
+    owner = omega (arith, used)
 
-      pub nowhere : r ≡ 0 → Tells false Whole
-      nowhere z = is-no (λ w. true≢false (sym (w.lives (o - 1) owner) ∙ k.none z (w.hangs (o - 1) owner).inside))
+    pub nowhere : OwnerCell up e (length above) (o - 1) None → Tells false Whole
+    nowhere k = is-no (λ w. true≢false (sym (w.lives (o - 1) owner) ∙ k (w.hangs (o - 1) owner).inside))
 
-      pub used-tells : (r ≡ 0 → ⊥) → (b : Bool) → Tells b (OwnedRight rs p d above cells below c (1 + a) (o - 1) (r - 1)) → Tells b Whole
-      used-tells n b t =
-          let u : 0 < r = omega (arith, n) in
-          let m : 1 + a ≡ suc (c * 2 ^ d) = omega arith in
-          let t' = rw (m, k.cell u) at t in
-          tells-same
-          (λ y. record {
-            lives = λ q f. let g : q ≡ o - 1 = omega (arith, owner) in rw g (k.lives u);
-            hangs = λ q f. let g : q ≡ o - 1 = omega (arith, owner) in rw g y;
-          })
-          (λ w. w.hangs (o - 1) owner) t'
+    pub used-tells : (i : ℕ) → StandsFor up e (length above) (o - 1) i → (b : Bool)
+        → Tells b (OwnedRight rs p d above cells below c (1 + a) (o - 1) i) → Tells b Whole
+    used-tells i k b t =
+        let m : 1 + a ≡ suc (c * 2 ^ d) = omega arith in
+        let t' = rw (m, k.cell) at t in
+        tells-same
+        (λ y. record {
+          lives = λ q f. let g : q ≡ o - 1 = omega (arith, owner) in rw g k.lives;
+          hangs = λ q f. let g : q ≡ o - 1 = omega (arith, owner) in rw g y;
+        })
+        (λ w. w.hangs (o - 1) owner) t'
 
 -- the answers of `free_chunk`
 module _ (d : ℕ) (own cells : List ℕ) (c : ℕ) where

@@ -1,6 +1,6 @@
 -- Pools of chunks, as the test goes through them: a chunk in use hangs from a cell that names it and is as the routes ask; and, beside it, a
 -- free chunk is zero.
-use Rattle.std.specs.Prelude.{◌≡◌, Bool, true, false, List, ℕ, suc, ◌+◌, ◌-◌, ◌*◌, ◌^◌, ◌≤◌, ◌<◌, length, get_or, take, drop}
+use Rattle.std.specs.Prelude.{◌≡◌, Bool, true, false, List, Option, None, Some, ℕ, suc, ◌+◌, ◌-◌, ◌*◌, ◌^◌, ◌≤◌, ◌<◌, length, get_or, take, drop}
 use Rattle.buffers_test.specs.Zeros.{Zeros}
 use Rattle.routes.specs.declared.Route.{Route}
 use Rattle.chain.specs.Cover.{ChainReady}
@@ -44,12 +44,16 @@ OwnedChunk rs p d up e above cells below c o = ChunkOk rs p d above (live_in (en
 abbrev pub OwnedPool : List Route → ℕ → ℕ → List ℕ → ℕ → List ℕ → List ℕ → List ℕ → List ℕ → Type 0
 OwnedPool rs p d up e above own cells below = PoolOk rs p d above (live_in (entry up) e) (part_of (entry up) e itself) own cells below
 
--- place q of a pool of n places: where it is live, r is 1 + the cell that it stands for, and else 0
-pub record OwnerCell (up : List ℕ) (e n q r : ℕ) : Type 0 where
-  pub none : r ≡ 0 → q < n → live_in (entry up) e q ≡ false
-  pub inside : 0 < r → q < n
-  pub lives : 0 < r → live_in (entry up) e q ≡ true
-  pub cell : 0 < r → r - 1 ≡ part_of (entry up) e itself q
+-- place q of a pool of n places is live, and stands for cell i
+pub record StandsFor (up : List ℕ) (e n q i : ℕ) : Type 0 where
+  pub inside : q < n
+  pub lives : live_in (entry up) e q ≡ true
+  pub cell : i ≡ part_of (entry up) e itself q
+
+-- the cell that place q of a pool of n places stands for, where it is live, and else none
+abbrev pub OwnerCell : List ℕ → ℕ → ℕ → ℕ → Option ℕ → Type 0
+OwnerCell up e n q None = q < n → live_in (entry up) e q ≡ false
+OwnerCell up e n q (Some i) = StandsFor up e n q i
 
 -- What the functions rest on.
 

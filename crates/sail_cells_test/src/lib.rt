@@ -10,8 +10,7 @@ ghost use Rattle.sail.specs.Geometry.{Power};
 ghost use Rattle.sail_cells_test.specs.Pool.{part_at, OwnedRight, OwnedChunk, OwnedPool, FreeIsZero, FreeAll, Chunked};
 ghost use Rattle.sail_cells_test.specs.Pool.{Blocked, FirstTestReady, OwnerCellReady, OwnerCell, OwnedReady, Pooled};
 
-use bits::widen::{half_to_index, word_to_index};
-use buffers_test::zeros::zeros16;
+use buffers_test::zeros::zeros;
 use chain::place::shifted;
 use plan_test::under::right_under;
 use sail::place::cell_place;
@@ -62,14 +61,11 @@ pub fn first_ok(
     requires { FirstTestReady ws.now par.now p first.now o want.old }
     ensures { Tells result (Right (routes_of_words ws.now) p 0 first.now below.now o (length first.now)) }
 {
-    let n = first.len() / 1024;
-    let mut b = 0;
-    while b < n {
+    for b in 0..first.len() / 1024 {
         let a = b * 1024;
         if !block_ok(ws, par, p, 10, b as u64, first, a, o + a, below, want) {
             return false;
         }
-        b += 1;
     }
     true
 }
@@ -101,27 +97,27 @@ pub fn owned_ok(
     requires { OwnedReady ws.now par.now p d above.now q i cells.now c o want.old }
     ensures { Tells result (OwnedRight (routes_of_words ws.now) p d above.now cells.now below.now c o q i) }
 {
-    if half_to_index(above[q]) != c + 1 {
+    if usize::from(above[q]) != c + 1 {
         return false;
     }
     block_ok(ws, par, p, d, i, cells, start(c, d), o, below, want)
 }
 
-// 1 + the cell that place q of a pool of n places stands for, and 0 where it is no place or its chunk is free. The pool's
+// The cell that place q of a pool of n places stands for, and none where it is no place or its chunk is free. The pool's
 // chunks have 2^e cells and the owners `up`.
-fn owner_cell(up: &[u32], e: u32, n: usize, q: usize) -> u64
+fn owner_cell(up: &[u32], e: u32, n: usize, q: usize) -> Option<u64>
     requires { OwnerCellReady up.now e n }
     ensures { OwnerCell up.now e n q result }
 {
     if n <= q {
-        return 0;
+        return None;
     }
     let k = q >> e;
-    let x = word_to_index(up[k]);
+    let x = up[k] as usize;
     if x == 0 {
-        return 0;
+        return None;
     }
-    1 + cell_place(x, e, q) as u64
+    Some(cell_place(x, e, q) as u64)
 }
 
 // Whether chunk c of a pool is free, or hangs from the pool above and is right. The cells of the pool above lie in chunks of
@@ -146,17 +142,15 @@ fn chunk_ok(
         below.now c (get_or own.now c 0)) }
 {
     let a = start(c, d);
-    let o = word_to_index(own[c]);
+    let o = own[c] as usize;
     if o == 0 {
         return true;
     }
     let q = o - 1;
-    let i = owner_cell(up, e, above.len(), q);
-    if i == 0 {
-        return false;
+    match owner_cell(up, e, above.len(), q) {
+        Some(i) => owned_ok(ws, par, p, d, above, q, i, cells, c, 1 + a, below, want),
+        None => false,
     }
-    let j = i - 1;
-    owned_ok(ws, par, p, d, above, q, j, cells, c, 1 + a, below, want)
 }
 
 // Whether each chunk in use of a pool is right. The cells of free chunks are not read.
@@ -177,12 +171,10 @@ pub fn owned_all(
     ensures { Tells result (OwnedPool (routes_of_words ws.now) p d up.now e above.now own.now
         cells.now below.now) }
 {
-    let mut c = 0;
-    while c < own.len() {
+    for c in 0..own.len() {
         if !chunk_ok(ws, par, p, d, up, e, above, cells, own, c, below, want) {
             return false;
         }
-        c += 1;
     }
     true
 }
@@ -198,7 +190,7 @@ fn free_chunk(d: u32, cells: &[u16], own: &[u32], c: usize) -> bool
     }
     let a = start(c, d);
     let e = a + size(d);
-    zeros16(cells, a, e)
+    zeros(cells, a, e)
 }
 
 // Whether each free chunk of a pool is zero. The cells of chunks in use are not read.
@@ -206,12 +198,10 @@ pub fn free_all(d: u32, cells: &[u16], own: &[u32]) -> bool
     requires { Chunked d own.now cells.now }
     ensures { Tells result (FreeAll d own.now cells.now) }
 {
-    let mut c = 0;
-    while c < own.len() {
+    for c in 0..own.len() {
         if !free_chunk(d, cells, own, c) {
             return false;
         }
-        c += 1;
     }
     true
 }

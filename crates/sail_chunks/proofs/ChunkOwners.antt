@@ -27,8 +27,8 @@ Others own o c = (j : ℕ) → j < c → get_or own j 0 ≢ o
 pub named_here : (own : List ℕ) (o c : ℕ) → c < length own → Others own o c → get_or own c 0 ≡ o → (c ≡ find own o) × (c ≤ length own)
 named_here own o c l u e = (sym (chunk-is (chunks_of own) o c l e u), omega arith)
 
-pub named-nowhere : (own : List ℕ) (o c : ℕ) → c ≤ length own → length own ≤ c → Others own o c → (c ≡ find own o) × (c ≤ length own)
-named-nowhere own o c l m u = let e : c ≡ length own = omega arith in (e ∙ sym (chunk-none (chunks_of own) o (λ j i. u j (omega arith))), l)
+pub named-nowhere : (own : List ℕ) (o : ℕ) → Others own o (length own) → (length own ≡ find own o) × (length own ≤ length own)
+named-nowhere own o u = (sym (chunk-none (chunks_of own) o u), omega arith)
 
 -- a prefix that alone needs a chunk of level p is longer than p, and its cell is not long
 module _ (rs : List Route) (p a len : ℕ) where

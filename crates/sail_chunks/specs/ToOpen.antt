@@ -1,5 +1,5 @@
 -- What an announcement opens.
-use Rattle.std.specs.Prelude.{Bool, true, false, ◌&&◌, List, ◌≡◌, ℕ, suc, ◌^◌, ◌≤◌, ◌<◌, ltb, leb, length}
+use Rattle.std.specs.Prelude.{Bool, true, false, ◌&&◌, List, ◌≡◌, ℕ, suc, ◌^◌, ◌<◌, ltb, leb, length}
 use Rattle.bits.specs.Slot.{slot}
 use Rattle.routes.specs.declared.Route.{Route}
 use Rattle.sail.specs.Geometry.{Valid}

@@ -3,21 +3,19 @@ ghost use Rattle.std.specs.Prelude.{◌≡◌, ◌≤◌, length};
 ghost use Rattle.sail_theory.specs.Render.{find};
 ghost use Rattle.sail_chunks.specs.Chunks.{with_owner, without_owner, blanked, FreeToOpen, Closing};
 
-use buffers::fill::fill_range16;
+use buffers::fill::fill_range;
 use chain::place::shifted;
 
 // The first chunk whose owner is o, counted from 0; as many as there are where none has it. So 0 gives the lowest free one.
 pub fn chunk_named(own: &[u32], o: u32) -> usize
     ensures { (result ≡ find own.now o) × (result ≤ length own.now) }
 {
-    let mut c = 0;
-    while c < own.len() {
+    for c in 0..own.len() {
         if own[c] == o {
             return c;
         }
-        c += 1;
     }
-    c
+    own.len()
 }
 
 // Chunk c gets the owner o, where it is to be opened.
@@ -40,6 +38,6 @@ pub fn close(own: &mut [u32], cells: &mut [u16], closes: bool, c: usize, d: u32)
         own[c] = 0;
         let a = shifted(c as u64, 12, d) as usize;
         let n = shifted(1, 1, d) as usize;
-        fill_range16(cells, a, a + n, 0);
+        fill_range(cells, a, a + n, 0);
     }
 }

@@ -8,7 +8,6 @@ ghost use Rattle.sail_chunks.specs.ToOpen.{ChunkForReady, Openable, Opens, no_op
 
 use crate::chunks::set_owner;
 use crate::trail::follow;
-use bits::widen::byte_to_word;
 use routes::Route;
 use sail::geometry::Geometry;
 use sail::place::second_place;
@@ -16,6 +15,8 @@ use sail::table::Table;
 
 // Whether a second and whether a third chunk is to be opened; and the second chunk that serves the prefix, from 0, where one
 // is there.
+// Stays: two flags and a number. An Option in place of `second` and `chunk` would not tell a second chunk that is to be opened from
+// one that the prefix does not need.
 #[derive(Clone, Copy)]
 pub struct Opening {
     pub second: bool,
@@ -70,7 +71,7 @@ pub fn to_open(
     ensures { Opens t.geometry (routes_of list.now t.count) own2.now addr len result }
 {
     let g = t.geometry;
-    let l = byte_to_word(len);
+    let l = u32::from(len);
     let v = follow(t, list, first, second, own2, own3, addr);
     let two = leaf_under(v.first, g.p1, l);
     let three = leaf_under(v.second, g.p2, l);

@@ -32,8 +32,8 @@ module _ (longer up : Bool) (q : ℕ) (counts : List ℕ) where
 
 -- the first cell that leads on
 pub first-named : (g : Geometry) (a len : ℕ) (first long1 long2 : List ℕ) (up : Bool) (i : ℕ) → i ≡ slot g.p1 a → Tickable g a len first long1 long2 up
-    → (v : ℕ) → (v ≡ get_or first i 0) × (v < 65536) → SecondChunk g v
-first-named g a len first long1 long2 up i e w v f = record { valid = w.valid; one = rw (f.0, e) w.some; few = omega (arith, f.1) }
+    → (v : ℕ) → v ≡ get_or first i 0 → v < 65536 → SecondChunk g v
+first-named g a len first long1 long2 up i e w v f l = record { valid = w.valid; one = rw (f, e) w.some; few = omega arith }
 
 -- both levels
 module _ (g : Geometry) (a len : ℕ) (first long1 long2 : List ℕ) (up : Bool) (l i v q : ℕ)

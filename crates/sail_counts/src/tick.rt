@@ -3,7 +3,6 @@ ghost use Rattle.std.specs.Prelude.{◌≡◌};
 ghost use Rattle.routes.specs.Record.{routes_of};
 ghost use Rattle.sail_counts.specs.Tick.{step, Steps, Ticks, Ticked, Tickable, CountsMoved, Uncounted, CountedAll};
 
-use bits::widen::{byte_to_word, half_to_index};
 use records::record::read_record;
 use sail::geometry::Geometry;
 use sail::place::second_place;
@@ -17,6 +16,8 @@ pub struct Left {
 }
 
 // One more, or one less.
+// Stays: a bool. An enum of two would be matched here alone, and the definitions of specs/ (`step`, `Ticks`, `CountsMoved`) and the theorems
+// on announcements and withdrawals name `true` and `false`.
 fn stepped(n: u16, up: bool) -> u16
     requires { Steps up n }
     ensures { result ≡ step up n }
@@ -55,9 +56,9 @@ pub fn tick(
 {
     let p1 = g.p1;
     let p2 = g.p2;
-    let l = byte_to_word(len);
+    let l = u32::from(len);
     let i = bits::slot(p1, addr) as usize;
-    let q = second_place(g, half_to_index(first[i]), addr);
+    let q = second_place(g, usize::from(first[i]), addr);
     let one = tick_at(long1, p1 < l, i, up);
     let two = tick_at(long2, p2 < l, q, up);
     Left {
@@ -81,10 +82,8 @@ pub fn count_all(
     requires { Uncounted g list.now n first.now own2.now long1.old long2.old }
     ensures { CountedAll (routes_of list.now n) g own2.now long2.old long1.new long2.new }
 {
-    let mut k = 0;
-    while k < n {
+    for k in 0..n {
         let r = read_record(list, k);
         tick(g, r.addr, r.len, first, long1, long2, true);
-        k += 1;
     }
 }

@@ -3,7 +3,7 @@ use mathlib.Core.Path.{◌≡◌, sym, ◌∙◌, ap, subst}
 use mathlib.Core.Logic.{◌⊎◌, inl, inr}
 use mathlib.Core.Bool.{Bool, true, false, cond, true≢false}
 use mathlib.Core.List.{List}
-use Prim.Native.Nat.{ℕ, zero, suc, ◌+◌, ◌-◌, ◌*◌, ◌/◌, ◌^◌, ◌≤◌, ◌<◌}
+use Prim.Native.Nat.{ℕ, zero, suc, ◌+◌, ◌-◌, ◌*◌, ◌/◌, ◌^◌, ◌≤◌, ◌<◌, max}
 use native.Mathlib.Omega.{arith}
 use lib.Dec.{eqb, ltb}
 use lib.ListN.{get_or, length, length-map, get_or-map}
@@ -44,20 +44,25 @@ module _ (v n : ℕ) where
 abbrev pub Quiet : List ℕ → List ℕ → ℕ → Type 0
 Quiet cells counts n = (q : ℕ) → q < n → idle (get_or cells q 0) ≡ true → get_or counts q 0 ≡ 0
 
--- the largest of their counts, after one cell more: it is that cell's, or the one before
-module _ (cells counts : List ℕ) (j m : ℕ) (is : m ≡ cond (idle (get_or cells j 0)) (get_or counts j 0) 0) (most : ℕ) where
-  pub most-new : most < m → Tells (eqb m 0) (Quiet cells counts (j + 1))
-  most-new l = rw (ne_eqb m 0 (λ z. omega arith)) (is-no (λ f. none (f j (omega arith)) (decided (idle (get_or cells j 0)))))
-    where
-      none : (idle (get_or cells j 0) ≡ true → get_or counts j 0 ≡ 0) → (idle (get_or cells j 0) ≡ true) ⊎ (idle (get_or cells j 0) ≡ false) → ⊥
-      none f (inl e) = omega (arith, f e, rw e at is)
-      none f (inr e) = omega (arith, rw e at is)
+-- the largest of their counts, after one cell more
+pub most-next : (cells counts : List ℕ) (j m most : ℕ) → m ≡ cond (idle (get_or cells j 0)) (get_or counts j 0) 0
+    → Tells (eqb most 0) (Quiet cells counts j) → Tells (eqb (max most m) 0) (Quiet cells counts (j + 1))
+most-next cells counts j m most is t = go (below? most m)
+  where
+    none : 0 < m → (idle (get_or cells j 0) ≡ true → get_or counts j 0 ≡ 0) → (idle (get_or cells j 0) ≡ true) ⊎ (idle (get_or cells j 0) ≡ false) → ⊥
+    none u f (inl e) = omega (arith, f e, rw e at is)
+    none u f (inr e) = omega (arith, rw e at is)
 
-  pub most-old : m ≤ most → Tells (eqb most 0) (Quiet cells counts j) → Tells (eqb most 0) (Quiet cells counts (j + 1))
-  most-old l t = (
-    λ e. below_more (λ (q : ℕ). idle (get_or cells q 0) ≡ true → get_or counts q 0 ≡ 0) j (t.0 e) (λ i. let z = eqb-true most 0 e in omega (arith, rw i at is)),
-    λ f. t.1 (λ q b. f q (omega arith)),
-  )
+    go : (most < m) ⊎ (m ≤ most) → Tells (eqb (max most m) 0) (Quiet cells counts (j + 1))
+    go (inl l) =
+        let e : max most m ≡ m = omega arith in
+        rw (e, ne_eqb m 0 (λ z. omega arith)) (is-no (λ f. none (omega arith) (f j (omega arith)) (decided (idle (get_or cells j 0)))))
+    go (inr l) =
+        let e : max most m ≡ most = omega arith in
+        rw e (
+          λ e. below_more (λ (q : ℕ). idle (get_or cells q 0) ≡ true → get_or counts q 0 ≡ 0) j (t.0 e) (λ i. let z = eqb-true most 0 e in omega (arith, rw i at is)),
+          λ f. t.1 (λ q b. f q (omega arith)),
+        )
 
 -- the answers of `goes_on`
 module _ (ws : List ℕ) (p i k : ℕ) where
@@ -143,13 +148,13 @@ module _ (ws : List ℕ) (p d : ℕ) (above counts : List ℕ) (k : ℕ) where
 
   -- the word is longer than p, and v is the cell above that names the chunk of its cell
   module _ (w : Led ws p d above counts) (l : k < length ws) (longer : p < len_in ws k) (v : ℕ)
-      (is-cell : (v ≡ get_or above (cell_in ws p k / 2 ^ d) 0) × (v < 65536)) where
-    pub names-numbered : Numbered v d
-    names-numbered = record { one = rw is-cell.0 (w.some k l longer); few = omega (arith, is-cell.1); size = w.small }
+      (is-cell : v ≡ get_or above (cell_in ws p k / 2 ^ d) 0) where
+    pub names-numbered : ((j : ℕ) → get_or above j 0 < 65536) → Numbered v d
+    names-numbered few = record { one = rw is-cell (w.some k l longer); few = omega (arith, is-cell, few (cell_in ws p k / 2 ^ d)); size = w.small }
 
     module _ (q : ℕ) (at : q ≡ cell_place d v (cell_in ws p k)) where
       place_of : q ≡ place_in d above (cell_in ws p k)
-      place_of = at ∙ ap (λ (x : ℕ). cell_place d x (cell_in ws p k)) is-cell.0
+      place_of = at ∙ ap (λ (x : ℕ). cell_place d x (cell_in ws p k)) is-cell
 
       pub counted-there : q < length counts
       counted-there = omega (arith, place_of, w.inside k l longer)

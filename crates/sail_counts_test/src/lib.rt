@@ -12,7 +12,6 @@ ghost use Rattle.sail.specs.Level.{entry, chunks_of, level2};
 ghost use Rattle.sail.specs.Sound.{Clear};
 
 use bits::bytes;
-use bits::widen::half_to_index;
 use chain::place::run_end;
 use sail::geometry::Geometry;
 use sail::place::cell_place;
@@ -37,13 +36,8 @@ pub fn idle_ok(cells: &[u16], counts: &[u16]) -> bool
     ensures { Tells result (Idle cells.now counts.now) }
 {
     let mut most = 0;
-    let mut j = 0;
-    while j < cells.len() {
-        let n = idle_count(cells[j], counts[j]);
-        j += 1;
-        if most < n {
-            most = n;
-        }
+    for j in 0..cells.len() {
+        most = most.max(idle_count(cells[j], counts[j]));
     }
     most == 0
 }
@@ -78,8 +72,8 @@ fn run_ok(ws: &[u64], k: usize, p: u32, d: u32, above: &[u16], counts: &[u16]) -
     if goes_on(ws, k, p, i) {
         return true;
     }
-    let q = cell_place(half_to_index(above[(i >> d) as usize]), d, i as usize);
-    half_to_index(counts[q]) == run_end(ws, k, p, i) - k
+    let q = cell_place(usize::from(above[(i >> d) as usize]), d, i as usize);
+    usize::from(counts[q]) == run_end(ws, k, p, i) - k
 }
 
 // Whether the cells of all words that are longer than p have their true counts.
@@ -87,12 +81,10 @@ pub fn runs_ok(ws: &[u64], p: u32, d: u32, above: &[u16], counts: &[u16]) -> boo
     requires { Led ws.now p d above.now counts.now }
     ensures { Tells result (Tallied ws.now p d above.now counts.now) }
 {
-    let mut k = 0;
-    while k < ws.len() {
+    for k in 0..ws.len() {
         if !run_ok(ws, k, p, d, above, counts) {
             return false;
         }
-        k += 1;
     }
     true
 }

@@ -9,10 +9,12 @@ ghost use Rattle.sail_judge.specs.Announce.{RoomReady, room_terms, RoomJudged, A
 use lists::edit;
 use lists::place::place;
 use records::record;
-use routes::{Route, input};
+use routes::Route;
+use routes::input::check_route;
+use sail::arrays::Arrays;
 use sail::table::Table;
 use sail_chunks::opening::{Opening, nothing, to_open};
-use sail_sizes::sizes;
+use sail_sizes::check_sizes;
 use sail_sound::report::in_use;
 use sail_sound::test::sound;
 
@@ -115,13 +117,21 @@ pub fn judge_announce(
         own2.now own3.now long1.now long2.now) r result
         × ChainLeft result.number list.now t.count ws.new par.new }
 {
-    let s = sizes(t, list, first, second, third, own2, own3, long1, long2);
-    if s != 0 {
-        return refusal(s);
+    let arrays = Arrays {
+        list,
+        first,
+        second,
+        third,
+        own2,
+        own3,
+        long1,
+        long2,
+    };
+    if let Err(why) = check_sizes(t, arrays) {
+        return refusal(why.number());
     }
-    let f = input::route_fault(r);
-    if f != 0 {
-        return refusal(f);
+    if let Err(fault) = check_route(r) {
+        return refusal(fault.number());
     }
     if !sound(
         t, list, first, second, third, own2, own3, long1, long2, ws, par,

@@ -9,8 +9,9 @@ use lists::edit;
 use lists::place::place;
 use records::record;
 use routes::input;
+use sail::arrays::Arrays;
 use sail::table::Table;
-use sail_sizes::sizes;
+use sail_sizes::check_sizes;
 use sail_sound::test::sound;
 
 // The number of the refusal. Where it is 0: the place of the prefix's record in the list.
@@ -55,9 +56,21 @@ pub fn judge_withdraw(
         own2.now own3.now long1.now long2.now) addr len result
         × ChainLeft result.number list.now t.count ws.new par.new }
 {
-    let s = sizes(t, list, first, second, third, own2, own3, long1, long2);
-    if s != 0 {
-        return WithdrawVerdict { number: s, at: 0 };
+    let arrays = Arrays {
+        list,
+        first,
+        second,
+        third,
+        own2,
+        own3,
+        long1,
+        long2,
+    };
+    if let Err(why) = check_sizes(t, arrays) {
+        return WithdrawVerdict {
+            number: why.number(),
+            at: 0,
+        };
     }
     if !input::prefix_ok(addr, len) {
         return WithdrawVerdict { number: 3, at: 0 };

@@ -1,10 +1,9 @@
--- What load says: its answer, in document 01's terms.
-use Rattle.std.specs.Prelude.{[]}
-use Rattle.routes.specs.Said.{Said, accepted, refused, refused_at}
-use Rattle.sail_load.specs.declared.load.Loaded.{Loaded}
-use Rattle.sail_load.specs.declared.load.Loaded.TheVariants as loaded
+-- What load says: its answer, in document 01's terms. A new state has no values.
+use Rattle.std.specs.Prelude.{Result}
+use Rattle.refusals.specs.declared.Refused.{Refused}
+use Rattle.routes.specs.Said.{Said, said_by}
+use Rattle.sail.specs.declared.table.Table.{Table}
+use Rattle.sail_theory.specs.After.{no_values}
 
-unfoldable pub means_loaded : Loaded → Said
-means_loaded loaded.Done = accepted []
-means_loaded (loaded.Refused n) = refused n
-means_loaded (loaded.RefusedAt n k) = refused_at n k
+abbrev pub means_loaded : Result Table Refused → Said
+means_loaded = said_by no_values

@@ -2,18 +2,20 @@
 #![tactic(auto)]
 
 ghost use Rattle.std.specs.Prelude.{◌≡◌, ◌≤◌, length, slice_index};
-ghost use Rattle.sail.specs.Lent.{lent};
+ghost use Rattle.sail.specs.Arrays.{lent_by};
 ghost use Rattle.sail.specs.Sizes.{Sized};
 ghost use Rattle.sail.specs.Pool.{Chunk};
-ghost use Rattle.sail.specs.Walk.{cell_place, one_of, leaf_said, found_said, means_found};
+ghost use Rattle.sail.specs.Walk.{cell_place, one_of, leaf_said, found_said};
 ghost use Rattle.sail.specs.Contract.{MeetsLookup};
-ghost use Rattle.sail.specs.Word.{Word, said_of};
+ghost use Rattle.sail.specs.Word.{Word, FoundIn};
 
-use sail::found::Found;
+use refusals::Refusal;
+use routes::found::Found;
+use sail::arrays::Arrays;
 use sail::geometry::Geometry;
 use sail::place::cell_place;
 use sail::table::Table;
-use sail_sizes::sizes;
+use sail_sizes::check_sizes;
 
 // What a leaf says that is read as the n-th cell, as a word.
 pub fn leaf(v: u16, n: u32) -> u32
@@ -27,7 +29,7 @@ pub fn leaf(v: u16, n: u32) -> u32
 pub fn opens(v: u16, chunks: usize) -> bool
     ensures { result ≡ one_of chunks v }
 {
-    std::num::wrapping_sub_usize(v as usize, 1) < chunks
+    (v as usize).wrapping_sub(1) < chunks
 }
 
 // The cell in chunk c, of a pool of so many chunks of 2^k cells, that serves cell i of its level.
@@ -40,80 +42,55 @@ pub fn cell(pool: &[u16], chunks: usize, c: u16, k: u32, i: u32) -> u16
 }
 
 // The walk, where the sizes are right. It answers with a word: an enum would be written to memory and read again.
-pub fn walk(
-    g: Geometry,
-    list: &[u8],
-    first: &[u16],
-    second: &[u16],
-    third: &[u16],
-    own2: &[u32],
-    own3: &[u32],
-    long1: &[u16],
-    long2: &[u16],
-    addr: u32,
-) -> u32
-    requires { Sized g (lent list.now first.now second.now third.now own2.now own3.now long1.now long2.now) }
-    ensures { Word result (found_said g (lent list.now first.now second.now third.now
-        own2.now own3.now long1.now long2.now) addr) }
+pub fn walk(g: Geometry, a: Arrays, addr: u32) -> u32
+    requires { Sized g (lent_by a) }
+    ensures { Word result (found_said g (lent_by a.entry) addr) }
 {
     let p1 = g.p1;
     let p2 = g.p2;
-    let v1 = first[(addr >> (32 - p1)) as usize];
+    let v1 = a.first[(addr >> (32 - p1)) as usize];
     if 32768 <= v1 {
         return leaf(v1, 1);
     }
-    if !opens(v1, own2.len()) {
+    if !opens(v1, a.own2.len()) {
         return 5;
     }
-    let v2 = cell(second, own2.len(), v1, p2 - p1, addr >> (32 - p2));
+    let v2 = cell(a.second, a.own2.len(), v1, p2 - p1, addr >> (32 - p2));
     if 32768 <= v2 {
         return leaf(v2, 2);
     }
-    if !opens(v2, own3.len()) {
+    if !opens(v2, a.own3.len()) {
         return 5;
     }
-    let v3 = cell(third, own3.len(), v2, 32 - p2, addr);
+    let v3 = cell(a.third, a.own3.len(), v2, 32 - p2, addr);
     if 32768 <= v3 {
         return leaf(v3, 3);
     }
     5
 }
 
-// What a word says.
-pub fn said(w: u32) -> Found
-    ensures { means_found result ≡ said_of w }
+// What a walk's word says: what was found, or that the walk broke off.
+pub fn found_in(w: u32) -> Option<Found>
+    ensures { FoundIn w result }
 {
     if w % 256 != 0 {
-        return Found::Refused((w % 256) as u8);
+        return None;
     }
-    let n = w / 256 % 256;
-    if w / 65536 == 0 {
-        return Found::NoRoute(n);
+    let reads = w / 256 % 256;
+    let hop = (w / 65536) as u16;
+    if hop == 0 {
+        return Some(Found { hop: None, reads });
     }
-    Found::Hop((w / 65536) as u16, n)
+    Some(Found {
+        hop: Some(hop),
+        reads,
+    })
 }
 
 // The hop of the longest route that covers the address, with the count of cells read.
-pub fn lookup(
-    t: Table,
-    list: &[u8],
-    first: &[u16],
-    second: &[u16],
-    third: &[u16],
-    own2: &[u32],
-    own3: &[u32],
-    long1: &[u16],
-    long2: &[u16],
-    addr: u32,
-) -> Found
-    ensures { MeetsLookup t (lent list.now first.now second.now third.now
-        own2.now own3.now long1.now long2.now) addr result }
+pub fn lookup(t: Table, a: Arrays, addr: u32) -> Result<Found, Refusal>
+    ensures { MeetsLookup t (lent_by a.entry) addr result }
 {
-    let s = sizes(t, list, first, second, third, own2, own3, long1, long2);
-    if s == 0 {
-        return said(walk(
-            t.geometry, list, first, second, third, own2, own3, long1, long2, addr,
-        ));
-    }
-    Found::Refused(s)
+    check_sizes(t, a)?;
+    found_in(walk(t.geometry, a, addr)).ok_or(Refusal::Unsound)
 }

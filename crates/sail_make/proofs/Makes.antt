@@ -10,9 +10,6 @@ use Rattle.sail.specs.Sound.{fresh_table, fresh_lent}
 use Rattle.sail.specs.declared.table.Table.{Table}
 use Rattle.sail_theory.specs.Calls.{or_say, make_said, out, made}
 use Rattle.sail_theory.proofs.calls.Make.{make-is, make-off}
-use Rattle.sail_make.specs.Answers.{means_made}
-use Rattle.sail_make.specs.declared.Made.{Made}
-use Rattle.sail_make.specs.declared.Made.TheVariants.{Done, Refused}
 
 -- a number that is not 0 is a refusal
 pub or-refused : (n : ℕ) (s : Said) → (n ≡ 0 → ⊥) → or_say n s ≡ refused n
@@ -29,18 +26,9 @@ blank-made l list first second third own2 own3 long1 long2 a b c d e f g h =
     λ i. record { list = a i; first = b i; second = c i; third = d i; own2 = e i; own3 = f i; long1 = g i; long2 = h i }
 
 module _ (t : Table) (l : Lent) (z : ℕ) (check : SizesTold z t.geometry l) where
-  pub make-refuses : (z ≡ 0 → ⊥) → out (means_made (Refused z)) t l ≡ made t l
-  unfolding means_made make_said
+  pub make-refuses : (z ≡ 0 → ⊥) → out (refused z) t l ≡ made t l
+  unfolding make_said
   make-refuses h = sym (make-off t l (refused z) (rw (← check.number) (or-refused z (accepted []) h)) refl)
 
-  pub make-makes : z ≡ 0 → (v : Lent) → v ≡ fresh_lent l → out (means_made Done) (fresh_table t.geometry) v ≡ made t l
-  unfolding means_made
+  pub make-makes : z ≡ 0 → (v : Lent) → v ≡ fresh_lent l → out (accepted []) (fresh_table t.geometry) v ≡ made t l
   make-makes h v e = rw e (sym (make-is t l (check.facts h)))
-
--- two answers that are told the same are the same
-pub made-injective : (x y : Made) → means_made x ≡ means_made y → x ≡ y
-unfolding means_made
-made-injective Done Done e = refl
-made-injective Done (Refused n) e = cc
-made-injective (Refused m) Done e = cc
-made-injective (Refused m) (Refused n) e = cc

@@ -28,3 +28,7 @@ pub record AddrRange (from to : ℕ) (ads out : List ℕ) : Type 0 where
   pub order : from ≤ to
   pub inside : to ≤ length ads
   pub even : length out ≡ length ads
+
+-- every cell fits 16 bits, as its type says
+abbrev pub Halves : List ℕ → Type 0
+Halves xs = (i : ℕ) → get_or xs i 0 < 65536

@@ -3,7 +3,7 @@
 ghost use Rattle.std.specs.Prelude.{◌≡◌, ◌+◌, ◌*◌, ◌≤◌, ◌<◌, length};
 ghost use Rattle.bits.specs.Tab.{tabulate};
 ghost use Rattle.sail_step.specs.Words.{LevelsReady};
-ghost use Rattle.sail_many.specs.Flows.{answer_at, Flows};
+ghost use Rattle.sail_many.specs.Flows.{answer_at, Flows, Halves};
 
 use crate::pass::{read_firsts, read_seconds, read_thirds};
 use sail::geometry::Geometry;
@@ -92,8 +92,7 @@ fn stream(
     ensures { Flows p1 p2 first.now second.now chunks2 third.now chunks3 addrs.now
         (2 * half) out.new }
 {
-    let mut i = 0;
-    while i < half {
+    for i in 0..half {
         round(
             p1,
             p2,
@@ -106,7 +105,6 @@ fn stream(
             out,
             2 * i,
         );
-        i += 1;
     }
 }
 
@@ -225,8 +223,9 @@ pub fn many(
     out: &mut [u32],
 )
     requires { LevelsReady p1 p2 first.now second.now chunks2 third.now chunks3 × (length out.old ≡ length addrs.now) }
-    ensures { out.new ≡ tabulate (length addrs.now) (answer_at p1 p2 first.now
+    ensures answers { out.new ≡ tabulate (length addrs.now) (answer_at p1 p2 first.now
         second.now chunks2 third.now chunks3 addrs.now) }
+    ensures cells { Halves first.now × Halves second.now × Halves third.now }
 {
     if addrs.len() < 16 {
         few(p1, p2, first, second, chunks2, third, chunks3, addrs, out);

@@ -44,8 +44,8 @@ module _ (own : List ℕ) (from : ℕ) (p : Past own from) where
   pub free-here : (c : ℕ) → c < length own → ((j : ℕ) → j < c → get_or own j 0 ≢ 0) → get_or own c 0 ≡ 0 → (c ≡ find own 0) × (c ≤ length own)
   free-here c l u e = (sym (chunk-is (chunks_of own) 0 c l e u), omega arith)
 
-  pub free-nowhere : (c : ℕ) → c ≤ length own → length own ≤ c → ((j : ℕ) → j < c → get_or own j 0 ≢ 0) → (c ≡ find own 0) × (c ≤ length own)
-  free-nowhere c l m u = let e : c ≡ length own = omega arith in (e ∙ sym (chunk-none (chunks_of own) 0 (λ j i. u j (omega arith))), l)
+  pub free-nowhere : ((j : ℕ) → j < length own → get_or own j 0 ≢ 0) → (length own ≡ find own 0) × (length own ≤ length own)
+  free-nowhere u = (sym (chunk-none (chunks_of own) 0 u), omega arith)
 
 -- a chunk that is had already, and one that is given
 pub granted-had : (own : List ℕ) (o : ℕ) → find own o < length own → granted own o ≡ own

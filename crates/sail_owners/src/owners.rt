@@ -7,13 +7,14 @@ ghost use Rattle.sail_theory.specs.Calls.{input_routes, owners_after};
 ghost use Rattle.sail_owners.specs.Owners.{owners, Past, LastIs, MayOwn, HasOwner, OpenForReady, Opened, owners_from, Between, Ownable};
 
 use bits::slot;
-use bits::widen::byte_to_word;
 use records::record::read_record;
 use routes::Route;
 use sail::geometry::Geometry;
 use sail::place::second_place;
 
-// How far the pass over each pool has come: the last chunk that it opened, from 1, or 0. Every chunk before it is in use.
+// How far the pass over each pool has come: so many chunks are in use at its front, and the last of these is the last that it opened.
+// Stays: plain numbers. 0 is no absence here, but the place from which the next free chunk is looked for. With an Option each use
+// would be `u.second.map_or(0, |c| c + 1)`.
 #[derive(Clone, Copy)]
 pub struct Passes {
     pub second: usize,
@@ -25,10 +26,7 @@ fn last_is(own: &[u32], m: usize, o: u32) -> bool
     requires { m ≤ length own.now }
     ensures { Tells result (LastIs own.now m o) }
 {
-    if m == 0 {
-        return false;
-    }
-    own[m - 1] == o
+    0 < m && own[m - 1] == o
 }
 
 // The lowest free chunk, where none before `from` is.
@@ -36,14 +34,12 @@ fn next_free(own: &[u32], from: usize) -> usize
     requires { Past own.now from }
     ensures { (result ≡ find own.now 0) × (result ≤ length own.now) }
 {
-    let mut c = from;
-    while c < own.len() {
+    for c in from..own.len() {
         if own[c] == 0 {
             return c;
         }
-        c += 1;
     }
-    c
+    own.len()
 }
 
 // A chunk has the owner o: the last one opened, which is the m-th, or the next that is free. Answers which.
@@ -74,17 +70,15 @@ fn open_for(
     let p1 = g.p1;
     let p2 = g.p2;
     let a = r.addr;
-    let len = byte_to_word(r.len);
+    let len = u32::from(r.len);
     if len <= p1 {
         return u;
     }
-    let at2 = u.second;
-    let at3 = u.third;
-    let second = own_chunk(own2, at2, top + (slot(p1, a) + 1));
+    let second = own_chunk(own2, u.second, top + (slot(p1, a) + 1));
     if len <= p2 {
-        return Passes { second, third: at3 };
+        return Passes { second, ..u };
     }
-    let third = own_chunk(own3, at3, top + (second_place(g, second, a) as u32 + 1));
+    let third = own_chunk(own3, u.third, top + (second_place(g, second, a) as u32 + 1));
     Passes { second, third }
 }
 
@@ -100,10 +94,8 @@ pub fn open_between(g: Geometry, input: &[u8], top: u32, own2: &mut [u32], own3:
         second: 0,
         third: 0,
     };
-    let mut k = 0;
-    while k < n {
+    for k in 0..n {
         u = open_for(g, read_record(input, k), top, u, own2, own3);
-        k += 1;
     }
 }
 

@@ -1,5 +1,4 @@
 -- The cells of a table are painted again from the words of its list, which stand with their chain at the front of the room for them.
-use mathlib.Core.Path.{◌≡◌}
 use mathlib.Core.List.{List}
 use Prim.Native.Nat.{ℕ}
 use lib.ListN.{take}

@@ -31,11 +31,7 @@ fn block_end(lo: usize, e: usize) -> usize
     requires { lo < e }
     ensures { BlockEnd lo e result }
 {
-    let left = 1024 - lo % 1024;
-    if e - lo < left {
-        return e;
-    }
-    lo + left
+    lo + (1024 - lo % 1024).min(e - lo)
 }
 
 // Where the cells of level p that meet a prefix of len bits end; they begin with the cell `from`.
@@ -57,6 +53,7 @@ pub fn paint_first(ws: &[u64], par: &[u16], p: u32, addr: u32, len: u32, first: 
 {
     let from = bits::slot(p, addr) as usize;
     let end = range_end(p, len, from);
+    // Stays: the first block and the last may be shorter than 1,024 cells, so no range has these steps.
     let mut lo = from;
     while lo < end {
         let at = lo;

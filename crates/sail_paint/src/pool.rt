@@ -60,12 +60,9 @@ pub fn paint_pool(
         up.now) (entry own.now)) (part_of (entry own.now) (p - l) (stands_for e up.now))
         cells.old }
 {
-    let n = own.len();
-    let mut c = 0;
-    while c < n {
+    for c in 0..own.len() {
         let o = owner_at(own, c);
         paint_chunk(ws, par, addr, len, l, p, up, e, o, cells, c);
-        c += 1;
     }
 }
 
@@ -74,12 +71,9 @@ pub fn stamp(cells: &mut [u16], own: &[u32])
     requires { Stamps own.now cells.old }
     ensures { cells.new ≡ stamped own.now cells.old }
 {
-    let n = own.len();
-    let mut c = 0;
-    while c < n {
+    for c in 0..own.len() {
         let o = owner_at(own, c);
         let number = (c + 1) as u16;
-        c += 1;
         if o != 0 {
             cells[o - 1] = number;
         }

@@ -1,3 +1,4 @@
--- Laws that the function's proof cites.
+-- Laws that the functions' proofs cite.
+pub mod Copies
 pub mod Lists
 pub mod Renews

@@ -1,11 +1,11 @@
 // All that is lent, written anew for the routes of an input: nothing of what it held is read.
 #![tactic(auto)]
 
-ghost use Rattle.std.specs.Prelude.{◌≡◌};
+ghost use Rattle.std.specs.Prelude.{◌≡◌, ◌≤◌, length};
+ghost use Rattle.buffers.specs.Fill.{padded};
 ghost use Rattle.sail.specs.Lent.{lent};
 ghost use Rattle.sail_renew.specs.Renew.{Layable, laid_in, Wiped, Renewable, anew};
 
-use buffers::fill::{fill16, put8, zero32};
 use sail::geometry::Geometry;
 use sail::table::Table;
 use sail_counts::tick::count_all;
@@ -23,11 +23,24 @@ fn wipe(
     ensures { Wiped second.old third.old own2.old own3.old long2.old
         second.new third.new own2.new own3.new long2.new }
 {
-    fill16(second, 0);
-    fill16(third, 0);
-    zero32(own2);
-    zero32(own3);
-    fill16(long2, 0);
+    second.fill(0);
+    third.fill(0);
+    own2.fill(0);
+    own3.fill(0);
+    long2.fill(0);
+}
+
+// The input's bytes, and zeros after them.
+// Stays: a loop. `copy_from_slice` would need memmove here, and the header promises that the archive needs memcpy and memset alone.
+fn put(list: &mut [u8], input: &[u8])
+    requires { length input.now ≤ length list.old }
+    ensures { list.new ≡ padded input.now (length list.old) }
+{
+    let n = input.len();
+    for i in 0..n {
+        list[i] = input[i];
+    }
+    list[n..].fill(0);
 }
 
 // The list, the cells and the counts of the input's routes, for owners that fit them. Chunks that are not of these owners are
@@ -51,8 +64,8 @@ pub fn lay(
         long1.old long2.old) }
 {
     let n = input.len() / 8;
-    put8(list, input);
-    fill16(long1, 0);
+    put(list, input);
+    long1.fill(0);
     repaint_from_list(g, input, n, 0, 0, first, second, third, own2, own3);
     count_all(g, input, n, first, own2, long1, long2);
 }

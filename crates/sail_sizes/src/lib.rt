@@ -2,87 +2,57 @@
 #![tactic(auto)]
 
 ghost use Rattle.std.specs.Prelude.{◌≡◌};
+ghost use Rattle.refusals.specs.Numbers.{fault_of};
 ghost use Rattle.sail.specs.Geometry.{Valid};
-ghost use Rattle.sail.specs.Lent.{lent};
-ghost use Rattle.sail.specs.Sizes.{sizes_fit, SizesTold};
+ghost use Rattle.sail.specs.Arrays.{lent_by};
+ghost use Rattle.sail.specs.Sizes.{lengths_fit, SizesTold};
 
+use refusals::Refusal;
+use sail::arrays::Arrays;
 use sail::geometry::Geometry;
 use sail::table::Table;
 
-// Whether arrays of these lengths are what the geometry asks for.
-fn lengths(
-    g: Geometry,
-    list: usize,
-    first: usize,
-    second: usize,
-    third: usize,
-    own2: usize,
-    own3: usize,
-    long1: usize,
-    long2: usize,
-) -> bool
+// Whether the arrays have the lengths that the geometry asks for.
+fn fits(g: Geometry, a: Arrays) -> bool
     requires { Valid g }
-    ensures { result ≡ sizes_fit g list first second third own2 own3 long1 long2 }
+    ensures { result ≡ lengths_fit g (lent_by a.entry) }
 {
-    if list % 8 != 0 {
+    if a.list.len() % 8 != 0 {
         return false;
     }
-    if 32768 < list {
+    if 32768 < a.list.len() {
         return false;
     }
-    if first != g.first_cells() {
+    if a.first.len() != g.first_cells() {
         return false;
     }
-    if 4096 < own2 {
+    if 4096 < a.own2.len() {
         return false;
     }
-    if second != own2 * g.second_chunk() {
+    if a.second.len() != a.own2.len() * g.second_chunk() {
         return false;
     }
-    if 4096 < own3 {
+    if 4096 < a.own3.len() {
         return false;
     }
-    if third != own3 * g.third_chunk() {
+    if a.third.len() != a.own3.len() * g.third_chunk() {
         return false;
     }
-    if long1 != first {
+    if a.long1.len() != a.first.len() {
         return false;
     }
-    long2 == second
+    a.long2.len() == a.second.len()
 }
 
-// 1 where the geometry is outside the limits, 2 where a lent array has another size than it asks for, and 0 where all fit.
-pub fn sizes(
-    t: Table,
-    list: &[u8],
-    first: &[u16],
-    second: &[u16],
-    third: &[u16],
-    own2: &[u32],
-    own3: &[u32],
-    long1: &[u16],
-    long2: &[u16],
-) -> u8
-    ensures { SizesTold result t.geometry
-        (lent list.now first.now second.now third.now own2.now own3.now
-        long1.now long2.now) }
+// 1 where the geometry is outside the limits, 2 where a lent array has another size than it asks for.
+pub fn check_sizes(t: Table, a: Arrays) -> Result<(), Refusal>
+    ensures { SizesTold (fault_of result) t.geometry (lent_by a.entry) }
 {
-    let g = t.geometry;
-    if g.valid() {
-        if lengths(
-            g,
-            list.len(),
-            first.len(),
-            second.len(),
-            third.len(),
-            own2.len(),
-            own3.len(),
-            long1.len(),
-            long2.len(),
-        ) {
-            return 0;
-        }
-        return 2;
+    if !t.geometry.valid() {
+        return Err(Refusal::Geometry);
     }
-    1
+    if !fits(t.geometry, a) {
+        return Err(Refusal::Size);
+    }
+    Ok(())
 }

@@ -19,18 +19,23 @@ use Rattle.sail.specs.declared.table.Table.{Table}
 use Rattle.sail.proofs.Sounds.{chunks-need}
 use Rattle.sail_theory.specs.SoundTest.{sound?}
 use Rattle.sail_theory.specs.Calls.{or_say, reported}
-use Rattle.sail_sound.specs.declared.report.Reported.{Reported}
-use Rattle.sail_sound.specs.declared.report.Reported.TheVariants.{Standing, Refused}
+use Rattle.std.specs.Prelude.{Result}
+use Rattle.refusals.specs.declared.Refusal.{Refusal}
+use Rattle.routes.proofs.Saids.{plainly-injective}
+use Rattle.sail_sound.specs.declared.report.Standing.{Standing}
 use Rattle.sail_sound.specs.TableTest.{Tried}
-use Rattle.sail_sound.specs.Report.{table_fault, ReportJudged, means_reported}
+use Rattle.sail_sound.specs.Report.{table_fault, ReportJudged, needs_told, means_reported}
 
 -- two reports that are told the same are the same
-pub reported-injective : (x y : Reported) → means_reported x ≡ means_reported y → x ≡ y
-unfolding means_reported
-reported-injective (Standing n a b) (Standing m c d) e = cc
-reported-injective (Standing n a b) (Refused k) e = cc
-reported-injective (Refused j) (Standing m c d) e = cc
-reported-injective (Refused j) (Refused k) e = cc
+read_needs : List ℕ → Standing
+read_needs vs = record { routes = get_or vs 0 0; second = get_or vs 1 0; third = get_or vs 2 0 }
+
+read-needs : (s : Standing) → read_needs (needs_told s) ≡ s
+unfolding read_needs
+read-needs s = refl
+
+pub reported-injective : (x y : Result Standing Refusal) → means_reported x ≡ means_reported y → x ≡ y
+reported-injective = plainly-injective needs_told read_needs read-needs
 
 -- the answers of `judged`
 module _ (t : Table) (l : Lent) (r : ℕ) (told : SizesTold r t.geometry l) where

@@ -1,13 +1,13 @@
 -- What is wrong with a table, and the report.
-use Rattle.std.specs.Prelude.{cond, [], ◌∷◌, ◌≡◌, ℕ, eqb}
-use Rattle.routes.specs.Said.{Said, accepted, refused}
+use Rattle.std.specs.Prelude.{cond, List, [], ◌∷◌, ◌≡◌, ℕ, eqb, Result}
+use Rattle.refusals.specs.declared.Refusal.{Refusal}
+use Rattle.routes.specs.Said.{Said, said_plainly}
 use Rattle.sail.specs.Lent.{Lent}
 use Rattle.sail.specs.Sizes.{sizes_fault}
 use Rattle.sail.specs.Sound.{Sound}
 use Rattle.sail.specs.declared.table.Table.{Table}
 use Rattle.sail_theory.specs.SoundTest.{sound?}
-use Rattle.sail_sound.specs.declared.report.Reported.{Reported}
-use Rattle.sail_sound.specs.declared.report.Reported.TheVariants.{Standing, Refused}
+use Rattle.sail_sound.specs.declared.report.Standing.{Standing}
 
 -- 1, 2, 5: the geometry, a size, or soundness; 0 where nothing is wrong
 unfoldable pub table_fault : Table → Lent → ℕ
@@ -19,6 +19,8 @@ pub record ReportJudged (r : ℕ) (t : Table) (l : Lent) : Type 0 where
   pub facts : r ≡ 0 → Sound t l
 
 -- what the code's answer says: the route count and both needs
-unfoldable pub means_reported : Reported → Said
-means_reported (Standing n second third) = accepted (n ∷ second ∷ third ∷ [])
-means_reported (Refused k) = refused k
+abbrev pub needs_told : Standing → List ℕ
+needs_told s = s.routes ∷ s.second ∷ s.third ∷ []
+
+abbrev pub means_reported : Result Standing Refusal → Said
+means_reported = said_plainly needs_told

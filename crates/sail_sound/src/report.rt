@@ -1,42 +1,31 @@
 // The judgement of a table, and the report: the route count and both needs. In a sound table as many chunks are in use as
 // the routes need, so the owners are counted and no route is looked at again.
 ghost use Rattle.std.specs.Prelude.{◌≡◌, ◌≤◌, length};
-ghost use Rattle.sail.specs.Lent.{lent};
+ghost use Rattle.refusals.specs.Numbers.{fault_of};
+ghost use Rattle.sail.specs.Arrays.{lent_by};
 ghost use Rattle.sail.specs.Sound.{used};
 ghost use Rattle.sail_sound.specs.Report.{ReportJudged};
 ghost use Rattle.sail_sound.specs.Contract.{MeetsReport};
 
 use crate::test::sound;
+use refusals::Refusal;
+use sail::arrays::Arrays;
 use sail::table::Table;
-use sail_sizes::sizes;
+use sail_sizes::check_sizes;
 
-// What is wrong with a table: 1, 2 or 5, or 0.
-pub fn judged(
-    t: Table,
-    list: &[u8],
-    first: &[u16],
-    second: &[u16],
-    third: &[u16],
-    own2: &[u32],
-    own3: &[u32],
-    long1: &[u16],
-    long2: &[u16],
-) -> u8
-    ensures { ReportJudged result t (lent list.now first.now second.now third.now
-        own2.now own3.now long1.now long2.now) }
+// What is wrong with a table: the geometry (1), a size (2), or soundness (5).
+pub fn check_table(t: Table, a: Arrays) -> Result<(), Refusal>
+    ensures { ReportJudged (fault_of result) t (lent_by a.entry) }
 {
-    let s = sizes(t, list, first, second, third, own2, own3, long1, long2);
-    if s != 0 {
-        return s;
-    }
+    check_sizes(t, a)?;
     let mut ws = [0u64; 4096];
     let mut par = [0u16; 4353];
-    if sound(
-        t, list, first, second, third, own2, own3, long1, long2, &mut ws, &mut par,
+    if !sound(
+        t, a.list, a.first, a.second, a.third, a.own2, a.own3, a.long1, a.long2, &mut ws, &mut par,
     ) {
-        return 0;
+        return Err(Refusal::Unsound);
     }
-    5
+    Ok(())
 }
 
 // How many chunks are in use.
@@ -45,49 +34,29 @@ pub fn in_use(own: &[u32]) -> u32
     ensures { result ≡ used own.now }
 {
     let mut n: u32 = 0;
-    let mut c = 0;
-    while c < own.len() {
-        let o = own[c];
-        c += 1;
-        if o != 0 {
+    for o in own {
+        if *o != 0 {
             n += 1;
         }
     }
     n
 }
 
-// What the report says: the route count and the needs for second and third chunks; or a refusal's number.
-#[derive(Clone, Copy)]
-pub enum Reported {
-    Standing {
-        routes: u32,
-        second: u32,
-        third: u32,
-    },
-    Refused(u8),
+// What the report says: the route count and the needs for second and third chunks.
+#[derive(Clone, Copy, Debug, PartialEq, Eq)]
+pub struct Standing {
+    pub routes: u32,
+    pub second: u32,
+    pub third: u32,
 }
 
-pub fn report(
-    t: Table,
-    list: &[u8],
-    first: &[u16],
-    second: &[u16],
-    third: &[u16],
-    own2: &[u32],
-    own3: &[u32],
-    long1: &[u16],
-    long2: &[u16],
-) -> Reported
-    ensures { MeetsReport t (lent list.now first.now second.now third.now
-        own2.now own3.now long1.now long2.now) result }
+pub fn report(t: Table, a: Arrays) -> Result<Standing, Refusal>
+    ensures { MeetsReport t (lent_by a.entry) result }
 {
-    let f = judged(t, list, first, second, third, own2, own3, long1, long2);
-    if f != 0 {
-        return Reported::Refused(f);
-    }
-    Reported::Standing {
+    check_table(t, a)?;
+    Ok(Standing {
         routes: t.count,
-        second: in_use(own2),
-        third: in_use(own3),
-    }
+        second: in_use(a.own2),
+        third: in_use(a.own3),
+    })
 }

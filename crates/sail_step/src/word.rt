@@ -11,14 +11,14 @@ fn word(v: u16, n: u32) -> u32
     requires { n ≤ 3 }
     ensures { result ≡ cell_word n v }
 {
-    std::num::wrapping_add_u32((v as u32) * 65536, 2147483648 + n * 256)
+    (u32::from(v) * 65536).wrapping_add(2147483648 + n * 256)
 }
 
 // The chunk, counted from 0, that a word leads to. An answer's is beyond all chunks, since it wraps.
 fn chunk(w: u32) -> usize
     ensures { Points result w }
 {
-    std::num::wrapping_sub_usize((w / 65536) as usize, 32769)
+    ((w / 65536) as usize).wrapping_sub(32769)
 }
 
 // The cell in chunk c, counted from 0, that serves cell i of its level.

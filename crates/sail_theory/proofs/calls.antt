@@ -8,5 +8,6 @@ pub mod Make
 pub mod Load
 pub mod SameSizes
 pub mod OneEnd
+pub mod OneState
 pub mod WrongCalls
 pub mod Refusals

@@ -3,6 +3,7 @@
 pub mod Render
 pub mod Shared
 pub mod Calls
+pub mod After
 pub mod Facts
 pub mod Cases
 pub mod Replies

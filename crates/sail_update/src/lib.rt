@@ -5,6 +5,7 @@ ghost use Rattle.sail.specs.Lent.{lent};
 ghost use Rattle.chain.specs.List.{Scratch};
 ghost use Rattle.fields.specs.Entry.{FieldFrom};
 ghost use Rattle.fields.specs.Message.{HopOk};
+ghost use Rattle.refusals.specs.Numbers.{fault_of};
 ghost use Rattle.sail_deal.specs.Dealt.{Ready};
 ghost use Rattle.sail_update.specs.Contract.{MeetsUpdate};
 ghost use Rattle.sail_update.specs.Steps.{UpdateJudged, AllGone, AllCame};
@@ -13,11 +14,13 @@ pub mod answers;
 
 use crate::answers::{Update, Updated};
 use fields::entry::read_entry;
-use fields::message::message_fault;
+use fields::message::check_message;
+use refusals::Refusal;
 use routes::Route;
+use sail::arrays::Arrays;
 use sail::table::Table;
 use sail_deal::{announce_sound, withdraw_sound};
-use sail_sizes::sizes;
+use sail_sizes::check_sizes;
 use sail_sound::test::sound;
 
 // What withdrawals leave: the state, and how many entries there were.
@@ -134,8 +137,8 @@ fn announce_all(
     }
 }
 
-// The number with which a whole message is refused: 1, 2, 5, 17 or 4; 0 where it is dealt with. The words of the list and their
-// chain are then in `ws` and `par`.
+// Why a whole message is refused: 1, 2, 5, 17 or 4. Where it is dealt with, the words of the list and their chain are then in `ws` and
+// `par`.
 fn judge_update(
     t: Table,
     list: &[u8],
@@ -151,22 +154,29 @@ fn judge_update(
     hop: u16,
     ws: &mut [u64],
     par: &mut [u16],
-) -> u8
+) -> Result<(), Refusal>
     requires { Scratch ws.old par.old }
     ensures { UpdateJudged t (lent list.now first.now second.now third.now
-        own2.now own3.now long1.now long2.now) withdrawn.now reach.now hop result
+        own2.now own3.now long1.now long2.now) withdrawn.now reach.now hop (fault_of result)
         ws.new par.new }
 {
-    let s = sizes(t, list, first, second, third, own2, own3, long1, long2);
-    if s != 0 {
-        return s;
-    }
+    let arrays = Arrays {
+        list,
+        first,
+        second,
+        third,
+        own2,
+        own3,
+        long1,
+        long2,
+    };
+    check_sizes(t, arrays)?;
     if !sound(
         t, list, first, second, third, own2, own3, long1, long2, ws, par,
     ) {
-        return 5;
+        return Err(Refusal::Unsound);
     }
-    message_fault(withdrawn, reach, hop)
+    check_message(withdrawn, reach, hop)
 }
 
 // A message is dealt with: all bytes of both fields are checked first, then prefixes are withdrawn and announced, in field order.
@@ -191,13 +201,12 @@ pub fn update(
 {
     let mut ws = [0u64; 4096];
     let mut par = [0u16; 4353];
-    let f = judge_update(
+    if let Err(why) = judge_update(
         t, list, first, second, third, own2, own3, long1, long2, withdrawn, reach, hop, &mut ws,
         &mut par,
-    );
-    if f != 0 {
+    ) {
         return Updated {
-            answer: Update::Refused(f),
+            answer: Update::Refused(why.number()),
             table: t,
         };
     }

@@ -80,5 +80,6 @@ module _ (p1 p2 n : ℕ) (e1 : p1 ≡ standard_geo.p1) (e2 : p2 ≡ standard_geo
   pub look-standard : (l : Lent) (a r : ℕ) → Word r (lookup_said standard l a) → Word r (lookup_said (table_of p1 p2 n) l a)
   look-standard l a r q = rw (e1, e2) q
 
-  pub look-standard-packs : (l : Lent) (a r : ℕ) → Word r (lookup_said standard l a) → r ≡ pack_found (lookup_said (table_of p1 p2 n) l a)
-  look-standard-packs l a r q = (look-standard l a r q).packs
+-- the three numbers of a state stand for it
+pub table-of-is : (t : Table) → table_of t.geometry.p1 t.geometry.p2 t.count ≡ t
+table-of-is t = refl

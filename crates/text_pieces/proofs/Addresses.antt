@@ -1,11 +1,16 @@
--- How long an address is as text.
-use mathlib.Core.Path.{◌≡◌}
-use Prim.Native.Nat.{ℕ, ◌+◌, ◌^◌, ◌≤◌, ◌<◌}
+-- An address as text: the digits of its bytes, and how long it is.
+use mathlib.Core.Path.{◌≡◌, refl}
+use mathlib.Core.List.{List, ◌∷◌, ◌++◌}
+use Prim.Native.Nat.{ℕ, ◌+◌, ◌/◌, ◌%◌, ◌^◌, ◌≤◌, ◌<◌}
 use native.Mathlib.Omega.{arith}
-use lib.ListN.{length, length-append}
+use lib.ListN.{length, get_or, length-append}
+use Rattle.std.specs.Int.{w32, to_be_bytes}
 use Rattle.bits.specs.Bytes.{above1, above2, above3, byte}
 use Rattle.text_pieces.specs.Digits.{digits_of}
+use Rattle.text_pieces.specs.declared.page.Page.{Page}
+use Rattle.text_pieces.specs.Page.{Writes}
 use Rattle.text_pieces.specs.Pieces.{ascii, labelled, dotted}
+use Rattle.text_pieces.specs.Wrote.{TextRoom}
 use Rattle.text_pieces.proofs.Digits.{digits-few}
 
 pub length-dotted : (a : ℕ) → length (dotted a) ≡ length (digits_of (above3 a)) + (1 + length (digits_of (byte (above2 a)))) +
@@ -25,3 +30,21 @@ dotted-few a h =
           (omega arith),
       digits-few 2 (byte a) (omega arith),
     ))
+
+-- by the bytes that stand in memory, the highest first
+module _ (a : ℕ) (bs : List ℕ) where
+  abbrev pub bytes-dotted : List ℕ
+  bytes-dotted = digits_of (get_or bs 0 0) ++ (46 ∷ digits_of (get_or bs 1 0)) ++ (46 ∷ digits_of (get_or bs 2 0)) ++ (46 ∷ digits_of (get_or bs 3 0))
+
+  module _ (e : bs ≡ to_be_bytes w32 a) (h : a < 2 ^ 32) where
+    dotted-bytes : dotted a ≡ bytes-dotted
+    unfolding dotted labelled ascii
+    dotted-bytes =
+        let b3 : a / 16777216 % 256 ≡ a / 16777216 = omega arith in
+        rw (e, b3) refl
+
+    pub room-bytes : {o : List ℕ} {at : ℕ} → TextRoom o at (dotted a) → TextRoom o at bytes-dotted
+    room-bytes r = rw dotted-bytes at r
+
+    pub writes-bytes : {p q : Page} → Writes p bytes-dotted q → Writes p (dotted a) q
+    writes-bytes w = rw dotted-bytes w

@@ -1,5 +1,6 @@
--- Laws of digits, and of texts in a buffer.
+-- The digits of a number, how long an address is, and how texts in a lent buffer follow one another.
 pub mod Digits
-pub mod Writes
 pub mod Numbers
 pub mod Addresses
+pub mod Writes
+pub mod Pages

@@ -2,17 +2,17 @@
 use mathlib.Core.Path.{◌≡◌, refl, sym, ap, ◌∙◌}
 use mathlib.Core.Logic.{◌⊎◌, inl, inr}
 use mathlib.Core.List.{List, [], ◌∷◌, ◌++◌, append_assoc, append-nil}
-use Prim.Native.Nat.{ℕ, ◌+◌, ◌≤◌, ◌<◌}
+use Prim.Native.Nat.{ℕ, ◌+◌, ◌-◌, ◌≤◌, ◌<◌}
 use native.Mathlib.Nat.{add_assoc}
-use native.Mathlib.Numerals.{add-one}
 use native.Mathlib.Omega.{arith}
-use lib.ListN.{length, get_or, take, drop, set, length-set, length-append, length-drop, length-take, drop_of_length-le}
-use lib.Seq.{length-take-le, take_all, take-suc, take_at, drop_at, drop-drop, sets-eq}
+use lib.ListN.{length, take, drop, set, length-set, length-append, length-drop, length-take, drop_of_length-le}
+use borrow.Rule.Slice.PartMut.{put_mid}
+use lib.Seq.{length-take-le, take_all, take_at, drop_at, drop-drop, sets-eq}
 use Rattle.bits.proofs.Bools.{below?}
 use Rattle.text_pieces.specs.Wrote.{spelled, TextRoom, Wrote}
 
 -- a text with room for it leaves the buffer's length as it was
-length-spelled : (o : List ℕ) (at : ℕ) (t : List ℕ) → at + length t ≤ length o → length (spelled o at t) ≡ length o
+pub length-spelled : (o : List ℕ) (at : ℕ) (t : List ℕ) → at + length t ≤ length o → length (spelled o at t) ≡ length o
 unfolding spelled
 length-spelled o at t h = simp (length-append, length-take, length-drop) (omega arith)
 
@@ -59,6 +59,14 @@ module _ {o : List ℕ} {at : ℕ} where
   unfolding spelled
   wrote_one {b} r = record { ends = refl; inside = rw length-set r.room; holds = sets-eq (b ∷ []) o at r.room }
 
+  pub wrote-all : {t u : List ℕ} → TextRoom o at t → u ≡ t → Wrote o at t (at + length t) (put_mid at (at + length t - at) o u)
+  unfolding spelled
+  wrote-all {t} {u} r e =
+      let n : at + length t - at ≡ length t = omega arith in
+      let w : put_mid at (at + length t - at) o u ≡ spelled o at t =
+      rw (e, n, drop-drop (length t) at o) (sym (append_assoc (take at o) t (drop (at + length t) o))) in
+      record { ends = refl; inside = rw (w, length-spelled o at t r.room) r.room; holds = w }
+
   pub wrote-more : {s t : List ℕ} {m n : ℕ} {o₁ o₂ : List ℕ} → Wrote o at s m o₁ → Wrote o₁ m t n o₂ → Wrote o at (s ++ t) n o₂
   wrote-more {s} {t} u v = record { ends = rw length-append (omega (arith, u.ends, v.ends)); inside = v.inside; holds = cc (spelled-more o at s t) }
 
@@ -71,14 +79,6 @@ module _ {o : List ℕ} {at : ℕ} where
       let l = rw length-append at r.room in
       let k = ap length w.holds ∙ length-spelled o at s (omega arith) in
       record { room = omega (arith, w.ends) }
-
-  -- words that are written byte by byte
-  pub wrote-next : (w : List ℕ) (i : ℕ) {m n : ℕ} {o₁ o₂ : List ℕ} → i < length w → Wrote o at (take i w) m o₁ → Wrote o₁ m (get_or w i 0 ∷ []) n o₂
-      → Wrote o at (take (i + 1) w) n o₂
-  wrote-next w i h u v = rw (add-one i, take-suc w i 0 h) (wrote-more u v)
-
-  pub wrote-all : (w : List ℕ) (i : ℕ) {m : ℕ} {o₁ : List ℕ} → length w ≤ i → Wrote o at (take i w) m o₁ → Wrote o at w m o₁
-  wrote-all w i h u = rw (take_all i w h) at u
 
 -- what is written from the start of a buffer is what stands before the place that is answered
 pub wrote-front : {o t o₁ : List ℕ} {n : ℕ} → Wrote o 0 t n o₁ → take n o₁ ≡ t

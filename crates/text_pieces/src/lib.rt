@@ -1,6 +1,5 @@
-// Pieces of text, written into a lent buffer: bytes, words, numbers in decimal, addresses. Each call begins at a place of the buffer and
-// answers the place after its text.
+// Text on a page, which is a lent buffer: bytes, words, numbers in decimal, addresses. Each call writes at the page's place, which then
+// stands after its text.
 #![tactic(auto)]
 
-pub mod address;
-pub mod put;
+pub mod page;

@@ -11,10 +11,12 @@ use Rattle.routes.specs.declared.Route.{Route}
 use Rattle.routes.specs.Record.{Ranged}
 use Rattle.text_pieces.specs.Digits.{digits_of}
 use Rattle.text_pieces.specs.Pieces.{ascii, labelled, dotted}
-use Rattle.text_pieces.specs.Wrote.{TextRoom, Wrote}
+use Rattle.text_pieces.specs.declared.page.Page.{Page}
+use Rattle.text_pieces.specs.Page.{Room, Writes}
+use Rattle.text_pieces.specs.Wrote.{TextRoom}
 use Rattle.text_pieces.proofs.Digits.{digits-few}
 use Rattle.text_pieces.proofs.Addresses.{dotted-few}
-use Rattle.text_pieces.proofs.Writes.{wrote_none}
+use Rattle.text_pieces.proofs.Pages.{writes-none}
 use Rattle.text_routes.specs.RouteLine.{mark_text, route_line}
 
 pub length-line : (r : Route) → length (route_line r) ≡ length (dotted r.addr) + (1 + length (digits_of r.len)) +
@@ -45,15 +47,16 @@ line-few r ok =
     ))
 
 -- a mark's text, by the test of the mark
-module _ {o : List ℕ} {at m : ℕ} where
-  pub attached-room : m ≡ 1 → TextRoom o at (mark_text m) → TextRoom o at (ascii " attached")
+module _ {m : ℕ} where
+  pub attached-room : {o : List ℕ} {at : ℕ} → m ≡ 1 → TextRoom o at (mark_text m) → TextRoom o at (ascii " attached")
   unfolding mark_text
   attached-room e r = rw (eq-eqb m 1 e) at r
 
-  pub attached-wrote : {n : ℕ} {o₁ : List ℕ} → m ≡ 1 → Wrote o at (ascii " attached") n o₁ → Wrote o at (mark_text m) n o₁
-  unfolding mark_text
-  attached-wrote e w = rw (eq-eqb m 1 e) w
+  module _ {p q : Page} where
+    pub attached-writes : m ≡ 1 → Writes p (ascii " attached") q → Writes p (mark_text m) q
+    unfolding mark_text
+    attached-writes e w = rw (eq-eqb m 1 e) w
 
-  pub behind-wrote : (m ≡ 1 → ⊥) → TextRoom o at (mark_text m) → Wrote o at (mark_text m) at o
-  unfolding mark_text
-  behind-wrote h r = rw (ne_eqb m 1 h) (wrote_none (omega (arith, r.room)))
+    pub behind-writes : (m ≡ 1 → ⊥) → Room p (mark_text m) → q ≡ p → Writes p (mark_text m) q
+    unfolding mark_text
+    behind-writes h r e = rw (ne_eqb m 1 h, e) (writes-none (mark_text m) r)

@@ -1,32 +1,30 @@
-// A route's line, written into a lent buffer.
+// A route's line, written on a page.
 #![tactic(auto)]
 
-ghost use Rattle.text_pieces.specs.Wrote.{TextRoom, Wrote};
+ghost use Rattle.text_pieces.specs.Page.{Room, Writes};
 ghost use Rattle.text_routes.specs.RouteLine.{mark_text, route_line};
 
 use routes::Route;
-use text_pieces::address::put_address;
-use text_pieces::put;
+use text_pieces::page::Page;
 
 // That the network is attached, where the mark is 1.
-fn put_mark(out: &mut [u8], at: usize, mark: u8) -> usize
-    requires { TextRoom out.old at (mark_text mark) }
-    ensures { Wrote out.old at (mark_text mark) result out.new }
+fn put_mark(page: &mut Page, mark: u8)
+    requires { Room page.old (mark_text mark) }
+    ensures { Writes page.old (mark_text mark) page.new }
 {
     if mark == 1 {
-        return put::put_text(out, at, b" attached");
+        page.text(" attached");
     }
-    at
 }
 
 // A route's line.
-pub fn put_route(out: &mut [u8], at: usize, r: Route) -> usize
-    requires { TextRoom out.old at (route_line r) }
-    ensures { Wrote out.old at (route_line r) result out.new }
+pub fn put_route(page: &mut Page, r: Route)
+    requires { Room page.old (route_line r) }
+    ensures { Writes page.old (route_line r) page.new }
 {
-    let p = put_address(out, at, r.addr);
-    let q = put::put_labelled(out, p, b"/", r.len as u64);
-    let s = put::put_labelled(out, q, b" ", r.hop as u64);
-    let m = put_mark(out, s, r.mark);
-    put::put_byte(out, m, b'\n')
+    page.address(r.addr);
+    page.labelled("/", r.len as u64);
+    page.labelled(" ", r.hop as u64);
+    put_mark(page, r.mark);
+    page.byte(b'\n');
 }

@@ -1,42 +1,29 @@
 -- What each answer of a build says, and what it leaves.
 use mathlib.Core.Path.{◌≡◌, refl, sym, ◌∙◌, ap, subst}
-use mathlib.Core.List.{List}
+use mathlib.Core.List.{List, [], ◌∷◌}
 use Prim.Native.Nat.{ℕ, ◌/◌, ◌≤◌, ◌<◌}
 use native.Mathlib.Omega.{arith}
 use lib.ListN.{length}
 use borrow.Author.Tests.{lt-ltb, le-ltb}
 use Rattle.routes.specs.Record.{Records, GoodInput, routes_in}
-use Rattle.routes.specs.Answers.{means_input}
+use Rattle.std.specs.Prelude.{Option, Some, None, Ok, Err}
+use Rattle.refusals.specs.Numbers.{number_of}
+use Rattle.refusals.specs.declared.Refusal.{Refusal}
+use Rattle.refusals.specs.declared.Refused.{Refused}
+use Rattle.refusals.proofs.Numbers.{number-above_0}
 use Rattle.routes.specs.Input.{input_said}
-use Rattle.routes.specs.declared.input.Input.{Input}
-use Rattle.routes.specs.declared.input.Input.TheVariants as input
-use Rattle.routes.proofs.Inputs.{told-good, told-refused, told-many}
+use Rattle.routes.specs.Said.{accepted, refused, refused_by, told, said_by}
 use Rattle.routes.proofs.Meaning.{input-good}
 use Rattle.routes.proofs.Rows.{length-routes}
 use Rattle.tree_image.specs.Image.{node_need}
 use Rattle.tree_image.proofs.Needs.{hops-need}
 use Rattle.tree_room.specs.Lack.{Lack, short_nodes, short_hops, has_room}
 use Rattle.tree_room.proofs.Room.{room-is}
-use Rattle.tree_build.specs.declared.Built.{Built}
-use Rattle.tree_build.specs.declared.Built.TheVariants.{Made, RefusedAt, Refused}
-use Rattle.tree_build.specs.Built.{means_built, ImageOut, image_out, made_of, built}
+use Rattle.tree_build.specs.Built.{means_built, ImageOut, image_out, made_of, after_input, built}
 use Rattle.tree_node.specs.Count.{nodes_to}
 use Rattle.tree_fill.specs.Fill.{ImageRoom, ImageFilled}
 use Rattle.tree_node.proofs.NodeRuns.{good-list}
 use Rattle.tree_node.proofs.Levels.{nodes-counted}
-
--- answers that are told the same are the same
-pub means_built-injective : (x y : Built) → means_built x ≡ means_built y → x ≡ y
-unfolding means_built
-means_built-injective (Made a b) (Made c d) e = cc
-means_built-injective (Made a b) (RefusedAt c d) e = let z : ◌≡◌ {A = ℕ} 0 1 = cc in absurd (omega arith)
-means_built-injective (Made a b) (Refused c) e = let z : ◌≡◌ {A = ℕ} 0 1 = cc in absurd (omega arith)
-means_built-injective (RefusedAt a b) (Made c d) e = let z : ◌≡◌ {A = ℕ} 0 1 = cc in absurd (omega arith)
-means_built-injective (RefusedAt a b) (RefusedAt c d) e = cc
-means_built-injective (RefusedAt a b) (Refused c) e = let z : ◌≡◌ {A = ℕ} 0 1 = cc in absurd (omega arith)
-means_built-injective (Refused a) (Made c d) e = let z : ◌≡◌ {A = ℕ} 0 1 = cc in absurd (omega arith)
-means_built-injective (Refused a) (RefusedAt c d) e = let z : ◌≡◌ {A = ℕ} 0 1 = cc in absurd (omega arith)
-means_built-injective (Refused a) (Refused c) e = cc
 
 -- good records, with the nodes counted
 module _ (s : List ℕ) (n : ℕ) (ok : GoodInput s n) (x : ℕ) (ex : (x ≡ nodes_to s n 8) × (x ≤ 32769)) (ws hs : List ℕ) where
@@ -52,21 +39,26 @@ module _ (s : List ℕ) (n : ℕ) (ok : GoodInput s n) (x : ℕ) (ex : (x ≡ no
   routes-are : length (routes_in s) ≡ n
   routes-are = length-routes s (length s / 8) ∙ sym all
 
-  few_nodes : length ws / 3 < x → image_out (means_built (Refused 11)) ws hs ≡ made_of (routes_in s) ws hs
-  unfolding made_of means_built
+  few_nodes : length ws / 3 < x → image_out (refused 11) ws hs ≡ made_of (routes_in s) ws hs
+  unfolding made_of said_by
   few_nodes l = rw (lt-ltb (length ws / 3) (node_need (routes_in s)) (omega (arith, nodes-are)))
 
-  few_hops : x ≤ length ws / 3 → length hs < n → image_out (means_built (Refused 12)) ws hs ≡ made_of (routes_in s) ws hs
-  unfolding made_of means_built
+  few_hops : x ≤ length ws / 3 → length hs < n → image_out (refused 12) ws hs ≡ made_of (routes_in s) ws hs
+  unfolding made_of said_by
   few_hops l u = rw (
     le-ltb (length ws / 3) (node_need (routes_in s)) (omega (arith, nodes-are)),
     lt-ltb (length hs) (length (routes_in s)) (omega (arith, routes-are)),
   )
 
-  pub no_room : {f : ℕ} → Lack (length ws) (length hs) x n f → (f ≡ 0 → ⊥) → image_out (means_built (Refused f)) ws hs ≡ made_of (routes_in s) ws hs
+  no_room : {f : ℕ} → Lack (length ws) (length hs) x n f → (f ≡ 0 → ⊥) → image_out (refused f) ws hs ≡ made_of (routes_in s) ws hs
   no_room (short_nodes l) z = few_nodes l
   no_room (short_hops l u) z = few_hops l u
   no_room (has_room l u) z = absurd (z refl)
+
+  pub lacks : (w : Refusal) → Lack (length ws) (length hs) x n (number_of w) → image_out (means_built (Err (record { why = w; at = None }))) ws hs
+      ≡ made_of (routes_in s) ws hs
+  unfolding said_by
+  lacks w l = no_room l (number-above_0 w)
 
   module _ {f : ℕ} (lack : Lack (length ws) (length hs) x n f) (none : f ≡ 0) where
     pub roomy : ImageRoom s (length ws) (length hs)
@@ -83,8 +75,8 @@ module _ (s : List ℕ) (n : ℕ) (ok : GoodInput s n) (x : ℕ) (ex : (x ≡ no
         }
 
     pub made : {ws' hs' : List ℕ} → ImageFilled s ws hs ws' hs' → (a b : ℕ) → a ≡ x → b ≡ n
-        → image_out (means_built (Made a b)) ws' hs' ≡ made_of (routes_in s) ws hs
-    unfolding made_of means_built
+        → image_out (means_built (Ok (record { nodes = a; hops = b }))) ws' hs' ≡ made_of (routes_in s) ws hs
+    unfolding made_of said_by
     made g a b ea eb =
         let room = room-is lack none in
         rw (
@@ -97,18 +89,19 @@ module _ (s : List ℕ) (n : ℕ) (ok : GoodInput s n) (x : ℕ) (ex : (x ≡ no
         )
 
 -- the arms of the input's check
-module _ (s : List ℕ) (i : Input) (e : means_input i ≡ input_said s) (ws hs : List ℕ) where
-  pub good-input : (n : ℕ) → i ≡ input.Good n → GoodInput s n
-  good-input n q = let g = input-good s n (told-good s i e n q) in record { records = g.1; whole = g.0 }
+module _ (s ws hs : List ℕ) where
+  module _ (n : ℕ) (e : input_said s ≡ accepted (n ∷ [])) where
+    pub good-input : GoodInput s n
+    good-input = let g = input-good s n e in record { records = g.1; whole = g.0 }
 
-  pub after-good : (n : ℕ) → i ≡ input.Good n → (o : ImageOut) → o ≡ made_of (routes_in s) ws hs → o ≡ built s ws hs
-  unfolding built
-  after-good n q o m = m ∙ rw (told-good s i e n q)
+    pub after-good : (o : ImageOut) → o ≡ made_of (routes_in s) ws hs → o ≡ built s ws hs
+    unfolding built
+    after-good o m = m ∙ rw e
 
-  pub after-refused : (f k : ℕ) → i ≡ input.Refused f k → image_out (means_built (RefusedAt f k)) ws hs ≡ built s ws hs
-  unfolding built means_built
-  after-refused f k q = rw (told-refused s i e f k q)
-
-  pub after-many : i ≡ input.TooMany → image_out (means_built (Refused 6)) ws hs ≡ built s ws hs
-  unfolding built means_built
-  after-many q = rw (told-many s i e q)
+  pub after-refused : (e : Refused) → input_said s ≡ told e → image_out (means_built (Err e)) ws hs ≡ built s ws hs
+  unfolding built said_by
+  after-refused e q = rw q (go e.at)
+    where
+      go : (o : Option ℕ) → image_out (refused_by (number_of e.why) o) ws hs ≡ after_input (refused_by (number_of e.why) o) s ws hs
+      go None = refl
+      go (Some k) = refl

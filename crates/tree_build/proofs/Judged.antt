@@ -9,7 +9,7 @@ use lib.ListN.{length}
 use borrow.Author.Tests.{lt-ltb, le-ltb}
 use Rattle.bits.proofs.Bools.{below?}
 use Rattle.routes.specs.Input.{input_said}
-use Rattle.routes.specs.Said.{Said, accepted, refused, refused_at, accepts}
+use Rattle.routes.specs.Said.{Said, accepts}
 use Rattle.tree_image.specs.Image.{node_need}
 use Rattle.routes.specs.Record.{routes_in}
 use Rattle.tree_build.specs.Built.{made_of, built}

@@ -1,18 +1,17 @@
 -- What a build answers, and what the two arrays then hold.
-use Rattle.std.specs.Prelude.{cond, List, [], ◌∷◌, ℕ, ◌/◌, ltb, length}
+use Rattle.std.specs.Prelude.{Result, cond, List, [], ◌∷◌, ℕ, ◌/◌, ltb, length}
 use Rattle.routes.specs.Record.{routes_in}
 use Rattle.routes.specs.Input.{input_said}
-use Rattle.routes.specs.Said.{Said, accepted, refused, refused_at}
+use Rattle.refusals.specs.declared.Refused.{Refused}
+use Rattle.routes.specs.Said.{Said, accepted, refused, refused_at, said_by}
 use Rattle.routes.specs.declared.Route.{Route}
 use Rattle.tree_image.specs.Image.{image_of, node_need}
-use Rattle.tree_build.specs.declared.Built.{Built}
-use Rattle.tree_build.specs.declared.Built.TheVariants.{Made, RefusedAt, Refused}
+use Rattle.tree_image.specs.Reads.{used_values}
+use Rattle.tree_image.specs.declared.Used.{Used}
 
 -- document 01's number and values for each answer: the nodes and the hops used
-unfoldable pub means_built : Built → Said
-means_built (Made nodes hops) = accepted (nodes ∷ hops ∷ [])
-means_built (RefusedAt f k) = refused_at f k
-means_built (Refused f) = refused f
+abbrev pub means_built : Result Used Refused → Said
+means_built = said_by used_values
 
 -- what is told, and what the words and the hops are at the end
 pub record ImageOut : Type 0 where

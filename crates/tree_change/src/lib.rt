@@ -4,39 +4,44 @@
 
 ghost use Rattle.tree_change.specs.Contract.{MeetsTreeAnnounce, MeetsTreeWithdraw};
 
-use bits::widen::byte_to_word;
-use routes::input;
+use refusals::Refusal;
+use routes::input::{hop_ok, prefix_ok};
 use tree_check::check;
+use tree_image::Used;
 use tree_put::{put, take};
-use tree_theory::{TreeAnnounced, TreeWithdrawn};
+use tree_theory::Announced;
 
 // Adds a route to an image, or replaces the hop of its prefix. A refusal leaves both arrays as they were.
-pub fn announce(words: &mut [u32], hops: &mut [u16], addr: u32, len: u8, hop: u16) -> TreeAnnounced
+pub fn announce(
+    words: &mut [u32],
+    hops: &mut [u16],
+    addr: u32,
+    len: u8,
+    hop: u16,
+) -> Result<Announced, Refusal>
     ensures { MeetsTreeAnnounce words.old hops.old addr len hop result words.new hops.new }
 {
-    if !input::prefix_ok(addr, len) {
-        return TreeAnnounced::Refused(3);
+    if !prefix_ok(addr, len) {
+        return Err(Refusal::Prefix);
     }
-    if !input::hop_ok(hop) {
-        return TreeAnnounced::Refused(4);
+    if !hop_ok(hop) {
+        return Err(Refusal::Hop);
     }
-    let n = check(words, hops);
-    if n == 0 {
-        return TreeAnnounced::Refused(13);
-    }
-    put(words, hops, n, addr, byte_to_word(len), hop)
+    let Some(n) = check(words, hops) else {
+        return Err(Refusal::Broken);
+    };
+    put(words, hops, n, addr, u32::from(len), hop)
 }
 
 // Takes a prefix out of an image. A refusal leaves both arrays as they were.
-pub fn withdraw(words: &mut [u32], hops: &mut [u16], addr: u32, len: u8) -> TreeWithdrawn
+pub fn withdraw(words: &mut [u32], hops: &mut [u16], addr: u32, len: u8) -> Result<Used, Refusal>
     ensures { MeetsTreeWithdraw words.old hops.old addr len result words.new hops.new }
 {
-    if !input::prefix_ok(addr, len) {
-        return TreeWithdrawn::Refused(3);
+    if !prefix_ok(addr, len) {
+        return Err(Refusal::Prefix);
     }
-    let n = check(words, hops);
-    if n == 0 {
-        return TreeWithdrawn::Refused(13);
-    }
-    take(words, hops, n, addr, byte_to_word(len))
+    let Some(n) = check(words, hops) else {
+        return Err(Refusal::Broken);
+    };
+    take(words, hops, n, addr, u32::from(len))
 }

@@ -1,10 +1,10 @@
 // The nodes of an image from the root down: the test of a node calls the test of its child array, and that calls the test of a node. Once the bases are
 // those of the fixed order no two child arrays share a node, so the way down meets each node once, whatever the arrays hold.
+// Stays: document 01 names this form, a node's test that calls its child array's test and back; so it is no loop over the children.
 ghost use Rattle.std.specs.Prelude.{◌≡◌, ◌≤◌};
 ghost use Rattle.tree_formed.specs.Bases.{Siblings};
 ghost use Rattle.tree_formed.specs.WellFormed.{node_ok, children_ok, root_ok};
 
-use bits::widen::word_to_index;
 use tree_bases::{children, first_child};
 
 // A node is well formed when its own bitmaps are and its child array is: bit 15 is zero, some bit is set, and at depth 8 bit 0 alone.
@@ -24,8 +24,7 @@ pub fn node_ok(words: &[u32], at: usize, left: u32) -> bool
         return false;
     }
     let first = first_child(words, at);
-    let n = word_to_index(children(word));
-    children_ok(words, first, n, left - 1)
+    children_ok(words, first, children(word) as usize, left - 1)
 }
 
 // A child array is well formed when each of its nodes is: the first one, and the others.
@@ -37,11 +36,7 @@ pub fn children_ok(words: &[u32], first: usize, n: usize, left: u32) -> bool
     if n == 0 {
         return true;
     }
-    if node_ok(words, first, left) {
-        children_ok(words, first + 1, n - 1, left)
-    } else {
-        false
-    }
+    node_ok(words, first, left) && children_ok(words, first + 1, n - 1, left)
 }
 
 // The root may be bare.
@@ -49,8 +44,5 @@ pub fn root_ok(words: &[u32]) -> bool
     requires { Siblings words.now 0 1 8 }
     ensures { result ≡ root_ok words.now }
 {
-    if words[0] == 0 {
-        return true;
-    }
-    node_ok(words, 0, 8)
+    words[0] == 0 || node_ok(words, 0, 8)
 }

@@ -5,8 +5,6 @@
 ghost use Rattle.std.specs.Prelude.{◌+◌, length};
 ghost use Rattle.tree_fill.specs.Fill.{ImageRoom, State, NodeWaits, ImageFilled};
 
-use bits::widen::word_to_index;
-use buffers::fill::{fill16, zero32};
 use tree_node::{put, run};
 
 // How many nodes are done or wait, and how many hops are put.
@@ -16,21 +14,22 @@ pub struct Sizes {
     pub hops: usize,
 }
 
-// The node at i is taken from the queue and gets its words; its hops are put from h on, and its children wait from t on.
-fn step(list: &[u8], words: &mut [u32], hops: &mut [u16], i: usize, t: usize, h: usize) -> Sizes
-    requires { NodeWaits list.now words.old hops.old i t h }
+// The node at i is taken from the queue and gets its words; its hops are put after those that are put, and its children wait after the
+// nodes that wait.
+fn step(list: &[u8], words: &mut [u32], hops: &mut [u16], i: usize, used: Sizes) -> Sizes
+    requires { NodeWaits list.now words.old hops.old i used.nodes used.hops }
     ensures { State list.now words.new hops.new (i + 1) result.nodes result.hops }
 {
     let m = words[3 * i];
-    let a = word_to_index(words[3 * i + 1]);
-    let e = word_to_index(words[3 * i + 2]);
+    let a = words[3 * i + 1] as usize;
+    let e = words[3 * i + 2] as usize;
     let word = run::node_word(list, m, a, e);
-    put::put_hops(list, hops, m, a, e, word, h);
-    put::put_kids(list, words, m, a, e, word, t);
-    put::put_node(words, i, word, put::narrow(t), put::narrow(h));
+    put::put_hops(list, hops, m, a, e, word, used.hops);
+    put::put_kids(list, words, m, a, e, word, used.nodes);
+    put::put_node(words, i, word, used.nodes as u32, used.hops as u32);
     Sizes {
-        nodes: t + word_to_index(bits::ones_below(word >> 16, 16)),
-        hops: h + word_to_index(bits::ones_below(word, 15)),
+        nodes: used.nodes + bits::ones_below(word >> 16, 16) as usize,
+        hops: used.hops + bits::ones_below(word, 15) as usize,
     }
 }
 
@@ -39,9 +38,9 @@ fn start(list: &[u8], words: &mut [u32], hops: &mut [u16])
     requires { ImageRoom list.now (length words.old) (length hops.old) }
     ensures { State list.now words.new hops.new 0 1 0 }
 {
-    zero32(words);
-    fill16(hops, 0);
-    put::put_node(words, 0, 0, 0, put::narrow(list.len() / 8));
+    words.fill(0);
+    hops.fill(0);
+    put::put_node(words, 0, 0, 0, (list.len() / 8) as u32);
 }
 
 // The whole image, node by node.
@@ -51,12 +50,10 @@ pub fn fill_image(list: &[u8], words: &mut [u32], hops: &mut [u16])
 {
     start(list, words, hops);
     let mut i: usize = 0;
-    let mut t: usize = 1;
-    let mut h: usize = 0;
-    while i < t {
-        let next = step(list, words, hops, i, t, h);
+    let mut used = Sizes { nodes: 1, hops: 0 };
+    // Stays: each step lengthens the queue, so its end is not known before.
+    while i < used.nodes {
+        used = step(list, words, hops, i, used);
         i += 1;
-        t = next.nodes;
-        h = next.hops;
     }
 }

@@ -19,27 +19,7 @@ use Rattle.routes.proofs.Goods.{good-fine}
 use Rattle.standing.specs.Cells.{any, first}
 use Rattle.tree_image.specs.Node.{bits_of, child_of, base_of, sound}
 use Rattle.tree_image.specs.Parts.{before}
-use Rattle.tree_image.specs.Image.{
-  Node,
-  node,
-  inner_len,
-  bit_hop,
-  inner,
-  child,
-  set_bit,
-  word,
-  kids,
-  hops_of,
-  nodes,
-  words,
-  hops,
-  image_by,
-  image_of,
-  through,
-  node_stands,
-  hop_for,
-  node_need,
-}
+use Rattle.tree_image.specs.Image.{Node, node, inner_len, bit_hop, inner, child, set_bit, word, kids, hops_of, nodes, hops, image_by, image_of, through, node_stands, hop_for, node_need}
 use Rattle.tree_image.proofs.Counts.{count-hit}
 use Rattle.tree_image.proofs.Parts.{picked-length, gather-split}
 use Rattle.tree_image.proofs.Nodes.{up_next, inner-bit, clear-bit, child-bit}

@@ -21,7 +21,7 @@ use Rattle.routes.specs.Route.{Good}
 use Rattle.routes.specs.declared.Route.{Route}
 use Rattle.routes.proofs.Goods.{good-fine}
 use Rattle.tree_image.specs.Node.{bits_of, child_of, base_of, is_set, sound, child_at}
-use Rattle.tree_image.specs.Image.{node, inner_len, bit_hop, inner, child, set_bit, word, words, hops, image_of, through, node_stands, hop_for, node_need}
+use Rattle.tree_image.specs.Image.{node, inner_len, bit_hop, inner, child, set_bit, word, image_of, through, node_stands, hop_for, node_need}
 use Rattle.tree_image.proofs.Counts.{count_less}
 use Rattle.bits.proofs.Packed.{rank-count, upper-count}
 use Rattle.tree_image.proofs.Needs.{hops-need}

@@ -2,7 +2,8 @@
 -- way to the first child of each level, which ends after the last node of a well-formed image.
 use mathlib.Core.Path.{◌≡◌, refl, sym, ◌∙◌, ap, subst}
 use mathlib.Core.Logic.{◌⊎◌, inl, inr}
-use mathlib.Core.Bool.{Bool, true, false, true≢false, false≢true}
+use Rattle.std.specs.Prelude.{Some, None}
+use mathlib.Core.Bool.{Bool, true, false, ◌&&◌, true≢false, false≢true}
 use mathlib.Core.List.{List}
 use Prim.Native.Nat.{ℕ, zero, suc, ◌+◌, ◌-◌, ◌*◌, ◌/◌, ◌%◌, ◌^◌, ◌≤◌, ◌<◌}
 use native.Mathlib.Omega.{arith}
@@ -11,11 +12,11 @@ use lib.ListN.{length, get_or}
 use lib.Count.{ones, ones-le}
 use borrow.Author.Tests.{eqb-true, eq-eqb}
 use Rattle.bits.specs.Tab.{Tells}
-use Rattle.bits.proofs.Bools.{below?, untrue}
+use Rattle.bits.proofs.Bools.{below?, untrue, both, and_split}
 use Rattle.tree_image.specs.Node.{bits_of, child_of, base_of}
 use Rattle.tree_same.specs.Order.{exts, ints, Order}
 use Rattle.tree_formed.specs.WellFormed.{nodes_used, well_formed}
-use Rattle.tree_formed.specs.Bases.{Flagged, PassedOver, EndsAt, Nodes, Begun, NodesUpTo, NodesShaped}
+use Rattle.tree_formed.specs.Bases.{PassedOver, EndsAt, Nodes, Begun, NodesUpTo, NodesShaped}
 use Rattle.tree_formed.proofs.Meaning.{well-formed-is, is-ordered}
 use Rattle.tree_formed.proofs.Held.{exts-next, ints-next, exts-mono}
 use Rattle.tree_formed.proofs.TestReturns.{check-few}
@@ -65,22 +66,15 @@ unfolding ints
 ints-few ws zero = omega arith
 ints-few ws (suc i) = omega (arith, ints-few ws i, ones-le 15 (bits_of ws i % 2 ^ 15) (omega arith))
 
--- `bad` is 0 exactly where the bases up to node i are right
-pub record Faulty (ws : List ℕ) (i bad : ℕ) : Type 0 where
-  pub is : bad ≡ 0 → NodesUpTo ws i
-  pub of : NodesUpTo ws i → bad ≡ 0
-  pub few : bad ≤ 2 * i
-
-pub faults-start : (ws : List ℕ) (m : ℕ) → Begun ws m → Faulty ws 0 0
+pub right-start : (ws : List ℕ) (m : ℕ) → Begun ws m → Tells true (NodesUpTo ws 0)
 unfolding exts ints
-faults-start ws m b = record {
-  is = λ z. record {
+right-start ws m b = (
+  λ z. record {
     child = λ j l. let q : j ≡ 0 = omega arith in rw q b.child;
     base = λ j l. let q : j ≡ 0 = omega arith in rw q b.base;
-  };
-  of = λ u. refl;
-  few = omega arith;
-}
+  },
+  λ u. refl,
+)
 
 up_to : (P : ℕ → Type 0) (i : ℕ) → ((j : ℕ) → j ≤ i → P j) → P (suc i) → (j : ℕ) → j ≤ suc i → P j
 up_to P i f a j l = go (below? i j)
@@ -89,17 +83,15 @@ up_to P i f a j l = go (below? i j)
     go (inl u) = let q : suc i ≡ j = omega arith in subst P q a
     go (inr u) = f j u
 
--- what the two flags of one step say, of the words as they are read
-pub record NodeStep (ws : List ℕ) (i x y child hop b c : ℕ) : Type 0 where
+-- what one step reckons, of the words as they are read
+pub record NodeStep (ws : List ℕ) (i x y child hop : ℕ) : Type 0 where
   pub kids : x ≡ ones (bits_of ws i / 2 ^ 16)
   pub own : y ≡ ones (bits_of ws i % 2 ^ 15)
   pub its_child : child ≡ (child_of ws i + x) % 2 ^ 32
   pub its_hop : hop ≡ (base_of ws i + y) % 2 ^ 32
-  pub on_child : Flagged b (get_or ws (3 * i + 4) 0 ≡ child)
-  pub on_hop : Flagged c (get_or ws (3 * i + 5) 0 ≡ hop)
 
-module _ (ws : List ℕ) (narrow : (j : ℕ) → get_or ws j 0 < 2 ^ 32) (i : ℕ) (few : i ≤ 32768) (x y child hop b c : ℕ)
-    (s : NodeStep ws i x y child hop b c) where
+module _ (ws : List ℕ) (narrow : (j : ℕ) → get_or ws j 0 < 2 ^ 32) (i : ℕ) (few : i ≤ 32768) (x y child hop : ℕ)
+    (s : NodeStep ws i x y child hop) where
   next-child : get_or ws (3 * i + 4) 0 ≡ child_of ws (suc i)
   next-child = let q : 3 * i + 4 ≡ 3 * suc i + 1 = omega arith in ap (λ (j : ℕ). get_or ws j 0) q
 
@@ -123,37 +115,39 @@ module _ (ws : List ℕ) (narrow : (j : ℕ) → get_or ws j 0 < 2 ^ 32) (i : �
     sum-hop : hop ≡ ints ws (suc i)
     sum-hop = omega (arith, s.own, s.its_hop, right-base, ints-next ws i, ints-few ws i, ones-le 15 (bits_of ws i % 2 ^ 15) (omega arith))
 
-  pub faults-next : (bad : ℕ) → Faulty ws i bad → Faulty ws (i + 1) (bad + (b + c))
-  faults-next bad f = let q : suc i ≡ i + 1 = omega arith in subst (λ (k : ℕ). Faulty ws k (bad + (b + c))) q (record {
-    is = λ z. forth (f.is (omega (arith, z))) (omega (arith, z)) (omega (arith, z));
-    of = back;
-    few = omega (arith, f.few, s.on_child.one, s.on_hop.one);
-  })
+  pub right-next : (r : Bool) → Tells r (NodesUpTo ws i)
+      → Tells (r && (eqb (get_or ws (3 * i + 4) 0) child && eqb (get_or ws (3 * i + 5) 0) hop)) (NodesUpTo ws (i + 1))
+  right-next r f = let q : suc i ≡ i + 1 = omega arith in subst (λ (k : ℕ). Tells (r && both-same) (NodesUpTo ws k)) q (forth, back)
     where
-      forth : NodesUpTo ws i → b ≡ 0 → c ≡ 0 → NodesUpTo ws (suc i)
-      forth u zb zc =
-          let q = sym next-child ∙ s.on_child.is zb ∙ sum-child (u.child i (omega arith)) (u.base i (omega arith)) in
-          let r = sym next-base ∙ s.on_hop.is zc ∙ sum-hop (u.child i (omega arith)) (u.base i (omega arith)) in
+      both-same : Bool
+      both-same = eqb (get_or ws (3 * i + 4) 0) child && eqb (get_or ws (3 * i + 5) 0) hop
+
+      forth : (r && both-same) ≡ true → NodesUpTo ws (suc i)
+      forth e =
+          let a = and_split r both-same e in
+          let b = and_split (eqb (get_or ws (3 * i + 4) 0) child) _ a.1 in
+          let u = f.0 a.0 in
+          let q = sym next-child ∙ eqb-true _ _ b.0 ∙ sum-child (u.child i (omega arith)) (u.base i (omega arith)) in
+          let v = sym next-base ∙ eqb-true _ _ b.1 ∙ sum-hop (u.child i (omega arith)) (u.base i (omega arith)) in
           record {
             child = up_to (λ j. child_of ws j ≡ 1 + exts ws j) i u.child q;
-            base = up_to (λ j. base_of ws j ≡ ints ws j) i u.base r;
+            base = up_to (λ j. base_of ws j ≡ ints ws j) i u.base v;
           }
 
-      back : NodesUpTo ws (suc i) → bad + (b + c) ≡ 0
+      back : NodesUpTo ws (suc i) → (r && both-same) ≡ true
       back u =
           let child-here = u.child i (omega arith) in
           let base-here = u.base i (omega arith) in
           let next = u.child (suc i) (omega arith) in
-          let zb = s.on_child.of (next-child ∙ next ∙ sym (sum-child child-here base-here)) in
-          let zc = s.on_hop.of (next-base ∙ u.base (suc i) (omega arith) ∙ sym (sum-hop child-here base-here)) in
-          let before = f.of (record {
+          let before = f.1 (record {
             child = λ j l. u.child j (omega arith);
             base = λ j l. u.base j (omega arith);
           }) in
-          omega (arith, zb, zc, before)
+          both before (both (eq-eqb _ _ (next-child ∙ next ∙ sym (sum-child child-here base-here)))
+          (eq-eqb _ _ (next-base ∙ u.base (suc i) (omega arith) ∙ sym (sum-hop child-here base-here))))
 
-pub faults-end : (ws : List ℕ) (m i bad : ℕ) → i ≤ m → m ≤ i → Faulty ws i bad → (bad ≡ 0 → NodesUpTo ws m) × (NodesUpTo ws m → bad ≡ 0)
-faults-end ws m i bad a b f = let q : i ≡ m = omega arith in subst (λ (k : ℕ). (bad ≡ 0 → NodesUpTo ws k) × (NodesUpTo ws k → bad ≡ 0)) q (f.is, f.of)
+pub right-end : (ws : List ℕ) (m i : ℕ) (r : Bool) → i ≤ m → m ≤ i → Tells r (NodesUpTo ws i) → Tells r (NodesUpTo ws m)
+right-end ws m i r a b f = let q : i ≡ m = omega arith in subst (λ (k : ℕ). Tells r (NodesUpTo ws k)) q f
 
 -- ---- the first n nodes
 
@@ -175,17 +169,13 @@ module _ (ws : List ℕ) (n : ℕ) (k : Nodes ws n) where
     base = λ j l. o.base j (omega (arith, k.some));
   }
 
-  module _ (r : ℕ) (of : NodesUpTo ws (n - 1) → r ≡ 0) where
-    pub order-faults : (r ≡ 0 → ⊥) → Tells false (Order ws n)
-    order-faults f = no-order ws n (λ o. f (of (order-up o)))
+  pub order-wrong : (r : Bool) → Tells r (NodesUpTo ws (n - 1)) → r ≡ false → Tells false (Order ws n)
+  order-wrong r t f = no-order ws n (λ o. true≢false (sym (t.1 (order-up o)) ∙ f))
 
-  module _ (r : ℕ) (is : r ≡ 0 → NodesUpTo ws (n - 1)) (z : r ≡ 0) (x : ℕ) where
+  module _ (u : NodesUpTo ws (n - 1)) (x : ℕ) where
     pub order-end : x ≡ child_of ws (n - 1) + ones (bits_of ws (n - 1) / 2 ^ 16) → Tells (eqb x n) (Order ws n)
     order-end ex = (λ e. forth (eqb-true x n e), λ o. eq-eqb x n (omega (arith, whole, o.whole, later (n - 1) (omega (arith, k.some)), more)))
       where
-        u : NodesUpTo ws (n - 1)
-        u = is z
-
         last : suc (n - 1) ≡ n
         last = omega (arith, k.some)
 
@@ -213,43 +203,38 @@ module _ (ws : List ℕ) (n : ℕ) (k : Nodes ws n) where
 -- ---- the nodes in use
 
 module _ (ws : List ℕ) (n : ℕ) (e : EndsAt ws n) where
-  no_image : (wf : (hs : List ℕ) → well_formed ws hs ≡ true → ⊥) → NodesShaped ws 0
-  no_image wf = record {
-    lent = omega arith;
-    few = omega arith;
-    none = λ z hs. untrue (well_formed ws hs) (wf hs);
-    some = λ f. absurd (f refl);
-  }
+  no_image : (wf : (hs : List ℕ) → well_formed ws hs ≡ true → ⊥) → NodesShaped ws None
+  no_image wf hs = untrue (well_formed ws hs) (wf hs)
 
   -- a well-formed image has n nodes
   its-nodes : (hs : List ℕ) → well_formed ws hs ≡ true → n ≡ nodes_used ws
   its-nodes hs t = let w = well-formed-is ws hs t in e.end (nodes_used ws) w.order w.words_after
 
-  pub shape-none : n ≡ 0 → NodesShaped ws 0
+  pub shape-none : n ≡ 0 → NodesShaped ws None
   shape-none z = no_image (λ hs t. omega (arith, its-nodes hs t, (well-formed-is ws hs t).order.whole))
 
-  pub shape-past : length ws / 3 < n → NodesShaped ws 0
+  pub shape-past : length ws / 3 < n → NodesShaped ws None
   shape-past l = no_image (λ hs t. omega (arith, its-nodes hs t, (well-formed-is ws hs t).order.lent))
 
-  pub shape-many : ((j : ℕ) → get_or ws j 0 < 2 ^ 32) → 32769 < n → NodesShaped ws 0
+  pub shape-many : ((j : ℕ) → get_or ws j 0 < 2 ^ 32) → 32769 < n → NodesShaped ws None
   shape-many narrow l = no_image (λ hs t. omega (arith, its-nodes hs t, few hs t))
     where
       few : (hs : List ℕ) → well_formed ws hs ≡ true → nodes_used ws ≤ 32769
-      few hs t = (check-few ws hs (nodes_used ws) (rw t refl) (λ z. omega (arith, (well-formed-is ws hs t).order.whole, z)) narrow).0
+      few hs t = (check-few ws hs (nodes_used ws) (rw t refl) narrow).0
 
   module _ (r : Bool) (t : Tells r (Order ws n)) where
-    pub shape-not : r ≡ false → NodesShaped ws 0
+    pub shape-not : r ≡ false → NodesShaped ws None
     shape-not f = no_image (λ hs w.
         let k = well-formed-is ws hs w in
         true≢false (sym (t.1 (rw (its-nodes hs w) k.order)) ∙ f))
 
-    pub shape_is : n ≤ 32769 → r ≡ true → NodesShaped ws n
+    pub shape_is : n ≤ 32769 → r ≡ true → NodesShaped ws (Some n)
     shape_is few f =
         let o = t.0 f in
         let u = is-ordered ws n o in
         record {
+          some = omega (arith, o.whole);
           lent = omega (arith, o.lent);
           few = few;
-          none = λ z. absurd (omega (arith, z, o.whole));
-          some = λ z. rw u.1 (sym u.0);
+          ordered = rw u.1 (sym u.0);
         }

@@ -1,28 +1,19 @@
 -- Nodes and their child arrays: of each return of the two tests, why its answer is that of the definition; and that the children of a node in use are
--- in use. Flags, which the passes without an early end count.
+-- in use.
 use mathlib.Core.Path.{◌≡◌, refl, ap, ◌∙◌}
 use mathlib.Core.Bool.{Bool, true, false, not, ◌&&◌}
 use mathlib.Core.List.{List}
 use Prim.Native.Nat.{ℕ, zero, suc, ◌+◌, ◌-◌, ◌*◌, ◌/◌, ◌^◌, ◌≤◌, ◌<◌}
 use native.Mathlib.Omega.{arith}
-use lib.Dec.{eqb, ltb}
+use lib.Dec.{eqb}
 use lib.Count.{ones}
 use lib.ListN.{length}
 use borrow.Author.Tests.{lt-ltb, eq-eqb, ne_eqb}
 use Rattle.tree_image.specs.Node.{bits_of, child_of, is_set, sound}
-use Rattle.tree_same.specs.Order.{exts, Order}
 use Rattle.tree_formed.specs.WellFormed.{nodes_used, all_from, node_ok, children_ok, root_ok}
-use Rattle.tree_formed.specs.Bases.{Flagged, Siblings}
+use Rattle.tree_formed.specs.Bases.{Siblings}
 use Rattle.tree_formed.proofs.Meaning.{ordered-is}
 use Rattle.tree_formed.proofs.Held.{exts-next, exts-mono}
-
--- ---- flags
-
-pub flag_off : (r : ℕ) (P : Type 0) → r ≡ 1 → (P → ⊥) → Flagged r P
-flag_off r P e f = record { is = λ z. absurd (omega arith); of = λ p. absurd (f p); one = omega arith }
-
-pub flag-on : (r : ℕ) (P : Type 0) → r ≡ 0 → P → Flagged r P
-flag-on r P e p = record { is = λ z. p; of = λ q. e; one = omega arith }
 
 -- ---- a child array: its first node, and the others
 

@@ -1,55 +1,47 @@
 -- What the steps of the test say: of each return, why its answer is that of the definition.
+use Rattle.std.specs.Prelude.{Some, None}
 use mathlib.Core.Path.{◌≡◌, refl, sym, ◌∙◌, ap, subst}
 use mathlib.Core.Logic.{◌⊎◌, inl, inr}
-use mathlib.Core.Bool.{Bool, true, false, not, ◌&&◌, true≢false}
+use mathlib.Core.Bool.{Bool, true, false, ◌&&◌, true≢false}
 use mathlib.Core.List.{List}
 use Prim.Native.Nat.{ℕ, suc, ◌+◌, ◌-◌, ◌*◌, ◌%◌, ◌^◌, ◌≤◌, ◌<◌}
+use native.Mathlib.Numerals.{add-one}
 use native.Mathlib.Omega.{arith}
-use lib.Dec.{eqb, leb}
+use lib.Dec.{leb}
 use lib.ListN.{length, get_or}
 use lib.Count.{ones}
-use borrow.Author.Tests.{leb-true, le-leb, eqb-true, eq-eqb}
-use Rattle.bits.specs.Tab.{Tells}
-use Rattle.bits.proofs.Bools.{decided, both, and_split, untrue, below?, same}
-use Rattle.bits.proofs.Tabs.{every_true, true-every}
+use borrow.Author.Tests.{leb-true, le-leb}
+use Rattle.bits.specs.Tab.{Tells, every}
+use Rattle.bits.proofs.Bools.{decided, both, and_split, untrue}
 use Rattle.buffers_test.specs.Zeros.{Zeros}
 use Rattle.routes.specs.Input.{hop_fine}
 use Rattle.tree_image.specs.Node.{bits_of, base_of}
 use Rattle.tree_same.specs.Order.{ints, Order}
-use Rattle.tree_formed.specs.WellFormed.{nodes_used, ordered, root_ok, hops_in, hops_ok, hops_fine_to, blank_from, well_formed, nodes_if}
-use Rattle.tree_formed.specs.Bases.{Flagged, NodesShaped, Siblings}
-use Rattle.tree_formed.proofs.Meaning.{not-true, ordered-is, blank-zeros, zeros-blank}
+use Rattle.tree_formed.specs.WellFormed.{nodes_used, ordered, root_ok, hops_in, hops_ok, hops_fine_to, blank_from, well_formed, nodes_if, nodes_where}
+use Rattle.tree_formed.specs.Bases.{Shape, NodesShaped, Siblings}
+use Rattle.tree_formed.proofs.Meaning.{ordered-is, blank-zeros, zeros-blank}
 
 -- ---- hops and zeros
 
-up_to : (P : ℕ → Type 0) (i : ℕ) → ((j : ℕ) → j < i → P j) → P i → (j : ℕ) → j < i + 1 → P j
-up_to P i f a j l = go (below? j i)
+pub fine-none : (hs : List ℕ) → true ≡ hops_fine_to hs 0
+unfolding every
+fine-none hs = refl
+
+pub fine_more : (hs : List ℕ) (j : ℕ) (fine t : Bool) → fine ≡ hops_fine_to hs j → t ≡ hop_fine (get_or hs j 0) → (fine && t) ≡ hops_fine_to hs (j + 1)
+unfolding every
+fine_more hs j fine t e f = swapped ∙ ap (hops_fine_to hs) (sym (add-one j))
   where
-    go : (j < i) ⊎ (i ≤ j) → P j
-    go (inl u) = f j u
-    go (inr u) = let q : i ≡ j = omega arith in subst P q a
+    either : (a b : Bool) → (a && b) ≡ (b && a)
+    either true true = refl
+    either true false = refl
+    either false true = refl
+    either false false = refl
 
--- `bad` is 0 exactly where the first j hops are hops
-pub record FineTo (hs : List ℕ) (j bad : ℕ) : Type 0 where
-  pub is : bad ≡ 0 → (i : ℕ) → i < j → hop_fine (get_or hs i 0) ≡ true
-  pub of : ((i : ℕ) → i < j → hop_fine (get_or hs i 0) ≡ true) → bad ≡ 0
-  pub few : bad ≤ j
+    swapped : (fine && t) ≡ hops_fine_to hs (suc j)
+    swapped = either fine t ∙ rw (e, f)
 
-pub fine-none : (hs : List ℕ) → FineTo hs 0 0
-fine-none hs = record { is = λ z i l. absurd (omega arith); of = λ f. refl; few = omega arith }
-
-pub fine_more : (hs : List ℕ) (j bad x : ℕ) → FineTo hs j bad → Flagged x (hop_fine (get_or hs j 0) ≡ true) → FineTo hs (j + 1) (bad + x)
-fine_more hs j bad x f g = record {
-  is = λ z. up_to (λ i. hop_fine (get_or hs i 0) ≡ true) j (f.is (omega (arith, z))) (g.is (omega (arith, z)));
-  of = λ h. omega (arith, f.of (λ i l. h i (omega arith)), g.of (h j (omega arith)));
-  few = omega (arith, f.few, g.one);
-}
-
-pub fine-all : (hs : List ℕ) (k j bad : ℕ) → j ≤ k → k ≤ j → FineTo hs j bad → eqb bad 0 ≡ hops_fine_to hs k
-fine-all hs k j bad a b f =
-    same (eqb bad 0) (hops_fine_to hs k)
-    (λ e. true-every (λ i. hop_fine (get_or hs i 0)) k (λ i l. f.is (eqb-true bad 0 e) i (omega arith)))
-    (λ t. eq-eqb bad 0 (f.of (λ i l. every_true (λ n. hop_fine (get_or hs n 0)) k t i (omega arith))))
+pub fine-all : (hs : List ℕ) (k j : ℕ) (fine : Bool) → j ≤ k → k ≤ j → fine ≡ hops_fine_to hs j → fine ≡ hops_fine_to hs k
+fine-all hs k j fine a b e = let q : j ≡ k = omega arith in rw q at e
 
 -- the hops of the nodes in use: the hop base of the last one and its own
 pub hops-last : (ws : List ℕ) (n x y : ℕ) → 0 < n → n ≡ nodes_if (ordered ws) ws → x ≡ base_of ws (n - 1) → y ≡ ones (bits_of ws (n - 1) % 2 ^ 15)
@@ -67,36 +59,31 @@ hops-last ws n x y l e ex ey = go (decided (ordered ws))
 
 -- ---- the whole test
 
--- what an `if !r` that is passed by says
-pub not-failed : (r b : Bool) → r ≡ b → not r ≡ false → b ≡ true
-not-failed true b q f = sym q
-not-failed false b q f = absurd (true≢false f)
-
-module _ (ws : List ℕ) (n : ℕ) (s : NodesShaped ws n) (z : n ≡ 0 → ⊥) where
+module _ (ws : List ℕ) (n : ℕ) (s : Shape ws n) where
   its-order : (ordered ws ≡ true) × (nodes_used ws ≡ n)
   its-order = go (decided (ordered ws))
     where
       go : (ordered ws ≡ true) ⊎ (ordered ws ≡ false) → (ordered ws ≡ true) × (nodes_used ws ≡ n)
-      go (inl t) = (t, sym (rw t at (s.some z)))
-      go (inr t) = absurd (z (rw t at (s.some z)))
+      go (inl t) = (t, sym (rw t at s.ordered))
+      go (inr t) = absurd (omega (arith, rw t at s.ordered, s.some))
 
   pub check-root-in : Siblings ws 0 1 8
   check-root-in = record {
     order = its-order.0;
-    inside = omega (arith, its-order.1, z);
+    inside = omega (arith, its-order.1, s.some);
     few = omega (arith, its-order.1, s.few);
     deep = omega arith;
   }
 
   pub check-counted : (0 < n) × (3 * n ≤ length ws) × (n ≡ nodes_if (ordered ws) ws)
-  check-counted = (omega (arith, z), s.lent, s.some z)
+  check-counted = (s.some, s.lent, s.ordered)
 
-module _ (ws hs : List ℕ) (n : ℕ) (s : NodesShaped ws n) where
-  pub check-none : n ≡ 0 → 0 ≡ nodes_if (well_formed ws hs) ws
-  check-none z = rw (s.none z hs) refl
+module _ (ws hs : List ℕ) where
+  pub check-none : NodesShaped ws None → None ≡ nodes_where (well_formed ws hs) ws
+  check-none f = rw (f hs) refl
 
-  module _ (z : n ≡ 0 → ⊥) where
-    fails_by : (well_formed ws hs ≡ true → ⊥) → 0 ≡ nodes_if (well_formed ws hs) ws
+  module _ (n : ℕ) (s : Shape ws n) where
+    fails_by : (well_formed ws hs ≡ true → ⊥) → None ≡ nodes_where (well_formed ws hs) ws
     fails_by f = rw (untrue (well_formed ws hs) f)
 
     parts : well_formed ws hs ≡ true → (root_ok ws ≡ true) × (hops_ok ws hs ≡ true) × (blank_from ws (3 * nodes_used ws) ≡ true) × (blank_from hs (hops_in ws) ≡ true)
@@ -108,12 +95,12 @@ module _ (ws hs : List ℕ) (n : ℕ) (s : NodesShaped ws n) where
         let d = and_split (blank_from ws (3 * nodes_used ws)) _ c.1 in
         (b.0, c.0, d.0, d.1)
 
-    pub check-root : (r : Bool) → r ≡ root_ok ws → not r ≡ true → 0 ≡ nodes_if (well_formed ws hs) ws
-    check-root r q f = fails_by (λ w. true≢false (sym (parts w).0 ∙ sym q ∙ not-true r f))
+    pub check-root : (r : Bool) → r ≡ root_ok ws → r ≡ false → None ≡ nodes_where (well_formed ws hs) ws
+    check-root r q f = fails_by (λ w. true≢false (sym (parts w).0 ∙ sym q ∙ f))
 
     module _ (k : ℕ) (ek : k ≡ ints ws n) where
       its-hops : hops_in ws ≡ k
-      its-hops = ap (ints ws) (its-order ws n s z).1 ∙ sym ek
+      its-hops = ap (ints ws) (its-order ws n s).1 ∙ sym ek
 
       hop-parts : well_formed ws hs ≡ true → (leb k (length hs) ≡ true) × (leb k 4096 ≡ true) × (hops_fine_to hs k ≡ true)
       unfolding hops_ok
@@ -123,27 +110,27 @@ module _ (ws hs : List ℕ) (n : ℕ) (s : NodesShaped ws n) where
           let b = and_split (leb k 4096) (hops_fine_to hs k) a.1 in
           (a.0, b.0, b.1)
 
-      pub check-room : length hs < k → 0 ≡ nodes_if (well_formed ws hs) ws
+      pub check-room : length hs < k → None ≡ nodes_where (well_formed ws hs) ws
       check-room l = fails_by (λ w. omega (arith, leb-true k (length hs) (hop-parts w).0))
 
-      pub check-few : 4096 < k → 0 ≡ nodes_if (well_formed ws hs) ws
+      pub check-few : 4096 < k → None ≡ nodes_where (well_formed ws hs) ws
       check-few l = fails_by (λ w. omega (arith, leb-true k 4096 (hop-parts w).1))
 
-      pub check-hops : (r : Bool) → r ≡ hops_fine_to hs k → not r ≡ true → 0 ≡ nodes_if (well_formed ws hs) ws
-      check-hops r q f = fails_by (λ w. true≢false (sym (hop-parts w).2 ∙ sym q ∙ not-true r f))
+      pub check-hops : (r : Bool) → r ≡ hops_fine_to hs k → r ≡ false → None ≡ nodes_where (well_formed ws hs) ws
+      check-hops r q f = fails_by (λ w. true≢false (sym (hop-parts w).2 ∙ sym q ∙ f))
 
-      pub check-words-after : (r : Bool) → Tells r (Zeros ws (3 * n) (length ws)) → not r ≡ true → 0 ≡ nodes_if (well_formed ws hs) ws
-      check-words-after r q f = fails_by (λ w. true≢false (sym (q.1 (blank-zeros ws (3 * n) (rw (its-order ws n s z).1 at (parts w).2))) ∙ not-true r f))
+      pub check-words-after : (r : Bool) → Tells r (Zeros ws (3 * n) (length ws)) → r ≡ false → None ≡ nodes_where (well_formed ws hs) ws
+      check-words-after r q f = fails_by (λ w. true≢false (sym (q.1 (blank-zeros ws (3 * n) (rw (its-order ws n s).1 at (parts w).2))) ∙ f))
 
-      pub check-hops-after : (r : Bool) → Tells r (Zeros hs k (length hs)) → not r ≡ true → 0 ≡ nodes_if (well_formed ws hs) ws
-      check-hops-after r q f = fails_by (λ w. true≢false (sym (q.1 (blank-zeros hs k (rw its-hops at (parts w).3))) ∙ not-true r f))
+      pub check-hops-after : (r : Bool) → Tells r (Zeros hs k (length hs)) → r ≡ false → None ≡ nodes_where (well_formed ws hs) ws
+      check-hops-after r q f = fails_by (λ w. true≢false (sym (q.1 (blank-zeros hs k (rw its-hops at (parts w).3))) ∙ f))
 
       pub check-passes : root_ok ws ≡ true → k ≤ length hs → k ≤ 4096 → hops_fine_to hs k ≡ true → Zeros ws (3 * n) (length ws) → Zeros hs k (length hs)
-          → n ≡ nodes_if (well_formed ws hs) ws
+          → Some n ≡ nodes_where (well_formed ws hs) ws
       unfolding well_formed hops_ok
       check-passes r a b c d f =
           let h : hops_ok ws hs ≡ true = rw its-hops (both (le-leb k (length hs) a) (both (le-leb k 4096 b) c)) in
-          let x : blank_from ws (3 * nodes_used ws) ≡ true = rw (its-order ws n s z).1 (zeros-blank ws (3 * n) d) in
+          let x : blank_from ws (3 * nodes_used ws) ≡ true = rw (its-order ws n s).1 (zeros-blank ws (3 * n) d) in
           let y : blank_from hs (hops_in ws) ≡ true = rw its-hops (zeros-blank hs k f) in
-          let w : well_formed ws hs ≡ true = both (its-order ws n s z).0 (both r (both h (both x y))) in
-          rw w (sym (its-order ws n s z).1)
+          let w : well_formed ws hs ≡ true = both (its-order ws n s).0 (both r (both h (both x y))) in
+          rw (w, (its-order ws n s).1) refl

@@ -1,16 +1,10 @@
 -- What the functions of the test ask for and answer: of the bases, and of nodes and their child arrays on the way down from the root.
-use Rattle.std.specs.Prelude.{true, false, List, ◌≡◌, ℕ, ◌+◌, ◌*◌, ◌≤◌, ◌<◌, length, get_or}
+use Rattle.std.specs.Prelude.{true, false, List, ◌≡◌, ℕ, ◌+◌, ◌*◌, ◌≤◌, ◌<◌, length, get_or, Option, Some, None}
 use Rattle.tree_image.specs.Node.{child_of, base_of}
 use Rattle.tree_same.specs.Order.{exts, ints, Order}
 use Rattle.tree_formed.specs.WellFormed.{nodes_used, ordered, well_formed, nodes_if}
 
 -- ---- the bases
-
--- r is 0 exactly where P holds, and 1 at most
-pub record Flagged (r : ℕ) (P : Type 0) : Type 0 where
-  pub is : r ≡ 0 → P
-  pub of : P → r ≡ 0
-  pub one : r ≤ 1
 
 -- node j stands between some node and its children
 pub record PassedOver (ws : List ℕ) (j : ℕ) : Type 0 where
@@ -42,12 +36,17 @@ pub record NodesUpTo (ws : List ℕ) (i : ℕ) : Type 0 where
   pub child : (j : ℕ) → j ≤ i → child_of ws j ≡ 1 + exts ws j
   pub base : (j : ℕ) → j ≤ i → base_of ws j ≡ ints ws j
 
--- r is the number of nodes in use, and the bases are those of the fixed order; or r is 0, and the words are those of no image
-pub record NodesShaped (ws : List ℕ) (r : ℕ) : Type 0 where
-  pub lent : 3 * r ≤ length ws
-  pub few : r ≤ 32769
-  pub none : r ≡ 0 → (hs : List ℕ) → well_formed ws hs ≡ false
-  pub some : (r ≡ 0 → ⊥) → r ≡ nodes_if (ordered ws) ws
+-- n is the number of nodes in use, and the bases are those of the fixed order
+pub record Shape (ws : List ℕ) (n : ℕ) : Type 0 where
+  pub some : 0 < n
+  pub lent : 3 * n ≤ length ws
+  pub few : n ≤ 32769
+  pub ordered : n ≡ nodes_if (ordered ws) ws
+
+-- these nodes; or none, and the words are those of no image
+abbrev pub NodesShaped : List ℕ → Option ℕ → Type 0
+NodesShaped ws (Some n) = Shape ws n
+NodesShaped ws None = (hs : List ℕ) → well_formed ws hs ≡ false
 
 -- ---- the way down
 

@@ -1,6 +1,6 @@
 -- When words and hops are an image that some record input builds, as document 02 has it in m: the bases are those of the fixed order, the
 -- nodes are well formed from the root down, the hops in use are hops, and zeros stand after the last used.
-use Rattle.std.specs.Prelude.{Bool, true, cond, not, ◌&&◌, ◌||◌, List, ℕ, zero, suc, ◌+◌, ◌*◌, ◌/◌, ◌^◌, eqb, ltb, leb, length, get_or}
+use Rattle.std.specs.Prelude.{Bool, true, cond, not, ◌&&◌, ◌||◌, List, ℕ, zero, suc, ◌+◌, ◌*◌, ◌/◌, ◌^◌, eqb, ltb, leb, length, get_or, Option, Some, None}
 use Rattle.std.specs.Int.Count.{ones}
 use Rattle.bits.specs.Search.{first_of}
 use Rattle.bits.specs.Tab.{every}
@@ -63,6 +63,10 @@ blank_from xs k = every (λ j. ltb j k || eqb (get_or xs j 0) 0) (length xs)
 unfoldable pub well_formed : List ℕ → List ℕ → Bool
 well_formed ws hs = ordered ws && (root_ok ws && (hops_ok ws hs && (blank_from ws (3 * nodes_used ws) && blank_from hs (hops_in ws))))
 
--- the nodes of a well-formed image, 0 for any other content
+-- the nodes of a well-formed image, none for any other content
+abbrev pub nodes_where : Bool → List ℕ → Option ℕ
+nodes_where b ws = cond b (Some (nodes_used ws)) None
+
+-- the same as a number, 0 for any other content
 abbrev pub nodes_if : Bool → List ℕ → ℕ
 nodes_if b ws = cond b (nodes_used ws) 0

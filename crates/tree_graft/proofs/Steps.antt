@@ -1,5 +1,5 @@
 -- The steps of a graft and of its reverse: what a loop asks of the bases that it raises or lowers, and what the steps together leave.
-use mathlib.Core.Path.{◌≡◌, refl, ◌∙◌, ap, ap₂, subst}
+use mathlib.Core.Path.{◌≡◌, refl, ◌∙◌, ap, subst}
 use mathlib.Core.List.{List}
 use Prim.Native.Nat.{ℕ, ◌+◌, ◌-◌, ◌*◌, ◌≤◌, ◌<◌}
 use native.Mathlib.Omega.{arith}
@@ -16,7 +16,7 @@ use Rattle.tree_hold.proofs.Each.{each-length}
 use Rattle.tree_hold.proofs.GraftMade.{graft-inside, graft-few, graft-done}
 use Rattle.tree_hold.proofs.PruneMade.{prune-inside, prune-done}
 use Rattle.tree_places.proofs.Loops.{lowerable-set}
-use Rattle.tree_places.proofs.After.{After, after_first}
+use Rattle.tree_places.proofs.After.{After, after_first, after_next}
 use Rattle.tree_places.specs.Bases.{Raisable, Lowerable, WithoutBit}
 use Rattle.tree_graft.specs.Ready.{GraftReady}
 
@@ -44,8 +44,19 @@ gap_opened g w = moved_up w (3 * g.y) (3 * g.n) 3
 abbrev pub raising : Grafting → List ℕ → List ℕ
 raising g w = each (λ z. z + 1) w 1 (g.x + 1) (g.n + 1)
 
-pub last-put : (g : Grafting) {w : List ℕ} {n' k' : ℕ} → n' ≡ g.n → k' ≡ g.k → w ≡ put3 g.ws g.n 0 n' k' → w ≡ with_last g
-last-put g en ek e = e ∙ ap₂ (λ (u v : ℕ). put3 g.ws g.n 0 u v) en ek
+-- what is known after each step
+abbrev pub graft-put : {ws : List ℕ} {n k x c y : ℕ} (r : GraftReady ws n k x c) (e : y ≡ child_at (bits_of ws x) (child_of ws x) c)
+    {w : List ℕ} → w ≡ put3 ws n 0 n k → After Grafting with_last
+graft-put r e p = after_first (grafting r e) p
+
+abbrev pub graft-opened : {ws : List ℕ} {n k x c y : ℕ} (r : GraftReady ws n k x c) (e : y ≡ child_at (bits_of ws x) (child_of ws x) c)
+    {w v : List ℕ} → w ≡ put3 ws n 0 n k → v ≡ moved_up w (3 * y) (3 * n) 3 → After Grafting (λ g. gap_opened g (with_last g))
+graft-opened r e p m = after_next gap_opened (graft-put r e p) m
+
+abbrev pub graft-raised : {ws : List ℕ} {n k x c y : ℕ} (r : GraftReady ws n k x c) (e : y ≡ child_at (bits_of ws x) (child_of ws x) c)
+    {w v u : List ℕ} → w ≡ put3 ws n 0 n k → v ≡ moved_up w (3 * y) (3 * n) 3 → u ≡ each (λ z. z + 1) v 1 (x + 1) (n + 1)
+    → After Grafting (λ g. raising g (gap_opened g (with_last g)))
+graft-raised r e p m s = after_next raising (graft-opened r e p m) s
 
 module _ (s : After Grafting with_last) where
   pub graft-open : Movable (3 * s.found.y) (3 * s.found.n) 3 (length s.list)
@@ -59,7 +70,7 @@ module _ (s : After Grafting with_last) where
 module _ (s : After Grafting (λ g. gap_opened g (with_last g))) where
   long2 : length s.list ≡ length s.found.ws
   long2 =
-      let g = s.found in ap length s.is ∙ length-drawn (with_last g) (λ j. j - 3) (3 * g.y + 3) (3 * g.n + 3) ∙ put3-length g.ws g.n 0 g.n g.k
+      let g = s.found in ap length s.is ∙ length-drawn 0 (with_last g) (λ j. j - 3) (3 * g.y + 3) (3 * g.n + 3) ∙ put3-length g.ws g.n 0 g.n g.k
 
   pub graft-raise : Raisable s.list 1 (s.found.x + 1) (s.found.n + 1)
   graft-raise =
@@ -116,6 +127,18 @@ gap_closed p w = moved_down w (3 * p.y) (3 * p.n) 3
 abbrev pub blanking : Pruning → List ℕ → List ℕ
 blanking p w = put3 w p.n 0 0 0
 
+-- what is known after each step
+abbrev pub prune-lowered : (p : Pruning) {w : List ℕ} → w ≡ lowering p (bit_cleared p) → After Pruning (λ p. lowering p (bit_cleared p))
+prune-lowered p e = after_first p e
+
+abbrev pub prune-closed : (p : Pruning) {w v : List ℕ} → w ≡ lowering p (bit_cleared p) → v ≡ moved_down w (3 * p.y) (3 * p.n) 3
+    → After Pruning (λ p. gap_closed p (lowering p (bit_cleared p)))
+prune-closed p e m = after_next gap_closed (prune-lowered p e) m
+
+abbrev pub prune-blanked : (p : Pruning) {w v u : List ℕ} → w ≡ lowering p (bit_cleared p) → v ≡ moved_down w (3 * p.y) (3 * p.n) 3
+    → u ≡ put3 v p.n 0 0 0 → After Pruning (λ p. blanking p (gap_closed p (lowering p (bit_cleared p))))
+prune-blanked p e m b = after_next blanking (prune-closed p e m) b
+
 pub prune-lower : (p : Pruning) → Lowerable (bit_cleared p) 1 (p.x + 1) (p.n + 1)
 prune-lower p =
     let r = p.able in
@@ -137,7 +160,7 @@ module _ (s : After Pruning (λ p. gap_closed p (lowering p (bit_cleared p)))) w
   long-closed : length s.list ≡ length s.found.ws
   long-closed =
       let p = s.found in
-      ap length s.is ∙ length-drawn (lowering p (bit_cleared p)) (λ j. j + 3) (3 * p.y) (3 * p.n) ∙ long-lowered (after_first p refl)
+      ap length s.is ∙ length-drawn 0 (lowering p (bit_cleared p)) (λ j. j + 3) (3 * p.y) (3 * p.n) ∙ long-lowered (after_first p refl)
 
   pub prune-put : 3 * s.found.n + 3 ≤ length s.list
   prune-put = omega (arith, long-closed, s.found.able.words.order.lent)

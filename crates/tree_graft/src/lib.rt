@@ -16,9 +16,9 @@ pub fn graft(words: &mut [u32], n: usize, k: usize, x: usize, c: u32) -> usize
 {
     let word = words[3 * x];
     let y = tree_places::child_place(words, x, c);
-    put::put_node(words, n, 0, put::narrow(n), put::narrow(k));
-    moves::up32(words, 3 * y, 3 * n, 3);
-    bases::raise(words, 1, x + 1, n + 1);
+    put::put_node(words, n, 0, n as u32, k as u32);
+    moves::up(words, 3 * y, 3 * n, 3);
+    bases::each(words, 1, x + 1, n + 1, |base| base + 1);
     words[3 * y] = 0;
     words[3 * x] = run::with_bit(word, 16 + c);
     y
@@ -32,7 +32,7 @@ pub fn prune(words: &mut [u32], n: usize, k: usize, x: usize, c: u32)
     let word = words[3 * x];
     let y = tree_places::child_place(words, x, c);
     words[3 * x] = tree_places::without_bit(word, 16 + c);
-    bases::lower(words, 1, x + 1, n + 1);
-    moves::down32(words, 3 * y, 3 * n, 3);
+    bases::each(words, 1, x + 1, n + 1, |base| base - 1);
+    moves::down(words, 3 * y, 3 * n, 3);
     put::put_node(words, n, 0, 0, 0);
 }

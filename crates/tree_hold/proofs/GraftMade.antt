@@ -73,7 +73,7 @@ module _ {ws : List ℕ} {n k x c : ℕ} (r : Graftable ws n k x c) (y : ℕ) (p
   long1 = put3-length ws n 0 n k
 
   long2 : length w2 ≡ length ws
-  long2 = length-drawn w1 (λ j. j - 3) (3 * y + 3) (3 * n + 3) ∙ long1
+  long2 = length-drawn 0 w1 (λ j. j - 3) (3 * y + 3) (3 * n + 3) ∙ long1
 
   long3 : length w3 ≡ length ws
   long3 = each-length (λ z. z + 1) w2 1 (x + 1) (n + 1) ∙ long2
@@ -97,12 +97,12 @@ module _ {ws : List ℕ} {n k x c : ℕ} (r : Graftable ws n k x c) (y : ℕ) (p
       go (inr u) = let e : i ≡ n = omega arith in rw e ((put3-at ws n 0 n k r.room).2 ∙ r.words.hops)
 
   low : (j : ℕ) → j < 3 * y + 3 → get_or w2 j 0 ≡ get_or w1 j 0
-  low j l = drawn-before w1 (λ z. z - 3) (3 * y + 3) (3 * n + 3) j (omega (arith, long1, graft-inside, r.room)) l
+  low j l = drawn-before 0 w1 (λ z. z - 3) (3 * y + 3) (3 * n + 3) j (omega (arith, long1, graft-inside, r.room)) l
 
   high : (i d : ℕ) → d < 3 → y ≤ i → i < n → get_or w2 (3 * suc i + d) 0 ≡ get_or ws (3 * i + d) 0
   high i d u l v =
       let e : 3 * suc i + d - 3 ≡ 3 * i + d = omega arith in
-      drawn-in w1 (λ z. z - 3) (3 * y + 3) (3 * n + 3) (3 * suc i + d) (omega (arith, long1, r.room)) (omega arith) (omega arith)
+      drawn-in 0 w1 (λ z. z - 3) (3 * y + 3) (3 * n + 3) (3 * suc i + d) (omega (arith, long1, r.room)) (omega arith) (omega arith)
       ∙ ap (λ (z : ℕ). get_or w1 z 0) e ∙ first-old (3 * i + d) (omega arith)
 
   -- no child base is more than the number of nodes
@@ -205,6 +205,6 @@ module _ {ws : List ℕ} {n k x c : ℕ} (r : Graftable ws n k x c) (y : ℕ) (p
         rest : (j : ℕ) → 3 * (n + 1) ≤ j → (j < length ws) ⊎ (length ws ≤ j) → get_or ws' j 0 ≡ 0
         rest j l (inl u) =
             kept j (λ e. omega (arith, r.parent)) (λ e. omega (arith, graft-inside)) ∙ unraised j (λ e a b. omega arith)
-            ∙ drawn-after w1 (λ z. z - 3) (3 * y + 3) (3 * n + 3) j (omega (arith, long1)) (omega arith)
+            ∙ drawn-after 0 w1 (λ z. z - 3) (3 * y + 3) (3 * n + 3) j (omega (arith, long1)) (omega arith)
             ∙ put3-other ws n 0 n k j (inr (omega arith)) ∙ r.words.rest j (omega arith)
         rest j l (inr u) = past ws' j (omega (arith, graft-long))

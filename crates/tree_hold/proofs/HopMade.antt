@@ -52,7 +52,7 @@ module _ {ws hs : List ℕ} {n k x b : ℕ} (r : Puttable ws hs n k x b) (y : �
   lent = omega (arith, r.words.order.lent)
 
   long-hops : length h1 ≡ length hs
-  long-hops = length-drawn hs (λ j. j - 1) (y + 1) (k + 1)
+  long-hops = length-drawn 0 hs (λ j. j - 1) (y + 1) (k + 1)
 
   long-words : length w1 ≡ length ws
   long-words = each-length (λ z. z + 1) ws 2 (x + 1) n
@@ -101,12 +101,12 @@ module _ {ws hs : List ℕ} {n k x b : ℕ} (r : Puttable ws hs n k x b) (y : �
           (omega (arith, lent));
       rest_old = r.words.rest;
       rest = λ j l. kept j (λ q. omega (arith, r.parent)) (λ q a c. omega arith) ∙ r.words.rest j l;
-      hops_below = λ j l. hop j (λ q. omega arith) ∙ drawn-before hs (λ z. z - 1) (y + 1) (k + 1) j (omega (arith, put-inside, r.room)) (omega arith);
+      hops_below = λ j l. hop j (λ q. omega arith) ∙ drawn-before 0 hs (λ z. z - 1) (y + 1) (k + 1) j (omega (arith, put-inside, r.room)) (omega arith);
       hop_new = get_or-set_same h1 y h 0 (omega (arith, long-hops, put-inside, r.room));
       hops_above = λ j l u.
           let e : suc j - 1 ≡ j = omega arith in
           hop (suc j) (λ q. omega arith)
-          ∙ drawn-in hs (λ z. z - 1) (y + 1) (k + 1) (suc j) (omega (arith, r.room, r.words.hops)) (omega arith) (omega (arith, r.words.hops))
+          ∙ drawn-in 0 hs (λ z. z - 1) (y + 1) (k + 1) (suc j) (omega (arith, r.room, r.words.hops)) (omega arith) (omega (arith, r.words.hops))
           ∙ ap (λ (z : ℕ). get_or hs z 0) e;
       blank_old = λ j l. r.blank j (omega (arith, r.words.hops));
       blank = λ j l. blank j l (below? j (length hs));
@@ -115,5 +115,5 @@ module _ {ws hs : List ℕ} {n k x b : ℕ} (r : Puttable ws hs n k x b) (y : �
         blank : (j : ℕ) → ints ws n + 1 ≤ j → (j < length hs) ⊎ (length hs ≤ j) → get_or hs' j 0 ≡ 0
         blank j l (inl u) =
             hop j (λ q. omega (arith, put-inside, r.words.hops))
-            ∙ drawn-after hs (λ z. z - 1) (y + 1) (k + 1) j u (omega (arith, r.words.hops)) ∙ r.blank j (omega (arith, r.words.hops))
+            ∙ drawn-after 0 hs (λ z. z - 1) (y + 1) (k + 1) j u (omega (arith, r.words.hops)) ∙ r.blank j (omega (arith, r.words.hops))
         blank j l (inr u) = past hs' j (omega (arith, put-long-hops))

@@ -59,7 +59,7 @@ module _ {ws' : List ℕ} {n k x c : ℕ} (r : Prunable ws' n k x c) (y : ℕ) (
     long2 = each-length (λ z. z - 1) v1 1 (x + 1) (n + 1) ∙ long1
 
     long3 : length v3 ≡ length ws'
-    long3 = length-drawn v2 (λ j. j + 3) (3 * y) (3 * n) ∙ long2
+    long3 = length-drawn 0 v2 (λ j. j + 3) (3 * y) (3 * n) ∙ long2
 
     pub prune-long : length ws ≡ length ws'
     prune-long = put3-length v3 n 0 0 0 ∙ long3
@@ -76,13 +76,13 @@ module _ {ws' : List ℕ} {n k x c : ℕ} (r : Prunable ws' n k x c) (y : ℕ) (
     low : (j : ℕ) → j < 3 * y → get_or ws j 0 ≡ get_or v2 j 0
     low j l =
         put3-other v3 n 0 0 0 j (inl (omega (arith, prune-inside)))
-        ∙ drawn-before v2 (λ z. z + 3) (3 * y) (3 * n) j (omega (arith, long2, prune-inside, lent)) l
+        ∙ drawn-before 0 v2 (λ z. z + 3) (3 * y) (3 * n) j (omega (arith, long2, prune-inside, lent)) l
 
     high : (i d : ℕ) → d < 3 → y ≤ i → i < n → get_or ws (3 * i + d) 0 ≡ get_or v2 (3 * suc i + d) 0
     high i d u l w =
         let e : 3 * i + d + 3 ≡ 3 * suc i + d = omega arith in
         put3-other v3 n 0 0 0 (3 * i + d) (inl (omega arith))
-        ∙ drawn-in v2 (λ z. z + 3) (3 * y) (3 * n) (3 * i + d) (omega (arith, long2, lent)) (omega arith) (omega arith) ∙ ap (λ (z : ℕ). get_or v2 z 0) e
+        ∙ drawn-in 0 v2 (λ z. z + 3) (3 * y) (3 * n) (3 * i + d) (omega (arith, long2, lent)) (omega arith) (omega arith) ∙ ap (λ (z : ℕ). get_or v2 z 0) e
 
     -- the child base of a node is 1 or more
     base-some : (i : ℕ) → i ≤ n → 1 ≤ child_of ws' i
@@ -162,6 +162,6 @@ module _ {ws' : List ℕ} {n k x c : ℕ} (r : Prunable ws' n k x c) (y : ℕ) (
         rest_old : (j : ℕ) → 3 * n ≤ j → (j < 3 * n + 3) ⊎ (3 * n + 3 ≤ j) → (j < length ws') ⊎ (length ws' ≤ j) → get_or ws j 0 ≡ 0
         rest_old j l (inl u) w = zeros j (j - 3 * n) (omega arith) (omega arith)
         rest_old j l (inr u) (inl w) =
-            put3-other v3 n 0 0 0 j (inr u) ∙ drawn-after v2 (λ z. z + 3) (3 * y) (3 * n) j (omega (arith, long2)) (omega arith)
+            put3-other v3 n 0 0 0 j (inr u) ∙ drawn-after 0 v2 (λ z. z + 3) (3 * y) (3 * n) j (omega (arith, long2)) (omega arith)
             ∙ unlowered j (λ e a b. omega arith) ∙ first j (λ e. omega (arith, r.parent)) ∙ r.words.rest j (omega arith)
         rest_old j l (inr u) (inr w) = past ws j (omega (arith, prune-long))

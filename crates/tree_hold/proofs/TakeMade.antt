@@ -53,7 +53,7 @@ module _ {ws' hs' : List ℕ} {n k x b : ℕ} (r : Takable ws' hs' n k x b) (y :
     take_long = each-length (λ z. z - 1) v1 2 (x + 1) n ∙ length-set ws' (3 * x) v
 
     long-hops : length g1 ≡ length hs'
-    long-hops = length-drawn hs' (λ j. j + 1) y k
+    long-hops = length-drawn 0 hs' (λ j. j + 1) y k
 
     pub take-long-hops : length hs ≡ length hs'
     take-long-hops = length-set g1 k 0 ∙ long-hops
@@ -118,11 +118,11 @@ module _ {ws' hs' : List ℕ} {n k x b : ℕ} (r : Takable ws' hs' n k x b) (y :
       base_after = λ i l u. sym (lowered i l u);
       rest_old = λ j l. kept j (λ q. omega (arith, r.parent)) (λ q a c. omega arith) ∙ r.words.rest j l;
       rest = r.words.rest;
-      hops_below = λ j l. sym (hop j (λ q. omega (arith, take-inside)) ∙ drawn-before hs' (λ z. z + 1) y k j (omega (arith, take-inside, r.room)) l);
+      hops_below = λ j l. sym (hop j (λ q. omega (arith, take-inside)) ∙ drawn-before 0 hs' (λ z. z + 1) y k j (omega (arith, take-inside, r.room)) l);
       hop_new = refl;
       hops_above = λ j l u.
           let e : j + 1 ≡ suc j = omega arith in
-          sym (hop j (λ q. omega (arith, fewer)) ∙ drawn-in hs' (λ z. z + 1) y k j (omega (arith, fewer, r.room)) l (omega (arith, fewer)) ∙ ap
+          sym (hop j (λ q. omega (arith, fewer)) ∙ drawn-in 0 hs' (λ z. z + 1) y k j (omega (arith, fewer, r.room)) l (omega (arith, fewer)) ∙ ap
           (λ (z : ℕ). get_or hs' z 0) e);
       blank_old = λ j l. blank_old j (omega (arith, fewer)) (equal? j k) (below? j (length hs'));
       blank = λ j l. r.blank j (omega (arith, fewer));
@@ -130,5 +130,5 @@ module _ {ws' hs' : List ℕ} {n k x b : ℕ} (r : Takable ws' hs' n k x b) (y :
       where
         blank_old : (j : ℕ) → k ≤ j → (j ≡ k) ⊎ (j ≡ k → ⊥) → (j < length hs') ⊎ (length hs' ≤ j) → get_or hs j 0 ≡ 0
         blank_old j l (inl e) u = rw e (get_or-set_same g1 k 0 0 (omega (arith, long-hops, r.room)))
-        blank_old j l (inr e) (inl u) = hop j e ∙ drawn-after hs' (λ z. z + 1) y k j u l ∙ r.blank j (omega (arith, e))
+        blank_old j l (inr e) (inl u) = hop j e ∙ drawn-after 0 hs' (λ z. z + 1) y k j u l ∙ r.blank j (omega (arith, e))
         blank_old j l (inr e) (inr u) = past hs j (omega (arith, take-long-hops))

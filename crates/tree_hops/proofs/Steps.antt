@@ -52,7 +52,7 @@ module _ (s : After PuttingHop hops_opened) where
   pub put-store : s.found.y < length s.list
   put-store =
       let p = s.found in
-      omega (arith, ap length s.is, length-drawn p.hs (λ j. j - 1) (p.y + 1) (p.k + 1), (put-open p).rises, p.ready.able.room)
+      omega (arith, ap length s.is, length-drawn 0 p.hs (λ j. j - 1) (p.y + 1) (p.k + 1), (put-open p).rises, p.ready.able.room)
 
   pub put-leaves : {w : List ℕ} {v : ℕ} (h : ℕ) → w ≡ each (λ z. z + 1) s.found.ws 2 (s.found.x + 1) s.found.n
       → WithBit (bits_of s.found.ws s.found.x) s.found.b v

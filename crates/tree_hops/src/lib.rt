@@ -15,9 +15,9 @@ pub fn put_hop(words: &mut [u32], hops: &mut [u16], n: usize, k: usize, x: usize
 {
     let word = words[3 * x];
     let y = tree_places::hop_place(words, x, b);
-    moves::up16(hops, y, k, 1);
+    moves::up(hops, y, k, 1);
     hops[y] = h;
-    bases::raise(words, 2, x + 1, n);
+    bases::each(words, 2, x + 1, n, |base| base + 1);
     words[3 * x] = run::with_bit(word, b);
 }
 
@@ -29,7 +29,7 @@ pub fn take_hop(words: &mut [u32], hops: &mut [u16], n: usize, k: usize, x: usiz
     let word = words[3 * x];
     let y = tree_places::hop_place(words, x, b);
     words[3 * x] = tree_places::without_bit(word, b);
-    bases::lower(words, 2, x + 1, n);
-    moves::down16(hops, y, k, 1);
+    bases::each(words, 2, x + 1, n, |base| base - 1);
+    moves::down(hops, y, k, 1);
     hops[k] = 0;
 }

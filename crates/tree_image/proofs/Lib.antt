@@ -15,3 +15,4 @@ pub mod Serves
 pub mod ReadCounts
 pub mod Ranks
 pub mod Marks
+pub mod Useds

@@ -1,5 +1,6 @@
 -- Where an image holds routes, each at the bit of its node, the walk finds the longest route that matches. Routes are given here by
 -- their hops: `R l q` is the hop of the route of length l whose bits are q, and 0 where there is none.
+use Rattle.std.specs.Prelude.{Option, Some, None}
 use mathlib.Core.Path.{◌≡◌, refl, sym, ap, subst, ◌∙◌}
 use mathlib.Core.Bool.{Bool, true, false, not, cond}
 use mathlib.Core.Logic.{◌⊎◌, inl, inr, ⊎_elim}
@@ -18,8 +19,6 @@ use Rattle.standing.specs.Down.{or_next, down}
 use Rattle.standing.proofs.Downs.{or-next-none, or-next-some}
 use Rattle.tree_image.specs.Node.{bits_of, child_of, base_of, is_set, try_bit, deepest_of, better_of, child_at, nibble_of}
 use Rattle.tree_image.specs.Walk.{tree_hop_said, fetched_from, walk_from, tree_said}
-use Rattle.tree_image.specs.declared.Place.{Place}
-use Rattle.tree_image.specs.declared.Place.TheVariants.{Nowhere, At}
 use Rattle.tree_image.proofs.Walks.{walk-last, walk-stop, walk-down}
 
 abbrev pub Hops : Type 0
@@ -58,14 +57,14 @@ reads_from st a zero m = m + 1
 reads_from st a (suc d) m = cond (st (m + 1) (a / 2 ^ (4 * d))) (reads_from st a d (m + 1)) (m + 1)
 
 -- what is remembered on the way: the place of the hop h, or nothing where h is 0
-abbrev Rep : List ℕ → Place → ℕ → Type 0
-Rep hs Nowhere h = h ≡ 0
-Rep hs (At i) h = (i < length hs) × (get_or hs i 0 ≡ h) × (0 < h) × (h ≤ 32767)
+abbrev Rep : List ℕ → Option ℕ → ℕ → Type 0
+Rep hs None h = h ≡ 0
+Rep hs (Some i) h = (i < length hs) × (get_or hs i 0 ≡ h) × (0 < h) × (h ≤ 32767)
 
-fetched : (hs : List ℕ) (n h : ℕ) (best : Place) → Rep hs best h → fetched_from hs n best ≡ tree_hop_said h n
+fetched : (hs : List ℕ) (n h : ℕ) (best : Option ℕ) → Rep hs best h → fetched_from hs n best ≡ tree_hop_said h n
 unfolding fetched_from hop_fine
-fetched hs n h Nowhere r = rw r
-fetched hs n h (At i) r = rw (lt-ltb i (length hs) r.0, r.1, le-leb 1 h r.2, le-leb h 32767 r.3)
+fetched hs n h None r = rw r
+fetched hs n h (Some i) r = rw (lt-ltb i (length hs) r.0, r.1, le-leb 1 h r.2, le-leb h 32767 r.3)
 
 -- one bit of a node
 bit-cases : (w b : ℕ) → (bit_at w b ≡ 0) ⊎ (bit_at w b ≡ 1)
@@ -79,13 +78,13 @@ bit-cases w b = cases (bit_at w b) (omega arith)
 not_set : (w b : ℕ) → bit_at w b ≡ 0 → is_set w b ≡ false
 not_set w b z = ne_eqb (bit_at w b) 1 (λ (o : bit_at w b ≡ 1). omega arith)
 
-try-rep : (R : Hops) (hs : List ℕ) (w base b l q h rest : ℕ) (best : Place) → b < 15 → Hopped R hs w base b l q
+try-rep : (R : Hops) (hs : List ℕ) (w base b l q h : ℕ) (rest best : Option ℕ) → Hopped R hs w base b l q
     → Rep hs (better_of w base rest best) h → Rep hs (better_of w base (try_bit w b rest) best) (or_next (R l q) h)
 unfolding try_bit better_of
-try-rep R hs w base b l q h rest best lb k r =
+try-rep R hs w base b l q h rest best k r =
     ⊎_elim
     (λ z. rw (not_set w b z, or-next-none (R l q) h (k.off z)) r)
-    (λ o. rw (eq-eqb (bit_at w b) 1 o, ne_eqb b 15 (λ (e : b ≡ 15). omega arith), or-next-some (R l q) h (λ e. omega (arith, (k.on o).2))) (k.on o))
+    (λ o. rw (eq-eqb (bit_at w b) 1 o, or-next-some (R l q) h (λ e. omega (arith, (k.on o).2))) (k.on o))
     (bit-cases w b)
 
 -- the lengths of one node
@@ -109,20 +108,20 @@ by-eight p v = omega arith
 by-sixteen : (p v : ℕ) → v < 16 → (p * 16 + v) / 16 ≡ p
 by-sixteen p v h = omega arith
 
-module _ (R : Hops) (ws hs : List ℕ) (a m i p : ℕ) (best : Place) (r : Rep hs best (longest R a (4 * m))) where
-  none-rep : Rep hs (better_of (bits_of ws i) (base_of ws i) 15 best) (longest R a (4 * m))
+module _ (R : Hops) (ws hs : List ℕ) (a m i p : ℕ) (best : Option ℕ) (r : Rep hs best (longest R a (4 * m))) where
+  none-rep : Rep hs (better_of (bits_of ws i) (base_of ws i) None best) (longest R a (4 * m))
   unfolding better_of
   none-rep = r
 
-  own-rep : (t : ℕ) → 0 < t → NodeOf R ws hs t m i p → Rep hs (better_of (bits_of ws i) (base_of ws i) (try_bit (bits_of ws i) 0 15) best)
+  own-rep : (t : ℕ) → 0 < t → NodeOf R ws hs t m i p → Rep hs (better_of (bits_of ws i) (base_of ws i) (try_bit (bits_of ws i) 0 None) best)
       (or_next (R (4 * m) p) (longest R a (4 * m)))
   own-rep t h k =
       let e : 4 * m + 0 ≡ 4 * m = omega arith in
       let f : p * 1 + 0 ≡ p = omega arith in
-      try-rep R hs _ _ 0 (4 * m) p _ 15 best (omega arith) (rw (e, f) at (k.holds 0 0 h (omega arith))) none-rep
+      try-rep R hs _ _ 0 (4 * m) p _ None best (rw (e, f) at (k.holds 0 0 h (omega arith))) none-rep
 
   -- a node of depth 8: bit 0 alone
-  last-rep : NodeOf R ws hs 1 m i p → m ≡ 8 → p ≡ a → Rep hs (better_of (bits_of ws i) (base_of ws i) (try_bit (bits_of ws i) 0 15) best) (longest R a 33)
+  last-rep : NodeOf R ws hs 1 m i p → m ≡ 8 → p ≡ a → Rep hs (better_of (bits_of ws i) (base_of ws i) (try_bit (bits_of ws i) 0 None) best) (longest R a 33)
   last-rep k e f =
       let q : a / 2 ^ (32 - 4 * m) ≡ p = rw (e, f) (omega arith) in
       rw (next R a 33 (4 * m) p (omega arith) q) (own-rep 1 (omega arith) k)
@@ -138,9 +137,9 @@ module _ (R : Hops) (ws hs : List ℕ) (a m i p : ℕ) (best : Place) (r : Rep h
         next R a (4 * m + 2) (4 * m + 1) (p * 2 + v / 8) (omega arith) (cut-path a m e (4 * m + 1) 3 _ _ d (omega arith) x (by-eight p v)),
         next R a (4 * m + 1) (4 * m) p (omega arith) (cut-path a m e (4 * m) 4 _ _ d (omega arith) x (by-sixteen p v h)),
       )
-      (try-rep R hs _ _ (7 + v / 2) (4 * m + 3) (p * 8 + v / 2) _ _ best (omega arith) (k.holds 3 (v / 2) (omega arith) (omega arith))
-      (try-rep R hs _ _ (3 + v / 4) (4 * m + 2) (p * 4 + v / 4) _ _ best (omega arith) (k.holds 2 (v / 4) (omega arith) (omega arith))
-      (try-rep R hs _ _ (1 + v / 8) (4 * m + 1) (p * 2 + v / 8) _ _ best (omega arith) (k.holds 1 (v / 8) (omega arith) (omega arith))
+      (try-rep R hs _ _ (7 + v / 2) (4 * m + 3) (p * 8 + v / 2) _ _ best (k.holds 3 (v / 2) (omega arith) (omega arith))
+      (try-rep R hs _ _ (3 + v / 4) (4 * m + 2) (p * 4 + v / 4) _ _ best (k.holds 2 (v / 4) (omega arith) (omega arith))
+      (try-rep R hs _ _ (1 + v / 8) (4 * m + 1) (p * 2 + v / 8) _ _ best (k.holds 1 (v / 8) (omega arith) (omega arith))
       (own-rep 4 (omega arith) k))))
 
 -- where nothing lies below, no longer route matches
@@ -163,7 +162,7 @@ no_longer R a m e d none (suc l) h t =
 
 -- the walk
 module _ (st : ℕ → ℕ → Bool) (R : Hops) (ws hs : List ℕ) (a : ℕ) where
-  found : (d m i p : ℕ) (best : Place) → m + d ≡ 8 → p ≡ a / 2 ^ (4 * d) → SubtreeHolds st R ws hs d m i p → Rep hs best (longest R a (4 * m))
+  found : (d m i p : ℕ) (best : Option ℕ) → m + d ≡ 8 → p ≡ a / 2 ^ (4 * d) → SubtreeHolds st R ws hs d m i p → Rep hs best (longest R a (4 * m))
       → walk_from d ws hs a i best ≡ tree_hop_said (longest R a 33) (reads_from st a d m)
   unfolding SubtreeHolds reads_from
   found zero m i p best e x k r =
@@ -188,14 +187,14 @@ module _ (st : ℕ → ℕ → Bool) (R : Hops) (ws hs : List ℕ) (a : ℕ) whe
       rep = inner-rep R ws hs a m i p best r k.0 d (a / 2 ^ (4 * d) % 16) e (omega arith) path
 
       go : (st (m + 1) (a / 2 ^ (4 * d)) ≡ true) ⊎ (st (m + 1) (a / 2 ^ (4 * d)) ≡ false)
-          → ((j : ℕ) (b : Place) → SubtreeHolds st R ws hs d (m + 1) j (a / 2 ^ (4 * d)) → Rep hs b (longest R a (4 * (m + 1)))
+          → ((j : ℕ) (b : Option ℕ) → SubtreeHolds st R ws hs d (m + 1) j (a / 2 ^ (4 * d)) → Rep hs b (longest R a (4 * (m + 1)))
           → walk_from d ws hs a j b ≡ tree_hop_said (longest R a 33) (reads_from st a d (m + 1)))
           → walk_from (suc d) ws hs a i best ≡ tree_hop_said (longest R a 33) (cond (st (m + 1) (a / 2 ^ (4 * d))) (reads_from st a d (m + 1)) (m + 1))
       go (inl o) ih =
           let kid = k.1 (a / 2 ^ (4 * d) % 16) (omega arith) (rw path at o) in
           let deeper : 4 * (m + 1) ≡ 4 * m + 4 = omega arith in
           let j : ℕ = child_at (bits_of ws i) (child_of ws i) (a / 2 ^ (4 * d) % 16) in
-          let b : Place = better_of (bits_of ws i) (base_of ws i) (deepest_of (bits_of ws i) (a / 2 ^ (4 * d) % 16)) best in
+          let b : Option ℕ = better_of (bits_of ws i) (base_of ws i) (deepest_of (bits_of ws i) (a / 2 ^ (4 * d) % 16)) best in
           rw o
           (sym (walk-down ws hs a (suc d) i best _ refl k.0.here _ refl (not_set (bits_of ws i) 15 k.0.clear)
           (λ (y : suc d ≡ 0). omega arith) _ nib _ refl b refl _ refl j (ap not (eq-eqb _ 1 kid.0)) refl)
@@ -213,4 +212,4 @@ module _ (st : ℕ → ℕ → Bool) (R : Hops) (ws hs : List ℕ) (a : ℕ) whe
 pub walk-longest : (st : ℕ → ℕ → Bool) (R : Hops) (ws hs : List ℕ) (a : ℕ) → a < 2 ^ 32 → SubtreeHolds st R ws hs 8 0 0 0 → tree_said ws hs a
     ≡ tree_hop_said (longest R a 33) (reads_from st a 8 0)
 unfolding tree_said down
-walk-longest st R ws hs a h k = found st R ws hs a 8 0 0 0 Nowhere refl (omega arith) k refl
+walk-longest st R ws hs a h k = found st R ws hs a 8 0 0 0 None refl (omega arith) k refl

@@ -1,5 +1,6 @@
 -- The count of a lookup: at least 1, at most 10, and at most 9 where no route is answered. Of every image, whatever it holds, since a walk reads
 -- one node for each depth and no more; and of the routes, since at most eight nodes stand below the root on the path of an address.
+use Rattle.std.specs.Prelude.{Option, Some, None}
 use mathlib.Core.Path.{◌≡◌, refl, sym, ◌∙◌}
 use mathlib.Core.Logic.{◌⊎◌, inl, inr}
 use mathlib.Core.Bool.{Bool, true, false, cond, ◌&&◌, true≢false}
@@ -24,8 +25,6 @@ use Rattle.tree_image.specs.Node.{bits_of, child_of, is_set, sound, nibble_of, c
 use Rattle.tree_image.specs.Reads.{tree_reads, TreeAnswer, a_hop, no_route, broken}
 use Rattle.tree_image.specs.Walk.{tree_hop_said, fetched_from, last_match, inner_match, walk_from, tree_said}
 use Rattle.tree_image.specs.Image.{node_stands, on_path, through}
-use Rattle.tree_image.specs.declared.Place.{Place}
-use Rattle.tree_image.specs.declared.Place.TheVariants.{Nowhere, At}
 use Rattle.tree_image.proofs.Counts.{count-all}
 use Rattle.tree_image.proofs.Lies.{any-mem, pass-make}
 
@@ -33,19 +32,19 @@ use Rattle.tree_image.proofs.Lies.{any-mem, pass-make}
 
 module _ (ws hs : List ℕ) (a : ℕ) where
   -- one hop after n nodes
-  fetched-answer : (n : ℕ) (p : Place) → 1 ≤ n → n ≤ 9 → TreeAnswer (fetched_from hs n p)
+  fetched-answer : (n : ℕ) (p : Option ℕ) → 1 ≤ n → n ≤ 9 → TreeAnswer (fetched_from hs n p)
   unfolding fetched_from tree_hop_said
-  fetched-answer n Nowhere l u = no_route n l u
-  fetched-answer n (At h) l u = go (decided (ltb h (length hs) && hop_fine (get_or hs h 0)))
+  fetched-answer n None l u = no_route n l u
+  fetched-answer n (Some h) l u = go (decided (ltb h (length hs) && hop_fine (get_or hs h 0)))
     where
-      go : ((ltb h (length hs) && hop_fine (get_or hs h 0)) ≡ true) ⊎ ((ltb h (length hs) && hop_fine (get_or hs h 0)) ≡ false) → TreeAnswer (fetched_from hs n (At h))
+      go : ((ltb h (length hs) && hop_fine (get_or hs h 0)) ≡ true) ⊎ ((ltb h (length hs) && hop_fine (get_or hs h 0)) ≡ false) → TreeAnswer (fetched_from hs n (Some h))
       go (inr e) = rw e broken
       go (inl e) =
           let k = hop-true (get_or hs h 0) (and_split (ltb h (length hs)) (hop_fine (get_or hs h 0)) e).1 in
           rw (e, ne_eqb (get_or hs h 0) 0 (λ z. omega (arith, k.0))) (a_hop (n + 1) (get_or hs h 0) (omega arith) (omega arith) k.0 k.1)
 
   -- with d levels below, 8 - d nodes were read before
-  walk-answer : (d i : ℕ) (p : Place) → d ≤ 8 → TreeAnswer (walk_from d ws hs a i p)
+  walk-answer : (d i : ℕ) (p : Option ℕ) → d ≤ 8 → TreeAnswer (walk_from d ws hs a i p)
   unfolding walk_from
   walk-answer zero i p l = go (sound ws i)
     where
@@ -57,7 +56,7 @@ module _ (ws hs : List ℕ) (a : ℕ) where
       next : ℕ
       next = child_at (bits_of ws i) (child_of ws i) (nibble_of a d)
 
-      q : Place
+      q : Option ℕ
       q = inner_match ws i (nibble_of a d) p
 
       go : (b c : Bool) → TreeAnswer (walk_from d ws hs a next q)
@@ -68,7 +67,7 @@ module _ (ws hs : List ℕ) (a : ℕ) where
 
   pub tree-answers : TreeAnswer (tree_said ws hs a)
   unfolding tree_said
-  tree-answers = walk-answer 8 0 Nowhere (omega arith)
+  tree-answers = walk-answer 8 0 None (omega arith)
 
 -- ---- the count by the routes
 

@@ -1,10 +1,11 @@
 -- The count that a lookup in an image tells, as document 02 has it in c: the nodes read, and one more where a hop is answered, since that hop
 -- is fetched. No route counts the nodes alone, and 13 carries no count.
-use Rattle.std.specs.Prelude.{cond, List, ℕ, ◌+◌, ◌≤◌, eqb}
+use Rattle.std.specs.Prelude.{cond, List, [], ◌∷◌, ℕ, ◌+◌, ◌≤◌, eqb}
 use Rattle.routes.specs.Said.{Said, refused, hop_after, no_route_after}
 use Rattle.routes.specs.declared.Route.{Route}
 use Rattle.standing.specs.Cells.{best}
 use Rattle.tree_image.specs.Image.{on_path}
+use Rattle.tree_image.specs.declared.Used.{Used}
 
 -- the count of a lookup that has read n nodes and answers the hop h, 0 for no route
 abbrev pub counted : ℕ → ℕ → ℕ
@@ -19,3 +20,7 @@ pub data TreeAnswer : Said → Type 0 where
   a_hop : (n h : ℕ) → 2 ≤ n → n ≤ 10 → 1 ≤ h → h ≤ 32767 → TreeAnswer (hop_after n h)
   no_route : (n : ℕ) → 1 ≤ n → n ≤ 9 → TreeAnswer (no_route_after n)
   broken : TreeAnswer (refused 13)
+
+-- the values of an answer that tells how much of the arrays is in use
+abbrev pub used_values : Used → List ℕ
+used_values u = u.nodes ∷ u.hops ∷ []

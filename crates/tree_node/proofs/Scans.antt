@@ -58,8 +58,8 @@ module _ (s : List ℕ) (m a : ℕ) where
     pub run-stops : (e : ℕ) → a < k → k < e → AllTo k → not t ≡ true → RunEnd s m a e k
     run-stops e l u h f = record { after = l; high = omega arith; all = h; stop = λ v. sym its_own ∙ not-true t f }
 
-  pub run_ends : (e k : ℕ) → a < k → k ≤ e → e ≤ k → AllTo k → RunEnd s m a e k
-  run_ends e k l u v h = record { after = l; high = u; all = h; stop = λ w. absurd (omega arith) }
+  pub run_ends : (e k : ℕ) → a < k → k ≤ e → e ≤ k → AllTo k → RunEnd s m a e e
+  run_ends e k l u v h = let q : k ≡ e = omega arith in record { after = omega arith; high = omega arith; all = rw q at h; stop = λ w. absurd (omega arith) }
 
 -- one record more is counted, or not
 module _ (f : ℕ → Bool) (k n : ℕ) (e : n ≡ count f k) (t : Bool) (et : t ≡ f k) where

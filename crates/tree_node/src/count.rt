@@ -4,7 +4,6 @@ ghost use Rattle.bits.specs.Count.{count};
 ghost use Rattle.tree_node.specs.Count.{fresh_at, nodes_to};
 
 use crate::run;
-use bits::widen::byte_to_word;
 use records::record;
 
 // Whether record k passes through a node of depth m that the record before it does not pass through.
@@ -13,7 +12,7 @@ fn fresh(list: &[u8], m: u32, k: usize) -> bool
     ensures { result ≡ fresh_at list.now m k }
 {
     let r = record::read_record(list, k);
-    if byte_to_word(r.len) < 4 * m {
+    if u32::from(r.len) < 4 * m {
         return false;
     }
     if k == 0 {
@@ -28,11 +27,8 @@ fn count_level(list: &[u8], n: usize, m: u32) -> usize
     ensures { (result ≡ count (fresh_at list.now m) n) × (result ≤ n) }
 {
     let mut nodes: usize = 0;
-    let mut k: usize = 0;
-    while k < n {
-        let here = k;
-        k += 1;
-        if fresh(list, m, here) {
+    for k in 0..n {
+        if fresh(list, m, k) {
             nodes += 1;
         }
     }
@@ -45,10 +41,8 @@ pub fn count_nodes(list: &[u8], n: usize) -> usize
     ensures { (result ≡ nodes_to list.now n 8) × (result ≤ 32769) }
 {
     let mut nodes: usize = 1;
-    let mut m: u32 = 0;
-    while m < 8 {
-        m += 1;
-        nodes += count_level(list, n, m);
+    for m in 0..8 {
+        nodes += count_level(list, n, m + 1);
     }
     nodes
 }

@@ -4,16 +4,7 @@ ghost use Rattle.std.specs.Prelude.{◌≡◌, ◌+◌, ◌*◌, ◌^◌, ◌≤
 ghost use Rattle.tree_node.specs.Queue.{put3, HopsReady, HopsPut, KidsReady, KidsPut};
 
 use crate::run;
-use bits::widen::{byte_to_word, word_to_index};
 use records::record;
-
-// A number that fits a word.
-pub fn narrow(x: usize) -> u32
-    requires { x < 2 ^ 32 }
-    ensures { result ≡ x }
-{
-    x as u32
-}
 
 // The three words of node x.
 pub fn put_node(words: &mut [u32], x: usize, bits: u32, child: u32, hop: u32)
@@ -30,14 +21,12 @@ pub fn put_hops(list: &[u8], hops: &mut [u16], m: u32, a: usize, e: usize, word:
     requires { HopsReady list.now m a e word base hops.old }
     ensures { HopsPut list.now m a base hops.old hops.new }
 {
-    let mut k = a;
-    while k < e {
+    for k in a..e {
         let r = record::read_record(list, k);
-        k += 1;
-        let len = byte_to_word(r.len);
+        let len = u32::from(r.len);
         if len < 4 * (m + 1) {
             let below = bits::ones_below(word, run::node_bit(r.addr, len, m));
-            hops[base + word_to_index(below)] = r.hop;
+            hops[base + below as usize] = r.hop;
         }
     }
 }
@@ -48,21 +37,16 @@ pub fn put_kids(list: &[u8], words: &mut [u32], m: u32, a: usize, e: usize, word
     ensures { KidsPut list.now m a t words.old words.new }
 {
     let mut k = a;
+    // Stays: one turn takes a whole run, so k is no counter of a `for`.
     while k < e {
         let from = k;
         let r = record::read_record(list, from);
-        if byte_to_word(r.len) < 4 * (m + 1) {
+        if u32::from(r.len) < 4 * (m + 1) {
             k += 1;
         } else {
             k = run::run_end(list, m + 1, from, e);
             let below = bits::ones_below(word >> 16, bits::slot(4 * (m + 1), r.addr) % 16);
-            put_node(
-                words,
-                t + word_to_index(below),
-                m + 1,
-                narrow(from),
-                narrow(k),
-            );
+            put_node(words, t + below as usize, m + 1, from as u32, k as u32);
         }
     }
 }

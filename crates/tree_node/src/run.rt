@@ -4,7 +4,6 @@ ghost use Rattle.routes.specs.Record.{record_at};
 ghost use Rattle.tree_image.specs.Image.{through};
 ghost use Rattle.tree_node.specs.NodeRuns.{RunEnd, node_bit, WithBit, NodeRun, word_in};
 
-use bits::widen::byte_to_word;
 use records::record;
 
 // Whether record k passes through the node of depth m for a path.
@@ -13,7 +12,7 @@ pub fn passes(list: &[u8], k: usize, m: u32, path: u32) -> bool
     ensures { result ≡ through m path (record_at list.now k) }
 {
     let r = record::read_record(list, k);
-    if byte_to_word(r.len) < 4 * m {
+    if u32::from(r.len) < 4 * m {
         return false;
     }
     bits::slot(4 * m, r.addr) == path
@@ -26,14 +25,12 @@ pub fn run_end(list: &[u8], m: u32, a: usize, e: usize) -> usize
 {
     let first = record::read_record(list, a);
     let path = bits::slot(4 * m, first.addr);
-    let mut k = a + 1;
-    while k < e {
+    for k in a + 1..e {
         if !passes(list, k, m, path) {
             return k;
         }
-        k += 1;
     }
-    k
+    e
 }
 
 // The bit of a node of depth m at which a route that passes through it lies.
@@ -62,11 +59,9 @@ pub fn node_word(list: &[u8], m: u32, a: usize, e: usize) -> u32
     ensures { result ≡ word_in list.now m a }
 {
     let mut word: u32 = 0;
-    let mut k = a;
-    while k < e {
+    for k in a..e {
         let r = record::read_record(list, k);
-        word = with_bit(word, node_bit(r.addr, byte_to_word(r.len), m));
-        k += 1;
+        word = with_bit(word, node_bit(r.addr, u32::from(r.len), m));
     }
     word
 }

@@ -1,28 +1,15 @@
-// One of the three words of each node of a stretch made one more or one less: the child bases or the hop bases.
-ghost use Rattle.std.specs.Prelude.{◌≡◌, ◌+◌, ◌-◌};
+// One of the three words of each node of a stretch, changed alike: the child bases or the hop bases, made one more or one less.
+ghost use Rattle.std.specs.Prelude.{◌≡◌, ◌+◌, ◌*◌, ◌<◌, ◌≤◌, ℕ, slice_index};
 ghost use Rattle.tree_hold.specs.Moves.{each};
-ghost use Rattle.tree_places.specs.Bases.{Raisable, Lowerable};
+ghost use Rattle.tree_places.specs.Bases.{WordsLent, AnswersAs};
 
-// Word d of the nodes from a up to b, one more each.
-pub fn raise(words: &mut [u32], d: usize, a: usize, b: usize)
-    requires { Raisable words.old d a b }
-    ensures { words.new ≡ each (λ z. z + 1) words.old d a b }
+// Word d of the nodes from a up to b, each made what f answers of it.
+pub fn each<F: Fn(u32) -> u32>(words: &mut [u32], d: usize, a: usize, b: usize, f: F)
+    requires lent { WordsLent words.old d a b }
+    requires called { (i : ℕ) → a ≤ i → i < b → F.pre f (slice_index words.old (3 * i + d)) }
+    ensures { (g : ℕ → ℕ) → AnswersAs (F.post f) g words.old d a b → words.new ≡ each g words.old d a b }
 {
-    let mut i = a;
-    while i < b {
-        words[3 * i + d] = words[3 * i + d] + 1;
-        i += 1;
-    }
-}
-
-// Word d of the nodes from a up to b, one less each.
-pub fn lower(words: &mut [u32], d: usize, a: usize, b: usize)
-    requires { Lowerable words.old d a b }
-    ensures { words.new ≡ each (λ z. z - 1) words.old d a b }
-{
-    let mut i = a;
-    while i < b {
-        words[3 * i + d] = words[3 * i + d] - 1;
-        i += 1;
+    for i in a..b {
+        words[3 * i + d] = f(words[3 * i + d]);
     }
 }

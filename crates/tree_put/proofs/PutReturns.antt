@@ -1,14 +1,18 @@
 -- What is said where a route is put to a well-formed image or taken from it, and that it is what the definitions say.
 use mathlib.Core.Path.{◌≡◌, refl, sym, ◌∙◌, ap, ap₂, subst}
-use mathlib.Core.Bool.{Bool, true, false, not}
+use mathlib.Core.Bool.{Bool, true, false}
 use mathlib.Core.List.{List, [], ◌∷◌}
 use Prim.Native.Nat.{ℕ, suc, ◌+◌, ◌-◌, ◌*◌, ◌/◌, ◌^◌, ◌≤◌, ◌<◌}
 use native.Mathlib.Omega.{arith}
 use lib.ListN.{length}
 use borrow.Author.Tests.{lt-ltb, le-ltb}
-use Rattle.bits.specs.Count.{bit}
 use Rattle.routes.specs.Route.{key_of, Prefix, Fine}
-use Rattle.routes.specs.Said.{accepted}
+use Rattle.std.specs.Prelude.{Ok, Err}
+use Rattle.refusals.specs.Numbers.{number_of}
+use Rattle.refusals.specs.declared.Refusal.{Refusal}
+use Rattle.refusals.specs.declared.Refusal.TheVariants as refusal
+use Rattle.refusals.proofs.Numbers.{number-above_0}
+use Rattle.routes.specs.Said.{accepted, refused, said_plainly}
 use Rattle.routes.specs.declared.Route.{Route}
 use Rattle.standing.specs.Standing.{stands, insert, remove}
 use Rattle.standing.proofs.Standing.{insert-replaces}
@@ -22,13 +26,11 @@ use Rattle.tree_same.specs.Order.{ints, Order}
 use Rattle.tree_same.specs.Listed.{routes_held}
 use Rattle.tree_same.proofs.Holdings.{nodes-are, hops-are}
 use Rattle.tree_formed.specs.WellFormed.{ordered, nodes_if}
-use Rattle.tree_formed.proofs.Meaning.{not-true}
 use Rattle.tree_formed.proofs.Exact.{made-fits}
-use Rattle.tree_theory.specs.declared.TreeAnnounced.TheVariants as announced
-use Rattle.tree_theory.specs.declared.TreeWithdrawn.TheVariants as withdrawn
+use Rattle.tree_theory.specs.declared.Change.TheVariants.{Added, Replaced}
 use Rattle.tree_theory.specs.Changed.{means_tree_announced, means_tree_withdrawn, unmarked_route, saying, put_to, taken_from}
-use Rattle.tree_theory.specs.Stages.{Found, Descent, ImageFormed, New, Addable, PathEnds, Standing, Become}
-use Rattle.tree_theory.proofs.Places.{shaped, there-is, there-at}
+use Rattle.tree_theory.specs.Stages.{Found, ImageFormed, New, Addable, PathEnds, Standing, Become}
+use Rattle.tree_theory.proofs.Places.{shaped, there-is}
 use Rattle.tree_theory.proofs.Needs.{fewer-nodes, new-need}
 
 -- what a change that fits leaves and says
@@ -67,8 +69,8 @@ module _ {ws hs : List ℕ} {n k x m a len h b : ℕ} (r : New ws hs n k x m a l
   one_more : length (insert r₁ rs) ≡ k + 1
   one_more = insert-adds r₁ rs r.absent ∙ omega (arith, routes-are r.found)
 
-  pub told-six : 4096 ≤ k → image_out (means_tree_announced (announced.Refused 6)) ws hs ≡ put_to rs r₁ ws hs
-  unfolding means_tree_announced put_to
+  pub told-six : 4096 ≤ k → image_out (means_tree_announced (Err refusal.Room)) ws hs ≡ put_to rs r₁ ws hs
+  unfolding said_plainly put_to
   told-six l = rw (lt-ltb 4096 (length (insert r₁ rs)) (omega (arith, one_more))) refl
 
   module _ (l : k < 4096) where
@@ -77,22 +79,27 @@ module _ {ws hs : List ℕ} {n k x m a len h b : ℕ} (r : New ws hs n k x m a l
     put_some = rw (le-ltb 4096 (length (insert r₁ rs)) (omega (arith, one_more)), r.absent) refl
 
     module _ (more : ℕ) (e : more ≡ len / 4 - m) where
-      told-eleven : length ws / 3 < n + more → image_out (means_tree_announced (announced.Refused 11)) ws hs ≡ put_to rs r₁ ws hs
-      unfolding means_tree_announced made_of
+      told-eleven : length ws / 3 < n + more → image_out (means_tree_announced (Err refusal.Nodes)) ws hs ≡ put_to rs r₁ ws hs
+      unfolding said_plainly made_of
       told-eleven u = sym (put_some ∙ rw (lt-ltb (length ws / 3) (node_need (insert r₁ rs)) (omega (arith, new-need r))) refl)
 
-      told-twelve : n + more ≤ length ws / 3 → length hs < k + 1 → image_out (means_tree_announced (announced.Refused 12)) ws hs ≡ put_to rs r₁ ws hs
-      unfolding means_tree_announced made_of
+      told-twelve : n + more ≤ length ws / 3 → length hs < k + 1 → image_out (means_tree_announced (Err refusal.Hops)) ws hs ≡ put_to rs r₁ ws hs
+      unfolding said_plainly made_of
       told-twelve u v =
           let n = le-ltb (length ws / 3) (node_need (insert r₁ rs)) (omega (arith, new-need r)) in
           let k = lt-ltb (length hs) (length (insert r₁ rs)) (omega (arith, one_more)) in
           sym (put_some ∙ rw (n, k) refl)
 
-      pub told-lack : {f : ℕ} → Lack (length ws) (length hs) (n + more) (k + 1) f → (f ≡ 0 → ⊥)
-          → image_out (means_tree_announced (announced.Refused f)) ws hs ≡ put_to rs r₁ ws hs
-      told-lack (short_nodes u) z = told-eleven u
-      told-lack (short_hops u v) z = told-twelve u v
-      told-lack (has_room u v) z = absurd (z refl)
+      no_room : {f : ℕ} → Lack (length ws) (length hs) (n + more) (k + 1) f → (f ≡ 0 → ⊥) → image_out (refused f) ws hs ≡ put_to rs r₁ ws hs
+      unfolding said_plainly
+      no_room (short_nodes u) z = told-eleven u
+      no_room (short_hops u v) z = told-twelve u v
+      no_room (has_room u v) z = absurd (z refl)
+
+      pub told-lack : (w : Refusal) → Lack (length ws) (length hs) (n + more) (k + 1) (number_of w)
+          → image_out (means_tree_announced (Err w)) ws hs ≡ put_to rs r₁ ws hs
+      unfolding said_plainly
+      told-lack w l = no_room l (number-above_0 w)
 
       module _ {f : ℕ} (lack : Lack (length ws) (length hs) (n + more) (k + 1) f) (none : f ≡ 0) where
         pub add-ready : Addable ws hs n k x m a len h b
@@ -102,8 +109,8 @@ module _ {ws hs : List ℕ} {n k x m a len h b : ℕ} (r : New ws hs n k x m a l
         add-few g = (omega (arith, g.nodes, new-need r, r.found.few_nodes, r.fine.prefix.len_ok), omega arith)
 
         pub told-added : {ws' hs' : List ℕ} {nodes : ℕ} → Become (insert r₁ rs) ws hs ws' hs' nodes → (p q : ℕ) → p ≡ nodes → q ≡ k + 1
-            → image_out (means_tree_announced (announced.Added p q)) ws' hs' ≡ put_to rs r₁ ws hs
-        unfolding means_tree_announced
+            → image_out (means_tree_announced (Ok (record { change = Added; used = record { nodes = p; hops = q } }))) ws' hs' ≡ put_to rs r₁ ws hs
+        unfolding said_plainly
         told-added {ws'} {hs'} {nodes} g p q ep eq =
             let room = room-is lack none in
             ap₂ (λ (y z : ℕ). image_out (accepted (0 ∷ y ∷ z ∷ [])) ws' hs') ep eq
@@ -116,8 +123,8 @@ module _ {ws hs : List ℕ} {n k x a len b : ℕ} (r : Standing ws hs n k x a le
   ss = routes_held ws hs
 
   pub told-replaced : {hs' : List ℕ} → Become (insert (unmarked_route a len h) ss) ws hs ws hs' n → (p q : ℕ) → p ≡ n → q ≡ k
-      → image_out (means_tree_announced (announced.Replaced p q)) ws hs' ≡ put_to ss (unmarked_route a len h) ws hs
-  unfolding means_tree_announced put_to
+      → image_out (means_tree_announced (Ok (record { change = Replaced; used = record { nodes = p; hops = q } }))) ws hs' ≡ put_to ss (unmarked_route a len h) ws hs
+  unfolding said_plainly put_to
   told-replaced {hs'} g p q ep eq =
       let c : length (insert (unmarked_route a len h) ss) ≡ k = insert-replaces (unmarked_route a len h) ss r.found.good r.stood ∙ sym
       (routes-are r.found) in
@@ -135,74 +142,25 @@ module _ {ws hs : List ℕ} {n : ℕ} (f : ImageFormed ws hs n) where
   pub ask-way : {len : ℕ} → len ≤ 32 → Order ws n × (len ≤ 32)
   ask-way l = (f.found.holds.order, l)
 
--- what is known at the end of the way: t tells whether the prefix stands
-pub record Way : Type 0 where
-  pub ws : List ℕ
-  pub hs : List ℕ
-  pub n : ℕ
-  pub k : ℕ
-  pub x : ℕ
-  pub m : ℕ
-  pub a : ℕ
-  pub len : ℕ
-  pub b : ℕ
-  pub t : Bool
-  pub formed : ImageFormed ws hs n
-  pub hops : k ≡ ints ws n
-  pub prefix : Prefix a len
-  pub end : PathEnds ws n a len x m b t
+-- what is known at the end of the way
+module _ {ws hs : List ℕ} {n k a len : ℕ} (f : ImageFormed ws hs n) (hops : k ≡ ints ws n) (prefix : Prefix a len) where
+  its-found : Found ws hs n k
+  its-found = subst (Found ws hs n) (sym hops) f.found
 
-abbrev pub walked : {ws hs : List ℕ} {n k x m a len b : ℕ} {t : Bool} → ImageFormed ws hs n → k ≡ ints ws n → Prefix a len
-    → PathEnds ws n a len x m b t → Way
-walked {ws} {hs} {n} {k} {x} {m} {a} {len} {b} {t} f e p q = record {
-  ws = ws;
-  hs = hs;
-  n = n;
-  k = k;
-  x = x;
-  m = m;
-  a = a;
-  len = len;
-  b = b;
-  t = t;
-  formed = f;
-  hops = e;
-  prefix = p;
-  end = q;
-}
+  module _ {x m b : ℕ} {t : Bool} (end : PathEnds ws n a len x m b t) where
+    says : t ≡ stands (key_of a len) (routes_held ws hs)
+    says = there-is its-found prefix end.bit end.way t end.tells
 
-module _ (w : Way) where
-  its-found : Found w.ws w.hs w.n w.k
-  its-found = subst (Found w.ws w.hs w.n) (sym w.hops) w.formed.found
+  module _ {x m b : ℕ} (end : PathEnds ws n a len x m b false) where
+    pub is-new : {h : ℕ} → Fine (unmarked_route a len h) → New ws hs n k x m a len h b
+    is-new g = record { found = its-found; fine = g; way = end.way; bit = end.bit; absent = sym (says end) }
 
-  says : w.t ≡ stands (key_of w.a w.len) (routes_held w.ws w.hs)
-  says = there-is its-found w.prefix w.end.bit w.end.way w.t w.end.tells
+    pub told-nine : image_out (means_tree_withdrawn (Err refusal.Absent)) ws hs ≡ taken_from (routes_held ws hs) (key_of a len) ws hs
+    unfolding said_plainly taken_from
+    told-nine = rw (sym (says end)) refl
 
-  pub is-new : (h : ℕ) → Fine (unmarked_route w.a w.len h) → w.t ≡ false → New w.ws w.hs w.n w.k w.x w.m w.a w.len h w.b
-  is-new h g q = record { found = its-found; fine = g; way = w.end.way; bit = w.end.bit; absent = sym says ∙ q }
-
-  pub told-nine : not w.t ≡ true
-      → image_out (means_tree_withdrawn (withdrawn.Refused 9)) w.ws w.hs ≡ taken_from (routes_held w.ws w.hs) (key_of w.a w.len) w.ws w.hs
-  unfolding means_tree_withdrawn taken_from
-  told-nine q = rw (sym says ∙ not-true w.t q) refl
-
--- and that it stands
-pub record Stood : Type 0 where
-  pub way : Way
-  pub there : way.t ≡ true
-
-pub is-standing : (s : Stood)
-    → Standing s.way.ws s.way.hs s.way.n s.way.k s.way.x s.way.a s.way.len s.way.b
-is-standing s =
-    let w = s.way in
-    let q : stands (key_of w.a w.len) (routes_held w.ws w.hs) ≡ true = sym (says w) ∙ s.there in
-    record {
-      found = its-found w;
-      prefix = w.prefix;
-      way = subst (Descent w.ws w.n w.a (w.len / 4) w.x) (there-at (its-found w) w.prefix w.end.bit w.end.way q) w.end.way;
-      bit = w.end.bit;
-      stood = q;
-    }
+  pub is-standing : {x b : ℕ} → PathEnds ws n a len x (len / 4) b true → Standing ws hs n k x a len b
+  is-standing end = record { found = its-found; prefix = prefix; way = end.way; bit = end.bit; stood = sym (says end) }
 
 -- ---- a prefix taken out
 
@@ -229,8 +187,8 @@ module _ {ws hs : List ℕ} {n k x a len b : ℕ} (r : Standing ws hs n k x a le
     pub removed-few : (nodes < 2 ^ 32) × (k - 1 < 2 ^ 32)
     removed-few = (omega (arith, no_more, r.found.few_nodes), omega (arith, r.found.few_hops))
 
-    pub told-removed : (y z : ℕ) → y ≡ nodes → z ≡ k - 1 → image_out (means_tree_withdrawn (withdrawn.Removed y z)) ws' hs' ≡ taken_from us (key_of a len) ws hs
-    unfolding means_tree_withdrawn taken_from
+    pub told-removed : (y z : ℕ) → y ≡ nodes → z ≡ k - 1 → image_out (means_tree_withdrawn (Ok (record { nodes = y; hops = z }))) ws' hs' ≡ taken_from us (key_of a len) ws hs
+    unfolding said_plainly taken_from
     told-removed y z ey ez =
         rw r.stood
         (ap₂ (λ (u v : ℕ). image_out (accepted (u ∷ v ∷ [])) ws' hs') ey ez

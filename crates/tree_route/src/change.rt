@@ -6,7 +6,7 @@ ghost use Rattle.tree_same.specs.Read.{reached};
 ghost use Rattle.tree_theory.specs.Stages.{Addable, Standing, OnPath, BecomeWith, BecomeWithout};
 
 use crate::path;
-use crate::path::PathEnd;
+use crate::path::{Gap, Spot};
 
 // The nodes that the path of a prefix lacks, from the node at hand down, and then its hop. Answers how many nodes are then in use.
 pub fn add(
@@ -14,7 +14,7 @@ pub fn add(
     hops: &mut [u16],
     n: usize,
     k: usize,
-    from: PathEnd,
+    from: Gap,
     addr: u32,
     len: u32,
     hop: u16,
@@ -22,17 +22,14 @@ pub fn add(
     requires { Addable words.old hops.old n k from.at from.depth addr len hop from.bit }
     ensures { BecomeWith words.old hops.old addr len hop words.new hops.new result }
 {
-    let b = from.bit;
     let deep = len / 4;
-    let mut m = from.depth;
     let mut at = from.at;
     let mut nodes = n;
-    while m < deep {
+    for m in from.depth..deep {
         at = tree_graft::graft(words, nodes, k, at, path::turn(addr, m));
-        m += 1;
         nodes += 1;
     }
-    tree_hops::put_hop(words, hops, nodes, k, at, b, hop);
+    tree_hops::put_hop(words, hops, nodes, k, at, from.bit, hop);
     nodes
 }
 
@@ -42,16 +39,15 @@ pub fn replace(
     hops: &mut [u16],
     n: usize,
     k: usize,
-    at: usize,
+    spot: Spot,
     addr: u32,
     len: u32,
     hop: u16,
-    b: u32,
 )
-    requires { Standing words.now hops.old n k at addr len b × (0 < hop) × (hop ≤ 32767) }
+    requires { Standing words.now hops.old n k spot.at addr len spot.bit × (0 < hop) × (hop ≤ 32767) }
     ensures { BecomeWith words.now hops.old addr len hop words.now hops.new n }
 {
-    let y = tree_places::hop_place(words, at, b);
+    let y = tree_places::hop_place(words, spot.at, spot.bit);
     hops[y] = hop;
 }
 
@@ -63,9 +59,8 @@ fn bare(words: &[u32], n: usize, addr: u32, m: u32) -> bool
     if m == 0 {
         return false;
     }
-    let r = path::descend(words, n, addr, m);
-    let at = r.at;
-    words[3 * at] == 0
+    let last = path::descend(words, n, addr, m);
+    words[3 * last.at] == 0
 }
 
 // A prefix that stands is taken out: its hop, and then the nodes of its path that have no bit left, upwards; k hops are left. Answers how many
@@ -75,17 +70,17 @@ pub fn remove(
     hops: &mut [u16],
     n: usize,
     k: usize,
-    at: usize,
+    spot: Spot,
     addr: u32,
     len: u32,
-    b: u32,
 ) -> usize
-    requires { Standing words.old hops.old n (k + 1) at addr len b }
+    requires { Standing words.old hops.old n (k + 1) spot.at addr len spot.bit }
     ensures { BecomeWithout words.old hops.old addr len words.new hops.new result }
 {
-    tree_hops::take_hop(words, hops, n, k, at, b);
+    tree_hops::take_hop(words, hops, n, k, spot.at, spot.bit);
     let mut m = len / 4;
     let mut nodes = n;
+    // Stays: what ends the way up is a node that has a bit, and not a depth.
     while bare(words, nodes, addr, m) {
         m -= 1;
         nodes -= 1;

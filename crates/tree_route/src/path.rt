@@ -1,5 +1,5 @@
 // The way down the path of a prefix in an image.
-ghost use Rattle.std.specs.Prelude.{◌≡◌, ◌&&◌, ◌+◌, ◌*◌, ◌/◌, ◌%◌, ◌≤◌, ◌<◌, eqb, length};
+ghost use Rattle.std.specs.Prelude.{◌≡◌, ◌&&◌, ◌+◌, ◌*◌, ◌/◌, ◌%◌, ◌≤◌, ◌<◌, true, false, eqb, length, IfOk, IfErr};
 ghost use Rattle.bits.specs.Slot.{slot};
 ghost use Rattle.tree_image.specs.Node.{bits_of, is_set};
 ghost use Rattle.tree_same.specs.Order.{Order};
@@ -28,22 +28,14 @@ pub fn descend(words: &[u32], n: usize, addr: u32, deep: u32) -> Reached
     ensures { Descent words.now n addr deep result.at result.depth }
 {
     let mut at: usize = 0;
-    let mut depth: u32 = 0;
-    while depth < deep {
+    for depth in 0..deep {
         let c = turn(addr, depth);
         if !bits::is_set(words[3 * at], 16 + c) {
-            return Reached {
-                at: at,
-                depth: depth,
-            };
+            return Reached { at, depth };
         }
         at = tree_places::child_place(words, at, c);
-        depth += 1;
     }
-    Reached {
-        at: at,
-        depth: depth,
-    }
+    Reached { at, depth: deep }
 }
 
 // The internal bit of a prefix in its node, which is at depth len / 4.
@@ -59,34 +51,38 @@ fn is_there(words: &[u32], r: Reached, deep: u32, b: u32) -> bool
     requires { (3 * r.at < length words.now) × (b < 15) }
     ensures { result ≡ (eqb r.depth deep && is_set (bits_of words.now r.at) b) }
 {
-    if r.depth != deep {
-        return false;
-    }
-    let at = r.at;
-    bits::is_set(words[3 * at], b)
+    r.depth == deep && bits::is_set(words[3 * r.at], b)
 }
 
-// Where the path of a prefix ends: the last node met with its depth, the bit of the prefix in its own node, and whether the prefix stands.
+// Where a prefix stands: at an internal bit of a node.
 #[derive(Clone, Copy)]
-pub struct PathEnd {
+pub struct Spot {
+    pub at: usize,
+    pub bit: u32,
+}
+
+// Where the path of a prefix that does not stand ends: the last node met with its depth, and the bit of the prefix in its own node.
+#[derive(Clone, Copy)]
+pub struct Gap {
     pub at: usize,
     pub depth: u32,
     pub bit: u32,
-    pub there: bool,
 }
 
-// The way down to the node of a prefix, and whether the prefix stands there.
-pub fn seek(words: &[u32], n: usize, addr: u32, len: u32) -> PathEnd
+// The way down to the node of a prefix: where it stands, or what is missing.
+pub fn seek(words: &[u32], n: usize, addr: u32, len: u32) -> Result<Spot, Gap>
     requires { Order words.now n × (len ≤ 32) }
-    ensures { PathEnds words.now n addr len result.at result.depth result.bit result.there }
+    ensures stands { IfOk result (λ s. PathEnds words.now n addr len s.at (len / 4) s.bit true) }
+    ensures lacks { IfErr result (λ g. PathEnds words.now n addr len g.at g.depth g.bit false) }
 {
     let bit = own_bit(addr, len);
     let last = descend(words, n, addr, len / 4);
-    let there = is_there(words, last, len / 4, bit);
-    PathEnd {
+    if is_there(words, last, len / 4, bit) {
+        return Ok(Spot { at: last.at, bit });
+    }
+    Err(Gap {
         at: last.at,
         depth: last.depth,
-        bit: bit,
-        there: there,
-    }
+        bit,
+    })
 }

@@ -2,7 +2,8 @@
 -- answers of announce or of withdraw say the same.
 use mathlib.Core.Path.{◌≡◌, refl, sym, ◌∙◌, ap, subst}
 use mathlib.Core.Logic.{◌⊎◌, inl, inr, ◌↔◌}
-use mathlib.Core.Bool.{true, false, true≢false}
+use Rattle.std.specs.Prelude.{Result, eqb}
+use mathlib.Core.Bool.{true, false, cond, true≢false}
 use mathlib.Core.List.{List, [], ◌∷◌}
 use Prim.Native.Nat.{ℕ, ◌/◌, ◌^◌, ◌≤◌, ◌<◌}
 use native.Mathlib.Omega.{arith}
@@ -12,7 +13,7 @@ use Rattle.bits.specs.Count.{bit}
 use Rattle.bits.proofs.Bools.{decided, below?}
 use Rattle.routes.specs.Input.{proper_prefix, hop_fine}
 use Rattle.routes.specs.Route.{key_of, Fine}
-use Rattle.routes.specs.Said.{accepts}
+use Rattle.routes.specs.Said.{accepts, value}
 use Rattle.routes.specs.declared.Route.{Route}
 use Rattle.routes.proofs.Meaning.{prefix-true, hop-true}
 use Rattle.standing.specs.Standing.{stands}
@@ -23,34 +24,31 @@ use Rattle.tree_formed.specs.WellFormed.{nodes_used, well_formed}
 use Rattle.tree_formed.proofs.Meaning.{well-formed-is}
 use Rattle.tree_formed.proofs.Held.{held-good, held-nodes, held-hops}
 use Rattle.tree_formed.proofs.Exact.{made-fits}
-use Rattle.tree_theory.specs.declared.TreeAnnounced.{TreeAnnounced}
-use Rattle.tree_theory.specs.declared.TreeAnnounced.TheVariants as announced
-use Rattle.tree_theory.specs.declared.TreeWithdrawn.{TreeWithdrawn}
-use Rattle.tree_theory.specs.declared.TreeWithdrawn.TheVariants as withdrawn
-use Rattle.tree_theory.specs.Changed.{means_tree_announced, means_tree_withdrawn, unmarked_route, saying, put_to, image_announced}
+use Rattle.refusals.specs.declared.Refusal.{Refusal}
+use Rattle.routes.proofs.Saids.{plainly-injective}
+use Rattle.tree_image.specs.Reads.{used_values}
+use Rattle.tree_theory.specs.declared.Announced.{Announced}
+use Rattle.tree_theory.specs.declared.Change.{Change}
+use Rattle.tree_theory.specs.declared.Change.TheVariants.{Added, Replaced}
+use Rattle.tree_theory.specs.Changed.{change_number, announced_values, means_tree_announced, unmarked_route, saying, put_to, image_announced}
 use Rattle.tree_theory.specs.Cases.{Fitted, ImageAsked, routes_with, image_in}
 use Rattle.tree_theory.specs.Cases.{Announcing, wrong_prefix, wrong_hop, wrong_image, too_many, nodes_short, hops_short, put_in}
 
 -- ---- each answer says something else
 
-pub means_tree_announced-injective : (x y : TreeAnnounced) → means_tree_announced x ≡ means_tree_announced y → x ≡ y
-unfolding means_tree_announced
-means_tree_announced-injective (announced.Added a b) (announced.Added c d) e = cc
-means_tree_announced-injective (announced.Added a b) (announced.Replaced c d) e = cc
-means_tree_announced-injective (announced.Added a b) (announced.Refused c) e = cc
-means_tree_announced-injective (announced.Replaced a b) (announced.Added c d) e = cc
-means_tree_announced-injective (announced.Replaced a b) (announced.Replaced c d) e = cc
-means_tree_announced-injective (announced.Replaced a b) (announced.Refused c) e = cc
-means_tree_announced-injective (announced.Refused a) (announced.Added c d) e = cc
-means_tree_announced-injective (announced.Refused a) (announced.Replaced c d) e = cc
-means_tree_announced-injective (announced.Refused a) (announced.Refused c) e = cc
+read_announced : List ℕ → Announced
+read_announced vs = record { change = cond (eqb (value 0 vs) 0) Added Replaced; used = record { nodes = value 1 vs; hops = value 2 vs } }
 
-pub means_tree_withdrawn-injective : (x y : TreeWithdrawn) → means_tree_withdrawn x ≡ means_tree_withdrawn y → x ≡ y
-unfolding means_tree_withdrawn
-means_tree_withdrawn-injective (withdrawn.Removed a b) (withdrawn.Removed c d) e = cc
-means_tree_withdrawn-injective (withdrawn.Removed a b) (withdrawn.Refused c) e = cc
-means_tree_withdrawn-injective (withdrawn.Refused a) (withdrawn.Removed c d) e = cc
-means_tree_withdrawn-injective (withdrawn.Refused a) (withdrawn.Refused c) e = cc
+read-announced : (a : Announced) → read_announced (announced_values a) ≡ a
+unfolding read_announced
+read-announced a = go a.change
+  where
+    go : (c : Change) → read_announced (change_number c ∷ used_values a.used) ≡ record { change = c; used = a.used }
+    go Added = refl
+    go Replaced = refl
+
+pub means_tree_announced-injective : (x y : Result Announced Refusal) → means_tree_announced x ≡ means_tree_announced y → x ≡ y
+means_tree_announced-injective = plainly-injective announced_values read_announced read-announced
 
 -- ---- what a well-formed image holds (words are of 32 bits by their type)
 

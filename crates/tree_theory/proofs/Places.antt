@@ -9,10 +9,10 @@ use native.Mathlib.Numerals.{add-one}
 use native.Mathlib.Omega.{arith}
 use lib.Dec.{eqb, ltb}
 use lib.Pow.{pow_pos, split}
-use borrow.Author.Tests.{eq-eqb, ne_eqb, lt-ltb, ltb-true}
+use borrow.Author.Tests.{eq-eqb, eqb-true, ne_eqb, lt-ltb, ltb-true}
 use Rattle.bits.specs.Slot.{slot}
 use Rattle.bits.proofs.Slots.{slot-up}
-use Rattle.bits.proofs.Bools.{equal?, untrue}
+use Rattle.bits.proofs.Bools.{equal?, untrue, and_split}
 use Rattle.routes.specs.Route.{key_of, Prefix}
 use Rattle.routes.specs.declared.Route.{Route}
 use Rattle.standing.specs.Standing.{stands}
@@ -27,7 +27,7 @@ use Rattle.tree_same.proofs.Back.{Shaped}
 use Rattle.tree_same.proofs.Same.{fits}
 use Rattle.tree_hold.proofs.Taken.{len_at, bits_at}
 use Rattle.tree_hold.proofs.Paths.{path-child, stands-hop}
-use Rattle.tree_theory.specs.Stages.{Found, Descent, BitOf}
+use Rattle.tree_theory.specs.Stages.{Found, Descent, BitOf, PathEnds}
 use Rattle.tree_theory.proofs.Ways.{held-leads, child-held, inner-held}
 
 -- the bit that the code works out
@@ -137,3 +137,10 @@ ends_above d deep t n = rw (ne_eqb d deep n) refl
 
 pub ends_there : (d deep : ℕ) (s t : Bool) → d ≡ deep → s ≡ t → s ≡ (eqb d deep && t)
 ends_there d deep s t e q = rw (eq-eqb d deep e) q
+
+-- where the prefix stands, its node is the last one met
+pub ends-standing : {ws : List ℕ} {n a len x m b : ℕ} → BitOf a len b → Descent ws n a (len / 4) x m → true ≡ (eqb m (len / 4) && is_set (bits_of ws x) b)
+    → PathEnds ws n a len x (len / 4) b true
+ends-standing {ws} {n} {a} {len} {x} {m} {b} bit way t =
+    let q : m ≡ len / 4 = eqb-true m (len / 4) (and_split (eqb m (len / 4)) (is_set (bits_of ws x) b) (sym t)).0 in
+    subst (λ (z : ℕ). PathEnds ws n a len x z b true) q (record { bit = bit; way = way; tells = t })

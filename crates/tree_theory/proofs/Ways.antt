@@ -71,8 +71,11 @@ module _ (ws : List ℕ) (n a x m c y : ℕ) (o : Order ws n) (w : WayDown ws n 
   pub walk-next : WayDown ws n a y (m + 1)
   walk-next = subst (WayDown ws n a y) (sym (add-one m)) stepped
 
-pub walk_end : (ws : List ℕ) (n a deep x m : ℕ) → WayDown ws n a x m → deep ≤ m → m ≤ deep → Descent ws n a deep x m
-walk_end ws n a deep x m w l u = record { upto = u; inside = w.inside; at = w.at; stands = w.stands; stop = λ v. absurd (omega arith) }
+pub walk_end : (ws : List ℕ) (n a deep x m : ℕ) → WayDown ws n a x m → deep ≤ m → m ≤ deep → Descent ws n a deep x deep
+walk_end ws n a deep x m w l u =
+    let q : m ≡ deep = omega arith in
+    subst (λ (z : ℕ). Descent ws n a deep x z) q
+    (record { upto = u; inside = w.inside; at = w.at; stands = w.stands; stop = λ v. absurd (omega arith) })
 
 pub walk-stop : (ws : List ℕ) (n a deep x m c : ℕ) → WayDown ws n a x m → m < deep → c ≡ slot (4 * (m + 1)) a % 16 → is_set (bits_of ws x) (16 + c) ≡ false
     → Descent ws n a deep x m

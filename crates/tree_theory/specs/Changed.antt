@@ -1,30 +1,36 @@
 -- Announce and withdraw on an image itself, as document 02 has them in m: the routes are those read out of it, and its words and hops then are
 -- a fresh build of the routes then standing, into the same arrays. A refusal leaves both arrays as they were.
-use Rattle.std.specs.Prelude.{not, cond, List, [], ◌∷◌, ℕ, ◌/◌, ltb, length}
+use Rattle.std.specs.Prelude.{Result, not, cond, List, ◌∷◌, ℕ, ◌/◌, ltb, length}
 use Rattle.bits.specs.Count.{bit}
 use Rattle.routes.specs.Input.{proper_prefix, hop_fine}
 use Rattle.routes.specs.Route.{key_of, key}
-use Rattle.routes.specs.Said.{Said, accepted, refused, refused_at}
+use Rattle.refusals.specs.declared.Refusal.{Refusal}
+use Rattle.routes.specs.Said.{Said, accepted, refused, refused_at, said_plainly}
 use Rattle.routes.specs.declared.Route.{Route}
 use Rattle.standing.specs.Standing.{stands, insert, remove}
+use Rattle.tree_image.specs.Reads.{used_values}
+use Rattle.tree_image.specs.declared.Used.{Used}
 use Rattle.tree_build.specs.Built.{ImageOut, image_out, made_of}
 use Rattle.tree_same.specs.Read.{reached, hop_place_at, path_of, bit_for}
 use Rattle.tree_same.specs.Listed.{routes_held}
 use Rattle.tree_formed.specs.WellFormed.{well_formed}
-use Rattle.tree_theory.specs.declared.TreeAnnounced.{TreeAnnounced}
-use Rattle.tree_theory.specs.declared.TreeAnnounced.TheVariants as announced
-use Rattle.tree_theory.specs.declared.TreeWithdrawn.{TreeWithdrawn}
-use Rattle.tree_theory.specs.declared.TreeWithdrawn.TheVariants as withdrawn
+use Rattle.tree_theory.specs.declared.Announced.{Announced}
+use Rattle.tree_theory.specs.declared.Change.{Change}
+use Rattle.tree_theory.specs.declared.Change.TheVariants.{Added, Replaced}
 
 -- document 01's number and values for each answer: 0 for added or 1 for replaced, then the nodes and the hops in use; or a refusal
-unfoldable pub means_tree_announced : TreeAnnounced → Said
-means_tree_announced (announced.Added nodes hops) = accepted (0 ∷ nodes ∷ hops ∷ [])
-means_tree_announced (announced.Replaced nodes hops) = accepted (1 ∷ nodes ∷ hops ∷ [])
-means_tree_announced (announced.Refused n) = refused n
+abbrev pub change_number : Change → ℕ
+change_number Added = 0
+change_number Replaced = 1
 
-unfoldable pub means_tree_withdrawn : TreeWithdrawn → Said
-means_tree_withdrawn (withdrawn.Removed nodes hops) = accepted (nodes ∷ hops ∷ [])
-means_tree_withdrawn (withdrawn.Refused n) = refused n
+abbrev pub announced_values : Announced → List ℕ
+announced_values a = change_number a.change ∷ used_values a.used
+
+abbrev pub means_tree_announced : Result Announced Refusal → Said
+means_tree_announced = said_plainly announced_values
+
+abbrev pub means_tree_withdrawn : Result Used Refusal → Said
+means_tree_withdrawn = said_plainly used_values
 
 -- the route of a prefix; a route of an image has no mark
 abbrev pub unmarked_route : ℕ → ℕ → ℕ → Route

@@ -5,17 +5,19 @@
 mod case;
 mod damage;
 mod maps;
-mod refusals;
+mod refused;
 mod say;
 
-fn main() {
-    maps::figure();
-    maps::list_a();
-    maps::no_default();
-    damage::bits();
-    damage::cells();
-    damage::many();
-    refusals::sizes();
-    refusals::order();
-    refusals::many();
+use std::io;
+
+fn main(rt: HostRuntime) -> io::Result<()> {
+    maps::figure(&rt)?;
+    maps::list_a(&rt)?;
+    maps::no_default(&rt)?;
+    damage::bits(&rt)?;
+    damage::cells(&rt)?;
+    damage::many(&rt)?;
+    refused::sizes(&rt)?;
+    refused::order(&rt)?;
+    refused::many(&rt)
 }

@@ -1,146 +1,100 @@
 // Answers and maps, as words.
-use basic::answers::{BasicAnswer, BasicFound};
 use basic_build::build;
 use basic_lookup::lookup;
 use basic_many::lookup_many;
-use vectors_shared::print;
+use refusals::Refused;
+use std::io;
+use vectors_shared::shown::Numbers;
 
-pub fn answered(answer: BasicAnswer) {
+fn answered(rt: &impl Print, word: &str, answer: Result<(), Refused>) -> io::Result<()> {
     match answer {
-        BasicAnswer::Done => {
-            print::text(b" done");
-        }
-        BasicAnswer::RefusedAt(f, k) => {
-            print::refused_at(f, k);
-        }
-        BasicAnswer::Refused(f) => {
-            print::refused(f);
-        }
+        Ok(()) => println!(rt; "{word} done"),
+        Err(e) => println!(rt; "{word} {e}"),
     }
-    print::end();
 }
 
-fn found(answer: BasicFound) {
-    print::text(b"lookup");
+fn found(rt: &impl Print, answer: Result<Option<u16>, Refused>) -> io::Result<()> {
     match answer {
-        BasicFound::Hop(h) => {
-            print::text(b" hop");
-            print::value16(h);
-        }
-        BasicFound::NoRoute => {
-            print::text(b" no route");
-        }
-        BasicFound::RefusedAt(f, k) => {
-            print::refused_at(f, k);
-        }
-        BasicFound::Refused(f) => {
-            print::refused(f);
-        }
+        Ok(Some(hop)) => println!(rt; "lookup hop {hop}"),
+        Ok(None) => println!(rt; "lookup no route"),
+        Err(e) => println!(rt; "lookup {e}"),
     }
-    print::end();
 }
 
 // Maps are built.
-pub fn built(word: &[u8], input: &[u8], bits: &mut [u8], cells: &mut [u16]) {
-    print::text(word);
-    answered(build(input, bits, cells));
-}
-
-fn find(input: &[u8], bits: &[u8], cells: &[u16], addr: u32) {
-    found(lookup(input, bits, cells, addr));
+pub fn built(
+    rt: &impl Print,
+    word: &str,
+    input: &[u8],
+    bits: &mut [u8],
+    cells: &mut [u16],
+) -> io::Result<()> {
+    answered(rt, word, build(input, bits, cells))
 }
 
 // Each of these addresses.
-pub fn finds(input: &[u8], bits: &[u8], cells: &[u16], addrs: &[u32]) {
-    let mut i = 0;
-    while i < addrs.len() {
-        find(input, bits, cells, addrs[i]);
-        i += 1;
+pub fn finds(
+    rt: &impl Print,
+    input: &[u8],
+    bits: &[u8],
+    cells: &[u16],
+    addrs: &[u32],
+) -> io::Result<()> {
+    for addr in addrs {
+        found(rt, lookup(input, bits, cells, *addr))?;
     }
+    Ok(())
 }
 
-// A number that is not zero, and its place.
-fn place(word: &[u8], k: usize, v: u64) {
-    if v != 0 {
-        print::text(word);
-        print::value(k as u64);
-        print::value(v);
-        print::end();
+// The bytes and the cells that are not zero, each with its place.
+pub fn maps(rt: &impl Print, bits: &[u8], cells: &[u16]) -> io::Result<()> {
+    for (k, byte) in bits.iter().enumerate() {
+        if *byte != 0 {
+            println!(rt; "byte {k} {byte}")?;
+        }
     }
-}
-
-fn byte(k: usize, v: u8) {
-    place(b"byte", k, v as u64);
-}
-
-fn cell(k: usize, v: u16) {
-    place(b"cell", k, v as u64);
-}
-
-// The bytes that are not zero, each with its place.
-fn bits(list: &[u8]) {
-    let mut i = 0;
-    while i < list.len() {
-        byte(i, list[i]);
-        i += 1;
+    for (k, cell) in cells.iter().enumerate() {
+        if *cell != 0 {
+            println!(rt; "cell {k} {cell}")?;
+        }
     }
-}
-
-// The cells that are not zero.
-fn cells(list: &[u16]) {
-    let mut i = 0;
-    while i < list.len() {
-        cell(i, list[i]);
-        i += 1;
-    }
-}
-
-// Both, where they are to be shown.
-pub fn maps(shown: bool, list: &[u8], then: &[u16]) {
-    if shown {
-        bits(list);
-        cells(then);
-    }
+    Ok(())
 }
 
 // Many lookups, and the word of each.
-pub fn lookups(input: &[u8], bits: &[u8], cells: &[u16], addrs: &[u32], out: &mut [u32]) {
-    answered(lookup_many(input, bits, cells, addrs, out));
-    print::words(out);
+pub fn lookups(
+    rt: &impl Print,
+    word: &str,
+    input: &[u8],
+    bits: &[u8],
+    cells: &[u16],
+    addrs: &[u32],
+    out: &mut [u32],
+) -> io::Result<()> {
+    answered(rt, word, lookup_many(input, bits, cells, addrs, out))?;
+    println!(rt; "words{}", Numbers(out))
 }
 
-// The five addresses of list A at once, where they are to be.
-pub fn many(asked: bool, input: &[u8], bits: &[u8], cells: &[u16]) {
-    if !asked {
-        return;
-    }
+// The five addresses of list A at once.
+pub fn many(rt: &impl Print, input: &[u8], bits: &[u8], cells: &[u16]) -> io::Result<()> {
     let addrs = [
-        0x0A01_02C8u32,
+        0x0A01_02C8,
         0x0A01_0205,
         0x0A01_0301,
         0x0A02_0001,
         0xC000_0201,
     ];
-    let mut out = [9u32; 5];
-    print::text(b"lookups");
-    lookups(input, bits, cells, &addrs, &mut out);
+    lookups(rt, "lookups", input, bits, cells, &addrs, &mut [9; 5])
 }
 
-fn value8(v: u8) {
-    print::value(v as u64);
-}
-
-// What a refused build has left, where it is to be shown: the first byte and the first cell.
-pub fn left(shown: bool, bits: &[u8], cells: &[u16]) {
-    if !shown {
-        return;
+// What a refused build has left: the first byte and the first cell.
+pub fn left(rt: &impl Print, bits: &[u8], cells: &[u16]) -> io::Result<()> {
+    print!(rt; "left")?;
+    if let Some(byte) = bits.first() {
+        print!(rt; " {byte}")?;
     }
-    print::text(b"left");
-    if 0 < bits.len() {
-        value8(bits[0]);
+    if let Some(cell) = cells.first() {
+        print!(rt; " {cell}")?;
     }
-    if 0 < cells.len() {
-        print::value16(cells[0]);
-    }
-    print::end();
+    println!(rt; "")
 }

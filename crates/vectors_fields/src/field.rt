@@ -1,49 +1,53 @@
 // List A's field into buffers of 20, 15 and 14 bytes; and bytes that are fields, or none.
-use fields::check::field_fault;
-use fields::write::{Written, write_field};
-use vectors_shared::{list, print};
+use fields::check::check_field;
+use fields::write::write_field;
+use refusals::Refused;
+use std::io;
+use vectors_shared::list::list_a;
+use vectors_shared::shown::Hex;
 
-fn told(a: Written) {
-    match a {
-        Written::Bytes(n) => print::value(n as u64),
-        Written::Short => print::refused(18),
-        Written::Refused(z, k) => print::refused_at(z, k),
-        Written::TooMany => print::refused(6),
+fn told(rt: &impl Print, answer: Result<usize, Refused>) -> io::Result<()> {
+    match answer {
+        Ok(n) => print!(rt; " {n}"),
+        Err(e) => print!(rt; " {e}"),
     }
 }
 
-pub fn written() {
+pub fn written(rt: &impl Print) -> io::Result<()> {
     let mut out = [0xEEu8; 20];
-    print::text(b"written:");
-    told(write_field(&list::list_a(), &mut out));
-    print::text(b" bytes");
-    print::bytes(&out);
-    print::end();
+    print!(rt; "written:")?;
+    told(rt, write_field(&list_a(), &mut out))?;
+    let bytes = Hex(&out);
+    println!(rt; " bytes{bytes}")
 }
 
-pub fn short() {
+pub fn short(rt: &impl Print) -> io::Result<()> {
     let mut just = [0xEEu8; 15];
-    print::text(b"15:");
-    told(write_field(&list::list_a(), &mut just));
+    print!(rt; "15:")?;
+    told(rt, write_field(&list_a(), &mut just))?;
     let mut less = [0xEEu8; 14];
-    print::text(b" 14:");
-    told(write_field(&list::list_a(), &mut less));
-    print::bytes(&less);
-    print::end();
-}
-
-fn fault(field: &[u8]) {
-    print::value(field_fault(field) as u64);
+    print!(rt; " 14:")?;
+    told(rt, write_field(&list_a(), &mut less))?;
+    let bytes = Hex(&less);
+    println!(rt; "{bytes}")
 }
 
 // No byte; 0.0.0.0/0; 32 bits whole and cut; a length of 33; 10.1.0.0/16 and then an entry that ends early.
-pub fn checked() {
-    print::text(b"faults:");
-    fault(b"");
-    fault(b"\x00");
-    fault(b"\x20\x01\x02\x03\x04");
-    fault(b"\x20\x01\x02\x03");
-    fault(b"\x21\x01\x02\x03\x04\x05");
-    fault(b"\x10\x0A\x01\x18\x0A\x01");
-    print::end();
+pub fn checked(rt: &impl Print) -> io::Result<()> {
+    let fields: [&[u8]; 6] = [
+        b"",
+        b"\x00",
+        b"\x20\x01\x02\x03\x04",
+        b"\x20\x01\x02\x03",
+        b"\x21\x01\x02\x03\x04\x05",
+        b"\x10\x0A\x01\x18\x0A\x01",
+    ];
+    print!(rt; "faults:")?;
+    for field in fields {
+        match check_field(field) {
+            Ok(()) => print!(rt; " 0")?,
+            Err(why) => print!(rt; " {}", why.number())?,
+        }
+    }
+    println!(rt; "")
 }

@@ -3,8 +3,10 @@
 
 mod field;
 
-fn main() {
-    field::written();
-    field::short();
-    field::checked();
+use std::io;
+
+fn main(rt: HostRuntime) -> io::Result<()> {
+    field::written(&rt)?;
+    field::short(&rt)?;
+    field::checked(&rt)
 }

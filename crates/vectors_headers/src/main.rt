@@ -5,7 +5,9 @@
 mod lend;
 mod play;
 
-fn main() {
-    lend::standard();
-    lend::small();
+use std::io;
+
+fn main(rt: HostRuntime) -> io::Result<()> {
+    lend::standard(&rt)?;
+    lend::small(&rt)
 }

@@ -9,18 +9,20 @@ mod most;
 mod play;
 mod shown;
 
-fn main() {
-    built::list_a();
-    built::host();
-    built::sizes();
-    built::broken();
-    built::host_bits();
-    changes::one_route();
-    changes::branch();
-    changes::room();
-    changes::last();
-    broken::tests();
-    broken::nodes();
-    broken::order();
-    most::run();
+use std::io;
+
+fn main(rt: HostRuntime) -> io::Result<()> {
+    built::list_a(&rt)?;
+    built::host(&rt)?;
+    built::sizes(&rt)?;
+    built::broken(&rt)?;
+    built::host_bits(&rt)?;
+    changes::one_route(&rt)?;
+    changes::branch(&rt)?;
+    changes::room(&rt)?;
+    changes::last(&rt)?;
+    broken::tests(&rt)?;
+    broken::nodes(&rt)?;
+    broken::order(&rt)?;
+    most::run(&rt)
 }

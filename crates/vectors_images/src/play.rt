@@ -4,92 +4,114 @@
 // and `hop 4: 32768` a hop.
 use crate::shown;
 use records::record::write_record;
+use refusals::Refused;
 use routes::Route;
-use tree_build::Built;
+use std::io;
+use tree_build::build;
 use tree_change::{announce, withdraw};
 use tree_check::test;
+use tree_image::Used;
 use vectors_script::{Line, line_at};
-use vectors_shared::list;
+use vectors_shared::list::list_a;
 
-fn put_word(words: &mut [u32], at: usize, v: u32) {
-    if at < words.len() {
-        words[at] = v;
+#[derive(Clone, Copy)]
+enum Step {
+    Build(Option<Route>),
+    Find(u32),
+    Test,
+    Announce(Route),
+    Withdraw(Route),
+    Image,
+    Numbers,
+    Word { at: usize, value: u32 },
+    Hop { at: usize, value: u16 },
+}
+
+impl Step {
+    // The step that a line asks for.
+    fn of(line: Line) -> Option<Step> {
+        let route = Route {
+            addr: line.addr(),
+            len: line.len(),
+            mark: 0,
+            hop: line.hop(),
+        };
+        let at = line.v[0] as usize;
+        let value = line.v[1];
+        match line.letter {
+            b'b' if line.n == 0 => Some(Step::Build(None)),
+            b'b' => Some(Step::Build(Some(route))),
+            b'f' => Some(Step::Find(route.addr)),
+            b't' => Some(Step::Test),
+            b'a' => Some(Step::Announce(route)),
+            b'w' => Some(Step::Withdraw(route)),
+            b'i' => Some(Step::Image),
+            b'n' => Some(Step::Numbers),
+            b'p' => Some(Step::Word { at, value }),
+            b'h' => Some(Step::Hop {
+                at,
+                value: (value % 65536) as u16,
+            }),
+            _ => None,
+        }
     }
 }
 
-fn put_hop(hops: &mut [u16], at: usize, v: u32) {
-    if at < hops.len() {
-        hops[at] = (v % 65536) as u16;
-    }
-}
-
-// The record of the route that a step names.
-fn record(l: Line) -> [u8; 8] {
-    let mut out = [0u8; 8];
-    let r = Route {
-        addr: vectors_script::addr(l),
-        len: vectors_script::len(l),
-        mark: 0,
-        hop: vectors_script::hop(l),
+// The image of a route, or of list A.
+fn built(route: Option<Route>, words: &mut [u32], hops: &mut [u16]) -> Result<Used, Refused> {
+    let Some(r) = route else {
+        return build(&list_a(), words, hops);
     };
-    write_record(&mut out, 0, r);
-    out
+    let mut record = [0u8; 8];
+    write_record(&mut record, 0, r);
+    build(&record, words, hops)
 }
 
-// Of the record, or of list A where the step names no route.
-fn built(l: Line, words: &mut [u32], hops: &mut [u16]) -> Built {
-    let n = l.n;
-    if n == 0 {
-        return tree_build::build(&list::list_a(), words, hops);
-    }
-    tree_build::build(&record(l), words, hops)
-}
-
-fn build(l: Line, words: &mut [u32], hops: &mut [u16]) {
-    let answer = built(l, words, hops);
-    if l.quiet {
-        return;
-    }
-    shown::built(answer);
-}
-
-fn turn(l: Line, words: &mut [u32], hops: &mut [u16]) {
-    let letter = l.letter;
-    let v = l.v;
-    match letter {
-        b'b' => build(l, words, hops),
-        b't' => shown::tested(test(words, hops)),
-        b'a' => {
-            let addr = vectors_script::addr(l);
-            let len = vectors_script::len(l);
-            let hop = vectors_script::hop(l);
-            shown::announced(announce(words, hops, addr, len, hop));
+fn turn(
+    rt: &impl Print,
+    step: Step,
+    quiet: bool,
+    words: &mut [u32],
+    hops: &mut [u16],
+) -> io::Result<()> {
+    match step {
+        Step::Build(route) => {
+            let answer = built(route, words, hops);
+            if quiet {
+                return Ok(());
+            }
+            shown::built(rt, answer)
         }
-        b'w' => {
-            let addr = vectors_script::addr(l);
-            let len = vectors_script::len(l);
-            shown::withdrawn(withdraw(words, hops, addr, len));
+        Step::Find(addr) => shown::found(rt, tree::lookup(words, hops, addr)),
+        Step::Test => shown::tested(rt, test(words, hops)),
+        Step::Announce(r) => shown::announced(rt, announce(words, hops, r.addr, r.len, r.hop)),
+        Step::Withdraw(r) => shown::withdrawn(rt, withdraw(words, hops, r.addr, r.len)),
+        Step::Image => shown::image(rt, words, hops),
+        Step::Numbers => shown::numbers(rt, words, hops),
+        Step::Word { at, value } => {
+            if let Some(word) = words.get_mut(at) {
+                *word = value;
+            }
+            Ok(())
         }
-        b'f' => {
-            let addr = vectors_script::addr(l);
-            shown::found(tree::lookup(words, hops, addr));
+        Step::Hop { at, value } => {
+            if let Some(hop) = hops.get_mut(at) {
+                *hop = value;
+            }
+            Ok(())
         }
-        b'i' => shown::image(words, hops),
-        b'n' => shown::numbers(words, hops),
-        b'p' => put_word(words, v[0] as usize, v[1]),
-        b'h' => put_hop(hops, v[0] as usize, v[1]),
-        _ => {}
     }
 }
 
 // No script has more than 40 steps.
-pub fn play(script: &[u8], words: &mut [u32], hops: &mut [u16]) {
+pub fn play(rt: &impl Print, script: &[u8], words: &mut [u32], hops: &mut [u16]) -> io::Result<()> {
     let mut at = 0;
-    let mut k = 0u32;
-    while k < 40 {
-        let l = line_at(script, at);
-        turn(l, words, hops);
-        at = l.next;
-        k += 1;
+    for _ in 0..40 {
+        let line = line_at(script, at);
+        if let Some(step) = Step::of(line) {
+            turn(rt, step, line.quiet, words, hops)?;
+        }
+        at = line.next;
     }
+    Ok(())
 }

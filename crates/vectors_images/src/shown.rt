@@ -1,134 +1,80 @@
 // What the calls on an image answer, and what its arrays hold: of each node the bits in hexadecimal, and both bases.
-use tree_build::Built;
-use tree_formed::Tested;
-use tree_image::TreeFound;
-use tree_theory::{TreeAnnounced, TreeWithdrawn};
-use vectors_shared::print;
+use refusals::{Refusal, Refused};
+use routes::found::Found;
+use std::io;
+use tree_image::Used;
+use tree_theory::{Announced, Change};
+use vectors_shared::shown::Numbers;
 
-fn sizes(nodes: u32, hops: u32) {
-    print::text(b" nodes");
-    print::value32(nodes);
-    print::text(b" hops");
-    print::value32(hops);
-    print::end();
-}
-
-fn refused(number: u8) {
-    print::refused(number);
-    print::end();
-}
-
-pub fn built(answer: Built) {
-    print::text(b"image");
+// A call, and how much is then in use, or why it is refused.
+fn used(rt: &impl Print, call: &str, answer: Result<Used, Refusal>) -> io::Result<()> {
     match answer {
-        Built::Made(nodes, hops) => {
-            print::text(b" nodes");
-            print::value(nodes as u64);
-            print::text(b" hops");
-            print::value(hops as u64);
-        }
-        Built::RefusedAt(f, k) => {
-            print::refused_at(f, k);
-        }
-        Built::Refused(f) => {
-            print::refused(f);
-        }
+        Ok(Used { nodes, hops }) => println!(rt; "{call} nodes {nodes} hops {hops}"),
+        Err(why) => println!(rt; "{call} {why}"),
     }
-    print::end();
 }
 
-pub fn found(answer: TreeFound) {
-    print::text(b"tree");
+pub fn built(rt: &impl Print, answer: Result<Used, Refused>) -> io::Result<()> {
     match answer {
-        TreeFound::Hop(h, n) => {
-            print::text(b" hop");
-            print::value(h as u64);
-            print::text(b" reads");
-            print::value(n as u64);
-        }
-        TreeFound::NoRoute(n) => {
-            print::text(b" no route reads");
-            print::value(n as u64);
-        }
-        TreeFound::Broken => {
-            print::text(b" refused 13");
-        }
+        Ok(in_use) => used(rt, "image", Ok(in_use)),
+        Err(e) => println!(rt; "image {e}"),
     }
-    print::end();
 }
 
-pub fn tested(answer: Tested) {
-    print::text(b"test");
+pub fn found(rt: &impl Print, answer: Result<Found, Refusal>) -> io::Result<()> {
     match answer {
-        Tested::Image(nodes, hops) => {
-            sizes(nodes, hops);
-        }
-        Tested::Broken => {
-            refused(13);
-        }
+        Ok(
+            Found {
+                hop: Some(hop),
+                reads,
+            },
+        ) => println!(rt; "tree hop {hop} reads {reads}"),
+        Ok(Found { hop: None, reads }) => println!(rt; "tree no route reads {reads}"),
+        Err(why) => println!(rt; "tree {why}"),
     }
 }
 
-pub fn announced(answer: TreeAnnounced) {
-    print::text(b"announce");
+pub fn tested(rt: &impl Print, answer: Result<Used, Refusal>) -> io::Result<()> {
+    used(rt, "test", answer)
+}
+
+pub fn announced(rt: &impl Print, answer: Result<Announced, Refusal>) -> io::Result<()> {
     match answer {
-        TreeAnnounced::Added(nodes, hops) => {
-            print::text(b" added");
-            sizes(nodes, hops);
-        }
-        TreeAnnounced::Replaced(nodes, hops) => {
-            print::text(b" replaced");
-            sizes(nodes, hops);
-        }
-        TreeAnnounced::Refused(number) => {
-            refused(number);
-        }
+        Ok(
+            Announced {
+                change: Change::Added,
+                used: in_use,
+            },
+        ) => used(rt, "announce added", Ok(in_use)),
+        Ok(
+            Announced {
+                change: Change::Replaced,
+                used: in_use,
+            },
+        ) => used(rt, "announce replaced", Ok(in_use)),
+        Err(why) => used(rt, "announce", Err(why)),
     }
 }
 
-pub fn withdrawn(answer: TreeWithdrawn) {
-    print::text(b"withdraw");
-    match answer {
-        TreeWithdrawn::Removed(nodes, hops) => {
-            sizes(nodes, hops);
+pub fn withdrawn(rt: &impl Print, answer: Result<Used, Refusal>) -> io::Result<()> {
+    used(rt, "withdraw", answer)
+}
+
+pub fn image(rt: &impl Print, words: &[u32], hops: &[u16]) -> io::Result<()> {
+    print!(rt; "words")?;
+    for node in words.chunks(3) {
+        for (place, word) in node.iter().enumerate() {
+            if place == 0 {
+                print!(rt; " | {word:08x}")?;
+            } else {
+                print!(rt; " {word}")?;
+            }
         }
-        TreeWithdrawn::Refused(number) => {
-            refused(number);
-        }
     }
-}
-
-// The first word of a node.
-fn bits(word: u32) {
-    print::text(b" | ");
-    print::hex(word);
-}
-
-fn word(place: usize, word: u32) {
-    if place == 0 {
-        bits(word);
-    } else {
-        print::value32(word);
-    }
-}
-
-fn words(list: &[u32]) {
-    print::text(b"words");
-    let mut i = 0;
-    while i < list.len() {
-        word(i % 3, list[i]);
-        i += 1;
-    }
-    print::end();
-}
-
-pub fn image(list: &[u32], then: &[u16]) {
-    words(list);
-    print::hops(then);
+    println!(rt; "\nhops{}", Numbers(hops))
 }
 
 // The arrays as plain numbers.
-pub fn numbers(list: &[u32], then: &[u16]) {
-    print::words(list);
-    print::hops(then);
+pub fn numbers(rt: &impl Print, words: &[u32], hops: &[u16]) -> io::Result<()> {
+    println!(rt; "words{}\nhops{}", Numbers(words), Numbers(hops))
 }

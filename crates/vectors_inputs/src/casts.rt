@@ -1,87 +1,86 @@
 // The worked cases of directed broadcast.
 use crate::{samples, told};
-use vectors_shared::print;
+use std::io;
 
 // RFC 3021's link of two hosts, attached: 192.0.2.0/31. Only the older rule takes its upper address.
-pub fn two_hosts() {
+fn two_hosts(rt: &impl Print) -> io::Result<()> {
     let list = samples::one(samples::attached(0xC000_0200, 31));
-    print::text(b"192.0.2.0/31\n");
-    told::both(&list, 0xC000_0201);
-    told::both(&list, 0xC000_0200);
-    told::both(&list, 0xC000_0202);
+    println!(rt; "192.0.2.0/31")?;
+    told::both(rt, &list, &[0xC000_0201, 0xC000_0200, 0xC000_0202])
 }
 
 // 192.0.2.4/30: its last address under both.
-pub fn four() {
+fn four(rt: &impl Print) -> io::Result<()> {
     let list = samples::one(samples::attached(0xC000_0204, 30));
-    print::text(b"192.0.2.4/30\n");
-    told::both(&list, 0xC000_0207);
-    told::both(&list, 0xC000_0206);
-    told::both(&list, 0xC000_0204);
+    println!(rt; "192.0.2.4/30")?;
+    told::both(rt, &list, &[0xC000_0207, 0xC000_0206, 0xC000_0204])
 }
 
 // 10.0.0.0/24, whose last address has a route of its own, behind a neighbour or attached: a route of 32 bits has no broadcast.
-pub fn host_of_its_own() {
+fn host_of_its_own(rt: &impl Print) -> io::Result<()> {
     let net = samples::attached(0x0A00_0000, 24);
-    print::text(b"10.0.0.0/24 and 10.0.0.255/32\n");
-    told::both(&samples::one(net), 0x0A00_00FF);
-    told::both(
-        &samples::two(net, samples::behind(0x0A00_00FF, 32)),
-        0x0A00_00FF,
-    );
-    told::both(
-        &samples::two(net, samples::attached(0x0A00_00FF, 32)),
-        0x0A00_00FF,
-    );
+    let last = 0x0A00_00FF;
+    println!(rt; "10.0.0.0/24 and 10.0.0.255/32")?;
+    told::both(rt, &samples::one(net), &[last])?;
+    told::both(rt, &samples::two(net, samples::behind(last, 32)), &[last])?;
+    told::both(rt, &samples::two(net, samples::attached(last, 32)), &[last])
 }
 
 // 10.0.0.0/24 with its upper half behind a neighbour: the longest route decides, and 10.0.0.127 is the last of no route.
-pub fn longer_inside() {
+fn longer_inside(rt: &impl Print) -> io::Result<()> {
     let net = samples::attached(0x0A00_0000, 24);
-    let list = samples::two(net, samples::behind(0x0A00_0080, 25));
-    print::text(b"10.0.0.0/24 and 10.0.0.128/25 behind\n");
-    told::both(&list, 0x0A00_00FF);
-    told::both(&list, 0x0A00_007F);
-    let list = samples::two(net, samples::attached(0x0A00_0080, 25));
-    print::text(b"10.0.0.0/24 and 10.0.0.128/25\n");
-    told::both(&list, 0x0A00_00FF);
-    told::both(&list, 0x0A00_007F);
+    let addrs = [0x0A00_00FF, 0x0A00_007F];
+    println!(rt; "10.0.0.0/24 and 10.0.0.128/25 behind")?;
+    told::both(
+        rt,
+        &samples::two(net, samples::behind(0x0A00_0080, 25)),
+        &addrs,
+    )?;
+    println!(rt; "10.0.0.0/24 and 10.0.0.128/25")?;
+    told::both(
+        rt,
+        &samples::two(net, samples::attached(0x0A00_0080, 25)),
+        &addrs,
+    )
 }
 
 // The same network, not attached.
-pub fn behind() {
+fn behind(rt: &impl Print) -> io::Result<()> {
     let list = samples::one(samples::behind(0x0A00_0000, 24));
-    print::text(b"10.0.0.0/24 behind\n");
-    told::both(&list, 0x0A00_00FF);
+    println!(rt; "10.0.0.0/24 behind")?;
+    told::both(rt, &list, &[0x0A00_00FF])
 }
 
 // 0.0.0.0/0, attached: the last address of all.
-pub fn all() {
+fn all(rt: &impl Print) -> io::Result<()> {
     let list = samples::one(samples::attached(0, 0));
-    print::text(b"0.0.0.0/0\n");
-    told::both(&list, 0xFFFF_FFFF);
-    told::both(&list, 0x0AFF_FFFF);
-    told::both(&list, 0);
+    println!(rt; "0.0.0.0/0")?;
+    told::both(rt, &list, &[0xFFFF_FFFF, 0x0AFF_FFFF, 0])
 }
 
 // No route at all.
-pub fn none() {
-    print::text(b"no route\n");
-    told::both(b"", 0xFFFF_FFFF);
+fn none(rt: &impl Print) -> io::Result<()> {
+    println!(rt; "no route")?;
+    told::both(rt, b"", &[0xFFFF_FFFF])
 }
 
 // 23 comes first, whatever the input: of nine bytes, or with a mark of 2. Then the input's.
-pub fn refusals() {
+fn refusals(rt: &impl Print) -> io::Result<()> {
+    println!(rt; "nine bytes")?;
+    told::versions(rt, &[0, 3, u32::MAX, 1, 2], b"nine byte", 0)?;
     let mut list = samples::one(samples::attached(0xC000_0200, 31));
-    print::text(b"nine bytes\n");
-    told::version(0, b"nine byte", 0);
-    told::version(3, b"nine byte", 0);
-    told::version(4294967295, b"nine byte", 0);
-    told::version(1, b"nine byte", 0);
-    told::version(2, b"nine byte", 0);
-    print::text(b"mark 2\n");
     list[5] = 2;
-    told::version(3, &list, 0xC000_0201);
-    told::version(1, &list, 0xC000_0201);
-    told::version(2, &list, 0xC000_0201);
+    println!(rt; "mark 2")?;
+    told::versions(rt, &[3, 1, 2], &list, 0xC000_0201)
+}
+
+pub fn run(rt: &impl Print) -> io::Result<()> {
+    two_hosts(rt)?;
+    four(rt)?;
+    host_of_its_own(rt)?;
+    longer_inside(rt)?;
+    behind(rt)?;
+    all(rt)?;
+    none(rt)?;
+    refusals(rt)
 }

@@ -11,24 +11,19 @@ mod parts;
 mod samples;
 mod told;
 
-fn main() {
-    masks::run();
-    inputs::run();
-    inputs::attached();
-    inputs::refusals();
-    inputs::most();
-    inputs::host_bits();
-    parts::run();
-    parts::tallies();
-    parts::attached();
-    parts::host_bits();
-    lines::attached();
-    casts::two_hosts();
-    casts::four();
-    casts::host_of_its_own();
-    casts::longer_inside();
-    casts::behind();
-    casts::all();
-    casts::none();
-    casts::refusals();
+use std::io;
+
+fn main(rt: HostRuntime) -> io::Result<()> {
+    masks::run(&rt)?;
+    inputs::run(&rt)?;
+    inputs::attached(&rt)?;
+    inputs::refusals(&rt)?;
+    inputs::most(&rt)?;
+    inputs::host_bits(&rt)?;
+    parts::run(&rt)?;
+    parts::tallies(&rt)?;
+    parts::attached(&rt)?;
+    parts::host_bits(&rt)?;
+    lines::attached(&rt)?;
+    casts::run(&rt)
 }

@@ -1,54 +1,34 @@
 // Addresses and what is said of their broadcast, as words.
-use broadcast::{Cast, broadcast};
-use vectors_shared::print;
+use broadcast::broadcast;
+use refusals::Refused;
+use std::io;
+use std::net::Ipv4Addr;
 
-// The lowest byte of a number.
-fn part(n: u32) {
-    print::number((n % 256) as u64);
-}
-
-fn address(a: u32) {
-    part(a / 16777216);
-    print::text(b".");
-    part(a / 65536);
-    print::text(b".");
-    part(a / 256);
-    print::text(b".");
-    part(a);
-}
-
-fn told(answer: Cast) {
+fn told(rt: &impl Print, answer: Result<bool, Refused>) -> io::Result<()> {
     match answer {
-        Cast::Yes => {
-            print::text(b" yes");
-        }
-        Cast::No => {
-            print::text(b" no");
-        }
-        Cast::NoVersion => {
-            print::refused(23);
-        }
-        Cast::Refused(f, k) => {
-            print::refused_at(f, k);
-        }
-        Cast::TooMany => {
-            print::refused(6);
-        }
+        Ok(true) => print!(rt; " yes"),
+        Ok(false) => print!(rt; " no"),
+        Err(e) => print!(rt; " {e}"),
     }
 }
 
-// An address, and what both versions say of it.
-pub fn both(input: &[u8], addr: u32) {
-    address(addr);
-    told(broadcast(1, input, addr));
-    told(broadcast(2, input, addr));
-    print::end();
+// Each address, and what both versions say of it.
+pub fn both(rt: &impl Print, input: &[u8], addrs: &[u32]) -> io::Result<()> {
+    for addr in addrs {
+        print!(rt; "{}", Ipv4Addr::from_bits(*addr))?;
+        told(rt, broadcast(1, input, *addr))?;
+        told(rt, broadcast(2, input, *addr))?;
+        println!(rt; "")?;
+    }
+    Ok(())
 }
 
-// A version, and what it says.
-pub fn version(version: u32, input: &[u8], addr: u32) {
-    print::text(b"version");
-    print::value32(version);
-    told(broadcast(version, input, addr));
-    print::end();
+// Each version, and what it says.
+pub fn versions(rt: &impl Print, versions: &[u32], input: &[u8], addr: u32) -> io::Result<()> {
+    for version in versions {
+        print!(rt; "version {version}")?;
+        told(rt, broadcast(*version, input, addr))?;
+        println!(rt; "")?;
+    }
+    Ok(())
 }

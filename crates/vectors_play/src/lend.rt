@@ -1,6 +1,6 @@
 // The arrays that a script plays on.
-use crate::play;
-use vectors_probes::edit::most;
+use crate::play::play;
+use std::io;
 
 // How long each of them is.
 #[derive(Clone, Copy)]
@@ -17,10 +17,10 @@ pub struct Room {
 
 // At the standard geometry: room for so many routes, and so many chunks in each pool.
 pub fn standard(routes: usize, seconds: usize, thirds: usize) -> Room {
-    let own2 = most(seconds, 4);
-    let own3 = most(thirds, 4);
+    let own2 = seconds.min(4);
+    let own3 = thirds.min(4);
     Room {
-        list: most(routes, 24) * 8,
+        list: routes.min(24) * 8,
         first: 65536,
         second: own2 * 256,
         third: own3 * 256,
@@ -32,33 +32,26 @@ pub fn standard(routes: usize, seconds: usize, thirds: usize) -> Room {
 }
 
 // Plays two scripts, one after the other, on zeros.
-pub fn lend(room: Room, head: &[u8], script: &[u8]) {
-    let n0 = most(room.list, 192);
-    let n1 = most(room.first, 65536);
-    let n2 = most(room.second, 3072);
-    let n3 = most(room.third, 2048);
-    let n4 = most(room.own2, 4);
-    let n5 = most(room.own3, 4);
-    let n6 = most(room.long1, 65536);
-    let n7 = most(room.long2, 3072);
-    let mut list = [0u8; 192];
-    let mut first = [0u16; 65536];
-    let mut second = [0u16; 3072];
-    let mut third = [0u16; 2048];
-    let mut own2 = [0u32; 4];
-    let mut own3 = [0u32; 4];
-    let mut long1 = [0u16; 65536];
-    let mut long2 = [0u16; 3072];
-    play::play(
+pub fn lend(rt: &impl Print, room: Room, head: &[u8], script: &[u8]) -> io::Result<()> {
+    let n0 = room.list.min(192);
+    let n1 = room.first.min(65536);
+    let n2 = room.second.min(3072);
+    let n3 = room.third.min(2048);
+    let n4 = room.own2.min(4);
+    let n5 = room.own3.min(4);
+    let n6 = room.long1.min(65536);
+    let n7 = room.long2.min(3072);
+    play(
+        rt,
         head,
         script,
-        &mut list[..n0],
-        &mut first[..n1],
-        &mut second[..n2],
-        &mut third[..n3],
-        &mut own2[..n4],
-        &mut own3[..n5],
-        &mut long1[..n6],
-        &mut long2[..n7],
-    );
+        &mut [0; 192][..n0],
+        &mut [0; 65536][..n1],
+        &mut [0; 3072][..n2],
+        &mut [0; 2048][..n3],
+        &mut [0; 4][..n4],
+        &mut [0; 4][..n5],
+        &mut [0; 65536][..n6],
+        &mut [0; 3072][..n7],
+    )
 }

@@ -1,9 +1,12 @@
 // The steps of two scripts, one after the other.
-use crate::turn;
-use vectors_steps::world;
+use crate::turn::turn;
+use std::io;
+use vectors_script::line_in;
+use vectors_steps::world::World;
 
 // No script has more than 700 steps, those counted that it draws.
 pub fn play(
+    rt: &impl Print,
     head: &[u8],
     script: &[u8],
     list: &mut [u8],
@@ -14,16 +17,29 @@ pub fn play(
     own3: &mut [u32],
     long1: &mut [u16],
     long2: &mut [u16],
-) {
-    let mut w = world::start();
-    let mut k = 0u32;
-    while k < 700 {
-        let l = vectors_script::line_in(head, script, w.at);
-        let s = world::next(w, l, list);
-        let r = turn::turn(
-            s, w.table, w.input, list, first, second, third, own2, own3, long1, long2,
-        );
-        w = world::after(w, l, s, r, list);
-        k += 1;
+) -> io::Result<()> {
+    let mut world = World::start();
+    for _ in 0..700 {
+        let line = line_in(head, script, world.at);
+        let Some(step) = world.next(line, list) else {
+            world.at = line.next;
+            continue;
+        };
+        let turn = turn(
+            rt,
+            step,
+            world.table,
+            world.input,
+            list,
+            first,
+            second,
+            third,
+            own2,
+            own3,
+            long1,
+            long2,
+        )?;
+        world.after(rt, line, step, turn, list)?;
     }
+    Ok(())
 }

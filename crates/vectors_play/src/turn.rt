@@ -1,61 +1,45 @@
 // One step on a table.
 use crate::said;
+use sail::arrays::Arrays;
 use sail::table::Table;
-use sail_sound::report;
-use vectors_probes::{edit, looks, only, show};
-use vectors_steps::step::{Step, Turn};
-use vectors_steps::words::Said;
-use vectors_steps::world;
+use sail_announce::announce;
+use sail_load::load::load;
+use sail_lookup::lookup;
+use sail_make::make;
+use sail_sound::report::report;
+use sail_withdraw::withdraw;
+use std::io;
+use vectors_probes::looks::look;
+use vectors_probes::{only, show};
+use vectors_steps::said::{Said, Turn};
+use vectors_steps::step::{Level, Step};
 use vectors_steps::world::Input;
 
 // A look at the table: what a call answers, or lines printed of what is lent.
-fn read(
-    s: Step,
-    t: Table,
-    list: &[u8],
-    first: &[u16],
-    second: &[u16],
-    third: &[u16],
-    own2: &[u32],
-    own3: &[u32],
-    long1: &[u16],
-    long2: &[u16],
-) -> Said {
-    let letter = s.letter;
-    let r = s.route;
-    let e = s.edit;
-    match letter {
-        b'f' => said::of_lookup(sail_lookup::lookup(
-            t, list, first, second, third, own2, own3, long1, long2, r.addr,
-        )),
-        b't' => said::of_report(report::report(
-            t, list, first, second, third, own2, own3, long1, long2,
-        )),
-        b'j' => said::of_looks(looks::look(
-            t, list, first, second, third, own2, own3, long1, long2, s.x, s.sums,
-        )),
-        b'e' => {
-            show::record(list, e.array as usize);
-            said::nothing()
+fn read(rt: &impl Print, step: Step, t: Table, a: Arrays) -> io::Result<Said> {
+    match step {
+        Step::Find(addr) => {
+            return Ok(said::found(lookup(t, a, addr)));
         }
-        b'c' => {
-            show::cell(e.array, e.from, first, second, own2, own3);
-            said::nothing()
+        Step::Tell => {
+            return Ok(said::reported(report(t, a)));
         }
-        b'o' => {
-            only::only_24(list, first, second, third, own2, own3, long1, long2);
-            said::nothing()
+        Step::Judge(x, sums) => {
+            return Ok(Said::Looked(look(t, a, x, sums)));
         }
-        b'h' => {
-            show::sums(list, first, second, third, own2, own3, long1, long2);
-            said::nothing()
-        }
-        _ => said::nothing(),
+        Step::Entry(k) => show::record(rt, a.list, k)?,
+        Step::Cell(Level::First, at) => show::cell(rt, a.first, a.own2, at)?,
+        Step::Cell(Level::Second, at) => show::cell(rt, a.second, a.own3, at)?,
+        Step::Only => only::only_24(rt, a)?,
+        Step::Hash => show::sums(rt, a)?,
+        _ => {}
     }
+    Ok(Said::Nothing)
 }
 
 pub fn turn(
-    s: Step,
+    rt: &impl Print,
+    step: Step,
     t: Table,
     input: Input,
     list: &mut [u8],
@@ -66,18 +50,16 @@ pub fn turn(
     own3: &mut [u32],
     long1: &mut [u16],
     long2: &mut [u16],
-) -> Turn {
-    let letter = s.letter;
-    let r = s.route;
-    match letter {
-        b'm' => said::after_make(sail_make::make(
-            t, list, first, second, third, own2, own3, long1, long2,
-        )),
-        b'l' => {
-            let bytes = input.bytes;
-            said::after_load(sail_load::load::load(
+) -> io::Result<Turn> {
+    match step {
+        Step::Make => {
+            let r = make(t, list, first, second, third, own2, own3, long1, long2);
+            Ok(said::made(t, r))
+        }
+        Step::Load => {
+            let r = load(
                 t,
-                world::records(&bytes, input.records),
+                input.records(),
                 list,
                 first,
                 second,
@@ -86,24 +68,50 @@ pub fn turn(
                 own3,
                 long1,
                 long2,
-            ))
+            );
+            Ok(said::loaded(t, r))
         }
-        b'a' => said::after_announce(sail_announce::announce(
-            t, list, first, second, third, own2, own3, long1, long2, r.addr, r.len, r.hop, r.mark,
-        )),
-        b'w' => said::after_withdraw(sail_withdraw::withdraw(
-            t, list, first, second, third, own2, own3, long1, long2, r.addr, r.len,
-        )),
-        b'r' => said::after_repair(repair::repair::repair(
-            t, list, first, second, third, own2, own3, long1, long2,
-        )),
-        b'p' => {
-            edit::put(s.edit, list, first, second, third, own2, own3, long1, long2);
-            said::stays(t, said::nothing())
+        Step::Announce(r) => {
+            let r = announce(
+                t, list, first, second, third, own2, own3, long1, long2, r.addr, r.len, r.hop,
+                r.mark,
+            );
+            Ok(said::announced(r))
         }
-        _ => said::stays(
-            t,
-            read(s, t, list, first, second, third, own2, own3, long1, long2),
-        ),
+        Step::Withdraw(r) => {
+            let r = withdraw(
+                t, list, first, second, third, own2, own3, long1, long2, r.addr, r.len,
+            );
+            Ok(said::withdrawn(r))
+        }
+        Step::Repair => {
+            let r = repair::repair::repair(t, list, first, second, third, own2, own3, long1, long2);
+            Ok(said::repaired(r))
+        }
+        Step::Put(edit) => {
+            edit.put(list, first, second, third, own2, own3, long1, long2);
+            Ok(Turn {
+                table: t,
+                said: Said::Nothing,
+            })
+        }
+        _ => Ok(Turn {
+            table: t,
+            said: read(
+                rt,
+                step,
+                t,
+                Arrays {
+                    list,
+                    first,
+                    second,
+                    third,
+                    own2,
+                    own3,
+                    long1,
+                    long2,
+                },
+            )?,
+        }),
     }
 }

@@ -1,5 +1,5 @@
-// What the programs of worked cases share: list A, and the words and numbers that they print.
+// What the programs of worked cases share: list A, and lists of numbers as they are printed.
 #![tactic(auto)]
 
 pub mod list;
-pub mod print;
+pub mod shown;

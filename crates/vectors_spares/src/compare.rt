@@ -1,51 +1,25 @@
-// Arrays compared cell by cell, and what is printed of it: the cells in which they differ, or that they are the same.
-use buffers_test::same::{same16, same32};
-use vectors_shared::print;
+// Images compared cell by cell, and what is printed of it: the hops in which they differ, or that they are the same.
+use std::io;
 
-// Whether the list begins with the others.
-pub fn words_begin(list: &[u32], others: &[u32]) -> bool {
-    let n = others.len();
-    if list.len() < n {
-        return false;
-    }
-    same32(&list[..n], others)
+pub fn told(same: bool) -> &'static str {
+    if same { "same" } else { "differ" }
 }
 
-pub fn hops_begin(list: &[u16], others: &[u16]) -> bool {
-    let n = others.len();
-    if list.len() < n {
-        return false;
-    }
-    same16(&list[..n], others)
-}
-
-pub fn told(same: bool) {
-    if same {
-        print::text(b" same");
-    } else {
-        print::text(b" differ");
-    }
-}
-
-pub fn words(list: &[u32], others: &[u32]) {
-    print::text(b" words");
-    told(same32(list, others));
-}
-
-// The hops, and each cell of them that differs.
-pub fn hops(list: &[u16], others: &[u16]) {
-    print::text(b" hops");
-    told(same16(list, others));
-    let n = others.len();
-    let mut i = 0;
-    while i < list.len() {
-        if i < n {
-            if list[i] != others[i] {
-                print::text(b" at");
-                print::value(i as u64);
-            }
+pub fn images(
+    rt: &impl Print,
+    label: &str,
+    words: &[u32],
+    hops: &[u16],
+    other_words: &[u32],
+    other_hops: &[u16],
+) -> io::Result<()> {
+    let same_words = told(words == other_words);
+    let same_hops = told(hops == other_hops);
+    print!(rt; "{label}: words {same_words} hops {same_hops}")?;
+    for (i, (hop, other)) in hops.iter().zip(other_hops).enumerate() {
+        if hop != other {
+            print!(rt; " at {i}")?;
         }
-        i += 1;
     }
-    print::end();
+    println!(rt; "")
 }

@@ -6,10 +6,12 @@ mod apart;
 mod compare;
 mod orders;
 
-fn main() {
-    orders::every();
-    orders::detour();
-    apart::marked();
-    apart::hop();
-    apart::prefix();
+use std::io;
+
+fn main(rt: HostRuntime) -> io::Result<()> {
+    orders::every(&rt)?;
+    orders::detour(&rt)?;
+    apart::marked(&rt)?;
+    apart::hop(&rt)?;
+    apart::prefix(&rt)
 }

@@ -1,121 +1,126 @@
 // Drawn changes: how many are left and what they gave.
+use crate::said::{Answer, Said};
 use crate::step::Step;
-use crate::words::Said;
-use crate::{step, words};
-use records::record;
+use records::record::read_record;
+use routes::Route;
 use sail::table::Table;
-use std::num;
-use vectors_probes::draw::Prefix;
+use std::io;
+use vectors_probes::draw::{Draw, Prefix};
+use vectors_probes::linear;
 use vectors_probes::looks::Sums;
-use vectors_probes::{draw, linear, looks};
-use vectors_shared::print;
+use vectors_shared::shown::Numbers;
 
-// How many steps are left, a change and the lookups after it by turns; the next drawn number; the lookups so far; and how often each
-// answer came: a refusal at its number, added, replaced and removed at 11, 12 and 13, and at 14 how often one of these said that
-// bits were cleared.
-#[derive(Clone, Copy)]
-pub struct Draws {
-    pub left: u32,
-    pub x: u64,
-    pub sums: Sums,
-    pub tally: [u64; 15],
+// How often each answer came: the refusals by their numbers, from 1; and how often a change said that bits were cleared.
+#[derive(Clone, Copy, Default)]
+struct Tally {
+    refused: [u32; 10],
+    added: u32,
+    replaced: u32,
+    removed: u32,
+    cleared: u32,
 }
 
-pub fn start(left: u32, x: u64) -> Draws {
-    Draws {
-        left,
-        x,
-        sums: looks::none(),
-        tally: [0u64; 15],
+impl Tally {
+    fn count(&mut self, answer: Answer) {
+        match answer {
+            Answer::Added { cleared } => {
+                self.added = self.added.wrapping_add(1);
+                self.cleared = self.cleared.wrapping_add(u32::from(cleared));
+            }
+            Answer::Replaced { cleared } => {
+                self.replaced = self.replaced.wrapping_add(1);
+                self.cleared = self.cleared.wrapping_add(u32::from(cleared));
+            }
+            Answer::Removed { cleared } => {
+                self.removed = self.removed.wrapping_add(1);
+                self.cleared = self.cleared.wrapping_add(u32::from(cleared));
+            }
+            Answer::Refused(number) => {
+                if let Some(count) = self.refused.get_mut(usize::from(number).wrapping_sub(1)) {
+                    *count = count.wrapping_add(1);
+                }
+            }
+            _ => {}
+        }
     }
+}
+
+// How many steps are left, a change and the lookups after it by turns; the next drawn number; the lookups so far; and the answers so far.
+#[derive(Clone, Copy, Default)]
+pub struct Draws {
+    pub left: u32,
+    pub x: Draw,
+    sums: Sums,
+    tally: Tally,
 }
 
 // The prefix of a change: a standing one, which x picks, where the kind says so and there is one; otherwise a drawn one.
-fn chosen(t: Table, list: &[u8], kind: u64, x: u64) -> Prefix {
+fn chosen(t: Table, list: &[u8], kind: u32, x: Draw) -> Prefix {
     let n = linear::standing(t, list);
-    if kind < 6 {
-        return draw::any_prefix(x);
+    if kind < 6 || n == 0 {
+        return x.prefix();
     }
-    if n == 0 {
-        return draw::any_prefix(x);
-    }
-    let r = record::read_record(list, draw::pick(x, n as u64) as usize);
+    let r = read_record(list, x.0 as usize / 65536 % n);
     Prefix {
         addr: r.addr,
         len: r.len,
     }
 }
 
-// The next step: the lookups after a change, or a drawn change. Of eight kinds five announce and three withdraw.
-pub fn next(d: Draws, t: Table, list: &[u8]) -> Step {
-    if d.left % 2 == 1 {
-        return step::judge(d.x, d.sums);
+impl Draws {
+    // So many changes, each with lookups after it, from this number on.
+    pub fn start(changes: u32, x: Draw) -> Draws {
+        Draws {
+            left: changes.wrapping_mul(2),
+            x,
+            ..Draws::default()
+        }
     }
-    let kind = draw::pick(d.x, 8);
-    let y = draw::next(d.x);
-    let p = chosen(t, list, kind, y);
-    let z = draw::next(draw::next(y));
-    let r = step::route(p.addr, p.len, draw::hop(z), draw::mark(draw::next(z)));
-    if 5 <= kind {
-        return step::call(b'w', r);
-    }
-    step::call(b'a', r)
-}
 
-fn more(tally: [u64; 15], k: usize) -> [u64; 15] {
-    let mut t = tally;
-    if k < 15 {
-        let n = t[k];
-        t[k] = num::wrapping_add_u64(n, 1);
-    }
-    t
-}
-
-// The place of an answer in the tally.
-fn place(said: Said) -> usize {
-    let v = said.v;
-    if said.answer == words::REFUSED {
-        return v[0] as usize;
-    }
-    said.answer
-}
-
-// Lookups are made, which have these sums; or a change is, which took five drawn numbers.
-pub fn after(d: Draws, said: Said) -> Draws {
-    let left = num::wrapping_sub_u32(d.left, 1);
-    let tally = d.tally;
-    let v = said.v;
-    if said.answer == words::LOOKED {
-        let sums = looks::of_numbers(v);
-        return Draws {
-            left,
-            x: d.x,
-            sums,
-            tally,
+    // The next step: the lookups after a change, or a drawn change. Of eight kinds five announce and three withdraw.
+    pub fn next(&self, t: Table, list: &[u8]) -> Step {
+        if self.left % 2 == 1 {
+            return Step::Judge(self.x, self.sums);
+        }
+        let kind = self.x.pick(8);
+        let y = self.x.next();
+        let Prefix { addr, len } = chosen(t, list, kind, y);
+        let z = y.after(2);
+        let route = Route {
+            addr,
+            len,
+            mark: z.next().mark(),
+            hop: z.hop(),
         };
+        if kind < 5 {
+            Step::Announce(route)
+        } else {
+            Step::Withdraw(route)
+        }
     }
-    let sums = d.sums;
-    let once = more(tally, place(said));
-    let counted = more(once, said.cleared);
-    Draws {
-        left,
-        x: draw::next(draw::next(draw::next(draw::next(draw::next(d.x))))),
-        sums,
-        tally: counted,
-    }
-}
 
-// The changes and the lookups of a run.
-pub fn told(d: Draws) {
-    let tally = d.tally;
-    let sums = d.sums;
-    let v = looks::numbers(sums);
-    words::show(words::CHANGES, &tally, 11);
-    print::end();
-    words::show(words::CLEARINGS, &tally, 14);
-    print::end();
-    words::show(words::REFUSALS, &tally, 1);
-    print::end();
-    words::show(words::LOOKED, &v, 0);
-    print::end();
+    // Lookups are made, which have these sums; or a change is, which took five drawn numbers.
+    pub fn after(&mut self, said: Said) {
+        self.left = self.left.wrapping_sub(1);
+        match said {
+            Said::Looked(sums) => self.sums = sums,
+            Said::Called(_, answer) => {
+                self.tally.count(answer);
+                self.x = self.x.after(5);
+            }
+            Said::Nothing => {}
+        }
+    }
+
+    // The changes and the lookups of a run.
+    pub fn told(&self, rt: &impl Print) -> io::Result<()> {
+        let Draws { sums, tally, .. } = *self;
+        println!(rt;
+            "added, replaced, removed {} {} {}",
+            tally.added, tally.replaced, tally.removed
+        )?;
+        println!(rt; "cleared {}", tally.cleared)?;
+        println!(rt; "refused 1 to 10:{}", Numbers(&tally.refused))?;
+        println!(rt; "{sums}")
+    }
 }

@@ -2,6 +2,6 @@
 #![tactic(auto)]
 
 pub mod draws;
+pub mod said;
 pub mod step;
-pub mod words;
 pub mod world;

@@ -1,21 +1,47 @@
 // Where a script stands.
 use crate::draws::Draws;
-use crate::step::{Step, Turn};
-use crate::{draws, words};
-use records::record;
+use crate::said::{Said, Turn};
+use crate::step::Step;
+use records::record::write_record;
 use routes::Route;
 use sail::geometry::Geometry;
 use sail::table::Table;
-use std::num;
-use vectors_probes::edit::{Edit, most};
-use vectors_probes::{linear, looks};
+use std::io;
+use vectors_probes::linear;
 use vectors_script::Line;
 
 // The input of a load, and how many records it has.
 #[derive(Clone, Copy)]
 pub struct Input {
-    pub bytes: [u8; 192],
-    pub records: usize,
+    bytes: [u8; 192],
+    count: usize,
+}
+
+impl Input {
+    pub fn records(&self) -> &[u8] {
+        let end = self.count.min(24) * 8;
+        &self.bytes[..end]
+    }
+
+    // One record more. Where there is no room for it, it is left out.
+    fn push(&mut self, r: Route) {
+        if self.count < 24 {
+            write_record(&mut self.bytes, self.count, r);
+            self.count += 1;
+        }
+    }
+
+    // The records of the list.
+    fn keep(t: Table, list: &[u8]) -> Input {
+        let mut bytes = [0u8; 192];
+        for (byte, kept) in bytes.iter_mut().zip(list) {
+            *byte = *kept;
+        }
+        Input {
+            bytes,
+            count: linear::standing(t, list),
+        }
+    }
 }
 
 // The state of the table, the place in the script, the drawn changes, and the input of a load.
@@ -27,159 +53,66 @@ pub struct World {
     pub input: Input,
 }
 
-// A fresh start at the standard geometry.
-pub fn start() -> World {
-    World {
-        table: Table {
-            geometry: Geometry::STANDARD,
-            count: 0,
-        },
-        at: 0,
-        draws: draws::start(0, 0),
-        input: Input {
-            bytes: [0u8; 192],
-            records: 0,
-        },
-    }
-}
-
-// The route that a line names.
-fn route(l: Line) -> Route {
-    Route {
-        addr: vectors_script::addr(l),
-        len: vectors_script::len(l),
-        mark: vectors_script::mark(l),
-        hop: vectors_script::hop(l),
-    }
-}
-
-// The numbers of an edit.
-fn edit(l: Line) -> Edit {
-    let v = l.v;
-    Edit {
-        array: v[0],
-        from: v[1] as usize,
-        to: v[2] as usize,
-        value: v[3],
-    }
-}
-
-// The step that a line asks for.
-fn asked(l: Line, x: u64) -> Step {
-    Step {
-        letter: l.letter,
-        route: route(l),
-        edit: edit(l),
-        x,
-        sums: looks::none(),
-    }
-}
-
-// The next step: a drawn one where some are left, and otherwise what the line asks for.
-pub fn next(w: World, l: Line, list: &[u8]) -> Step {
-    let d = w.draws;
-    if d.left != 0 {
-        return draws::next(d, w.table, list);
-    }
-    asked(l, d.x)
-}
-
-// These records, as that part of the input.
-pub fn records(bytes: &[u8], n: usize) -> &[u8] {
-    let e = most(n, bytes.len() / 8) * 8;
-    &bytes[..e]
-}
-
-// A record, where there is room for it.
-fn write(bytes: &mut [u8], k: usize, r: Route) {
-    if k < bytes.len() / 8 {
-        record::write_record(bytes, k, r);
-    }
-}
-
-// One record more.
-fn given(i: Input, r: Route) -> Input {
-    let k = i.records;
-    let mut bytes = i.bytes;
-    write(&mut bytes, k, r);
-    Input {
-        bytes,
-        records: most(k, 23) + 1,
-    }
-}
-
-// The records of the list.
-fn kept(t: Table, list: &[u8]) -> Input {
-    let mut bytes = [0u8; 192];
-    let records = linear::standing(t, list);
-    let n = most(list.len(), 192);
-    let mut k = 0;
-    while k < n {
-        bytes[k] = list[k];
-        k += 1;
-    }
-    Input { bytes, records }
-}
-
-fn next_input(i: Input, letter: u8, r: Route, t: Table, list: &[u8]) -> Input {
-    match letter {
-        b'i' => given(i, r),
-        b'k' => kept(t, list),
-        _ => i,
-    }
-}
-
-// The state that a line sets.
-fn state(t: Table, l: Line) -> Table {
-    let v = l.v;
-    if l.letter == b's' {
-        return Table {
-            geometry: Geometry { p1: v[0], p2: v[1] },
-            count: v[2],
-        };
-    }
-    t
-}
-
-// So many changes are to be drawn, from this number on; or it is told what they gave.
-fn drawn(d: Draws, l: Line) -> Draws {
-    let v = l.v;
-    let letter = l.letter;
-    match letter {
-        b'd' => draws::start(num::wrapping_add_u32(v[0], v[0]), v[1] as u64),
-        b'n' => {
-            draws::told(d);
-            d
+impl World {
+    // A fresh start at the standard geometry.
+    pub fn start() -> World {
+        World {
+            table: Table {
+                geometry: Geometry::STANDARD,
+                count: 0,
+            },
+            at: 0,
+            draws: Draws::default(),
+            input: Input {
+                bytes: [0; 192],
+                count: 0,
+            },
         }
-        _ => d,
+    }
+
+    // The next step: a drawn one where some are left, and otherwise what the line asks for.
+    pub fn next(&self, line: Line, list: &[u8]) -> Option<Step> {
+        if self.draws.left != 0 {
+            return Some(self.draws.next(self.table, list));
+        }
+        Step::of(line, self.draws.x)
+    }
+
+    // A step is made: what it says is printed, where it is none of many, and what else the line asks for is done.
+    pub fn after(
+        &mut self,
+        rt: &impl Print,
+        line: Line,
+        step: Step,
+        turn: Turn,
+        list: &[u8],
+    ) -> io::Result<()> {
+        self.table = turn.table;
+        if self.draws.left != 0 {
+            self.draws.after(turn.said);
+            return Ok(());
+        }
+        self.at = line.next;
+        if !line.quiet {
+            say(rt, turn.said)?;
+        }
+        match step {
+            Step::State(table) => self.table = table,
+            Step::Draw { changes, from } => self.draws = Draws::start(changes, from),
+            Step::Numbers => self.draws.told(rt)?,
+            Step::Input(route) => self.input.push(route),
+            Step::Keep => self.input = Input::keep(turn.table, list),
+            _ => {}
+        }
+        Ok(())
     }
 }
 
-// A step is made: what it says is printed, where it is none of many, and what else the line asks for is done.
-pub fn after(w: World, l: Line, s: Step, r: Turn, list: &[u8]) -> World {
-    let d = w.draws;
-    let said = r.said;
-    let t = r.table;
-    let i = w.input;
-    if d.left != 0 {
-        let draws = draws::after(d, said);
-        return World {
-            table: t,
-            at: w.at,
-            draws,
-            input: i,
-        };
-    }
-    if !l.quiet {
-        words::say(said);
-    }
-    let table = state(t, l);
-    let draws = drawn(d, l);
-    let input = next_input(i, l.letter, s.route, t, list);
-    World {
-        table,
-        at: l.next,
-        draws,
-        input,
+// A line of its own, where there is something to say.
+fn say(rt: &impl Print, said: Said) -> io::Result<()> {
+    match said {
+        Said::Nothing => Ok(()),
+        Said::Called(call, answer) => println!(rt; "{call} {answer}"),
+        Said::Looked(sums) => println!(rt; "{sums}"),
     }
 }

@@ -8,24 +8,26 @@ mod long;
 mod repairs;
 mod runs;
 
-fn main() {
-    by_hand::list_a();
-    by_hand::states();
-    by_hand::damaged();
-    by_hand::counted();
-    runs::list_a();
-    runs::one_chunk();
-    runs::late_short();
-    runs::nine_bytes();
-    runs::states();
-    runs::marks();
-    runs::host_bits();
-    runs::strict();
-    repairs::list();
-    repairs::counts();
-    repairs::cells();
-    repairs::refusals();
-    repairs::renumbered();
-    long::at_standard();
-    long::at_small();
+use std::io;
+
+fn main(rt: HostRuntime) -> io::Result<()> {
+    by_hand::list_a(&rt)?;
+    by_hand::states(&rt)?;
+    by_hand::damaged(&rt)?;
+    by_hand::counted(&rt)?;
+    runs::list_a(&rt)?;
+    runs::one_chunk(&rt)?;
+    runs::late_short(&rt)?;
+    runs::nine_bytes(&rt)?;
+    runs::states(&rt)?;
+    runs::marks(&rt)?;
+    runs::host_bits(&rt)?;
+    runs::strict(&rt)?;
+    repairs::list(&rt)?;
+    repairs::counts(&rt)?;
+    repairs::cells(&rt)?;
+    repairs::refusals(&rt)?;
+    repairs::renumbered(&rt)?;
+    long::at_standard(&rt)?;
+    long::at_small(&rt)
 }

@@ -1,7 +1,5 @@
 -- The invariant: the bytes before `j` are done.
-use mathlib.Core.Path.{◌≡◌}
-use Prim.Native.Nat.{ℕ, ◌+◌, ◌-◌, ◌*◌, ◌<◌}
-use lib.ListN.{length, get_or}
+use Rattle.std.specs.Prelude.{◌≡◌, ℕ, ◌+◌, ◌*◌, ◌<◌, length, get_or}
 use Rattle.bits.specs.Bit.{packed_bits}
 use Rattle.basic.specs.Maps.{hop_there}
 use Rattle.basic_build.proofs.put_bits.Given as goal
@@ -9,6 +7,3 @@ use Rattle.basic_build.proofs.put_bits.Given as goal
 abbrev pub invariant-loop-j : goal.invariant-loop-j
 invariant-loop-j l =
     (length l.bits ≡ 16384) × ((i : ℕ) → i < l.j → get_or l.bits i 0 ≡ packed_bits (λ b. hop_there l.cells (8 * i + b)) 8)
-
-abbrev pub decreases-loop-j : goal.decreases-loop-j
-decreases-loop-j l = 16384 - l.j

@@ -1,12 +1,8 @@
 -- The invariant: the levels from `l` on say nothing.
-use mathlib.Core.Path.{◌≡◌}
-use Prim.Native.Nat.{◌≤◌}
+use Rattle.std.specs.Prelude.{◌≡◌}
 use Rattle.standing.specs.Down.{down}
 use Rattle.basic.specs.Walk.{mapped}
 use Rattle.basic_lookup.proofs.down.Given as goal
 
 abbrev pub invariant-loop-l : goal.invariant-loop-l
-invariant-loop-l l = (l.l ≤ 17) × (down (mapped l.bits l.cells l.addr) 17 ≡ down (mapped l.bits l.cells l.addr) l.l)
-
-abbrev pub decreases-loop-l : goal.decreases-loop-l
-decreases-loop-l l = l.l
+invariant-loop-l l = down (mapped l.bits l.cells l.addr) 17 ≡ down (mapped l.bits l.cells l.addr) l.l

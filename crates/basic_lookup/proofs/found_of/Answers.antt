@@ -1,12 +1,14 @@
 -- One law for each return.
-use Rattle.basic_lookup.proofs.LookupReturns.{told_none, told-hop, told-broken}
+use mathlib.Core.Bool.{not}
+use mathlib.Core.Path.{ap}
+use Rattle.basic_lookup.proofs.LookupReturns.{told-none, told-hop, told-broken}
 use Rattle.basic_lookup.proofs.found_of.Goals as goal
 
-pub returns-then-w-eq0 : goal.returns-then-w-eq0
-returns-then-w-eq0 c = search told_none
+pub returns-in_default : goal.returns-in_default
+returns-in_default c = rw c.in_default.is told-none
 
-pub returns-then-hop_ok : goal.returns-then-hop_ok
-returns-then-hop_ok c = search told-hop
+pub returns-then-not-hop_ok : goal.returns-then-not-hop_ok
+returns-then-not-hop_ok c = rw (c.in-Some.is, c.into.ensures) (told-broken _ _ c.hop_ok.ensures (ap not c.if-not-hop_ok.true))
 
 pub returns : goal.returns
-returns c = search told-broken
+returns c = rw c.in-Some.is (told-hop _ _ c.hop_ok.ensures (ap not c.if-not-hop_ok.false))

@@ -1,15 +1,10 @@
 -- One law for each case of the answer.
-use Rattle.basic_many.proofs.ManyReturns.{word-hop, word_none, word-index, word_number}
+use native.Mathlib.Omega.{arith}
+use Rattle.basic_many.proofs.ManyReturns.{word-hop, word-err}
 use Rattle.basic_many.proofs.word.Goals as goal
 
-pub returns-in-Hop : goal.returns-in-Hop
-returns-in-Hop c = search word-hop
+pub returns-in-Ok : goal.returns-in-Ok
+returns-in-Ok c = rw c.in-Ok.is (word-hop _ _ (omega (arith, c.from.ensures, c.unwrap_or.ensures)) (omega arith))
 
-pub returns-in-NoRoute : goal.returns-in-NoRoute
-returns-in-NoRoute c = search word_none
-
-pub returns-in-RefusedAt : goal.returns-in-RefusedAt
-returns-in-RefusedAt c = search word-index
-
-pub returns-in-Refused : goal.returns-in-Refused
-returns-in-Refused c = search word_number
+pub returns-in-Err : goal.returns-in-Err
+returns-in-Err c = rw (c.refusal_word.ensures, c.in-Err.is) (word-err _)

@@ -5,7 +5,7 @@ use Rattle.broadcast.proofs.highest.Goals as goal
 pub overflow_add-result : goal.overflow_add-result
 overflow_add-result c =
     let start = c in
-    record { fits = sum_fits start.args.r start.requires _ _ c.byte_to_word.ensures.0 c.mask.ensures }
+    record { fits = sum_fits start.args.r start.requires _ _ c.from.ensures c.mask.ensures }
 
 pub returns : goal.returns
 returns c = search sum-highest

@@ -1,19 +1,18 @@
 -- `packets::step`: the header is judged, and if nothing is wrong with it, the step ends by the lookup's word.
-use mathlib.Core.Path.{refl}
+use mathlib.Core.Path.{refl, ◌∙◌}
+use Rattle.refusals.proofs.Numbers.{number-above_0}
 use Rattle.header.proofs.Faults.{fault-none, fine-lowers}
 use Rattle.header.proofs.Steps.{step-refused, step-looked}
 use Rattle.packets.proofs.step.Goals as goal
 
-pub returns-then-f-ne0 : goal.returns-then-f-ne0
-returns-then-f-ne0 c = step-refused _ _ _ c.judge-f.ensures c.if-f-ne0.true _ refl
+pub returns-in-Err : goal.returns-in-Err
+returns-in-Err c = step-refused _ _ _ c.in-Err.ensures (number-above_0 _) _ (c.from.ensures ∙ c.number.ensures)
 
-pub destination-addr-requires : goal.destination-addr-requires
-destination-addr-requires c = (fault-none _ _ c.judge-f.ensures c.if-f-ne0.false).room
+pub destination-requires : goal.destination-requires
+destination-requires c = (fault-none _ _ c.in_default.ensures refl).room
 
 pub finish-requires : goal.finish-requires
-finish-requires c = fine-lowers (fault-none _ _ c.judge-f.ensures c.if-f-ne0.false)
+finish-requires c = fine-lowers (fault-none _ _ c.in_default.ensures refl)
 
 pub returns : goal.returns
-returns c =
-    step-looked _ _ _ c.judge-f.ensures c.if-f-ne0.false _ c.destination-addr.ensures _ c.look_by-w.ensures _
-    c.finish.ensures
+returns c = step-looked _ _ _ c.in_default.ensures refl _ c.destination.ensures _ c.look_quick-w.ensures _ c.finish.ensures

@@ -1,41 +1,23 @@
--- `packing_images::tree_found`. Each answer of an image lookup has its word.
-use mathlib.Core.Path.{ap}
+-- A hop of 0 says that there is none, and the layout has 0 there too.
+use Rattle.std.specs.Prelude.{◌≡◌, ℕ, Option, Some, None, refl}
+use Rattle.std.specs.Option.{unwrap_or}
 use native.Mathlib.Omega.{arith}
-use Rattle.tree_image.specs.Walk.{means_tree_found}
-use Rattle.tree_image.specs.declared.TreeFound.{TreeFound}
-use Rattle.routes.specs.Said.{packed}
-use Rattle.sail.specs.Word.{pack_found}
-use borrow.Author.Rules.{rules}
+use Rattle.routes.specs.Answers.{reads_and}
+use Rattle.routes.specs.Said.{packed, said_plainly, value}
 use Rattle.packing_images.proofs.tree_found.Goals as goal
 
-pub enum_known-f : goal.enum_known-f
-unfolding means_tree_found packed
-enum_known-f c = search rules
+hop-word : (n : ℕ) (o : Option ℕ) → value 1 (reads_and n o) ≡ unwrap_or o 0
+hop-word n None = refl
+hop-word n (Some h) = refl
 
-pub found_number-requires : goal.found_number-requires
-unfolding means_tree_found packed
-found_number-requires c = search rules
+reads-word : (n : ℕ) (o : Option ℕ) → value 0 (reads_and n o) ≡ n
+reads-word n None = refl
+reads-word n (Some h) = refl
 
-pub enum_known-f-in-NoRoute-1 : goal.enum_known-f-in-NoRoute-1
-unfolding means_tree_found packed
-enum_known-f-in-NoRoute-1 c = search rules
+pub returns-in-Ok : goal.returns-in-Ok
+unfolding packed said_plainly
+returns-in-Ok c = rw c.in-Ok.is (omega (arith, c.found_number.ensures, c.unwrap_or.ensures, hop-word c.in-Ok.f.reads c.in-Ok.f.hop, reads-word c.in-Ok.f.reads c.in-Ok.f.hop))
 
-pub found_number-requires-in-NoRoute : goal.found_number-requires-in-NoRoute
-unfolding means_tree_found packed
-found_number-requires-in-NoRoute c = search rules
-
-pub enum_told-1 : goal.enum_told-1
-unfolding means_tree_found packed
-enum_told-1 c = search rules
-
-pub returns-in-Hop : goal.returns-in-Hop
-unfolding means_tree_found packed
-returns-in-Hop c = omega (arith, ap (λ (x : TreeFound). pack_found (means_tree_found x)) c.in-Hop.is)
-
-pub returns-in-NoRoute : goal.returns-in-NoRoute
-unfolding means_tree_found packed
-returns-in-NoRoute c = omega (arith, ap (λ (x : TreeFound). pack_found (means_tree_found x)) c.in-NoRoute.is)
-
-pub returns-in-Broken : goal.returns-in-Broken
-unfolding means_tree_found packed
-returns-in-Broken c = omega (arith, ap (λ (x : TreeFound). pack_found (means_tree_found x)) c.in-Broken.is)
+pub returns-in-Err : goal.returns-in-Err
+unfolding packed said_plainly
+returns-in-Err c = rw c.in-Err.is (omega (arith, c.from.ensures, c.number.ensures))

@@ -1,20 +1,12 @@
--- `packing_maps::answered`: nothing is in the number but a refusal.
-use mathlib.Core.Path.{ap}
-use native.Mathlib.Omega.{arith}
-use Rattle.routes.specs.Said.{packed}
-use Rattle.basic.specs.Calls.{means_basic_answer}
-use Rattle.basic.specs.declared.answers.BasicAnswer.{BasicAnswer}
-use Rattle.packing.specs.Pack.{pack_none}
+-- One law for each case of the answer.
+use Rattle.std.specs.Prelude.{refl}
+use Rattle.routes.specs.Said.{packed, said_by}
+use Rattle.packing.proofs.Refusals.{packs-err}
 use Rattle.packing_maps.proofs.answered.Goals as goal
 
-pub returns-in-Done : goal.returns-in-Done
-unfolding means_basic_answer packed
-returns-in-Done c = omega (arith, ap (λ (x : BasicAnswer). pack_none (means_basic_answer x)) c.in-Done.is)
+pub returns-in-Ok : goal.returns-in-Ok
+unfolding packed said_by
+returns-in-Ok c = rw c.in-Ok.is refl
 
-pub returns-in-RefusedAt : goal.returns-in-RefusedAt
-unfolding means_basic_answer packed
-returns-in-RefusedAt c = omega (arith, ap (λ (x : BasicAnswer). pack_none (means_basic_answer x)) c.in-RefusedAt.is)
-
-pub returns-in-Refused : goal.returns-in-Refused
-unfolding means_basic_answer packed
-returns-in-Refused c = omega (arith, ap (λ (x : BasicAnswer). pack_none (means_basic_answer x)) c.in-Refused.is)
+pub returns-in-Err : goal.returns-in-Err
+returns-in-Err c = rw (c.refused.ensures, c.in-Err.is) (packs-err _ _ _)

@@ -1,23 +1,11 @@
--- `packing_maps::hop_found`: the hop has room, and stands where the layout has it.
-use mathlib.Core.Path.{ap}
-use native.Mathlib.Omega.{arith}
-use Rattle.routes.specs.Said.{packed}
-use Rattle.basic.specs.Calls.{means_basic_found, pack_hop}
-use Rattle.basic.specs.declared.answers.BasicFound.{BasicFound}
+-- One law for each case of the answer.
+use mathlib.Core.Path.{◌∙◌}
+use Rattle.packing_maps.proofs.Hops.{hop-packed}
+use Rattle.packing.proofs.Refusals.{packs-err}
 use Rattle.packing_maps.proofs.hop_found.Goals as goal
 
-pub returns-in-Hop : goal.returns-in-Hop
-unfolding means_basic_found packed
-returns-in-Hop c = omega (arith, ap (λ (x : BasicFound). pack_hop (means_basic_found x)) c.in-Hop.is)
+pub returns-in-Ok : goal.returns-in-Ok
+returns-in-Ok c = rw c.in-Ok.is (hop-packed _ _ (c.from.ensures ∙ c.unwrap_or.ensures))
 
-pub returns-in-NoRoute : goal.returns-in-NoRoute
-unfolding means_basic_found packed
-returns-in-NoRoute c = omega (arith, ap (λ (x : BasicFound). pack_hop (means_basic_found x)) c.in-NoRoute.is)
-
-pub returns-in-RefusedAt : goal.returns-in-RefusedAt
-unfolding means_basic_found packed
-returns-in-RefusedAt c = omega (arith, ap (λ (x : BasicFound). pack_hop (means_basic_found x)) c.in-RefusedAt.is)
-
-pub returns-in-Refused : goal.returns-in-Refused
-unfolding means_basic_found packed
-returns-in-Refused c = omega (arith, ap (λ (x : BasicFound). pack_hop (means_basic_found x)) c.in-Refused.is)
+pub returns-in-Err : goal.returns-in-Err
+returns-in-Err c = rw (c.refused.ensures, c.in-Err.is) (packs-err _ _ _)

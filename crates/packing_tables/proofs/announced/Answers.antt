@@ -28,10 +28,6 @@ pub enum_known-a-in-Refused-1 : goal.enum_known-a-in-Refused-1
 unfolding means_announce packed
 enum_known-a-in-Refused-1 c = search rules
 
-pub byte_to_long-requires : goal.byte_to_long-requires
-unfolding means_announce packed
-byte_to_long-requires c = search rules
-
 pub returns-in-Added : goal.returns-in-Added
 unfolding means_announce packed
 returns-in-Added c = omega (arith, ap (λ (x : Announce). pack_change c.args.count (means_announce x)) c.in-Added.is)

@@ -20,10 +20,6 @@ pub enum_known-a-in-Refused-1 : goal.enum_known-a-in-Refused-1
 unfolding means_withdraw packed
 enum_known-a-in-Refused-1 c = search rules
 
-pub byte_to_long-requires : goal.byte_to_long-requires
-unfolding means_withdraw packed
-byte_to_long-requires c = search rules
-
 pub returns-in-Removed : goal.returns-in-Removed
 unfolding means_withdraw packed
 returns-in-Removed c = omega (arith, ap (λ (x : Withdraw). pack_change c.args.count (means_withdraw x)) c.in-Removed.is)

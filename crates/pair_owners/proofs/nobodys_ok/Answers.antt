@@ -1,16 +1,10 @@
-use borrow.Author.Count.{below_none, below_more}
-use borrow.Author.Rules.{rules}
-use Rattle.pair_owners.proofs.SeenOwners.{stray, no_stray}
+-- `pair_owners::nobodys_ok`. Every owner is another number than the top bit alone, or one is that.
+use mathlib.Core.Path.{◌≡◌}
+use Rattle.std.proofs.Common.{rules, tests}
+use Rattle.std.proofs.lemmas.Iterator.{cases_from_all, YieldsList-from_slice}
+use Rattle.pair_owners.proofs.SeenOwners.{nobodys}
 use Rattle.pair_owners.proofs.nobodys_ok.Goals as goal
 
-pub loop-c-init : goal.loop-c-init
-loop-c-init c = below_none _
-
-pub returns-then-own-c : goal.returns-then-own-c
-returns-then-own-c c = stray _ c.loop-c.c (search rules) c.if-own-c.true
-
-pub loop-c-preserved : goal.loop-c-preserved
-loop-c-preserved c = below_more _ _ c.loop-c.invariant c.if-own-c.false
-
 pub returns : goal.returns
-returns c = no_stray _ c.loop-c.c (search rules) c.loop-c.invariant
+returns c = nobodys _ _ (cases_from_all _ _ _ (λ o. o ≡ 2147483648 → ⊥) (λ o. o ≡ 2147483648) c.all.ensures.ran (YieldsList-from_slice c.args.own.now cc)
+    (λ x q k. search (rules, tests)) (λ x q k. search (rules, tests)))

@@ -1,17 +1,12 @@
 -- `print_said::put_standing`: what the report of a sound table tells is what is written, and its refusal is impossible.
-use native.Mathlib.Omega.{arith}
 use Rattle.print_said.proofs.Reports.{standing-printable, standing-wrote, never-refused}
 use Rattle.print_said.proofs.put_standing.Goals as goal
 
 pub table_text-requires : goal.table_text-requires
-table_text-requires c =
-    standing-printable _ _ c.requires.sound _ c.report.ensures _ _ _ c.in-Standing.is _ (omega arith) c.requires.room
+table_text-requires c = standing-printable _ _ c.requires.sound _ c.report.ensures _ c.in-Ok.is _ c.requires.room
 
-pub refusal_text-requires : goal.refusal_text-requires
-refusal_text-requires c = omega (arith, c.requires.room)
+pub returns-in-Ok : goal.returns-in-Ok
+returns-in-Ok c = standing-wrote _ _ c.requires.sound _ c.report.ensures _ c.in-Ok.is c.table_text.ensures
 
-pub returns-in-Standing : goal.returns-in-Standing
-returns-in-Standing c = standing-wrote _ _ c.requires.sound _ c.report.ensures _ _ _ c.in-Standing.is c.table_text.ensures
-
-pub returns-in-Refused : goal.returns-in-Refused
-returns-in-Refused c = absurd (never-refused _ _ c.requires.sound _ c.report.ensures _ c.in-Refused.is)
+pub returns-in-Err : goal.returns-in-Err
+returns-in-Err c = absurd (never-refused _ _ c.requires.sound _ c.report.ensures _ c.in-Err.is)

@@ -1,26 +1,35 @@
 -- `repair_judge::judge`. The fault of the sizes comes first; else what is kept is weighed.
-use Rattle.repair_judge.proofs.Judging.{judge-sizes, keep-asks, kept_in, kept-room, weigh-asks, judge-weighed}
+use Rattle.std.specs.Prelude.{refl}
+use Rattle.std.proofs.Common.{◌∙◌}
+use Rattle.std.proofs.lemmas.Result.{err_from_is_err_and}
+use Rattle.refusals.proofs.Numbers.{number-above_0}
+use Rattle.repair_judge.proofs.Judging.{judge-sizes, keep-asks, kept_in, kept-room, weigh-asks, judge-chunks, judge-kept}
 use Rattle.repair_judge.proofs.judge.Goals as goal
 
-pub returns-then-z-ne0 : goal.returns-then-z-ne0
-returns-then-z-ne0 c = judge-sizes _ _ _ _ _ _ c.if-z-ne0.true
+pub returns-in_err-check_sizes : goal.returns-in_err-check_sizes
+returns-in_err-check_sizes c =
+    let p = err_from_is_err_and c.from_residual.result c.from_residual.ensures.1 in
+    rw (p.1, p.2) (judge-sizes _ _ _ c.in_err-check_sizes.ensures (number-above_0 _))
 
 pub keep-m-requires : goal.keep-m-requires
-keep-m-requires c = keep-asks _ _ _ _ c.requires c.if-z-ne0.false _ c.looked-n.ensures
+keep-m-requires c = keep-asks _ _ _ c.in_ok-check_sizes.ensures refl _ c.looked-n.ensures _ c.requires
 
 pub slice_bounds-weigh-end : goal.slice_bounds-weigh-end
 slice_bounds-weigh-end c =
-    kept_in _ _ _ _ c.requires c.if-z-ne0.false _ c.looked-n.ensures c.keep-m.new.out _ c.keep-m.ensures
-    c.keep-m.auto.out
+    kept_in _ _ _ c.in_ok-check_sizes.ensures refl _ c.looked-n.ensures c.keep-m.new.out _ c.keep-m.ensures (c.keep-m.auto.out ∙ c.requires)
 
 pub slice_bounds-weigh-end-2 : goal.slice_bounds-weigh-end-2
 slice_bounds-weigh-end-2 c =
-    kept-room _ _ _ _ c.requires c.if-z-ne0.false _ c.looked-n.ensures c.keep-m.new.out _ c.keep-m.ensures
-    c.keep-m.auto.out
+    kept-room _ _ _ c.in_ok-check_sizes.ensures refl _ c.looked-n.ensures c.keep-m.new.out _ c.keep-m.ensures (c.keep-m.auto.out ∙ c.requires)
 
-pub weigh-f-requires : goal.weigh-f-requires
-weigh-f-requires c = weigh-asks _ _ _ _ c.requires c.if-z-ne0.false _ c.looked-n.ensures _ _ c.keep-m.ensures
+pub weigh-requires : goal.weigh-requires
+weigh-requires c = weigh-asks _ _ _ c.in_ok-check_sizes.ensures refl _ c.looked-n.ensures _ _ c.keep-m.ensures
+
+pub returns-in_err-weigh : goal.returns-in_err-weigh
+returns-in_err-weigh c =
+    let p = err_from_is_err_and c.from_residual-in_err-weigh.result c.from_residual-in_err-weigh.ensures.1 in
+    rw (p.1, p.2)
+    (judge-chunks _ _ _ c.in_ok-check_sizes.ensures refl _ c.looked-n.ensures _ _ c.keep-m.ensures _ c.in_err-weigh.ensures (number-above_0 _))
 
 pub returns : goal.returns
-returns c =
-    judge-weighed _ _ _ _ c.requires c.if-z-ne0.false _ c.looked-n.ensures _ _ c.keep-m.ensures _ _ _ c.weigh-f.ensures
+returns c = judge-kept _ _ _ c.in_ok-check_sizes.ensures refl _ c.looked-n.ensures _ _ c.keep-m.ensures _ c.in_ok-weigh.ensures refl

@@ -10,7 +10,4 @@ use Rattle.repair_leaves.proofs.off_first.Given as goal
 
 abbrev pub invariant-loop-b : goal.invariant-loop-b
 invariant-loop-b l =
-    (l.b ≤ length l.first / 1024) × (length l.want ≡ 1024) × (l.m ≤ l.b * 1024) × (l.m ≡ count (off_at (routes_of_words l.ws) l.p always itself (entry l.first)) (l.b * 1024))
-
-abbrev pub decreases-loop-b : goal.decreases-loop-b
-decreases-loop-b l = length l.first / 1024 - l.b
+    (length l.want ≡ 1024) × (l.m ≤ l.b * 1024) × (l.m ≡ count (off_at (routes_of_words l.ws) l.p always itself (entry l.first)) (l.b * 1024))

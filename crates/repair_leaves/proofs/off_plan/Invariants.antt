@@ -7,6 +7,3 @@ use Rattle.repair_leaves.proofs.off_plan.Given as goal
 
 abbrev pub invariant-loop-j : goal.invariant-loop-j
 invariant-loop-j l = Counting (λ i. off_plan (get_or l.want i 0) (get_or l.part i 0)) (length l.part) l.m l.j
-
-abbrev pub decreases-loop-j : goal.decreases-loop-j
-decreases-loop-j l = length l.part - l.j

@@ -11,8 +11,5 @@ use Rattle.repair_leaves.proofs.off_pool.Given as goal
 
 abbrev pub invariant-loop-c : goal.invariant-loop-c
 invariant-loop-c l =
-    (l.c ≤ length l.own) × (length l.want ≡ 1024) × (l.m ≤ l.c * 2 ^ (l.p - l.l))
+    (length l.want ≡ 1024) × (l.m ≤ l.c * 2 ^ (l.p - l.l))
     × (l.m ≡ count (off_at (routes_of_words l.ws) l.p (live_in (entry l.own) (l.p - l.l)) (part_of (entry l.own) (l.p - l.l) (stands_for l.e l.up)) (entry l.cells)) (l.c * 2 ^ (l.p - l.l)))
-
-abbrev pub decreases-loop-c : goal.decreases-loop-c
-decreases-loop-c l = length l.own - l.c

@@ -8,6 +8,3 @@ use Rattle.repair_levels.proofs.off_names.Given as goal
 
 abbrev pub invariant-loop-c : goal.invariant-loop-c
 invariant-loop-c l = Counting (off_name (entry l.own) (entry l.cells)) (length l.own) l.m l.c
-
-abbrev pub decreases-loop-c : goal.decreases-loop-c
-decreases-loop-c l = length l.own - l.c

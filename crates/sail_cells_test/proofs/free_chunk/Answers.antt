@@ -5,8 +5,8 @@ use Rattle.sail_cells_test.proofs.free_chunk.Goals as goal
 pub returns-then-own-c-ne0 : goal.returns-then-own-c-ne0
 returns-then-own-c-ne0 c = search used-free
 
-pub zeros16-requires : goal.zeros16-requires
-zeros16-requires c = search free-room
+pub zeros-requires : goal.zeros-requires
+zeros-requires c = search free-room
 
 pub returns : goal.returns
 returns c = search free-zero

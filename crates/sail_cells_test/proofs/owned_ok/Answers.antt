@@ -3,8 +3,8 @@
 use Rattle.sail_cells_test.proofs.Chunks.{not_named, named-tells}
 use Rattle.sail_cells_test.proofs.owned_ok.Goals as goal
 
-pub returns-then-half_to_index-c : goal.returns-then-half_to_index-c
-returns-then-half_to_index-c c = not_named _ _ _ _ _ _ _ _ _ _ _ c.if-half_to_index-c.true c.half_to_index.ensures
+pub returns-then-from-c : goal.returns-then-from-c
+returns-then-from-c c = not_named _ _ _ _ _ _ _ _ _ _ _ c.if-from-c.true c.from.ensures
 
 pub returns : goal.returns
 returns c = search named-tells

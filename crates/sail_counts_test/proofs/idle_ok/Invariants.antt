@@ -1,13 +1,8 @@
 -- `sail_counts_test::idle_ok`: The invariant: the largest count is 0 exactly where each idle cell passed counts 0.
-use Prim.Native.Nat.{◌-◌, ◌≤◌}
 use lib.Dec.{eqb}
-use lib.ListN.{length}
 use Rattle.bits.specs.Tab.{Tells}
 use Rattle.sail_counts_test.proofs.CountRuns.{Quiet}
 use Rattle.sail_counts_test.proofs.idle_ok.Given as goal
 
 abbrev pub invariant-loop-j : goal.invariant-loop-j
-invariant-loop-j l = (l.j ≤ length l.cells) × Tells (eqb l.most 0) (Quiet l.cells l.counts l.j)
-
-abbrev pub decreases-loop-j : goal.decreases-loop-j
-decreases-loop-j l = length l.cells - l.j
+invariant-loop-j l = Tells (eqb l.most 0) (Quiet l.cells l.counts l.j)

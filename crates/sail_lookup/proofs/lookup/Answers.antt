@@ -1,25 +1,20 @@
--- `sail_lookup::lookup`. The hop of the longest route that covers the address, with the count of cells read.
-use Rattle.std.proofs.Common.{rules}
-use Rattle.sail.specs.Walk.{means_found}
-use Rattle.sail.proofs.Steps.{look-found, look-not}
+-- `sail_lookup::lookup`: the sizes come first, then what the walk's word says.
+use Rattle.std.specs.Prelude.{refl}
+use Rattle.std.proofs.lemmas.Result.{err_from_is_err_and}
+use Rattle.refusals.proofs.Numbers.{number-above_0}
+use Rattle.routes.specs.Said.{said_plainly}
+use Rattle.sail.proofs.Steps.{look-on, look-not}
+use Rattle.sail.proofs.Found.{found-answer, lookup-fives}
 use Rattle.sail_lookup.proofs.lookup.Goals as goal
 
-pub sizes-s-requires : goal.sizes-s-requires
-unfolding means_found
-sizes-s-requires c = search rules
-
-pub walk-requires : goal.walk-requires
-unfolding means_found
-walk-requires c = c.sizes-s.ensures.facts c.if-s-eq0.true
-
-pub said-requires : goal.said-requires
-unfolding means_found
-said-requires c = search rules
-
-pub returns-then-s-eq0 : goal.returns-then-s-eq0
-unfolding means_found
-returns-then-s-eq0 c = search look-found
+pub returns-in_err-check_sizes : goal.returns-in_err-check_sizes
+unfolding said_plainly
+returns-in_err-check_sizes c =
+    let p = err_from_is_err_and c.from_residual.result c.from_residual.ensures.1 in
+    rw (p.1, p.2) (look-not _ _ _ _ c.in_err-check_sizes.ensures (number-above_0 _))
 
 pub returns : goal.returns
-unfolding means_found
-returns c = search look-not
+returns c =
+    rw c.ok_or.ensures.value
+    (found-answer _ _ (lookup-fives _ _ _ _ c.in_ok-check_sizes.ensures refl) (look-on _ _ _ _ c.in_ok-check_sizes.ensures _ refl c.walk.ensures) _
+    c.found_in.ensures)

@@ -8,11 +8,11 @@ use Rattle.sail_lookup.proofs.walk.Goals as goal
 pub overflow_cast-v1 : goal.overflow_cast-v1
 overflow_cast-v1 c = omega (arith, first-in _ _ _ c.requires c.ranges.addr.fits)
 
-pub offset_bounds-first-addr : goal.offset_bounds-first-addr
-offset_bounds-first-addr c = omega (arith, first-in _ _ _ c.requires c.ranges.addr.fits)
+pub offset_bounds-a-addr : goal.offset_bounds-a-addr
+offset_bounds-a-addr c = omega (arith, first-in _ _ _ c.requires c.ranges.addr.fits)
 
-pub bounds-first-addr : goal.bounds-first-addr
-bounds-first-addr c = first-in _ _ _ c.requires c.ranges.addr.fits
+pub bounds-a-addr : goal.bounds-a-addr
+bounds-a-addr c = first-in _ _ _ c.requires c.ranges.addr.fits
 
 pub returns-then-v1-ge32768 : goal.returns-then-v1-ge32768
 returns-then-v1-ge32768 c = search leaf1

@@ -1,4 +1,4 @@
--- `sail_need::weigh`. Whether n good records find room: 6, 7 or 8 where they do not, and else 0.
+-- `sail_need::weigh`. Whether n good records find room: 6, 7 or 8 where they do not.
 use Rattle.sail_need.proofs.Weighs.{weigh-six, weigh-seven, weigh-eight, weigh-none}
 use Rattle.sail_need.proofs.weigh.Goals as goal
 

@@ -1,20 +1,22 @@
--- `sail_words::look_each`. Many lookups with one check of geometry and sizes.
+-- `sail_words::look_each`: why it is refused, and else the words of all walks.
+use Rattle.std.specs.Prelude.{refl}
+use Rattle.std.proofs.Common.{◌∙◌}
 use borrow.Author.Rules.{rules}
+use Rattle.refusals.proofs.Numbers.{number-above_0}
 use Rattle.sail_many.proofs.LookupWords.{ready}
 use Rattle.sail_words.proofs.Laws.{many-not, many-uneven, many-answers}
 use Rattle.sail_words.proofs.look_each.Goals as goal
 
-pub returns-then-z-ne0 : goal.returns-then-z-ne0
-returns-then-z-ne0 c = search many-not
+pub returns-in-Err : goal.returns-in-Err
+returns-in-Err c = rw (c.from.ensures ∙ c.number.ensures) (many-not _ _ _ _ _ c.in-Err.ensures (number-above_0 _))
 
 pub returns-then-out-addrs : goal.returns-then-out-addrs
-returns-then-out-addrs c = search many-uneven
+returns-then-out-addrs c = many-uneven _ _ _ _ _ c.in_default.ensures refl c.if-out-addrs.true
 
 pub many-requires : goal.many-requires
-many-requires c = (ready _ _ (c.sizes-z.ensures.facts c.if-z-ne0.false), search rules)
+many-requires c = (ready _ _ (c.in_default.ensures.facts refl), search rules)
 
 pub returns : goal.returns
 returns c =
-    many-answers _ _ _ _ _ c.sizes-z.ensures c.if-z-ne0.false c.if-out-addrs.false
-    (λ i. (c.shared_slice_known-2-1.given i).fits) (λ i. (c.shared_slice_known-3-1.given i).fits)
-    (λ i. (c.shared_slice_known-4-1.given i).fits) _ c.many.ensures
+    many-answers _ _ _ _ _ c.in_default.ensures refl c.if-out-addrs.false c.many.ensures.cells.0 c.many.ensures.cells.1 c.many.ensures.cells.2 _
+    c.many.ensures.answers

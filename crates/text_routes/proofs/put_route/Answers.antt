@@ -1,34 +1,36 @@
 -- `text_routes::put_route`: the pieces of the line one after the other. The room for the line is room for each piece.
-use native.Mathlib.Omega.{arith}
 use Rattle.text_pieces.specs.Pieces.{labelled, ascii}
 use Rattle.text_routes.specs.RouteLine.{route_line}
-use Rattle.text_pieces.proofs.Writes.{wrote-more}
-use Rattle.text_routes.proofs.RouteLines.{length-line}
+use Rattle.text_pieces.proofs.Pages.{writes-more, room_rest}
+use Rattle.text_pieces.proofs.Writes.{room-first}
 use Rattle.text_routes.proofs.put_route.Goals as goal
 
-pub put_address-p-requires : goal.put_address-p-requires
-put_address-p-requires c = record { room = omega (arith, length-line c.args.r) }
+pub address-requires : goal.address-requires
+unfolding route_line labelled ascii
+address-requires c = room-first _ _ (room-first _ _ (room-first _ _ (room-first _ _ c.requires)))
 
-pub put_labelled-q-requires : goal.put_labelled-q-requires
-unfolding labelled ascii
-put_labelled-q-requires c = record { room = omega (arith, length-line c.args.r) }
+pub labelled-requires : goal.labelled-requires
+unfolding route_line labelled ascii
+labelled-requires c = room_rest (room-first _ _ (room-first _ _ (room-first _ _ c.requires))) c.address.ensures
 
-pub put_labelled-s-requires : goal.put_labelled-s-requires
-unfolding labelled ascii
-put_labelled-s-requires c = record { room = omega (arith, length-line c.args.r) }
+pub labelled-requires-2 : goal.labelled-requires-2
+unfolding route_line labelled ascii
+labelled-requires-2 c = room_rest (room-first _ _ (room-first _ _ c.requires)) (writes-more c.address.ensures c.labelled.ensures)
 
-pub put_mark-m-requires : goal.put_mark-m-requires
-unfolding labelled ascii
-put_mark-m-requires c = record { room = omega (arith, length-line c.args.r, c.requires.room) }
+pub put_mark-requires : goal.put_mark-requires
+unfolding route_line labelled ascii
+put_mark-requires c =
+    room_rest (room-first _ _ c.requires) (writes-more (writes-more c.address.ensures c.labelled.ensures) c.labelled-2.ensures)
 
-pub put_byte-requires : goal.put_byte-requires
-unfolding labelled ascii
-put_byte-requires c = record { room = omega (arith, length-line c.args.r, c.requires.room) }
+pub byte-requires : goal.byte-requires
+unfolding route_line labelled ascii
+byte-requires c =
+    room_rest c.requires
+    (writes-more (writes-more (writes-more c.address.ensures c.labelled.ensures) c.labelled-2.ensures) c.put_mark.ensures)
 
 pub returns : goal.returns
 unfolding route_line labelled ascii
 returns c =
-    wrote-more
-    (wrote-more (wrote-more (wrote-more c.put_address-p.ensures c.put_labelled-q.ensures) c.put_labelled-s.ensures)
-    c.put_mark-m.ensures)
-    c.put_byte.ensures
+    writes-more
+    (writes-more (writes-more (writes-more c.address.ensures c.labelled.ensures) c.labelled-2.ensures) c.put_mark.ensures)
+    c.byte.ensures

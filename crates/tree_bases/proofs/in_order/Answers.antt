@@ -1,6 +1,6 @@
 -- The bases of the root, then each node against the next, then that no child stands past the last node.
 use Rattle.std.proofs.Common.{arith}
-use Rattle.tree_formed.proofs.Neighbours.{order-child, order-base, order-faults, order-end}
+use Rattle.tree_formed.proofs.Neighbours.{order-child, order-base, order-wrong, order-end}
 use Rattle.tree_bases.proofs.in_order.Goals as goal
 
 pub returns-then-words-ne1 : goal.returns-then-words-ne1
@@ -9,13 +9,13 @@ returns-then-words-ne1 c = order-child _ _ c.requires c.if-words-ne1.true
 pub returns-then-words-ne0 : goal.returns-then-words-ne0
 returns-then-words-ne0 c = order-base _ _ c.requires c.if-words-ne0.true
 
-pub faults-requires : goal.faults-requires
-faults-requires c =
+pub follow-requires : goal.follow-requires
+follow-requires c =
     let k = c.requires in
     record { lent = omega (arith, k.some, k.lent); few = omega (arith, k.few); child = c.if-words-ne1.false; base = c.if-words-ne0.false }
 
-pub returns-then-faults-ne0 : goal.returns-then-faults-ne0
-returns-then-faults-ne0 c = order-faults _ _ c.requires _ c.faults.ensures.1 c.if-faults-ne0.true
+pub returns-then-not-follow : goal.returns-then-not-follow
+returns-then-not-follow c = order-wrong _ _ c.requires _ c.follow.ensures c.if-not-follow.true
 
 pub returns : goal.returns
-returns c = order-end _ _ c.requires _ c.faults.ensures.0 c.if-faults-ne0.false _ c.after_children.ensures
+returns c = order-end _ _ c.requires (c.follow.ensures.0 c.if-not-follow.false) _ c.after_children.ensures

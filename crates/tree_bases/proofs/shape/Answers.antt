@@ -10,11 +10,11 @@ pub returns-then-n-words : goal.returns-then-n-words
 returns-then-n-words c = shape-past _ _ c.nodes_in-n.ensures c.if-n-words.true
 
 pub returns-then-n-gt32769 : goal.returns-then-n-gt32769
-returns-then-n-gt32769 c = shape-many _ _ c.nodes_in-n.ensures (λ j. (c.shared_slice_known-1.given j).fits) c.if-n-gt32769.true
+returns-then-n-gt32769 c = shape-many _ _ c.nodes_in-n.ensures (λ j. (c.type_inv.words j).fits) c.if-n-gt32769.true
 
-pub returns-then-in_order : goal.returns-then-in_order
-returns-then-in_order c =
-    shape_is _ _ c.nodes_in-n.ensures _ c.in_order.ensures (omega (arith, c.if-n-gt32769.false)) c.if-in_order.true
+pub returns-then-not-in_order : goal.returns-then-not-in_order
+returns-then-not-in_order c = shape-not _ _ c.nodes_in-n.ensures _ c.in_order.ensures c.if-not-in_order.true
 
 pub returns : goal.returns
-returns c = shape-not _ _ c.nodes_in-n.ensures _ c.in_order.ensures c.if-in_order.false
+returns c =
+    shape_is _ _ c.nodes_in-n.ensures _ c.in_order.ensures (omega (arith, c.if-n-gt32769.false)) c.if-not-in_order.false

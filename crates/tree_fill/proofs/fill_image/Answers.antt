@@ -10,8 +10,8 @@ start-requires c = c.requires
 pub loop-i-init : goal.loop-i-init
 loop-i-init c = (c.start.ensures, refl, refl)
 
-pub step-next-requires : goal.step-next-requires
-step-next-requires c = state-waits _ _ _ _ _ _ c.loop-i.invariant.0 c.loop-i-test.true
+pub step-used-requires : goal.step-used-requires
+step-used-requires c = state-waits _ _ _ _ _ _ c.loop-i.invariant.0 c.loop-i-test.true
 
 pub overflow_add-i : goal.overflow_add-i
 overflow_add-i c =
@@ -31,7 +31,7 @@ loop-i-smaller c =
     )
 
 pub loop-i-preserved : goal.loop-i-preserved
-loop-i-preserved c = (c.step-next.ensures, omega arith, omega arith)
+loop-i-preserved c = (c.step-used.ensures, omega arith, omega arith)
 
 pub returns : goal.returns
 returns c =

@@ -1,39 +1,29 @@
 -- Each step is asked what the one before it left; together they leave the words with the new node.
+use Prim.Native.Nat.{◌+◌}
+use borrow.Author.Rules.{rules}
 use lib.ListN.{length-set}
-use Rattle.tree_graft.proofs.Steps.{Grafting, grafting, with_last, gap_opened, raising, last-put}
-use Rattle.tree_places.proofs.After.{After, after_first, after_next}
-use Rattle.tree_graft.proofs.Steps.{graft-open, graft-raise, graft-stores, graft-leaves}
+use Rattle.tree_graft.proofs.Steps.{graft-put, graft-opened, graft-raised, graft-open, graft-raise, graft-stores, graft-leaves}
 use Rattle.tree_graft.proofs.graft.Goals as goal
 
-pub up32-requires : goal.up32-requires
-up32-requires c =
-    -- what is known after each step
-    let put : After Grafting with_last = let found = grafting c.requires c.child_place-y.ensures.0 in after_first found (last-put found c.narrow.ensures c.narrow-2.ensures c.put_node.ensures) in
-    graft-open put
+pub up-requires : goal.up-requires
+up-requires c = graft-open (graft-put c.requires c.child_place-y.ensures.0 c.put_node.ensures)
 
-pub raise-requires : goal.raise-requires
-raise-requires c =
-    let put : After Grafting with_last = let found = grafting c.requires c.child_place-y.ensures.0 in after_first found (last-put found c.narrow.ensures c.narrow-2.ensures c.put_node.ensures) in
-    let opened : After Grafting (λ g. gap_opened g (with_last g)) = after_next gap_opened put c.up32.ensures in
-    graft-raise opened
+pub each-requires : goal.each-requires
+each-requires c =
+    let r = graft-raise (graft-opened c.requires c.child_place-y.ensures.0 c.put_node.ensures c.up.ensures) in
+    record { lent = r.stretch; called = λ i l u. let f = r.fits i l u in search rules }
 
 pub bounds-words-y : goal.bounds-words-y
 bounds-words-y c =
-    let put : After Grafting with_last = let found = grafting c.requires c.child_place-y.ensures.0 in after_first found (last-put found c.narrow.ensures c.narrow-2.ensures c.put_node.ensures) in
-    let opened : After Grafting (λ g. gap_opened g (with_last g)) = after_next gap_opened put c.up32.ensures in
-    let raised : After Grafting (λ g. raising g (gap_opened g (with_last g))) = after_next raising opened c.raise.ensures in
-    (graft-stores raised).0
+    (graft-stores (graft-raised c.requires c.child_place-y.ensures.0 c.put_node.ensures c.up.ensures
+    (c.each.ensures (λ z. z + 1) (λ i y l u p. search rules)))).0
 
 pub bounds-words-x-2 : goal.bounds-words-x-2
 bounds-words-x-2 c =
-    let put : After Grafting with_last = let found = grafting c.requires c.child_place-y.ensures.0 in after_first found (last-put found c.narrow.ensures c.narrow-2.ensures c.put_node.ensures) in
-    let opened : After Grafting (λ g. gap_opened g (with_last g)) = after_next gap_opened put c.up32.ensures in
-    let raised : After Grafting (λ g. raising g (gap_opened g (with_last g))) = after_next raising opened c.raise.ensures in
-    simp length-set (graft-stores raised).1
+    simp length-set (graft-stores (graft-raised c.requires c.child_place-y.ensures.0 c.put_node.ensures c.up.ensures
+    (c.each.ensures (λ z. z + 1) (λ i y l u p. search rules)))).1
 
 pub returns : goal.returns
 returns c =
-    let put : After Grafting with_last = let found = grafting c.requires c.child_place-y.ensures.0 in after_first found (last-put found c.narrow.ensures c.narrow-2.ensures c.put_node.ensures) in
-    let opened : After Grafting (λ g. gap_opened g (with_last g)) = after_next gap_opened put c.up32.ensures in
-    let raised : After Grafting (λ g. raising g (gap_opened g (with_last g))) = after_next raising opened c.raise.ensures in
-    graft-leaves raised _ c.with_bit.ensures
+    graft-leaves (graft-raised c.requires c.child_place-y.ensures.0 c.put_node.ensures c.up.ensures
+    (c.each.ensures (λ z. z + 1) (λ i y l u p. search rules))) _ c.with_bit.ensures

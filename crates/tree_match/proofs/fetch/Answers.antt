@@ -1,19 +1,16 @@
--- Each return says what `fetched_from` says in its case: nowhere, a place beyond the hops, a hop of 0, one over 32,767, and a hop, which
--- counts one more than the nodes.
-use Rattle.tree_image.proofs.Walks.{fetch-none, fetch-past, fetch-zero, fetch-big, fetch-hop}
+-- Each return says what `fetched_from` says in its case: no place, a place beyond the hops, a hop that is none, and a hop, which counts one more than
+-- the nodes.
+use Rattle.tree_image.proofs.Walks.{fetch-none, fetch-past, fetch-bad, fetch-hop}
 use Rattle.tree_match.proofs.fetch.Goals as goal
 
-pub returns-then-h-hops : goal.returns-then-h-hops
-returns-then-h-hops c = search fetch-past
+pub returns-in_default : goal.returns-in_default
+returns-in_default c = search fetch-none
 
-pub returns-then-hop-eq0 : goal.returns-then-hop-eq0
-returns-then-hop-eq0 c = search fetch-zero
+pub returns-then-place-hops : goal.returns-then-place-hops
+returns-then-place-hops c = search fetch-past
 
-pub returns-then-hop-gt32767 : goal.returns-then-hop-gt32767
-returns-then-hop-gt32767 c = search fetch-big
+pub returns-then-not-hop_ok : goal.returns-then-not-hop_ok
+returns-then-not-hop_ok c = search fetch-bad
 
-pub returns-in-Nowhere : goal.returns-in-Nowhere
-returns-in-Nowhere c = search fetch-none
-
-pub returns-else-hop-gt32767 : goal.returns-else-hop-gt32767
-returns-else-hop-gt32767 c = search fetch-hop
+pub returns : goal.returns
+returns c = search fetch-hop

@@ -4,5 +4,5 @@ use Rattle.cards.proofs.forwards.gh_forward.Goals as goal
 
 pub returns : goal.returns
 returns c =
-    count-forwards c.args.records.now c.look_forward-found.result _ c.look_forward-found.ensures c.args.octets c.gh_count.result c.gh_count.new.records
+    count-forwards c.args.records.now c.look_quick-found.result _ c.look_quick-found.ensures c.args.octets c.gh_count.result c.gh_count.new.records
     c.gh_count.ensures

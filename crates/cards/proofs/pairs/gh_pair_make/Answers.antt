@@ -1,6 +1,10 @@
 -- `cards::pairs::gh_pair_make`. A fresh box of this geometry and these limits.
-use Rattle.cards.proofs.PairLaws.{pair-make-card}
+use Rattle.refusals.specs.declared.Refusal.{Refusal}
+use Rattle.pair.specs.Party.{one}
+use Rattle.cards.proofs.PairLaws.{pair-make-card, count-after}
 use Rattle.cards.proofs.pairs.gh_pair_make.Goals as goal
 
 pub returns : goal.returns
-returns c = pair-make-card _ _ c.state.ensures _ _ _ _ _ _ c.make-c.ensures c.count-n.ensures c.made.ensures
+returns c =
+    pair-make-card _ _ c.state-t.ensures _ _ _ _ _ _ c.make-made.ensures
+    (count-after {E = Refusal} one c.state-t.result c.make-made.result _ c.count-n.ensures c.unwrap_or.ensures) c.made.ensures

@@ -1,6 +1,7 @@
--- `cards::tables::gh_load`. A table of the input's routes; nothing of the old one is read.
-use Rattle.cards.proofs.Laws.{card-is}
+-- `cards::tables::gh_load`: the state after the call is the new one, or the one that was given.
+use Rattle.refusals.specs.declared.Refused.{Refused}
+use Rattle.cards.proofs.Laws.{new-state-card}
 use Rattle.cards.proofs.tables.gh_load.Goals as goal
 
 pub returns : goal.returns
-returns c = search card-is
+returns c = new-state-card {E = Refused} _ _ c.load-loaded.result _ _ _ c.load-loaded.ensures (rw c.unwrap_or.ensures at c.loaded.ensures)

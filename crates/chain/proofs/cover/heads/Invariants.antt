@@ -1,6 +1,6 @@
 -- `chain::cover::heads`: The invariant: the heads below b stand, and every word before m has a smaller first byte.
 use mathlib.Core.Path.{◌≡◌}
-use Prim.Native.Nat.{◌-◌, ◌*◌, ◌≤◌}
+use Prim.Native.Nat.{◌*◌, ◌≤◌}
 use lib.ListN.{length}
 use Rattle.chain.specs.Place.{Between}
 use Rattle.chain.specs.Cover.{Parents, Heads}
@@ -10,6 +10,3 @@ abbrev pub invariant-loop-b : goal.invariant-loop-b
 invariant-loop-b l =
     (l.b ≤ 257) × (length l.par ≡ length l.initial.par) × Parents l.ws l.par (length l.ws) × Heads l.ws l.par l.b × Between l.ws (l.b * 4294967296) l.m
     (length l.ws)
-
-abbrev pub decreases-loop-b : goal.decreases-loop-b
-decreases-loop-b l = 257 - l.b

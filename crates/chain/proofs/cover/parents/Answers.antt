@@ -11,18 +11,18 @@ loop-k-init c = (c.requires.parents_below.place, refl, c.requires.parents_below.
 pub slice_bounds-last_cover-end-in-loop-k : goal.slice_bounds-last_cover-end-in-loop-k
 slice_bounds-last_cover-end-in-loop-k c = sym (length-take-le _ _ (omega arith))
 
-pub last_cover-m-requires : goal.last_cover-m-requires
-last_cover-m-requires c = climb-self _ _ _ c.requires.words_room.words c.loop-k-test.true (omega arith) c.loop-k.invariant.2
+pub last_cover-requires : goal.last_cover-requires
+last_cover-requires c = climb-self _ _ _ c.requires.words_room.words c.loop-k-test.true (omega arith) c.loop-k.invariant.2
 
-pub overflow_cast-par : goal.overflow_cast-par
-overflow_cast-par c = omega (arith, c.last_cover-m.ensures.to)
+pub entry_of-requires : goal.entry_of-requires
+entry_of-requires c = omega (arith, c.last_cover.ensures.to)
 
 pub loop-k-preserved : goal.loop-k-preserved
 loop-k-preserved c = (
   omega arith,
   simp length-set c.loop-k.invariant.1,
   parents-more _ _ _ _ (omega arith)
-      c.loop-k.invariant.2 c.last_cover-m.ensures,
+      c.loop-k.invariant.2 (rw c.entry_of.ensures c.last_cover.ensures),
 )
 
 pub returns : goal.returns

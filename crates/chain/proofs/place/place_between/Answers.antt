@@ -1,15 +1,15 @@
-use native.Mathlib.Omega.{arith}
-use Rattle.chain.proofs.Places.{upper, lower, met}
+-- `chain::place::place_between`. Among the words between, the place is where the smaller keys end.
+use borrow.Author.Rules.{rules}
+use Rattle.std.proofs.Common.{ltb}
+use Rattle.std.proofs.lemmas.List.Sorted.{IsPartitionPoint-from_clause, IsPartitionedBy-ltb}
+use Rattle.chain.specs.Words.{key_in}
+use Rattle.chain.proofs.Places.{words-rise, halved}
 use Rattle.chain.proofs.place.place_between.Goals as goal
 
-pub loop-lo-init : goal.loop-lo-init
-loop-lo-init c = c.requires
-
-pub loop-lo-preserved-then-ws-mid : goal.loop-lo-preserved-then-ws-mid
-loop-lo-preserved-then-ws-mid c = upper c.loop-lo.invariant _ (omega arith) c.if-ws-mid.true
-
-pub loop-lo-preserved : goal.loop-lo-preserved
-loop-lo-preserved c = lower c.loop-lo.invariant _ (omega arith) (omega arith) c.if-ws-mid.false
-
 pub returns : goal.returns
-returns c = search met
+returns c =
+    let q = c.requires in
+    let p = c.partition_point.ensures in
+    let key = c.args.key in
+    let rise = IsPartitionedBy-ltb key_in _ key (words-rise q) in
+    halved q _ p.bound (IsPartitionPoint-from_clause (λ w. ltb (key_in w) key) _ _ p.partitioned rise (λ a r f k. search rules))

@@ -1,3 +1,5 @@
+use mathlib.Core.Path.{◌≡◌}
+use lib.ListN.{length}
 use native.Mathlib.Omega.{arith}
 use Rattle.chain.proofs.Places.{upper, lower, met}
 use Rattle.chain.proofs.place.place_on.Goals as goal
@@ -12,4 +14,6 @@ pub loop-k-preserved : goal.loop-k-preserved
 loop-k-preserved c = search upper
 
 pub returns : goal.returns
-returns c = search met
+returns c =
+    let e : c.loop-k.k ≡ length c.args.ws.now = omega arith in
+    rw e at (met c.loop-k.invariant (omega arith))

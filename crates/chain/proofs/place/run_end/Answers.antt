@@ -1,3 +1,5 @@
+use mathlib.Core.Path.{◌≡◌}
+use lib.ListN.{length}
 use native.Mathlib.Omega.{arith}
 use Rattle.chain.proofs.WordRuns.{inside-more, run_is}
 use Rattle.chain.proofs.place.run_end.Goals as goal
@@ -21,4 +23,5 @@ pub returns : goal.returns
 returns c =
     let q = c.requires in
     let l = c.loop-k.invariant in
-    run_is q.words q.run_from _ l.0 l.1 l.2 (λ h e. omega arith)
+    let e : c.loop-k.k ≡ length c.args.ws.now = omega arith in
+    rw e at (run_is q.words q.run_from _ l.0 l.1 l.2 (λ h e. omega arith))

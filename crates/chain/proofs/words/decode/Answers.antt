@@ -6,7 +6,7 @@ use Rattle.chain.proofs.Decodes.{filled-to-more, filled-all}
 use Rattle.chain.proofs.words.decode.Goals as goal
 
 pub loop-k-init : goal.loop-k-init
-loop-k-init c = (c.requires.place, refl, c.requires.each)
+loop-k-init c = (refl, c.requires.each)
 
 pub read_word-requires : goal.read_word-requires
 read_word-requires c = omega (arith, c.requires.fits)
@@ -14,11 +14,10 @@ read_word-requires c = omega (arith, c.requires.fits)
 pub loop-k-preserved : goal.loop-k-preserved
 loop-k-preserved c =
     let l = c.loop-k in (
-      omega arith,
-      simp length-set l.invariant.1,
+      simp length-set l.invariant.0,
       filled-to-more
-          (word_at c.args.list.now) l.out l.k _ (omega arith) c.read_word.ensures l.invariant.2,
+          (word_at c.args.list.now) l.out l.k _ (omega arith) c.read_word.ensures l.invariant.1,
     )
 
 pub returns : goal.returns
-returns c = filled-all _ _ _ _ c.loop-k.invariant.1 (omega arith) c.loop-k.invariant.2
+returns c = filled-all _ _ _ _ c.loop-k.invariant.0 (omega arith) c.loop-k.invariant.1

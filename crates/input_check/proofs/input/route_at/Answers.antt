@@ -1,20 +1,22 @@
--- `input_check::input::route_at`: each arm has its law.
+-- `input_check::input::route_at`: each way out has its law.
+use Rattle.std.specs.Prelude.{refl}
 use native.Mathlib.Omega.{arith}
+use Rattle.std.proofs.lemmas.Result.{err_from_is_err_and}
 use Rattle.routes.proofs.Meaning.{input-good}
-use Rattle.routes.proofs.Inputs.{told-good, told-refused, told-many, got-one, got-nothing, got-refused, got-many}
+use Rattle.routes.proofs.Saids.{said-ok, said-err}
+use Rattle.routes.proofs.Inputs.{got-one, got-nothing, got-refused}
 use Rattle.input_check.proofs.input.route_at.Goals as goal
 
 pub read_record-requires : goal.read_record-requires
-read_record-requires c = omega (arith, (input-good _ _ (told-good _ _ c.check_input.ensures _ c.in-Good.is)).0)
+read_record-requires c = omega (arith, (input-good _ _ (said-ok _ _ _ c.in_ok-n.ensures _ refl)).0)
 
-pub returns-then-index-n : goal.returns-then-index-n
-returns-then-index-n c = got-one _ _ _ (told-good _ _ c.check_input.ensures _ c.in-Good.is) _ c.if-index-n.true c.read_record.ensures
+pub returns-in_err-n : goal.returns-in_err-n
+returns-in_err-n c =
+    let p = err_from_is_err_and c.from_residual.result c.from_residual.ensures.1 in
+    rw (p.1, p.2) (got-refused _ _ _ (said-err _ _ _ c.in_err-n.ensures _ refl))
 
-pub returns-else-index-n : goal.returns-else-index-n
-returns-else-index-n c = got-nothing _ _ _ (told-good _ _ c.check_input.ensures _ c.in-Good.is) c.if-index-n.false
+pub returns-then-n-index : goal.returns-then-n-index
+returns-then-n-index c = got-nothing _ _ _ (said-ok _ _ _ c.in_ok-n.ensures _ refl) c.if-n-index.true
 
-pub returns-in-Refused : goal.returns-in-Refused
-returns-in-Refused c = got-refused _ _ _ _ (told-refused _ _ c.check_input.ensures _ _ c.in-Refused.is)
-
-pub returns-in-TooMany : goal.returns-in-TooMany
-returns-in-TooMany c = got-many _ _ (told-many _ _ c.check_input.ensures c.in-TooMany.is)
+pub returns : goal.returns
+returns c = got-one _ _ _ (said-ok _ _ _ c.in_ok-n.ensures _ refl) _ c.if-n-index.false c.read_record.ensures

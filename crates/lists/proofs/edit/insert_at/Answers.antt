@@ -4,4 +4,4 @@ use Rattle.lists.proofs.edit.insert_at.Goals as goal
 
 pub returns : goal.returns
 returns c =
-    rw (c.write_record.ensures, c.up8.ensures) (inserted-at _ _ _ _ (λ i. (c.slice_known-1.given i).fits) c.requires)
+    rw (c.write_record.ensures, c.up.ensures) (inserted-at _ _ _ _ (λ i. (c.slice_known-1.given i).fits) c.requires)

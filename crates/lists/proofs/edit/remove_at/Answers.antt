@@ -4,4 +4,4 @@ use Rattle.lists.proofs.edit.remove_at.Goals as goal
 
 pub returns : goal.returns
 returns c =
-    rw (c.write_record.ensures, c.down8.ensures) (removed-at _ _ _ (λ i. (c.slice_known-1.given i).fits) c.requires)
+    rw (c.write_record.ensures, c.down.ensures) (removed-at _ _ _ (λ i. (c.slice_known-1.given i).fits) c.requires)

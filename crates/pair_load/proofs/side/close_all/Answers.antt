@@ -4,15 +4,15 @@ use Rattle.pair_load.proofs.Closes.{not-zero, closed_none, closing, closed-more,
 use Rattle.pair_load.proofs.side.close_all.Goals as goal
 
 pub loop-c-init : goal.loop-c-init
-loop-c-init c = (omega arith, closed_none _ _ _ _ c.requires)
+loop-c-init c = closed_none _ _ _ _ c.requires
 
 pub close-requires : goal.close-requires
-close-requires c = closing _ _ _ _ c.requires _ _ _ c.loop-c.invariant.1 _ (omega arith)
+close-requires c = closing _ _ _ _ c.requires _ _ _ c.loop-c.invariant _ (omega arith)
 
 pub loop-c-preserved : goal.loop-c-preserved
 loop-c-preserved c =
     let test = not-zero (get_or c.args.see.now c.loop-c.c 0) in
-    (omega arith, closed-more _ _ _ _ c.requires _ _ _ c.loop-c.invariant.1 _ _ _ (omega arith) test c.close.ensures.owner c.close.ensures.blank)
+    closed-more _ _ _ _ c.requires _ _ _ c.loop-c.invariant _ _ _ (omega arith) test c.close.ensures.owner c.close.ensures.blank
 
 pub returns : goal.returns
-returns c = let all = closed_all _ _ _ _ c.requires _ _ _ c.loop-c.invariant.1 (omega arith) in record { owner = all.0; blank = all.1 }
+returns c = let all = closed_all _ _ _ _ c.requires _ _ _ c.loop-c.invariant (omega arith) in record { owner = all.0; blank = all.1 }

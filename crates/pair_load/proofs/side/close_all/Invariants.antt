@@ -5,7 +5,4 @@ use Rattle.pair_load.proofs.Closes.{Closed}
 use Rattle.pair_load.proofs.side.close_all.Given as goal
 
 abbrev pub invariant-loop-c : goal.invariant-loop-c
-invariant-loop-c l = (l.c ≤ length l.see) × Closed l.see l.initial.own l.initial.cells l.d l.c l.own l.cells
-
-abbrev pub decreases-loop-c : goal.decreases-loop-c
-decreases-loop-c l = length l.see - l.c
+invariant-loop-c l = Closed l.see l.initial.own l.initial.cells l.d l.c l.own l.cells

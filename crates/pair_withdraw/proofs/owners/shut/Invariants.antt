@@ -1,5 +1,4 @@
--- `pair_withdraw::owners::shut`. The invariant: the owners before `c` are done, those from `c` on are as they were. A turn writes the one at `c`, and the
--- measure is how many are left.
+-- `pair_withdraw::owners::shut`. The invariant: the owners before `c` are done, those from `c` on are as they were.
 use mathlib.Core.Path.{◌≡◌}
 use Prim.Native.Nat.{ℕ, ◌-◌, ◌≤◌, ◌<◌}
 use lib.ListN.{length, get_or}
@@ -12,6 +11,3 @@ invariant-loop-c l =
     (length l.own ≡ length l.initial.own)
     × ((k : ℕ) → k < l.c → get_or l.own k 0 ≡ owner_left (party_of l.guest) (get_or l.see k 0) (get_or l.initial.own k 0))
     × ((k : ℕ) → l.c ≤ k → get_or l.own k 0 ≡ get_or l.initial.own k 0)
-
-abbrev pub decreases-loop-c : goal.decreases-loop-c
-decreases-loop-c l = l.n - l.c

@@ -6,4 +6,4 @@ pub returns-then-l-gt32 : goal.returns-then-l-gt32
 returns-then-l-gt32 c = search too_long
 
 pub returns : goal.returns
-returns c = tested _ _ _ c.byte_to_word-l.ensures.0 c.if-l-gt32.false c.ranges.addr.fits _ c.cut.ensures
+returns c = tested _ _ _ c.from-l.ensures c.if-l-gt32.false c.ranges.addr.fits _ c.cut.ensures

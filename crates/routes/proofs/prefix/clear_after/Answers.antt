@@ -5,7 +5,7 @@ use Rattle.bits.proofs.Slots.{cut-over}
 use Rattle.routes.proofs.prefix.clear_after.Goals as goal
 
 pub returns-then-n-gt32 : goal.returns-then-n-gt32
-returns-then-n-gt32 c = let len = c.byte_to_word-n.ensures in sym (cut-over _ _ (omega (arith, len.0, c.if-n-gt32.true)))
+returns-then-n-gt32 c = let len = c.from-n.ensures in sym (cut-over _ _ (omega (arith, len, c.if-n-gt32.true)))
 
 pub returns : goal.returns
-returns c = rw c.byte_to_word-n.ensures.0 at c.cut.ensures
+returns c = rw c.from-n.ensures at c.cut.ensures

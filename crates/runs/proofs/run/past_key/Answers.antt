@@ -4,10 +4,10 @@ use Rattle.runs.proofs.Runs.{size_is}
 use Rattle.runs.proofs.run.past_key.Goals as goal
 
 pub overflow_mul-result : goal.overflow_mul-result
-overflow_mul-result c = let z = size_is _ _ c.byte_to_word.ensures.0 c.requires in omega arith
+overflow_mul-result c = let z = size_is _ _ c.from.ensures c.requires in omega arith
 
 pub overflow_add-result : goal.overflow_add-result
-overflow_add-result c = let z = size_is _ _ c.byte_to_word.ensures.0 c.requires in omega arith
+overflow_add-result c = let z = size_is _ _ c.from.ensures c.requires in omega arith
 
 pub returns : goal.returns
-returns c = let z = size_is _ _ c.byte_to_word.ensures.0 c.requires in omega arith
+returns c = let z = size_is _ _ c.from.ensures c.requires in omega arith

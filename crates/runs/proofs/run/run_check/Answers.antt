@@ -1,45 +1,37 @@
--- `runs::run::run_check`: each arm has its law.
+-- `runs::run::run_check`: each way out has its law.
 use mathlib.Core.Bool.{not}
 use mathlib.Core.Path.{ap}
-use mathlib.Core.Path.{◌≡◌, sym, ◌∙◌}
-use mathlib.Core.List.{[], ◌∷◌}
-use borrow.Author.Tests.{not-false}
-use Rattle.routes.specs.Route.{Prefix}
-use Rattle.routes.specs.Said.{accepted}
-use Rattle.routes.specs.Input.{input_said}
-use Rattle.routes.proofs.Meaning.{prefix-true, input-good}
-use Rattle.routes.proofs.Inputs.{told-good, told-refused, told-many}
-use Rattle.runs.proofs.Runs.{says-no-prefix, says-run, says-refused, says-many, run-order}
+use Rattle.std.proofs.lemmas.Result.{err_from_is_err_and}
+use Rattle.routes.proofs.Inputs.{input-records}
+use Rattle.runs.proofs.Runs.{says-no-prefix, its-prefix, says-run, says-refused, run-order}
 use Rattle.runs.proofs.run.run_check.Goals as goal
+
+pub returns-in_err-n : goal.returns-in_err-n
+returns-in_err-n c =
+    let p = err_from_is_err_and c.from_residual.result c.from_residual.ensures.1 in
+    rw (p.1, p.2) (says-refused c.args.list.now _ _ _ c.in_err-n.ensures)
 
 pub returns-then-not-prefix_ok : goal.returns-then-not-prefix_ok
 returns-then-not-prefix_ok c =
-    says-no-prefix _ _ _ _ ((let told_here : input_said c.args.list.now ≡ accepted (c.in-Good.n ∷ []) = told-good _ _ c.check_input.ensures _ c.in-Good.is in told_here)) _ c.prefix_ok.ensures (ap not c.if-not-prefix_ok.true)
+    rw c.into.ensures (says-no-prefix _ _ _ _ c.in_ok-n.ensures _ c.prefix_ok.ensures (ap not c.if-not-prefix_ok.true))
 
 pub place-start-requires : goal.place-start-requires
-place-start-requires c =
-    (input-good _ _ ((let told_here : input_said c.args.list.now ≡ accepted (c.in-Good.n ∷ []) = told-good _ _ c.check_input.ensures _ c.in-Good.is in told_here))).1
+place-start-requires c = (input-records _ _ c.in_ok-n.ensures).records
 
 pub past_key-requires : goal.past_key-requires
 past_key-requires c =
-    ((let proper_here : Prefix c.args.addr c.args.len = prefix-true _ _ (sym c.prefix_ok.ensures ∙ not-false _ (ap not c.if-not-prefix_ok.false)) in proper_here)).len_ok
+    (its-prefix c.args.list.now c.args.addr _ _ c.in_ok-n.ensures _ c.prefix_ok.ensures (ap not c.if-not-prefix_ok.false)).len_ok
 
 pub place-end-requires : goal.place-end-requires
-place-end-requires c =
-    (input-good _ _ ((let told_here : input_said c.args.list.now ≡ accepted (c.in-Good.n ∷ []) = told-good _ _ c.check_input.ensures _ c.in-Good.is in told_here))).1
+place-end-requires c = (input-records _ _ c.in_ok-n.ensures).records
 
 pub overflow_sub-result : goal.overflow_sub-result
 overflow_sub-result c =
-    let l = run-order _ _ _ _ ((let proper_here : Prefix c.args.addr c.args.len = prefix-true _ _ (sym c.prefix_ok.ensures ∙ not-false _ (ap not c.if-not-prefix_ok.false)) in proper_here)).len_ok in rw
-    (c.place-start.ensures.0, c.key_of.ensures.0, c.place-end.ensures.0, c.past_key.ensures) l
+    let l =
+    (its-prefix c.args.list.now c.args.addr c.args.len _ c.in_ok-n.ensures _ c.prefix_ok.ensures (ap not c.if-not-prefix_ok.false)).len_ok in
+    rw (c.place-start.ensures.0, c.key_of.ensures.0, c.place-end.ensures.0, c.past_key.ensures) (run-order _ _ _ _ l)
 
-pub returns-else-not-prefix_ok : goal.returns-else-not-prefix_ok
-returns-else-not-prefix_ok c =
-    says-run _ _ _ _ ((let told_here : input_said c.args.list.now ≡ accepted (c.in-Good.n ∷ []) = told-good _ _ c.check_input.ensures _ c.in-Good.is in told_here)) _ c.prefix_ok.ensures _ _ _ _ (ap not c.if-not-prefix_ok.false) c.place-start.ensures.0
+pub returns : goal.returns
+returns c =
+    says-run _ _ _ _ c.in_ok-n.ensures _ c.prefix_ok.ensures _ _ _ _ (ap not c.if-not-prefix_ok.false) c.place-start.ensures.0
     c.key_of.ensures.0 c.place-end.ensures.0 c.past_key.ensures
-
-pub returns-in-Refused : goal.returns-in-Refused
-returns-in-Refused c = says-refused _ _ _ _ _ (told-refused _ _ c.check_input.ensures _ _ c.in-Refused.is)
-
-pub returns-in-TooMany : goal.returns-in-TooMany
-returns-in-TooMany c = says-many _ _ _ (told-many _ _ c.check_input.ensures c.in-TooMany.is)

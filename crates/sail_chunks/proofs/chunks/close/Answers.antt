@@ -13,12 +13,12 @@ bounds-own-c c = c.requires.one c.if-closes.true
 pub shifted-a-requires : goal.shifted-a-requires
 shifted-a-requires c = let p = c.requires in (omega (arith, p.one c.if-closes.true), omega arith)
 
-pub fill_range16-requires : goal.fill_range16-requires
-fill_range16-requires c = close-range _ _ _ _ _ c.requires c.if-closes.true _ _ c.shifted-a.ensures.0 c.shifted-n.ensures.0
+pub fill_range-requires : goal.fill_range-requires
+fill_range-requires c = close-range _ _ _ _ _ c.requires c.if-closes.true _ _ c.shifted-a.ensures.0 c.shifted-n.ensures.0
 
 pub returns-then-closes : goal.returns-then-closes
 returns-then-closes c =
-    let all = close-on _ _ _ _ _ _ _ _ _ c.if-closes.true refl c.shifted-a.ensures.0 c.shifted-n.ensures.0 c.fill_range16.ensures in record { owner = all.0; blank = all.1 }
+    let all = close-on _ _ _ _ _ _ _ _ _ c.if-closes.true refl c.shifted-a.ensures.0 c.shifted-n.ensures.0 c.fill_range.ensures in record { owner = all.0; blank = all.1 }
 
 pub returns-else-closes : goal.returns-else-closes
 returns-else-closes c = let all = close-off _ _ _ _ _ c.if-closes.false in record { owner = all.0; blank = all.1 }

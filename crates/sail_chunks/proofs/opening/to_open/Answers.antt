@@ -9,6 +9,6 @@ overflow_sub-result c = named-first _ _ _ _ _ _ _ c.follow-v.ensures
 
 pub returns : goal.returns
 returns c =
-    opens-is _ _ _ _ _ _ _ c.follow-v.ensures c.requires.valid _ _ c.byte_to_word-l.ensures.0 (search rules) _ _
+    opens-is _ _ _ _ _ _ _ c.follow-v.ensures c.requires.valid _ _ c.from-l.ensures (search rules) _ _
     c.leaf_under-two.ensures
     c.leaf_under-three.ensures

@@ -1,32 +1,33 @@
 -- `sail_load::load::judge` has a law for each way.
-use Rattle.routes.proofs.Inputs.{told-good, told-refused, told-many}
-use Rattle.sail_load.proofs.Loads.{says-sizes, says-bad, says-many, weighs, says-full, says-done}
+use Rattle.std.specs.Prelude.{refl}
+use Rattle.std.proofs.lemmas.Result.{err_from_is_err_and}
+use Rattle.refusals.proofs.Numbers.{number-above_0}
+use Rattle.routes.specs.Said.{said_by}
+use Rattle.sail_load.proofs.Loads.{says-sizes, says-bad, weighs, says-full, says-done}
 use Rattle.sail_load.proofs.load.judge.Goals as goal
 
-pub returns-then-z-ne0 : goal.returns-then-z-ne0
-returns-then-z-ne0 c = says-sizes _ _ _ _ c.sizes-z.ensures c.if-z-ne0.true
+pub returns-in_err-check_sizes : goal.returns-in_err-check_sizes
+unfolding said_by
+returns-in_err-check_sizes c =
+    let p = err_from_is_err_and c.from_residual.result c.from_residual.ensures.1 in
+    rw (p.1, p.2) (says-sizes _ _ _ _ c.in_err-check_sizes.ensures (number-above_0 _))
 
-pub weigh-f-requires : goal.weigh-f-requires
-weigh-f-requires c =
-    weighs c.args.t _ _ _ c.sizes-z.ensures c.if-z-ne0.false _
-    (told-good _ _ c.check_input.ensures _ c.in-Good.is)
+pub returns-in_err-n : goal.returns-in_err-n
+unfolding said_by
+returns-in_err-n c =
+    let p = err_from_is_err_and c.from_residual-in_err-n.result c.from_residual-in_err-n.ensures.1 in
+    rw (p.1, p.2) (says-bad _ _ _ _ c.in_ok-check_sizes.ensures refl _ c.in_err-n.ensures)
 
-pub returns-then-f-ne0 : goal.returns-then-f-ne0
-returns-then-f-ne0 c =
-    says-full _ _ _ _ c.sizes-z.ensures c.if-z-ne0.false _
-    (told-good _ _ c.check_input.ensures _ c.in-Good.is) _ c.weigh-f.ensures c.if-f-ne0.true
+pub weigh-requires : goal.weigh-requires
+weigh-requires c = weighs c.args.t _ _ _ c.in_ok-check_sizes.ensures refl _ c.in_ok-n.ensures
 
-pub returns-else-f-ne0 : goal.returns-else-f-ne0
-returns-else-f-ne0 c =
-    says-done _ _ _ _ c.sizes-z.ensures c.if-z-ne0.false _
-    (told-good _ _ c.check_input.ensures _ c.in-Good.is) _ c.weigh-f.ensures c.if-f-ne0.false
+pub returns-in_err-weigh : goal.returns-in_err-weigh
+unfolding said_by
+returns-in_err-weigh c =
+    let p = err_from_is_err_and c.from_residual-in_err-weigh.result c.from_residual-in_err-weigh.ensures.1 in
+    rw (p.1, p.2)
+    (says-full _ _ _ _ c.in_ok-check_sizes.ensures refl _ c.in_ok-n.ensures _ c.in_err-weigh.ensures (number-above_0 _))
 
-pub returns-in-Refused : goal.returns-in-Refused
-returns-in-Refused c =
-    says-bad _ _ _ _ c.sizes-z.ensures c.if-z-ne0.false _ _
-    (told-refused _ _ c.check_input.ensures _ _ c.in-Refused.is)
-
-pub returns-in-TooMany : goal.returns-in-TooMany
-returns-in-TooMany c =
-    says-many _ _ _ _ c.sizes-z.ensures c.if-z-ne0.false
-    (told-many _ _ c.check_input.ensures c.in-TooMany.is)
+pub returns : goal.returns
+unfolding said_by
+returns c = says-done _ _ _ _ c.in_ok-check_sizes.ensures refl _ c.in_ok-n.ensures _ c.in_ok-weigh.ensures refl

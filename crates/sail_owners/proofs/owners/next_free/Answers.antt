@@ -13,4 +13,4 @@ pub loop-c-preserved : goal.loop-c-preserved
 loop-c-preserved c = (search rules, below_more _ _ c.loop-c.invariant.1 c.if-own-c-eq0.false)
 
 pub returns : goal.returns
-returns c = free-nowhere c.args.own.now _ c.requires c.loop-c.c (search rules) (search rules) c.loop-c.invariant.1
+returns c = free-nowhere c.args.own.now _ c.requires (λ j l. c.loop-c.invariant.1 j (search rules))

@@ -3,20 +3,14 @@ use Rattle.sail_owners.proofs.Passes.{passed_none, passed-all, passed-opens, pas
 use Rattle.sail_owners.proofs.owners.open_between.Goals as goal
 
 pub loop-k-init : goal.loop-k-init
-loop-k-init c = (omega arith, passed_none _ _ _ _ _ c.requires)
+loop-k-init c = passed_none _ _ _ _ _ c.requires
 
 pub open_for-u-requires : goal.open_for-u-requires
-open_for-u-requires c = passed-opens _ _ _ _ _ c.requires _ _ _ _ c.loop-k.invariant.1 (omega arith) _ c.read_record.ensures
-
-pub overflow_add-k : goal.overflow_add-k
-overflow_add-k c = omega (arith, c.requires.records.few)
+open_for-u-requires c = passed-opens _ _ _ _ _ c.requires _ _ _ _ c.loop-k.invariant (omega arith) _ c.read_record.ensures
 
 pub loop-k-preserved : goal.loop-k-preserved
-loop-k-preserved c = (
-  omega arith,
-  passed-more _ _ _ _ _ c.requires _ _ _ _ c.loop-k.invariant.1 (omega arith) _ c.read_record.ensures _ _ _
-      c.open_for-u.ensures,
-)
+loop-k-preserved c =
+    passed-more _ _ _ _ _ c.requires _ _ _ _ c.loop-k.invariant (omega arith) _ c.read_record.ensures _ _ _ c.open_for-u.ensures
 
 pub returns : goal.returns
-returns c = passed-all _ _ _ _ _ c.requires _ _ _ _ c.loop-k.invariant.1 (omega arith)
+returns c = passed-all _ _ _ _ _ c.requires _ _ _ _ c.loop-k.invariant (omega arith)

@@ -24,14 +24,14 @@ own_chunk-second-requires c = hangs-second _ _ _ _ _ _ c.requires (omega arith) 
 
 pub returns-then-len-p2 : goal.returns-then-len-p2
 returns-then-len-p2 c =
-    let wide = c.byte_to_word-len.ensures.0 in
+    let wide = c.from-len.ensures in
     let longer = c.if-len-p1.false in
     opened-second _ _ _ _ _ _ c.requires (omega (arith, longer, wide)) _ c.slot.ensures _ _ c.own_chunk-second.ensures
     (omega (arith, c.if-len-p2.true, wide))
 
 pub second_place-requires : goal.second_place-requires
 second_place-requires c =
-    let wide = c.byte_to_word-len.ensures.0 in
+    let wide = c.from-len.ensures in
     let longer = c.if-len-p1.false in
     chunk-second _ _ _ _ _ _ c.requires (omega (arith, longer, wide)) _ c.slot.ensures _ _
     c.own_chunk-second.ensures c.own_chunk-second.auto.own
@@ -47,14 +47,14 @@ overflow_add-top-2 c = record { fits = omega (arith, c.second_place.ensures.1, c
 
 pub own_chunk-third-requires : goal.own_chunk-third-requires
 own_chunk-third-requires c =
-    let wide = c.byte_to_word-len.ensures.0 in
+    let wide = c.from-len.ensures in
     let longer = c.if-len-p1.false in
     hangs-third _ _ _ _ _ _ c.requires (omega (arith, longer, wide)) _ c.slot.ensures _ _ c.own_chunk-second.ensures
     (omega (arith, c.if-len-p2.false, wide)) _ c.second_place.ensures.0
 
 pub returns : goal.returns
 returns c =
-    let wide = c.byte_to_word-len.ensures.0 in
+    let wide = c.from-len.ensures in
     let longer = c.if-len-p1.false in
     opened-third _ _ _ _ _ _ c.requires (omega (arith, longer, wide)) _ c.slot.ensures _ _ c.own_chunk-second.ensures
     (omega (arith, c.if-len-p2.false, wide)) _ c.second_place.ensures.0 _ _ c.own_chunk-third.ensures

@@ -1,13 +1,9 @@
 -- `sail_paint::pool::paint_pool`. The invariant: the chunks before `c` are painted.
-use Prim.Native.Nat.{◌-◌, ◌≤◌}
-use lib.ListN.{length}
+use Prim.Native.Nat.{◌-◌}
 use Rattle.chain.specs.Words.{routes_of_words}
 use Rattle.sail_paint.proofs.Chunks.{PaintedTo}
 use Rattle.sail_paint.proofs.pool.paint_pool.Given as goal
 
 abbrev pub invariant-loop-c : goal.invariant-loop-c
 invariant-loop-c l =
-    (l.c ≤ length l.own) × PaintedTo (routes_of_words l.ws) l.addr l.len l.l l.p (l.p - l.l) l.e l.up l.own l.initial.cells l.c l.cells
-
-abbrev pub decreases-loop-c : goal.decreases-loop-c
-decreases-loop-c l = length l.own - l.c
+    PaintedTo (routes_of_words l.ws) l.addr l.len l.l l.p (l.p - l.l) l.e l.up l.own l.initial.cells l.c l.cells

@@ -1,30 +1,27 @@
 -- `text::line::put_head`. A table's first line.
-use native.Mathlib.Omega.{arith}
 use Rattle.text_pieces.specs.Pieces.{labelled, ascii}
-use Rattle.text_pieces.proofs.Writes.{wrote-more}
+use Rattle.text_pieces.proofs.Pages.{writes-more, room_rest}
+use Rattle.text_pieces.proofs.Writes.{room-first}
 use Rattle.text.specs.Text.{head_line}
-use Rattle.text.proofs.Lines.{length-head}
 use Rattle.text.proofs.line.put_head.Goals as goal
 
-pub put_labelled-p-requires : goal.put_labelled-p-requires
+pub labelled-requires : goal.labelled-requires
 unfolding head_line labelled ascii
-put_labelled-p-requires c = record { room = omega (arith, length-head c.args.n c.args.second c.args.third) }
+labelled-requires c = room-first _ _ (room-first _ _ (room-first _ _ c.requires))
 
-pub put_labelled-q-requires : goal.put_labelled-q-requires
+pub labelled-requires-2 : goal.labelled-requires-2
 unfolding head_line labelled ascii
-put_labelled-q-requires c = record { room = omega (arith, length-head c.args.n c.args.second c.args.third) }
+labelled-requires-2 c = room_rest (room-first _ _ (room-first _ _ c.requires)) c.labelled.ensures
 
-pub put_labelled-s-requires : goal.put_labelled-s-requires
+pub labelled-requires-3 : goal.labelled-requires-3
 unfolding head_line labelled ascii
-put_labelled-s-requires c = record { room = omega (arith, length-head c.args.n c.args.second c.args.third) }
+labelled-requires-3 c = room_rest (room-first _ _ c.requires) (writes-more c.labelled.ensures c.labelled-2.ensures)
 
-pub put_byte-requires : goal.put_byte-requires
+pub byte-requires : goal.byte-requires
 unfolding head_line labelled ascii
-put_byte-requires c =
-    record { room = omega (arith, length-head c.args.n c.args.second c.args.third, c.requires.room) }
+byte-requires c =
+    room_rest c.requires (writes-more (writes-more c.labelled.ensures c.labelled-2.ensures) c.labelled-3.ensures)
 
 pub returns : goal.returns
 unfolding head_line labelled ascii
-returns c =
-    wrote-more (wrote-more (wrote-more c.put_labelled-p.ensures c.put_labelled-q.ensures) c.put_labelled-s.ensures)
-    c.put_byte.ensures
+returns c = writes-more (writes-more (writes-more c.labelled.ensures c.labelled-2.ensures) c.labelled-3.ensures) c.byte.ensures

@@ -20,7 +20,7 @@ pub children_ok-returns-then-node_ok : goal.children_ok-returns-then-node_ok
 children_ok-returns-then-node_ok t c = c.children_ok.ensures ∙ all_more _ _ _ c.if-n-eq0.false (sym c.node_ok.ensures ∙ c.if-node_ok.true)
 
 pub children_ok-returns-else-node_ok : goal.children_ok-returns-else-node_ok
-children_ok-returns-else-node_ok t c = all-not _ _ _ c.if-n-eq0.false (sym c.node_ok.ensures ∙ c.if-node_ok.false)
+children_ok-returns-else-node_ok t c = c.if-node_ok.false ∙ all-not _ _ _ c.if-n-eq0.false (sym c.node_ok.ensures ∙ c.if-node_ok.false)
 
 pub node_ok-bounds-words-at : goal.node_ok-bounds-words-at
 node_ok-bounds-words-at t c = omega (arith, siblings-lent _ _ _ _ c.requires)
@@ -39,17 +39,17 @@ pub node_ok-first_child-first-requires : goal.node_ok-first_child-first-requires
 node_ok-first_child-first-requires t c = omega (arith, siblings-lent _ _ _ _ c.requires)
 
 pub node_ok-children_ok-requires : goal.node_ok-children_ok-requires
-node_ok-children_ok-requires t c =
-    let n = c.word_to_index-n.ensures.0 ∙ c.children.ensures.0 in (
-      omega (arith, c.if-left-eq0.false, c.word_to_index-n.ensures.0, c.children.ensures.1),
-      (
-        children-in _ _ _ c.requires (sym c.is_set.ensures ∙ c.if-is_set.false) c.if-left-eq0.false _ _ c.first_child-first.ensures.0 n,
-        omega (arith, c.word_to_index-n.ensures.0, c.children.ensures.1),
-      ),
-    )
+node_ok-children_ok-requires t c = (
+  omega (arith, c.if-left-eq0.false, c.children.ensures.1),
+  (
+    children-in _ _ _ c.requires (sym c.is_set.ensures ∙ c.if-is_set.false) c.if-left-eq0.false _ _ c.first_child-first.ensures.0
+        c.children.ensures.0,
+    c.children.ensures.1,
+  ),
+)
 
 pub node_ok-returns : goal.node_ok-returns
 node_ok-returns t c =
     c.children_ok.ensures
     ∙ node-inner _ _ _ c.requires (sym c.is_set.ensures ∙ c.if-is_set.false) c.if-left-eq0.false (omega arith) _ _ c.first_child-first.ensures.0
-    (c.word_to_index-n.ensures.0 ∙ c.children.ensures.0)
+    c.children.ensures.0

@@ -2,8 +2,8 @@
 use Rattle.tree_node.proofs.Scans.{fresh-short, fresh-first, fresh-test}
 use Rattle.tree_node.proofs.count.fresh.Goals as goal
 
-pub returns-then-byte_to_word-m : goal.returns-then-byte_to_word-m
-returns-then-byte_to_word-m c = search fresh-short
+pub returns-then-from-m : goal.returns-then-from-m
+returns-then-from-m c = search fresh-short
 
 pub returns-then-k-eq0 : goal.returns-then-k-eq0
 returns-then-k-eq0 c = search fresh-first

@@ -6,8 +6,8 @@ use Rattle.tree_node.proofs.put.put_kids.Goals as goal
 pub loop-k-init : goal.loop-k-init
 loop-k-init c = (omega arith, c.requires.node.run.first, kids-none _ _ _ _ _ _)
 
-pub loop-k-preserved-then-byte_to_word-m : goal.loop-k-preserved-then-byte_to_word-m
-loop-k-preserved-then-byte_to_word-m c = (omega arith, omega arith, search kids-skip)
+pub loop-k-preserved-then-from-m : goal.loop-k-preserved-then-from-m
+loop-k-preserved-then-from-m c = (omega arith, omega arith, search kids-skip)
 
 pub run_end-k-requires : goal.run_end-k-requires
 run_end-k-requires c = (search rules, search rules, search kid-deep)

@@ -5,8 +5,8 @@ use Rattle.tree_route.proofs.change.bare.Goals as goal
 pub returns-then-m-eq0 : goal.returns-then-m-eq0
 returns-then-m-eq0 c = bare-root _ _ _ _ c.requires c.if-m-eq0.true
 
-pub descend-r-requires : goal.descend-r-requires
-descend-r-requires c = (c.requires.order, c.requires.deep)
+pub descend-last-requires : goal.descend-last-requires
+descend-last-requires c = (c.requires.order, c.requires.deep)
 
 pub returns : goal.returns
-returns c = bare-node _ _ _ _ c.requires c.if-m-eq0.false _ _ c.descend-r.ensures
+returns c = bare-node _ _ _ _ c.requires c.if-m-eq0.false _ _ c.descend-last.ensures

@@ -1,10 +1,7 @@
--- The invariant: the node at hand is the one of its depth on the path. The depth that is left falls.
-use Prim.Native.Nat.{◌-◌, ◌≤◌}
+-- The invariant: the node at hand is the one of its depth on the path.
+use Prim.Native.Nat.{◌≤◌}
 use Rattle.tree_theory.proofs.Ways.{WayDown}
 use Rattle.tree_route.proofs.path.descend.Given as goal
 
 abbrev pub invariant-loop-depth : goal.invariant-loop-depth
 invariant-loop-depth l = WayDown l.words l.n l.addr l.at l.depth × (l.depth ≤ l.deep)
-
-abbrev pub decreases-loop-depth : goal.decreases-loop-depth
-decreases-loop-depth l = l.deep - l.depth
