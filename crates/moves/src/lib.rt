@@ -8,7 +8,6 @@ ghost use Rattle.moves.specs.Moves.{shifted_up, shifted_down, Movable};
 use bits::number::Number;
 
 // The numbers from `a` on and before `e` move up by `step`. The last goes first, so that none is lost.
-// Stays: a loop, as below. `copy_within` would need memmove, and the header promises that the archive needs memcpy and memset alone.
 pub fn up<T: Number>(numbers: &mut [T], a: usize, e: usize, step: usize)
     requires { Movable a e step (length numbers.old) }
     ensures { numbers.new ≡ shifted_up T.ZERO numbers.old a e step }
