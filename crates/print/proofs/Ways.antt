@@ -61,7 +61,7 @@ module _ (input : List ℕ) (r : Result Table Refused) (v : Lent)
     unfolding out_text said_by
     done-wrote w = rw (← whole, q, line-none (accepted []) (standing_text u v) refl) w
 
-  pub refused-wrote : (x : Refused) → r ≡ Err x → {o o₁ : List ℕ} {m : ℕ} → Wrote o 0 (said_text (told x)) m o₁
+  pub refused-wrote : (x : Refused) → r ≡ Err x → {o o₁ : List ℕ} {m : ℕ} → Wrote o 0 (said_text (means_loaded (Err x))) m o₁
       → Wrote o 0 (printed_text input) m o₁
   unfolding out_text said_by
   refused-wrote x q w = rw (← whole, q, line-or (told x) (standing_text small_table v) (told-refused x)) w

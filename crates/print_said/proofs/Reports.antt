@@ -1,24 +1,27 @@
--- What is written of a sound table's report.
+-- What is written of a sound table's report, and of a load's answer.
 use mathlib.Core.Path.{◌≡◌, ◌∙◌}
 use mathlib.Core.List.{List, [], ◌∷◌}
-use Prim.Native.Nat.{ℕ, ◌+◌, ◌*◌, ◌≤◌}
+use Prim.Native.Nat.{ℕ, ◌+◌, ◌*◌, ◌≤◌, zero-le}
 use native.Mathlib.Omega.{arith}
 use lib.ListN.{length}
 use Rattle.std.specs.Prelude.{Result, Ok, Err}
 use Rattle.refusals.specs.declared.Refusal.{Refusal}
+use Rattle.refusals.specs.declared.Refused.{Refused}
 use Rattle.standing.specs.Cells.{need}
 use Rattle.routes.specs.Record.{routes_of}
-use Rattle.routes.specs.Said.{accepted, said_plainly}
+use Rattle.routes.specs.Said.{accepted, told, said_by, said_plainly}
 use Rattle.sail.specs.Lent.{Lent}
 use Rattle.sail.specs.Sound.{Sound, standing}
 use Rattle.sail.specs.declared.table.Table.{Table}
+use Rattle.sail_theory.specs.After.{no_values}
 use Rattle.sail_theory.specs.Calls.{reported}
 use Rattle.sail_theory.specs.Cases.{Report}
 use Rattle.sail_theory.proofs.calls.OneCase.{report-only}
 use Rattle.sail_sound.specs.Report.{means_reported}
 use Rattle.sail_sound.specs.declared.report.Standing.{Standing}
 use Rattle.text_pieces.specs.Wrote.{Wrote}
-use Rattle.text.specs.Text.{table_text, Printable}
+use Rattle.text_pieces.proofs.Writes.{wrote_none}
+use Rattle.text.specs.Text.{table_text, said_text, Printable}
 use Rattle.print_said.specs.Standing.{standing_text}
 
 -- The report of a sound table gives its route count and both needs, and is not refused.
@@ -49,3 +52,14 @@ module _ (t : Table) (l : Lent) (k : Sound t l) (r : Result Standing Refusal) (e
   pub never-refused : (x : Refusal) → r ≡ Err x → ⊥
   unfolding said_plainly
   never-refused x q = let z : ◌≡◌ {A = ℕ} 0 1 = cc counts in omega arith
+
+-- The line of what a load says.
+module _ {S : Type 0} (a : Result S Refused) {o : List ℕ} where
+  pub no_line : (v : S) → a ≡ Ok v → Wrote o 0 (said_text (said_by no_values a)) 0 o
+  unfolding said_by said_text
+  no_line v q = rw q (wrote_none zero-le)
+
+  pub refusal-line : (e : Refused) → a ≡ Err e → {o₁ : List ℕ} {m : ℕ} → Wrote o 0 (said_text (told e)) m o₁
+      → Wrote o 0 (said_text (said_by no_values a)) m o₁
+  unfolding said_by
+  refusal-line e q w = rw q w

@@ -1,9 +1,10 @@
-// The text of why a load is refused, and of a sound table, whose report says what stands: written into a lent buffer.
+// The text of what a load says where it refuses, and of a sound table, whose report says what stands: written into a lent buffer.
 #![tactic(auto)]
 
 ghost use Rattle.std.specs.Prelude.{◌≤◌, length};
-ghost use Rattle.routes.specs.Said.{told};
+ghost use Rattle.routes.specs.Said.{said_by};
 ghost use Rattle.sail.specs.Arrays.{lent_by};
+ghost use Rattle.sail_theory.specs.After.{no_values};
 ghost use Rattle.text.specs.Text.{said_text};
 ghost use Rattle.text_pieces.specs.Wrote.{Wrote};
 ghost use Rattle.print_said.specs.Standing.{standing_text, PageReady};
@@ -25,10 +26,13 @@ pub fn put_standing(t: Table, a: Arrays, out: &mut [u8]) -> usize
     }
 }
 
-// The line of a refusal.
-pub fn put_said(e: Refused, out: &mut [u8]) -> usize
+// The line of a refusal. What is accepted has none.
+pub fn put_said<S: Copy>(a: Result<S, Refused>, out: &mut [u8]) -> usize
     requires { 64 ≤ length out.old }
-    ensures { Wrote out.old 0 (said_text (told e)) result out.new }
+    ensures { Wrote out.old 0 (said_text (said_by no_values a)) result out.new }
 {
-    refusal_text(e.why.number(), e.at, out)
+    match a {
+        Ok(_) => 0,
+        Err(e) => refusal_text(e.why.number(), e.at, out),
+    }
 }

@@ -1,11 +1,14 @@
 -- What is kept of a list is weighed against the chunks there are.
-use mathlib.Core.Path.{◌≡◌, sym, ◌∙◌}
+use mathlib.Core.Path.{◌≡◌, sym, ap, ◌∙◌}
 use mathlib.Core.List.{List}
 use Prim.Native.Nat.{ℕ, ◌*◌, ◌/◌, ◌≤◌, min}
 use native.Mathlib.Omega.{arith}
 use lib.ListN.{length, take}
 use lib.Seq.{length-take-le}
 use borrow.Author.Tests.{le-ltb}
+use Rattle.refusals.specs.Numbers.{number_of}
+use Rattle.refusals.specs.declared.Refusal.{Refusal}
+use Rattle.refusals.proofs.Numbers.{number-above_0}
 use Rattle.routes.specs.Route.{Good}
 use Rattle.routes.specs.Record.{routes_of, Records}
 use Rattle.routes.specs.Said.{refused}
@@ -14,19 +17,25 @@ use Rattle.routes.proofs.Rows.{routes-written, written_listed}
 use Rattle.sail.specs.Lent.{Lent}
 use Rattle.sail.specs.Sizes.{sizes_fault, SizesTold}
 use Rattle.sail.specs.declared.table.Table.{Table}
+use Rattle.sail.proofs.Fitting.{none_is}
 use Rattle.sail_theory.proofs.Judges.{or-said}
 use Rattle.sail_theory.specs.Calls.{terms_of, chunks_fault, load_fault}
 use Rattle.sail_need.specs.Weigh.{terms, Weighs}
 use Rattle.repair_theory.specs.Repair.{kept_of, looked, kept_routes, repair_said}
 use Rattle.repair_theory.proofs.Kept.{kept-good}
 use Rattle.repair_keep.specs.Keep.{Keeps, KeptIn}
-use Rattle.repair_judge.specs.Judge.{KeptIs}
+use Rattle.repair_judge.specs.Judge.{KeptIs, RefusedIs}
 
 module _ (t : Table) (l : Lent) (z : ℕ) (check : SizesTold z t.geometry l) where
   -- the sizes come first
-  pub judge-sizes : (z ≡ 0 → ⊥) → repair_said t l ≡ refused z
+  sizes-said : (z ≡ 0 → ⊥) → repair_said t l ≡ refused z
   unfolding repair_said
-  judge-sizes n = or-said (sizes_fault t.geometry l) z _ check.number n
+  sizes-said n = or-said (sizes_fault t.geometry l) z _ check.number n
+
+  pub judge-sizes : (bytes : List ℕ) (why : Refusal) → z ≡ number_of why → RefusedIs t l bytes why
+  judge-sizes bytes why e =
+      let n : z ≡ 0 → ⊥ = λ h. number-above_0 why (sym e ∙ h) in
+      record { says = sizes-said n ∙ ap refused e; input = λ s. absurd (n (check.number ∙ none_is t.geometry l s)) }
 
   module _ (fits : z ≡ 0) (n : ℕ) (looks : n ≡ min t.count (length l.list / 8)) where
     inside : n ≤ length l.list / 8
@@ -76,10 +85,16 @@ module _ (t : Table) (l : Lent) (z : ℕ) (check : SizesTold z t.geometry l) whe
         unfolding load_fault
         chunks-so = rw (← keeps-so) (weighed ∙ rw (routes, le-ltb (length l.list / 8) (length rs) (omega (arith, k.count, k.few, inside))))
 
-        pub judge-chunks : (f ≡ 0 → ⊥) → repair_said t l ≡ refused f
+        chunks-said : (f ≡ 0 → ⊥) → repair_said t l ≡ refused f
         unfolding repair_said
-        judge-chunks h =
+        chunks-said h =
             rw (sym check.number ∙ fits) (or-said (chunks_fault (terms_of t l) (kept_routes t l)) f _ chunks-so h)
+
+        pub judge-chunks : (why : Refusal) → f ≡ number_of why → RefusedIs t l bytes why
+        judge-chunks why e = record {
+          says = chunks-said (λ h. number-above_0 why (sym e ∙ h)) ∙ ap refused e;
+          input = λ s. rw (← keeps-so) (rw k.count at k.bytes);
+        }
 
         pub judge-kept : f ≡ 0 → KeptIs t l bytes (record { looked = n; kept = m })
         judge-kept h = record {

@@ -18,6 +18,11 @@ pub record KeptIs (t : Table) (l : Lent) (bytes : List ℕ) (k : Kept) : Type 0 
   pub input : take (k.kept * 8) bytes ≡ kept_bytes t l
   pub enough : chunks_fault (terms_of t l) (kept_routes t l) ≡ 0
 
+-- a refusal's number; and if the sizes are right, what is kept is there all the same
+pub record RefusedIs (t : Table) (l : Lent) (bytes : List ℕ) (why : Refusal) : Type 0 where
+  pub says : repair_said t l ≡ refused (number_of why)
+  pub input : Sized t.geometry l → take (length (kept_routes t l) * 8) bytes ≡ kept_bytes t l
+
 abbrev pub Judged : Table → Lent → List ℕ → Result Kept Refusal → Type 0
 Judged t l bytes (Ok k) = KeptIs t l bytes k
-Judged t l bytes (Err why) = repair_said t l ≡ refused (number_of why)
+Judged t l bytes (Err why) = RefusedIs t l bytes why

@@ -7,7 +7,8 @@ ghost use Rattle.sail.specs.Sizes.{Sized};
 ghost use Rattle.sail.specs.Pool.{Chunk};
 ghost use Rattle.sail.specs.Walk.{cell_place, one_of, leaf_said, found_said};
 ghost use Rattle.sail.specs.Contract.{MeetsLookup};
-ghost use Rattle.sail.specs.Word.{Word, FoundIn};
+ghost use Rattle.sail.specs.Word.{Word, FoundIn, said_of};
+ghost use Rattle.sail_lookup.specs.Told.{told_by};
 
 use refusals::Refusal;
 use routes::found::Found;
@@ -69,22 +70,32 @@ pub fn walk(g: Geometry, a: Arrays, addr: u32) -> u32
     5
 }
 
-// What a walk's word says: what was found, or that the walk broke off.
-pub fn found_in(w: u32) -> Option<Found>
-    ensures { FoundIn w result }
+// What a word says: what was found, or the number of a refusal.
+pub fn said(w: u32) -> Result<Found, u8>
+    ensures { told_by result ≡ said_of w }
 {
     if w % 256 != 0 {
-        return None;
+        return Err((w % 256) as u8);
     }
     let reads = w / 256 % 256;
     let hop = (w / 65536) as u16;
     if hop == 0 {
-        return Some(Found { hop: None, reads });
+        return Ok(Found { hop: None, reads });
     }
-    Some(Found {
+    Ok(Found {
         hop: Some(hop),
         reads,
     })
+}
+
+// What a walk's word says: what was found, or that the walk broke off.
+pub fn found_in(w: u32) -> Option<Found>
+    ensures { FoundIn w result }
+{
+    match said(w) {
+        Ok(found) => Some(found),
+        Err(_) => None,
+    }
 }
 
 // The hop of the longest route that covers the address, with the count of cells read.

@@ -20,13 +20,20 @@ impl<'a> Page<'a> {
         self.at += 1;
     }
 
+    pub fn bytes(&mut self, bytes: &[u8])
+        requires { Room self.old bytes.now }
+        ensures { Writes self.old bytes.now self.new }
+    {
+        let end = self.at + bytes.len();
+        self.out[self.at..end].copy_from_slice(bytes);
+        self.at = end;
+    }
+
     pub fn text(&mut self, words: &str)
         requires { Room self.old words.now }
         ensures { Writes self.old words.now self.new }
     {
-        let end = self.at + words.len();
-        self.out[self.at..end].copy_from_slice(words.as_bytes());
-        self.at = end;
+        self.bytes(words.as_bytes());
     }
 
     // A number in decimal: the digits of its tenth part first, so that the highest comes first.
@@ -40,13 +47,21 @@ impl<'a> Page<'a> {
         self.byte(b'0' + (n % 10) as u8);
     }
 
+    // Bytes, and then a number.
+    pub fn numbered(&mut self, bytes: &[u8], n: u64)
+        requires { Room self.old (bytes.now ++ digits_of n) }
+        ensures { Writes self.old (bytes.now ++ digits_of n) self.new }
+    {
+        self.bytes(bytes);
+        self.number(n);
+    }
+
     // Words, and then a number.
     pub fn labelled(&mut self, words: &str, n: u64)
         requires { Room self.old (words.now ++ digits_of n) }
         ensures { Writes self.old (words.now ++ digits_of n) self.new }
     {
-        self.text(words);
-        self.number(n);
+        self.numbered(words.as_bytes(), n);
     }
 
     // An address, as four numbers with points between them.

@@ -1,9 +1,9 @@
--- `sail_lookup::found_in`: what each word says.
-use Rattle.sail.proofs.Words.{says_none, says-hop}
+-- `sail_lookup::found_in`: what a word says that is no refusal's.
+use Rattle.sail_lookup.proofs.Tellings.{found-of, none-of}
 use Rattle.sail_lookup.proofs.found_in.Goals as goal
 
-pub returns-then-hop-eq0 : goal.returns-then-hop-eq0
-returns-then-hop-eq0 c = search says_none
+pub returns-in-Ok : goal.returns-in-Ok
+returns-in-Ok c = found-of _ _ c.said.ensures _ c.in-Ok.is
 
-pub returns : goal.returns
-returns c = search says-hop
+pub returns-in-Err : goal.returns-in-Err
+returns-in-Err c = none-of _ _ c.said.ensures _ c.in-Err.is

@@ -11,7 +11,7 @@ pub judge-requires : goal.judge-requires
 judge-requires c = length-replicate {A = ℕ} 32768 0
 
 pub returns-in-Err : goal.returns-in-Err
-returns-in-Err c = repair-refuses _ _ _ _ c.in-Err.ensures c.number.ensures
+returns-in-Err c = repair-refuses _ _ _ _ c.in-Err.ensures.says c.number.ensures
 
 pub overflow_mul-kept : goal.overflow_mul-kept
 overflow_mul-kept c = omega (arith, input-fits _ _ _ _ c.in-Ok.ensures)

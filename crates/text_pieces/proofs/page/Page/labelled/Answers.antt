@@ -1,9 +1,8 @@
 -- `text_pieces::page::Page::labelled`. Words, and then a number.
-use Rattle.text_pieces.proofs.Pages.{writes-more, room_rest}
 use Rattle.text_pieces.proofs.page.Page.labelled.Goals as goal
 
-pub number-requires : goal.number-requires
-number-requires c = room_rest c.requires c.text.ensures
+pub numbered-requires : goal.numbered-requires
+numbered-requires c = rw c.as_bytes.ensures.value c.requires
 
 pub returns : goal.returns
-returns c = writes-more c.text.ensures c.number.ensures
+returns c = rw c.as_bytes.ensures.value at c.numbered.ensures

@@ -1,7 +1,8 @@
 -- `text_pieces::page::Page::text`. Words.
-use mathlib.Core.Path.{refl, ◌∙◌}
-use Rattle.text_pieces.proofs.Writes.{wrote-all}
 use Rattle.text_pieces.proofs.page.Page.text.Goals as goal
 
+pub bytes-requires : goal.bytes-requires
+bytes-requires c = rw c.as_bytes.ensures.value c.requires
+
 pub returns : goal.returns
-returns c = record { wrote = wrote-all c.requires (c.copy_from_slice.ensures.after ∙ c.as_bytes.ensures.value); same = refl }
+returns c = rw c.as_bytes.ensures.value at c.bytes.ensures

@@ -1,0 +1,2 @@
+-- What a word says, as an answer.
+pub mod Told
