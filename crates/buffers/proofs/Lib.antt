@@ -1,4 +1,5 @@
--- The test of a range, what `fill` leaves, and lists whose part is written over.
+-- The test of a range, what `fill` leaves, lists whose part is written over, and a loop that copies.
 pub mod Ranges
 pub mod Fills
 pub mod Parts
+pub mod Copies

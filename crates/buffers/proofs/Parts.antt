@@ -74,38 +74,3 @@ filled_part l s from to v r f =
     at i (inside a b) = rw (between_in from to i a b)
         (part-in 0 l from (to - from) s room long i a (omega arith) ∙ rw f (get_or-replicate m (i - from) v 0 (omega (arith, length-middle l from (to - from) room))))
     at i (above a b) = rw (between-above from to i b) (part-after 0 l from (to - from) s room long i (omega (arith, r.rises)))
-
--- a source's elements in front, and zeros written over the rest
-pub padded_part : (l x s z : List ℕ) → length s ≤ length l → x ≡ s
-    → z ≡ replicate (length (take (length (x ++ drop (length s) l) - length s) (drop (length s) (x ++ drop (length s) l)))) 0
-    → put_mid (length s) (length (x ++ drop (length s) l) - length s) (x ++ drop (length s) l) z ≡ padded s (length l)
-unfolding padded
-padded_part l x s z h q f =
-    is-tabulate 0 (put_mid n k w z) (length l) _ (length-part 0 w n k z room long ∙ whole) (λ i u. at i u (below? i n))
-  where
-    n : ℕ
-    n = length s
-
-    w : List ℕ
-    w = x ++ drop n l
-
-    k : ℕ
-    k = length w - n
-
-    whole : length w ≡ length l
-    whole = omega (arith, length-append x (drop n l), ap length q, length-drop n l)
-
-    room : n + k ≤ length w
-    room = omega (arith, whole)
-
-    m : ℕ
-    m = length (take k (drop n w))
-
-    long : length z ≡ k
-    long = ap length f ∙ length-replicate m 0 ∙ length-middle w n k room
-
-    at : (i : ℕ) → i < length l → (i < n) ⊎ (n ≤ i) → get_or (put_mid n k w z) i 0 ≡ get_or s i 0
-    at i u (inl b) = part-before 0 w n k z room long i b ∙ get_or-append x (drop n l) 0 i (omega (arith, ap length q)) ∙ rw q
-    at i u (inr b) =
-        part-in 0 w n k z room long i b (omega (arith, whole)) ∙ rw f (get_or-replicate m (i - n) 0 0 (omega (arith, whole, length-middle w n k room)))
-        ∙ sym (get_or-eq_default s 0 b)

@@ -11,11 +11,14 @@ pub fn fill_range(out: &mut [u16], from: usize, to: usize, v: u16)
 }
 
 // The source's bytes, and zeros after them.
+// Stays: a loop. `copy_from_slice` would need memmove here, and the header promises that the archive needs memcpy and memset alone.
 pub fn put(out: &mut [u8], source: &[u8])
     requires { length source.now ≤ length out.old }
     ensures { out.new ≡ padded source.now (length out.old) }
 {
     let n = source.len();
-    out[..n].copy_from_slice(source);
+    for i in 0..n {
+        out[i] = source[i];
+    }
     out[n..].fill(0);
 }

@@ -1,11 +1,11 @@
 // All that is lent, written anew for the routes of an input: nothing of what it held is read.
 #![tactic(auto)]
 
-ghost use Rattle.std.specs.Prelude.{◌≡◌, ◌≤◌, length};
-ghost use Rattle.buffers.specs.Fill.{padded};
+ghost use Rattle.std.specs.Prelude.{◌≡◌};
 ghost use Rattle.sail.specs.Lent.{lent};
 ghost use Rattle.sail_renew.specs.Renew.{Layable, laid_in, Wiped, Renewable, anew};
 
+use buffers::fill::put;
 use sail::geometry::Geometry;
 use sail::table::Table;
 use sail_counts::tick::count_all;
@@ -28,19 +28,6 @@ fn wipe(
     own2.fill(0);
     own3.fill(0);
     long2.fill(0);
-}
-
-// The input's bytes, and zeros after them.
-// Stays: a loop. `copy_from_slice` would need memmove here, and the header promises that the archive needs memcpy and memset alone.
-fn put(list: &mut [u8], input: &[u8])
-    requires { length input.now ≤ length list.old }
-    ensures { list.new ≡ padded input.now (length list.old) }
-{
-    let n = input.len();
-    for i in 0..n {
-        list[i] = input[i];
-    }
-    list[n..].fill(0);
 }
 
 // The list, the cells and the counts of the input's routes, for owners that fit them. Chunks that are not of these owners are

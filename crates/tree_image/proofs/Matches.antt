@@ -1,5 +1,5 @@
 -- Which bits of a node decide, for every word that it may hold, damaged ones too. Above depth 8 the deepest match is the longest inner length whose
--- bit is set. Some depth 8 there are no bits left, so that bit 0 alone matches; bit 15 is looked at there as everywhere.
+-- bit is set. At depth 8 there are no bits left, so that bit 0 alone matches; bit 15 is looked at there as everywhere.
 use Rattle.std.specs.Prelude.{Option, Some, None}
 use mathlib.Core.Path.{◌≡◌, refl, sym, ap, subst, ◌∙◌}
 use mathlib.Core.Logic.{◌⊎◌, inl, inr}
@@ -49,7 +49,7 @@ deepest-longest w v l = go (decided (set 3)) (decided (set 2)) (decided (set 1))
     go (inr a) (inr b) (inr c) (inl d) = rw (a, b, c, at_own d) (subst (λ (b : ℕ). Deepest w v (Some b)) own (match 0 (omega arith) d (above 0 (λ z. c) (λ z. b) (λ z. a))))
     go (inr a) (inr b) (inr c) (inr d) = rw (a, b, c, at_own d) (none (by_length (λ k. set k ≡ false) d c b a))
 
--- "Some depth 8 only internal bit 0 and bit 15 are looked at": bit 0 leads to the hop at the hop base, since no bits are below it
+-- "At depth 8 only internal bit 0 and bit 15 are looked at": bit 0 leads to the hop at the hop base, since no bits are below it
 module _ (ws hs : List ℕ) (a i : ℕ) (best : Option ℕ) where
   pub last-match : last_match ws i best ≡ cond (is_set (bits_of ws i) 0) (Some (base_of ws i)) best
   unfolding better_of try_bit ones
