@@ -9,8 +9,10 @@ mod refused;
 mod say;
 
 use std::io;
+use vectors_shared::onward::Onward;
 
 fn main(rt: HostRuntime) -> io::Result<()> {
+    let rt = Onward(rt);
     maps::figure(&rt)?;
     maps::list_a(&rt)?;
     maps::no_default(&rt)?;

@@ -4,8 +4,10 @@
 mod field;
 
 use std::io;
+use vectors_shared::onward::Onward;
 
 fn main(rt: HostRuntime) -> io::Result<()> {
+    let rt = Onward(rt);
     field::written(&rt)?;
     field::short(&rt)?;
     field::checked(&rt)

@@ -6,8 +6,10 @@ mod lend;
 mod play;
 
 use std::io;
+use vectors_shared::onward::Onward;
 
 fn main(rt: HostRuntime) -> io::Result<()> {
+    let rt = Onward(rt);
     lend::standard(&rt)?;
     lend::small(&rt)
 }

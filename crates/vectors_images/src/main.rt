@@ -10,8 +10,10 @@ mod play;
 mod shown;
 
 use std::io;
+use vectors_shared::onward::Onward;
 
 fn main(rt: HostRuntime) -> io::Result<()> {
+    let rt = Onward(rt);
     built::list_a(&rt)?;
     built::host(&rt)?;
     built::sizes(&rt)?;

@@ -12,8 +12,10 @@ mod samples;
 mod told;
 
 use std::io;
+use vectors_shared::onward::Onward;
 
 fn main(rt: HostRuntime) -> io::Result<()> {
+    let rt = Onward(rt);
     masks::run(&rt)?;
     inputs::run(&rt)?;
     inputs::attached(&rt)?;

@@ -2,4 +2,5 @@
 #![tactic(auto)]
 
 pub mod list;
+pub mod onward;
 pub mod shown;

@@ -7,8 +7,10 @@ mod compare;
 mod orders;
 
 use std::io;
+use vectors_shared::onward::Onward;
 
 fn main(rt: HostRuntime) -> io::Result<()> {
+    let rt = Onward(rt);
     orders::every(&rt)?;
     orders::detour(&rt)?;
     apart::marked(&rt)?;

@@ -9,8 +9,10 @@ mod repairs;
 mod runs;
 
 use std::io;
+use vectors_shared::onward::Onward;
 
 fn main(rt: HostRuntime) -> io::Result<()> {
+    let rt = Onward(rt);
     by_hand::list_a(&rt)?;
     by_hand::states(&rt)?;
     by_hand::damaged(&rt)?;
