@@ -69,7 +69,7 @@ one-answer-run-check = runs.one-answer-run-check
 pub one-answer-tally : (bytes : List ℕ) (x y : Tallied) → IsTally bytes x → IsTally bytes y → x ≡ y
 one-answer-tally = runs.one-answer-tally
 
--- The calls on a table. Of one that changes it: the answer with the state beside it, and all that is lent at exit.
+-- The calls on a table. Of one that changes it: the answer, with the state beside it or in it, and all that is lent at exit.
 module _ (t : Table) (l : Lent) where
   pub one-answer-lookup : (addr : ℕ) (x y : Result Found Refusal) → MeetsLookup t l addr x → MeetsLookup t l addr y → x ≡ y
   one-answer-lookup = lookup.one-answer-lookup t l
