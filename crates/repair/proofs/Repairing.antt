@@ -13,16 +13,15 @@ use Rattle.routes.specs.Said.{accepted, refused}
 use Rattle.routes.specs.declared.Route.{Route}
 use Rattle.sail.specs.Geometry.{bits2, bits3}
 use Rattle.sail.specs.Lent.{Lent}
-use Rattle.sail.specs.declared.geometry.Geometry.{Geometry}
 use Rattle.sail.specs.declared.table.Table.{Table}
 use Rattle.sail.proofs.Fitting.{none_is}
 use Rattle.sail_theory.specs.After.{state_after}
-use Rattle.sail_theory.specs.Calls.{owners_after, no_owners, input_routes, terms_of, chunks_fault, Out, out, lent_of, loaded}
+use Rattle.sail_theory.specs.Calls.{owners_after, no_owners, input_routes, Out, out, lent_of, loaded}
 use Rattle.sail_theory.specs.Facts.{Loadable}
 use Rattle.sail_theory.specs.CallRuns.{Carries}
 use Rattle.sail_theory.proofs.calls.Load.{Fronts, settles, fronts-none}
 use Rattle.sail_load.specs.Answers.{means_loaded}
-use Rattle.repair_theory.specs.Repair.{kept_of, looked, kept_routes, kept_bytes, reloaded, differ, dropped, changes, repair_said, repaired}
+use Rattle.repair_theory.specs.Repair.{looked, kept_routes, kept_bytes, reloaded, differ, dropped, changes, repair_said, repaired}
 use Rattle.repair_theory.proofs.Looks.{kept-few, looks}
 use Rattle.repair_theory.proofs.Judged.{accepted-loadable}
 use Rattle.repair_theory.proofs.Repairs.{carried-routes, kept-carried, reload-is, repair-is}
@@ -30,6 +29,7 @@ use Rattle.repair.specs.Answers.{means_repaired}
 use Rattle.repair_levels.specs.Levels.{Differing, wanted}
 use Rattle.repair_differs.specs.Differs.{fresh_owners, DiffReady}
 use Rattle.repair_judge.specs.Judge.{KeptIs}
+use Rattle.repair_judge.proofs.Judging.{looks-so, keeps-so, input-so}
 use Rattle.repair.specs.Told.{Small, numbers}
 use Rattle.repair_levels.specs.declared.Differs.{Differs}
 use Rattle.repair_judge.specs.declared.Kept.{Kept}
@@ -64,14 +64,20 @@ module _ (t : Table) (l : Lent) where
     unfolding repair_said
     loadable = accepted-loadable t l (rw (none_is t.geometry l k.sized, k.enough))
 
+    looked-so : j.looked ≡ looked t l
+    looked-so = looks-so t l bytes j k.keeping
+
+    kept-input : input ≡ kept_bytes t l
+    kept-input = input-so t l bytes j k.keeping
+
     carries : Carries input rs
-    carries = rw k.input (kept-carried t l (omega (arith, loadable.roomy, loadable.sized.room)))
+    carries = rw kept-input (kept-carried t l (omega (arith, loadable.roomy, loadable.sized.room)))
 
     routes : input_routes input ≡ rs
     routes = carried-routes input rs carries
 
     many : j.kept ≡ length rs
-    many = k.keeps
+    many = keeps-so t l bytes j k.keeping
 
     pub input-fits : j.kept * 8 ≤ 32768
     input-fits = omega (arith, many, loadable.roomy, loadable.sized.room)
@@ -119,8 +125,8 @@ module _ (t : Table) (l : Lent) where
         (differs : Differing d l.first l.second l.third (wanted t.geometry (input_routes input) (fresh_owners t.geometry input n2 n3))) where
       pub numbers_fit : Small j d
       numbers_fit = record {
-        fewer = omega (arith, k.looks, many, kept-few t l);
-        few = omega (arith, k.looks, (looks t l).inside, loadable.sized.room);
+        fewer = omega (arith, looked-so, many, kept-few t l);
+        few = omega (arith, looked-so, (looks t l).inside, loadable.sized.room);
         first = differs.few_first;
         second = differs.few_second;
         third = differs.few_third;
@@ -144,7 +150,7 @@ module _ (t : Table) (l : Lent) where
       third-so = differs.is_third ∙ ap (differ l.third) (ap (λ (x : Lent). x.third) asked-so ∙ sym (ap (λ (x : Lent). x.third) left_so))
 
       dropped-so : j.looked - j.kept ≡ dropped t l
-      dropped-so = rw (k.looks, many)
+      dropped-so = rw (looked-so, many)
 
       told-so : numbers j d ≡ changes t l
       told-so = λ i. dropped-so i ∷ first_so i ∷ second_so i ∷ third-so i ∷ []
@@ -152,6 +158,6 @@ module _ (t : Table) (l : Lent) where
       pub repair-done : (a : Repaired) → means_repaired a ≡ accepted (numbers j d) → (b : Result Table Refused) (u : Table) → u ≡ result_unwrap_or b t
           → (v : Lent) → out (means_loaded b) (state_after t b) v ≡ loaded t l input → out (means_repaired a) u v ≡ repaired t l
       repair-done a says b u put v loads =
-          let r = loads ∙ ap (loaded t l) k.input in
+          let r = loads ∙ ap (loaded t l) kept-input in
           let w = says ∙ ap accepted told-so in
           (λ i. record { said = w i; table = (put ∙ or-before t b ∙ ap (λ (o : Out). o.table) r) i; lent = (r i).lent }) ∙ sym (repair-is t l loadable)

@@ -81,9 +81,9 @@ pub fn repair(
     };
     let j = match judge(t, a, &mut kept) {
         Ok(j) => j,
-        Err(why) => {
+        Err(denied) => {
             return RepairedTable {
-                answer: Repaired::Refused(why.number()),
+                answer: Repaired::Refused(denied.why.number()),
                 table: t,
             };
         }

@@ -1,2 +1,2 @@
--- What judging a repair tells.
+-- What judging a repair asks for, and what it tells.
 pub mod Judge
