@@ -4,10 +4,10 @@
 
 ghost use Rattle.std.specs.Prelude.{◌≡◌, ◌+◌, ◌*◌, ◌%◌, ◌^◌, ◌≤◌, ◌<◌};
 ghost use Rattle.bits.specs.Count.{bit};
-ghost use Rattle.routes.specs.Said.{told};
+ghost use Rattle.numbered.specs.Numbers.{told_so};
 ghost use Rattle.packing.specs.Pack.{pack_none};
 
-use refusals::Refused;
+use numbered::Numbered;
 use routes::Route;
 
 // The low 16 bits of a number.
@@ -25,13 +25,13 @@ pub fn refused_at(n: u8, k: usize) -> u64
 }
 
 // A refusal: its number, and the index of a record, if it has one.
-pub fn refused(e: Refused) -> u64
-    ensures { result ≡ pack_none (told e) }
+pub fn refused<E: Numbered>(e: E) -> u64
+    ensures { result ≡ pack_none (told_so (E.by_number e)) }
 {
-    let number = e.why.number();
-    match e.at {
-        Some(k) => refused_at(number, k),
-        None => u64::from(number),
+    let r = e.by_number();
+    match r.at {
+        Some(k) => refused_at(r.number, k),
+        None => u64::from(r.number),
     }
 }
 

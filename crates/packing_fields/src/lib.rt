@@ -1,18 +1,18 @@
 // The answers of the calls on route fields: a field that was written, and a message that was dealt to a table.
 #![tactic(auto)]
 
-ghost use Rattle.std.specs.Prelude.{◌≡◌, ◌+◌, ◌*◌, ◌%◌, ◌^◌, ◌≤◌};
-ghost use Rattle.fields.specs.Written.{means_written};
+ghost use Rattle.std.specs.Prelude.{[], ◌∷◌, ◌≡◌, ◌+◌, ◌*◌, ◌%◌, ◌^◌, ◌≤◌};
+ghost use Rattle.numbered.specs.Numbers.{said_numbered};
 ghost use Rattle.sail_update.specs.Answers.{means_update};
 ghost use Rattle.packing_fields.specs.Answers.{pack_written, pack_update};
 
 use bits::widen::{byte_to_long, word_to_long};
+use numbered::Numbered;
 use packing::refused;
-use refusals::Refused;
 use sail_update::answers::Update;
 
-pub fn written(a: Result<usize, Refused>) -> u64
-    ensures { result ≡ pack_written (means_written a) }
+pub fn written<E: Numbered>(a: Result<usize, E>) -> u64
+    ensures { result ≡ pack_written (said_numbered E.by_number (λ n. n ∷ []) a) }
 {
     match a {
         Ok(n) => (n as u64) % 4294967296 * 4294967296,

@@ -4,14 +4,16 @@
 ghost use Rattle.std.specs.Prelude.{◌≡◌};
 ghost use Rattle.routes.specs.Answers.{means_found};
 ghost use Rattle.sail.specs.Word.{pack_found};
-ghost use Rattle.tree_build.specs.Built.{means_built};
+ghost use Rattle.numbered.specs.Numbers.{said_numbered};
 ghost use Rattle.tree_formed.specs.Answers.{means_tested};
-ghost use Rattle.tree_theory.specs.Changed.{means_tree_announced, means_tree_withdrawn};
+ghost use Rattle.tree_image.specs.Reads.{used_values};
+ghost use Rattle.tree_theory.specs.Changed.{announced_values};
 ghost use Rattle.packing.specs.Pack.{pack_built};
 ghost use Rattle.packing.specs.ImageAnswers.{pack_image};
 
+use numbered::Numbered;
 use packing::{found_number, refused, used};
-use refusals::{Refusal, Refused};
+use refusals::Refusal;
 use routes::found::Found;
 use tree_image::Used;
 use tree_theory::{Announced, Change};
@@ -25,8 +27,8 @@ pub fn tree_found(a: Result<Found, Refusal>) -> u64
     }
 }
 
-pub fn built(a: Result<Used, Refused>) -> u64
-    ensures { result ≡ pack_built (means_built a) }
+pub fn built<E: Numbered>(a: Result<Used, E>) -> u64
+    ensures { result ≡ pack_built (said_numbered E.by_number used_values a) }
 {
     match a {
         Ok(u) => used(false, u.nodes, u.hops),
@@ -43,23 +45,23 @@ pub fn tested(a: Result<Used, Refusal>) -> u64
     }
 }
 
-pub fn announced(a: Result<Announced, Refusal>) -> u64
-    ensures { result ≡ pack_image (means_tree_announced a) }
+pub fn announced<E: Numbered>(a: Result<Announced, E>) -> u64
+    ensures { result ≡ pack_image (said_numbered E.by_number announced_values a) }
 {
     match a {
         Ok(a) => match a.change {
             Change::Added => used(false, a.used.nodes, a.used.hops),
             Change::Replaced => used(true, a.used.nodes, a.used.hops),
         },
-        Err(e) => u64::from(e.number()),
+        Err(e) => refused(e),
     }
 }
 
-pub fn withdrawn(a: Result<Used, Refusal>) -> u64
-    ensures { result ≡ pack_built (means_tree_withdrawn a) }
+pub fn withdrawn<E: Numbered>(a: Result<Used, E>) -> u64
+    ensures { result ≡ pack_built (said_numbered E.by_number used_values a) }
 {
     match a {
         Ok(left) => used(false, left.nodes, left.hops),
-        Err(e) => u64::from(e.number()),
+        Err(why) => refused(why),
     }
 }

@@ -1,23 +1,24 @@
 // The answers of the calls on a record input: its check, a route, a run, a broadcast; a tally as words.
 #![tactic(auto)]
 
-ghost use Rattle.std.specs.Prelude.{◌≡◌};
-ghost use Rattle.routes.specs.Answers.{means_input, means_got, if_there};
+ghost use Rattle.std.specs.Prelude.{[], ◌∷◌, ◌≡◌};
+ghost use Rattle.bits.specs.Count.{bit};
+ghost use Rattle.numbered.specs.Numbers.{said_numbered};
+ghost use Rattle.routes.specs.Answers.{if_there};
 ghost use Rattle.routes.specs.Said.{accepted};
-ghost use Rattle.runs.specs.Run.{means_run_check};
-ghost use Rattle.broadcast.specs.Cast.{means_cast};
+ghost use Rattle.runs.specs.Run.{run_values};
 ghost use Rattle.packing.specs.Pack.{pack_run, pack_none, pack_route};
 ghost use Rattle.packing_inputs.specs.Casts.{pack_cast};
 
 pub mod tallies;
 
+use numbered::Numbered;
 use packing::{refused, route_number, run_number};
-use refusals::Refused;
 use routes::Route;
 use runs::run::Span;
 
-pub fn input(a: Result<usize, Refused>) -> u64
-    ensures { result ≡ pack_none (means_input a) }
+pub fn input<E: Numbered>(a: Result<usize, E>) -> u64
+    ensures { result ≡ pack_none (said_numbered E.by_number (λ n. n ∷ []) a) }
 {
     match a {
         Ok(_) => 0,
@@ -35,8 +36,8 @@ fn found(r: Option<Route>) -> u64
     }
 }
 
-pub fn got(a: Result<Option<Route>, Refused>) -> u64
-    ensures { result ≡ pack_route (means_got a) }
+pub fn got<E: Numbered>(a: Result<Option<Route>, E>) -> u64
+    ensures { result ≡ pack_route (said_numbered E.by_number if_there a) }
 {
     match a {
         Ok(r) => found(r),
@@ -44,8 +45,8 @@ pub fn got(a: Result<Option<Route>, Refused>) -> u64
     }
 }
 
-pub fn run(a: Result<Span, Refused>) -> u64
-    ensures { result ≡ pack_run (means_run_check a) }
+pub fn run<E: Numbered>(a: Result<Span, E>) -> u64
+    ensures { result ≡ pack_run (said_numbered E.by_number run_values a) }
 {
     match a {
         Ok(r) => run_number(r.start, r.count),
@@ -53,11 +54,11 @@ pub fn run(a: Result<Span, Refused>) -> u64
     }
 }
 
-pub fn cast_word(a: Result<bool, Refused>) -> u64
-    ensures { result ≡ pack_cast (means_cast a) }
+pub fn cast_word<E: Numbered>(a: Result<bool, E>) -> u64
+    ensures { result ≡ pack_cast (said_numbered E.by_number (λ b. bit b ∷ []) a) }
 {
     match a {
         Ok(is_one) => u64::from(is_one) * 256,
-        Err(e) => refused(e),
+        Err(why) => refused(why),
     }
 }

@@ -5,9 +5,9 @@ use Prim.Native.Nat.{ℕ, ◌*◌, ◌^◌, ◌≤◌, ◌<◌}
 use native.Mathlib.Nat.{mod-eq_of_lt}
 use native.Mathlib.Omega.{arith}
 use borrow.Author.Tests.{ne_eqb}
-use Rattle.routes.specs.Said.{Said, accepted, packed, said_by}
-use Rattle.std.specs.Prelude.{Option, Some, None, Ok, unwrap_or}
-use Rattle.basic.specs.Calls.{pack_hop, hop_word, means_basic_found}
+use Rattle.routes.specs.Said.{Said, accepted, packed}
+use Rattle.std.specs.Prelude.{Option, Some, None, unwrap_or}
+use Rattle.basic.specs.Calls.{pack_hop, hop_word, if_hop}
 use Rattle.packing.specs.Pack.{pack_none}
 use Rattle.packing.specs.Unpack.{field, no_values, unpack_none, FitsWord}
 use Rattle.packing_maps.specs.Hops.{hop_values, unpack_hop, HopFits, hop_parts, NoneFits}
@@ -61,7 +61,7 @@ pub word_read : (s : Said) → FitsWord 0 HopFits s → unpack_hop (hop_word s) 
 word_read s f = ap unpack_hop (mod-eq_of_lt (hop-low s f)) ∙ hop-read 0 (omega arith) s f
 
 -- the code's number of a hop, 0 for no route
-pub hop-packed : (o : Option ℕ) (x : ℕ) → x ≡ unwrap_or o 0 → x * 65536 ≡ pack_hop (means_basic_found (Ok o))
-unfolding packed said_by
+pub hop-packed : (o : Option ℕ) (x : ℕ) → x ≡ unwrap_or o 0 → x * 65536 ≡ pack_hop (accepted (if_hop o))
+unfolding packed
 hop-packed None x e = omega arith
 hop-packed (Some h) x e = omega arith

@@ -1,16 +1,38 @@
 -- A repair's number is read back, with the route count; and its words hold what it told.
-use mathlib.Core.Path.{◌≡◌, refl, ◌∙◌}
+use mathlib.Core.Path.{◌≡◌, refl, ap, ◌∙◌}
+use mathlib.Core.Bool.{Bool, true, false, cond}
 use mathlib.Core.Logic.{◌⊎◌, inl, inr}
 use mathlib.Core.List.{List, [], ◌∷◌}
 use Prim.Native.Nat.{ℕ, ◌*◌, ◌^◌, ◌≤◌, ◌<◌}
 use native.Mathlib.Omega.{arith}
 use lib.ListN.{length, set}
 use borrow.Author.Tests.{eq-eqb, ne_eqb}
+use Rattle.std.specs.Prelude.{Option, Some, None, Result, Ok, Err, eqb}
+use Rattle.refusals.specs.Numbers.{fault_of}
+use Rattle.refusals.specs.declared.Refusal.{Refusal}
+use Rattle.refusals.specs.declared.Refusal.TheVariants.{Size}
+use Rattle.refusals.proofs.Numbers.{number-not_0}
 use Rattle.bits.proofs.Bools.{equal?}
-use Rattle.routes.specs.Said.{accepted, refused}
+use Rattle.routes.specs.Said.{Said, accepted, refused, refused_at, refused_by}
+use Rattle.numbered.specs.declared.ByNumber.{ByNumber}
+use Rattle.numbered.specs.Numbers.{number_alone, told_so, said_numbered}
 use Rattle.sail.specs.Word.{packed}
 use Rattle.packing.specs.Unpack.{field, refusal_of, unpacked, no_values, unpack_none, count_of}
-use Rattle.packing_repairs.specs.Repairs.{pack_count, words_fault}
+use Rattle.packing_repairs.specs.Repairs.{pack_count, words_fault, words_said}
+
+-- What is told of sizes and words: a refusal of the sizes stays as it was, and then it is the number of words that is told.
+pub refusal-stays : (e : ByNumber) (n : ℕ) → told_so e ≡ words_said (told_so e) n
+refusal-stays e n = go e.at
+  where
+    go : (o : Option ℕ) → refused_by e.number o ≡ words_said (refused_by e.number o) n
+    go None = refl
+    go (Some k) = refl
+
+pub words_wrong-told : (n : ℕ) (e : ByNumber) → (n ≡ 4 → ⊥) → e ≡ number_alone Size → told_so e ≡ words_said (accepted []) n
+words_wrong-told n e h is = rw (is, ne_eqb n 4 h)
+
+pub words_right-told : (n : ℕ) → n ≡ 4 → accepted [] ≡ words_said (accepted []) n
+words_right-told n h = rw (eq-eqb n 4 h)
 
 module _ (z n : ℕ) where
   pub sizes-first : (z ≡ 0 → ⊥) → z ≡ words_fault z n
@@ -25,6 +47,31 @@ module _ (z n : ℕ) where
     pub words_right : n ≡ 4 → 0 ≡ words_fault z n
     unfolding words_fault
     words_right h = rw (eq-eqb z 0 e, eq-eqb n 4 h)
+
+-- Of one of the refusals, whose number is not 0, the number of what is told is `words_fault`.
+abbrev number_told : Said → ℕ
+number_told (accepted vs) = 0
+number_told (refused n) = n
+number_told (refused_at n k) = n
+
+words-number : (b : Bool) → number_told (cond b (accepted []) (refused 2)) ≡ cond b 0 2
+words-number true = refl
+words-number false = refl
+
+module _ {A : Type 0} (values : A → List ℕ) where
+  fault-told : (r : Result A Refusal) → fault_of r ≡ number_told (said_numbered number_alone values r)
+  unfolding said_numbered
+  fault-told (Ok v) = refl
+  fault-told (Err why) = refl
+
+  told-fault : (s : Result A Refusal) (n : ℕ) → number_told (words_said (said_numbered number_alone values s) n) ≡ words_fault (fault_of s) n
+  unfolding said_numbered words_fault
+  told-fault (Ok v) n = words-number (eqb n 4)
+  told-fault (Err why) n = rw (number-not_0 why)
+
+  pub fault_of_words : (s r : Result A Refusal) (n : ℕ) → said_numbered number_alone values r ≡ words_said (said_numbered number_alone values s) n
+      → fault_of r ≡ words_fault (fault_of s) n
+  fault_of_words s r n e = fault-told r ∙ (ap number_told e ∙ told-fault s n)
 
 -- nothing is wrong: not with the sizes, and there are four words
 pub fault-none : (z n : ℕ) → words_fault z n ≡ 0 → (z ≡ 0) × (n ≡ 4)

@@ -1,21 +1,22 @@
 // The answer of a repair: a number, and four words beside it.
 #![tactic(auto)]
 
-ghost use Rattle.std.specs.Prelude.{◌≡◌, length};
-ghost use Rattle.refusals.specs.Numbers.{fault_of};
+ghost use Rattle.std.specs.Prelude.{[], ◌≡◌, length};
+ghost use Rattle.numbered.specs.Numbers.{said_numbered};
 ghost use Rattle.repair.specs.Answers.{means_repaired};
-ghost use Rattle.packing_repairs.specs.Repairs.{pack_count, told_in, words_fault};
+ghost use Rattle.packing_repairs.specs.Repairs.{pack_count, told_in, words_said};
 
+use numbered::Numbered;
 use refusals::Refusal;
 use repair::repair::Repaired;
 
 // What is wrong with the sizes, which were checked, and then with the number of words.
-pub fn check_words(sizes: Result<(), Refusal>, n: usize) -> Result<(), Refusal>
-    ensures { fault_of result ≡ words_fault (fault_of sizes) n }
+pub fn check_words<E: Numbered>(sizes: Result<(), E>, n: usize) -> Result<(), E>
+    ensures { said_numbered E.by_number (λ _. []) result ≡ words_said (said_numbered E.by_number (λ _. []) sizes) n }
 {
     sizes?;
     if n != 4 {
-        return Err(Refusal::Size);
+        return Err(E::from(Refusal::Size));
     }
     Ok(())
 }

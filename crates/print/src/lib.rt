@@ -59,7 +59,7 @@ fn put_loaded(input: &[u8], out: &mut [u8]) -> usize
             },
             out,
         ),
-        Err(e) => put_said::<Table>(Err(e), out),
+        Err(e) => put_said::<Table, _>(Err(e), out),
     }
 }
 

@@ -6,10 +6,11 @@ use native.Mathlib.Omega.{arith}
 use lib.ListN.{length}
 use Rattle.std.specs.Prelude.{Result, Ok, Err}
 use Rattle.refusals.specs.declared.Refusal.{Refusal}
-use Rattle.refusals.specs.declared.Refused.{Refused}
 use Rattle.standing.specs.Cells.{need}
 use Rattle.routes.specs.Record.{routes_of}
-use Rattle.routes.specs.Said.{accepted, told, said_by, said_plainly}
+use Rattle.routes.specs.Said.{accepted, said_plainly}
+use Rattle.numbered.specs.declared.ByNumber.{ByNumber}
+use Rattle.numbered.specs.Numbers.{told_so, said_numbered}
 use Rattle.sail.specs.Lent.{Lent}
 use Rattle.sail.specs.Sound.{Sound, standing}
 use Rattle.sail.specs.declared.table.Table.{Table}
@@ -54,12 +55,12 @@ module _ (t : Table) (l : Lent) (k : Sound t l) (r : Result Standing Refusal) (e
   never-refused x q = let z : ◌≡◌ {A = ℕ} 0 1 = cc counts in omega arith
 
 -- The line of what a load says.
-module _ {S : Type 0} (a : Result S Refused) {o : List ℕ} where
-  pub no_line : (v : S) → a ≡ Ok v → Wrote o 0 (said_text (said_by no_values a)) 0 o
-  unfolding said_by said_text
+module _ {S E : Type 0} (by_number : E → ByNumber) (a : Result S E) {o : List ℕ} where
+  pub no_line : (v : S) → a ≡ Ok v → Wrote o 0 (said_text (said_numbered by_number no_values a)) 0 o
+  unfolding said_numbered said_text
   no_line v q = rw q (wrote_none zero-le)
 
-  pub refusal-line : (e : Refused) → a ≡ Err e → {o₁ : List ℕ} {m : ℕ} → Wrote o 0 (said_text (told e)) m o₁
-      → Wrote o 0 (said_text (said_by no_values a)) m o₁
-  unfolding said_by
+  pub refusal-line : (e : E) → a ≡ Err e → {o₁ : List ℕ} {m : ℕ} → Wrote o 0 (said_text (told_so (by_number e))) m o₁
+      → Wrote o 0 (said_text (said_numbered by_number no_values a)) m o₁
+  unfolding said_numbered
   refusal-line e q w = rw q w

@@ -2,14 +2,14 @@
 #![tactic(auto)]
 
 ghost use Rattle.std.specs.Prelude.{◌≤◌, length};
-ghost use Rattle.routes.specs.Said.{said_by};
+ghost use Rattle.numbered.specs.Numbers.{said_numbered};
 ghost use Rattle.sail.specs.Arrays.{lent_by};
 ghost use Rattle.sail_theory.specs.After.{no_values};
 ghost use Rattle.text.specs.Text.{said_text};
 ghost use Rattle.text_pieces.specs.Wrote.{Wrote};
 ghost use Rattle.print_said.specs.Standing.{standing_text, PageReady};
 
-use refusals::Refused;
+use numbered::Numbered;
 use sail::arrays::Arrays;
 use sail::table::Table;
 use sail_sound::report::report;
@@ -27,12 +27,15 @@ pub fn put_standing(t: Table, a: Arrays, out: &mut [u8]) -> usize
 }
 
 // The line of a refusal. What is accepted has none.
-pub fn put_said<S: Copy>(a: Result<S, Refused>, out: &mut [u8]) -> usize
+pub fn put_said<S: Copy, E: Numbered>(a: Result<S, E>, out: &mut [u8]) -> usize
     requires { 64 ≤ length out.old }
-    ensures { Wrote out.old 0 (said_text (said_by no_values a)) result out.new }
+    ensures { Wrote out.old 0 (said_text (said_numbered E.by_number no_values a)) result out.new }
 {
     match a {
         Ok(_) => 0,
-        Err(e) => refusal_text(e.why.number(), e.at, out),
+        Err(e) => {
+            let r = e.by_number();
+            refusal_text(r.number, r.at, out)
+        }
     }
 }

@@ -2,14 +2,18 @@
 use basic_build::build;
 use basic_lookup::lookup;
 use basic_many::lookup_many;
+use numbered::Numbered;
 use refusals::Refused;
 use std::io;
 use vectors_shared::shown::Numbers;
 
-fn answered(rt: &impl Print, word: &str, answer: Result<(), Refused>) -> io::Result<()> {
+pub fn answered<E: Numbered>(rt: &impl Print, word: &str, answer: Result<(), E>) -> io::Result<()> {
     match answer {
         Ok(()) => println!(rt; "{word} done"),
-        Err(e) => println!(rt; "{word} {e}"),
+        Err(why) => {
+            let e = why.by_number();
+            println!(rt; "{word} {e}")
+        }
     }
 }
 

@@ -1,5 +1,6 @@
 // What the calls on an image answer, and what its arrays hold: of each node the bits in hexadecimal, and both bases.
-use refusals::{Refusal, Refused};
+use numbered::Numbered;
+use refusals::Refusal;
 use routes::found::Found;
 use std::io;
 use tree_image::Used;
@@ -7,18 +8,18 @@ use tree_theory::{Announced, Change};
 use vectors_shared::shown::Numbers;
 
 // A call, and how much is then in use, or why it is refused.
-fn used(rt: &impl Print, call: &str, answer: Result<Used, Refusal>) -> io::Result<()> {
+fn used<E: Numbered>(rt: &impl Print, call: &str, answer: Result<Used, E>) -> io::Result<()> {
     match answer {
         Ok(Used { nodes, hops }) => println!(rt; "{call} nodes {nodes} hops {hops}"),
-        Err(why) => println!(rt; "{call} {why}"),
+        Err(why) => {
+            let e = why.by_number();
+            println!(rt; "{call} {e}")
+        }
     }
 }
 
-pub fn built(rt: &impl Print, answer: Result<Used, Refused>) -> io::Result<()> {
-    match answer {
-        Ok(in_use) => used(rt, "image", Ok(in_use)),
-        Err(e) => println!(rt; "image {e}"),
-    }
+pub fn built<E: Numbered>(rt: &impl Print, answer: Result<Used, E>) -> io::Result<()> {
+    used(rt, "image", answer)
 }
 
 pub fn found(rt: &impl Print, answer: Result<Found, Refusal>) -> io::Result<()> {
@@ -38,25 +39,25 @@ pub fn tested(rt: &impl Print, answer: Result<Used, Refusal>) -> io::Result<()> 
     used(rt, "test", answer)
 }
 
-pub fn announced(rt: &impl Print, answer: Result<Announced, Refusal>) -> io::Result<()> {
+pub fn announced<E: Numbered>(rt: &impl Print, answer: Result<Announced, E>) -> io::Result<()> {
     match answer {
         Ok(
             Announced {
                 change: Change::Added,
                 used: in_use,
             },
-        ) => used(rt, "announce added", Ok(in_use)),
+        ) => used::<E>(rt, "announce added", Ok(in_use)),
         Ok(
             Announced {
                 change: Change::Replaced,
                 used: in_use,
             },
-        ) => used(rt, "announce replaced", Ok(in_use)),
+        ) => used::<E>(rt, "announce replaced", Ok(in_use)),
         Err(why) => used(rt, "announce", Err(why)),
     }
 }
 
-pub fn withdrawn(rt: &impl Print, answer: Result<Used, Refusal>) -> io::Result<()> {
+pub fn withdrawn<E: Numbered>(rt: &impl Print, answer: Result<Used, E>) -> io::Result<()> {
     used(rt, "withdraw", answer)
 }
 

@@ -1,5 +1,5 @@
 // What each call says, and the state after it.
-use refusals::{Refusal, Refused};
+use numbered::{ByNumber, Numbered};
 use repair::repair::{Repaired, RepairedTable};
 use routes::found::Found;
 use sail::table::Table;
@@ -16,27 +16,26 @@ fn turn(table: Table, call: Call, answer: Answer) -> Turn {
 }
 
 // Why a call is refused.
-fn off(e: Refused) -> Answer {
-    let number = e.why.number();
+fn off(e: ByNumber) -> Answer {
     match e.at {
-        Some(k) => Answer::RefusedAt(number, k),
-        None => Answer::Refused(number),
+        Some(k) => Answer::RefusedAt(e.number, k),
+        None => Answer::Refused(e.number),
     }
 }
 
 // A new state, or why there is none: then the state stays.
-fn new_state(t: Table, call: Call, r: Result<Table, Refused>) -> Turn {
+fn new_state<E: Numbered>(t: Table, call: Call, r: Result<Table, E>) -> Turn {
     match r {
         Ok(table) => turn(table, call, Answer::Done),
-        Err(e) => turn(t, call, off(e)),
+        Err(e) => turn(t, call, off(e.by_number())),
     }
 }
 
-pub fn made(t: Table, r: Result<Table, Refusal>) -> Turn {
-    new_state(t, Call::Make, r.map_err(|why| why.into()))
+pub fn made<E: Numbered>(t: Table, r: Result<Table, E>) -> Turn {
+    new_state(t, Call::Make, r)
 }
 
-pub fn loaded(t: Table, r: Result<Table, Refused>) -> Turn {
+pub fn loaded<E: Numbered>(t: Table, r: Result<Table, E>) -> Turn {
     new_state(t, Call::Load, r)
 }
 
@@ -75,18 +74,18 @@ pub fn repaired(r: RepairedTable) -> Turn {
     turn(r.table, Call::Repair, answer)
 }
 
-pub fn found(answer: Result<Found, Refusal>) -> Said {
+pub fn found<E: Numbered>(answer: Result<Found, E>) -> Said {
     let answer = match answer {
         Ok(Found { hop, reads: cells }) => match hop {
             Some(hop) => Answer::Hop { hop, cells },
             None => Answer::NoRoute { cells },
         },
-        Err(why) => Answer::Refused(why.number()),
+        Err(why) => off(why.by_number()),
     };
     Said::Called(Call::Lookup, answer)
 }
 
-pub fn reported(answer: Result<Standing, Refusal>) -> Said {
+pub fn reported<E: Numbered>(answer: Result<Standing, E>) -> Said {
     let answer = match answer {
         Ok(
             Standing {
@@ -99,7 +98,7 @@ pub fn reported(answer: Result<Standing, Refusal>) -> Said {
             second,
             third,
         },
-        Err(why) => Answer::Refused(why.number()),
+        Err(why) => off(why.by_number()),
     };
     Said::Called(Call::Report, answer)
 }

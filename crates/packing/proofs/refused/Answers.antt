@@ -1,12 +1,11 @@
 -- One law for each case of the index.
-use native.Mathlib.Omega.{arith}
 use Rattle.routes.specs.Said.{packed}
 use Rattle.packing.proofs.refused.Goals as goal
 
 pub returns-in-Some : goal.returns-in-Some
 unfolding packed
-returns-in-Some c = rw c.in-Some.is (omega (arith, c.refused_at.ensures, c.number-number.ensures))
+returns-in-Some g c = rw (← c.by_number-r.ensures, c.in-Some.is) c.refused_at.ensures
 
 pub returns-in-None : goal.returns-in-None
 unfolding packed
-returns-in-None c = rw c.in-None.is (omega (arith, c.from.ensures, c.number-number.ensures))
+returns-in-None g c = rw (← c.by_number-r.ensures, c.in-None.is) c.from.ensures

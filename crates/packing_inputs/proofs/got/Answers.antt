@@ -1,11 +1,11 @@
 -- One law for each case of the answer.
-use Rattle.routes.specs.Said.{said_by}
+use Rattle.numbered.specs.Numbers.{said_numbered}
 use Rattle.packing.proofs.Refusals.{packs-err}
 use Rattle.packing_inputs.proofs.got.Goals as goal
 
 pub returns-in-Ok : goal.returns-in-Ok
-unfolding said_by
-returns-in-Ok c = rw c.in-Ok.is c.found.ensures
+unfolding said_numbered
+returns-in-Ok g c = rw c.in-Ok.is c.found.ensures
 
 pub returns-in-Err : goal.returns-in-Err
-returns-in-Err c = rw (c.refused.ensures, c.in-Err.is) (packs-err _ _ _)
+returns-in-Err g c = rw (c.refused.ensures, c.in-Err.is) (packs-err _ _ _ _)

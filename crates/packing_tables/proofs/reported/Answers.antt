@@ -1,12 +1,13 @@
 -- `packing_tables::reported`. Each answer of the report has its word.
 use native.Mathlib.Omega.{arith}
-use Rattle.routes.specs.Said.{packed, said_plainly}
+use Rattle.routes.specs.Said.{packed}
+use Rattle.numbered.specs.Numbers.{said_numbered}
+use Rattle.packing.proofs.Refusals.{packs-err}
 use Rattle.packing_tables.proofs.reported.Goals as goal
 
 pub returns-in-Ok : goal.returns-in-Ok
-unfolding said_plainly packed
-returns-in-Ok c = rw c.in-Ok.is (omega (arith, c.report_number.ensures))
+unfolding said_numbered packed
+returns-in-Ok g c = rw c.in-Ok.is (omega (arith, c.report_number.ensures))
 
 pub returns-in-Err : goal.returns-in-Err
-unfolding said_plainly packed
-returns-in-Err c = rw c.in-Err.is (omega (arith, c.from.ensures, c.number.ensures))
+returns-in-Err g c = rw (c.refused.ensures, c.in-Err.is) (packs-err _ _ _ _)

@@ -1,6 +1,10 @@
 -- `print::put_loaded`: what load says and leaves is what is printed, and a table that was loaded is sound.
 use native.Mathlib.Omega.{arith}
+use Rattle.std.specs.Prelude.{Err}
+use Rattle.numbered.proofs.Numbers.{said-with_index}
 use Rattle.sail.specs.Lent.{lent}
+use Rattle.sail.specs.declared.table.Table.{Table}
+use Rattle.sail_theory.specs.After.{no_values}
 use Rattle.print.proofs.Ways.{done-sound, done-wrote, refused-wrote}
 use Rattle.print.proofs.put_loaded.Goals as goal
 
@@ -15,4 +19,6 @@ returns-in-Ok c = done-wrote _ _ (lent _ _ _ _ _ _ _ _) c.load.ensures _ c.in-Ok
 
 -- and of a refusal
 pub returns-in-Err : goal.returns-in-Err
-returns-in-Err c = refused-wrote _ _ (lent _ _ _ _ _ _ _ _) c.load.ensures _ c.in-Err.is c.put_said.ensures
+returns-in-Err c =
+    refused-wrote _ _ (lent _ _ _ _ _ _ _ _) c.load.ensures _ c.in-Err.is
+    (rw (said-with_index {A = Table} no_values (Err c.in-Err.e)) at c.put_said.ensures)

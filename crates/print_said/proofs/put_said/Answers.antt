@@ -3,7 +3,7 @@ use Rattle.print_said.proofs.Reports.{no_line, refusal-line}
 use Rattle.print_said.proofs.put_said.Goals as goal
 
 pub returns-in-Ok : goal.returns-in-Ok
-returns-in-Ok g c = no_line _ _ c.in-Ok.is
+returns-in-Ok g c = no_line _ _ _ c.in-Ok.is
 
 pub returns-in-Err : goal.returns-in-Err
-returns-in-Err g c = refusal-line _ _ c.in-Err.is (rw c.number.ensures at c.refusal_text.ensures)
+returns-in-Err g c = refusal-line _ _ _ c.in-Err.is (rw c.by_number-r.ensures at c.refusal_text.ensures)
