@@ -1,5 +1,5 @@
-// A refusal by its number. A call's answer holds one of `refusals`; an answer that was kept or sent as numbers holds any number, and whatever packs or
-// prints an answer takes both.
+// A refusal by its number. A call's answer holds one of `refusals`; an answer that was kept or sent as numbers may hold any number, and
+// whatever packs or prints an answer takes both.
 #![tactic(auto)]
 
 ghost use Rattle.std.specs.Prelude.{◌≡◌};

@@ -20,7 +20,7 @@ use Rattle.sail.specs.Word.{packed}
 use Rattle.packing.specs.Unpack.{field, refusal_of, unpacked, no_values, unpack_none, count_of}
 use Rattle.packing_repairs.specs.Repairs.{pack_count, words_fault, words_said}
 
--- What is told of sizes and words: a refusal of the sizes stays as it was, and then it is the number of words that is told.
+-- What is reported of sizes and words: a refusal of the sizes stays as it was; else the number of words decides.
 pub refusal-stays : (e : ByNumber) (n : ℕ) → told_so e ≡ words_said (told_so e) n
 refusal-stays e n = go e.at
   where

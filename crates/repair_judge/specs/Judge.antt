@@ -36,7 +36,7 @@ abbrev pub KeptToo : Table → List ℕ → ℕ → ℕ → List ℕ → ℕ →
 KeptToo t s n2 n3 bytes f None = ⊥
 KeptToo t s n2 n3 bytes f (Some k) = ListKept t s n2 n3 bytes f k
 
--- of a list alone, whatever its size
+-- of a list alone, of any size up to 32,768 bytes
 abbrev pub ListJudged : Table → List ℕ → ℕ → ℕ → List ℕ → Result Kept Denied → Type 0
 ListJudged t s n2 n3 bytes (Ok k) = ListKept t s n2 n3 bytes 0 k
 ListJudged t s n2 n3 bytes (Err d) = KeptToo t s n2 n3 bytes (number_of d.why) d.kept

@@ -35,7 +35,7 @@ impl From<Refusal> for Denied {
     }
 }
 
-// What is kept of a list of any size, into `kept`; 7 or 8 if n2 and n3 chunks are too few for it.
+// What is kept of a list of any size up to 32,768 bytes, into `kept`; 7 or 8 if n2 and n3 chunks are too few for it.
 pub fn judge_list(
     t: Table,
     list: &[u8],

@@ -3,7 +3,7 @@ ghost use Rattle.std.specs.Prelude.{◌<◌};
 
 // A drawn number.
 #[derive(Clone, Copy, Default)]
-pub struct Draw(pub u32);
+pub struct Draw(pub u64);
 
 #[derive(Clone, Copy)]
 pub struct Prefix {
@@ -12,13 +12,15 @@ pub struct Prefix {
 }
 
 impl Draw {
-    // The number after it.
-    pub fn next(self) -> Draw {
-        Draw(self.0.wrapping_mul(1664525).wrapping_add(1013904223))
+    // The number after it. All are below 2^32.
+    pub fn next(self) -> Draw
+        ensures { result.0 < 4294967296 }
+    {
+        Draw((self.0 % 4294967296 * 1664525 + 1013904223) % 4294967296)
     }
 
     // The number after n more.
-    pub fn after(self, n: u32) -> Draw {
+    pub fn after(self, n: u64) -> Draw {
         let mut x = self;
         for _ in 0..n {
             x = x.next();
@@ -27,7 +29,7 @@ impl Draw {
     }
 
     // One of the first n numbers. The lower bits are left out: they repeat soon.
-    pub fn pick(self, n: u32) -> u32
+    pub fn pick(self, n: u64) -> u64
         requires { 0 < n }
         ensures { result < n }
     {
@@ -35,8 +37,8 @@ impl Draw {
     }
 
     // An address at most 65,535 past the i-th.
-    pub fn near(self, i: u32) -> u32 {
-        base(i).wrapping_add(self.pick(65536))
+    pub fn near(self, i: u64) -> u32 {
+        base(i).wrapping_add(self.pick(65536) as u32)
     }
 
     // A length and one of the addresses, with the bits after the length as they are. One length in 34 is 33.
@@ -75,11 +77,11 @@ const BASES: [u32; 8] = [
 ];
 
 // The i-th of them, and so on from the first again.
-pub fn base(i: u32) -> u32 {
+pub fn base(i: u64) -> u32 {
     BASES[i as usize % 8]
 }
 
 // A sum over numbers in their order.
-pub fn mix(sum: u32, v: u32) -> u32 {
-    sum.wrapping_mul(31).wrapping_add(v)
+pub fn mix(sum: u64, v: u64) -> u64 {
+    (sum % 4294967296 * 31 + v % 4294967296) % 4294967296
 }

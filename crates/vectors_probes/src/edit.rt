@@ -42,11 +42,11 @@ pub struct Edit {
 }
 
 // A number's last byte, and its last two.
-fn byte(v: u32) -> u8 {
+pub fn byte(v: u32) -> u8 {
     (v % 256) as u8
 }
 
-fn half(v: u32) -> u16 {
+pub fn half(v: u32) -> u16 {
     (v % 65536) as u16
 }
 

@@ -49,14 +49,14 @@ fn deeper(list: &[u8], n: usize, p: u32, addr: u32) -> bool
 }
 
 // Hop and cells as one number: four times the hop, which is 0 for no route, and the cells.
-pub fn answer(t: Table, list: &[u8], addr: u32) -> u32 {
+pub fn answer(t: Table, list: &[u8], addr: u32) -> u64 {
     let g = t.geometry;
     let n = standing(t, list);
     let hop = match longest(list, n, addr) {
-        Some(r) => u32::from(r.hop),
+        Some(r) => u64::from(r.hop),
         None => 0,
     };
-    let second = u32::from(deeper(list, n, g.p1, addr));
-    let third = u32::from(deeper(list, n, g.p2, addr));
+    let second = u64::from(deeper(list, n, g.p1, addr));
+    let third = u64::from(deeper(list, n, g.p2, addr));
     hop * 4 + 1 + second + third
 }

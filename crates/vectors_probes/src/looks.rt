@@ -13,10 +13,10 @@ use std::fmt;
 // How many lookups there were, how many of them found a hop and how many differ; and a sum over the answers.
 #[derive(Clone, Copy, Default)]
 pub struct Sums {
-    pub looked: u32,
-    pub found: u32,
-    pub differ: u32,
-    pub sum: u32,
+    pub looked: u64,
+    pub found: u64,
+    pub differ: u64,
+    pub sum: u64,
 }
 
 impl fmt::Display for Sums {
@@ -32,18 +32,18 @@ impl fmt::Display for Sums {
 }
 
 impl Sums {
-    fn take(&mut self, got: u32, want: u32) {
+    fn take(&mut self, got: u64, want: u64) {
         self.looked = self.looked.wrapping_add(1);
-        self.found = self.found.wrapping_add(u32::from(4 <= got));
-        self.differ = self.differ.wrapping_add(u32::from(got != want));
+        self.found = self.found.wrapping_add(u64::from(4 <= got));
+        self.differ = self.differ.wrapping_add(u64::from(got != want));
         self.sum = mix(self.sum, got);
     }
 }
 
 // Hop and cells as one number, as the linear search has them; 0 for a refusal.
-fn number(found: Result<Found, Refusal>) -> u32 {
+fn number(found: Result<Found, Refusal>) -> u64 {
     match found {
-        Ok(found) => (u32::from(found.hop.unwrap_or(0)) * 4).wrapping_add(found.reads),
+        Ok(found) => u64::from(found.hop.unwrap_or(0)) * 4 + u64::from(found.reads),
         Err(_) => 0,
     }
 }
@@ -68,7 +68,7 @@ fn edge(r: Route, k: usize) -> u32 {
 }
 
 // By turns one of the eight addresses that prefixes are drawn of, and a drawn one near it.
-fn drawn(seed: Draw, j: u32) -> u32 {
+fn drawn(seed: Draw, j: u64) -> u32 {
     let i = j / 2;
     if j % 2 == 0 {
         return base(i);

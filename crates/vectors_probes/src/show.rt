@@ -5,7 +5,7 @@ use std::io;
 use vectors_shared::shown::Hex;
 
 // A sum over an array, every element in its order.
-fn sum<T: Copy + Into<u32>>(list: &[T]) -> u32 {
+fn sum<T: Copy + Into<u64>>(list: &[T]) -> u64 {
     list.iter().fold(0, |sum, v| mix(sum, (*v).into()))
 }
 

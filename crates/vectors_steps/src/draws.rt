@@ -55,7 +55,7 @@ pub struct Draws {
 }
 
 // The prefix of a change: a standing one, which x picks, where the kind says so and there is one; otherwise a drawn one.
-fn chosen(t: Table, list: &[u8], kind: u32, x: Draw) -> Prefix {
+fn chosen(t: Table, list: &[u8], kind: u64, x: Draw) -> Prefix {
     let n = linear::standing(t, list);
     if kind < 6 || n == 0 {
         return x.prefix();

@@ -77,7 +77,7 @@ impl Step {
             b'k' => Some(Step::Keep),
             b'd' => Some(Step::Draw {
                 changes: first,
-                from: Draw(second),
+                from: Draw(u64::from(second)),
             }),
             b'n' => Some(Step::Numbers),
             _ => None,
