@@ -18,8 +18,8 @@ fn turn(table: Table, call: Call, answer: Answer) -> Turn {
 // Why a call is refused.
 fn off(e: ByNumber) -> Answer {
     match e.at {
-        Some(k) => Answer::RefusedAt(e.number, k),
-        None => Answer::Refused(e.number),
+        Some(k) => Answer::RefusedAt(e.number.into(), k as u64),
+        None => Answer::Refused(e.number.into()),
     }
 }
 
@@ -43,7 +43,7 @@ pub fn announced(r: Announced) -> Turn {
     let answer = match r.answer {
         Announce::Added(cleared) => Answer::Added { cleared },
         Announce::Replaced(cleared) => Answer::Replaced { cleared },
-        Announce::Refused(number) => Answer::Refused(number),
+        Announce::Refused(number) => Answer::Refused(number.into()),
     };
     turn(r.table, Call::Announce, answer)
 }
@@ -51,7 +51,7 @@ pub fn announced(r: Announced) -> Turn {
 pub fn withdrawn(r: Withdrawn) -> Turn {
     let answer = match r.answer {
         Withdraw::Removed(cleared) => Answer::Removed { cleared },
-        Withdraw::Refused(number) => Answer::Refused(number),
+        Withdraw::Refused(number) => Answer::Refused(number.into()),
     };
     turn(r.table, Call::Withdraw, answer)
 }
@@ -64,12 +64,12 @@ pub fn repaired(r: RepairedTable) -> Turn {
             second,
             third,
         } => Answer::Repaired {
-            dropped,
-            first,
-            second,
-            third,
+            dropped: dropped.into(),
+            first: first.into(),
+            second: second.into(),
+            third: third.into(),
         },
-        Repaired::Refused(number) => Answer::Refused(number),
+        Repaired::Refused(number) => Answer::Refused(number.into()),
     };
     turn(r.table, Call::Repair, answer)
 }
@@ -77,8 +77,13 @@ pub fn repaired(r: RepairedTable) -> Turn {
 pub fn found<E: Numbered>(answer: Result<Found, E>) -> Said {
     let answer = match answer {
         Ok(Found { hop, reads: cells }) => match hop {
-            Some(hop) => Answer::Hop { hop, cells },
-            None => Answer::NoRoute { cells },
+            Some(hop) => Answer::Hop {
+                hop: hop.into(),
+                cells: cells.into(),
+            },
+            None => Answer::NoRoute {
+                cells: cells.into(),
+            },
         },
         Err(why) => off(why.by_number()),
     };
@@ -94,9 +99,9 @@ pub fn reported<E: Numbered>(answer: Result<Standing, E>) -> Said {
                 third,
             },
         ) => Answer::Standing {
-            routes,
-            second,
-            third,
+            routes: routes.into(),
+            second: second.into(),
+            third: third.into(),
         },
         Err(why) => off(why.by_number()),
     };

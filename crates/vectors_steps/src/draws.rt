@@ -12,12 +12,12 @@ use vectors_shared::shown::Numbers;
 
 // How often each answer came: the refusals by their numbers, from 1; and how often a change said that bits were cleared.
 #[derive(Clone, Copy, Default)]
-struct Tally {
-    refused: [u32; 10],
-    added: u32,
-    replaced: u32,
-    removed: u32,
-    cleared: u32,
+pub struct Tally {
+    pub refused: [u64; 10],
+    pub added: u64,
+    pub replaced: u64,
+    pub removed: u64,
+    pub cleared: u64,
 }
 
 impl Tally {
@@ -25,18 +25,18 @@ impl Tally {
         match answer {
             Answer::Added { cleared } => {
                 self.added = self.added.wrapping_add(1);
-                self.cleared = self.cleared.wrapping_add(u32::from(cleared));
+                self.cleared = self.cleared.wrapping_add(u64::from(cleared));
             }
             Answer::Replaced { cleared } => {
                 self.replaced = self.replaced.wrapping_add(1);
-                self.cleared = self.cleared.wrapping_add(u32::from(cleared));
+                self.cleared = self.cleared.wrapping_add(u64::from(cleared));
             }
             Answer::Removed { cleared } => {
                 self.removed = self.removed.wrapping_add(1);
-                self.cleared = self.cleared.wrapping_add(u32::from(cleared));
+                self.cleared = self.cleared.wrapping_add(u64::from(cleared));
             }
             Answer::Refused(number) => {
-                if let Some(count) = self.refused.get_mut(usize::from(number).wrapping_sub(1)) {
+                if let Some(count) = self.refused.get_mut((number as usize).wrapping_sub(1)) {
                     *count = count.wrapping_add(1);
                 }
             }
@@ -50,8 +50,8 @@ impl Tally {
 pub struct Draws {
     pub left: u32,
     pub x: Draw,
-    sums: Sums,
-    tally: Tally,
+    pub sums: Sums,
+    pub tally: Tally,
 }
 
 // The prefix of a change: a standing one, which x picks, where the kind says so and there is one; otherwise a drawn one.
@@ -108,7 +108,7 @@ impl Draws {
                 self.tally.count(answer);
                 self.x = self.x.after(5);
             }
-            Said::Nothing => {}
+            Said::Nothing => self.x = self.x.after(5),
         }
     }
 

@@ -33,8 +33,8 @@ impl fmt::Display for Call {
 #[derive(Clone, Copy)]
 pub enum Answer {
     Done,
-    Refused(u8),
-    RefusedAt(u8, usize),
+    Refused(u64),
+    RefusedAt(u64, u64),
     Added {
         cleared: bool,
     },
@@ -45,22 +45,22 @@ pub enum Answer {
         cleared: bool,
     },
     Repaired {
-        dropped: u32,
-        first: u32,
-        second: u32,
-        third: u32,
+        dropped: u64,
+        first: u64,
+        second: u64,
+        third: u64,
     },
     Hop {
-        hop: u16,
-        cells: u32,
+        hop: u64,
+        cells: u64,
     },
     NoRoute {
-        cells: u32,
+        cells: u64,
     },
     Standing {
-        routes: u32,
-        second: u32,
-        third: u32,
+        routes: u64,
+        second: u64,
+        third: u64,
     },
 }
 

@@ -13,14 +13,19 @@ use vectors_script::Line;
 // The input of a load, and how many records it has.
 #[derive(Clone, Copy)]
 pub struct Input {
-    bytes: [u8; 192],
-    count: usize,
+    pub bytes: [u8; 192],
+    pub count: usize,
+}
+
+// So many records, or all that there are, as that part of the bytes.
+pub fn records(bytes: &[u8], n: usize) -> &[u8] {
+    let end = n.min(bytes.len() / 8) * 8;
+    &bytes[..end]
 }
 
 impl Input {
     pub fn records(&self) -> &[u8] {
-        let end = self.count.min(24) * 8;
-        &self.bytes[..end]
+        records(&self.bytes, self.count)
     }
 
     // One record more. Where there is no room for it, it is left out.
