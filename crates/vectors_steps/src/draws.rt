@@ -68,10 +68,10 @@ fn chosen(t: Table, list: &[u8], kind: u64, x: Draw) -> Prefix {
 }
 
 impl Draws {
-    // So many changes, each with lookups after it, from this number on.
-    pub fn start(changes: u32, x: Draw) -> Draws {
+    // So many steps, from this number on.
+    pub fn start(left: u32, x: Draw) -> Draws {
         Draws {
-            left: changes.wrapping_mul(2),
+            left,
             x,
             ..Draws::default()
         }

@@ -32,8 +32,8 @@ impl Input {
     fn push(&mut self, r: Route) {
         if self.count < 24 {
             write_record(&mut self.bytes, self.count, r);
-            self.count += 1;
         }
+        self.count = self.count.min(23) + 1;
     }
 
     // The records of the list.
@@ -103,7 +103,10 @@ impl World {
         }
         match step {
             Step::State(table) => self.table = table,
-            Step::Draw { changes, from } => self.draws = Draws::start(changes, from),
+            // Each change has lookups after it.
+            Step::Draw { changes, from } => {
+                self.draws = Draws::start(changes.wrapping_mul(2), from);
+            }
             Step::Numbers => self.draws.told(rt)?,
             Step::Input(route) => self.input.push(route),
             Step::Keep => self.input = Input::keep(turn.table, list),
