@@ -57,10 +57,7 @@ impl Numbered for Refusal {
     ghost made_alone = { λ why e h i. number_alone (h i) };
 
     fn by_number(self) -> ByNumber {
-        ByNumber {
-            number: self.number(),
-            at: None,
-        }
+        ByNumber::from(self)
     }
 }
 
@@ -77,12 +74,15 @@ impl Numbered for Refused {
     }
 }
 
+// Any number is its own, and so is any index.
 impl Numbered for ByNumber {
     ghost by_number = { λ e. e };
 
     ghost made_alone = { λ why e h. h };
 
-    fn by_number(self) -> ByNumber {
+    fn by_number(self) -> ByNumber
+        ensures { result ≡ self }
+    {
         self
     }
 }

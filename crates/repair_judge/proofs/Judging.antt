@@ -1,5 +1,5 @@
 -- What is kept of a list is weighed against the chunks there are.
-use mathlib.Core.Path.{◌≡◌, sym, ap, ◌∙◌}
+use mathlib.Core.Path.{◌≡◌, refl, sym, ap, ◌∙◌}
 use mathlib.Core.List.{List}
 use Prim.Native.Nat.{ℕ, ◌*◌, ◌/◌, ◌≤◌, min}
 use native.Mathlib.Omega.{arith}
@@ -26,7 +26,7 @@ use Rattle.sail_need.specs.Weigh.{terms, Weighs}
 use Rattle.repair_theory.specs.Repair.{kept_of, looked, kept_routes, kept_bytes, repair_said}
 use Rattle.repair_theory.proofs.Kept.{kept-good}
 use Rattle.repair_keep.specs.Keep.{Keeps, KeptIn}
-use Rattle.repair_judge.specs.Judge.{ListReady, Keeping, ListKept, KeptToo, ListJudged, RefusedIs, Judged}
+use Rattle.repair_judge.specs.Judge.{ListReady, Keeping, ListKept, KeptToo, ListJudged, KeptIfSized, RefusedIs, Judged}
 use Rattle.repair_judge.specs.declared.Denied.{Denied}
 use Rattle.repair_judge.specs.declared.Kept.{Kept}
 
@@ -87,6 +87,18 @@ module _ (t : Table) (l : Lent) (bytes : List ℕ) (j : Kept) (k : Keeping t l.l
 
   pub input-so : take (j.kept * 8) bytes ≡ kept_bytes t l
   input-so = rw (← kept-so, ← k.keeps) k.input
+
+-- What a refusal reports, if the sizes are right: the counts, and what is kept in the bytes.
+module _ (t : Table) (l : Lent) (bytes : List ℕ) (d : Denied) (r : RefusedIs t l bytes d) (s : Sized t.geometry l) where
+  pub refused-keeps : (k : Kept) × (d.kept ≡ Some k) × Keeping t l.list bytes k
+  refused-keeps = go d.kept r.kept
+    where
+      go : (o : Option Kept) → KeptIfSized t l bytes o → (k : Kept) × (o ≡ Some k) × Keeping t l.list bytes k
+      go None h = absurd (h s)
+      go (Some k) h = (k, refl, h.1)
+
+  pub refused-input : take (length (kept_routes t l) * 8) bytes ≡ kept_bytes t l
+  refused-input = let k = refused-keeps in rw (keeps-so t l bytes k.0 k.2) at (input-so t l bytes k.0 k.2)
 
 -- if the sizes are right, the list may be judged alone
 pub list-asks : (g : Geometry) (l : Lent) (before : List ℕ) → Sized g l → length before ≡ 32768 → ListReady g l.list before
