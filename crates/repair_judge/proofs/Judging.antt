@@ -11,7 +11,7 @@ use Rattle.refusals.specs.Numbers.{number_of}
 use Rattle.refusals.specs.declared.Refusal.{Refusal}
 use Rattle.refusals.proofs.Numbers.{number-above_0}
 use Rattle.routes.specs.Route.{Good}
-use Rattle.routes.specs.Record.{routes_of, Records}
+use Rattle.routes.specs.Record.{routes_of, written, Records}
 use Rattle.routes.specs.Said.{refused}
 use Rattle.routes.specs.declared.Route.{Route}
 use Rattle.routes.proofs.Rows.{routes-written, written_listed}
@@ -88,6 +88,20 @@ module _ (t : Table) (l : Lent) (bytes : List ℕ) (j : Kept) (k : Keeping t l.l
   pub input-so : take (j.kept * 8) bytes ≡ kept_bytes t l
   input-so = rw (← kept-so, ← k.keeps) k.input
 
+-- and the other way: what a repair keeps of a table is what is kept of its list
+module _ (t : Table) (l : Lent) (bytes : List ℕ) (j : Kept) (looks : j.looked ≡ looked t l) where
+  listed-so : kept_of l.list j.looked ≡ kept_routes t l
+  unfolding kept_routes
+  listed-so = ap (kept_of l.list) looks
+
+  pub keeping-of : j.kept ≡ length (kept_routes t l) → take (j.kept * 8) bytes ≡ kept_bytes t l → Keeping t l.list bytes j
+  unfolding looked
+  keeping-of keeps input = record {
+    looks = looks;
+    keeps = rw listed-so keeps;
+    input = rw listed-so (input ∙ ap (written (kept_routes t l)) (sym keeps));
+  }
+
 -- What a refusal reports, if the sizes are right: the counts, and what is kept in the bytes.
 module _ (t : Table) (l : Lent) (bytes : List ℕ) (d : Denied) (r : RefusedIs t l bytes d) (s : Sized t.geometry l) where
   pub refused-keeps : (k : Kept) × (d.kept ≡ Some k) × Keeping t l.list bytes k
@@ -106,7 +120,7 @@ list-asks g l before s room = record { valid = s.valid; few = omega (arith, s.ro
 
 module _ (t : Table) (l : Lent) (z : ℕ) (check : SizesTold z t.geometry l) where
   -- the sizes come first
-  sizes-said : (z ≡ 0 → ⊥) → repair_said t l ≡ refused z
+  pub sizes-said : (z ≡ 0 → ⊥) → repair_said t l ≡ refused z
   unfolding repair_said
   sizes-said n = or-said (sizes_fault t.geometry l) z _ check.number n
 
@@ -120,7 +134,7 @@ module _ (t : Table) (l : Lent) (z : ℕ) (check : SizesTold z t.geometry l) whe
       chunks-so : f ≡ chunks_fault (terms_of t l) (kept_routes t l)
       chunks-so = rw (← kept-so t l bytes j k.keeping) k.fault
 
-      chunks-said : (f ≡ 0 → ⊥) → repair_said t l ≡ refused f
+      pub chunks-said : (f ≡ 0 → ⊥) → repair_said t l ≡ refused f
       unfolding repair_said
       chunks-said h = rw (sym check.number ∙ fits) (or-said (chunks_fault (terms_of t l) (kept_routes t l)) f _ chunks-so h)
 
