@@ -72,35 +72,32 @@ module _ (t : Table) (s before : List ℕ) (h : ListReady t.geometry s before) (
       fault = e ∙ rw (routes, le-ltb (length s / 8) (length rs) (omega (arith, k.count, k.few, inside)));
     }
 
--- what is kept of its list is what a repair keeps of a table
+-- The records that are looked at are the table's, so what is kept of its list is what a repair keeps of it.
+module _ (t : Table) (l : Lent) (j : Kept) (looks : j.looked ≡ looked t l) where
+  kept-so : kept_of l.list j.looked ≡ kept_routes t l
+  unfolding kept_routes
+  kept-so = rw looks
+
 module _ (t : Table) (l : Lent) (bytes : List ℕ) (j : Kept) (k : Keeping t l.list bytes j) where
   pub looks-so : j.looked ≡ looked t l
   unfolding looked
   looks-so = k.looks
 
-  kept-so : kept_of l.list j.looked ≡ kept_routes t l
-  unfolding kept_routes
-  kept-so = rw looks-so
-
   pub keeps-so : j.kept ≡ length (kept_routes t l)
-  keeps-so = rw (← kept-so) k.keeps
+  keeps-so = rw (← kept-so t l j looks-so) k.keeps
 
   pub input-so : take (j.kept * 8) bytes ≡ kept_bytes t l
-  input-so = rw (← kept-so, ← k.keeps) k.input
+  input-so = rw (← kept-so t l j looks-so, ← k.keeps) k.input
 
--- and the other way: what a repair keeps of a table is what is kept of its list
-module _ (t : Table) (l : Lent) (bytes : List ℕ) (j : Kept) (looks : j.looked ≡ looked t l) where
-  listed-so : kept_of l.list j.looked ≡ kept_routes t l
-  unfolding kept_routes
-  listed-so = ap (kept_of l.list) looks
-
-  pub keeping-of : j.kept ≡ length (kept_routes t l) → take (j.kept * 8) bytes ≡ kept_bytes t l → Keeping t l.list bytes j
-  unfolding looked
-  keeping-of keeps input = record {
-    looks = looks;
-    keeps = rw listed-so keeps;
-    input = rw listed-so (input ∙ ap (written (kept_routes t l)) (sym keeps));
-  }
+-- and these three say no less than `Keeping` does
+pub keeping-of : (t : Table) (l : Lent) (bytes : List ℕ) (j : Kept) → j.looked ≡ looked t l → j.kept ≡ length (kept_routes t l)
+    → take (j.kept * 8) bytes ≡ kept_bytes t l → Keeping t l.list bytes j
+unfolding looked
+keeping-of t l bytes j looks keeps input = record {
+  looks = looks;
+  keeps = rw (kept-so t l j looks) keeps;
+  input = rw (kept-so t l j looks) (input ∙ ap (written (kept_routes t l)) (sym keeps));
+}
 
 -- What a refusal reports, if the sizes are right: the counts, and what is kept in the bytes.
 module _ (t : Table) (l : Lent) (bytes : List ℕ) (d : Denied) (r : RefusedIs t l bytes d) (s : Sized t.geometry l) where
@@ -132,7 +129,7 @@ module _ (t : Table) (l : Lent) (z : ℕ) (check : SizesTold z t.geometry l) whe
   module _ (fits : z ≡ 0) where
     module _ (bytes : List ℕ) (f : ℕ) (j : Kept) (k : ListKept t l.list (length l.own2) (length l.own3) bytes f j) where
       chunks-so : f ≡ chunks_fault (terms_of t l) (kept_routes t l)
-      chunks-so = rw (← kept-so t l bytes j k.keeping) k.fault
+      chunks-so = rw (← kept-so t l j (looks-so t l bytes j k.keeping)) k.fault
 
       pub chunks-said : (f ≡ 0 → ⊥) → repair_said t l ≡ refused f
       unfolding repair_said
